@@ -1,0 +1,31 @@
+//! The outside of a machine that is recorded: a memory, a source, a sink, a disk, a chooser and
+//! devices, what is recorded of them, and a counter of steps.
+#![tactic(auto)]
+
+mod boxes;
+mod counter;
+mod disk;
+mod errors;
+mod fuses;
+mod lists;
+mod machine;
+mod records;
+mod sinks;
+mod sources;
+mod streams;
+mod windows;
+
+pub use boxes::{Choice, Chooser, Device, Reply, Took};
+pub use counter::Steps;
+pub use disk::Disk;
+pub use errors::{BadAddress, Failed, NoMemory, Stop, StoreError};
+pub use lists::{Blocks, Bytes, Items, Numbers, Origins, Pairs};
+pub use machine::{Block, Cpu};
+pub use records::{Extra, Give, Origin, Pair, Record, Src};
+pub use sinks::{StdSink, VecSink};
+pub use sources::{SliceSource, StdSource};
+pub use streams::{Sink, Source};
+pub use windows::Memory;
+
+#[cfg(test)]
+mod tests;

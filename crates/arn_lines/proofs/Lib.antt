@@ -1,0 +1,9 @@
+pub mod Options
+pub mod HexDigits
+pub mod HexBytes
+pub mod Decimals
+pub mod Numbers
+pub mod HexText
+pub mod FirstWords
+pub mod Keywords
+pub mod OneWay

@@ -1,0 +1,80 @@
+-- What a line says.
+use Rattle.std.specs.Prelude.{◌≡◌, ℕ, ◌<◌, ◌≤◌, ◌⊎◌, List, [], ◌∷◌, ◌++◌, length, codes}
+use Rattle.arn_model.specs.declared.lineage.Linkage.{Linkage}
+use Rattle.arn_model.specs.declared.lineage.Linkage.TheVariants.{Copy}
+use Rattle.arn_lines.specs.declared.line.Line.{Line}
+use Rattle.arn_lines.specs.declared.line.Line.TheVariants as line
+use Rattle.arn_lines.specs.declared.line.Reading.{Reading}
+use Rattle.arn_lines.specs.declared.line.Reading.TheVariants.{PassedOver, Unreadable, Says}
+use Rattle.arn_lines.specs.declared.line.TheConstants.{MOST_LINE, MOST_RUN}
+use Rattle.arn_lines.specs.Words.{IsName, IsBytes, IsNumber}
+
+-- words stand behind one another, with one space between
+abbrev pub space : List ℕ
+space = codes " "
+
+abbrev pub linkage_word : Linkage → List ℕ
+linkage_word Copy = codes "copy"
+
+-- `file NAME HEX`
+pub record IsFile (text name bytes : List ℕ) : Type 0 where
+  pub hex : List ℕ
+  pub is_name : IsName name
+  pub is_bytes : IsBytes hex bytes
+  pub is_text : text ≡ codes "file " ++ name ++ space ++ hex
+
+-- `boot NAME`
+pub record IsBoot (text name : List ℕ) : Type 0 where
+  pub is_name : IsName name
+  pub is_text : text ≡ codes "boot " ++ name
+
+-- `type HEX`
+pub record IsType (text bytes : List ℕ) : Type 0 where
+  pub hex : List ℕ
+  pub is_bytes : IsBytes hex bytes
+  pub is_text : text ≡ codes "type " ++ hex
+
+-- `run N`
+pub record IsRun (text : List ℕ) (count : ℕ) : Type 0 where
+  pub number : List ℕ
+  pub is_number : IsNumber number count
+  pub at_most : count ≤ MOST_RUN
+  pub is_text : text ≡ codes "run " ++ number
+
+-- `back LINKAGE event E FROM LEN`
+pub record IsBack (text : List ℕ) (linkage : Linkage) (event from len : ℕ) : Type 0 where
+  pub event_text : List ℕ
+  pub from_text : List ℕ
+  pub len_text : List ℕ
+  pub is_event : IsNumber event_text event
+  pub is_from : IsNumber from_text from
+  pub is_len : IsNumber len_text len
+  pub is_text : text ≡ codes "back " ++ linkage_word linkage ++ codes " event " ++ event_text ++ space ++ from_text ++ space ++ len_text
+
+-- the grammar: the text says this line
+abbrev pub IsLine : List ℕ → Line → Type 0
+IsLine text (line.File name bytes) = IsFile text name bytes
+IsLine text (line.Boot name) = IsBoot text name
+IsLine text (line.Type bytes) = IsType text bytes
+IsLine text (line.Run count) = IsRun text count
+IsLine text (line.Back linkage event from len) = IsBack text linkage event from len
+
+-- a line that is passed over: an empty one, and one that begins with `#`, whatever its length
+abbrev pub IsPassedOver : List ℕ → Type 0
+IsPassedOver [] = Unit {0}
+IsPassedOver (c ∷ text) = c ≡ 35
+
+-- a line that isn't passed over and says nothing: it is too long, or no line of the grammar
+pub record IsUnreadable (text : List ℕ) : Type 0 where
+  pub not_passed_over : ¬ IsPassedOver text
+  pub says_nothing : (MOST_LINE < length text) ⊎ ((l : Line) → ¬ IsLine text l)
+
+-- what a line of a session is
+abbrev pub Reads : List ℕ → Reading → Type 0
+Reads text PassedOver = IsPassedOver text
+Reads text Unreadable = IsUnreadable text
+Reads text (Says l) = (length text ≤ MOST_LINE) × IsLine text l
+
+-- two readings of one line are one
+abbrev pub ReadsOneWay : Type 0
+ReadsOneWay = (text : List ℕ) (a b : Reading) → Reads text a → Reads text b → a ≡ b

@@ -1,0 +1,17 @@
+//! The lines of a session, read, and the lines that answer them, written.
+#![tactic(auto)]
+
+mod answer;
+mod grammar;
+mod law;
+mod line;
+#[cfg(test)]
+mod tests;
+mod texts;
+mod words;
+
+pub use answer::{Refusal, RunEnd};
+pub use grammar::read_line;
+pub use law::lines_read_one_way;
+pub use line::{Line, MOST_LINE, MOST_RUN, Reading};
+pub use texts::{push_back, push_event, push_out, push_pair, push_ran, push_refusal};

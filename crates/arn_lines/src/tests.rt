@@ -1,0 +1,198 @@
+use super::*;
+use arn_base::Pair;
+use arn_model::Linkage;
+use std::alloc::{AllocError, Global};
+use std::test::Fail;
+
+// A reading as text, with the bytes of words as lists of numbers.
+fn shown(alloc: Global, reading: &Reading) -> Result<String, AllocError> {
+    match reading {
+        Reading::PassedOver => format!(in alloc; "passed over"),
+        Reading::Unreadable => format!(in alloc; "unreadable"),
+        Reading::Says { line } => shown_line(alloc, line),
+    }
+}
+
+fn shown_line(alloc: Global, line: &Line) -> Result<String, AllocError> {
+    match line {
+        Line::File { name, bytes } => {
+            format!(in alloc; "file {:?} {:?}", name.as_slice(), bytes.as_slice())
+        }
+        Line::Boot { name } => format!(in alloc; "boot {:?}", name.as_slice()),
+        Line::Type { bytes } => format!(in alloc; "type {:?}", bytes.as_slice()),
+        Line::Run { count } => format!(in alloc; "run {count}"),
+        Line::Back {
+            linkage: Linkage::Copy,
+            event,
+            from,
+            len,
+        } => format!(in alloc; "back copy {event} {from} {len}"),
+    }
+}
+
+#[test]
+fn lines_are_read(rt: HostRuntime) -> Result<(), Fail> {
+    let cases = [
+        ("", "passed over"),
+        ("#x", "passed over"),
+        (" #x", "unreadable"),
+        ("hello", "unreadable"),
+        ("file p 00", "file [112] [0]"),
+        ("file p -", "file [112] []"),
+        ("file p 0", "unreadable"),
+        ("file p 0g", "unreadable"),
+        ("file p ", "unreadable"),
+        ("file p", "unreadable"),
+        ("file  p 00", "unreadable"),
+        ("file p  00", "unreadable"),
+        ("file p 00 ", "unreadable"),
+        ("file p 00\r", "unreadable"),
+        ("file p\t 00", "unreadable"),
+        ("FILE p 00", "unreadable"),
+        ("boot p", "boot [112]"),
+        ("boot -", "boot [45]"),
+        ("boot", "unreadable"),
+        ("boot ", "unreadable"),
+        ("boot p q", "unreadable"),
+        ("boot \x7f", "unreadable"),
+        ("boot !~", "boot [33, 126]"),
+        ("type AbcD", "type [171, 205]"),
+        ("type -", "type []"),
+        ("type --", "unreadable"),
+        ("type 616", "unreadable"),
+        ("run 0", "run 0"),
+        ("run 1000000000", "run 1000000000"),
+        ("run 1000000001", "unreadable"),
+        ("run 01", "unreadable"),
+        ("run 0x1F", "run 31"),
+        ("run 0x000000000000001f", "run 31"),
+        ("run 0x0000000000000001f", "unreadable"),
+        ("run 0x", "unreadable"),
+        ("run 0X1", "unreadable"),
+        ("run 1f", "unreadable"),
+        ("run +5", "unreadable"),
+        ("run -5", "unreadable"),
+        ("back copy event 4 0 3", "back copy 4 0 3"),
+        ("back data event 4 0 3", "unreadable"),
+        ("back copy mem 4 0 3", "unreadable"),
+        ("back copy event 4 0", "unreadable"),
+        ("back copy event 4 0 3 1", "unreadable"),
+        (
+            "back copy event 18446744073709551615 0 0",
+            "back copy 18446744073709551615 0 0",
+        ),
+        (
+            "back copy event 0xffffffffffffffff 0 0",
+            "back copy 18446744073709551615 0 0",
+        ),
+        ("back copy event 18446744073709551616 0 0", "unreadable"),
+    ];
+    for (line, wanted) in cases {
+        let reading = read_line(rt.alloc(), line.as_bytes())?;
+        let found = shown(rt.alloc(), &reading)?;
+        assert_eq!(rt; found.as_str(), wanted, "at {line}");
+    }
+    Ok(())
+}
+
+#[test]
+fn names_have_64_bytes_at_most(rt: HostRuntime) -> Result<(), Fail> {
+    let mut line = String::from_str(rt.alloc(), "boot ")?;
+    for _ in 0..64 {
+        line.push('n')?;
+    }
+    let reading = read_line(rt.alloc(), line.as_bytes())?;
+    assert!(rt;
+        matches!(
+            reading,
+            Reading::Says {
+                line: Line::Boot { .. }
+            }
+        )
+    );
+    line.push('n')?;
+    let reading = read_line(rt.alloc(), line.as_bytes())?;
+    assert!(rt; matches!(reading, Reading::Unreadable));
+    Ok(())
+}
+
+// A `file` line that is `extra` bytes longer than a line may be.
+fn long_line(alloc: Global, extra: usize) -> Result<String, AllocError> {
+    let mut line = String::from_str(alloc, "file pp ")?;
+    for _ in 8..MOST_LINE {
+        line.push('0')?;
+    }
+    for _ in 0..extra {
+        line.push('0')?;
+    }
+    Ok(line)
+}
+
+#[test]
+fn lines_have_a_mebibyte_at_most(rt: HostRuntime) -> Result<(), Fail> {
+    let longest = long_line(rt.alloc(), 0)?;
+    let reading = read_line(rt.alloc(), longest.as_bytes())?;
+    assert!(rt;
+        matches!(
+            reading,
+            Reading::Says {
+                line: Line::File { .. }
+            }
+        )
+    );
+    let longer = long_line(rt.alloc(), 2)?;
+    let reading = read_line(rt.alloc(), longer.as_bytes())?;
+    assert!(rt; matches!(reading, Reading::Unreadable));
+    Ok(())
+}
+
+#[test]
+fn long_comments_are_passed_over(rt: HostRuntime) -> Result<(), Fail> {
+    let comment = vec![in rt.alloc(); b'#'; MOST_LINE + 1]?;
+    let reading = read_line(rt.alloc(), comment.as_slice())?;
+    assert!(rt; matches!(reading, Reading::PassedOver));
+    Ok(())
+}
+
+#[test]
+fn answers_are_written(rt: HostRuntime) -> Result<(), Fail> {
+    let mut text = String::new(rt.alloc());
+    push_event(&mut text, 0)?;
+    push_out(&mut text, 4, 1, b"abc")?;
+    push_out(&mut text, 5, 2, b"")?;
+    push_out(&mut text, 6, 4294967295, &[0x80, 0xff, 0x0a])?;
+    push_ran(&mut text, 11, RunEnd::Done)?;
+    push_ran(&mut text, 4, RunEnd::Stalled)?;
+    push_ran(&mut text, 1_000_000, RunEnd::Budget)?;
+    push_pair(
+        &mut text,
+        &Pair {
+            event: 2,
+            at: 94,
+            byte: 1,
+        },
+    )?;
+    push_back(&mut text, 3, 11, &[1])?;
+    push_back(&mut text, 0, 0, &[])?;
+    push_back(&mut text, 3, u128::MAX, &[1, 3, 4294967295])?;
+    for refusal in [Refusal::NoLine, Refusal::NoImage, Refusal::NoPoint] {
+        push_refusal(&mut text, refusal)?;
+    }
+    let wanted = "event 0
+out 4 1 616263
+out 5 2 -
+out 6 4294967295 80ff0a
+ran 11 done
+ran 4 stalled
+ran 1000000 budget
+pair 2 94 1
+back pairs 3 instructions 11 groups 1
+back pairs 0 instructions 0 groups -
+back pairs 3 instructions 340282366920938463463374607431768211455 groups 1 3 4294967295
+no line
+no image
+no point
+";
+    assert_eq!(rt; text.as_str(), wanted);
+    Ok(())
+}

@@ -1,0 +1,119 @@
+-- What each step does to sets: for a byte after the step, the list of the bytes that it takes.
+use Rattle.std.specs.Prelude.{ℕ, zero, suc, ◌+◌, ◌-◌, ◌==◌, ◌&&◌, nat_lt, Bool, false, if◌then◌else◌, List, [], ◌∷◌, map, flat_map, Option, Some, None, option_map, unwrap_or, ℤ, pos, negsuc}
+use Rattle.rv64_isa.specs.declared.instruction.Instr.{Instr}
+use Rattle.rv64_isa.specs.declared.instruction.Instr.TheVariants.{Imm, Ecall}
+use Rattle.rv64_isa.specs.declared.instruction.ImmOp.TheVariants.{Addi}
+use Rattle.arn_model.specs.declared.lineage.Linkage.{Linkage}
+use Rattle.arn_model.specs.declared.lineage.Linkage.TheVariants.{Copy}
+use Rattle.arn_model.specs.declared.lineage.Operand.{Operand}
+use Rattle.arn_model.specs.declared.lineage.Operand.TheVariants.{Left}
+use Rattle.arn_model.specs.declared.lineage.Spot.{Spot}
+use Rattle.arn_model.specs.declared.lineage.Spot.TheVariants.{Register, Private}
+use Rattle.arn_model.specs.declared.lineage.Place.{Place}
+use Rattle.arn_model.specs.declared.lineage.Place.TheVariants as place
+use Rattle.arn_model.specs.declared.lineage.At.{At}
+use Rattle.arn_model.specs.declared.lineage.At.TheVariants.{Byte}
+use Rattle.arn_model.specs.declared.lineage.Feed.{Feed}
+use Rattle.arn_model.specs.declared.lineage.Feed.TheVariants.{Old, In}
+use Rattle.arn_model.specs.declared.lineage.Deed.{Deed}
+use Rattle.arn_model.specs.declared.lineage.Deed.TheVariants.{Arrives, Starts, Runs, Returns, Receives, Gives, Exits, Faults}
+use Rattle.arn_model.specs.Image.{header_len}
+use Rattle.arn_model.specs.Deed.{within}
+
+-- the immediate is 0: the instruction moves rs1 to rd
+abbrev pub is_zero : ℤ → Bool
+is_zero (pos n) = n == 0
+is_zero (negsuc n) = false
+
+-- which operand bytes byte i of an instruction's result takes, by a linkage. A write to x0 takes none.
+abbrev pub Table : Type 0
+Table = Instr → ℕ → List Operand
+
+abbrev pub copy_operands : Instr → ℕ → List Operand
+copy_operands (Imm Addi zero rs1 imm) i = []
+copy_operands (Imm Addi (suc rd) rs1 imm) i = if is_zero imm then Left i ∷ [] else []
+copy_operands Ecall i = []
+
+-- the table of a linkage
+abbrev pub operands : Linkage → Table
+operands Copy = copy_operands
+
+-- a byte of a register. x0 holds none
+abbrev pub register_spots : ℕ → ℕ → ℕ → List Spot
+register_spots pid zero i = []
+register_spots pid (suc r) i = Register pid (suc r) i ∷ []
+
+-- where an operand's byte lies
+abbrev pub operand_spots : ℕ → Instr → Operand → List Spot
+operand_spots pid (Imm op rd rs1 imm) (Left i) = register_spots pid rs1 i
+operand_spots pid Ecall (Left i) = []
+
+-- the bytes that byte i of an instruction's result takes
+abbrev pub result_spots : Table → ℕ → Instr → ℕ → List Spot
+result_spots table pid instr i = flat_map (operand_spots pid instr) (table instr i)
+
+-- the spot is a byte of this register of this process
+abbrev pub is_register : ℕ → ℕ → ℕ → ℕ → Bool
+is_register pid reg p r = (p == pid) && (r == reg)
+
+-- what a spot takes that an instruction writes
+abbrev pub carried : Table → ℕ → Instr → Spot → Option (List Spot)
+carried table pid (Imm op rd rs1 imm) (Register p r i) =
+    if is_register pid rd p r then Some (result_spots table pid (Imm op rd rs1 imm) i) else None
+carried table pid (Imm op rd rs1 imm) (Private p at) = None
+carried table pid Ecall spot = None
+
+-- input byte k of the step
+abbrev pub input_byte : ℕ → List Feed
+input_byte k = In (Byte k) ∷ []
+
+-- what an address takes among n bytes from an address on, of which the first is input byte `first`
+abbrev pub placed : ℕ → ℕ → ℕ → ℕ → Option (List Feed)
+placed first from n at = option_map (λ k. input_byte (first + k)) (within from n at)
+
+-- x10 holds a call's result, which takes nothing
+abbrev pub result_only : ℕ → Spot → Option (List Feed)
+result_only pid (Register p r i) = if is_register pid 10 p r then Some [] else None
+result_only pid (Private p at) = None
+
+-- byte k of a place
+abbrev pub place_spot : ℕ → Place → ℕ → Spot
+place_spot pid (place.Private at) k = Private pid (at + k)
+
+-- what a spot takes among n bytes of a place, of which the first is input byte 0
+abbrev pub received : ℕ → Place → ℕ → Spot → Option (List Feed)
+received pid (place.Private from) n (Private p at) = if p == pid then placed 0 from n at else None
+received pid place n (Register p r i) = None
+
+-- what a spot takes that the step writes
+abbrev pub written : Table → Deed → Spot → Option (List Feed)
+written table (Arrives len) spot = None
+written table (Starts pid load len) (Register p r i) = if p == pid then Some [] else None
+written table (Starts pid load len) (Private p at) =
+    if p == pid then Some (unwrap_or (placed header_len load (len - header_len) at) []) else None
+written table (Runs pid instr) spot = option_map (map Old) (carried table pid instr spot)
+written table (Returns pid) spot = result_only pid spot
+written table (Receives pid place n) (Register p r i) = result_only pid (Register p r i)
+written table (Receives pid place n) (Private p at) = received pid place n (Private p at)
+written table (Gives pid place n) spot = result_only pid spot
+written table (Exits pid) spot = None
+written table (Faults pid) spot = None
+
+-- what a spot takes: one that isn't written keeps what it has
+abbrev pub flow : Table → Deed → Spot → List Feed
+flow table deed spot = unwrap_or (written table deed spot) (Old spot ∷ [])
+
+-- these, where k is below n
+abbrev pub if_below : ℕ → ℕ → List Feed → List Feed
+if_below k n feeds = if nat_lt k n then feeds else []
+
+-- what byte k of the step's event takes
+abbrev pub shown : Deed → At → List Feed
+shown (Arrives len) (Byte k) = if_below k len (input_byte k)
+shown (Starts pid load len) (Byte k) = if_below k len (input_byte k)
+shown (Runs pid instr) (Byte k) = []
+shown (Returns pid) (Byte k) = []
+shown (Receives pid place n) (Byte k) = if_below k n (input_byte k)
+shown (Gives pid place n) (Byte k) = if_below k n (Old (place_spot pid place k) ∷ [])
+shown (Exits pid) (Byte k) = if_below k 1 (Old (Register pid 10 0) ∷ [])
+shown (Faults pid) (Byte k) = []

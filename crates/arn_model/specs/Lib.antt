@@ -1,0 +1,11 @@
+pub mod Machine
+pub mod Image
+pub mod Instruction
+pub mod Step
+pub mod Deed
+pub mod Call
+pub mod Slice
+pub mod Run
+pub mod Flow
+pub mod Tracking
+pub mod Related

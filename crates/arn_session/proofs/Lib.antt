@@ -1,0 +1,9 @@
+pub mod FaultLemmas
+pub mod LineLemmas
+pub mod Progress
+pub mod ReaderLemmas
+pub mod TranscriptLemmas
+pub mod HistoryLemmas
+pub mod EventLemmas
+pub mod RunLemmas
+pub mod SizeLemmas

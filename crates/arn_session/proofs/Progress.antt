@@ -1,0 +1,206 @@
+-- A session in the middle of its text.
+use Rattle.std.proofs.Common.{◌≡◌, ◌≢◌, ℕ, ◌+◌, ◌^◌, ◌<◌, ◌≤◌, ◌++◌, List, [], ◌∷◌, length, drop, Option, None, Some, IfSome, option_map, refl, sym, ap, ◌∙◌, inl, inr, subst, append_assoc, append-nil, arith, length-append}
+use Rattle.std.proofs.lemmas.Option.{IfSome_then}
+use Rattle.std.proofs.Math.Seq.{drop-append_seam}
+use Rattle.arn_model.specs.declared.history.Input.{Input}
+use Rattle.arn_lines.specs.declared.line.Reading.{Reading}
+use Rattle.arn_session.specs.Lines.{line_feed, lines_of, whole_lines_of, EachReads}
+use Rattle.arn_session.specs.Reader.{ReaderState, fresh_reader, to_come, Uses, UsesSome, IsOneLine, IsKept, ReadsLine, StopsShort, IsAtEnd}
+use Rattle.arn_session.specs.Answering.{AnswersLine, TookFewer, TookAtMost}
+use Rattle.arn_session.specs.Transcript.{transcript, total_cost, Answers, AnswersTaken}
+use Rattle.arn_session.proofs.LineLemmas.{lines_of-line, lines_of-last, whole_lines_of-line, whole_lines_of-part, EachReads-push}
+use Rattle.arn_session.proofs.ReaderLemmas.{Uses-ahead, Uses-append}
+use Rattle.arn_session.proofs.TranscriptLemmas.{history_of, history_of-push, transcript-push, total_cost-push, held_more}
+
+-- these lines were answered
+pub record HaveAnswers (lines : List (List ℕ)) (held holds : Option (List ℕ)) (steps_before steps_after : ℕ) (history : List Input) : Type 0 where
+  pub readings : List Reading
+  pub each_reads : EachReads lines readings
+  pub history_is : history ≡ history_of [] readings
+  pub printed : holds ≡ option_map (λ before. before ++ transcript [] readings) held
+  pub executed : steps_after ≤ steps_before + total_cost [] readings
+
+same_held : (held : Option (List ℕ)) → held ≡ option_map (λ before. before ++ []) held
+same_held None = refl
+same_held (Some x) = ap (λ (y : List ℕ). Some y) (sym (append-nil x))
+
+HaveAnswers-none : (held : Option (List ℕ)) (steps : ℕ) → HaveAnswers [] held held steps steps []
+HaveAnswers-none held steps = record {
+  readings = [];
+  each_reads = tt;
+  history_is = refl;
+  printed = same_held held;
+  executed = omega arith;
+}
+
+HaveAnswers-push : (lines : List (List ℕ)) (h0 h1 h2 : Option (List ℕ)) (s0 s1 s2 : ℕ) (before after : List Input) (line kept : List ℕ) → HaveAnswers lines h0 h1 s0 s1 before → IsKept line kept → AnswersLine kept before after h1 h2 s1 s2 → HaveAnswers (lines ++ line ∷ []) h0 h2 s0 s2 after
+HaveAnswers-push lines h0 h1 h2 s0 s1 s2 before after line kept p is_kept a =
+    let b = subst (λ (history : List Input). AnswersLine kept history after h1 h2 s1 s2) p.history_is a in
+    record {
+      readings = p.readings ++ b.reading ∷ [];
+      each_reads = EachReads-push lines p.readings line b.reading p.each_reads (b.reads line is_kept);
+      history_is = b.gained ∙ sym (history_of-push [] p.readings b.reading);
+      printed = held_more h0 h1 h2 _ _ _ p.printed b.printed (transcript-push [] p.readings b.reading);
+      executed = omega (arith, p.executed, b.executed, total_cost-push [] p.readings b.reading);
+    }
+
+HaveAnswers-answers : (lines : List (List ℕ)) (held holds : Option (List ℕ)) (s0 s : ℕ) (history : List Input) → HaveAnswers lines held holds s0 s history → Answers lines held holds s0 s
+HaveAnswers-answers lines held holds s0 s history p = record {
+  readings = p.readings;
+  each_reads = p.each_reads;
+  printed = p.printed;
+  executed = p.executed;
+}
+
+-- whole lines were read and answered
+pub record Progress (left_before left_after held holds : Option (List ℕ)) (steps_before steps_after : ℕ) (reader : ReaderState) (history : List Input) : Type 0 where
+  pub seen : List ℕ
+  pub lines : List (List ℕ)
+  pub used : Uses seen fresh_reader reader left_before left_after
+  pub lines_are : (rest : List ℕ) → lines_of (seen ++ rest) ≡ lines ++ lines_of rest
+  pub whole_lines_are : (rest : List ℕ) → whole_lines_of (seen ++ rest) ≡ lines ++ whole_lines_of rest
+  pub answers : HaveAnswers lines held holds steps_before steps_after history
+
+pub Progress-start : (left held : Option (List ℕ)) (steps : ℕ) → Progress left left held held steps steps fresh_reader []
+Progress-start left held steps = record {
+  seen = [];
+  lines = [];
+  used = Uses-ahead [] fresh_reader fresh_reader left refl refl;
+  lines_are = λ rest. refl;
+  whole_lines_are = λ rest. refl;
+  answers = HaveAnswers-none held steps;
+}
+
+-- one more line with its LF was read and answered
+pub Progress-line : (l0 l1 l2 h0 h1 h2 : Option (List ℕ)) (s0 s1 s2 : ℕ) (r r' : ReaderState) (before after : List Input) (kept : List ℕ) → Progress l0 l1 h0 h1 s0 s1 r before → ReadsLine (line_feed ∷ []) r r' l1 l2 kept → AnswersLine kept before after h1 h2 s1 s2 → Progress l0 l2 h0 h2 s0 s2 r' after
+Progress-line l0 l1 l2 h0 h1 h2 s0 s1 s2 r r' before after kept p read answered =
+    let more = read.line ++ line_feed ∷ [] in
+    let split : (rest : List ℕ) → (p.seen ++ more) ++ rest ≡ p.seen ++ (read.line ++ (line_feed ∷ rest)) = λ rest. append_assoc p.seen more rest ∙ ap (λ (x : List ℕ). p.seen ++ x) (append_assoc read.line (line_feed ∷ []) rest) in
+    record {
+      seen = p.seen ++ more;
+      lines = p.lines ++ read.line ∷ [];
+      used = Uses-append p.seen more fresh_reader r r' l0 l1 l2 p.used read.used;
+      lines_are = λ rest. ap lines_of (split rest) ∙ p.lines_are (read.line ++ (line_feed ∷ rest)) ∙ ap (λ (lines : List (List ℕ)). p.lines ++ lines) (lines_of-line read.line rest read.is_one) ∙ sym (append_assoc p.lines (read.line ∷ []) (lines_of rest));
+      whole_lines_are = λ rest. ap whole_lines_of (split rest) ∙ p.whole_lines_are (read.line ++ (line_feed ∷ rest)) ∙ ap (λ (lines : List (List ℕ)). p.lines ++ lines) (whole_lines_of-line read.line rest read.is_one) ∙ sym (append_assoc p.lines (read.line ∷ []) (whole_lines_of rest));
+      answers = HaveAnswers-push p.lines h0 h1 h2 s0 s1 s2 before after read.line kept p.answers read.is_kept answered;
+    }
+
+-- no bytes come before those that are left
+come_nothing : (ahead : List ℕ) (left : Option (List ℕ)) → ahead ≡ [] → option_map (λ rest. ahead ++ rest) left ≡ left
+come_nothing ahead None none = refl
+come_nothing ahead (Some rest) none = ap (λ (x : List ℕ). Some (x ++ rest)) none
+
+-- where no byte is ahead, those that were used are those that were taken
+are_taken : (bytes : List ℕ) (reader : ReaderState) (l0 l : Option (List ℕ)) → Uses bytes fresh_reader reader l0 l → reader.ahead ≡ [] → l0 ≡ option_map (λ rest. bytes ++ rest) l
+are_taken bytes reader l0 l used none =
+    sym (come_nothing [] l0 refl) ∙ used.come ∙ ap (λ (o : Option (List ℕ)). option_map (λ rest. bytes ++ rest) o) (come_nothing reader.ahead l none)
+
+count_taken : (bytes : List ℕ) (reader : ReaderState) (l0 l : Option (List ℕ)) → Uses bytes fresh_reader reader l0 l → reader.ahead ≡ [] → reader.taken ≡ length bytes
+count_taken bytes reader l0 l used none = omega (arith, used.counted, ap length none)
+
+-- the text was what was taken
+text_taken : (l0 l : Option (List ℕ)) (bytes : List ℕ) → l0 ≡ option_map (λ rest. bytes ++ rest) l → IfSome l (λ rest. rest ≡ []) → IfSome l0 (λ text. (l ≡ Some []) × (text ≡ bytes))
+text_taken l0 None bytes come none =
+    let nothing : Option (List ℕ) = None in
+    subst (λ (o : Option (List ℕ)). IfSome o (λ text. (nothing ≡ Some []) × (text ≡ bytes))) (sym come) tt
+text_taken l0 (Some rest) bytes come none =
+    let some : Option (List ℕ) = Some rest in
+    subst (λ (o : Option (List ℕ)). IfSome o (λ text. (some ≡ Some []) × (text ≡ bytes))) (sym come) (ap (λ (x : List ℕ). Some x) none, ap (λ (x : List ℕ). bytes ++ x) none ∙ append-nil bytes)
+
+-- a whole text was read and answered
+pub record IsDone (left_before left_after held holds : Option (List ℕ)) (steps_before steps_after : ℕ) : Type 0 where
+  pub read : IfSome left_before (λ text. left_after ≡ Some [])
+  pub answered : IfSome left_before (λ text. Answers (lines_of text) held holds steps_before steps_after)
+  pub short : IfSome left_before (λ text. length text < 2 ^ 40)
+
+done_by : (bytes : List ℕ) (reader : ReaderState) (l0 l h0 h : Option (List ℕ)) (s0 s : ℕ) → Uses bytes fresh_reader reader l0 l → IsAtEnd reader l → Answers (lines_of bytes) h0 h s0 s → IsDone l0 l h0 h s0 s
+done_by bytes reader l0 l h0 h s0 s used end answers =
+    let all = text_taken l0 l bytes (are_taken bytes reader l0 l used end.short.used_up) end.none_left in
+    record {
+      read = IfSome_then l0 all (λ text f. f.0);
+      answered = IfSome_then l0 all (λ text f. subst (λ (x : List ℕ). Answers (lines_of x) h0 h s0 s) (sym f.1) answers);
+      short = IfSome_then l0 all (λ text f. omega (arith, ap length f.1, end.short.some_room, count_taken bytes reader l0 l used end.short.used_up));
+    }
+
+-- nothing is kept of an empty line alone
+kept_none : (line kept : List ℕ) → IsKept line kept → length kept ≡ 0 → length line ≡ 0
+kept_none line kept k none = elim k.enough [
+  | inl all ↦ omega (arith, none, ap length k.is_line, length-append kept k.dropped, ap length all)
+  | inr long ↦ absurd (omega (arith, long, none))
+]
+
+lines_of-none : (line : List ℕ) → length line ≡ 0 → lines_of (line ++ []) ≡ []
+lines_of-none [] none = refl
+lines_of-none (byte ∷ line) none = absurd (omega (arith, none))
+
+lines_of-one : (line : List ℕ) → IsOneLine line → length line ≢ 0 → lines_of (line ++ []) ≡ line ∷ []
+lines_of-one [] one some = absurd (some refl)
+lines_of-one (byte ∷ line) one some = ap lines_of (append-nil (byte ∷ line)) ∙ lines_of-last byte line one
+
+-- the text ended behind a line
+pub IsDone-empty : (l0 l1 l2 h0 h1 : Option (List ℕ)) (s0 s1 : ℕ) (r r' : ReaderState) (history : List Input) (kept : List ℕ) → Progress l0 l1 h0 h1 s0 s1 r history → ReadsLine [] r r' l1 l2 kept → IsAtEnd r' l2 → length kept ≡ 0 → IsDone l0 l2 h0 h1 s0 s1
+IsDone-empty l0 l1 l2 h0 h1 s0 s1 r r' history kept p read end none =
+    let bytes = p.seen ++ (read.line ++ []) in
+    let lines : p.lines ≡ lines_of bytes = sym (p.lines_are (read.line ++ []) ∙ ap (λ (lines : List (List ℕ)). p.lines ++ lines) (lines_of-none read.line (kept_none read.line kept read.is_kept none)) ∙ append-nil p.lines) in
+    done_by bytes r' l0 l2 h0 h1 s0 s1 (Uses-append p.seen (read.line ++ []) fresh_reader r r' l0 l1 l2 p.used read.used) end (subst (λ (lines : List (List ℕ)). Answers lines h0 h1 s0 s1) lines (HaveAnswers-answers p.lines h0 h1 s0 s1 history p.answers))
+
+-- the text ended in a line
+pub IsDone-line : (l0 l1 l2 h0 h1 h2 : Option (List ℕ)) (s0 s1 s2 : ℕ) (r r' : ReaderState) (before after : List Input) (kept : List ℕ) → Progress l0 l1 h0 h1 s0 s1 r before → ReadsLine [] r r' l1 l2 kept → IsAtEnd r' l2 → length kept ≢ 0 → AnswersLine kept before after h1 h2 s1 s2 → IsDone l0 l2 h0 h2 s0 s2
+IsDone-line l0 l1 l2 h0 h1 h2 s0 s1 s2 r r' before after kept p read end some answered =
+    let bytes = p.seen ++ (read.line ++ []) in
+    let some_line : length read.line ≢ 0 = λ none. some (omega (arith, none, ap length read.is_kept.is_line, length-append kept read.is_kept.dropped)) in
+    let lines : p.lines ++ read.line ∷ [] ≡ lines_of bytes = sym (p.lines_are (read.line ++ []) ∙ ap (λ (lines : List (List ℕ)). p.lines ++ lines) (lines_of-one read.line read.is_one some_line)) in
+    done_by bytes r' l0 l2 h0 h2 s0 s2 (Uses-append p.seen (read.line ++ []) fresh_reader r r' l0 l1 l2 p.used read.used) end (subst (λ (lines : List (List ℕ)). Answers lines h0 h2 s0 s2) lines (HaveAnswers-answers _ h0 h2 s0 s2 after (HaveAnswers-push p.lines h0 h1 h2 s0 s1 s2 before after read.line kept p.answers read.is_kept answered)))
+
+-- the source gave a part of its text
+pub AnswersTaken-part : (l0 l1 l2 h0 h1 : Option (List ℕ)) (s0 s1 : ℕ) (r r' : ReaderState) (history : List Input) (kept : List ℕ) → Progress l0 l1 h0 h1 s0 s1 r history → ReadsLine [] r r' l1 l2 kept → r'.ahead ≡ [] → AnswersTaken l0 l2 whole_lines_of h0 h1 s0 s1
+AnswersTaken-part l0 l1 l2 h0 h1 s0 s1 r r' history kept p read used_up =
+    let bytes = p.seen ++ (read.line ++ []) in
+    let lines : p.lines ≡ whole_lines_of bytes = sym (p.whole_lines_are (read.line ++ []) ∙ ap (λ (lines : List (List ℕ)). p.lines ++ lines) (ap whole_lines_of (append-nil read.line) ∙ whole_lines_of-part read.line read.is_one) ∙ append-nil p.lines) in
+    record {
+      taken = bytes;
+      is_taken = are_taken bytes r' l0 l2 (Uses-append p.seen (read.line ++ []) fresh_reader r r' l0 l1 l2 p.used read.used) used_up;
+      answered = subst (λ (lines : List (List ℕ)). Answers lines h0 h1 s0 s1) lines (HaveAnswers-answers p.lines h0 h1 s0 s1 history p.answers);
+    }
+
+-- how much of a text was taken
+count_text : (l0 l : Option (List ℕ)) (bytes : List ℕ) → l0 ≡ option_map (λ rest. bytes ++ rest) l → IfSome l0 (λ text. (rest : List ℕ) × (l ≡ Some rest) × (text ≡ bytes ++ rest))
+count_text l0 None bytes come =
+    let nothing : Option (List ℕ) = None in
+    subst (λ (o : Option (List ℕ)). IfSome o (λ text. (rest : List ℕ) × (nothing ≡ Some rest) × (text ≡ bytes ++ rest))) (sym come) tt
+count_text l0 (Some rest) bytes come =
+    let some : Option (List ℕ) = Some rest in
+    subst (λ (o : Option (List ℕ)). IfSome o (λ text. (rest : List ℕ) × (some ≡ Some rest) × (text ≡ bytes ++ rest))) (sym come) (rest, refl, refl)
+
+text_by : (bytes : List ℕ) (reader : ReaderState) (l0 l : Option (List ℕ)) → Uses bytes fresh_reader reader l0 l → reader.ahead ≡ [] → IfSome l0 (λ text. (rest : List ℕ) × (l ≡ Some rest) × (text ≡ bytes ++ rest))
+text_by bytes reader l0 l used used_up = count_text l0 l bytes (are_taken bytes reader l0 l used used_up)
+
+pub TookFewer-part : (l0 l1 l2 h0 h1 : Option (List ℕ)) (s0 s1 : ℕ) (r r' : ReaderState) (history : List Input) (kept : List ℕ) → Progress l0 l1 h0 h1 s0 s1 r history → ReadsLine [] r r' l1 l2 kept → StopsShort r' → TookFewer (2 ^ 40) l0 l2
+TookFewer-part l0 l1 l2 h0 h1 s0 s1 r r' history kept p read short =
+    let bytes = p.seen ++ (read.line ++ []) in
+    let used = Uses-append p.seen (read.line ++ []) fresh_reader r r' l0 l1 l2 p.used read.used in
+    let fewer : length bytes < 2 ^ 40 = omega (arith, short.some_room, count_taken bytes r' l0 l2 used short.used_up) in
+    IfSome_then l0 (text_by bytes r' l0 l2 used short.used_up) (λ text f. subst (λ (o : Option (List ℕ)). IfSome o (λ rest. length text < 2 ^ 40 + length rest)) (sym f.1) (omega (arith, fewer, ap length f.2, length-append bytes f.0)))
+
+took_most : (most : ℕ) (text bytes rest : List ℕ) (l : Option (List ℕ)) → l ≡ Some rest → text ≡ bytes ++ rest → length bytes ≡ most → (most ≤ length text) × (l ≡ Some (drop most text))
+took_most most text bytes rest l left is count = (omega (arith, count, ap length is, length-append bytes rest), left ∙ ap (λ (x : List ℕ). Some x) (sym (drop-append_seam bytes rest) ∙ ap (λ (n : ℕ). drop n (bytes ++ rest)) count ∙ ap (λ (x : List ℕ). drop most x) (sym is)))
+
+pub TookMost-part : (most : ℕ) (l0 l1 l2 h0 h1 : Option (List ℕ)) (s0 s1 : ℕ) (r r' : ReaderState) (history : List Input) (kept : List ℕ) → Progress l0 l1 h0 h1 s0 s1 r history → ReadsLine [] r r' l1 l2 kept → r'.ahead ≡ [] → r'.taken ≡ most → IfSome l0 (λ text. (most ≤ length text) × (l2 ≡ Some (drop most text)))
+TookMost-part most l0 l1 l2 h0 h1 s0 s1 r r' history kept p read used_up taken =
+    let bytes = p.seen ++ (read.line ++ []) in
+    let used = Uses-append p.seen (read.line ++ []) fresh_reader r r' l0 l1 l2 p.used read.used in
+    IfSome_then l0 (text_by bytes r' l0 l2 used used_up) (λ text f. took_most most text bytes f.0 l2 f.1 f.2 (sym (count_taken bytes r' l0 l2 used used_up) ∙ taken))
+
+-- those that came were taken
+took_at_most : (most : ℕ) (bytes : List ℕ) (reader : ReaderState) (l0 l : Option (List ℕ)) → l0 ≡ option_map (λ rest. bytes ++ rest) (to_come reader l) → length bytes + length reader.ahead ≤ most → TookAtMost most l0 l
+took_at_most most bytes reader l0 None come few =
+    let nothing : Option (List ℕ) = None in
+    subst (λ (o : Option (List ℕ)). TookAtMost most o nothing) (sym come) tt
+took_at_most most bytes reader l0 (Some rest) come few =
+    let some : Option (List ℕ) = Some rest in
+    subst (λ (o : Option (List ℕ)). TookAtMost most o some) (sym come) (omega (arith, few, length-append bytes (reader.ahead ++ rest), length-append reader.ahead rest))
+
+pub TookAtMost-part : (l0 l1 l2 h0 h1 : Option (List ℕ)) (s0 s1 : ℕ) (r r' : ReaderState) (history : List Input) → Progress l0 l1 h0 h1 s0 s1 r history → UsesSome r r' l1 l2 → r'.taken ≤ 2 ^ 40 → TookAtMost (2 ^ 40) l0 l2
+TookAtMost-part l0 l1 l2 h0 h1 s0 s1 r r' history p more within =
+    let used = Uses-append p.seen more.bytes fresh_reader r r' l0 l1 l2 p.used more.used in
+    took_at_most (2 ^ 40) (p.seen ++ more.bytes) r' l0 l2 (sym (come_nothing [] l0 refl) ∙ used.come) (omega (arith, used.counted, within))

@@ -1,0 +1,53 @@
+-- How much the lines of a session hold.
+use Rattle.std.proofs.Common.{◌≡◌, ◌⊎◌, ℕ, zero, suc, ◌+◌, ◌*◌, ◌<◌, ◌≤◌, ◌^◌, ◌++◌, ◌∙◌, List, [], ◌∷◌, length, refl, sym, ap, subst, arith, length-append, inl, inr, codes, true}
+use Rattle.std.proofs.lemmas.Bool.Decides.{nat_tests}
+use Rattle.arn_model.specs.Run.{is_name}
+use Rattle.arn_lines.specs.declared.line.Line.{Line}
+use Rattle.arn_lines.specs.declared.line.Line.TheVariants as line
+use Rattle.arn_lines.specs.declared.line.Reading.{Reading}
+use Rattle.arn_lines.specs.declared.line.Reading.TheVariants.{PassedOver, Unreadable, Says}
+use Rattle.arn_lines.specs.Words.{IsHex, IsBytes, IsName}
+use Rattle.arn_lines.specs.Grammar.{IsLine, IsFile, IsType, Reads, space}
+use Rattle.arn_session.specs.Sizes.{Fits, LineFits}
+
+-- hex text is at least as long as its bytes
+length-hex : (text bytes : List ℕ) → IsHex text bytes → length bytes ≤ length text
+length-hex [] [] is = omega arith
+length-hex [] (b ∷ bytes) is = absurd is
+length-hex (h ∷ []) bytes is = absurd (odd bytes is)
+  where
+    odd : (bs : List ℕ) → IsHex (h ∷ []) bs → ⊥
+    odd [] is = is
+    odd (b ∷ bs) is = is
+length-hex (h ∷ l ∷ text) [] is = absurd is
+length-hex (h ∷ l ∷ text) (b ∷ bytes) is = let rest = length-hex text bytes is.1 in omega (arith, rest)
+
+length-bytes : (text bytes : List ℕ) → IsBytes text bytes → length bytes ≤ length text
+length-bytes text bytes (inl is) = length-hex text bytes is.1
+length-bytes text bytes (inr is) = let none = ap length is.1 in omega (arith, none)
+
+-- a name of the grammar is one of the machine's
+name-is_name : (text : List ℕ) → IsName text → is_name text ≡ true
+name-is_name text is =
+    let low = is.at_least in
+    let high = is.at_most in
+    grind (arith, nat_tests)
+
+line-fits : (text : List ℕ) (l : Line) → length text ≤ 1048576 → IsLine text l → LineFits l
+line-fits text (line.File name bytes) short is =
+    let size = length-bytes is.hex bytes is.is_bytes in
+    let whole = ap length is.is_text in
+    (name-is_name name is.is_name, omega (arith, size, whole, short, length-append (codes "file " ++ name ++ space) is.hex))
+line-fits text (line.Boot name) short is = tt
+line-fits text (line.Type bytes) short is =
+    let size = length-bytes is.hex bytes is.is_bytes in
+    let whole = ap length is.is_text in
+    omega (arith, size, whole, short, length-append (codes "type ") is.hex)
+line-fits text (line.Run count) short is = is.at_most
+line-fits text (line.Back linkage event from len) short is = tt
+
+-- what a line of a session says fits the machine
+pub Reads-fits : (text : List ℕ) (reading : Reading) → Reads text reading → Fits reading
+Reads-fits text PassedOver is = tt
+Reads-fits text Unreadable is = tt
+Reads-fits text (Says l) is = line-fits text l is.0 is.1

@@ -1,0 +1,41 @@
+use Rattle.std.proofs.Common.{◌≡◌, ◌≢◌, ◌⊎◌, ◌-◌, ◌++◌, arith, refl, ap, ◌∙◌, inl, inr, option_to_list, string_bytes, OnOk}
+use Rattle.arn_model.specs.declared.history.Standing.TheVariants as standing
+use Rattle.arn_model.specs.Slice.{standing}
+use Rattle.arn_lines.specs.declared.answer.RunEnd.{RunEnd}
+use Rattle.arn_lines.specs.Texts.{ran_text}
+use Rattle.arn_session.specs.Running.{end_of}
+use Rattle.arn_session.proofs.RunLemmas.{SoFar-start, SoFar-turn, SoFar-end, IsRun, kept-slice, on_ok}
+use Rattle.arn_session.proofs.running.run_booted.Given.{Over}
+use Rattle.arn_session.proofs.running.run_booted.Goals as goal
+use Rattle.arn_session.proofs.running.run_booted.Goals.{then-loop-left-test+else-can_go_on, else-loop-left-test}
+
+pub loop-left-init : goal.loop-left-init
+loop-left-init g c = record { kept = c.requires.kept; so_far = SoFar-start _ _ _ _ _ }
+
+pub loop-left-preserved : goal.loop-left-preserved
+loop-left-preserved g c =
+    let e = c.in-Ok.ensures in
+    let turned = SoFar-turn c.args.inputs.now.items c.args.machine.now c.args.count _ c.args.steps.now c.loop-left.inputs.items c.loop-left.machine c.loop-left.left _ c.loop-left.steps c.min-slice.result c.reserve.new.self.items c.push_reserved.new.self.items c.run_slice.new.self (c.loop-left.left - c.from-left.result) _ c.run_slice.new.steps c.in-Ok.turn.ran (option_to_list c.in-Ok.turn.output) c.loop-left.invariant.kept c.loop-left.invariant.so_far c.min-slice.ensures (c.if-can_go_on.ensures.goes refl) c.loop-left-test.true c.in_ok-reserve.ensures.items c.push_reserved.ensures.items e.after e.ran e.output e.some e.within c.run_slice.ensures.events (ap (λ n. c.loop-left.left - n) c.from-left.ensures) c.in_ok-push_output.ensures e.steps in
+    record { kept = turned.kept; so_far = turned.so_far }
+
+pub returns-in_err-push_output-clause-kept : goal.returns-in_err-push_output-clause-kept
+returns-in_err-push_output-clause-kept g c = kept-slice c.loop-left.inputs.items c.loop-left.machine c.loop-left.left c.min-slice.result c.reserve.new.self.items c.push_reserved.new.self.items c.run_slice.new.self c.loop-left.invariant.kept c.in_ok-reserve.ensures.items c.push_reserved.ensures.items c.in-Ok.ensures.after c.run_slice.ensures.events
+
+-- why the loop stopped
+stops : (g : Over) (c : goal.After-push_ran g) → (c.loop-left.left ≡ 0) ⊎ (standing c.loop-left.machine ≢ standing.CanGoOn)
+stops g c =
+    elim c.loop-left-test.branch [
+      | then-loop-left-test+else-can_go_on w ↦ inr (w.if-can_go_on.ensures.stops refl)
+      | else-loop-left-test w ↦ inl (omega (arith, w.loop-left-test.false))
+    ]
+
+-- the whole run
+whole : (g : Over) (c : goal.After-push_ran g) → OnOk c.push_ran.result (IsRun c.args.inputs.now.items c.args.machine.now c.args.count (string_bytes c.args.text.now) c.args.steps.now c.loop-left.inputs.items (string_bytes c.push_ran.new.text) c.loop-left.steps)
+whole g c =
+    on_ok _ _ c.push_ran.result _ _ (λ printed. SoFar-end _ _ c.args.count _ c.args.steps.now _ c.loop-left.machine c.loop-left.left _ _ _ c.loop-left.invariant.so_far (stops g c) (printed ∙ ap (λ (e : RunEnd). string_bytes c.loop-left.text ++ ran_text (c.args.count - c.loop-left.left) e) (c.end_of.ensures ∙ ap end_of c.standing.ensures.standing))) c.push_ran.ensures.ok
+
+pub returns-clause-gives : goal.returns-clause-gives
+returns-clause-gives g c = on_ok _ _ c.push_ran.result _ _ (λ r. r.gives) (whole g c)
+
+pub returns-clause-steps : goal.returns-clause-steps
+returns-clause-steps g c = on_ok _ _ c.push_ran.result _ _ (λ r. r.executed) (whole g c)

@@ -1,0 +1,12 @@
+pub mod Kept
+pub mod Lines
+pub mod Running
+pub mod Answers
+pub mod Cost
+pub mod Transcript
+pub mod Words
+pub mod Sizes
+pub mod Status
+pub mod Reader
+pub mod Answering
+pub mod StandIns

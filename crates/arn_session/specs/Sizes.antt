@@ -1,0 +1,23 @@
+-- How much a line holds.
+use Rattle.std.specs.Prelude.{◌<◌, ◌≤◌, ◌^◌, length, IsTrue}
+use Rattle.arn_model.specs.declared.limits.TheConstants.{MOST_FILE_BYTES}
+use Rattle.arn_model.specs.Run.{is_name}
+use Rattle.arn_lines.specs.declared.line.Line.{Line}
+use Rattle.arn_lines.specs.declared.line.Line.TheVariants as line
+use Rattle.arn_lines.specs.declared.line.Reading.{Reading}
+use Rattle.arn_lines.specs.declared.line.Reading.TheVariants.{PassedOver, Unreadable, Says}
+use Rattle.arn_lines.specs.declared.line.TheConstants.{MOST_RUN}
+
+-- names, files and pieces that the machine takes
+abbrev pub LineFits : Line → Type 0
+LineFits (line.File name bytes) = IsTrue (is_name name) × (length bytes ≤ MOST_FILE_BYTES)
+LineFits (line.Boot name) = Unit {0}
+LineFits (line.Type bytes) = length bytes < 2 ^ 32
+LineFits (line.Run count) = count ≤ MOST_RUN
+LineFits (line.Back linkage event from len) = Unit {0}
+
+-- what a line of a session that was read holds
+abbrev pub Fits : Reading → Type 0
+Fits PassedOver = Unit {0}
+Fits Unreadable = Unit {0}
+Fits (Says l) = LineFits l

@@ -1,0 +1,116 @@
+// The line that runs the machine.
+ghost use Rattle.std.specs.Prelude.{◌≡◌, ◌≢◌, true, false, IsTrue, ◌+◌, ◌≤◌, ◌++◌, OnOk, option_to_list, string_bytes, if◌then◌else◌};
+ghost use Rattle.arn_model.specs.Run.{is_booted};
+ghost use Rattle.arn_model.specs.Slice.{standing, is_runnable};
+ghost use Rattle.arn_lines.specs.declared.answer.Refusal.TheVariants as refusal;
+ghost use Rattle.arn_lines.specs.declared.line.TheConstants.{MOST_RUN};
+ghost use Rattle.arn_session.specs.Answers.{run_answer, refused};
+ghost use Rattle.arn_session.specs.Cost.{run_cost};
+ghost use Rattle.arn_session.specs.Running.{slices_of, outputs_text, end_of as end_by};
+ghost use Rattle.arn_session.specs.Kept.{IsKept, Gives};
+
+use arn_base::{NoMemory, Steps};
+use arn_lines::{Refusal, RunEnd, push_out, push_ran, push_refusal};
+use arn_model::limits::MOST_SLICE;
+use arn_model::{Input, Output, Standing};
+use guest_solo::Solo;
+use std::alloc::Global;
+use std::sync::ledger::Ledger;
+
+/// Runs up to so many instructions. Where memory runs out in a slice, the history is dropped.
+pub fn run<L: Ledger>(
+    alloc: Global,
+    inputs: &mut Vec<Input>,
+    machine: &mut Solo,
+    count: u64,
+    text: &mut String,
+    steps: &mut Steps<L>,
+) -> Result<(), NoMemory>
+    requires kept { IsKept inputs.old.items machine.old }
+    ensures kept { IsKept inputs.new.items machine.new }
+    ensures gives { OnOk result (Gives
+        (if is_booted machine.old then run_answer machine.old count else refused refusal.NoLine)
+        inputs.old.items inputs.new.items (string_bytes text.old) (string_bytes text.new)) }
+    ensures steps { OnOk result (steps.new ≤ steps.old +
+        (if is_booted machine.old then run_cost machine.old (slices_of machine.old count) else 0)) }
+{
+    if machine.is_booted() {
+        run_booted(alloc, inputs, machine, count, text, steps)
+    } else {
+        push_refusal(text, Refusal::NoLine)
+    }
+}
+
+fn run_booted<L: Ledger>(
+    alloc: Global,
+    inputs: &mut Vec<Input>,
+    machine: &mut Solo,
+    count: u64,
+    text: &mut String,
+    steps: &mut Steps<L>,
+) -> Result<(), NoMemory>
+    requires kept { IsKept inputs.old.items machine.old }
+    ensures kept { IsKept inputs.new.items machine.new }
+    ensures gives { OnOk result (Gives (run_answer machine.old count)
+        inputs.old.items inputs.new.items (string_bytes text.old) (string_bytes text.new)) }
+    ensures steps { OnOk result
+        (steps.new ≤ steps.old + run_cost machine.old (slices_of machine.old count)) }
+{
+    let mut left = count;
+    while left > 0 && can_go_on(machine) {
+        inputs.reserve(1)?;
+        let slice = left.min(MOST_SLICE) as u32;
+        let Ok(turn) = machine.run_slice(slice, steps) else {
+            return Err(forget(alloc, inputs, machine));
+        };
+        inputs.push_reserved(Input::Slice {
+            pid: 1,
+            count: slice,
+        });
+        left -= u64::from(turn.ran);
+        push_output(text, turn.output)?;
+    }
+    push_ran(text, count - left, end_of(machine.standing()))
+}
+
+// Drops a history whose last slice was cut short for want of memory.
+fn forget(alloc: Global, inputs: &mut Vec<Input>, machine: &mut Solo) -> NoMemory
+    ensures { IsKept inputs.new.items machine.new }
+{
+    inputs.clear();
+    *machine = Solo::new(alloc);
+    NoMemory
+}
+
+fn push_output(text: &mut String, output: Option<Output>) -> Result<(), NoMemory>
+    ensures { OnOk result
+        (string_bytes text.new ≡ string_bytes text.old ++ outputs_text (option_to_list output)) }
+{
+    match output {
+        Some(output) => push_out(text, output.event, output.pid, output.bytes.as_slice()),
+        None => Ok(()),
+    }
+}
+
+// Whether a process can go on.
+fn can_go_on(machine: &Solo) -> bool
+    ensures goes { result ≡ true → standing machine.now ≡ Standing.CanGoOn }
+    ensures able { result ≡ true → IsTrue (is_runnable machine.now 1) }
+    ensures stops { result ≡ false → standing machine.now ≢ Standing.CanGoOn }
+{
+    match machine.standing() {
+        Standing::CanGoOn => true,
+        Standing::Done | Standing::Stalled => false,
+    }
+}
+
+// How a run ended, by how the machine stands then.
+fn end_of(standing: Standing) -> RunEnd
+    ensures { result ≡ end_by standing }
+{
+    match standing {
+        Standing::Done => RunEnd::Done,
+        Standing::Stalled => RunEnd::Stalled,
+        Standing::CanGoOn => RunEnd::Budget,
+    }
+}

@@ -1,0 +1,101 @@
+// A session over a text in memory.
+ghost use Rattle.std.specs.Prelude.{◌≡◌, ◌<◌, [], IfOk};
+ghost use Rattle.arnold_tests.specs.Sessions.{Prints};
+
+use arn_base::{Bytes, Chooser, Device, NoMemory, Numbers, SliceSource, Steps, VecSink};
+use arn_session::{FirstChooser, NoDisk, Status, arnold};
+use std::alloc::Global;
+use std::marker::Brand;
+use std::sync::ledger::{Blank, Ledger};
+
+/// A text, how a source gives it, and which calls fail.
+#[derive(Clone, Copy, Debug)]
+pub struct Script<'a> {
+    pub text: &'a [u8],
+    /// How many bytes the source gives at once: at least one.
+    pub piece: usize,
+    /// The numbers of the source's calls that fail, from 0 on.
+    pub source_fails: &'a [u32],
+    /// The numbers of the sink's calls that fail, from 0 on.
+    pub sink_fails: &'a [u32],
+}
+
+impl Script<'_> {
+    ghost use Rattle.std.specs.Prelude.{◌≡◌, []};
+
+    /// The text in one piece, where no call fails.
+    pub fn of(text: &[u8]) -> Script<'_>
+        ensures text { result.text.now ≡ text.now }
+        ensures piece { result.piece ≡ usize.MAX }
+        ensures source { result.source_fails.now ≡ [] }
+        ensures sink { result.sink_fails.now ≡ [] }
+    {
+        Script {
+            text,
+            piece: usize::MAX,
+            source_fails: &[],
+            sink_fails: &[],
+        }
+    }
+}
+
+/// How a session ended, and what holds what it printed.
+#[derive(Drop)]
+pub struct Ended {
+    pub status: Status,
+    pub sink: VecSink,
+}
+
+fn numbers(alloc: Global, calls: &[u32]) -> Result<Numbers, NoMemory> {
+    let mut numbers = Numbers::new(alloc);
+    for call in calls {
+        numbers.push(*call)?;
+    }
+    Ok(numbers)
+}
+
+fn run_over<L: Ledger>(
+    alloc: Global,
+    words: &[String],
+    script: &Script,
+    blank: Blank,
+) -> Result<Ended, NoMemory>
+    requires name { blank.name ≡ L.name }
+    requires parts { blank.parts ≡ L.parts }
+    requires some { 0 < blank.parts }
+
+    ensures done { IfOk result (λ ended. ended.status ≡ Status.Done →
+        Prints script.now.text.now ended.sink.held) }
+    ensures usage { IfOk result (λ ended. ended.status ≡ Status.Usage → ended.sink.held ≡ []) }
+{
+    let bytes = Bytes::from_slice(alloc, script.text)?;
+    let fails = numbers(alloc, script.source_fails)?;
+    let mut source = SliceSource::in_pieces(bytes, fails, script.piece);
+    let mut sink = VecSink::new(alloc, numbers(alloc, script.sink_fails)?);
+    let mut chooser: Box<dyn Chooser> = Box::new(alloc, FirstChooser::new())?;
+    let mut devices: Vec<Option<Box<dyn Device>>> = Vec::new(alloc);
+    let status = arnold(
+        alloc,
+        words,
+        &mut source,
+        &mut sink,
+        &mut NoDisk::new(),
+        &mut chooser,
+        &mut devices,
+        &mut Steps::<L>::new(blank),
+    );
+    Ok(Ended { status, sink })
+}
+
+/// Runs a session with these words.
+pub fn run(alloc: Global, words: &[&str], script: &Script) -> Result<Ended, NoMemory>
+    ensures done { IfOk result (λ ended. ended.status ≡ Status.Done →
+        Prints script.now.text.now ended.sink.held) }
+    ensures usage { IfOk result (λ ended. ended.status ≡ Status.Usage → ended.sink.held ≡ []) }
+{
+    let mut texts = Vec::new(alloc);
+    for word in words {
+        texts.push(String::from_str(alloc, word)?)?;
+    }
+    run_over::<Brand>(alloc, texts.as_slice(), script, Blank::new(1))
+}

@@ -1,0 +1,10 @@
+//! Images of guest programs.
+#![tactic(auto)]
+
+mod header;
+mod image;
+#[cfg(test)]
+mod tests;
+
+pub use header::parse;
+pub use image::{HEADER_LEN, Image, NotImage};

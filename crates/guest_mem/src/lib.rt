@@ -1,0 +1,20 @@
+//! The memory of a guest: the private window of a process, a segment that processes share, and what one process sees
+//! of both.
+#![tactic(auto)]
+
+mod blocks;
+mod extent;
+mod limits;
+mod numbers;
+mod segment;
+mod shared_view;
+mod space;
+#[cfg(test)]
+mod tests;
+mod view;
+
+pub use limits::{BLOCK_LEN, SEGMENT_LEN, SHARED_END, SHARED_START};
+pub use segment::Segment;
+pub use shared_view::SharedView;
+pub use space::Space;
+pub use view::View;

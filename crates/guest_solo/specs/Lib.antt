@@ -1,0 +1,9 @@
+pub mod Burst
+pub mod Effects
+pub mod Files
+pub mod Guest
+pub mod Input
+pub mod Request
+pub mod Start
+pub mod Turn
+pub mod Solo

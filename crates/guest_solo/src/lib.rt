@@ -1,0 +1,19 @@
+//! A machine of one process: boot files, a console, and the calls exit, read and write.
+#![tactic(auto)]
+
+mod burst;
+mod calls;
+mod console;
+mod errors;
+mod files;
+mod guest;
+mod solo;
+mod standing;
+mod start;
+#[cfg(test)]
+mod tests;
+mod turn;
+
+pub use errors::MachineError;
+pub use solo::Solo;
+pub use turn::Turn;

@@ -1,0 +1,205 @@
+use crate::console::held_bytes;
+use crate::errors::MachineError;
+use crate::files::{BootFile, find, is_free as is_free_name};
+use crate::guest::Guest;
+use crate::standing::stands;
+use crate::start::start;
+use crate::turn::{Turn, take_turn};
+use arn_base::{NoMemory, Steps};
+use arn_model::limits::MOST_FILE_BYTES;
+use arn_model::{Held, Standing};
+use std::alloc::Global;
+use std::marker::Model;
+use std::sync::ledger::Ledger;
+
+/// A machine of one process. It is seen as the model's machine.
+#[derive(Drop)]
+pub struct Solo {
+    alloc: Global,
+    files: Vec<BootFile>,
+    guest: Option<Guest>,
+    typed: Vec<Held>,
+    taken: usize,
+    events: u64,
+}
+
+impl Model for Solo {
+    ghost use Rattle.std.specs.Prelude.{◌≤◌, length};
+    ghost use Rattle.arn_model.specs.Machine.{Machine};
+
+    ghost Value = { Machine };
+
+    ghost use Rattle.guest_solo.specs.Solo.{machine_of};
+
+    ghost view = { machine_of };
+
+    ghost invariant = { λ s. s.taken ≤ length s.typed.items };
+}
+
+impl Solo {
+    ghost use Rattle.std.specs.Prelude.{◌≡◌, ◌≢◌, ◌+◌, ◌<◌, ◌≤◌, ◌^◌, ◌↔◌, true, false, length, IfOk, IfErr, OnOk, OnErr, IsErrOf, IsNone, IsTrue, is_some, option_to_list, Err, ◌⊎◌};
+    ghost use Rattle.arn_model.specs.declared.history.Input.TheVariants as input;
+    ghost use Rattle.arn_model.specs.Machine.{at_first};
+    ghost use Rattle.arn_model.specs.Slice.{is_possible, is_runnable, standing as standing_of};
+    ghost use Rattle.arn_model.specs.Run.{is_booted as has_process, find_file, is_free, is_name, input_steps, after_input, instructions_in, outputs_from};
+    ghost use Rattle.guest_solo.specs.Input.{Does, IsRefused};
+
+    /// The machine before anything has come from outside.
+    pub fn new(alloc: Global) -> Solo
+        ensures { result ≡ at_first }
+    {
+        Solo {
+            alloc,
+            files: Vec::new(alloc),
+            guest: None,
+            typed: Vec::new(alloc),
+            taken: 0,
+            events: 0,
+        }
+    }
+
+    /// Whether a process has been made.
+    pub fn is_booted(&self) -> bool
+        ensures { result ≡ has_process self.now }
+    {
+        self.guest.is_some()
+    }
+
+    /// How many events there have been.
+    pub fn events(&self) -> u64
+        ensures { result ≡ self.now.events }
+    {
+        self.events
+    }
+
+    /// Adds a boot file. Answers the number of its event.
+    pub fn add_file(&mut self, name: &[u8], bytes: &[u8]) -> Result<u64, MachineError>
+        requires name { IsTrue (is_name name.now) }
+        requires bytes { length bytes.now ≤ MOST_FILE_BYTES }
+        requires events { self.old.events + 1 < 2 ^ 64 }
+
+        ensures event { IfOk result (λ event. event ≡ self.old.events) }
+        ensures does { OnOk result (Does self.old (input.File name.now bytes.now) self.new) }
+
+        ensures booted { IsErrOf result MachineError.Booted ↔ IsTrue (has_process self.old) }
+        ensures no_name { IsErrOf result MachineError.NoName ↔
+            ((has_process self.old ≡ false) × (is_free self.old name.now ≡ false)) }
+        ensures not_not_booted { result ≢ Err MachineError.NotBooted }
+        ensures not_not_image { result ≢ Err MachineError.NotImage }
+        ensures err { OnErr result (self.new ≡ self.old) }
+    {
+        if self.guest.is_some() {
+            return Err(MachineError::Booted);
+        }
+        if !is_free_name(self.files.as_slice(), name) {
+            return Err(MachineError::NoName);
+        }
+        let event = self.events;
+        let file = BootFile::new(self.alloc, name, bytes, event)?;
+        self.files.push(file)?;
+        self.events += 1;
+        Ok(event)
+    }
+
+    /// Boots process 1 from the image in a file. Answers the number of its event.
+    pub fn boot(&mut self, name: &[u8]) -> Result<u64, MachineError>
+        requires events { self.old.events + 1 < 2 ^ 64 }
+
+        ensures event { IfOk result (λ event. event ≡ self.old.events) }
+        ensures does { OnOk result (Does self.old (input.Boot name.now) self.new) }
+
+        ensures booted { IsErrOf result MachineError.Booted ↔ IsTrue (has_process self.old) }
+        ensures no_name { IsErrOf result MachineError.NoName ↔
+            ((has_process self.old ≡ false) × IsNone (find_file self.old name.now)) }
+        ensures not_image { IsErrOf result MachineError.NotImage →
+            (has_process self.old ≡ false) × IsTrue (is_some (find_file self.old name.now)) ×
+            IsRefused self.old (input.Boot name.now) }
+        ensures not_not_booted { result ≢ Err MachineError.NotBooted }
+        ensures err { OnErr result (self.new ≡ self.old) }
+    {
+        if self.guest.is_some() {
+            return Err(MachineError::Booted);
+        }
+        let Some(place) = find(self.files.as_slice(), name) else {
+            return Err(MachineError::NoName);
+        };
+        let guest = match start(self.alloc, self.files[place].bytes.as_slice()) {
+            Ok(guest) => guest,
+            Err(error) => return Err(error),
+        };
+        let event = self.events;
+        self.guest = Some(guest);
+        self.events += 1;
+        Ok(event)
+    }
+
+    /// Puts bytes behind the console's queue. Answers the number of its event.
+    pub fn type_in(&mut self, bytes: &[u8]) -> Result<u64, MachineError>
+        requires bytes { length bytes.now < 2 ^ 32 }
+        requires events { self.old.events + 1 < 2 ^ 64 }
+
+        ensures event { IfOk result (λ event. event ≡ self.old.events) }
+        ensures does { OnOk result (Does self.old (input.Typed bytes.now) self.new) }
+
+        ensures not_booted { IsErrOf result MachineError.NotBooted ↔
+            (has_process self.old ≡ false) }
+        ensures only { IfErr result (λ e.
+            (e ≡ MachineError.NotBooted) ⊎ (e ≡ MachineError.NoMemory)) }
+        ensures err { OnErr result (self.new ≡ self.old) }
+    {
+        if self.guest.is_none() {
+            return Err(MachineError::NotBooted);
+        }
+        let event = self.events;
+        let held = held_bytes(self.alloc, event, bytes)?;
+        self.typed.extend_from_slice(held.as_slice())?;
+        self.events += 1;
+        Ok(event)
+    }
+
+    /// How the machine stands before a slice.
+    pub fn standing(&self) -> Standing
+        ensures standing { result ≡ standing_of self.now }
+        ensures able { (result ≡ Standing.CanGoOn) ↔ IsTrue (is_runnable self.now 1) }
+    {
+        match &self.guest {
+            None => Standing::Done,
+            Some(guest) => stands(guest, (self.typed.len() - self.taken) as u64),
+        }
+    }
+
+    /// Runs a slice of the process. Executes at most one instruction more than ran.
+    pub fn run_slice<L: Ledger>(
+        &mut self,
+        count: u32,
+        steps: &mut Steps<L>,
+    ) -> Result<Turn, NoMemory>
+        requires possible { IsTrue (is_possible self.old 1 count) }
+        requires events { self.old.events + 1 < 2 ^ 64 }
+
+        ensures after { OnOk result (self.new ≡ after_input self.old (input.Slice 1 count)) }
+        ensures ran { IfOk result (λ turn.
+            turn.ran ≡ instructions_in (input_steps self.old (input.Slice 1 count))) }
+        ensures output { IfOk result (λ turn.
+            option_to_list turn.output ≡
+            outputs_from self.old.events (input_steps self.old (input.Slice 1 count))) }
+
+        ensures some { IfOk result (λ turn. 1 ≤ turn.ran) }
+        ensures within { IfOk result (λ turn. turn.ran ≤ count) }
+        ensures events { self.new.events ≤ self.old.events + 1 }
+        ensures steps { IfOk result (λ turn. steps.new ≤ steps.old + turn.ran + 1) }
+    {
+        match &mut self.guest {
+            Some(guest) => take_turn(
+                self.alloc,
+                guest,
+                self.typed.as_slice(),
+                &mut self.taken,
+                &mut self.events,
+                count,
+                steps,
+            ),
+            None => unreachable!(),
+        }
+    }
+}

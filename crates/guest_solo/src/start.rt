@@ -1,0 +1,51 @@
+ghost use Rattle.std.specs.Prelude.{◌≡◌, ◌≤◌, length, drop, None, IfOk, IfErr, IsErrOf, ◌↔◌, ◌⊎◌};
+ghost use Rattle.arn_model.specs.Image.{image_of, cpu_at_start};
+ghost use Rattle.guest_solo.specs.Start.{StartsFrom};
+
+use crate::errors::MachineError;
+use crate::guest::Guest;
+use arn_base::{Cpu, StoreError};
+use arn_model::limits::WINDOW_END;
+use guest_image::{HEADER_LEN, parse};
+use guest_mem::Space;
+use std::alloc::Global;
+
+/// The process that starts from an image file, without an argument block.
+pub fn start(alloc: Global, file: &[u8]) -> Result<Guest, MachineError>
+    ensures starts { IfOk result (StartsFrom file.now) }
+    ensures not_image { IsErrOf result MachineError.NotImage ↔ (image_of file.now ≡ None) }
+    ensures only { IfErr result (λ e.
+        (e ≡ MachineError.NotImage) ⊎ (e ≡ MachineError.NoMemory)) }
+{
+    let image = parse(file)?;
+    let mut space = Space::new(alloc)?;
+    match space.write_from(image.load, body(file)) {
+        Ok(()) => {}
+        Err(StoreError::NoMemory) => return Err(MachineError::NoMemory),
+        Err(StoreError::BadAddress) => unreachable!(),
+    }
+    Ok(Guest {
+        cpu: first_cpu(image.entry),
+        space,
+        live: true,
+    })
+}
+
+// What stands behind the header.
+fn body(file: &[u8]) -> &[u8]
+    requires { 24 ≤ length file.now }
+    ensures { result.now ≡ drop 24 file.now }
+{
+    &file[HEADER_LEN..]
+}
+
+// The registers at the start: x10 and x2 are the end of the window, where an empty argument block
+// stands.
+fn first_cpu(entry: u64) -> Cpu
+    ensures { result ≡ cpu_at_start entry 0 }
+{
+    let mut x = [0; 31];
+    x[9] = WINDOW_END;
+    x[1] = WINDOW_END;
+    Cpu { x, pc: entry }
+}

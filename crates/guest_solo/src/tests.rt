@@ -1,0 +1,125 @@
+ghost use Rattle.std.specs.Prelude.{◌≡◌, ◌<◌};
+
+use super::*;
+use arn_base::{NoMemory, Steps};
+use arn_model::{Output, Standing};
+use std::alloc::Global;
+use std::marker::Brand;
+use std::sync::ledger::{Blank, Ledger};
+use std::test::Fail;
+
+// Reads three bytes of the console to below the stack pointer, writes them to the console and
+// exits.
+const ECHO: [u8; 68] = [
+    // ARNIMG01, entry and load address
+    0x41, 0x52, 0x4e, 0x49, 0x4d, 0x47, 0x30, 0x31, 0x00, 0x00, 0x01, 0x00, 0x00, 0x00, 0x00, 0x00,
+    0x00, 0x00, 0x01, 0x00, 0x00, 0x00, 0x00, 0x00,
+    // li x17, 11
+    0x93, 0x08, 0xb0, 0x00,
+    // li x10, 0
+    0x13, 0x05, 0x00, 0x00,
+    // addi x11, x2, -16
+    0x93, 0x05, 0x01, 0xff,
+    // li x12, 3
+    0x13, 0x06, 0x30, 0x00,
+    // ecall
+    0x73, 0x00, 0x00, 0x00,
+    // li x17, 12
+    0x93, 0x08, 0xc0, 0x00,
+    // li x10, 1
+    0x13, 0x05, 0x10, 0x00,
+    // ecall
+    0x73, 0x00, 0x00, 0x00,
+    // li x17, 1
+    0x93, 0x08, 0x10, 0x00,
+    // li x10, 0
+    0x13, 0x05, 0x00, 0x00,
+    // ecall
+    0x73, 0x00, 0x00, 0x00,
+];
+
+// How many instructions each slice ran, and what was written.
+#[derive(Drop)]
+struct Slices {
+    ran: Vec<u32>,
+    outputs: Vec<Output>,
+}
+
+// Runs slices until the machine is done or stalled.
+fn run_counted<L: Ledger>(alloc: Global, solo: &mut Solo, blank: Blank) -> Result<Slices, NoMemory>
+    requires name { blank.name ≡ L.name }
+    requires parts { blank.parts ≡ L.parts }
+    requires some { 0 < blank.parts }
+{
+    let mut steps = Steps::<L>::new(blank);
+    let mut slices = Slices {
+        ran: Vec::new(alloc),
+        outputs: Vec::new(alloc),
+    };
+    while_ready(solo, &mut steps, &mut slices)?;
+    Ok(slices)
+}
+
+fn while_ready<L: Ledger>(
+    solo: &mut Solo,
+    steps: &mut Steps<L>,
+    slices: &mut Slices,
+) -> Result<(), NoMemory> {
+    for _ in 0..10 {
+        if solo.events() > 100 || solo.standing() != Standing::CanGoOn {
+            break;
+        }
+        let turn = solo.run_slice(1_000, steps)?;
+        slices.ran.push(turn.ran)?;
+        if let Some(output) = turn.output {
+            slices.outputs.push(output)?;
+        }
+    }
+    Ok(())
+}
+
+fn run(alloc: Global, solo: &mut Solo) -> Result<Slices, NoMemory> {
+    run_counted::<Brand>(alloc, solo, Blank::new(1))
+}
+
+#[test]
+fn echoes_what_was_typed(rt: HostRuntime) -> Result<(), Fail> {
+    let mut solo = Solo::new(rt.alloc());
+    assert_eq!(rt; solo.add_file(b"echo", &ECHO), Ok(0));
+    assert!(rt; solo.events() < 10);
+    assert_eq!(rt; solo.boot(b"echo"), Ok(1));
+    assert!(rt; solo.events() < 10);
+    assert_eq!(rt; solo.type_in(b"abc"), Ok(2));
+    let slices = run(rt.alloc(), &mut solo)?;
+    assert_eq!(rt; solo.standing(), Standing::Done);
+    assert_eq!(rt; slices.ran.as_slice(), [5, 3, 3].as_slice());
+    assert_eq!(rt; slices.outputs.len(), 1);
+    for output in slices.outputs.as_slice() {
+        assert_eq!(rt; output.event, 4);
+        assert_eq!(rt; output.pid, 1);
+        assert_eq!(rt; output.bytes.as_slice(), b"abc".as_slice());
+    }
+    Ok(())
+}
+
+#[test]
+fn waits_for_the_console(rt: HostRuntime) -> Result<(), Fail> {
+    let mut solo = Solo::new(rt.alloc());
+    assert_eq!(rt; solo.add_file(b"echo", &ECHO), Ok(0));
+    assert!(rt; solo.events() < 10);
+    assert_eq!(rt; solo.boot(b"echo"), Ok(1));
+    let waiting = run(rt.alloc(), &mut solo)?;
+    assert_eq!(rt; solo.standing(), Standing::Stalled);
+    assert_eq!(rt; waiting.ran.as_slice(), [4].as_slice());
+    assert!(rt; waiting.outputs.is_empty());
+    assert!(rt; solo.events() < 10);
+    assert_eq!(rt; solo.type_in(b"abc"), Ok(2));
+    let slices = run(rt.alloc(), &mut solo)?;
+    assert_eq!(rt; solo.standing(), Standing::Done);
+    assert_eq!(rt; slices.ran.as_slice(), [1, 3, 3].as_slice());
+    assert_eq!(rt; slices.outputs.len(), 1);
+    for output in slices.outputs.as_slice() {
+        assert_eq!(rt; output.event, 4);
+    }
+    Ok(())
+}

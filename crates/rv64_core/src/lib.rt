@@ -1,0 +1,15 @@
+//! One instruction of an RV64I hart: it is fetched, decoded and executed.
+//!
+//! Names and effects are those of the RISC-V unprivileged manual, chapters "RV32I Base Integer
+//! Instruction Set" and "RV64I Base Integer Instruction Set".
+#![tactic(auto)]
+
+mod execution;
+mod outcome;
+mod registers;
+mod stepping;
+#[cfg(test)]
+mod tests;
+
+pub use outcome::Outcome;
+pub use stepping::step;

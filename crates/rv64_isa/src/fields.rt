@@ -1,0 +1,37 @@
+ghost use Rattle.std.specs.Prelude.{◌≡◌, ◌^◌, ◌<◌, ◌≤◌};
+ghost use Rattle.rv64_isa.specs.Bits.{bits_of};
+ghost use Rattle.rv64_isa.specs.Signed.{signed_of, unsigned_of, FitsIn};
+
+// The bits from `high` down to `low`, as a number.
+pub(crate) fn bits(word: u32, high: u32, low: u32) -> u32
+    requires ordered { low ≤ high }
+    requires within { high < 32 }
+    ensures { result ≡ bits_of word high low }
+{
+    let width = high - low + 1;
+    (word >> low) & (u32::MAX >> (32 - width))
+}
+
+// The signed number that `width` bits spell.
+pub(crate) fn sign_extend(bits: u32, width: u32) -> i64
+    requires some { 0 < width }
+    requires within { width ≤ 32 }
+    requires fits { bits < 2 ^ width }
+    ensures { result ≡ signed_of width bits }
+{
+    if bits >> (width - 1) == 0 {
+        i64::from(bits)
+    } else {
+        i64::from(bits) - (1 << width)
+    }
+}
+
+// The `width` bits that spell a signed number.
+pub(crate) fn low_bits(number: i64, width: u32) -> u32
+    requires some { 0 < width }
+    requires within { width ≤ 32 }
+    requires fits { FitsIn width number }
+    ensures { result ≡ unsigned_of width number }
+{
+    (number.cast_unsigned() & (u64::MAX >> (64 - width))) as u32
+}
