@@ -7,3 +7,5 @@ pub mod HistoryLemmas
 pub mod EventLemmas
 pub mod RunLemmas
 pub mod SizeLemmas
+pub mod ToldLemmas
+pub mod AskLemmas

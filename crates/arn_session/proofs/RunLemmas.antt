@@ -56,7 +56,7 @@ slices-next most m zero able some enough = absurd (omega arith)
 slices-next most m (suc left) able some enough = ap (λ (s : Standing). if_ready s (suc left) m (slices_from most)) able
 
 -- the steps of slices and one more
-steps_from-push : (m : Machine) (slices : List Input) (s : Input) (m1 : Machine) → after_steps m (steps_from m slices) ≡ m1 → steps_from m (slices ++ s ∷ []) ≡ steps_from m slices ++ input_steps m1 s
+pub steps_from-push : (m : Machine) (slices : List Input) (s : Input) (m1 : Machine) → after_steps m (steps_from m slices) ≡ m1 → steps_from m (slices ++ s ∷ []) ≡ steps_from m slices ++ input_steps m1 s
 steps_from-push m slices s m1 leads =
     steps_from-append m slices (s ∷ []) ∙ ap (λ (x : Machine). steps_from m slices ++ (input_steps x s ++ [])) leads ∙ ap (λ (more : List Step). steps_from m slices ++ more) (append-nil (input_steps m1 s))
 

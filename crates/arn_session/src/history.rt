@@ -1,33 +1,31 @@
 ghost use Rattle.std.specs.Prelude.{◌≡◌, ◌++◌, ◌+◌, ◌≤◌, [], OnOk, string_bytes};
 
 use crate::answering::{add_file, boot, type_in};
+use crate::asking::back;
+use crate::kept::Kept;
 use crate::running::run;
 use arn_base::{NoMemory, Steps};
 use arn_lines::{Line, Reading, Refusal, push_refusal};
-use arn_model::Input;
-use guest_solo::Solo;
 use std::alloc::Global;
 use std::marker::Model;
 use std::sync::ledger::Ledger;
 
-/// All that came to the machine, and the machine as it is.
+/// All that came to the machine from outside, and what is kept beside it.
 #[derive(Drop)]
 pub struct History {
-    alloc: Global,
-    inputs: Vec<Input>,
-    machine: Solo,
+    kept: Kept,
 }
 
 impl Model for History {
     ghost use Rattle.std.specs.Prelude.{List};
     ghost use Rattle.arn_model.specs.declared.history.Input.{Input};
-    ghost use Rattle.arn_session.specs.Kept.{IsKept};
+    ghost use Rattle.arn_session.specs.Kept.{IsSound};
 
     ghost Value = { List Input };
 
-    ghost view = { λ h. h.inputs.items };
+    ghost view = { λ h. h.kept.inputs.items };
 
-    ghost invariant = { λ h. IsKept h.inputs.items h.machine };
+    ghost invariant = { λ h. IsSound h.kept };
 }
 
 impl History {
@@ -41,9 +39,7 @@ impl History {
         ensures { result ≡ [] }
     {
         History {
-            alloc,
-            inputs: Vec::new(alloc),
-            machine: Solo::new(alloc),
+            kept: Kept::new(alloc),
         }
     }
 
@@ -80,20 +76,16 @@ impl History {
         ensures steps { OnOk result (steps.new ≤ steps.old + line_cost self.old line) }
     {
         match line {
-            Line::File { name, bytes } => {
-                add_file(&mut self.inputs, &mut self.machine, name, bytes, text)
-            }
-            Line::Boot { name } => boot(&mut self.inputs, &mut self.machine, name, text),
-            Line::Type { bytes } => type_in(&mut self.inputs, &mut self.machine, bytes, text),
-            Line::Run { count } => run(
-                self.alloc,
-                &mut self.inputs,
-                &mut self.machine,
-                count,
-                text,
-                steps,
-            ),
-            Line::Back { .. } => push_refusal(text, Refusal::NoLine),
+            Line::File { name, bytes } => add_file(&mut self.kept, name, bytes, text),
+            Line::Boot { name } => boot(&mut self.kept, name, text),
+            Line::Type { bytes } => type_in(&mut self.kept, bytes, text),
+            Line::Run { count } => run(&mut self.kept, count, text, steps),
+            Line::Back {
+                linkage,
+                event,
+                from,
+                len,
+            } => back(&self.kept, linkage, event, from, len, text),
         }
     }
 }

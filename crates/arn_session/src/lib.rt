@@ -2,7 +2,9 @@
 #![tactic(auto)]
 
 mod answering;
+mod asking;
 mod history;
+mod kept;
 mod reader;
 mod running;
 mod session;

@@ -1,5 +1,5 @@
 // The line that runs the machine.
-ghost use Rattle.std.specs.Prelude.{◌≡◌, ◌≢◌, true, false, IsTrue, ◌+◌, ◌≤◌, ◌++◌, OnOk, option_to_list, string_bytes, if◌then◌else◌};
+ghost use Rattle.std.specs.Prelude.{◌≡◌, ◌≢◌, true, false, IsTrue, ◌+◌, ◌<◌, ◌≤◌, vec_len, vec_capacity, ◌++◌, OnOk, option_to_list, string_bytes, if◌then◌else◌};
 ghost use Rattle.arn_model.specs.Run.{is_booted};
 ghost use Rattle.arn_model.specs.Slice.{standing, is_runnable};
 ghost use Rattle.arn_lines.specs.declared.answer.Refusal.TheVariants as refusal;
@@ -7,78 +7,87 @@ ghost use Rattle.arn_lines.specs.declared.line.TheConstants.{MOST_RUN};
 ghost use Rattle.arn_session.specs.Answers.{run_answer, refused};
 ghost use Rattle.arn_session.specs.Cost.{run_cost};
 ghost use Rattle.arn_session.specs.Running.{slices_of, outputs_text, end_of as end_by};
-ghost use Rattle.arn_session.specs.Kept.{IsKept, Gives};
+ghost use Rattle.arn_session.specs.Kept.{IsSound, Gives};
 
+use crate::kept::Kept;
 use arn_base::{NoMemory, Steps};
 use arn_lines::{Refusal, RunEnd, push_out, push_ran, push_refusal};
 use arn_model::limits::MOST_SLICE;
 use arn_model::{Input, Output, Standing};
-use guest_solo::Solo;
-use std::alloc::Global;
+use guest_solo::{Solo, Turn};
+use solo_lineage::Move;
 use std::sync::ledger::Ledger;
 
 /// Runs up to so many instructions. Where memory runs out in a slice, the history is dropped.
 pub fn run<L: Ledger>(
-    alloc: Global,
-    inputs: &mut Vec<Input>,
-    machine: &mut Solo,
+    kept: &mut Kept,
     count: u64,
     text: &mut String,
     steps: &mut Steps<L>,
 ) -> Result<(), NoMemory>
-    requires kept { IsKept inputs.old.items machine.old }
-    ensures kept { IsKept inputs.new.items machine.new }
+    requires sound { IsSound kept.old }
+    ensures sound { IsSound kept.new }
     ensures gives { OnOk result (Gives
-        (if is_booted machine.old then run_answer machine.old count else refused refusal.NoLine)
-        inputs.old.items inputs.new.items (string_bytes text.old) (string_bytes text.new)) }
+        (if is_booted kept.old.machine then run_answer kept.old.machine count else refused refusal.NoLine)
+        kept.old.inputs.items kept.new.inputs.items (string_bytes text.old) (string_bytes text.new)) }
     ensures steps { OnOk result (steps.new ≤ steps.old +
-        (if is_booted machine.old then run_cost machine.old (slices_of machine.old count) else 0)) }
+        (if is_booted kept.old.machine then run_cost kept.old.machine (slices_of kept.old.machine count) else 0)) }
 {
-    if machine.is_booted() {
-        run_booted(alloc, inputs, machine, count, text, steps)
+    if kept.machine.is_booted() {
+        run_booted(kept, count, text, steps)
     } else {
         push_refusal(text, Refusal::NoLine)
     }
 }
 
 fn run_booted<L: Ledger>(
-    alloc: Global,
-    inputs: &mut Vec<Input>,
-    machine: &mut Solo,
+    kept: &mut Kept,
     count: u64,
     text: &mut String,
     steps: &mut Steps<L>,
 ) -> Result<(), NoMemory>
-    requires kept { IsKept inputs.old.items machine.old }
-    ensures kept { IsKept inputs.new.items machine.new }
-    ensures gives { OnOk result (Gives (run_answer machine.old count)
-        inputs.old.items inputs.new.items (string_bytes text.old) (string_bytes text.new)) }
+    requires sound { IsSound kept.old }
+    ensures sound { IsSound kept.new }
+    ensures gives { OnOk result (Gives (run_answer kept.old.machine count)
+        kept.old.inputs.items kept.new.inputs.items (string_bytes text.old) (string_bytes text.new)) }
     ensures steps { OnOk result
-        (steps.new ≤ steps.old + run_cost machine.old (slices_of machine.old count)) }
+        (steps.new ≤ steps.old + run_cost kept.old.machine (slices_of kept.old.machine count)) }
 {
     let mut left = count;
-    while left > 0 && can_go_on(machine) {
-        inputs.reserve(1)?;
+    while left > 0 && can_go_on(&kept.machine) {
+        kept.inputs.reserve(1)?;
+        kept.moves.reserve(1)?;
         let slice = left.min(MOST_SLICE) as u32;
-        let Ok(turn) = machine.run_slice(slice, steps) else {
-            return Err(forget(alloc, inputs, machine));
+        let Ok(Turn { ran, output, moved }) = kept.machine.run_slice(slice, steps) else {
+            return Err(forget(kept));
         };
-        inputs.push_reserved(Input::Slice {
+        kept.inputs.push_reserved(Input::Slice {
             pid: 1,
             count: slice,
         });
-        left -= u64::from(turn.ran);
-        push_output(text, turn.output)?;
+        keep_move(&mut kept.moves, moved);
+        kept.instructions += u128::from(ran);
+        left -= u64::from(ran);
+        push_output(text, output)?;
     }
-    push_ran(text, count - left, end_of(machine.standing()))
+    push_ran(text, count - left, end_of(kept.machine.standing()))
+}
+
+// Keeps what an event did to bytes, if there was one.
+fn keep_move(moves: &mut Vec<Move>, moved: Option<Move>)
+    requires room { vec_len moves.old < vec_capacity moves.old }
+    ensures { moves.new.items ≡ moves.old.items ++ option_to_list moved }
+{
+    if let Some(moved) = moved {
+        moves.push_reserved(moved);
+    }
 }
 
 // Drops a history whose last slice was cut short for want of memory.
-fn forget(alloc: Global, inputs: &mut Vec<Input>, machine: &mut Solo) -> NoMemory
-    ensures { IsKept inputs.new.items machine.new }
+fn forget(kept: &mut Kept) -> NoMemory
+    ensures { IsSound kept.new }
 {
-    inputs.clear();
-    *machine = Solo::new(alloc);
+    *kept = Kept::new(kept.alloc);
     NoMemory
 }
 

@@ -7,13 +7,15 @@ use std::test::Fail;
 /// A line, without its LF, and what is printed for it.
 type Exchange = (&'static str, &'static str);
 
-/// A session in which lines are refused, and a machine stalls, goes on, spends a budget and ends.
+/// A session in which lines are refused, a machine stalls, goes on, spends a budget and ends, and
+/// queries ask about each of its events.
 ///
 /// The program in `good` reads three bytes from the console, writes them to it and exits.
 const EXCHANGES: &[Exchange] = &[
     ("# nothing is booted yet", ""),
     ("", ""),
     ("run 5", "no line\n"),
+    ("back copy event 0 0 0", "no point\n"),
     ("type 61", "no line\n"),
     ("boot bad", "no line\n"),
     ("file bad 00", "event 0\n"),
@@ -34,15 +36,44 @@ const EXCHANGES: &[Exchange] = &[
     ("run 3", "ran 3 budget\n"),
     ("run 100", "out 5 1 616263\nran 4 done\n"),
     ("run 5", "ran 0 done\n"),
+    (
+        "back copy event 5 0 3",
+        "pair 3 0 0\npair 3 1 1\npair 3 2 2\nback pairs 3 instructions 11 groups 1\n",
+    ),
+    (
+        "back copy event 4 1 1",
+        "pair 3 1 0\nback pairs 1 instructions 11 groups 1\n",
+    ),
+    (
+        "back copy event 3 1 2",
+        "pair 3 1 0\npair 3 2 1\nback pairs 2 instructions 0 groups -\n",
+    ),
+    (
+        "back copy event 2 24 1",
+        "pair 1 24 0\nback pairs 1 instructions 11 groups 1\n",
+    ),
+    (
+        "back copy event 6 0 1",
+        "back pairs 0 instructions 11 groups 1\n",
+    ),
+    (
+        "back copy event 5 3 0",
+        "back pairs 0 instructions 11 groups 1\n",
+    ),
+    ("back copy event 5 0 4", "no point\n"),
+    ("back copy event 5 4 0", "no point\n"),
+    ("back copy event 7 0 0", "no point\n"),
+    ("back copy event 7 0", "no line\n"),
 ];
 
-/// A session that types before it runs.
+/// A session that types before it runs, then asks where the output came from.
 const TYPED: &str = "\
     file p 41524e494d473031000001000000000000000100000000009308b00013050000930501ff1306300073000000\
     9308c0001305100073000000930810001305000073000000\n\
     boot p\n\
     type 616263\n\
-    run 100\n";
+    run 100\n\
+    back copy event 4 0 3\n";
 
 /// The same program, which stalls until something is typed.
 const STALLED: &str = "\
@@ -58,6 +89,16 @@ const ILLEGAL: &str = "\
     file p 41524e494d4730310000010000000000000001000000000000000000\n\
     boot p\n\
     run 9";
+
+/// A program that makes call 5, which there isn't: queries aren't answered behind it.
+const OTHER_CALL: &str = "\
+    file p 41524e494d4730310000010000000000000001000000000093085000730000\
+    00\n\
+    boot p\n\
+    back copy event 0 0 1\n\
+    run 9\n\
+    back copy event 0 0 1\n\
+    back copy event 9 0 1\n";
 
 /// All the lines, each with its LF.
 fn text_of(alloc: Global, exchanges: &[Exchange]) -> Result<String, NoMemory> {
@@ -93,13 +134,19 @@ fn prints_the_answer_to_each_line(rt: HostRuntime) -> Result<(), Fail> {
         (text.as_str(), printed.as_str()),
         (
             TYPED,
-            "event 0\nevent 1\nevent 2\nout 4 1 616263\nran 11 done\n",
+            "event 0\nevent 1\nevent 2\nout 4 1 616263\nran 11 done\n\
+            pair 2 0 0\npair 2 1 1\npair 2 2 2\nback pairs 3 instructions 11 groups 1\n",
         ),
         (
             STALLED,
             "event 0\nevent 1\nran 4 stalled\nevent 2\nout 4 1 616263\nran 7 done\n",
         ),
         (ILLEGAL, "event 0\nevent 1\nran 1 done\n"),
+        (
+            OTHER_CALL,
+            "event 0\nevent 1\npair 0 0 0\nback pairs 1 instructions 0 groups -\nran 3 done\n\
+            no line\nno line\n",
+        ),
     ] {
         for piece in [1, 2, 3, 7, 4_096] {
             let script = Script {

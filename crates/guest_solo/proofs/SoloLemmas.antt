@@ -1,20 +1,25 @@
 -- The machine of one process under the model's words.
-use Rattle.std.proofs.Common.{◌≡◌, ℕ, zero, suc, ◌+◌, ◌<◌, ◌≤◌, ◌++◌, ◌∙◌, Bool, true, false, List, [], ◌∷◌, map, drop, length, Option, Some, None, Vec, refl, sym, ap, subst, arith, add-zero, zero-add, nat_lt, nat_le, not, ◌&&◌, is_some, IsTrue, slice_get, slice_index_or, Result, Ok, Err, IfOk, IsErrOf}
+use Rattle.std.proofs.Common.{◌≡◌, ℕ, zero, suc, ◌+◌, ◌<◌, ◌≤◌, ◌++◌, ◌∙◌, Bool, true, false, List, [], ◌∷◌, map, drop, length, Option, Some, None, Vec, refl, sym, ap, subst, arith, add-zero, zero-add, nat_lt, nat_le, not, ◌&&◌, is_some, IsTrue, slice_get, slice_index_or, Result, Ok, Err, IfOk, IfErr, IsErrOf, cond}
 use Rattle.std.proofs.lemmas.Bool.Decides.{nat_tests}
 use Rattle.std.proofs.lemmas.Bool.{cond-true, cond-false}
 use Rattle.std.proofs.lemmas.List.{map-append, length-map, drop-append-le}
 use Rattle.std.specs.declared.alloc.Global.{Global}
+use Rattle.arn_base.specs.declared.records.Src.{Src}
+use Rattle.arn_base.specs.declared.records.Origin.{Origin}
+use Rattle.solo_lineage.specs.declared.moves.Move.{Move}
+use Rattle.solo_lineage.specs.declared.moves.Move.TheVariants as move
+use Rattle.solo_lineage.specs.Moves.{moves_from, first_event}
 use Rattle.arn_model.specs.declared.history.Held.{Held}
 use Rattle.arn_model.specs.declared.history.Input.TheVariants as input
 use Rattle.arn_model.specs.Machine.{Machine, Name, Process, Console, Life, Live, Gone, process}
 use Rattle.arn_model.specs.Image.{image_of}
 use Rattle.arn_model.specs.Instruction.{Effect, Next, Call, End}
-use Rattle.arn_model.specs.Step.{Step, is_event, held_bytes, held_from, values, event_counted}
+use Rattle.arn_model.specs.Step.{Step, is_event, held_bytes, held_from, values, event_counted, one_origin, onto_origins, comes_before, given}
 use Rattle.arn_model.specs.Deed.{is_instruction}
 use Rattle.arn_model.specs.Call.{CallOutcome, Waits, Answers, Ends, Takes, Writes, called, call_step, is_waiting}
-use Rattle.arn_model.specs.Slice.{isnt_waiting, is_live, stands_at, effect_step, step_if_live, step_if_made, can_go_on, is_runnable, is_possible, steps_of, step_then, unless_ended}
-use Rattle.arn_model.specs.declared.limits.TheConstants.{MOST_FILE_BYTES}
-use Rattle.arn_model.specs.Run.{file_among, can_add, file_step, typed_step, is_booted, is_free, is_name, find_file, input_steps, boot_if_found, boot_if_held, boot_if_image, boot_step, instructions_in, outputs_from}
+use Rattle.arn_model.specs.Slice.{isnt_waiting, is_live, stands_at, effect_step, step_if_live, step_if_made, can_go_on, is_runnable, is_possible, steps_of, after_steps, step_then, unless_ended}
+use Rattle.arn_model.specs.declared.limits.TheConstants.{MOST_FILE_BYTES, MOST_SLICE}
+use Rattle.arn_model.specs.Run.{file_among, can_add, file_step, typed_step, is_booted, is_free, is_name, find_file, input_steps, after_input, boot_if_found, boot_if_held, boot_if_image, boot_step, instructions_in, outputs_from}
 use Rattle.arn_model.specs.declared.history.Output.{Output}
 use Rattle.guest_solo.specs.Start.{StartsFrom}
 use Rattle.guest_solo.specs.Turn.{machine_with, IsTurn}
@@ -22,6 +27,7 @@ use Rattle.guest_solo.proofs.TurnLemmas.{instructions_in-cons}
 use Rattle.guest_solo.specs.declared.files.BootFile.{BootFile}
 use Rattle.guest_solo.specs.declared.solo.Solo.TheInside.{Inside}
 use Rattle.guest_solo.specs.declared.guest.Guest.{Guest}
+use Rattle.guest_solo.specs.declared.start.Started.{Started}
 use Rattle.guest_solo.specs.Files.{names_from, is_free_among}
 use Rattle.guest_solo.specs.Input.{Does}
 use Rattle.guest_solo.specs.Solo.{machine_of, processes_of, descriptions_of}
@@ -120,14 +126,47 @@ refused-boot s path k f none found within is no_image =
     boot-found s path k f none found within is ∙ ap (boot_if_image (machine_of s) path k (held_bytes f.event f.bytes)) no_image
 
 -- a boot from an image
-pub does-boot : (s : Inside) (path : List ℕ) (k : ℕ) (f : BootFile) (g : Guest) → is_some s.guest ≡ false → file_among (names_from 0 s.files.items) path ≡ Some k → k < length s.files.items → f ≡ slice_index_or s.files.items k f → StartsFrom f.bytes g → Does (machine_of s) (input.Boot path) (machine_of (record s { guest = Some g; events = s.events + 1 }))
-does-boot s path k f g none found within is starts =
+pub does-boot : (s : Inside) (path : List ℕ) (k : ℕ) (f : BootFile) (st : Started) → is_some s.guest ≡ false → file_among (names_from 0 s.files.items) path ≡ Some k → k < length s.files.items → f ≡ slice_index_or s.files.items k f → StartsFrom f.bytes st → Does (machine_of s) (input.Boot path) (machine_of (record s { guest = Some st.guest; events = s.events + 1 }))
+does-boot s path k f st none found within is starts =
     let m = machine_of s in
     record {
       step = boot_step m path k (held_bytes f.event f.bytes) starts.image;
       is_step = boot-found s path k f none found within is ∙ ap (boot_if_image m path k (held_bytes f.event f.bytes)) starts.is_image;
       after = ap (λ (p : Process). event_counted (record m { processes = p ∷ []; descriptions = Console ∷ [] })) (sym starts.is_started);
     }
+
+-- the moves of an input that arrives
+pub moved-file : (m : Machine) (path bytes : List ℕ) → can_add m path bytes ≡ true → moves_from m (input_steps m (input.File path bytes)) ≡ move.Arrives (length bytes) ∷ []
+moved-file m path bytes can = ap (moves_from m) (cond-true (can_add m path bytes) (file_step m path bytes ∷ []) [] can)
+
+pub moved-typed : (m : Machine) (bytes : List ℕ) → is_booted m ≡ true → moves_from m (input_steps m (input.Typed bytes)) ≡ move.Arrives (length bytes) ∷ []
+moved-typed m bytes booted = ap (moves_from m) (cond-true (is_booted m) (typed_step m bytes ∷ []) [] booted)
+
+-- the first of the bytes that an event held came from it
+first_of : (b : Bool) (p : Src) (o : Origin) (os : List Origin) → first_event (cond b (record { event = p.event; at = p.at; len = o.len + 1 } ∷ os) (one_origin p ∷ o ∷ os)) ≡ p.event
+first_of true p o os = refl
+first_of false p o os = refl
+
+first_onto : (p : Src) (os : List Origin) → first_event (onto_origins p os) ≡ p.event
+first_onto p [] = refl
+first_onto p (o ∷ os) = first_of (comes_before p o) p o os
+
+first_held : (event : ℕ) (bytes : List ℕ) → 0 < length bytes → first_event (given (held_bytes event bytes)).origins ≡ event
+first_held event [] some = absurd (omega (arith, some))
+first_held event (b ∷ bytes) some = first_onto _ _
+
+length-held : (event at : ℕ) (bytes : List ℕ) → length (held_from event at bytes) ≡ length bytes
+length-held event at [] = refl
+length-held event at (b ∷ bytes) = ap suc (length-held event (at + 1) bytes)
+
+-- the move of a boot
+pub moved-boot : (s : Inside) (path : List ℕ) (k : ℕ) (f : BootFile) (st : Started) → is_some s.guest ≡ false → file_among (names_from 0 s.files.items) path ≡ Some k → k < length s.files.items → f ≡ slice_index_or s.files.items k f → StartsFrom f.bytes st → 0 < length f.bytes → move.Starts st.load f.event (length f.bytes) ∷ [] ≡ moves_from (machine_of s) (input_steps (machine_of s) (input.Boot path))
+moved-boot s path k f st none found within is starts some =
+    let m = machine_of s in
+    ap (λ (load : ℕ). move.Starts load f.event (length f.bytes) ∷ []) starts.is_load
+    ∙ ap (λ (event : ℕ). move.Starts starts.image.load event (length f.bytes) ∷ []) (sym (first_held f.event f.bytes some))
+    ∙ ap (λ (len : ℕ). move.Starts starts.image.load (first_event (given (held_bytes f.event f.bytes)).origins) len ∷ []) (sym (length-held f.event 0 f.bytes))
+    ∙ sym (ap (moves_from m) (boot-found s path k f none found within is ∙ ap (boot_if_image m path k (held_bytes f.event f.bytes)) starts.is_image))
 
 -- the machine of a guest in terms of the parts that it changes
 pub machine_of-guest : (s : Inside) (g : Guest) → s.guest ≡ Some g → machine_of s ≡ machine_with (machine_of s) g s.typed.items s.taken s.events
@@ -185,21 +224,49 @@ ok_then T E (Ok t) P Q then p = then t p
 ok_then T E (Err e) P Q then p = tt
 
 -- what a slice did, in the model's words
-pub record IsSlice (m : Machine) (count ran : ℕ) (outputs : List Output) : Type 0 where
+pub record IsSlice (m : Machine) (count ran : ℕ) (outputs : List Output) (moves : List Move) : Type 0 where
   pub ran_is : ran ≡ instructions_in (input_steps m (input.Slice 1 count))
   pub outputs_are : outputs ≡ outputs_from m.events (input_steps m (input.Slice 1 count))
+  pub moves_are : moves ≡ moves_from m (input_steps m (input.Slice 1 count))
   pub some : 1 ≤ ran
 
-pub slice-turn : (s : Inside) (m : Machine) (g : Guest) (typed : List Held) (count : ℕ) (m' : Machine) (ran : ℕ) (outputs : List Output) → machine_of s ≡ m → s.guest ≡ Some g → typed ≡ s.typed.items → is_possible m 1 count ≡ true → IsTurn (machine_with (machine_of s) g typed s.taken s.events) count m' ran outputs → IsSlice m count ran outputs
-slice-turn s m g typed count m' ran outputs view guest same possible turn =
-    let t : IsTurn m count m' ran outputs = subst (λ (x : Machine). IsTurn x count m' ran outputs) (ap (λ (held : List Held). machine_with (machine_of s) g held s.taken s.events) same ∙ sym (machine_of-guest s g guest) ∙ view) turn in
+pub slice-turn : (s : Inside) (m : Machine) (g : Guest) (typed : List Held) (count : ℕ) (m' : Machine) (ran : ℕ) (outputs : List Output) (moves : List Move) → machine_of s ≡ m → s.guest ≡ Some g → typed ≡ s.typed.items → is_possible m 1 count ≡ true → IsTurn (machine_with (machine_of s) g typed s.taken s.events) count m' ran outputs moves → IsSlice m count ran outputs moves
+slice-turn s m g typed count m' ran outputs moves view guest same possible turn =
+    let t : IsTurn m count m' ran outputs moves = subst (λ (x : Machine). IsTurn x count m' ran outputs moves) (ap (λ (held : List Held). machine_with (machine_of s) g held s.taken s.events) same ∙ sym (machine_of-guest s g guest) ∙ view) turn in
     let steps = slice-steps m count possible in
     let some = slice-some m count possible in
     record {
       ran_is = sym (ap instructions_in steps ∙ t.instructions);
       outputs_are = sym (ap (outputs_from m.events) steps ∙ t.written);
+      moves_are = sym (ap (moves_from m) steps ∙ t.moved);
       some = omega (arith, some, t.instructions);
     }
+
+-- what is known of an error that is there, where two other facts are known
+pub err_then : (T E : Type 0) (r : Result T E) (P Q R : E → Type 0) → ((e : E) → P e → Q e → R e) → IfErr r P → IfErr r Q → IfErr r R
+err_then T E (Ok t) P Q R then p q = tt
+err_then T E (Err e) P Q R then p q = then e p q
+
+-- a shorter slice is possible too, unless it is of no instruction; then it does nothing
+shorter : (able : Bool) (k count most : ℕ) → suc k < count → able && (nat_le 1 count && nat_le count most) ≡ true → able && (nat_le 1 (suc k) && nat_le (suc k) most) ≡ true
+shorter true k count most less is = grind (arith, nat_tests)
+shorter false k count most less is = is
+
+no_steps : (b : Bool) → cond {A = List Step} b [] [] ≡ []
+no_steps true = refl
+no_steps false = refl
+
+shorter-steps : (m : Machine) (count ran : ℕ) → is_possible m 1 count ≡ true → ran < count → input_steps m (input.Slice 1 ran) ≡ steps_of ran 1 m
+shorter-steps m count zero possible less = no_steps (is_possible m 1 0)
+shorter-steps m count (suc k) possible less = slice-steps m (suc k) (shorter (is_runnable m 1) k count MOST_SLICE less possible)
+
+-- a slice that is cut short is the slice of what ran
+pub slice-cut : (s : Inside) (m : Machine) (g g' : Guest) (typed : List Held) (count taken events ran : ℕ) → machine_of s ≡ m → s.guest ≡ Some g → typed ≡ s.typed.items → is_possible m 1 count ≡ true → ran < count → IsTurn (machine_with (machine_of s) g typed s.taken s.events) ran (machine_with (machine_of s) g' typed taken events) ran [] [] → machine_with (machine_of s) g' s.typed.items taken events ≡ after_input m (input.Slice 1 ran)
+slice-cut s m g g' typed count taken events ran view guest same possible less turn =
+    let old = ap (λ (held : List Held). machine_with (machine_of s) g held s.taken s.events) same ∙ sym (machine_of-guest s g guest) ∙ view in
+    let new = ap (λ (held : List Held). machine_with (machine_of s) g' held taken events) same in
+    let t : IsTurn m ran (machine_with (machine_of s) g' s.typed.items taken events) ran [] [] = subst (λ (x : Machine). IsTurn x ran (machine_with (machine_of s) g' s.typed.items taken events) ran [] []) old (subst (λ (x : Machine). IsTurn (machine_with (machine_of s) g typed s.taken s.events) ran x ran [] []) new turn) in
+    sym (ap (after_steps m) (shorter-steps m count ran possible less) ∙ t.after)
 
 error_in : {T E : Type 0} → E → Result T E → E
 error_in d (Ok t) = d

@@ -1,9 +1,10 @@
 -- What instructions, calls and ends of the process do to a machine of one process.
-use Rattle.std.proofs.Common.{◌≡◌, ℕ, zero, suc, ◌+◌, ◌-◌, ◌<◌, ◌++◌, ◌∙◌, Bool, true, false, List, [], ◌∷◌, length, take, drop, Option, Some, None, refl, sym, ap, subst, arith, zero-add, cond, nat_le, ◌&&◌, if◌then◌else◌, unwrap_or}
+use Rattle.std.proofs.Common.{◌≡◌, ℕ, zero, suc, ◌+◌, ◌-◌, ◌<◌, ◌++◌, ◌∙◌, Bool, true, false, List, [], ◌∷◌, length, map, take, drop, Option, Some, None, refl, sym, ap, subst, arith, add-zero, zero-add, cond, nat_le, ◌&&◌, if◌then◌else◌, unwrap_or}
 use Rattle.std.proofs.lemmas.Grind.{common_steps}
 use Rattle.std.proofs.lemmas.Bool.Decides.{nat_tests}
 use Rattle.std.proofs.lemmas.List.{drop-drop, length-drop}
 use Rattle.arn_base.specs.declared.machine.Cpu.{Cpu}
+use Rattle.arn_base.specs.declared.records.Src.{Src}
 use Rattle.arn_base.specs.Window.{Window, bytes_at, with_bytes}
 use Rattle.guest_mem.specs.Windows.{private_window}
 use Rattle.arn_model.specs.declared.history.Held.{Held}
@@ -24,6 +25,9 @@ use Rattle.guest_solo.specs.Burst.{RunsOn}
 use Rattle.guest_solo.specs.Request.{HasConsole, IsRequest}
 use Rattle.guest_solo.specs.declared.calls.Request.TheVariants as request
 use Rattle.guest_solo.specs.Turn.{machine_with, IsTurn}
+use Rattle.solo_lineage.specs.declared.moves.Move.{Move}
+use Rattle.solo_lineage.specs.declared.moves.Move.TheVariants as move
+use Rattle.solo_lineage.specs.Moves.{moves_from}
 
 -- the next step of a live process by its instruction
 next_of : (m : Machine) (g : Guest) (typed : List Held) (taken events : ℕ) → g.live ≡ true → next_step (machine_with m g typed taken events) 1 ≡ effect_step (machine_with m g typed taken events) 1 (process_of g) (instruction g.cpu (private_window g.space))
@@ -31,12 +35,13 @@ next_of m g typed taken events live =
     ap (λ (b : Bool). step_if_live (life_of b) (machine_with m g typed taken events) 1 (process_of g)) live
 
 -- a slice whose steps are known
-turn_by : (m : Machine) (count : ℕ) (steps : List Step) (m' : Machine) (ran : ℕ) (outputs : List Output) → steps_of count 1 m ≡ steps → after_steps m steps ≡ m' → instructions_in steps ≡ ran → outputs_from m.events steps ≡ outputs → IsTurn m count m' ran outputs
-turn_by m count steps m' ran outputs are after instructions written =
+turn_by : (m : Machine) (count : ℕ) (steps : List Step) (m' : Machine) (ran : ℕ) (outputs : List Output) (moves : List Move) → steps_of count 1 m ≡ steps → after_steps m steps ≡ m' → instructions_in steps ≡ ran → outputs_from m.events steps ≡ outputs → moves_from m steps ≡ moves → IsTurn m count m' ran outputs moves
+turn_by m count steps m' ran outputs moves are after instructions written moved =
     record {
       after = ap (after_steps m) are ∙ after;
       instructions = ap instructions_in are ∙ instructions;
       written = ap (outputs_from m.events) are ∙ written;
+      moved = ap (moves_from m) are ∙ moved;
     }
 
 -- a slice before a call that isn't ready
@@ -54,13 +59,13 @@ steps_of-quiet m k s is quiet =
     ap (λ (o : Option Step). step_then o (steps_of k 1)) is ∙ ap (λ (b : Bool). s ∷ unless_ended b s.after (steps_of k 1)) quiet
 
 -- no instructions
-pub turn-none : (m : Machine) → IsTurn m 0 m 0 []
-turn-none m = record { after = refl; instructions = refl; written = refl }
+pub turn-none : (m : Machine) → IsTurn m 0 m 0 [] []
+turn-none m = record { after = refl; instructions = refl; written = refl; moved = refl }
 
 -- a slice whose first step is an event
-turn-event : (m : Machine) (k : ℕ) (s : Step) (m' : Machine) (ran : ℕ) (outputs : List Output) → next_step m 1 ≡ Some s → is_event s ≡ true → s.after ≡ m' → instructions_in (s ∷ []) ≡ ran → outputs_from m.events (s ∷ []) ≡ outputs → IsTurn m (suc k) m' ran outputs
-turn-event m k s m' ran outputs is event after instructions written =
-    turn_by m (suc k) (s ∷ []) m' ran outputs (steps_of-event m k s is event) after instructions written
+turn-event : (m : Machine) (k : ℕ) (s : Step) (m' : Machine) (ran : ℕ) (outputs : List Output) (moves : List Move) → next_step m 1 ≡ Some s → is_event s ≡ true → s.after ≡ m' → instructions_in (s ∷ []) ≡ ran → outputs_from m.events (s ∷ []) ≡ outputs → moves_from m (s ∷ []) ≡ moves → IsTurn m (suc k) m' ran outputs moves
+turn-event m k s m' ran outputs moves is event after instructions written moved =
+    turn_by m (suc k) (s ∷ []) m' ran outputs moves (steps_of-event m k s is event) after instructions written moved
 
 -- the next step at a call
 next_of-call : (m : Machine) (g : Guest) (typed : List Held) (taken events : ℕ) (o : CallOutcome) → g.live ≡ true → instruction g.cpu (private_window g.space) ≡ Call → called (machine_with m g typed taken events) (process_of g) ≡ o → next_step (machine_with m g typed taken events) 1 ≡ call_step (machine_with m g typed taken events) 1 (process_of g) o
@@ -72,25 +77,25 @@ has_console : (m : Machine) (g : Guest) (typed : List Held) (taken events : ℕ)
 has_console m g typed taken events = record { is_open = refl; waiting = length-drop taken typed }
 
 -- a call that isn't ready
-pub turn-waits : (m : Machine) (g : Guest) (typed : List Held) (taken events queued k : ℕ) → g.live ≡ true → instruction g.cpu (private_window g.space) ≡ Call → queued ≡ length typed - taken → IsRequest (process_of g) queued request.Waits → IsTurn (machine_with m g typed taken events) (suc k) (machine_with m g typed taken events) 0 []
+pub turn-waits : (m : Machine) (g : Guest) (typed : List Held) (taken events queued k : ℕ) → g.live ≡ true → instruction g.cpu (private_window g.space) ≡ Call → queued ≡ length typed - taken → IsRequest (process_of g) queued request.Waits → IsTurn (machine_with m g typed taken events) (suc k) (machine_with m g typed taken events) 0 [] []
 turn-waits m g typed taken events queued k live call q is =
     let M = machine_with m g typed taken events in
     let asked = subst (λ (n : ℕ). IsRequest (process_of g) n request.Waits) q is in
-    turn_by M (suc k) [] M 0 [] (steps_of-none M k (next_of-call m g typed taken events Waits live call (asked M (has_console m g typed taken events)))) refl refl refl
+    turn_by M (suc k) [] M 0 [] [] (steps_of-none M k (next_of-call m g typed taken events Waits live call (asked M (has_console m g typed taken events)))) refl refl refl refl
 
 -- a call that ends with a result and moves no bytes
-pub turn-answers : (m : Machine) (g : Guest) (typed : List Held) (taken events queued k r : ℕ) (cpu : Cpu) → g.live ≡ true → instruction g.cpu (private_window g.space) ≡ Call → queued ≡ length typed - taken → IsRequest (process_of g) queued (request.Answers r) → cpu ≡ returned g.cpu r → IsTurn (machine_with m g typed taken events) (suc k) (machine_with m (record { cpu = cpu; space = g.space; live = g.live }) typed taken (events + 1)) 1 []
-turn-answers m g typed taken events queued k r cpu live call q is same =
+pub turn-answers : (m : Machine) (g : Guest) (typed : List Held) (taken events queued k r num : ℕ) (cpu : Cpu) → g.live ≡ true → instruction g.cpu (private_window g.space) ≡ Call → queued ≡ length typed - taken → IsRequest (process_of g) queued (request.Answers r) → cpu ≡ returned g.cpu r → num ≡ number (process_of g) → IsTurn (machine_with m g typed taken events) (suc k) (machine_with m (record { cpu = cpu; space = g.space; live = g.live }) typed taken (events + 1)) 1 [] (move.Returns num ∷ [])
+turn-answers m g typed taken events queued k r num cpu live call q is same numbered =
     let M = machine_with m g typed taken events in
     let asked = subst (λ (n : ℕ). IsRequest (process_of g) n (request.Answers r)) q is in
-    turn-event M k _ _ 1 [] (next_of-call m g typed taken events (Answers r) live call (asked M (has_console m g typed taken events))) refl (ap (λ (c : Cpu). machine_with m (record { cpu = c; space = g.space; live = g.live }) typed taken (events + 1)) (sym same)) refl refl
+    turn-event M k _ _ 1 [] _ (next_of-call m g typed taken events (Answers r) live call (asked M (has_console m g typed taken events))) refl (ap (λ (c : Cpu). machine_with m (record { cpu = c; space = g.space; live = g.live }) typed taken (events + 1)) (sym same)) refl refl (ap (λ (n : ℕ). move.Returns n ∷ []) (sym numbered))
 
 -- an exit
-pub turn-exits : (m : Machine) (g : Guest) (typed : List Held) (taken events queued k status : ℕ) → g.live ≡ true → instruction g.cpu (private_window g.space) ≡ Call → queued ≡ length typed - taken → IsRequest (process_of g) queued (request.Ends status) → IsTurn (machine_with m g typed taken events) (suc k) (machine_with m (record { cpu = g.cpu; space = g.space; live = false }) typed taken (events + 1)) 1 []
+pub turn-exits : (m : Machine) (g : Guest) (typed : List Held) (taken events queued k status : ℕ) → g.live ≡ true → instruction g.cpu (private_window g.space) ≡ Call → queued ≡ length typed - taken → IsRequest (process_of g) queued (request.Ends status) → IsTurn (machine_with m g typed taken events) (suc k) (machine_with m (record { cpu = g.cpu; space = g.space; live = false }) typed taken (events + 1)) 1 [] (move.Ends ∷ [])
 turn-exits m g typed taken events queued k status live call q is =
     let M = machine_with m g typed taken events in
     let asked = subst (λ (n : ℕ). IsRequest (process_of g) n (request.Ends status)) q is in
-    turn-event M k _ _ 1 [] (next_of-call m g typed taken events (Ends status) live call (asked M (has_console m g typed taken events))) refl refl refl refl
+    turn-event M k _ _ 1 [] _ (next_of-call m g typed taken events (Ends status) live call (asked M (has_console m g typed taken events))) refl refl refl refl refl
 
 -- the machine with another queue
 queue_with : Machine → Guest → ℕ → List Held → ℕ → Machine
@@ -103,17 +108,17 @@ queue_with m g taken queue events =
     }
 
 -- a read: the bytes that are taken lie at the address
-pub turn-takes : (m : Machine) (g : Guest) (typed : List Held) (taken events queued k at n : ℕ) (cpu : Cpu) (space : List ℕ) → g.live ≡ true → instruction g.cpu (private_window g.space) ≡ Call → queued ≡ length typed - taken → IsRequest (process_of g) queued (request.Takes at n) → cpu ≡ returned g.cpu n → private_window space ≡ with_bytes (private_window g.space) at (values (take n (drop taken typed))) → IsTurn (machine_with m g typed taken events) (suc k) (machine_with m (record { cpu = cpu; space = space; live = g.live }) typed (taken + n) (events + 1)) 1 []
+pub turn-takes : (m : Machine) (g : Guest) (typed : List Held) (taken events queued k at n : ℕ) (cpu : Cpu) (space : List ℕ) (places : List Src) → g.live ≡ true → instruction g.cpu (private_window g.space) ≡ Call → queued ≡ length typed - taken → IsRequest (process_of g) queued (request.Takes at n) → cpu ≡ returned g.cpu n → private_window space ≡ with_bytes (private_window g.space) at (values (take n (drop taken typed))) → places ≡ map (λ h. h.origin) (take n (drop taken typed)) → IsTurn (machine_with m g typed taken events) (suc k) (machine_with m (record { cpu = cpu; space = space; live = g.live }) typed (taken + n) (events + 1)) 1 [] (move.Receives at places ∷ [])
 unfolding queue_with
-turn-takes m g typed taken events queued k at n cpu space live call q is same put =
+turn-takes m g typed taken events queued k at n cpu space places live call q is same put from =
     let M = machine_with m g typed taken events in
     let asked = subst (λ (n' : ℕ). IsRequest (process_of g) n' (request.Takes at n)) q is in
-    turn-event M k _ _ 1 [] (next_of-call m g typed taken events (Takes at n) live call (asked M (has_console m g typed taken events))) refl
+    turn-event M k _ _ 1 [] _ (next_of-call m g typed taken events (Takes at n) live call (asked M (has_console m g typed taken events))) refl
     (
     ap (λ (ws : List Window). event_counted (with_windows (without_queued M n) 1 (with_result (process_of g) n) ws)) (sym put)
     ∙ ap (λ (c : Cpu). queue_with m (record { cpu = c; space = space; live = g.live }) (taken + n) (drop n (drop taken typed)) (events + 1)) (sym same)
     ∙ ap (λ (q : List Held). queue_with m (record { cpu = cpu; space = space; live = g.live }) (taken + n) q (events + 1)) (drop-drop n taken typed)
-    ) refl refl
+    ) refl refl (ap (λ (ps : List Src). move.Receives at ps ∷ []) (sym from))
 
 -- bytes that lie whole in a window are as many as were asked for
 length-whole : (from at n : ℕ) (space bytes : List ℕ) → (if nat_le from at && nat_le (at + n) (from + length space) then Some (take n (drop (at - from) space)) else None) ≡ Some bytes → length bytes ≡ n
@@ -130,15 +135,15 @@ output_of-write events num n o (b ∷ bytes) event pid is some =
     ap (λ (e : ℕ). made e 1 (b ∷ bytes)) (sym event) ∙ ap (λ (p : ℕ). made o.event p (b ∷ bytes)) (sym pid) ∙ ap (made o.event o.pid) (sym is)
 
 -- a write of at least one byte
-pub turn-writes : (m : Machine) (g : Guest) (typed : List Held) (taken events queued k at n : ℕ) (cpu : Cpu) (output : Output) → g.live ≡ true → instruction g.cpu (private_window g.space) ≡ Call → queued ≡ length typed - taken → IsRequest (process_of g) queued (request.Writes at n) → cpu ≡ returned g.cpu n → 0 < n → output.event ≡ events → output.pid ≡ 1 → bytes_at (private_window g.space) at n ≡ Some output.bytes → IsTurn (machine_with m g typed taken events) (suc k) (machine_with m (record { cpu = cpu; space = g.space; live = g.live }) typed taken (events + 1)) 1 (output ∷ [])
+pub turn-writes : (m : Machine) (g : Guest) (typed : List Held) (taken events queued k at n : ℕ) (cpu : Cpu) (output : Output) → g.live ≡ true → instruction g.cpu (private_window g.space) ≡ Call → queued ≡ length typed - taken → IsRequest (process_of g) queued (request.Writes at n) → cpu ≡ returned g.cpu n → 0 < n → output.event ≡ events → output.pid ≡ 1 → bytes_at (private_window g.space) at n ≡ Some output.bytes → IsTurn (machine_with m g typed taken events) (suc k) (machine_with m (record { cpu = cpu; space = g.space; live = g.live }) typed taken (events + 1)) 1 (output ∷ []) (move.Gives at n ∷ [])
 turn-writes m g typed taken events queued k at n cpu output live call q is same some event pid bytes =
     let M = machine_with m g typed taken events in
     let asked = subst (λ (n' : ℕ). IsRequest (process_of g) n' (request.Writes at n)) q is in
-    turn-event M k _ _ 1 (output ∷ []) (next_of-call m g typed taken events (Writes at n) live call (asked M (has_console m g typed taken events))) refl (ap (λ (c : Cpu). machine_with m (record { cpu = c; space = g.space; live = g.live }) typed taken (events + 1)) (sym same)) refl
+    turn-event M k _ _ 1 (output ∷ []) _ (next_of-call m g typed taken events (Writes at n) live call (asked M (has_console m g typed taken events))) refl (ap (λ (c : Cpu). machine_with m (record { cpu = c; space = g.space; live = g.live }) typed taken (events + 1)) (sym same)) refl
     (
     ap (λ (x : Option (List ℕ)). output_of events (entry.Call 1 (number (process_of g)) n (extra.Console (unwrap_or x []))) ++ []) bytes
     ∙ output_of-write events (number (process_of g)) n output output.bytes event pid refl (subst (λ (k : ℕ). 0 < k) (sym (length-bytes_at g.space output.bytes at n bytes)) some)
-    )
+    ) refl
 
 -- an instruction in front of steps is one more
 pub instructions_in-cons : (s : Step) (steps : List Step) → is_instruction s.deed ≡ true → instructions_in (s ∷ steps) ≡ suc (instructions_in steps)
@@ -147,34 +152,43 @@ instructions_in-cons s steps is =
     sum_by-cons one s steps ∙ ap (λ (b : Bool). cond b 1 0 + instructions_in steps) is ∙ omega arith
 
 -- an instruction in front of a slice
-turn-more : (m : Machine) (k : ℕ) (s : Step) (m' : Machine) (ran : ℕ) (outputs : List Output) → next_step m 1 ≡ Some s → is_event s ≡ false → is_instruction s.deed ≡ true → outputs_from m.events (s ∷ steps_of k 1 s.after) ≡ outputs_from s.after.events (steps_of k 1 s.after) → IsTurn s.after k m' ran outputs → IsTurn m (suc k) m' (suc ran) outputs
-turn-more m k s m' ran outputs is quiet instr writes turn =
-    turn_by m (suc k) (s ∷ steps_of k 1 s.after) m' (suc ran) outputs (steps_of-quiet m k s is quiet) turn.after (instructions_in-cons s (steps_of k 1 s.after) instr ∙ ap suc turn.instructions) (writes ∙ turn.written)
+turn-more : (m : Machine) (k : ℕ) (s : Step) (m' : Machine) (ran : ℕ) (outputs : List Output) (moves : List Move) → next_step m 1 ≡ Some s → is_event s ≡ false → is_instruction s.deed ≡ true → outputs_from m.events (s ∷ steps_of k 1 s.after) ≡ outputs_from s.after.events (steps_of k 1 s.after) → moves_from m (s ∷ steps_of k 1 s.after) ≡ moves_from s.after (steps_of k 1 s.after) → IsTurn s.after k m' ran outputs moves → IsTurn m (suc k) m' (suc ran) outputs moves
+turn-more m k s m' ran outputs moves is quiet instr writes moved turn =
+    turn_by m (suc k) (s ∷ steps_of k 1 s.after) m' (suc ran) outputs moves (steps_of-quiet m k s is quiet) turn.after (instructions_in-cons s (steps_of k 1 s.after) instr ∙ ap suc turn.instructions) (writes ∙ turn.written) (moved ∙ turn.moved)
 
 -- instructions in a row in front of a slice
-pub turn-burst : (n : ℕ) (m : Machine) (cpu cpu' : Cpu) (space space' : List ℕ) (typed : List Held) (taken events k : ℕ) (m' : Machine) (ran : ℕ) (outputs : List Output) → RunsOn n cpu space cpu' space' → IsTurn (machine_with m (record { cpu = cpu'; space = space'; live = true }) typed taken events) k m' ran outputs → IsTurn (machine_with m (record { cpu = cpu; space = space; live = true }) typed taken events) (n + k) m' (n + ran) outputs
-turn-burst zero m cpu cpu' space space' typed taken events k m' ran outputs runs turn =
-    simp zero-add (subst (λ (c : Cpu). IsTurn (machine_with m (record { cpu = c; space = space; live = true }) typed taken events) k m' ran outputs) runs.0 (subst (λ (s : List ℕ). IsTurn (machine_with m (record { cpu = cpu'; space = s; live = true }) typed taken events) k m' ran outputs) runs.1 turn))
-turn-burst (suc n) m cpu cpu' space space' typed taken events k m' ran outputs runs turn =
+pub turn-burst : (n : ℕ) (m : Machine) (cpu cpu' : Cpu) (space space' : List ℕ) (typed : List Held) (taken events k : ℕ) (m' : Machine) (ran : ℕ) (outputs : List Output) (moves : List Move) → RunsOn n cpu space cpu' space' → IsTurn (machine_with m (record { cpu = cpu'; space = space'; live = true }) typed taken events) k m' ran outputs moves → IsTurn (machine_with m (record { cpu = cpu; space = space; live = true }) typed taken events) (n + k) m' (n + ran) outputs moves
+turn-burst zero m cpu cpu' space space' typed taken events k m' ran outputs moves runs turn =
+    simp zero-add (subst (λ (c : Cpu). IsTurn (machine_with m (record { cpu = c; space = space; live = true }) typed taken events) k m' ran outputs moves) runs.0 (subst (λ (s : List ℕ). IsTurn (machine_with m (record { cpu = cpu'; space = s; live = true }) typed taken events) k m' ran outputs moves) runs.1 turn))
+turn-burst (suc n) m cpu cpu' space space' typed taken events k m' ran outputs moves runs turn =
     let g : Guest = record { cpu = cpu; space = space; live = true } in
     let M = machine_with m g typed taken events in
-    let rest = turn-burst n m runs.1 cpu' runs.2 space' typed taken events k m' ran outputs runs.4 turn in
+    let rest = turn-burst n m runs.1 cpu' runs.2 space' typed taken events k m' ran outputs moves runs.4 turn in
     let next : next_step M 1 ≡ effect_step M 1 (process_of g) (Next runs.0 runs.1 (private_window runs.2)) = next_of m g typed taken events refl ∙ ap (effect_step M 1 (process_of g)) runs.3 in
-    let more : IsTurn M (suc (n + k)) m' (suc (n + ran)) outputs = turn-more M (n + k) (instr_step M 1 (process_of g) runs.0 runs.1 (private_window runs.2)) m' (n + ran) outputs next refl refl refl rest in
-    subst (λ (c : ℕ). IsTurn M c m' (suc n + ran) outputs) (omega arith) (subst (λ (r : ℕ). IsTurn M (suc (n + k)) m' r outputs) (omega arith) more)
+    let more : IsTurn M (suc (n + k)) m' (suc (n + ran)) outputs moves = turn-more M (n + k) (instr_step M 1 (process_of g) runs.0 runs.1 (private_window runs.2)) m' (n + ran) outputs moves next refl refl refl refl rest in
+    subst (λ (c : ℕ). IsTurn M c m' (suc n + ran) outputs moves) (omega arith) (subst (λ (r : ℕ). IsTurn M (suc (n + k)) m' r outputs moves) (omega arith) more)
 
 -- an end by a fault
-pub turn-faults : (m : Machine) (g : Guest) (typed : List Held) (taken events k status : ℕ) → g.live ≡ true → instruction g.cpu (private_window g.space) ≡ End status → IsTurn (machine_with m g typed taken events) (suc k) (machine_with m (record { cpu = g.cpu; space = g.space; live = false }) typed taken (events + 1)) 1 []
+pub turn-faults : (m : Machine) (g : Guest) (typed : List Held) (taken events k status : ℕ) → g.live ≡ true → instruction g.cpu (private_window g.space) ≡ End status → IsTurn (machine_with m g typed taken events) (suc k) (machine_with m (record { cpu = g.cpu; space = g.space; live = false }) typed taken (events + 1)) 1 [] (move.Ends ∷ [])
 turn-faults m g typed taken events k status live ends =
     let M = machine_with m g typed taken events in
-    turn-event M k (fault_step M 1 (process_of g) status) _ 1 [] (next_of m g typed taken events live ∙ ap (effect_step M 1 (process_of g)) ends) refl refl refl refl
+    turn-event M k (fault_step M 1 (process_of g) status) _ 1 [] _ (next_of m g typed taken events live ∙ ap (effect_step M 1 (process_of g)) ends) refl refl refl refl refl
 
 -- a guest that is live
 as_live : (g : Guest) → g.live ≡ true → g ≡ record { cpu = g.cpu; space = g.space; live = true }
 as_live g live = ap (λ (b : Bool). record { cpu = g.cpu; space = g.space; live = b }) live
 
 -- instructions of a live guest in front of the rest of a slice
-pub turn-behind : (m : Machine) (g g' : Guest) (typed : List Held) (taken events n k count : ℕ) (m' : Machine) (ran : ℕ) (outputs : List Output) → RunsOn n g.cpu g.space g'.cpu g'.space → g.live ≡ true → g'.live ≡ g.live → n + k ≡ count → IsTurn (machine_with m g' typed taken events) k m' ran outputs → IsTurn (machine_with m g typed taken events) count m' (n + ran) outputs
-turn-behind m g g' typed taken events n k count m' ran outputs runs live same is turn =
-    let rest = subst (λ (h : Guest). IsTurn (machine_with m h typed taken events) k m' ran outputs) (as_live g' (same ∙ live)) turn in
-    subst (λ (h : Guest). IsTurn (machine_with m h typed taken events) count m' (n + ran) outputs) (sym (as_live g live)) (subst (λ (c : ℕ). IsTurn (machine_with m (record { cpu = g.cpu; space = g.space; live = true }) typed taken events) c m' (n + ran) outputs) is (turn-burst n m g.cpu g'.cpu g.space g'.space typed taken events k m' ran outputs runs rest))
+pub turn-behind : (m : Machine) (g g' : Guest) (typed : List Held) (taken events n k count : ℕ) (m' : Machine) (ran : ℕ) (outputs : List Output) (moves : List Move) → RunsOn n g.cpu g.space g'.cpu g'.space → g.live ≡ true → g'.live ≡ g.live → n + k ≡ count → IsTurn (machine_with m g' typed taken events) k m' ran outputs moves → IsTurn (machine_with m g typed taken events) count m' (n + ran) outputs moves
+turn-behind m g g' typed taken events n k count m' ran outputs moves runs live same is turn =
+    let rest = subst (λ (h : Guest). IsTurn (machine_with m h typed taken events) k m' ran outputs moves) (as_live g' (same ∙ live)) turn in
+    subst (λ (h : Guest). IsTurn (machine_with m h typed taken events) count m' (n + ran) outputs moves) (sym (as_live g live)) (subst (λ (c : ℕ). IsTurn (machine_with m (record { cpu = g.cpu; space = g.space; live = true }) typed taken events) c m' (n + ran) outputs moves) is (turn-burst n m g.cpu g'.cpu g.space g'.space typed taken events k m' ran outputs moves runs rest))
+
+-- instructions of a live guest alone, where nothing came of the call behind them
+pub turn-cut : (m : Machine) (g g' g'' : Guest) (typed : List Held) (taken taken' events events' n : ℕ) → RunsOn n g.cpu g.space g'.cpu g'.space → g.live ≡ true → g'.live ≡ g.live → g'' ≡ g' → taken' ≡ taken → events' ≡ events → IsTurn (machine_with m g typed taken events) n (machine_with m g'' typed taken' events') n [] []
+turn-cut m g g' g'' typed taken taken' events events' n runs live same guest took counted =
+    let M = machine_with m g typed taken events in
+    let all = turn-behind m g g' typed taken events n 0 n (machine_with m g' typed taken events) 0 [] [] runs live same (add-zero n) (turn-none (machine_with m g' typed taken events)) in
+    let there = ap (λ (h : Guest). machine_with m h typed taken events) guest in
+    let as_is = ap (λ (t : ℕ). machine_with m g'' typed t events') took ∙ ap (λ (e : ℕ). machine_with m g'' typed taken e) counted ∙ there in
+    subst (λ (x : Machine). IsTurn M n x n [] []) (sym as_is) (subst (λ (r : ℕ). IsTurn M n (machine_with m g' typed taken events) r [] []) (add-zero n) all)

@@ -2,6 +2,7 @@
 use Rattle.std.specs.Prelude.{◌≡◌, ◌<◌, ◌≤◌, ℕ, List, [], ◌∷◌, length, IsSome}
 use Rattle.arn_base.specs.Window.{bytes_at}
 use Rattle.guest_mem.specs.Windows.{private_window}
+use Rattle.arn_model.specs.declared.limits.TheConstants.{MOST_TRANSFER}
 use Rattle.arn_model.specs.Machine.{Machine, Process, Console}
 use Rattle.arn_model.specs.Call.{CallOutcome, Waits, Answers, Ends, Takes, Writes, called, unless_refused, console_read, cut, read_from, write_to, opened, argument}
 use Rattle.guest_solo.specs.declared.calls.Request.{Request}
@@ -37,13 +38,13 @@ IsReadCall p queued r = (m : Machine) → HasConsole m queued → read_from m p 
 abbrev pub IsWriteCall : Process → Request → Type 0
 IsWriteCall p r = (m : Machine) → m.descriptions ≡ Console ∷ [] → write_to m p (opened m p (argument p 0)) (argument p 1) (argument p 2) ≡ outcome_of r
 
--- a request that moves bytes moves at least one, and all of them lie whole in the private window
+-- a request that moves bytes moves at least one, no more than one call does, and all of them lie whole in the private window
 abbrev pub CanMove : List ℕ → Request → Type 0
 CanMove space request.Waits = Unit {0}
 CanMove space (request.Answers result) = Unit {0}
 CanMove space (request.Ends status) = Unit {0}
-CanMove space (request.Takes at count) = (0 < count) × IsSome (bytes_at (private_window space) at count)
-CanMove space (request.Writes at count) = (0 < count) × IsSome (bytes_at (private_window space) at count)
+CanMove space (request.Takes at count) = (0 < count) × (count ≤ MOST_TRANSFER) × IsSome (bytes_at (private_window space) at count)
+CanMove space (request.Writes at count) = (0 < count) × (count ≤ MOST_TRANSFER) × IsSome (bytes_at (private_window space) at count)
 
 -- a request takes no more than wait in the queue
 abbrev pub TakesWithin : ℕ → Request → Type 0

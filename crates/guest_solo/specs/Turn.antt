@@ -7,6 +7,8 @@ use Rattle.arn_model.specs.Slice.{steps_of, after_steps}
 use Rattle.arn_model.specs.Run.{instructions_in, outputs_from}
 use Rattle.guest_solo.specs.declared.guest.Guest.{Guest}
 use Rattle.guest_solo.specs.Guest.{process_of}
+use Rattle.solo_lineage.specs.declared.moves.Move.{Move}
+use Rattle.solo_lineage.specs.Moves.{moves_from}
 
 -- the machine with this process, with what was typed but for the bytes that were taken, after so many events
 abbrev pub machine_with : Machine → Guest → List Held → ℕ → ℕ → Machine
@@ -18,8 +20,10 @@ machine_with m g typed taken events =
       events = events;
     }
 
--- A slice of so many instructions leads from a machine to another: so many instructions run, and these bytes are written.
-pub record IsTurn (m : Machine) (count : ℕ) (m' : Machine) (ran : ℕ) (outputs : List Output) : Type 0 where
+-- A slice of so many instructions leads from a machine to another: so many instructions run, these bytes are written, and
+-- this is what its event did to bytes, if there was one.
+pub record IsTurn (m : Machine) (count : ℕ) (m' : Machine) (ran : ℕ) (outputs : List Output) (moves : List Move) : Type 0 where
   pub after : after_steps m (steps_of count 1 m) ≡ m'
   pub instructions : instructions_in (steps_of count 1 m) ≡ ran
   pub written : outputs_from m.events (steps_of count 1 m) ≡ outputs
+  pub moved : moves_from m (steps_of count 1 m) ≡ moves

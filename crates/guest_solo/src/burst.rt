@@ -26,6 +26,7 @@ pub fn run_instructions<L: Ledger>(guest: &mut Guest, count: u32, steps: &mut St
         (instruction guest.new.cpu (private_window guest.new.space)) }
     ensures live { guest.new.live ≡ guest.old.live }
     ensures steps { steps.new ≤ steps.old + result.ran + 1 }
+    ensures at_most { steps.new ≤ steps.old + count }
 {
     for ran in 0..count {
         match step(&mut guest.cpu, &mut guest.space, steps) {

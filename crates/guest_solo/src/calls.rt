@@ -37,7 +37,7 @@ pub fn requested(guest: &Guest, queued: u64) -> Request
     ensures reach { CanMove guest.now.space result }
     ensures within { TakesWithin queued result }
 {
-    match register(&guest.cpu, 17) {
+    match call_number(&guest.cpu) {
         EXIT => Request::Ends {
             status: (register(&guest.cpu, 10) % 256) as u8,
         },
@@ -45,6 +45,13 @@ pub fn requested(guest: &Guest, queued: u64) -> Request
         WRITE => write_call(guest),
         _ => refusal(NO_SUCH_CALL),
     }
+}
+
+/// The number of the call at which a process stands.
+pub fn call_number(cpu: &Cpu) -> u64
+    ensures { result ≡ register_of cpu.now 17 }
+{
+    register(cpu, 17)
 }
 
 fn read_call(guest: &Guest, queued: u64) -> Request
@@ -140,6 +147,7 @@ fn write(guest: &Guest, at: u64, count: u64) -> Request
 fn transfer(guest: &Guest, at: u64, count: u64) -> Result<u64, u64>
     ensures cut { IfOk result (λ most. most ≡ cut count) }
     ensures some { IfOk result (λ most. 0 < most) }
+    ensures within { IfOk result (λ most. most ≤ MOST_TRANSFER) }
     ensures reach { IfOk result (λ most. IsSome (bytes_at (private_window guest.now.space) at most)) }
     ensures none { IfErr result (λ answer. (m : Machine) (goes : CallOutcome) →
         unless_refused m (process_of guest.now) at count goes ≡ Answers answer) }

@@ -15,5 +15,5 @@ mod tests;
 mod turn;
 
 pub use errors::MachineError;
-pub use solo::Solo;
-pub use turn::Turn;
+pub use solo::{Booted, Solo};
+pub use turn::{CutShort, Turn};

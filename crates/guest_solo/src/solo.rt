@@ -4,10 +4,11 @@ use crate::files::{BootFile, find, is_free as is_free_name};
 use crate::guest::Guest;
 use crate::standing::stands;
 use crate::start::start;
-use crate::turn::{Turn, take_turn};
-use arn_base::{NoMemory, Steps};
+use crate::turn::{CutShort, Turn, take_turn};
+use arn_base::Steps;
 use arn_model::limits::MOST_FILE_BYTES;
 use arn_model::{Held, Standing};
+use solo_lineage::Move;
 use std::alloc::Global;
 use std::marker::Model;
 use std::sync::ledger::Ledger;
@@ -21,6 +22,13 @@ pub struct Solo {
     typed: Vec<Held>,
     taken: usize,
     events: u64,
+}
+
+/// The event of a boot, and what it did to bytes.
+#[derive(Debug, Drop)]
+pub struct Booted {
+    pub event: u64,
+    pub moved: Move,
 }
 
 impl Model for Solo {
@@ -37,12 +45,13 @@ impl Model for Solo {
 }
 
 impl Solo {
-    ghost use Rattle.std.specs.Prelude.{◌≡◌, ◌≢◌, ◌+◌, ◌<◌, ◌≤◌, ◌^◌, ◌↔◌, true, false, length, IfOk, IfErr, OnOk, OnErr, IsErrOf, IsNone, IsTrue, is_some, option_to_list, Err, ◌⊎◌};
+    ghost use Rattle.std.specs.Prelude.{◌≡◌, ◌≢◌, ◌+◌, ◌<◌, ◌≤◌, ◌^◌, ◌↔◌, true, false, [], ◌∷◌, length, IfOk, IfErr, OnOk, OnErr, IsErrOf, IsNone, IsTrue, is_some, option_to_list, Err, ◌⊎◌};
     ghost use Rattle.arn_model.specs.declared.history.Input.TheVariants as input;
     ghost use Rattle.arn_model.specs.Machine.{at_first};
     ghost use Rattle.arn_model.specs.Slice.{is_possible, is_runnable, standing as standing_of};
     ghost use Rattle.arn_model.specs.Run.{is_booted as has_process, find_file, is_free, is_name, input_steps, after_input, instructions_in, outputs_from};
     ghost use Rattle.guest_solo.specs.Input.{Does, IsRefused};
+    ghost use Rattle.solo_lineage.specs.Moves.{moves_from};
 
     /// The machine before anything has come from outside.
     pub fn new(alloc: Global) -> Solo
@@ -80,6 +89,9 @@ impl Solo {
 
         ensures event { IfOk result (λ event. event ≡ self.old.events) }
         ensures does { OnOk result (Does self.old (input.File name.now bytes.now) self.new) }
+        ensures moved { OnOk result
+            (moves_from self.old (input_steps self.old (input.File name.now bytes.now)) ≡
+            Move.Arrives (length bytes.now) ∷ []) }
 
         ensures booted { IsErrOf result MachineError.Booted ↔ IsTrue (has_process self.old) }
         ensures no_name { IsErrOf result MachineError.NoName ↔
@@ -101,12 +113,14 @@ impl Solo {
         Ok(event)
     }
 
-    /// Boots process 1 from the image in a file. Answers the number of its event.
-    pub fn boot(&mut self, name: &[u8]) -> Result<u64, MachineError>
+    /// Boots process 1 from the image in a file. Answers its event.
+    pub fn boot(&mut self, name: &[u8]) -> Result<Booted, MachineError>
         requires events { self.old.events + 1 < 2 ^ 64 }
 
-        ensures event { IfOk result (λ event. event ≡ self.old.events) }
+        ensures event { IfOk result (λ booted. booted.event ≡ self.old.events) }
         ensures does { OnOk result (Does self.old (input.Boot name.now) self.new) }
+        ensures moved { IfOk result (λ booted. booted.moved ∷ [] ≡
+            moves_from self.old (input_steps self.old (input.Boot name.now))) }
 
         ensures booted { IsErrOf result MachineError.Booted ↔ IsTrue (has_process self.old) }
         ensures no_name { IsErrOf result MachineError.NoName ↔
@@ -123,14 +137,20 @@ impl Solo {
         let Some(place) = find(self.files.as_slice(), name) else {
             return Err(MachineError::NoName);
         };
-        let guest = match start(self.alloc, self.files[place].bytes.as_slice()) {
-            Ok(guest) => guest,
+        let file = &self.files[place];
+        let started = match start(self.alloc, file.bytes.as_slice()) {
+            Ok(started) => started,
             Err(error) => return Err(error),
         };
+        let moved = Move::Starts {
+            load: started.load,
+            file: file.event,
+            len: file.bytes.len() as u32,
+        };
         let event = self.events;
-        self.guest = Some(guest);
+        self.guest = Some(started.guest);
         self.events += 1;
-        Ok(event)
+        Ok(Booted { event, moved })
     }
 
     /// Puts bytes behind the console's queue. Answers the number of its event.
@@ -140,6 +160,9 @@ impl Solo {
 
         ensures event { IfOk result (λ event. event ≡ self.old.events) }
         ensures does { OnOk result (Does self.old (input.Typed bytes.now) self.new) }
+        ensures moved { OnOk result
+            (moves_from self.old (input_steps self.old (input.Typed bytes.now)) ≡
+            Move.Arrives (length bytes.now) ∷ []) }
 
         ensures not_booted { IsErrOf result MachineError.NotBooted ↔
             (has_process self.old ≡ false) }
@@ -168,12 +191,13 @@ impl Solo {
         }
     }
 
-    /// Runs a slice of the process. Executes at most one instruction more than ran.
+    /// Runs a slice of the process. Where memory runs out, some instructions may have run, and no
+    /// event was made.
     pub fn run_slice<L: Ledger>(
         &mut self,
         count: u32,
         steps: &mut Steps<L>,
-    ) -> Result<Turn, NoMemory>
+    ) -> Result<Turn, CutShort>
         requires possible { IsTrue (is_possible self.old 1 count) }
         requires events { self.old.events + 1 < 2 ^ 64 }
 
@@ -183,11 +207,23 @@ impl Solo {
         ensures output { IfOk result (λ turn.
             option_to_list turn.output ≡
             outputs_from self.old.events (input_steps self.old (input.Slice 1 count))) }
+        ensures moved { IfOk result (λ turn.
+            option_to_list turn.moved ≡
+            moves_from self.old (input_steps self.old (input.Slice 1 count))) }
 
         ensures some { IfOk result (λ turn. 1 ≤ turn.ran) }
         ensures within { IfOk result (λ turn. turn.ran ≤ count) }
         ensures events { self.new.events ≤ self.old.events + 1 }
         ensures steps { IfOk result (λ turn. steps.new ≤ steps.old + turn.ran + 1) }
+
+        // Where none ran, the machine is as it was.
+        ensures cut { IfErr result (λ cut.
+            self.new ≡ after_input self.old (input.Slice 1 cut.ran)) }
+        ensures cut_quiet { OnErr result (self.new.events ≡ self.old.events) }
+        ensures cut_within { IfErr result (λ cut. cut.ran < count) }
+        ensures cut_steps { IfErr result (λ cut. steps.new ≤ steps.old + cut.ran + 1) }
+
+        ensures at_most { steps.new ≤ steps.old + count }
     {
         match &mut self.guest {
             Some(guest) => take_turn(

@@ -1,4 +1,4 @@
-ghost use Rattle.std.specs.Prelude.{◌≡◌, ◌≤◌, length, drop, None, IfOk, IfErr, IsErrOf, ◌↔◌, ◌⊎◌};
+ghost use Rattle.std.specs.Prelude.{◌≡◌, ◌<◌, ◌≤◌, ◌^◌, length, drop, None, IfOk, IfErr, IsErrOf, ◌↔◌, ◌⊎◌};
 ghost use Rattle.arn_model.specs.Image.{image_of, cpu_at_start};
 ghost use Rattle.guest_solo.specs.Start.{StartsFrom};
 
@@ -10,9 +10,18 @@ use guest_image::{HEADER_LEN, parse};
 use guest_mem::Space;
 use std::alloc::Global;
 
+/// A process that starts, and the address at which its image's body lies.
+#[derive(Debug, Drop)]
+pub struct Started {
+    pub guest: Guest,
+    pub load: u64,
+}
+
 /// The process that starts from an image file, without an argument block.
-pub fn start(alloc: Global, file: &[u8]) -> Result<Guest, MachineError>
+pub fn start(alloc: Global, file: &[u8]) -> Result<Started, MachineError>
     ensures starts { IfOk result (StartsFrom file.now) }
+    ensures long { IfOk result (λ _. 24 ≤ length file.now) }
+    ensures short { IfOk result (λ _. length file.now < 2 ^ 32) }
     ensures not_image { IsErrOf result MachineError.NotImage ↔ (image_of file.now ≡ None) }
     ensures only { IfErr result (λ e.
         (e ≡ MachineError.NotImage) ⊎ (e ≡ MachineError.NoMemory)) }
@@ -24,10 +33,14 @@ pub fn start(alloc: Global, file: &[u8]) -> Result<Guest, MachineError>
         Err(StoreError::NoMemory) => return Err(MachineError::NoMemory),
         Err(StoreError::BadAddress) => unreachable!(),
     }
-    Ok(Guest {
+    let guest = Guest {
         cpu: first_cpu(image.entry),
         space,
         live: true,
+    };
+    Ok(Started {
+        guest,
+        load: image.load,
     })
 }
 

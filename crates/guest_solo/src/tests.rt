@@ -1,10 +1,12 @@
 ghost use Rattle.std.specs.Prelude.{◌≡◌, ◌<◌};
 
 use super::*;
-use arn_base::{NoMemory, Steps};
+use arn_base::{NoMemory, Src, Steps};
 use arn_model::{Output, Standing};
+use solo_lineage::Move;
 use std::alloc::Global;
 use std::marker::Brand;
+use std::process::Abort;
 use std::sync::ledger::{Blank, Ledger};
 use std::test::Fail;
 
@@ -38,11 +40,12 @@ const ECHO: [u8; 68] = [
     0x73, 0x00, 0x00, 0x00,
 ];
 
-// How many instructions each slice ran, and what was written.
+// How many instructions each slice ran, what was written, and what was done to bytes.
 #[derive(Drop)]
 struct Slices {
     ran: Vec<u32>,
     outputs: Vec<Output>,
+    moves: Vec<Move>,
 }
 
 // Runs slices until the machine is done or stalled.
@@ -55,6 +58,7 @@ fn run_counted<L: Ledger>(alloc: Global, solo: &mut Solo, blank: Blank) -> Resul
     let mut slices = Slices {
         ran: Vec::new(alloc),
         outputs: Vec::new(alloc),
+        moves: Vec::new(alloc),
     };
     while_ready(solo, &mut steps, &mut slices)?;
     Ok(slices)
@@ -69,10 +73,16 @@ fn while_ready<L: Ledger>(
         if solo.events() > 100 || solo.standing() != Standing::CanGoOn {
             break;
         }
-        let turn = solo.run_slice(1_000, steps)?;
-        slices.ran.push(turn.ran)?;
-        if let Some(output) = turn.output {
+        let Turn { ran, output, moved } = match solo.run_slice(1_000, steps) {
+            Ok(turn) => turn,
+            Err(CutShort { .. }) => return Err(NoMemory),
+        };
+        slices.ran.push(ran)?;
+        if let Some(output) = output {
             slices.outputs.push(output)?;
+        }
+        if let Some(moved) = moved {
+            slices.moves.push(moved)?;
         }
     }
     Ok(())
@@ -82,17 +92,56 @@ fn run(alloc: Global, solo: &mut Solo) -> Result<Slices, NoMemory> {
     run_counted::<Brand>(alloc, solo, Blank::new(1))
 }
 
+// The program starts from file event 0, whose 44 bytes behind the header lie at 0x10000.
+fn assert_starts(rt: &impl Abort, moved: &Move) {
+    match moved {
+        Move::Starts { load, file, len } => {
+            assert_eq!(rt; *load, 0x1_0000);
+            assert_eq!(rt; *file, 0);
+            assert_eq!(rt; *len, 68);
+        }
+        _ => assert!(rt; false),
+    }
+}
+
+// The three bytes of event 2 are received, given away again, and the process ends.
+fn assert_echoes(rt: &impl Abort, moves: &[Move]) {
+    match moves {
+        [
+            Move::Receives { at, places },
+            Move::Gives { at: from, len },
+            Move::Ends,
+        ] => {
+            assert_eq!(rt; *at, 0x4_fff0);
+            assert_eq!(rt;
+                places.as_slice(),
+                [place(0), place(1), place(2)].as_slice()
+            );
+            assert_eq!(rt; *from, 0x4_fff0);
+            assert_eq!(rt; *len, 3);
+        }
+        _ => assert!(rt; false),
+    }
+}
+
+fn place(at: u32) -> Src {
+    Src { event: 2, at }
+}
+
 #[test]
 fn echoes_what_was_typed(rt: HostRuntime) -> Result<(), Fail> {
     let mut solo = Solo::new(rt.alloc());
     assert_eq!(rt; solo.add_file(b"echo", &ECHO), Ok(0));
     assert!(rt; solo.events() < 10);
-    assert_eq!(rt; solo.boot(b"echo"), Ok(1));
+    let booted = solo.boot(b"echo")?;
+    assert_eq!(rt; booted.event, 1);
+    assert_starts(&rt, &booted.moved);
     assert!(rt; solo.events() < 10);
     assert_eq!(rt; solo.type_in(b"abc"), Ok(2));
     let slices = run(rt.alloc(), &mut solo)?;
     assert_eq!(rt; solo.standing(), Standing::Done);
     assert_eq!(rt; slices.ran.as_slice(), [5, 3, 3].as_slice());
+    assert_echoes(&rt, slices.moves.as_slice());
     assert_eq!(rt; slices.outputs.len(), 1);
     for output in slices.outputs.as_slice() {
         assert_eq!(rt; output.event, 4);
@@ -107,16 +156,20 @@ fn waits_for_the_console(rt: HostRuntime) -> Result<(), Fail> {
     let mut solo = Solo::new(rt.alloc());
     assert_eq!(rt; solo.add_file(b"echo", &ECHO), Ok(0));
     assert!(rt; solo.events() < 10);
-    assert_eq!(rt; solo.boot(b"echo"), Ok(1));
+    let booted = solo.boot(b"echo")?;
+    assert_eq!(rt; booted.event, 1);
+    assert_starts(&rt, &booted.moved);
     let waiting = run(rt.alloc(), &mut solo)?;
     assert_eq!(rt; solo.standing(), Standing::Stalled);
     assert_eq!(rt; waiting.ran.as_slice(), [4].as_slice());
     assert!(rt; waiting.outputs.is_empty());
+    assert!(rt; waiting.moves.is_empty());
     assert!(rt; solo.events() < 10);
     assert_eq!(rt; solo.type_in(b"abc"), Ok(2));
     let slices = run(rt.alloc(), &mut solo)?;
     assert_eq!(rt; solo.standing(), Standing::Done);
     assert_eq!(rt; slices.ran.as_slice(), [1, 3, 3].as_slice());
+    assert_echoes(&rt, slices.moves.as_slice());
     assert_eq!(rt; slices.outputs.len(), 1);
     for output in slices.outputs.as_slice() {
         assert_eq!(rt; output.event, 4);

@@ -1,4 +1,4 @@
-ghost use Rattle.std.specs.Prelude.{◌≡◌, ◌+◌, ◌<◌, ◌≤◌, ◌^◌, ◌↔◌, ℕ, suc, true, false, List, length, take, drop, IfOk, OnOk, IsOk, IsSome, Some, option_to_list};
+ghost use Rattle.std.specs.Prelude.{◌≡◌, ◌+◌, ◌<◌, ◌≤◌, ◌^◌, ◌↔◌, ℕ, suc, true, false, List, [], length, map, take, drop, IfOk, IfErr, OnOk, OnErr, IsOk, IsSome, Some, option_to_list};
 ghost use Rattle.arn_base.specs.Window.{bytes_at, with_bytes};
 ghost use Rattle.guest_mem.specs.Windows.{private_window};
 ghost use Rattle.arn_model.specs.Machine.{Machine};
@@ -8,19 +8,31 @@ ghost use Rattle.arn_model.specs.Call.{returned};
 ghost use Rattle.guest_solo.specs.Turn.{machine_with, IsTurn};
 
 use crate::burst::{Burst, run_instructions};
-use crate::calls::{Request, requested};
+use crate::calls::{Request, call_number, requested};
 use crate::guest::Guest;
 use arn_base::{Bytes, Cpu, NoMemory, Steps, StoreError};
 use arn_model::{Held, Output};
 use rv64_core::Outcome;
+use solo_lineage::{Move, Places};
 use std::alloc::Global;
 use std::sync::ledger::Ledger;
+use thiserror::Error;
 
-/// What a slice did: how many instructions ran, and what was written to the console.
+/// What a slice did: how many instructions ran, what was written to the console, and what the
+/// slice's event did to bytes, if there was one.
 #[derive(Debug, Drop)]
 pub struct Turn {
     pub ran: u32,
     pub output: Option<Output>,
+    pub moved: Option<Move>,
+}
+
+/// Memory ran out at the call before which the process stands now, with so many instructions of
+/// the slice behind it.
+#[derive(Clone, Copy, Debug, PartialEq, Eq, Error)]
+#[error("out of memory after {ran} instructions of a slice")]
+pub struct CutShort {
+    pub ran: u32,
 }
 
 /// Runs a slice of the process.
@@ -32,35 +44,51 @@ pub fn take_turn<L: Ledger>(
     events: &mut u64,
     count: u32,
     steps: &mut Steps<L>,
-) -> Result<Turn, NoMemory>
+) -> Result<Turn, CutShort>
     requires live { guest.old.live ≡ true }
     requires taken { taken.old ≤ length typed.now }
     requires events { events.old + 1 < 2 ^ 64 }
     ensures turn { IfOk result (λ turn. (m : Machine) →
         IsTurn (machine_with m guest.old typed.now taken.old events.old) count
         (machine_with m guest.new typed.now taken.new events.new)
-        turn.ran (option_to_list turn.output)) }
+        turn.ran (option_to_list turn.output) (option_to_list turn.moved)) }
     ensures taken { taken.new ≤ length typed.now }
     ensures events { events.new ≤ events.old + 1 }
     ensures ran { IfOk result (λ turn. turn.ran ≤ count) }
     ensures steps { IfOk result (λ turn. steps.new ≤ steps.old + turn.ran + 1) }
+
+    ensures cut { IfErr result (λ cut. (m : Machine) →
+        IsTurn (machine_with m guest.old typed.now taken.old events.old) cut.ran
+        (machine_with m guest.new typed.now taken.new events.new)
+        cut.ran [] []) }
+    ensures cut_quiet { OnErr result (events.new ≡ events.old) }
+    ensures cut_within { IfErr result (λ cut. cut.ran < count) }
+    ensures cut_steps { IfErr result (λ cut. steps.new ≤ steps.old + cut.ran + 1) }
+
+    ensures at_most { steps.new ≤ steps.old + count }
 {
     let Burst { ran, outcome } = run_instructions(guest, count, steps);
     match outcome {
-        Outcome::Next => Ok(Turn { ran, output: None }),
-        Outcome::Call => {
-            let served = serve(alloc, guest, typed, taken, events)?;
-            Ok(Turn {
+        Outcome::Next => Ok(Turn {
+            ran,
+            output: None,
+            moved: None,
+        }),
+        Outcome::Call => match serve(alloc, guest, typed, taken, events) {
+            Ok(served) => Ok(Turn {
                 ran: ran + served.ran,
                 output: served.output,
-            })
-        }
+                moved: served.moved,
+            }),
+            Err(NoMemory) => Err(CutShort { ran }),
+        },
         Outcome::End(_) => {
             guest.live = false;
             *events += 1;
             Ok(Turn {
                 ran: ran + 1,
                 output: None,
+                moved: Some(Move::Ends),
             })
         }
         Outcome::NoMemory => unreachable!(),
@@ -82,47 +110,60 @@ fn serve(
     ensures turn { IfOk result (λ turn. (m : Machine) (count : ℕ) →
         IsTurn (machine_with m guest.old typed.now taken.old events.old) (suc count)
         (machine_with m guest.new typed.now taken.new events.new)
-        turn.ran (option_to_list turn.output)) }
+        turn.ran (option_to_list turn.output) (option_to_list turn.moved)) }
     ensures taken { taken.new ≤ length typed.now }
     ensures events { events.new ≤ events.old + 1 }
     ensures ran { IfOk result (λ turn. turn.ran ≤ 1) }
+    ensures err_guest { OnErr result (guest.new ≡ guest.old) }
+    ensures err_taken { OnErr result (taken.new ≡ taken.old) }
+    ensures err_events { OnErr result (events.new ≡ events.old) }
 {
     match requested(guest, (typed.len() - *taken) as u64) {
         Request::Waits => Ok(Turn {
             ran: 0,
             output: None,
+            moved: None,
         }),
         Request::Answers { result } => {
+            let number = call_number(&guest.cpu);
             finish(&mut guest.cpu, result);
             *events += 1;
-            Ok(one_call(None))
+            Ok(one_call(None, Move::Returns { number }))
         }
         Request::Ends { .. } => {
             guest.live = false;
             *events += 1;
-            Ok(one_call(None))
+            Ok(one_call(None, Move::Ends))
         }
         Request::Takes { at, count } => {
-            receive(alloc, guest, at, &typed[*taken..*taken + count as usize])?;
+            let held = &typed[*taken..*taken + count as usize];
+            let places = places_of(alloc, held)?;
+            receive(alloc, guest, at, held)?;
             *taken += count as usize;
             finish(&mut guest.cpu, count);
             *events += 1;
-            Ok(one_call(None))
+            Ok(one_call(None, Move::Receives { at, places }))
         }
         Request::Writes { at, count } => {
             let output = written(alloc, guest, at, count, *events)?;
+            let len = count as u32;
             finish(&mut guest.cpu, count);
             *events += 1;
-            Ok(one_call(Some(output)))
+            Ok(one_call(Some(output), Move::Gives { at, len }))
         }
     }
 }
 
-fn one_call(output: Option<Output>) -> Turn
+fn one_call(output: Option<Output>, moved: Move) -> Turn
     ensures ran { result.ran ≡ 1 }
     ensures output { result.output ≡ output }
+    ensures moved { result.moved ≡ Some moved }
 {
-    Turn { ran: 1, output }
+    Turn {
+        ran: 1,
+        output,
+        moved: Some(moved),
+    }
 }
 
 // The call ends with this result.
@@ -133,6 +174,17 @@ fn finish(cpu: &mut Cpu, outcome: u64)
     cpu.pc = cpu.pc.wrapping_add(4);
 }
 
+// Where bytes of the console's queue came from.
+fn places_of(alloc: Global, held: &[Held]) -> Result<Places, NoMemory>
+    ensures { IfOk result (λ places. places ≡ map (λ byte. byte.origin) held.now) }
+{
+    let mut places = Places::new(alloc);
+    for byte in held {
+        places.push(byte.origin)?;
+    }
+    Ok(places)
+}
+
 // Puts bytes of the console's queue at an address.
 fn receive(alloc: Global, guest: &mut Guest, at: u64, held: &[Held]) -> Result<(), NoMemory>
     requires { IsSome (bytes_at (private_window guest.old.space) at (length held.now)) }
@@ -140,6 +192,7 @@ fn receive(alloc: Global, guest: &mut Guest, at: u64, held: &[Held]) -> Result<(
         with_bytes (private_window guest.old.space) at (values held.now)) }
     ensures cpu { guest.new.cpu ≡ guest.old.cpu }
     ensures live { guest.new.live ≡ guest.old.live }
+    ensures err { OnErr result (guest.new ≡ guest.old) }
 {
     let bytes: Vec<u8> = held.iter().map(|byte| byte.value).collect(alloc)?;
     match guest.space.write_from(at, bytes.as_slice()) {

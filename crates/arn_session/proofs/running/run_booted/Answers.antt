@@ -5,24 +5,40 @@ use Rattle.arn_lines.specs.declared.answer.RunEnd.{RunEnd}
 use Rattle.arn_lines.specs.Texts.{ran_text}
 use Rattle.arn_session.specs.Running.{end_of}
 use Rattle.arn_session.proofs.RunLemmas.{SoFar-start, SoFar-turn, SoFar-end, IsRun, kept-slice, on_ok}
+use Rattle.arn_session.proofs.ToldLemmas.{told-slice}
 use Rattle.arn_session.proofs.running.run_booted.Given.{Over}
 use Rattle.arn_session.proofs.running.run_booted.Goals as goal
 use Rattle.arn_session.proofs.running.run_booted.Goals.{then-loop-left-test+else-can_go_on, else-loop-left-test}
 
 pub loop-left-init : goal.loop-left-init
-loop-left-init g c = record { kept = c.requires.kept; so_far = SoFar-start _ _ _ _ _ }
+loop-left-init g c = record { sound = c.requires.sound; so_far = SoFar-start _ _ _ _ _ }
 
 pub loop-left-preserved : goal.loop-left-preserved
 loop-left-preserved g c =
     let e = c.in-Ok.ensures in
-    let turned = SoFar-turn c.args.inputs.now.items c.args.machine.now c.args.count _ c.args.steps.now c.loop-left.inputs.items c.loop-left.machine c.loop-left.left _ c.loop-left.steps c.min-slice.result c.reserve.new.self.items c.push_reserved.new.self.items c.run_slice.new.self (c.loop-left.left - c.from-left.result) _ c.run_slice.new.steps c.in-Ok.turn.ran (option_to_list c.in-Ok.turn.output) c.loop-left.invariant.kept c.loop-left.invariant.so_far c.min-slice.ensures (c.if-can_go_on.ensures.goes refl) c.loop-left-test.true c.in_ok-reserve.ensures.items c.push_reserved.ensures.items e.after e.ran e.output e.some e.within c.run_slice.ensures.events (ap (λ n. c.loop-left.left - n) c.from-left.ensures) c.in_ok-push_output.ensures e.steps in
-    record { kept = turned.kept; so_far = turned.so_far }
+    let k = c.loop-left.kept in
+    let sound = c.loop-left.invariant.sound in
+    let turned = SoFar-turn c.args.kept.now.inputs.items c.args.kept.now.machine c.args.count _ c.args.steps.now k.inputs.items k.machine c.loop-left.left _ c.loop-left.steps c.min-slice.result c.reserve.new.self.items c.push_reserved.new.self.items c.run_slice.new.self (c.loop-left.left - c.from-left.result) _ c.run_slice.new.steps c.in-Ok.field-0.ran (option_to_list c.in-Ok.field-0.output) sound.kept c.loop-left.invariant.so_far c.min-slice.ensures (c.if-can_go_on.ensures.goes refl) c.loop-left-test.true c.in_ok-reserve.ensures.items c.push_reserved.ensures.items e.after e.ran e.output e.some e.within c.run_slice.ensures.events (ap (λ n. c.loop-left.left - n) c.from-left.ensures) c.in_ok-push_output.ensures e.steps in
+    record {
+      sound = record {
+        kept = turned.kept;
+        told = told-slice k.inputs.items k.moves.items k.instructions k.machine c.loop-left.left c.min-slice.result c.reserve.new.self.items c.push_reserved.new.self.items c.reserve-in-loop-left.new.self.items c.keep_move.new.moves.items (option_to_list c.in-Ok.field-0.moved) c.in-Ok.field-0.ran c.from.result sound.told sound.kept.leads c.min-slice.ensures c.in_ok-reserve.ensures.items c.push_reserved.ensures.items c.in_ok-reserve-2.ensures.items c.keep_move.ensures e.moved e.ran e.within c.from.ensures;
+      };
+      so_far = turned.so_far;
+    }
 
-pub returns-in_err-push_output-clause-kept : goal.returns-in_err-push_output-clause-kept
-returns-in_err-push_output-clause-kept g c = kept-slice c.loop-left.inputs.items c.loop-left.machine c.loop-left.left c.min-slice.result c.reserve.new.self.items c.push_reserved.new.self.items c.run_slice.new.self c.loop-left.invariant.kept c.in_ok-reserve.ensures.items c.push_reserved.ensures.items c.in-Ok.ensures.after c.run_slice.ensures.events
+pub returns-in_err-push_output-clause-sound : goal.returns-in_err-push_output-clause-sound
+returns-in_err-push_output-clause-sound g c =
+    let e = c.in-Ok.ensures in
+    let k = c.loop-left.kept in
+    let sound = c.loop-left.invariant.sound in
+    record {
+      kept = kept-slice k.inputs.items k.machine c.loop-left.left c.min-slice.result c.reserve.new.self.items c.push_reserved.new.self.items c.run_slice.new.self sound.kept c.in_ok-reserve.ensures.items c.push_reserved.ensures.items e.after c.run_slice.ensures.events;
+      told = told-slice k.inputs.items k.moves.items k.instructions k.machine c.loop-left.left c.min-slice.result c.reserve.new.self.items c.push_reserved.new.self.items c.reserve-in-loop-left.new.self.items c.keep_move.new.moves.items (option_to_list c.in-Ok.field-0.moved) c.in-Ok.field-0.ran c.from.result sound.told sound.kept.leads c.min-slice.ensures c.in_ok-reserve.ensures.items c.push_reserved.ensures.items c.in_ok-reserve-2.ensures.items c.keep_move.ensures e.moved e.ran e.within c.from.ensures;
+    }
 
 -- why the loop stopped
-stops : (g : Over) (c : goal.After-push_ran g) → (c.loop-left.left ≡ 0) ⊎ (standing c.loop-left.machine ≢ standing.CanGoOn)
+stops : (g : Over) (c : goal.After-push_ran g) → (c.loop-left.left ≡ 0) ⊎ (standing c.loop-left.kept.machine ≢ standing.CanGoOn)
 stops g c =
     elim c.loop-left-test.branch [
       | then-loop-left-test+else-can_go_on w ↦ inr (w.if-can_go_on.ensures.stops refl)
@@ -30,9 +46,9 @@ stops g c =
     ]
 
 -- the whole run
-whole : (g : Over) (c : goal.After-push_ran g) → OnOk c.push_ran.result (IsRun c.args.inputs.now.items c.args.machine.now c.args.count (string_bytes c.args.text.now) c.args.steps.now c.loop-left.inputs.items (string_bytes c.push_ran.new.text) c.loop-left.steps)
+whole : (g : Over) (c : goal.After-push_ran g) → OnOk c.push_ran.result (IsRun c.args.kept.now.inputs.items c.args.kept.now.machine c.args.count (string_bytes c.args.text.now) c.args.steps.now c.loop-left.kept.inputs.items (string_bytes c.push_ran.new.text) c.loop-left.steps)
 whole g c =
-    on_ok _ _ c.push_ran.result _ _ (λ printed. SoFar-end _ _ c.args.count _ c.args.steps.now _ c.loop-left.machine c.loop-left.left _ _ _ c.loop-left.invariant.so_far (stops g c) (printed ∙ ap (λ (e : RunEnd). string_bytes c.loop-left.text ++ ran_text (c.args.count - c.loop-left.left) e) (c.end_of.ensures ∙ ap end_of c.standing.ensures.standing))) c.push_ran.ensures.ok
+    on_ok _ _ c.push_ran.result _ _ (λ printed. SoFar-end _ _ c.args.count _ c.args.steps.now _ c.loop-left.kept.machine c.loop-left.left _ _ _ c.loop-left.invariant.so_far (stops g c) (printed ∙ ap (λ (e : RunEnd). string_bytes c.loop-left.text ++ ran_text (c.args.count - c.loop-left.left) e) (c.end_of.ensures ∙ ap end_of c.standing.ensures.standing))) c.push_ran.ensures.ok
 
 pub returns-clause-gives : goal.returns-clause-gives
 returns-clause-gives g c = on_ok _ _ c.push_ran.result _ _ (λ r. r.gives) (whole g c)

@@ -1,4 +1,4 @@
-use Rattle.std.proofs.Common.{◌≡◌, ◌∙◌, subst, ◌-◌, ℕ, List, drop, ap}
+use Rattle.std.proofs.Common.{◌≡◌, ◌∙◌, subst, ◌-◌, ℕ, List, drop, length-drop, arith, ap, refl}
 use Rattle.arn_base.specs.Disk.{overwrite}
 use Rattle.arn_base.specs.Window.{with_bytes}
 use Rattle.guest_mem.specs.Windows.{private_window}
@@ -24,4 +24,11 @@ returns-clause-starts c =
       image = i;
       is_image = c.in_ok-image.ensures.image;
       is_started = ap (λ (cpu : Cpu). process_with cpu c.write_from.new.self) c.first_cpu.ensures ∙ ap (process_with (cpu_at_start i.entry 0)) window;
+      is_load = refl;
     }
+
+pub returns-clause-short : goal.returns-clause-short
+returns-clause-short c =
+    let i : Image = record { entry = c.in_ok-image.image.entry; load = c.in_ok-image.image.load; body = drop 24 c.args.file.now } in
+    let fits = image-fits c.args.file.now i c.in_ok-image.ensures.image in
+    omega (arith, fits.0, fits.1, length-drop 24 c.args.file.now)

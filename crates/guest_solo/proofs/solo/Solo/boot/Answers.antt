@@ -1,14 +1,16 @@
-use Rattle.std.proofs.Common.{◌≡◌, ◌+◌, ◌<◌, ◌∙◌, ℕ, List, Some, None, length, false, is_some, IsTrue, sym, ap, subst}
+use Rattle.std.proofs.Common.{◌≡◌, ◌+◌, ◌<◌, ◌∙◌, ℕ, List, [], ◌∷◌, arith, Some, None, length, false, is_some, IsTrue, sym, ap, subst}
 use Rattle.arn_model.specs.declared.history.Input.TheVariants as input
 use Rattle.arn_model.specs.Image.{image_of}
 use Rattle.arn_model.specs.Machine.{Machine}
-use Rattle.arn_model.specs.Run.{file_among, find_file, is_booted}
+use Rattle.arn_model.specs.Run.{file_among, find_file, is_booted, input_steps}
 use Rattle.guest_solo.specs.declared.files.BootFile.{BootFile}
 use Rattle.guest_solo.specs.Files.{names_from}
 use Rattle.guest_solo.specs.Input.{Does, IsRefused}
 use Rattle.guest_solo.specs.Solo.{machine_of}
 use Rattle.guest_solo.specs.Start.{StartsFrom}
-use Rattle.guest_solo.proofs.SoloLemmas.{does-boot, refused-boot, booted-guest, same_error}
+use Rattle.guest_solo.proofs.SoloLemmas.{does-boot, moved-boot, refused-boot, booted-guest, same_error}
+use Rattle.solo_lineage.specs.declared.moves.Move.TheVariants as move
+use Rattle.solo_lineage.specs.Moves.{moves_from}
 use Rattle.guest_solo.proofs.solo.Solo.boot.Goals as goal
 
 pub returns-in-Err-clause-not_image : goal.returns-in-Err-clause-not_image
@@ -19,13 +21,25 @@ returns-in-Err-clause-not_image c = λ is.
     let no_image = subst (λ (bs : List ℕ). image_of bs ≡ None) c.as_slice-2.ensures (c.in-Err.ensures.not_image.0 (same_error _ _ _ _ _ is)) in
     let none = sym c.is_some.ensures ∙ c.if-is_some.false in
     subst (λ (m : Machine). (is_booted m ≡ false) × IsTrue (is_some (find_file m c.args.name.now)) × IsRefused m (input.Boot c.args.name.now)) c.self.view_is
-    (booted-guest c.self.inside.guest ∙ none, ap is_some found, refused-boot c.self.inside _ _ c.index.result.now none found within c.index.ensures no_image)
+    (booted-guest c.self.inside.guest ∙ none, ap is_some found, refused-boot c.self.inside _ _ c.index-file.result.now none found within c.index-file.ensures no_image)
 
 pub returns-clause-does : goal.returns-clause-does
 returns-clause-does c =
     let files = c.as_slice.ensures.value in
     let found = subst (λ (fs : List BootFile). file_among (names_from 0 fs) c.args.name.now ≡ Some c.in-Some.place) files (sym c.in-Some.ensures.found) in
     let within = subst (λ (fs : List BootFile). c.in-Some.place < length fs) files c.in-Some.ensures.within in
-    let starts = subst (λ (bs : List ℕ). StartsFrom bs c.in-Ok.guest) c.as_slice-2.ensures c.in-Ok.ensures.starts in
-    subst (λ (m : Machine). Does m (input.Boot c.args.name.now) (machine_of (record c.self.inside { guest = Some c.in-Ok.guest; events = c.self.inside.events + 1 }))) c.self.view_is
-    (does-boot c.self.inside _ _ c.index.result.now c.in-Ok.guest (sym c.is_some.ensures ∙ c.if-is_some.false) found within c.index.ensures starts)
+    let starts = subst (λ (bs : List ℕ). StartsFrom bs c.in-Ok.started) c.as_slice-2.ensures c.in-Ok.ensures.starts in
+    subst (λ (m : Machine). Does m (input.Boot c.args.name.now) (machine_of (record c.self.inside { guest = Some c.in-Ok.started.guest; events = c.self.inside.events + 1 }))) c.self.view_is
+    (does-boot c.self.inside _ _ c.index-file.result.now c.in-Ok.started (sym c.is_some.ensures ∙ c.if-is_some.false) found within c.index-file.ensures starts)
+
+pub returns-clause-moved : goal.returns-clause-moved
+returns-clause-moved c =
+    let f = c.index-file.result.now in
+    let st = c.in-Ok.started in
+    let files = c.as_slice.ensures.value in
+    let found = subst (λ (fs : List BootFile). file_among (names_from 0 fs) c.args.name.now ≡ Some c.in-Some.place) files (sym c.in-Some.ensures.found) in
+    let within = subst (λ (fs : List BootFile). c.in-Some.place < length fs) files c.in-Some.ensures.within in
+    let starts = subst (λ (bs : List ℕ). StartsFrom bs st) c.as_slice-2.ensures c.in-Ok.ensures.starts in
+    let some = subst (λ (bs : List ℕ). 0 < length bs) c.as_slice-2.ensures (omega (arith, c.in-Ok.ensures.long)) in
+    subst (λ (m : Machine). move.Starts st.load f.event c.len.result ∷ [] ≡ moves_from m (input_steps m (input.Boot c.args.name.now))) c.self.view_is
+    (ap (λ (len : ℕ). move.Starts st.load f.event len ∷ []) c.len.ensures ∙ moved-boot c.self.inside _ _ f st (sym c.is_some.ensures ∙ c.if-is_some.false) found within c.index-file.ensures starts some)

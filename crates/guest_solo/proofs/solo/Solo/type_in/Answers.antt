@@ -1,11 +1,18 @@
-use Rattle.std.proofs.Common.{◌+◌, ◌++◌, List, ap, ◌∙◌, subst}
+use Rattle.std.proofs.Common.{◌≡◌, ◌+◌, ◌++◌, List, [], ◌∷◌, length, ap, ◌∙◌, subst}
 use Rattle.arn_model.specs.declared.history.Held.{Held}
 use Rattle.arn_model.specs.Machine.{Machine}
 use Rattle.arn_model.specs.declared.history.Input.TheVariants as input
 use Rattle.guest_solo.specs.Input.{Does}
 use Rattle.guest_solo.specs.Solo.{machine_of}
-use Rattle.guest_solo.proofs.SoloLemmas.{does-typed, typed-after, booted-guest, some_guest}
+use Rattle.guest_solo.proofs.SoloLemmas.{does-typed, typed-after, booted-guest, some_guest, moved-typed}
+use Rattle.arn_model.specs.Run.{input_steps}
+use Rattle.solo_lineage.specs.declared.moves.Move.TheVariants as move
+use Rattle.solo_lineage.specs.Moves.{moves_from}
 use Rattle.guest_solo.proofs.solo.Solo.type_in.Goals as goal
+
+pub returns-clause-moved : goal.returns-clause-moved
+returns-clause-moved c =
+    subst (λ (m : Machine). moves_from m (input_steps m (input.Typed c.args.bytes.now)) ≡ move.Arrives (length c.args.bytes.now) ∷ []) c.self.view_is (moved-typed (machine_of c.self.inside) c.args.bytes.now (booted-guest c.self.inside.guest ∙ some_guest c.self.inside.guest _ c.is_none.ensures c.if-is_none.false))
 
 pub returns-clause-does : goal.returns-clause-does
 returns-clause-does c =

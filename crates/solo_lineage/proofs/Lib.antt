@@ -1,0 +1,9 @@
+pub mod ListForms
+pub mod StepForms
+pub mod EventForms
+pub mod GroupForms
+pub mod FlowForms
+pub mod Told
+pub mod SourceForms
+pub mod RowForms
+pub mod QueryForms
