@@ -28,6 +28,7 @@ live_descriptors g live = ap descriptors_of live
 opened_in : List Description → List (Option ℕ) → ℕ → Option Description
 opened_in descriptions ds fd = option_and_then (λ (found : Option ℕ). option_and_then (slice_get descriptions) found) (slice_get ds fd)
 
+-- the first three numbers are the console, and the others aren't open
 open_first : (fd : ℕ) → fd < 3 → opened_in (Console ∷ []) first_descriptors fd ≡ Some Console
 unfolding opened_in
 open_first zero lt = refl
@@ -45,9 +46,10 @@ open_none (suc (suc (suc k))) le = none_open (slice_get (Console ∷ [])) 13 k
 -- a descriptor of a live guest, where the console is open
 same_opened : (g : Guest) (m : Machine) (fd : ℕ) → g.live ≡ true → m.descriptions ≡ Console ∷ [] → opened m (process_of g) fd ≡ opened_in (Console ∷ []) first_descriptors fd
 unfolding opened_in
-same_opened g m fd live open_ =
-    ap (λ (ds : List (Option ℕ)). opened_in m.descriptions ds fd) (live_descriptors g live) ∙ ap (λ (d : List Description). opened_in d first_descriptors fd) open_
+same_opened g m fd live is_open =
+    ap (λ (ds : List (Option ℕ)). opened_in m.descriptions ds fd) (live_descriptors g live) ∙ ap (λ (d : List Description). opened_in d first_descriptors fd) is_open
 
+-- so a live guest finds the console under these numbers, and nothing under others
 pub opened-console : (g : Guest) (m : Machine) (fd : ℕ) → g.live ≡ true → m.descriptions ≡ Console ∷ [] → fd < 3 → opened m (process_of g) fd ≡ Some Console
 opened-console g m fd live is_open lt = same_opened g m fd live is_open ∙ open_first fd lt
 

@@ -1,5 +1,5 @@
 -- The machine of one process under the model's words.
-use Rattle.std.proofs.Common.{◌≡◌, ℕ, zero, suc, ◌+◌, ◌<◌, ◌≤◌, ◌++◌, ◌∙◌, Bool, true, false, List, [], ◌∷◌, map, drop, length, Option, Some, None, Vec, refl, sym, ap, subst, arith, add-zero, zero-add, nat_lt, nat_le, not, ◌&&◌, is_some, IsTrue, slice_get, slice_index_or, Result, Ok, Err, IfOk, IfErr, IsErrOf, cond}
+use Rattle.std.proofs.Common.{◌≡◌, ℕ, zero, suc, ◌+◌, ◌<◌, ◌≤◌, ◌++◌, ◌∙◌, ◌↔◌, Bool, true, false, List, [], ◌∷◌, map, drop, length, Option, Some, None, Vec, refl, sym, ap, subst, arith, add-zero, zero-add, nat_lt, nat_le, not, ◌&&◌, is_some, IsTrue, slice_get, slice_index_or, Result, Ok, Err, IfOk, IfErr, IsErrOf, cond}
 use Rattle.std.proofs.lemmas.Bool.Decides.{nat_tests}
 use Rattle.std.proofs.lemmas.Bool.{cond-true, cond-false}
 use Rattle.std.proofs.lemmas.List.{map-append, length-map, drop-append-le}
@@ -10,9 +10,10 @@ use Rattle.solo_lineage.specs.declared.moves.Move.{Move}
 use Rattle.solo_lineage.specs.declared.moves.Move.TheVariants as move
 use Rattle.solo_lineage.specs.Moves.{moves_from, first_event}
 use Rattle.arn_model.specs.declared.history.Held.{Held}
+use Rattle.arn_model.specs.declared.history.Input.{Input}
 use Rattle.arn_model.specs.declared.history.Input.TheVariants as input
 use Rattle.arn_model.specs.Machine.{Machine, Name, Process, Console, Life, Live, Gone, process}
-use Rattle.arn_model.specs.Image.{image_of}
+use Rattle.arn_model.specs.Image.{Image, image_of}
 use Rattle.arn_model.specs.Instruction.{Effect, Next, Call, End}
 use Rattle.arn_model.specs.Step.{Step, is_event, held_bytes, held_from, values, event_counted, one_origin, onto_origins, comes_before, given}
 use Rattle.arn_model.specs.Deed.{is_instruction}
@@ -29,7 +30,7 @@ use Rattle.guest_solo.specs.declared.solo.Solo.TheInside.{Inside}
 use Rattle.guest_solo.specs.declared.guest.Guest.{Guest}
 use Rattle.guest_solo.specs.declared.start.Started.{Started}
 use Rattle.guest_solo.specs.Files.{names_from, is_free_among}
-use Rattle.guest_solo.specs.Input.{Does}
+use Rattle.guest_solo.specs.Input.{Does, IsRefused}
 use Rattle.guest_solo.specs.Solo.{machine_of, processes_of, descriptions_of}
 
 -- as many names as files
@@ -57,6 +58,7 @@ does-typed m bytes m' booted after =
 files_with : Inside → List (List Held) → List Name → Machine
 files_with s contents names = record (machine_of s) { files = contents; names = names; events = s.events + 1 }
 
+-- a boot file as the model holds it
 content : BootFile → List Held
 content f = held_bytes f.event f.bytes
 
@@ -120,10 +122,22 @@ boot-found s path k f none found within is =
     ∙ ap (boot_if_held m path k) (content_at s.files.items k f within is)
     ∙ ap (λ (bs : List ℕ). boot_if_image m path k (held_bytes f.event f.bytes) (image_of bs)) (values-held f.event 0 f.bytes)
 
--- a boot from a file that is no image
-pub refused-boot : (s : Inside) (path : List ℕ) (k : ℕ) (f : BootFile) → is_some s.guest ≡ false → file_among (names_from 0 s.files.items) path ≡ Some k → k < length s.files.items → f ≡ slice_index_or s.files.items k f → image_of f.bytes ≡ None → input_steps (machine_of s) (input.Boot path) ≡ []
-refused-boot s path k f none found within is no_image =
-    boot-found s path k f none found within is ∙ ap (boot_if_image (machine_of s) path k (held_bytes f.event f.bytes)) no_image
+-- a boot from a file is refused exactly where the file is no image
+pub refused-boot : (s : Inside) (path : List ℕ) (k : ℕ) (f : BootFile) → is_some s.guest ≡ false → file_among (names_from 0 s.files.items) path ≡ Some k → k < length s.files.items → f ≡ slice_index_or s.files.items k f → (image_of f.bytes ≡ None) ↔ IsRefused (machine_of s) (input.Boot path)
+refused-boot s path k f none found within is =
+    let steps = boot-found s path k f none found within is in
+    (λ without. steps ∙ ap (boot_if_image (machine_of s) path k (held_bytes f.event f.bytes)) without, λ refused. no_image (image_of f.bytes) (sym steps ∙ refused))
+  where
+    no_image : (o : Option Image) → boot_if_image (machine_of s) path k (held_bytes f.event f.bytes) o ≡ [] → o ≡ None
+    no_image None is = refl
+    no_image (Some image) is = cc
+
+-- what does something isn't refused
+pub does-isnt-refused : (m : Machine) (i : Input) (m' : Machine) → Does m i m' → IsRefused m i → ⊥
+does-isnt-refused m i m' does refused = no_step does.step (sym does.is_step ∙ refused)
+  where
+    no_step : (s : Step) → s ∷ [] ≡ [] → ⊥
+    no_step s is = cc
 
 -- a boot from an image
 pub does-boot : (s : Inside) (path : List ℕ) (k : ℕ) (f : BootFile) (st : Started) → is_some s.guest ≡ false → file_among (names_from 0 s.files.items) path ≡ Some k → k < length s.files.items → f ≡ slice_index_or s.files.items k f → StartsFrom f.bytes st → Does (machine_of s) (input.Boot path) (machine_of (record s { guest = Some st.guest; events = s.events + 1 }))
@@ -181,15 +195,18 @@ call_runs m p (Ends status) is = (_, refl, refl)
 call_runs m p (Takes at n) is = (_, refl, refl)
 call_runs m p (Writes at n) is = (_, refl, refl)
 
+-- so is a step of any effect
 effect_runs : (m : Machine) (p : Process) (e : Effect) → isnt_waiting m p e ≡ true → (s : Step) × (effect_step m 1 p e ≡ Some s) × (is_instruction s.deed ≡ true)
 effect_runs m p (Next instr cpu memory) is = (_, refl, refl)
 effect_runs m p Call is = call_runs m p (called m p) is
 effect_runs m p (End status) is = (_, refl, refl)
 
+-- so is a step of a process that can go on
 life_runs : (m : Machine) (p : Process) (life : Life) → is_live life && isnt_waiting m p (stands_at m p) ≡ true → (s : Step) × (step_if_live life m 1 p ≡ Some s) × (is_instruction s.deed ≡ true)
 life_runs m p Live is = effect_runs m p (stands_at m p) is
 life_runs m p Gone is = cc
 
+-- so is a step of process 1, if there is one
 process_runs : (m : Machine) (o : Option Process) → can_go_on m o ≡ true → (s : Step) × (step_if_made m 1 o ≡ Some s) × (is_instruction s.deed ≡ true)
 process_runs m None is = cc
 process_runs m (Some p) is = life_runs m p p.life is
@@ -202,10 +219,11 @@ runs_some m k able =
     let counted = ap instructions_in is ∙ instructions_in-cons next.0 (unless_ended (is_event next.0) next.0.after (steps_of k 1)) next.2 in
     omega (arith, counted)
 
--- a possible slice is its steps, of which one at least is an instruction
+-- a possible slice is its steps
 pub slice-steps : (m : Machine) (count : ℕ) → is_possible m 1 count ≡ true → input_steps m (input.Slice 1 count) ≡ steps_of count 1 m
 slice-steps m count possible = cond-true (is_possible m 1 count) (steps_of count 1 m) [] possible
 
+-- one of them at least is an instruction
 pub slice-some : (m : Machine) (count : ℕ) → is_possible m 1 count ≡ true → 1 ≤ instructions_in (steps_of count 1 m)
 slice-some m zero possible = absurd (no_zero (is_runnable m 1) possible)
   where
@@ -222,6 +240,11 @@ slice-some m (suc k) possible = runs_some m k (left_of (is_runnable m 1) _ possi
 pub ok_then : (T E : Type 0) (r : Result T E) (P Q : T → Type 0) → ((t : T) → P t → Q t) → IfOk r P → IfOk r Q
 ok_then T E (Ok t) P Q then p = then t p
 ok_then T E (Err e) P Q then p = tt
+
+-- two facts of a call that succeeded
+pub ok_both : (T E : Type 0) (r : Result T E) (P Q : T → Type 0) → IfOk r P → IfOk r Q → IfOk r (λ t. P t × Q t)
+ok_both T E (Ok t) P Q p q = (p, q)
+ok_both T E (Err e) P Q p q = tt
 
 -- what a slice did, in the model's words
 pub record IsSlice (m : Machine) (count ran : ℕ) (outputs : List Output) (moves : List Move) : Type 0 where
@@ -242,10 +265,10 @@ slice-turn s m g typed count m' ran outputs moves view guest same possible turn 
       some = omega (arith, some, t.instructions);
     }
 
--- what is known of an error that is there, where two other facts are known
-pub err_then : (T E : Type 0) (r : Result T E) (P Q R : E → Type 0) → ((e : E) → P e → Q e → R e) → IfErr r P → IfErr r Q → IfErr r R
-err_then T E (Ok t) P Q R then p q = tt
-err_then T E (Err e) P Q R then p q = then e p q
+-- a fact of an error, from another
+pub err_then : (T E : Type 0) (r : Result T E) (P Q : E → Type 0) → IfErr r P → ((e : E) → P e → Q e) → IfErr r Q
+err_then T E (Ok t) P Q p then = tt
+err_then T E (Err e) P Q p then = then e p
 
 -- a shorter slice is possible too, unless it is of no instruction; then it does nothing
 shorter : (able : Bool) (k count most : ℕ) → suc k < count → able && (nat_le 1 count && nat_le count most) ≡ true → able && (nat_le 1 (suc k) && nat_le (suc k) most) ≡ true
@@ -260,14 +283,37 @@ shorter-steps : (m : Machine) (count ran : ℕ) → is_possible m 1 count ≡ tr
 shorter-steps m count zero possible less = no_steps (is_possible m 1 0)
 shorter-steps m count (suc k) possible less = slice-steps m (suc k) (shorter (is_runnable m 1) k count MOST_SLICE less possible)
 
--- a slice that is cut short is the slice of what ran
-pub slice-cut : (s : Inside) (m : Machine) (g g' : Guest) (typed : List Held) (count taken events ran : ℕ) → machine_of s ≡ m → s.guest ≡ Some g → typed ≡ s.typed.items → is_possible m 1 count ≡ true → ran < count → IsTurn (machine_with (machine_of s) g typed s.taken s.events) ran (machine_with (machine_of s) g' typed taken events) ran [] [] → machine_with (machine_of s) g' s.typed.items taken events ≡ after_input m (input.Slice 1 ran)
-slice-cut s m g g' typed count taken events ran view guest same possible less turn =
+-- what a slice did that is cut short: it is the slice of what ran, and one instruction more was to run
+pub record IsCut (m : Machine) (count ran : ℕ) (m' : Machine) : Type 0 where
+  pub after : m' ≡ after_input m (input.Slice 1 ran)
+  pub ran_is : instructions_in (input_steps m (input.Slice 1 ran)) ≡ ran
+  pub unmoved : moves_from m (input_steps m (input.Slice 1 ran)) ≡ []
+  pub last : instructions_in (input_steps m (input.Slice 1 count)) ≡ ran + 1
+
+pub slice-cut : (s : Inside) (m : Machine) (g g' : Guest) (typed : List Held) (count taken events ran : ℕ) → machine_of s ≡ m → s.guest ≡ Some g → typed ≡ s.typed.items → is_possible m 1 count ≡ true → ran < count → IsTurn (machine_with (machine_of s) g typed s.taken s.events) ran (machine_with (machine_of s) g' typed taken events) ran [] [] → instructions_in (steps_of count 1 (machine_with (machine_of s) g typed s.taken s.events)) ≡ ran + 1 → IsCut m count ran (machine_with (machine_of s) g' s.typed.items taken events)
+slice-cut s m g g' typed count taken events ran view guest same possible less turn last =
     let old = ap (λ (held : List Held). machine_with (machine_of s) g held s.taken s.events) same ∙ sym (machine_of-guest s g guest) ∙ view in
     let new = ap (λ (held : List Held). machine_with (machine_of s) g' held taken events) same in
     let t : IsTurn m ran (machine_with (machine_of s) g' s.typed.items taken events) ran [] [] = subst (λ (x : Machine). IsTurn x ran (machine_with (machine_of s) g' s.typed.items taken events) ran [] []) old (subst (λ (x : Machine). IsTurn (machine_with (machine_of s) g typed s.taken s.events) ran x ran [] []) new turn) in
-    sym (ap (after_steps m) (shorter-steps m count ran possible less) ∙ t.after)
+    let steps = shorter-steps m count ran possible less in
+    record {
+      after = sym (ap (after_steps m) steps ∙ t.after);
+      ran_is = ap instructions_in steps ∙ t.instructions;
+      unmoved = ap (moves_from m) steps ∙ t.moved;
+      last = ap instructions_in (slice-steps m count possible) ∙ subst (λ (x : Machine). instructions_in (steps_of count 1 x) ≡ ran + 1) old last;
+    }
 
+-- two facts of an error
+pub err_both : (T E : Type 0) (r : Result T E) (P Q : E → Type 0) → IfErr r P → IfErr r Q → IfErr r (λ e. P e × Q e)
+err_both T E (Ok t) P Q p q = tt
+err_both T E (Err e) P Q p q = (p, q)
+
+-- what is known of an answer, whether it is an error or not
+pub either : (T E : Type 0) (r : Result T E) (P : T → Type 0) (Q : E → Type 0) (R : Type 0) → IfOk r P → IfErr r Q → ((t : T) → P t → R) → ((e : E) → Q e → R) → R
+either T E (Ok t) P Q R p q ok err = ok t p
+either T E (Err e) P Q R p q ok err = err e q
+
+-- the error of a result, if it is one
 error_in : {T E : Type 0} → E → Result T E → E
 error_in d (Ok t) = d
 error_in d (Err e) = e

@@ -32,10 +32,12 @@ last_of : (a b : Bool) → a && b ≡ true → b ≡ true
 last_of true b is = is
 last_of false b is = cc
 
+-- the image that is there, or another
 some_image : Image → Option Image → Image
 some_image d None = d
 some_image d (Some i) = i
 
+-- equal images where both are there
 Some-injective : {i j : Image} → Some i ≡ Some j → i ≡ j
 unfolding some_image
 Some-injective {i} q = ap (some_image i) q
@@ -51,6 +53,7 @@ image-fits file image is = fits_by (is_image file) refl is
         subst (λ (i : Image). (WINDOW_START ≤ i.load) × (i.load + length i.body ≤ WINDOW_END)) (Some-injective q) both
     fits_by false e q = cc
 
+-- the bytes of the first window
 first_bytes : List Window → List ℕ
 first_bytes [] = []
 first_bytes (w ∷ ws) = w.bytes

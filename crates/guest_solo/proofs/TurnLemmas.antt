@@ -1,5 +1,5 @@
 -- What instructions, calls and ends of the process do to a machine of one process.
-use Rattle.std.proofs.Common.{◌≡◌, ℕ, zero, suc, ◌+◌, ◌-◌, ◌<◌, ◌++◌, ◌∙◌, Bool, true, false, List, [], ◌∷◌, length, map, take, drop, Option, Some, None, refl, sym, ap, subst, arith, add-zero, zero-add, cond, nat_le, ◌&&◌, if◌then◌else◌, unwrap_or}
+use Rattle.std.proofs.Common.{◌≡◌, ℕ, zero, suc, ◌+◌, ◌-◌, ◌<◌, ◌++◌, ◌∙◌, Bool, true, false, List, [], ◌∷◌, length, map, take, drop, Option, Some, None, refl, sym, ap, subst, arith, add-zero, zero-add, cond, nat_le, ◌&&◌, if◌then◌else◌, unwrap_or, Result, Ok, Err, OnErr}
 use Rattle.std.proofs.lemmas.Grind.{common_steps}
 use Rattle.std.proofs.lemmas.Bool.Decides.{nat_tests}
 use Rattle.std.proofs.lemmas.List.{drop-drop, length-drop}
@@ -120,10 +120,25 @@ turn-takes m g typed taken events queued k at n cpu space places live call q is 
     ∙ ap (λ (q : List Held). queue_with m (record { cpu = cpu; space = space; live = g.live }) (taken + n) q (events + 1)) (drop-drop n taken typed)
     ) refl refl (ap (λ (ps : List Src). move.Receives at ps ∷ []) (sym from))
 
+-- a read that is ready is one instruction
+pub takes-last : (m : Machine) (g : Guest) (typed : List Held) (taken events queued k at n : ℕ) → g.live ≡ true → instruction g.cpu (private_window g.space) ≡ Call → queued ≡ length typed - taken → IsRequest (process_of g) queued (request.Takes at n) → instructions_in (steps_of (suc k) 1 (machine_with m g typed taken events)) ≡ 1
+takes-last m g typed taken events queued k at n live call q is =
+    let M = machine_with m g typed taken events in
+    let asked = subst (λ (n' : ℕ). IsRequest (process_of g) n' (request.Takes at n)) q is in
+    ap instructions_in (steps_of-event M k _ (next_of-call m g typed taken events (Takes at n) live call (asked M (has_console m g typed taken events))) refl)
+
+-- so is a write
+pub writes-last : (m : Machine) (g : Guest) (typed : List Held) (taken events queued k at n : ℕ) → g.live ≡ true → instruction g.cpu (private_window g.space) ≡ Call → queued ≡ length typed - taken → IsRequest (process_of g) queued (request.Writes at n) → instructions_in (steps_of (suc k) 1 (machine_with m g typed taken events)) ≡ 1
+writes-last m g typed taken events queued k at n live call q is =
+    let M = machine_with m g typed taken events in
+    let asked = subst (λ (n' : ℕ). IsRequest (process_of g) n' (request.Writes at n)) q is in
+    ap instructions_in (steps_of-event M k _ (next_of-call m g typed taken events (Writes at n) live call (asked M (has_console m g typed taken events))) refl)
+
 -- bytes that lie whole in a window are as many as were asked for
 length-whole : (from at n : ℕ) (space bytes : List ℕ) → (if nat_le from at && nat_le (at + n) (from + length space) then Some (take n (drop (at - from) space)) else None) ≡ Some bytes → length bytes ≡ n
 length-whole from at n space bytes is = grind (arith, common_steps, nat_tests)
 
+-- so are bytes that were read from the private window
 length-bytes_at : (space bytes : List ℕ) (at n : ℕ) → bytes_at (private_window space) at n ≡ Some bytes → length bytes ≡ n
 length-bytes_at space bytes at n is = length-whole _ at n space bytes is
 
@@ -192,3 +207,18 @@ turn-cut m g g' g'' typed taken taken' events events' n runs live same guest too
     let there = ap (λ (h : Guest). machine_with m h typed taken events) guest in
     let as_is = ap (λ (t : ℕ). machine_with m g'' typed t events') took ∙ ap (λ (e : ℕ). machine_with m g'' typed taken e) counted ∙ there in
     subst (λ (x : Machine). IsTurn M n x n [] []) (sym as_is) (subst (λ (r : ℕ). IsTurn M n (machine_with m g' typed taken events) r [] []) (add-zero n) all)
+
+-- what the steps of a slice are, whatever they are
+turn_of : (m : Machine) (count ran : ℕ) → instructions_in (steps_of count 1 m) ≡ ran → IsTurn m count (after_steps m (steps_of count 1 m)) ran (outputs_from m.events (steps_of count 1 m)) (moves_from m (steps_of count 1 m))
+turn_of m count ran is = record { after = refl; instructions = is; written = refl; moved = refl }
+
+-- instructions of a live guest in front of one more
+pub last-behind : (m : Machine) (g g' : Guest) (typed : List Held) (taken events n k count : ℕ) → RunsOn n g.cpu g.space g'.cpu g'.space → g.live ≡ true → g'.live ≡ g.live → n + k ≡ count → instructions_in (steps_of k 1 (machine_with m g' typed taken events)) ≡ 1 → instructions_in (steps_of count 1 (machine_with m g typed taken events)) ≡ n + 1
+last-behind m g g' typed taken events n k count runs live same is last =
+    let turn = turn-behind m g g' typed taken events n k count _ 1 _ _ runs live same is (turn_of (machine_with m g' typed taken events) k 1 last) in
+    turn.instructions
+
+-- what holds anyway holds of an error
+pub always : (T E : Type 0) (r : Result T E) (P : Type 0) → P → OnErr r P
+always T E (Ok t) P p = tt
+always T E (Err e) P p = p

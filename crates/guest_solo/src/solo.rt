@@ -125,9 +125,9 @@ impl Solo {
         ensures booted { IsErrOf result MachineError.Booted ↔ IsTrue (has_process self.old) }
         ensures no_name { IsErrOf result MachineError.NoName ↔
             ((has_process self.old ≡ false) × IsNone (find_file self.old name.now)) }
-        ensures not_image { IsErrOf result MachineError.NotImage →
-            (has_process self.old ≡ false) × IsTrue (is_some (find_file self.old name.now)) ×
-            IsRefused self.old (input.Boot name.now) }
+        ensures not_image { IsErrOf result MachineError.NotImage ↔
+            ((has_process self.old ≡ false) × IsTrue (is_some (find_file self.old name.now)) ×
+            IsRefused self.old (input.Boot name.now)) }
         ensures not_not_booted { result ≢ Err MachineError.NotBooted }
         ensures err { OnErr result (self.new ≡ self.old) }
     {
@@ -191,8 +191,8 @@ impl Solo {
         }
     }
 
-    /// Runs a slice of the process. Where memory runs out, some instructions may have run, and no
-    /// event was made.
+    /// Runs a slice of the process. Where memory runs out, all of the slice but its last
+    /// instruction has run, and no event was made.
     pub fn run_slice<L: Ledger>(
         &mut self,
         count: u32,
@@ -214,14 +214,22 @@ impl Solo {
         ensures some { IfOk result (λ turn. 1 ≤ turn.ran) }
         ensures within { IfOk result (λ turn. turn.ran ≤ count) }
         ensures events { self.new.events ≤ self.old.events + 1 }
-        ensures steps { IfOk result (λ turn. steps.new ≤ steps.old + turn.ran + 1) }
+        ensures steps { steps.new ≤ steps.old +
+            instructions_in (input_steps self.old (input.Slice 1 count)) + 1 }
 
-        // Where none ran, the machine is as it was.
+        // Memory ran out before the last instruction. Where it was the only one, the machine is as
+        // it was.
         ensures cut { IfErr result (λ cut.
             self.new ≡ after_input self.old (input.Slice 1 cut.ran)) }
+        ensures cut_ran { IfErr result (λ cut.
+            instructions_in (input_steps self.old (input.Slice 1 cut.ran)) ≡ cut.ran) }
+        ensures cut_moved { IfErr result (λ cut.
+            moves_from self.old (input_steps self.old (input.Slice 1 cut.ran)) ≡ []) }
         ensures cut_quiet { OnErr result (self.new.events ≡ self.old.events) }
         ensures cut_within { IfErr result (λ cut. cut.ran < count) }
         ensures cut_steps { IfErr result (λ cut. steps.new ≤ steps.old + cut.ran + 1) }
+        ensures cut_last { IfErr result (λ cut.
+            instructions_in (input_steps self.old (input.Slice 1 count)) ≡ cut.ran + 1) }
 
         ensures at_most { steps.new ≤ steps.old + count }
     {

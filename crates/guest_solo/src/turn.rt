@@ -5,6 +5,8 @@ ghost use Rattle.arn_model.specs.Machine.{Machine};
 ghost use Rattle.arn_model.specs.Step.{values};
 ghost use Rattle.arn_model.specs.Instruction.{instruction, Call};
 ghost use Rattle.arn_model.specs.Call.{returned};
+ghost use Rattle.arn_model.specs.Slice.{steps_of};
+ghost use Rattle.arn_model.specs.Run.{instructions_in};
 ghost use Rattle.guest_solo.specs.Turn.{machine_with, IsTurn};
 
 use crate::burst::{Burst, run_instructions};
@@ -27,8 +29,7 @@ pub struct Turn {
     pub moved: Option<Move>,
 }
 
-/// Memory ran out at the call before which the process stands now, with so many instructions of
-/// the slice behind it.
+/// Memory ran out before the last instruction of a slice, with so many behind it.
 #[derive(Clone, Copy, Debug, PartialEq, Eq, Error)]
 #[error("out of memory after {ran} instructions of a slice")]
 pub struct CutShort {
@@ -64,6 +65,9 @@ pub fn take_turn<L: Ledger>(
     ensures cut_quiet { OnErr result (events.new ≡ events.old) }
     ensures cut_within { IfErr result (λ cut. cut.ran < count) }
     ensures cut_steps { IfErr result (λ cut. steps.new ≤ steps.old + cut.ran + 1) }
+    ensures cut_last { IfErr result (λ cut. (m : Machine) → instructions_in
+        (steps_of count 1 (machine_with m guest.old typed.now taken.old events.old)) ≡
+        cut.ran + 1) }
 
     ensures at_most { steps.new ≤ steps.old + count }
 {
@@ -117,6 +121,8 @@ fn serve(
     ensures err_guest { OnErr result (guest.new ≡ guest.old) }
     ensures err_taken { OnErr result (taken.new ≡ taken.old) }
     ensures err_events { OnErr result (events.new ≡ events.old) }
+    ensures err_last { OnErr result ((m : Machine) (count : ℕ) → instructions_in
+        (steps_of (suc count) 1 (machine_with m guest.old typed.now taken.old events.old)) ≡ 1) }
 {
     match requested(guest, (typed.len() - *taken) as u64) {
         Request::Waits => Ok(Turn {

@@ -4,7 +4,7 @@ use Rattle.guest_mem.specs.Windows.{private_window}
 use Rattle.arn_model.specs.Step.{values}
 use Rattle.arn_base.specs.declared.machine.Cpu.{Cpu}
 use Rattle.arn_model.specs.Call.{returned}
-use Rattle.guest_solo.proofs.TurnLemmas.{turn-takes, turn-writes}
+use Rattle.guest_solo.proofs.TurnLemmas.{turn-takes, turn-writes, takes-last, writes-last, always}
 use Rattle.guest_solo.proofs.turn.serve.Goals as goal
 
 pub returns-in_ok-output-in-Writes-clause-turn : goal.returns-in_ok-output-in-Writes-clause-turn
@@ -22,3 +22,15 @@ returns-in_ok-receive-in-Takes-clause-turn c = λ m count.
     let from = subst (λ (n : ℕ). c.in_ok-places-in-Takes.places ≡ map (λ byte. byte.origin) (take n (drop taken typed))) cut c.in_ok-places-in-Takes.ensures in
     rw (c.one_call-in-Takes.ensures.ran, c.one_call-in-Takes.ensures.output, c.one_call-in-Takes.ensures.moved, c.receive.ensures.live)
     (turn-takes m g typed taken c.args.events.now _ count _ _ c.finish-in-Takes.new.cpu c.receive.new.guest.space c.in_ok-places-in-Takes.places c.requires.live c.requires.call refl c.in-Takes.ensures.request (c.finish-in-Takes.ensures ∙ ap (λ (cpu : Cpu). returned cpu c.in-Takes.count) c.receive.ensures.cpu) put from)
+
+pub returns-in_err-places-in-Takes-clause-err_last : goal.returns-in_err-places-in-Takes-clause-err_last
+returns-in_err-places-in-Takes-clause-err_last c =
+    always _ _ c.from_residual.result _ (λ m count. takes-last m c.args.guest.now c.args.typed.now c.args.taken.now c.args.events.now _ count _ _ c.requires.live c.requires.call refl c.in-Takes.ensures.request)
+
+pub returns-in_err-receive-in-Takes-clause-err_last : goal.returns-in_err-receive-in-Takes-clause-err_last
+returns-in_err-receive-in-Takes-clause-err_last c =
+    always _ _ c.from_residual-in_err-receive-in-Takes.result _ (λ m count. takes-last m c.args.guest.now c.args.typed.now c.args.taken.now c.args.events.now _ count _ _ c.requires.live c.requires.call refl c.in-Takes.ensures.request)
+
+pub returns-in_err-output-in-Writes-clause-err_last : goal.returns-in_err-output-in-Writes-clause-err_last
+returns-in_err-output-in-Writes-clause-err_last c =
+    always _ _ c.from_residual-in_err-output-in-Writes.result _ (λ m count. writes-last m c.args.guest.now c.args.typed.now c.args.taken.now c.args.events.now _ count _ _ c.requires.live c.requires.call refl c.in-Writes.ensures.request)

@@ -2,7 +2,7 @@ use Rattle.std.proofs.Common.{◌≡◌, ◌-◌, ℕ, suc, ◌∙◌, arith, su
 use Rattle.rv64_core.specs.declared.outcome.Outcome.{Outcome}
 use Rattle.arn_model.specs.Instruction.{Effect}
 use Rattle.guest_solo.specs.Burst.{StopsAt}
-use Rattle.guest_solo.proofs.TurnLemmas.{turn-none, turn-behind, turn-cut, turn-faults}
+use Rattle.guest_solo.proofs.TurnLemmas.{turn-none, turn-behind, turn-cut, turn-faults, last-behind}
 use Rattle.guest_solo.proofs.turn.take_turn.Goals as goal
 
 -- what stopped the instructions, where that is known
@@ -34,3 +34,10 @@ returns-in-Err-clause-cut g c = λ m.
     let b = c.run_instructions-ran.ensures in
     let e = c.in-Err.ensures in
     turn-cut m c.args.guest.now c.run_instructions-ran.new.guest _ _ _ _ _ _ _ b.runs c.requires.live b.live e.err_guest e.err_taken e.err_events
+
+pub returns-in-Err-clause-cut_last : goal.returns-in-Err-clause-cut_last
+returns-in-Err-clause-cut_last g c = λ m.
+    let b = c.run_instructions-ran.ensures in
+    let at_call = stops_by _ _ _ _ _ c.in-Call.is b.stops in
+    let left : ℕ = c.args.count - c.run_instructions-ran.result.ran - 1 in
+    last-behind m c.args.guest.now c.run_instructions-ran.new.guest _ _ _ _ (suc left) _ b.runs c.requires.live b.live (omega (arith, at_call.0)) (c.in-Err.ensures.err_last m left)
