@@ -1,10 +1,10 @@
 -- How many events steps of process 1 make, and what lists of steps behind one another write.
-use Rattle.std.proofs.Common.{◌≡◌, ℕ, zero, suc, ◌+◌, ◌++◌, ◌∙◌, Bool, true, false, cond, List, [], ◌∷◌, Option, Some, None, refl, sym, ap, subst, append_assoc, take, IfSome}
+use Rattle.std.proofs.Common.{◌≡◌, ℕ, zero, suc, ◌+◌, ◌++◌, ◌∙◌, Bool, true, false, cond, List, [], ◌∷◌, Option, Some, None, refl, sym, ap, append_assoc, take, IfSome}
 use Rattle.arn_base.specs.Window.{Window}
 use Rattle.arn_model.specs.declared.history.Output.{Output}
 use Rattle.arn_model.specs.Machine.{Machine, Process, Life, Live, Gone, process, with_windows}
 use Rattle.arn_model.specs.Instruction.{Effect, Next, Call, End}
-use Rattle.arn_model.specs.Step.{Step, is_event, next_event, event_counted, values}
+use Rattle.arn_model.specs.Step.{Step, is_event, next_event, values}
 use Rattle.arn_model.specs.Call.{CallOutcome, Waits, Answers, Ends, Takes, Writes, called, call_step, with_result, without_queued}
 use Rattle.arn_model.specs.Slice.{stands_at, effect_step, step_if_live, step_if_made, next_step, steps_of, step_then, unless_ended, after_steps}
 use Rattle.arn_model.specs.Run.{outputs_from, event_output}

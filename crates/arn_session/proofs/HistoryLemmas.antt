@@ -1,5 +1,5 @@
 -- One more input of a history.
-use Rattle.std.proofs.Common.{◌≡◌, ℕ, zero, suc, ◌+◌, ◌<◌, ◌≤◌, ◌++◌, ◌∙◌, Bool, true, false, cond, List, [], ◌∷◌, length, Option, Some, None, refl, sym, ap, subst, arith, append_assoc, length-append, slice_get}
+use Rattle.std.proofs.Common.{◌≡◌, ℕ, ◌+◌, ◌≤◌, ◌++◌, ◌∙◌, Bool, true, false, cond, List, [], ◌∷◌, length, Option, Some, None, refl, sym, ap, subst, arith, append_assoc, length-append, slice_get}
 use Rattle.arn_model.specs.declared.history.Held.{Held}
 use Rattle.arn_model.specs.declared.history.Input.{Input}
 use Rattle.arn_model.specs.declared.history.Input.TheVariants as input

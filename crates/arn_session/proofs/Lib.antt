@@ -9,3 +9,4 @@ pub mod RunLemmas
 pub mod SizeLemmas
 pub mod ToldLemmas
 pub mod AskLemmas
+pub mod CutLemmas

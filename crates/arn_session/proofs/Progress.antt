@@ -20,7 +20,7 @@ pub record HaveAnswers (lines : List (List ℕ)) (held holds : Option (List ℕ)
   pub printed : holds ≡ option_map (λ before. before ++ transcript [] readings) held
   pub executed : steps_after ≤ steps_before + total_cost [] readings
 
-same_held : (held : Option (List ℕ)) → held ≡ option_map (λ before. before ++ []) held
+pub same_held : (held : Option (List ℕ)) → held ≡ option_map (λ before. before ++ []) held
 same_held None = refl
 same_held (Some x) = ap (λ (y : List ℕ). Some y) (sym (append-nil x))
 
@@ -71,17 +71,29 @@ Progress-start left held steps = record {
   answers = HaveAnswers-none held steps;
 }
 
+-- a line with its LF behind other bytes
+line_split : (seen line rest : List ℕ) → (seen ++ (line ++ line_feed ∷ [])) ++ rest ≡ seen ++ (line ++ (line_feed ∷ rest))
+line_split seen line rest = append_assoc seen (line ++ line_feed ∷ []) rest ∙ ap (λ (x : List ℕ). seen ++ x) (append_assoc line (line_feed ∷ []) rest)
+
+-- the lines of a text whose next line with its LF was read
+pub lines_more : (l0 l1 l2 h0 h1 : Option (List ℕ)) (s0 s1 : ℕ) (r r' : ReaderState) (history : List Input) (kept : List ℕ) (p : Progress l0 l1 h0 h1 s0 s1 r history) (read : ReadsLine (line_feed ∷ []) r r' l1 l2 kept) (rest : List ℕ) → lines_of ((p.seen ++ (read.line ++ line_feed ∷ [])) ++ rest) ≡ (p.lines ++ read.line ∷ []) ++ lines_of rest
+lines_more l0 l1 l2 h0 h1 s0 s1 r r' history kept p read rest =
+    ap lines_of (line_split p.seen read.line rest) ∙ p.lines_are (read.line ++ (line_feed ∷ rest)) ∙ ap (λ (lines : List (List ℕ)). p.lines ++ lines) (lines_of-line read.line rest read.is_one) ∙ sym (append_assoc p.lines (read.line ∷ []) (lines_of rest))
+
+pub whole_lines_more : (l0 l1 l2 h0 h1 : Option (List ℕ)) (s0 s1 : ℕ) (r r' : ReaderState) (history : List Input) (kept : List ℕ) (p : Progress l0 l1 h0 h1 s0 s1 r history) (read : ReadsLine (line_feed ∷ []) r r' l1 l2 kept) (rest : List ℕ) → whole_lines_of ((p.seen ++ (read.line ++ line_feed ∷ [])) ++ rest) ≡ (p.lines ++ read.line ∷ []) ++ whole_lines_of rest
+whole_lines_more l0 l1 l2 h0 h1 s0 s1 r r' history kept p read rest =
+    ap whole_lines_of (line_split p.seen read.line rest) ∙ p.whole_lines_are (read.line ++ (line_feed ∷ rest)) ∙ ap (λ (lines : List (List ℕ)). p.lines ++ lines) (whole_lines_of-line read.line rest read.is_one) ∙ sym (append_assoc p.lines (read.line ∷ []) (whole_lines_of rest))
+
 -- one more line with its LF was read and answered
 pub Progress-line : (l0 l1 l2 h0 h1 h2 : Option (List ℕ)) (s0 s1 s2 : ℕ) (r r' : ReaderState) (before after : List Input) (kept : List ℕ) → Progress l0 l1 h0 h1 s0 s1 r before → ReadsLine (line_feed ∷ []) r r' l1 l2 kept → AnswersLine kept before after h1 h2 s1 s2 → Progress l0 l2 h0 h2 s0 s2 r' after
 Progress-line l0 l1 l2 h0 h1 h2 s0 s1 s2 r r' before after kept p read answered =
     let more = read.line ++ line_feed ∷ [] in
-    let split : (rest : List ℕ) → (p.seen ++ more) ++ rest ≡ p.seen ++ (read.line ++ (line_feed ∷ rest)) = λ rest. append_assoc p.seen more rest ∙ ap (λ (x : List ℕ). p.seen ++ x) (append_assoc read.line (line_feed ∷ []) rest) in
     record {
       seen = p.seen ++ more;
       lines = p.lines ++ read.line ∷ [];
       used = Uses-append p.seen more fresh_reader r r' l0 l1 l2 p.used read.used;
-      lines_are = λ rest. ap lines_of (split rest) ∙ p.lines_are (read.line ++ (line_feed ∷ rest)) ∙ ap (λ (lines : List (List ℕ)). p.lines ++ lines) (lines_of-line read.line rest read.is_one) ∙ sym (append_assoc p.lines (read.line ∷ []) (lines_of rest));
-      whole_lines_are = λ rest. ap whole_lines_of (split rest) ∙ p.whole_lines_are (read.line ++ (line_feed ∷ rest)) ∙ ap (λ (lines : List (List ℕ)). p.lines ++ lines) (whole_lines_of-line read.line rest read.is_one) ∙ sym (append_assoc p.lines (read.line ∷ []) (whole_lines_of rest));
+      lines_are = lines_more l0 l1 l2 h0 h1 s0 s1 r r' before kept p read;
+      whole_lines_are = whole_lines_more l0 l1 l2 h0 h1 s0 s1 r r' before kept p read;
       answers = HaveAnswers-push p.lines h0 h1 h2 s0 s1 s2 before after read.line kept p.answers read.is_kept answered;
     }
 
@@ -91,15 +103,15 @@ come_nothing ahead None none = refl
 come_nothing ahead (Some rest) none = ap (λ (x : List ℕ). Some (x ++ rest)) none
 
 -- where no byte is ahead, those that were used are those that were taken
-are_taken : (bytes : List ℕ) (reader : ReaderState) (l0 l : Option (List ℕ)) → Uses bytes fresh_reader reader l0 l → reader.ahead ≡ [] → l0 ≡ option_map (λ rest. bytes ++ rest) l
+pub are_taken : (bytes : List ℕ) (reader : ReaderState) (l0 l : Option (List ℕ)) → Uses bytes fresh_reader reader l0 l → reader.ahead ≡ [] → l0 ≡ option_map (λ rest. bytes ++ rest) l
 are_taken bytes reader l0 l used none =
     sym (come_nothing [] l0 refl) ∙ used.come ∙ ap (λ (o : Option (List ℕ)). option_map (λ rest. bytes ++ rest) o) (come_nothing reader.ahead l none)
 
-count_taken : (bytes : List ℕ) (reader : ReaderState) (l0 l : Option (List ℕ)) → Uses bytes fresh_reader reader l0 l → reader.ahead ≡ [] → reader.taken ≡ length bytes
+pub count_taken : (bytes : List ℕ) (reader : ReaderState) (l0 l : Option (List ℕ)) → Uses bytes fresh_reader reader l0 l → reader.ahead ≡ [] → reader.taken ≡ length bytes
 count_taken bytes reader l0 l used none = omega (arith, used.counted, ap length none)
 
 -- the text was what was taken
-text_taken : (l0 l : Option (List ℕ)) (bytes : List ℕ) → l0 ≡ option_map (λ rest. bytes ++ rest) l → IfSome l (λ rest. rest ≡ []) → IfSome l0 (λ text. (l ≡ Some []) × (text ≡ bytes))
+pub text_taken : (l0 l : Option (List ℕ)) (bytes : List ℕ) → l0 ≡ option_map (λ rest. bytes ++ rest) l → IfSome l (λ rest. rest ≡ []) → IfSome l0 (λ text. (l ≡ Some []) × (text ≡ bytes))
 text_taken l0 None bytes come none =
     let nothing : Option (List ℕ) = None in
     subst (λ (o : Option (List ℕ)). IfSome o (λ text. (nothing ≡ Some []) × (text ≡ bytes))) (sym come) tt
@@ -133,7 +145,7 @@ lines_of-none : (line : List ℕ) → length line ≡ 0 → lines_of (line ++ []
 lines_of-none [] none = refl
 lines_of-none (byte ∷ line) none = absurd (omega (arith, none))
 
-lines_of-one : (line : List ℕ) → IsOneLine line → length line ≢ 0 → lines_of (line ++ []) ≡ line ∷ []
+pub lines_of-one : (line : List ℕ) → IsOneLine line → length line ≢ 0 → lines_of (line ++ []) ≡ line ∷ []
 lines_of-one [] one some = absurd (some refl)
 lines_of-one (byte ∷ line) one some = ap lines_of (append-nil (byte ∷ line)) ∙ lines_of-last byte line one
 

@@ -1,5 +1,5 @@
 -- A run, slice by slice.
-use Rattle.std.proofs.Common.{◌≡◌, ◌≢◌, ◌⊎◌, ℕ, zero, suc, ◌+◌, ◌-◌, ◌<◌, ◌≤◌, ◌++◌, ◌∙◌, Bool, true, false, cond, List, [], ◌∷◌, length, min, Option, Some, None, refl, sym, ap, subst, arith, append_assoc, append-nil, length-append, inl, inr, Result, Ok, Err, OnOk}
+use Rattle.std.proofs.Common.{◌≡◌, ◌≢◌, ◌⊎◌, ℕ, zero, suc, ◌+◌, ◌-◌, ◌<◌, ◌≤◌, ◌++◌, ◌∙◌, cond, List, [], ◌∷◌, length, min, refl, sym, ap, subst, arith, append_assoc, append-nil, length-append, inl, inr, Result, Ok, Err, OnOk}
 use Rattle.std.proofs.lemmas.List.Sums.{sum_by-append}
 use Rattle.std.proofs.lemmas.Grind.{flat_map-append}
 use Rattle.arn_model.specs.declared.history.Input.{Input}
@@ -17,7 +17,7 @@ use Rattle.arn_lines.specs.Texts.{out_text, ran_text}
 use Rattle.arn_session.specs.Answers.{run_answer}
 use Rattle.arn_session.specs.Cost.{run_cost}
 use Rattle.arn_session.specs.Kept.{IsKept, Gives}
-use Rattle.arn_session.specs.Running.{slice_within, slice_then, if_ready, slices_from, slices_of, end_of, outputs_text, run_text}
+use Rattle.arn_session.specs.Running.{slice_within, if_ready, slices_from, slices_of, end_of, outputs_text, run_text}
 use Rattle.arn_session.proofs.HistoryLemmas.{steps_from-append, after_steps-append, kept-input}
 use Rattle.arn_session.proofs.EventLemmas.{events_after, events_after-append, outputs_from-append, events-if}
 
@@ -112,15 +112,15 @@ pub record IsTurned (inputs0 : List Input) (m0 : Machine) (count : ℕ) (text0 :
   pub so_far : SoFar inputs0 m0 count text0 steps0 inputs m left text steps
 
 -- one more slice of so many instructions keeps the machine beside the inputs
-pub kept-slice : (inputs : List Input) (m : Machine) (left slice : ℕ) (reserved inputs' : List Input) (m' : Machine) → IsKept inputs m → reserved ≡ inputs → inputs' ≡ reserved ++ input.Slice 1 slice ∷ [] → m' ≡ after_input m (input.Slice 1 slice) → m'.events ≤ m.events + 1 → IsKept inputs' m'
-kept-slice inputs m left slice reserved inputs' m' kept same is leads few =
+pub kept-slice : (inputs : List Input) (m : Machine) (slice : ℕ) (reserved inputs' : List Input) (m' : Machine) → IsKept inputs m → reserved ≡ inputs → inputs' ≡ reserved ++ input.Slice 1 slice ∷ [] → m' ≡ after_input m (input.Slice 1 slice) → m'.events ≤ m.events + 1 → IsKept inputs' m'
+kept-slice inputs m slice reserved inputs' m' kept same is leads few =
     kept-input inputs m (input.Slice 1 slice) inputs' m' kept (is ∙ ap (λ (xs : List Input). xs ++ input.Slice 1 slice ∷ []) same) (sym leads) few
 
 pub SoFar-turn : (inputs0 : List Input) (m0 : Machine) (count : ℕ) (text0 : List ℕ) (steps0 : ℕ) (inputs : List Input) (m : Machine) (left : ℕ) (text : List ℕ) (steps slice : ℕ) (reserved inputs' : List Input) (m' : Machine) (left' : ℕ) (text' : List ℕ) (steps' ran : ℕ) (outputs : List Output) → IsKept inputs m → SoFar inputs0 m0 count text0 steps0 inputs m left text steps → slice ≡ min left MOST_SLICE → standing m ≡ standing.CanGoOn → 0 < left → reserved ≡ inputs → inputs' ≡ reserved ++ input.Slice 1 slice ∷ [] → m' ≡ after_input m (input.Slice 1 slice) → ran ≡ instructions_in (input_steps m (input.Slice 1 slice)) → outputs ≡ outputs_from m.events (input_steps m (input.Slice 1 slice)) → 1 ≤ ran → ran ≤ slice → m'.events ≤ m.events + 1 → left' ≡ left - ran → text' ≡ text ++ outputs_text outputs → steps' ≤ steps + ran + 1 → IsTurned inputs0 m0 count text0 steps0 inputs' m' left' text' steps'
 SoFar-turn inputs0 m0 count text0 steps0 inputs m left text steps slice reserved inputs' m' left' text' steps' ran outputs kept so_far is_slice able some same is_inputs is_m is_ran is_outputs one within few is_left is_text is_steps =
     let at : (n : ℕ) → Input = λ n. input.Slice 1 n in
     record {
-      kept = kept-slice inputs m left slice reserved inputs' m' kept same is_inputs is_m few;
+      kept = kept-slice inputs m slice reserved inputs' m' kept same is_inputs is_m few;
       so_far =
           SoFar-slice inputs0 m0 count text0 steps0 inputs m left text steps inputs' m' left' text' steps' ran outputs so_far able some
           (is_inputs ∙ ap (λ (xs : List Input). xs ++ at slice ∷ []) same ∙ ap (λ (n : ℕ). inputs ++ at n ∷ []) is_slice)
@@ -129,6 +129,44 @@ SoFar-turn inputs0 m0 count text0 steps0 inputs m left text steps slice reserved
           (is_outputs ∙ ap (λ (n : ℕ). outputs_from m.events (input_steps m (at n))) is_slice)
           one (omega (arith, within, is_slice)) is_left is_text is_steps;
     }
+
+-- slices cost no more than they do with others behind them
+run_cost-front : (m : Machine) (slices more : List Input) → run_cost m slices ≤ run_cost m (slices ++ more)
+run_cost-front m slices more =
+    let old : List Step = steps_from m slices in
+    let rest : List Step = steps_from (after_steps m old) more in
+    let all : instructions_in (steps_from m (slices ++ more)) ≡ instructions_in (old ++ rest) = ap instructions_in (steps_from-append m slices more) in
+    let counts : instructions_in (old ++ rest) ≡ instructions_in old + instructions_in rest = sum_by-append (λ (x : Step). cond (is_instruction x.deed) 1 0) old rest in
+    omega (arith, all, counts, length-append slices more)
+
+-- between two slices no more was executed than the run costs
+pub SoFar-within : (inputs0 : List Input) (m0 : Machine) (count : ℕ) (text0 : List ℕ) (steps0 : ℕ) (inputs : List Input) (m : Machine) (left : ℕ) (text : List ℕ) (steps : ℕ) → SoFar inputs0 m0 count text0 steps0 inputs m left text steps → steps ≤ steps0 + run_cost m0 (slices_of m0 count)
+SoFar-within inputs0 m0 count text0 steps0 inputs m left text steps so_far =
+    let more : List Input = slices_from so_far.most m left in
+    let all : run_cost m0 (slices_of m0 count) ≡ run_cost m0 (so_far.slices ++ more) = ap (run_cost m0) so_far.goes_on in
+    omega (arith, so_far.executed, all, run_cost-front m0 so_far.slices more)
+
+-- nor in the next slice
+pub SoFar-pending : (inputs0 : List Input) (m0 : Machine) (count : ℕ) (text0 : List ℕ) (steps0 : ℕ) (inputs : List Input) (m : Machine) (left slice : ℕ) (text : List ℕ) (steps steps' : ℕ) → SoFar inputs0 m0 count text0 steps0 inputs m left text steps → slice ≡ min left MOST_SLICE → standing m ≡ standing.CanGoOn → 0 < left → steps' ≤ steps + instructions_in (input_steps m (input.Slice 1 slice)) + 1 → steps' ≤ steps0 + run_cost m0 (slices_of m0 count)
+SoFar-pending inputs0 m0 count text0 steps0 inputs m left slice text steps steps' so_far is_slice able some is_steps =
+    let s : Input = slice_within left in
+    let old : List Step = steps_from m0 so_far.slices in
+    let new : List Step = input_steps m s in
+    let room = above so_far.most (omega (arith, so_far.enough, some)) in
+    let enough : left ≤ suc room.0 = omega (arith, so_far.enough, room.1) in
+    let more : List Input = slices_from room.0 (after_input m s) (left - instructions_in new) in
+    let goes_on : slices_of m0 count ≡ (so_far.slices ++ s ∷ []) ++ more =
+    so_far.goes_on
+    ∙ ap (λ (k : ℕ). so_far.slices ++ slices_from k m left) room.1
+    ∙ ap (λ (xs : List Input). so_far.slices ++ xs) (slices-next room.0 m left able some enough)
+    ∙ sym (append_assoc so_far.slices (s ∷ []) more) in
+    let all : run_cost m0 (slices_of m0 count) ≡ run_cost m0 ((so_far.slices ++ s ∷ []) ++ more) = ap (run_cost m0) goes_on in
+    let front : run_cost m0 (so_far.slices ++ s ∷ []) ≤ run_cost m0 ((so_far.slices ++ s ∷ []) ++ more) = run_cost-front m0 (so_far.slices ++ s ∷ []) more in
+    let pushed : instructions_in (steps_from m0 (so_far.slices ++ s ∷ [])) ≡ instructions_in (old ++ new) = ap instructions_in (steps_from-push m0 so_far.slices s m so_far.leads) in
+    let counts : instructions_in (old ++ new) ≡ instructions_in old + instructions_in new = sum_by-append (λ (x : Step). cond (is_instruction x.deed) 1 0) old new in
+    let one_more : length (so_far.slices ++ s ∷ []) ≡ length so_far.slices + 1 = length-append so_far.slices (s ∷ []) in
+    let same : instructions_in (input_steps m (input.Slice 1 slice)) ≡ instructions_in new = ap (λ (n : ℕ). instructions_in (input_steps m (input.Slice 1 n))) is_slice in
+    omega (arith, so_far.executed, is_steps, all, front, pushed, counts, one_more, same)
 
 -- no slice is taken where nothing is left of the budget, and where no process can go on
 if_ready-none : (s : Standing) (left : ℕ) (m : Machine) (rest : Machine → ℕ → List Input) → (left ≡ 0) ⊎ (s ≢ standing.CanGoOn) → if_ready s left m rest ≡ []

@@ -1,5 +1,5 @@
 -- How much the lines of a session hold.
-use Rattle.std.proofs.Common.{◌≡◌, ◌⊎◌, ℕ, zero, suc, ◌+◌, ◌*◌, ◌<◌, ◌≤◌, ◌^◌, ◌++◌, ◌∙◌, List, [], ◌∷◌, length, refl, sym, ap, subst, arith, length-append, inl, inr, codes, true}
+use Rattle.std.proofs.Common.{◌≡◌, ℕ, ◌≤◌, ◌++◌, List, [], ◌∷◌, length, ap, arith, length-append, inl, inr, codes, true}
 use Rattle.std.proofs.lemmas.Bool.Decides.{nat_tests}
 use Rattle.arn_model.specs.Run.{is_name}
 use Rattle.arn_lines.specs.declared.line.Line.{Line}
@@ -7,7 +7,7 @@ use Rattle.arn_lines.specs.declared.line.Line.TheVariants as line
 use Rattle.arn_lines.specs.declared.line.Reading.{Reading}
 use Rattle.arn_lines.specs.declared.line.Reading.TheVariants.{PassedOver, Unreadable, Says}
 use Rattle.arn_lines.specs.Words.{IsHex, IsBytes, IsName}
-use Rattle.arn_lines.specs.Grammar.{IsLine, IsFile, IsType, Reads, space}
+use Rattle.arn_lines.specs.Grammar.{IsLine, Reads, space}
 use Rattle.arn_session.specs.Sizes.{Fits, LineFits}
 
 -- hex text is at least as long as its bytes

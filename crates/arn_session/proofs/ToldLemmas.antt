@@ -1,5 +1,5 @@
 -- What is kept of moves and instructions, input by input.
-use Rattle.std.proofs.Common.{◌≡◌, ℕ, ◌+◌, ◌*◌, ◌^◌, ◌≤◌, ◌++◌, ◌∙◌, Bool, true, false, cond, List, [], ◌∷◌, length, min, Option, Some, None, option_to_list, refl, sym, ap, subst, arith, append_assoc, length-append, slice_get}
+use Rattle.std.proofs.Common.{◌≡◌, ℕ, ◌+◌, ◌^◌, ◌≤◌, ◌++◌, ◌∙◌, Bool, true, false, cond, List, [], ◌∷◌, length, Option, Some, None, option_to_list, refl, sym, ap, subst, arith, append_assoc, length-append, slice_get}
 use Rattle.std.proofs.lemmas.List.Sums.{sum_by-append}
 use Rattle.arn_model.specs.declared.history.Held.{Held}
 use Rattle.arn_model.specs.declared.history.Input.{Input}
@@ -101,8 +101,8 @@ told-typed inputs moves instructions m bytes inputs' moves' bytes' told leads is
     told-event inputs moves instructions (input.Typed bytes) inputs' moves' m (Arrives (length bytes) ∷ []) told leads is is_moves (sym moved) (typed_runs_none m bytes (is_booted m))
 
 -- one more slice
-pub told-slice : (inputs : List Input) (moves : List Move) (instructions : ℕ) (m : Machine) (left slice : ℕ) (reserved inputs' : List Input) (reserved_moves moves' moved : List Move) (ran from : ℕ) → IsTold inputs moves instructions → m ≡ machine_after inputs → slice ≡ min left MOST_SLICE → reserved ≡ inputs → inputs' ≡ reserved ++ input.Slice 1 slice ∷ [] → reserved_moves ≡ moves → moves' ≡ reserved_moves ++ moved → moved ≡ moves_from m (input_steps m (input.Slice 1 slice)) → ran ≡ instructions_in (input_steps m (input.Slice 1 slice)) → ran ≤ slice → from ≡ ran → IsTold inputs' moves' (instructions + from)
-told-slice inputs moves instructions m left slice reserved inputs' reserved_moves moves' moved ran from told leads is_slice same is same_moves is_moves is_moved is_ran within is_from =
+pub told-slice : (inputs : List Input) (moves : List Move) (instructions : ℕ) (m : Machine) (slice : ℕ) (reserved inputs' : List Input) (reserved_moves moves' moved : List Move) (ran from : ℕ) → IsTold inputs moves instructions → m ≡ machine_after inputs → slice ≤ MOST_SLICE → reserved ≡ inputs → inputs' ≡ reserved ++ input.Slice 1 slice ∷ [] → reserved_moves ≡ moves → moves' ≡ reserved_moves ++ moved → moved ≡ moves_from m (input_steps m (input.Slice 1 slice)) → ran ≡ instructions_in (input_steps m (input.Slice 1 slice)) → ran ≤ slice → from ≡ ran → IsTold inputs' moves' (instructions + from)
+told-slice inputs moves instructions m slice reserved inputs' reserved_moves moves' moved ran from told leads is_slice same is same_moves is_moves is_moved is_ran within is_from =
     told-input inputs moves instructions (input.Slice 1 slice) inputs' moves' (instructions + from) m moved from told leads
     (is ∙ ap (λ (xs : List Input). xs ++ input.Slice 1 slice ∷ []) same)
     (is_moves ∙ ap (λ (xs : List Move). xs ++ moved) same_moves)

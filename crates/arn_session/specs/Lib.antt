@@ -10,3 +10,4 @@ pub mod Status
 pub mod Reader
 pub mod Answering
 pub mod StandIns
+pub mod CutOff

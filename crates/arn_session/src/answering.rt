@@ -25,8 +25,10 @@ pub fn add_file(
     requires name { IsTrue (is_name name) }
     requires bytes { length bytes ≤ MOST_FILE_BYTES }
     ensures sound { IsSound kept.new }
-    ensures gives { OnOk result (Gives (change kept.old.machine (input.File name bytes) refusal.NoLine)
-        kept.old.inputs.items kept.new.inputs.items (string_bytes text.old) (string_bytes text.new)) }
+    ensures gives { OnOk result
+        (Gives (change kept.old.machine (input.File name bytes) refusal.NoLine)
+        kept.old.inputs.items kept.new.inputs.items
+        (string_bytes text.old) (string_bytes text.new)) }
 {
     kept.inputs.reserve(1)?;
     kept.moves.reserve(1)?;
@@ -47,8 +49,10 @@ pub fn add_file(
 pub fn boot(kept: &mut Kept, name: Bytes, text: &mut String) -> Result<(), NoMemory>
     requires sound { IsSound kept.old }
     ensures sound { IsSound kept.new }
-    ensures gives { OnOk result (Gives (change kept.old.machine (input.Boot name) (boot_refusal kept.old.machine name))
-        kept.old.inputs.items kept.new.inputs.items (string_bytes text.old) (string_bytes text.new)) }
+    ensures gives { OnOk result
+        (Gives (change kept.old.machine (input.Boot name) (boot_refusal kept.old.machine name))
+        kept.old.inputs.items kept.new.inputs.items
+        (string_bytes text.old) (string_bytes text.new)) }
 {
     kept.inputs.reserve(1)?;
     kept.moves.reserve(1)?;
@@ -69,8 +73,10 @@ pub fn type_in(kept: &mut Kept, bytes: Bytes, text: &mut String) -> Result<(), N
     requires sound { IsSound kept.old }
     requires bytes { length bytes < 2 ^ 32 }
     ensures sound { IsSound kept.new }
-    ensures gives { OnOk result (Gives (change kept.old.machine (input.Typed bytes) refusal.NoLine)
-        kept.old.inputs.items kept.new.inputs.items (string_bytes text.old) (string_bytes text.new)) }
+    ensures gives { OnOk result
+        (Gives (change kept.old.machine (input.Typed bytes) refusal.NoLine)
+        kept.old.inputs.items kept.new.inputs.items
+        (string_bytes text.old) (string_bytes text.new)) }
 {
     kept.inputs.reserve(1)?;
     kept.moves.reserve(1)?;

@@ -43,8 +43,8 @@ impl History {
         }
     }
 
-    /// Carries out what a line says, and appends its answer to a text. For want of memory it may
-    /// leave the history empty.
+    /// Carries out what a line says, and appends its answer to a text. Where memory runs out, a part
+    /// of the line may have been carried out, and a part of its answer appended.
     pub fn answer<L: Ledger>(
         &mut self,
         reading: Reading,
@@ -53,8 +53,9 @@ impl History {
     ) -> Result<(), NoMemory>
         requires fits { Fits reading }
         ensures history { OnOk result (self.new ≡ history_after self.old reading) }
-        ensures text { OnOk result (string_bytes text.new ≡ string_bytes text.old ++ (answer self.old reading).text) }
-        ensures steps { OnOk result (steps.new ≤ steps.old + cost self.old reading) }
+        ensures text { OnOk result
+            (string_bytes text.new ≡ string_bytes text.old ++ (answer self.old reading).text) }
+        ensures steps { steps.new ≤ steps.old + cost self.old reading }
     {
         match reading {
             Reading::PassedOver => Ok(()),
@@ -72,8 +73,9 @@ impl History {
     ) -> Result<(), NoMemory>
         requires fits { LineFits line }
         ensures history { OnOk result (self.new ≡ self.old ++ (line_answer self.old line).inputs) }
-        ensures text { OnOk result (string_bytes text.new ≡ string_bytes text.old ++ (line_answer self.old line).text) }
-        ensures steps { OnOk result (steps.new ≤ steps.old + line_cost self.old line) }
+        ensures text { OnOk result
+            (string_bytes text.new ≡ string_bytes text.old ++ (line_answer self.old line).text) }
+        ensures steps { steps.new ≤ steps.old + line_cost self.old line }
     {
         match line {
             Line::File { name, bytes } => add_file(&mut self.kept, name, bytes, text),

@@ -18,7 +18,7 @@ use guest_solo::{Solo, Turn};
 use solo_lineage::Move;
 use std::sync::ledger::Ledger;
 
-/// Runs up to so many instructions. Where memory runs out in a slice, the history is dropped.
+/// Runs up to so many instructions. Where memory runs out in a slice, what ran of it is kept.
 pub fn run<L: Ledger>(
     kept: &mut Kept,
     count: u64,
@@ -28,10 +28,12 @@ pub fn run<L: Ledger>(
     requires sound { IsSound kept.old }
     ensures sound { IsSound kept.new }
     ensures gives { OnOk result (Gives
-        (if is_booted kept.old.machine then run_answer kept.old.machine count else refused refusal.NoLine)
-        kept.old.inputs.items kept.new.inputs.items (string_bytes text.old) (string_bytes text.new)) }
-    ensures steps { OnOk result (steps.new ≤ steps.old +
-        (if is_booted kept.old.machine then run_cost kept.old.machine (slices_of kept.old.machine count) else 0)) }
+        (if is_booted kept.old.machine then run_answer kept.old.machine count
+        else refused refusal.NoLine)
+        kept.old.inputs.items kept.new.inputs.items
+        (string_bytes text.old) (string_bytes text.new)) }
+    ensures steps { steps.new ≤ steps.old + (if is_booted kept.old.machine
+        then run_cost kept.old.machine (slices_of kept.old.machine count) else 0) }
 {
     if kept.machine.is_booted() {
         run_booted(kept, count, text, steps)
@@ -49,17 +51,25 @@ fn run_booted<L: Ledger>(
     requires sound { IsSound kept.old }
     ensures sound { IsSound kept.new }
     ensures gives { OnOk result (Gives (run_answer kept.old.machine count)
-        kept.old.inputs.items kept.new.inputs.items (string_bytes text.old) (string_bytes text.new)) }
-    ensures steps { OnOk result
-        (steps.new ≤ steps.old + run_cost kept.old.machine (slices_of kept.old.machine count)) }
+        kept.old.inputs.items kept.new.inputs.items
+        (string_bytes text.old) (string_bytes text.new)) }
+    ensures steps { steps.new ≤ steps.old + run_cost kept.old.machine (slices_of kept.old.machine count) }
 {
     let mut left = count;
     while left > 0 && can_go_on(&kept.machine) {
         kept.inputs.reserve(1)?;
         kept.moves.reserve(1)?;
         let slice = left.min(MOST_SLICE) as u32;
-        let Ok(Turn { ran, output, moved }) = kept.machine.run_slice(slice, steps) else {
-            return Err(forget(kept));
+        let Turn { ran, output, moved } = match kept.machine.run_slice(slice, steps) {
+            Ok(turn) => turn,
+            Err(cut) => {
+                kept.inputs.push_reserved(Input::Slice {
+                    pid: 1,
+                    count: cut.ran,
+                });
+                kept.instructions += u128::from(cut.ran);
+                return Err(NoMemory);
+            }
         };
         kept.inputs.push_reserved(Input::Slice {
             pid: 1,
@@ -81,14 +91,6 @@ fn keep_move(moves: &mut Vec<Move>, moved: Option<Move>)
     if let Some(moved) = moved {
         moves.push_reserved(moved);
     }
-}
-
-// Drops a history whose last slice was cut short for want of memory.
-fn forget(kept: &mut Kept) -> NoMemory
-    ensures { IsSound kept.new }
-{
-    *kept = Kept::new(kept.alloc);
-    NoMemory
 }
 
 fn push_output(text: &mut String, output: Option<Output>) -> Result<(), NoMemory>

@@ -1,9 +1,10 @@
 // The top call: reads a source to its end, and answers each line to a sink.
-ghost use Rattle.std.specs.Prelude.{◌≡◌, ◌≢◌, ◌⊎◌, ◌↔◌, ◌<◌, ◌≤◌, ◌^◌, ◌++◌, [], length, drop, OnOk, IfErr, IsErrOf, IfSome, Some, option_map};
+ghost use Rattle.std.specs.Prelude.{◌≡◌, ◌≢◌, ◌⊎◌, ◌↔◌, ◌<◌, ◌≤◌, ◌^◌, ◌++◌, [], length, drop, OnOk, OnErr, IfErr, IsErrOf, IfSome, Some, option_map};
 ghost use Rattle.arn_base.specs.Faults.{Rose, NeverFalls};
 ghost use Rattle.arn_session.specs.Lines.{lines_of, whole_lines_of};
 ghost use Rattle.arn_session.specs.Answering.{AnswersLine, TookFewer, TookAtMost};
 ghost use Rattle.arn_session.specs.Transcript.{Answers, AnswersTaken};
+ghost use Rattle.arn_session.specs.CutOff.{PutsLess, BeginsLine, CutsLine, LeavesLine, BeginsText, CutsText};
 ghost use Rattle.arn_session.specs.Words.{AreAccepted};
 
 use crate::history::History;
@@ -19,6 +20,7 @@ use std::sync::ledger::Ledger;
 fn put_all<K: Sink>(sink: &mut K, bytes: &[u8]) -> Result<(), Stop>
     ensures ok { OnOk result
         (K.holds sink.new ≡ option_map (λ held. held ++ bytes.now) (K.holds sink.old)) }
+    ensures err { OnErr result (PutsLess bytes.now (K.holds sink.old) (K.holds sink.new)) }
     ensures cause { IsErrOf result Stop.Failed → Rose (K.faults sink.old) (K.faults sink.new) }
     ensures faults { NeverFalls (K.faults sink.old) (K.faults sink.new) }
 {
@@ -30,7 +32,7 @@ fn put_all<K: Sink>(sink: &mut K, bytes: &[u8]) -> Result<(), Stop>
     Ok(())
 }
 
-/// Answers a line of which this is kept. The text is room for the answer.
+/// Answers a line; `line` is what is kept of it. `text` is emptied, and takes the answer.
 fn answer_line<K: Sink, L: Ledger>(
     alloc: Global,
     line: &[u8],
@@ -41,6 +43,12 @@ fn answer_line<K: Sink, L: Ledger>(
 ) -> Result<(), Halt>
     ensures ok { OnOk result (AnswersLine line.now history.old history.new
         (K.holds sink.old) (K.holds sink.new) steps.old steps.new) }
+    ensures cut { IsErrOf result Halt.Sink → CutsLine line.now history.old
+        (K.holds sink.old) (K.holds sink.new) steps.old steps.new }
+    ensures begun { OnErr result (
+        LeavesLine (K.holds sink.old) (K.holds sink.new) steps.old steps.new ⊎
+        BeginsLine line.now history.old (K.holds sink.old) (K.holds sink.new)
+        steps.old steps.new) }
     ensures cause { IsErrOf result Halt.Sink → Rose (K.faults sink.old) (K.faults sink.new) }
     ensures no_other { IfErr result (λ halt. (halt ≡ Halt.Sink) ⊎ (halt ≡ Halt.NoMemory)) }
     ensures faults { NeverFalls (K.faults sink.old) (K.faults sink.new) }
@@ -65,6 +73,11 @@ fn session<S: Source, K: Sink, L: Ledger>(
         Answers (lines_of text) (K.holds sink.old) (K.holds sink.new) steps.old steps.new)) }
     ensures short { OnOk result
         (IfSome (S.left source.old) (λ text. length text < 2 ^ 40)) }
+
+    ensures cut { IsErrOf result Halt.Sink → IfSome (S.left source.old) (λ text. CutsText text
+        (S.left source.new) (K.holds sink.old) (K.holds sink.new) steps.old steps.new) }
+    ensures begun { OnErr result (IfSome (S.left source.old) (λ text. BeginsText text
+        (S.left source.new) (K.holds sink.old) (K.holds sink.new) steps.old steps.new)) }
 
     ensures source { IsErrOf result Halt.Source →
         Rose (S.faults source.old) (S.faults source.new) }
@@ -125,6 +138,14 @@ pub fn arnold<S: Source, K: Sink, D: Disk, L: Ledger>(
     ensures sink { result ≡ Status.Sink → Rose (K.faults sink.old) (K.faults sink.new) }
     ensures early { result ≡ Status.Source →
         TookFewer (2 ^ 40) (S.left source.old) (S.left source.new) }
+
+    // The sink failed before all that was to be printed had been put.
+    ensures cut { result ≡ Status.Sink → IfSome (S.left source.old) (λ text. CutsText text
+        (S.left source.new) (K.holds sink.old) (K.holds sink.new) steps.old steps.new) }
+
+    // Memory ran out. The first lines were answered, and the answer to one more may have begun.
+    ensures begun { result ≡ Status.NoMemory → IfSome (S.left source.old) (λ text. BeginsText text
+        (S.left source.new) (K.holds sink.old) (K.holds sink.new) steps.old steps.new) }
 
     // As many bytes were taken as a session takes at most.
     ensures long { result ≡ Status.Long → IfSome (S.left source.old) (λ text.

@@ -1,10 +1,10 @@
-use Rattle.std.proofs.Common.{◌≡◌, ◌≢◌, ◌⊎◌, ◌-◌, ◌++◌, arith, refl, ap, ◌∙◌, inl, inr, option_to_list, string_bytes, OnOk}
+use Rattle.std.proofs.Common.{◌≡◌, ◌≢◌, ◌⊎◌, ◌-◌, ◌++◌, arith, refl, sym, ap, ◌∙◌, [], append-nil, inl, inr, option_to_list, string_bytes, OnOk}
 use Rattle.arn_model.specs.declared.history.Standing.TheVariants as standing
 use Rattle.arn_model.specs.Slice.{standing}
 use Rattle.arn_lines.specs.declared.answer.RunEnd.{RunEnd}
 use Rattle.arn_lines.specs.Texts.{ran_text}
 use Rattle.arn_session.specs.Running.{end_of}
-use Rattle.arn_session.proofs.RunLemmas.{SoFar-start, SoFar-turn, SoFar-end, IsRun, kept-slice, on_ok}
+use Rattle.arn_session.proofs.RunLemmas.{SoFar-start, SoFar-turn, SoFar-end, SoFar-within, SoFar-pending, IsRun, kept-slice, on_ok}
 use Rattle.arn_session.proofs.ToldLemmas.{told-slice}
 use Rattle.arn_session.proofs.running.run_booted.Given.{Over}
 use Rattle.arn_session.proofs.running.run_booted.Goals as goal
@@ -18,11 +18,11 @@ loop-left-preserved g c =
     let e = c.in-Ok.ensures in
     let k = c.loop-left.kept in
     let sound = c.loop-left.invariant.sound in
-    let turned = SoFar-turn c.args.kept.now.inputs.items c.args.kept.now.machine c.args.count _ c.args.steps.now k.inputs.items k.machine c.loop-left.left _ c.loop-left.steps c.min-slice.result c.reserve.new.self.items c.push_reserved.new.self.items c.run_slice.new.self (c.loop-left.left - c.from-left.result) _ c.run_slice.new.steps c.in-Ok.field-0.ran (option_to_list c.in-Ok.field-0.output) sound.kept c.loop-left.invariant.so_far c.min-slice.ensures (c.if-can_go_on.ensures.goes refl) c.loop-left-test.true c.in_ok-reserve.ensures.items c.push_reserved.ensures.items e.after e.ran e.output e.some e.within c.run_slice.ensures.events (ap (λ n. c.loop-left.left - n) c.from-left.ensures) c.in_ok-push_output.ensures e.steps in
+    let turned = SoFar-turn c.args.kept.now.inputs.items c.args.kept.now.machine c.args.count _ c.args.steps.now k.inputs.items k.machine c.loop-left.left _ c.loop-left.steps c.min-slice.result c.reserve.new.self.items c.push_reserved-in-loop-left.new.self.items c.run_slice.new.self (c.loop-left.left - c.from-left.result) _ c.run_slice.new.steps c.in-Ok.turn.ran (option_to_list c.in-Ok.turn.output) sound.kept c.loop-left.invariant.so_far c.min-slice.ensures (c.if-can_go_on.ensures.goes refl) c.loop-left-test.true c.in_ok-reserve.ensures.items c.push_reserved-in-loop-left.ensures.items e.after e.ran e.output e.some e.within c.run_slice.ensures.events (ap (λ n. c.loop-left.left - n) c.from-left.ensures) c.in_ok-push_output.ensures (omega (arith, c.run_slice.ensures.steps, e.ran)) in
     record {
       sound = record {
         kept = turned.kept;
-        told = told-slice k.inputs.items k.moves.items k.instructions k.machine c.loop-left.left c.min-slice.result c.reserve.new.self.items c.push_reserved.new.self.items c.reserve-in-loop-left.new.self.items c.keep_move.new.moves.items (option_to_list c.in-Ok.field-0.moved) c.in-Ok.field-0.ran c.from.result sound.told sound.kept.leads c.min-slice.ensures c.in_ok-reserve.ensures.items c.push_reserved.ensures.items c.in_ok-reserve-2.ensures.items c.keep_move.ensures e.moved e.ran e.within c.from.ensures;
+        told = told-slice k.inputs.items k.moves.items k.instructions k.machine c.min-slice.result c.reserve.new.self.items c.push_reserved-in-loop-left.new.self.items c.reserve-in-loop-left.new.self.items c.keep_move.new.moves.items (option_to_list c.in-Ok.turn.moved) c.in-Ok.turn.ran c.from-in-loop-left.result sound.told sound.kept.leads (omega (arith, c.min-slice.ensures)) c.in_ok-reserve.ensures.items c.push_reserved-in-loop-left.ensures.items c.in_ok-reserve-2.ensures.items c.keep_move.ensures e.moved e.ran e.within c.from-in-loop-left.ensures;
       };
       so_far = turned.so_far;
     }
@@ -33,8 +33,8 @@ returns-in_err-push_output-clause-sound g c =
     let k = c.loop-left.kept in
     let sound = c.loop-left.invariant.sound in
     record {
-      kept = kept-slice k.inputs.items k.machine c.loop-left.left c.min-slice.result c.reserve.new.self.items c.push_reserved.new.self.items c.run_slice.new.self sound.kept c.in_ok-reserve.ensures.items c.push_reserved.ensures.items e.after c.run_slice.ensures.events;
-      told = told-slice k.inputs.items k.moves.items k.instructions k.machine c.loop-left.left c.min-slice.result c.reserve.new.self.items c.push_reserved.new.self.items c.reserve-in-loop-left.new.self.items c.keep_move.new.moves.items (option_to_list c.in-Ok.field-0.moved) c.in-Ok.field-0.ran c.from.result sound.told sound.kept.leads c.min-slice.ensures c.in_ok-reserve.ensures.items c.push_reserved.ensures.items c.in_ok-reserve-2.ensures.items c.keep_move.ensures e.moved e.ran e.within c.from.ensures;
+      kept = kept-slice k.inputs.items k.machine c.min-slice.result c.reserve.new.self.items c.push_reserved-in-loop-left.new.self.items c.run_slice.new.self sound.kept c.in_ok-reserve.ensures.items c.push_reserved-in-loop-left.ensures.items e.after c.run_slice.ensures.events;
+      told = told-slice k.inputs.items k.moves.items k.instructions k.machine c.min-slice.result c.reserve.new.self.items c.push_reserved-in-loop-left.new.self.items c.reserve-in-loop-left.new.self.items c.keep_move.new.moves.items (option_to_list c.in-Ok.turn.moved) c.in-Ok.turn.ran c.from-in-loop-left.result sound.told sound.kept.leads (omega (arith, c.min-slice.ensures)) c.in_ok-reserve.ensures.items c.push_reserved-in-loop-left.ensures.items c.in_ok-reserve-2.ensures.items c.keep_move.ensures e.moved e.ran e.within c.from-in-loop-left.ensures;
     }
 
 -- why the loop stopped
@@ -54,4 +54,26 @@ pub returns-clause-gives : goal.returns-clause-gives
 returns-clause-gives g c = on_ok _ _ c.push_ran.result _ _ (λ r. r.gives) (whole g c)
 
 pub returns-clause-steps : goal.returns-clause-steps
-returns-clause-steps g c = on_ok _ _ c.push_ran.result _ _ (λ r. r.executed) (whole g c)
+returns-clause-steps g c = SoFar-within _ _ _ _ _ _ _ _ _ _ c.loop-left.invariant.so_far
+
+pub returns-in_err-reserve-clause-steps : goal.returns-in_err-reserve-clause-steps
+returns-in_err-reserve-clause-steps g c = SoFar-within _ _ _ _ _ _ _ _ _ _ c.loop-left.invariant.so_far
+
+pub returns-in_err-reserve-2-clause-steps : goal.returns-in_err-reserve-2-clause-steps
+returns-in_err-reserve-2-clause-steps g c = SoFar-within _ _ _ _ _ _ _ _ _ _ c.loop-left.invariant.so_far
+
+pub returns-in-Err-clause-steps : goal.returns-in-Err-clause-steps
+returns-in-Err-clause-steps g c = SoFar-pending _ _ _ _ _ _ _ _ _ _ _ _ c.loop-left.invariant.so_far c.min-slice.ensures (c.if-can_go_on.ensures.goes refl) c.loop-left-test.true c.run_slice.ensures.steps
+
+pub returns-in_err-push_output-clause-steps : goal.returns-in_err-push_output-clause-steps
+returns-in_err-push_output-clause-steps g c = SoFar-pending _ _ _ _ _ _ _ _ _ _ _ _ c.loop-left.invariant.so_far c.min-slice.ensures (c.if-can_go_on.ensures.goes refl) c.loop-left-test.true c.run_slice.ensures.steps
+
+pub returns-in-Err-clause-sound : goal.returns-in-Err-clause-sound
+returns-in-Err-clause-sound g c =
+    let e = c.in-Err.ensures in
+    let k = c.loop-left.kept in
+    let sound = c.loop-left.invariant.sound in
+    record {
+      kept = kept-slice k.inputs.items k.machine c.in-Err.cut.ran c.reserve.new.self.items c.push_reserved.new.self.items c.run_slice.new.self sound.kept c.in_ok-reserve.ensures.items c.push_reserved.ensures.items e.cut c.run_slice.ensures.events;
+      told = told-slice k.inputs.items k.moves.items k.instructions k.machine c.in-Err.cut.ran c.reserve.new.self.items c.push_reserved.new.self.items c.reserve-in-loop-left.new.self.items c.reserve-in-loop-left.new.self.items [] c.in-Err.cut.ran c.from.result sound.told sound.kept.leads (omega (arith, e.cut_within, c.min-slice.ensures)) c.in_ok-reserve.ensures.items c.push_reserved.ensures.items c.in_ok-reserve-2.ensures.items (sym (append-nil c.reserve-in-loop-left.new.self.items)) (sym e.cut_moved) (sym e.cut_ran) (omega arith) c.from.ensures;
+    }
