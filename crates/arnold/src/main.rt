@@ -2,7 +2,8 @@
 //! standard output.
 #![tactic(auto)]
 
-ghost use Rattle.std.specs.Prelude.{◌≡◌, ◌<◌, ◌⊎◌, IfErr};
+ghost use Rattle.std.specs.Prelude.{◌≡◌, ◌≢◌, ◌<◌, ◌⊎◌, ◌↔◌};
+ghost use Rattle.std.specs.IoError.{error_kind};
 ghost use Rattle.arn_session.specs.Words.{AreAccepted};
 
 use arn_base::{Chooser, Device, StdSink, StdSource, Steps};
@@ -22,7 +23,10 @@ fn words<R: Env + AllocGlobal>(rt: &R) -> io::Result<Vec<String>> {
 
 /// How a session ends whose words can't be read: a word that isn't UTF-8 isn't accepted.
 fn status_of(error: &io::Error) -> Status
-    ensures { (result ≡ Status.Usage) ⊎ (result ≡ Status.NoMemory) }
+    ensures no_memory { (result ≡ Status.NoMemory) ↔
+        (error_kind error.now ≡ ErrorKind.OutOfMemory) }
+    ensures usage { (result ≡ Status.Usage) ↔
+        (error_kind error.now ≢ ErrorKind.OutOfMemory) }
 {
     match error.kind() {
         ErrorKind::OutOfMemory => Status::NoMemory,

@@ -1,5 +1,6 @@
 // A session over a text in memory.
-ghost use Rattle.std.specs.Prelude.{◌≡◌, ◌<◌, [], IfOk};
+ghost use Rattle.std.specs.Prelude.{◌≡◌, ◌<◌, ◌↔◌, [], IfOk, map};
+ghost use Rattle.arn_session.specs.Words.{AreAccepted, AreAcceptedTexts, texts};
 ghost use Rattle.arnold_tests.specs.Sessions.{Prints};
 
 use arn_base::{Bytes, Chooser, Device, NoMemory, Numbers, SliceSource, Steps, VecSink};
@@ -54,6 +55,16 @@ fn numbers(alloc: Global, calls: &[u32]) -> Result<Numbers, NoMemory> {
     Ok(numbers)
 }
 
+fn owned(alloc: Global, words: &[&str]) -> Result<Vec<String>, NoMemory>
+    ensures { IfOk result (λ made. texts made.items ≡ map (λ word. word.now) words.now) }
+{
+    let mut made = Vec::new(alloc);
+    for word in words {
+        made.push(String::from_str(alloc, word)?)?;
+    }
+    Ok(made)
+}
+
 fn run_over<L: Ledger>(
     alloc: Global,
     words: &[String],
@@ -66,7 +77,8 @@ fn run_over<L: Ledger>(
 
     ensures done { IfOk result (λ ended. ended.status ≡ Status.Done →
         Prints script.now.text.now ended.sink.held) }
-    ensures usage { IfOk result (λ ended. ended.status ≡ Status.Usage → ended.sink.held ≡ []) }
+    ensures usage { IfOk result (λ ended. (ended.status ≡ Status.Usage) ↔ ¬ AreAccepted words.now) }
+    ensures silent { IfOk result (λ ended. ended.status ≡ Status.Usage → ended.sink.held ≡ []) }
 {
     let bytes = Bytes::from_slice(alloc, script.text)?;
     let fails = numbers(alloc, script.source_fails)?;
@@ -91,11 +103,10 @@ fn run_over<L: Ledger>(
 pub fn run(alloc: Global, words: &[&str], script: &Script) -> Result<Ended, NoMemory>
     ensures done { IfOk result (λ ended. ended.status ≡ Status.Done →
         Prints script.now.text.now ended.sink.held) }
-    ensures usage { IfOk result (λ ended. ended.status ≡ Status.Usage → ended.sink.held ≡ []) }
+    ensures usage { IfOk result (λ ended. (ended.status ≡ Status.Usage) ↔
+        ¬ AreAcceptedTexts (map (λ word. word.now) words.now)) }
+    ensures silent { IfOk result (λ ended. ended.status ≡ Status.Usage → ended.sink.held ≡ []) }
 {
-    let mut texts = Vec::new(alloc);
-    for word in words {
-        texts.push(String::from_str(alloc, word)?)?;
-    }
-    run_over::<Brand>(alloc, texts.as_slice(), script, Blank::new(1))
+    let words = owned(alloc, words)?;
+    run_over::<Brand>(alloc, words.as_slice(), script, Blank::new(1))
 }

@@ -100,6 +100,9 @@ const OTHER_CALL: &str = "\
     back copy event 0 0 1\n\
     back copy event 9 0 1\n";
 
+/// How many bytes a failing source gives at once, so that it is called often.
+const PIECE: usize = 7;
+
 /// All the lines, each with its LF.
 fn text_of(alloc: Global, exchanges: &[Exchange]) -> Result<String, NoMemory> {
     let mut text = String::new(alloc);
@@ -169,6 +172,17 @@ fn prints_the_answer_to_each_line(rt: HostRuntime) -> Result<(), Fail> {
     Ok(())
 }
 
+/// The last line needs no LF.
+#[test]
+fn answers_an_unfinished_line(rt: HostRuntime) -> Result<(), Fail> {
+    for (text, want) in [("hello", "no line\n"), ("\nfile p 00", "event 0\n")] {
+        let ended = run(rt.alloc(), &["log"], &Script::of(text.as_bytes()))?;
+        assert_eq!(rt; ended.status, Status::Done, "at {text}");
+        assert_eq!(rt; ended.sink.bytes(), want.as_bytes(), "at {text}");
+    }
+    Ok(())
+}
+
 #[test]
 fn refuses_other_words(rt: HostRuntime) -> Result<(), Fail> {
     let script = Script {
@@ -190,15 +204,15 @@ fn answers_what_a_failing_source_gave(rt: HostRuntime) -> Result<(), Fail> {
     let text = text_of(alloc, EXCHANGES)?;
     for call in 0..1_000 {
         let script = Script {
-            piece: 7,
+            piece: PIECE,
             source_fails: &[call],
             ..Script::of(text.as_bytes())
         };
         let ended = run(alloc, &["log"], &script)?;
-        let printed = printed_within(alloc, EXCHANGES, call as usize * 7)?;
+        let printed = printed_within(alloc, EXCHANGES, call as usize * PIECE)?;
         assert_eq!(rt; ended.sink.bytes(), printed.as_bytes(), "at {call}");
         if ended.status == Status::Done {
-            assert!(rt; call as usize * 7 > text.len());
+            assert!(rt; call as usize * PIECE > text.len());
             return Ok(());
         }
         assert_eq!(rt; ended.status, Status::Source, "at {call}");
@@ -222,6 +236,7 @@ fn a_failing_sink_holds_what_came_before(rt: HostRuntime) -> Result<(), Fail> {
             return Ok(());
         }
         assert_eq!(rt; ended.status, Status::Sink, "at {call}");
+        assert!(rt; ended.sink.bytes().len() >= call as usize, "at {call}");
         assert!(rt;
             printed.as_bytes().starts_with(ended.sink.bytes()),
             "at {call}"
