@@ -206,14 +206,21 @@ fn counts_steps() {
 #[test]
 fn errors_show_why(rt: HostRuntime) -> Result<(), Fail> {
     let alloc = rt.alloc();
-    assert_eq!(rt; NoMemory.to_string(alloc)?.as_str(), "out of memory");
+    let memory = "out of memory";
+    let device = "the device failed";
+    let address = "no such address";
+    assert_eq!(rt; NoMemory.to_string(alloc)?.as_str(), memory);
+    assert_eq!(rt; Stop::from(NoMemory).to_string(alloc)?.as_str(), memory);
     assert_eq!(rt;
-        Stop::from(Failed).to_string(alloc)?.as_str(),
-        "the device failed"
+        StoreError::from(NoMemory).to_string(alloc)?.as_str(),
+        memory
     );
+    assert_eq!(rt; Failed.to_string(alloc)?.as_str(), device);
+    assert_eq!(rt; Stop::from(Failed).to_string(alloc)?.as_str(), device);
+    assert_eq!(rt; BadAddress.to_string(alloc)?.as_str(), address);
     assert_eq!(rt;
         StoreError::from(BadAddress).to_string(alloc)?.as_str(),
-        "no such address"
+        address
     );
     Ok(())
 }

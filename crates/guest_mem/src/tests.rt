@@ -37,6 +37,8 @@ fn a_view_writes_into_its_segment(rt: HostRuntime) -> Result<(), Fail> {
     let mut segment = Segment::new(rt.alloc())?;
     let mut view = View::with_segment(&mut space, &mut segment);
     view.write_from(0x8000_0100, &[1])?;
+    assert_eq!(rt; view.store(0x8000_0101, 1, 2), Ok(()));
+    assert_eq!(rt; view.load(0x8000_0100, 2), Ok(0x0201));
     let blocks = segment.blocks()?;
     assert_eq!(rt; blocks.len(), 1);
     assert_eq!(rt; blocks.as_slice()[0].number, 1);

@@ -138,3 +138,21 @@ fn histories_with_other_calls_are_refused(rt: HostRuntime) {
     let answer = back(rt.alloc(), moves.as_slice(), 2, 0, 0, 1);
     assert!(rt; matches!(answer, Err(QueryError::OtherCall)));
 }
+
+#[test]
+fn errors_show_why(rt: HostRuntime) -> Result<(), Fail> {
+    for (error, want) in [
+        (
+            QueryError::OtherCall,
+            "the history holds a call that queries don't follow",
+        ),
+        (
+            QueryError::NoPoint,
+            "there is no such event, or it hasn't these bytes",
+        ),
+        (QueryError::NoMemory, "out of memory"),
+    ] {
+        assert_eq!(rt; error.to_string(rt.alloc())?.as_str(), want);
+    }
+    Ok(())
+}
