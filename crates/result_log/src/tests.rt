@@ -1,0 +1,191 @@
+ghost use Rattle.std.specs.Prelude.{IfOk};
+ghost use Rattle.result_log.specs.Spelling.{ExtraHasSpelling, GiveHasSpelling, HasSpelling};
+
+use crate::{GetError, get_record, put_record};
+use arn_base::{Bytes, Extra, Give, NoMemory, Origin, Origins, Record};
+use std::alloc::Global;
+use std::process::Abort;
+use std::test::Fail;
+
+// The file "a", which holds "ab".
+const FILE: [u8; 9] = [1, 1, 0x61, 2, 0, 0, 0, 0x61, 0x62];
+
+// Process 1 made call 11, with result 1. The tag is missing.
+const CALL: [u8; 21] = [
+    7, 1, 0, 0, 0, 11, 0, 0, 0, 0, 0, 0, 0, 1, 0, 0, 0, 0, 0, 0, 0,
+];
+
+// The byte "x", from place 5 of event 2.
+const GIVE: [u8; 25] = [
+    1, 0, 0, 0, 0x78, 1, 0, 0, 0, 2, 0, 0, 0, 0, 0, 0, 0, 5, 0, 0, 0, 1, 0, 0, 0,
+];
+
+fn give(alloc: Global) -> Result<Give, NoMemory>
+    ensures { IfOk result GiveHasSpelling }
+{
+    let bytes = Bytes::from_slice(alloc, b"x")?;
+    let mut origins = Origins::new(alloc);
+    origins.push(Origin {
+        event: 2,
+        at: 5,
+        len: 1,
+    })?;
+    Ok(Give { bytes, origins })
+}
+
+// The record has these bytes, and is read from them, behind others and before others.
+fn assert_spelled(
+    rt: &impl Abort,
+    alloc: Global,
+    entry: Record,
+    bytes: &[u8],
+) -> Result<(), NoMemory>
+    requires { HasSpelling entry }
+{
+    let mut out = Vec::from_slice(alloc, &[1, 2, 3])?;
+    put_record(&mut out, &entry)?;
+    assert_eq!(rt; out.get(3..), Some(bytes));
+    out.push(0xff)?;
+    assert_eq!(rt;
+        get_record(alloc, out.as_slice(), 3),
+        Ok((entry, out.len() - 1))
+    );
+    Ok(())
+}
+
+#[test]
+fn a_file(rt: HostRuntime) -> Result<(), Fail> {
+    let name = Bytes::from_slice(rt.alloc(), b"a")?;
+    let bytes = Bytes::from_slice(rt.alloc(), b"ab")?;
+    let entry = Record::File { name, bytes };
+    assert_spelled(&rt, rt.alloc(), entry, &FILE)?;
+    Ok(())
+}
+
+#[test]
+fn a_boot(rt: HostRuntime) -> Result<(), Fail> {
+    let name = Bytes::from_slice(rt.alloc(), b"p")?;
+    let give = give(rt.alloc())?;
+    let mut bytes = Vec::from_slice(rt.alloc(), &[2, 1, 0x70])?;
+    bytes.extend_from_slice(&GIVE)?;
+    assert_spelled(
+        &rt,
+        rt.alloc(),
+        Record::Boot { name, give },
+        bytes.as_slice(),
+    )?;
+    Ok(())
+}
+
+#[test]
+fn a_typed_piece(rt: HostRuntime) -> Result<(), Fail> {
+    let bytes = Bytes::from_slice(rt.alloc(), b"xyx")?;
+    let entry = Record::Typed { bytes };
+    assert_spelled(&rt, rt.alloc(), entry, &[3, 3, 0, 0, 0, 0x78, 0x79, 0x78])?;
+    Ok(())
+}
+
+#[test]
+fn a_slice_and_an_end(rt: HostRuntime) -> Result<(), Fail> {
+    let slice = Record::Slice {
+        pid: 1,
+        ran: 1_000_000,
+    };
+    assert_spelled(
+        &rt,
+        rt.alloc(),
+        slice,
+        &[5, 1, 0, 0, 0, 0x40, 0x42, 0x0f, 0],
+    )?;
+    let end = Record::End {
+        pid: 1,
+        status: 132,
+    };
+    assert_spelled(&rt, rt.alloc(), end, &[8, 1, 0, 0, 0, 0x84])?;
+    Ok(())
+}
+
+// Call 11 of process 1, with result 1, behind its tag and the tag's fields.
+fn assert_call_spelled(
+    rt: &impl Abort,
+    alloc: Global,
+    extra: Extra,
+    tagged: &[u8],
+) -> Result<(), NoMemory>
+    requires { ExtraHasSpelling extra }
+{
+    let mut bytes = Vec::from_slice(alloc, &CALL)?;
+    bytes.extend_from_slice(tagged)?;
+    let call = Record::Call {
+        pid: 1,
+        number: 11,
+        result: 1,
+        extra,
+    };
+    assert_spelled(rt, alloc, call, bytes.as_slice())
+}
+
+#[test]
+fn calls(rt: HostRuntime) -> Result<(), Fail> {
+    assert_call_spelled(&rt, rt.alloc(), Extra::Nothing, &[0])?;
+
+    let mut tagged = Vec::from_slice(rt.alloc(), &[1])?;
+    tagged.extend_from_slice(&GIVE)?;
+    let extra = Extra::Give(give(rt.alloc())?);
+    assert_call_spelled(&rt, rt.alloc(), extra, tagged.as_slice())?;
+
+    let bytes = Bytes::from_slice(rt.alloc(), b"ab")?;
+    let extra = Extra::Console { bytes };
+    assert_call_spelled(&rt, rt.alloc(), extra, &[4, 2, 0, 0, 0, 0x61, 0x62])?;
+    Ok(())
+}
+
+fn assert_malformed(rt: &impl Abort, alloc: Global, bytes: &[u8], at: usize) {
+    let malformed = GetError::Malformed { at: at as u64 };
+    assert_eq!(rt; get_record(alloc, bytes, at), Err(malformed));
+}
+
+// A file with a name of so many letters, and no bytes.
+fn file_named(alloc: Global, letters: u8) -> Result<Vec<u8>, NoMemory> {
+    let mut bytes = Vec::from_slice(alloc, &[1, letters])?;
+    for _ in 0..letters {
+        bytes.push(0x61)?;
+    }
+    bytes.extend_from_slice(&[0, 0, 0, 0])?;
+    Ok(bytes)
+}
+
+#[test]
+fn no_records(rt: HostRuntime) -> Result<(), Fail> {
+    for kind in [0, 4, 6, 9, 255] {
+        let mut bytes = Vec::from_slice(rt.alloc(), &FILE)?;
+        bytes.push(kind)?;
+        bytes.extend_from_slice(&[0; 40])?;
+        assert_malformed(&rt, rt.alloc(), bytes.as_slice(), 9);
+    }
+    for tag in [2, 3, 5, 9, 255] {
+        let mut bytes = Vec::from_slice(rt.alloc(), &CALL)?;
+        bytes.push(tag)?;
+        bytes.extend_from_slice(&[0; 40])?;
+        assert_malformed(&rt, rt.alloc(), bytes.as_slice(), 0);
+    }
+    for at in [1, 9, 10, usize::MAX] {
+        assert_malformed(&rt, rt.alloc(), &FILE, at);
+    }
+    assert_malformed(&rt, rt.alloc(), &FILE[..8], 0);
+    assert_malformed(&rt, rt.alloc(), &CALL, 0);
+    assert_malformed(&rt, rt.alloc(), &[], 0);
+    Ok(())
+}
+
+#[test]
+fn lengths_of_names(rt: HostRuntime) -> Result<(), Fail> {
+    let none = file_named(rt.alloc(), 0)?;
+    assert_malformed(&rt, rt.alloc(), none.as_slice(), 0);
+    let longest = file_named(rt.alloc(), 64)?;
+    let read = get_record(rt.alloc(), longest.as_slice(), 0);
+    assert!(rt; matches!(read, Ok((Record::File { .. }, 70))));
+    let longer = file_named(rt.alloc(), 65)?;
+    assert_malformed(&rt, rt.alloc(), longer.as_slice(), 0);
+    Ok(())
+}
