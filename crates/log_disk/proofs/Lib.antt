@@ -1,0 +1,6 @@
+pub mod CrashLemmas
+mod Examples
+pub mod Filling
+pub mod PastLemmas
+pub mod Patched
+pub mod Calls

@@ -1,0 +1,7 @@
+pub mod Crash
+pub mod HostErrors
+pub mod Image
+pub mod InMemory
+pub mod Laws
+pub mod Past
+pub mod Steps
