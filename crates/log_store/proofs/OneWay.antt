@@ -1,0 +1,189 @@
+-- The bytes of a log are read in one way.
+use Rattle.std.proofs.Common.{◌≡◌, ◌≢◌, ◌⊎◌, inl, inr, ℕ, ◌<◌, ◌≤◌, List, [], ◌∷◌, ◌++◌, length, drop, Some, refl, sym, ap, ◌∙◌, append_assoc, length-append, arith}
+use Rattle.std.specs.Prelude.{All, slice_get}
+use Rattle.std.proofs.lemmas.List.{append_cancel_left, get_or_append_left}
+use Rattle.std.proofs.lemmas.Option.{slice_get-get_or}
+use Rattle.std.proofs.lemmas.List.Elements.{All-head, All-tail}
+use Rattle.arn_base.specs.declared.records.Record.{Record}
+use Rattle.result_log.specs.Laws.{SpelledOneWay}
+use Rattle.result_log.specs.Spelling.{spelling, counted}
+use Rattle.log_store.specs.Log.{log_name, spellings, frame, frames, records_of, IsCommit, IsEnd, IsNamed, IsSpellable}
+use Rattle.log_store.specs.Laws.{LogsReadOneWay, ClosedAreLogs, BadAreNone}
+use Rattle.log_store.specs.Refused.{BeginsNone, IsBroken, IsCutShort, IsMisnamed, IsMisspelled, IsNoLog}
+use Rattle.log_store.proofs.Fields.{counted-same, length-counted, not_empty, Same}
+use Rattle.log_store.proofs.ReadRecords.{spelling-long}
+
+-- bytes that spell records spell no others
+pub spellings-same : SpelledOneWay → (a b : List Record) → All IsSpellable a → All IsSpellable b → spellings a ≡ spellings b → a ≡ b
+spellings-same one [] [] are_a are_b e = refl
+spellings-same one [] (y ∷ b) are_a are_b e =
+    let long = spelling-long y in
+    let size = ap length e ∙ length-append (spelling y) (spellings b) in
+    absurd (omega (arith, long, size))
+spellings-same one (x ∷ a) [] are_a are_b e =
+    let long = spelling-long x in
+    let size = sym (length-append (spelling x) (spellings a)) ∙ ap length e in
+    absurd (omega (arith, long, size))
+spellings-same one (x ∷ a) (y ∷ b) are_a are_b e =
+    let is_x = All-head IsSpellable x a are_a in
+    let is_y = All-head IsSpellable y b are_b in
+    let same = one x y (spellings a) (spellings b) is_x.0 is_x.1 is_y.0 is_y.1 e in
+    let rest = spellings-same one a b (All-tail IsSpellable x a are_a) (All-tail IsSpellable y b are_b) same.1 in
+    ap (λ (r : Record). r ∷ a) same.0 ∙ ap (λ (rs : List Record). y ∷ rs) rest
+
+-- bytes that begin with the spellings of some records and then of none are no spellings
+pub spellings-none : SpelledOneWay → (a b : List Record) (rest : List ℕ) → All IsSpellable a → All IsSpellable b → rest ≢ [] → BeginsNone rest
+    → spellings a ++ rest ≡ spellings b → ⊥
+spellings-none one [] [] rest are_a are_b some begins e = some e
+spellings-none one [] (y ∷ b) rest are_a are_b some begins e = begins y (spellings b) (All-head IsSpellable y b are_b) e
+spellings-none one (x ∷ a) [] rest are_a are_b some begins e =
+    let long = spelling-long x in
+    let size = sym (length-append (spelling x ++ spellings a) rest) ∙ ap length e in
+    let part = length-append (spelling x) (spellings a) in
+    omega (arith, long, size, part)
+spellings-none one (x ∷ a) (y ∷ b) rest are_a are_b some begins e =
+    let is_x = All-head IsSpellable x a are_a in
+    let is_y = All-head IsSpellable y b are_b in
+    let same = one x y (spellings a ++ rest) (spellings b) is_x.0 is_x.1 is_y.0 is_y.1 (sym (append_assoc (spelling x) (spellings a) rest) ∙ e) in
+    spellings-none one a b rest (All-tail IsSpellable x a are_a) (All-tail IsSpellable y b are_b) some begins same.1
+
+-- an end begins no frame
+pub end_no_frame : (end : List ℕ) (commit : List Record) (rest : List ℕ) → IsEnd end → end ≢ frame commit ++ rest
+end_no_frame [] commit rest is e = is
+end_no_frame (gate ∷ behind) commit rest (inl shut) e = shut (cc e)
+end_no_frame (gate ∷ behind) commit rest (inr none) e =
+    let size = ap length e ∙ length-append (frame commit) rest in
+    let long = length-counted (spellings commit) in
+    let short = ap length none in
+    omega (arith, size, long, short)
+
+-- two frames at the front of the same bytes hold one commit
+pub frame-same : SpelledOneWay → (a b : List Record) (s t : List ℕ) → IsCommit a → IsCommit b → frame a ++ s ≡ frame b ++ t → Same a b s t
+frame-same one a b s t is_a is_b e =
+    let same = counted-same (spellings a) (spellings b) s t is_a.is_counted is_b.is_counted (ap (drop 1) e) in
+    record { front = spellings-same one a b is_a.are_spellable is_b.are_spellable same.front; back = same.back }
+
+-- frames are read in one way, up to an end
+pub frames-same : SpelledOneWay → (a b : List (List Record)) (end other : List ℕ) → All IsCommit a → All IsCommit b → IsEnd end → IsEnd other
+    → frames a ++ end ≡ frames b ++ other → a ≡ b
+frames-same one [] [] end other are_a are_b is is_other e = refl
+frames-same one [] (y ∷ b) end other are_a are_b is is_other e = absurd (end_no_frame end y (frames b ++ other) is (e ∙ append_assoc (frame y) (frames b) other))
+frames-same one (x ∷ a) [] end other are_a are_b is is_other e =
+    absurd (end_no_frame other x (frames a ++ end) is_other (sym e ∙ append_assoc (frame x) (frames a) end))
+frames-same one (x ∷ a) (y ∷ b) end other are_a are_b is is_other e =
+    let whole = sym (append_assoc (frame x) (frames a) end) ∙ e ∙ append_assoc (frame y) (frames b) other in
+    let same = frame-same one x y (frames a ++ end) (frames b ++ other) (All-head IsCommit x a are_a) (All-head IsCommit y b are_b) whole in
+    let rest = frames-same one a b end other (All-tail IsCommit x a are_a) (All-tail IsCommit y b are_b) is is_other same.back in
+    ap (λ (c : List Record). c ∷ a) same.front ∙ ap (λ (cs : List (List Record)). y ∷ cs) rest
+
+-- a log of at most nine bytes that has a name holds no records
+pub short_named : (bytes : List ℕ) (records : List Record) → length bytes ≤ 9 → IsNamed bytes records → records ≡ []
+short_named bytes records short named =
+    let log = named.are_frames in
+    let size = ap length named.is_named ∙ length-append log_name named.behind in
+    log.are_records ∙ ap records_of (no_commits log.commits log.end named.behind log.is_end log.are_bytes (omega (arith, size, short)))
+  where
+    no_commits : (commits : List (List Record)) (end behind : List ℕ) → IsEnd end → behind ≡ frames commits ++ end → length behind ≤ 1 → commits ≡ []
+    no_commits [] end behind is e le = refl
+    no_commits (c ∷ commits) end behind is e le =
+        let size = ap length e ∙ length-append (frame c ++ frames commits) end in
+        let part = length-append (frame c) (frames commits) in
+        let long = length-counted (spellings c) in
+        absurd (omega (arith, size, part, long, le))
+
+pub named-same : SpelledOneWay → (bytes : List ℕ) (first second : List Record) → IsNamed bytes first → IsNamed bytes second → first ≡ second
+named-same one bytes first second a b =
+    let behind = append_cancel_left log_name a.behind b.behind (sym a.is_named ∙ b.is_named) in
+    let fa = a.are_frames in
+    let fb = b.are_frames in
+    let same = frames-same one fa.commits fb.commits fa.end fb.end fa.are_commits fb.are_commits fa.is_end fb.is_end
+    (sym fa.are_bytes ∙ behind ∙ fb.are_bytes) in
+    fa.are_records ∙ ap records_of same ∙ sym fb.are_records
+
+pub logs_one_way : SpelledOneWay → LogsReadOneWay
+logs_one_way one bytes first second (inl a) (inl b) = a.1 ∙ sym b.1
+logs_one_way one bytes first second (inl a) (inr b) = a.1 ∙ sym (short_named bytes second a.0 b)
+logs_one_way one bytes first second (inr a) (inl b) = short_named bytes first b.0 a ∙ sym b.1
+logs_one_way one bytes first second (inr a) (inr b) = named-same one bytes first second a b
+
+pub closed_logs : ClosedAreLogs
+closed_logs bytes records log = inr (record {
+  behind = frames log.commits ++ 0 ∷ [];
+  is_named = log.are_bytes;
+  are_frames = record {
+    commits = log.commits;
+    end = 0 ∷ [];
+    are_commits = log.are_commits;
+    is_end = inr refl;
+    are_bytes = refl;
+    are_records = log.are_records;
+  };
+})
+
+-- something stands behind the open gate of a broken frame
+has_more : (behind : List ℕ) (gate at : ℕ) → IsCutShort gate at behind ⊎ IsMisspelled gate at behind → behind ≢ []
+has_more behind gate at (inl short) none = short.has_more none
+has_more behind gate at (inr bad) none =
+    let size = sym (ap length none) ∙ ap length bad.holds.are_bytes ∙ length-append (counted bad.payload) bad.next in
+    let long = length-counted bad.payload in
+    omega (arith, size, long)
+
+-- frames with a broken one behind them aren't frames and an end
+pub broken_none : SpelledOneWay → (a b : List (List Record)) (behind end : List ℕ) (gate at : ℕ) → All IsCommit a → All IsCommit b → IsEnd end
+    → IsCutShort gate at behind ⊎ IsMisspelled gate at behind → frames a ++ 1 ∷ behind ≡ frames b ++ end → ⊥
+broken_none one [] [] behind end gate at are_a are_b is cause e = not_end behind end gate at is cause e
+  where
+    not_end : (behind end : List ℕ) (gate at : ℕ) → IsEnd end → IsCutShort gate at behind ⊎ IsMisspelled gate at behind → 1 ∷ behind ≡ end → ⊥
+    not_end behind [] gate at is cause e = is
+    not_end behind (g ∷ rest) gate at (inl shut) cause e = shut (cc e)
+    not_end behind (g ∷ rest) gate at (inr none) cause e = has_more behind gate at cause (ap (drop 1) e ∙ none)
+broken_none one [] (y ∷ b) behind end gate at are_a are_b is (inl short) e =
+    let is_y = All-head IsCommit y b are_b in
+    let whole = ap (drop 1) (e ∙ append_assoc (frame y) (frames b) end) in
+    short.holds_none (spellings y) (frames b ++ end)
+    (record { is_counted = is_y.is_counted; is_next = frames-some b end is; are_bytes = whole })
+  where
+    frames-some : (b : List (List Record)) (end : List ℕ) → IsEnd end → frames b ++ end ≢ []
+    frames-some [] [] is none = is
+    frames-some [] (g ∷ end) is none = absurd (cc none)
+    frames-some (c ∷ b) end is none = absurd (cc none)
+broken_none one [] (y ∷ b) behind end gate at are_a are_b is (inr bad) e =
+    let is_y = All-head IsCommit y b are_b in
+    let whole = ap (drop 1) (e ∙ append_assoc (frame y) (frames b) end) in
+    let same = counted-same bad.payload (spellings y) bad.next (frames b ++ end) bad.holds.is_counted is_y.is_counted (sym bad.holds.are_bytes ∙ whole) in
+    spellings-none one bad.records y bad.rest bad.are_spellable is_y.are_spellable bad.has_more bad.begins_none (sym bad.are_bytes ∙ same.front)
+broken_none one (x ∷ a) [] behind end gate at are_a are_b is cause e =
+    end_no_frame end x (frames a ++ 1 ∷ behind) is (sym e ∙ append_assoc (frame x) (frames a) (1 ∷ behind))
+broken_none one (x ∷ a) (y ∷ b) behind end gate at are_a are_b is cause e =
+    let whole = sym (append_assoc (frame x) (frames a) (1 ∷ behind)) ∙ e ∙ append_assoc (frame y) (frames b) end in
+    let same = frame-same one x y (frames a ++ 1 ∷ behind) (frames b ++ end) (All-head IsCommit x a are_a) (All-head IsCommit y b are_b) whole in
+    broken_none one a b behind end gate at (All-tail IsCommit x a are_a) (All-tail IsCommit y b are_b) is cause same.back
+
+-- a broken log is longer than a fresh one
+broken_long : (bytes : List ℕ) (at : ℕ) → IsBroken bytes at → 9 < length bytes
+broken_long bytes at broken =
+    let size = ap length broken.are_bytes ∙ length-append log_name (frames broken.commits ++ 1 ∷ broken.behind) in
+    let part = length-append (frames broken.commits) (1 ∷ broken.behind) in
+    let more = not_empty broken.behind (has_more broken.behind _ at broken.cause) in
+    omega (arith, size, part, more)
+
+pub broken_no_log : SpelledOneWay → (bytes : List ℕ) (at : ℕ) → IsBroken bytes at → IsNoLog bytes
+broken_no_log one bytes at broken records (inl fresh) = let long = broken_long bytes at broken in let short = fresh.0 in omega (arith, long, short)
+broken_no_log one bytes at broken records (inr named) =
+    let log = named.are_frames in
+    let behind = append_cancel_left log_name named.behind (frames broken.commits ++ 1 ∷ broken.behind) (sym named.is_named ∙ broken.are_bytes) in
+    broken_none one broken.commits log.commits broken.behind log.end _ at broken.are_commits log.are_commits log.is_end broken.cause
+    (sym behind ∙ log.are_bytes)
+
+pub misnamed_no_log : (bytes : List ℕ) (at : ℕ) → IsMisnamed bytes at → IsNoLog bytes
+misnamed_no_log bytes at misnamed records (inl fresh) = let long = misnamed.is_long in let short = fresh.0 in omega (arith, long, short)
+misnamed_no_log bytes at misnamed records (inr named) =
+    misnamed.differs
+    (ap (λ (b : List ℕ). slice_get b at) named.is_named
+    ∙ slice_get-get_or (log_name ++ named.behind) at 0 (omega (arith, misnamed.is_within, length-append log_name named.behind))
+    ∙ ap Some (get_or_append_left log_name named.behind 0 at misnamed.is_within)
+    ∙ sym (slice_get-get_or log_name at 0 misnamed.is_within))
+
+pub bad_none : SpelledOneWay → BadAreNone
+bad_none one bytes at (inl misnamed) = misnamed_no_log bytes at misnamed
+bad_none one bytes at (inr broken) = broken_no_log one bytes at broken

@@ -1,0 +1,151 @@
+-- What a payload spells, as far as it was read.
+use Rattle.std.proofs.Common.{◌≡◌, ◌≢◌, ℕ, zero, suc, ◌+◌, ◌-◌, ◌<◌, ◌≤◌, ◌^◌, List, [], ◌∷◌, ◌++◌, length, get_or, take, drop, w32, refl, sym, ap, ◌∙◌, subst, append_assoc, length-append, length-take, length-drop, take-append-drop, arith}
+use Rattle.std.specs.Int.{from_le_bytes}
+use Rattle.std.specs.Prelude.{All}
+use Rattle.std.proofs.Math.Seq.{take-add}
+use Rattle.std.proofs.lemmas.List.{append-nil, flat_map_more, take_all}
+use Rattle.std.proofs.lemmas.List.Elements.{All-nil, All-push}
+use Rattle.std.proofs.lemmas.Nat.{le_bytes_4}
+use Rattle.arn_base.specs.declared.records.Record.{Record}
+use Rattle.arn_base.specs.declared.records.Record.TheVariants as entry
+use Rattle.result_log.specs.Laws.{ReadsAsSpelled}
+use Rattle.result_log.specs.Reading.{Reads, IsMalformed}
+use Rattle.result_log.specs.Spelling.{field, spelling}
+use Rattle.log_store.specs.Causes.{MatchMalformed}
+use Rattle.log_store.specs.Log.{spellings, IsSpellable}
+use Rattle.log_store.specs.declared.errors.OpenError.{OpenError}
+use Rattle.log_store.specs.declared.errors.OpenError.TheVariants as opening
+use Rattle.log_store.specs.Pieces.{IsPayloadBad, IsPayloadRead}
+use Rattle.log_store.specs.Refused.{HoldsPayload}
+use Rattle.log_store.proofs.Fields.{length-field}
+
+-- each item is a byte
+abbrev pub AreBytes : List ℕ → Type 0
+AreBytes xs = (i : ℕ) → get_or xs i 0 < 256
+
+AreBytes-take : (n : ℕ) (xs : List ℕ) → AreBytes xs → AreBytes (take n xs)
+AreBytes-take zero xs h i = omega arith
+AreBytes-take (suc n) [] h i = omega arith
+AreBytes-take (suc n) (x ∷ xs) h zero = h zero
+AreBytes-take (suc n) (x ∷ xs) h (suc i) = AreBytes-take n xs (λ k. h (suc k)) i
+
+-- a field and what stands behind it, by the two parts of a split
+joined : (n : ℕ) (bytes front rest : List ℕ) → field 4 n ≡ front → front ≡ take 4 bytes → rest ≡ drop 4 bytes → bytes ≡ field 4 n ++ rest
+joined n bytes front rest spelled is_front is_rest =
+    sym (ap (λ (xs : List ℕ). xs ++ rest) (spelled ∙ is_front) ∙ ap (λ (xs : List ℕ). take 4 bytes ++ xs) is_rest ∙ take-append-drop 4 bytes)
+
+-- four bytes are the field of their number
+pub field-front : (bytes front rest : List ℕ) (n : ℕ) → AreBytes bytes → 4 ≤ length bytes
+    → front ≡ take 4 bytes → rest ≡ drop 4 bytes → n ≡ from_le_bytes w32 front → bytes ≡ field 4 n ++ rest
+field-front bytes front rest n small long is_front is_rest is_number =
+    let e : n ≡ from_le_bytes w32 (take 4 bytes) = is_number ∙ ap (from_le_bytes w32) is_front in
+    let len : length (take 4 bytes) ≡ 4 = omega (arith, length-take 4 bytes) in
+    joined n bytes front rest (le_bytes_4 (take 4 bytes) n len (AreBytes-take 4 bytes small) e ∙ sym is_front) is_front is_rest
+
+-- a payload and what stands behind it
+pub holds_split : (n : ℕ) (behind tail payload next : List ℕ) → n < 2 ^ 32 → behind ≡ field 4 n ++ tail → payload ≡ take n tail → next ≡ drop n tail
+    → length payload ≡ n → next ≢ [] → HoldsPayload behind payload next
+holds_split n behind tail payload next fits e is_payload is_next long some =
+    let parts : payload ++ next ≡ tail = rw (is_payload, is_next) (take-append-drop n tail) in
+    record {
+      is_counted = omega (arith, long);
+      is_next = some;
+      are_bytes =
+          e
+          ∙ ap (λ (xs : List ℕ). field 4 n ++ xs) (sym parts)
+          ∙ ap (λ (k : ℕ). field 4 k ++ (payload ++ next)) (sym long)
+          ∙ sym (append_assoc (field 4 (length payload)) payload next);
+    }
+
+-- bytes that are too few hold none
+pub holds_none : (behind payload next : List ℕ) → length behind < 4 → ¬ HoldsPayload behind payload next
+holds_none behind payload next short holds =
+    let whole = ap length (holds.are_bytes ∙ append_assoc (field 4 (length payload)) payload next) in
+    let parts = length-append (field 4 (length payload)) (payload ++ next) in
+    let head = length-field (length payload) in
+    omega (arith, whole, parts, head)
+
+-- the records that were read of a payload, up to a place
+pub record IsRead (payload : List ℕ) (old new : List Record) (at : ℕ) : Type 0 where
+  pub records : List Record
+  pub are_spellable : All IsSpellable records
+  pub front : take at payload ≡ spellings records
+  pub are_added : new ≡ old ++ records
+  pub is_within : at ≤ length payload
+
+pub IsRead-none : (payload : List ℕ) (old : List Record) → IsRead payload old old 0
+IsRead-none payload old = record {
+  records = [];
+  are_spellable = All-nil IsSpellable;
+  front = refl;
+  are_added = sym (append-nil old);
+  is_within = omega arith;
+}
+
+pub IsRead-more : (payload : List ℕ) (old now new : List Record) (at next : ℕ) (e : Record) → IsRead payload old now at → Reads payload at e next
+    → new ≡ now ++ e ∷ [] → IsRead payload old new next
+IsRead-more payload old now new at next e read reads added =
+    let more : next ≡ at + (next - at) = omega (arith, reads.forward) in
+    record {
+      records = read.records ++ e ∷ [];
+      are_spellable = All-push IsSpellable read.records e read.are_spellable (reads.has_spelling, reads.fits);
+      front =
+          ap (λ (n : ℕ). take n payload) more
+          ∙ take-add at (next - at) payload
+          ∙ ap (λ (xs : List ℕ). xs ++ take (next - at) (drop at payload)) read.front
+          ∙ ap (λ (xs : List ℕ). spellings read.records ++ xs) reads.is_spelling
+          ∙ flat_map_more spelling [] read.records e;
+      are_added = added ∙ ap (λ (rs : List Record). rs ++ e ∷ []) read.are_added ∙ append_assoc old read.records (e ∷ []);
+      is_within = reads.within;
+    }
+
+pub IsRead-all : (payload : List ℕ) (old new : List Record) (at : ℕ) → IsRead payload old new at → length payload ≤ at → IsPayloadRead payload old new
+IsRead-all payload old new at read end = record {
+  records = read.records;
+  are_spellable = read.are_spellable;
+  are_bytes = sym (take_all at payload end) ∙ read.front;
+  are_added = read.are_added;
+}
+
+pub IsRead-bad : (payload : List ℕ) (old new : List Record) (at place bad : ℕ) → ReadsAsSpelled → IsRead payload old new at → at < length payload
+    → IsMalformed payload at → bad ≡ place + at → IsPayloadBad payload place bad
+IsRead-bad payload old new at place bad stands read within malformed is_bad =
+    let long : length (take at payload) ≡ at = omega (arith, length-take at payload, within) in
+    record {
+      records = read.records;
+      rest = drop at payload;
+      are_spellable = read.are_spellable;
+      are_bytes = sym (take-append-drop at payload) ∙ ap (λ (xs : List ℕ). xs ++ drop at payload) read.front;
+      has_more = λ none. let short = ap length none in omega (arith, short, length-drop at payload, within);
+      begins_none = λ e rest spellable is.
+          let here = stands (take at payload) rest e spellable.0 spellable.1 in
+          let whole : take at payload ++ (spelling e ++ rest) ≡ payload =
+          ap (λ (xs : List ℕ). take at payload ++ xs) (sym is) ∙ take-append-drop at payload in
+          let end = length (take at payload) + length (spelling e) in
+          malformed (e, (end, subst (λ k. Reads payload k e end) long (subst (λ b. Reads b (length (take at payload)) e end) whole here)));
+      is_place = is_bad ∙ ap (λ (k : ℕ). place + k) (sym long ∙ ap length read.front);
+    }
+
+-- a spelling isn't empty
+pub spelling-long : (e : Record) → 0 < length (spelling e)
+spelling-long (entry.File name bytes) = omega arith
+spelling-long (entry.Boot name g) = omega arith
+spelling-long (entry.Typed bytes) = omega arith
+spelling-long (entry.Slice pid ran) = omega arith
+spelling-long (entry.Call pid number answer did) = omega arith
+spelling-long (entry.End pid status) = omega arith
+
+pub Reads-forward : (bytes : List ℕ) (at next : ℕ) (e : Record) → Reads bytes at e next → at < next
+Reads-forward bytes at next e reads =
+    let some = spelling-long e in
+    let long = ap length reads.is_spelling in
+    let part = length-take (next - at) (drop at bytes) in
+    omega (arith, some, long, part)
+
+-- an error that tells a place tells another fact of it
+pub MatchMalformed-weaker : (P Q : ℕ → Type 0) (error : OpenError) → MatchMalformed P error → ((at : ℕ) → P at → Q at) → MatchMalformed Q error
+MatchMalformed-weaker P Q (opening.TooLong len) m q = m
+MatchMalformed-weaker P Q (opening.NotLog at) m q = m
+MatchMalformed-weaker P Q (opening.Malformed at) m q = q at m
+MatchMalformed-weaker P Q opening.Disk m q = m
+MatchMalformed-weaker P Q opening.NoMemory m q = m

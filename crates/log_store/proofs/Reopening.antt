@@ -1,0 +1,87 @@
+-- A log that was read, and what a stop leaves while it is opened.
+use Rattle.std.proofs.Common.{◌≡◌, inl, inr, ℕ, ◌+◌, ◌-◌, ◌≤◌, List, [], ◌∷◌, ◌++◌, length, take, drop, Option, Some, None, refl, sym, ap, ◌∙◌, subst, append_assoc, length-append, take-append-drop, arith, IfSome}
+use Rattle.std.proofs.lemmas.List.{take_at, drop_at}
+use Rattle.arn_base.specs.declared.records.Record.{Record}
+use Rattle.arn_base.specs.Disk.{Only}
+use Rattle.log_store.specs.Causes.{IsBadAt, IsCauseOf}
+use Rattle.log_store.specs.Held.{KeepsRecords}
+use Rattle.log_store.specs.Laws.{BadAreNone, LogsReadOneWay}
+use Rattle.log_store.specs.Log.{log_name, frames, IsLog}
+use Rattle.log_store.specs.Pieces.{EndsWith, IsFound, IsLeft, IsSameFront}
+use Rattle.log_store.specs.Stops.{LeavesOnly}
+use Rattle.log_store.specs.declared.errors.OpenError.{OpenError}
+use Rattle.log_store.specs.declared.errors.OpenError.TheVariants as opening
+use Rattle.log_store.specs.declared.size.TheConstants.{MOST_LOG}
+use Rattle.log_store.proofs.Adding.{length-closed}
+use Rattle.log_store.proofs.Logs.{ends_log, front_of}
+use Rattle.log_store.proofs.Moments.{started}
+
+-- fresh logs hold no records
+pub kept_fresh : LogsReadOneWay → (told left : List ℕ) → length told ≤ 9 → length left ≤ 9 → KeepsRecords told left
+kept_fresh one told left short is_short = λ records log. inl (is_short, one told records [] log (inl (short, refl)))
+
+module _ (bytes : List ℕ) (entries : List Record) (end : List ℕ) (found : IsFound bytes entries end) (gate : ℕ) (is_gate : gate ≡ length bytes - length end) where
+  pub found-front : bytes ≡ front_of found.commits ++ end
+  found-front = found.are_bytes ∙ sym (append_assoc log_name (frames found.commits) end)
+
+  pub length-front : gate ≡ length (front_of found.commits)
+  length-front =
+      let whole = ap length found-front ∙ length-append (front_of found.commits) end in
+      omega (arith, whole, is_gate)
+
+  take-front : (told : List ℕ) → told ≡ bytes → take gate told ≡ front_of found.commits
+  take-front told same =
+      ap (λ (b : List ℕ). take gate b) (same ∙ found-front) ∙ take_at (front_of found.commits) end gate (sym length-front)
+
+  pub found_ends : (told : List ℕ) → told ≡ bytes → EndsWith gate end told
+  found_ends told same =
+      let whole = ap length (same ∙ found-front) ∙ length-append (front_of found.commits) end in
+      record {
+        is_within = omega (arith, whole, length-front);
+        are_bytes = ap (λ (b : List ℕ). drop gate b) (same ∙ found-front) ∙ drop_at (front_of found.commits) end gate (sym length-front);
+      }
+
+  pub found_log : IsLog bytes entries
+  found_log = subst (IsLog bytes) (sym found.are_records) (ends_log found.commits bytes end found.are_commits found.is_end found-front)
+
+  pub kept_found : LogsReadOneWay → (told left : List ℕ) → told ≡ bytes → IsSameFront gate told left → KeepsRecords told left
+  kept_found one told left same kept = λ records log.
+      let whole : left ≡ front_of found.commits ++ drop gate left =
+      sym (take-append-drop gate left) ∙ ap (λ (xs : List ℕ). xs ++ drop gate left) (kept.front ∙ take-front told same) in
+      let here = ends_log found.commits left (drop gate left) found.are_commits kept.is_end whole in
+      let are : records ≡ entries = one bytes records entries (subst (λ b. IsLog b records) same log) found_log in
+      subst (IsLog left) (sym (are ∙ found.are_records)) here
+
+  pub found_left : (told : List ℕ) → told ≡ bytes → IsLeft entries (gate + 1) (take gate told ++ 0 ∷ [])
+  found_left told same =
+      let is : take gate told ++ 0 ∷ [] ≡ front_of found.commits ++ 0 ∷ [] = ap (λ (xs : List ℕ). xs ++ 0 ∷ []) (take-front told same) in
+      record {
+        is_log = record {
+          commits = found.commits;
+          are_commits = found.are_commits;
+          are_bytes = is ∙ append_assoc log_name (frames found.commits) (0 ∷ []);
+          are_records = found.are_records;
+        };
+        is_whole = ap length is ∙ length-closed (front_of found.commits) 0 ∙ ap (λ (n : ℕ). n + 1) (sym length-front);
+      }
+
+-- no disk call was made
+pub told_unmoved : {D : Type 0} (may_leave : D → List ℕ → Type 0) (moment : D → ℕ) (left_since : D → ℕ → List ℕ → Type 0)
+    (o : Option (List ℕ)) (disk : D) (P : List ℕ → List ℕ → Type 0)
+    → ((bytes : List ℕ) → left_since disk (moment disk) bytes → may_leave disk bytes)
+    → ((old left : List ℕ) → left ≡ old → P old left)
+    → IfSome o (λ old. Only old (may_leave disk) → LeavesOnly moment left_since disk disk (P old))
+told_unmoved may_leave moment left_since None disk P now p = tt
+told_unmoved may_leave moment left_since (Some old) disk P now p = λ only.
+    started moment left_since disk (P old) (λ left since. p old left (only left (now left since)))
+
+pub kept_same : (old left : List ℕ) → left ≡ old → KeepsRecords old left
+kept_same old left same = λ records log. subst (λ b. IsLog b records) (sym same) log
+
+-- why what was read is refused
+pub bad_cause : BadAreNone → (bytes : List ℕ) → length bytes ≤ MOST_LOG → (error : OpenError) → IsBadAt bytes error → IsCauseOf bytes error
+bad_cause none bytes short (opening.TooLong len) bad = absurd bad
+bad_cause none bytes short (opening.NotLog at) bad = (short, bad, none bytes at (inl bad))
+bad_cause none bytes short (opening.Malformed at) bad = (short, bad, none bytes at (inr bad))
+bad_cause none bytes short opening.Disk bad = tt
+bad_cause none bytes short opening.NoMemory bad = tt

@@ -1,0 +1,21 @@
+-- The spellings of one record more.
+use Rattle.std.proofs.Common.{◌≡◌, ℕ, ◌+◌, ◌<◌, List, [], ◌∷◌, ◌++◌, length, get_or, take, sym, ap, ◌∙◌, subst}
+use Rattle.std.specs.Prelude.{All}
+use Rattle.std.proofs.lemmas.List.{flat_map_more, take_more}
+use Rattle.std.proofs.lemmas.List.Elements.{All-more}
+use Rattle.arn_base.specs.declared.records.Record.{Record}
+use Rattle.result_log.specs.Spelling.{spelling}
+use Rattle.log_store.specs.Log.{spellings, IsSpellable}
+
+pub spellings-more : (entries : List Record) (i : ℕ) (e : Record) (out was now : List ℕ) → i < length entries → e ≡ get_or entries i e
+    → was ≡ out ++ spellings (take i entries) → now ≡ was ++ spelling e → now ≡ out ++ spellings (take (i + 1) entries)
+spellings-more entries i e out was now lt is was_is now_is =
+    let taken : take (i + 1) entries ≡ take i entries ++ e ∷ [] = take_more entries i e lt ∙ ap (λ (r : Record). take i entries ++ r ∷ []) (sym is) in
+    now_is
+    ∙ ap (λ (xs : List ℕ). xs ++ spelling e) was_is
+    ∙ flat_map_more spelling out (take i entries) e
+    ∙ ap (λ (rs : List Record). out ++ spellings rs) (sym taken)
+
+pub spellable-more : (entries : List Record) (i : ℕ) (e : Record) → i < length entries → e ≡ get_or entries i e
+    → All IsSpellable (take i entries) → IsSpellable e → All IsSpellable (take (i + 1) entries)
+spellable-more entries i e lt is all here = All-more IsSpellable entries i e lt all (subst IsSpellable is here)

@@ -1,0 +1,74 @@
+-- What is known of a disk where it tells its bytes.
+use Rattle.std.proofs.Common.{◌≡◌, ℕ, List, Option, Some, None, option_map, sym, subst, IfSome}
+use Rattle.arn_base.specs.Disk.{NoMore, Only}
+use Rattle.log_store.specs.Stops.{LeavesOnly, NothingPending}
+use Rattle.log_store.proofs.Moments.{joined, weaker}
+
+-- the bytes after a change that is known
+pub told_after : (o after : Option (List ℕ)) (change : List ℕ → List ℕ) (P Q : List ℕ → Type 0) → after ≡ option_map change o → IfSome o P
+    → ((old : List ℕ) → P old → Q (change old)) → IfSome after Q
+told_after None after change P Q is p q = subst (λ t. IfSome t Q) (sym is) tt
+told_after (Some old) after change P Q is p q = subst (λ t. IfSome t Q) (sym is) (q old p)
+
+-- what a stop leaves, said in other words
+pub told_weaker : {D : Type 0} (may_leave : D → List ℕ → Type 0) (moment : D → ℕ) (left_since : D → ℕ → List ℕ → Type 0)
+    (o : Option (List ℕ)) (start end : D) (P : List ℕ → Type 0) (Q : List ℕ → List ℕ → Type 0) (R : List ℕ → List ℕ → Type 0)
+    → IfSome o P
+    → IfSome o (λ old. Only old (may_leave start) → LeavesOnly moment left_since start end (Q old))
+    → ((old left : List ℕ) → P old → Q old left → R old left)
+    → IfSome o (λ old. Only old (may_leave start) → LeavesOnly moment left_since start end (R old))
+told_weaker may_leave moment left_since None start end P Q R p leaves r = tt
+told_weaker may_leave moment left_since (Some old) start end P Q R p leaves r = λ only.
+    weaker moment left_since start end (Q old) (R old) (leaves only) (λ left q. r old left p q)
+
+-- the same, where it is said of any bytes that a stop may leave
+pub told_weaker_any : {D : Type 0} (may_leave : D → List ℕ → Type 0) (moment : D → ℕ) (left_since : D → ℕ → List ℕ → Type 0)
+    (o : Option (List ℕ)) (start end : D) (P : List ℕ → Type 0) (Q : List ℕ → List ℕ → Type 0) (R : List ℕ → List ℕ → Type 0)
+    → IfSome o P
+    → ((old : List ℕ) → Only old (may_leave start) → LeavesOnly moment left_since start end (Q old))
+    → ((old left : List ℕ) → P old → Q old left → R old left)
+    → IfSome o (λ old. Only old (may_leave start) → LeavesOnly moment left_since start end (R old))
+told_weaker_any may_leave moment left_since None start end P Q R p leaves r = tt
+told_weaker_any may_leave moment left_since (Some old) start end P Q R p leaves r = λ only.
+    weaker moment left_since start end (Q old) (R old) (leaves old only) (λ left q. r old left p q)
+
+-- what a stop leaves after calls that read, and then others
+pub told_then : {D : Type 0} (may_leave : D → List ℕ → Type 0) (moment : D → ℕ) (left_since : D → ℕ → List ℕ → Type 0)
+    (o now : Option (List ℕ)) (start mid end : D) (R : List ℕ → List ℕ → Type 0)
+    → now ≡ o → NoMore (may_leave start) (may_leave mid)
+    → ((old : List ℕ) → Only old (may_leave start) → LeavesOnly moment left_since start mid (λ left. left ≡ old))
+    → IfSome now (λ old. Only old (may_leave mid) → LeavesOnly moment left_since mid end (R old))
+    → ((old left : List ℕ) → left ≡ old → R old left)
+    → IfSome o (λ old. Only old (may_leave start) → LeavesOnly moment left_since start end (R old))
+told_then may_leave moment left_since None now start mid end R same no_more first second r = tt
+told_then may_leave moment left_since (Some old) now start mid end R same no_more first second r = λ only.
+    let then = subst (λ t. IfSome t (λ b. Only b (may_leave mid) → LeavesOnly moment left_since mid end (R b))) same second in
+    let Same : List ℕ → Type 0 = λ left. left ≡ old in
+    joined moment left_since start mid end Same (R old) (R old) (first old only) (then (λ b left. only b (no_more b left))) (λ left is. r old left is)
+    (λ left is. is)
+
+-- what a stop leaves after calls that read
+pub told_read : {D : Type 0} (may_leave : D → List ℕ → Type 0) (moment : D → ℕ) (left_since : D → ℕ → List ℕ → Type 0)
+    (o : Option (List ℕ)) (start mid : D) (R : List ℕ → List ℕ → Type 0)
+    → ((old : List ℕ) → Only old (may_leave start) → LeavesOnly moment left_since start mid (λ left. left ≡ old))
+    → ((old left : List ℕ) → left ≡ old → R old left)
+    → IfSome o (λ old. Only old (may_leave start) → LeavesOnly moment left_since start mid (R old))
+told_read may_leave moment left_since None start mid R first r = tt
+told_read may_leave moment left_since (Some old) start mid R first r = λ only.
+    weaker moment left_since start mid (λ left. left ≡ old) (R old) (first old only) (λ left is. r old left is)
+
+-- what a stop leaves after one change that is known and durable, and then another
+pub told_two : {D : Type 0} (image : D → Option (List ℕ)) (may_leave : D → List ℕ → Type 0) (moment : D → ℕ) (left_since : D → ℕ → List ℕ → Type 0)
+    (o : Option (List ℕ)) (start mid end : D) (change : List ℕ → List ℕ) (R : List ℕ → List ℕ → Type 0)
+    → image start ≡ o → image mid ≡ option_map change o
+    → (NothingPending image may_leave start → NothingPending image may_leave mid)
+    → IfSome o (λ old. Only old (may_leave start) → LeavesOnly moment left_since start mid (R old))
+    → IfSome (image mid) (λ old. Only old (may_leave mid) → LeavesOnly moment left_since mid end (R old))
+    → ((old left : List ℕ) → R (change old) left → R old left)
+    → IfSome o (λ old. Only old (may_leave start) → LeavesOnly moment left_since start end (R old))
+told_two image may_leave moment left_since None start mid end change R is_start is_mid keeps first second r = tt
+told_two image may_leave moment left_since (Some old) start mid end change R is_start is_mid keeps first second r = λ only.
+    let pending = keeps (subst (λ t. IfSome t (λ b. Only b (may_leave start))) (sym is_start) only) in
+    let mid_only : Only (change old) (may_leave mid) = subst (λ t. IfSome t (λ b. Only b (may_leave mid))) is_mid pending in
+    let then = subst (λ t. IfSome t (λ b. Only b (may_leave mid) → LeavesOnly moment left_since mid end (R b))) is_mid second in
+    joined moment left_since start mid end (R old) (R (change old)) (R old) (first only) (then mid_only) (λ left is. is) (λ left is. r old left is)

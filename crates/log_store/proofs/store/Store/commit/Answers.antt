@@ -1,0 +1,38 @@
+use Rattle.std.proofs.Common.{rules, ◌≡◌, ◌++◌, ◌+◌, length}
+use Rattle.log_store.specs.Held.{IsLeftBy, IsBeforeOrAfter}
+use Rattle.log_store.specs.Log.{IsCommit}
+use Rattle.log_store.specs.Pieces.{with_frame, IsTorn}
+use Rattle.log_store.proofs.Logs.{commit_bytes, torn_log, with_frame-left}
+use Rattle.log_store.proofs.Told.{told_after, told_weaker}
+use Rattle.log_store.proofs.store.Store.commit.Goals as goal
+
+pub returns-in-Ok-clause-left : goal.returns-in-Ok-clause-left
+returns-in-Ok-clause-left g c =
+    let more = c.args.entries.items in
+    let bytes = c.as_slice-2.result.now in
+    let same : bytes ≡ commit_bytes more = search rules in
+    let is : IsCommit more = search rules in
+    let added : c.append.new.self.items ≡ c.args.self.now.entries ++ more = search rules in
+    let long : c.self.inside.log_len + c.len.result ≡ c.args.self.now.log_len + length bytes = search rules in
+    told_after (g.D.Disk.image c.args.disk.now) _ (λ old. with_frame old bytes) (IsLeftBy c.args.self.now) _ c.in-Ok.ensures.written c.requires.left
+    (λ old left. with_frame-left c.args.self.now c.self.inside.usable old bytes more _ _ left is same added long)
+
+pub returns-in-Ok-clause-any_moment : goal.returns-in-Ok-clause-any_moment
+returns-in-Ok-clause-any_moment g c =
+    let more = c.args.entries.items in
+    let bytes = c.as_slice-2.result.now in
+    let same : bytes ≡ commit_bytes more = search rules in
+    let is : IsCommit more = search rules in
+    told_weaker g.D.Disk.may_leave g.D.Disk.moment g.D.Disk.left_since (g.D.Disk.image c.args.disk.now) c.args.disk.now c.add_frame.new.disk
+    (IsLeftBy c.args.self.now) (λ old. IsTorn old bytes) (λ old. IsBeforeOrAfter c.args.self.now.entries more) c.requires.left c.add_frame.ensures.any_moment
+    (λ old left is_left torn. torn_log old left bytes c.args.self.now.entries more is_left.is_log is same torn)
+
+pub returns-clause-any_moment : goal.returns-clause-any_moment
+returns-clause-any_moment g c =
+    let more = c.args.entries.items in
+    let bytes = c.as_slice-2.result.now in
+    let same : bytes ≡ commit_bytes more = search rules in
+    let is : IsCommit more = search rules in
+    told_weaker g.D.Disk.may_leave g.D.Disk.moment g.D.Disk.left_since (g.D.Disk.image c.args.disk.now) c.args.disk.now c.add_frame.new.disk
+    (IsLeftBy c.args.self.now) (λ old. IsTorn old bytes) (λ old. IsBeforeOrAfter c.args.self.now.entries more) c.requires.left c.add_frame.ensures.any_moment
+    (λ old left is_left torn. torn_log old left bytes c.args.self.now.entries more is_left.is_log is same torn)

@@ -1,0 +1,18 @@
+// What holds of logs as a whole.
+ghost use Rattle.log_store.specs.Laws.{BadAreNone, ClosedAreLogs, LogsReadOneWay};
+
+use result_log::records_spelled_one_way;
+
+/// The bytes of a log hold one list of records.
+pub fn logs_read_one_way()
+    // No bytes are logs of two lists of records.
+    ensures one { LogsReadOneWay }
+
+    // What a store leaves is a log of its records.
+    ensures closed { ClosedAreLogs }
+
+    // What is refused for its name or its frames is no log.
+    ensures none { BadAreNone }
+{
+    records_spelled_one_way();
+}

@@ -1,0 +1,106 @@
+// The log of bytes that a disk tells, opened.
+ghost use Rattle.std.specs.Prelude.{◌≡◌, ◌≤◌, ◌<◌, ◌++◌, ◌∷◌, [], ℕ, length, IfSome, IfOk, IfErr, OnOk, IsErrOf};
+ghost use Rattle.arn_base.specs.Disk.{Only};
+ghost use Rattle.arn_base.specs.Faults.{Rose};
+ghost use Rattle.log_store.specs.Causes.{IsCauseOf, IsRefusal};
+ghost use Rattle.log_store.specs.Held.{KeepsRecords};
+ghost use Rattle.log_store.specs.Log.{IsLog};
+ghost use Rattle.log_store.specs.Pieces.{IsLeft};
+ghost use Rattle.log_store.specs.Stops.{NothingPending, LeavesOnly, GoesOn};
+
+use crate::disks::{FRESH_LEN, close_end, make_fresh};
+use crate::errors::OpenError;
+use crate::frames::read_log;
+use crate::law::logs_read_one_way;
+use crate::size::MOST_LOG;
+use arn_base::{Disk, Record};
+use std::alloc::Global;
+
+// The records of a log, and how many bytes it has.
+#[derive(Drop)]
+pub struct Opened {
+    pub entries: Vec<Record>,
+    pub log_len: u64,
+}
+
+// Opens the log of these bytes, which the disk holds.
+pub fn open_bytes<D: Disk>(alloc: Global, disk: &mut D, bytes: &[u8]) -> Result<Opened, OpenError>
+    requires short { length bytes.now ≤ MOST_LOG }
+    requires told { IfSome (D.image disk.old) (λ told. told ≡ bytes.now) }
+
+    ensures recovered { IfOk result (λ opened. IsLog bytes.now opened.entries.items) }
+    ensures left { IfOk result (λ opened.
+        IfSome (D.image disk.new) (IsLeft opened.entries.items opened.log_len)) }
+    ensures len { IfOk result (λ opened. (9 ≤ opened.log_len) × (opened.log_len ≤ MOST_LOG)) }
+    ensures durable { OnOk result (NothingPending D.image D.may_leave disk.old →
+        NothingPending D.image D.may_leave disk.new) }
+
+    ensures any_moment { IfSome (D.image disk.old) (λ told. Only told (D.may_leave disk.old) →
+        LeavesOnly D.moment D.left_since disk.old disk.new (KeepsRecords told)) }
+
+    ensures refused { IfErr result (IsCauseOf bytes.now) }
+    ensures unchanged { IfErr result (λ error. IsRefusal error → disk.new ≡ disk.old) }
+    ensures cause { IsErrOf result OpenError.Disk → Rose (D.faults disk.old) (D.faults disk.new) }
+    ensures later { GoesOn D.image D.faults disk.old disk.new }
+{
+    if bytes.len() <= FRESH_LEN {
+        return open_fresh(alloc, disk, bytes);
+    }
+    open_named(alloc, disk, bytes)
+}
+
+fn open_fresh<D: Disk>(alloc: Global, disk: &mut D, bytes: &[u8]) -> Result<Opened, OpenError>
+    requires short { length bytes.now ≤ 9 }
+    requires told { IfSome (D.image disk.old) (λ told. told ≡ bytes.now) }
+
+    ensures recovered { IfOk result (λ opened. IsLog bytes.now opened.entries.items) }
+    ensures left { IfOk result (λ opened.
+        IfSome (D.image disk.new) (IsLeft opened.entries.items opened.log_len)) }
+    ensures len { IfOk result (λ opened. opened.log_len ≡ 9) }
+    ensures durable { OnOk result (NothingPending D.image D.may_leave disk.old →
+        NothingPending D.image D.may_leave disk.new) }
+
+    ensures any_moment { IfSome (D.image disk.old) (λ told. Only told (D.may_leave disk.old) →
+        LeavesOnly D.moment D.left_since disk.old disk.new (KeepsRecords told)) }
+
+    ensures refused { IfErr result (λ error. ¬ IsRefusal error) }
+    ensures cause { IsErrOf result OpenError.Disk → Rose (D.faults disk.old) (D.faults disk.new) }
+    ensures later { GoesOn D.image D.faults disk.old disk.new }
+{
+    logs_read_one_way();
+    make_fresh(disk, bytes)?;
+    Ok(Opened {
+        entries: Vec::new(alloc),
+        log_len: FRESH_LEN as u64,
+    })
+}
+
+fn open_named<D: Disk>(alloc: Global, disk: &mut D, bytes: &[u8]) -> Result<Opened, OpenError>
+    requires long { 9 < length bytes.now }
+    requires short { length bytes.now ≤ MOST_LOG }
+    requires told { IfSome (D.image disk.old) (λ told. told ≡ bytes.now) }
+
+    ensures recovered { IfOk result (λ opened. IsLog bytes.now opened.entries.items) }
+    ensures left { IfOk result (λ opened.
+        IfSome (D.image disk.new) (IsLeft opened.entries.items opened.log_len)) }
+    ensures len { IfOk result (λ opened. (9 ≤ opened.log_len) × (opened.log_len ≤ MOST_LOG)) }
+    ensures durable { OnOk result (NothingPending D.image D.may_leave disk.old →
+        NothingPending D.image D.may_leave disk.new) }
+
+    ensures any_moment { IfSome (D.image disk.old) (λ told. Only told (D.may_leave disk.old) →
+        LeavesOnly D.moment D.left_since disk.old disk.new (KeepsRecords told)) }
+
+    ensures refused { IfErr result (IsCauseOf bytes.now) }
+    ensures unchanged { IfErr result (λ error. IsRefusal error → disk.new ≡ disk.old) }
+    ensures cause { IsErrOf result OpenError.Disk → Rose (D.faults disk.old) (D.faults disk.new) }
+    ensures later { GoesOn D.image D.faults disk.old disk.new }
+{
+    logs_read_one_way();
+    let found = read_log(alloc, bytes)?;
+    let gate = (bytes.len() - found.end.len()) as u64;
+    close_end(disk, gate, found.end)?;
+    Ok(Opened {
+        entries: found.entries,
+        log_len: gate + 1,
+    })
+}

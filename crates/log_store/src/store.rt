@@ -1,0 +1,162 @@
+// A store of records over a log on a disk.
+ghost use Rattle.std.specs.Prelude.{◌≡◌, ◌⊎◌, ◌+◌, ◌<◌, ◌≤◌, ◌++◌, ℕ, All, length, true, false, IfSome, IfOk, IfErr, OnOk, OnErr, IsErrOf, IsTrue};
+ghost use Rattle.arn_base.specs.Disk.{Only};
+ghost use Rattle.arn_base.specs.Faults.{Rose};
+ghost use Rattle.result_log.specs.Spelling.{HasSpelling};
+ghost use Rattle.log_store.specs.Causes.{IsCauseOf, IsRefusal};
+ghost use Rattle.log_store.specs.Held.{IsLeftBy, IsBeforeOrAfter, KeepsRecords};
+ghost use Rattle.log_store.specs.Log.{spellings, IsLog};
+ghost use Rattle.log_store.specs.Stops.{NothingPending, LeavesOnly, IsOnlyRead, GoesOn};
+
+use crate::commits::{add_frame, commit_bytes};
+use crate::disks::load;
+use crate::errors::{CommitError, OpenError};
+use crate::opening::{Opened, open_bytes};
+use crate::size::MOST_LOG;
+use arn_base::{Disk, Record};
+use std::alloc::Global;
+use std::marker::Model;
+
+/// The records of a log, and where the log ends. The disk isn't held: each commit is handed the one
+/// that was opened.
+#[derive(Debug, Drop)]
+pub struct Store {
+    alloc: Global,
+    entries: Vec<Record>,
+    // How many bytes the log has. The last of them is the closed gate.
+    log_len: u64,
+    usable: bool,
+}
+
+impl Model for Store {
+    ghost use Rattle.std.specs.Prelude.{◌≤◌};
+    ghost use Rattle.log_store.specs.Held.{Held};
+    ghost use Rattle.log_store.specs.declared.size.TheConstants.{MOST_LOG};
+
+    ghost Value = { Held };
+
+    ghost view = { λ s. record {
+      entries = s.entries.items;
+      log_len = s.log_len;
+      usable = s.usable;
+    } };
+
+    ghost invariant = { λ s. (9 ≤ s.log_len) × (s.log_len ≤ MOST_LOG) };
+}
+
+impl Store {
+    /// Opens the log of a disk, and repairs its end. It reads the log once, whole; of one that is
+    /// too long it reads nothing. What isn't a log is left as it is.
+    ///
+    /// A fresh log, of at most nine bytes, becomes `ARNLOG01` and a gate of 0. Of another it cuts
+    /// off what stands behind the gate that ends it, and then makes that gate 0, each time with a
+    /// sync. A log that is so already takes no call but those that read it.
+    pub fn open_log<D: Disk>(alloc: Global, disk: &mut D) -> Result<Store, OpenError>
+        ensures recovered { IfOk result (λ store.
+            IfSome (D.image disk.old) (λ bytes. IsLog bytes store.entries)) }
+        ensures left { IfOk result (λ store. IfSome (D.image disk.new) (IsLeftBy store)) }
+        ensures short { OnOk result
+            (IfSome (D.image disk.old) (λ bytes. length bytes ≤ MOST_LOG)) }
+        ensures usable { IfOk result (λ store. IsTrue store.usable) }
+        ensures durable { OnOk result (NothingPending D.image D.may_leave disk.old →
+            NothingPending D.image D.may_leave disk.new) }
+
+        // Where nothing is pending at the start, each stop since then leaves a log of the same
+        // records.
+        ensures any_moment { IfSome (D.image disk.old) (λ bytes. Only bytes (D.may_leave disk.old) →
+            LeavesOnly D.moment D.left_since disk.old disk.new (KeepsRecords bytes)) }
+
+        ensures refused { IfErr result (λ error.
+            IfSome (D.image disk.old) (λ bytes. IsCauseOf bytes error)) }
+        ensures too_long { (len : ℕ) → IsErrOf result (OpenError.TooLong len) → MOST_LOG < len }
+        ensures unchanged { IfErr result (λ error. IsRefusal error →
+            IsOnlyRead D.image D.may_leave D.moment D.left_since disk.old disk.new) }
+        ensures cause { IsErrOf result OpenError.Disk →
+            Rose (D.faults disk.old) (D.faults disk.new) }
+        ensures later { GoesOn D.image D.faults disk.old disk.new }
+    {
+        let bytes = load(alloc, disk)?;
+        let Opened { entries, log_len } = open_bytes(alloc, disk, bytes.as_slice())?;
+        Ok(Store {
+            alloc,
+            entries,
+            log_len,
+            usable: true,
+        })
+    }
+
+    /// The records, from the oldest on.
+    pub fn entries(&self) -> &[Record]
+        ensures { result.now ≡ self.now.entries }
+    {
+        self.entries.as_slice()
+    }
+
+    /// Whether another commit can be made. After one at which the disk stopped, the log is to be
+    /// opened again.
+    pub fn usable(&self) -> bool
+        ensures { result ≡ self.now.usable }
+    {
+        self.usable
+    }
+
+    /// Adds records to the log, all of them or none. After Ok a stop of the machine loses none.
+    ///
+    /// It makes its buffer before the first of four calls of the disk: it writes the frame behind
+    /// the closed gate, syncs, opens the gate, and syncs. Every error drops the records.
+    pub fn commit<D: Disk>(
+        &mut self,
+        disk: &mut D,
+        mut entries: Vec<Record>,
+    ) -> Result<(), CommitError>
+        requires usable { IsTrue self.old.usable }
+        requires entries { All HasSpelling entries.items }
+        requires left { IfSome (D.image disk.old) (IsLeftBy self.old) }
+
+        ensures added { OnOk result (self.new.entries ≡ self.old.entries ++ entries.items) }
+        ensures dropped { OnErr result (self.new.entries ≡ self.old.entries) }
+        ensures left { OnOk result (IfSome (D.image disk.new) (IsLeftBy self.new)) }
+        ensures durable { OnOk result (NothingPending D.image D.may_leave disk.new) }
+
+        // Where nothing is pending at the start, each stop since then leaves all of the commit or
+        // none. After Ok nothing is pending, and a stop leaves all.
+        ensures any_moment { IfSome (D.image disk.old) (λ bytes. Only bytes (D.may_leave disk.old) →
+            LeavesOnly D.moment D.left_since disk.old disk.new
+            (IsBeforeOrAfter self.old.entries entries.items)) }
+
+        ensures fits { OnOk result
+            (self.old.log_len + 5 + length (spellings entries.items) ≤ MOST_LOG) }
+        ensures fits_disk { IsErrOf result CommitError.Disk →
+            self.old.log_len + 5 + length (spellings entries.items) ≤ MOST_LOG }
+        ensures full { (log payload : ℕ) → IsErrOf result (CommitError.Full log payload) →
+            (log ≡ self.old.log_len) × (payload ≡ length (spellings entries.items))
+            × (MOST_LOG < log + 5 + payload) }
+        ensures full_unchanged { (log payload : ℕ) → IsErrOf result (CommitError.Full log payload) →
+            (self.new ≡ self.old) × (disk.new ≡ disk.old) }
+        // Before the first call of the disk it changes nothing. Where the disk runs out, the store
+        // can't go on.
+        ensures no_memory { IsErrOf result CommitError.NoMemory →
+            ((self.new ≡ self.old) × (disk.new ≡ disk.old)) ⊎ (self.new.usable ≡ false) }
+        ensures cause { IsErrOf result CommitError.Disk →
+            Rose (D.faults disk.old) (D.faults disk.new) }
+        ensures later { GoesOn D.image D.faults disk.old disk.new }
+
+        ensures usable { OnOk result (IsTrue self.new.usable) }
+        ensures unusable { IsErrOf result CommitError.Disk → self.new.usable ≡ false }
+    {
+        let bytes = commit_bytes(self.alloc, self.log_len, entries.as_slice())?;
+        let before = self.entries.len();
+        self.entries.append(&mut entries)?;
+        match add_frame(disk, self.log_len, bytes.as_slice()) {
+            Ok(()) => {
+                self.log_len += bytes.len() as u64;
+                Ok(())
+            }
+            Err(stop) => {
+                self.entries.truncate(before);
+                self.usable = false;
+                Err(CommitError::from(stop))
+            }
+        }
+    }
+}

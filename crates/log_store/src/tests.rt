@@ -1,0 +1,150 @@
+ghost use Rattle.std.specs.Prelude.{All, IfOk};
+ghost use Rattle.result_log.specs.Spelling.{HasSpelling, IsCounted, IsName};
+
+use crate::{CommitError, OpenError, Store, frame_end};
+use arn_base::{Bytes, NoMemory, Numbers, Record};
+use log_disk::{FuseDisk, MemDisk};
+use std::alloc::Global;
+use std::test::Fail;
+
+// The name, an open gate, and the frame of the file `a` with the bytes `ab`.
+const FIRST: [u8; 22] = *b"ARNLOG01\x01\x09\0\0\0\x01\x01a\x02\0\0\0ab";
+
+// Behind a gate, the frame of the file `b` with the byte `c`, and a closed gate.
+const SECOND: [u8; 13] = *b"\x08\0\0\0\x01\x01b\x01\0\0\0c\0";
+
+fn file(alloc: Global, name: &[u8], bytes: &[u8]) -> Result<Record, NoMemory>
+    requires name { IsName name.now }
+    requires bytes { IsCounted bytes.now }
+    ensures { IfOk result HasSpelling }
+{
+    Ok(Record::File {
+        name: Bytes::from_slice(alloc, name)?,
+        bytes: Bytes::from_slice(alloc, bytes)?,
+    })
+}
+
+fn one(alloc: Global, entry: Record) -> Result<Vec<Record>, NoMemory>
+    requires { HasSpelling entry }
+    ensures { IfOk result (λ entries. All HasSpelling entries.items) }
+{
+    let mut entries = Vec::new(alloc);
+    entries.push(entry)?;
+    Ok(entries)
+}
+
+// The first frame, and then a gate and bytes.
+fn behind_first(alloc: Global, gate: u8, rest: &[u8]) -> Result<Bytes, NoMemory> {
+    let mut bytes = Bytes::from_slice(alloc, &FIRST)?;
+    bytes.push(gate)?;
+    for byte in rest {
+        bytes.push(*byte)?;
+    }
+    Ok(bytes)
+}
+
+// How many records the log of these bytes holds.
+fn count(alloc: Global, bytes: &[u8]) -> Result<usize, OpenError> {
+    let mut disk = MemDisk::new(alloc, Bytes::from_slice(alloc, bytes)?);
+    Ok(Store::open_log(alloc, &mut disk)?.entries().len())
+}
+
+#[test]
+fn opens_logs_by_their_gates(rt: HostRuntime) -> Result<(), Fail> {
+    let alloc = rt.alloc();
+    assert_eq!(rt; count(alloc, b""), Ok(0));
+    assert_eq!(rt; count(alloc, b"ARNLOG01\x01"), Ok(0));
+    assert_eq!(rt;
+        count(alloc, behind_first(alloc, 0, &[])?.as_slice()),
+        Ok(1)
+    );
+    assert_eq!(rt;
+        count(alloc, behind_first(alloc, 1, &[])?.as_slice()),
+        Ok(1)
+    );
+    assert_eq!(rt;
+        count(alloc, behind_first(alloc, 7, &SECOND)?.as_slice()),
+        Ok(1)
+    );
+    assert_eq!(rt;
+        count(alloc, behind_first(alloc, 1, &SECOND)?.as_slice()),
+        Ok(2)
+    );
+    Ok(())
+}
+
+#[test]
+fn says_where_bytes_are_no_log(rt: HostRuntime) -> Result<(), Fail> {
+    let alloc = rt.alloc();
+    assert_eq!(rt;
+        count(alloc, b"ARNLOG99\0\0"),
+        Err(OpenError::NotLog { at: 6 })
+    );
+    assert_eq!(rt;
+        count(alloc, &FIRST[..20]),
+        Err(OpenError::Malformed { at: 8 })
+    );
+    assert_eq!(rt; count(alloc, &FIRST), Err(OpenError::Malformed { at: 8 }));
+    let unknown = b"ARNLOG01\x01\x02\0\0\0\x09\x09\0";
+    assert_eq!(rt; count(alloc, unknown), Err(OpenError::Malformed { at: 13 }));
+    Ok(())
+}
+
+#[test]
+fn commits_behind_what_was_there(rt: HostRuntime) -> Result<(), Fail> {
+    let alloc = rt.alloc();
+    let mut disk = MemDisk::new(alloc, behind_first(alloc, 7, &SECOND)?);
+    let mut store = Store::open_log(alloc, &mut disk)?;
+    assert_eq!(rt; disk.bytes(), behind_first(alloc, 0, &[])?.as_slice());
+    let entry = file(alloc, b"b", b"c")?;
+    store.commit(&mut disk, one(alloc, entry)?)?;
+    assert_eq!(rt; disk.bytes(), behind_first(alloc, 1, &SECOND)?.as_slice());
+    let want = [file(alloc, b"a", b"ab")?, file(alloc, b"b", b"c")?];
+    assert_eq!(rt; store.entries(), want.as_slice());
+    assert!(rt; store.usable());
+    Ok(())
+}
+
+// The opening takes calls 0 and 1. What the calls 2 to 5 of a commit leave where one of them fails:
+// the bytes that a stop may change are all the same.
+#[test]
+fn a_stopped_commit_is_whole_or_not_there(rt: HostRuntime) -> Result<(), Fail> {
+    let alloc = rt.alloc();
+    for (call, fill, want) in [
+        (2, 0, 1),
+        (2, 1, 1),
+        (2, 0xff, 1),
+        (3, 0, 1),
+        (3, 1, 1),
+        (3, 0xff, 1),
+        (4, 0, 1),
+        (4, 1, 2),
+        (4, 0xff, 1),
+        (5, 0, 1),
+        (5, 1, 2),
+        (5, 0xff, 1),
+    ] {
+        let mut fails = Numbers::new(alloc);
+        fails.push(call)?;
+        let mut disk = FuseDisk::new(alloc, behind_first(alloc, 0, &[])?, fails);
+        let mut store = Store::open_log(alloc, &mut disk)?;
+        let entry = file(alloc, b"b", b"c")?;
+        assert_eq!(rt;
+            store.commit(&mut disk, one(alloc, entry)?),
+            Err(CommitError::Disk)
+        );
+        assert!(rt; !store.usable());
+        assert_eq!(rt; store.entries().len(), 1);
+        let left = disk.crash_with(alloc, Some(fill), false)?;
+        assert_eq!(rt; count(alloc, left.as_slice()), Ok(want));
+    }
+    Ok(())
+}
+
+#[test]
+fn a_log_may_be_full(rt: HostRuntime) -> Result<(), Fail> {
+    assert_eq!(rt; frame_end(268_435_000, 451), Some(268_435_456));
+    assert_eq!(rt; frame_end(268_435_000, 452), None);
+    assert_eq!(rt; frame_end(u64::MAX, u64::MAX), None);
+    Ok(())
+}
