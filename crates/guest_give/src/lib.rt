@@ -1,0 +1,88 @@
+//! Bytes that a process is given, and where they came from.
+#![tactic(auto)]
+
+ghost use Rattle.std.specs.Prelude.{◌≡◌, ◌<◌, ◌≤◌, ◌^◌, ◌++◌, ◌==◌, ◌+◌, ◌&&◌, ◌∷◌, [], length, map, IfOk, option_to_list};
+ghost use Rattle.arn_model.specs.Step.{given, one_origin, origins_of, values};
+ghost use Rattle.guest_give.specs.Runs.{goes_on, with_place};
+
+use arn_base::{Bytes, Give, NoMemory, Origin, Origins, Src};
+use arn_model::Held;
+use std::alloc::Global;
+
+/// The bytes without their origins, and their origins as the longest runs: neighbours of one event
+/// whose places follow each other are one origin.
+pub fn give_of(alloc: Global, held: &[Held]) -> Result<Give, NoMemory>
+    requires few { length held.now < 2 ^ 32 }
+    ensures given { IfOk result (λ give. give ≡ given held.now) }
+{
+    Ok(Give {
+        bytes: bytes_of(alloc, held)?,
+        origins: origins(alloc, held)?,
+    })
+}
+
+fn bytes_of(alloc: Global, held: &[Held]) -> Result<Bytes, NoMemory>
+    ensures { IfOk result (λ bytes. bytes ≡ values held.now) }
+{
+    let mut bytes = Bytes::new(alloc);
+    for byte in held {
+        bytes.push(byte.value)?;
+    }
+    Ok(bytes)
+}
+
+fn origins(alloc: Global, held: &[Held]) -> Result<Origins, NoMemory>
+    requires few { length held.now < 2 ^ 32 }
+    ensures { IfOk result (λ origins. origins ≡ origins_of (map (λ byte. byte.origin) held.now)) }
+{
+    let mut origins = Origins::new(alloc);
+    let mut last: Option<Origin> = None;
+    for byte in held {
+        last = Some(match last {
+            Some(run) => go_on(&mut origins, run, byte.origin)?,
+            None => single(byte.origin),
+        });
+    }
+    if let Some(run) = last {
+        origins.push(run)?;
+    }
+    Ok(origins)
+}
+
+// The last run with one more place; where the place isn't the next one, the run is kept and another
+// one begins.
+fn go_on(origins: &mut Origins, run: Origin, place: Src) -> Result<Origin, NoMemory>
+    requires few { run.len + 1 < 2 ^ 32 }
+    ensures runs { IfOk result (λ last.
+        origins.new ++ last ∷ [] ≡ with_place (origins.old ++ run ∷ []) place) }
+    ensures few { IfOk result (λ last. last.len ≤ run.len + 1) }
+{
+    if is_next(&run, place) {
+        return Ok(Origin {
+            len: run.len + 1,
+            ..run
+        });
+    }
+    origins.push(run)?;
+    Ok(single(place))
+}
+
+// Whether the place is the one behind those of the origin.
+fn is_next(run: &Origin, place: Src) -> bool
+    ensures { result ≡ goes_on run.now place }
+{
+    run.event == place.event && u64::from(run.at) + u64::from(run.len) == u64::from(place.at)
+}
+
+fn single(place: Src) -> Origin
+    ensures { result ≡ one_origin place }
+{
+    Origin {
+        event: place.event,
+        at: place.at,
+        len: 1,
+    }
+}
+
+#[cfg(test)]
+mod tests;

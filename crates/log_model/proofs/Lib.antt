@@ -1,0 +1,3 @@
+pub mod SliceForms
+pub mod RecordForms
+pub mod Examples
