@@ -1,12 +1,13 @@
 -- Origins grow behind as they grow in front.
-use Rattle.std.proofs.Common.{◌≡◌, ℕ, ◌+◌, ◌++◌, ◌∙◌, ◌==◌, ◌&&◌, Bool, true, false, if◌then◌else◌, List, [], ◌∷◌, Option, None, Some, IfSome, option_to_list, ◌<◌, ◌≤◌, length, map, take, get_or, append-nil, refl, sym, ap, subst, arith}
-use Rattle.std.proofs.lemmas.Bool.{eqb-true}
+use Rattle.std.proofs.Common.{◌≡◌, ℕ, suc, ◌+◌, ◌++◌, ◌∙◌, ◌==◌, ◌&&◌, Bool, true, false, if◌then◌else◌, List, [], ◌∷◌, Option, None, Some, IfSome, option_to_list, ◌<◌, ◌≤◌, length, map, take, get_or, append-nil, refl, sym, ap, subst, arith}
+use Rattle.std.proofs.lemmas.Bool.{eqb-true, eq-eqb}
 use Rattle.std.proofs.lemmas.List.{take_more, map-append}
 use Rattle.arn_base.specs.declared.records.Src.{Src}
 use Rattle.arn_base.specs.declared.records.Origin.{Origin}
+use Rattle.arn_base.specs.declared.records.Give.{Give}
 use Rattle.arn_model.specs.declared.history.Held.{Held}
-use Rattle.arn_model.specs.Step.{one_origin, comes_before, onto_origins, origins_of}
-use Rattle.guest_give.specs.Runs.{goes_on, with_place}
+use Rattle.arn_model.specs.Step.{given, held_bytes, held_from, values, one_origin, comes_before, onto_origins, origins_of}
+use Rattle.guest_give.specs.Runs.{goes_on, with_place, whole_run}
 
 -- where a place comes before an origin, a further one goes on with both alike
 goes_on-longer : (q p : Src) (o : Origin) (a b : Bool) → (q.event == o.event) ≡ a → (q.at + 1 == o.at) ≡ b → a && b ≡ true → goes_on (record { event = q.event; at = q.at; len = o.len + 1 }) p ≡ goes_on o p
@@ -103,3 +104,31 @@ RunsSoFar-on held i d kept kept' last last' run run' within s was on few is =
       has_last = subst (HasLast kept') (sym is) tt;
       few = subst (λ (o : Option Origin). IfSome o (λ run. run.len ≤ i + 1)) (sym is) (omega (arith, few, t.few));
     }
+
+-- the bytes of an event from a place on are one run
+origins_of-held : (event at b : ℕ) (bytes : List ℕ) → origins_of (map (λ h. h.origin) (held_from event at (b ∷ bytes))) ≡ record { event = event; at = at; len = suc (length bytes) } ∷ []
+origins_of-held event at b [] = refl
+origins_of-held event at b (c ∷ bytes) =
+    let first : Src = record { event = event; at = at } in
+    let run : Origin = record { event = event; at = at + 1; len = suc (length bytes) } in
+    let before : comes_before first run ≡ true = and-both (eq-eqb event event refl) (eq-eqb (at + 1) (at + 1) refl) in
+    ap (onto_origins first) (origins_of-held event (at + 1) c bytes)
+    ∙ ap (λ (x : Bool). if x then record { event = event; at = at; len = run.len + 1 } ∷ [] else one_origin first ∷ run ∷ []) before
+    ∙ ap (λ (n : ℕ). record { event = event; at = at; len = n } ∷ []) (omega arith)
+  where
+    and-both : {a b : Bool} → a ≡ true → b ≡ true → a && b ≡ true
+    and-both p q = rw (p, q) refl
+
+pub origins_of-whole : (event : ℕ) (bytes : List ℕ) → origins_of (map (λ h. h.origin) (held_bytes event bytes)) ≡ whole_run event (length bytes)
+origins_of-whole event [] = refl
+origins_of-whole event (b ∷ bytes) = origins_of-held event 0 b bytes
+
+-- the bytes of an event without their origins
+values-held_from : (event at : ℕ) (bytes : List ℕ) → values (held_from event at bytes) ≡ bytes
+values-held_from event at [] = refl
+values-held_from event at (b ∷ bytes) = ap (λ (x : List ℕ). b ∷ x) (values-held_from event (at + 1) bytes)
+
+pub given-whole : (event : ℕ) (bytes : List ℕ) (give : Give) → give.bytes ≡ bytes → give.origins ≡ whole_run event (length bytes) → give ≡ given (held_bytes event bytes)
+given-whole event bytes give are runs =
+    ap (λ (x : List ℕ). record { bytes = x; origins = give.origins }) (are ∙ sym (values-held_from event 0 bytes))
+    ∙ ap (λ (x : List Origin). record { bytes = values (held_bytes event bytes); origins = x }) (runs ∙ sym (origins_of-whole event bytes))

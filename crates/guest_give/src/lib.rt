@@ -2,8 +2,8 @@
 #![tactic(auto)]
 
 ghost use Rattle.std.specs.Prelude.{◌≡◌, ◌<◌, ◌≤◌, ◌^◌, ◌++◌, ◌==◌, ◌+◌, ◌&&◌, ◌∷◌, [], length, map, IfOk, option_to_list};
-ghost use Rattle.arn_model.specs.Step.{given, one_origin, origins_of, values};
-ghost use Rattle.guest_give.specs.Runs.{goes_on, with_place};
+ghost use Rattle.arn_model.specs.Step.{given, held_bytes, one_origin, origins_of, values};
+ghost use Rattle.guest_give.specs.Runs.{goes_on, with_place, whole_run};
 
 use arn_base::{Bytes, Give, NoMemory, Origin, Origins, Src};
 use arn_model::Held;
@@ -19,6 +19,28 @@ pub fn give_of(alloc: Global, held: &[Held]) -> Result<Give, NoMemory>
         bytes: bytes_of(alloc, held)?,
         origins: origins(alloc, held)?,
     })
+}
+
+/// All the bytes of an event, which are one run.
+pub fn give_whole(alloc: Global, event: u64, bytes: &[u8]) -> Result<Give, NoMemory>
+    requires few { length bytes.now < 2 ^ 32 }
+    ensures given { IfOk result (λ give. give ≡ given (held_bytes event bytes.now)) }
+{
+    Ok(Give {
+        bytes: Bytes::from_slice(alloc, bytes)?,
+        origins: whole(alloc, event, bytes.len() as u32)?,
+    })
+}
+
+// One run of all bytes of an event, if it has any.
+fn whole(alloc: Global, event: u64, len: u32) -> Result<Origins, NoMemory>
+    ensures { IfOk result (λ origins. origins ≡ whole_run event len) }
+{
+    let mut origins = Origins::new(alloc);
+    if len > 0 {
+        origins.push(Origin { event, at: 0, len })?;
+    }
+    Ok(origins)
 }
 
 fn bytes_of(alloc: Global, held: &[Held]) -> Result<Bytes, NoMemory>

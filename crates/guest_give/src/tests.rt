@@ -1,4 +1,4 @@
-use crate::give_of;
+use crate::{give_of, give_whole};
 use arn_base::{Origin, Src};
 use arn_model::Held;
 use std::test::Fail;
@@ -51,5 +51,21 @@ fn nothing_has_no_origin(rt: HostRuntime) -> Result<(), Fail> {
     let give = give_of(rt.alloc(), &[])?;
     assert!(rt; give.bytes.as_slice().is_empty());
     assert!(rt; give.origins.as_slice().is_empty());
+    Ok(())
+}
+
+#[test]
+fn all_bytes_of_an_event_are_one_origin(rt: HostRuntime) -> Result<(), Fail> {
+    let give = give_whole(rt.alloc(), 5, b"ab")?;
+    assert_eq!(rt; give.bytes.as_slice(), b"ab".as_slice());
+    assert_eq!(rt;
+        give.origins.as_slice(),
+        [Origin {
+            event: 5,
+            at: 0,
+            len: 2
+        }]
+        .as_slice()
+    );
     Ok(())
 }

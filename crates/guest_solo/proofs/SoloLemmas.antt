@@ -20,8 +20,11 @@ use Rattle.arn_model.specs.Deed.{is_instruction}
 use Rattle.arn_model.specs.Call.{CallOutcome, Waits, Answers, Ends, Takes, Writes, called, call_step, is_waiting}
 use Rattle.arn_model.specs.Slice.{isnt_waiting, is_live, stands_at, effect_step, step_if_live, step_if_made, can_go_on, is_runnable, is_possible, steps_of, after_steps, step_then, unless_ended}
 use Rattle.arn_model.specs.declared.limits.TheConstants.{MOST_FILE_BYTES, MOST_SLICE}
-use Rattle.arn_model.specs.Run.{file_among, can_add, file_step, typed_step, is_booted, is_free, is_name, find_file, input_steps, after_input, boot_if_found, boot_if_held, boot_if_image, boot_step, instructions_in, outputs_from}
-use Rattle.arn_model.specs.declared.history.Output.{Output}
+use Rattle.arn_model.specs.Run.{file_among, can_add, file_step, typed_step, is_booted, is_free, is_name, find_file, input_steps, after_input, boot_if_found, boot_if_held, boot_if_image, boot_step, instructions_in}
+use Rattle.log_model.specs.Records.{event_records}
+use Rattle.arn_base.specs.declared.records.Record.{Record}
+use Rattle.arn_base.specs.declared.records.Record.TheVariants as entry
+use Rattle.arn_base.specs.declared.records.Give.{Give}
 use Rattle.guest_solo.specs.Start.{StartsFrom}
 use Rattle.guest_solo.specs.Turn.{machine_with, IsTurn}
 use Rattle.guest_solo.proofs.TurnLemmas.{instructions_in-cons}
@@ -182,6 +185,13 @@ moved-boot s path k f st none found within is starts some =
     ∙ ap (λ (len : ℕ). move.Starts starts.image.load (first_event (given (held_bytes f.event f.bytes)).origins) len ∷ []) (sym (length-held f.event 0 f.bytes))
     ∙ sym (ap (moves_from m) (boot-found s path k f none found within is ∙ ap (boot_if_image m path k (held_bytes f.event f.bytes)) starts.is_image))
 
+-- the record of a boot
+pub recorded-boot : (s : Inside) (path : List ℕ) (k : ℕ) (f : BootFile) (st : Started) (give : Give) → is_some s.guest ≡ false → file_among (names_from 0 s.files.items) path ≡ Some k → k < length s.files.items → f ≡ slice_index_or s.files.items k f → StartsFrom f.bytes st → give ≡ given (held_bytes f.event f.bytes) → entry.Boot path give ∷ [] ≡ event_records (input_steps (machine_of s) (input.Boot path))
+recorded-boot s path k f st give none found within is starts gave =
+    let m = machine_of s in
+    ap (λ (g : Give). entry.Boot path g ∷ []) gave
+    ∙ sym (ap event_records (boot-found s path k f none found within is ∙ ap (boot_if_image m path k (held_bytes f.event f.bytes)) starts.is_image))
+
 -- the machine of a guest in terms of the parts that it changes
 pub machine_of-guest : (s : Inside) (g : Guest) → s.guest ≡ Some g → machine_of s ≡ machine_with (machine_of s) g s.typed.items s.taken s.events
 machine_of-guest s g is =
@@ -247,20 +257,20 @@ ok_both T E (Ok t) P Q p q = (p, q)
 ok_both T E (Err e) P Q p q = tt
 
 -- what a slice did, in the model's words
-pub record IsSlice (m : Machine) (count ran : ℕ) (outputs : List Output) (moves : List Move) : Type 0 where
+pub record IsSlice (m : Machine) (count ran : ℕ) (records : List Record) (moves : List Move) : Type 0 where
   pub ran_is : ran ≡ instructions_in (input_steps m (input.Slice 1 count))
-  pub outputs_are : outputs ≡ outputs_from m.events (input_steps m (input.Slice 1 count))
+  pub records_are : records ≡ event_records (input_steps m (input.Slice 1 count))
   pub moves_are : moves ≡ moves_from m (input_steps m (input.Slice 1 count))
   pub some : 1 ≤ ran
 
-pub slice-turn : (s : Inside) (m : Machine) (g : Guest) (typed : List Held) (count : ℕ) (m' : Machine) (ran : ℕ) (outputs : List Output) (moves : List Move) → machine_of s ≡ m → s.guest ≡ Some g → typed ≡ s.typed.items → is_possible m 1 count ≡ true → IsTurn (machine_with (machine_of s) g typed s.taken s.events) count m' ran outputs moves → IsSlice m count ran outputs moves
-slice-turn s m g typed count m' ran outputs moves view guest same possible turn =
-    let t : IsTurn m count m' ran outputs moves = subst (λ (x : Machine). IsTurn x count m' ran outputs moves) (ap (λ (held : List Held). machine_with (machine_of s) g held s.taken s.events) same ∙ sym (machine_of-guest s g guest) ∙ view) turn in
+pub slice-turn : (s : Inside) (m : Machine) (g : Guest) (typed : List Held) (count : ℕ) (m' : Machine) (ran : ℕ) (records : List Record) (moves : List Move) → machine_of s ≡ m → s.guest ≡ Some g → typed ≡ s.typed.items → is_possible m 1 count ≡ true → IsTurn (machine_with (machine_of s) g typed s.taken s.events) count m' ran records moves → IsSlice m count ran records moves
+slice-turn s m g typed count m' ran records moves view guest same possible turn =
+    let t : IsTurn m count m' ran records moves = subst (λ (x : Machine). IsTurn x count m' ran records moves) (ap (λ (held : List Held). machine_with (machine_of s) g held s.taken s.events) same ∙ sym (machine_of-guest s g guest) ∙ view) turn in
     let steps = slice-steps m count possible in
     let some = slice-some m count possible in
     record {
       ran_is = sym (ap instructions_in steps ∙ t.instructions);
-      outputs_are = sym (ap (outputs_from m.events) steps ∙ t.written);
+      records_are = sym (ap event_records steps ∙ t.recorded);
       moves_are = sym (ap (moves_from m) steps ∙ t.moved);
       some = omega (arith, some, t.instructions);
     }

@@ -8,15 +8,17 @@ use Rattle.arn_base.specs.declared.records.Src.{Src}
 use Rattle.arn_base.specs.Window.{Window, bytes_at, with_bytes}
 use Rattle.guest_mem.specs.Windows.{private_window}
 use Rattle.arn_model.specs.declared.history.Held.{Held}
-use Rattle.arn_model.specs.declared.history.Output.{Output}
+use Rattle.arn_base.specs.declared.records.Give.{Give}
+use Rattle.arn_base.specs.declared.records.Record.{Record}
 use Rattle.arn_model.specs.Machine.{Machine, Console, with_windows}
 use Rattle.arn_model.specs.Instruction.{Next, Call, End, instruction}
-use Rattle.arn_model.specs.Step.{Step, is_event, values, event_counted}
+use Rattle.arn_model.specs.Step.{Step, is_event, values, given, event_counted}
 use Rattle.arn_model.specs.Call.{CallOutcome, Waits, Answers, Ends, Takes, Writes, called, call_step, returned, with_result, without_queued, number}
 use Rattle.arn_model.specs.Slice.{next_step, steps_of, step_then, step_if_live, effect_step, after_steps, unless_ended, instr_step, fault_step}
 use Rattle.std.proofs.lemmas.List.Sums.{sum_by-cons}
 use Rattle.arn_model.specs.Deed.{is_instruction}
-use Rattle.arn_model.specs.Run.{instructions_in, outputs_from, output_of}
+use Rattle.arn_model.specs.Run.{instructions_in}
+use Rattle.log_model.specs.Records.{event_records}
 use Rattle.arn_base.specs.declared.records.Record.TheVariants as entry
 use Rattle.arn_base.specs.declared.records.Extra.TheVariants as extra
 use Rattle.guest_solo.specs.declared.guest.Guest.{Guest}
@@ -35,12 +37,12 @@ next_of m g typed taken events live =
     ap (λ (b : Bool). step_if_live (life_of b) (machine_with m g typed taken events) 1 (process_of g)) live
 
 -- a slice whose steps are known
-turn_by : (m : Machine) (count : ℕ) (steps : List Step) (m' : Machine) (ran : ℕ) (outputs : List Output) (moves : List Move) → steps_of count 1 m ≡ steps → after_steps m steps ≡ m' → instructions_in steps ≡ ran → outputs_from m.events steps ≡ outputs → moves_from m steps ≡ moves → IsTurn m count m' ran outputs moves
-turn_by m count steps m' ran outputs moves are after instructions written moved =
+turn_by : (m : Machine) (count : ℕ) (steps : List Step) (m' : Machine) (ran : ℕ) (records : List Record) (moves : List Move) → steps_of count 1 m ≡ steps → after_steps m steps ≡ m' → instructions_in steps ≡ ran → event_records steps ≡ records → moves_from m steps ≡ moves → IsTurn m count m' ran records moves
+turn_by m count steps m' ran records moves are after instructions recorded moved =
     record {
       after = ap (after_steps m) are ∙ after;
       instructions = ap instructions_in are ∙ instructions;
-      written = ap (outputs_from m.events) are ∙ written;
+      recorded = ap event_records are ∙ recorded;
       moved = ap (moves_from m) are ∙ moved;
     }
 
@@ -60,12 +62,12 @@ steps_of-quiet m k s is quiet =
 
 -- no instructions
 pub turn-none : (m : Machine) → IsTurn m 0 m 0 [] []
-turn-none m = record { after = refl; instructions = refl; written = refl; moved = refl }
+turn-none m = record { after = refl; instructions = refl; recorded = refl; moved = refl }
 
 -- a slice whose first step is an event
-turn-event : (m : Machine) (k : ℕ) (s : Step) (m' : Machine) (ran : ℕ) (outputs : List Output) (moves : List Move) → next_step m 1 ≡ Some s → is_event s ≡ true → s.after ≡ m' → instructions_in (s ∷ []) ≡ ran → outputs_from m.events (s ∷ []) ≡ outputs → moves_from m (s ∷ []) ≡ moves → IsTurn m (suc k) m' ran outputs moves
-turn-event m k s m' ran outputs moves is event after instructions written moved =
-    turn_by m (suc k) (s ∷ []) m' ran outputs moves (steps_of-event m k s is event) after instructions written moved
+turn-event : (m : Machine) (k : ℕ) (s : Step) (m' : Machine) (ran : ℕ) (records : List Record) (moves : List Move) → next_step m 1 ≡ Some s → is_event s ≡ true → s.after ≡ m' → instructions_in (s ∷ []) ≡ ran → event_records (s ∷ []) ≡ records → moves_from m (s ∷ []) ≡ moves → IsTurn m (suc k) m' ran records moves
+turn-event m k s m' ran records moves is event after instructions recorded moved =
+    turn_by m (suc k) (s ∷ []) m' ran records moves (steps_of-event m k s is event) after instructions recorded moved
 
 -- the next step at a call
 next_of-call : (m : Machine) (g : Guest) (typed : List Held) (taken events : ℕ) (o : CallOutcome) → g.live ≡ true → instruction g.cpu (private_window g.space) ≡ Call → called (machine_with m g typed taken events) (process_of g) ≡ o → next_step (machine_with m g typed taken events) 1 ≡ call_step (machine_with m g typed taken events) 1 (process_of g) o
@@ -84,18 +86,18 @@ turn-waits m g typed taken events queued k live call q is =
     turn_by M (suc k) [] M 0 [] [] (steps_of-none M k (next_of-call m g typed taken events Waits live call (asked M (has_console m g typed taken events)))) refl refl refl refl
 
 -- a call that ends with a result and moves no bytes
-pub turn-answers : (m : Machine) (g : Guest) (typed : List Held) (taken events queued k r num : ℕ) (cpu : Cpu) → g.live ≡ true → instruction g.cpu (private_window g.space) ≡ Call → queued ≡ length typed - taken → IsRequest (process_of g) queued (request.Answers r) → cpu ≡ returned g.cpu r → num ≡ number (process_of g) → IsTurn (machine_with m g typed taken events) (suc k) (machine_with m (record { cpu = cpu; space = g.space; live = g.live }) typed taken (events + 1)) 1 [] (move.Returns num ∷ [])
+pub turn-answers : (m : Machine) (g : Guest) (typed : List Held) (taken events queued k r num : ℕ) (cpu : Cpu) → g.live ≡ true → instruction g.cpu (private_window g.space) ≡ Call → queued ≡ length typed - taken → IsRequest (process_of g) queued (request.Answers r) → cpu ≡ returned g.cpu r → num ≡ number (process_of g) → IsTurn (machine_with m g typed taken events) (suc k) (machine_with m (record { cpu = cpu; space = g.space; live = g.live }) typed taken (events + 1)) 1 (entry.Call 1 num r extra.Nothing ∷ []) (move.Returns num ∷ [])
 turn-answers m g typed taken events queued k r num cpu live call q is same numbered =
     let M = machine_with m g typed taken events in
     let asked = subst (λ (n : ℕ). IsRequest (process_of g) n (request.Answers r)) q is in
-    turn-event M k _ _ 1 [] _ (next_of-call m g typed taken events (Answers r) live call (asked M (has_console m g typed taken events))) refl (ap (λ (c : Cpu). machine_with m (record { cpu = c; space = g.space; live = g.live }) typed taken (events + 1)) (sym same)) refl refl (ap (λ (n : ℕ). move.Returns n ∷ []) (sym numbered))
+    turn-event M k _ _ 1 _ _ (next_of-call m g typed taken events (Answers r) live call (asked M (has_console m g typed taken events))) refl (ap (λ (c : Cpu). machine_with m (record { cpu = c; space = g.space; live = g.live }) typed taken (events + 1)) (sym same)) refl (ap (λ (n : ℕ). entry.Call 1 n r extra.Nothing ∷ []) (sym numbered)) (ap (λ (n : ℕ). move.Returns n ∷ []) (sym numbered))
 
 -- an exit
-pub turn-exits : (m : Machine) (g : Guest) (typed : List Held) (taken events queued k status : ℕ) → g.live ≡ true → instruction g.cpu (private_window g.space) ≡ Call → queued ≡ length typed - taken → IsRequest (process_of g) queued (request.Ends status) → IsTurn (machine_with m g typed taken events) (suc k) (machine_with m (record { cpu = g.cpu; space = g.space; live = false }) typed taken (events + 1)) 1 [] (move.Ends ∷ [])
-turn-exits m g typed taken events queued k status live call q is =
+pub turn-exits : (m : Machine) (g : Guest) (typed : List Held) (taken events queued k status num : ℕ) → g.live ≡ true → instruction g.cpu (private_window g.space) ≡ Call → queued ≡ length typed - taken → IsRequest (process_of g) queued (request.Ends status) → num ≡ number (process_of g) → IsTurn (machine_with m g typed taken events) (suc k) (machine_with m (record { cpu = g.cpu; space = g.space; live = false }) typed taken (events + 1)) 1 (entry.Call 1 num 0 extra.Nothing ∷ []) (move.Ends ∷ [])
+turn-exits m g typed taken events queued k status num live call q is numbered =
     let M = machine_with m g typed taken events in
     let asked = subst (λ (n : ℕ). IsRequest (process_of g) n (request.Ends status)) q is in
-    turn-event M k _ _ 1 [] _ (next_of-call m g typed taken events (Ends status) live call (asked M (has_console m g typed taken events))) refl refl refl refl refl
+    turn-event M k _ _ 1 _ _ (next_of-call m g typed taken events (Ends status) live call (asked M (has_console m g typed taken events))) refl refl refl (ap (λ (n : ℕ). entry.Call 1 n 0 extra.Nothing ∷ []) (sym numbered)) refl
 
 -- the machine with another queue
 queue_with : Machine → Guest → ℕ → List Held → ℕ → Machine
@@ -108,17 +110,19 @@ queue_with m g taken queue events =
     }
 
 -- a read: the bytes that are taken lie at the address
-pub turn-takes : (m : Machine) (g : Guest) (typed : List Held) (taken events queued k at n : ℕ) (cpu : Cpu) (space : List ℕ) (places : List Src) → g.live ≡ true → instruction g.cpu (private_window g.space) ≡ Call → queued ≡ length typed - taken → IsRequest (process_of g) queued (request.Takes at n) → cpu ≡ returned g.cpu n → private_window space ≡ with_bytes (private_window g.space) at (values (take n (drop taken typed))) → places ≡ map (λ h. h.origin) (take n (drop taken typed)) → IsTurn (machine_with m g typed taken events) (suc k) (machine_with m (record { cpu = cpu; space = space; live = g.live }) typed (taken + n) (events + 1)) 1 [] (move.Receives at places ∷ [])
+pub turn-takes : (m : Machine) (g : Guest) (typed : List Held) (taken events queued k at n num : ℕ) (cpu : Cpu) (space : List ℕ) (places : List Src) (give : Give) → g.live ≡ true → instruction g.cpu (private_window g.space) ≡ Call → queued ≡ length typed - taken → IsRequest (process_of g) queued (request.Takes at n) → num ≡ number (process_of g) → cpu ≡ returned g.cpu n → private_window space ≡ with_bytes (private_window g.space) at (values (take n (drop taken typed))) → places ≡ map (λ h. h.origin) (take n (drop taken typed)) → give ≡ given (take n (drop taken typed)) → IsTurn (machine_with m g typed taken events) (suc k) (machine_with m (record { cpu = cpu; space = space; live = g.live }) typed (taken + n) (events + 1)) 1 (entry.Call 1 num n (extra.Give give) ∷ []) (move.Receives at places ∷ [])
 unfolding queue_with
-turn-takes m g typed taken events queued k at n cpu space places live call q is same put from =
+turn-takes m g typed taken events queued k at n num cpu space places give live call q is numbered same put from gave =
     let M = machine_with m g typed taken events in
     let asked = subst (λ (n' : ℕ). IsRequest (process_of g) n' (request.Takes at n)) q is in
-    turn-event M k _ _ 1 [] _ (next_of-call m g typed taken events (Takes at n) live call (asked M (has_console m g typed taken events))) refl
+    turn-event M k _ _ 1 _ _ (next_of-call m g typed taken events (Takes at n) live call (asked M (has_console m g typed taken events))) refl
     (
     ap (λ (ws : List Window). event_counted (with_windows (without_queued M n) 1 (with_result (process_of g) n) ws)) (sym put)
     ∙ ap (λ (c : Cpu). queue_with m (record { cpu = c; space = space; live = g.live }) (taken + n) (drop n (drop taken typed)) (events + 1)) (sym same)
     ∙ ap (λ (q : List Held). queue_with m (record { cpu = cpu; space = space; live = g.live }) (taken + n) q (events + 1)) (drop-drop n taken typed)
-    ) refl refl (ap (λ (ps : List Src). move.Receives at ps ∷ []) (sym from))
+    ) refl
+    (ap (λ (x : ℕ). entry.Call 1 x n (extra.Give (given (take n (drop taken typed)))) ∷ []) (sym numbered) ∙ ap (λ (x : Give). entry.Call 1 num n (extra.Give x) ∷ []) (sym gave))
+    (ap (λ (ps : List Src). move.Receives at ps ∷ []) (sym from))
 
 -- a read that is ready is one instruction
 pub takes-last : (m : Machine) (g : Guest) (typed : List Held) (taken events queued k at n : ℕ) → g.live ≡ true → instruction g.cpu (private_window g.space) ≡ Call → queued ≡ length typed - taken → IsRequest (process_of g) queued (request.Takes at n) → instructions_in (steps_of (suc k) 1 (machine_with m g typed taken events)) ≡ 1
@@ -134,31 +138,14 @@ writes-last m g typed taken events queued k at n live call q is =
     let asked = subst (λ (n' : ℕ). IsRequest (process_of g) n' (request.Writes at n)) q is in
     ap instructions_in (steps_of-event M k _ (next_of-call m g typed taken events (Writes at n) live call (asked M (has_console m g typed taken events))) refl)
 
--- bytes that lie whole in a window are as many as were asked for
-length-whole : (from at n : ℕ) (space bytes : List ℕ) → (if nat_le from at && nat_le (at + n) (from + length space) then Some (take n (drop (at - from) space)) else None) ≡ Some bytes → length bytes ≡ n
-length-whole from at n space bytes is = grind (arith, common_steps, nat_tests)
-
--- so are bytes that were read from the private window
-length-bytes_at : (space bytes : List ℕ) (at n : ℕ) → bytes_at (private_window space) at n ≡ Some bytes → length bytes ≡ n
-length-bytes_at space bytes at n is = length-whole _ at n space bytes is
-
--- the output of a write
-output_of-write : (events num n : ℕ) (o : Output) (bytes : List ℕ) → o.event ≡ events → o.pid ≡ 1 → o.bytes ≡ bytes → 0 < length bytes → output_of events (entry.Call 1 num n (extra.Console bytes)) ++ [] ≡ o ∷ []
-output_of-write events num n o [] event pid is some = absurd (omega arith)
-output_of-write events num n o (b ∷ bytes) event pid is some =
-    let made : ℕ → ℕ → List ℕ → List Output = λ e p bs. record { event = e; pid = p; bytes = bs } ∷ [] in
-    ap (λ (e : ℕ). made e 1 (b ∷ bytes)) (sym event) ∙ ap (λ (p : ℕ). made o.event p (b ∷ bytes)) (sym pid) ∙ ap (made o.event o.pid) (sym is)
-
--- a write of at least one byte
-pub turn-writes : (m : Machine) (g : Guest) (typed : List Held) (taken events queued k at n : ℕ) (cpu : Cpu) (output : Output) → g.live ≡ true → instruction g.cpu (private_window g.space) ≡ Call → queued ≡ length typed - taken → IsRequest (process_of g) queued (request.Writes at n) → cpu ≡ returned g.cpu n → 0 < n → output.event ≡ events → output.pid ≡ 1 → bytes_at (private_window g.space) at n ≡ Some output.bytes → IsTurn (machine_with m g typed taken events) (suc k) (machine_with m (record { cpu = cpu; space = g.space; live = g.live }) typed taken (events + 1)) 1 (output ∷ []) (move.Gives at n ∷ [])
-turn-writes m g typed taken events queued k at n cpu output live call q is same some event pid bytes =
+-- a write
+pub turn-writes : (m : Machine) (g : Guest) (typed : List Held) (taken events queued k at n num : ℕ) (cpu : Cpu) (bytes : List ℕ) → g.live ≡ true → instruction g.cpu (private_window g.space) ≡ Call → queued ≡ length typed - taken → IsRequest (process_of g) queued (request.Writes at n) → num ≡ number (process_of g) → cpu ≡ returned g.cpu n → bytes_at (private_window g.space) at n ≡ Some bytes → IsTurn (machine_with m g typed taken events) (suc k) (machine_with m (record { cpu = cpu; space = g.space; live = g.live }) typed taken (events + 1)) 1 (entry.Call 1 num n (extra.Console bytes) ∷ []) (move.Gives at n ∷ [])
+turn-writes m g typed taken events queued k at n num cpu bytes live call q is numbered same are =
     let M = machine_with m g typed taken events in
     let asked = subst (λ (n' : ℕ). IsRequest (process_of g) n' (request.Writes at n)) q is in
-    turn-event M k _ _ 1 (output ∷ []) _ (next_of-call m g typed taken events (Writes at n) live call (asked M (has_console m g typed taken events))) refl (ap (λ (c : Cpu). machine_with m (record { cpu = c; space = g.space; live = g.live }) typed taken (events + 1)) (sym same)) refl
-    (
-    ap (λ (x : Option (List ℕ)). output_of events (entry.Call 1 (number (process_of g)) n (extra.Console (unwrap_or x []))) ++ []) bytes
-    ∙ output_of-write events (number (process_of g)) n output output.bytes event pid refl (subst (λ (k : ℕ). 0 < k) (sym (length-bytes_at g.space output.bytes at n bytes)) some)
-    ) refl
+    turn-event M k _ _ 1 _ _ (next_of-call m g typed taken events (Writes at n) live call (asked M (has_console m g typed taken events))) refl (ap (λ (c : Cpu). machine_with m (record { cpu = c; space = g.space; live = g.live }) typed taken (events + 1)) (sym same)) refl
+    (ap (λ (x : Option (List ℕ)). entry.Call 1 (number (process_of g)) n (extra.Console (unwrap_or x [])) ∷ []) are ∙ ap (λ (x : ℕ). entry.Call 1 x n (extra.Console bytes) ∷ []) (sym numbered))
+    refl
 
 -- an instruction in front of steps is one more
 pub instructions_in-cons : (s : Step) (steps : List Step) → is_instruction s.deed ≡ true → instructions_in (s ∷ steps) ≡ suc (instructions_in steps)
@@ -167,37 +154,37 @@ instructions_in-cons s steps is =
     sum_by-cons one s steps ∙ ap (λ (b : Bool). cond b 1 0 + instructions_in steps) is ∙ omega arith
 
 -- an instruction in front of a slice
-turn-more : (m : Machine) (k : ℕ) (s : Step) (m' : Machine) (ran : ℕ) (outputs : List Output) (moves : List Move) → next_step m 1 ≡ Some s → is_event s ≡ false → is_instruction s.deed ≡ true → outputs_from m.events (s ∷ steps_of k 1 s.after) ≡ outputs_from s.after.events (steps_of k 1 s.after) → moves_from m (s ∷ steps_of k 1 s.after) ≡ moves_from s.after (steps_of k 1 s.after) → IsTurn s.after k m' ran outputs moves → IsTurn m (suc k) m' (suc ran) outputs moves
-turn-more m k s m' ran outputs moves is quiet instr writes moved turn =
-    turn_by m (suc k) (s ∷ steps_of k 1 s.after) m' (suc ran) outputs moves (steps_of-quiet m k s is quiet) turn.after (instructions_in-cons s (steps_of k 1 s.after) instr ∙ ap suc turn.instructions) (writes ∙ turn.written) (moved ∙ turn.moved)
+turn-more : (m : Machine) (k : ℕ) (s : Step) (m' : Machine) (ran : ℕ) (records : List Record) (moves : List Move) → next_step m 1 ≡ Some s → is_event s ≡ false → is_instruction s.deed ≡ true → event_records (s ∷ steps_of k 1 s.after) ≡ event_records (steps_of k 1 s.after) → moves_from m (s ∷ steps_of k 1 s.after) ≡ moves_from s.after (steps_of k 1 s.after) → IsTurn s.after k m' ran records moves → IsTurn m (suc k) m' (suc ran) records moves
+turn-more m k s m' ran records moves is quiet instr records_are moved turn =
+    turn_by m (suc k) (s ∷ steps_of k 1 s.after) m' (suc ran) records moves (steps_of-quiet m k s is quiet) turn.after (instructions_in-cons s (steps_of k 1 s.after) instr ∙ ap suc turn.instructions) (records_are ∙ turn.recorded) (moved ∙ turn.moved)
 
 -- instructions in a row in front of a slice
-pub turn-burst : (n : ℕ) (m : Machine) (cpu cpu' : Cpu) (space space' : List ℕ) (typed : List Held) (taken events k : ℕ) (m' : Machine) (ran : ℕ) (outputs : List Output) (moves : List Move) → RunsOn n cpu space cpu' space' → IsTurn (machine_with m (record { cpu = cpu'; space = space'; live = true }) typed taken events) k m' ran outputs moves → IsTurn (machine_with m (record { cpu = cpu; space = space; live = true }) typed taken events) (n + k) m' (n + ran) outputs moves
-turn-burst zero m cpu cpu' space space' typed taken events k m' ran outputs moves runs turn =
-    simp zero-add (subst (λ (c : Cpu). IsTurn (machine_with m (record { cpu = c; space = space; live = true }) typed taken events) k m' ran outputs moves) runs.0 (subst (λ (s : List ℕ). IsTurn (machine_with m (record { cpu = cpu'; space = s; live = true }) typed taken events) k m' ran outputs moves) runs.1 turn))
-turn-burst (suc n) m cpu cpu' space space' typed taken events k m' ran outputs moves runs turn =
+pub turn-burst : (n : ℕ) (m : Machine) (cpu cpu' : Cpu) (space space' : List ℕ) (typed : List Held) (taken events k : ℕ) (m' : Machine) (ran : ℕ) (records : List Record) (moves : List Move) → RunsOn n cpu space cpu' space' → IsTurn (machine_with m (record { cpu = cpu'; space = space'; live = true }) typed taken events) k m' ran records moves → IsTurn (machine_with m (record { cpu = cpu; space = space; live = true }) typed taken events) (n + k) m' (n + ran) records moves
+turn-burst zero m cpu cpu' space space' typed taken events k m' ran records moves runs turn =
+    simp zero-add (subst (λ (c : Cpu). IsTurn (machine_with m (record { cpu = c; space = space; live = true }) typed taken events) k m' ran records moves) runs.0 (subst (λ (s : List ℕ). IsTurn (machine_with m (record { cpu = cpu'; space = s; live = true }) typed taken events) k m' ran records moves) runs.1 turn))
+turn-burst (suc n) m cpu cpu' space space' typed taken events k m' ran records moves runs turn =
     let g : Guest = record { cpu = cpu; space = space; live = true } in
     let M = machine_with m g typed taken events in
-    let rest = turn-burst n m runs.1 cpu' runs.2 space' typed taken events k m' ran outputs moves runs.4 turn in
+    let rest = turn-burst n m runs.1 cpu' runs.2 space' typed taken events k m' ran records moves runs.4 turn in
     let next : next_step M 1 ≡ effect_step M 1 (process_of g) (Next runs.0 runs.1 (private_window runs.2)) = next_of m g typed taken events refl ∙ ap (effect_step M 1 (process_of g)) runs.3 in
-    let more : IsTurn M (suc (n + k)) m' (suc (n + ran)) outputs moves = turn-more M (n + k) (instr_step M 1 (process_of g) runs.0 runs.1 (private_window runs.2)) m' (n + ran) outputs moves next refl refl refl refl rest in
-    subst (λ (c : ℕ). IsTurn M c m' (suc n + ran) outputs moves) (omega arith) (subst (λ (r : ℕ). IsTurn M (suc (n + k)) m' r outputs moves) (omega arith) more)
+    let more : IsTurn M (suc (n + k)) m' (suc (n + ran)) records moves = turn-more M (n + k) (instr_step M 1 (process_of g) runs.0 runs.1 (private_window runs.2)) m' (n + ran) records moves next refl refl refl refl rest in
+    subst (λ (c : ℕ). IsTurn M c m' (suc n + ran) records moves) (omega arith) (subst (λ (r : ℕ). IsTurn M (suc (n + k)) m' r records moves) (omega arith) more)
 
 -- an end by a fault
-pub turn-faults : (m : Machine) (g : Guest) (typed : List Held) (taken events k status : ℕ) → g.live ≡ true → instruction g.cpu (private_window g.space) ≡ End status → IsTurn (machine_with m g typed taken events) (suc k) (machine_with m (record { cpu = g.cpu; space = g.space; live = false }) typed taken (events + 1)) 1 [] (move.Ends ∷ [])
+pub turn-faults : (m : Machine) (g : Guest) (typed : List Held) (taken events k status : ℕ) → g.live ≡ true → instruction g.cpu (private_window g.space) ≡ End status → IsTurn (machine_with m g typed taken events) (suc k) (machine_with m (record { cpu = g.cpu; space = g.space; live = false }) typed taken (events + 1)) 1 (entry.End 1 status ∷ []) (move.Ends ∷ [])
 turn-faults m g typed taken events k status live ends =
     let M = machine_with m g typed taken events in
-    turn-event M k (fault_step M 1 (process_of g) status) _ 1 [] _ (next_of m g typed taken events live ∙ ap (effect_step M 1 (process_of g)) ends) refl refl refl refl refl
+    turn-event M k (fault_step M 1 (process_of g) status) _ 1 _ _ (next_of m g typed taken events live ∙ ap (effect_step M 1 (process_of g)) ends) refl refl refl refl refl
 
 -- a guest that is live
 as_live : (g : Guest) → g.live ≡ true → g ≡ record { cpu = g.cpu; space = g.space; live = true }
 as_live g live = ap (λ (b : Bool). record { cpu = g.cpu; space = g.space; live = b }) live
 
 -- instructions of a live guest in front of the rest of a slice
-pub turn-behind : (m : Machine) (g g' : Guest) (typed : List Held) (taken events n k count : ℕ) (m' : Machine) (ran : ℕ) (outputs : List Output) (moves : List Move) → RunsOn n g.cpu g.space g'.cpu g'.space → g.live ≡ true → g'.live ≡ g.live → n + k ≡ count → IsTurn (machine_with m g' typed taken events) k m' ran outputs moves → IsTurn (machine_with m g typed taken events) count m' (n + ran) outputs moves
-turn-behind m g g' typed taken events n k count m' ran outputs moves runs live same is turn =
-    let rest = subst (λ (h : Guest). IsTurn (machine_with m h typed taken events) k m' ran outputs moves) (as_live g' (same ∙ live)) turn in
-    subst (λ (h : Guest). IsTurn (machine_with m h typed taken events) count m' (n + ran) outputs moves) (sym (as_live g live)) (subst (λ (c : ℕ). IsTurn (machine_with m (record { cpu = g.cpu; space = g.space; live = true }) typed taken events) c m' (n + ran) outputs moves) is (turn-burst n m g.cpu g'.cpu g.space g'.space typed taken events k m' ran outputs moves runs rest))
+pub turn-behind : (m : Machine) (g g' : Guest) (typed : List Held) (taken events n k count : ℕ) (m' : Machine) (ran : ℕ) (records : List Record) (moves : List Move) → RunsOn n g.cpu g.space g'.cpu g'.space → g.live ≡ true → g'.live ≡ g.live → n + k ≡ count → IsTurn (machine_with m g' typed taken events) k m' ran records moves → IsTurn (machine_with m g typed taken events) count m' (n + ran) records moves
+turn-behind m g g' typed taken events n k count m' ran records moves runs live same is turn =
+    let rest = subst (λ (h : Guest). IsTurn (machine_with m h typed taken events) k m' ran records moves) (as_live g' (same ∙ live)) turn in
+    subst (λ (h : Guest). IsTurn (machine_with m h typed taken events) count m' (n + ran) records moves) (sym (as_live g live)) (subst (λ (c : ℕ). IsTurn (machine_with m (record { cpu = g.cpu; space = g.space; live = true }) typed taken events) c m' (n + ran) records moves) is (turn-burst n m g.cpu g'.cpu g.space g'.space typed taken events k m' ran records moves runs rest))
 
 -- instructions of a live guest alone, where nothing came of the call behind them
 pub turn-cut : (m : Machine) (g g' g'' : Guest) (typed : List Held) (taken taken' events events' n : ℕ) → RunsOn n g.cpu g.space g'.cpu g'.space → g.live ≡ true → g'.live ≡ g.live → g'' ≡ g' → taken' ≡ taken → events' ≡ events → IsTurn (machine_with m g typed taken events) n (machine_with m g'' typed taken' events') n [] []
@@ -209,8 +196,8 @@ turn-cut m g g' g'' typed taken taken' events events' n runs live same guest too
     subst (λ (x : Machine). IsTurn M n x n [] []) (sym as_is) (subst (λ (r : ℕ). IsTurn M n (machine_with m g' typed taken events) r [] []) (add-zero n) all)
 
 -- what the steps of a slice are, whatever they are
-turn_of : (m : Machine) (count ran : ℕ) → instructions_in (steps_of count 1 m) ≡ ran → IsTurn m count (after_steps m (steps_of count 1 m)) ran (outputs_from m.events (steps_of count 1 m)) (moves_from m (steps_of count 1 m))
-turn_of m count ran is = record { after = refl; instructions = is; written = refl; moved = refl }
+turn_of : (m : Machine) (count ran : ℕ) → instructions_in (steps_of count 1 m) ≡ ran → IsTurn m count (after_steps m (steps_of count 1 m)) ran (event_records (steps_of count 1 m)) (moves_from m (steps_of count 1 m))
+turn_of m count ran is = record { after = refl; instructions = is; recorded = refl; moved = refl }
 
 -- instructions of a live guest in front of one more
 pub last-behind : (m : Machine) (g g' : Guest) (typed : List Held) (taken events n k count : ℕ) → RunsOn n g.cpu g.space g'.cpu g'.space → g.live ≡ true → g'.live ≡ g.live → n + k ≡ count → instructions_in (steps_of k 1 (machine_with m g' typed taken events)) ≡ 1 → instructions_in (steps_of count 1 (machine_with m g typed taken events)) ≡ n + 1

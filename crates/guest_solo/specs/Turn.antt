@@ -1,10 +1,11 @@
 -- What a slice of the process does to the machine, in terms of the parts that it changes.
 use Rattle.std.specs.Prelude.{◌≡◌, ℕ, List, [], ◌∷◌, drop}
 use Rattle.arn_model.specs.declared.history.Held.{Held}
-use Rattle.arn_model.specs.declared.history.Output.{Output}
+use Rattle.arn_base.specs.declared.records.Record.{Record}
 use Rattle.arn_model.specs.Machine.{Machine, Console}
 use Rattle.arn_model.specs.Slice.{steps_of, after_steps}
-use Rattle.arn_model.specs.Run.{instructions_in, outputs_from}
+use Rattle.arn_model.specs.Run.{instructions_in}
+use Rattle.log_model.specs.Records.{event_records}
 use Rattle.guest_solo.specs.declared.guest.Guest.{Guest}
 use Rattle.guest_solo.specs.Guest.{process_of}
 use Rattle.solo_lineage.specs.declared.moves.Move.{Move}
@@ -20,10 +21,10 @@ machine_with m g typed taken events =
       events = events;
     }
 
--- A slice of so many instructions leads from a machine to another: so many instructions run, these bytes are written, and
--- this is what its event did to bytes, if there was one.
-pub record IsTurn (m : Machine) (count : ℕ) (m' : Machine) (ran : ℕ) (outputs : List Output) (moves : List Move) : Type 0 where
+-- A slice of so many instructions leads from a machine to another: so many instructions run, and this is the record of its
+-- event and what that did to bytes, if there was one.
+pub record IsTurn (m : Machine) (count : ℕ) (m' : Machine) (ran : ℕ) (records : List Record) (moves : List Move) : Type 0 where
   pub after : after_steps m (steps_of count 1 m) ≡ m'
   pub instructions : instructions_in (steps_of count 1 m) ≡ ran
-  pub written : outputs_from m.events (steps_of count 1 m) ≡ outputs
+  pub recorded : event_records (steps_of count 1 m) ≡ records
   pub moved : moves_from m (steps_of count 1 m) ≡ moves

@@ -2,8 +2,9 @@ ghost use Rattle.std.specs.Prelude.{◌≡◌, ◌<◌, length, IfSome};
 ghost use Rattle.arn_model.specs.Run.{file_among};
 ghost use Rattle.guest_solo.specs.Files.{names_from, is_free_among};
 
-use arn_base::{Bytes, NoMemory};
+use arn_base::{Bytes, NoMemory, Record};
 use arn_model::limits::MOST_FILES;
+use guest_give::give_whole;
 use std::alloc::Global;
 
 /// A file that was there before boot, and the event that brought it.
@@ -15,7 +16,9 @@ pub struct BootFile {
 }
 
 impl BootFile {
-    ghost use Rattle.std.specs.Prelude.{◌≡◌, IfOk};
+    ghost use Rattle.std.specs.Prelude.{◌≡◌, ◌<◌, ◌^◌, length, IfOk};
+    ghost use Rattle.arn_base.specs.declared.records.Record.TheVariants as entry;
+    ghost use Rattle.arn_model.specs.Step.{given, held_bytes};
 
     pub fn new(alloc: Global, name: &[u8], bytes: &[u8], event: u64) -> Result<BootFile, NoMemory>
         ensures name { IfOk result (λ file. file.name ≡ name.now) }
@@ -26,6 +29,18 @@ impl BootFile {
             name: Bytes::from_slice(alloc, name)?,
             bytes: Bytes::from_slice(alloc, bytes)?,
             event,
+        })
+    }
+
+    /// The record of a boot from the file, under a name.
+    pub fn boot_record(&self, alloc: Global, name: &[u8]) -> Result<Record, NoMemory>
+        requires few { length self.now.bytes < 2 ^ 32 }
+        ensures { IfOk result (λ made. made ≡
+            entry.Boot name.now (given (held_bytes self.now.event self.now.bytes))) }
+    {
+        Ok(Record::Boot {
+            name: Bytes::from_slice(alloc, name)?,
+            give: give_whole(alloc, self.event, self.bytes.as_slice())?,
         })
     }
 }

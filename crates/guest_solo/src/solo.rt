@@ -5,7 +5,7 @@ use crate::guest::Guest;
 use crate::standing::stands;
 use crate::start::start;
 use crate::turn::{CutShort, Turn, take_turn};
-use arn_base::Steps;
+use arn_base::{Record, Steps};
 use arn_model::limits::MOST_FILE_BYTES;
 use arn_model::{Held, Standing};
 use solo_lineage::Move;
@@ -24,10 +24,11 @@ pub struct Solo {
     events: u64,
 }
 
-/// The event of a boot, and what it did to bytes.
+/// The event of a boot, its record, and what it did to bytes.
 #[derive(Debug, Drop)]
 pub struct Booted {
     pub event: u64,
+    pub entry: Record,
     pub moved: Move,
 }
 
@@ -49,7 +50,8 @@ impl Solo {
     ghost use Rattle.arn_model.specs.declared.history.Input.TheVariants as input;
     ghost use Rattle.arn_model.specs.Machine.{at_first};
     ghost use Rattle.arn_model.specs.Slice.{is_possible, is_runnable, standing as standing_of};
-    ghost use Rattle.arn_model.specs.Run.{is_booted as has_process, find_file, is_free, is_name, input_steps, after_input, instructions_in, outputs_from};
+    ghost use Rattle.arn_model.specs.Run.{is_booted as has_process, find_file, is_free, is_name, input_steps, after_input, instructions_in};
+    ghost use Rattle.log_model.specs.Records.{event_records};
     ghost use Rattle.guest_solo.specs.Input.{Does, IsRefused};
     ghost use Rattle.solo_lineage.specs.Moves.{moves_from};
 
@@ -119,6 +121,8 @@ impl Solo {
 
         ensures event { IfOk result (λ booted. booted.event ≡ self.old.events) }
         ensures does { OnOk result (Does self.old (input.Boot name.now) self.new) }
+        ensures entry { IfOk result (λ booted. booted.entry ∷ [] ≡
+            event_records (input_steps self.old (input.Boot name.now))) }
         ensures moved { IfOk result (λ booted. booted.moved ∷ [] ≡
             moves_from self.old (input_steps self.old (input.Boot name.now))) }
 
@@ -147,10 +151,17 @@ impl Solo {
             file: file.event,
             len: file.bytes.len() as u32,
         };
+        let Ok(entry) = file.boot_record(self.alloc, name) else {
+            return Err(MachineError::NoMemory);
+        };
         let event = self.events;
         self.guest = Some(started.guest);
         self.events += 1;
-        Ok(Booted { event, moved })
+        Ok(Booted {
+            event,
+            entry,
+            moved,
+        })
     }
 
     /// Puts bytes behind the console's queue. Answers the number of its event.
@@ -204,9 +215,9 @@ impl Solo {
         ensures after { OnOk result (self.new ≡ after_input self.old (input.Slice 1 count)) }
         ensures ran { IfOk result (λ turn.
             turn.ran ≡ instructions_in (input_steps self.old (input.Slice 1 count))) }
-        ensures output { IfOk result (λ turn.
-            option_to_list turn.output ≡
-            outputs_from self.old.events (input_steps self.old (input.Slice 1 count))) }
+        ensures entry { IfOk result (λ turn.
+            option_to_list turn.entry ≡
+            event_records (input_steps self.old (input.Slice 1 count))) }
         ensures moved { IfOk result (λ turn.
             option_to_list turn.moved ≡
             moves_from self.old (input_steps self.old (input.Slice 1 count))) }

@@ -1,8 +1,8 @@
 ghost use Rattle.std.specs.Prelude.{◌≡◌, ◌<◌};
 
 use super::*;
-use arn_base::{NoMemory, Src, Steps};
-use arn_model::{Output, Standing};
+use arn_base::{Bytes, Extra, Give, NoMemory, Origin, Origins, Record, Src, Steps};
+use arn_model::Standing;
 use solo_lineage::Move;
 use std::alloc::Global;
 use std::marker::Brand;
@@ -40,11 +40,11 @@ const ECHO: [u8; 68] = [
     0x73, 0x00, 0x00, 0x00,
 ];
 
-// How many instructions each slice ran, what was written, and what was done to bytes.
+// How many instructions each slice ran, the records of the events, and what these did to bytes.
 #[derive(Drop)]
 struct Slices {
     ran: Vec<u32>,
-    outputs: Vec<Output>,
+    entries: Vec<Record>,
     moves: Vec<Move>,
 }
 
@@ -57,7 +57,7 @@ fn run_counted<L: Ledger>(alloc: Global, solo: &mut Solo, blank: Blank) -> Resul
     let mut steps = Steps::<L>::new(blank);
     let mut slices = Slices {
         ran: Vec::new(alloc),
-        outputs: Vec::new(alloc),
+        entries: Vec::new(alloc),
         moves: Vec::new(alloc),
     };
     while_ready(solo, &mut steps, &mut slices)?;
@@ -73,13 +73,13 @@ fn while_ready<L: Ledger>(
         if solo.events() > 100 || solo.standing() != Standing::CanGoOn {
             break;
         }
-        let Turn { ran, output, moved } = match solo.run_slice(1_000, steps) {
+        let Turn { ran, entry, moved } = match solo.run_slice(1_000, steps) {
             Ok(turn) => turn,
             Err(CutShort { .. }) => return Err(NoMemory),
         };
         slices.ran.push(ran)?;
-        if let Some(output) = output {
-            slices.outputs.push(output)?;
+        if let Some(entry) = entry {
+            slices.entries.push(entry)?;
         }
         if let Some(moved) = moved {
             slices.moves.push(moved)?;
@@ -124,6 +124,37 @@ fn assert_echoes(rt: &impl Abort, moves: &[Move]) {
     }
 }
 
+// A read of the three bytes of event 2, a write of them, and an exit.
+fn echo_entries(alloc: Global) -> Result<Vec<Record>, NoMemory> {
+    let mut origins = Origins::new(alloc);
+    origins.push(Origin {
+        event: 2,
+        at: 0,
+        len: 3,
+    })?;
+    let give = Give {
+        bytes: Bytes::from_slice(alloc, b"abc")?,
+        origins,
+    };
+    let console = Extra::Console {
+        bytes: Bytes::from_slice(alloc, b"abc")?,
+    };
+    let mut entries = Vec::new(alloc);
+    entries.push(call(11, 3, Extra::Give(give)))?;
+    entries.push(call(12, 3, console))?;
+    entries.push(call(1, 0, Extra::Nothing))?;
+    Ok(entries)
+}
+
+fn call(number: u64, result: u64, extra: Extra) -> Record {
+    Record::Call {
+        pid: 1,
+        number,
+        result,
+        extra,
+    }
+}
+
 fn place(at: u32) -> Src {
     Src { event: 2, at }
 }
@@ -142,12 +173,7 @@ fn echoes_what_was_typed(rt: HostRuntime) -> Result<(), Fail> {
     assert_eq!(rt; solo.standing(), Standing::Done);
     assert_eq!(rt; slices.ran.as_slice(), [5, 3, 3].as_slice());
     assert_echoes(&rt, slices.moves.as_slice());
-    assert_eq!(rt; slices.outputs.len(), 1);
-    for output in slices.outputs.as_slice() {
-        assert_eq!(rt; output.event, 4);
-        assert_eq!(rt; output.pid, 1);
-        assert_eq!(rt; output.bytes.as_slice(), b"abc".as_slice());
-    }
+    assert_eq!(rt; slices.entries, echo_entries(rt.alloc())?);
     Ok(())
 }
 
@@ -162,7 +188,7 @@ fn waits_for_the_console(rt: HostRuntime) -> Result<(), Fail> {
     let waiting = run(rt.alloc(), &mut solo)?;
     assert_eq!(rt; solo.standing(), Standing::Stalled);
     assert_eq!(rt; waiting.ran.as_slice(), [4].as_slice());
-    assert!(rt; waiting.outputs.is_empty());
+    assert!(rt; waiting.entries.is_empty());
     assert!(rt; waiting.moves.is_empty());
     assert!(rt; solo.events() < 10);
     assert_eq!(rt; solo.type_in(b"abc"), Ok(2));
@@ -170,9 +196,6 @@ fn waits_for_the_console(rt: HostRuntime) -> Result<(), Fail> {
     assert_eq!(rt; solo.standing(), Standing::Done);
     assert_eq!(rt; slices.ran.as_slice(), [1, 3, 3].as_slice());
     assert_echoes(&rt, slices.moves.as_slice());
-    assert_eq!(rt; slices.outputs.len(), 1);
-    for output in slices.outputs.as_slice() {
-        assert_eq!(rt; output.event, 4);
-    }
+    assert_eq!(rt; slices.entries, echo_entries(rt.alloc())?);
     Ok(())
 }

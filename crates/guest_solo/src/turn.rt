@@ -7,25 +7,30 @@ ghost use Rattle.arn_model.specs.Instruction.{instruction, Call};
 ghost use Rattle.arn_model.specs.Call.{returned};
 ghost use Rattle.arn_model.specs.Slice.{steps_of};
 ghost use Rattle.arn_model.specs.Run.{instructions_in};
+ghost use Rattle.arn_base.specs.declared.records.Record.TheVariants as entry;
 ghost use Rattle.guest_solo.specs.Turn.{machine_with, IsTurn};
 
 use crate::burst::{Burst, run_instructions};
 use crate::calls::{Request, call_number, requested};
 use crate::guest::Guest;
-use arn_base::{Bytes, Cpu, NoMemory, Steps, StoreError};
-use arn_model::{Held, Output};
+use arn_base::{Bytes, Cpu, Extra, NoMemory, Record, Steps, StoreError};
+use arn_model::Held;
+use guest_give::give_of;
 use rv64_core::Outcome;
 use solo_lineage::{Move, Places};
 use std::alloc::Global;
 use std::sync::ledger::Ledger;
 use thiserror::Error;
 
-/// What a slice did: how many instructions ran, what was written to the console, and what the
-/// slice's event did to bytes, if there was one.
+/// The number of the only process.
+const PID: u32 = 1;
+
+/// What a slice did: how many instructions ran; and the record of its event and what this did to
+/// bytes, if there was one.
 #[derive(Debug, Drop)]
 pub struct Turn {
     pub ran: u32,
-    pub output: Option<Output>,
+    pub entry: Option<Record>,
     pub moved: Option<Move>,
 }
 
@@ -52,7 +57,7 @@ pub fn take_turn<L: Ledger>(
     ensures turn { IfOk result (λ turn. (m : Machine) →
         IsTurn (machine_with m guest.old typed.now taken.old events.old) count
         (machine_with m guest.new typed.now taken.new events.new)
-        turn.ran (option_to_list turn.output) (option_to_list turn.moved)) }
+        turn.ran (option_to_list turn.entry) (option_to_list turn.moved)) }
     ensures taken { taken.new ≤ length typed.now }
     ensures events { events.new ≤ events.old + 1 }
     ensures ran { IfOk result (λ turn. turn.ran ≤ count) }
@@ -75,23 +80,23 @@ pub fn take_turn<L: Ledger>(
     match outcome {
         Outcome::Next => Ok(Turn {
             ran,
-            output: None,
+            entry: None,
             moved: None,
         }),
         Outcome::Call => match serve(alloc, guest, typed, taken, events) {
             Ok(served) => Ok(Turn {
                 ran: ran + served.ran,
-                output: served.output,
+                entry: served.entry,
                 moved: served.moved,
             }),
             Err(NoMemory) => Err(CutShort { ran }),
         },
-        Outcome::End(_) => {
+        Outcome::End(status) => {
             guest.live = false;
             *events += 1;
             Ok(Turn {
                 ran: ran + 1,
-                output: None,
+                entry: Some(Record::End { pid: PID, status }),
                 moved: Some(Move::Ends),
             })
         }
@@ -114,7 +119,7 @@ fn serve(
     ensures turn { IfOk result (λ turn. (m : Machine) (count : ℕ) →
         IsTurn (machine_with m guest.old typed.now taken.old events.old) (suc count)
         (machine_with m guest.new typed.now taken.new events.new)
-        turn.ran (option_to_list turn.output) (option_to_list turn.moved)) }
+        turn.ran (option_to_list turn.entry) (option_to_list turn.moved)) }
     ensures taken { taken.new ≤ length typed.now }
     ensures events { events.new ≤ events.old + 1 }
     ensures ran { IfOk result (λ turn. turn.ran ≤ 1) }
@@ -124,50 +129,67 @@ fn serve(
     ensures err_last { OnErr result ((m : Machine) (count : ℕ) → instructions_in
         (steps_of (suc count) 1 (machine_with m guest.old typed.now taken.old events.old)) ≡ 1) }
 {
+    let number = call_number(&guest.cpu);
     match requested(guest, (typed.len() - *taken) as u64) {
         Request::Waits => Ok(Turn {
             ran: 0,
-            output: None,
+            entry: None,
             moved: None,
         }),
         Request::Answers { result } => {
-            let number = call_number(&guest.cpu);
             finish(&mut guest.cpu, result);
             *events += 1;
-            Ok(one_call(None, Move::Returns { number }))
+            Ok(one_call(number, result, Extra::Nothing, Move::Returns { number }))
         }
         Request::Ends { .. } => {
             guest.live = false;
             *events += 1;
-            Ok(one_call(None, Move::Ends))
+            Ok(one_call(number, 0, Extra::Nothing, Move::Ends))
         }
         Request::Takes { at, count } => {
             let held = &typed[*taken..*taken + count as usize];
             let places = places_of(alloc, held)?;
-            receive(alloc, guest, at, held)?;
+            let give = give_of(alloc, held)?;
+            receive(guest, at, give.bytes.as_slice())?;
             *taken += count as usize;
             finish(&mut guest.cpu, count);
             *events += 1;
-            Ok(one_call(None, Move::Receives { at, places }))
+            Ok(one_call(
+                number,
+                count,
+                Extra::Give(give),
+                Move::Receives { at, places },
+            ))
         }
         Request::Writes { at, count } => {
-            let output = written(alloc, guest, at, count, *events)?;
+            let bytes = written(alloc, guest, at, count)?;
             let len = count as u32;
             finish(&mut guest.cpu, count);
             *events += 1;
-            Ok(one_call(Some(output), Move::Gives { at, len }))
+            Ok(one_call(
+                number,
+                count,
+                Extra::Console { bytes },
+                Move::Gives { at, len },
+            ))
         }
     }
 }
 
-fn one_call(output: Option<Output>, moved: Move) -> Turn
+// A call of the process, with its record.
+fn one_call(number: u64, answer: u64, extra: Extra, moved: Move) -> Turn
     ensures ran { result.ran ≡ 1 }
-    ensures output { result.output ≡ output }
+    ensures entry { result.entry ≡ Some (entry.Call 1 number answer extra) }
     ensures moved { result.moved ≡ Some moved }
 {
     Turn {
         ran: 1,
-        output,
+        entry: Some(Record::Call {
+            pid: PID,
+            number,
+            result: answer,
+            extra,
+        }),
         moved: Some(moved),
     }
 }
@@ -191,43 +213,30 @@ fn places_of(alloc: Global, held: &[Held]) -> Result<Places, NoMemory>
     Ok(places)
 }
 
-// Puts bytes of the console's queue at an address.
-fn receive(alloc: Global, guest: &mut Guest, at: u64, held: &[Held]) -> Result<(), NoMemory>
-    requires { IsSome (bytes_at (private_window guest.old.space) at (length held.now)) }
+// Puts received bytes at an address.
+fn receive(guest: &mut Guest, at: u64, bytes: &[u8]) -> Result<(), NoMemory>
+    requires { IsSome (bytes_at (private_window guest.old.space) at (length bytes.now)) }
     ensures space { OnOk result (private_window guest.new.space ≡
-        with_bytes (private_window guest.old.space) at (values held.now)) }
+        with_bytes (private_window guest.old.space) at bytes.now) }
     ensures cpu { guest.new.cpu ≡ guest.old.cpu }
     ensures live { guest.new.live ≡ guest.old.live }
     ensures err { OnErr result (guest.new ≡ guest.old) }
 {
-    let bytes: Vec<u8> = held.iter().map(|byte| byte.value).collect(alloc)?;
-    match guest.space.write_from(at, bytes.as_slice()) {
+    match guest.space.write_from(at, bytes) {
         Ok(()) => Ok(()),
         Err(StoreError::NoMemory) => Err(NoMemory),
         Err(StoreError::BadAddress) => unreachable!(),
     }
 }
 
-// The bytes at an address, as they are written to the console by an event.
-fn written(
-    alloc: Global,
-    guest: &Guest,
-    at: u64,
-    count: u64,
-    event: u64,
-) -> Result<Output, NoMemory>
+// The bytes at an address.
+fn written(alloc: Global, guest: &Guest, at: u64, count: u64) -> Result<Bytes, NoMemory>
     requires { IsSome (bytes_at (private_window guest.now.space) at count) }
-    ensures event { IfOk result (λ output. output.event ≡ event) }
-    ensures pid { IfOk result (λ output. output.pid ≡ 1) }
-    ensures bytes { IfOk result (λ output.
-        bytes_at (private_window guest.now.space) at count ≡ Some output.bytes) }
+    ensures { IfOk result (λ bytes.
+        bytes_at (private_window guest.now.space) at count ≡ Some bytes) }
 {
     match guest.space.slice(at, count) {
-        Ok(bytes) => Ok(Output {
-            event,
-            pid: 1,
-            bytes: Bytes::from_slice(alloc, bytes)?,
-        }),
+        Ok(bytes) => Bytes::from_slice(alloc, bytes),
         Err(_) => unreachable!(),
     }
 }

@@ -6,15 +6,15 @@ use Rattle.guest_solo.proofs.solo.Solo.run_slice.Given.{Over}
 use Rattle.guest_solo.proofs.solo.Solo.run_slice.Goals as goal
 
 -- what the slice did
-slice_of : (g : Over) (c : goal.After-take_turn g) → IfOk c.take_turn.result (λ turn. IsSlice c.args.self.now c.args.count turn.ran (option_to_list turn.output) (option_to_list turn.moved))
+slice_of : (g : Over) (c : goal.After-take_turn g) → IfOk c.take_turn.result (λ turn. IsSlice c.args.self.now c.args.count turn.ran (option_to_list turn.entry) (option_to_list turn.moved))
 slice_of g c =
-    ok_then _ _ c.take_turn.result _ _ (λ turn t. slice-turn c.self.inside c.args.self.now c.in-Some.guest _ c.args.count _ turn.ran (option_to_list turn.output) (option_to_list turn.moved) c.self.view_is c.in-Some.is c.as_slice.ensures.value c.requires.possible (t (machine_of c.self.inside))) c.take_turn.ensures.turn
+    ok_then _ _ c.take_turn.result _ _ (λ turn t. slice-turn c.self.inside c.args.self.now c.in-Some.guest _ c.args.count _ turn.ran (option_to_list turn.entry) (option_to_list turn.moved) c.self.view_is c.in-Some.is c.as_slice.ensures.value c.requires.possible (t (machine_of c.self.inside))) c.take_turn.ensures.turn
 
 pub returns-clause-ran : goal.returns-clause-ran
 returns-clause-ran g c = ok_then _ _ c.take_turn.result _ _ (λ turn s. s.ran_is) (slice_of g c)
 
-pub returns-clause-output : goal.returns-clause-output
-returns-clause-output g c = ok_then _ _ c.take_turn.result _ _ (λ turn s. s.outputs_are) (slice_of g c)
+pub returns-clause-entry : goal.returns-clause-entry
+returns-clause-entry g c = ok_then _ _ c.take_turn.result _ _ (λ turn s. s.records_are) (slice_of g c)
 
 pub returns-clause-some : goal.returns-clause-some
 returns-clause-some g c = ok_then _ _ c.take_turn.result _ _ (λ turn s. s.some) (slice_of g c)

@@ -1,0 +1,5 @@
+use Rattle.guest_give.proofs.RunForms.{given-whole}
+use Rattle.guest_give.proofs.give_whole.Goals as goal
+
+pub returns : goal.returns
+returns c = record { given = given-whole c.args.event c.args.bytes.now _ c.in_ok-from_slice.ensures c.in_ok-whole.ensures }
