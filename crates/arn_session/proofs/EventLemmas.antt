@@ -4,10 +4,13 @@ use Rattle.arn_base.specs.Window.{Window}
 use Rattle.arn_model.specs.declared.history.Output.{Output}
 use Rattle.arn_model.specs.Machine.{Machine, Process, Life, Live, Gone, process, with_windows}
 use Rattle.arn_model.specs.Instruction.{Effect, Next, Call, End}
-use Rattle.arn_model.specs.Step.{Step, is_event, next_event, values}
+use Rattle.arn_model.specs.Step.{Step, Event, is_event, next_event, values}
 use Rattle.arn_model.specs.Call.{CallOutcome, Waits, Answers, Ends, Takes, Writes, called, call_step, with_result, without_queued}
 use Rattle.arn_model.specs.Slice.{stands_at, effect_step, step_if_live, step_if_made, next_step, steps_of, step_then, unless_ended, after_steps}
-use Rattle.arn_model.specs.Run.{outputs_from, event_output}
+use Rattle.arn_model.specs.Run.{outputs_from, output_of, event_output}
+use Rattle.log_model.specs.Records.{event_records}
+use Rattle.arn_base.specs.declared.records.Record.{Record}
+use Rattle.arn_session.specs.Running.{record_outputs}
 use Rattle.arn_base.specs.Window.{with_bytes}
 use Rattle.arn_model.specs.Machine.{windows}
 
@@ -80,3 +83,16 @@ events-steps_of (suc k) m = then_counts m (next_step m 1) (steps_of k 1) (next_c
 pub events-if : (b : Bool) (k : ℕ) (m : Machine) → (after_steps m (cond b (steps_of k 1 m) [])).events ≡ events_after m.events (cond b (steps_of k 1 m) [])
 events-if true k m = events-steps_of k m
 events-if false k m = refl
+
+-- the outputs of steps are those of the records of their events
+outputs-one : (n : ℕ) (s : Step) (steps : List Step) (o : Option Event) → s.event ≡ o → ((k : ℕ) → outputs_from k steps ≡ record_outputs k (event_records steps)) → outputs_from n (s ∷ steps) ≡ record_outputs n (event_records (s ∷ steps))
+outputs-one n s steps None is rest = rw is (rest n)
+outputs-one n s steps (Some event) is rest = rw is (ap (λ (more : List Output). output_of n event.entry ++ more) (rest (n + 1)))
+
+outputs_from-records : (steps : List Step) (n : ℕ) → outputs_from n steps ≡ record_outputs n (event_records steps)
+outputs_from-records [] n = refl
+outputs_from-records (s ∷ steps) n = outputs-one n s steps s.event refl (outputs_from-records steps)
+
+pub outputs-entries : (event n : ℕ) (entries : List Record) (steps : List Step) → event ≡ n → entries ≡ event_records steps → record_outputs event entries ≡ outputs_from n steps
+outputs-entries event n entries steps same are =
+    ap (λ (k : ℕ). record_outputs k entries) same ∙ ap (record_outputs n) are ∙ sym (outputs_from-records steps n)

@@ -1,5 +1,6 @@
 -- What a line `run N` does: slices until the machine is done or stalled, or the budget is spent.
-use Rattle.std.specs.Prelude.{ℕ, zero, suc, ◌-◌, min, List, [], ◌∷◌, ◌++◌, flat_map}
+use Rattle.std.specs.Prelude.{ℕ, zero, suc, ◌+◌, ◌-◌, min, List, [], ◌∷◌, ◌++◌, flat_map}
+use Rattle.arn_base.specs.declared.records.Record.{Record}
 use Rattle.arn_model.specs.declared.history.Input.{Input}
 use Rattle.arn_model.specs.declared.history.Input.TheVariants as input
 use Rattle.arn_model.specs.declared.history.Output.{Output}
@@ -8,7 +9,7 @@ use Rattle.arn_model.specs.declared.history.Standing.TheVariants as standing
 use Rattle.arn_model.specs.declared.limits.TheConstants.{MOST_SLICE}
 use Rattle.arn_model.specs.Machine.{Machine}
 use Rattle.arn_model.specs.Slice.{standing}
-use Rattle.arn_model.specs.Run.{input_steps, after_input, steps_from, instructions_in, outputs_from}
+use Rattle.arn_model.specs.Run.{input_steps, after_input, steps_from, instructions_in, outputs_from, output_of}
 use Rattle.arn_model.specs.Slice.{after_steps}
 use Rattle.arn_lines.specs.declared.answer.RunEnd.{RunEnd}
 use Rattle.arn_lines.specs.declared.answer.RunEnd.TheVariants.{Done, Stalled, Budget}
@@ -48,6 +49,11 @@ end_of standing.CanGoOn = Budget
 -- what a run prints: each output, then how many instructions ran and how it ended
 abbrev pub outputs_text : List Output → List ℕ
 outputs_text outputs = flat_map (λ o. out_text o.event o.pid o.bytes) outputs
+
+-- the outputs of records of events, the first of them event n
+abbrev pub record_outputs : ℕ → List Record → List Output
+record_outputs n [] = []
+record_outputs n (entry ∷ entries) = output_of n entry ++ record_outputs (n + 1) entries
 
 abbrev pub run_text : Machine → List Input → List ℕ
 run_text m slices =

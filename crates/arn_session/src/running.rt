@@ -1,19 +1,19 @@
 // The line that runs the machine.
 ghost use Rattle.std.specs.Prelude.{◌≡◌, ◌≢◌, true, false, IsTrue, ◌+◌, ◌<◌, ◌≤◌, vec_len, vec_capacity, ◌++◌, OnOk, option_to_list, string_bytes, if◌then◌else◌};
-ghost use Rattle.arn_model.specs.Run.{is_booted};
+ghost use Rattle.arn_model.specs.Run.{is_booted, output_of};
 ghost use Rattle.arn_model.specs.Slice.{standing, is_runnable};
 ghost use Rattle.arn_lines.specs.declared.answer.Refusal.TheVariants as refusal;
 ghost use Rattle.arn_lines.specs.declared.line.TheConstants.{MOST_RUN};
 ghost use Rattle.arn_session.specs.Answers.{run_answer, refused};
 ghost use Rattle.arn_session.specs.Cost.{run_cost};
-ghost use Rattle.arn_session.specs.Running.{slices_of, outputs_text, end_of as end_by};
+ghost use Rattle.arn_session.specs.Running.{slices_of, outputs_text, record_outputs, end_of as end_by};
 ghost use Rattle.arn_session.specs.Kept.{IsSound, Gives};
 
 use crate::kept::Kept;
-use arn_base::{NoMemory, Steps};
+use arn_base::{Extra, NoMemory, Record, Steps};
 use arn_lines::{Refusal, RunEnd, push_out, push_ran, push_refusal};
 use arn_model::limits::MOST_SLICE;
-use arn_model::{Input, Output, Standing};
+use arn_model::{Input, Standing};
 use guest_solo::{Solo, Turn};
 use solo_lineage::Move;
 use std::sync::ledger::Ledger;
@@ -60,7 +60,8 @@ fn run_booted<L: Ledger>(
         kept.inputs.reserve(1)?;
         kept.moves.reserve(1)?;
         let slice = left.min(MOST_SLICE) as u32;
-        let Turn { ran, output, moved } = match kept.machine.run_slice(slice, steps) {
+        let event = kept.machine.events();
+        let Turn { ran, entry, moved } = match kept.machine.run_slice(slice, steps) {
             Ok(turn) => turn,
             Err(cut) => {
                 kept.inputs.push_reserved(Input::Slice {
@@ -78,7 +79,7 @@ fn run_booted<L: Ledger>(
         keep_move(&mut kept.moves, moved);
         kept.instructions += u128::from(ran);
         left -= u64::from(ran);
-        push_output(text, output)?;
+        push_output(text, event, entry)?;
     }
     push_ran(text, count - left, end_of(kept.machine.standing()))
 }
@@ -93,13 +94,28 @@ fn keep_move(moves: &mut Vec<Move>, moved: Option<Move>)
     }
 }
 
-fn push_output(text: &mut String, output: Option<Output>) -> Result<(), NoMemory>
-    ensures { OnOk result
-        (string_bytes text.new ≡ string_bytes text.old ++ outputs_text (option_to_list output)) }
+// What the event of a slice writes to the console, if there was one.
+fn push_output(text: &mut String, event: u64, entry: Option<Record>) -> Result<(), NoMemory>
+    ensures { OnOk result (string_bytes text.new ≡
+        string_bytes text.old ++ outputs_text (record_outputs event (option_to_list entry))) }
 {
-    match output {
-        Some(output) => push_out(text, output.event, output.pid, output.bytes.as_slice()),
+    match entry {
+        Some(entry) => push_written(text, event, &entry),
         None => Ok(()),
+    }
+}
+
+fn push_written(text: &mut String, event: u64, entry: &Record) -> Result<(), NoMemory>
+    ensures { OnOk result (string_bytes text.new ≡
+        string_bytes text.old ++ outputs_text (output_of event entry.now)) }
+{
+    match entry {
+        Record::Call {
+            pid,
+            extra: Extra::Console { bytes },
+            ..
+        } if !bytes.is_empty() => push_out(text, event, *pid, bytes.as_slice()),
+        _ => Ok(()),
     }
 }
 

@@ -1,9 +1,12 @@
 use Rattle.std.proofs.Common.{◌≡◌, ◌≢◌, ◌⊎◌, ◌-◌, ◌++◌, arith, refl, sym, ap, ◌∙◌, [], append-nil, inl, inr, option_to_list, string_bytes, OnOk}
 use Rattle.arn_model.specs.declared.history.Standing.TheVariants as standing
+use Rattle.arn_model.specs.declared.history.Input.TheVariants as input
+use Rattle.arn_model.specs.Run.{input_steps}
 use Rattle.arn_model.specs.Slice.{standing}
 use Rattle.arn_lines.specs.declared.answer.RunEnd.{RunEnd}
 use Rattle.arn_lines.specs.Texts.{ran_text}
-use Rattle.arn_session.specs.Running.{end_of}
+use Rattle.arn_session.specs.Running.{end_of, record_outputs}
+use Rattle.arn_session.proofs.EventLemmas.{outputs-entries}
 use Rattle.arn_session.proofs.RunLemmas.{SoFar-start, SoFar-turn, SoFar-end, SoFar-within, SoFar-pending, IsRun, kept-slice, on_ok}
 use Rattle.arn_session.proofs.ToldLemmas.{told-slice}
 use Rattle.arn_session.proofs.running.run_booted.Given.{Over}
@@ -18,7 +21,7 @@ loop-left-preserved g c =
     let e = c.in-Ok.ensures in
     let k = c.loop-left.kept in
     let sound = c.loop-left.invariant.sound in
-    let turned = SoFar-turn c.args.kept.now.inputs.items c.args.kept.now.machine c.args.count _ c.args.steps.now k.inputs.items k.machine c.loop-left.left _ c.loop-left.steps c.min-slice.result c.reserve.new.self.items c.push_reserved-in-loop-left.new.self.items c.run_slice.new.self (c.loop-left.left - c.from-left.result) _ c.run_slice.new.steps c.in-Ok.turn.ran (option_to_list c.in-Ok.turn.output) sound.kept c.loop-left.invariant.so_far c.min-slice.ensures (c.if-can_go_on.ensures.goes refl) c.loop-left-test.true c.in_ok-reserve.ensures.items c.push_reserved-in-loop-left.ensures.items e.after e.ran e.output e.some e.within c.run_slice.ensures.events (ap (λ n. c.loop-left.left - n) c.from-left.ensures) c.in_ok-push_output.ensures (omega (arith, c.run_slice.ensures.steps, e.ran)) in
+    let turned = SoFar-turn c.args.kept.now.inputs.items c.args.kept.now.machine c.args.count _ c.args.steps.now k.inputs.items k.machine c.loop-left.left _ c.loop-left.steps c.min-slice.result c.reserve.new.self.items c.push_reserved-in-loop-left.new.self.items c.run_slice.new.self (c.loop-left.left - c.from-left.result) _ c.run_slice.new.steps c.in-Ok.turn.ran (record_outputs c.events-event.result (option_to_list c.in-Ok.turn.entry)) sound.kept c.loop-left.invariant.so_far c.min-slice.ensures (c.if-can_go_on.ensures.goes refl) c.loop-left-test.true c.in_ok-reserve.ensures.items c.push_reserved-in-loop-left.ensures.items e.after e.ran (outputs-entries c.events-event.result c.loop-left.kept.machine.events (option_to_list c.in-Ok.turn.entry) (input_steps c.loop-left.kept.machine (input.Slice 1 c.min-slice.result)) c.events-event.ensures e.entry) e.some e.within c.run_slice.ensures.events (ap (λ n. c.loop-left.left - n) c.from-left.ensures) c.in_ok-push_output.ensures (omega (arith, c.run_slice.ensures.steps, e.ran)) in
     record {
       sound = record {
         kept = turned.kept;
