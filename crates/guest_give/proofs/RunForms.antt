@@ -132,3 +132,16 @@ pub given-whole : (event : ℕ) (bytes : List ℕ) (give : Give) → give.bytes 
 given-whole event bytes give are runs =
     ap (λ (x : List ℕ). record { bytes = x; origins = give.origins }) (are ∙ sym (values-held_from event 0 bytes))
     ∙ ap (λ (x : List Origin). record { bytes = values (held_bytes event bytes); origins = x }) (runs ∙ sym (origins_of-whole event bytes))
+
+-- there are no more origins than places
+onto-few : (place : Src) (os : List Origin) → length (onto_origins place os) ≤ length os + 1
+onto-few place [] = omega arith
+onto-few place (o ∷ os) = one (comes_before place o)
+  where
+    one : (before : Bool) → length (if before then record { event = place.event; at = place.at; len = o.len + 1 } ∷ os else one_origin place ∷ o ∷ os) ≤ suc (length os) + 1
+    one true = omega arith
+    one false = omega arith
+
+pub origins_of-few : (places : List Src) → length (origins_of places) ≤ length places
+origins_of-few [] = omega arith
+origins_of-few (place ∷ places) = omega (arith, origins_of-few places, onto-few place (origins_of places))

@@ -14,6 +14,8 @@ use std::alloc::Global;
 pub fn give_of(alloc: Global, held: &[Held]) -> Result<Give, NoMemory>
     requires few { length held.now < 2 ^ 32 }
     ensures given { IfOk result (λ give. give ≡ given held.now) }
+    ensures few_bytes { IfOk result (λ give. length give.bytes ≤ length held.now) }
+    ensures few_origins { IfOk result (λ give. length give.origins ≤ length held.now) }
 {
     Ok(Give {
         bytes: bytes_of(alloc, held)?,
@@ -25,6 +27,8 @@ pub fn give_of(alloc: Global, held: &[Held]) -> Result<Give, NoMemory>
 pub fn give_whole(alloc: Global, event: u64, bytes: &[u8]) -> Result<Give, NoMemory>
     requires few { length bytes.now < 2 ^ 32 }
     ensures given { IfOk result (λ give. give ≡ given (held_bytes event bytes.now)) }
+    ensures few_bytes { IfOk result (λ give. length give.bytes ≤ length bytes.now) }
+    ensures few_origins { IfOk result (λ give. length give.origins ≤ 1) }
 {
     Ok(Give {
         bytes: Bytes::from_slice(alloc, bytes)?,
@@ -34,7 +38,8 @@ pub fn give_whole(alloc: Global, event: u64, bytes: &[u8]) -> Result<Give, NoMem
 
 // One run of all bytes of an event, if it has any.
 fn whole(alloc: Global, event: u64, len: u32) -> Result<Origins, NoMemory>
-    ensures { IfOk result (λ origins. origins ≡ whole_run event len) }
+    ensures runs { IfOk result (λ origins. origins ≡ whole_run event len) }
+    ensures few { IfOk result (λ origins. length origins ≤ 1) }
 {
     let mut origins = Origins::new(alloc);
     if len > 0 {

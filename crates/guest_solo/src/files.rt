@@ -16,9 +16,11 @@ pub struct BootFile {
 }
 
 impl BootFile {
-    ghost use Rattle.std.specs.Prelude.{◌≡◌, ◌<◌, ◌^◌, length, IfOk};
+    ghost use Rattle.std.specs.Prelude.{◌≡◌, ◌<◌, ◌^◌, length, IfOk, IsTrue};
     ghost use Rattle.arn_base.specs.declared.records.Record.TheVariants as entry;
     ghost use Rattle.arn_model.specs.Step.{given, held_bytes};
+    ghost use Rattle.arn_model.specs.Run.{is_name};
+    ghost use Rattle.result_log.specs.Spelling.{HasSpelling};
 
     pub fn new(alloc: Global, name: &[u8], bytes: &[u8], event: u64) -> Result<BootFile, NoMemory>
         ensures name { IfOk result (λ file. file.name ≡ name.now) }
@@ -35,8 +37,9 @@ impl BootFile {
     /// The record of a boot from the file, under a name.
     pub fn boot_record(&self, alloc: Global, name: &[u8]) -> Result<Record, NoMemory>
         requires few { length self.now.bytes < 2 ^ 32 }
-        ensures { IfOk result (λ made. made ≡
+        ensures entry { IfOk result (λ made. made ≡
             entry.Boot name.now (given (held_bytes self.now.event self.now.bytes))) }
+        ensures spelled { IfOk result (λ made. IsTrue (is_name name.now) → HasSpelling made) }
     {
         Ok(Record::Boot {
             name: Bytes::from_slice(alloc, name)?,

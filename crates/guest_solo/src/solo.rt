@@ -46,12 +46,13 @@ impl Model for Solo {
 }
 
 impl Solo {
-    ghost use Rattle.std.specs.Prelude.{◌≡◌, ◌≢◌, ◌+◌, ◌<◌, ◌≤◌, ◌^◌, ◌↔◌, true, false, [], ◌∷◌, length, IfOk, IfErr, OnOk, OnErr, IsErrOf, IsNone, IsTrue, is_some, option_to_list, Err, ◌⊎◌};
+    ghost use Rattle.std.specs.Prelude.{◌≡◌, ◌≢◌, ◌+◌, ◌<◌, ◌≤◌, ◌^◌, ◌↔◌, true, false, [], ◌∷◌, length, All, IfOk, IfErr, OnOk, OnErr, IsErrOf, IsNone, IsTrue, is_some, option_to_list, Err, ◌⊎◌};
     ghost use Rattle.arn_model.specs.declared.history.Input.TheVariants as input;
     ghost use Rattle.arn_model.specs.Machine.{at_first};
     ghost use Rattle.arn_model.specs.Slice.{is_possible, is_runnable, standing as standing_of};
     ghost use Rattle.arn_model.specs.Run.{is_booted as has_process, find_file, is_free, is_name, input_steps, after_input, instructions_in};
     ghost use Rattle.log_model.specs.Records.{event_records};
+    ghost use Rattle.result_log.specs.Spelling.{HasSpelling};
     ghost use Rattle.guest_solo.specs.Input.{Does, IsRefused};
     ghost use Rattle.solo_lineage.specs.Moves.{moves_from};
 
@@ -123,6 +124,8 @@ impl Solo {
         ensures does { OnOk result (Does self.old (input.Boot name.now) self.new) }
         ensures entry { IfOk result (λ booted. booted.entry ∷ [] ≡
             event_records (input_steps self.old (input.Boot name.now))) }
+        ensures spelled { IfOk result (λ booted.
+            IsTrue (is_name name.now) → HasSpelling booted.entry) }
         ensures moved { IfOk result (λ booted. booted.moved ∷ [] ≡
             moves_from self.old (input_steps self.old (input.Boot name.now))) }
 
@@ -218,6 +221,7 @@ impl Solo {
         ensures entry { IfOk result (λ turn.
             option_to_list turn.entry ≡
             event_records (input_steps self.old (input.Slice 1 count))) }
+        ensures spelled { IfOk result (λ turn. All HasSpelling (option_to_list turn.entry)) }
         ensures moved { IfOk result (λ turn.
             option_to_list turn.moved ≡
             moves_from self.old (input_steps self.old (input.Slice 1 count))) }

@@ -1,4 +1,4 @@
-ghost use Rattle.std.specs.Prelude.{◌≡◌, ◌+◌, ◌<◌, ◌≤◌, ◌^◌, ◌↔◌, ℕ, suc, true, false, List, [], length, map, take, drop, IfOk, IfErr, OnOk, OnErr, IsOk, IsSome, Some, option_to_list};
+ghost use Rattle.std.specs.Prelude.{◌≡◌, ◌+◌, ◌<◌, ◌≤◌, ◌^◌, ◌↔◌, ℕ, suc, true, false, List, [], length, map, All, take, drop, IfOk, IfErr, OnOk, OnErr, IsOk, IsSome, Some, option_to_list};
 ghost use Rattle.arn_base.specs.Window.{bytes_at, with_bytes};
 ghost use Rattle.guest_mem.specs.Windows.{private_window};
 ghost use Rattle.arn_model.specs.Machine.{Machine};
@@ -8,6 +8,7 @@ ghost use Rattle.arn_model.specs.Call.{returned};
 ghost use Rattle.arn_model.specs.Slice.{steps_of};
 ghost use Rattle.arn_model.specs.Run.{instructions_in};
 ghost use Rattle.arn_base.specs.declared.records.Record.TheVariants as entry;
+ghost use Rattle.result_log.specs.Spelling.{HasSpelling};
 ghost use Rattle.guest_solo.specs.Turn.{machine_with, IsTurn};
 
 use crate::burst::{Burst, run_instructions};
@@ -58,6 +59,7 @@ pub fn take_turn<L: Ledger>(
         IsTurn (machine_with m guest.old typed.now taken.old events.old) count
         (machine_with m guest.new typed.now taken.new events.new)
         turn.ran (option_to_list turn.entry) (option_to_list turn.moved)) }
+    ensures spelled { IfOk result (λ turn. All HasSpelling (option_to_list turn.entry)) }
     ensures taken { taken.new ≤ length typed.now }
     ensures events { events.new ≤ events.old + 1 }
     ensures ran { IfOk result (λ turn. turn.ran ≤ count) }
@@ -120,6 +122,7 @@ fn serve(
         IsTurn (machine_with m guest.old typed.now taken.old events.old) (suc count)
         (machine_with m guest.new typed.now taken.new events.new)
         turn.ran (option_to_list turn.entry) (option_to_list turn.moved)) }
+    ensures spelled { IfOk result (λ turn. All HasSpelling (option_to_list turn.entry)) }
     ensures taken { taken.new ≤ length typed.now }
     ensures events { events.new ≤ events.old + 1 }
     ensures ran { IfOk result (λ turn. turn.ran ≤ 1) }
@@ -232,8 +235,9 @@ fn receive(guest: &mut Guest, at: u64, bytes: &[u8]) -> Result<(), NoMemory>
 // The bytes at an address.
 fn written(alloc: Global, guest: &Guest, at: u64, count: u64) -> Result<Bytes, NoMemory>
     requires { IsSome (bytes_at (private_window guest.now.space) at count) }
-    ensures { IfOk result (λ bytes.
+    ensures bytes { IfOk result (λ bytes.
         bytes_at (private_window guest.now.space) at count ≡ Some bytes) }
+    ensures count { IfOk result (λ bytes. length bytes ≡ count) }
 {
     match guest.space.slice(at, count) {
         Ok(bytes) => Bytes::from_slice(alloc, bytes),

@@ -11,7 +11,7 @@ use Rattle.guest_solo.proofs.turn.serve.Goals as goal
 pub returns-in_ok-bytes-in-Writes-clause-turn : goal.returns-in_ok-bytes-in-Writes-clause-turn
 returns-in_ok-bytes-in-Writes-clause-turn c = λ m count.
     rw (c.one_call-in-Writes.ensures.ran, c.one_call-in-Writes.ensures.entry, c.one_call-in-Writes.ensures.moved)
-    (turn-writes m c.args.guest.now c.args.typed.now c.args.taken.now c.args.events.now _ count _ _ _ c.finish-in-Writes.new.cpu c.in_ok-bytes-in-Writes.bytes c.requires.live c.requires.call refl c.in-Writes.ensures.request c.call_number-number.ensures c.finish-in-Writes.ensures c.in_ok-bytes-in-Writes.ensures)
+    (turn-writes m c.args.guest.now c.args.typed.now c.args.taken.now c.args.events.now _ count _ _ _ c.finish-in-Writes.new.cpu c.in_ok-bytes-in-Writes.bytes c.requires.live c.requires.call refl c.in-Writes.ensures.request c.call_number-number.ensures c.finish-in-Writes.ensures c.in_ok-bytes-in-Writes.ensures.bytes)
 
 pub returns-in_ok-receive-in-Takes-clause-turn : goal.returns-in_ok-receive-in-Takes-clause-turn
 returns-in_ok-receive-in-Takes-clause-turn c = λ m count.

@@ -62,7 +62,7 @@ returns-clause-entry c =
     let starts = subst (λ (bs : List ℕ). StartsFrom bs c.in-Ok.started) c.as_slice-2.ensures c.in-Ok.ensures.starts in
     let none = sym c.is_some.ensures ∙ c.if-is_some.false in
     let boot = recorded-boot c.self.inside _ _ f c.in-Ok.started _ none found within c.index-file.ensures starts refl in
-    ap (λ (r : Record). r ∷ []) c.in-Ok-boot_record.ensures ∙ subst (λ (m : Machine). entry.Boot c.args.name.now (given (held_bytes f.event f.bytes)) ∷ [] ≡ event_records (input_steps m (input.Boot c.args.name.now))) c.self.view_is boot
+    ap (λ (r : Record). r ∷ []) c.in-Ok-boot_record.ensures.entry ∙ subst (λ (m : Machine). entry.Boot c.args.name.now (given (held_bytes f.event f.bytes)) ∷ [] ≡ event_records (input_steps m (input.Boot c.args.name.now))) c.self.view_is boot
 
 pub returns-clause-not_image : goal.returns-clause-not_image
 returns-clause-not_image c = (λ is. cc, λ all. absurd (does-isnt-refused _ _ _ (returns-clause-does c) all.2))
