@@ -2,8 +2,9 @@
 use Rattle.std.specs.Prelude.{◌≡◌, ℕ, ◌≤◌, ◌<◌, min, max, List, [], length, All, slice_index, Bool, if◌then◌else◌, Option, Some, None}
 use Rattle.log_disk.specs.declared.ranges.Range.{Range}
 
--- the bytes that reads give; the ranges written since the last sync that succeeded; and the smallest and
--- the greatest length from then to the last change, where a write that failed counts as done
+-- the bytes that reads give; the ranges written since the last sync that succeeded; and bounds of
+-- the length since then, the present length left out where it is that of `image`: see `shortest`,
+-- `longest`; a write that failed counts as done
 pub record Held : Type 0 where
   pub image : List ℕ
   pub written : List Range
@@ -39,8 +40,8 @@ pub record Crash (held : Held) (bytes : List ℕ) : Type 0 where
   pub stays : (place : ℕ) → Stays held place →
       slice_index bytes place ≡ slice_index held.image place
 
--- the byte that stands where a crash may leave any: the fill, or else the byte that is read, which is 0
--- behind the end
+-- the byte that stands where a crash may leave any: the fill, or else the byte that is read, which
+-- is 0 behind the end
 abbrev pub filling : Option ℕ → List ℕ → ℕ → ℕ
 filling (Some byte) image place = byte
 filling None image place = slice_index image place

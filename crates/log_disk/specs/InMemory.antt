@@ -2,7 +2,7 @@
 use Rattle.std.specs.Prelude.{◌≡◌, ℕ, ◌+◌, ◌≤◌, ◌⊎◌, min, List, [], ◌∷◌, length, reverse, Contains, Result, OnOk, IsErrOf}
 use Rattle.arn_base.specs.declared.errors.Stop.{Stop}
 use Rattle.arn_base.specs.declared.errors.Stop.TheVariants.{Failed, NoMemory}
-use Rattle.arn_base.specs.Faults.{greatest, Rose, NeverFalls}
+use Rattle.arn_base.specs.Faults.{greatest, NeverFalls}
 use Rattle.log_disk.specs.declared.medium.Medium.{Medium}
 use Rattle.log_disk.specs.Crash.{Held, Crash, durable}
 use Rattle.log_disk.specs.Image.{image_bytes}
@@ -47,7 +47,8 @@ state_of medium = record {
   past = states_before (image_bytes medium.image) (reverse medium.past.items);
 }
 
--- a disk in memory; the numbers of the calls that fail; how many calls there were; and how many failed
+-- a disk in memory; the numbers of the calls to fail; how many calls there were; and how many of
+-- these were faults
 pub record Fused : Type 0 where
   pub disk : InMemory
   pub fails : List ℕ
@@ -58,19 +59,21 @@ pub record Fused : Type 0 where
 abbrev pub fused : List ℕ → List ℕ → Fused
 fused bytes fails = record { disk = fresh bytes; fails = fails; calls = 0; faults = 0 }
 
--- the coming call fails
+-- the number of the coming call is listed
 abbrev pub IsListed : Fused → Type 0
 IsListed fused = Contains fused.fails fused.calls
 
--- a call was counted, and as a fault where it failed
-pub record Counts (failed : Type 0) (old new : Fused) : Type 0 where
+-- a call was counted, and as a fault exactly where it was listed
+pub record Counts (old new : Fused) : Type 0 where
   pub fails : new.fails ≡ old.fails
   pub calls : new.calls ≡ min (old.calls + 1) greatest
-  pub cause : failed → Rose old.faults new.faults
+  pub fault : IsListed old → new.faults ≡ min (old.faults + 1) greatest
+  pub no_fault : ¬ IsListed old → new.faults ≡ old.faults
   pub faults : NeverFalls old.faults new.faults
 
 -- a call made one change where it succeeded, another where it failed, and none for want of memory
-pub record Makes (result : Result (Unit {0}) Stop) (done torn : Held) (old new : InMemory) : Type 0 where
+pub record Makes (result : Result (Unit {0}) Stop) (done torn : Held) (old new : InMemory) :
+    Type 0 where
   pub ok : OnOk result (new ≡ changed done old)
   pub failed : IsErrOf result Failed → new ≡ changed torn old
   pub no_memory : IsErrOf result NoMemory → new ≡ old

@@ -21,7 +21,8 @@ LeftSince-now disk since bytes now = inl now
 none_before : (past : List Held) (since : ℕ) (bytes : List ℕ) → length past ≤ since →
     LeftBefore past since bytes → ⊥
 none_before [] since bytes late left = left
-none_before (held ∷ past) since bytes late (inl left) = not-suc-le_self (length past) (le_trans late left.0)
+none_before (held ∷ past) since bytes late (inl left) =
+    not-suc-le_self (length past) (le_trans late left.0)
 none_before (held ∷ past) since bytes late (inr left) =
     none_before past since bytes (le_of_suc-le late) left
 

@@ -12,7 +12,8 @@ span at n = record { start = at; end = at + n }
 abbrev pub first_half : List ℕ → List ℕ
 first_half bytes = take (length bytes / 2) bytes
 
--- after a write to a range, which put these bytes at its start: all of them, or fewer where it failed
+-- after a write to a range, which put these bytes at its start: all of them, or fewer where it
+-- failed
 abbrev pub written_to : Range → List ℕ → Held → Held
 written_to range bytes held = record {
   image = overwrite held.image range.start bytes;

@@ -9,8 +9,8 @@ use arn_base::{Disk, Failed, Stop};
 use std::io;
 use std::rt::Files;
 
-/// A file of the host as a disk. The first call opens it, and makes it where it isn't there. It tells nothing of its bytes
-/// and nothing of what a crash may leave.
+/// A file of the host as a disk. The first call opens it, and makes it where it isn't there. It
+/// tells nothing of its bytes and nothing of what a crash may leave.
 #[derive(Drop)]
 pub struct FileDisk<R: Files + Clone + Drop> {
     host: HostFile<R>,

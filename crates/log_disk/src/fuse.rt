@@ -1,6 +1,6 @@
 // Calls that fail by their numbers.
-ghost use Rattle.std.specs.Prelude.{◌≡◌, ◌+◌, ◌↔◌, min, IsTrue, IsErr, OnErr, Contains};
-ghost use Rattle.arn_base.specs.Faults.{greatest, Rose, NeverFalls};
+ghost use Rattle.std.specs.Prelude.{◌≡◌, ◌+◌, ◌↔◌, min, IsTrue, IsErr, Contains};
+ghost use Rattle.arn_base.specs.Faults.{greatest, NeverFalls};
 
 use arn_base::{Failed, Numbers};
 
@@ -34,7 +34,10 @@ impl Fuse {
         ensures fails { IsErr result ↔ Contains self.old.fails self.old.calls }
         ensures same { self.new.fails ≡ self.old.fails }
         ensures calls { self.new.calls ≡ min (self.old.calls + 1) greatest }
-        ensures cause { OnErr result (Rose self.old.faults self.new.faults) }
+        ensures fault { Contains self.old.fails self.old.calls →
+            self.new.faults ≡ min (self.old.faults + 1) greatest }
+        ensures no_fault { ¬ Contains self.old.fails self.old.calls →
+            self.new.faults ≡ self.old.faults }
         ensures faults { NeverFalls self.old.faults self.new.faults }
     {
         let blows = is_listed(self.fails.as_slice(), self.calls);

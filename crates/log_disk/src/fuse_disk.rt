@@ -12,9 +12,11 @@ use arn_base::{Bytes, Disk, Failed, NoMemory, Numbers, Stop};
 use std::alloc::Global;
 use std::marker::Model;
 
-/// A disk in memory on which the calls fail whose numbers, from 0 on, are listed. It tells its bytes, and what a crash at
-/// each moment may leave. A write that fails has written the first half of its bytes, and a cut that fails has cut; a
-/// length, a read and a sync that fail have done nothing.
+/// A disk in memory on which chosen calls fail, by their numbers from 0 on. It tells its bytes, and
+/// what a crash at each moment may leave. A length, a read and a sync fail exactly where they are
+/// listed, and have done nothing then. A write and a cut that are listed fail or find no memory,
+/// and no others fail. A write that fails has written the first half of its bytes, a cut that fails
+/// has cut. A listed call is a fault, whether it fails or finds no memory.
 #[derive(Drop)]
 pub struct FuseDisk {
     medium: Medium,
@@ -50,14 +52,14 @@ impl FuseDisk {
 
     /// The bytes that a read gives.
     pub fn bytes(&self) -> &[u8]
-        ensures { ⟦<FuseDisk as Disk>⟧.image self.now ≡ Some result.now }
+        ensures image { ⟦<FuseDisk as Disk>⟧.image self.now ≡ Some result.now }
     {
         self.medium.bytes()
     }
 
-    /// What one crash at this moment leaves. It has the smallest length since the last sync that succeeded if `short`,
-    /// else the greatest. Where a crash may leave any byte it has the fill byte, or without one the byte that a read
-    /// gives, and 0 behind the end.
+    /// What one crash at this moment leaves. It has the smallest length since the last sync that
+    /// succeeded if `short`, else the greatest. Where a crash may leave any byte it has the fill
+    /// byte, or without one the byte that a read gives, and 0 behind the end.
     pub fn crash_with(
         &self,
         alloc: Global,
@@ -97,7 +99,7 @@ impl Disk for FuseDisk {
         ensures listed { IsErr result ↔ IsListed self.old }
         ensures length { IfOk result (λ len. len ≡ length self.old.disk.held.image) }
         ensures same { self.new.disk ≡ self.old.disk }
-        ensures counted { Counts (IsErr result) self.old self.new }
+        ensures counted { Counts self.old self.new }
     {
         self.fuse.pass()?;
         Ok(self.medium.bytes().len() as u64)
@@ -108,8 +110,9 @@ impl Disk for FuseDisk {
         ensures listed { IsErr result ↔ IsListed self.old }
         ensures bytes { OnOk result
             (buf.new ≡ take (length buf.old) (drop at self.old.disk.held.image)) }
+        ensures unread { OnErr result (buf.new ≡ buf.old) }
         ensures same { self.new.disk ≡ self.old.disk }
-        ensures counted { Counts (IsErr result) self.old self.new }
+        ensures counted { Counts self.old self.new }
     {
         self.fuse.pass()?;
         self.medium.read(at as usize, buf);
@@ -124,7 +127,7 @@ impl Disk for FuseDisk {
             (written_to (span at (length bytes.now)) bytes.now self.old.disk.held)
             (written_to (span at (length bytes.now)) (first_half bytes.now) self.old.disk.held)
             self.old.disk self.new.disk }
-        ensures counted { Counts (IsErrOf result Stop.Failed) self.old self.new }
+        ensures counted { Counts self.old self.new }
     {
         let passed = self.fuse.pass();
         let range = Range::with_len(at as usize, bytes.len())?;
@@ -140,7 +143,7 @@ impl Disk for FuseDisk {
         ensures failed { IsErrOf result Stop.Failed → IsListed self.old }
         ensures makes { Makes result (cut_to len self.old.disk.held)
             (cut_to len self.old.disk.held) self.old.disk self.new.disk }
-        ensures counted { Counts (IsErrOf result Stop.Failed) self.old self.new }
+        ensures counted { Counts self.old self.new }
     {
         let passed = self.fuse.pass();
         self.medium.cut(len as usize)?;
@@ -148,12 +151,11 @@ impl Disk for FuseDisk {
     }
 
     fn sync(&mut self) -> Result<(), Stop>
-        ensures listed { IsListed self.old → IsErr result }
-        ensures failed { IsErrOf result Stop.Failed → IsListed self.old }
+        ensures listed { IsErrOf result Stop.Failed ↔ IsListed self.old }
         ensures ok { OnOk result
             (self.new.disk ≡ changed (durable self.old.disk.held.image) self.old.disk) }
         ensures err { OnErr result (self.new.disk ≡ self.old.disk) }
-        ensures counted { Counts (IsErrOf result Stop.Failed) self.old self.new }
+        ensures counted { Counts self.old self.new }
     {
         self.fuse.pass()?;
         Ok(self.medium.sync()?)

@@ -43,7 +43,8 @@ impl Image {
 
     pub fn overwrite(&mut self, alloc: Global, at: usize, piece: &[u8]) -> Result<(), NoMemory>
         requires { at ≤ length (image_bytes self.old) }
-        ensures ok { OnOk result (image_bytes self.new ≡ overwrite (image_bytes self.old) at piece.now) }
+        ensures ok { OnOk result
+            (image_bytes self.new ≡ overwrite (image_bytes self.old) at piece.now) }
         ensures err { OnErr result (image_bytes self.new ≡ image_bytes self.old) }
     {
         if let Image::Own(bytes) = self {

