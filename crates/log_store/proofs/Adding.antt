@@ -1,5 +1,5 @@
 -- What a stop leaves while a frame is added behind a closed gate.
-use Rattle.std.proofs.Common.{◌≡◌, inl, inr, ℕ, ◌+◌, ◌-◌, List, [], ◌∷◌, ◌++◌, length, take, drop, get_or, Option, Some, None, option_map, sym, ap, ◌∙◌, subst, append_assoc, length-append, take-append-drop, arith, IfSome}
+use Rattle.std.proofs.Common.{◌≡◌, inl, inr, ℕ, ◌+◌, ◌-◌, ◌<◌, List, [], ◌∷◌, ◌++◌, length, take, drop, get_or, Option, Some, None, option_map, sym, ap, ◌∙◌, subst, append_assoc, length-append, length-take, length-drop, take-append-drop, arith, IfSome}
 use Rattle.std.proofs.lemmas.List.{append-nil, take_at, drop_at, drop_more, take_all, drop_all}
 use Rattle.arn_base.specs.Disk.{overwrite, Torn, Only}
 use Rattle.log_store.specs.Pieces.{with_frame, IsTorn, IsUnopened, IsWritten}
@@ -57,16 +57,32 @@ with_frame-closed front bytes =
 
 -- the same of any old bytes of this length
 pub torn_first : (old bytes left : List ℕ) (len : ℕ) → length old ≡ len → Torn len (length bytes) old left → IsTorn old bytes left
-torn_first old bytes left len long torn = λ front e.
-    let size = ap length e ∙ length-closed front 0 in
-    inl (torn_behind front left len (length bytes) (omega (arith, long, size)) (subst (λ b. Torn len (length bytes) b left) e torn))
+torn_first old bytes left len long torn = record {
+  stands = λ front e.
+      let size = ap length e ∙ length-closed front 0 in
+      inl (torn_behind front left len (length bytes) (omega (arith, long, size)) (subst (λ b. Torn len (length bytes) b left) e torn));
+  no_longer = omega (arith, long, torn.no_longer);
+}
 
-pub torn_second : (old bytes left : List ℕ) (len : ℕ) → length old ≡ len → Torn (len - 1) 1 (overwrite old len bytes) left → IsTorn old bytes left
-torn_second old bytes left len long torn = λ front e.
-    let size = ap length e ∙ length-closed front 0 in
-    let written : overwrite old len bytes ≡ front ++ 0 ∷ bytes =
-    ap (λ (b : List ℕ). overwrite b len bytes) e ∙ overwrite-behind front bytes len (omega (arith, long, size)) in
-    inr (torn_gate front bytes left (len - 1) (omega (arith, long, size)) (subst (λ b. Torn (len - 1) 1 b left) written torn))
+-- how long bytes are with others behind them
+length-overwrite : (old bytes : List ℕ) (len : ℕ) → length old ≡ len → length (overwrite old len bytes) ≡ len + length bytes
+length-overwrite old bytes len long =
+    let behind = drop (len + length bytes) old in
+    let whole = length-append (take len old ++ bytes) behind in
+    let front = length-append (take len old) bytes in
+    let first = length-take len old in
+    let last = length-drop (len + length bytes) old in
+    omega (arith, long, whole, front, first, last)
+
+pub torn_second : (old bytes left : List ℕ) (len : ℕ) → 0 < len → length old ≡ len → Torn (len - 1) 1 (overwrite old len bytes) left → IsTorn old bytes left
+torn_second old bytes left len some long torn = record {
+  stands = λ front e.
+      let size = ap length e ∙ length-closed front 0 in
+      let written : overwrite old len bytes ≡ front ++ 0 ∷ bytes =
+      ap (λ (b : List ℕ). overwrite b len bytes) e ∙ overwrite-behind front bytes len (omega (arith, long, size)) in
+      inr (torn_gate front bytes left (len - 1) (omega (arith, long, size)) (subst (λ b. Torn (len - 1) 1 b left) written torn));
+  no_longer = omega (arith, some, long, length-overwrite old bytes len long, torn.no_longer);
+}
 
 module _ {D : Type 0} (image : D → Option (List ℕ)) (may_leave : D → List ℕ → Type 0) (moment : D → ℕ) (left_since : D → ℕ → List ℕ → Type 0) where
   -- nothing is pending on a disk that tells these bytes
@@ -74,19 +90,19 @@ module _ {D : Type 0} (image : D → Option (List ℕ)) (may_leave : D → List 
   only_told disk bytes told pending = subst (λ o. IfSome o (λ b. Only b (may_leave disk))) told pending
 
   -- both writes, the first of them synced
-  pub frame_moments : (o : Option (List ℕ)) (start mid end : D) (len : ℕ) (bytes : List ℕ)
+  pub frame_moments : (o : Option (List ℕ)) (start mid end : D) (len : ℕ) (bytes : List ℕ) → 0 < len
       → image mid ≡ option_map (λ old. overwrite old len bytes) o → NothingPending image may_leave mid
       → ((old : List ℕ) → Only old (may_leave start) → LeavesOnly moment left_since start mid (Torn len (length bytes) old))
       → ((old : List ℕ) → Only old (may_leave mid) → LeavesOnly moment left_since mid end (Torn (len - 1) 1 old))
       → IfSome o (λ old. length old ≡ len)
       → IfSome o (λ old. Only old (may_leave start) → LeavesOnly moment left_since start end (IsTorn old bytes))
-  frame_moments None start mid end len bytes told pending first second long = tt
-  frame_moments (Some old) start mid end len bytes told pending first second long = λ only.
+  frame_moments None start mid end len bytes some told pending first second long = tt
+  frame_moments (Some old) start mid end len bytes some told pending first second long = λ only.
       let mid_bytes = overwrite old len bytes in
       let Behind : List ℕ → Type 0 = Torn len (length bytes) old in
       let Gate : List ℕ → Type 0 = Torn (len - 1) 1 mid_bytes in
       joined moment left_since start mid end Behind Gate (IsTorn old bytes) (first old only) (second mid_bytes (only_told mid mid_bytes told pending))
-      (λ left torn. torn_first old bytes left len long torn) (λ left torn. torn_second old bytes left len long torn)
+      (λ left torn. torn_first old bytes left len long torn) (λ left torn. torn_second old bytes left len some long torn)
 
 -- the first write alone
 pub first_moments : {D : Type 0} (may_leave : D → List ℕ → Type 0) (moment : D → ℕ) (left_since : D → ℕ → List ℕ → Type 0)

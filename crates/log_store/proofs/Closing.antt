@@ -1,5 +1,5 @@
 -- What a stop leaves while the end of a log is closed.
-use Rattle.std.proofs.Common.{◌≡◌, ◌≢◌, inl, inr, ℕ, ◌+◌, ◌<◌, List, [], ◌∷◌, ◌++◌, length, take, drop, get_or, Option, Some, None, option_map, refl, sym, ap, ◌∙◌, subst, length-drop, arith, IfSome}
+use Rattle.std.proofs.Common.{◌≡◌, ◌≢◌, inl, inr, ℕ, ◌+◌, ◌<◌, List, [], ◌∷◌, ◌++◌, length, take, drop, get_or, Option, Some, None, option_map, refl, sym, ap, ◌∙◌, subst, length-drop, length-take, arith, IfSome}
 use Rattle.std.proofs.lemmas.List.{append-nil, take-take, drop_more, drop_all, get_or-take, get_or-drop}
 use Rattle.arn_base.specs.Disk.{overwrite, Torn, Cut}
 use Rattle.log_store.specs.Log.{IsEnd}
@@ -37,6 +37,7 @@ cut_front gate end told left ends is more cut =
           ∙ ap (λ (xs : List ℕ). take gate xs) cut.front
           ∙ take-take gate (gate + 1) told (omega arith);
       is_end = subst IsEnd (sym (drop_more left gate 0 within)) (inl (λ is_open. not_open end is more (sym same ∙ is_open)));
+      no_longer = cut.no_longer;
     }
 
 -- behind a gate that is the last byte stands nothing
@@ -50,6 +51,7 @@ gate_front gate value told left ends torn =
     record {
       front = torn.before;
       is_end = subst IsEnd (sym (drop_more left gate 0 within)) (inr (torn.after ∙ nothing_behind gate value told ends));
+      no_longer = omega (arith, long, torn.no_longer);
     }
 
 pub gate_closed : (gate value : ℕ) (o : Option (List ℕ)) → IfSome o (EndsWith gate (value ∷ []))
@@ -63,4 +65,5 @@ pub same_front_after : (gate : ℕ) (told left : List ℕ) → IsSameFront gate 
 same_front_after gate told left same = record {
   front = same.front ∙ take-take gate (gate + 1) told (omega arith);
   is_end = same.is_end;
+  no_longer = omega (arith, length-take (gate + 1) told, same.no_longer);
 }

@@ -4,6 +4,7 @@ pub mod Closing
 pub mod Fields
 pub mod Logs
 pub mod Moments
+pub mod OnePlace
 pub mod OneWay
 pub mod ReadRecords
 pub mod Reopening

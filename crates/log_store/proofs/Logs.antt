@@ -1,15 +1,17 @@
 -- What the bytes of a log turn into while a frame is added.
-use Rattle.std.proofs.Common.{◌≡◌, inl, inr, ⊎_elim, ℕ, ◌+◌, Bool, List, [], ◌∷◌, ◌++◌, length, refl, sym, ap, ◌∙◌, subst, append_assoc, length-append, arith}
+use Rattle.std.proofs.Common.{◌≡◌, ◌⊎◌, inl, inr, ⊎_elim, ℕ, ◌+◌, ◌≤◌, Bool, List, [], ◌∷◌, ◌++◌, length, refl, sym, ap, ◌∙◌, subst, append_assoc, length-append, arith}
 use Rattle.std.specs.Prelude.{All}
 use Rattle.std.proofs.lemmas.Bool.{cases_eq}
 use Rattle.std.proofs.lemmas.List.{flat_map_more}
 use Rattle.std.proofs.lemmas.List.Elements.{All-push}
 use Rattle.arn_base.specs.declared.records.Record.{Record}
 use Rattle.result_log.specs.Spelling.{counted}
-use Rattle.log_store.specs.Held.{Held, IsLeftBy, IsBeforeOrAfter}
+use Rattle.log_store.specs.Stores.{StoreState, IsLeftBy, IsBeforeOrAfter}
 use Rattle.log_store.specs.Log.{log_name, spellings, frame, frames, records_of, IsCommit, IsEnd, IsLog, IsClosedLog}
 use Rattle.log_store.specs.Pieces.{with_frame, IsTorn, IsUnopened, IsWritten}
+use Rattle.log_store.specs.declared.size.TheConstants.{MOST_LOG}
 use Rattle.log_store.proofs.Adding.{length-closed, with_frame-closed}
+use Rattle.log_store.proofs.Fields.{length-counted}
 
 -- the bytes before the ending gate of a log
 abbrev pub front_of : List (List Record) → List ℕ
@@ -41,7 +43,7 @@ commit_bytes more = counted (spellings more) ++ 0 ∷ []
 
 -- a whole frame behind any gate counts or it doesn't
 pub written_log : (commits : List (List Record)) (more : List Record) (left : List ℕ) → All IsCommit commits → IsCommit more
-    → IsWritten (front_of commits) (commit_bytes more) left → IsBeforeOrAfter (records_of commits) more left
+    → IsWritten (front_of commits) (commit_bytes more) left → IsLog left (records_of commits) ⊎ IsLog left (records_of commits ++ more)
 written_log commits more left are is written = elim (cases_eq written.gate 1) [
   | inl is_open ↦
       let opened : left ≡ front_of commits ++ (frame more ++ 0 ∷ []) = written.are_bytes ∙ ap (λ gate. front_of commits ++ gate ∷ commit_bytes more) is_open in
@@ -57,16 +59,30 @@ pub closed-front : (commits : List (List Record)) (bytes : List ℕ) → bytes �
 closed-front commits bytes e = e ∙ sym (append_assoc log_name (frames commits) (0 ∷ []))
 
 -- what a stop in a commit leaves is a log of all or none of it
-pub torn_log : (old left bytes : List ℕ) (entries more : List Record) → IsClosedLog old entries → IsCommit more → bytes ≡ commit_bytes more
-    → IsTorn old bytes left → IsBeforeOrAfter entries more left
+torn_log : (old left bytes : List ℕ) (entries more : List Record) → IsClosedLog old entries → IsCommit more → bytes ≡ commit_bytes more
+    → IsTorn old bytes left → IsLog left entries ⊎ IsLog left (entries ++ more)
 torn_log old left bytes entries more log is same torn =
     let whole = closed-front log.commits old log.are_bytes in
     let records = sym log.are_records in
-    let P : List Record → Type 0 = λ rs. IsBeforeOrAfter rs more left in
+    let P : List Record → Type 0 = λ rs. IsLog left rs ⊎ IsLog left (rs ++ more) in
     subst P records (⊎_elim
     (λ unopened. inl (unopened_log log.commits left log.are_commits unopened))
     (λ written. written_log log.commits more left log.are_commits is (subst (λ b. IsWritten (front_of log.commits) b left) same written))
-    (torn (front_of log.commits) whole))
+    (torn.stands (front_of log.commits) whole))
+
+-- how long the bytes of a commit are
+length-commit : (more : List Record) → length (commit_bytes more) ≡ 5 + length (spellings more)
+length-commit more = omega (arith, length-append (counted (spellings more)) (0 ∷ []), length-counted (spellings more))
+
+-- and the log isn't too long
+pub torn_left : (store : StoreState) (old left bytes : List ℕ) (more : List Record) → IsLeftBy store old → IsCommit more → bytes ≡ commit_bytes more
+    → store.log_len + 5 + length (spellings more) ≤ MOST_LOG → IsTorn old bytes left → IsBeforeOrAfter store.entries more left
+torn_left store old left bytes more is_left is same fits torn =
+    let long = ap length same ∙ length-commit more in
+    record {
+      is_log = torn_log old left bytes store.entries more is_left.is_log is same torn;
+      fits = omega (arith, torn.no_longer, long, is_left.is_whole, fits);
+    }
 
 -- and then the log is one of all
 pub with_frame-log : (old bytes : List ℕ) (entries more : List Record) → IsClosedLog old entries → IsCommit more → bytes ≡ commit_bytes more
@@ -95,7 +111,7 @@ length-with_frame old bytes entries log =
     let after = ap length (ap (λ (b : List ℕ). with_frame b bytes) whole ∙ with_frame-closed front bytes) ∙ length-append front (1 ∷ bytes) in
     omega (arith, before, after)
 
-pub with_frame-left : (store : Held) (usable : Bool) (old bytes : List ℕ) (more entries : List Record) (len : ℕ) → IsLeftBy store old → IsCommit more → bytes ≡ commit_bytes more
+pub with_frame-left : (store : StoreState) (usable : Bool) (old bytes : List ℕ) (more entries : List Record) (len : ℕ) → IsLeftBy store old → IsCommit more → bytes ≡ commit_bytes more
     → entries ≡ store.entries ++ more → len ≡ store.log_len + length bytes
     → IsLeftBy (record { entries = entries; log_len = len; usable = usable }) (with_frame old bytes)
 with_frame-left store usable old bytes more entries len left is same added long = record {

@@ -7,7 +7,8 @@ use Rattle.std.proofs.lemmas.List.Elements.{All-head, All-tail}
 use Rattle.arn_base.specs.declared.records.Record.{Record}
 use Rattle.result_log.specs.Laws.{SpelledOneWay}
 use Rattle.result_log.specs.Spelling.{spelling, counted}
-use Rattle.log_store.specs.Log.{log_name, spellings, frame, frames, records_of, IsCommit, IsEnd, IsNamed, IsSpellable}
+use Rattle.log_store.specs.Log.{log_name, spellings, frame, frames, records_of, IsClosedLog, IsCommit, IsEnd, IsNamedLog, IsSpellable}
+use Rattle.log_store.specs.Pieces.{IsFound}
 use Rattle.log_store.specs.Laws.{LogsReadOneWay, ClosedAreLogs, BadAreNone}
 use Rattle.log_store.specs.Refused.{BeginsNone, IsBroken, IsCutShort, IsMisnamed, IsMisspelled, IsNoLog}
 use Rattle.log_store.proofs.Fields.{counted-same, length-counted, not_empty, Same}
@@ -76,22 +77,23 @@ frames-same one (x ∷ a) (y ∷ b) end other are_a are_b is is_other e =
     let rest = frames-same one a b end other (All-tail IsCommit x a are_a) (All-tail IsCommit y b are_b) is is_other same.back in
     ap (λ (c : List Record). c ∷ a) same.front ∙ ap (λ (cs : List (List Record)). y ∷ cs) rest
 
+-- one byte holds no frame
+no_commits : (commits : List (List Record)) (end behind : List ℕ) → IsEnd end → behind ≡ frames commits ++ end → length behind ≤ 1 → commits ≡ []
+no_commits [] end behind is e le = refl
+no_commits (c ∷ commits) end behind is e le =
+    let size = ap length e ∙ length-append (frame c ++ frames commits) end in
+    let part = length-append (frame c) (frames commits) in
+    let long = length-counted (spellings c) in
+    absurd (omega (arith, size, part, long, le))
+
 -- a log of at most nine bytes that has a name holds no records
-pub short_named : (bytes : List ℕ) (records : List Record) → length bytes ≤ 9 → IsNamed bytes records → records ≡ []
+pub short_named : (bytes : List ℕ) (records : List Record) → length bytes ≤ 9 → IsNamedLog bytes records → records ≡ []
 short_named bytes records short named =
     let log = named.are_frames in
     let size = ap length named.is_named ∙ length-append log_name named.behind in
     log.are_records ∙ ap records_of (no_commits log.commits log.end named.behind log.is_end log.are_bytes (omega (arith, size, short)))
-  where
-    no_commits : (commits : List (List Record)) (end behind : List ℕ) → IsEnd end → behind ≡ frames commits ++ end → length behind ≤ 1 → commits ≡ []
-    no_commits [] end behind is e le = refl
-    no_commits (c ∷ commits) end behind is e le =
-        let size = ap length e ∙ length-append (frame c ++ frames commits) end in
-        let part = length-append (frame c) (frames commits) in
-        let long = length-counted (spellings c) in
-        absurd (omega (arith, size, part, long, le))
 
-pub named-same : SpelledOneWay → (bytes : List ℕ) (first second : List Record) → IsNamed bytes first → IsNamed bytes second → first ≡ second
+pub named-same : SpelledOneWay → (bytes : List ℕ) (first second : List Record) → IsNamedLog bytes first → IsNamedLog bytes second → first ≡ second
 named-same one bytes first second a b =
     let behind = append_cancel_left log_name a.behind b.behind (sym a.is_named ∙ b.is_named) in
     let fa = a.are_frames in
@@ -120,6 +122,21 @@ closed_logs bytes records log = inr (record {
   };
 })
 
+-- what a store left is read up to its last byte
+pub closed_end : SpelledOneWay → (bytes : List ℕ) (entries records : List Record) (end : List ℕ) → IsFound bytes entries end → IsClosedLog bytes records
+    → end ≡ 0 ∷ []
+closed_end one bytes entries records end found log =
+    let behind = append_cancel_left log_name (frames found.commits ++ end) (frames log.commits ++ 0 ∷ []) (sym found.are_bytes ∙ log.are_bytes) in
+    let same = frames-same one found.commits log.commits end (0 ∷ []) found.are_commits log.are_commits found.is_end (inr refl) behind in
+    append_cancel_left (frames log.commits) end (0 ∷ []) (ap (λ (cs : List (List Record)). frames cs ++ end) (sym same) ∙ behind)
+
+-- a short one holds nothing
+pub closed_fresh : (bytes : List ℕ) (records : List Record) → length bytes ≤ 9 → IsClosedLog bytes records → bytes ≡ log_name ++ 0 ∷ []
+closed_fresh bytes records short log =
+    let size = ap length log.are_bytes ∙ length-append log_name (frames log.commits ++ 0 ∷ []) in
+    let none = no_commits log.commits (0 ∷ []) (frames log.commits ++ 0 ∷ []) (inr refl) refl (omega (arith, size, short)) in
+    log.are_bytes ∙ ap (λ (cs : List (List Record)). log_name ++ (frames cs ++ 0 ∷ [])) none
+
 -- something stands behind the open gate of a broken frame
 has_more : (behind : List ℕ) (gate at : ℕ) → IsCutShort gate at behind ⊎ IsMisspelled gate at behind → behind ≢ []
 has_more behind gate at (inl short) none = short.has_more none
@@ -127,6 +144,15 @@ has_more behind gate at (inr bad) none =
     let size = sym (ap length none) ∙ ap length bad.holds.are_bytes ∙ length-append (counted bad.payload) bad.next in
     let long = length-counted bad.payload in
     omega (arith, size, long)
+
+-- behind the open gate of a broken frame stands no frame of a commit
+pub no_frame : SpelledOneWay → (behind : List ℕ) (gate at : ℕ) → IsCutShort gate at behind ⊎ IsMisspelled gate at behind
+    → (commit : List Record) (next : List ℕ) → IsCommit commit → next ≢ [] → behind ≢ counted (spellings commit) ++ next
+no_frame one behind gate at (inl short) commit next is some e =
+    short.holds_none (spellings commit) next (record { is_counted = is.is_counted; is_next = some; are_bytes = e })
+no_frame one behind gate at (inr bad) commit next is some e =
+    let same = counted-same bad.payload (spellings commit) bad.next next bad.holds.is_counted is.is_counted (sym bad.holds.are_bytes ∙ e) in
+    spellings-none one bad.records commit bad.rest bad.are_spellable is.are_spellable bad.has_more bad.begins_none (sym bad.are_bytes ∙ same.front)
 
 -- frames with a broken one behind them aren't frames and an end
 pub broken_none : SpelledOneWay → (a b : List (List Record)) (behind end : List ℕ) (gate at : ℕ) → All IsCommit a → All IsCommit b → IsEnd end
@@ -137,21 +163,13 @@ broken_none one [] [] behind end gate at are_a are_b is cause e = not_end behind
     not_end behind [] gate at is cause e = is
     not_end behind (g ∷ rest) gate at (inl shut) cause e = shut (cc e)
     not_end behind (g ∷ rest) gate at (inr none) cause e = has_more behind gate at cause (ap (drop 1) e ∙ none)
-broken_none one [] (y ∷ b) behind end gate at are_a are_b is (inl short) e =
-    let is_y = All-head IsCommit y b are_b in
-    let whole = ap (drop 1) (e ∙ append_assoc (frame y) (frames b) end) in
-    short.holds_none (spellings y) (frames b ++ end)
-    (record { is_counted = is_y.is_counted; is_next = frames-some b end is; are_bytes = whole })
+broken_none one [] (y ∷ b) behind end gate at are_a are_b is cause e =
+    no_frame one behind gate at cause y (frames b ++ end) (All-head IsCommit y b are_b) (frames-some b end is) (ap (drop 1) (e ∙ append_assoc (frame y) (frames b) end))
   where
     frames-some : (b : List (List Record)) (end : List ℕ) → IsEnd end → frames b ++ end ≢ []
     frames-some [] [] is none = is
     frames-some [] (g ∷ end) is none = absurd (cc none)
     frames-some (c ∷ b) end is none = absurd (cc none)
-broken_none one [] (y ∷ b) behind end gate at are_a are_b is (inr bad) e =
-    let is_y = All-head IsCommit y b are_b in
-    let whole = ap (drop 1) (e ∙ append_assoc (frame y) (frames b) end) in
-    let same = counted-same bad.payload (spellings y) bad.next (frames b ++ end) bad.holds.is_counted is_y.is_counted (sym bad.holds.are_bytes ∙ whole) in
-    spellings-none one bad.records y bad.rest bad.are_spellable is_y.are_spellable bad.has_more bad.begins_none (sym bad.are_bytes ∙ same.front)
 broken_none one (x ∷ a) [] behind end gate at are_a are_b is cause e =
     end_no_frame end x (frames a ++ 1 ∷ behind) is (sym e ∙ append_assoc (frame x) (frames a) (1 ∷ behind))
 broken_none one (x ∷ a) (y ∷ b) behind end gate at are_a are_b is cause e =
@@ -175,14 +193,17 @@ broken_no_log one bytes at broken records (inr named) =
     broken_none one broken.commits log.commits broken.behind log.end _ at broken.are_commits log.are_commits log.is_end broken.cause
     (sym behind ∙ log.are_bytes)
 
+-- a log's name stands at its front
+pub name_stands : (behind : List ℕ) (at : ℕ) → at < length log_name → slice_get (log_name ++ behind) at ≡ slice_get log_name at
+name_stands behind at within =
+    slice_get-get_or (log_name ++ behind) at 0 (omega (arith, within, length-append log_name behind))
+    ∙ ap Some (get_or_append_left log_name behind 0 at within)
+    ∙ sym (slice_get-get_or log_name at 0 within)
+
 pub misnamed_no_log : (bytes : List ℕ) (at : ℕ) → IsMisnamed bytes at → IsNoLog bytes
 misnamed_no_log bytes at misnamed records (inl fresh) = let long = misnamed.is_long in let short = fresh.0 in omega (arith, long, short)
 misnamed_no_log bytes at misnamed records (inr named) =
-    misnamed.differs
-    (ap (λ (b : List ℕ). slice_get b at) named.is_named
-    ∙ slice_get-get_or (log_name ++ named.behind) at 0 (omega (arith, misnamed.is_within, length-append log_name named.behind))
-    ∙ ap Some (get_or_append_left log_name named.behind 0 at misnamed.is_within)
-    ∙ sym (slice_get-get_or log_name at 0 misnamed.is_within))
+    misnamed.differs (ap (λ (b : List ℕ). slice_get b at) named.is_named ∙ name_stands named.behind at misnamed.is_within)
 
 pub bad_none : SpelledOneWay → BadAreNone
 bad_none one bytes at (inl misnamed) = misnamed_no_log bytes at misnamed

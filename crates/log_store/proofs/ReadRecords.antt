@@ -11,11 +11,10 @@ use Rattle.arn_base.specs.declared.records.Record.TheVariants as entry
 use Rattle.result_log.specs.Laws.{ReadsAsSpelled}
 use Rattle.result_log.specs.Reading.{Reads, IsMalformed}
 use Rattle.result_log.specs.Spelling.{field, spelling}
-use Rattle.log_store.specs.Causes.{MatchMalformed}
 use Rattle.log_store.specs.Log.{spellings, IsSpellable}
 use Rattle.log_store.specs.declared.errors.OpenError.{OpenError}
 use Rattle.log_store.specs.declared.errors.OpenError.TheVariants as opening
-use Rattle.log_store.specs.Pieces.{IsPayloadBad, IsPayloadRead}
+use Rattle.log_store.specs.Pieces.{IsMalformedWhere, IsPayloadBad, IsPayloadRead}
 use Rattle.log_store.specs.Refused.{HoldsPayload}
 use Rattle.log_store.proofs.Fields.{length-field}
 
@@ -143,9 +142,9 @@ Reads-forward bytes at next e reads =
     omega (arith, some, long, part)
 
 -- an error that tells a place tells another fact of it
-pub MatchMalformed-weaker : (P Q : ℕ → Type 0) (error : OpenError) → MatchMalformed P error → ((at : ℕ) → P at → Q at) → MatchMalformed Q error
-MatchMalformed-weaker P Q (opening.TooLong len) m q = m
-MatchMalformed-weaker P Q (opening.NotLog at) m q = m
-MatchMalformed-weaker P Q (opening.Malformed at) m q = q at m
-MatchMalformed-weaker P Q opening.Disk m q = m
-MatchMalformed-weaker P Q opening.NoMemory m q = m
+pub IsMalformedWhere-weaker : (P Q : ℕ → Type 0) (error : OpenError) → IsMalformedWhere P error → ((at : ℕ) → P at → Q at) → IsMalformedWhere Q error
+IsMalformedWhere-weaker P Q (opening.TooLong len) m q = m
+IsMalformedWhere-weaker P Q (opening.NotLog at) m q = m
+IsMalformedWhere-weaker P Q (opening.Malformed at) m q = q at m
+IsMalformedWhere-weaker P Q opening.Disk m q = m
+IsMalformedWhere-weaker P Q opening.NoMemory m q = m

@@ -1,13 +1,14 @@
 -- A log that was read, and what a stop leaves while it is opened.
-use Rattle.std.proofs.Common.{◌≡◌, inl, inr, ℕ, ◌+◌, ◌-◌, ◌≤◌, List, [], ◌∷◌, ◌++◌, length, take, drop, Option, Some, None, refl, sym, ap, ◌∙◌, subst, append_assoc, length-append, take-append-drop, arith, IfSome}
+use Rattle.std.proofs.Common.{◌≡◌, ◌⊎◌, inl, inr, ℕ, ◌+◌, ◌-◌, ◌<◌, ◌≤◌, List, [], ◌∷◌, ◌++◌, length, take, drop, Option, Some, None, refl, sym, ap, ◌∙◌, subst, append_assoc, length-append, take-append-drop, arith, IfSome}
 use Rattle.std.proofs.lemmas.List.{take_at, drop_at}
 use Rattle.arn_base.specs.declared.records.Record.{Record}
 use Rattle.arn_base.specs.Disk.{Only}
-use Rattle.log_store.specs.Causes.{IsBadAt, IsCauseOf}
-use Rattle.log_store.specs.Held.{KeepsRecords}
+use Rattle.log_store.specs.Causes.{IsCauseOf}
+use Rattle.log_store.specs.Stores.{KeepsRecords}
 use Rattle.log_store.specs.Laws.{BadAreNone, LogsReadOneWay}
 use Rattle.log_store.specs.Log.{log_name, frames, IsLog}
-use Rattle.log_store.specs.Pieces.{EndsWith, IsFound, IsLeft, IsSameFront}
+use Rattle.log_store.specs.Pieces.{EndsWith, IsFound, IsLeft, IsReadErrorOf, IsSameFront}
+use Rattle.log_store.specs.Refused.{IsNoLog}
 use Rattle.log_store.specs.Stops.{LeavesOnly}
 use Rattle.log_store.specs.declared.errors.OpenError.{OpenError}
 use Rattle.log_store.specs.declared.errors.OpenError.TheVariants as opening
@@ -16,9 +17,19 @@ use Rattle.log_store.proofs.Adding.{length-closed}
 use Rattle.log_store.proofs.Logs.{ends_log, front_of}
 use Rattle.log_store.proofs.Moments.{started}
 
+-- a fresh log is one
+pub fresh_some : (bytes : List ℕ) → length bytes ≤ 9 → ¬ IsNoLog bytes
+fresh_some bytes short is_none = is_none [] (inl (short, refl))
+
 -- fresh logs hold no records
 pub kept_fresh : LogsReadOneWay → (told left : List ℕ) → length told ≤ 9 → length left ≤ 9 → KeepsRecords told left
-kept_fresh one told left short is_short = λ records log. inl (is_short, one told records [] log (inl (short, refl)))
+kept_fresh one told left short is_short =
+    let is_fresh : IsLog told [] = inl (short, refl) in
+    record {
+      same = λ records log. inl (is_short, one told records [] log is_fresh);
+      none = λ is_none. absurd (fresh_some told short is_none);
+      no_longer = omega (arith, is_short);
+    }
 
 module _ (bytes : List ℕ) (entries : List Record) (end : List ℕ) (found : IsFound bytes entries end) (gate : ℕ) (is_gate : gate ≡ length bytes - length end) where
   pub found-front : bytes ≡ front_of found.commits ++ end
@@ -44,13 +55,20 @@ module _ (bytes : List ℕ) (entries : List Record) (end : List ℕ) (found : Is
   pub found_log : IsLog bytes entries
   found_log = subst (IsLog bytes) (sym found.are_records) (ends_log found.commits bytes end found.are_commits found.is_end found-front)
 
+  pub found_some : ¬ IsNoLog bytes
+  found_some is_none = is_none entries found_log
+
   pub kept_found : LogsReadOneWay → (told left : List ℕ) → told ≡ bytes → IsSameFront gate told left → KeepsRecords told left
-  kept_found one told left same kept = λ records log.
-      let whole : left ≡ front_of found.commits ++ drop gate left =
-      sym (take-append-drop gate left) ∙ ap (λ (xs : List ℕ). xs ++ drop gate left) (kept.front ∙ take-front told same) in
-      let here = ends_log found.commits left (drop gate left) found.are_commits kept.is_end whole in
-      let are : records ≡ entries = one bytes records entries (subst (λ b. IsLog b records) same log) found_log in
-      subst (IsLog left) (sym (are ∙ found.are_records)) here
+  kept_found one told left same kept = record {
+    same = λ records log.
+        let whole : left ≡ front_of found.commits ++ drop gate left =
+        sym (take-append-drop gate left) ∙ ap (λ (xs : List ℕ). xs ++ drop gate left) (kept.front ∙ take-front told same) in
+        let here = ends_log found.commits left (drop gate left) found.are_commits kept.is_end whole in
+        let are : records ≡ entries = one bytes records entries (subst (λ b. IsLog b records) same log) found_log in
+        subst (IsLog left) (sym (are ∙ found.are_records)) here;
+    none = λ is_none. absurd (found_some (subst IsNoLog same is_none));
+    no_longer = omega (arith, kept.no_longer);
+  }
 
   pub found_left : (told : List ℕ) → told ≡ bytes → IsLeft entries (gate + 1) (take gate told ++ 0 ∷ [])
   found_left told same =
@@ -76,12 +94,22 @@ told_unmoved may_leave moment left_since (Some old) disk P now p = λ only.
     started moment left_since disk (P old) (λ left since. p old left (only left (now left since)))
 
 pub kept_same : (old left : List ℕ) → left ≡ old → KeepsRecords old left
-kept_same old left same = λ records log. subst (λ b. IsLog b records) (sym same) log
+kept_same old left same = record {
+  same = λ records log. subst (λ b. IsLog b records) (sym same) log;
+  none = λ is_none. same;
+  no_longer = omega (arith, ap length same);
+}
 
 -- why what was read is refused
-pub bad_cause : BadAreNone → (bytes : List ℕ) → length bytes ≤ MOST_LOG → (error : OpenError) → IsBadAt bytes error → IsCauseOf bytes error
+pub bad_cause : BadAreNone → (bytes : List ℕ) → length bytes ≤ MOST_LOG → (error : OpenError) → IsReadErrorOf bytes error → IsCauseOf bytes error
 bad_cause none bytes short (opening.TooLong len) bad = absurd bad
 bad_cause none bytes short (opening.NotLog at) bad = (short, bad, none bytes at (inl bad))
 bad_cause none bytes short (opening.Malformed at) bad = (short, bad, none bytes at (inr bad))
 bad_cause none bytes short opening.Disk bad = tt
 bad_cause none bytes short opening.NoMemory bad = tt
+
+-- bytes that aren't too long leave the disk alone where they are no log
+pub untouched_if : {D : Type 0} (bytes : List ℕ) (end mid : D) → length bytes ≤ MOST_LOG → (IsNoLog bytes → end ≡ mid)
+    → IsNoLog bytes ⊎ (MOST_LOG < length bytes) → end ≡ mid
+untouched_if bytes end mid short same (inl is_none) = same is_none
+untouched_if bytes end mid short same (inr long) = absurd (omega (arith, short, long))

@@ -1,7 +1,7 @@
 -- What is known of a disk where it tells its bytes.
 use Rattle.std.proofs.Common.{◌≡◌, ℕ, List, Option, Some, None, option_map, sym, subst, IfSome}
 use Rattle.arn_base.specs.Disk.{NoMore, Only}
-use Rattle.log_store.specs.Stops.{LeavesOnly, NothingPending}
+use Rattle.log_store.specs.Stops.{IsOnlyRead, LeavesOnly, NothingPending}
 use Rattle.log_store.proofs.Moments.{joined, weaker}
 
 -- the bytes after a change that is known
@@ -36,26 +36,36 @@ told_weaker_any may_leave moment left_since (Some old) start end P Q R p leaves 
 pub told_then : {D : Type 0} (may_leave : D → List ℕ → Type 0) (moment : D → ℕ) (left_since : D → ℕ → List ℕ → Type 0)
     (o now : Option (List ℕ)) (start mid end : D) (R : List ℕ → List ℕ → Type 0)
     → now ≡ o → NoMore (may_leave start) (may_leave mid)
-    → ((old : List ℕ) → Only old (may_leave start) → LeavesOnly moment left_since start mid (λ left. left ≡ old))
+    → LeavesOnly moment left_since start mid (may_leave start)
     → IfSome now (λ old. Only old (may_leave mid) → LeavesOnly moment left_since mid end (R old))
     → ((old left : List ℕ) → left ≡ old → R old left)
     → IfSome o (λ old. Only old (may_leave start) → LeavesOnly moment left_since start end (R old))
 told_then may_leave moment left_since None now start mid end R same no_more first second r = tt
 told_then may_leave moment left_since (Some old) now start mid end R same no_more first second r = λ only.
     let then = subst (λ t. IfSome t (λ b. Only b (may_leave mid) → LeavesOnly moment left_since mid end (R b))) same second in
-    let Same : List ℕ → Type 0 = λ left. left ≡ old in
-    joined moment left_since start mid end Same (R old) (R old) (first old only) (then (λ b left. only b (no_more b left))) (λ left is. r old left is)
-    (λ left is. is)
+    joined moment left_since start mid end (may_leave start) (R old) (R old) first (then (λ b left. only b (no_more b left)))
+    (λ left may. r old left (only left may)) (λ left is. is)
 
 -- what a stop leaves after calls that read
 pub told_read : {D : Type 0} (may_leave : D → List ℕ → Type 0) (moment : D → ℕ) (left_since : D → ℕ → List ℕ → Type 0)
     (o : Option (List ℕ)) (start mid : D) (R : List ℕ → List ℕ → Type 0)
-    → ((old : List ℕ) → Only old (may_leave start) → LeavesOnly moment left_since start mid (λ left. left ≡ old))
+    → LeavesOnly moment left_since start mid (may_leave start)
     → ((old left : List ℕ) → left ≡ old → R old left)
     → IfSome o (λ old. Only old (may_leave start) → LeavesOnly moment left_since start mid (R old))
 told_read may_leave moment left_since None start mid R first r = tt
 told_read may_leave moment left_since (Some old) start mid R first r = λ only.
-    weaker moment left_since start mid (λ left. left ≡ old) (R old) (first old only) (λ left is. r old left is)
+    weaker moment left_since start mid (may_leave start) (R old) first (λ left may. r old left (only left may))
+
+-- the disk was read at most where what was read has P
+pub told_unchanged : {D : Type 0} (image : D → Option (List ℕ)) (may_leave : D → List ℕ → Type 0) (moment : D → ℕ) (left_since : D → ℕ → List ℕ → Type 0)
+    (o : Option (List ℕ)) (start mid end : D) (bytes : List ℕ) (P : List ℕ → Type 0)
+    → IfSome o (λ told. told ≡ bytes)
+    → IsOnlyRead image may_leave moment left_since start mid
+    → (P bytes → end ≡ mid)
+    → IfSome o (λ told. P told → IsOnlyRead image may_leave moment left_since start end)
+told_unchanged image may_leave moment left_since None start mid end bytes P told read same = tt
+told_unchanged image may_leave moment left_since (Some old) start mid end bytes P told read same = λ p.
+    subst (λ disk. IsOnlyRead image may_leave moment left_since start disk) (sym (same (subst P told p))) read
 
 -- what a stop leaves after one change that is known and durable, and then another
 pub told_two : {D : Type 0} (image : D → Option (List ℕ)) (may_leave : D → List ℕ → Type 0) (moment : D → ℕ) (left_since : D → ℕ → List ℕ → Type 0)

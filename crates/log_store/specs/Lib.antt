@@ -1,7 +1,7 @@
 pub mod Log
 pub mod Refused
 pub mod Stops
-pub mod Held
+pub mod Stores
 pub mod Causes
 pub mod Pieces
 pub mod Laws

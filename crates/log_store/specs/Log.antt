@@ -38,7 +38,7 @@ IsEnd [] = ⊥
 IsEnd (gate ∷ behind) = (gate ≢ 1) ⊎ (behind ≡ [])
 
 -- the bytes are the frames of commits and an end, and the commits hold these records
-pub record Frames (bytes : List ℕ) (records : List Record) : Type 0 where
+pub record IsFrames (bytes : List ℕ) (records : List Record) : Type 0 where
   pub commits : List (List Record)
   pub end : List ℕ
   pub are_commits : All IsCommit commits
@@ -47,14 +47,14 @@ pub record Frames (bytes : List ℕ) (records : List Record) : Type 0 where
   pub are_records : records ≡ records_of commits
 
 -- the bytes are a log's name, and frames of the records
-pub record IsNamed (bytes : List ℕ) (records : List Record) : Type 0 where
+pub record IsNamedLog (bytes : List ℕ) (records : List Record) : Type 0 where
   pub behind : List ℕ
   pub is_named : bytes ≡ log_name ++ behind
-  pub are_frames : Frames behind records
+  pub are_frames : IsFrames behind records
 
 -- The bytes are a log of the records. At most nine bytes are a fresh log, whatever they are.
 abbrev pub IsLog : List ℕ → List Record → Type 0
-IsLog bytes records = ((length bytes ≤ 9) × (records ≡ [])) ⊎ IsNamed bytes records
+IsLog bytes records = ((length bytes ≤ 9) × (records ≡ [])) ⊎ IsNamedLog bytes records
 
 -- what a store leaves: a log of the records whose ending gate is 0, and is the last byte
 pub record IsClosedLog (bytes : List ℕ) (records : List Record) : Type 0 where

@@ -45,7 +45,7 @@ pub record IsMisspelled (gate at : ℕ) (behind : List ℕ) : Type 0 where
   pub begins_none : BeginsNone rest
   pub is_place : at ≡ gate + 5 + length (spellings records)
 
--- a named log: the frames of commits, then an open gate, and behind that no frame of a commit
+-- behind a log's name: frames of commits, then an open gate, and behind that no frame of a commit
 pub record IsBroken (bytes : List ℕ) (at : ℕ) : Type 0 where
   pub commits : List (List Record)
   pub behind : List ℕ
@@ -53,3 +53,7 @@ pub record IsBroken (bytes : List ℕ) (at : ℕ) : Type 0 where
   pub are_bytes : bytes ≡ log_name ++ (frames commits ++ 1 ∷ behind)
   pub cause : let gate = length log_name + length (frames commits) in
       IsCutShort gate at behind ⊎ IsMisspelled gate at behind
+
+-- another name, or a broken frame, which shows at this place
+abbrev pub IsBad : List ℕ → ℕ → Type 0
+IsBad bytes at = IsMisnamed bytes at ⊎ IsBroken bytes at

@@ -22,10 +22,10 @@ pub record IsOnlyRead {D : Type 0} (image : D → Option (List ℕ)) (may_leave 
     (moment : D → ℕ) (left_since : D → ℕ → List ℕ → Type 0) (old new : D) : Type 0 where
   pub told : image new ≡ image old
   pub no_more : NoMore (may_leave old) (may_leave new)
-  pub any_moment : (bytes : List ℕ) → Only bytes (may_leave old) →
-      LeavesOnly moment left_since old new (λ left. left ≡ bytes)
+  pub any_moment : LeavesOnly moment left_since old new (may_leave old)
 
 -- the disk goes on: it tells its bytes if it told them, and its count of faults doesn't fall
-pub record GoesOn {D : Type 0} (image : D → Option (List ℕ)) (faults : D → ℕ) (old new : D) : Type 0 where
+pub record GoesOn {D : Type 0} (image : D → Option (List ℕ)) (faults : D → ℕ) (old new : D)
+    : Type 0 where
   pub tells : is_some (image new) ≡ is_some (image old)
   pub never_falls : NeverFalls (faults old) (faults new)

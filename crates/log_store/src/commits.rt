@@ -8,16 +8,13 @@ ghost use Rattle.log_store.specs.Pieces.{with_frame, IsTorn};
 ghost use Rattle.log_store.specs.Stops.{NothingPending, LeavesOnly, GoesOn};
 
 use crate::errors::CommitError;
-use crate::format::{CLOSED, OPEN};
+use crate::format::{CLOSED, LENGTH_LEN, OPEN};
 use crate::size::{MOST_LOG, frame_end};
 use crate::steps::write_through;
 use arn_base::{Disk, NoMemory, Record, Stop};
 use byteorder::{ByteOrder, LittleEndian};
 use result_log::put_record;
 use std::alloc::Global;
-
-// How many bytes hold how long a payload is.
-const LENGTH_LEN: usize = 4;
 
 // What a commit writes behind the end of a log of `log_len` bytes: how long the spellings are, the
 // spellings, and a closed gate.

@@ -14,9 +14,6 @@ use crate::steps::{cut_through, write_through};
 use arn_base::{Disk, Stop};
 use std::alloc::Global;
 
-// How many bytes a log has at most that is fresh, whatever they are.
-pub const FRESH_LEN: usize = 9;
-
 // The bytes of a disk that isn't too long.
 pub fn load<D: Disk>(alloc: Global, disk: &mut D) -> Result<Vec<u8>, OpenError>
     ensures bytes { IfOk result (λ bytes. IfSome (D.image disk.old) (λ told. told ≡ bytes.items)) }
@@ -51,6 +48,7 @@ pub fn make_fresh<D: Disk>(disk: &mut D, bytes: &[u8]) -> Result<(), Stop>
     ensures any_moment { IfSome (D.image disk.old) (λ told. Only told (D.may_leave disk.old) →
         LeavesOnly D.moment D.left_since disk.old disk.new (λ left. length left ≤ 9)) }
 
+    ensures unmoved { bytes.now ≡ log_name ++ 0 ∷ [] → disk.new ≡ disk.old }
     ensures cause { IsErrOf result Stop.Failed → Rose (D.faults disk.old) (D.faults disk.new) }
     ensures later { GoesOn D.image D.faults disk.old disk.new }
 {
@@ -74,6 +72,7 @@ pub fn close_end<D: Disk>(disk: &mut D, gate: u64, end: &[u8]) -> Result<(), Sto
     ensures any_moment { IfSome (D.image disk.old) (λ told. Only told (D.may_leave disk.old) →
         LeavesOnly D.moment D.left_since disk.old disk.new (IsSameFront gate told)) }
 
+    ensures unmoved { end.now ≡ 0 ∷ [] → disk.new ≡ disk.old }
     ensures cause { IsErrOf result Stop.Failed → Rose (D.faults disk.old) (D.faults disk.new) }
     ensures later { GoesOn D.image D.faults disk.old disk.new }
 {
@@ -95,6 +94,7 @@ fn cut_behind<D: Disk>(disk: &mut D, gate: u64, end: &[u8]) -> Result<(), Stop>
     ensures any_moment { IfSome (D.image disk.old) (λ told. Only told (D.may_leave disk.old) →
         LeavesOnly D.moment D.left_since disk.old disk.new (IsSameFront gate told)) }
 
+    ensures unmoved { length end.now ≤ 1 → disk.new ≡ disk.old }
     ensures cause { IsErrOf result Stop.Failed → Rose (D.faults disk.old) (D.faults disk.new) }
     ensures later { GoesOn D.image D.faults disk.old disk.new }
 {
@@ -116,6 +116,7 @@ fn shut_gate<D: Disk>(disk: &mut D, gate: u64, value: u8) -> Result<(), Stop>
     ensures any_moment { IfSome (D.image disk.old) (λ told. Only told (D.may_leave disk.old) →
         LeavesOnly D.moment D.left_since disk.old disk.new (IsSameFront gate told)) }
 
+    ensures unmoved { value ≡ 0 → disk.new ≡ disk.old }
     ensures cause { IsErrOf result Stop.Failed → Rose (D.faults disk.old) (D.faults disk.new) }
     ensures later { GoesOn D.image D.faults disk.old disk.new }
 {

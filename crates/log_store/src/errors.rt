@@ -1,10 +1,10 @@
-// Why a log isn't opened, or a commit isn't made.
+// Why a log isn't opened, or a commit doesn't end with Ok.
 ghost use Rattle.std.specs.Prelude.{◌≡◌};
 ghost use Rattle.arn_base.specs.declared.errors.Stop.{Stop};
 ghost use Rattle.arn_base.specs.declared.errors.Stop.TheVariants as stop;
 ghost use Rattle.log_store.specs.declared.errors.CommitError.TheVariants as commit;
 ghost use Rattle.log_store.specs.declared.errors.OpenError.TheVariants as open_error;
-ghost use Rattle.log_store.specs.Causes.{commit_error, open_error_of};
+ghost use Rattle.log_store.specs.Causes.{commit_error_of, open_error_of};
 
 use arn_base::{Failed, NoMemory, Stop};
 use std::alloc::{AllocError, AllocFailed};
@@ -22,13 +22,16 @@ pub enum OpenError {
     /// At this place stands the gate of a frame that isn't whole, or no record where one is due.
     #[error("no frame or no record stands at {at}")]
     Malformed { at: u64 },
+    /// The end of the log may be changed; its records are the same.
     #[error("the disk failed")]
     Disk,
+    /// The end of the log may be changed; its records are the same.
     #[error("out of memory")]
     NoMemory,
 }
 
-/// Why a commit wasn't made.
+/// Why a commit didn't end with Ok. After Disk, and after NoMemory that leaves the store unusable,
+/// the log may hold its records all the same.
 #[derive(Clone, Copy, Debug, PartialEq, Eq, Error)]
 pub enum CommitError {
     #[error("the disk failed")]
@@ -92,7 +95,7 @@ impl From<NoMemory> for CommitError {
 }
 
 impl From<Stop> for CommitError {
-    ghost from_gives = { λ s e. e ≡ commit_error s };
+    ghost from_gives = { λ s e. e ≡ commit_error_of s };
 
     fn from(stop: Stop) -> CommitError {
         match stop {

@@ -1,8 +1,7 @@
 // The bytes of a log, read.
 ghost use Rattle.std.specs.Prelude.{◌≡◌, ◌≢◌, ◌+◌, ◌<◌, ◌^◌, ◌++◌, ◌∷◌, [], ℕ, length, take, IfOk, IfErr, IfSome, IfNone};
-ghost use Rattle.log_store.specs.Causes.{IsBadAt, MatchMalformed};
 ghost use Rattle.log_store.specs.Log.{log_name, IsEnd};
-ghost use Rattle.log_store.specs.Pieces.{IsFound};
+ghost use Rattle.log_store.specs.Pieces.{IsFound, IsMalformedWhere, IsReadErrorOf};
 ghost use Rattle.log_store.specs.Refused.{IsBroken, IsMisnamed};
 
 use crate::errors::OpenError;
@@ -50,7 +49,7 @@ fn read_frames(alloc: Global, bytes: &[u8]) -> Result<Found<'_>, OpenError>
     requires long { 9 < length bytes.now }
     requires named { take 8 bytes.now ≡ log_name }
     ensures ok { IfOk result (λ found. IsFound bytes.now found.entries.items found.end.now) }
-    ensures err { IfErr result (MatchMalformed (IsBroken bytes.now)) }
+    ensures err { IfErr result (IsMalformedWhere (IsBroken bytes.now)) }
 {
     let mut entries = Vec::new(alloc);
     let mut end = &bytes[NAME.len()..];
@@ -69,7 +68,7 @@ fn read_frames(alloc: Global, bytes: &[u8]) -> Result<Found<'_>, OpenError>
 pub fn read_log(alloc: Global, bytes: &[u8]) -> Result<Found<'_>, OpenError>
     requires { 9 < length bytes.now }
     ensures ok { IfOk result (λ found. IsFound bytes.now found.entries.items found.end.now) }
-    ensures err { IfErr result (IsBadAt bytes.now) }
+    ensures err { IfErr result (IsReadErrorOf bytes.now) }
 {
     if let Some(at) = misnamed_at(bytes) {
         return Err(OpenError::NotLog { at: at as u64 });

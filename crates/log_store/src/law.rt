@@ -1,5 +1,5 @@
 // What holds of logs as a whole.
-ghost use Rattle.log_store.specs.Laws.{BadAreNone, ClosedAreLogs, LogsReadOneWay};
+ghost use Rattle.log_store.specs.Laws.{BadAreNone, BadAtOnePlace, ClosedAreLogs, LogsReadOneWay};
 
 use result_log::records_spelled_one_way;
 
@@ -13,6 +13,9 @@ pub fn logs_read_one_way()
 
     // What is refused for its name or its frames is no log.
     ensures none { BadAreNone }
+
+    // The place at which that shows is one.
+    ensures one_place { BadAtOnePlace }
 {
     records_spelled_one_way();
 }

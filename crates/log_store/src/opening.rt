@@ -1,19 +1,22 @@
 // The log of bytes that a disk tells, opened.
-ghost use Rattle.std.specs.Prelude.{◌≡◌, ◌≤◌, ◌<◌, ◌++◌, ◌∷◌, [], ℕ, length, IfSome, IfOk, IfErr, OnOk, IsErrOf};
+ghost use Rattle.std.specs.Prelude.{◌≡◌, ◌≤◌, ◌<◌, ◌++◌, ◌∷◌, [], ℕ, List, length, IfSome, IfOk, IfErr, OnOk, IsErrOf};
 ghost use Rattle.arn_base.specs.Disk.{Only};
 ghost use Rattle.arn_base.specs.Faults.{Rose};
-ghost use Rattle.log_store.specs.Causes.{IsCauseOf, IsRefusal};
-ghost use Rattle.log_store.specs.Held.{KeepsRecords};
-ghost use Rattle.log_store.specs.Log.{IsLog};
+ghost use Rattle.log_store.specs.Causes.{IsCauseOf, BlamesBytes};
+ghost use Rattle.log_store.specs.Stores.{KeepsRecords};
+ghost use Rattle.log_store.specs.Log.{IsLog, IsClosedLog};
 ghost use Rattle.log_store.specs.Pieces.{IsLeft};
+ghost use Rattle.log_store.specs.Refused.{IsNoLog};
 ghost use Rattle.log_store.specs.Stops.{NothingPending, LeavesOnly, GoesOn};
 
-use crate::disks::{FRESH_LEN, close_end, make_fresh};
+use crate::disks::{close_end, make_fresh};
 use crate::errors::OpenError;
+use crate::format::FRESH;
 use crate::frames::read_log;
 use crate::law::logs_read_one_way;
 use crate::size::MOST_LOG;
 use arn_base::{Disk, Record};
+use result_log::records_spelled_one_way;
 use std::alloc::Global;
 
 // The records of a log, and how many bytes it has.
@@ -38,12 +41,15 @@ pub fn open_bytes<D: Disk>(alloc: Global, disk: &mut D, bytes: &[u8]) -> Result<
     ensures any_moment { IfSome (D.image disk.old) (λ told. Only told (D.may_leave disk.old) →
         LeavesOnly D.moment D.left_since disk.old disk.new (KeepsRecords told)) }
 
+    ensures untouched { IsNoLog bytes.now → disk.new ≡ disk.old }
+    ensures closed { (records : List Record) → IsClosedLog bytes.now records →
+        disk.new ≡ disk.old }
     ensures refused { IfErr result (IsCauseOf bytes.now) }
-    ensures unchanged { IfErr result (λ error. IsRefusal error → disk.new ≡ disk.old) }
+    ensures unchanged { IfErr result (λ error. BlamesBytes error → disk.new ≡ disk.old) }
     ensures cause { IsErrOf result OpenError.Disk → Rose (D.faults disk.old) (D.faults disk.new) }
     ensures later { GoesOn D.image D.faults disk.old disk.new }
 {
-    if bytes.len() <= FRESH_LEN {
+    if bytes.len() <= FRESH.len() {
         return open_fresh(alloc, disk, bytes);
     }
     open_named(alloc, disk, bytes)
@@ -63,7 +69,10 @@ fn open_fresh<D: Disk>(alloc: Global, disk: &mut D, bytes: &[u8]) -> Result<Open
     ensures any_moment { IfSome (D.image disk.old) (λ told. Only told (D.may_leave disk.old) →
         LeavesOnly D.moment D.left_since disk.old disk.new (KeepsRecords told)) }
 
-    ensures refused { IfErr result (λ error. ¬ IsRefusal error) }
+    ensures untouched { IsNoLog bytes.now → disk.new ≡ disk.old }
+    ensures closed { (records : List Record) → IsClosedLog bytes.now records →
+        disk.new ≡ disk.old }
+    ensures refused { IfErr result (λ error. ¬ BlamesBytes error) }
     ensures cause { IsErrOf result OpenError.Disk → Rose (D.faults disk.old) (D.faults disk.new) }
     ensures later { GoesOn D.image D.faults disk.old disk.new }
 {
@@ -71,7 +80,7 @@ fn open_fresh<D: Disk>(alloc: Global, disk: &mut D, bytes: &[u8]) -> Result<Open
     make_fresh(disk, bytes)?;
     Ok(Opened {
         entries: Vec::new(alloc),
-        log_len: FRESH_LEN as u64,
+        log_len: FRESH.len() as u64,
     })
 }
 
@@ -90,12 +99,16 @@ fn open_named<D: Disk>(alloc: Global, disk: &mut D, bytes: &[u8]) -> Result<Open
     ensures any_moment { IfSome (D.image disk.old) (λ told. Only told (D.may_leave disk.old) →
         LeavesOnly D.moment D.left_since disk.old disk.new (KeepsRecords told)) }
 
+    ensures untouched { IsNoLog bytes.now → disk.new ≡ disk.old }
+    ensures closed { (records : List Record) → IsClosedLog bytes.now records →
+        disk.new ≡ disk.old }
     ensures refused { IfErr result (IsCauseOf bytes.now) }
-    ensures unchanged { IfErr result (λ error. IsRefusal error → disk.new ≡ disk.old) }
+    ensures unchanged { IfErr result (λ error. BlamesBytes error → disk.new ≡ disk.old) }
     ensures cause { IsErrOf result OpenError.Disk → Rose (D.faults disk.old) (D.faults disk.new) }
     ensures later { GoesOn D.image D.faults disk.old disk.new }
 {
     logs_read_one_way();
+    records_spelled_one_way();
     let found = read_log(alloc, bytes)?;
     let gate = (bytes.len() - found.end.len()) as u64;
     close_end(disk, gate, found.end)?;

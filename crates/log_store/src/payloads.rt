@@ -2,25 +2,21 @@
 ghost use Rattle.std.specs.Prelude.{◌≡◌, ◌+◌, ◌<◌, ◌^◌, ◌++◌, ◌⊎◌, ◌≢◌, [], ℕ, List, length, IfOk, IfErr, IfSome, IfNone, OnOk, IsErrOf};
 ghost use Rattle.result_log.specs.Reading.{IsMalformed, Reads};
 ghost use Rattle.result_log.specs.Spelling.{field};
-ghost use Rattle.log_store.specs.Causes.{MatchMalformed};
-ghost use Rattle.log_store.specs.Pieces.{IsFrameRead, IsPayloadBad, IsPayloadRead};
+ghost use Rattle.log_store.specs.Pieces.{IsFrameRead, IsMalformedWhere, IsPayloadBad, IsPayloadRead};
 ghost use Rattle.log_store.specs.Refused.{HoldsPayload, IsCutShort, IsMisspelled};
 
 use crate::errors::OpenError;
+use crate::format::{FRAME_HEAD, LENGTH_LEN};
 use arn_base::Record;
 use result_log::{GetError, get_record, records_spelled_one_way};
 use std::alloc::Global;
-
-// How many bytes stand between a gate and the first record behind it: the gate, and how long the
-// payload is.
-const FRAME_HEAD: u64 = 5;
 
 // How long a payload is, and what stands behind that.
 fn split_len(behind: &[u8]) -> Option<(u32, &[u8])>
     ensures some { IfSome result (λ found. behind.now ≡ field 4 found.0 ++ found.1.now) }
     ensures none { IfNone result (length behind.now < 4) }
 {
-    let (len, tail) = behind.split_first_chunk::<4>()?;
+    let (len, tail) = behind.split_first_chunk::<LENGTH_LEN>()?;
     Some((u32::from_le_bytes(*len), tail))
 }
 
@@ -47,7 +43,7 @@ fn get_entry(
 ) -> Result<(Record, usize), OpenError>
     requires { place + at < 2 ^ 64 }
     ensures ok { IfOk result (λ found. Reads payload.now at found.0 found.1) }
-    ensures err { IfErr result (MatchMalformed (λ malformed.
+    ensures err { IfErr result (IsMalformedWhere (λ malformed.
         (malformed ≡ place + at) × IsMalformed payload.now at)) }
 {
     match get_record(alloc, payload, at) {
@@ -68,7 +64,7 @@ fn read_payload(
 ) -> Result<(), OpenError>
     requires { place + length payload.now < 2 ^ 64 }
     ensures ok { OnOk result (IsPayloadRead payload.now entries.old.items entries.new.items) }
-    ensures err { IfErr result (MatchMalformed (IsPayloadBad payload.now place)) }
+    ensures err { IfErr result (IsMalformedWhere (IsPayloadBad payload.now place)) }
 {
     records_spelled_one_way();
     let mut at = 0;
@@ -92,7 +88,7 @@ pub fn read_frame<'a>(
     requires place { gate + 1 + length behind.now < 2 ^ 64 }
     ensures ok { IfOk result (λ next.
         IsFrameRead behind.now entries.old.items entries.new.items next.now) }
-    ensures err { IfErr result (MatchMalformed (λ at.
+    ensures err { IfErr result (IsMalformedWhere (λ at.
         IsCutShort gate at behind.now ⊎ IsMisspelled gate at behind.now)) }
 {
     let Some((payload, next)) = split_payload(behind) else {

@@ -1,11 +1,12 @@
 // A store of records over a log on a disk.
-ghost use Rattle.std.specs.Prelude.{◌≡◌, ◌⊎◌, ◌+◌, ◌<◌, ◌≤◌, ◌++◌, ℕ, All, length, true, false, IfSome, IfOk, IfErr, OnOk, OnErr, IsErrOf, IsTrue};
+ghost use Rattle.std.specs.Prelude.{◌≡◌, ◌⊎◌, ◌+◌, ◌<◌, ◌≤◌, ◌++◌, ℕ, List, All, length, true, false, IfSome, IfOk, IfErr, OnOk, OnErr, IsErrOf, IsTrue};
 ghost use Rattle.arn_base.specs.Disk.{Only};
 ghost use Rattle.arn_base.specs.Faults.{Rose};
 ghost use Rattle.result_log.specs.Spelling.{HasSpelling};
-ghost use Rattle.log_store.specs.Causes.{IsCauseOf, IsRefusal};
-ghost use Rattle.log_store.specs.Held.{IsLeftBy, IsBeforeOrAfter, KeepsRecords};
-ghost use Rattle.log_store.specs.Log.{spellings, IsLog};
+ghost use Rattle.log_store.specs.Causes.{IsCauseOf, BlamesBytes};
+ghost use Rattle.log_store.specs.Stores.{IsLeftBy, IsBeforeOrAfter, KeepsRecords};
+ghost use Rattle.log_store.specs.Log.{log_name, spellings, IsLog, IsClosedLog};
+ghost use Rattle.log_store.specs.Refused.{IsNoLog};
 ghost use Rattle.log_store.specs.Stops.{NothingPending, LeavesOnly, IsOnlyRead, GoesOn};
 
 use crate::commits::{add_frame, commit_bytes};
@@ -30,10 +31,10 @@ pub struct Store {
 
 impl Model for Store {
     ghost use Rattle.std.specs.Prelude.{◌≤◌};
-    ghost use Rattle.log_store.specs.Held.{Held};
+    ghost use Rattle.log_store.specs.Stores.{StoreState};
     ghost use Rattle.log_store.specs.declared.size.TheConstants.{MOST_LOG};
 
-    ghost Value = { Held };
+    ghost Value = { StoreState };
 
     ghost view = { λ s. record {
       entries = s.entries.items;
@@ -46,7 +47,7 @@ impl Model for Store {
 
 impl Store {
     /// Opens the log of a disk, and repairs its end. It reads the log once, whole; of one that is
-    /// too long it reads nothing. What isn't a log is left as it is.
+    /// too long it reads nothing. What isn't a log, or is too long, is left as it is.
     ///
     /// A fresh log, of at most nine bytes, becomes `ARNLOG01` and a gate of 0. Of another it cuts
     /// off what stands behind the gate that ends it, and then makes that gate 0, each time with a
@@ -62,15 +63,28 @@ impl Store {
             NothingPending D.image D.may_leave disk.new) }
 
         // Where nothing is pending at the start, each stop since then leaves a log of the same
-        // records.
+        // records, and the same bytes where they are no log.
         ensures any_moment { IfSome (D.image disk.old) (λ bytes. Only bytes (D.may_leave disk.old) →
             LeavesOnly D.moment D.left_since disk.old disk.new (KeepsRecords bytes)) }
 
         ensures refused { IfErr result (λ error.
             IfSome (D.image disk.old) (λ bytes. IsCauseOf bytes error)) }
         ensures too_long { (len : ℕ) → IsErrOf result (OpenError.TooLong len) → MOST_LOG < len }
-        ensures unchanged { IfErr result (λ error. IsRefusal error →
+        ensures not_log { (at : ℕ) → IsErrOf result (OpenError.NotLog at) →
+            at < length log_name }
+        ensures malformed { (at : ℕ) → IsErrOf result (OpenError.Malformed at) → at < MOST_LOG }
+
+        // What is refused is read at most. So is what is no log or too long, and what a store left,
+        // whatever the answer.
+        ensures unchanged { IfErr result (λ error. BlamesBytes error →
             IsOnlyRead D.image D.may_leave D.moment D.left_since disk.old disk.new) }
+        ensures untouched { IfSome (D.image disk.old) (λ bytes.
+            IsNoLog bytes ⊎ (MOST_LOG < length bytes) →
+            IsOnlyRead D.image D.may_leave D.moment D.left_since disk.old disk.new) }
+        ensures closed { (records : List Record) → IfSome (D.image disk.old) (λ bytes.
+            IsClosedLog bytes records →
+            IsOnlyRead D.image D.may_leave D.moment D.left_since disk.old disk.new) }
+
         ensures cause { IsErrOf result OpenError.Disk →
             Rose (D.faults disk.old) (D.faults disk.new) }
         ensures later { GoesOn D.image D.faults disk.old disk.new }
@@ -100,10 +114,11 @@ impl Store {
         self.usable
     }
 
-    /// Adds records to the log, all of them or none. After Ok a stop of the machine loses none.
+    /// Adds records to the log. A stop of the machine leaves all of them or none, and after Ok all.
+    /// After an error the store holds none, but the log may hold them where the store isn't usable.
     ///
     /// It makes its buffer before the first of four calls of the disk: it writes the frame behind
-    /// the closed gate, syncs, opens the gate, and syncs. Every error drops the records.
+    /// the closed gate, syncs, opens the gate, and syncs.
     pub fn commit<D: Disk>(
         &mut self,
         disk: &mut D,
@@ -119,7 +134,7 @@ impl Store {
         ensures durable { OnOk result (NothingPending D.image D.may_leave disk.new) }
 
         // Where nothing is pending at the start, each stop since then leaves all of the commit or
-        // none. After Ok nothing is pending, and a stop leaves all.
+        // none, in a log that isn't too long. After Ok nothing is pending, and a stop leaves all.
         ensures any_moment { IfSome (D.image disk.old) (λ bytes. Only bytes (D.may_leave disk.old) →
             LeavesOnly D.moment D.left_since disk.old disk.new
             (IsBeforeOrAfter self.old.entries entries.items)) }
@@ -133,8 +148,7 @@ impl Store {
             × (MOST_LOG < log + 5 + payload) }
         ensures full_unchanged { (log payload : ℕ) → IsErrOf result (CommitError.Full log payload) →
             (self.new ≡ self.old) × (disk.new ≡ disk.old) }
-        // Before the first call of the disk it changes nothing. Where the disk runs out, the store
-        // can't go on.
+        // After NoMemory nothing changed, or the store can't go on.
         ensures no_memory { IsErrOf result CommitError.NoMemory →
             ((self.new ≡ self.old) × (disk.new ≡ disk.old)) ⊎ (self.new.usable ≡ false) }
         ensures cause { IsErrOf result CommitError.Disk →

@@ -2,7 +2,7 @@ ghost use Rattle.std.specs.Prelude.{All, IfOk};
 ghost use Rattle.result_log.specs.Spelling.{HasSpelling, IsCounted, IsName};
 
 use crate::{CommitError, OpenError, Store, frame_end};
-use arn_base::{Bytes, NoMemory, Numbers, Record};
+use arn_base::{Bytes, Disk, Failed, NoMemory, Numbers, Record, Stop};
 use log_disk::{FuseDisk, MemDisk};
 use std::alloc::Global;
 use std::test::Fail;
@@ -12,6 +12,9 @@ const FIRST: [u8; 22] = *b"ARNLOG01\x01\x09\0\0\0\x01\x01a\x02\0\0\0ab";
 
 // Behind a gate, the frame of the file `b` with the byte `c`, and a closed gate.
 const SECOND: [u8; 13] = *b"\x08\0\0\0\x01\x01b\x01\0\0\0c\0";
+
+// What the bytes become that a stop may change.
+const FILLS: [u8; 3] = [0, 1, 0xff];
 
 fn file(alloc: Global, name: &[u8], bytes: &[u8]) -> Result<Record, NoMemory>
     requires name { IsName name.now }
@@ -54,10 +57,10 @@ fn opens_logs_by_their_gates(rt: HostRuntime) -> Result<(), Fail> {
     let alloc = rt.alloc();
     assert_eq!(rt; count(alloc, b""), Ok(0));
     assert_eq!(rt; count(alloc, b"ARNLOG01\x01"), Ok(0));
-    assert_eq!(rt;
-        count(alloc, behind_first(alloc, 0, &[])?.as_slice()),
-        Ok(1)
-    );
+    for len in 0..=13 {
+        let bytes = behind_first(alloc, 0, &SECOND[..len])?;
+        assert_eq!(rt; count(alloc, bytes.as_slice()), Ok(1));
+    }
     assert_eq!(rt;
         count(alloc, behind_first(alloc, 1, &[])?.as_slice()),
         Ok(1)
@@ -102,11 +105,17 @@ fn commits_behind_what_was_there(rt: HostRuntime) -> Result<(), Fail> {
     let want = [file(alloc, b"a", b"ab")?, file(alloc, b"b", b"c")?];
     assert_eq!(rt; store.entries(), want.as_slice());
     assert!(rt; store.usable());
+    for fill in FILLS {
+        for short in [false, true] {
+            let left = disk.crash_with(alloc, Some(fill), short)?;
+            assert_eq!(rt; count(alloc, left.as_slice()), Ok(2));
+        }
+    }
     Ok(())
 }
 
-// The opening takes calls 0 and 1. What the calls 2 to 5 of a commit leave where one of them fails:
-// the bytes that a stop may change are all the same.
+// The opening takes calls 0 and 1, the commit calls 2 to 5. One of these fails, the machine stops,
+// and each byte that the stop may change becomes the fill.
 #[test]
 fn a_stopped_commit_is_whole_or_not_there(rt: HostRuntime) -> Result<(), Fail> {
     let alloc = rt.alloc();
@@ -135,14 +144,102 @@ fn a_stopped_commit_is_whole_or_not_there(rt: HostRuntime) -> Result<(), Fail> {
         );
         assert!(rt; !store.usable());
         assert_eq!(rt; store.entries().len(), 1);
-        let left = disk.crash_with(alloc, Some(fill), false)?;
-        assert_eq!(rt; count(alloc, left.as_slice()), Ok(want));
+        for short in [false, true] {
+            let left = disk.crash_with(alloc, Some(fill), short)?;
+            assert_eq!(rt; count(alloc, left.as_slice()), Ok(want));
+        }
     }
     Ok(())
 }
 
+// An opening takes calls 0 and 1 to read. Of the first log calls 2 and 3 cut the end off, and 4 and
+// 5 close the gate; the second is written anew by calls 2 and 3.
 #[test]
-fn a_log_may_be_full(rt: HostRuntime) -> Result<(), Fail> {
+fn a_stopped_opening_keeps_the_records(rt: HostRuntime) -> Result<(), Fail> {
+    let alloc = rt.alloc();
+    let named = behind_first(alloc, 7, &SECOND)?;
+    for call in 0..6 {
+        assert!(rt; keeps(alloc, named.as_slice(), call, 1)?);
+    }
+    for call in 0..4 {
+        assert!(rt; keeps(alloc, b"ARN", call, 0)?);
+    }
+    Ok(())
+}
+
+// Whether an opening at which this call fails leaves so many records, whatever a stop makes of it.
+fn keeps(alloc: Global, bytes: &[u8], call: u32, want: usize) -> Result<bool, NoMemory> {
+    let mut fails = Numbers::new(alloc);
+    fails.push(call)?;
+    let mut disk = FuseDisk::new(alloc, Bytes::from_slice(alloc, bytes)?, fails);
+    if !matches!(Store::open_log(alloc, &mut disk), Err(OpenError::Disk)) {
+        return Ok(false);
+    }
+    for fill in FILLS {
+        for short in [false, true] {
+            let left = disk.crash_with(alloc, Some(fill), short)?;
+            if count(alloc, left.as_slice()) != Ok(want) {
+                return Ok(false);
+            }
+        }
+    }
+    Ok(true)
+}
+
+// A disk that says it has one byte more than a log may have, tells none, and never crashes.
+#[derive(Drop)]
+struct LongDisk;
+
+impl Disk for LongDisk {
+    ghost use Rattle.std.specs.Prelude.{None};
+    ghost use Rattle.arn_base.specs.Faults.{greatest};
+
+    ghost image = { λ _. None };
+
+    ghost may_leave = { λ _ _. ⊥ };
+
+    ghost moment = { λ _. 0 };
+
+    ghost left_since = { λ _ _ _. ⊥ };
+
+    ghost faults = { λ _. greatest };
+
+    ghost reads_may_stay = { λ _. tt };
+
+    ghost counts_now = { λ _ _ _ _ leaves. leaves };
+
+    ghost only_now = { λ _ _ left. left };
+
+    fn len(&mut self) -> Result<u64, Failed> {
+        Ok(268_435_457)
+    }
+
+    fn read(&mut self, _at: u64, _buf: &mut [u8]) -> Result<(), Failed> {
+        Err(Failed)
+    }
+
+    fn write(&mut self, _at: u64, _bytes: &[u8]) -> Result<(), Stop> {
+        Err(Stop::Failed)
+    }
+
+    fn cut(&mut self, _len: u64) -> Result<(), Stop> {
+        Err(Stop::Failed)
+    }
+
+    fn sync(&mut self) -> Result<(), Stop> {
+        Err(Stop::Failed)
+    }
+}
+
+#[test]
+fn refuses_a_log_that_is_too_long(rt: HostRuntime) -> Result<(), Fail> {
+    let opened = Store::open_log(rt.alloc(), &mut LongDisk);
+    assert!(rt; matches!(opened, Err(OpenError::TooLong { len: 268_435_457 })));
+    Ok(())
+}
+
+#[test]
+fn frames_end_at_the_limit(rt: HostRuntime) -> Result<(), Fail> {
     assert_eq!(rt; frame_end(268_435_000, 451), Some(268_435_456));
     assert_eq!(rt; frame_end(268_435_000, 452), None);
     assert_eq!(rt; frame_end(u64::MAX, u64::MAX), None);

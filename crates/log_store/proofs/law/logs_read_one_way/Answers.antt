@@ -1,3 +1,4 @@
+use Rattle.log_store.proofs.OnePlace.{bad_one_place}
 use Rattle.log_store.proofs.OneWay.{bad_none, closed_logs, logs_one_way}
 use Rattle.log_store.proofs.law.logs_read_one_way.Goals as goal
 
@@ -9,3 +10,6 @@ returns-clause-closed c = closed_logs
 
 pub returns-clause-none : goal.returns-clause-none
 returns-clause-none c = bad_none c.records_spelled_one_way.ensures.spelled
+
+pub returns-clause-one_place : goal.returns-clause-one_place
+returns-clause-one_place c = bad_one_place c.records_spelled_one_way.ensures.spelled

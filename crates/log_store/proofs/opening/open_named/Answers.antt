@@ -1,9 +1,10 @@
 use Rattle.std.proofs.Common.{◌≡◌, ◌++◌, ◌∷◌, [], ◌-◌, ◌+◌, length, take, refl}
 use Rattle.std.proofs.lemmas.Option.{IfSome_then}
 use Rattle.std.proofs.lemmas.Result.{err_from_is_err_and}
-use Rattle.log_store.specs.Held.{KeepsRecords}
+use Rattle.log_store.specs.Stores.{KeepsRecords}
 use Rattle.log_store.specs.Pieces.{IsLeft, IsSameFront}
-use Rattle.log_store.proofs.Reopening.{bad_cause, found_ends, found_left, kept_found, kept_same, told_unmoved}
+use Rattle.log_store.proofs.OneWay.{closed_end}
+use Rattle.log_store.proofs.Reopening.{bad_cause, found_ends, found_left, found_some, kept_found, kept_same, told_unmoved}
 use Rattle.log_store.proofs.Told.{told_after, told_weaker}
 use Rattle.log_store.proofs.opening.open_named.Goals as goal
 
@@ -45,3 +46,23 @@ returns-clause-any_moment g c =
     told_weaker g.D.Disk.may_leave g.D.Disk.moment g.D.Disk.left_since (g.D.Disk.image c.args.disk.now) c.args.disk.now c.close_end.new.disk
     (λ told. told ≡ c.args.bytes.now) (IsSameFront gate) KeepsRecords c.requires.told c.close_end.ensures.any_moment
     (λ old left same kept. kept_found c.args.bytes.now c.in_ok-found.found.entries.items end c.in_ok-found.ensures.ok gate refl c.logs_read_one_way.ensures.one old left same kept)
+
+pub returns-in_err-close_end-clause-untouched : goal.returns-in_err-close_end-clause-untouched
+returns-in_err-close_end-clause-untouched g c is_none =
+    absurd (found_some c.args.bytes.now c.in_ok-found.found.entries.items c.in_ok-found.found.end.now c.in_ok-found.ensures.ok _ refl is_none)
+
+pub returns-in_err-close_end-clause-closed : goal.returns-in_err-close_end-clause-closed
+returns-in_err-close_end-clause-closed g c records log =
+    let end = c.in_ok-found.found.end.now in
+    c.close_end.ensures.unmoved
+    (closed_end c.records_spelled_one_way.ensures.spelled c.args.bytes.now c.in_ok-found.found.entries.items records end c.in_ok-found.ensures.ok log)
+
+pub returns-clause-untouched : goal.returns-clause-untouched
+returns-clause-untouched g c is_none =
+    absurd (found_some c.args.bytes.now c.in_ok-found.found.entries.items c.in_ok-found.found.end.now c.in_ok-found.ensures.ok _ refl is_none)
+
+pub returns-clause-closed : goal.returns-clause-closed
+returns-clause-closed g c records log =
+    let end = c.in_ok-found.found.end.now in
+    c.close_end.ensures.unmoved
+    (closed_end c.records_spelled_one_way.ensures.spelled c.args.bytes.now c.in_ok-found.found.entries.items records end c.in_ok-found.ensures.ok log)

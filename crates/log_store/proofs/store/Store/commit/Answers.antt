@@ -1,8 +1,9 @@
-use Rattle.std.proofs.Common.{rules, ◌≡◌, ◌++◌, ◌+◌, length}
-use Rattle.log_store.specs.Held.{IsLeftBy, IsBeforeOrAfter}
-use Rattle.log_store.specs.Log.{IsCommit}
+use Rattle.std.proofs.Common.{rules, ◌≡◌, ◌++◌, ◌+◌, ◌≤◌, length}
+use Rattle.log_store.specs.Stores.{IsLeftBy, IsBeforeOrAfter}
+use Rattle.log_store.specs.Log.{spellings, IsCommit}
 use Rattle.log_store.specs.Pieces.{with_frame, IsTorn}
-use Rattle.log_store.proofs.Logs.{commit_bytes, torn_log, with_frame-left}
+use Rattle.log_store.specs.declared.size.TheConstants.{MOST_LOG}
+use Rattle.log_store.proofs.Logs.{commit_bytes, torn_left, with_frame-left}
 use Rattle.log_store.proofs.Told.{told_after, told_weaker}
 use Rattle.log_store.proofs.store.Store.commit.Goals as goal
 
@@ -23,9 +24,10 @@ returns-in-Ok-clause-any_moment g c =
     let bytes = c.as_slice-2.result.now in
     let same : bytes ≡ commit_bytes more = search rules in
     let is : IsCommit more = search rules in
+    let fits : c.args.self.now.log_len + 5 + length (spellings more) ≤ MOST_LOG = search rules in
     told_weaker g.D.Disk.may_leave g.D.Disk.moment g.D.Disk.left_since (g.D.Disk.image c.args.disk.now) c.args.disk.now c.add_frame.new.disk
     (IsLeftBy c.args.self.now) (λ old. IsTorn old bytes) (λ old. IsBeforeOrAfter c.args.self.now.entries more) c.requires.left c.add_frame.ensures.any_moment
-    (λ old left is_left torn. torn_log old left bytes c.args.self.now.entries more is_left.is_log is same torn)
+    (λ old left is_left torn. torn_left c.args.self.now old left bytes more is_left is same fits torn)
 
 pub returns-clause-any_moment : goal.returns-clause-any_moment
 returns-clause-any_moment g c =
@@ -33,6 +35,7 @@ returns-clause-any_moment g c =
     let bytes = c.as_slice-2.result.now in
     let same : bytes ≡ commit_bytes more = search rules in
     let is : IsCommit more = search rules in
+    let fits : c.args.self.now.log_len + 5 + length (spellings more) ≤ MOST_LOG = search rules in
     told_weaker g.D.Disk.may_leave g.D.Disk.moment g.D.Disk.left_since (g.D.Disk.image c.args.disk.now) c.args.disk.now c.add_frame.new.disk
     (IsLeftBy c.args.self.now) (λ old. IsTorn old bytes) (λ old. IsBeforeOrAfter c.args.self.now.entries more) c.requires.left c.add_frame.ensures.any_moment
-    (λ old left is_left torn. torn_log old left bytes c.args.self.now.entries more is_left.is_log is same torn)
+    (λ old left is_left torn. torn_left c.args.self.now old left bytes more is_left is same fits torn)
