@@ -146,11 +146,11 @@ fn echo_entries(alloc: Global) -> Result<Vec<Record>, NoMemory> {
     Ok(entries)
 }
 
-fn call(number: u64, result: u64, extra: Extra) -> Record {
+fn call(number: u64, answer: u64, extra: Extra) -> Record {
     Record::Call {
         pid: 1,
         number,
-        result,
+        result: answer,
         extra,
     }
 }
