@@ -1,7 +1,5 @@
 -- What instructions, calls and ends of the process do to a machine of one process.
-use Rattle.std.proofs.Common.{◌≡◌, ℕ, zero, suc, ◌+◌, ◌-◌, ◌<◌, ◌++◌, ◌∙◌, Bool, true, false, List, [], ◌∷◌, length, map, take, drop, Option, Some, None, refl, sym, ap, subst, arith, add-zero, zero-add, cond, nat_le, ◌&&◌, if◌then◌else◌, unwrap_or, Result, Ok, Err, OnErr}
-use Rattle.std.proofs.lemmas.Grind.{common_steps}
-use Rattle.std.proofs.lemmas.Bool.Decides.{nat_tests}
+use Rattle.std.proofs.Common.{◌≡◌, ℕ, zero, suc, ◌+◌, ◌-◌, ◌∙◌, Bool, true, false, List, [], ◌∷◌, length, map, take, drop, Option, Some, None, refl, sym, ap, subst, arith, add-zero, zero-add, cond, unwrap_or, Result, Ok, Err, OnErr}
 use Rattle.std.proofs.lemmas.List.{drop-drop, length-drop}
 use Rattle.arn_base.specs.declared.machine.Cpu.{Cpu}
 use Rattle.arn_base.specs.declared.records.Src.{Src}

@@ -8,6 +8,7 @@ use crate::turn::{CutShort, Turn, take_turn};
 use arn_base::{Record, Steps};
 use arn_model::limits::MOST_FILE_BYTES;
 use arn_model::{Held, Standing};
+use guest_image::parse;
 use solo_lineage::Move;
 use std::alloc::Global;
 use std::marker::Model;
@@ -165,6 +166,45 @@ impl Solo {
             entry,
             moved,
         })
+    }
+
+    /// Whether a file may be added under a name, so that nothing but memory keeps it out.
+    pub fn check_file(&self, name: &[u8]) -> Result<(), MachineError>
+        ensures booted { IsErrOf result MachineError.Booted ↔ IsTrue (has_process self.now) }
+        ensures no_name { IsErrOf result MachineError.NoName ↔
+            ((has_process self.now ≡ false) × (is_free self.now name.now ≡ false)) }
+        ensures only { IfErr result (λ e.
+            (e ≡ MachineError.Booted) ⊎ (e ≡ MachineError.NoName)) }
+    {
+        if self.guest.is_some() {
+            return Err(MachineError::Booted);
+        }
+        if !is_free_name(self.files.as_slice(), name) {
+            return Err(MachineError::NoName);
+        }
+        Ok(())
+    }
+
+    /// Whether there is an image to boot from under a name, so that nothing but memory is needed.
+    pub fn check_boot(&self, name: &[u8]) -> Result<(), MachineError>
+        ensures booted { IsErrOf result MachineError.Booted ↔ IsTrue (has_process self.now) }
+        ensures no_name { IsErrOf result MachineError.NoName ↔
+            ((has_process self.now ≡ false) × IsNone (find_file self.now name.now)) }
+        ensures not_image { IsErrOf result MachineError.NotImage ↔
+            ((has_process self.now ≡ false) × IsTrue (is_some (find_file self.now name.now)) ×
+            IsRefused self.now (input.Boot name.now)) }
+        ensures not_not_booted { result ≢ Err MachineError.NotBooted }
+    {
+        if self.guest.is_some() {
+            return Err(MachineError::Booted);
+        }
+        let Some(place) = find(self.files.as_slice(), name) else {
+            return Err(MachineError::NoName);
+        };
+        if parse(self.files[place].bytes.as_slice()).is_err() {
+            return Err(MachineError::NotImage);
+        }
+        Ok(())
     }
 
     /// Puts bytes behind the console's queue. Answers the number of its event.

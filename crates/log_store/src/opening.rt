@@ -1,7 +1,8 @@
 // The log of bytes that a disk tells, opened.
-ghost use Rattle.std.specs.Prelude.{◌≡◌, ◌≤◌, ◌<◌, ◌++◌, ◌∷◌, [], ℕ, List, length, IfSome, IfOk, IfErr, OnOk, IsErrOf};
+ghost use Rattle.std.specs.Prelude.{◌≡◌, ◌≤◌, ◌<◌, ◌++◌, ◌∷◌, [], ℕ, List, All, length, IfSome, IfOk, IfErr, OnOk, IsErrOf};
 ghost use Rattle.arn_base.specs.Disk.{Only};
 ghost use Rattle.arn_base.specs.Faults.{Rose};
+ghost use Rattle.result_log.specs.Spelling.{HasSpelling};
 ghost use Rattle.log_store.specs.Causes.{IsCauseOf, BlamesBytes};
 ghost use Rattle.log_store.specs.Stores.{KeepsRecords};
 ghost use Rattle.log_store.specs.Log.{IsLog, IsClosedLog};
@@ -32,6 +33,7 @@ pub fn open_bytes<D: Disk>(alloc: Global, disk: &mut D, bytes: &[u8]) -> Result<
     requires told { IfSome (D.image disk.old) (λ told. told ≡ bytes.now) }
 
     ensures recovered { IfOk result (λ opened. IsLog bytes.now opened.entries.items) }
+    ensures spelled { IfOk result (λ opened. All HasSpelling opened.entries.items) }
     ensures left { IfOk result (λ opened.
         IfSome (D.image disk.new) (IsLeft opened.entries.items opened.log_len)) }
     ensures len { IfOk result (λ opened. (9 ≤ opened.log_len) × (opened.log_len ≤ MOST_LOG)) }
@@ -60,6 +62,7 @@ fn open_fresh<D: Disk>(alloc: Global, disk: &mut D, bytes: &[u8]) -> Result<Open
     requires told { IfSome (D.image disk.old) (λ told. told ≡ bytes.now) }
 
     ensures recovered { IfOk result (λ opened. IsLog bytes.now opened.entries.items) }
+    ensures spelled { IfOk result (λ opened. All HasSpelling opened.entries.items) }
     ensures left { IfOk result (λ opened.
         IfSome (D.image disk.new) (IsLeft opened.entries.items opened.log_len)) }
     ensures len { IfOk result (λ opened. opened.log_len ≡ 9) }
@@ -90,6 +93,7 @@ fn open_named<D: Disk>(alloc: Global, disk: &mut D, bytes: &[u8]) -> Result<Open
     requires told { IfSome (D.image disk.old) (λ told. told ≡ bytes.now) }
 
     ensures recovered { IfOk result (λ opened. IsLog bytes.now opened.entries.items) }
+    ensures spelled { IfOk result (λ opened. All HasSpelling opened.entries.items) }
     ensures left { IfOk result (λ opened.
         IfSome (D.image disk.new) (IsLeft opened.entries.items opened.log_len)) }
     ensures len { IfOk result (λ opened. (9 ≤ opened.log_len) × (opened.log_len ≤ MOST_LOG)) }

@@ -55,6 +55,7 @@ impl Store {
     pub fn open_log<D: Disk>(alloc: Global, disk: &mut D) -> Result<Store, OpenError>
         ensures recovered { IfOk result (λ store.
             IfSome (D.image disk.old) (λ bytes. IsLog bytes store.entries)) }
+        ensures spelled { IfOk result (λ store. All HasSpelling store.entries) }
         ensures left { IfOk result (λ store. IfSome (D.image disk.new) (IsLeftBy store)) }
         ensures short { OnOk result
             (IfSome (D.image disk.old) (λ bytes. length bytes ≤ MOST_LOG)) }

@@ -5,6 +5,7 @@ mod errors;
 mod get;
 mod kinds;
 mod law;
+mod len;
 mod put;
 mod split;
 #[cfg(test)]
@@ -13,4 +14,5 @@ mod tests;
 pub use errors::GetError;
 pub use get::get_record;
 pub use law::records_spelled_one_way;
+pub use len::spelled_len;
 pub use put::put_record;

@@ -1,7 +1,7 @@
 ghost use Rattle.std.specs.Prelude.{IfOk};
 ghost use Rattle.result_log.specs.Spelling.{ExtraHasSpelling, GiveHasSpelling, HasSpelling};
 
-use crate::{GetError, get_record, put_record};
+use crate::{GetError, get_record, put_record, spelled_len};
 use arn_base::{Bytes, Extra, Give, NoMemory, Origin, Origins, Record};
 use std::alloc::Global;
 use std::process::Abort;
@@ -33,7 +33,8 @@ fn give(alloc: Global) -> Result<Give, NoMemory>
     Ok(Give { bytes, origins })
 }
 
-// The record has these bytes, and is read from them, behind others and before others.
+// The record has these bytes, as many as are told, and is read from them, behind others and before
+// others.
 fn assert_spelled(
     rt: &impl Abort,
     alloc: Global,
@@ -45,6 +46,7 @@ fn assert_spelled(
     let mut out = Vec::from_slice(alloc, &[1, 2, 3])?;
     put_record(&mut out, &entry)?;
     assert_eq!(rt; out.get(3..), Some(bytes));
+    assert_eq!(rt; spelled_len(&entry), bytes.len() as u64);
     out.push(0xff)?;
     assert_eq!(rt;
         get_record(alloc, out.as_slice(), 3),

@@ -5,6 +5,7 @@ use Rattle.log_store.specs.Stores.{KeepsRecords}
 use Rattle.log_store.specs.Pieces.{IsLeft, IsSameFront}
 use Rattle.log_store.proofs.OneWay.{closed_end}
 use Rattle.log_store.proofs.Reopening.{bad_cause, found_ends, found_left, found_some, kept_found, kept_same, told_unmoved}
+use Rattle.log_store.proofs.Spellings.{found_spelled}
 use Rattle.log_store.proofs.Told.{told_after, told_weaker}
 use Rattle.log_store.proofs.opening.open_named.Goals as goal
 
@@ -66,3 +67,7 @@ returns-clause-closed g c records log =
     let end = c.in_ok-found.found.end.now in
     c.close_end.ensures.unmoved
     (closed_end c.records_spelled_one_way.ensures.spelled c.args.bytes.now c.in_ok-found.found.entries.items records end c.in_ok-found.ensures.ok log)
+
+pub returns-clause-spelled : goal.returns-clause-spelled
+returns-clause-spelled g c =
+    found_spelled c.args.bytes.now c.in_ok-found.found.entries.items c.in_ok-found.found.end.now c.in_ok-found.ensures.ok
