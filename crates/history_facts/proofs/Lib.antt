@@ -1,0 +1,4 @@
+pub mod StepForms
+pub mod EventForms
+pub mod FileForms
+pub mod Examples
