@@ -1,13 +1,9 @@
 -- The text of an answer to a query.
-use Rattle.std.proofs.Common.{◌≡◌, ℕ, ◌++◌, ◌∙◌, List, length, sym, ap, append_assoc}
+use Rattle.std.proofs.Common.{◌≡◌, ℕ, ◌++◌, ◌∙◌, List, length, ap, append_assoc}
 use Rattle.std.specs.Prelude.{flat_map}
 use Rattle.arn_base.specs.declared.records.Pair.{Pair}
 use Rattle.arn_lines.specs.Texts.{pair_text, back_text}
-use Rattle.arn_model.specs.declared.history.Input.{Input}
-use Rattle.arn_model.specs.declared.lineage.Linkage.{Linkage}
-use Rattle.arn_lines.specs.declared.line.Line.{Line}
-use Rattle.arn_lines.specs.declared.line.Line.TheVariants as line
-use Rattle.arn_session.specs.Answers.{found_text, back_answer, line_answer}
+use Rattle.arn_session.specs.Answers.{found_text}
 
 -- the pairs' lines and the last line behind a text
 pub found-printed : (before lines all : List ℕ) (pairs pairs' : List Pair) (count instructions : ℕ) (groups groups' : List ℕ) → lines ≡ before ++ flat_map pair_text pairs' → pairs' ≡ pairs → all ≡ lines ++ back_text count instructions groups' → count ≡ length pairs → groups' ≡ groups → all ≡ before ++ found_text pairs instructions groups
@@ -18,10 +14,3 @@ found-printed before lines all pairs pairs' count instructions groups groups' is
     ∙ ap (λ (l : List Pair). before ++ (flat_map pair_text l ++ back_text count instructions groups')) same_pairs
     ∙ ap (λ (n : ℕ). before ++ (flat_map pair_text pairs ++ back_text n instructions groups')) is_count
     ∙ ap (λ (g : List ℕ). before ++ (flat_map pair_text pairs ++ back_text (length pairs) instructions g)) same_groups
-
--- the answer to a query, as that to its line
-pub back-printed : (history kept : List Input) (l : Line) (linkage : Linkage) (event from len : ℕ) (before after : List ℕ) → kept ≡ history → l ≡ line.Back linkage event from len → after ≡ before ++ (back_answer kept linkage event from len).text → after ≡ before ++ (line_answer history l).text
-back-printed history kept l linkage event from len before after same is printed =
-    printed
-    ∙ ap (λ (h : List Input). before ++ (back_answer h linkage event from len).text) same
-    ∙ ap (λ (x : Line). before ++ (line_answer history x).text) (sym is)

@@ -1,213 +1,261 @@
--- A run, slice by slice.
-use Rattle.std.proofs.Common.{◌≡◌, ◌≢◌, ◌⊎◌, ℕ, zero, suc, ◌+◌, ◌-◌, ◌<◌, ◌≤◌, ◌++◌, ◌∙◌, cond, List, [], ◌∷◌, length, min, refl, sym, ap, subst, arith, append_assoc, append-nil, length-append, inl, inr, Result, Ok, Err, OnOk}
+-- A run, leg by leg.
+use Rattle.std.proofs.Common.{◌≡◌, ◌≢◌, ℕ, zero, suc, ◌+◌, ◌-◌, ◌<◌, ◌≤◌, ◌++◌, ◌∙◌, true, false, cond, if◌then◌else◌, List, [], ◌∷◌, Option, Some, refl, sym, ap, subst, arith, append_assoc, append-nil, length-append}
 use Rattle.std.proofs.lemmas.List.Sums.{sum_by-append}
 use Rattle.std.proofs.lemmas.Grind.{flat_map-append}
 use Rattle.arn_model.specs.declared.history.Input.{Input}
-use Rattle.arn_model.specs.declared.history.Input.TheVariants as input
-use Rattle.arn_model.specs.declared.history.Output.{Output}
-use Rattle.arn_model.specs.declared.history.Standing.{Standing}
-use Rattle.arn_model.specs.declared.history.Standing.TheVariants as standing
-use Rattle.arn_model.specs.declared.limits.TheConstants.{MOST_SLICE}
 use Rattle.arn_model.specs.Machine.{Machine}
 use Rattle.arn_model.specs.Step.{Step}
 use Rattle.arn_model.specs.Deed.{is_instruction}
-use Rattle.arn_model.specs.Slice.{standing, after_steps, is_possible}
-use Rattle.arn_model.specs.Run.{input_steps, after_input, steps_from, instructions_in, outputs_from}
-use Rattle.arn_lines.specs.Texts.{out_text, ran_text}
-use Rattle.arn_session.specs.Answers.{run_answer}
-use Rattle.arn_session.specs.Cost.{run_cost}
-use Rattle.arn_session.specs.Kept.{IsKept, Gives}
-use Rattle.arn_session.specs.Running.{slice_within, if_ready, slices_from, slices_of, end_of, outputs_text, run_text}
-use Rattle.arn_session.proofs.HistoryLemmas.{steps_from-append, after_steps-append, kept-input}
-use Rattle.arn_session.proofs.EventLemmas.{events_after, events_after-append, outputs_from-append, events-if}
+use Rattle.arn_model.specs.Slice.{standing, after_steps}
+use Rattle.arn_model.specs.Run.{input_steps, after_input, steps_from, instructions_in}
+use Rattle.log_model.specs.Records.{records_from}
+use Rattle.guest_machine.specs.declared.leg.Leg.{Leg}
+use Rattle.guest_machine.specs.declared.leg.LegEnd.{LegEnd}
+use Rattle.guest_machine.specs.declared.leg.LegEnd.TheVariants as leg_end
+use Rattle.guest_machine.specs.contracts.leg.LegEndPartialEq.TheImpl as end_eq
+use Rattle.guest_machine.specs.Legs.{leg_of, leg_end, spelled_len}
+use Rattle.arn_lines.specs.declared.answer.RunEnd.{RunEnd}
+use Rattle.arn_lines.specs.Texts.{ran_text}
+use Rattle.arn_session.specs.Cost.{slices_cost}
+use Rattle.arn_session.specs.Effects.{Effect, Prints}
+use Rattle.arn_session.specs.Legs.{IsLeg}
+use Rattle.arn_session.specs.Running.{after_inputs, ran_by, is_more, has_more, legs_from, legs_of, slices_of, leg_effects, legs_effects, ran_effects, run_effects, end_of}
 
--- what a run has done so far, and what is left of it
-pub record SoFar (inputs0 : List Input) (m0 : Machine) (count : ℕ) (text0 : List ℕ) (steps0 : ℕ) (inputs : List Input) (m : Machine) (left : ℕ) (text : List ℕ) (steps : ℕ) : Type 0 where
-  pub slices : List Input
+-- steps behind steps
+after_steps-append : (m : Machine) (steps more : List Step) → after_steps m (steps ++ more) ≡ after_steps (after_steps m steps) more
+after_steps-append m [] more = refl
+after_steps-append m (s ∷ steps) more = after_steps-append s.after steps more
+
+-- inputs behind inputs
+steps_from-append : (m : Machine) (inputs more : List Input) → steps_from m (inputs ++ more) ≡ steps_from m inputs ++ steps_from (after_inputs m inputs) more
+steps_from-append m [] more = refl
+steps_from-append m (i ∷ inputs) more =
+    let steps : List Step = input_steps m i in
+    let m1 : Machine = after_input m i in
+    ap (λ (rest : List Step). steps ++ rest) (steps_from-append m1 inputs more)
+    ∙ sym (append_assoc steps (steps_from m1 inputs) (steps_from (after_inputs m1 inputs) more))
+    ∙ ap (λ (x : Machine). (steps ++ steps_from m1 inputs) ++ steps_from x more) (sym (after_steps-append m steps (steps_from m1 inputs)))
+
+after_inputs-append : (m : Machine) (inputs more : List Input) → after_inputs m (inputs ++ more) ≡ after_inputs (after_inputs m inputs) more
+after_inputs-append m inputs more =
+    ap (after_steps m) (steps_from-append m inputs more) ∙ after_steps-append m (steps_from m inputs) (steps_from (after_inputs m inputs) more)
+
+ran_by-append : (m : Machine) (inputs more : List Input) → ran_by m (inputs ++ more) ≡ ran_by m inputs + ran_by (after_inputs m inputs) more
+ran_by-append m inputs more =
+    ap instructions_in (steps_from-append m inputs more) ∙ sum_by-append (λ (x : Step). cond (is_instruction x.deed) 1 0) (steps_from m inputs) (steps_from (after_inputs m inputs) more)
+
+slices_cost-append : (m : Machine) (inputs more : List Input) → slices_cost m (inputs ++ more) ≡ slices_cost m inputs + slices_cost (after_inputs m inputs) more
+slices_cost-append m inputs more =
+    let ran : ran_by m (inputs ++ more) ≡ ran_by m inputs + ran_by (after_inputs m inputs) more = ran_by-append m inputs more in
+    omega (arith, ran, length-append inputs more)
+
+-- the slices of legs behind legs
+slices_of-append : (legs more : List (List Input)) → slices_of (legs ++ more) ≡ slices_of legs ++ slices_of more
+slices_of-append legs more = flat_map-append (λ (leg : List Input). leg) legs more
+
+slices_of-push : (legs : List (List Input)) (leg : List Input) → slices_of (legs ++ leg ∷ []) ≡ slices_of legs ++ leg
+slices_of-push legs leg = slices_of-append legs (leg ∷ []) ∙ ap (λ (x : List Input). slices_of legs ++ x) (append-nil leg)
+
+-- what legs do behind legs
+legs_effects-append : (m : Machine) (legs more : List (List Input)) → legs_effects m (legs ++ more) ≡ legs_effects m legs ++ legs_effects (after_inputs m (slices_of legs)) more
+legs_effects-append m [] more = refl
+legs_effects-append m (leg ∷ legs) more =
+    let first : List Effect = leg_effects m leg in
+    let m1 : Machine = after_inputs m leg in
+    ap (λ (x : List Effect). first ++ x) (legs_effects-append m1 legs more)
+    ∙ ap (λ (x : Machine). first ++ (legs_effects m1 legs ++ legs_effects x more)) (sym (after_inputs-append m leg (slices_of legs)))
+    ∙ sym (append_assoc first (legs_effects m1 legs) (legs_effects (after_inputs m (leg ++ slices_of legs)) more))
+
+legs_effects-push : (m : Machine) (legs : List (List Input)) (leg : List Input) → legs_effects m (legs ++ leg ∷ []) ≡ legs_effects m legs ++ leg_effects (after_inputs m (slices_of legs)) leg
+legs_effects-push m legs leg =
+    legs_effects-append m legs (leg ∷ []) ∙ ap (λ (x : List Effect). legs_effects m legs ++ x) (append-nil (leg_effects (after_inputs m (slices_of legs)) leg))
+
+-- legs that follow one that ended so
+abbrev pub legs_behind : LegEnd → List (List Input) → List (List Input)
+legs_behind leg_end.More legs = legs
+legs_behind leg_end.Budget legs = []
+legs_behind leg_end.Done legs = []
+legs_behind leg_end.Stalled legs = []
+
+legs_behind-if : (end : LegEnd) (legs : List (List Input)) → (if is_more (Some end) then legs else []) ≡ legs_behind end legs
+legs_behind-if leg_end.More legs = refl
+legs_behind-if leg_end.Budget legs = refl
+legs_behind-if leg_end.Done legs = refl
+legs_behind-if leg_end.Stalled legs = refl
+
+legs_behind-none : (end : LegEnd) (legs : List (List Input)) → end ≢ leg_end.More → legs_behind end legs ≡ []
+legs_behind-none leg_end.More legs other = absurd (other refl)
+legs_behind-none leg_end.Budget legs other = refl
+legs_behind-none leg_end.Done legs other = refl
+legs_behind-none leg_end.Stalled legs other = refl
+
+-- whether a leg ended with more to come, by the comparison
+pub is_more-true : (end : LegEnd) → true ≡ (end_eq.ghosts).eq end leg_end.More → end ≡ leg_end.More
+is_more-true leg_end.More is = refl
+is_more-true leg_end.Budget is = cc
+is_more-true leg_end.Done is = cc
+is_more-true leg_end.Stalled is = cc
+
+pub is_more-false : (end : LegEnd) → false ≡ (end_eq.ghosts).eq end leg_end.More → end ≢ leg_end.More
+is_more-false leg_end.More is = λ same. cc
+is_more-false leg_end.Budget is = λ same. cc
+is_more-false leg_end.Done is = λ same. cc
+is_more-false leg_end.Stalled is = λ same. cc
+
+-- how many more turns of the loop there may be
+abbrev pub turns : LegEnd → ℕ → ℕ
+turns leg_end.More left = left + 1
+turns leg_end.Budget left = 0
+turns leg_end.Done left = 0
+turns leg_end.Stalled left = 0
+
+pub turns-less : (end : LegEnd) (left left' : ℕ) → (end ≡ leg_end.More → left' < left) → turns end left' < turns leg_end.More left
+turns-less leg_end.More left left' less = omega (arith, less refl)
+turns-less leg_end.Budget left left' less = omega arith
+turns-less leg_end.Done left left' less = omega arith
+turns-less leg_end.Stalled left left' less = omega arith
+
+-- the legs of a run that were carried out so far, and what is left of it
+pub record SoFar (m0 : Machine) (count steps0 : ℕ) (carried : List Effect → Type 0) (m : Machine) (left : ℕ) (end : LegEnd) (steps : ℕ) : Type 0 where
+  pub done : List (List Input)
   pub most : ℕ
-  pub history : inputs ≡ inputs0 ++ slices
-  pub goes_on : slices_of m0 count ≡ slices ++ slices_from most m left
-  pub leads : after_steps m0 (steps_from m0 slices) ≡ m
-  pub counted : m.events ≡ events_after m0.events (steps_from m0 slices)
-  pub printed : text ≡ text0 ++ outputs_text (outputs_from m0.events (steps_from m0 slices))
-  pub ran : count ≡ left + instructions_in (steps_from m0 slices)
-  pub enough : left ≤ most
-  pub executed : steps ≤ steps0 + (instructions_in (steps_from m0 slices) + length slices)
+  pub goes_on : legs_of m0 count ≡ done ++ legs_behind end (legs_from most m left)
+  pub leads : m ≡ after_inputs m0 (slices_of done)
+  pub ran : count ≡ left + ran_by m0 (slices_of done)
+  pub enough : end ≡ leg_end.More → left < most
+  pub is_carried : carried (legs_effects m0 done)
+  pub executed : steps ≤ steps0 + slices_cost m0 (slices_of done)
 
--- before the first slice
-pub SoFar-start : (inputs : List Input) (m : Machine) (count : ℕ) (text : List ℕ) (steps : ℕ) → SoFar inputs m count text steps inputs m count text steps
-SoFar-start inputs m count text steps =
+-- before the first leg
+pub SoFar-start : (m0 m : Machine) (count steps : ℕ) (carried : List Effect → Type 0) → m ≡ m0 → carried [] → SoFar m0 count steps carried m count leg_end.More steps
+SoFar-start m0 m count steps carried same none = record {
+  done = [];
+  most = suc count;
+  goes_on = ap (λ (x : Machine). legs_of x count) (sym same);
+  leads = same;
+  ran = omega arith;
+  enough = λ is. omega arith;
+  is_carried = none;
+  executed = omega arith;
+}
+
+-- a number above another is one more than some
+above : (n k : ℕ) → k < n → (j : ℕ) × (n ≡ suc j)
+above zero k less = absurd (omega (arith, less))
+above (suc j) k less = (j, refl)
+
+-- the legs that are left begin with the next one
+legs-next : (n most : ℕ) (m : Machine) (left : ℕ) → n ≡ suc most → legs_from n m left ≡ leg_of m left ∷ (if has_more m left (leg_of m left) then legs_from most (after_inputs m (leg_of m left)) (left - ran_by m (leg_of m left)) else [])
+legs-next n most m left is = ap (λ (k : ℕ). legs_from k m left) is
+
+-- and what is behind it, by how it ended
+legs-after : (n most : ℕ) (m m' : Machine) (left left' : ℕ) (leg : Leg) → n ≡ suc most → IsLeg m left (leg_of m left) leg m' → left' ≡ left - leg.ran → legs_from n m left ≡ leg_of m left ∷ legs_behind leg.end (legs_from most m' left')
+legs-after n most m m' left left' leg is one is_left =
+    let slices : List Input = leg_of m left in
+    let rest : List (List Input) = legs_from most (after_inputs m slices) (left - ran_by m slices) in
+    let left_so : left' ≡ left - ran_by m slices = is_left ∙ ap (λ (k : ℕ). left - k) one.ran in
+    let ends : leg_end (standing (after_inputs m slices)) (left - ran_by m slices) (spelled_len (records_from m slices)) ≡ Some leg.end =
+    ap (λ (x : Machine). leg_end (standing x) (left - ran_by m slices) (spelled_len (records_from m slices))) (sym one.leads)
+    ∙ ap (λ (k : ℕ). leg_end (standing m') (left - k) (spelled_len (records_from m slices))) (sym one.ran)
+    ∙ one.ends in
+    legs-next n most m left is
+    ∙ ap (λ (e : Option LegEnd). slices ∷ (if is_more e then rest else [])) ends
+    ∙ ap (λ (x : List (List Input)). slices ∷ x) (legs_behind-if leg.end rest)
+    ∙ ap (λ (x : Machine). slices ∷ legs_behind leg.end (legs_from most x (left - ran_by m slices))) (sym one.leads)
+    ∙ ap (λ (k : ℕ). slices ∷ legs_behind leg.end (legs_from most m' k)) (sym left_so)
+
+-- the legs of the run, with the next one behind those that are done
+pub SoFar-next : (m0 : Machine) (count steps0 : ℕ) (carried : List Effect → Type 0) (m : Machine) (left steps : ℕ) (so_far : SoFar m0 count steps0 carried m left leg_end.More steps) → (rest : List (List Input)) × (legs_of m0 count ≡ so_far.done ++ leg_of m left ∷ rest)
+SoFar-next m0 count steps0 carried m left steps so_far =
+    let room = above so_far.most left (so_far.enough refl) in
+    (_, so_far.goes_on ∙ ap (λ (x : List (List Input)). so_far.done ++ x) (legs-next so_far.most room.0 m left room.1))
+
+-- after one more leg
+pub SoFar-leg : (m0 : Machine) (count steps0 : ℕ) (before after : List Effect → Type 0) (m : Machine) (left steps : ℕ) (m' : Machine) (left' steps' : ℕ) (leg : Leg) → SoFar m0 count steps0 before m left leg_end.More steps → IsLeg m left (leg_of m left) leg m' → left' ≡ left - leg.ran → steps' ≤ steps + slices_cost m (leg_of m left) → ((first : List Effect) → before first → after (first ++ leg_effects m (leg_of m left))) → SoFar m0 count steps0 after m' left' leg.end steps'
+SoFar-leg m0 count steps0 before after m left steps m' left' steps' leg so_far one is_left is_steps joins =
+    let slices : List Input = leg_of m left in
+    let old : List Input = slices_of so_far.done in
+    let all : slices_of (so_far.done ++ slices ∷ []) ≡ old ++ slices = slices_of-push so_far.done slices in
+    let room = above so_far.most left (so_far.enough refl) in
+    let ran : ran_by m0 (slices_of (so_far.done ++ slices ∷ [])) ≡ ran_by m0 old + leg.ran =
+    ap (ran_by m0) all ∙ ran_by-append m0 old slices ∙ ap (λ (x : Machine). ran_by m0 old + ran_by x slices) (sym so_far.leads) ∙ ap (λ (k : ℕ). ran_by m0 old + k) (sym one.ran) in
+    let costs : slices_cost m0 (slices_of (so_far.done ++ slices ∷ [])) ≡ slices_cost m0 old + slices_cost m slices =
+    ap (slices_cost m0) all ∙ slices_cost-append m0 old slices ∙ ap (λ (x : Machine). slices_cost m0 old + slices_cost x slices) (sym so_far.leads) in
+    let effects : legs_effects m0 (so_far.done ++ slices ∷ []) ≡ legs_effects m0 so_far.done ++ leg_effects m slices =
+    legs_effects-push m0 so_far.done slices ∙ ap (λ (x : Machine). legs_effects m0 so_far.done ++ leg_effects x slices) (sym so_far.leads) in
     record {
-      slices = [];
-      most = count;
-      history = sym (append-nil inputs);
-      goes_on = refl;
-      leads = refl;
-      counted = refl;
-      printed = sym (append-nil text);
-      ran = omega arith;
-      enough = omega arith;
-      executed = omega arith;
-    }
-
--- the slices that are left begin with the next one
-slices-next : (most : ℕ) (m : Machine) (left : ℕ) → standing m ≡ standing.CanGoOn → 0 < left → left ≤ suc most → slices_from (suc most) m left ≡ slice_within left ∷ slices_from most (after_input m (slice_within left)) (left - instructions_in (input_steps m (slice_within left)))
-slices-next most m zero able some enough = absurd (omega arith)
-slices-next most m (suc left) able some enough = ap (λ (s : Standing). if_ready s (suc left) m (slices_from most)) able
-
--- the steps of slices and one more
-pub steps_from-push : (m : Machine) (slices : List Input) (s : Input) (m1 : Machine) → after_steps m (steps_from m slices) ≡ m1 → steps_from m (slices ++ s ∷ []) ≡ steps_from m slices ++ input_steps m1 s
-steps_from-push m slices s m1 leads =
-    steps_from-append m slices (s ∷ []) ∙ ap (λ (x : Machine). steps_from m slices ++ (input_steps x s ++ [])) leads ∙ ap (λ (more : List Step). steps_from m slices ++ more) (append-nil (input_steps m1 s))
-
--- a number that isn't zero is one more than another
-above : (n : ℕ) → 0 < n → (k : ℕ) × (n ≡ suc k)
-above zero some = absurd (omega arith)
-above (suc k) some = (k, refl)
-
--- after one more slice
-pub SoFar-slice : (inputs0 : List Input) (m0 : Machine) (count : ℕ) (text0 : List ℕ) (steps0 : ℕ) (inputs : List Input) (m : Machine) (left : ℕ) (text : List ℕ) (steps : ℕ) (inputs' : List Input) (m' : Machine) (left' : ℕ) (text' : List ℕ) (steps' : ℕ) (ran : ℕ) (outputs : List Output) → SoFar inputs0 m0 count text0 steps0 inputs m left text steps → standing m ≡ standing.CanGoOn → 0 < left → inputs' ≡ inputs ++ slice_within left ∷ [] → m' ≡ after_input m (slice_within left) → ran ≡ instructions_in (input_steps m (slice_within left)) → outputs ≡ outputs_from m.events (input_steps m (slice_within left)) → 1 ≤ ran → ran ≤ left → left' ≡ left - ran → text' ≡ text ++ outputs_text outputs → steps' ≤ steps + ran + 1 → SoFar inputs0 m0 count text0 steps0 inputs' m' left' text' steps'
-SoFar-slice inputs0 m0 count text0 steps0 inputs m left text steps inputs' m' left' text' steps' ran outputs so_far able some is_inputs is_m is_ran is_outputs one within is_left is_text is_steps =
-    let s : Input = slice_within left in
-    let old : List Step = steps_from m0 so_far.slices in
-    let new : List Step = input_steps m s in
-    let all : steps_from m0 (so_far.slices ++ s ∷ []) ≡ old ++ new = steps_from-push m0 so_far.slices s m so_far.leads in
-    let room = above so_far.most (omega (arith, so_far.enough, some)) in
-    let enough : left ≤ suc room.0 = omega (arith, so_far.enough, room.1) in
-    let counts : instructions_in (old ++ new) ≡ instructions_in old + instructions_in new = sum_by-append (λ (x : Step). cond (is_instruction x.deed) 1 0) old new in
-    let instructions : instructions_in (steps_from m0 (so_far.slices ++ s ∷ [])) ≡ instructions_in old + ran = ap instructions_in all ∙ counts ∙ ap (λ (n : ℕ). instructions_in old + n) (sym is_ran) in
-    let wrote : outputs_from m0.events (steps_from m0 (so_far.slices ++ s ∷ [])) ≡ outputs_from m0.events old ++ outputs = ap (outputs_from m0.events) all ∙ outputs_from-append m0.events old new ∙ ap (λ (n : ℕ). outputs_from m0.events old ++ outputs_from n new) (sym so_far.counted) ∙ ap (λ (o : List Output). outputs_from m0.events old ++ o) (sym is_outputs) in
-    let one_more : length (so_far.slices ++ s ∷ []) ≡ length so_far.slices + 1 = length-append so_far.slices (s ∷ []) in
-    record {
-      slices = so_far.slices ++ s ∷ [];
+      done = so_far.done ++ slices ∷ [];
       most = room.0;
-      history = is_inputs ∙ ap (λ (xs : List Input). xs ++ s ∷ []) so_far.history ∙ append_assoc inputs0 so_far.slices (s ∷ []);
       goes_on =
           so_far.goes_on
-          ∙ ap (λ (k : ℕ). so_far.slices ++ slices_from k m left) room.1
-          ∙ ap (λ (xs : List Input). so_far.slices ++ xs) (slices-next room.0 m left able some enough)
-          ∙ ap (λ (x : Machine). so_far.slices ++ (s ∷ slices_from room.0 x (left - instructions_in new))) (sym is_m)
-          ∙ ap (λ (k : ℕ). so_far.slices ++ (s ∷ slices_from room.0 m' k)) (ap (λ (n : ℕ). left - n) (sym is_ran) ∙ sym is_left)
-          ∙ sym (append_assoc so_far.slices (s ∷ []) (slices_from room.0 m' left'));
-      leads = ap (after_steps m0) all ∙ after_steps-append m0 old new ∙ ap (λ (x : Machine). after_steps x new) so_far.leads ∙ sym is_m;
-      counted =
-          ap (λ (x : Machine). x.events) is_m
-          ∙ events-if (is_possible m 1 (min left MOST_SLICE)) (min left MOST_SLICE) m
-          ∙ ap (λ (n : ℕ). events_after n new) so_far.counted
-          ∙ sym (events_after-append m0.events old new)
-          ∙ sym (ap (events_after m0.events) all);
-      printed =
-          is_text
-          ∙ ap (λ (t : List ℕ). t ++ outputs_text outputs) so_far.printed
-          ∙ append_assoc text0 (outputs_text (outputs_from m0.events old)) (outputs_text outputs)
-          ∙ ap (λ (t : List ℕ). text0 ++ t) (sym (flat_map-append (λ (o : Output). out_text o.event o.pid o.bytes) (outputs_from m0.events old) outputs) ∙ sym (ap outputs_text wrote));
-      ran = omega (arith, so_far.ran, instructions, is_left, within);
-      enough = omega (arith, enough, is_left, one);
-      executed = omega (arith, so_far.executed, is_steps, instructions, one_more);
+          ∙ ap (λ (x : List (List Input)). so_far.done ++ x) (legs-after so_far.most room.0 m m' left left' leg room.1 one is_left)
+          ∙ sym (append_assoc so_far.done (slices ∷ []) (legs_behind leg.end (legs_from room.0 m' left')));
+      leads = one.leads ∙ ap (λ (x : Machine). after_inputs x slices) so_far.leads ∙ sym (after_inputs-append m0 old slices) ∙ ap (after_inputs m0) (sym all);
+      ran = omega (arith, so_far.ran, ran, is_left, one.within);
+      enough = λ more. omega (arith, so_far.enough refl, room.1, is_left, one.some more, one.within);
+      is_carried = subst after (sym effects) (joins (legs_effects m0 so_far.done) so_far.is_carried);
+      executed = omega (arith, so_far.executed, is_steps, costs);
     }
 
--- one more slice, and the machine beside the inputs
-pub record IsTurned (inputs0 : List Input) (m0 : Machine) (count : ℕ) (text0 : List ℕ) (steps0 : ℕ) (inputs : List Input) (m : Machine) (left : ℕ) (text : List ℕ) (steps : ℕ) : Type 0 where
-  pub kept : IsKept inputs m
-  pub so_far : SoFar inputs0 m0 count text0 steps0 inputs m left text steps
+-- the loop ends behind the last leg
+SoFar-all : (m0 : Machine) (count steps0 : ℕ) (carried : List Effect → Type 0) (m : Machine) (left : ℕ) (end : LegEnd) (steps : ℕ) (so_far : SoFar m0 count steps0 carried m left end steps) → end ≢ leg_end.More → legs_of m0 count ≡ so_far.done
+SoFar-all m0 count steps0 carried m left end steps so_far over =
+    so_far.goes_on ∙ ap (λ (x : List (List Input)). so_far.done ++ x) (legs_behind-none end (legs_from so_far.most m left) over) ∙ append-nil so_far.done
 
--- one more slice of so many instructions keeps the machine beside the inputs
-pub kept-slice : (inputs : List Input) (m : Machine) (slice : ℕ) (reserved inputs' : List Input) (m' : Machine) → IsKept inputs m → reserved ≡ inputs → inputs' ≡ reserved ++ input.Slice 1 slice ∷ [] → m' ≡ after_input m (input.Slice 1 slice) → m'.events ≤ m.events + 1 → IsKept inputs' m'
-kept-slice inputs m slice reserved inputs' m' kept same is leads few =
-    kept-input inputs m (input.Slice 1 slice) inputs' m' kept (is ∙ ap (λ (xs : List Input). xs ++ input.Slice 1 slice ∷ []) same) (sym leads) few
+-- what the legs so far cost
+pub SoFar-within : (m0 : Machine) (count steps0 : ℕ) (carried : List Effect → Type 0) (m : Machine) (left : ℕ) (end : LegEnd) (steps : ℕ) → SoFar m0 count steps0 carried m left end steps → steps ≤ steps0 + slices_cost m0 (slices_of (legs_of m0 count))
+SoFar-within m0 count steps0 carried m left end steps so_far =
+    let rest : List (List Input) = legs_behind end (legs_from so_far.most m left) in
+    let old : List Input = slices_of so_far.done in
+    let costs : slices_cost m0 (slices_of (legs_of m0 count)) ≡ slices_cost m0 old + slices_cost (after_inputs m0 old) (slices_of rest) =
+    ap (λ (x : List (List Input)). slices_cost m0 (slices_of x)) so_far.goes_on ∙ ap (slices_cost m0) (slices_of-append so_far.done rest) ∙ slices_cost-append m0 old (slices_of rest) in
+    omega (arith, so_far.executed, costs)
 
-pub SoFar-turn : (inputs0 : List Input) (m0 : Machine) (count : ℕ) (text0 : List ℕ) (steps0 : ℕ) (inputs : List Input) (m : Machine) (left : ℕ) (text : List ℕ) (steps slice : ℕ) (reserved inputs' : List Input) (m' : Machine) (left' : ℕ) (text' : List ℕ) (steps' ran : ℕ) (outputs : List Output) → IsKept inputs m → SoFar inputs0 m0 count text0 steps0 inputs m left text steps → slice ≡ min left MOST_SLICE → standing m ≡ standing.CanGoOn → 0 < left → reserved ≡ inputs → inputs' ≡ reserved ++ input.Slice 1 slice ∷ [] → m' ≡ after_input m (input.Slice 1 slice) → ran ≡ instructions_in (input_steps m (input.Slice 1 slice)) → outputs ≡ outputs_from m.events (input_steps m (input.Slice 1 slice)) → 1 ≤ ran → ran ≤ slice → m'.events ≤ m.events + 1 → left' ≡ left - ran → text' ≡ text ++ outputs_text outputs → steps' ≤ steps + ran + 1 → IsTurned inputs0 m0 count text0 steps0 inputs' m' left' text' steps'
-SoFar-turn inputs0 m0 count text0 steps0 inputs m left text steps slice reserved inputs' m' left' text' steps' ran outputs kept so_far is_slice able some same is_inputs is_m is_ran is_outputs one within few is_left is_text is_steps =
-    let at : (n : ℕ) → Input = λ n. input.Slice 1 n in
-    record {
-      kept = kept-slice inputs m slice reserved inputs' m' kept same is_inputs is_m few;
-      so_far =
-          SoFar-slice inputs0 m0 count text0 steps0 inputs m left text steps inputs' m' left' text' steps' ran outputs so_far able some
-          (is_inputs ∙ ap (λ (xs : List Input). xs ++ at slice ∷ []) same ∙ ap (λ (n : ℕ). inputs ++ at n ∷ []) is_slice)
-          (is_m ∙ ap (λ (n : ℕ). after_input m (at n)) is_slice)
-          (is_ran ∙ ap (λ (n : ℕ). instructions_in (input_steps m (at n))) is_slice)
-          (is_outputs ∙ ap (λ (n : ℕ). outputs_from m.events (input_steps m (at n))) is_slice)
-          one (omega (arith, within, is_slice)) is_left is_text is_steps;
-    }
+-- and with a leg that was begun
+pub SoFar-pending : (m0 : Machine) (count steps0 : ℕ) (carried : List Effect → Type 0) (m : Machine) (left steps steps' : ℕ) → SoFar m0 count steps0 carried m left leg_end.More steps → steps' ≤ steps + slices_cost m (leg_of m left) → steps' ≤ steps0 + slices_cost m0 (slices_of (legs_of m0 count))
+SoFar-pending m0 count steps0 carried m left steps steps' so_far is_steps =
+    let next = SoFar-next m0 count steps0 carried m left steps so_far in
+    let slices : List Input = leg_of m left in
+    let more : List Input = slices_of next.0 in
+    let old : List Input = slices_of so_far.done in
+    let costs : slices_cost m0 (slices_of (legs_of m0 count)) ≡ slices_cost m0 old + slices_cost m (slices ++ more) =
+    ap (λ (x : List (List Input)). slices_cost m0 (slices_of x)) next.1
+    ∙ ap (slices_cost m0) (slices_of-append so_far.done (slices ∷ next.0))
+    ∙ slices_cost-append m0 old (slices ++ more)
+    ∙ ap (λ (x : Machine). slices_cost m0 old + slices_cost x (slices ++ more)) (sym so_far.leads) in
+    omega (arith, so_far.executed, is_steps, costs, slices_cost-append m slices more)
 
--- slices cost no more than they do with others behind them
-run_cost-front : (m : Machine) (slices more : List Input) → run_cost m slices ≤ run_cost m (slices ++ more)
-run_cost-front m slices more =
-    let old : List Step = steps_from m slices in
-    let rest : List Step = steps_from (after_steps m old) more in
-    let all : instructions_in (steps_from m (slices ++ more)) ≡ instructions_in (old ++ rest) = ap instructions_in (steps_from-append m slices more) in
-    let counts : instructions_in (old ++ rest) ≡ instructions_in old + instructions_in rest = sum_by-append (λ (x : Step). cond (is_instruction x.deed) 1 0) old rest in
-    omega (arith, all, counts, length-append slices more)
+-- what a run does, where a leg comes next
+pub SoFar-effects : (m0 : Machine) (count steps0 : ℕ) (carried : List Effect → Type 0) (m : Machine) (left steps : ℕ) (so_far : SoFar m0 count steps0 carried m left leg_end.More steps) → (more : List Effect) × (run_effects m0 count ≡ legs_effects m0 so_far.done ++ (leg_effects m (leg_of m left) ++ more))
+SoFar-effects m0 count steps0 carried m left steps so_far =
+    let next = SoFar-next m0 count steps0 carried m left steps so_far in
+    let slices : List Input = leg_of m left in
+    let old : List Effect = legs_effects m0 so_far.done in
+    let rest : List Effect = legs_effects (after_inputs m slices) next.0 in
+    let last : List Effect = ran_effects m0 (slices_of (legs_of m0 count)) in
+    let legs : legs_effects m0 (legs_of m0 count) ≡ old ++ (leg_effects m slices ++ rest) =
+    ap (legs_effects m0) next.1 ∙ legs_effects-append m0 so_far.done (slices ∷ next.0) ∙ ap (λ (x : Machine). old ++ legs_effects x (slices ∷ next.0)) (sym so_far.leads) in (
+      rest ++ last,
+      ap (λ (x : List Effect). x ++ last) legs
+          ∙ append_assoc old (leg_effects m slices ++ rest) last
+          ∙ ap (λ (x : List Effect). old ++ x) (append_assoc (leg_effects m slices) rest last),
+    )
 
--- between two slices no more was executed than the run costs
-pub SoFar-within : (inputs0 : List Input) (m0 : Machine) (count : ℕ) (text0 : List ℕ) (steps0 : ℕ) (inputs : List Input) (m : Machine) (left : ℕ) (text : List ℕ) (steps : ℕ) → SoFar inputs0 m0 count text0 steps0 inputs m left text steps → steps ≤ steps0 + run_cost m0 (slices_of m0 count)
-SoFar-within inputs0 m0 count text0 steps0 inputs m left text steps so_far =
-    let more : List Input = slices_from so_far.most m left in
-    let all : run_cost m0 (slices_of m0 count) ≡ run_cost m0 (so_far.slices ++ more) = ap (run_cost m0) so_far.goes_on in
-    omega (arith, so_far.executed, all, run_cost-front m0 so_far.slices more)
+-- what a run does, where no leg comes next
+pub SoFar-over : (m0 : Machine) (count steps0 : ℕ) (carried : List Effect → Type 0) (m : Machine) (left : ℕ) (end : LegEnd) (steps : ℕ) (so_far : SoFar m0 count steps0 carried m left end steps) → end ≢ leg_end.More → run_effects m0 count ≡ legs_effects m0 so_far.done ++ ran_effects m0 (slices_of so_far.done)
+SoFar-over m0 count steps0 carried m left end steps so_far over =
+    ap (λ (x : List (List Input)). legs_effects m0 x ++ ran_effects m0 (slices_of x)) (SoFar-all m0 count steps0 carried m left end steps so_far over)
 
--- nor in the next slice
-pub SoFar-pending : (inputs0 : List Input) (m0 : Machine) (count : ℕ) (text0 : List ℕ) (steps0 : ℕ) (inputs : List Input) (m : Machine) (left slice : ℕ) (text : List ℕ) (steps steps' : ℕ) → SoFar inputs0 m0 count text0 steps0 inputs m left text steps → slice ≡ min left MOST_SLICE → standing m ≡ standing.CanGoOn → 0 < left → steps' ≤ steps + instructions_in (input_steps m (input.Slice 1 slice)) + 1 → steps' ≤ steps0 + run_cost m0 (slices_of m0 count)
-SoFar-pending inputs0 m0 count text0 steps0 inputs m left slice text steps steps' so_far is_slice able some is_steps =
-    let s : Input = slice_within left in
-    let old : List Step = steps_from m0 so_far.slices in
-    let new : List Step = input_steps m s in
-    let room = above so_far.most (omega (arith, so_far.enough, some)) in
-    let enough : left ≤ suc room.0 = omega (arith, so_far.enough, room.1) in
-    let more : List Input = slices_from room.0 (after_input m s) (left - instructions_in new) in
-    let goes_on : slices_of m0 count ≡ (so_far.slices ++ s ∷ []) ++ more =
-    so_far.goes_on
-    ∙ ap (λ (k : ℕ). so_far.slices ++ slices_from k m left) room.1
-    ∙ ap (λ (xs : List Input). so_far.slices ++ xs) (slices-next room.0 m left able some enough)
-    ∙ sym (append_assoc so_far.slices (s ∷ []) more) in
-    let all : run_cost m0 (slices_of m0 count) ≡ run_cost m0 ((so_far.slices ++ s ∷ []) ++ more) = ap (run_cost m0) goes_on in
-    let front : run_cost m0 (so_far.slices ++ s ∷ []) ≤ run_cost m0 ((so_far.slices ++ s ∷ []) ++ more) = run_cost-front m0 (so_far.slices ++ s ∷ []) more in
-    let pushed : instructions_in (steps_from m0 (so_far.slices ++ s ∷ [])) ≡ instructions_in (old ++ new) = ap instructions_in (steps_from-push m0 so_far.slices s m so_far.leads) in
-    let counts : instructions_in (old ++ new) ≡ instructions_in old + instructions_in new = sum_by-append (λ (x : Step). cond (is_instruction x.deed) 1 0) old new in
-    let one_more : length (so_far.slices ++ s ∷ []) ≡ length so_far.slices + 1 = length-append so_far.slices (s ∷ []) in
-    let same : instructions_in (input_steps m (input.Slice 1 slice)) ≡ instructions_in new = ap (λ (n : ℕ). instructions_in (input_steps m (input.Slice 1 n))) is_slice in
-    omega (arith, so_far.executed, is_steps, all, front, pushed, counts, one_more, same)
+-- the effects of the run, with the line that is printed behind the legs
+pub SoFar-line : (m0 : Machine) (count steps0 : ℕ) (carried : List Effect → Type 0) (m : Machine) (left : ℕ) (end : LegEnd) (steps ran : ℕ) (how : RunEnd) (so_far : SoFar m0 count steps0 carried m left end steps) → end ≢ leg_end.More → ran ≡ count - left → how ≡ end_of (standing m) → legs_effects m0 so_far.done ++ Prints (ran_text ran how) ∷ [] ≡ run_effects m0 count
+SoFar-line m0 count steps0 carried m left end steps ran how so_far over is_ran is_how =
+    let slices : List Input = slices_of so_far.done in
+    let same_ran : ran ≡ ran_by m0 slices = omega (arith, is_ran, so_far.ran) in
+    let same_how : how ≡ end_of (standing (after_inputs m0 slices)) = is_how ∙ ap (λ (x : Machine). end_of (standing x)) so_far.leads in
+    ap (λ (k : ℕ). legs_effects m0 so_far.done ++ Prints (ran_text k how) ∷ []) same_ran
+    ∙ ap (λ (e : RunEnd). legs_effects m0 so_far.done ++ Prints (ran_text (ran_by m0 slices) e) ∷ []) same_how
+    ∙ sym (SoFar-over m0 count steps0 carried m left end steps so_far over)
 
--- no slice is taken where nothing is left of the budget, and where no process can go on
-if_ready-none : (s : Standing) (left : ℕ) (m : Machine) (rest : Machine → ℕ → List Input) → (left ≡ 0) ⊎ (s ≢ standing.CanGoOn) → if_ready s left m rest ≡ []
-if_ready-none standing.Done left m rest stops = refl
-if_ready-none standing.Stalled left m rest stops = refl
-if_ready-none standing.CanGoOn zero m rest stops = refl
-if_ready-none standing.CanGoOn (suc left) m rest (inl none) = absurd (omega (arith, none))
-if_ready-none standing.CanGoOn (suc left) m rest (inr other) = absurd (other refl)
-
-slices-none : (most : ℕ) (m : Machine) (left : ℕ) → (left ≡ 0) ⊎ (standing m ≢ standing.CanGoOn) → slices_from most m left ≡ []
-slices-none zero m left stops = refl
-slices-none (suc most) m left stops = if_ready-none (standing m) left m (slices_from most) stops
-
--- what a whole run did
-pub record IsRun (inputs0 : List Input) (m0 : Machine) (count : ℕ) (text0 : List ℕ) (steps0 : ℕ) (inputs : List Input) (text : List ℕ) (steps : ℕ) : Type 0 where
-  pub gives : Gives (run_answer m0 count) inputs0 inputs text0 text
-  pub executed : steps ≤ steps0 + run_cost m0 (slices_of m0 count)
-
--- at the end of a run
-pub SoFar-end : (inputs0 : List Input) (m0 : Machine) (count : ℕ) (text0 : List ℕ) (steps0 : ℕ) (inputs : List Input) (m : Machine) (left : ℕ) (text : List ℕ) (steps : ℕ) (text' : List ℕ) → SoFar inputs0 m0 count text0 steps0 inputs m left text steps → (left ≡ 0) ⊎ (standing m ≢ standing.CanGoOn) → text' ≡ text ++ ran_text (count - left) (end_of (standing m)) → IsRun inputs0 m0 count text0 steps0 inputs text' steps
-SoFar-end inputs0 m0 count text0 steps0 inputs m left text steps text' so_far stops is_text =
-    let slices : List Input = so_far.slices in
-    let done : List Step = steps_from m0 slices in
-    let written : List ℕ = outputs_text (outputs_from m0.events done) in
-    let same : slices_of m0 count ≡ slices = so_far.goes_on ∙ ap (λ (xs : List Input). slices ++ xs) (slices-none so_far.most m left stops) ∙ append-nil slices in
-    let ran : count - left ≡ instructions_in done = omega (arith, so_far.ran) in
-    record {
-      gives = record {
-        history = so_far.history ∙ ap (λ (xs : List Input). inputs0 ++ xs) (sym same);
-        printed =
-            is_text
-            ∙ ap (λ (t : List ℕ). t ++ ran_text (count - left) (end_of (standing m))) so_far.printed
-            ∙ append_assoc text0 written (ran_text (count - left) (end_of (standing m)))
-            ∙ ap (λ (k : ℕ). text0 ++ (written ++ ran_text k (end_of (standing m)))) ran
-            ∙ ap (λ (x : Machine). text0 ++ (written ++ ran_text (instructions_in done) (end_of (standing x)))) (sym so_far.leads)
-            ∙ ap (λ (xs : List Input). text0 ++ run_text m0 xs) (sym same);
-      };
-      executed = subst (λ (xs : List Input). steps ≤ steps0 + run_cost m0 xs) (sym same) so_far.executed;
-    }
-
--- a fact of a call that succeeded, from another
-pub on_ok : (T E : Type 0) (r : Result T E) (P Q : Type 0) → (P → Q) → OnOk r P → OnOk r Q
-on_ok T E (Ok t) P Q then p = then p
-on_ok T E (Err e) P Q then p = tt
+-- a leg comes next where the last one ended with more to come
+pub SoFar-more : (m0 : Machine) (count steps0 : ℕ) (carried : List Effect → Type 0) (m : Machine) (left : ℕ) (end : LegEnd) (steps : ℕ) → end ≡ leg_end.More → SoFar m0 count steps0 carried m left end steps → SoFar m0 count steps0 carried m left leg_end.More steps
+SoFar-more m0 count steps0 carried m left end steps is so_far = subst (λ (e : LegEnd). SoFar m0 count steps0 carried m left e steps) is so_far

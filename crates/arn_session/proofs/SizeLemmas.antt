@@ -38,7 +38,7 @@ line-fits text (line.File name bytes) short is =
     let size = length-bytes is.hex bytes is.is_bytes in
     let whole = ap length is.is_text in
     (name-is_name name is.is_name, omega (arith, size, whole, short, length-append (codes "file " ++ name ++ space) is.hex))
-line-fits text (line.Boot name) short is = tt
+line-fits text (line.Boot name) short is = name-is_name name is.is_name
 line-fits text (line.Type bytes) short is =
     let size = length-bytes is.hex bytes is.is_bytes in
     let whole = ap length is.is_text in

@@ -1,14 +1,17 @@
--- What a line is answered, and what it adds to the history.
-use Rattle.std.specs.Prelude.{ℕ, ◌||◌, if◌then◌else◌, List, [], ◌∷◌, ◌++◌, length, flat_map, is_none}
+-- What a line does on a recorded history.
+use Rattle.std.specs.Prelude.{ℕ, ◌||◌, not, Bool, true, false, if◌then◌else◌, List, [], ◌∷◌, ◌++◌, length, flat_map, Option, Some, None, is_none}
+use Rattle.arn_base.specs.declared.records.Record.{Record}
+use Rattle.arn_base.specs.declared.records.Pair.{Pair}
 use Rattle.arn_model.specs.declared.history.Input.{Input}
 use Rattle.arn_model.specs.declared.history.Input.TheVariants as input
-use Rattle.arn_model.specs.Machine.{Machine}
-use Rattle.arn_model.specs.Step.{Step}
-use Rattle.arn_model.specs.Run.{machine_after, input_steps, is_booted, find_file}
-use Rattle.arn_base.specs.declared.records.Pair.{Pair}
 use Rattle.arn_model.specs.declared.lineage.Linkage.{Linkage}
-use Rattle.arn_model.specs.Related.{event_at, event_pairs, groups_count}
-use Rattle.solo_lineage.specs.Queries.{has_other_calls, is_range, asked_groups}
+use Rattle.arn_model.specs.Image.{image_of}
+use Rattle.arn_model.specs.Machine.{Machine}
+use Rattle.arn_model.specs.Run.{machine_after}
+use Rattle.arn_model.specs.Related.{event_pairs, groups_count}
+use Rattle.solo_lineage.specs.Queries.{asked_groups}
+use Rattle.log_model.specs.Records.{records_from, named}
+use Rattle.history_facts.specs.Facts.{is_booted_by, file_by, is_free_by, event_by, is_range_by, has_other_calls_by}
 use Rattle.arn_lines.specs.declared.line.Line.{Line}
 use Rattle.arn_lines.specs.declared.line.Line.TheVariants as line
 use Rattle.arn_lines.specs.declared.line.Reading.{Reading}
@@ -16,59 +19,71 @@ use Rattle.arn_lines.specs.declared.line.Reading.TheVariants.{PassedOver, Unread
 use Rattle.arn_lines.specs.declared.answer.Refusal.{Refusal}
 use Rattle.arn_lines.specs.declared.answer.Refusal.TheVariants.{NoLine, NoImage, NoPoint}
 use Rattle.arn_lines.specs.Texts.{event_text, refusal_text, pair_text, back_text}
-use Rattle.arn_session.specs.Running.{slices_of, run_text}
+use Rattle.arn_session.specs.Effects.{Effect, Commits, Prints, committed}
+use Rattle.arn_session.specs.Running.{run_effects}
 
--- the text that is printed, and the inputs that the history gains
-pub record Answer : Type 0 where
-  pub text : List ℕ
-  pub inputs : List Input
+-- a refusal where something holds
+abbrev pub refused_if : Bool → Refusal → Option Refusal
+refused_if true why = Some why
+refused_if false why = None
 
--- a refusal changes nothing
-abbrev pub refused : Refusal → Answer
-refused why = record { text = refusal_text why; inputs = [] }
+-- the file of a boot isn't there, or it is no image
+abbrev pub file_refusal : Option (List ℕ) → Option Refusal
+file_refusal None = Some NoLine
+file_refusal (Some bytes) = refused_if (is_none (image_of bytes)) NoImage
 
--- an input that does nothing is refused, and any other is an event
-abbrev pub changed_by : Machine → Input → Refusal → List Step → Answer
-changed_by m i why [] = refused why
-changed_by m i why (s ∷ steps) = record { text = event_text m.events; inputs = i ∷ [] }
+-- why a line is refused, if it is: the line and the records of the history tell
+abbrev pub refusal_of : List Record → Line → Option Refusal
+refusal_of history (line.File name bytes) = refused_if (is_booted_by history || not (is_free_by history name)) NoLine
+refusal_of history (line.Boot name) = if is_booted_by history then Some NoLine else file_refusal (file_by history name)
+refusal_of history (line.Type bytes) = refused_if (not (is_booted_by history)) NoLine
+refusal_of history (line.Run count) = refused_if (not (is_booted_by history)) NoLine
+refusal_of history (line.Back linkage event from len) =
+    if has_other_calls_by history then Some NoLine else refused_if (not (is_range_by (event_by history event) from len)) NoPoint
 
-abbrev pub change : Machine → Input → Refusal → Answer
-change m i why = changed_by m i why (input_steps m i)
+-- the machine to which a history led
+abbrev pub machine_of : List Record → Machine
+machine_of history = machine_after (named history)
 
--- why a boot does nothing: the machine is booted already, or there is no such file, or the file is no image
-abbrev pub boot_refusal : Machine → List ℕ → Refusal
-boot_refusal m name = if is_booted m || is_none (find_file m name) then NoLine else NoImage
-
-abbrev pub run_answer : Machine → ℕ → Answer
-run_answer m count = record { text = run_text m (slices_of m count); inputs = slices_of m count }
+-- an input becomes an event: its records are committed, and then its number is printed
+abbrev pub event_effects : Machine → Input → List Effect
+event_effects m i = Commits (records_from m (i ∷ [])) ∷ Prints (event_text m.events) ∷ []
 
 -- pairs, then their number, the groups and how many instructions these have run
 abbrev pub found_text : List Pair → ℕ → List ℕ → List ℕ
 found_text pairs instructions groups = flat_map pair_text pairs ++ back_text (length pairs) instructions groups
 
--- the text of a query that has an answer
+-- the text of the answer to a query
 abbrev pub query_text : List Input → Linkage → ℕ → ℕ → ℕ → List ℕ
-query_text history linkage event from len =
-    let groups = asked_groups history event in
-    found_text (event_pairs linkage history event from len) (groups_count history groups) groups
+query_text inputs linkage event from len =
+    let groups = asked_groups inputs event in
+    found_text (event_pairs linkage inputs event from len) (groups_count inputs groups) groups
 
--- a query of a history with other calls isn't answered as yet, and one of bytes that aren't there never
-abbrev pub back_answer : List Input → Linkage → ℕ → ℕ → ℕ → Answer
-back_answer history linkage event from len =
-    if has_other_calls history then refused NoLine
-    else if is_range (event_at history event) from len then record { text = query_text history linkage event from len; inputs = [] }
-    else refused NoPoint
+-- what a line does that isn't refused
+abbrev pub line_effects : List Record → Line → List Effect
+line_effects history (line.File name bytes) = event_effects (machine_of history) (input.File name bytes)
+line_effects history (line.Boot name) = event_effects (machine_of history) (input.Boot name)
+line_effects history (line.Type bytes) = event_effects (machine_of history) (input.Typed bytes)
+line_effects history (line.Run count) = run_effects (machine_of history) count
+line_effects history (line.Back linkage event from len) = Prints (query_text (named history) linkage event from len) ∷ []
 
--- what a line of the grammar is answered on a history
-abbrev pub line_answer : List Input → Line → Answer
-line_answer history (line.File name bytes) = change (machine_after history) (input.File name bytes) NoLine
-line_answer history (line.Boot name) = change (machine_after history) (input.Boot name) (boot_refusal (machine_after history) name)
-line_answer history (line.Type bytes) = change (machine_after history) (input.Typed bytes) NoLine
-line_answer history (line.Run count) = if is_booted (machine_after history) then run_answer (machine_after history) count else refused NoLine
-line_answer history (line.Back linkage event from len) = back_answer history linkage event from len
+-- a refusal is printed, and changes nothing
+abbrev pub effects_unless : Option Refusal → List Record → Line → List Effect
+effects_unless (Some why) history l = Prints (refusal_text why) ∷ []
+effects_unless None history l = line_effects history l
 
--- what any line is answered
-abbrev pub answer : List Input → Reading → Answer
-answer history PassedOver = record { text = []; inputs = [] }
-answer history Unreadable = refused NoLine
-answer history (Says l) = line_answer history l
+-- what any line does
+abbrev pub effects : List Record → Reading → List Effect
+effects history PassedOver = []
+effects history Unreadable = Prints (refusal_text NoLine) ∷ []
+effects history (Says l) = effects_unless (refusal_of history l) history l
+
+-- the history after a line
+abbrev pub history_after : List Record → Reading → List Record
+history_after history reading = history ++ committed (effects history reading)
+
+-- the line needs the running machine: it isn't refused
+abbrev pub needs_machine : List Record → Reading → Bool
+needs_machine history PassedOver = false
+needs_machine history Unreadable = false
+needs_machine history (Says l) = is_none (refusal_of history l)

@@ -1,36 +1,46 @@
 -- A bound on the instructions that are executed to answer a line.
-use Rattle.std.specs.Prelude.{ℕ, ◌+◌, if◌then◌else◌, List, length}
+use Rattle.std.specs.Prelude.{ℕ, ◌+◌, ◌||◌, Bool, if◌then◌else◌, List, [], ◌∷◌, length}
+use Rattle.arn_base.specs.declared.records.Record.{Record}
 use Rattle.arn_model.specs.declared.history.Input.{Input}
 use Rattle.arn_model.specs.Machine.{Machine}
-use Rattle.arn_model.specs.Run.{machine_after, is_booted, run, steps_from, instructions_in}
-use Rattle.arn_model.specs.Related.{event_at}
-use Rattle.solo_lineage.specs.Queries.{has_other_calls, is_range}
+use Rattle.arn_model.specs.Run.{run, instructions_in}
+use Rattle.log_model.specs.Records.{named}
+use Rattle.guest_machine.specs.Differs.{rebuild_cost}
 use Rattle.arn_lines.specs.declared.line.Line.{Line}
 use Rattle.arn_lines.specs.declared.line.Line.TheVariants as line
 use Rattle.arn_lines.specs.declared.line.Reading.{Reading}
 use Rattle.arn_lines.specs.declared.line.Reading.TheVariants.{PassedOver, Unreadable, Says}
-use Rattle.arn_session.specs.Running.{slices_of}
+use Rattle.arn_session.specs.Running.{ran_by, legs_of, slices_of}
+use Rattle.arn_session.specs.Answers.{machine_of, needs_machine, history_after}
 
--- a run: its instructions and its slices
-abbrev pub run_cost : Machine → List Input → ℕ
-run_cost m slices = instructions_in (steps_from m slices) + length slices
+-- slices: their instructions, and one for each slice
+abbrev pub slices_cost : Machine → List Input → ℕ
+slices_cost m slices = ran_by m slices + length slices
 
--- a backward query that has an answer: the instructions of the history
-abbrev pub query_cost : List Input → ℕ → ℕ → ℕ → ℕ
-query_cost history event from len =
-    if has_other_calls history then 0
-    else if is_range (event_at history event) from len then instructions_in (run history)
-    else 0
-
-abbrev pub line_cost : List Input → Line → ℕ
+-- a line that isn't refused, where the machine runs
+abbrev pub line_cost : List Record → Line → ℕ
 line_cost history (line.File name bytes) = 0
 line_cost history (line.Boot name) = 0
 line_cost history (line.Type bytes) = 0
-line_cost history (line.Run count) =
-    if is_booted (machine_after history) then run_cost (machine_after history) (slices_of (machine_after history) count) else 0
-line_cost history (line.Back linkage event from len) = query_cost history event from len
+line_cost history (line.Run count) = slices_cost (machine_of history) (slices_of (legs_of (machine_of history) count))
+line_cost history (line.Back linkage event from len) = instructions_in (run (named history))
 
-abbrev pub cost : List Input → Reading → ℕ
-cost history PassedOver = 0
-cost history Unreadable = 0
-cost history (Says l) = line_cost history l
+abbrev pub reading_cost : List Record → Reading → ℕ
+reading_cost history PassedOver = 0
+reading_cost history Unreadable = 0
+reading_cost history (Says l) = line_cost history l
+
+-- where the machine isn't there yet, it is made by running the history again
+abbrev pub machine_cost : Bool → List Record → ℕ
+machine_cost is_there history = if is_there then 0 else rebuild_cost history
+
+-- A line, where the machine is there or isn't yet. A refused line costs nothing.
+abbrev pub cost : Bool → List Record → Reading → ℕ
+cost is_there history reading =
+    if needs_machine history reading then machine_cost is_there history + reading_cost history reading else 0
+
+-- lines that follow one another
+abbrev pub total_cost : Bool → List Record → List Reading → ℕ
+total_cost is_there history [] = 0
+total_cost is_there history (reading ∷ readings) =
+    cost is_there history reading + total_cost (is_there || needs_machine history reading) (history_after history reading) readings

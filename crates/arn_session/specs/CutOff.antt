@@ -1,13 +1,13 @@
--- What was done where a session is cut off: its sink fails, or there is no memory.
-use Rattle.std.specs.Prelude.{◌≡◌, ◌≢◌, ◌<◌, ◌≤◌, ◌^◌, ◌⊎◌, ℕ, ◌+◌, List, [], ◌++◌, length, Option, option_map, IfSome}
-use Rattle.arn_model.specs.declared.history.Input.{Input}
+-- What was done where a session ends before its text does.
+use Rattle.std.specs.Prelude.{◌≡◌, ◌≢◌, ◌<◌, ◌≤◌, ◌^◌, ◌⊎◌, ℕ, ◌+◌, true, false, List, [], ◌∷◌, ◌++◌, length, Option, option_map, IfSome}
+use Rattle.arn_base.specs.declared.records.Record.{Record}
 use Rattle.arn_lines.specs.declared.line.Reading.{Reading}
-use Rattle.arn_lines.specs.Grammar.{Reads}
-use Rattle.arn_session.specs.Answers.{answer}
-use Rattle.arn_session.specs.Cost.{cost}
+use Rattle.arn_session.specs.Effects.{Effect}
+use Rattle.arn_session.specs.Answers.{needs_machine}
+use Rattle.arn_session.specs.Cost.{total_cost}
 use Rattle.arn_session.specs.Lines.{EachReads, lines_of, whole_lines_of}
-use Rattle.arn_session.specs.Reader.{IsKept}
-use Rattle.arn_session.specs.Transcript.{transcript, total_cost}
+use Rattle.arn_session.specs.Transcript.{all_effects, history_behind, needs_any}
+use Rattle.log_model.specs.Records.{IsRun}
 
 -- a beginning of the bytes was put, perhaps none or all of them; the others are left
 pub record PutsFront (bytes : List ℕ) (held holds : Option (List ℕ)) : Type 0 where
@@ -21,41 +21,38 @@ pub record PutsLess (bytes : List ℕ) (held holds : Option (List ℕ)) : Type 0
   pub front : PutsFront bytes held holds
   pub some_left : front.left ≢ []
 
--- The answer to a line of which this is kept was begun: a beginning of it was put, and no more was executed than the line costs.
-pub record BeginsLine (kept : List ℕ) (before : List Input) (held holds : Option (List ℕ)) (steps_before steps_after : ℕ) : Type 0 where
-  pub reading : Reading
-  pub reads : (line : List ℕ) → IsKept line kept → Reads line reading
-  pub puts : PutsFront (answer before reading).text held holds
-  pub executed : steps_after ≤ steps_before + cost before reading
-
--- the answer to a line was begun, but not all of it was put
-pub record CutsLine (kept : List ℕ) (before : List Input) (held holds : Option (List ℕ)) (steps_before steps_after : ℕ) : Type 0 where
-  pub begins : BeginsLine kept before held holds steps_before steps_after
-  pub some_left : begins.puts.left ≢ []
-
--- nothing of a line was answered
-pub record LeavesLine (held holds : Option (List ℕ)) (steps_before steps_after : ℕ) : Type 0 where
-  pub unput : holds ≡ held
-  pub idle : steps_after ≤ steps_before
-
--- A session without a history answered the first lines of a text, and began the answer to one more at most. All of them
--- were taken, a beginning of what they print was put, and no more instructions were executed than they cost.
-pub record BeginsText (text : List ℕ) (source_after held holds : Option (List ℕ)) (steps_before steps_after : ℕ) : Type 0 where
+-- A session that began on a history answered the first lines of a text, and began the answer to one more at most. All of them
+-- were taken, and no more instructions were executed than they cost. What the first lines do was carried out, and of what the
+-- next one does some. Where one of the first lines needs the machine, the history is that of a run. Each line that was begun ends
+-- with LF, or the text was taken to its end and has fewer than 2^40 bytes.
+pub record BeginsText (history : List Record) (text : List ℕ) (source_after : Option (List ℕ)) (stops : List Effect → List Effect → Type 0) (steps_before steps_after : ℕ) : Type 0 where
   pub begun : List ℕ
   pub rest : List ℕ
   pub is_text : text ≡ begun ++ rest
   pub are_lines : lines_of text ≡ lines_of begun ++ lines_of rest
   pub were_taken : IfSome source_after (λ more. (beyond : List ℕ) × (rest ≡ beyond ++ more))
+  pub are_whole : (whole_lines_of begun ≡ lines_of begun) ⊎ (length text < 2 ^ 40)
   pub answered : List Reading
   pub next : List Reading
   pub one_at_most : length next ≤ 1
   pub each_reads : EachReads (lines_of begun) (answered ++ next)
-  pub puts : PutsFront (transcript [] (answered ++ next)) held holds
-  pub all_put : (more : List ℕ) × (puts.put ≡ transcript [] answered ++ more)
-  pub executed : steps_after ≤ steps_before + total_cost [] (answered ++ next)
+  pub on_run : needs_any history answered ≡ true → IsRun history
+  pub at : stops (all_effects history answered) (all_effects (history_behind history answered) next)
+  pub executed : steps_after ≤ steps_before + total_cost false history (answered ++ next)
 
--- The same, but not all of what they print was put. Each of these lines ends with LF, or the text has fewer than 2^40 bytes.
-pub record CutsText (text : List ℕ) (source_after held holds : Option (List ℕ)) (steps_before steps_after : ℕ) : Type 0 where
-  pub begins : BeginsText text source_after held holds steps_before steps_after
-  pub some_left : begins.puts.left ≢ []
-  pub are_whole : (whole_lines_of begins.begun ≡ lines_of begins.begun) ⊎ (length text < 2 ^ 40)
+-- A session that began on a history found out that it isn't a run's: it answered the first lines of a text, none of which needs the
+-- machine, and of the next one, which does, it did nothing.
+pub record FindsOut (history : List Record) (text : List ℕ) (source_after : Option (List ℕ)) (carried : List Effect → Type 0) (steps_before steps_after : ℕ) : Type 0 where
+  pub begun : List ℕ
+  pub rest : List ℕ
+  pub is_text : text ≡ begun ++ rest
+  pub are_lines : lines_of text ≡ lines_of begun ++ lines_of rest
+  pub were_taken : IfSome source_after (λ more. (beyond : List ℕ) × (rest ≡ beyond ++ more))
+  pub are_whole : (whole_lines_of begun ≡ lines_of begun) ⊎ (length text < 2 ^ 40)
+  pub answered : List Reading
+  pub next : Reading
+  pub each_reads : EachReads (lines_of begun) (answered ++ next ∷ [])
+  pub needless : needs_any history answered ≡ false
+  pub needs : needs_machine history next ≡ true
+  pub done : carried (all_effects history answered)
+  pub executed : steps_after ≤ steps_before + total_cost false history (answered ++ next ∷ [])

@@ -1,44 +1,77 @@
--- What a line `run N` does: slices until the machine is done or stalled, or the budget is spent.
-use Rattle.std.specs.Prelude.{ℕ, zero, suc, ◌+◌, ◌-◌, min, List, [], ◌∷◌, ◌++◌, flat_map}
+-- What a line `run N` does: legs of slices, each committed, until the machine is done or stalled, or the budget is spent.
+use Rattle.std.specs.Prelude.{ℕ, zero, suc, ◌+◌, ◌-◌, Bool, true, false, if◌then◌else◌, List, [], ◌∷◌, ◌++◌, flat_map, Option, Some, None}
 use Rattle.arn_base.specs.declared.records.Record.{Record}
 use Rattle.arn_model.specs.declared.history.Input.{Input}
-use Rattle.arn_model.specs.declared.history.Input.TheVariants as input
 use Rattle.arn_model.specs.declared.history.Output.{Output}
 use Rattle.arn_model.specs.declared.history.Standing.{Standing}
 use Rattle.arn_model.specs.declared.history.Standing.TheVariants as standing
-use Rattle.arn_model.specs.declared.limits.TheConstants.{MOST_SLICE}
 use Rattle.arn_model.specs.Machine.{Machine}
-use Rattle.arn_model.specs.Slice.{standing}
-use Rattle.arn_model.specs.Run.{input_steps, after_input, steps_from, instructions_in, outputs_from, output_of}
-use Rattle.arn_model.specs.Slice.{after_steps}
+use Rattle.arn_model.specs.Slice.{standing, after_steps}
+use Rattle.arn_model.specs.Run.{steps_from, instructions_in, outputs_from, output_of}
+use Rattle.log_model.specs.Records.{records_from}
+use Rattle.history_facts.specs.Facts.{is_event}
+use Rattle.guest_machine.specs.declared.leg.LegEnd.{LegEnd}
+use Rattle.guest_machine.specs.declared.leg.LegEnd.TheVariants as leg_end
+use Rattle.guest_machine.specs.Legs.{leg_of, leg_end, spelled_len}
 use Rattle.arn_lines.specs.declared.answer.RunEnd.{RunEnd}
 use Rattle.arn_lines.specs.declared.answer.RunEnd.TheVariants.{Done, Stalled, Budget}
 use Rattle.arn_lines.specs.Texts.{out_text, ran_text}
+use Rattle.arn_session.specs.Effects.{Effect, Prints, commit_of}
 
--- the slice that a run takes where so much of the budget is left: no chooser is asked as yet
-abbrev pub slice_within : ℕ → Input
-slice_within left = input.Slice 1 (min left MOST_SLICE)
+-- the machine after inputs
+abbrev pub after_inputs : Machine → List Input → Machine
+after_inputs m inputs = after_steps m (steps_from m inputs)
 
--- what follows a slice: the machine after it, and what it leaves of the budget
-abbrev pub slice_then : ℕ → Machine → (Machine → ℕ → List Input) → List Input
-slice_then left m rest =
-    slice_within left ∷ rest (after_input m (slice_within left)) (left - instructions_in (input_steps m (slice_within left)))
+-- how many instructions inputs run
+abbrev pub ran_by : Machine → List Input → ℕ
+ran_by m inputs = instructions_in (steps_from m inputs)
 
--- a slice is taken where a process can go on and something of the budget is left
-abbrev pub if_ready : Standing → ℕ → Machine → (Machine → ℕ → List Input) → List Input
-if_ready standing.Done left m rest = []
-if_ready standing.Stalled left m rest = []
-if_ready standing.CanGoOn zero m rest = []
-if_ready standing.CanGoOn (suc left) m rest = slice_then (suc left) m rest
+-- the run goes on behind a leg
+abbrev pub is_more : Option LegEnd → Bool
+is_more None = false
+is_more (Some leg_end.More) = true
+is_more (Some leg_end.Budget) = false
+is_more (Some leg_end.Done) = false
+is_more (Some leg_end.Stalled) = false
 
--- the slices of a run with so much of the budget left, at most `most` of them
-abbrev pub slices_from : ℕ → Machine → ℕ → List Input
-slices_from zero m left = []
-slices_from (suc most) m left = if_ready (standing m) left m (slices_from most)
+-- the leg of a run with so much of the budget left ended only since it had enough records
+abbrev pub has_more : Machine → ℕ → List Input → Bool
+has_more m left leg = is_more (leg_end (standing (after_inputs m leg)) (left - ran_by m leg) (spelled_len (records_from m leg)))
 
--- the slices of a run: each runs at least one instruction, so that there are no more of them than instructions
-abbrev pub slices_of : Machine → ℕ → List Input
-slices_of m budget = slices_from budget m budget
+-- a leg, and what follows it where there is more
+abbrev pub leg_then : Machine → ℕ → List Input → (Machine → ℕ → List (List Input)) → List (List Input)
+leg_then m left leg rest = leg ∷ (if has_more m left leg then rest (after_inputs m leg) (left - ran_by m leg) else [])
+
+-- the legs of a run with so much of the budget left, at most `most` of them
+abbrev pub legs_from : ℕ → Machine → ℕ → List (List Input)
+legs_from zero m left = []
+legs_from (suc most) m left = leg_then m left (leg_of m left) (legs_from most)
+
+-- the legs of a run: each but the last runs at least one instruction, so that there are few enough
+abbrev pub legs_of : Machine → ℕ → List (List Input)
+legs_of m budget = legs_from (suc budget) m budget
+
+-- the slices of legs
+abbrev pub slices_of : List (List Input) → List Input
+slices_of legs = flat_map (λ leg. leg) legs
+
+-- each output
+abbrev pub outputs_text : List Output → List ℕ
+outputs_text outputs = flat_map (λ o. out_text o.event o.pid o.bytes) outputs
+
+-- the outputs of records, of which the first event is event n
+abbrev pub record_outputs : ℕ → List Record → List Output
+record_outputs n [] = []
+record_outputs n (entry ∷ entries) = if is_event entry then output_of n entry ++ record_outputs (n + 1) entries else record_outputs n entries
+
+-- a leg: its records are committed, where there are some, and then its outputs are printed
+abbrev pub leg_effects : Machine → List Input → List Effect
+leg_effects m leg = commit_of (records_from m leg) ++ Prints (outputs_text (outputs_from m.events (steps_from m leg))) ∷ []
+
+-- legs, each behind the one before
+abbrev pub legs_effects : Machine → List (List Input) → List Effect
+legs_effects m [] = []
+legs_effects m (leg ∷ legs) = leg_effects m leg ++ legs_effects (after_inputs m leg) legs
 
 -- how the run ended, by how the machine stands then
 abbrev pub end_of : Standing → RunEnd
@@ -46,16 +79,10 @@ end_of standing.Done = Done
 end_of standing.Stalled = Stalled
 end_of standing.CanGoOn = Budget
 
--- what a run prints: each output, then how many instructions ran and how it ended
-abbrev pub outputs_text : List Output → List ℕ
-outputs_text outputs = flat_map (λ o. out_text o.event o.pid o.bytes) outputs
+-- behind the legs it is printed how many instructions ran, and how the run ended
+abbrev pub ran_effects : Machine → List Input → List Effect
+ran_effects m slices = Prints (ran_text (ran_by m slices) (end_of (standing (after_inputs m slices)))) ∷ []
 
--- the outputs of records of events, the first of them event n
-abbrev pub record_outputs : ℕ → List Record → List Output
-record_outputs n [] = []
-record_outputs n (entry ∷ entries) = output_of n entry ++ record_outputs (n + 1) entries
-
-abbrev pub run_text : Machine → List Input → List ℕ
-run_text m slices =
-    let steps = steps_from m slices in
-    outputs_text (outputs_from m.events steps) ++ ran_text (instructions_in steps) (end_of (standing (after_steps m steps)))
+-- a run
+abbrev pub run_effects : Machine → ℕ → List Effect
+run_effects m count = legs_effects m (legs_of m count) ++ ran_effects m (slices_of (legs_of m count))

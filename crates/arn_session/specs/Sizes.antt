@@ -11,7 +11,7 @@ use Rattle.arn_lines.specs.declared.line.TheConstants.{MOST_RUN}
 -- names, files and pieces that the machine takes
 abbrev pub LineFits : Line → Type 0
 LineFits (line.File name bytes) = IsTrue (is_name name) × (length bytes ≤ MOST_FILE_BYTES)
-LineFits (line.Boot name) = Unit {0}
+LineFits (line.Boot name) = IsTrue (is_name name)
 LineFits (line.Type bytes) = length bytes < 2 ^ 32
 LineFits (line.Run count) = count ≤ MOST_RUN
 LineFits (line.Back linkage event from len) = Unit {0}

@@ -1,4 +1,4 @@
--- What the stand-ins tell.
+-- What the stand-in tells.
 use Rattle.arn_base.specs.declared.boxes.Choice.{Choice}
 
 -- the first process, for 1,000,000 instructions

@@ -1,36 +1,77 @@
 // The line that asks where bytes came from.
-ghost use Rattle.std.specs.Prelude.{◌≡◌, ◌++◌, OnOk, string_bytes, flat_map};
+ghost use Rattle.std.specs.Prelude.{◌≡◌, ◌++◌, None, ℕ, OnOk, IfErr, string_bytes, flat_map, option_map};
+ghost use Rattle.arn_base.specs.Faults.{NeverFalls};
+ghost use Rattle.arn_lines.specs.declared.line.Line.TheVariants as line;
 ghost use Rattle.arn_lines.specs.Texts.{pair_text};
-ghost use Rattle.arn_session.specs.Answers.{back_answer, found_text};
-ghost use Rattle.arn_session.specs.Kept.{IsSound};
+ghost use Rattle.log_model.specs.Records.{named};
+ghost use Rattle.arn_session.specs.Answers.{refusal_of, query_text, found_text};
+ghost use Rattle.arn_session.specs.Kept.{IsReady};
+ghost use Rattle.arn_session.specs.Printing.{StopsPut};
+ghost use Rattle.arn_session.specs.Standing.{IsCause};
 
-use crate::kept::Kept;
-use arn_base::{NoMemory, Pair};
-use arn_lines::{Refusal, push_back, push_pair, push_refusal};
+use crate::printing::put_all;
+use crate::status::Halt;
+use arn_base::{NoMemory, Pair, Record, Sink};
+use arn_lines::{push_back, push_pair};
 use arn_model::Linkage;
+use guest_machine::Machine;
+use history_facts::{records_tell_calls, records_tell_events};
 use solo_lineage::{Found, QueryError, back as sources_of};
+use std::alloc::Global;
 
-/// Answers where `len` bytes of an event came from, from byte `from` on.
-pub fn back(
-    kept: &Kept,
+/// Prints where `len` bytes of an event came from, from byte `from` on.
+pub fn back<K: Sink>(
+    alloc: Global,
+    entries: &[Record],
+    machine: &Machine,
+    linkage: Linkage,
+    event: u64,
+    from: u64,
+    len: u64,
+    text: &mut String,
+    sink: &mut K,
+) -> Result<(), Halt>
+    requires ready { IsReady machine.now entries.now }
+    requires accepted { refusal_of entries.now (line.Back linkage event from len) ≡ None }
+    ensures ok { OnOk result (K.holds sink.new ≡ option_map (λ held.
+        held ++ query_text (named entries.now) linkage event from len) (K.holds sink.old)) }
+    ensures stops { IfErr result (λ halt.
+        StopsPut halt (query_text (named entries.now) linkage event from len)
+        (K.holds sink.old) (K.holds sink.new)) }
+    ensures cause { IfErr result (λ halt. (faults : ℕ) →
+        IsCause halt faults faults (K.faults sink.old) (K.faults sink.new)) }
+    ensures faults { NeverFalls (K.faults sink.old) (K.faults sink.new) }
+{
+    text.clear();
+    push_answer(alloc, entries, machine, linkage, event, from, len, text)?;
+    put_all(sink, text.as_bytes())
+}
+
+// The answer to a query that has one.
+fn push_answer(
+    alloc: Global,
+    entries: &[Record],
+    machine: &Machine,
     linkage: Linkage,
     event: u64,
     from: u64,
     len: u64,
     text: &mut String,
 ) -> Result<(), NoMemory>
-    requires sound { IsSound kept.now }
-    ensures text { OnOk result (string_bytes text.new ≡ string_bytes text.old ++
-        (back_answer kept.now.inputs.items linkage event from len).text) }
+    requires ready { IsReady machine.now entries.now }
+    requires accepted { refusal_of entries.now (line.Back linkage event from len) ≡ None }
+    ensures { OnOk result (string_bytes text.new ≡ string_bytes text.old ++
+        query_text (named entries.now) linkage event from len) }
 {
+    records_tell_calls();
+    records_tell_events();
     // There is one linkage as yet.
     let Linkage::Copy = linkage;
-    let moves = kept.moves.as_slice();
-    match sources_of(kept.alloc, moves, kept.instructions, event, from, len) {
+    let ran = machine.instructions();
+    match sources_of(alloc, machine.moves(), ran, event, from, len) {
         Ok(found) => push_found(text, &found),
-        Err(QueryError::OtherCall) => push_refusal(text, Refusal::NoLine),
-        Err(QueryError::NoPoint) => push_refusal(text, Refusal::NoPoint),
         Err(QueryError::NoMemory) => Err(NoMemory),
+        Err(QueryError::OtherCall | QueryError::NoPoint) => unreachable!(),
     }
 }
 

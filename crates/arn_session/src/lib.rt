@@ -1,11 +1,15 @@
-//! The session: reads lines from a source, answers each to a sink, and keeps the history.
+//! The session: reads lines from a source, answers each to a sink, and keeps the history in a log.
 #![tactic(auto)]
 
-mod answering;
 mod asking;
-mod history;
+mod commits;
+mod events;
 mod kept;
+mod lines;
+mod printing;
 mod reader;
+mod ready;
+mod refusals;
 mod running;
 mod session;
 mod stand_ins;
@@ -14,8 +18,7 @@ mod status;
 mod tests;
 mod words;
 
-pub use history::History;
 pub use session::arnold;
-pub use stand_ins::{FirstChooser, NoDisk};
-pub use status::Status;
+pub use stand_ins::FirstChooser;
+pub use status::{Damage, Halt, Status};
 pub use words::{Options, WordsError, are_accepted, read_words};

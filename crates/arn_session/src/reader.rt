@@ -173,7 +173,8 @@ impl Reader {
             (S.left source.old) (S.left source.new) line.new.items) }
         ensures source { IsErrOf result Halt.Source → StopsShort self.new }
         ensures long { IsErrOf result Halt.Long → StopsLong self.new }
-        ensures not_sink { IfErr result (λ halt. halt ≢ Halt.Sink) }
+        ensures no_other { IfErr result (λ halt.
+            (halt ≡ Halt.NoMemory) ⊎ (halt ≡ Halt.Source) ⊎ (halt ≡ Halt.Long)) }
 
         ensures used { UsesSome self.old self.new (S.left source.old) (S.left source.new) }
         ensures bound { vec_len line.new ≤ MOST_KEPT }

@@ -1,108 +1,132 @@
 // The line that runs the machine.
-ghost use Rattle.std.specs.Prelude.{◌≡◌, ◌≢◌, true, false, IsTrue, ◌+◌, ◌<◌, ◌≤◌, vec_len, vec_capacity, ◌++◌, OnOk, option_to_list, string_bytes, if◌then◌else◌};
-ghost use Rattle.arn_model.specs.Run.{is_booted, output_of};
-ghost use Rattle.arn_model.specs.Slice.{standing, is_runnable};
-ghost use Rattle.arn_lines.specs.declared.answer.Refusal.TheVariants as refusal;
+ghost use Rattle.std.specs.Prelude.{◌≡◌, ◌+◌, ◌-◌, ◌<◌, ◌≤◌, ◌^◌, ◌++◌, [], Some, All, length, IfOk, IfErr, OnOk, string_bytes};
+ghost use Rattle.arn_base.specs.Faults.{NeverFalls};
+ghost use Rattle.arn_model.specs.Run.{output_of};
+ghost use Rattle.arn_model.specs.Slice.{standing};
 ghost use Rattle.arn_lines.specs.declared.line.TheConstants.{MOST_RUN};
-ghost use Rattle.arn_session.specs.Answers.{run_answer, refused};
-ghost use Rattle.arn_session.specs.Cost.{run_cost};
-ghost use Rattle.arn_session.specs.Running.{slices_of, outputs_text, record_outputs, end_of as end_by};
-ghost use Rattle.arn_session.specs.Kept.{IsSound, Gives};
+ghost use Rattle.log_model.specs.Records.{records_from};
+ghost use Rattle.log_store.specs.Stops.{GoesOn};
+ghost use Rattle.guest_machine.specs.Legs.{leg_of, leg_end, spelled_len};
+ghost use Rattle.arn_session.specs.Answers.{machine_of};
+ghost use Rattle.arn_session.specs.Cost.{slices_cost};
+ghost use Rattle.arn_session.specs.Running.{ran_by, after_inputs, has_more, leg_effects, legs_of, slices_of, outputs_text, record_outputs, run_effects, end_of as end_by};
+ghost use Rattle.arn_session.specs.Carrying.{StopsAt};
+ghost use Rattle.arn_session.specs.Kept.{IsReady};
+ghost use Rattle.arn_session.specs.Standing.{Carries, IsCause, IsOpen};
+ghost use Rattle.arn_session.specs.Legs.{IsLeg};
 
-use crate::kept::Kept;
-use arn_base::{Extra, NoMemory, Record, Steps};
-use arn_lines::{Refusal, RunEnd, push_out, push_ran, push_refusal};
-use arn_model::limits::MOST_SLICE;
-use arn_model::{Input, Standing};
-use guest_solo::{Solo, Turn};
-use solo_lineage::Move;
+use crate::commits::commit_some;
+use crate::printing::{print_ran, put_all};
+use crate::ready::count_records;
+use crate::status::Halt;
+use arn_base::{Disk, Extra, NoMemory, Record, Sink, Steps};
+use arn_lines::{RunEnd, push_out};
+use arn_model::Standing;
+use guest_machine::{
+    Leg, LegEnd, Machine, named_follow, records_follow, records_leave_room, runs_follow,
+};
+use log_model::records_are_run;
+use log_store::Store;
+use std::alloc::Global;
 use std::sync::ledger::Ledger;
 
-/// Runs up to so many instructions. Where memory runs out in a slice, what ran of it is kept.
-pub fn run<L: Ledger>(
-    kept: &mut Kept,
+/// Runs up to so many instructions, leg by leg: each is committed before what it wrote is printed.
+pub fn run<D: Disk, K: Sink, L: Ledger>(
+    alloc: Global,
+    store: &mut Store,
+    machine: &mut Machine,
     count: u64,
+    disk: &mut D,
     text: &mut String,
+    sink: &mut K,
     steps: &mut Steps<L>,
-) -> Result<(), NoMemory>
-    requires sound { IsSound kept.old }
-    ensures sound { IsSound kept.new }
-    ensures gives { OnOk result (Gives
-        (if is_booted kept.old.machine then run_answer kept.old.machine count
-        else refused refusal.NoLine)
-        kept.old.inputs.items kept.new.inputs.items
-        (string_bytes text.old) (string_bytes text.new)) }
-    ensures steps { steps.new ≤ steps.old + (if is_booted kept.old.machine
-        then run_cost kept.old.machine (slices_of kept.old.machine count) else 0) }
+) -> Result<(), Halt>
+    requires open { IsOpen D.image store.old disk.old }
+    requires ready { IsReady machine.old store.old.entries }
+    requires few { count ≤ MOST_RUN }
+    ensures ready { OnOk result (IsReady machine.new store.new.entries) }
+    ensures carries { OnOk result (Carries D.image D.may_leave D.moment D.left_since disk.old disk.new
+        store.old store.new (K.holds sink.old) (K.holds sink.new)
+        (run_effects (machine_of store.old.entries) count)) }
+    ensures stops { IfErr result (λ halt. StopsAt D.image D.may_leave D.moment D.left_since disk.old disk.new
+        store.old.entries (K.holds sink.old) (K.holds sink.new) halt []
+        (run_effects (machine_of store.old.entries) count)) }
+    ensures cause { IfErr result (λ halt. IsCause halt
+        (D.faults disk.old) (D.faults disk.new) (K.faults sink.old) (K.faults sink.new)) }
+    ensures later { GoesOn D.image D.faults disk.old disk.new }
+    ensures faults { NeverFalls (K.faults sink.old) (K.faults sink.new) }
+    ensures steps { steps.new ≤ steps.old + slices_cost (machine_of store.old.entries)
+        (slices_of (legs_of (machine_of store.old.entries) count)) }
 {
-    if kept.machine.is_booted() {
-        run_booted(kept, count, text, steps)
-    } else {
-        push_refusal(text, Refusal::NoLine)
+    let mut leg = run_leg(alloc, store, machine, count, disk, text, sink, steps)?;
+    let mut left = count - leg.ran;
+    while leg.end == LegEnd::More {
+        leg = run_leg(alloc, store, machine, left, disk, text, sink, steps)?;
+        left -= leg.ran;
     }
+    print_ran(text, count - left, end_of(machine.standing()), sink)
 }
 
-fn run_booted<L: Ledger>(
-    kept: &mut Kept,
-    count: u64,
+// Runs a leg, commits its records, and then prints what it wrote.
+fn run_leg<D: Disk, K: Sink, L: Ledger>(
+    alloc: Global,
+    store: &mut Store,
+    machine: &mut Machine,
+    left: u64,
+    disk: &mut D,
     text: &mut String,
+    sink: &mut K,
     steps: &mut Steps<L>,
-) -> Result<(), NoMemory>
-    requires sound { IsSound kept.old }
-    ensures sound { IsSound kept.new }
-    ensures gives { OnOk result (Gives (run_answer kept.old.machine count)
-        kept.old.inputs.items kept.new.inputs.items
-        (string_bytes text.old) (string_bytes text.new)) }
-    ensures steps { steps.new ≤ steps.old + run_cost kept.old.machine (slices_of kept.old.machine count) }
+) -> Result<Leg, Halt>
+    requires open { IsOpen D.image store.old disk.old }
+    requires ready { IsReady machine.old store.old.entries }
+    requires few { left ≤ MOST_RUN }
+    ensures ready { OnOk result (IsReady machine.new store.new.entries) }
+    ensures leg { IfOk result (λ leg. IsLeg machine.old.machine left
+        (leg_of machine.old.machine left) leg machine.new.machine) }
+    ensures carries { OnOk result (Carries D.image D.may_leave D.moment D.left_since disk.old disk.new
+        store.old store.new (K.holds sink.old) (K.holds sink.new)
+        (leg_effects machine.old.machine (leg_of machine.old.machine left))) }
+    ensures stops { IfErr result (λ halt. StopsAt D.image D.may_leave D.moment D.left_since disk.old disk.new
+        store.old.entries (K.holds sink.old) (K.holds sink.new) halt []
+        (leg_effects machine.old.machine (leg_of machine.old.machine left))) }
+    ensures cause { IfErr result (λ halt. IsCause halt
+        (D.faults disk.old) (D.faults disk.new) (K.faults sink.old) (K.faults sink.new)) }
+    ensures later { GoesOn D.image D.faults disk.old disk.new }
+    ensures faults { NeverFalls (K.faults sink.old) (K.faults sink.new) }
+    ensures steps { steps.new ≤ steps.old +
+        slices_cost machine.old.machine (leg_of machine.old.machine left) }
 {
-    let mut left = count;
-    while left > 0 && can_go_on(&kept.machine) {
-        kept.inputs.reserve(1)?;
-        kept.moves.reserve(1)?;
-        let slice = left.min(MOST_SLICE) as u32;
-        let event = kept.machine.events();
-        let Turn { ran, entry, moved } = match kept.machine.run_slice(slice, steps) {
-            Ok(turn) => turn,
-            Err(cut) => {
-                kept.inputs.push_reserved(Input::Slice {
-                    pid: 1,
-                    count: cut.ran,
-                });
-                kept.instructions += u128::from(cut.ran);
-                return Err(NoMemory);
-            }
-        };
-        kept.inputs.push_reserved(Input::Slice {
-            pid: 1,
-            count: slice,
-        });
-        keep_move(&mut kept.moves, moved);
-        kept.instructions += u128::from(ran);
-        left -= u64::from(ran);
-        push_output(text, event, entry)?;
-    }
-    push_ran(text, count - left, end_of(kept.machine.standing()))
+    count_records(store);
+    named_follow();
+    records_follow();
+    records_leave_room();
+    runs_follow();
+    records_are_run();
+    let event = machine.events();
+    let mut entries = Vec::new(alloc);
+    let leg = machine.run_leg(left, &mut entries, steps)?;
+    text.clear();
+    push_outputs(text, event, entries.as_slice())?;
+    commit_some(store, disk, entries)?;
+    put_all(sink, text.as_bytes())?;
+    Ok(leg)
 }
 
-// Keeps what an event did to bytes, if there was one.
-fn keep_move(moves: &mut Vec<Move>, moved: Option<Move>)
-    requires room { vec_len moves.old < vec_capacity moves.old }
-    ensures { moves.new.items ≡ moves.old.items ++ option_to_list moved }
-{
-    if let Some(moved) = moved {
-        moves.push_reserved(moved);
-    }
-}
-
-// What the event of a slice writes to the console, if there was one.
-fn push_output(text: &mut String, event: u64, entry: Option<Record>) -> Result<(), NoMemory>
+// What the events of records write to the console. A slice is no event.
+fn push_outputs(text: &mut String, first: u64, entries: &[Record]) -> Result<(), NoMemory>
+    requires room { first + length entries.now < 2 ^ 64 }
     ensures { OnOk result (string_bytes text.new ≡
-        string_bytes text.old ++ outputs_text (record_outputs event (option_to_list entry))) }
+        string_bytes text.old ++ outputs_text (record_outputs first entries.now)) }
 {
-    match entry {
-        Some(entry) => push_written(text, event, &entry),
-        None => Ok(()),
+    let mut event = first;
+    for entry in entries {
+        if !matches!(entry, Record::Slice { .. }) {
+            push_written(text, event, entry)?;
+            event += 1;
+        }
     }
+    Ok(())
 }
 
 fn push_written(text: &mut String, event: u64, entry: &Record) -> Result<(), NoMemory>
@@ -116,18 +140,6 @@ fn push_written(text: &mut String, event: u64, entry: &Record) -> Result<(), NoM
             ..
         } if !bytes.is_empty() => push_out(text, event, *pid, bytes.as_slice()),
         _ => Ok(()),
-    }
-}
-
-// Whether a process can go on.
-fn can_go_on(machine: &Solo) -> bool
-    ensures goes { result ≡ true → standing machine.now ≡ Standing.CanGoOn }
-    ensures able { result ≡ true → IsTrue (is_runnable machine.now 1) }
-    ensures stops { result ≡ false → standing machine.now ≢ Standing.CanGoOn }
-{
-    match machine.standing() {
-        Standing::CanGoOn => true,
-        Standing::Done | Standing::Stalled => false,
     }
 }
 

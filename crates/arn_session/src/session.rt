@@ -1,114 +1,148 @@
 // The top call: reads a source to its end, and answers each line to a sink.
-ghost use Rattle.std.specs.Prelude.{◌≡◌, ◌≢◌, ◌⊎◌, ◌↔◌, ◌<◌, ◌≤◌, ◌^◌, ◌++◌, [], length, drop, OnOk, OnErr, IfErr, IsErrOf, IfSome, Some, option_map};
+ghost use Rattle.std.specs.Prelude.{◌≡◌, ◌≢◌, ◌⊎◌, ◌↔◌, ◌<◌, ◌≤◌, ◌^◌, [], ℕ, List, length, drop, OnOk, OnErr, IfErr, IsErrOf, IfSome, Some};
+ghost use Rattle.arn_base.specs.declared.records.Record.{Record};
 ghost use Rattle.arn_base.specs.Faults.{Rose, NeverFalls};
+ghost use Rattle.guest_machine.specs.declared.differs.Differs.{Differs};
+ghost use Rattle.log_store.specs.Causes.{IsCauseOf, BlamesBytes};
+ghost use Rattle.log_store.specs.Stops.{GoesOn, IsOnlyRead, LeavesOnly};
+ghost use Rattle.log_store.specs.Refused.{IsNoLog};
+ghost use Rattle.log_store.specs.declared.errors.OpenError.{OpenError};
+ghost use Rattle.log_store.specs.declared.size.TheConstants.{MOST_LOG};
+ghost use Rattle.arn_session.specs.Answering.{standpoint_first, AnswersLine, BeginsLine, FindsLine, LeavesLine, Standpoint, TookFewer, TookAtMost};
+ghost use Rattle.arn_session.specs.Carrying.{CarriesOut, StopsAt, HoldsLog, HoldsMore, IsAtRest, RestsMore};
+ghost use Rattle.arn_session.specs.CutOff.{BeginsText, FindsOut};
+ghost use Rattle.arn_session.specs.Kept.{IsSound, standpoint_of};
 ghost use Rattle.arn_session.specs.Lines.{lines_of, whole_lines_of};
-ghost use Rattle.arn_session.specs.Answering.{AnswersLine, TookFewer, TookAtMost};
+ghost use Rattle.arn_session.specs.Opening.{FailsToOpen, IsOpened, NeverBegan};
+ghost use Rattle.arn_session.specs.Ready.{BlamesRecords, IsNoRun};
+ghost use Rattle.arn_session.specs.Standing.{IsLineCause, IsOpen};
+ghost use Rattle.arn_session.specs.Status.{open_status_of};
 ghost use Rattle.arn_session.specs.Transcript.{Answers, AnswersTaken};
-ghost use Rattle.arn_session.specs.CutOff.{PutsLess, BeginsLine, CutsLine, LeavesLine, BeginsText, CutsText};
 ghost use Rattle.arn_session.specs.Words.{AreAccepted};
 
-use crate::history::History;
+use crate::kept::Kept;
+use crate::lines::answer;
 use crate::reader::Reader;
-use crate::status::{Halt, Status};
+use crate::status::{Damage, Halt, Status};
 use crate::words::are_accepted;
-use arn_base::{Chooser, Device, Disk, Sink, Source, Steps, Stop};
+use arn_base::{Chooser, Device, Disk, Sink, Source, Steps};
 use arn_lines::read_line;
+use log_store::{Store, logs_read_one_way};
 use std::alloc::Global;
 use std::sync::ledger::Ledger;
 
-/// Puts all of the bytes.
-fn put_all<K: Sink>(sink: &mut K, bytes: &[u8]) -> Result<(), Stop>
-    ensures ok { OnOk result
-        (K.holds sink.new ≡ option_map (λ held. held ++ bytes.now) (K.holds sink.old)) }
-    ensures err { OnErr result (PutsLess bytes.now (K.holds sink.old) (K.holds sink.new)) }
-    ensures cause { IsErrOf result Stop.Failed → Rose (K.faults sink.old) (K.faults sink.new) }
-    ensures faults { NeverFalls (K.faults sink.old) (K.faults sink.new) }
-{
-    let mut rest = bytes;
-    while !rest.is_empty() {
-        let count = sink.put(rest)?;
-        rest = &rest[count..];
-    }
-    Ok(())
-}
-
-/// Answers a line; `line` is what is kept of it. `text` is emptied, and takes the answer.
-fn answer_line<K: Sink, L: Ledger>(
-    alloc: Global,
+/// Answers a line; `line` is what is kept of it.
+fn answer_line<D: Disk, K: Sink, L: Ledger>(
     line: &[u8],
-    history: &mut History,
+    kept: &mut Kept,
+    disk: &mut D,
     text: &mut String,
     sink: &mut K,
     steps: &mut Steps<L>,
 ) -> Result<(), Halt>
-    ensures ok { OnOk result (AnswersLine line.now history.old history.new
-        (K.holds sink.old) (K.holds sink.new) steps.old steps.new) }
-    ensures cut { IsErrOf result Halt.Sink → CutsLine line.now history.old
-        (K.holds sink.old) (K.holds sink.new) steps.old steps.new }
-    ensures begun { OnErr result (
-        LeavesLine (K.holds sink.old) (K.holds sink.new) steps.old steps.new ⊎
-        BeginsLine line.now history.old (K.holds sink.old) (K.holds sink.new)
-        steps.old steps.new) }
-    ensures cause { IsErrOf result Halt.Sink → Rose (K.faults sink.old) (K.faults sink.new) }
-    ensures no_other { IfErr result (λ halt. (halt ≡ Halt.Sink) ⊎ (halt ≡ Halt.NoMemory)) }
+    requires open { IsOpen D.image kept.old.store disk.old }
+    requires sound { IsSound kept.old }
+    ensures open { OnOk result (IsOpen D.image kept.new.store disk.new) }
+    ensures sound { OnOk result (IsSound kept.new) }
+    ensures ok { OnOk result (AnswersLine line.now (standpoint_of kept.old) (standpoint_of kept.new)
+        (CarriesOut D.image D.may_leave D.moment D.left_since disk.old disk.new
+        kept.old.store.entries (K.holds sink.old) (K.holds sink.new)) steps.old steps.new) }
+    ensures stops { IfErr result (λ halt.
+        LeavesLine (StopsAt D.image D.may_leave D.moment D.left_since disk.old disk.new
+        kept.old.store.entries (K.holds sink.old) (K.holds sink.new) halt []) steps.old steps.new ⊎
+        BeginsLine line.now (standpoint_of kept.old)
+        (StopsAt D.image D.may_leave D.moment D.left_since disk.old disk.new
+        kept.old.store.entries (K.holds sink.old) (K.holds sink.new) halt []) steps.old steps.new) }
+    ensures blames { IfErr result (λ halt. BlamesRecords halt (standpoint_of kept.old)) }
+    ensures finds { (d : Differs) → IsErrOf result (Halt.Differs d) →
+        FindsLine line.now (standpoint_of kept.old)
+        (CarriesOut D.image D.may_leave D.moment D.left_since disk.old disk.new
+        kept.old.store.entries (K.holds sink.old) (K.holds sink.new)) steps.old steps.new }
+    ensures cause { IfErr result (λ halt. IsLineCause halt
+        (D.faults disk.old) (D.faults disk.new) (K.faults sink.old) (K.faults sink.new)) }
+    ensures later { GoesOn D.image D.faults disk.old disk.new }
     ensures faults { NeverFalls (K.faults sink.old) (K.faults sink.new) }
 {
-    text.clear();
-    let reading = read_line(alloc, line)?;
-    history.answer(reading, text, steps)?;
-    put_all(sink, text.as_bytes())?;
-    Ok(())
+    let reading = read_line(kept.alloc, line)?;
+    answer(kept, reading, disk, text, sink, steps)
 }
 
-/// Reads the source to its end, and answers each line.
-fn session<S: Source, K: Sink, L: Ledger>(
+/// Reads the source to its end, and answers each line on the history of a log.
+fn session<S: Source, K: Sink, D: Disk, L: Ledger>(
     alloc: Global,
+    store: Store,
     source: &mut S,
     sink: &mut K,
+    disk: &mut D,
     steps: &mut Steps<L>,
 ) -> Result<(), Halt>
+    requires open { IsOpen D.image store disk.old }
+
     ensures read { OnOk result
         (IfSome (S.left source.old) (λ text. S.left source.new ≡ Some [])) }
     ensures answered { OnOk result (IfSome (S.left source.old) (λ text.
-        Answers (lines_of text) (K.holds sink.old) (K.holds sink.new) steps.old steps.new)) }
+        Answers store.entries (lines_of text)
+        (CarriesOut D.image D.may_leave D.moment D.left_since disk.old disk.new
+        store.entries (K.holds sink.old) (K.holds sink.new)) steps.old steps.new)) }
     ensures short { OnOk result
         (IfSome (S.left source.old) (λ text. length text < 2 ^ 40)) }
 
-    ensures cut { IsErrOf result Halt.Sink → IfSome (S.left source.old) (λ text. CutsText text
-        (S.left source.new) (K.holds sink.old) (K.holds sink.new) steps.old steps.new) }
-    ensures begun { OnErr result (IfSome (S.left source.old) (λ text. BeginsText text
-        (S.left source.new) (K.holds sink.old) (K.holds sink.new) steps.old steps.new)) }
+    ensures stops { IfErr result (λ halt. halt ≢ Halt.Source → halt ≢ Halt.Long →
+        IfSome (S.left source.old) (λ text. BeginsText store.entries text (S.left source.new)
+        (StopsAt D.image D.may_leave D.moment D.left_since disk.old disk.new
+        store.entries (K.holds sink.old) (K.holds sink.new) halt) steps.old steps.new)) }
+    ensures blames { IfErr result (λ halt. BlamesRecords halt (standpoint_first store.entries)) }
+    ensures finds { (d : Differs) → IsErrOf result (Halt.Differs d) →
+        IfSome (S.left source.old) (λ text. FindsOut store.entries text (S.left source.new)
+        (CarriesOut D.image D.may_leave D.moment D.left_since disk.old disk.new
+        store.entries (K.holds sink.old) (K.holds sink.new)) steps.old steps.new) }
 
-    ensures source { IsErrOf result Halt.Source →
-        Rose (S.faults source.old) (S.faults source.new) }
-    ensures sink { IsErrOf result Halt.Sink → Rose (K.faults sink.old) (K.faults sink.new) }
     ensures early { IsErrOf result Halt.Source →
         TookFewer (2 ^ 40) (S.left source.old) (S.left source.new) }
     ensures long { IsErrOf result Halt.Long → IfSome (S.left source.old) (λ text.
         (2 ^ 40 ≤ length text) × (S.left source.new ≡ Some (drop (2 ^ 40) text))) }
     ensures taken { IsErrOf result Halt.Source ⊎ IsErrOf result Halt.Long →
-        AnswersTaken (S.left source.old) (S.left source.new) whole_lines_of
-        (K.holds sink.old) (K.holds sink.new) steps.old steps.new }
+        AnswersTaken store.entries (S.left source.old) (S.left source.new) whole_lines_of
+        (CarriesOut D.image D.may_leave D.moment D.left_since disk.old disk.new
+        store.entries (K.holds sink.old) (K.holds sink.new)) steps.old steps.new }
     ensures at_most { TookAtMost (2 ^ 40) (S.left source.old) (S.left source.new) }
+
+    ensures any_moment { IsAtRest D.image D.may_leave disk.old store.entries →
+        LeavesOnly D.moment D.left_since disk.old disk.new (HoldsMore store.entries) }
+
+    ensures rests { OnOk result (IsAtRest D.image D.may_leave disk.old store.entries →
+        RestsMore D.image D.may_leave disk.new store.entries) }
+    ensures still_rests { IfErr result (λ halt. halt ≢ Halt.Disk → halt ≢ Halt.NoMemory →
+        IsAtRest D.image D.may_leave disk.old store.entries →
+        RestsMore D.image D.may_leave disk.new store.entries) }
+
+    ensures source { IsErrOf result Halt.Source →
+        Rose (S.faults source.old) (S.faults source.new) }
+    ensures sink { IsErrOf result Halt.Sink → Rose (K.faults sink.old) (K.faults sink.new) }
+    ensures disk { IsErrOf result Halt.Disk → Rose (D.faults disk.old) (D.faults disk.new) }
+    ensures later { GoesOn D.image D.faults disk.old disk.new }
 {
     let mut reader = Reader::new(alloc)?;
-    let mut history = History::new(alloc);
+    let mut kept = Kept {
+        alloc,
+        store,
+        machine: None,
+    };
     let mut text = String::new(alloc);
     let mut line = Vec::new(alloc);
     while reader.next_line(source, &mut line)? {
-        answer_line(alloc, line.as_slice(), &mut history, &mut text, sink, steps)?;
+        answer_line(line.as_slice(), &mut kept, disk, &mut text, sink, steps)?;
     }
     if line.is_empty() {
         return Ok(());
     }
-    answer_line(alloc, line.as_slice(), &mut history, &mut text, sink, steps)
+    answer_line(line.as_slice(), &mut kept, disk, &mut text, sink, steps)
 }
 
-/// Does all that the program does: reads the source line by line, and answers each line to the
-/// sink.
+/// Does all that the program does: opens the log, reads the source line by line, commits what each
+/// line adds to the history, and answers it to the sink.
 ///
-/// A session takes at most 2^40 bytes of the source. It needs no disk, no chooser and no devices as
-/// yet.
+/// A session takes at most 2^40 bytes of the source. It needs no chooser and no devices as yet.
 pub fn arnold<S: Source, K: Sink, D: Disk, L: Ledger>(
     alloc: Global,
     words: &[String],
@@ -121,31 +155,81 @@ pub fn arnold<S: Source, K: Sink, D: Disk, L: Ledger>(
 ) -> Status
     // The words aren't accepted: nothing is read or written.
     ensures usage { (result ≡ Status.Usage) ↔ ¬ AreAccepted words.now }
-    ensures unread { result ≡ Status.Usage → source.new ≡ source.old }
-    ensures unwritten { result ≡ Status.Usage → sink.new ≡ sink.old }
-    ensures unstepped { result ≡ Status.Usage → steps.new ≡ steps.old }
+    ensures unread { result ≡ Status.Usage →
+        NeverBegan source.old source.new sink.old sink.new steps.old steps.new }
+    ensures undisturbed { result ≡ Status.Usage → disk.new ≡ disk.old }
 
     // A told source was read to its end, and every line of it was answered.
     ensures read { result ≡ Status.Done →
         IfSome (S.left source.old) (λ text. S.left source.new ≡ Some []) }
-    ensures answered { result ≡ Status.Done → IfSome (S.left source.old) (λ text.
-        Answers (lines_of text) (K.holds sink.old) (K.holds sink.new) steps.old steps.new) }
+    ensures answered { result ≡ Status.Done → (history : List Record) →
+        HoldsLog D.image disk.old history → IfSome (S.left source.old) (λ text.
+        Answers history (lines_of text)
+        (CarriesOut D.image D.may_leave D.moment D.left_since disk.old disk.new
+        history (K.holds sink.old) (K.holds sink.new)) steps.old steps.new) }
     ensures short { result ≡ Status.Done →
         IfSome (S.left source.old) (λ text. length text < 2 ^ 40) }
 
-    // The source or the sink failed.
+    // The source, the sink or the disk failed.
     ensures source { result ≡ Status.Source → Rose (S.faults source.old) (S.faults source.new) }
     ensures sink { result ≡ Status.Sink → Rose (K.faults sink.old) (K.faults sink.new) }
+    ensures disk { result ≡ Status.Disk → Rose (D.faults disk.old) (D.faults disk.new) }
     ensures early { result ≡ Status.Source →
         TookFewer (2 ^ 40) (S.left source.old) (S.left source.new) }
 
     // The sink failed before all that was to be printed had been put.
-    ensures cut { result ≡ Status.Sink → IfSome (S.left source.old) (λ text. CutsText text
-        (S.left source.new) (K.holds sink.old) (K.holds sink.new) steps.old steps.new) }
+    ensures cut { result ≡ Status.Sink → (history : List Record) →
+        HoldsLog D.image disk.old history → IfSome (S.left source.old) (λ text.
+        BeginsText history text (S.left source.new)
+        (StopsAt D.image D.may_leave D.moment D.left_since disk.old disk.new
+        history (K.holds sink.old) (K.holds sink.new) Halt.Sink) steps.old steps.new) }
 
-    // Memory ran out. The first lines were answered, and the answer to one more may have begun.
-    ensures begun { result ≡ Status.NoMemory → IfSome (S.left source.old) (λ text. BeginsText text
-        (S.left source.new) (K.holds sink.old) (K.holds sink.new) steps.old steps.new) }
+    // The disk failed in the opening, or in a commit: what comes before that commit was printed.
+    ensures stopped { result ≡ Status.Disk → (history : List Record) →
+        HoldsLog D.image disk.old history →
+        FailsToOpen D.image D.may_leave D.moment D.left_since disk.old disk.new history
+        source.old source.new sink.old sink.new steps.old steps.new ⊎
+        IfSome (S.left source.old) (λ text. BeginsText history text (S.left source.new)
+        (StopsAt D.image D.may_leave D.moment D.left_since disk.old disk.new
+        history (K.holds sink.old) (K.holds sink.new) Halt.Disk) steps.old steps.new) }
+
+    // A commit doesn't fit into the log: what comes before it was printed, and no more.
+    ensures full { (log payload : ℕ) → result ≡ Status.Full log payload →
+        (history : List Record) → HoldsLog D.image disk.old history →
+        IfSome (S.left source.old) (λ text. BeginsText history text (S.left source.new)
+        (StopsAt D.image D.may_leave D.moment D.left_since disk.old disk.new
+        history (K.holds sink.old) (K.holds sink.new) (Halt.Full log payload))
+        steps.old steps.new) }
+
+    // Memory ran out, perhaps in the opening. The first lines were answered, and the answer to one
+    // more may have begun.
+    ensures begun { result ≡ Status.NoMemory → (history : List Record) →
+        HoldsLog D.image disk.old history →
+        FailsToOpen D.image D.may_leave D.moment D.left_since disk.old disk.new history
+        source.old source.new sink.old sink.new steps.old steps.new ⊎
+        IfSome (S.left source.old) (λ text. BeginsText history text (S.left source.new)
+        (StopsAt D.image D.may_leave D.moment D.left_since disk.old disk.new
+        history (K.holds sink.old) (K.holds sink.new) Halt.NoMemory) steps.old steps.new) }
+
+    // The bytes of the disk are no log, or too long.
+    ensures refused { (error : OpenError) → BlamesBytes error →
+        result ≡ open_status_of error →
+        (IfSome (D.image disk.old) (λ bytes. IsCauseOf bytes error)) ×
+        NeverBegan source.old source.new sink.old sink.new steps.old steps.new ×
+        IsOnlyRead D.image D.may_leave D.moment D.left_since disk.old disk.new }
+    ensures untouched { IfSome (D.image disk.old) (λ bytes.
+        IsNoLog bytes ⊎ (MOST_LOG < length bytes) →
+        NeverBegan source.old source.new sink.old sink.new steps.old steps.new ×
+        IsOnlyRead D.image D.may_leave D.moment D.left_since disk.old disk.new) }
+    ensures opened { IfSome (D.image disk.old) (IsOpened result) }
+
+    // The records of the log aren't those of a run, and a line needed the machine.
+    ensures differs { (d : Differs) → result ≡ Status.Damaged (Damage.Differs d) →
+        (history : List Record) → HoldsLog D.image disk.old history →
+        IsNoRun history d × IfSome (S.left source.old) (λ text.
+        FindsOut history text (S.left source.new)
+        (CarriesOut D.image D.may_leave D.moment D.left_since disk.old disk.new
+        history (K.holds sink.old) (K.holds sink.new)) steps.old steps.new) }
 
     // As many bytes were taken as a session takes at most.
     ensures long { result ≡ Status.Long → IfSome (S.left source.old) (λ text.
@@ -153,18 +237,36 @@ pub fn arnold<S: Source, K: Sink, D: Disk, L: Ledger>(
 
     // Every line that was taken with its LF was answered, and nothing else.
     ensures taken { (result ≡ Status.Source) ⊎ (result ≡ Status.Long) →
-        AnswersTaken (S.left source.old) (S.left source.new) whole_lines_of
-        (K.holds sink.old) (K.holds sink.new) steps.old steps.new }
+        (history : List Record) → HoldsLog D.image disk.old history →
+        AnswersTaken history (S.left source.old) (S.left source.new) whole_lines_of
+        (CarriesOut D.image D.may_leave D.moment D.left_since disk.old disk.new
+        history (K.holds sink.old) (K.holds sink.new)) steps.old steps.new }
+
+    // However the call ends, a stop at any moment since it began leaves a log of the history and
+    // of more records behind it: of a run, if it was one. Which records these are, the clauses
+    // above say.
+    ensures any_moment { (history : List Record) →
+        IsAtRest D.image D.may_leave disk.old history →
+        LeavesOnly D.moment D.left_since disk.old disk.new (HoldsMore history) }
+
+    // But where the disk failed or memory ran out, nothing is pending then, as at the start.
+    ensures rests { result ≢ Status.Disk → result ≢ Status.NoMemory → (history : List Record) →
+        IsAtRest D.image D.may_leave disk.old history →
+        RestsMore D.image D.may_leave disk.new history }
 
     ensures at_most { TookAtMost (2 ^ 40) (S.left source.old) (S.left source.new) }
-    ensures disk { disk.new ≡ disk.old }
     ensures chooser { chooser.new ≡ chooser.old }
     ensures devices { devices.new ≡ devices.old }
 {
     if !are_accepted(words) {
         return Status::Usage;
     }
-    match session(alloc, source, sink, steps) {
+    logs_read_one_way();
+    let store = match Store::open_log(alloc, disk) {
+        Ok(store) => store,
+        Err(error) => return Status::from(error),
+    };
+    match session(alloc, store, source, sink, disk, steps) {
         Ok(()) => Status::Done,
         Err(halt) => Status::from(halt),
     }

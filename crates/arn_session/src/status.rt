@@ -3,6 +3,9 @@ ghost use Rattle.std.specs.Prelude.{◌≡◌};
 ghost use Rattle.arn_session.specs.Status.{code_of, status_of};
 
 use arn_base::{NoMemory, Stop};
+use guest_machine::{Differs, RebuildError};
+use log_store::{CommitError, OpenError};
+use std::alloc::{AllocError, AllocFailed};
 use std::fmt;
 
 /// How a session ends.
@@ -12,13 +15,32 @@ pub enum Status {
     Done,
     /// The words aren't accepted.
     Usage,
+    /// The disk failed.
+    Disk,
+    /// The log isn't that of a run.
+    Damaged(Damage),
     NoMemory,
     /// The source failed.
     Source,
     /// The sink failed.
     Sink,
+    /// The log of `log` bytes has no room for a commit whose records' spellings have `payload` bytes.
+    Full { log: u64, payload: u64 },
     /// As many bytes were taken as a session takes at most.
     Long,
+}
+
+/// Why a log isn't that of a run. Places and lengths are in bytes from the start of the log.
+#[derive(Clone, Copy, Debug, PartialEq, Eq)]
+pub enum Damage {
+    /// It has more bytes than a log may have.
+    TooLong { len: u64 },
+    /// The byte at this place is the first that differs from the name of a log.
+    NotLog { at: u64 },
+    /// At this place stands the gate of a frame that isn't whole, or no record where one is due.
+    Malformed { at: u64 },
+    /// Its records aren't those of the inputs that they name.
+    Differs(Differs),
 }
 
 impl Status {
@@ -29,9 +51,12 @@ impl Status {
         match self {
             Status::Done => 0,
             Status::Usage => 2,
+            Status::Disk => 3,
+            Status::Damaged(_) => 4,
             Status::NoMemory => 5,
             Status::Source => 6,
             Status::Sink => 7,
+            Status::Full { .. } => 8,
             Status::Long => 9,
         }
     }
@@ -39,14 +64,36 @@ impl Status {
 
 impl fmt::Display for Status {
     fn fmt<W: fmt::Write>(&self, f: &mut fmt::Formatter<W>) -> fmt::Result {
-        f.write_str(match self {
-            Status::Done => "done",
-            Status::Usage => "usage: arnold LOG",
-            Status::NoMemory => "out of memory",
-            Status::Source => "the source failed",
-            Status::Sink => "the sink failed",
-            Status::Long => "the source is too long",
-        })
+        match self {
+            Status::Done => f.write_str("done"),
+            Status::Usage => f.write_str("usage: arnold LOG"),
+            Status::Disk => f.write_str("the disk failed"),
+            Status::Damaged(damage) => damage.fmt(f),
+            Status::NoMemory => f.write_str("out of memory"),
+            Status::Source => f.write_str("the source failed"),
+            Status::Sink => f.write_str("the sink failed"),
+            Status::Full { log, payload } => {
+                write!(f, "the log of {log} bytes has no room for {payload} more")
+            }
+            Status::Long => f.write_str("the source is too long"),
+        }
+    }
+}
+
+impl fmt::Display for Damage {
+    fn fmt<W: fmt::Write>(&self, f: &mut fmt::Formatter<W>) -> fmt::Result {
+        match self {
+            Damage::TooLong { len } => write!(f, "the log has {len} bytes, which is too many"),
+            Damage::NotLog { at } => write!(f, "the byte at {at} is not that of a log"),
+            Damage::Malformed { at } => write!(f, "no frame or no record stands at {at}"),
+            Damage::Differs(differs) => {
+                let Differs { place, at, .. } = differs;
+                write!(
+                    f,
+                    "record {place} is not that of a run from its byte {at} on"
+                )
+            }
+        }
     }
 }
 
@@ -57,6 +104,9 @@ pub enum Halt {
     Source,
     Sink,
     Long,
+    Disk,
+    Full { log: u64, payload: u64 },
+    Differs(Differs),
 }
 
 impl From<NoMemory> for Halt {
@@ -66,6 +116,17 @@ impl From<NoMemory> for Halt {
     ghost from_gives = { λ _ e. e ≡ halt.NoMemory };
 
     fn from(_: NoMemory) -> Halt {
+        Halt::NoMemory
+    }
+}
+
+impl From<AllocError> for Halt {
+    ghost use Rattle.std.specs.Prelude.{◌≡◌};
+    ghost use Rattle.arn_session.specs.declared.status.Halt.TheVariants as halt;
+
+    ghost from_gives = { λ _ e. e ≡ halt.NoMemory };
+
+    fn from(_: AllocError) -> Halt {
         Halt::NoMemory
     }
 }
@@ -85,6 +146,35 @@ impl From<Stop> for Halt {
     }
 }
 
+impl From<CommitError> for Halt {
+    ghost use Rattle.arn_session.specs.Status.{commit_halt_of};
+    ghost use Rattle.std.specs.Prelude.{◌≡◌};
+
+    ghost from_gives = { λ error halt. halt ≡ commit_halt_of error };
+
+    fn from(error: CommitError) -> Halt {
+        match error {
+            CommitError::Disk => Halt::Disk,
+            CommitError::Full { log, payload } => Halt::Full { log, payload },
+            CommitError::NoMemory => Halt::NoMemory,
+        }
+    }
+}
+
+impl From<RebuildError> for Halt {
+    ghost use Rattle.arn_session.specs.Status.{rebuild_halt_of};
+    ghost use Rattle.std.specs.Prelude.{◌≡◌};
+
+    ghost from_gives = { λ error halt. halt ≡ rebuild_halt_of error };
+
+    fn from(error: RebuildError) -> Halt {
+        match error {
+            RebuildError::Differs(differs) => Halt::Differs(differs),
+            RebuildError::NoMemory => Halt::NoMemory,
+        }
+    }
+}
+
 impl From<Halt> for Status {
     ghost use Rattle.std.specs.Prelude.{◌≡◌};
     ghost use Rattle.arn_session.specs.Status.{status_of};
@@ -97,6 +187,26 @@ impl From<Halt> for Status {
             Halt::Source => Status::Source,
             Halt::Sink => Status::Sink,
             Halt::Long => Status::Long,
+            Halt::Disk => Status::Disk,
+            Halt::Full { log, payload } => Status::Full { log, payload },
+            Halt::Differs(differs) => Status::Damaged(Damage::Differs(differs)),
+        }
+    }
+}
+
+impl From<OpenError> for Status {
+    ghost use Rattle.std.specs.Prelude.{◌≡◌};
+    ghost use Rattle.arn_session.specs.Status.{open_status_of};
+
+    ghost from_gives = { λ error status. status ≡ open_status_of error };
+
+    fn from(error: OpenError) -> Status {
+        match error {
+            OpenError::TooLong { len } => Status::Damaged(Damage::TooLong { len }),
+            OpenError::NotLog { at } => Status::Damaged(Damage::NotLog { at }),
+            OpenError::Malformed { at } => Status::Damaged(Damage::Malformed { at }),
+            OpenError::Disk => Status::Disk,
+            OpenError::NoMemory => Status::NoMemory,
         }
     }
 }

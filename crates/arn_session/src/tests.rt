@@ -1,4 +1,4 @@
-use crate::{Status, WordsError, read_words};
+use crate::{Damage, Status, WordsError, read_words};
 use std::alloc::{AllocError, Global};
 use std::test::Fail;
 
@@ -34,9 +34,18 @@ fn codes(rt: HostRuntime) {
     let codes = [
         (Status::Done, 0),
         (Status::Usage, 2),
+        (Status::Disk, 3),
+        (Status::Damaged(Damage::NotLog { at: 6 }), 4),
         (Status::NoMemory, 5),
         (Status::Source, 6),
         (Status::Sink, 7),
+        (
+            Status::Full {
+                log: 268_435_000,
+                payload: 452,
+            },
+            8,
+        ),
         (Status::Long, 9),
     ];
     for (status, code) in codes {

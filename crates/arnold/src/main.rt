@@ -1,18 +1,20 @@
-//! Runs a session of a recorded machine: reads lines from standard input, and answers each on
-//! standard output.
+//! Runs a session of a recorded machine: reads lines from standard input, answers each on standard
+//! output, and keeps the history in the log that its word names.
 #![tactic(auto)]
 
 ghost use Rattle.std.specs.Prelude.{◌≡◌, ◌≢◌, ◌<◌, ◌⊎◌, ◌↔◌};
 ghost use Rattle.std.specs.IoError.{error_kind};
 ghost use Rattle.arn_session.specs.Words.{AreAccepted};
 
-use arn_base::{Chooser, Device, StdSink, StdSource, Steps};
-use arn_session::{FirstChooser, NoDisk, Status, arnold};
+use arn_base::{Chooser, Device, Disk, StdSink, StdSource, Steps};
+use arn_session::{FirstChooser, Status, WordsError, arnold, read_words};
+use log_disk::FileDisk;
 use std::alloc::Global;
 use std::env::{self, Env};
 use std::io::{self, ErrorKind, Read, Write};
 use std::marker::Brand;
 use std::process::ExitCode;
+use std::rt::Files;
 use std::sync::ledger::{Blank, Ledger};
 
 /// The words behind the program's name.
@@ -34,10 +36,12 @@ fn status_of(error: &io::Error) -> Status
     }
 }
 
-/// A session from a reader to a writer, with no disk, no devices and a new counter of steps.
-fn session<L: Ledger, R: Read + Drop, W: Write + Drop>(
+/// A session from a reader to a writer over the log that the words name, with no devices and a new
+/// counter of steps.
+fn session<L: Ledger, F: Files + Clone + Drop, R: Read + Drop, W: Write + Drop>(
     alloc: Global,
     words: &[String],
+    files: F,
     reader: R,
     writer: W,
     blank: Blank,
@@ -50,6 +54,11 @@ fn session<L: Ledger, R: Read + Drop, W: Write + Drop>(
         (result ≡ Status.Usage) ⊎ (result ≡ Status.NoMemory) }
     ensures usage { result ≡ Status.Usage → ¬ AreAccepted words.now }
 {
+    let options = match read_words(alloc, words) {
+        Ok(options) => options,
+        Err(WordsError::Usage) => return Status::Usage,
+        Err(WordsError::NoMemory) => return Status::NoMemory,
+    };
     let Ok(first) = Box::new(alloc, FirstChooser::new()) else {
         return Status::NoMemory;
     };
@@ -60,7 +69,7 @@ fn session<L: Ledger, R: Read + Drop, W: Write + Drop>(
         words,
         &mut StdSource::new(reader),
         &mut StdSink::new(writer),
-        &mut NoDisk::new(),
+        &mut FileDisk::new(files, options.log),
         &mut chooser,
         &mut devices,
         &mut Steps::<L>::new(blank),
@@ -69,16 +78,21 @@ fn session<L: Ledger, R: Read + Drop, W: Write + Drop>(
 
 /// Does all of it, and tells how it ended.
 fn run(rt: &HostRuntime) -> Status {
-    match words(rt) {
-        Ok(words) => session::<Brand, _, _>(
-            rt.alloc(),
-            words.as_slice(),
-            rt.stdin(),
-            rt.stdout(),
-            Blank::new(1),
-        ),
-        Err(error) => status_of(&error),
-    }
+    let words = match words(rt) {
+        Ok(words) => words,
+        Err(error) => return status_of(&error),
+    };
+    let Ok(files) = rt.clone() else {
+        return Status::NoMemory;
+    };
+    session::<Brand, _, _, _>(
+        rt.alloc(),
+        words.as_slice(),
+        files,
+        rt.stdin(),
+        rt.stdout(),
+        Blank::new(1),
+    )
 }
 
 fn main(rt: HostRuntime) -> ExitCode {

@@ -1,8 +1,8 @@
-//! Sessions over texts in memory.
+//! Sessions over texts in memory, and the logs that they leave.
 #![tactic(auto)]
 
 mod sessions;
 #[cfg(test)]
 mod tests;
 
-pub use sessions::{Ended, Script, run};
+pub use sessions::{Ended, Script, run, run_on};

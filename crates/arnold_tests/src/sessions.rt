@@ -1,10 +1,13 @@
 // A session over a text in memory.
-ghost use Rattle.std.specs.Prelude.{◌≡◌, ◌<◌, ◌↔◌, [], IfOk, map};
+ghost use Rattle.std.specs.Prelude.{◌≡◌, ◌<◌, ◌↔◌, [], List, IfOk, map};
+ghost use Rattle.arn_base.specs.declared.records.Record.{Record};
+ghost use Rattle.arn_session.specs.Carrying.{HoldsLog};
 ghost use Rattle.arn_session.specs.Words.{AreAccepted, AreAcceptedTexts, texts};
 ghost use Rattle.arnold_tests.specs.Sessions.{Prints};
 
-use arn_base::{Bytes, Chooser, Device, NoMemory, Numbers, SliceSource, Steps, VecSink};
-use arn_session::{FirstChooser, NoDisk, Status, arnold};
+use arn_base::{Bytes, Chooser, Device, Disk, NoMemory, Numbers, SliceSource, Steps, VecSink};
+use arn_session::{FirstChooser, Status, arnold};
+use log_disk::MemDisk;
 use std::alloc::Global;
 use std::marker::Brand;
 use std::sync::ledger::{Blank, Ledger};
@@ -65,18 +68,20 @@ fn owned(alloc: Global, words: &[&str]) -> Result<Vec<String>, NoMemory>
     Ok(made)
 }
 
-fn run_over<L: Ledger>(
+fn run_over<D: Disk, L: Ledger>(
     alloc: Global,
     words: &[String],
     script: &Script,
+    disk: &mut D,
     blank: Blank,
 ) -> Result<Ended, NoMemory>
     requires name { blank.name ≡ L.name }
     requires parts { blank.parts ≡ L.parts }
     requires some { 0 < blank.parts }
 
-    ensures done { IfOk result (λ ended. ended.status ≡ Status.Done →
-        Prints script.now.text.now ended.sink.held) }
+    ensures done { IfOk result (λ ended. ended.status ≡ Status.Done → (history : List Record) →
+        HoldsLog D.image disk.old history →
+        Prints history script.now.text.now ended.sink.held) }
     ensures usage { IfOk result (λ ended. (ended.status ≡ Status.Usage) ↔ ¬ AreAccepted words.now) }
     ensures silent { IfOk result (λ ended. ended.status ≡ Status.Usage → ended.sink.held ≡ []) }
 {
@@ -91,7 +96,7 @@ fn run_over<L: Ledger>(
         words,
         &mut source,
         &mut sink,
-        &mut NoDisk::new(),
+        disk,
         &mut chooser,
         &mut devices,
         &mut Steps::<L>::new(blank),
@@ -99,14 +104,32 @@ fn run_over<L: Ledger>(
     Ok(Ended { status, sink })
 }
 
-/// Runs a session with these words.
-pub fn run(alloc: Global, words: &[&str], script: &Script) -> Result<Ended, NoMemory>
-    ensures done { IfOk result (λ ended. ended.status ≡ Status.Done →
-        Prints script.now.text.now ended.sink.held) }
+/// Runs a session with these words over the log of a disk.
+pub fn run_on<D: Disk>(
+    alloc: Global,
+    words: &[&str],
+    script: &Script,
+    disk: &mut D,
+) -> Result<Ended, NoMemory>
+    ensures done { IfOk result (λ ended. ended.status ≡ Status.Done → (history : List Record) →
+        HoldsLog D.image disk.old history →
+        Prints history script.now.text.now ended.sink.held) }
     ensures usage { IfOk result (λ ended. (ended.status ≡ Status.Usage) ↔
         ¬ AreAcceptedTexts (map (λ word. word.now) words.now)) }
     ensures silent { IfOk result (λ ended. ended.status ≡ Status.Usage → ended.sink.held ≡ []) }
 {
     let words = owned(alloc, words)?;
-    run_over::<Brand>(alloc, words.as_slice(), script, Blank::new(1))
+    run_over::<D, Brand>(alloc, words.as_slice(), script, disk, Blank::new(1))
+}
+
+/// Runs a session with these words over a fresh log.
+pub fn run(alloc: Global, words: &[&str], script: &Script) -> Result<Ended, NoMemory>
+    ensures done { IfOk result (λ ended. ended.status ≡ Status.Done →
+        Prints [] script.now.text.now ended.sink.held) }
+    ensures usage { IfOk result (λ ended. (ended.status ≡ Status.Usage) ↔
+        ¬ AreAcceptedTexts (map (λ word. word.now) words.now)) }
+    ensures silent { IfOk result (λ ended. ended.status ≡ Status.Usage → ended.sink.held ≡ []) }
+{
+    let mut disk = MemDisk::new(alloc, Bytes::new(alloc));
+    run_on(alloc, words, script, &mut disk)
 }

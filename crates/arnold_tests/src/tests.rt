@@ -1,7 +1,12 @@
 use super::*;
-use arn_base::NoMemory;
-use arn_session::Status;
+use arn_base::{Bytes, Disk, NoMemory, Numbers};
+use arn_session::{Damage, Status};
+use guest_machine::Differs;
+use log_disk::{FileDisk, FuseDisk, MemDisk};
+use log_store::{OpenError, Store};
 use std::alloc::Global;
+use std::fs;
+use std::process::Abort;
 use std::test::Fail;
 
 /// A line, without its LF, and what is printed for it.
@@ -83,6 +88,18 @@ const STALLED: &str = "\
     run 100\n\
     type 616263\n\
     run 100\n";
+
+/// How many lines of `TYPED` come before it asks, and how many of `STALLED` before it types.
+const ASKS_AT: usize = 4;
+
+const TYPES_AT: usize = 3;
+
+/// What is printed for the lines of `TYPED` before it asks, in so many commits.
+const TYPED_PRINTS: &str = "event 0\nevent 1\nevent 2\nout 4 1 616263\nran 11 done\n";
+
+/// What is printed for the line with which `TYPED` asks.
+const ASKED_PRINTS: &str =
+    "pair 2 0 0\npair 2 1 1\npair 2 2 2\nback pairs 3 instructions 11 groups 1\n";
 
 /// A program of one word, which is no instruction. The last line has no LF.
 const ILLEGAL: &str = "\
@@ -243,4 +260,333 @@ fn a_failing_sink_holds_what_came_before(rt: HostRuntime) -> Result<(), Fail> {
         );
     }
     panic!(rt; "the answers have no end")
+}
+
+/// The log of the file `a` with the bytes `ab`.
+const LOG: [u8; 23] = *b"ARNLOG01\x01\x09\0\0\0\x01\x01a\x02\0\0\0ab\0";
+
+/// What the bytes become that a stop may change: what is read there, or one of these.
+const FILLS: [Option<u8>; 4] = [None, Some(0), Some(1), Some(0xff)];
+
+/// The first lines of a text, each with its LF.
+fn first_lines(alloc: Global, text: &str, count: usize) -> Result<String, NoMemory> {
+    let mut first = String::new(alloc);
+    for line in text.lines().take(count) {
+        first.push_str(line)?;
+        first.push('\n')?;
+    }
+    Ok(first)
+}
+
+fn disk_of(alloc: Global, bytes: &[u8]) -> Result<MemDisk, NoMemory> {
+    Ok(MemDisk::new(alloc, Bytes::from_slice(alloc, bytes)?))
+}
+
+/// An empty disk of which one call fails.
+fn failing_disk(alloc: Global, call: u32) -> Result<FuseDisk, NoMemory> {
+    let mut fails = Numbers::new(alloc);
+    fails.push(call)?;
+    Ok(FuseDisk::new(alloc, Bytes::new(alloc), fails))
+}
+
+/// Runs a session over the log of a disk.
+fn answer<D: Disk>(alloc: Global, disk: &mut D, text: &str) -> Result<Ended, NoMemory> {
+    run_on(alloc, &["log"], &Script::of(text.as_bytes()), disk)
+}
+
+/// A session over the log of a disk ends so, and prints this.
+fn assert_ends<D: Disk>(
+    rt: &(impl Abort + AllocGlobal),
+    disk: &mut D,
+    text: &str,
+    status: Status,
+    printed: &str,
+) -> Result<(), Fail> {
+    let ended = answer(rt.alloc(), disk, text)?;
+    assert_eq!(rt; ended.status, status, "at {text}");
+    assert_eq!(rt; ended.sink.bytes(), printed.as_bytes(), "at {text}");
+    Ok(())
+}
+
+#[test]
+fn a_session_asks_about_an_earlier_one(rt: HostRuntime) -> Result<(), Fail> {
+    let alloc = rt.alloc();
+    let mut disk = disk_of(alloc, b"")?;
+    let typed = first_lines(alloc, TYPED, ASKS_AT)?;
+    for (text, want) in [
+        (typed.as_str(), TYPED_PRINTS),
+        ("back copy event 4 0 3\n", ASKED_PRINTS),
+        (
+            "back copy event 2 0 3\n",
+            "pair 2 0 0\npair 2 1 1\npair 2 2 2\nback pairs 3 instructions 0 groups -\n",
+        ),
+        (
+            "back copy event 4 0 0\n",
+            "back pairs 0 instructions 11 groups 1\n",
+        ),
+        ("back copy event 4 0 4\n", "no point\n"),
+    ] {
+        assert_ends(&rt, &mut disk, text, Status::Done, want)?;
+    }
+    Ok(())
+}
+
+#[test]
+fn a_session_goes_on_with_an_earlier_one(rt: HostRuntime) -> Result<(), Fail> {
+    let alloc = rt.alloc();
+    let mut disk = disk_of(alloc, b"")?;
+    let stalled = first_lines(alloc, STALLED, TYPES_AT)?;
+    for (text, want) in [
+        (stalled.as_str(), "event 0\nevent 1\nran 4 stalled\n"),
+        (
+            "type 616263\nrun 100\n",
+            "event 2\nout 4 1 616263\nran 7 done\n",
+        ),
+    ] {
+        assert_ends(&rt, &mut disk, text, Status::Done, want)?;
+    }
+    Ok(())
+}
+
+#[test]
+fn a_session_leaves_a_log(rt: HostRuntime) -> Result<(), Fail> {
+    let mut disk = disk_of(rt.alloc(), b"")?;
+    assert_ends(&rt, &mut disk, "", Status::Done, "")?;
+    assert_eq!(rt; disk.bytes(), b"ARNLOG01\0".as_slice());
+    assert_ends(&rt, &mut disk, "file a 6162\n", Status::Done, "event 0\n")?;
+    assert_eq!(rt; disk.bytes(), LOG.as_slice());
+    Ok(())
+}
+
+#[test]
+fn leaves_the_disk_where_words_are_refused(rt: HostRuntime) -> Result<(), Fail> {
+    let mut disk = disk_of(rt.alloc(), b"junk")?;
+    let ended = run_on(rt.alloc(), &[], &Script::of(b"file a 6162\n"), &mut disk)?;
+    assert_eq!(rt; ended.status, Status::Usage);
+    assert_eq!(rt; disk.bytes(), b"junk".as_slice());
+    Ok(())
+}
+
+#[test]
+fn refuses_what_is_no_log(rt: HostRuntime) -> Result<(), Fail> {
+    for (bytes, damage) in [
+        (b"ARNLOG99\0\0".as_slice(), Damage::NotLog { at: 6 }),
+        (&LOG[..20], Damage::Malformed { at: 8 }),
+    ] {
+        let mut disk = disk_of(rt.alloc(), bytes)?;
+        assert_ends(&rt, &mut disk, "hello\n", Status::Damaged(damage), "")?;
+        assert_eq!(rt; disk.bytes(), bytes);
+    }
+    Ok(())
+}
+
+/// The bytes of a log, but for the last `abc`, which becomes `bbc`.
+fn with_other_output(alloc: Global, log: &[u8]) -> Result<Bytes, NoMemory> {
+    let last = log.windows(3).rposition(|piece| piece == b"abc".as_slice());
+    let mut bytes = Bytes::new(alloc);
+    for (place, byte) in log.iter().enumerate() {
+        bytes.push(if Some(place) == last { b'b' } else { *byte })?;
+    }
+    Ok(bytes)
+}
+
+/// Record 6 is the write's: 26 bytes stand in it before those that were written.
+const OTHER_OUTPUT: Damage = Damage::Differs(Differs {
+    place: 6,
+    at: 26,
+    said: Some(0x62),
+    found: Some(0x61),
+});
+
+#[test]
+fn refuses_records_that_no_run_has(rt: HostRuntime) -> Result<(), Fail> {
+    let alloc = rt.alloc();
+    let mut disk = disk_of(alloc, b"")?;
+    let typed = first_lines(alloc, TYPED, ASKS_AT)?;
+    assert_ends(&rt, &mut disk, typed.as_str(), Status::Done, TYPED_PRINTS)?;
+    let bytes = with_other_output(alloc, disk.bytes())?;
+    let mut disk = disk_of(alloc, bytes.as_slice())?;
+    for (text, status, printed) in [
+        ("type 00\n", Status::Damaged(OTHER_OUTPUT), ""),
+        (
+            "hello\ntype 00\n",
+            Status::Damaged(OTHER_OUTPUT),
+            "no line\n",
+        ),
+        ("boot p\nfile p 00\n", Status::Done, "no line\nno line\n"),
+    ] {
+        assert_ends(&rt, &mut disk, text, status, printed)?;
+        assert_eq!(rt; disk.bytes(), bytes.as_slice());
+    }
+    Ok(())
+}
+
+/// How many records a log of these bytes has.
+fn count(alloc: Global, bytes: &[u8]) -> Result<usize, OpenError> {
+    let mut disk = disk_of(alloc, bytes)?;
+    Ok(Store::open_log(alloc, &mut disk)?.entries().len())
+}
+
+/// Whether so many records may be left where so many lines of `TYPED_PRINTS` were printed: those of
+/// the commits before the lines, and perhaps those of one more.
+fn may_leave(lines: usize, records: usize) -> bool {
+    matches!(
+        (lines, records),
+        (0, 0 | 1) | (1, 1 | 2) | (2, 2 | 3) | (3, 3 | 9)
+    )
+}
+
+#[test]
+fn a_failing_disk_keeps_what_was_printed(rt: HostRuntime) -> Result<(), Fail> {
+    let alloc = rt.alloc();
+    let typed = first_lines(alloc, TYPED, ASKS_AT)?;
+    for call in 0..1_000 {
+        let mut disk = failing_disk(alloc, call)?;
+        let ended = answer(alloc, &mut disk, typed.as_str())?;
+        let printed = ended.sink.bytes();
+        if ended.status == Status::Done {
+            assert_eq!(rt; printed, TYPED_PRINTS.as_bytes());
+            return Ok(());
+        }
+        assert_eq!(rt; ended.status, Status::Disk, "at {call}");
+        assert_eq!(rt; ended.status.code(), 3);
+        assert!(rt; TYPED_PRINTS.as_bytes().starts_with(printed), "at {call}");
+        let lines = printed.iter().filter(|byte| **byte == b'\n').count();
+        for fill in FILLS {
+            for short in [false, true] {
+                let left = disk.crash_with(alloc, fill, short)?;
+                let records = count(alloc, left.as_slice())?;
+                assert!(rt;
+                    may_leave(lines, records),
+                    "at {call}: {records} behind {lines}"
+                );
+                let mut disk = disk_of(alloc, left.as_slice())?;
+                let ended = answer(alloc, &mut disk, "run 0\n")?;
+                assert_eq!(rt; ended.status, Status::Done, "at {call}");
+            }
+        }
+    }
+    panic!(rt; "the disk has no end")
+}
+
+const FOLDER: &str = "arnold_tests";
+
+#[test]
+fn a_file_holds_the_log(rt: HostRuntime) -> Result<(), Fail> {
+    let alloc = rt.alloc();
+    let _ = fs::remove_dir_all(&rt, FOLDER);
+    fs::create_dir(&rt, FOLDER)?;
+    let typed = first_lines(alloc, TYPED, ASKS_AT)?;
+    for (text, printed) in [
+        (typed.as_str(), TYPED_PRINTS),
+        ("back copy event 4 0 3\n", ASKED_PRINTS),
+    ] {
+        let path = String::from_str(alloc, "arnold_tests/log")?;
+        let mut disk = FileDisk::new(rt.clone()?, path);
+        assert_ends(&rt, &mut disk, text, Status::Done, printed)?;
+    }
+    fs::remove_dir_all(&rt, FOLDER)?;
+    Ok(())
+}
+
+/// The words of a program, and how often each stands there: it writes the first 65,536 bytes of its
+/// window to the console five times, and exits.
+const WRITES: &[(&str, usize)] = &[
+    ("1306f07f", 1),
+    ("1306f67f", 31),
+    ("13060602", 1),
+    ("93050600", 1),
+    ("9308c000", 1),
+    ("1305100073000000", 5),
+    ("930810001305000073000000", 1),
+];
+
+/// How many words these are, and how many bytes a write takes.
+const WRITES_WORDS: usize = 48;
+
+const WRITTEN: usize = 65_536;
+
+/// The numbers of the writes' events.
+const WRITE_EVENTS: [u32; 5] = [2, 3, 4, 5, 6];
+
+/// The words in hex.
+fn writes_body(alloc: Global) -> Result<String, NoMemory> {
+    let mut body = String::new(alloc);
+    for (words, times) in WRITES {
+        for _ in 0..*times {
+            body.push_str(words)?;
+        }
+    }
+    Ok(body)
+}
+
+/// Makes a file of the program, boots it and runs it.
+fn writes_text(alloc: Global, body: &str) -> Result<String, NoMemory> {
+    let mut text = String::from_str(
+        alloc,
+        "file p 41524e494d47303100000100000000000000010000000000",
+    )?;
+    text.push_str(body)?;
+    text.push_str("\nboot p\nrun 100\n")?;
+    Ok(text)
+}
+
+/// What a write prints: its event, and the program and the zeros behind it.
+fn push_write(text: &mut String, event: u32, body: &str) -> Result<(), NoMemory> {
+    write!(text, "out {event} 1 {body}")?;
+    for _ in 4 * WRITES_WORDS..WRITTEN {
+        text.push_str("00")?;
+    }
+    Ok(text.push('\n')?)
+}
+
+/// What is printed for the boot of the program and the first of its writes.
+fn first_writes(alloc: Global, body: &str, count: usize) -> Result<String, NoMemory> {
+    let mut printed = String::from_str(alloc, "event 0\nevent 1\n")?;
+    for event in WRITE_EVENTS.iter().take(count) {
+        push_write(&mut printed, *event, body)?;
+    }
+    Ok(printed)
+}
+
+#[test]
+fn a_long_run_prints_each_write(rt: HostRuntime) -> Result<(), Fail> {
+    let alloc = rt.alloc();
+    let body = writes_body(alloc)?;
+    let text = writes_text(alloc, body.as_str())?;
+    let mut printed = first_writes(alloc, body.as_str(), 5)?;
+    printed.push_str("ran 48 done\n")?;
+    let mut disk = disk_of(alloc, b"")?;
+    assert_ends(
+        &rt,
+        &mut disk,
+        text.as_str(),
+        Status::Done,
+        printed.as_str(),
+    )
+}
+
+/// The opening takes four calls of the disk, and so does each commit: the file, the boot, the leg of
+/// four writes and that of the fifth, which fails at its first call. The next session runs that leg.
+#[test]
+fn a_leg_is_kept_where_the_next_one_fails(rt: HostRuntime) -> Result<(), Fail> {
+    let alloc = rt.alloc();
+    let body = writes_body(alloc)?;
+    let text = writes_text(alloc, body.as_str())?;
+    let printed = first_writes(alloc, body.as_str(), 4)?;
+    let mut disk = failing_disk(alloc, 16)?;
+    assert_ends(
+        &rt,
+        &mut disk,
+        text.as_str(),
+        Status::Disk,
+        printed.as_str(),
+    )?;
+    let left = disk.crash_with(alloc, Some(1), false)?;
+    assert_eq!(rt; count(alloc, left.as_slice())?, 10);
+    let mut rest = String::new(alloc);
+    push_write(&mut rest, 6, body.as_str())?;
+    rest.push_str("ran 5 done\n")?;
+    let mut disk = disk_of(alloc, left.as_slice())?;
+    assert_ends(&rt, &mut disk, "run 100\n", Status::Done, rest.as_str())
 }

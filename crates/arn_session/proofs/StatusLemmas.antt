@@ -1,0 +1,91 @@
+-- Which halt or which refusal a status is of.
+use Rattle.std.proofs.Common.{◌≡◌, Option, None, Some, refl, sym, ap, ◌∙◌}
+use Rattle.log_store.specs.Causes.{BlamesBytes}
+use Rattle.log_store.specs.declared.errors.OpenError.{OpenError}
+use Rattle.log_store.specs.declared.errors.OpenError.TheVariants as opening
+use Rattle.arn_session.specs.Status.{status_of, open_status_of}
+use Rattle.arn_session.specs.declared.status.Status.{Status}
+use Rattle.arn_session.specs.declared.status.Status.TheVariants as status
+use Rattle.arn_session.specs.declared.status.Damage.TheVariants as damage
+use Rattle.arn_session.specs.declared.status.Halt.{Halt}
+use Rattle.arn_session.specs.declared.status.Halt.TheVariants as halt
+
+-- the halt of a status, if there is one
+abbrev pub halt_for : Status → Option Halt
+halt_for status.Done = None
+halt_for status.Usage = None
+halt_for status.Disk = Some halt.Disk
+halt_for (status.Damaged (damage.TooLong len)) = None
+halt_for (status.Damaged (damage.NotLog at)) = None
+halt_for (status.Damaged (damage.Malformed at)) = None
+halt_for (status.Damaged (damage.Differs d)) = Some (halt.Differs d)
+halt_for status.NoMemory = Some halt.NoMemory
+halt_for status.Source = Some halt.Source
+halt_for status.Sink = Some halt.Sink
+halt_for (status.Full log payload) = Some (halt.Full log payload)
+halt_for status.Long = Some halt.Long
+
+halt_for-status : (why : Halt) → halt_for (status_of why) ≡ Some why
+halt_for-status halt.NoMemory = refl
+halt_for-status halt.Source = refl
+halt_for-status halt.Sink = refl
+halt_for-status halt.Long = refl
+halt_for-status halt.Disk = refl
+halt_for-status (halt.Full log payload) = refl
+halt_for-status (halt.Differs d) = refl
+
+-- a status that comes of a halt comes of this one
+pub halt-is : (why : Halt) (s : Status) (h : Halt) → s ≡ status_of why → halt_for s ≡ Some h → why ≡ h
+halt-is why s h is for =
+    let same : Some why ≡ Some h = sym (ap halt_for is ∙ halt_for-status why) ∙ for in
+    cc same
+
+-- a status comes of no halt
+pub no-halt : (why : Halt) (s : Status) → s ≡ status_of why → halt_for s ≡ None → ⊥
+no-halt why s is none =
+    let same : Some why ≡ None = sym (ap halt_for is ∙ halt_for-status why) ∙ none in
+    cc same
+
+-- the status of a refusal for the bytes of the log comes of no halt
+pub no-halt-open : (why : Halt) (error : OpenError) → BlamesBytes error → open_status_of error ≡ status_of why → ⊥
+no-halt-open why (opening.TooLong len) blames is = no-halt why (open_status_of (opening.TooLong len)) is refl
+no-halt-open why (opening.NotLog at) blames is = no-halt why (open_status_of (opening.NotLog at)) is refl
+no-halt-open why (opening.Malformed at) blames is = no-halt why (open_status_of (opening.Malformed at)) is refl
+no-halt-open why opening.Disk blames is = blames
+no-halt-open why opening.NoMemory blames is = blames
+
+-- the refusal of a status, if there is one
+abbrev pub error_for : Status → Option OpenError
+error_for status.Done = None
+error_for status.Usage = None
+error_for status.Disk = Some opening.Disk
+error_for (status.Damaged (damage.TooLong len)) = Some (opening.TooLong len)
+error_for (status.Damaged (damage.NotLog at)) = Some (opening.NotLog at)
+error_for (status.Damaged (damage.Malformed at)) = Some (opening.Malformed at)
+error_for (status.Damaged (damage.Differs d)) = None
+error_for status.NoMemory = Some opening.NoMemory
+error_for status.Source = None
+error_for status.Sink = None
+error_for (status.Full log payload) = None
+error_for status.Long = None
+
+error_for-status : (error : OpenError) → error_for (open_status_of error) ≡ Some error
+error_for-status (opening.TooLong len) = refl
+error_for-status (opening.NotLog at) = refl
+error_for-status (opening.Malformed at) = refl
+error_for-status opening.Disk = refl
+error_for-status opening.NoMemory = refl
+
+pub error-is : (error : OpenError) (s : Status) (e : OpenError) → s ≡ open_status_of error → error_for s ≡ Some e → error ≡ e
+error-is error s e is for =
+    let same : Some error ≡ Some e = sym (ap error_for is ∙ error_for-status error) ∙ for in
+    cc same
+
+pub no-error : (error : OpenError) (s : Status) → s ≡ open_status_of error → error_for s ≡ None → ⊥
+no-error error s is none =
+    let same : Some error ≡ None = sym (ap error_for is ∙ error_for-status error) ∙ none in
+    cc same
+
+-- two refusals with one status are one
+pub same-error : (a b : OpenError) → open_status_of a ≡ open_status_of b → a ≡ b
+same-error a b is = error-is a (open_status_of b) b (sym is) (error_for-status b)

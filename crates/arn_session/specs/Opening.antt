@@ -1,0 +1,40 @@
+-- A session that ends before it begins, since its log wasn't opened.
+use Rattle.std.specs.Prelude.{◌≡◌, ℕ, ◌≤◌, List, [], length, Option}
+use Rattle.arn_base.specs.declared.records.Record.{Record}
+use Rattle.log_store.specs.Log.{IsLog}
+use Rattle.log_store.specs.declared.size.TheConstants.{MOST_LOG}
+use Rattle.arn_session.specs.Carrying.{IsAtRest, Keeps}
+use Rattle.arn_session.specs.declared.status.Status.{Status}
+use Rattle.arn_session.specs.declared.status.Status.TheVariants as status
+use Rattle.arn_session.specs.declared.status.Damage.TheVariants as damage
+
+-- nothing was taken of the source and nothing put into the sink, and no instruction was executed
+pub record NeverBegan {S K : Type 0} (source source' : S) (sink sink' : K) (steps steps' : ℕ) : Type 0 where
+  pub untaken : source' ≡ source
+  pub unput : sink' ≡ sink
+  pub idle : steps' ≡ steps
+
+-- the session opened its log: it ended neither by its words nor by the bytes of its log, nor perhaps by its disk or by want of
+-- memory before that
+abbrev pub HasBegun : Status → Type 0
+HasBegun status.Done = Unit {0}
+HasBegun status.Usage = ⊥
+HasBegun status.Disk = ⊥
+HasBegun (status.Damaged (damage.TooLong len)) = ⊥
+HasBegun (status.Damaged (damage.NotLog at)) = ⊥
+HasBegun (status.Damaged (damage.Malformed at)) = ⊥
+HasBegun (status.Damaged (damage.Differs d)) = Unit {0}
+HasBegun status.NoMemory = ⊥
+HasBegun status.Source = Unit {0}
+HasBegun status.Sink = Unit {0}
+HasBegun (status.Full log payload) = Unit {0}
+HasBegun status.Long = Unit {0}
+
+-- the same, and of a disk at rest a stop at any moment leaves the history
+pub record FailsToOpen {S K D : Type 0} (image : D → Option (List ℕ)) (may_leave : D → List ℕ → Type 0) (moment : D → ℕ) (left_since : D → ℕ → List ℕ → Type 0) (old new : D) (history : List Record) (source source' : S) (sink sink' : K) (steps steps' : ℕ) : Type 0 where
+  pub never : NeverBegan source source' sink sink' steps steps'
+  pub keeps : IsAtRest image may_leave old history → Keeps may_leave moment left_since old new history [] []
+
+-- a session that began has a log that isn't too long
+abbrev pub IsOpened : Status → List ℕ → Type 0
+IsOpened status bytes = HasBegun status → (history : List Record) × IsLog bytes history × (length bytes ≤ MOST_LOG)

@@ -1,0 +1,171 @@
+// What lines do.
+ghost use Rattle.std.specs.Prelude.{◌≡◌, ◌+◌, ◌≤◌, [], None, true, OnOk, IfErr, IsErrOf};
+ghost use Rattle.arn_base.specs.Faults.{NeverFalls};
+ghost use Rattle.guest_machine.specs.declared.differs.Differs.{Differs};
+ghost use Rattle.log_store.specs.Stops.{GoesOn};
+ghost use Rattle.arn_session.specs.Answering.{standpoint_after, MadeOnRun};
+ghost use Rattle.arn_session.specs.Answers.{effects, line_effects, needs_machine, refusal_of};
+ghost use Rattle.arn_session.specs.Carrying.{StopsAt};
+ghost use Rattle.arn_session.specs.Cost.{cost, line_cost};
+ghost use Rattle.arn_session.specs.Kept.{IsReady, IsSound, standpoint_of};
+ghost use Rattle.arn_session.specs.Ready.{BlamesRecords};
+ghost use Rattle.arn_session.specs.Sizes.{Fits, LineFits};
+ghost use Rattle.arn_session.specs.Standing.{Carries, IsCause, IsLineCause, IsOpen};
+
+use crate::asking::back;
+use crate::events::{add_file, boot, type_in};
+use crate::kept::Kept;
+use crate::printing::print_refusal;
+use crate::ready::take_machine;
+use crate::refusals::refusal_of;
+use crate::running::run;
+use crate::status::Halt;
+use arn_base::{Disk, Sink, Steps};
+use arn_lines::{Line, Reading, Refusal};
+use guest_machine::Machine;
+use log_store::Store;
+use std::alloc::Global;
+use std::sync::ledger::Ledger;
+
+/// Does what a line that reads so says: commits what it adds to the history, and prints its answer.
+pub fn answer<D: Disk, K: Sink, L: Ledger>(
+    kept: &mut Kept,
+    reading: Reading,
+    disk: &mut D,
+    text: &mut String,
+    sink: &mut K,
+    steps: &mut Steps<L>,
+) -> Result<(), Halt>
+    requires open { IsOpen D.image kept.old.store disk.old }
+    requires sound { IsSound kept.old }
+    requires fits { Fits reading }
+    ensures sound { OnOk result (IsSound kept.new) }
+    ensures gained { OnOk result
+        (standpoint_of kept.new ≡ standpoint_after (standpoint_of kept.old) reading) }
+    ensures made { OnOk result (MadeOnRun (standpoint_of kept.old) (standpoint_of kept.new)) }
+    ensures carries { OnOk result (Carries D.image D.may_leave D.moment D.left_since disk.old disk.new
+        kept.old.store kept.new.store (K.holds sink.old) (K.holds sink.new)
+        (effects kept.old.store.entries reading)) }
+    ensures stops { IfErr result (λ halt. StopsAt D.image D.may_leave D.moment D.left_since disk.old disk.new
+        kept.old.store.entries (K.holds sink.old) (K.holds sink.new) halt []
+        (effects kept.old.store.entries reading)) }
+    ensures cause { IfErr result (λ halt. IsLineCause halt
+        (D.faults disk.old) (D.faults disk.new) (K.faults sink.old) (K.faults sink.new)) }
+    ensures later { GoesOn D.image D.faults disk.old disk.new }
+    ensures faults { NeverFalls (K.faults sink.old) (K.faults sink.new) }
+    ensures blames { IfErr result (λ halt. BlamesRecords halt (standpoint_of kept.old)) }
+    ensures needs { (d : Differs) → IsErrOf result (Halt.Differs d) →
+        needs_machine kept.old.store.entries reading ≡ true }
+    ensures undone { (d : Differs) → IsErrOf result (Halt.Differs d) → (disk.new ≡ disk.old) ×
+        (K.holds sink.new ≡ K.holds sink.old) }
+    ensures steps { steps.new ≤ steps.old + cost (standpoint_of kept.old).is_there
+        kept.old.store.entries reading }
+{
+    match reading {
+        Reading::PassedOver => Ok(()),
+        Reading::Unreadable => print_refusal(text, Refusal::NoLine, sink),
+        Reading::Says { line } => answer_line(kept, line, disk, text, sink, steps),
+    }
+}
+
+// Does what a line of the grammar says.
+fn answer_line<D: Disk, K: Sink, L: Ledger>(
+    kept: &mut Kept,
+    line: Line,
+    disk: &mut D,
+    text: &mut String,
+    sink: &mut K,
+    steps: &mut Steps<L>,
+) -> Result<(), Halt>
+    requires open { IsOpen D.image kept.old.store disk.old }
+    requires sound { IsSound kept.old }
+    requires fits { LineFits line }
+    ensures sound { OnOk result (IsSound kept.new) }
+    ensures gained { OnOk result
+        (standpoint_of kept.new ≡ standpoint_after (standpoint_of kept.old) (Reading.Says line)) }
+    ensures made { OnOk result (MadeOnRun (standpoint_of kept.old) (standpoint_of kept.new)) }
+    ensures carries { OnOk result (Carries D.image D.may_leave D.moment D.left_since disk.old disk.new
+        kept.old.store kept.new.store (K.holds sink.old) (K.holds sink.new)
+        (effects kept.old.store.entries (Reading.Says line))) }
+    ensures stops { IfErr result (λ halt. StopsAt D.image D.may_leave D.moment D.left_since disk.old disk.new
+        kept.old.store.entries (K.holds sink.old) (K.holds sink.new) halt []
+        (effects kept.old.store.entries (Reading.Says line))) }
+    ensures cause { IfErr result (λ halt. IsLineCause halt
+        (D.faults disk.old) (D.faults disk.new) (K.faults sink.old) (K.faults sink.new)) }
+    ensures later { GoesOn D.image D.faults disk.old disk.new }
+    ensures faults { NeverFalls (K.faults sink.old) (K.faults sink.new) }
+    ensures blames { IfErr result (λ halt. BlamesRecords halt (standpoint_of kept.old)) }
+    ensures needs { (d : Differs) → IsErrOf result (Halt.Differs d) →
+        needs_machine kept.old.store.entries (Reading.Says line) ≡ true }
+    ensures undone { (d : Differs) → IsErrOf result (Halt.Differs d) → (disk.new ≡ disk.old) ×
+        (K.holds sink.new ≡ K.holds sink.old) }
+    ensures steps { steps.new ≤ steps.old + cost (standpoint_of kept.old).is_there
+        kept.old.store.entries (Reading.Says line) }
+{
+    if let Some(why) = refusal_of(kept.store.entries(), &line) {
+        return print_refusal(text, why, sink);
+    }
+    let mut machine = take_machine(kept, steps)?;
+    let store = &mut kept.store;
+    carry_out(
+        kept.alloc,
+        store,
+        &mut machine,
+        line,
+        disk,
+        text,
+        sink,
+        steps,
+    )?;
+    kept.machine = Some(machine);
+    Ok(())
+}
+
+// Does what a line says that isn't refused.
+fn carry_out<D: Disk, K: Sink, L: Ledger>(
+    alloc: Global,
+    store: &mut Store,
+    machine: &mut Machine,
+    line: Line,
+    disk: &mut D,
+    text: &mut String,
+    sink: &mut K,
+    steps: &mut Steps<L>,
+) -> Result<(), Halt>
+    requires open { IsOpen D.image store.old disk.old }
+    requires ready { IsReady machine.old store.old.entries }
+    requires fits { LineFits line }
+    requires accepted { refusal_of store.old.entries line ≡ None }
+    ensures ready { OnOk result (IsReady machine.new store.new.entries) }
+    ensures carries { OnOk result (Carries D.image D.may_leave D.moment D.left_since disk.old disk.new
+        store.old store.new (K.holds sink.old) (K.holds sink.new)
+        (line_effects store.old.entries line)) }
+    ensures stops { IfErr result (λ halt. StopsAt D.image D.may_leave D.moment D.left_since disk.old disk.new
+        store.old.entries (K.holds sink.old) (K.holds sink.new) halt []
+        (line_effects store.old.entries line)) }
+    ensures cause { IfErr result (λ halt. IsCause halt
+        (D.faults disk.old) (D.faults disk.new) (K.faults sink.old) (K.faults sink.new)) }
+    ensures later { GoesOn D.image D.faults disk.old disk.new }
+    ensures faults { NeverFalls (K.faults sink.old) (K.faults sink.new) }
+    ensures steps { steps.new ≤ steps.old + line_cost store.old.entries line }
+{
+    match line {
+        Line::File { name, bytes } => {
+            add_file(alloc, store, machine, name, bytes, disk, text, sink)
+        }
+        Line::Boot { name } => boot(alloc, store, machine, name, disk, text, sink),
+        Line::Type { bytes } => type_in(alloc, store, machine, bytes, disk, text, sink),
+        Line::Run { count } => run(alloc, store, machine, count, disk, text, sink, steps),
+        Line::Back {
+            linkage,
+            event,
+            from,
+            len,
+        } => {
+            let entries = store.entries();
+            back(
+                alloc, entries, machine, linkage, event, from, len, text, sink,
+            )
+        }
+    }
+}

@@ -1,0 +1,78 @@
+// Text, put into a sink.
+ghost use Rattle.std.specs.Prelude.{◌≡◌, ◌++◌, ℕ, OnOk, IfErr, option_map};
+ghost use Rattle.arn_base.specs.Faults.{NeverFalls};
+ghost use Rattle.arn_lines.specs.Texts.{event_text, refusal_text, ran_text};
+ghost use Rattle.arn_session.specs.Printing.{StopsPut};
+ghost use Rattle.arn_session.specs.Standing.{IsCause};
+
+use crate::status::Halt;
+use arn_base::{Sink, Stop};
+use arn_lines::{Refusal, RunEnd, push_event, push_ran, push_refusal};
+
+/// Puts all of the bytes.
+pub fn put_all<K: Sink>(sink: &mut K, bytes: &[u8]) -> Result<(), Halt>
+    ensures ok { OnOk result
+        (K.holds sink.new ≡ option_map (λ held. held ++ bytes.now) (K.holds sink.old)) }
+    ensures stops { IfErr result (λ halt.
+        StopsPut halt bytes.now (K.holds sink.old) (K.holds sink.new)) }
+    ensures cause { IfErr result (λ halt. (faults : ℕ) →
+        IsCause halt faults faults (K.faults sink.old) (K.faults sink.new)) }
+    ensures faults { NeverFalls (K.faults sink.old) (K.faults sink.new) }
+{
+    let mut rest = bytes;
+    while !rest.is_empty() {
+        let count = sink.put(rest)?;
+        rest = &rest[count..];
+    }
+    Ok(())
+}
+
+/// Prints `event E`.
+pub fn print_event<K: Sink>(text: &mut String, event: u64, sink: &mut K) -> Result<(), Halt>
+    ensures ok { OnOk result (K.holds sink.new ≡
+        option_map (λ held. held ++ event_text event) (K.holds sink.old)) }
+    ensures stops { IfErr result (λ halt.
+        StopsPut halt (event_text event) (K.holds sink.old) (K.holds sink.new)) }
+    ensures cause { IfErr result (λ halt. (faults : ℕ) →
+        IsCause halt faults faults (K.faults sink.old) (K.faults sink.new)) }
+    ensures faults { NeverFalls (K.faults sink.old) (K.faults sink.new) }
+{
+    text.clear();
+    push_event(text, event)?;
+    put_all(sink, text.as_bytes())
+}
+
+/// Prints why a line is refused.
+pub fn print_refusal<K: Sink>(text: &mut String, why: Refusal, sink: &mut K) -> Result<(), Halt>
+    ensures ok { OnOk result (K.holds sink.new ≡
+        option_map (λ held. held ++ refusal_text why) (K.holds sink.old)) }
+    ensures stops { IfErr result (λ halt.
+        StopsPut halt (refusal_text why) (K.holds sink.old) (K.holds sink.new)) }
+    ensures cause { IfErr result (λ halt. (faults : ℕ) →
+        IsCause halt faults faults (K.faults sink.old) (K.faults sink.new)) }
+    ensures faults { NeverFalls (K.faults sink.old) (K.faults sink.new) }
+{
+    text.clear();
+    push_refusal(text, why)?;
+    put_all(sink, text.as_bytes())
+}
+
+/// Prints `ran K END`.
+pub fn print_ran<K: Sink>(
+    text: &mut String,
+    ran: u64,
+    end: RunEnd,
+    sink: &mut K,
+) -> Result<(), Halt>
+    ensures ok { OnOk result (K.holds sink.new ≡
+        option_map (λ held. held ++ ran_text ran end) (K.holds sink.old)) }
+    ensures stops { IfErr result (λ halt.
+        StopsPut halt (ran_text ran end) (K.holds sink.old) (K.holds sink.new)) }
+    ensures cause { IfErr result (λ halt. (faults : ℕ) →
+        IsCause halt faults faults (K.faults sink.old) (K.faults sink.new)) }
+    ensures faults { NeverFalls (K.faults sink.old) (K.faults sink.new) }
+{
+    text.clear();
+    push_ran(text, ran, end)?;
+    put_all(sink, text.as_bytes())
+}

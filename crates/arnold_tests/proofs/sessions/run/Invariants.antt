@@ -1,4 +1,0 @@
-use Rattle.arnold_tests.proofs.sessions.run.Given as goal
-
-abbrev pub ghosts-run_over : goal.ghosts-run_over
-ghosts-run_over a = record { name = a.blank.name; parts = a.blank.parts }
