@@ -6,6 +6,7 @@ use Rattle.arn_base.specs.declared.records.Record.{Record}
 use Rattle.arn_lines.specs.declared.line.Reading.{Reading}
 use Rattle.arn_lines.specs.declared.line.TheConstants.{MOST_LINE}
 use Rattle.arn_lines.specs.Grammar.{Reads}
+use Rattle.arn_session.specs.Printing.{PutsLess}
 use Rattle.arn_session.specs.Effects.{Effect, committed}
 use Rattle.arn_session.specs.Lines.{line_feed, lines_of, whole_lines_of, EachReads}
 use Rattle.arn_session.specs.Reader.{ReaderState, fresh_reader, Uses, UsesSome, IsKept, ReadsLine, IsAtEnd}
@@ -13,7 +14,7 @@ use Rattle.arn_session.specs.Answers.{effects, needs_machine}
 use Rattle.arn_session.specs.Answering.{Standpoint, standpoint_first, BeginsLine, FindsLine}
 use Rattle.arn_session.specs.Cost.{cost, total_cost}
 use Rattle.arn_session.specs.Transcript.{all_effects, history_behind}
-use Rattle.arn_session.specs.CutOff.{PutsLess, BeginsText, FindsOut}
+use Rattle.arn_session.specs.CutOff.{BeginsText, FindsOut}
 use Rattle.arn_session.proofs.LineLemmas.{EachReads-push}
 use Rattle.arn_session.proofs.ReaderLemmas.{Uses-ahead, Uses-append}
 use Rattle.arn_session.proofs.TranscriptLemmas.{standpoint_behind, history_behind-committed, all_effects-one, total_cost-push, there-needed, history-unchanged, never-needed}

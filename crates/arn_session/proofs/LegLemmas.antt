@@ -1,5 +1,5 @@
 -- A leg: its records are committed, and then its outputs are printed.
-use Rattle.std.proofs.Common.{◌≡◌, ◌≢◌, ℕ, ◌+◌, ◌-◌, ◌≤◌, ◌++◌, ◌∙◌, List, [], ◌∷◌, Option, option_map, Result, Ok, Err, OnOk, IfErr, IsErrAnd, refl, sym, ap, subst, append-nil}
+use Rattle.std.proofs.Common.{◌≡◌, ◌≢◌, ℕ, ◌+◌, ◌-◌, ◌≤◌, ◌++◌, ◌∙◌, List, [], ◌∷◌, Option, option_map, Result, Ok, Err, IfErr, IsErrAnd, refl, sym, ap, subst, append-nil}
 use Rattle.arn_base.specs.declared.records.Record.{Record}
 use Rattle.arn_base.specs.Faults.{NeverFalls}
 use Rattle.arn_model.specs.declared.history.Input.{Input}
@@ -50,15 +50,6 @@ IsCause-after halt.Long d0 d1 d2 s0 s1 s2 first second put more is = is
 pub IsCause-sink : {T : Type 0} (result : Result T Halt) (d0 d1 s0 s1 s2 : ℕ) → NeverFalls d0 d1 → NeverFalls s0 s1 → NeverFalls s1 s2 → IfErr result (λ halt. (faults : ℕ) → IsCause halt faults faults s1 s2) → IfErr result (λ halt. IsCause halt d0 d1 s0 s2)
 IsCause-sink (Ok x) d0 d1 s0 s1 s2 first put more is = tt
 IsCause-sink (Err halt) d0 d1 s0 s1 s2 first put more is = IsCause-after halt d0 d1 d1 s0 s1 s2 first (NeverFalls-same d1) put more (is d1)
-
--- what holds of a result, from another fact of it
-pub on_ok : {T : Type 0} (result : Result T Halt) (P Q : Type 0) → (P → Q) → OnOk result P → OnOk result Q
-on_ok (Ok x) P Q follows p = follows p
-on_ok (Err halt) P Q follows p = tt
-
-pub if_err : {T : Type 0} (result : Result T Halt) (P Q : Halt → Type 0) → ((halt : Halt) → P halt → Q halt) → IfErr result P → IfErr result Q
-if_err (Ok x) P Q follows p = tt
-if_err (Err halt) P Q follows p = follows halt p
 
 -- records that are committed where there are some
 pub committed-of : (entries : List Record) → committed (commit_of entries) ≡ entries

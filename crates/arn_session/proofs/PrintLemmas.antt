@@ -3,8 +3,7 @@ use Rattle.std.proofs.Common.{◌≡◌, ◌≢◌, ℕ, List, length, Option, R
 use Rattle.arn_base.specs.declared.errors.Stop.{Stop}
 use Rattle.arn_base.specs.declared.errors.Stop.TheVariants as stop
 use Rattle.arn_session.specs.declared.status.Halt.{Halt}
-use Rattle.arn_session.specs.CutOff.{PutsLess}
-use Rattle.arn_session.specs.Printing.{StopsPut}
+use Rattle.arn_session.specs.Printing.{PutsLess, StopsPut}
 use Rattle.arn_session.specs.Status.{halt_of}
 use Rattle.arn_session.proofs.CutLemmas.{PutSoFar, PutSoFar-less}
 

@@ -10,8 +10,7 @@ use Rattle.log_store.specs.Stops.{LeavesOnly, NothingPending}
 use Rattle.log_store.specs.declared.size.TheConstants.{MOST_LOG}
 use Rattle.arn_session.specs.Effects.{Effect, Commits, Prints, committed, printed}
 use Rattle.arn_session.specs.Carrying.{IsAtRest, HoldsFirst, HoldsAll, Keeps, CarriesOut, IsInText, Stopped, StopsAt}
-use Rattle.arn_session.specs.CutOff.{PutsFront}
-use Rattle.arn_session.specs.Printing.{StopsPut}
+use Rattle.arn_session.specs.Printing.{PutsFront, StopsPut}
 use Rattle.arn_session.specs.declared.status.Halt.{Halt}
 use Rattle.arn_session.specs.declared.status.Halt.TheVariants as halt
 use Rattle.arn_session.proofs.EffectLemmas.{committed-one, printed-one}

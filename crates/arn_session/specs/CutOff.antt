@@ -1,5 +1,5 @@
 -- What was done where a session ends before its text does.
-use Rattle.std.specs.Prelude.{◌≡◌, ◌≢◌, ◌<◌, ◌≤◌, ◌^◌, ◌⊎◌, ℕ, ◌+◌, true, false, List, [], ◌∷◌, ◌++◌, length, Option, option_map, IfSome}
+use Rattle.std.specs.Prelude.{◌≡◌, ◌<◌, ◌≤◌, ◌^◌, ◌⊎◌, ℕ, ◌+◌, true, false, List, [], ◌∷◌, ◌++◌, length, Option, IfSome}
 use Rattle.arn_base.specs.declared.records.Record.{Record}
 use Rattle.arn_lines.specs.declared.line.Reading.{Reading}
 use Rattle.arn_session.specs.Effects.{Effect}
@@ -8,18 +8,6 @@ use Rattle.arn_session.specs.Cost.{total_cost}
 use Rattle.arn_session.specs.Lines.{EachReads, lines_of, whole_lines_of}
 use Rattle.arn_session.specs.Transcript.{all_effects, history_behind, needs_any}
 use Rattle.log_model.specs.Records.{IsRun}
-
--- a beginning of the bytes was put, perhaps none or all of them; the others are left
-pub record PutsFront (bytes : List ℕ) (held holds : Option (List ℕ)) : Type 0 where
-  pub put : List ℕ
-  pub left : List ℕ
-  pub are_bytes : bytes ≡ put ++ left
-  pub printed : holds ≡ option_map (λ before. before ++ put) held
-
--- a beginning of the bytes was put, but not all of them
-pub record PutsLess (bytes : List ℕ) (held holds : Option (List ℕ)) : Type 0 where
-  pub front : PutsFront bytes held holds
-  pub some_left : front.left ≢ []
 
 -- A session that began on a history answered the first lines of a text, and began the answer to one more at most. All of them
 -- were taken, and no more instructions were executed than they cost. What the first lines do was carried out, and of what the

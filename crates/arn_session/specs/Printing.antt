@@ -1,8 +1,19 @@
--- What was put of a text where not all of it was put.
-use Rattle.std.specs.Prelude.{ℕ, List, Option}
-use Rattle.arn_session.specs.CutOff.{PutsFront, PutsLess}
+-- What was put of a text.
+use Rattle.std.specs.Prelude.{◌≡◌, ◌≢◌, ℕ, List, [], ◌++◌, Option, option_map}
 use Rattle.arn_session.specs.declared.status.Halt.{Halt}
 use Rattle.arn_session.specs.declared.status.Halt.TheVariants as halt
+
+-- a beginning of the bytes was put, perhaps none or all of them; the others are left
+pub record PutsFront (bytes : List ℕ) (held holds : Option (List ℕ)) : Type 0 where
+  pub put : List ℕ
+  pub left : List ℕ
+  pub are_bytes : bytes ≡ put ++ left
+  pub printed : holds ≡ option_map (λ before. before ++ put) held
+
+-- a beginning of the bytes was put, but not all of them
+pub record PutsLess (bytes : List ℕ) (held holds : Option (List ℕ)) : Type 0 where
+  pub front : PutsFront bytes held holds
+  pub some_left : front.left ≢ []
 
 -- the sink failed, or there was no memory
 abbrev pub StopsPut : Halt → List ℕ → Option (List ℕ) → Option (List ℕ) → Type 0

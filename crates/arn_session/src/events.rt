@@ -17,14 +17,11 @@ ghost use Rattle.arn_session.specs.Standing.{Carries, IsCause, IsOpen};
 
 use crate::commits::commit;
 use crate::printing::print_event;
-use crate::ready::count_records;
+use crate::ready::{count_records, history_laws};
 use crate::status::Halt;
 use arn_base::{Bytes, Disk, Record, Sink};
-use guest_machine::{
-    Machine, MachineError, named_follow, records_follow, records_leave_room, runs_follow,
-};
+use guest_machine::{Machine, MachineError};
 use history_facts::{records_tell_boot, records_tell_files, records_tell_images};
-use log_model::records_are_run;
 use log_store::Store;
 use std::alloc::Global;
 
@@ -40,10 +37,12 @@ fn finish<D: Disk, K: Sink>(
     requires open { IsOpen D.image store.old disk.old }
     requires spelled { All HasSpelling entries.items }
     requires run { IsRun store.old.entries → IsRun (store.old.entries ++ entries.items) }
-    ensures carries { OnOk result (Carries D.image D.may_leave D.moment D.left_since disk.old disk.new
+    ensures carries { OnOk result (
+        Carries D.image D.may_leave D.moment D.left_since disk.old disk.new
         store.old store.new (K.holds sink.old) (K.holds sink.new)
         (Commits entries.items ∷ Prints (event_text event) ∷ [])) }
-    ensures stops { IfErr result (λ halt. StopsAt D.image D.may_leave D.moment D.left_since disk.old disk.new
+    ensures stops { IfErr result (λ halt.
+        StopsAt D.image D.may_leave D.moment D.left_since disk.old disk.new
         store.old.entries (K.holds sink.old) (K.holds sink.new) halt []
         (Commits entries.items ∷ Prints (event_text event) ∷ [])) }
     ensures cause { IfErr result (λ halt. IsCause halt
@@ -72,10 +71,12 @@ pub fn add_file<D: Disk, K: Sink>(
     requires bytes { length bytes ≤ MOST_FILE_BYTES }
     requires accepted { refusal_of store.old.entries (line.File name bytes) ≡ None }
     ensures ready { OnOk result (IsReady machine.new store.new.entries) }
-    ensures carries { OnOk result (Carries D.image D.may_leave D.moment D.left_since disk.old disk.new
+    ensures carries { OnOk result (
+        Carries D.image D.may_leave D.moment D.left_since disk.old disk.new
         store.old store.new (K.holds sink.old) (K.holds sink.new)
         (event_effects (machine_of store.old.entries) (input.File name bytes))) }
-    ensures stops { IfErr result (λ halt. StopsAt D.image D.may_leave D.moment D.left_since disk.old disk.new
+    ensures stops { IfErr result (λ halt.
+        StopsAt D.image D.may_leave D.moment D.left_since disk.old disk.new
         store.old.entries (K.holds sink.old) (K.holds sink.new) halt []
         (event_effects (machine_of store.old.entries) (input.File name bytes))) }
     ensures cause { IfErr result (λ halt. IsCause halt
@@ -84,11 +85,7 @@ pub fn add_file<D: Disk, K: Sink>(
     ensures faults { NeverFalls (K.faults sink.old) (K.faults sink.new) }
 {
     count_records(store);
-    named_follow();
-    records_follow();
-    records_leave_room();
-    runs_follow();
-    records_are_run();
+    history_laws();
     records_tell_boot();
     records_tell_files();
     let mut entries = Vec::new(alloc);
@@ -115,10 +112,12 @@ pub fn boot<D: Disk, K: Sink>(
     requires name { IsTrue (is_name name) }
     requires accepted { refusal_of store.old.entries (line.Boot name) ≡ None }
     ensures ready { OnOk result (IsReady machine.new store.new.entries) }
-    ensures carries { OnOk result (Carries D.image D.may_leave D.moment D.left_since disk.old disk.new
+    ensures carries { OnOk result (
+        Carries D.image D.may_leave D.moment D.left_since disk.old disk.new
         store.old store.new (K.holds sink.old) (K.holds sink.new)
         (event_effects (machine_of store.old.entries) (input.Boot name))) }
-    ensures stops { IfErr result (λ halt. StopsAt D.image D.may_leave D.moment D.left_since disk.old disk.new
+    ensures stops { IfErr result (λ halt.
+        StopsAt D.image D.may_leave D.moment D.left_since disk.old disk.new
         store.old.entries (K.holds sink.old) (K.holds sink.new) halt []
         (event_effects (machine_of store.old.entries) (input.Boot name))) }
     ensures cause { IfErr result (λ halt. IsCause halt
@@ -127,11 +126,7 @@ pub fn boot<D: Disk, K: Sink>(
     ensures faults { NeverFalls (K.faults sink.old) (K.faults sink.new) }
 {
     count_records(store);
-    named_follow();
-    records_follow();
-    records_leave_room();
-    runs_follow();
-    records_are_run();
+    history_laws();
     records_tell_boot();
     records_tell_files();
     records_tell_images();
@@ -159,10 +154,12 @@ pub fn type_in<D: Disk, K: Sink>(
     requires bytes { length bytes < 2 ^ 32 }
     requires accepted { refusal_of store.old.entries (line.Type bytes) ≡ None }
     ensures ready { OnOk result (IsReady machine.new store.new.entries) }
-    ensures carries { OnOk result (Carries D.image D.may_leave D.moment D.left_since disk.old disk.new
+    ensures carries { OnOk result (
+        Carries D.image D.may_leave D.moment D.left_since disk.old disk.new
         store.old store.new (K.holds sink.old) (K.holds sink.new)
         (event_effects (machine_of store.old.entries) (input.Typed bytes))) }
-    ensures stops { IfErr result (λ halt. StopsAt D.image D.may_leave D.moment D.left_since disk.old disk.new
+    ensures stops { IfErr result (λ halt.
+        StopsAt D.image D.may_leave D.moment D.left_since disk.old disk.new
         store.old.entries (K.holds sink.old) (K.holds sink.new) halt []
         (event_effects (machine_of store.old.entries) (input.Typed bytes))) }
     ensures cause { IfErr result (λ halt. IsCause halt
@@ -171,11 +168,7 @@ pub fn type_in<D: Disk, K: Sink>(
     ensures faults { NeverFalls (K.faults sink.old) (K.faults sink.new) }
 {
     count_records(store);
-    named_follow();
-    records_follow();
-    records_leave_room();
-    runs_follow();
-    records_are_run();
+    history_laws();
     records_tell_boot();
     let mut entries = Vec::new(alloc);
     let event = match machine.type_in(bytes.as_slice(), &mut entries) {

@@ -43,10 +43,12 @@ pub fn answer<D: Disk, K: Sink, L: Ledger>(
     ensures gained { OnOk result
         (standpoint_of kept.new ≡ standpoint_after (standpoint_of kept.old) reading) }
     ensures made { OnOk result (MadeOnRun (standpoint_of kept.old) (standpoint_of kept.new)) }
-    ensures carries { OnOk result (Carries D.image D.may_leave D.moment D.left_since disk.old disk.new
+    ensures carries { OnOk result (
+        Carries D.image D.may_leave D.moment D.left_since disk.old disk.new
         kept.old.store kept.new.store (K.holds sink.old) (K.holds sink.new)
         (effects kept.old.store.entries reading)) }
-    ensures stops { IfErr result (λ halt. StopsAt D.image D.may_leave D.moment D.left_since disk.old disk.new
+    ensures stops { IfErr result (λ halt.
+        StopsAt D.image D.may_leave D.moment D.left_since disk.old disk.new
         kept.old.store.entries (K.holds sink.old) (K.holds sink.new) halt []
         (effects kept.old.store.entries reading)) }
     ensures cause { IfErr result (λ halt. IsLineCause halt
@@ -84,10 +86,12 @@ fn answer_line<D: Disk, K: Sink, L: Ledger>(
     ensures gained { OnOk result
         (standpoint_of kept.new ≡ standpoint_after (standpoint_of kept.old) (Reading.Says line)) }
     ensures made { OnOk result (MadeOnRun (standpoint_of kept.old) (standpoint_of kept.new)) }
-    ensures carries { OnOk result (Carries D.image D.may_leave D.moment D.left_since disk.old disk.new
+    ensures carries { OnOk result (
+        Carries D.image D.may_leave D.moment D.left_since disk.old disk.new
         kept.old.store kept.new.store (K.holds sink.old) (K.holds sink.new)
         (effects kept.old.store.entries (Reading.Says line))) }
-    ensures stops { IfErr result (λ halt. StopsAt D.image D.may_leave D.moment D.left_since disk.old disk.new
+    ensures stops { IfErr result (λ halt.
+        StopsAt D.image D.may_leave D.moment D.left_since disk.old disk.new
         kept.old.store.entries (K.holds sink.old) (K.holds sink.new) halt []
         (effects kept.old.store.entries (Reading.Says line))) }
     ensures cause { IfErr result (λ halt. IsLineCause halt
@@ -137,10 +141,12 @@ fn carry_out<D: Disk, K: Sink, L: Ledger>(
     requires fits { LineFits line }
     requires accepted { refusal_of store.old.entries line ≡ None }
     ensures ready { OnOk result (IsReady machine.new store.new.entries) }
-    ensures carries { OnOk result (Carries D.image D.may_leave D.moment D.left_since disk.old disk.new
+    ensures carries { OnOk result (
+        Carries D.image D.may_leave D.moment D.left_since disk.old disk.new
         store.old store.new (K.holds sink.old) (K.holds sink.new)
         (line_effects store.old.entries line)) }
-    ensures stops { IfErr result (λ halt. StopsAt D.image D.may_leave D.moment D.left_since disk.old disk.new
+    ensures stops { IfErr result (λ halt.
+        StopsAt D.image D.may_leave D.moment D.left_since disk.old disk.new
         store.old.entries (K.holds sink.old) (K.holds sink.new) halt []
         (line_effects store.old.entries line)) }
     ensures cause { IfErr result (λ halt. IsCause halt

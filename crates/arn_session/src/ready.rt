@@ -1,5 +1,7 @@
 // The machine of a history, there when a line needs it.
-ghost use Rattle.std.specs.Prelude.{◌≡◌, ◌+◌, ◌<◌, ◌≤◌, ◌^◌, All, length, is_some, IfOk, IfErr, OnOk, IsErrOf};
+ghost use Rattle.std.specs.Prelude.{◌≡◌, ◌+◌, ◌<◌, ◌≤◌, ◌^◌, All, length, is_some, IfOk, IfErr};
+ghost use Rattle.guest_machine.specs.Laws.{NamedFollow, RecordsFollow, RecordsLeaveRoom, RunsFollow};
+ghost use Rattle.log_model.specs.Laws.{RecordsAreRun};
 ghost use Rattle.result_log.specs.Spelling.{HasSpelling};
 ghost use Rattle.arn_session.specs.Cost.{machine_cost};
 ghost use Rattle.arn_session.specs.Kept.{IsReady, IsSound, standpoint_of};
@@ -8,7 +10,8 @@ ghost use Rattle.arn_session.specs.Ready.{BlamesRecords, IsNotMade};
 use crate::kept::Kept;
 use crate::status::Halt;
 use arn_base::Steps;
-use guest_machine::Machine;
+use guest_machine::{Machine, named_follow, records_follow, records_leave_room, runs_follow};
+use log_model::records_are_run;
 use log_store::Store;
 use std::sync::ledger::Ledger;
 
@@ -29,6 +32,21 @@ pub fn take_machine<L: Ledger>(kept: &mut Kept, steps: &mut Steps<L>) -> Result<
         Some(machine) => Ok(machine),
         None => Ok(Machine::rebuild(kept.alloc, kept.store.entries(), steps)?),
     }
+}
+
+/// What holds where a machine adds records to the history to which it belongs.
+pub fn history_laws()
+    ensures named { NamedFollow }
+    ensures records { RecordsFollow }
+    ensures runs { RunsFollow }
+    ensures are_run { RecordsAreRun }
+    ensures room { RecordsLeaveRoom }
+{
+    named_follow();
+    records_follow();
+    runs_follow();
+    records_are_run();
+    records_leave_room();
 }
 
 /// There are few enough records to count them.

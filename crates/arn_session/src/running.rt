@@ -1,15 +1,14 @@
 // The line that runs the machine.
-ghost use Rattle.std.specs.Prelude.{◌≡◌, ◌+◌, ◌-◌, ◌<◌, ◌≤◌, ◌^◌, ◌++◌, [], Some, All, length, IfOk, IfErr, OnOk, string_bytes};
+ghost use Rattle.std.specs.Prelude.{◌≡◌, ◌+◌, ◌-◌, ◌<◌, ◌≤◌, ◌^◌, ◌++◌, [], length, IfOk, IfErr, OnOk, string_bytes};
 ghost use Rattle.arn_base.specs.Faults.{NeverFalls};
 ghost use Rattle.arn_model.specs.Run.{output_of};
 ghost use Rattle.arn_model.specs.Slice.{standing};
 ghost use Rattle.arn_lines.specs.declared.line.TheConstants.{MOST_RUN};
-ghost use Rattle.log_model.specs.Records.{records_from};
 ghost use Rattle.log_store.specs.Stops.{GoesOn};
-ghost use Rattle.guest_machine.specs.Legs.{leg_of, leg_end, spelled_len};
+ghost use Rattle.guest_machine.specs.Legs.{leg_of};
 ghost use Rattle.arn_session.specs.Answers.{machine_of};
 ghost use Rattle.arn_session.specs.Cost.{slices_cost};
-ghost use Rattle.arn_session.specs.Running.{ran_by, after_inputs, has_more, leg_effects, legs_of, slices_of, outputs_text, record_outputs, run_effects, end_of as end_by};
+ghost use Rattle.arn_session.specs.Running.{leg_effects, legs_of, slices_of, outputs_text, record_outputs, run_effects, end_of as end_by};
 ghost use Rattle.arn_session.specs.Carrying.{StopsAt};
 ghost use Rattle.arn_session.specs.Kept.{IsReady};
 ghost use Rattle.arn_session.specs.Standing.{Carries, IsCause, IsOpen};
@@ -17,15 +16,12 @@ ghost use Rattle.arn_session.specs.Legs.{IsLeg};
 
 use crate::commits::commit_some;
 use crate::printing::{print_ran, put_all};
-use crate::ready::count_records;
+use crate::ready::{count_records, history_laws};
 use crate::status::Halt;
 use arn_base::{Disk, Extra, NoMemory, Record, Sink, Steps};
 use arn_lines::{RunEnd, push_out};
 use arn_model::Standing;
-use guest_machine::{
-    Leg, LegEnd, Machine, named_follow, records_follow, records_leave_room, runs_follow,
-};
-use log_model::records_are_run;
+use guest_machine::{Leg, LegEnd, Machine};
 use log_store::Store;
 use std::alloc::Global;
 use std::sync::ledger::Ledger;
@@ -45,10 +41,12 @@ pub fn run<D: Disk, K: Sink, L: Ledger>(
     requires ready { IsReady machine.old store.old.entries }
     requires few { count ≤ MOST_RUN }
     ensures ready { OnOk result (IsReady machine.new store.new.entries) }
-    ensures carries { OnOk result (Carries D.image D.may_leave D.moment D.left_since disk.old disk.new
+    ensures carries { OnOk result (
+        Carries D.image D.may_leave D.moment D.left_since disk.old disk.new
         store.old store.new (K.holds sink.old) (K.holds sink.new)
         (run_effects (machine_of store.old.entries) count)) }
-    ensures stops { IfErr result (λ halt. StopsAt D.image D.may_leave D.moment D.left_since disk.old disk.new
+    ensures stops { IfErr result (λ halt.
+        StopsAt D.image D.may_leave D.moment D.left_since disk.old disk.new
         store.old.entries (K.holds sink.old) (K.holds sink.new) halt []
         (run_effects (machine_of store.old.entries) count)) }
     ensures cause { IfErr result (λ halt. IsCause halt
@@ -84,10 +82,12 @@ fn run_leg<D: Disk, K: Sink, L: Ledger>(
     ensures ready { OnOk result (IsReady machine.new store.new.entries) }
     ensures leg { IfOk result (λ leg. IsLeg machine.old.machine left
         (leg_of machine.old.machine left) leg machine.new.machine) }
-    ensures carries { OnOk result (Carries D.image D.may_leave D.moment D.left_since disk.old disk.new
+    ensures carries { OnOk result (
+        Carries D.image D.may_leave D.moment D.left_since disk.old disk.new
         store.old store.new (K.holds sink.old) (K.holds sink.new)
         (leg_effects machine.old.machine (leg_of machine.old.machine left))) }
-    ensures stops { IfErr result (λ halt. StopsAt D.image D.may_leave D.moment D.left_since disk.old disk.new
+    ensures stops { IfErr result (λ halt.
+        StopsAt D.image D.may_leave D.moment D.left_since disk.old disk.new
         store.old.entries (K.holds sink.old) (K.holds sink.new) halt []
         (leg_effects machine.old.machine (leg_of machine.old.machine left))) }
     ensures cause { IfErr result (λ halt. IsCause halt
@@ -98,11 +98,7 @@ fn run_leg<D: Disk, K: Sink, L: Ledger>(
         slices_cost machine.old.machine (leg_of machine.old.machine left) }
 {
     count_records(store);
-    named_follow();
-    records_follow();
-    records_leave_room();
-    runs_follow();
-    records_are_run();
+    history_laws();
     let event = machine.events();
     let mut entries = Vec::new(alloc);
     let leg = machine.run_leg(left, &mut entries, steps)?;

@@ -1,5 +1,5 @@
 // The top call: reads a source to its end, and answers each line to a sink.
-ghost use Rattle.std.specs.Prelude.{◌≡◌, ◌≢◌, ◌⊎◌, ◌↔◌, ◌<◌, ◌≤◌, ◌^◌, [], ℕ, List, length, drop, OnOk, OnErr, IfErr, IsErrOf, IfSome, Some};
+ghost use Rattle.std.specs.Prelude.{◌≡◌, ◌≢◌, ◌⊎◌, ◌↔◌, ◌<◌, ◌≤◌, ◌^◌, [], ℕ, List, length, drop, OnOk, IfErr, IsErrOf, IfSome, Some};
 ghost use Rattle.arn_base.specs.declared.records.Record.{Record};
 ghost use Rattle.arn_base.specs.Faults.{Rose, NeverFalls};
 ghost use Rattle.guest_machine.specs.declared.differs.Differs.{Differs};
@@ -8,7 +8,7 @@ ghost use Rattle.log_store.specs.Stops.{GoesOn, IsOnlyRead, LeavesOnly};
 ghost use Rattle.log_store.specs.Refused.{IsNoLog};
 ghost use Rattle.log_store.specs.declared.errors.OpenError.{OpenError};
 ghost use Rattle.log_store.specs.declared.size.TheConstants.{MOST_LOG};
-ghost use Rattle.arn_session.specs.Answering.{standpoint_first, AnswersLine, BeginsLine, FindsLine, LeavesLine, Standpoint, TookFewer, TookAtMost};
+ghost use Rattle.arn_session.specs.Answering.{standpoint_first, AnswersLine, BeginsLine, FindsLine, LeavesLine, TookFewer, TookAtMost};
 ghost use Rattle.arn_session.specs.Carrying.{CarriesOut, StopsAt, HoldsLog, HoldsMore, IsAtRest, RestsMore};
 ghost use Rattle.arn_session.specs.CutOff.{BeginsText, FindsOut};
 ghost use Rattle.arn_session.specs.Kept.{IsSound, standpoint_of};
@@ -32,7 +32,7 @@ use std::alloc::Global;
 use std::sync::ledger::Ledger;
 
 /// Answers a line; `line` is what is kept of it.
-fn answer_line<D: Disk, K: Sink, L: Ledger>(
+fn answer_text<D: Disk, K: Sink, L: Ledger>(
     line: &[u8],
     kept: &mut Kept,
     disk: &mut D,
@@ -131,12 +131,12 @@ fn session<S: Source, K: Sink, D: Disk, L: Ledger>(
     let mut text = String::new(alloc);
     let mut line = Vec::new(alloc);
     while reader.next_line(source, &mut line)? {
-        answer_line(line.as_slice(), &mut kept, disk, &mut text, sink, steps)?;
+        answer_text(line.as_slice(), &mut kept, disk, &mut text, sink, steps)?;
     }
     if line.is_empty() {
         return Ok(());
     }
-    answer_line(line.as_slice(), &mut kept, disk, &mut text, sink, steps)
+    answer_text(line.as_slice(), &mut kept, disk, &mut text, sink, steps)
 }
 
 /// Does all that the program does: opens the log, reads the source line by line, commits what each

@@ -1,4 +1,4 @@
-ghost use Rattle.std.specs.Prelude.{All, IfOk};
+ghost use Rattle.std.specs.Prelude.{◌<◌, ◌^◌, All, IfOk};
 ghost use Rattle.result_log.specs.Spelling.{HasSpelling, IsCounted, IsName};
 
 use crate::{CommitError, OpenError, Store, frame_end};
@@ -243,5 +243,35 @@ fn frames_end_at_the_limit(rt: HostRuntime) -> Result<(), Fail> {
     assert_eq!(rt; frame_end(268_435_000, 451), Some(268_435_456));
     assert_eq!(rt; frame_end(268_435_000, 452), None);
     assert_eq!(rt; frame_end(u64::MAX, u64::MAX), None);
+    Ok(())
+}
+
+// A record of so many typed bytes is the smallest that doesn't fit into a fresh log: 9 bytes stand
+// there, a frame adds 5 (its length and its gate), and a record 5 (its kind and its length).
+const TOO_MANY_TYPED: usize = 268_435_456 - 9 - 5 - 5 + 1;
+
+fn typed(alloc: Global, len: usize) -> Result<Record, NoMemory>
+    requires { len < 2 ^ 32 }
+    ensures { IfOk result HasSpelling }
+{
+    let zeros = vec![in alloc; 0u8; len]?;
+    Ok(Record::Typed {
+        bytes: Bytes::from_slice(alloc, zeros.as_slice())?,
+    })
+}
+
+#[test]
+fn a_commit_that_does_not_fit_changes_nothing(rt: HostRuntime) -> Result<(), Fail> {
+    let alloc = rt.alloc();
+    let mut disk = MemDisk::new(alloc, Bytes::new(alloc));
+    let mut store = Store::open_log(alloc, &mut disk)?;
+    let entry = typed(alloc, TOO_MANY_TYPED)?;
+    let full = CommitError::Full {
+        log: 9,
+        payload: 268_435_443,
+    };
+    assert_eq!(rt; store.commit(&mut disk, one(alloc, entry)?), Err(full));
+    assert_eq!(rt; disk.bytes(), b"ARNLOG01\0".as_slice());
+    assert!(rt; store.usable());
     Ok(())
 }

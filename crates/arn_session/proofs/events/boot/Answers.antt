@@ -10,7 +10,7 @@ use Rattle.arn_session.proofs.events.boot.Goals as goal
 
 pub boot-requires-clause-room : goal.boot-requires-clause-room
 boot-requires-clause-room g c =
-    room-for c.records_leave_room.ensures c.args.machine.now c.args.store.now.entries 1 c.requires.ready c.count_records.ensures (omega arith)
+    room-for c.history_laws.ensures.room c.args.machine.now c.args.store.now.entries 1 c.requires.ready c.count_records.ensures (omega arith)
 
 pub returns-in-Err-NoMemory-clause-stops : goal.returns-in-Err-NoMemory-clause-stops
 returns-in-Err-NoMemory-clause-stops g c =
@@ -19,12 +19,12 @@ returns-in-Err-NoMemory-clause-stops g c =
 
 pub finish-requires-clause-run : goal.finish-requires-clause-run
 finish-requires-clause-run g c is_run =
-    let ready = ready-recorded c.named_follow.ensures c.records_follow.ensures c.runs_follow.ensures c.records_are_run.ensures c.args.machine.now c.boot.new.self c.args.store.now.entries (input.Boot c.as_slice.result.now ∷ []) c.new-entries.result.items c.boot.new.out.items c.requires.ready c.in-Ok.ensures.runs c.new-entries.ensures.items in
+    let ready = ready-recorded c.history_laws.ensures.named c.history_laws.ensures.records c.history_laws.ensures.runs c.history_laws.ensures.are_run c.args.machine.now c.boot.new.self c.args.store.now.entries (input.Boot c.as_slice.result.now ∷ []) c.new-entries.result.items c.boot.new.out.items c.requires.ready c.in-Ok.ensures.runs c.new-entries.ensures.items in
     ready.is_run
 
 pub returns-clause-ready : goal.returns-clause-ready
 returns-clause-ready g c =
     ready-carried g.D.Disk.image g.D.Disk.may_leave g.D.Disk.moment g.D.Disk.left_since c.finish.result c.args.disk.now c.finish.new.disk c.args.store.now c.finish.new.store (g.K.Sink.holds c.args.sink.now) (g.K.Sink.holds c.finish.new.sink)
     c.boot.new.out.items (event_text c.in-Ok.event) c.boot.new.self
-    (ready-recorded c.named_follow.ensures c.records_follow.ensures c.runs_follow.ensures c.records_are_run.ensures c.args.machine.now c.boot.new.self c.args.store.now.entries (input.Boot c.as_slice.result.now ∷ []) c.new-entries.result.items c.boot.new.out.items c.requires.ready c.in-Ok.ensures.runs c.new-entries.ensures.items)
+    (ready-recorded c.history_laws.ensures.named c.history_laws.ensures.records c.history_laws.ensures.runs c.history_laws.ensures.are_run c.args.machine.now c.boot.new.self c.args.store.now.entries (input.Boot c.as_slice.result.now ∷ []) c.new-entries.result.items c.boot.new.out.items c.requires.ready c.in-Ok.ensures.runs c.new-entries.ensures.items)
     c.finish.ensures.carries

@@ -11,7 +11,7 @@ use Rattle.arn_session.proofs.running.run_leg.Goals as goal
 
 pub run_leg-requires : goal.run_leg-requires
 run_leg-requires g c = record {
-  room = room-for c.records_leave_room.ensures c.args.machine.now c.args.store.now.entries c.args.left c.requires.ready c.count_records.ensures (omega (arith, c.requires.few));
+  room = room-for c.history_laws.ensures.room c.args.machine.now c.args.store.now.entries c.args.left c.requires.ready c.count_records.ensures (omega (arith, c.requires.few));
 }
 
 pub returns-in_err-leg-clause-stops : goal.returns-in_err-leg-clause-stops
@@ -21,7 +21,7 @@ returns-in_err-leg-clause-stops g c =
 
 pub push_outputs-requires : goal.push_outputs-requires
 push_outputs-requires g c =
-    let room = room-for c.records_leave_room.ensures c.args.machine.now c.args.store.now.entries (2 ^ 63) c.requires.ready c.count_records.ensures (omega arith) in
+    let room = room-for c.history_laws.ensures.room c.args.machine.now c.args.store.now.entries (2 ^ 63) c.requires.ready c.count_records.ensures (omega arith) in
     record { room = omega (arith, room.events, c.events-event.ensures, c.as_slice.type_inv.1) }
 
 pub returns-in_err-push_outputs-clause-stops : goal.returns-in_err-push_outputs-clause-stops
@@ -35,7 +35,7 @@ commit_some-requires-clause-run g c =
     let history = c.args.store.now.entries in
     let runs = c.in_ok-leg.ensures.runs in
     let are = leg-entries m c.run_leg.new.self (leg_of m.machine c.args.left) c.new-entries.result.items c.run_leg.new.out.items c.new-entries.ensures.items runs in
-    let ready = ready-more c.named_follow.ensures c.records_follow.ensures c.runs_follow.ensures c.records_are_run.ensures m c.run_leg.new.self history (leg_of m.machine c.args.left) c.new-entries.result.items c.run_leg.new.out.items c.requires.ready runs in
+    let ready = ready-more c.history_laws.ensures.named c.history_laws.ensures.records c.history_laws.ensures.runs c.history_laws.ensures.are_run m c.run_leg.new.self history (leg_of m.machine c.args.left) c.new-entries.result.items c.run_leg.new.out.items c.requires.ready runs in
     λ was. subst (λ (x : List Record). IsRun (history ++ x)) (sym are) ready.is_run
 
 pub returns-in_err-commit_some-clause-stops : goal.returns-in_err-commit_some-clause-stops
@@ -63,7 +63,7 @@ returns-clause-ready g c =
     let history = c.args.store.now.entries in
     let runs = c.in_ok-leg.ensures.runs in
     let are = leg-entries m c.run_leg.new.self leg c.new-entries.result.items c.run_leg.new.out.items c.new-entries.ensures.items runs in
-    let ready = ready-more c.named_follow.ensures c.records_follow.ensures c.runs_follow.ensures c.records_are_run.ensures m c.run_leg.new.self history leg c.new-entries.result.items c.run_leg.new.out.items c.requires.ready runs in
+    let ready = ready-more c.history_laws.ensures.named c.history_laws.ensures.records c.history_laws.ensures.runs c.history_laws.ensures.are_run m c.run_leg.new.self history leg c.new-entries.result.items c.run_leg.new.out.items c.requires.ready runs in
     let all = (c.in_ok-commit_some.ensures.carries (g.K.Sink.holds c.args.sink.now)).entries ∙ ap (λ (x : List Record). history ++ x) (committed-of c.run_leg.new.out.items ∙ are) in
     subst (λ (x : List Record). IsReady c.run_leg.new.self x) (sym all) ready
 

@@ -19,7 +19,7 @@ use Rattle.arn_session.proofs.TranscriptLemmas.{blames-first}
 use Rattle.arn_session.specs.Transcript.{all_effects}
 use Rattle.arn_session.proofs.session.session.Goals as goal
 use Rattle.arn_session.proofs.session.session.Given.{Over}
-use Rattle.arn_session.proofs.session.session.Goals.{After-drop-reader-inside-in_err-answer_line, After-drop-reader-inside, After-drop-reader-inside-then-is_empty, After-drop-reader-inside-2}
+use Rattle.arn_session.proofs.session.session.Goals.{After-drop-reader-inside-in_err-answer_text, After-drop-reader-inside, After-drop-reader-inside-then-is_empty, After-drop-reader-inside-2}
 
 pub loop-line-init : goal.loop-line-init
 loop-line-init g c = record {
@@ -35,16 +35,16 @@ loop-line-init g c = record {
 pub loop-line-preserved : goal.loop-line-preserved
 loop-line-preserved g c =
     let read = rw c.if-branch.true at c.in_ok-next_line.ensures.line in
-    let answered = rw c.as_slice.ensures.value at c.in_ok-answer_line.ensures.ok in
+    let answered = rw c.as_slice.ensures.value at c.in_ok-answer_text.ensures.ok in
     record {
       progress = Progress-line _ _ _ _ _ _ _ _ _ _ _ _ _ _ _ c.loop-line.invariant.progress read answered
-          (CarriesOut-then g.D.Disk.image g.D.Disk.may_leave g.D.Disk.moment g.D.Disk.left_since c.args.disk.now c.loop-line.disk c.answer_line.new.disk c.args.store.entries c.loop-line.kept.store.entries (g.K.Sink.holds c.args.sink.now) (g.K.Sink.holds c.loop-line.sink) (g.K.Sink.holds c.answer_line.new.sink));
-      is_open = c.in_ok-answer_line.ensures.«open»;
-      sound = c.in_ok-answer_line.ensures.sound;
+          (CarriesOut-then g.D.Disk.image g.D.Disk.may_leave g.D.Disk.moment g.D.Disk.left_since c.args.disk.now c.loop-line.disk c.answer_text.new.disk c.args.store.entries c.loop-line.kept.store.entries (g.K.Sink.holds c.args.sink.now) (g.K.Sink.holds c.loop-line.sink) (g.K.Sink.holds c.answer_text.new.sink));
+      is_open = c.in_ok-answer_text.ensures.«open»;
+      sound = c.in_ok-answer_text.ensures.sound;
       within = c.next_line.ensures.still_within;
       source = NeverFalls-append _ _ _ c.loop-line.invariant.source c.next_line.ensures.faults;
-      sink = NeverFalls-append _ _ _ c.loop-line.invariant.sink c.answer_line.ensures.faults;
-      later = GoesOn-append _ _ _ _ _ c.loop-line.invariant.later c.answer_line.ensures.later;
+      sink = NeverFalls-append _ _ _ c.loop-line.invariant.sink c.answer_text.ensures.faults;
+      later = GoesOn-append _ _ _ _ _ c.loop-line.invariant.later c.answer_text.ensures.later;
     }
 
 -- what ended the reading ended the session
@@ -81,20 +81,20 @@ returns-in_err-next_line-clause-taken g c = λ is. elim is [
 ]
 
 -- the text ended in a line
-in_line : (g : Over) (c : After-drop-reader-inside-2 g) → OnOk c.answer_line-2.result (IsDone c.args.store.entries (g.S.Source.left c.args.source.now) (g.S.Source.left c.next_line.new.source) (CarriesOut g.D.Disk.image g.D.Disk.may_leave g.D.Disk.moment g.D.Disk.left_since c.args.disk.now c.answer_line-2.new.disk c.args.store.entries (g.K.Sink.holds c.args.sink.now) (g.K.Sink.holds c.answer_line-2.new.sink)) c.args.steps.now c.answer_line-2.new.steps)
+in_line : (g : Over) (c : After-drop-reader-inside-2 g) → OnOk c.answer_text-2.result (IsDone c.args.store.entries (g.S.Source.left c.args.source.now) (g.S.Source.left c.next_line.new.source) (CarriesOut g.D.Disk.image g.D.Disk.may_leave g.D.Disk.moment g.D.Disk.left_since c.args.disk.now c.answer_text-2.new.disk c.args.store.entries (g.K.Sink.holds c.args.sink.now) (g.K.Sink.holds c.answer_text-2.new.sink)) c.args.steps.now c.answer_text-2.new.steps)
 in_line g c =
     let read = rw c.if-branch.false at c.in_ok-next_line.ensures.line in
     let end = c.in_ok-next_line.ensures.end c.if-branch.false in
     let some = eqb-false (vec_len c.next_line.new.line) 0 (sym c.is_empty.ensures ∙ c.if-is_empty.false) in
-    let ok = rw c.as_slice-2.ensures.value at c.answer_line-2.ensures.ok in
-    on_ok_weaker c.answer_line-2.result (λ answered. IsDone-line _ _ _ _ _ _ _ _ _ _ _ _ _ _ _ c.loop-line.invariant.progress read end (λ none. some (omega (arith, none, c.next_line.new.line.ok.0))) answered
-    (CarriesOut-then g.D.Disk.image g.D.Disk.may_leave g.D.Disk.moment g.D.Disk.left_since c.args.disk.now c.loop-line.disk c.answer_line-2.new.disk c.args.store.entries c.loop-line.kept.store.entries (g.K.Sink.holds c.args.sink.now) (g.K.Sink.holds c.loop-line.sink) (g.K.Sink.holds c.answer_line-2.new.sink))) ok
+    let ok = rw c.as_slice-2.ensures.value at c.answer_text-2.ensures.ok in
+    on_ok_weaker c.answer_text-2.result (λ answered. IsDone-line _ _ _ _ _ _ _ _ _ _ _ _ _ _ _ c.loop-line.invariant.progress read end (λ none. some (omega (arith, none, c.next_line.new.line.ok.0))) answered
+    (CarriesOut-then g.D.Disk.image g.D.Disk.may_leave g.D.Disk.moment g.D.Disk.left_since c.args.disk.now c.loop-line.disk c.answer_text-2.new.disk c.args.store.entries c.loop-line.kept.store.entries (g.K.Sink.holds c.args.sink.now) (g.K.Sink.holds c.loop-line.sink) (g.K.Sink.holds c.answer_text-2.new.sink))) ok
 
 pub returns-clause-answered : goal.returns-clause-answered
-returns-clause-answered g c = on_ok_weaker c.answer_line-2.result (λ all. all.answered) (in_line g c)
+returns-clause-answered g c = on_ok_weaker c.answer_text-2.result (λ all. all.answered) (in_line g c)
 
 pub returns-clause-short : goal.returns-clause-short
-returns-clause-short g c = on_ok_weaker c.answer_line-2.result (λ all. all.short) (in_line g c)
+returns-clause-short g c = on_ok_weaker c.answer_text-2.result (λ all. all.short) (in_line g c)
 
 -- the text ended behind a line
 behind_line : (g : Over) (c : After-drop-reader-inside-then-is_empty g) → IsDone c.args.store.entries (g.S.Source.left c.args.source.now) (g.S.Source.left c.next_line.new.source) (CarriesOut g.D.Disk.image g.D.Disk.may_leave g.D.Disk.moment g.D.Disk.left_since c.args.disk.now c.loop-line.disk c.args.store.entries (g.K.Sink.holds c.args.sink.now) (g.K.Sink.holds c.loop-line.sink)) c.args.steps.now c.loop-line.steps
@@ -113,8 +113,8 @@ returns-then-is_empty-clause-short g c = (behind_line g c).short
 pub returns-in_err-next_line-clause-at_most : goal.returns-in_err-next_line-clause-at_most
 returns-in_err-next_line-clause-at_most g c = TookAtMost-part _ _ _ _ _ _ _ _ _ _ c.loop-line.invariant.progress c.next_line.ensures.used c.next_line.ensures.still_within
 
-pub returns-in_err-answer_line-clause-at_most : goal.returns-in_err-answer_line-clause-at_most
-returns-in_err-answer_line-clause-at_most g c = TookAtMost-part _ _ _ _ _ _ _ _ _ _ c.loop-line.invariant.progress c.next_line.ensures.used c.next_line.ensures.still_within
+pub returns-in_err-answer_text-clause-at_most : goal.returns-in_err-answer_text-clause-at_most
+returns-in_err-answer_text-clause-at_most g c = TookAtMost-part _ _ _ _ _ _ _ _ _ _ c.loop-line.invariant.progress c.next_line.ensures.used c.next_line.ensures.still_within
 
 pub returns-then-is_empty-clause-at_most : goal.returns-then-is_empty-clause-at_most
 returns-then-is_empty-clause-at_most g c = TookAtMost-part _ _ _ _ _ _ _ _ _ _ c.loop-line.invariant.progress c.next_line.ensures.used c.next_line.ensures.still_within
@@ -148,15 +148,15 @@ returns-in_err-next_line-clause-stops g c =
       ]
     ]
 
-pub returns-in_err-answer_line-clause-stops : goal.returns-in_err-answer_line-clause-stops
-returns-in_err-answer_line-clause-stops g c =
-    let p = err_from_is_err_and c.from_residual-in_err-answer_line.result c.from_residual-in_err-answer_line.ensures.1 in
-    let why : Halt = c.in_err-answer_line.field-0.0 in
-    let is : c.from_residual-in_err-answer_line.result ≡ Err c.in_err-answer_line.field-0.0 = cc (p.1, p.2) in
+pub returns-in_err-answer_text-clause-stops : goal.returns-in_err-answer_text-clause-stops
+returns-in_err-answer_text-clause-stops g c =
+    let p = err_from_is_err_and c.from_residual-in_err-answer_text.result c.from_residual-in_err-answer_text.ensures.1 in
+    let why : Halt = c.in_err-answer_text.field-0.0 in
+    let is : c.from_residual-in_err-answer_text.result ≡ Err c.in_err-answer_text.field-0.0 = cc (p.1, p.2) in
     let read = rw c.if-branch.true at c.in_ok-next_line.ensures.line in
-    let begun = rw c.as_slice.ensures.value at c.in_err-answer_line.ensures.stops in
-    let then = StopsAt-then g.D.Disk.image g.D.Disk.may_leave g.D.Disk.moment g.D.Disk.left_since c.args.disk.now c.loop-line.disk c.answer_line.new.disk c.args.store.entries c.loop-line.kept.store.entries (g.K.Sink.holds c.args.sink.now) (g.K.Sink.holds c.loop-line.sink) (g.K.Sink.holds c.answer_line.new.sink) why in
-    IfErr-is c.from_residual-in_err-answer_line.result _ why is (λ not_source not_long. elim begun [
+    let begun = rw c.as_slice.ensures.value at c.in_err-answer_text.ensures.stops in
+    let then = StopsAt-then g.D.Disk.image g.D.Disk.may_leave g.D.Disk.moment g.D.Disk.left_since c.args.disk.now c.loop-line.disk c.answer_text.new.disk c.args.store.entries c.loop-line.kept.store.entries (g.K.Sink.holds c.args.sink.now) (g.K.Sink.holds c.loop-line.sink) (g.K.Sink.holds c.answer_text.new.sink) why in
+    IfErr-is c.from_residual-in_err-answer_text.result _ why is (λ not_source not_long. elim begun [
       | inl leaves ↦ BeginsText-before _ _ _ _ _ _ _ _ _ _ _ _ _ c.loop-line.invariant.progress c.next_line.ensures.used leaves.at leaves.idle then
       | inr begins ↦ BeginsText-whole _ _ _ _ _ _ _ _ _ _ _ _ _ _ c.loop-line.invariant.progress read begins then
     ])
@@ -171,9 +171,9 @@ pub returns-clause-stops : goal.returns-clause-stops
 returns-clause-stops g c =
     let read = rw c.if-branch.false at c.in_ok-next_line.ensures.line in
     let end = c.in_ok-next_line.ensures.end c.if-branch.false in
-    let stops = rw c.as_slice-2.ensures.value at c.answer_line-2.ensures.stops in
-    IfErr-then c.answer_line-2.result stops (λ why begun not_source not_long.
-    let then = StopsAt-then g.D.Disk.image g.D.Disk.may_leave g.D.Disk.moment g.D.Disk.left_since c.args.disk.now c.loop-line.disk c.answer_line-2.new.disk c.args.store.entries c.loop-line.kept.store.entries (g.K.Sink.holds c.args.sink.now) (g.K.Sink.holds c.loop-line.sink) (g.K.Sink.holds c.answer_line-2.new.sink) why in
+    let stops = rw c.as_slice-2.ensures.value at c.answer_text-2.ensures.stops in
+    IfErr-then c.answer_text-2.result stops (λ why begun not_source not_long.
+    let then = StopsAt-then g.D.Disk.image g.D.Disk.may_leave g.D.Disk.moment g.D.Disk.left_since c.args.disk.now c.loop-line.disk c.answer_text-2.new.disk c.args.store.entries c.loop-line.kept.store.entries (g.K.Sink.holds c.args.sink.now) (g.K.Sink.holds c.loop-line.sink) (g.K.Sink.holds c.answer_text-2.new.sink) why in
     elim begun [
       | inl leaves ↦ BeginsText-before _ _ _ _ _ _ _ _ _ _ _ _ _ c.loop-line.invariant.progress c.next_line.ensures.used leaves.at leaves.idle then
       | inr begins ↦ BeginsText-last _ _ _ _ _ _ _ _ _ _ _ _ _ _ c.loop-line.invariant.progress read end (last_some g c) begins then
@@ -197,17 +197,17 @@ returns-in_err-next_line-clause-blames g c =
       ]
     ]
 
-pub returns-in_err-answer_line-clause-blames : goal.returns-in_err-answer_line-clause-blames
-returns-in_err-answer_line-clause-blames g c =
-    let p = err_from_is_err_and c.from_residual-in_err-answer_line.result c.from_residual-in_err-answer_line.ensures.1 in
-    let is : c.from_residual-in_err-answer_line.result ≡ Err c.in_err-answer_line.field-0.0 = cc (p.1, p.2) in
+pub returns-in_err-answer_text-clause-blames : goal.returns-in_err-answer_text-clause-blames
+returns-in_err-answer_text-clause-blames g c =
+    let p = err_from_is_err_and c.from_residual-in_err-answer_text.result c.from_residual-in_err-answer_text.ensures.1 in
+    let is : c.from_residual-in_err-answer_text.result ≡ Err c.in_err-answer_text.field-0.0 = cc (p.1, p.2) in
     let answers = c.loop-line.invariant.progress.answers in
-    IfErr-is c.from_residual-in_err-answer_line.result _ c.in_err-answer_line.field-0.0 is (blames-first c.args.store.entries answers.readings (standpoint_of c.loop-line.kept) answers.stands c.in_err-answer_line.field-0.0 c.in_err-answer_line.ensures.blames)
+    IfErr-is c.from_residual-in_err-answer_text.result _ c.in_err-answer_text.field-0.0 is (blames-first c.args.store.entries answers.readings (standpoint_of c.loop-line.kept) answers.stands c.in_err-answer_text.field-0.0 c.in_err-answer_text.ensures.blames)
 
 pub returns-clause-blames : goal.returns-clause-blames
 returns-clause-blames g c =
     let answers = c.loop-line.invariant.progress.answers in
-    IfErr-then c.answer_line-2.result c.answer_line-2.ensures.blames (λ why blames. blames-first c.args.store.entries answers.readings (standpoint_of c.loop-line.kept) answers.stands why blames)
+    IfErr-then c.answer_text-2.result c.answer_text-2.ensures.blames (λ why blames. blames-first c.args.store.entries answers.readings (standpoint_of c.loop-line.kept) answers.stands why blames)
 
 pub returns-in_err-reader-clause-any_moment : goal.returns-in_err-reader-clause-any_moment
 returns-in_err-reader-clause-any_moment g c =
@@ -221,14 +221,14 @@ pub returns-then-is_empty-clause-any_moment : goal.returns-then-is_empty-clause-
 returns-then-is_empty-clause-any_moment g c =
     CarriesOut-moments g.D.Disk.image g.D.Disk.may_leave g.D.Disk.moment g.D.Disk.left_since c.args.disk.now c.loop-line.disk c.args.store.entries (g.K.Sink.holds c.args.sink.now) (g.K.Sink.holds c.loop-line.sink) _ c.loop-line.invariant.progress.answers.done
 
-pub returns-in_err-answer_line-clause-any_moment : goal.returns-in_err-answer_line-clause-any_moment
-returns-in_err-answer_line-clause-any_moment g c =
-    let why : Halt = c.in_err-answer_line.field-0.0 in
+pub returns-in_err-answer_text-clause-any_moment : goal.returns-in_err-answer_text-clause-any_moment
+returns-in_err-answer_text-clause-any_moment g c =
+    let why : Halt = c.in_err-answer_text.field-0.0 in
     let answers = c.loop-line.invariant.progress.answers in
     let here = stands-committed c.args.store.entries answers.readings (standpoint_of c.loop-line.kept) answers.stands in
-    let stop = StopsAt-moments g.D.Disk.image g.D.Disk.may_leave g.D.Disk.moment g.D.Disk.left_since c.args.disk.now c.answer_line.new.disk c.args.store.entries (g.K.Sink.holds c.args.sink.now) (g.K.Sink.holds c.answer_line.new.sink) why (all_effects c.args.store.entries answers.readings) in
-    let then = StopsAt-then g.D.Disk.image g.D.Disk.may_leave g.D.Disk.moment g.D.Disk.left_since c.args.disk.now c.loop-line.disk c.answer_line.new.disk c.args.store.entries c.loop-line.kept.store.entries (g.K.Sink.holds c.args.sink.now) (g.K.Sink.holds c.loop-line.sink) (g.K.Sink.holds c.answer_line.new.sink) why (all_effects c.args.store.entries answers.readings) in
-    elim c.in_err-answer_line.ensures.stops [
+    let stop = StopsAt-moments g.D.Disk.image g.D.Disk.may_leave g.D.Disk.moment g.D.Disk.left_since c.args.disk.now c.answer_text.new.disk c.args.store.entries (g.K.Sink.holds c.args.sink.now) (g.K.Sink.holds c.answer_text.new.sink) why (all_effects c.args.store.entries answers.readings) in
+    let then = StopsAt-then g.D.Disk.image g.D.Disk.may_leave g.D.Disk.moment g.D.Disk.left_since c.args.disk.now c.loop-line.disk c.answer_text.new.disk c.args.store.entries c.loop-line.kept.store.entries (g.K.Sink.holds c.args.sink.now) (g.K.Sink.holds c.loop-line.sink) (g.K.Sink.holds c.answer_text.new.sink) why (all_effects c.args.store.entries answers.readings) in
+    elim c.in_err-answer_text.ensures.stops [
       | inl leaves ↦ stop _ (then _ here answers.done leaves.at)
       | inr begins ↦ stop _ (then _ here answers.done begins.at)
     ]
@@ -237,45 +237,45 @@ pub returns-clause-any_moment : goal.returns-clause-any_moment
 returns-clause-any_moment g c =
     let answers = c.loop-line.invariant.progress.answers in
     let here = stands-committed c.args.store.entries answers.readings (standpoint_of c.loop-line.kept) answers.stands in
-    by_result c.answer_line-2.result c.answer_line-2.ensures.ok c.answer_line-2.ensures.stops
-    (λ answered. CarriesOut-moments g.D.Disk.image g.D.Disk.may_leave g.D.Disk.moment g.D.Disk.left_since c.args.disk.now c.answer_line-2.new.disk c.args.store.entries (g.K.Sink.holds c.args.sink.now) (g.K.Sink.holds c.answer_line-2.new.sink) _
-    (CarriesOut-then g.D.Disk.image g.D.Disk.may_leave g.D.Disk.moment g.D.Disk.left_since c.args.disk.now c.loop-line.disk c.answer_line-2.new.disk c.args.store.entries c.loop-line.kept.store.entries (g.K.Sink.holds c.args.sink.now) (g.K.Sink.holds c.loop-line.sink) (g.K.Sink.holds c.answer_line-2.new.sink) _ _ here answers.done answered.done))
+    by_result c.answer_text-2.result c.answer_text-2.ensures.ok c.answer_text-2.ensures.stops
+    (λ answered. CarriesOut-moments g.D.Disk.image g.D.Disk.may_leave g.D.Disk.moment g.D.Disk.left_since c.args.disk.now c.answer_text-2.new.disk c.args.store.entries (g.K.Sink.holds c.args.sink.now) (g.K.Sink.holds c.answer_text-2.new.sink) _
+    (CarriesOut-then g.D.Disk.image g.D.Disk.may_leave g.D.Disk.moment g.D.Disk.left_since c.args.disk.now c.loop-line.disk c.answer_text-2.new.disk c.args.store.entries c.loop-line.kept.store.entries (g.K.Sink.holds c.args.sink.now) (g.K.Sink.holds c.loop-line.sink) (g.K.Sink.holds c.answer_text-2.new.sink) _ _ here answers.done answered.done))
     (λ why begun.
-    let stop = StopsAt-moments g.D.Disk.image g.D.Disk.may_leave g.D.Disk.moment g.D.Disk.left_since c.args.disk.now c.answer_line-2.new.disk c.args.store.entries (g.K.Sink.holds c.args.sink.now) (g.K.Sink.holds c.answer_line-2.new.sink) why (all_effects c.args.store.entries answers.readings) in
-    let then = StopsAt-then g.D.Disk.image g.D.Disk.may_leave g.D.Disk.moment g.D.Disk.left_since c.args.disk.now c.loop-line.disk c.answer_line-2.new.disk c.args.store.entries c.loop-line.kept.store.entries (g.K.Sink.holds c.args.sink.now) (g.K.Sink.holds c.loop-line.sink) (g.K.Sink.holds c.answer_line-2.new.sink) why (all_effects c.args.store.entries answers.readings) in
+    let stop = StopsAt-moments g.D.Disk.image g.D.Disk.may_leave g.D.Disk.moment g.D.Disk.left_since c.args.disk.now c.answer_text-2.new.disk c.args.store.entries (g.K.Sink.holds c.args.sink.now) (g.K.Sink.holds c.answer_text-2.new.sink) why (all_effects c.args.store.entries answers.readings) in
+    let then = StopsAt-then g.D.Disk.image g.D.Disk.may_leave g.D.Disk.moment g.D.Disk.left_since c.args.disk.now c.loop-line.disk c.answer_text-2.new.disk c.args.store.entries c.loop-line.kept.store.entries (g.K.Sink.holds c.args.sink.now) (g.K.Sink.holds c.loop-line.sink) (g.K.Sink.holds c.answer_text-2.new.sink) why (all_effects c.args.store.entries answers.readings) in
     elim begun [
       | inl leaves ↦ stop _ (then _ here answers.done leaves.at)
       | inr begins ↦ stop _ (then _ here answers.done begins.at)
     ])
 
-pub returns-in_err-answer_line-clause-sink : goal.returns-in_err-answer_line-clause-sink
-returns-in_err-answer_line-clause-sink g c = λ is.
-    let p = err_from_is_err_and c.from_residual-in_err-answer_line.result c.from_residual-in_err-answer_line.ensures.1 in
-    let same : c.in_err-answer_line.field-0.0 ≡ halt.Sink = cc (p.1, p.2, is) in
-    Rose-after _ _ _ c.loop-line.invariant.sink c.answer_line.ensures.faults (subst (λ (x : Halt). IsLineCause x (g.D.Disk.faults c.loop-line.disk) (g.D.Disk.faults c.answer_line.new.disk) (g.K.Sink.faults c.loop-line.sink) (g.K.Sink.faults c.answer_line.new.sink)) same c.in_err-answer_line.ensures.cause)
+pub returns-in_err-answer_text-clause-sink : goal.returns-in_err-answer_text-clause-sink
+returns-in_err-answer_text-clause-sink g c = λ is.
+    let p = err_from_is_err_and c.from_residual-in_err-answer_text.result c.from_residual-in_err-answer_text.ensures.1 in
+    let same : c.in_err-answer_text.field-0.0 ≡ halt.Sink = cc (p.1, p.2, is) in
+    Rose-after _ _ _ c.loop-line.invariant.sink c.answer_text.ensures.faults (subst (λ (x : Halt). IsLineCause x (g.D.Disk.faults c.loop-line.disk) (g.D.Disk.faults c.answer_text.new.disk) (g.K.Sink.faults c.loop-line.sink) (g.K.Sink.faults c.answer_text.new.sink)) same c.in_err-answer_text.ensures.cause)
 
-pub returns-in_err-answer_line-clause-disk : goal.returns-in_err-answer_line-clause-disk
-returns-in_err-answer_line-clause-disk g c = λ is.
-    let p = err_from_is_err_and c.from_residual-in_err-answer_line.result c.from_residual-in_err-answer_line.ensures.1 in
-    let same : c.in_err-answer_line.field-0.0 ≡ halt.Disk = cc (p.1, p.2, is) in
-    Rose-after _ _ _ c.loop-line.invariant.later.never_falls c.answer_line.ensures.later.never_falls (subst (λ (x : Halt). IsLineCause x (g.D.Disk.faults c.loop-line.disk) (g.D.Disk.faults c.answer_line.new.disk) (g.K.Sink.faults c.loop-line.sink) (g.K.Sink.faults c.answer_line.new.sink)) same c.in_err-answer_line.ensures.cause)
+pub returns-in_err-answer_text-clause-disk : goal.returns-in_err-answer_text-clause-disk
+returns-in_err-answer_text-clause-disk g c = λ is.
+    let p = err_from_is_err_and c.from_residual-in_err-answer_text.result c.from_residual-in_err-answer_text.ensures.1 in
+    let same : c.in_err-answer_text.field-0.0 ≡ halt.Disk = cc (p.1, p.2, is) in
+    Rose-after _ _ _ c.loop-line.invariant.later.never_falls c.answer_text.ensures.later.never_falls (subst (λ (x : Halt). IsLineCause x (g.D.Disk.faults c.loop-line.disk) (g.D.Disk.faults c.answer_text.new.disk) (g.K.Sink.faults c.loop-line.sink) (g.K.Sink.faults c.answer_text.new.sink)) same c.in_err-answer_text.ensures.cause)
 
 pub returns-clause-sink : goal.returns-clause-sink
 returns-clause-sink g c = λ is.
-    Rose-after _ _ _ c.loop-line.invariant.sink c.answer_line-2.ensures.faults (IfErr-at_err (λ (x : Halt). IsLineCause x (g.D.Disk.faults c.loop-line.disk) (g.D.Disk.faults c.answer_line-2.new.disk) (g.K.Sink.faults c.loop-line.sink) (g.K.Sink.faults c.answer_line-2.new.sink)) is c.answer_line-2.ensures.cause)
+    Rose-after _ _ _ c.loop-line.invariant.sink c.answer_text-2.ensures.faults (IfErr-at_err (λ (x : Halt). IsLineCause x (g.D.Disk.faults c.loop-line.disk) (g.D.Disk.faults c.answer_text-2.new.disk) (g.K.Sink.faults c.loop-line.sink) (g.K.Sink.faults c.answer_text-2.new.sink)) is c.answer_text-2.ensures.cause)
 
 pub returns-clause-disk : goal.returns-clause-disk
 returns-clause-disk g c = λ is.
-    Rose-after _ _ _ c.loop-line.invariant.later.never_falls c.answer_line-2.ensures.later.never_falls (IfErr-at_err (λ (x : Halt). IsLineCause x (g.D.Disk.faults c.loop-line.disk) (g.D.Disk.faults c.answer_line-2.new.disk) (g.K.Sink.faults c.loop-line.sink) (g.K.Sink.faults c.answer_line-2.new.sink)) is c.answer_line-2.ensures.cause)
+    Rose-after _ _ _ c.loop-line.invariant.later.never_falls c.answer_text-2.ensures.later.never_falls (IfErr-at_err (λ (x : Halt). IsLineCause x (g.D.Disk.faults c.loop-line.disk) (g.D.Disk.faults c.answer_text-2.new.disk) (g.K.Sink.faults c.loop-line.sink) (g.K.Sink.faults c.answer_text-2.new.sink)) is c.answer_text-2.ensures.cause)
 
 pub returns-in_err-reader-clause-later : goal.returns-in_err-reader-clause-later
 returns-in_err-reader-clause-later g c = record { tells = refl; never_falls = NeverFalls-same _ }
 
-pub returns-in_err-answer_line-clause-later : goal.returns-in_err-answer_line-clause-later
-returns-in_err-answer_line-clause-later g c = GoesOn-append _ _ _ _ _ c.loop-line.invariant.later c.answer_line.ensures.later
+pub returns-in_err-answer_text-clause-later : goal.returns-in_err-answer_text-clause-later
+returns-in_err-answer_text-clause-later g c = GoesOn-append _ _ _ _ _ c.loop-line.invariant.later c.answer_text.ensures.later
 
 pub returns-clause-later : goal.returns-clause-later
-returns-clause-later g c = GoesOn-append _ _ _ _ _ c.loop-line.invariant.later c.answer_line-2.ensures.later
+returns-clause-later g c = GoesOn-append _ _ _ _ _ c.loop-line.invariant.later c.answer_text-2.ensures.later
 
 pub returns-in_err-next_line-clause-later : goal.returns-in_err-next_line-clause-later
 returns-in_err-next_line-clause-later g c = c.loop-line.invariant.later
@@ -302,26 +302,26 @@ returns-in_err-next_line-clause-finds g c = λ d is.
     ]
 
 -- what ended the answer ended the session
-answer_err : (g : Over) (c : After-drop-reader-inside-in_err-answer_line g) (h : Halt) → c.from_residual-in_err-answer_line.result ≡ Err h → c.answer_line.result ≡ Err h
+answer_err : (g : Over) (c : After-drop-reader-inside-in_err-answer_text g) (h : Halt) → c.from_residual-in_err-answer_text.result ≡ Err h → c.answer_text.result ≡ Err h
 answer_err g c h is =
-    let p = err_from_is_err_and c.from_residual-in_err-answer_line.result c.from_residual-in_err-answer_line.ensures.1 in
-    let same : c.in_err-answer_line.field-0.0 ≡ h = cc (p.1, p.2, is) in
-    c.in_err-answer_line.was ∙ ap (λ (x : Halt). Err x) same
+    let p = err_from_is_err_and c.from_residual-in_err-answer_text.result c.from_residual-in_err-answer_text.ensures.1 in
+    let same : c.in_err-answer_text.field-0.0 ≡ h = cc (p.1, p.2, is) in
+    c.in_err-answer_text.was ∙ ap (λ (x : Halt). Err x) same
 
-pub returns-in_err-answer_line-clause-finds : goal.returns-in_err-answer_line-clause-finds
-returns-in_err-answer_line-clause-finds g c = λ d is.
+pub returns-in_err-answer_text-clause-finds : goal.returns-in_err-answer_text-clause-finds
+returns-in_err-answer_text-clause-finds g c = λ d is.
     let read = rw c.if-branch.true at c.in_ok-next_line.ensures.line in
-    let finds = rw c.as_slice.ensures.value at c.answer_line.ensures.finds d (answer_err g c (halt.Differs d) is) in
+    let finds = rw c.as_slice.ensures.value at c.answer_text.ensures.finds d (answer_err g c (halt.Differs d) is) in
     FindsOut-whole _ _ _ _ _ _ _ _ _ _ _ _ _ _ c.loop-line.invariant.progress read finds
-    (CarriesOut-then g.D.Disk.image g.D.Disk.may_leave g.D.Disk.moment g.D.Disk.left_since c.args.disk.now c.loop-line.disk c.answer_line.new.disk c.args.store.entries c.loop-line.kept.store.entries (g.K.Sink.holds c.args.sink.now) (g.K.Sink.holds c.loop-line.sink) (g.K.Sink.holds c.answer_line.new.sink))
+    (CarriesOut-then g.D.Disk.image g.D.Disk.may_leave g.D.Disk.moment g.D.Disk.left_since c.args.disk.now c.loop-line.disk c.answer_text.new.disk c.args.store.entries c.loop-line.kept.store.entries (g.K.Sink.holds c.args.sink.now) (g.K.Sink.holds c.loop-line.sink) (g.K.Sink.holds c.answer_text.new.sink))
 
 pub returns-clause-finds : goal.returns-clause-finds
 returns-clause-finds g c = λ d is.
     let read = rw c.if-branch.false at c.in_ok-next_line.ensures.line in
     let end = c.in_ok-next_line.ensures.end c.if-branch.false in
-    let finds = rw c.as_slice-2.ensures.value at c.answer_line-2.ensures.finds d is in
+    let finds = rw c.as_slice-2.ensures.value at c.answer_text-2.ensures.finds d is in
     FindsOut-last _ _ _ _ _ _ _ _ _ _ _ _ _ _ c.loop-line.invariant.progress read end (last_some g c) finds
-    (CarriesOut-then g.D.Disk.image g.D.Disk.may_leave g.D.Disk.moment g.D.Disk.left_since c.args.disk.now c.loop-line.disk c.answer_line-2.new.disk c.args.store.entries c.loop-line.kept.store.entries (g.K.Sink.holds c.args.sink.now) (g.K.Sink.holds c.loop-line.sink) (g.K.Sink.holds c.answer_line-2.new.sink))
+    (CarriesOut-then g.D.Disk.image g.D.Disk.may_leave g.D.Disk.moment g.D.Disk.left_since c.args.disk.now c.loop-line.disk c.answer_text-2.new.disk c.args.store.entries c.loop-line.kept.store.entries (g.K.Sink.holds c.args.sink.now) (g.K.Sink.holds c.loop-line.sink) (g.K.Sink.holds c.answer_text-2.new.sink))
 
 pub returns-then-is_empty-clause-rests : goal.returns-then-is_empty-clause-rests
 returns-then-is_empty-clause-rests g c = CarriesOut-rests g.D.Disk.image g.D.Disk.may_leave g.D.Disk.moment g.D.Disk.left_since c.args.disk.now c.loop-line.disk c.args.store.entries (g.K.Sink.holds c.args.sink.now) (g.K.Sink.holds c.loop-line.sink) _ c.loop-line.invariant.progress.answers.done
@@ -330,8 +330,8 @@ pub returns-clause-rests : goal.returns-clause-rests
 returns-clause-rests g c =
     let answers = c.loop-line.invariant.progress.answers in
     let here = stands-committed c.args.store.entries answers.readings (standpoint_of c.loop-line.kept) answers.stands in
-    on_ok_weaker c.answer_line-2.result (λ answered. CarriesOut-rests g.D.Disk.image g.D.Disk.may_leave g.D.Disk.moment g.D.Disk.left_since c.args.disk.now c.answer_line-2.new.disk c.args.store.entries (g.K.Sink.holds c.args.sink.now) (g.K.Sink.holds c.answer_line-2.new.sink) _
-    (CarriesOut-then g.D.Disk.image g.D.Disk.may_leave g.D.Disk.moment g.D.Disk.left_since c.args.disk.now c.loop-line.disk c.answer_line-2.new.disk c.args.store.entries c.loop-line.kept.store.entries (g.K.Sink.holds c.args.sink.now) (g.K.Sink.holds c.loop-line.sink) (g.K.Sink.holds c.answer_line-2.new.sink) _ _ here answers.done answered.done)) c.answer_line-2.ensures.ok
+    on_ok_weaker c.answer_text-2.result (λ answered. CarriesOut-rests g.D.Disk.image g.D.Disk.may_leave g.D.Disk.moment g.D.Disk.left_since c.args.disk.now c.answer_text-2.new.disk c.args.store.entries (g.K.Sink.holds c.args.sink.now) (g.K.Sink.holds c.answer_text-2.new.sink) _
+    (CarriesOut-then g.D.Disk.image g.D.Disk.may_leave g.D.Disk.moment g.D.Disk.left_since c.args.disk.now c.loop-line.disk c.answer_text-2.new.disk c.args.store.entries c.loop-line.kept.store.entries (g.K.Sink.holds c.args.sink.now) (g.K.Sink.holds c.loop-line.sink) (g.K.Sink.holds c.answer_text-2.new.sink) _ _ here answers.done answered.done)) c.answer_text-2.ensures.ok
 
 pub returns-in_err-reader-clause-still_rests : goal.returns-in_err-reader-clause-still_rests
 returns-in_err-reader-clause-still_rests g c =
@@ -345,16 +345,16 @@ returns-in_err-next_line-clause-still_rests g c =
     let is : c.from_residual-in_err-next_line.result ≡ Err c.in_err-next_line.field-0.0 = cc (p.1, p.2) in
     IfErr-is c.from_residual-in_err-next_line.result _ c.in_err-next_line.field-0.0 is (λ not_disk not_memory. CarriesOut-rests g.D.Disk.image g.D.Disk.may_leave g.D.Disk.moment g.D.Disk.left_since c.args.disk.now c.loop-line.disk c.args.store.entries (g.K.Sink.holds c.args.sink.now) (g.K.Sink.holds c.loop-line.sink) _ c.loop-line.invariant.progress.answers.done)
 
-pub returns-in_err-answer_line-clause-still_rests : goal.returns-in_err-answer_line-clause-still_rests
-returns-in_err-answer_line-clause-still_rests g c =
-    let p = err_from_is_err_and c.from_residual-in_err-answer_line.result c.from_residual-in_err-answer_line.ensures.1 in
-    let why : Halt = c.in_err-answer_line.field-0.0 in
-    let is : c.from_residual-in_err-answer_line.result ≡ Err c.in_err-answer_line.field-0.0 = cc (p.1, p.2) in
+pub returns-in_err-answer_text-clause-still_rests : goal.returns-in_err-answer_text-clause-still_rests
+returns-in_err-answer_text-clause-still_rests g c =
+    let p = err_from_is_err_and c.from_residual-in_err-answer_text.result c.from_residual-in_err-answer_text.ensures.1 in
+    let why : Halt = c.in_err-answer_text.field-0.0 in
+    let is : c.from_residual-in_err-answer_text.result ≡ Err c.in_err-answer_text.field-0.0 = cc (p.1, p.2) in
     let answers = c.loop-line.invariant.progress.answers in
     let here = stands-committed c.args.store.entries answers.readings (standpoint_of c.loop-line.kept) answers.stands in
-    let stop = StopsAt-rests g.D.Disk.image g.D.Disk.may_leave g.D.Disk.moment g.D.Disk.left_since c.args.disk.now c.answer_line.new.disk c.args.store.entries (g.K.Sink.holds c.args.sink.now) (g.K.Sink.holds c.answer_line.new.sink) why (all_effects c.args.store.entries answers.readings) in
-    let then = StopsAt-then g.D.Disk.image g.D.Disk.may_leave g.D.Disk.moment g.D.Disk.left_since c.args.disk.now c.loop-line.disk c.answer_line.new.disk c.args.store.entries c.loop-line.kept.store.entries (g.K.Sink.holds c.args.sink.now) (g.K.Sink.holds c.loop-line.sink) (g.K.Sink.holds c.answer_line.new.sink) why (all_effects c.args.store.entries answers.readings) in
-    IfErr-is c.from_residual-in_err-answer_line.result _ why is (elim c.in_err-answer_line.ensures.stops [
+    let stop = StopsAt-rests g.D.Disk.image g.D.Disk.may_leave g.D.Disk.moment g.D.Disk.left_since c.args.disk.now c.answer_text.new.disk c.args.store.entries (g.K.Sink.holds c.args.sink.now) (g.K.Sink.holds c.answer_text.new.sink) why (all_effects c.args.store.entries answers.readings) in
+    let then = StopsAt-then g.D.Disk.image g.D.Disk.may_leave g.D.Disk.moment g.D.Disk.left_since c.args.disk.now c.loop-line.disk c.answer_text.new.disk c.args.store.entries c.loop-line.kept.store.entries (g.K.Sink.holds c.args.sink.now) (g.K.Sink.holds c.loop-line.sink) (g.K.Sink.holds c.answer_text.new.sink) why (all_effects c.args.store.entries answers.readings) in
+    IfErr-is c.from_residual-in_err-answer_text.result _ why is (elim c.in_err-answer_text.ensures.stops [
       | inl leaves ↦ stop _ (then _ here answers.done leaves.at)
       | inr begins ↦ stop _ (then _ here answers.done begins.at)
     ])
@@ -363,9 +363,9 @@ pub returns-clause-still_rests : goal.returns-clause-still_rests
 returns-clause-still_rests g c =
     let answers = c.loop-line.invariant.progress.answers in
     let here = stands-committed c.args.store.entries answers.readings (standpoint_of c.loop-line.kept) answers.stands in
-    IfErr-then c.answer_line-2.result c.answer_line-2.ensures.stops (λ why begun.
-    let stop = StopsAt-rests g.D.Disk.image g.D.Disk.may_leave g.D.Disk.moment g.D.Disk.left_since c.args.disk.now c.answer_line-2.new.disk c.args.store.entries (g.K.Sink.holds c.args.sink.now) (g.K.Sink.holds c.answer_line-2.new.sink) why (all_effects c.args.store.entries answers.readings) in
-    let then = StopsAt-then g.D.Disk.image g.D.Disk.may_leave g.D.Disk.moment g.D.Disk.left_since c.args.disk.now c.loop-line.disk c.answer_line-2.new.disk c.args.store.entries c.loop-line.kept.store.entries (g.K.Sink.holds c.args.sink.now) (g.K.Sink.holds c.loop-line.sink) (g.K.Sink.holds c.answer_line-2.new.sink) why (all_effects c.args.store.entries answers.readings) in
+    IfErr-then c.answer_text-2.result c.answer_text-2.ensures.stops (λ why begun.
+    let stop = StopsAt-rests g.D.Disk.image g.D.Disk.may_leave g.D.Disk.moment g.D.Disk.left_since c.args.disk.now c.answer_text-2.new.disk c.args.store.entries (g.K.Sink.holds c.args.sink.now) (g.K.Sink.holds c.answer_text-2.new.sink) why (all_effects c.args.store.entries answers.readings) in
+    let then = StopsAt-then g.D.Disk.image g.D.Disk.may_leave g.D.Disk.moment g.D.Disk.left_since c.args.disk.now c.loop-line.disk c.answer_text-2.new.disk c.args.store.entries c.loop-line.kept.store.entries (g.K.Sink.holds c.args.sink.now) (g.K.Sink.holds c.loop-line.sink) (g.K.Sink.holds c.answer_text-2.new.sink) why (all_effects c.args.store.entries answers.readings) in
     elim begun [
       | inl leaves ↦ stop _ (then _ here answers.done leaves.at)
       | inr begins ↦ stop _ (then _ here answers.done begins.at)

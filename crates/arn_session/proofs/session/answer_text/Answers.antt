@@ -9,7 +9,7 @@ use Rattle.arn_session.proofs.CutLemmas.{reads_kept}
 use Rattle.arn_session.proofs.ResultLemmas.{OnOk-three, IfErr-then}
 use Rattle.arn_session.proofs.SizeLemmas.{Reads-fits}
 use Rattle.arn_session.proofs.StepLemmas.{CarriesOut-none, StopsAt-nothing}
-use Rattle.arn_session.proofs.session.answer_line.Goals as goal
+use Rattle.arn_session.proofs.session.answer_text.Goals as goal
 
 pub answer-requires : goal.answer-requires
 answer-requires g c = record { «open» = c.requires.«open»; sound = c.requires.sound; fits = Reads-fits c.args.line.now c.in_ok-reading.reading c.in_ok-reading.ensures.ok }
