@@ -1,5 +1,5 @@
 // A memory that is seen as windows.
-ghost use Rattle.std.specs.Prelude.{◌≡◌, ◌<◌, ◌*◌, ◌^◌, ◌↔◌, List, None, Err, IfOk, OnOk, OnErr, IsSome, IsNone};
+ghost use Rattle.std.specs.Prelude.{◌≡◌, ◌<◌, ◌*◌, ◌^◌, ◌↔◌, Bool, List, None, Err, IfOk, OnOk, OnErr, IsSome, IsNone, IsTrue};
 ghost use Rattle.std.specs.Result.{result_ok};
 ghost use Rattle.arn_base.specs.Window.{Window, bytes_at, with_bytes, number_at, bytes_of, IsAccessLength};
 
@@ -10,6 +10,9 @@ use crate::{BadAddress, StoreError};
 pub trait Memory {
     /// The windows that are present.
     ghost windows: { Self → List Window };
+
+    /// Whether a store may want memory of its own.
+    ghost wants_memory: { Self → Bool };
 
     /// The number that the `len` bytes at an address spell. BadAddress comes exactly where they
     /// don't lie whole in one window.
@@ -28,5 +31,6 @@ pub trait Memory {
 
         ensures bad_address { (result ≡ Err StoreError.BadAddress) ↔
             IsNone (bytes_at (windows self.old) at len) }
+        ensures no_memory { (result ≡ Err StoreError.NoMemory) → IsTrue (wants_memory self.old) }
         ensures err { OnErr result (windows self.new ≡ windows self.old) };
 }

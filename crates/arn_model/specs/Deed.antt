@@ -7,7 +7,7 @@ use Rattle.arn_model.specs.declared.lineage.Deed.TheVariants.{Arrives, Starts, R
 abbrev pub actor : Deed → Option ℕ
 actor (Arrives len) = None
 actor (Starts pid load len) = Some pid
-actor (Runs pid instr) = Some pid
+actor (Runs pid instr place) = Some pid
 actor (Returns pid) = Some pid
 actor (Receives pid place len) = Some pid
 actor (Gives pid place len) = Some pid
@@ -18,7 +18,7 @@ actor (Faults pid) = Some pid
 abbrev pub is_instruction : Deed → Bool
 is_instruction (Arrives len) = false
 is_instruction (Starts pid load len) = false
-is_instruction (Runs pid instr) = true
+is_instruction (Runs pid instr place) = true
 is_instruction (Returns pid) = true
 is_instruction (Receives pid place len) = true
 is_instruction (Gives pid place len) = true

@@ -1,12 +1,13 @@
 -- What each step does to sets: for a byte after the step, the list of the bytes that it takes.
 use Rattle.std.specs.Prelude.{ℕ, zero, suc, ◌+◌, ◌-◌, ◌==◌, ◌&&◌, nat_lt, Bool, false, if◌then◌else◌, List, [], ◌∷◌, map, flat_map, Option, Some, None, option_map, unwrap_or, ℤ, pos, negsuc}
 use Rattle.rv64_isa.specs.declared.instruction.Instr.{Instr}
-use Rattle.rv64_isa.specs.declared.instruction.Instr.TheVariants.{Imm, Ecall}
+use Rattle.rv64_isa.specs.declared.instruction.Instr.TheVariants.{Lui, Auipc, Jal, Jalr, Branch, Load, Store, Imm, Op, Fence, Ecall, Ebreak}
+use Rattle.rv64_isa.specs.declared.instruction.ImmOp.{ImmOp}
 use Rattle.rv64_isa.specs.declared.instruction.ImmOp.TheVariants.{Addi}
 use Rattle.arn_model.specs.declared.lineage.Linkage.{Linkage}
 use Rattle.arn_model.specs.declared.lineage.Linkage.TheVariants.{Copy}
 use Rattle.arn_model.specs.declared.lineage.Operand.{Operand}
-use Rattle.arn_model.specs.declared.lineage.Operand.TheVariants.{Left}
+use Rattle.arn_model.specs.declared.lineage.Operand.TheVariants.{Left, Right, Loaded}
 use Rattle.arn_model.specs.declared.lineage.Spot.{Spot}
 use Rattle.arn_model.specs.declared.lineage.Spot.TheVariants.{Register, Private}
 use Rattle.arn_model.specs.declared.lineage.Place.{Place}
@@ -18,21 +19,47 @@ use Rattle.arn_model.specs.declared.lineage.Feed.TheVariants.{Old, In}
 use Rattle.arn_model.specs.declared.lineage.Deed.{Deed}
 use Rattle.arn_model.specs.declared.lineage.Deed.TheVariants.{Arrives, Starts, Runs, Returns, Receives, Gives, Exits, Faults}
 use Rattle.arn_model.specs.Image.{header_len}
+use Rattle.arn_model.specs.Values.{load_len}
+use Rattle.arn_model.specs.Operands.{rd_of, rs1_of, rs2_of, stored_len, store_len}
 use Rattle.arn_model.specs.Deed.{within}
 
--- the immediate is 0: the instruction moves rs1 to rd
+-- the immediate is 0
 abbrev pub is_zero : ℤ → Bool
 is_zero (pos n) = n == 0
 is_zero (negsuc n) = false
 
--- which operand bytes byte i of an instruction's result takes, by a linkage. A write to x0 takes none.
+-- which operand bytes byte i of an instruction's result takes, by a linkage
 abbrev pub Table : Type 0
 Table = Instr → ℕ → List Operand
 
+-- one byte, where the test holds
+abbrev pub taken_if : Bool → Operand → List Operand
+taken_if test operand = if test then operand ∷ [] else []
+
+-- a write to x0 takes none
+abbrev pub unless_x0 : ℕ → List Operand → List Operand
+unless_x0 zero operands = []
+unless_x0 (suc rd) operands = operands
+
+-- ADDI with 0 moves rs1 to rd; every other operation makes bytes of its own
+abbrev pub imm_copies : ImmOp → ℤ → ℕ → List Operand
+imm_copies Addi imm i = taken_if (is_zero imm) (Left i)
+imm_copies op imm i = []
+
+-- Under `copy` bytes are moved whole: by a move, a load and a store.
 abbrev pub copy_operands : Instr → ℕ → List Operand
-copy_operands (Imm Addi zero rs1 imm) i = []
-copy_operands (Imm Addi (suc rd) rs1 imm) i = if is_zero imm then Left i ∷ [] else []
+copy_operands (Lui rd imm) i = []
+copy_operands (Auipc rd imm) i = []
+copy_operands (Jal rd imm) i = []
+copy_operands (Jalr rd rs1 imm) i = []
+copy_operands (Branch op rs1 rs2 imm) i = []
+copy_operands (Load op rd rs1 imm) i = unless_x0 rd (taken_if (nat_lt i (load_len op)) (Loaded i))
+copy_operands (Store op rs1 rs2 imm) i = taken_if (nat_lt i (store_len op)) (Right i)
+copy_operands (Imm op rd rs1 imm) i = unless_x0 rd (imm_copies op imm i)
+copy_operands (Op op rd rs1 rs2) i = []
+copy_operands (Fence word) i = []
 copy_operands Ecall i = []
+copy_operands Ebreak i = []
 
 -- the table of a linkage
 abbrev pub operands : Linkage → Table
@@ -43,25 +70,41 @@ abbrev pub register_spots : ℕ → ℕ → ℕ → List Spot
 register_spots pid zero i = []
 register_spots pid (suc r) i = Register pid (suc r) i ∷ []
 
+-- byte k of a place
+abbrev pub place_spot : ℕ → Place → ℕ → Spot
+place_spot pid (place.Private at) k = Private pid (at + k)
+
+-- byte k of the place of a load or a store
+abbrev pub place_spots : ℕ → Option Place → ℕ → List Spot
+place_spots pid None k = []
+place_spots pid (Some place) k = place_spot pid place k ∷ []
+
 -- where an operand's byte lies
-abbrev pub operand_spots : ℕ → Instr → Operand → List Spot
-operand_spots pid (Imm op rd rs1 imm) (Left i) = register_spots pid rs1 i
-operand_spots pid Ecall (Left i) = []
+abbrev pub operand_spots : ℕ → Instr → Option Place → Operand → List Spot
+operand_spots pid instr place (Left i) = register_spots pid (rs1_of instr) i
+operand_spots pid instr place (Right i) = register_spots pid (rs2_of instr) i
+operand_spots pid instr place (Loaded k) = place_spots pid place k
 
 -- the bytes that byte i of an instruction's result takes
-abbrev pub result_spots : Table → ℕ → Instr → ℕ → List Spot
-result_spots table pid instr i = flat_map (operand_spots pid instr) (table instr i)
+abbrev pub result_spots : Table → ℕ → Instr → Option Place → ℕ → List Spot
+result_spots table pid instr place i = flat_map (operand_spots pid instr place) (table instr i)
 
 -- the spot is a byte of this register of this process
 abbrev pub is_register : ℕ → ℕ → ℕ → ℕ → Bool
 is_register pid reg p r = (p == pid) && (r == reg)
 
--- what a spot takes that an instruction writes
-abbrev pub carried : Table → ℕ → Instr → Spot → Option (List Spot)
-carried table pid (Imm op rd rs1 imm) (Register p r i) =
-    if is_register pid rd p r then Some (result_spots table pid (Imm op rd rs1 imm) i) else None
-carried table pid (Imm op rd rs1 imm) (Private p at) = None
-carried table pid Ecall spot = None
+-- which byte of a place of n bytes an address of the private window is
+abbrev pub in_place : Option Place → ℕ → ℕ → Option ℕ
+in_place None n at = None
+in_place (Some (place.Private from)) n at = within from n at
+
+-- what a spot takes that an instruction writes. x0 is never written
+abbrev pub carried : Table → ℕ → Instr → Option Place → Spot → Option (List Spot)
+carried table pid instr place (Register p zero i) = None
+carried table pid instr place (Register p (suc r) i) =
+    if is_register pid (rd_of instr) p (suc r) then Some (result_spots table pid instr place i) else None
+carried table pid instr place (Private p at) =
+    if p == pid then option_map (result_spots table pid instr place) (in_place place (stored_len instr) at) else None
 
 -- input byte k of the step
 abbrev pub input_byte : ℕ → List Feed
@@ -76,10 +119,6 @@ abbrev pub result_only : ℕ → Spot → Option (List Feed)
 result_only pid (Register p r i) = if is_register pid 10 p r then Some [] else None
 result_only pid (Private p at) = None
 
--- byte k of a place
-abbrev pub place_spot : ℕ → Place → ℕ → Spot
-place_spot pid (place.Private at) k = Private pid (at + k)
-
 -- what a spot takes among n bytes of a place, of which the first is input byte 0
 abbrev pub received : ℕ → Place → ℕ → Spot → Option (List Feed)
 received pid (place.Private from) n (Private p at) = if p == pid then placed 0 from n at else None
@@ -91,7 +130,7 @@ written table (Arrives len) spot = None
 written table (Starts pid load len) (Register p r i) = if p == pid then Some [] else None
 written table (Starts pid load len) (Private p at) =
     if p == pid then Some (unwrap_or (placed header_len load (len - header_len) at) []) else None
-written table (Runs pid instr) spot = option_map (map Old) (carried table pid instr spot)
+written table (Runs pid instr place) spot = option_map (map Old) (carried table pid instr place spot)
 written table (Returns pid) spot = result_only pid spot
 written table (Receives pid place n) (Register p r i) = result_only pid (Register p r i)
 written table (Receives pid place n) (Private p at) = received pid place n (Private p at)
@@ -111,7 +150,7 @@ if_below k n feeds = if nat_lt k n then feeds else []
 abbrev pub shown : Deed → At → List Feed
 shown (Arrives len) (Byte k) = if_below k len (input_byte k)
 shown (Starts pid load len) (Byte k) = if_below k len (input_byte k)
-shown (Runs pid instr) (Byte k) = []
+shown (Runs pid instr place) (Byte k) = []
 shown (Returns pid) (Byte k) = []
 shown (Receives pid place n) (Byte k) = if_below k n (input_byte k)
 shown (Gives pid place n) (Byte k) = if_below k n (Old (place_spot pid place k) ∷ [])

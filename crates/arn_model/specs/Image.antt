@@ -1,5 +1,5 @@
 -- Images of programs, and how a process starts from one.
-use Rattle.std.specs.Prelude.{ℕ, ◌+◌, ◌-◌, ◌%◌, ◌==◌, nat_lt, nat_le, ◌&&◌, Bool, List, [], ◌∷◌, ◌++◌, Option, Some, None, if◌then◌else◌, length, take, drop, replicate, codes, bytes_eq}
+use Rattle.std.specs.Prelude.{ℕ, ◌+◌, ◌-◌, ◌%◌, ◌==◌, nat_lt, nat_le, ◌&&◌, Bool, List, ◌++◌, Option, Some, None, if◌then◌else◌, length, take, drop, replicate, codes, bytes_eq}
 use Rattle.arn_base.specs.declared.machine.Cpu.{Cpu}
 use Rattle.arn_base.specs.Window.{number_of}
 use Rattle.arn_model.specs.declared.limits.TheConstants.{WINDOW_START, WINDOW_END}

@@ -1,5 +1,7 @@
 pub mod Machine
 pub mod Image
+pub mod Values
+pub mod Operands
 pub mod Instruction
 pub mod Step
 pub mod Deed

@@ -1,5 +1,5 @@
 -- The state of the whole machine: its processes, the console and the files.
-use Rattle.std.specs.Prelude.{ℕ, zero, suc, ◌∷◌, [], List, Option, None, slice_get, slice_set, slice_index, map, length, is_some}
+use Rattle.std.specs.Prelude.{ℕ, zero, suc, ◌∷◌, [], List, Option, None, slice_get, slice_set, slice_index}
 use Rattle.arn_base.specs.declared.machine.Cpu.{Cpu}
 use Rattle.arn_base.specs.Window.{Window}
 use Rattle.arn_model.specs.declared.history.Held.{Held}

@@ -1,5 +1,5 @@
 -- The backward relation: which source bytes a byte has, and the pairs that answer a query.
-use Rattle.std.specs.Prelude.{ℕ, zero, suc, ◌+◌, nat_lt, ◌&&◌, ◌||◌, ◌==◌, Bool, if◌then◌else◌, List, [], ◌∷◌, ◌++◌, false, count_by, Option, Some, None, option_map, option_and_then, option_to_list, slice_get}
+use Rattle.std.specs.Prelude.{ℕ, zero, suc, ◌+◌, nat_le, nat_lt, ◌&&◌, ◌||◌, ◌==◌, not, Bool, if◌then◌else◌, List, [], ◌∷◌, ◌++◌, length, flat_map, false, count_by, Option, Some, None, option_map, option_and_then, option_to_list, slice_get}
 use Rattle.arn_base.specs.declared.records.Pair.{Pair}
 use Rattle.arn_model.specs.declared.lineage.Linkage.{Linkage}
 use Rattle.arn_model.specs.declared.lineage.At.{At}
@@ -15,6 +15,7 @@ use Rattle.arn_model.specs.declared.lineage.Deed.{Deed}
 use Rattle.arn_model.specs.Deed.{actor, is_instruction}
 use Rattle.arn_model.specs.Flow.{operands}
 use Rattle.arn_model.specs.Run.{run, machine_after, events_of}
+use Rattle.arn_model.specs.declared.limits.TheConstants.{EXIT, READ, WRITE, MOST_ASKED}
 use Rattle.arn_model.specs.Tracking.{whole}
 
 -- the source bytes of byte k of an event of the history
@@ -93,3 +94,25 @@ runs_in m groups deed = is_instruction deed && list_any (is_group (option_and_th
 -- how many instructions the groups have run in a history
 abbrev pub groups_count : List Input → List ℕ → ℕ
 groups_count inputs groups = count_by (λ s. runs_in (machine_after inputs) groups s.deed) (run inputs)
+
+-- a call other than exit, read and write
+abbrev pub is_other_number : ℕ → Bool
+is_other_number number = not ((number == EXIT) || ((number == READ) || (number == WRITE)))
+
+-- a record of another call than exit, read and write
+abbrev pub is_other_record : Record → Bool
+is_other_record (entry.Call pid number result extra) = is_other_number number
+is_other_record entry = false
+
+-- the history holds a call other than exit, read and write
+abbrev pub has_other_calls : List Input → Bool
+has_other_calls inputs = list_any (λ e. is_other_record e.entry) (events_of (run inputs))
+
+-- there is an event, it has these bytes, and they aren't too many
+abbrev pub is_range : Option Event → ℕ → ℕ → Bool
+is_range None from len = false
+is_range (Some e) from len = nat_le (from + len) (length e.bytes) && nat_le len MOST_ASKED
+
+-- the groups that a query about an event concerns
+abbrev pub asked_groups : List Input → ℕ → List ℕ
+asked_groups inputs event = flat_map (λ e. query_groups (machine_after inputs) e.entry) (option_to_list (event_at inputs event))

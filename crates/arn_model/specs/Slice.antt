@@ -1,5 +1,5 @@
 -- Steps of one process, and the slices in which processes take turns.
-use Rattle.std.specs.Prelude.{ℕ, zero, suc, ◌+◌, nat_le, ◌&&◌, Bool, true, false, if◌then◌else◌, List, [], ◌∷◌, filter, not, Option, Some, None}
+use Rattle.std.specs.Prelude.{ℕ, zero, suc, ◌+◌, nat_le, ◌&&◌, Bool, true, false, if◌then◌else◌, List, [], ◌∷◌, filter, not, Option, Some, None, option_map}
 use Rattle.arn_base.specs.Window.{Window}
 use Rattle.arn_base.specs.declared.machine.Cpu.{Cpu}
 use Rattle.arn_base.specs.declared.records.Record.TheVariants as entry
@@ -9,14 +9,15 @@ use Rattle.arn_model.specs.declared.lineage.Deed.TheVariants.{Runs, Faults}
 use Rattle.arn_model.specs.declared.history.Standing.{Standing}
 use Rattle.arn_model.specs.declared.history.Standing.TheVariants.{Done, Stalled, CanGoOn}
 use Rattle.arn_model.specs.declared.limits.TheConstants.{MOST_SLICE}
-use Rattle.arn_model.specs.Machine.{Machine, Process, Life, Live, Gone, process, with_process, windows, with_windows}
+use Rattle.arn_model.specs.Machine.{Machine, Process, Life, Live, Gone, process, windows, with_windows}
 use Rattle.arn_model.specs.Instruction.{Effect, Next, Call, End, instruction}
 use Rattle.arn_model.specs.Step.{Step, is_event, nothing_received, nothing_put, event_counted}
-use Rattle.arn_model.specs.Call.{called, call_step, is_waiting, ended}
+use Rattle.arn_model.specs.Operands.{accessed}
+use Rattle.arn_model.specs.Call.{place_at, called, call_step, is_waiting, ended}
 
 -- what an instruction that is no call does inside its process
 abbrev pub instr_deed : Machine → ℕ → Process → Instr → Deed
-instr_deed m pid p instr = Runs pid instr
+instr_deed m pid p instr = Runs pid instr (option_map (place_at m p) (accessed instr p.cpu))
 
 -- an instruction that is no call
 abbrev pub instr_step : Machine → ℕ → Process → Instr → Cpu → List Window → Step

@@ -1,5 +1,5 @@
 -- Sets of source bytes, and what a step does to them. The same fold serves the whole machine and a group alone.
-use Rattle.std.specs.Prelude.{ℕ, ◌+◌, ◌==◌, ◌&&◌, Bool, if◌then◌else◌, List, [], ◌∷◌, flat_map, Option, Some, None}
+use Rattle.std.specs.Prelude.{ℕ, ◌==◌, ◌&&◌, Bool, if◌then◌else◌, List, [], ◌∷◌, flat_map, Option, Some, None}
 use Rattle.arn_model.specs.declared.lineage.Spot.{Spot}
 use Rattle.arn_model.specs.declared.lineage.Cell.{Cell}
 use Rattle.arn_model.specs.declared.lineage.At.{At}

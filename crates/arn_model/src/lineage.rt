@@ -43,6 +43,10 @@ pub struct Point {
 pub enum Operand {
     /// A byte, 0 to 7, of the register rs1.
     Left { byte: u8 },
+    /// A byte, 0 to 7, of the register rs2.
+    Right { byte: u8 },
+    /// A byte that a load reads, counted from the load's address.
+    Loaded { byte: u8 },
 }
 
 /// What a byte takes: what another byte had before the step, or one of the step's own input bytes.
@@ -63,19 +67,43 @@ pub enum Place {
 #[derive(Clone, Copy, Debug, PartialEq, Eq)]
 pub enum Deed {
     /// So many bytes come from outside, to no process: a boot file, a typed piece.
-    Arrives { len: u32 },
+    Arrives {
+        len: u32,
+    },
     /// A process starts from an image file of so many bytes, whose body lies at `load`.
-    Starts { pid: u32, load: u64, len: u32 },
-    /// An instruction that touches registers alone.
-    Runs { pid: u32, instr: Instr },
+    Starts {
+        pid: u32,
+        load: u64,
+        len: u32,
+    },
+    /// An instruction that is no call. A load or a store has its place.
+    Runs {
+        pid: u32,
+        instr: Instr,
+        place: Option<Place>,
+    },
     /// A call that moves no bytes. Its result is in x10.
-    Returns { pid: u32 },
+    Returns {
+        pid: u32,
+    },
     /// A call that receives so many bytes. Its result is in x10.
-    Receives { pid: u32, place: Place, len: u32 },
+    Receives {
+        pid: u32,
+        place: Place,
+        len: u32,
+    },
     /// A call that gives so many bytes. Its result is in x10.
-    Gives { pid: u32, place: Place, len: u32 },
+    Gives {
+        pid: u32,
+        place: Place,
+        len: u32,
+    },
     /// The process ends by a call, with byte 0 of x10 as its status.
-    Exits { pid: u32 },
+    Exits {
+        pid: u32,
+    },
     /// The process ends by a fault.
-    Faults { pid: u32 },
+    Faults {
+        pid: u32,
+    },
 }

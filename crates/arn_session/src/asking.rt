@@ -1,9 +1,11 @@
 // The line that asks where bytes came from.
-ghost use Rattle.std.specs.Prelude.{◌≡◌, ◌++◌, None, ℕ, OnOk, IfErr, string_bytes, flat_map, option_map};
+ghost use Rattle.std.specs.Prelude.{◌≡◌, ◌≤◌, ◌<◌, ◌+◌, ◌^◌, ◌++◌, None, ℕ, All, length, OnOk, IfErr, string_bytes, flat_map, option_map};
 ghost use Rattle.arn_base.specs.Faults.{NeverFalls};
 ghost use Rattle.arn_lines.specs.declared.line.Line.TheVariants as line;
 ghost use Rattle.arn_lines.specs.Texts.{pair_text};
+ghost use Rattle.arn_model.specs.Run.{run, instructions_in};
 ghost use Rattle.log_model.specs.Records.{named};
+ghost use Rattle.result_log.specs.Spelling.{HasSpelling};
 ghost use Rattle.arn_session.specs.Answers.{refusal_of, query_text, found_text};
 ghost use Rattle.arn_session.specs.Kept.{IsReady};
 ghost use Rattle.arn_session.specs.Printing.{StopsPut};
@@ -11,16 +13,17 @@ ghost use Rattle.arn_session.specs.Standing.{IsCause};
 
 use crate::printing::put_all;
 use crate::status::Halt;
-use arn_base::{NoMemory, Pair, Record, Sink};
+use arn_base::{NoMemory, Pair, Record, Sink, Steps};
 use arn_lines::{push_back, push_pair};
 use arn_model::Linkage;
 use guest_machine::Machine;
-use history_facts::{records_tell_calls, records_tell_events};
-use solo_lineage::{Found, QueryError, back as sources_of};
+use history_facts::records_tell_events;
+use solo_queries::{Found, back as sources_of};
 use std::alloc::Global;
+use std::sync::ledger::Ledger;
 
 /// Prints where `len` bytes of an event came from, from byte `from` on.
-pub fn back<K: Sink>(
+pub fn back<K: Sink, L: Ledger>(
     alloc: Global,
     entries: &[Record],
     machine: &Machine,
@@ -30,8 +33,10 @@ pub fn back<K: Sink>(
     len: u64,
     text: &mut String,
     sink: &mut K,
+    steps: &mut Steps<L>,
 ) -> Result<(), Halt>
     requires ready { IsReady machine.now entries.now }
+    requires spelled { All HasSpelling entries.now }
     requires accepted { refusal_of entries.now (line.Back linkage event from len) ≡ None }
     ensures ok { OnOk result (K.holds sink.new ≡ option_map (λ held.
         held ++ query_text (named entries.now) linkage event from len) (K.holds sink.old)) }
@@ -41,14 +46,17 @@ pub fn back<K: Sink>(
     ensures cause { IfErr result (λ halt. (faults : ℕ) →
         IsCause halt faults faults (K.faults sink.old) (K.faults sink.new)) }
     ensures faults { NeverFalls (K.faults sink.old) (K.faults sink.new) }
+    ensures steps { steps.new ≤ steps.old + instructions_in (run (named entries.now)) }
 {
     text.clear();
-    push_answer(alloc, entries, machine, linkage, event, from, len, text)?;
+    push_answer(
+        alloc, entries, machine, linkage, event, from, len, text, steps,
+    )?;
     put_all(sink, text.as_bytes())
 }
 
 // The answer to a query that has one.
-fn push_answer(
+fn push_answer<L: Ledger>(
     alloc: Global,
     entries: &[Record],
     machine: &Machine,
@@ -57,22 +65,29 @@ fn push_answer(
     from: u64,
     len: u64,
     text: &mut String,
+    steps: &mut Steps<L>,
 ) -> Result<(), NoMemory>
     requires ready { IsReady machine.now entries.now }
+    requires spelled { All HasSpelling entries.now }
     requires accepted { refusal_of entries.now (line.Back linkage event from len) ≡ None }
-    ensures { OnOk result (string_bytes text.new ≡ string_bytes text.old ++
+    ensures text { OnOk result (string_bytes text.new ≡ string_bytes text.old ++
         query_text (named entries.now) linkage event from len) }
+    ensures steps { steps.new ≤ steps.old + instructions_in (run (named entries.now)) }
 {
-    records_tell_calls();
     records_tell_events();
+    count_entries(entries);
     // There is one linkage as yet.
     let Linkage::Copy = linkage;
     let ran = machine.instructions();
-    match sources_of(alloc, machine.moves(), ran, event, from, len) {
-        Ok(found) => push_found(text, &found),
-        Err(QueryError::NoMemory) => Err(NoMemory),
-        Err(QueryError::OtherCall | QueryError::NoPoint) => unreachable!(),
-    }
+    let found = sources_of(alloc, entries, ran, event, from, len, steps)?;
+    push_found(text, &found)
+}
+
+// There are few enough records to count them.
+fn count_entries(entries: &[Record])
+    ensures { length entries.now < 2 ^ 63 }
+{
+    let _ = entries.len();
 }
 
 fn push_found(text: &mut String, found: &Found) -> Result<(), NoMemory>

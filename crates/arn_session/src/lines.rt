@@ -170,7 +170,7 @@ fn carry_out<D: Disk, K: Sink, L: Ledger>(
         } => {
             let entries = store.entries();
             back(
-                alloc, entries, machine, linkage, event, from, len, text, sink,
+                alloc, entries, machine, linkage, event, from, len, text, sink, steps,
             )
         }
     }

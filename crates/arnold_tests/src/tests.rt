@@ -117,6 +117,27 @@ const OTHER_CALL: &str = "\
     back copy event 0 0 1\n\
     back copy event 9 0 1\n";
 
+/// A program that reads three bytes, exchanges the outer ones through registers, makes the middle
+/// one of its own (one more than the first), writes them, and exits with the first as its status.
+const EXCHANGED: &str = "\
+    file p 41524e494d473031000001000000000000000100000000009308b00013050000930501ff1306300073000000\
+    83c2050003c3250093830200238175002380650093821200a38055009308c000130510007300000003c505009308\
+    100073000000\n\
+    boot p\n\
+    type 616263\n\
+    run 100\n\
+    back copy event 4 0 3\n\
+    back copy event 5 0 1\n\
+    back copy event 3 1 2\n";
+
+/// A program that stores a call over the next word, which is no instruction, and then loads from
+/// behind its window.
+const OVERWRITTEN: &str = "\
+    file p 41524e494d47303100000100000000000000010000000000130330079702000023a4620000000000\
+    03351100\n\
+    boot p\n\
+    run 9\n";
+
 /// How many bytes a failing source gives at once, so that it is called often.
 const PIECE: usize = 7;
 
@@ -162,6 +183,14 @@ fn prints_the_answer_to_each_line(rt: HostRuntime) -> Result<(), Fail> {
             "event 0\nevent 1\nran 4 stalled\nevent 2\nout 4 1 616263\nran 7 done\n",
         ),
         (ILLEGAL, "event 0\nevent 1\nran 1 done\n"),
+        (
+            EXCHANGED,
+            "event 0\nevent 1\nevent 2\nout 4 1 636261\nran 18 done\n\
+            pair 2 2 0\npair 2 0 2\nback pairs 2 instructions 18 groups 1\n\
+            pair 2 2 0\nback pairs 1 instructions 18 groups 1\n\
+            pair 2 1 0\npair 2 2 1\nback pairs 2 instructions 18 groups 1\n",
+        ),
+        (OVERWRITTEN, "event 0\nevent 1\nran 5 done\n"),
         (
             OTHER_CALL,
             "event 0\nevent 1\npair 0 0 0\nback pairs 1 instructions 0 groups -\nran 3 done\n\

@@ -1,5 +1,5 @@
 -- Steps behind steps, and inputs behind inputs.
-use Rattle.std.proofs.Common.{◌≡◌, ◌+◌, ◌++◌, ◌∙◌, cond, List, [], ◌∷◌, option_to_list, refl, sym, ap, append_assoc}
+use Rattle.std.proofs.Common.{◌≡◌, ◌+◌, ◌++◌, ◌∙◌, cond, List, [], ◌∷◌, refl, sym, ap, append_assoc}
 use Rattle.std.proofs.lemmas.List.Sums.{sum_by-append}
 use Rattle.arn_base.specs.declared.records.Record.{Record}
 use Rattle.arn_model.specs.declared.history.Input.{Input}
@@ -9,18 +9,10 @@ use Rattle.arn_model.specs.Deed.{is_instruction}
 use Rattle.arn_model.specs.Slice.{after_steps}
 use Rattle.arn_model.specs.Run.{input_steps, after_input, steps_from, instructions_in}
 use Rattle.log_model.specs.Records.{input_records, records_from}
-use Rattle.solo_lineage.specs.declared.moves.Move.{Move}
-use Rattle.solo_lineage.specs.Moves.{move_if, moves_from}
 
 pub after_steps-append : (m : Machine) (steps more : List Step) → after_steps m (steps ++ more) ≡ after_steps (after_steps m steps) more
 after_steps-append m [] more = refl
 after_steps-append m (s ∷ steps) more = after_steps-append s.after steps more
-
-pub moves_from-append : (m : Machine) (steps more : List Step) → moves_from m (steps ++ more) ≡ moves_from m steps ++ moves_from (after_steps m steps) more
-moves_from-append m [] more = refl
-moves_from-append m (s ∷ steps) more =
-    ap (λ (rest : List Move). option_to_list (move_if m s.deed s.event) ++ rest) (moves_from-append s.after steps more)
-    ∙ sym (append_assoc (option_to_list (move_if m s.deed s.event)) (moves_from s.after steps) (moves_from (after_steps s.after steps) more))
 
 pub instructions_in-append : (steps more : List Step) → instructions_in (steps ++ more) ≡ instructions_in steps + instructions_in more
 instructions_in-append steps more = sum_by-append (λ (s : Step). cond (is_instruction s.deed) 1 0) steps more

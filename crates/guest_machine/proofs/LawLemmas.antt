@@ -7,7 +7,6 @@ use Rattle.arn_model.specs.Slice.{after_steps}
 use Rattle.arn_model.specs.Run.{run, instructions_in}
 use Rattle.log_model.specs.Records.{records, records_from, named}
 use Rattle.log_model.proofs.RecordForms.{run-again}
-use Rattle.solo_lineage.specs.Moves.{moves_from}
 use Rattle.guest_machine.specs.Recorded.{Recorded, Runs, IsAfter, HasRoom, recorded_first}
 use Rattle.guest_machine.proofs.Behind.{records_from-append}
 use Rattle.guest_machine.proofs.Bounds.{events-few, instructions-few}
@@ -15,15 +14,15 @@ use Rattle.guest_machine.proofs.RunsLemmas.{Runs-then}
 
 -- what inputs lead to is what they make of the first machine
 after-Runs : (m : Recorded) (inputs : List Input) → IsAfter m inputs → Runs inputs recorded_first m [] (records inputs)
-after-Runs m inputs after = record { leads = after.leads; moved = after.moved; counted = omega (arith, after.counted); recorded = refl }
+after-Runs m inputs after = record { leads = after.leads; counted = omega (arith, after.counted); recorded = refl }
 
 Runs-after : (m : Recorded) (inputs : List Input) (out : List Record) → Runs inputs recorded_first m [] out → IsAfter m inputs
-Runs-after m inputs out runs = record { leads = runs.leads; moved = runs.moved; counted = omega (arith, runs.counted) }
+Runs-after m inputs out runs = record { leads = runs.leads; counted = omega (arith, runs.counted) }
 
 -- inputs behind the others
 pub follow-Runs : (m m' : Recorded) (inputs more : List Input) (out out' : List Record) → IsAfter m inputs → Runs more m m' out out' → IsAfter m' (inputs ++ more)
 follow-Runs m m' inputs more out out' after runs =
-    Runs-after m' (inputs ++ more) (records inputs ++ records_from m.machine more) (Runs-then inputs more recorded_first m m' [] (records inputs) _ (after-Runs m inputs after) (record { leads = runs.leads; moved = runs.moved; counted = runs.counted; recorded = refl }))
+    Runs-after m' (inputs ++ more) (records inputs ++ records_from m.machine more) (Runs-then inputs more recorded_first m m' [] (records inputs) _ (after-Runs m inputs after) (record { leads = runs.leads; counted = runs.counted; recorded = refl }))
 
 -- and their records
 pub follow-records : (m : Recorded) (inputs more : List Input) (out0 : List Record) → IsAfter m inputs → records inputs ≡ out0 → records (inputs ++ more) ≡ out0 ++ records_from m.machine more
@@ -38,7 +37,6 @@ follow-named m inputs after =
     let same : run inputs ≡ run (named (records inputs)) = sym (run-again inputs) in
     record {
       leads = after.leads ∙ ap (after_steps at_first) same;
-      moved = after.moved ∙ ap (moves_from at_first) same;
       counted = after.counted ∙ ap instructions_in same;
     }
 

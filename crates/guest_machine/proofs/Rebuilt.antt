@@ -81,7 +81,7 @@ pub record IsRebuilt (entries : List Record) (i : ℕ) (m : Recorded) (matched :
 pub IsRebuilt-none : (entries : List Record) (steps0 : ℕ) → IsRebuilt entries 0 recorded_first 0 steps0 steps0
 IsRebuilt-none entries steps0 = record {
   within = omega arith;
-  after = record { leads = refl; moved = refl; counted = refl };
+  after = record { leads = refl; counted = refl };
   recorded = refl;
   few = omega arith;
 }

@@ -13,24 +13,21 @@ use Rattle.arn_model.specs.Slice.{after_steps, is_possible, is_runnable}
 use Rattle.arn_model.specs.Run.{input_steps, after_input, steps_from, instructions_in, is_booted}
 use Rattle.log_model.specs.Records.{event_records, input_records, records_from}
 use Rattle.result_log.specs.Spelling.{HasSpelling}
-use Rattle.solo_lineage.specs.declared.moves.Move.{Move}
-use Rattle.solo_lineage.specs.Moves.{moves_from}
 use Rattle.guest_solo.specs.Input.{Does}
 use Rattle.guest_machine.specs.Recorded.{Recorded, Runs}
-use Rattle.guest_machine.proofs.Behind.{after_steps-append, steps_from-append, moves_from-append, instructions_in-append, records_from-append}
+use Rattle.guest_machine.proofs.Behind.{after_steps-append, steps_from-append, instructions_in-append, records_from-append}
 use Rattle.guest_machine.proofs.Inputs.{does-after, records-slice, quiet-records, no-slice, boot-runs-none}
 
 -- no input
 pub Runs-none : (m : Recorded) (out : List Record) → Runs [] m m out out
-Runs-none m out = record { leads = refl; moved = sym (append-nil m.moves); counted = omega arith; recorded = sym (append-nil out) }
+Runs-none m out = record { leads = refl; counted = omega arith; recorded = sym (append-nil out) }
 
 -- one input
-pub Runs-one : (i : Input) (m m' : Recorded) (out out' : List Record) → after_input m.machine i ≡ m'.machine → m'.moves ≡ m.moves ++ moves_from m.machine (input_steps m.machine i) → m'.instructions ≡ m.instructions + instructions_in (input_steps m.machine i) → out' ≡ out ++ input_records i (input_steps m.machine i) → Runs (i ∷ []) m m' out out'
-Runs-one i m m' out out' leads moved counted recorded =
+pub Runs-one : (i : Input) (m m' : Recorded) (out out' : List Record) → after_input m.machine i ≡ m'.machine → m'.instructions ≡ m.instructions + instructions_in (input_steps m.machine i) → out' ≡ out ++ input_records i (input_steps m.machine i) → Runs (i ∷ []) m m' out out'
+Runs-one i m m' out out' leads counted recorded =
     let same : input_steps m.machine i ≡ steps_from m.machine (i ∷ []) = sym (append-nil (input_steps m.machine i)) in
     record {
       leads = sym leads ∙ ap (after_steps m.machine) same;
-      moved = moved ∙ ap (λ (steps : List Step). m.moves ++ moves_from m.machine steps) same;
       counted = counted ∙ ap (λ (steps : List Step). m.instructions + instructions_in steps) same;
       recorded = recorded ∙ ap (λ (entries : List Record). out ++ entries) (sym (append-nil (input_records i (input_steps m.machine i))));
     }
@@ -47,13 +44,6 @@ Runs-then inputs more m m1 m2 out out1 out2 first next =
           ∙ ap (λ (x : Machine). after_steps x new) first.leads
           ∙ sym (after_steps-append m.machine old new)
           ∙ sym (ap (after_steps m.machine) all);
-      moved =
-          next.moved
-          ∙ ap (λ (moves : List Move). moves ++ moves_from m1.machine new) first.moved
-          ∙ append_assoc m.moves (moves_from m.machine old) (moves_from m1.machine new)
-          ∙ ap (λ (x : Machine). m.moves ++ (moves_from m.machine old ++ moves_from x new)) first.leads
-          ∙ ap (λ (moves : List Move). m.moves ++ moves) (sym (moves_from-append m.machine old new))
-          ∙ ap (λ (steps : List Step). m.moves ++ moves_from m.machine steps) (sym all);
       counted = omega (arith, next.counted, first.counted, ap instructions_in all, instructions_in-append old new);
       recorded =
           next.recorded
@@ -64,40 +54,37 @@ Runs-then inputs more m m1 m2 out out1 out2 first next =
     }
 
 -- one step that runs no instruction
-does-Runs : (i : Input) (m m' : Recorded) (moved : List Move) (entries out out' : List Record) → Does m.machine i m'.machine → m'.moves ≡ m.moves ++ moved → moved ≡ moves_from m.machine (input_steps m.machine i) → m'.instructions ≡ m.instructions → 0 ≡ instructions_in (input_steps m.machine i) → out' ≡ out ++ entries → entries ≡ input_records i (input_steps m.machine i) → Runs (i ∷ []) m m' out out'
-does-Runs i m m' moved entries out out' does moves is_moved instructions none are is_entries =
+does-Runs : (i : Input) (m m' : Recorded) (entries out out' : List Record) → Does m.machine i m'.machine → m'.instructions ≡ m.instructions → 0 ≡ instructions_in (input_steps m.machine i) → out' ≡ out ++ entries → entries ≡ input_records i (input_steps m.machine i) → Runs (i ∷ []) m m' out out'
+does-Runs i m m' entries out out' does instructions none are is_entries =
     Runs-one i m m' out out'
     (does-after m.machine i m'.machine does)
-    (moves ∙ ap (λ (new : List Move). m.moves ++ new) is_moved)
     (omega (arith, instructions, none))
     (are ∙ ap (λ (new : List Record). out ++ new) is_entries)
 
 -- a boot
-pub boot-Runs : (m m' : Recorded) (name : List ℕ) (moved : Move) (entry : Record) (out out' : List Record) → Does m.machine (input.Boot name) m'.machine → m'.moves ≡ m.moves ++ moved ∷ [] → moved ∷ [] ≡ moves_from m.machine (input_steps m.machine (input.Boot name)) → m'.instructions ≡ m.instructions → out' ≡ out ++ entry ∷ [] → entry ∷ [] ≡ event_records (input_steps m.machine (input.Boot name)) → Runs (input.Boot name ∷ []) m m' out out'
-boot-Runs m m' name moved entry out out' does moves is_moved instructions are is_entry =
-    does-Runs (input.Boot name) m m' (moved ∷ []) (entry ∷ []) out out' does moves is_moved instructions (boot-runs-none m.machine name (is_booted m.machine)) are is_entry
+pub boot-Runs : (m m' : Recorded) (name : List ℕ) (entry : Record) (out out' : List Record) → Does m.machine (input.Boot name) m'.machine → m'.instructions ≡ m.instructions → out' ≡ out ++ entry ∷ [] → entry ∷ [] ≡ event_records (input_steps m.machine (input.Boot name)) → Runs (input.Boot name ∷ []) m m' out out'
+boot-Runs m m' name entry out out' does instructions are is_entry =
+    does-Runs (input.Boot name) m m' (entry ∷ []) out out' does instructions (boot-runs-none m.machine name (is_booted m.machine)) are is_entry
 
 -- a slice that ran
-pub slice-Runs : (m m' : Recorded) (count ran : ℕ) (entries : List Record) (moved : List Move) (out out' : List Record) → m'.machine ≡ after_input m.machine (input.Slice 1 count) → m'.moves ≡ m.moves ++ moved → moved ≡ moves_from m.machine (input_steps m.machine (input.Slice 1 count)) → m'.instructions ≡ m.instructions + ran → ran ≡ instructions_in (input_steps m.machine (input.Slice 1 count)) → 1 ≤ ran → out' ≡ out ++ entry.Slice 1 ran ∷ entries → entries ≡ event_records (input_steps m.machine (input.Slice 1 count)) → Runs (input.Slice 1 count ∷ []) m m' out out'
-slice-Runs m m' count ran entries moved out out' leads moves is_moved instructions is_ran some are is_entries =
+pub slice-Runs : (m m' : Recorded) (count ran : ℕ) (entries out out' : List Record) → m'.machine ≡ after_input m.machine (input.Slice 1 count) → m'.instructions ≡ m.instructions + ran → ran ≡ instructions_in (input_steps m.machine (input.Slice 1 count)) → 1 ≤ ran → out' ≡ out ++ entry.Slice 1 ran ∷ entries → entries ≡ event_records (input_steps m.machine (input.Slice 1 count)) → Runs (input.Slice 1 count ∷ []) m m' out out'
+slice-Runs m m' count ran entries out out' leads instructions is_ran some are is_entries =
     Runs-one (input.Slice 1 count) m m' out out'
     (sym leads)
-    (moves ∙ ap (λ (new : List Move). m.moves ++ new) is_moved)
     (instructions ∙ ap (λ (n : ℕ). m.instructions + n) is_ran)
     (are ∙ ap (λ (new : List Record). out ++ new) (sym (records-slice m.machine count ran entries is_ran some is_entries)))
 
 -- the part of a slice that ran before memory ran out
-pub cut-Runs : (m m' : Recorded) (ran : ℕ) (out out' : List Record) → m'.machine ≡ after_input m.machine (input.Slice 1 ran) → m'.machine.events ≡ m.machine.events → m'.moves ≡ m.moves → moves_from m.machine (input_steps m.machine (input.Slice 1 ran)) ≡ [] → m'.instructions ≡ m.instructions + ran → instructions_in (input_steps m.machine (input.Slice 1 ran)) ≡ ran → 1 ≤ ran → out' ≡ out ++ entry.Slice 1 ran ∷ [] → Runs (input.Slice 1 ran ∷ []) m m' out out'
-cut-Runs m m' ran out out' leads quiet moves moved instructions is_ran some are =
-    slice-Runs m m' ran ran [] [] out out' leads (moves ∙ sym (append-nil m.moves)) (sym moved) instructions (sym is_ran) some are (quiet-records m.machine ran m'.machine leads quiet)
+pub cut-Runs : (m m' : Recorded) (ran : ℕ) (out out' : List Record) → m'.machine ≡ after_input m.machine (input.Slice 1 ran) → m'.machine.events ≡ m.machine.events → m'.instructions ≡ m.instructions + ran → instructions_in (input_steps m.machine (input.Slice 1 ran)) ≡ ran → 1 ≤ ran → out' ≡ out ++ entry.Slice 1 ran ∷ [] → Runs (input.Slice 1 ran ∷ []) m m' out out'
+cut-Runs m m' ran out out' leads quiet instructions is_ran some are =
+    slice-Runs m m' ran ran [] out out' leads instructions (sym is_ran) some are (quiet-records m.machine ran m'.machine leads quiet)
 
 -- a part of no instruction
-pub uncut-Runs : (m m' : Recorded) (out out' : List Record) → m'.machine ≡ m.machine → m'.moves ≡ m.moves → m'.instructions ≡ m.instructions → out' ≡ out → Runs (input.Slice 1 0 ∷ []) m m' out out'
-uncut-Runs m m' out out' leads moves instructions are =
+pub uncut-Runs : (m m' : Recorded) (out out' : List Record) → m'.machine ≡ m.machine → m'.instructions ≡ m.instructions → out' ≡ out → Runs (input.Slice 1 0 ∷ []) m m' out out'
+uncut-Runs m m' out out' leads instructions are =
     let none : [] ≡ input_steps m.machine (input.Slice 1 0) = sym (no-slice m.machine) in
     Runs-one (input.Slice 1 0) m m' out out'
     (sym (leads ∙ ap (after_steps m.machine) none))
-    (moves ∙ sym (append-nil m.moves) ∙ ap (λ (steps : List Step). m.moves ++ moves_from m.machine steps) none)
     (omega (arith, instructions, ap instructions_in none))
     (are ∙ sym (append-nil out) ∙ ap (λ (steps : List Step). out ++ input_records (input.Slice 1 0) steps) none)
 
@@ -109,11 +96,11 @@ pub spelled-one : (out : List Record) (e : Record) (out' : List Record) → out'
 spelled-one out e out' are has = spelled-more out (e ∷ []) out' are (All-cons HasSpelling e [] has (All-nil HasSpelling))
 
 -- a part of a slice, of however many instructions
-pub cut-where : (m m' : Recorded) (ran : ℕ) (out reserved out' : List Record) → m'.machine ≡ after_input m.machine (input.Slice 1 ran) → m'.machine.events ≡ m.machine.events → m'.moves ≡ m.moves → moves_from m.machine (input_steps m.machine (input.Slice 1 ran)) ≡ [] → m'.instructions ≡ m.instructions + ran → instructions_in (input_steps m.machine (input.Slice 1 ran)) ≡ ran → reserved ≡ out → (1 ≤ ran → out' ≡ reserved ++ entry.Slice 1 ran ∷ []) → (ran ≡ 0 → out' ≡ reserved) → Runs (input.Slice 1 ran ∷ []) m m' out out'
-cut-where m m' zero out reserved out' leads quiet moves moved instructions is_ran same some none =
-    uncut-Runs m m' out out' (leads ∙ ap (after_steps m.machine) (no-slice m.machine)) moves (omega (arith, instructions)) (none refl ∙ same)
-cut-where m m' (suc ran) out reserved out' leads quiet moves moved instructions is_ran same some none =
-    cut-Runs m m' (suc ran) out out' leads quiet moves moved instructions is_ran (omega arith) (some (omega arith) ∙ ap (λ (xs : List Record). xs ++ entry.Slice 1 (suc ran) ∷ []) same)
+pub cut-where : (m m' : Recorded) (ran : ℕ) (out reserved out' : List Record) → m'.machine ≡ after_input m.machine (input.Slice 1 ran) → m'.machine.events ≡ m.machine.events → m'.instructions ≡ m.instructions + ran → instructions_in (input_steps m.machine (input.Slice 1 ran)) ≡ ran → reserved ≡ out → (1 ≤ ran → out' ≡ reserved ++ entry.Slice 1 ran ∷ []) → (ran ≡ 0 → out' ≡ reserved) → Runs (input.Slice 1 ran ∷ []) m m' out out'
+cut-where m m' zero out reserved out' leads quiet instructions is_ran same some none =
+    uncut-Runs m m' out out' (leads ∙ ap (after_steps m.machine) (no-slice m.machine)) (omega (arith, instructions)) (none refl ∙ same)
+cut-where m m' (suc ran) out reserved out' leads quiet instructions is_ran same some none =
+    cut-Runs m m' (suc ran) out out' leads quiet instructions is_ran (omega arith) (some (omega arith) ∙ ap (λ (xs : List Record). xs ++ entry.Slice 1 (suc ran) ∷ []) same)
 
 -- a possible slice is of some instructions
 possible-above : (able : Bool) (count : ℕ) → able && (nat_le 1 count && nat_le count MOST_SLICE) ≡ true → 0 < count

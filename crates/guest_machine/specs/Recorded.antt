@@ -1,35 +1,30 @@
--- A machine with what it did, and what inputs make of it.
-use Rattle.std.specs.Prelude.{◌≡◌, ◌<◌, ◌+◌, ◌^◌, ℕ, List, [], ◌++◌}
+-- A machine with how many instructions it ran, and what inputs make of it.
+use Rattle.std.specs.Prelude.{◌≡◌, ◌<◌, ◌+◌, ◌^◌, ℕ, List, ◌++◌}
 use Rattle.arn_base.specs.declared.records.Record.{Record}
 use Rattle.arn_model.specs.declared.history.Input.{Input}
 use Rattle.arn_model.specs.Machine.{Machine, at_first}
 use Rattle.arn_model.specs.Slice.{after_steps}
 use Rattle.arn_model.specs.Run.{machine_after, run, steps_from, instructions_in}
 use Rattle.log_model.specs.Records.{records_from}
-use Rattle.solo_lineage.specs.declared.moves.Move.{Move}
-use Rattle.solo_lineage.specs.Moves.{moves_from, moves_of}
 
--- the machine, what each of its events did to bytes, and how many instructions have run
+-- the machine, and how many instructions have run
 pub record Recorded : Type 0 where
   pub machine : Machine
-  pub moves : List Move
   pub instructions : ℕ
 
 -- before anything has come from outside
 abbrev pub recorded_first : Recorded
-recorded_first = record { machine = at_first; moves = []; instructions = 0 }
+recorded_first = record { machine = at_first; instructions = 0 }
 
 -- these inputs lead from a machine to another, and these are their records, behind others
 pub record Runs (inputs : List Input) (m m' : Recorded) (out out' : List Record) : Type 0 where
   pub leads : m'.machine ≡ after_steps m.machine (steps_from m.machine inputs)
-  pub moved : m'.moves ≡ m.moves ++ moves_from m.machine (steps_from m.machine inputs)
   pub counted : m'.instructions ≡ m.instructions + instructions_in (steps_from m.machine inputs)
   pub recorded : out' ≡ out ++ records_from m.machine inputs
 
 -- what these inputs lead to from the start
 pub record IsAfter (m : Recorded) (inputs : List Input) : Type 0 where
   pub leads : m.machine ≡ machine_after inputs
-  pub moved : m.moves ≡ moves_of inputs
   pub counted : m.instructions ≡ instructions_in (run inputs)
 
 -- so many more events and instructions can be counted

@@ -3,4 +3,4 @@ use Rattle.guest_machine.specs.declared.machine.Machine.TheInside.{Inside}
 use Rattle.guest_machine.specs.Recorded.{Recorded}
 
 abbrev pub recorded_of : Inside → Recorded
-recorded_of m = record { machine = m.solo; moves = m.moves.items; instructions = m.instructions }
+recorded_of m = record { machine = m.solo; instructions = m.instructions }

@@ -1,20 +1,18 @@
 use crate::leg::{Leg, LegEnd, leg_end};
-use crate::pieces::{SLICE_RECORDS, file_record, keep_cut, keep_move, keep_slice, typed_record};
+use crate::pieces::{SLICE_RECORDS, file_record, keep_cut, keep_slice, typed_record};
 use arn_base::{NoMemory, Record, Steps};
 use arn_model::Standing;
 use arn_model::limits::{MOST_FILE_BYTES, MOST_SLICE};
 use guest_solo::{CutShort, MachineError, Solo, Turn};
-use solo_lineage::Move;
 use std::alloc::Global;
 use std::marker::Model;
 use std::sync::ledger::Ledger;
 
-/// A machine, what each of its events did to bytes, and how many instructions it has run.
+/// A machine, and how many instructions it has run.
 #[derive(Drop)]
 pub struct Machine {
     alloc: Global,
     solo: Solo,
-    moves: Vec<Move>,
     instructions: u128,
 }
 
@@ -54,7 +52,6 @@ impl Machine {
         Machine {
             alloc,
             solo: Solo::new(alloc),
-            moves: Vec::new(alloc),
             instructions: 0,
         }
     }
@@ -79,13 +76,6 @@ impl Machine {
         ensures able { (result ≡ Standing.CanGoOn) ↔ IsTrue (is_runnable self.now.machine 1) }
     {
         self.solo.standing()
-    }
-
-    /// What each event did to bytes, in order.
-    pub fn moves(&self) -> &[Move]
-        ensures { result.now ≡ self.now.moves }
-    {
-        self.moves.as_slice()
     }
 
     /// How many instructions have run.
@@ -127,11 +117,7 @@ impl Machine {
         self.solo.check_file(name)?;
         let entry = file_record(self.alloc, name, bytes)?;
         out.reserve(1)?;
-        self.moves.reserve(1)?;
         let event = self.solo.add_file(name, bytes)?;
-        self.moves.push_reserved(Move::Arrives {
-            len: bytes.len() as u32,
-        });
         out.push_reserved(entry);
         Ok(event)
     }
@@ -164,9 +150,7 @@ impl Machine {
     {
         self.solo.check_boot(name)?;
         out.reserve(1)?;
-        self.moves.reserve(1)?;
         let booted = self.solo.boot(name)?;
-        self.moves.push_reserved(booted.moved);
         out.push_reserved(booted.entry);
         Ok(booted.event)
     }
@@ -196,11 +180,7 @@ impl Machine {
         }
         let entry = typed_record(self.alloc, bytes)?;
         out.reserve(1)?;
-        self.moves.reserve(1)?;
         let event = self.solo.type_in(bytes)?;
-        self.moves.push_reserved(Move::Arrives {
-            len: bytes.len() as u32,
-        });
         out.push_reserved(entry);
         Ok(event)
     }
@@ -314,11 +294,9 @@ impl Machine {
         ensures at_most { steps.new ≤ steps.old + count }
     {
         out.reserve(SLICE_RECORDS)?;
-        self.moves.reserve(1)?;
         match self.solo.run_slice(count, steps) {
-            Ok(Turn { ran, entry, moved }) => {
+            Ok(Turn { ran, entry, .. }) => {
                 self.instructions += u128::from(ran);
-                keep_move(&mut self.moves, moved);
                 let len = keep_slice(out, ran, entry);
                 Ok(Taken { ran, len })
             }

@@ -1,4 +1,4 @@
-// The records and moves of one input.
+// The records of one input.
 ghost use Rattle.std.specs.Prelude.{◌≡◌, ◌+◌, ◌<◌, ◌≤◌, ◌^◌, ◌++◌, [], ◌∷◌, All, IfOk, option_to_list, vec_len, vec_capacity};
 ghost use Rattle.arn_base.specs.declared.records.Record.TheVariants as kind;
 ghost use Rattle.result_log.specs.Spelling.{HasSpelling};
@@ -6,7 +6,6 @@ ghost use Rattle.guest_machine.specs.Legs.{spelled_len as spelled_len_of};
 
 use arn_base::{Bytes, NoMemory, Record};
 use result_log::spelled_len;
-use solo_lineage::Move;
 use std::alloc::Global;
 
 /// The number of the only process.
@@ -72,15 +71,5 @@ pub fn keep_cut(out: &mut Vec<Record>, ran: u32)
 {
     if ran > 0 {
         out.push_reserved(Record::Slice { pid: PID, ran });
-    }
-}
-
-/// Keeps what an event did to bytes, if there was one.
-pub fn keep_move(moves: &mut Vec<Move>, moved: Option<Move>)
-    requires room { vec_len moves.old < vec_capacity moves.old }
-    ensures { moves.new.items ≡ moves.old.items ++ option_to_list moved }
-{
-    if let Some(moved) = moved {
-        moves.push_reserved(moved);
     }
 }

@@ -188,7 +188,6 @@ fn records_what_it_does(rt: HostRuntime) -> Result<(), Fail> {
     push_write(rt.alloc(), &mut entries, b"abc")?;
     push_exit(&mut entries)?;
     assert_eq!(rt; out, entries);
-    assert_eq!(rt; machine.moves().len(), 6);
     assert_eq!(rt; machine.instructions(), 11);
     Ok(())
 }

@@ -1,5 +1,5 @@
 // The bytes of a segment, which processes share.
-ghost use Rattle.std.specs.Prelude.{◌≡◌, ◌≢◌, ◌↔◌, length, IfOk, OnOk, OnErr, IsErr, IsNone, Some, Err, option_copied};
+ghost use Rattle.std.specs.Prelude.{◌≡◌, ◌≢◌, ◌↔◌, false, length, IfOk, OnOk, OnErr, IsErr, IsNone, Some, Err, option_copied};
 ghost use Rattle.std.specs.Result.{result_ok};
 ghost use Rattle.arn_base.specs.Window.{bytes_at, with_bytes};
 ghost use Rattle.guest_mem.specs.Blocks.{blocks_of};
@@ -97,6 +97,8 @@ impl Memory for Segment {
     ghost use Rattle.guest_mem.specs.Windows.{segment_window};
 
     ghost windows = { segment_window };
+
+    ghost wants_memory = { λ m. false };
 
     fn load(&self, at: u64, len: u8) -> Result<u64, BadAddress> {
         SHARED.load(self.bytes.as_slice(), at, len)

@@ -1,5 +1,5 @@
 // What a process that holds a segment sees of its memory.
-ghost use Rattle.std.specs.Prelude.{◌≡◌, ◌≢◌, ◌↔◌, length, OnOk, OnErr, IsErr, IsNone, IsSome, Some, Err};
+ghost use Rattle.std.specs.Prelude.{◌≡◌, ◌≢◌, ◌↔◌, false, length, OnOk, OnErr, IsErr, IsNone, IsSome, IsTrue, Some, Err};
 ghost use Rattle.arn_base.specs.Window.{bytes_at, with_bytes, bytes_of, IsAccessLength};
 ghost use Rattle.guest_mem.specs.View.{both_windows};
 
@@ -50,6 +50,8 @@ impl SharedView<'_> {
 impl Memory for SharedView<'_> {
     ghost windows = { both_windows };
 
+    ghost wants_memory = { λ m. false };
+
     fn load(&self, at: u64, len: u8) -> Result<u64, BadAddress> {
         match self.space.load(at, len) {
             Err(BadAddress) => self.segment.load(at, len),
@@ -67,6 +69,7 @@ impl Memory for SharedView<'_> {
 
         ensures bad_address { (result ≡ Err StoreError.BadAddress) ↔
             IsNone (bytes_at (both_windows self.old) at len) }
+        ensures no_memory { (result ≡ Err StoreError.NoMemory) → IsTrue false }
         ensures err { OnErr result (both_windows self.new ≡ both_windows self.old) }
 
         ensures same_space { self.new.space.ghost_name ≡ self.old.space.ghost_name }

@@ -1,5 +1,5 @@
 // The bytes of a process's private window.
-ghost use Rattle.std.specs.Prelude.{◌≡◌, ◌≢◌, ◌↔◌, length, IfOk, OnOk, OnErr, IsErr, IsNone, Some, Err, option_copied};
+ghost use Rattle.std.specs.Prelude.{◌≡◌, ◌≢◌, ◌↔◌, false, length, IfOk, OnOk, OnErr, IsErr, IsNone, Some, Err, option_copied};
 ghost use Rattle.std.specs.Result.{result_ok};
 ghost use Rattle.arn_base.specs.Window.{bytes_at, with_bytes};
 ghost use Rattle.guest_mem.specs.Blocks.{blocks_of};
@@ -104,6 +104,8 @@ impl Space {
 
 impl Memory for Space {
     ghost windows = { private_window };
+
+    ghost wants_memory = { λ m. false };
 
     fn load(&self, at: u64, len: u8) -> Result<u64, BadAddress> {
         PRIVATE.load(self.bytes.as_slice(), at, len)

@@ -1,5 +1,5 @@
 // What one process sees of its memory.
-ghost use Rattle.std.specs.Prelude.{◌≡◌, ◌≢◌, ◌↔◌, length, OnOk, OnErr, IsErr, IsNone, IsSome, Some, Err};
+ghost use Rattle.std.specs.Prelude.{◌≡◌, ◌≢◌, ◌↔◌, false, length, OnOk, OnErr, IsErr, IsNone, IsSome, IsTrue, Some, Err};
 ghost use Rattle.std.specs.Option.{ghost_name_of};
 ghost use Rattle.arn_base.specs.Window.{bytes_at, with_bytes, bytes_of, IsAccessLength};
 ghost use Rattle.guest_mem.specs.View.{view_windows};
@@ -63,6 +63,8 @@ impl View<'_> {
 impl Memory for View<'_> {
     ghost windows = { view_windows };
 
+    ghost wants_memory = { λ m. false };
+
     fn load(&self, at: u64, len: u8) -> Result<u64, BadAddress> {
         match (self.space.load(at, len), &self.segment) {
             (Err(BadAddress), Some(segment)) => segment.load(at, len),
@@ -80,6 +82,7 @@ impl Memory for View<'_> {
 
         ensures bad_address { (result ≡ Err StoreError.BadAddress) ↔
             IsNone (bytes_at (view_windows self.old) at len) }
+        ensures no_memory { (result ≡ Err StoreError.NoMemory) → IsTrue false }
         ensures err { OnErr result (view_windows self.new ≡ view_windows self.old) }
 
         ensures same_space { self.new.space.ghost_name ≡ self.old.space.ghost_name }

@@ -91,7 +91,7 @@ turn-answers m g typed taken events queued k r num cpu live call q is same numbe
     turn-event M k _ _ 1 _ _ (next_of-call m g typed taken events (Answers r) live call (asked M (has_console m g typed taken events))) refl (ap (λ (c : Cpu). machine_with m (record { cpu = c; space = g.space; live = g.live }) typed taken (events + 1)) (sym same)) refl (ap (λ (n : ℕ). entry.Call 1 n r extra.Nothing ∷ []) (sym numbered)) (ap (λ (n : ℕ). move.Returns n ∷ []) (sym numbered))
 
 -- an exit
-pub turn-exits : (m : Machine) (g : Guest) (typed : List Held) (taken events queued k status num : ℕ) → g.live ≡ true → instruction g.cpu (private_window g.space) ≡ Call → queued ≡ length typed - taken → IsRequest (process_of g) queued (request.Ends status) → num ≡ number (process_of g) → IsTurn (machine_with m g typed taken events) (suc k) (machine_with m (record { cpu = g.cpu; space = g.space; live = false }) typed taken (events + 1)) 1 (entry.Call 1 num 0 extra.Nothing ∷ []) (move.Ends ∷ [])
+pub turn-exits : (m : Machine) (g : Guest) (typed : List Held) (taken events queued k status num : ℕ) → g.live ≡ true → instruction g.cpu (private_window g.space) ≡ Call → queued ≡ length typed - taken → IsRequest (process_of g) queued (request.Ends status) → num ≡ number (process_of g) → IsTurn (machine_with m g typed taken events) (suc k) (machine_with m (record { cpu = g.cpu; space = g.space; live = false }) typed taken (events + 1)) 1 (entry.Call 1 num 0 extra.Nothing ∷ []) (move.Exits ∷ [])
 turn-exits m g typed taken events queued k status num live call q is numbered =
     let M = machine_with m g typed taken events in
     let asked = subst (λ (n : ℕ). IsRequest (process_of g) n (request.Ends status)) q is in
@@ -169,7 +169,7 @@ turn-burst (suc n) m cpu cpu' space space' typed taken events k m' ran records m
     subst (λ (c : ℕ). IsTurn M c m' (suc n + ran) records moves) (omega arith) (subst (λ (r : ℕ). IsTurn M (suc (n + k)) m' r records moves) (omega arith) more)
 
 -- an end by a fault
-pub turn-faults : (m : Machine) (g : Guest) (typed : List Held) (taken events k status : ℕ) → g.live ≡ true → instruction g.cpu (private_window g.space) ≡ End status → IsTurn (machine_with m g typed taken events) (suc k) (machine_with m (record { cpu = g.cpu; space = g.space; live = false }) typed taken (events + 1)) 1 (entry.End 1 status ∷ []) (move.Ends ∷ [])
+pub turn-faults : (m : Machine) (g : Guest) (typed : List Held) (taken events k status : ℕ) → g.live ≡ true → instruction g.cpu (private_window g.space) ≡ End status → IsTurn (machine_with m g typed taken events) (suc k) (machine_with m (record { cpu = g.cpu; space = g.space; live = false }) typed taken (events + 1)) 1 (entry.End 1 status ∷ []) (move.Faults ∷ [])
 turn-faults m g typed taken events k status live ends =
     let M = machine_with m g typed taken events in
     turn-event M k (fault_step M 1 (process_of g) status) _ 1 _ _ (next_of m g typed taken events live ∙ ap (effect_step M 1 (process_of g)) ends) refl refl refl refl refl

@@ -6,4 +6,5 @@ pub mod Input
 pub mod Request
 pub mod Start
 pub mod Turn
+pub mod Standpoint
 pub mod Solo

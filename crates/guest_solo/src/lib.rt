@@ -9,6 +9,7 @@ mod files;
 mod guest;
 mod solo;
 mod standing;
+mod standpoint;
 mod start;
 #[cfg(test)]
 mod tests;
@@ -16,4 +17,5 @@ mod turn;
 
 pub use errors::MachineError;
 pub use solo::{Booted, Solo};
+pub use standpoint::Standpoint;
 pub use turn::{CutShort, Turn};

@@ -3,6 +3,7 @@ use crate::errors::MachineError;
 use crate::files::{BootFile, find, is_free as is_free_name};
 use crate::guest::Guest;
 use crate::standing::stands;
+use crate::standpoint::{Standpoint, stands_before};
 use crate::start::start;
 use crate::turn::{CutShort, Turn, take_turn};
 use arn_base::{Record, Steps};
@@ -55,7 +56,11 @@ impl Solo {
     ghost use Rattle.log_model.specs.Records.{event_records};
     ghost use Rattle.result_log.specs.Spelling.{HasSpelling};
     ghost use Rattle.guest_solo.specs.Input.{Does, IsRefused};
+    ghost use Rattle.arn_model.specs.Step.{Step, is_event};
+    ghost use Rattle.arn_model.specs.Slice.{next_step};
     ghost use Rattle.solo_lineage.specs.Moves.{moves_from};
+    ghost use Rattle.solo_lineage.specs.Sources.{Fits};
+    ghost use Rattle.guest_solo.specs.Standpoint.{StandsAt};
 
     /// The machine before anything has come from outside.
     pub fn new(alloc: Global) -> Solo
@@ -129,6 +134,7 @@ impl Solo {
             IsTrue (is_name name.now) → HasSpelling booted.entry) }
         ensures moved { IfOk result (λ booted. booted.moved ∷ [] ≡
             moves_from self.old (input_steps self.old (input.Boot name.now))) }
+        ensures fits { IfOk result (λ booted. Fits booted.moved) }
 
         ensures booted { IsErrOf result MachineError.Booted ↔ IsTrue (has_process self.old) }
         ensures no_name { IsErrOf result MachineError.NoName ↔
@@ -245,6 +251,18 @@ impl Solo {
         }
     }
 
+    /// The instruction that comes next, where the next step is one that is no event. Nothing is said
+    /// of other moments: before a call or a fault, and where no step comes.
+    pub fn standpoint(&self) -> Option<Standpoint>
+        ensures { (s : Step) → next_step self.now 1 ≡ Some s → is_event s ≡ false →
+            StandsAt result s }
+    {
+        match &self.guest {
+            None => None,
+            Some(guest) => stands_before(guest),
+        }
+    }
+
     /// Runs a slice of the process. Where memory runs out, all of the slice but its last
     /// instruction has run, and no event was made.
     pub fn run_slice<L: Ledger>(
@@ -265,6 +283,7 @@ impl Solo {
         ensures moved { IfOk result (λ turn.
             option_to_list turn.moved ≡
             moves_from self.old (input_steps self.old (input.Slice 1 count))) }
+        ensures fits { IfOk result (λ turn. All Fits (option_to_list turn.moved)) }
 
         ensures some { IfOk result (λ turn. 1 ≤ turn.ran) }
         ensures within { IfOk result (λ turn. turn.ran ≤ count) }

@@ -1,5 +1,6 @@
-ghost use Rattle.std.specs.Prelude.{◌≡◌, ◌<◌, ◌≤◌, ◌^◌, length, drop, None, IfOk, IfErr, IsErrOf, ◌↔◌, ◌⊎◌};
+ghost use Rattle.std.specs.Prelude.{◌≡◌, ◌<◌, ◌≤◌, ◌^◌, ◌-◌, length, drop, None, IfOk, IfErr, IsErrOf, ◌↔◌, ◌⊎◌};
 ghost use Rattle.arn_model.specs.Image.{image_of, cpu_at_start};
+ghost use Rattle.solo_lineage.specs.Sources.{FitsWindow};
 ghost use Rattle.guest_solo.specs.Start.{StartsFrom};
 
 use crate::errors::MachineError;
@@ -22,6 +23,7 @@ pub fn start(alloc: Global, file: &[u8]) -> Result<Started, MachineError>
     ensures starts { IfOk result (StartsFrom file.now) }
     ensures long { IfOk result (λ _. 24 ≤ length file.now) }
     ensures short { IfOk result (λ _. length file.now < 2 ^ 32) }
+    ensures fits { IfOk result (λ started. FitsWindow started.load (length file.now - 24)) }
     ensures not_image { IsErrOf result MachineError.NotImage ↔ (image_of file.now ≡ None) }
     ensures only { IfErr result (λ e.
         (e ≡ MachineError.NotImage) ⊎ (e ≡ MachineError.NoMemory)) }

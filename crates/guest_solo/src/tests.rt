@@ -3,6 +3,7 @@ ghost use Rattle.std.specs.Prelude.{◌≡◌, ◌<◌};
 use super::*;
 use arn_base::{Bytes, Extra, Give, NoMemory, Origin, Origins, Record, Src, Steps};
 use arn_model::Standing;
+use rv64_isa::{Instr, LoadOp};
 use solo_lineage::Move;
 use std::alloc::Global;
 use std::marker::Brand;
@@ -110,7 +111,7 @@ fn assert_echoes(rt: &impl Abort, moves: &[Move]) {
         [
             Move::Receives { at, places },
             Move::Gives { at: from, len },
-            Move::Ends,
+            Move::Exits,
         ] => {
             assert_eq!(rt; *at, 0x4_fff0);
             assert_eq!(rt;
@@ -197,5 +198,63 @@ fn waits_for_the_console(rt: HostRuntime) -> Result<(), Fail> {
     assert_eq!(rt; slices.ran.as_slice(), [1, 3, 3].as_slice());
     assert_echoes(&rt, slices.moves.as_slice());
     assert_eq!(rt; slices.entries, echo_entries(rt.alloc())?);
+    Ok(())
+}
+
+// ARNIMG01, entry and load address, and one word that is no instruction.
+const ILLEGAL: [u8; 28] = [
+    0x41, 0x52, 0x4e, 0x49, 0x4d, 0x47, 0x30, 0x31, 0x00, 0x00, 0x01, 0x00, 0x00, 0x00, 0x00, 0x00,
+    0x00, 0x00, 0x01, 0x00, 0x00, 0x00, 0x00, 0x00, 0x00, 0x00, 0x00, 0x00,
+];
+
+#[test]
+fn ends_at_a_word_that_is_no_instruction(rt: HostRuntime) -> Result<(), Fail> {
+    let mut solo = Solo::new(rt.alloc());
+    assert_eq!(rt; solo.add_file(b"p", &ILLEGAL), Ok(0));
+    assert!(rt; solo.events() < 10);
+    let booted = solo.boot(b"p")?;
+    assert_eq!(rt; booted.event, 1);
+    assert_eq!(rt; solo.standpoint(), None);
+    let slices = run(rt.alloc(), &mut solo)?;
+    assert_eq!(rt; slices.ran.as_slice(), [1].as_slice());
+    let mut entries = Vec::new(rt.alloc());
+    entries.push(Record::End {
+        pid: 1,
+        status: 132,
+    })?;
+    assert_eq!(rt; slices.entries, entries);
+    assert!(rt; matches!(slices.moves.as_slice(), [Move::Faults]));
+    assert_eq!(rt; solo.standing(), Standing::Done);
+    Ok(())
+}
+
+// ARNIMG01, entry and load address, and `ld x10, 8(x2)`.
+const LOAD: [u8; 28] = [
+    0x41, 0x52, 0x4e, 0x49, 0x4d, 0x47, 0x30, 0x31, 0x00, 0x00, 0x01, 0x00, 0x00, 0x00, 0x00, 0x00,
+    0x00, 0x00, 0x01, 0x00, 0x00, 0x00, 0x00, 0x00, 0x03, 0x35, 0x81, 0x00,
+];
+
+#[test]
+fn tells_the_address_of_a_load(rt: HostRuntime) -> Result<(), Fail> {
+    let mut solo = Solo::new(rt.alloc());
+    assert_eq!(rt; solo.standpoint(), None);
+    assert_eq!(rt; solo.add_file(b"p", &LOAD), Ok(0));
+    assert!(rt; solo.events() < 10);
+    let booted = solo.boot(b"p")?;
+    assert_eq!(rt; booted.event, 1);
+    let Some(Standpoint { instr, accessed }) = solo.standpoint() else {
+        panic!(rt; "no instruction");
+    };
+    assert!(rt;
+        matches!(
+            instr,
+            Instr::Load {
+                op: LoadOp::Ld,
+                imm: 8,
+                ..
+            }
+        )
+    );
+    assert_eq!(rt; accessed, Some(0x5_0008));
     Ok(())
 }

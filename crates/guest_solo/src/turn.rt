@@ -9,6 +9,7 @@ ghost use Rattle.arn_model.specs.Slice.{steps_of};
 ghost use Rattle.arn_model.specs.Run.{instructions_in};
 ghost use Rattle.arn_base.specs.declared.records.Record.TheVariants as entry;
 ghost use Rattle.result_log.specs.Spelling.{HasSpelling};
+ghost use Rattle.solo_lineage.specs.Sources.{Fits, FitsWindow};
 ghost use Rattle.guest_solo.specs.Turn.{machine_with, IsTurn};
 
 use crate::burst::{Burst, run_instructions};
@@ -60,6 +61,7 @@ pub fn take_turn<L: Ledger>(
         (machine_with m guest.new typed.now taken.new events.new)
         turn.ran (option_to_list turn.entry) (option_to_list turn.moved)) }
     ensures spelled { IfOk result (λ turn. All HasSpelling (option_to_list turn.entry)) }
+    ensures fits { IfOk result (λ turn. All Fits (option_to_list turn.moved)) }
     ensures taken { taken.new ≤ length typed.now }
     ensures events { events.new ≤ events.old + 1 }
     ensures ran { IfOk result (λ turn. turn.ran ≤ count) }
@@ -99,7 +101,7 @@ pub fn take_turn<L: Ledger>(
             Ok(Turn {
                 ran: ran + 1,
                 entry: Some(Record::End { pid: PID, status }),
-                moved: Some(Move::Ends),
+                moved: Some(Move::Faults),
             })
         }
         Outcome::NoMemory => unreachable!(),
@@ -123,6 +125,7 @@ fn serve(
         (machine_with m guest.new typed.now taken.new events.new)
         turn.ran (option_to_list turn.entry) (option_to_list turn.moved)) }
     ensures spelled { IfOk result (λ turn. All HasSpelling (option_to_list turn.entry)) }
+    ensures fits { IfOk result (λ turn. All Fits (option_to_list turn.moved)) }
     ensures taken { taken.new ≤ length typed.now }
     ensures events { events.new ≤ events.old + 1 }
     ensures ran { IfOk result (λ turn. turn.ran ≤ 1) }
@@ -147,7 +150,7 @@ fn serve(
         Request::Ends { .. } => {
             guest.live = false;
             *events += 1;
-            Ok(one_call(number, 0, Extra::Nothing, Move::Ends))
+            Ok(one_call(number, 0, Extra::Nothing, Move::Exits))
         }
         Request::Takes { at, count } => {
             let held = &typed[*taken..*taken + count as usize];
@@ -223,6 +226,7 @@ fn receive(guest: &mut Guest, at: u64, bytes: &[u8]) -> Result<(), NoMemory>
         with_bytes (private_window guest.old.space) at bytes.now) }
     ensures cpu { guest.new.cpu ≡ guest.old.cpu }
     ensures live { guest.new.live ≡ guest.old.live }
+    ensures fits { OnOk result (FitsWindow at (length bytes.now)) }
     ensures err { OnErr result (guest.new ≡ guest.old) }
 {
     match guest.space.write_from(at, bytes) {
@@ -238,6 +242,7 @@ fn written(alloc: Global, guest: &Guest, at: u64, count: u64) -> Result<Bytes, N
     ensures bytes { IfOk result (λ bytes.
         bytes_at (private_window guest.now.space) at count ≡ Some bytes) }
     ensures count { IfOk result (λ bytes. length bytes ≡ count) }
+    ensures fits { OnOk result (FitsWindow at count) }
 {
     match guest.space.slice(at, count) {
         Ok(bytes) => Bytes::from_slice(alloc, bytes),

@@ -14,9 +14,9 @@ use Rattle.arn_model.specs.Step.{Step, Event, values}
 use Rattle.arn_model.specs.Slice.{steps_of, is_possible}
 use Rattle.arn_model.specs.Run.{can_add, file_step, typed_step, is_booted, find_file, boot_if_found, boot_if_held, boot_if_image, input_steps, after_input, steps_from, run, events_of}
 use Rattle.log_model.specs.Records.{event_records, slice_records, input_records, records_from}
-use Rattle.solo_lineage.specs.Theorems.{is_other_record}
-use Rattle.solo_lineage.specs.Queries.{is_range}
-use Rattle.solo_lineage.specs.declared.query.TheConstants.{MOST_ASKED}
+use Rattle.arn_model.specs.Related.{is_other_record}
+use Rattle.arn_model.specs.Related.{is_range}
+use Rattle.arn_model.specs.declared.limits.TheConstants.{MOST_ASKED}
 use Rattle.history_facts.specs.Facts.{is_event, is_range_by}
 use Rattle.history_facts.specs.Laws.{RecordsTellCalls, RecordsTellEvents}
 use Rattle.history_facts.proofs.StepForms.{Fits, MaybeQuiet, AreOfProcess, steps_of-AreOfProcess}

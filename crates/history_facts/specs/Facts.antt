@@ -6,8 +6,8 @@ use Rattle.arn_base.specs.declared.records.Extra.TheVariants as extra
 use Rattle.arn_base.specs.declared.records.Record.{Record}
 use Rattle.arn_base.specs.declared.records.Record.TheVariants as entry
 use Rattle.arn_model.specs.declared.limits.TheConstants.{MOST_FILES, EXIT}
-use Rattle.solo_lineage.specs.declared.query.TheConstants.{MOST_ASKED}
-use Rattle.solo_lineage.specs.Theorems.{is_other_record}
+use Rattle.arn_model.specs.declared.limits.TheConstants.{MOST_ASKED}
+use Rattle.arn_model.specs.Related.{is_other_record}
 
 -- the record starts the first process
 abbrev pub is_boot : Record → Bool

@@ -6,7 +6,7 @@ use Rattle.arn_model.specs.Image.{image_of}
 use Rattle.arn_model.specs.Run.{machine_after, is_booted, find_file, is_free, input_steps}
 use Rattle.arn_model.specs.Related.{event_at}
 use Rattle.log_model.specs.Records.{records}
-use Rattle.solo_lineage.specs.Queries.{has_other_calls, is_range}
+use Rattle.arn_model.specs.Related.{has_other_calls, is_range}
 use Rattle.history_facts.specs.Facts.{is_booted_by, file_by, is_free_by, event_by, is_range_by, has_other_calls_by}
 
 -- whether a process was made

@@ -1,6 +1,6 @@
 // Calls that queries don't follow.
 ghost use Rattle.std.specs.Prelude.{◌≡◌};
-ghost use Rattle.solo_lineage.specs.Theorems.{is_other_record};
+ghost use Rattle.arn_model.specs.Related.{is_other_record};
 ghost use Rattle.history_facts.specs.Facts.{has_other_calls_by};
 
 use arn_base::Record;

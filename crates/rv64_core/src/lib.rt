@@ -4,12 +4,16 @@
 //! Instruction Set" and "RV64I Base Integer Instruction Set".
 #![tactic(auto)]
 
+mod accesses;
 mod execution;
+mod flow;
 mod outcome;
 mod registers;
 mod stepping;
 #[cfg(test)]
 mod tests;
+mod values;
 
+pub use execution::accessed;
 pub use outcome::Outcome;
 pub use stepping::step;

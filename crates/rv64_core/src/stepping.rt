@@ -1,4 +1,4 @@
-ghost use Rattle.std.specs.Prelude.{◌≡◌, ◌≢◌, ◌+◌};
+ghost use Rattle.std.specs.Prelude.{◌≡◌, ◌+◌, IsTrue};
 ghost use Rattle.std.specs.Result.{result_ok};
 ghost use Rattle.arn_base.specs.Window.{number_at};
 ghost use Rattle.arn_model.specs.Instruction.{instruction};
@@ -13,8 +13,9 @@ use std::sync::ledger::Ledger;
 
 /// Runs the instruction at pc. It is counted whatever it comes to.
 ///
-/// The status of an End is 132 at a word that is no instruction, and 139 at a fetch from outside
-/// the windows.
+/// The status of an End is 132 at a word that is no instruction, 133 at an EBREAK, 135 at a jump or
+/// a taken branch to a target that is no multiple of 4, and 139 at a fetch, a load or a store
+/// outside the windows.
 pub fn step<M: Memory, L: Ledger>(cpu: &mut Cpu, mem: &mut M, steps: &mut Steps<L>) -> Outcome
     ensures tick { steps.new ≡ steps.old + 1 }
 
@@ -26,8 +27,8 @@ pub fn step<M: Memory, L: Ledger>(cpu: &mut Cpu, mem: &mut M, steps: &mut Steps<
     ensures cpu { OnStop result (cpu.new ≡ cpu.old) }
     ensures memory { OnStop result (M.windows mem.new ≡ M.windows mem.old) }
 
-    // No instruction stores yet.
-    ensures no_memory { result ≢ Outcome.NoMemory }
+    // NoMemory comes only from a memory that wants memory.
+    ensures no_memory { (result ≡ Outcome.NoMemory) → IsTrue (M.wants_memory mem.old) }
 {
     steps.tick();
     let Ok(word) = fetch(cpu, mem) else {
@@ -36,7 +37,7 @@ pub fn step<M: Memory, L: Ledger>(cpu: &mut Cpu, mem: &mut M, steps: &mut Steps<
     let Some(instr) = decode(word) else {
         return Outcome::End(ILLEGAL_INSTRUCTION);
     };
-    execute(&instr, cpu)
+    execute(&instr, cpu, mem)
 }
 
 // The word at pc.

@@ -1,11 +1,15 @@
 ghost use Rattle.std.specs.Prelude.{◌≡◌, ◌<◌};
 
 mod flat;
+mod rows;
 
 use super::*;
-use arn_base::{Cpu, Steps};
+use arn_base::{Cpu, Memory, Steps};
 use flat::Flat;
+use rows::{BAD_STORES, BRANCHES, FIRST, LOADS, OPERATIONS, OTHERS, SECOND, STORED, STORES};
+use std::alloc::{AllocError, Global};
 use std::marker::Brand;
+use std::process::Abort;
 use std::sync::ledger::{Blank, Ledger};
 use std::test::Fail;
 
@@ -22,93 +26,175 @@ fn step_once(cpu: &mut Cpu, memory: &mut Flat) -> Outcome {
     step_counted::<Brand>(cpu, memory, Blank::new(1))
 }
 
-// x1 is 1, x2 is 2, .., x31 is 31.
-fn numbered(pc: u64) -> Cpu {
-    let mut x = [0; 31];
-    for (index, value) in x.iter_mut().enumerate() {
-        *value = index as u64 + 1;
+// What an instruction at 0x1_0000 does, and nothing else.
+#[derive(Clone, Copy)]
+enum After {
+    // A register gets a value, and pc goes to the next word.
+    Wrote(usize, u64),
+    // pc goes there.
+    WentTo(u64),
+    // A register gets the address of the next word, and pc goes there.
+    Linked(usize, u64),
+    // The process ends with a status.
+    Ended(u8),
+    // It is a call.
+    Called,
+}
+
+// The registers at 0x1_0000, of which these have values other than 0.
+fn holding(x1: u64, x6: u64, x7: u64) -> Cpu {
+    let mut cpu = Cpu {
+        x: [0; 31],
+        pc: 0x1_0000,
+    };
+    set(&mut cpu, 1, x1);
+    set(&mut cpu, 6, x6);
+    set(&mut cpu, 7, x7);
+    cpu
+}
+
+fn set(cpu: &mut Cpu, number: usize, value: u64) {
+    if let Some(register) = cpu.x.get_mut(number.wrapping_sub(1)) {
+        *register = value;
     }
-    Cpu { x, pc }
+}
+
+fn expected(mut cpu: Cpu, after: After) -> (Outcome, Cpu) {
+    match after {
+        After::Wrote(number, value) => {
+            set(&mut cpu, number, value);
+            cpu.pc = 0x1_0004;
+            (Outcome::Next, cpu)
+        }
+        After::WentTo(pc) => {
+            cpu.pc = pc;
+            (Outcome::Next, cpu)
+        }
+        After::Linked(number, pc) => {
+            set(&mut cpu, number, 0x1_0004);
+            cpu.pc = pc;
+            (Outcome::Next, cpu)
+        }
+        After::Ended(status) => (Outcome::End(status), cpu),
+        After::Called => (Outcome::Call, cpu),
+    }
+}
+
+// Runs the instruction at 0x1_0000, which does this and nothing else to the registers.
+fn check(rt: &impl Abort, name: &str, memory: &mut Flat, mut cpu: Cpu, after: After) {
+    let (outcome, registers) = expected(cpu, after);
+    assert_eq!(rt; step_once(&mut cpu, memory), outcome, "{name}");
+    assert_eq!(rt; cpu, registers, "{name}");
 }
 
 #[test]
-fn addi_adds_and_moves_on(rt: HostRuntime) -> Result<(), Fail> {
-    let cases = [
-        // addi x17, x0, 11
-        (0x00b0_0893, 17, 11),
-        // addi x11, x2, -16
-        (0xff01_0593, 11, 0xffff_ffff_ffff_fff2),
-        // addi x31, x30, -2048
-        (0x800f_0f93, 31, 0xffff_ffff_ffff_f81e),
-        // addi x1, x1, -1
-        (0xfff0_8093, 1, 0),
-    ];
-    for (word, rd, value) in cases {
-        let mut memory = Flat::of_word(rt.alloc(), 0x1_0000, word)?;
-        let mut cpu = numbered(0x1_0000);
-        let mut after = numbered(0x1_0004);
-        after.x[rd - 1] = value;
-        assert_eq!(rt;
-            step_once(&mut cpu, &mut memory),
-            Outcome::Next,
-            "at {word:x}"
-        );
-        assert_eq!(rt; cpu, after, "at {word:x}");
+fn instructions_do_what_the_manual_says(rt: HostRuntime) -> Result<(), Fail> {
+    for (name, word, x6, x7, x5) in &OPERATIONS {
+        let mut memory = Flat::of_words(rt.alloc(), 0x1_0000, &[*word])?;
+        let cpu = holding(0x1234, *x6, *x7);
+        check(&rt, name, &mut memory, cpu, After::Wrote(5, *x5));
+    }
+    for (name, word, x6, x7, pc) in &BRANCHES {
+        let mut memory = Flat::of_words(rt.alloc(), 0x1_0000, &[*word])?;
+        let cpu = holding(0x1234, *x6, *x7);
+        check(&rt, name, &mut memory, cpu, After::WentTo(*pc));
+    }
+    for (name, word, x6, after) in &OTHERS {
+        let mut memory = Flat::of_words(rt.alloc(), 0x1_0000, &[*word])?;
+        check(&rt, name, &mut memory, holding(0x1234, *x6, 0), *after);
+    }
+    Ok(())
+}
+
+// The memory of a load or a store.
+fn with_numbers(alloc: Global, word: u32) -> Result<Flat, AllocError> {
+    let words = [word, 0x8382_8180, 0x8786_8584, 0x7372_7170, 0x7776_7574];
+    Flat::of_words(alloc, 0x1_0000, &words)
+}
+
+fn check_numbers(rt: &impl Abort, name: &str, memory: &Flat, first: u64, second: u64) {
+    assert_eq!(rt; memory.load(0x1_0004, 8), Ok(first), "{name}");
+    assert_eq!(rt; memory.load(0x1_000c, 8), Ok(second), "{name}");
+}
+
+#[test]
+fn loads_and_stores_do_what_the_manual_says(rt: HostRuntime) -> Result<(), Fail> {
+    for (name, word, x6, after) in &LOADS {
+        let mut memory = with_numbers(rt.alloc(), *word)?;
+        check(&rt, name, &mut memory, holding(0x1234, *x6, 0), *after);
+    }
+    for (name, word, x6, first, second) in &STORES {
+        let mut memory = with_numbers(rt.alloc(), *word)?;
+        let cpu = holding(0x1234, *x6, STORED);
+        check(&rt, name, &mut memory, cpu, After::WentTo(0x1_0004));
+        check_numbers(&rt, name, &memory, *first, *second);
+    }
+    for (name, word, x6) in &BAD_STORES {
+        let mut memory = with_numbers(rt.alloc(), *word)?;
+        let cpu = holding(0x1234, *x6, STORED);
+        check(&rt, name, &mut memory, cpu, After::Ended(139));
+        check_numbers(&rt, name, &memory, FIRST, SECOND);
     }
     Ok(())
 }
 
 #[test]
-fn x0_stays_zero(rt: HostRuntime) -> Result<(), Fail> {
-    // addi x0, x5, 1
-    let mut memory = Flat::of_word(rt.alloc(), 0x1_0000, 0x0012_8013)?;
-    let mut cpu = numbered(0x1_0000);
+fn a_store_without_memory_may_be_tried_again(rt: HostRuntime) -> Result<(), Fail> {
+    // sd x7, 0(x6)
+    let mut memory = with_numbers(rt.alloc(), 0x0073_3023)?;
+    let mut cpu = holding(0x1234, 0x1_0004, STORED);
+    let before = cpu;
+    memory.is_full = true;
+    assert_eq!(rt; step_once(&mut cpu, &mut memory), Outcome::NoMemory);
+    assert_eq!(rt; cpu, before);
+    check_numbers(&rt, "full", &memory, FIRST, SECOND);
+    memory.is_full = false;
+    check(&rt, "again", &mut memory, cpu, After::WentTo(0x1_0004));
+    check_numbers(&rt, "again", &memory, STORED, SECOND);
+    Ok(())
+}
+
+#[test]
+fn a_store_may_write_the_next_instruction(rt: HostRuntime) -> Result<(), Fail> {
+    // sw x7, 4(x6), and then addi x5, x0, 11 in the place of an ecall.
+    let mut memory = Flat::of_words(rt.alloc(), 0x1_0000, &[0x0073_2223, 0x0000_0073])?;
+    let mut cpu = holding(0, 0x1_0000, 0x00b0_0293);
+    let mut after = cpu;
+    set(&mut after, 5, 11);
+    after.pc = 0x1_0008;
     assert_eq!(rt; step_once(&mut cpu, &mut memory), Outcome::Next);
-    assert_eq!(rt; cpu, numbered(0x1_0004));
+    assert_eq!(rt; step_once(&mut cpu, &mut memory), Outcome::Next);
+    assert_eq!(rt; cpu, after);
     Ok(())
 }
 
 #[test]
 fn pc_wraps_to_zero(rt: HostRuntime) -> Result<(), Fail> {
     // nop
-    let mut memory = Flat::of_word(rt.alloc(), 0xffff_ffff_ffff_fffc, 0x0000_0013)?;
-    let mut cpu = numbered(0xffff_ffff_ffff_fffc);
+    let mut memory = Flat::of_words(rt.alloc(), 0xffff_ffff_ffff_fffc, &[0x0000_0013])?;
+    let mut cpu = holding(5, 6, 7);
+    cpu.pc = 0xffff_ffff_ffff_fffc;
+    let mut after = cpu;
+    after.pc = 0;
     assert_eq!(rt; step_once(&mut cpu, &mut memory), Outcome::Next);
-    assert_eq!(rt; cpu, numbered(0));
-    Ok(())
-}
-
-#[test]
-fn other_words_change_nothing(rt: HostRuntime) -> Result<(), Fail> {
-    let cases = [
-        // ecall
-        (0x0000_0073, Outcome::Call),
-        // An ecall with an rd, an addi with another funct3, and all zeros.
-        (0x0000_00f3, Outcome::End(132)),
-        (0x0400_1013, Outcome::End(132)),
-        (0x0000_0000, Outcome::End(132)),
-    ];
-    for (word, outcome) in cases {
-        let mut memory = Flat::of_word(rt.alloc(), 0x1_0000, word)?;
-        let mut cpu = numbered(0x1_0000);
-        assert_eq!(rt; step_once(&mut cpu, &mut memory), outcome, "at {word:x}");
-        assert_eq!(rt; cpu, numbered(0x1_0000), "at {word:x}");
-    }
+    assert_eq!(rt; cpu, after);
     Ok(())
 }
 
 #[test]
 fn fetches_outside_end_the_process(rt: HostRuntime) -> Result<(), Fail> {
     // nop
-    let mut memory = Flat::of_word(rt.alloc(), 0x1_0000, 0x0000_0013)?;
+    let mut memory = Flat::of_words(rt.alloc(), 0x1_0000, &[0x0000_0013])?;
     for pc in [0, 0xfffe, 0x1_0001, 0x1_0004, u64::MAX] {
-        let mut cpu = numbered(pc);
+        let mut cpu = holding(5, 6, 7);
+        cpu.pc = pc;
+        let after = cpu;
         assert_eq!(rt;
             step_once(&mut cpu, &mut memory),
             Outcome::End(139),
             "at {pc:x}"
         );
-        assert_eq!(rt; cpu, numbered(pc), "at {pc:x}");
+        assert_eq!(rt; cpu, after, "at {pc:x}");
     }
     Ok(())
 }

@@ -10,6 +10,11 @@ abbrev pub unsigned_of : ℕ → ℤ → ℕ
 unsigned_of width (pos n) = n
 unsigned_of width (negsuc n) = 2 ^ width - suc n
 
+-- how far a number is from 0
+abbrev pub magnitude_of : ℤ → ℕ
+magnitude_of (pos n) = n
+magnitude_of (negsuc n) = suc n
+
 -- a number of a range, both ends included
 pub record IsBetween (low high z : ℤ) : Type 0 where
   pub at_least : low ≤ℤ z

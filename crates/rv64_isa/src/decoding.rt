@@ -1,14 +1,21 @@
-ghost use Rattle.std.specs.Prelude.{◌≡◌, ◌+◌, ◌≤◌, IfSome, IfNone};
+ghost use Rattle.std.specs.Prelude.{◌≡◌, IfSome, IfNone};
 ghost use Rattle.rv64_isa.specs.Bits.{bits_of};
-ghost use Rattle.rv64_isa.specs.Decoded.{decoded, imm_decoded, system_decoded};
+ghost use Rattle.rv64_isa.specs.Decoded.{decoded, decoded_by, immediate_by, jalr_decoded};
+ghost use Rattle.rv64_isa.specs.Decoded.{branch_decoded, load_decoded, store_decoded, imm_decoded};
+ghost use Rattle.rv64_isa.specs.Decoded.{reg_decoded, fence_decoded, system_decoded};
 ghost use Rattle.rv64_isa.specs.Encoded.{word_of, HasNoRow};
-ghost use Rattle.rv64_isa.specs.Fields.{i_immediate_of};
+ghost use Rattle.rv64_isa.specs.Fields.{funct3_of, funct7_of, i_immediate_of, s_immediate_of};
+ghost use Rattle.rv64_isa.specs.Fields.{b_immediate_of, u_immediate_of, j_immediate_of};
 ghost use Rattle.rv64_isa.specs.Valid.{HasRegisters, IsInRange};
 
-use crate::fields::{bits, sign_extend};
-use crate::instruction::{ImmOp, Instr};
-use crate::opcode::{ECALL, OP_IMM, SYSTEM};
+use crate::fields::{bits, join, sign_extend};
+use crate::instruction::{BranchOp, ImmOp, Instr, LoadOp, RegOp, StoreOp};
+use crate::opcode::{
+    AUIPC, BRANCH, EBREAK, ECALL, JAL, JALR, LOAD, LUI, MISC_MEM, OP, OP_32, OP_IMM, OP_IMM_32,
+    STORE, SYSTEM,
+};
 use crate::register::Reg;
+use crate::row::Form;
 
 /// The instruction of a word, and None for an illegal one.
 ///
@@ -23,23 +30,119 @@ pub fn decode(word: u32) -> Option<Instr>
 
     ensures no_row { IfNone result (HasNoRow word) }
 {
-    match bits(word, 6, 0) {
-        OP_IMM => decode_imm(word),
+    decode_by(bits(word, 6, 0), word)
+}
+
+// The instruction of a word with this opcode.
+#[tactic(auto, unfolding(crate::specs::Decoded::decoded_by))]
+fn decode_by(opcode: u32, word: u32) -> Option<Instr>
+    ensures { result ≡ decoded_by opcode word }
+{
+    match opcode {
+        LUI => Some(Instr::Lui {
+            rd: rd(word),
+            imm: u_immediate(word),
+        }),
+        AUIPC => Some(Instr::Auipc {
+            rd: rd(word),
+            imm: u_immediate(word),
+        }),
+        JAL => Some(Instr::Jal {
+            rd: rd(word),
+            imm: j_immediate(word),
+        }),
+        JALR => decode_jalr(word),
+        BRANCH => decode_branch(word),
+        LOAD => decode_load(word),
+        STORE => decode_store(word),
+        OP_IMM | OP_IMM_32 => decode_imm(word),
+        OP | OP_32 => decode_op(word),
+        MISC_MEM => decode_fence(word),
         SYSTEM => decode_system(word),
         _ => None,
     }
 }
 
+fn decode_jalr(word: u32) -> Option<Instr>
+    ensures { result ≡ jalr_decoded word }
+{
+    match funct3(word) {
+        0b000 => Some(Instr::Jalr {
+            rd: rd(word),
+            rs1: rs1(word),
+            imm: i_immediate(word),
+        }),
+        _ => None,
+    }
+}
+
+fn decode_branch(word: u32) -> Option<Instr>
+    ensures { result ≡ branch_decoded word }
+{
+    let op = BranchOp::at(funct3(word))?;
+    Some(Instr::Branch {
+        op,
+        rs1: rs1(word),
+        rs2: rs2(word),
+        imm: b_immediate(word),
+    })
+}
+
+fn decode_load(word: u32) -> Option<Instr>
+    ensures { result ≡ load_decoded word }
+{
+    let op = LoadOp::at(funct3(word))?;
+    Some(Instr::Load {
+        op,
+        rd: rd(word),
+        rs1: rs1(word),
+        imm: i_immediate(word),
+    })
+}
+
+fn decode_store(word: u32) -> Option<Instr>
+    ensures { result ≡ store_decoded word }
+{
+    let op = StoreOp::at(funct3(word))?;
+    Some(Instr::Store {
+        op,
+        rs1: rs1(word),
+        rs2: rs2(word),
+        imm: s_immediate(word),
+    })
+}
+
 fn decode_imm(word: u32) -> Option<Instr>
     ensures { result ≡ imm_decoded word }
 {
-    let op = ImmOp::from_funct3(bits(word, 14, 12))?;
+    let op = ImmOp::at(bits(word, 6, 0), funct3(word), funct7(word))?;
     Some(Instr::Imm {
         op,
-        rd: register(word, 7),
-        rs1: register(word, 15),
-        imm: i_immediate(word),
+        rd: rd(word),
+        rs1: rs1(word),
+        imm: immediate(op.row().form, word),
     })
+}
+
+fn decode_op(word: u32) -> Option<Instr>
+    ensures { result ≡ reg_decoded word }
+{
+    let op = RegOp::at(bits(word, 6, 0), funct3(word), funct7(word))?;
+    Some(Instr::Op {
+        op,
+        rd: rd(word),
+        rs1: rs1(word),
+        rs2: rs2(word),
+    })
+}
+
+fn decode_fence(word: u32) -> Option<Instr>
+    ensures { result ≡ fence_decoded word }
+{
+    match funct3(word) {
+        0b000 => Some(Instr::Fence { word }),
+        _ => None,
+    }
 }
 
 fn decode_system(word: u32) -> Option<Instr>
@@ -47,7 +150,19 @@ fn decode_system(word: u32) -> Option<Instr>
 {
     match word {
         ECALL => Some(Instr::Ecall),
+        EBREAK => Some(Instr::Ebreak),
         _ => None,
+    }
+}
+
+// The immediate of a word of OP-IMM or of OP-IMM-32, by the form of its row.
+fn immediate(form: Form, word: u32) -> i64
+    ensures { result ≡ immediate_by form word }
+{
+    match form {
+        Form::Shift => i64::from(bits(word, 25, 20)),
+        Form::WordShift => i64::from(bits(word, 24, 20)),
+        _ => i_immediate(word),
     }
 }
 
@@ -57,10 +172,60 @@ fn i_immediate(word: u32) -> i64
     sign_extend(bits(word, 31, 20), 12)
 }
 
-// The register that the five bits from `low` up name.
-fn register(word: u32, low: u32) -> Reg
-    requires { low ≤ 27 }
-    ensures { result ≡ bits_of word (low + 4) low }
+fn s_immediate(word: u32) -> i64
+    ensures { result ≡ s_immediate_of word }
 {
-    Reg::from_field(bits(word, low + 4, low))
+    sign_extend(join(bits(word, 31, 25), bits(word, 11, 7), 5), 12)
+}
+
+fn b_immediate(word: u32) -> i64
+    ensures { result ≡ b_immediate_of word }
+{
+    let upper = join(bits(word, 31, 31), bits(word, 7, 7), 1);
+    let upper = join(upper, bits(word, 30, 25), 6);
+    sign_extend(join(upper, bits(word, 11, 8), 4) << 1, 13)
+}
+
+fn u_immediate(word: u32) -> i64
+    ensures { result ≡ u_immediate_of word }
+{
+    sign_extend(bits(word, 31, 12) << 12, 32)
+}
+
+fn j_immediate(word: u32) -> i64
+    ensures { result ≡ j_immediate_of word }
+{
+    let upper = join(bits(word, 31, 31), bits(word, 19, 12), 8);
+    let upper = join(upper, bits(word, 20, 20), 1);
+    sign_extend(join(upper, bits(word, 30, 21), 10) << 1, 21)
+}
+
+fn funct3(word: u32) -> u32
+    ensures { result ≡ funct3_of word }
+{
+    bits(word, 14, 12)
+}
+
+fn funct7(word: u32) -> u32
+    ensures { result ≡ funct7_of word }
+{
+    bits(word, 31, 25)
+}
+
+fn rd(word: u32) -> Reg
+    ensures { result ≡ bits_of word 11 7 }
+{
+    Reg::from_field(bits(word, 11, 7))
+}
+
+fn rs1(word: u32) -> Reg
+    ensures { result ≡ bits_of word 19 15 }
+{
+    Reg::from_field(bits(word, 19, 15))
+}
+
+fn rs2(word: u32) -> Reg
+    ensures { result ≡ bits_of word 24 20 }
+{
+    Reg::from_field(bits(word, 24, 20))
 }

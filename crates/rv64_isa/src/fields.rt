@@ -1,4 +1,4 @@
-ghost use Rattle.std.specs.Prelude.{◌≡◌, ◌^◌, ◌<◌, ◌≤◌};
+ghost use Rattle.std.specs.Prelude.{◌≡◌, ◌+◌, ◌*◌, ◌^◌, ◌<◌, ◌≤◌};
 ghost use Rattle.rv64_isa.specs.Bits.{bits_of};
 ghost use Rattle.rv64_isa.specs.Signed.{signed_of, unsigned_of, FitsIn};
 
@@ -10,6 +10,16 @@ pub(crate) fn bits(word: u32, high: u32, low: u32) -> u32
 {
     let width = high - low + 1;
     (word >> low) & (u32::MAX >> (32 - width))
+}
+
+// The bits `high` above the `width` bits `low`.
+pub(crate) fn join(high: u32, low: u32, width: u32) -> u32
+    requires within { width < 32 }
+    requires fits { low < 2 ^ width }
+    requires in_word { high * 2 ^ width + low < 2 ^ 32 }
+    ensures { result ≡ high * 2 ^ width + low }
+{
+    high << width | low
 }
 
 // The signed number that `width` bits spell.

@@ -10,10 +10,11 @@ mod fields;
 mod instruction;
 mod opcode;
 mod register;
+mod row;
 #[cfg(test)]
 mod tests;
 
 pub use decoding::decode;
 pub use encoding::encode;
-pub use instruction::{ImmOp, Instr};
+pub use instruction::{BranchOp, ImmOp, Instr, LoadOp, RegOp, StoreOp};
 pub use register::Reg;

@@ -5,5 +5,6 @@ pub mod GroupForms
 pub mod FlowForms
 pub mod Told
 pub mod SourceForms
-pub mod RowForms
-pub mod QueryForms
+pub mod ShadowLemmas
+pub mod MoveLemmas
+pub mod PairLemmas

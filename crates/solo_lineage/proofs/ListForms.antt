@@ -1,6 +1,5 @@
 -- Elements of lists by their places.
-use Rattle.std.proofs.Common.{◌≡◌, ◌⊎◌, inl, inr, ℕ, zero, suc, ◌+◌, ◌<◌, List, [], ◌∷◌, ◌++◌, length, map, take, drop, get_or, Some, None, slice_get, zero-add, refl, arith}
-use Rattle.std.proofs.Math.Seq.{take-append_seam}
+use Rattle.std.proofs.Common.{◌≡◌, ◌⊎◌, inl, inr, ℕ, zero, suc, ◌+◌, ◌<◌, List, [], ◌∷◌, ◌++◌, length, take, drop, Some, slice_get, zero-add, refl, arith}
 
 -- an element of two lists lies in one
 pub append-at : {X : Type 0} (front back : List X) (k : ℕ) (x : X) → slice_get (front ++ back) k ≡ Some x
@@ -30,12 +29,3 @@ pub slice_get-in : {X : Type 0} (xs : List X) (k : ℕ) → k < length xs → (x
 slice_get-in [] k h = absurd (omega arith)
 slice_get-in (x ∷ xs) zero h = (x, refl)
 slice_get-in (x ∷ xs) (suc k) h = slice_get-in xs k (omega arith)
-
-pub get_or-some : {X : Type 0} (xs : List X) (k : ℕ) → get_or (map (λ x. Some x) xs) k None ≡ slice_get xs k
-get_or-some [] k = refl
-get_or-some (x ∷ xs) zero = refl
-get_or-some (x ∷ xs) (suc k) = get_or-some xs k
-
--- what was lent whole and written comes back whole
-pub written-back : {X : Type 0} (written old : List X) (n : ℕ) → length written ≡ n → take n (written ++ drop (length written) old) ≡ written
-written-back written old n len = rw (← len) (take-append_seam written (drop (length written) old))

@@ -1,6 +1,5 @@
 -- The steps of a run, by what they are.
-use Rattle.std.proofs.Common.{◌≡◌, ℕ, zero, suc, ◌%◌, ◌==◌, ◌≤◌, nat_lt, Bool, true, false, if◌then◌else◌, List, [], ◌∷◌, ◌++◌, length, take, Option, Some, None, slice_get, set, refl, ap, ◌∙◌, arith}
-use Rattle.std.proofs.lemmas.Bool.{eqb-true, lt-ltb}
+use Rattle.std.proofs.Common.{◌≡◌, ℕ, zero, suc, ◌%◌, ◌==◌, ◌≤◌, Bool, true, false, if◌then◌else◌, List, [], ◌∷◌, ◌++◌, length, take, Option, Some, None, slice_get, set, refl, ap, ◌∙◌, arith}
 use Rattle.std.proofs.lemmas.List.{length-map}
 use Rattle.arn_base.specs.declared.machine.Cpu.{Cpu}
 use Rattle.arn_base.specs.declared.records.Extra.{Extra}
@@ -17,7 +16,7 @@ use Rattle.arn_model.specs.Instruction.{Effect, Next, Call, End}
 use Rattle.arn_model.specs.Step.{Step, is_event, values}
 use Rattle.arn_model.specs.Call.{without_queued, with_result, error, CallOutcome, Waits, Answers, Ends, Takes, Writes, number, argument, opened, can_reach, cut, called, console_read, read_from, write_to, answer_step, exit_step, read_step, write_step, call_step}
 use Rattle.arn_model.specs.Slice.{instr_step, fault_step, stands_at, effect_step, step_if_live, step_if_made, next_step, unless_ended, step_then, steps_of, after_steps}
-use Rattle.arn_model.specs.Run.{file_step, typed_step, boot_step, boot_if_image, boot_if_held, boot_if_found, find_file, input_steps, after_input, steps_from, run}
+use Rattle.arn_model.specs.Run.{is_booted, file_step, typed_step, boot_step, boot_if_image, boot_if_held, boot_if_found, find_file, input_steps, after_input, steps_from, run, machine_after}
 
 -- at most one process, of group 1
 abbrev pub AtMostOne : List Process → Type 0
@@ -37,12 +36,12 @@ pub record Alone (m : Machine) (p : Process) : Type 0 where
 pub data Kind (m : Machine) : Step → Type 0 where
   AddsFile : (path bytes : List ℕ) → Kind m (file_step m path bytes)
   Types : (bytes : List ℕ) → Kind m (typed_step m bytes)
-  Boots : (path : List ℕ) (file : ℕ) (held : List Held) (image : Image) → m.processes ≡ [] → slice_get m.files file ≡ Some held → Kind m (boot_step m path file held image)
+  Boots : (path : List ℕ) (file : ℕ) (held : List Held) (image : Image) → slice_get m.files file ≡ Some held → Kind m (boot_step m path file held image)
   Executes : (p : Process) (instr : Instr) (cpu : Cpu) (memory : List Window) → Alone m p → Kind m (instr_step m 1 p instr cpu memory)
   Returns : (p : Process) (result : ℕ) (more : Extra) → Alone m p → Kind m (answer_step m 1 p result more)
-  Exits : (p : Process) (status : ℕ) → Alone m p → number p ≡ EXIT → Kind m (exit_step m 1 p status)
-  Receives : (p : Process) (at n : ℕ) → Alone m p → number p ≡ READ → n ≤ length m.console.queue → n ≤ MOST_TRANSFER → Kind m (read_step m 1 p at n)
-  Gives : (p : Process) (at n : ℕ) → Alone m p → number p ≡ WRITE → can_reach m p at n ≡ true → Kind m (write_step m 1 p at n)
+  Exits : (p : Process) (status : ℕ) → Alone m p → Kind m (exit_step m 1 p status)
+  Receives : (p : Process) (at n : ℕ) → Alone m p → n ≤ length m.console.queue → n ≤ MOST_TRANSFER → Kind m (read_step m 1 p at n)
+  Gives : (p : Process) (at n : ℕ) → Alone m p → can_reach m p at n ≡ true → Kind m (write_step m 1 p at n)
   Faults : (p : Process) (status : ℕ) → Alone m p → Kind m (fault_step m 1 p status)
 
 -- steps that follow each other from a machine on
@@ -53,24 +52,24 @@ Chain m (s ∷ steps) = Kind m s × Chain s.after steps
 set-AtMostOne : (processes : List Process) (p q : Process) → processes ≡ p ∷ [] → q.group ≡ 1 → AtMostOne (set processes 0 q)
 set-AtMostOne processes p q e group = rw e group
 
-with_windows-Solo : (m : Machine) (p q : Process) (memory : List Window) → Alone m p → q.group ≡ 1 → AtMostOne (with_windows m 1 q memory).processes
+with_windows-Solo : (m : Machine) (p q : Process) (memory : List Window) → Alone m p → q.group ≡ 1 → Solo (with_windows m 1 q memory)
 with_windows-Solo m p q [] alone group = set-AtMostOne m.processes p q alone.is_all group
 with_windows-Solo m p q (w ∷ memory) alone group = set-AtMostOne m.processes p (record q { window = w.bytes }) alone.is_all group
 
-pub after-Solo : (m : Machine) (s : Step) → Kind m s → Solo m → Solo s.after
+after-Solo : (m : Machine) (s : Step) → Kind m s → Solo m → Solo s.after
 after-Solo m s (AddsFile path bytes) solo = solo
 after-Solo m s (Types bytes) solo = solo
-after-Solo m s (Boots path file held image none found) solo = refl
+after-Solo m s (Boots path file held image found) solo = refl
 after-Solo m s (Executes p instr cpu memory alone) solo = with_windows-Solo m p (record p { cpu = cpu }) memory alone alone.group
 after-Solo m s (Returns p result more alone) solo = set-AtMostOne m.processes p _ alone.is_all alone.group
-after-Solo m s (Exits p status alone is) solo = set-AtMostOne m.processes p _ alone.is_all alone.group
-after-Solo m s (Receives p at n alone is room short) solo =
+after-Solo m s (Exits p status alone) solo = set-AtMostOne m.processes p _ alone.is_all alone.group
+after-Solo m s (Receives p at n alone room short) solo =
     let same : Alone (without_queued m n) p = record { is_all = alone.is_all; group = alone.group } in
     with_windows-Solo (without_queued m n) p (with_result p n) (with_bytes (windows m p) at (values (take n m.console.queue))) same alone.group
-after-Solo m s (Gives p at n alone is reached) solo = set-AtMostOne m.processes p _ alone.is_all alone.group
+after-Solo m s (Gives p at n alone reached) solo = set-AtMostOne m.processes p _ alone.is_all alone.group
 after-Solo m s (Faults p status alone) solo = set-AtMostOne m.processes p _ alone.is_all alone.group
 
-pub after-Chain : (m : Machine) (steps : List Step) → Chain m steps → Solo m → Solo (after_steps m steps)
+after-Chain : (m : Machine) (steps : List Step) → Chain m steps → Solo m → Solo (after_steps m steps)
 after-Chain m [] chain solo = solo
 after-Chain m (s ∷ steps) chain solo = after-Chain s.after steps chain.1 (after-Solo m s chain.0 solo)
 
@@ -82,9 +81,9 @@ append-Chain m (s ∷ front) back first behind = (first.0, append-Chain s.after 
 abbrev CallFits : Machine → Process → CallOutcome → Type 0
 CallFits m p Waits = Unit {0}
 CallFits m p (Answers result) = Unit {0}
-CallFits m p (Ends status) = number p ≡ EXIT
-CallFits m p (Takes at n) = (number p ≡ READ) × (n ≤ length m.console.queue) × (n ≤ MOST_TRANSFER)
-CallFits m p (Writes at n) = (number p ≡ WRITE) × (can_reach m p at n ≡ true)
+CallFits m p (Ends status) = Unit {0}
+CallFits m p (Takes at n) = (n ≤ length m.console.queue) × (n ≤ MOST_TRANSFER)
+CallFits m p (Writes at n) = can_reach m p at n ≡ true
 
 refused-CallFits : (m : Machine) (p : Process) (is_none reached : Bool) (goes : CallOutcome) → (reached ≡ true → CallFits m p goes)
     → CallFits m p (if is_none then Answers 0 else if reached then goes else Answers (error BAD_ADDRESS))
@@ -92,39 +91,37 @@ refused-CallFits m p true reached goes h = tt
 refused-CallFits m p false true goes h = h refl
 refused-CallFits m p false false goes h = tt
 
-console_read-CallFits : (m : Machine) (p : Process) (queue : List ℕ) (at count : ℕ) → number p ≡ READ → queue ≡ values m.console.queue → CallFits m p (console_read queue at count)
-console_read-CallFits m p [] at count is e = tt
-console_read-CallFits m p (b ∷ queue) at count is e =
+console_read-CallFits : (m : Machine) (p : Process) (queue : List ℕ) (at count : ℕ) → queue ≡ values m.console.queue → CallFits m p (console_read queue at count)
+console_read-CallFits m p [] at count e = tt
+console_read-CallFits m p (b ∷ queue) at count e =
     let len : suc (length queue) ≡ length m.console.queue = ap length e ∙ length-map m.console.queue (λ h. h.value) in
-    (is, omega arith, omega arith)
+    (omega arith, omega arith)
 
-read_from-CallFits : (m : Machine) (p : Process) (found : Option Description) (at count : ℕ) → number p ≡ READ → CallFits m p (read_from m p found at count)
-read_from-CallFits m p None at count is = tt
-read_from-CallFits m p (Some Console) at count is =
+read_from-CallFits : (m : Machine) (p : Process) (found : Option Description) (at count : ℕ) → CallFits m p (read_from m p found at count)
+read_from-CallFits m p None at count = tt
+read_from-CallFits m p (Some Console) at count =
     refused-CallFits m p (count == 0) (can_reach m p at (cut count)) (console_read (values m.console.queue) at count)
-    (λ reached. console_read-CallFits m p (values m.console.queue) at count is refl)
+    (λ reached. console_read-CallFits m p (values m.console.queue) at count refl)
 
-write_to-CallFits : (m : Machine) (p : Process) (found : Option Description) (at count : ℕ) → number p ≡ WRITE → CallFits m p (write_to m p found at count)
-write_to-CallFits m p None at count is = tt
-write_to-CallFits m p (Some Console) at count is =
-    refused-CallFits m p (count == 0) (can_reach m p at (cut count)) (Writes at (cut count)) (λ reached. (is, reached))
+write_to-CallFits : (m : Machine) (p : Process) (found : Option Description) (at count : ℕ) → CallFits m p (write_to m p found at count)
+write_to-CallFits m p None at count = tt
+write_to-CallFits m p (Some Console) at count =
+    refused-CallFits m p (count == 0) (can_reach m p at (cut count)) (Writes at (cut count)) (λ reached. reached)
 
-choice-CallFits : (m : Machine) (p : Process) (is_exit is_read is_write : Bool) (status : ℕ) (reads gives : CallOutcome)
-    → (is_exit ≡ true → number p ≡ EXIT) → (is_read ≡ true → CallFits m p reads) → (is_write ≡ true → CallFits m p gives)
+choice-CallFits : (m : Machine) (p : Process) (is_exit is_read is_write : Bool) (status : ℕ) (reads gives : CallOutcome) → CallFits m p reads → CallFits m p gives
     → CallFits m p (if is_exit then Ends status else if is_read then reads else if is_write then gives else Answers (error NO_SUCH_CALL))
-choice-CallFits m p true is_read is_write status reads gives e r w = e refl
-choice-CallFits m p false true is_write status reads gives e r w = r refl
-choice-CallFits m p false false true status reads gives e r w = w refl
-choice-CallFits m p false false false status reads gives e r w = tt
+choice-CallFits m p true is_read is_write status reads gives r w = tt
+choice-CallFits m p false true is_write status reads gives r w = r
+choice-CallFits m p false false true status reads gives r w = w
+choice-CallFits m p false false false status reads gives r w = tt
 
 called-CallFits : (m : Machine) (p : Process) → CallFits m p (called m p)
 called-CallFits m p =
     choice-CallFits m p (number p == EXIT) (number p == READ) (number p == WRITE) (argument p 0 % 256)
     (read_from m p (opened m p (argument p 0)) (argument p 1) (argument p 2))
     (write_to m p (opened m p (argument p 0)) (argument p 1) (argument p 2))
-    (eqb-true (number p) EXIT)
-    (λ h. read_from-CallFits m p (opened m p (argument p 0)) (argument p 1) (argument p 2) (eqb-true (number p) READ h))
-    (λ h. write_to-CallFits m p (opened m p (argument p 0)) (argument p 1) (argument p 2) (eqb-true (number p) WRITE h))
+    (read_from-CallFits m p (opened m p (argument p 0)) (argument p 1) (argument p 2))
+    (write_to-CallFits m p (opened m p (argument p 0)) (argument p 1) (argument p 2))
 
 abbrev MaybeKind : Machine → Option Step → Type 0
 MaybeKind m None = Unit {0}
@@ -133,9 +130,9 @@ MaybeKind m (Some s) = Kind m s
 call_step-MaybeKind : (m : Machine) (p : Process) → Alone m p → (outcome : CallOutcome) → CallFits m p outcome → MaybeKind m (call_step m 1 p outcome)
 call_step-MaybeKind m p alone Waits fits = tt
 call_step-MaybeKind m p alone (Answers result) fits = Kind.Returns p result extra.Nothing alone
-call_step-MaybeKind m p alone (Ends status) fits = Kind.Exits p status alone fits
-call_step-MaybeKind m p alone (Takes at n) fits = Kind.Receives p at n alone fits.0 fits.1 fits.2
-call_step-MaybeKind m p alone (Writes at n) fits = Kind.Gives p at n alone fits.0 fits.1
+call_step-MaybeKind m p alone (Ends status) fits = Kind.Exits p status alone
+call_step-MaybeKind m p alone (Takes at n) fits = Kind.Receives p at n alone fits.0 fits.1
+call_step-MaybeKind m p alone (Writes at n) fits = Kind.Gives p at n alone fits
 
 effect_step-MaybeKind : (m : Machine) (p : Process) → Alone m p → (effect : Effect) → MaybeKind m (effect_step m 1 p effect)
 effect_step-MaybeKind m p alone (Next instr cpu memory) = Kind.Executes p instr cpu memory alone
@@ -176,35 +173,30 @@ if-Chain : (m : Machine) (b : Bool) (steps : List Step) → Chain m steps → Ch
 if-Chain m true steps chain = chain
 if-Chain m false steps chain = tt
 
-none-Chain : (m : Machine) (b : Bool) (steps : List Step) → b ≡ true → Chain m (if b then [] else steps)
-none-Chain m b steps h = rw h tt
+unless-Chain : (m : Machine) (b : Bool) (steps : List Step) → Chain m steps → Chain m (if b then [] else steps)
+unless-Chain m true steps chain = tt
+unless-Chain m false steps chain = chain
 
-image-Chain : (m : Machine) (path : List ℕ) (file : ℕ) (held : List Held) → m.processes ≡ [] → slice_get m.files file ≡ Some held → (image : Option Image)
+image-Chain : (m : Machine) (path : List ℕ) (file : ℕ) (held : List Held) → slice_get m.files file ≡ Some held → (image : Option Image)
     → Chain m (boot_if_image m path file held image)
-image-Chain m path file held none found None = tt
-image-Chain m path file held none found (Some image) = (Boots path file held image none found, tt)
+image-Chain m path file held found None = tt
+image-Chain m path file held found (Some image) = (Boots path file held image found, tt)
 
-held-Chain : (m : Machine) (path : List ℕ) (file : ℕ) → m.processes ≡ [] → (held : Option (List Held)) → slice_get m.files file ≡ held → Chain m (boot_if_held m path file held)
-held-Chain m path file none None e = tt
-held-Chain m path file none (Some held) e = image-Chain m path file held none e (image_of (values held))
+held-Chain : (m : Machine) (path : List ℕ) (file : ℕ) (held : Option (List Held)) → slice_get m.files file ≡ held → Chain m (boot_if_held m path file held)
+held-Chain m path file None e = tt
+held-Chain m path file (Some held) e = image-Chain m path file held e (image_of (values held))
 
-found-Chain : (m : Machine) (path : List ℕ) → m.processes ≡ [] → (file : Option ℕ) → Chain m (boot_if_found m path file)
-found-Chain m path none None = tt
-found-Chain m path none (Some file) = held-Chain m path file none (slice_get m.files file) refl
-
-boot-Chain : (m : Machine) (path : List ℕ) (processes : List Process) → m.processes ≡ processes
-    → Chain m (if nat_lt 0 (length processes) then [] else boot_if_found m path (find_file m path))
-boot-Chain m path [] e = found-Chain m path e (find_file m path)
-boot-Chain m path (p ∷ processes) e =
-    none-Chain m _ (boot_if_found m path (find_file m path)) (lt-ltb 0 (length (p ∷ processes)) (omega arith))
+found-Chain : (m : Machine) (path : List ℕ) (file : Option ℕ) → Chain m (boot_if_found m path file)
+found-Chain m path None = tt
+found-Chain m path (Some file) = held-Chain m path file (slice_get m.files file) refl
 
 input-Chain : (m : Machine) → Solo m → (i : Input) → Chain m (input_steps m i)
 input-Chain m solo (input.File path bytes) = if-Chain m _ (file_step m path bytes ∷ []) (AddsFile path bytes, tt)
-input-Chain m solo (input.Boot path) = boot-Chain m path m.processes refl
+input-Chain m solo (input.Boot path) = unless-Chain m (is_booted m) (boot_if_found m path (find_file m path)) (found-Chain m path (find_file m path))
 input-Chain m solo (input.Typed bytes) = if-Chain m _ (typed_step m bytes ∷ []) (Types bytes, tt)
 input-Chain m solo (input.Slice pid count) = if-Chain m _ (steps_of count pid m) (steps_of-Chain count pid m solo)
 
-pub steps_from-Chain : (m : Machine) → Solo m → (inputs : List Input) → Chain m (steps_from m inputs)
+steps_from-Chain : (m : Machine) → Solo m → (inputs : List Input) → Chain m (steps_from m inputs)
 steps_from-Chain m solo [] = tt
 steps_from-Chain m solo (i ∷ inputs) =
     let front = input-Chain m solo i in
@@ -213,3 +205,7 @@ steps_from-Chain m solo (i ∷ inputs) =
 
 pub run-Chain : (inputs : List Input) → Chain at_first (run inputs)
 run-Chain inputs = steps_from-Chain at_first tt inputs
+
+-- the steps of an input behind others
+pub next-Chain : (inputs : List Input) (i : Input) → Chain (machine_after inputs) (input_steps (machine_after inputs) i)
+next-Chain inputs i = input-Chain (machine_after inputs) (after-Chain at_first (run inputs) (run-Chain inputs) tt) i

@@ -1,5 +1,5 @@
 pub mod Moves
 pub mod Sources
+pub mod View
+pub mod Writes
 pub mod Theorems
-pub mod Rows
-pub mod Queries

@@ -17,6 +17,8 @@ pub enum Move {
     Gives { at: u64, len: u32 },
     /// A call of this number ends and moves no bytes.
     Returns { number: u64 },
-    /// The process ends. The one byte is its status.
-    Ends,
+    /// The process ends by a call. The event's one byte is its status, byte 0 of x10.
+    Exits,
+    /// The process ends by a fault. The event's one byte is its status.
+    Faults,
 }

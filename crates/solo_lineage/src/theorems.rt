@@ -1,22 +1,18 @@
-// What the moves of a history tell, of its events and of the bytes that they came from.
-ghost use Rattle.solo_lineage.specs.Theorems.{MovesTellSources, MovesAreEvents, MovesTellGroups, MovesTellCalls};
+// What holds of the sources of a run's bytes.
+ghost use Rattle.solo_lineage.specs.Theorems.{GroupsTold, MovesTold, SourcesTold};
 
-/// Each byte of each event has the source that the moves tell, and no other.
-pub fn moves_tell_sources()
-    ensures { MovesTellSources }
+/// Each byte of each event has the source that the run's moves and instructions give it, and no
+/// other.
+pub fn sources_told()
+    ensures { SourcesTold }
 {}
 
-/// Each event has its move, with as many bytes.
-pub fn moves_are_events()
-    ensures { MovesAreEvents }
+/// An event that is the one step of an input does what its move says.
+pub fn moves_told()
+    ensures { MovesTold }
 {}
 
-/// The moves tell the groups of each event, and so how many instructions those have run.
-pub fn moves_tell_groups()
-    ensures { MovesTellGroups }
-{}
-
-/// The moves tell whether the history holds a call other than exit, read and write.
-pub fn moves_tell_calls()
-    ensures { MovesTellCalls }
+/// The groups of each event, and how many instructions these have run.
+pub fn groups_told()
+    ensures { GroupsTold }
 {}

@@ -1,6 +1,6 @@
-// One window, which takes no bytes.
-ghost use Rattle.std.specs.Prelude.{◌≡◌, ◌<◌, ◌≤◌, ◌*◌, ◌^◌, length, IfOk, OnErr, Some, None};
-ghost use Rattle.arn_base.specs.Window.{bytes_at, number_of};
+// One window of bytes.
+ghost use Rattle.std.specs.Prelude.{◌≡◌, ◌<◌, ◌≤◌, ◌+◌, ◌*◌, ◌^◌, ◌↔◌, length, vec_len, IsOk, IfOk};
+ghost use Rattle.arn_base.specs.Window.{bytes_of, number_of};
 
 use arn_base::{BadAddress, Memory, StoreError};
 use std::alloc::{AllocError, Global};
@@ -9,33 +9,35 @@ use std::alloc::{AllocError, Global};
 pub(crate) struct Flat {
     from: u64,
     bytes: Vec<u8>,
+    // It takes no bytes.
+    pub(crate) is_full: bool,
 }
 
 impl Flat {
-    pub(crate) fn of_word(alloc: Global, from: u64, word: u32) -> Result<Flat, AllocError> {
+    pub(crate) fn of_words(alloc: Global, from: u64, words: &[u32]) -> Result<Flat, AllocError> {
+        let mut bytes = Vec::new(alloc);
+        for word in words {
+            bytes.extend_from_slice(&word.to_le_bytes())?;
+        }
         Ok(Flat {
             from,
-            bytes: word.to_le_bytes().to_vec(alloc)?,
+            bytes,
+            is_full: false,
         })
     }
 
-    fn range(&self, at: u64, len: u8) -> Result<&[u8], BadAddress>
-        ensures found { IfOk result (λ bytes.
-            bytes_at (⟦<Flat as Memory>⟧.windows self.now) at len ≡ Some bytes.now) }
-        ensures len { IfOk result (λ bytes. length bytes.now ≡ len) }
-        ensures outside { OnErr result
-            (bytes_at (⟦<Flat as Memory>⟧.windows self.now) at len ≡ None) }
+    // The place of a range among the bytes.
+    fn place(&self, at: u64, len: u8) -> Result<usize, BadAddress>
+        ensures whole { IsOk result ↔ ((self.now.from ≤ at) ×
+            (at + len ≤ self.now.from + vec_len self.now.bytes)) }
+        ensures place { IfOk result (λ place. at ≡ self.now.from + place) }
     {
-        let held = self.bytes.as_slice();
-        let len = usize::from(len);
-        if at < self.from {
+        let len = u64::from(len);
+        let held = self.bytes.len() as u64;
+        if at < self.from || held < len || held - len < at - self.from {
             return Err(BadAddress);
         }
-        let offset = (at - self.from) as usize;
-        if held.len() < offset || held.len() - offset < len {
-            return Err(BadAddress);
-        }
-        Ok(&held[offset..offset + len])
+        Ok((at - self.from) as usize)
     }
 }
 
@@ -44,16 +46,27 @@ impl Memory for Flat {
 
     ghost windows = { λ m. record { from = m.from; bytes = m.bytes.items } ∷ [] };
 
+    ghost wants_memory = { λ m. m.is_full };
+
     fn load(&self, at: u64, len: u8) -> Result<u64, BadAddress> {
-        Ok(number(self.range(at, len)?))
+        let place = self.place(at, len)?;
+        Ok(number(&self.bytes.as_slice()[place..place + usize::from(len)]))
     }
 
-    fn store(&mut self, at: u64, len: u8, _: u64) -> Result<(), StoreError> {
-        self.range(at, len)?;
-        Err(StoreError::NoMemory)
+    fn store(&mut self, at: u64, len: u8, value: u64) -> Result<(), StoreError> {
+        let place = self.place(at, len)?;
+        if self.is_full {
+            return Err(StoreError::NoMemory);
+        }
+        spell(
+            &mut self.bytes.as_mut_slice()[place..place + usize::from(len)],
+            value,
+        );
+        Ok(())
     }
 }
 
+// The number that bytes spell.
 fn number(bytes: &[u8]) -> u64
     requires { length bytes.now ≤ 8 }
     ensures number { result ≡ number_of bytes.now }
@@ -62,5 +75,15 @@ fn number(bytes: &[u8]) -> u64
     match bytes {
         [] => 0,
         [first, rest @ ..] => u64::from(*first) + 256 * number(rest),
+    }
+}
+
+// Writes the lowest bytes of a number, the lowest first.
+fn spell(bytes: &mut [u8], mut number: u64)
+    ensures { bytes.new ≡ bytes_of (length bytes.old) number }
+{
+    for byte in bytes.iter_mut() {
+        *byte = (number % 256) as u8;
+        number /= 256;
     }
 }

@@ -32,3 +32,9 @@ returns-clause-short c =
     let i : Image = record { entry = c.in_ok-image.image.entry; load = c.in_ok-image.image.load; body = drop 24 c.args.file.now } in
     let fits = image-fits c.args.file.now i c.in_ok-image.ensures.image in
     omega (arith, fits.0, fits.1, length-drop 24 c.args.file.now)
+
+pub returns-clause-fits : goal.returns-clause-fits
+returns-clause-fits c =
+    let i : Image = record { entry = c.in_ok-image.image.entry; load = c.in_ok-image.image.load; body = drop 24 c.args.file.now } in
+    let fits = image-fits c.args.file.now i c.in_ok-image.ensures.image in
+    record { start = fits.0; end = omega (arith, fits.0, fits.1, length-drop 24 c.args.file.now) }

@@ -1,7 +1,6 @@
 use Rattle.std.proofs.Common.{◌++◌, [], ◌∷◌, List, ◌∙◌, ap, refl, subst}
 use Rattle.arn_base.specs.declared.records.Record.{Record}
 use Rattle.arn_model.specs.declared.history.Input.TheVariants as input
-use Rattle.solo_lineage.specs.declared.moves.Move.{Move}
 use Rattle.guest_machine.specs.Recorded.{Recorded, Runs}
 use Rattle.guest_machine.specs.View.{recorded_of}
 use Rattle.guest_machine.proofs.RunsLemmas.{boot-Runs}
@@ -11,8 +10,7 @@ pub returns-clause-runs : goal.returns-clause-runs
 returns-clause-runs c =
     let s = c.self.inside in
     let e = c.in_ok-booted.ensures in
-    let after = record s { solo = c.boot.new.self; moves = c.push_reserved.new.self } in
-    let moves = c.push_reserved.ensures.items ∙ ap (λ (xs : List Move). xs ++ c.in_ok-booted.booted.moved ∷ []) c.in_ok-reserve-2.ensures.items in
-    let out = c.push_reserved-2.ensures.items ∙ ap (λ (xs : List Record). xs ++ c.in_ok-booted.booted.entry ∷ []) c.in_ok-reserve.ensures.items in
-    subst (λ (m : Recorded). Runs (input.Boot c.args.name.now ∷ []) m (recorded_of after) c.args.out.now.items c.push_reserved-2.new.self.items) c.self.view_is
-    (boot-Runs (recorded_of s) (recorded_of after) c.args.name.now c.in_ok-booted.booted.moved c.in_ok-booted.booted.entry _ _ e.does moves e.moved refl out e.entry)
+    let after = record s { solo = c.boot.new.self } in
+    let out = c.push_reserved.ensures.items ∙ ap (λ (xs : List Record). xs ++ c.in_ok-booted.booted.entry ∷ []) c.in_ok-reserve.ensures.items in
+    subst (λ (m : Recorded). Runs (input.Boot c.args.name.now ∷ []) m (recorded_of after) c.args.out.now.items c.push_reserved.new.self.items) c.self.view_is
+    (boot-Runs (recorded_of s) (recorded_of after) c.args.name.now c.in_ok-booted.booted.entry _ _ e.does refl out e.entry)

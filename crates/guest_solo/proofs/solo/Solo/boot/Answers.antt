@@ -1,4 +1,4 @@
-use Rattle.std.proofs.Common.{◌≡◌, ◌+◌, ◌<◌, ◌∙◌, ◌↔◌, ℕ, List, [], ◌∷◌, arith, Some, None, Err, IsErrOf, length, false, is_some, IsTrue, refl, sym, ap, subst}
+use Rattle.std.proofs.Common.{◌≡◌, ◌+◌, ◌-◌, ◌<◌, ◌∙◌, ◌↔◌, ℕ, List, [], ◌∷◌, arith, Some, None, Err, IsErrOf, length, false, is_some, IsTrue, refl, sym, ap, subst}
 use Rattle.arn_model.specs.declared.history.Input.TheVariants as input
 use Rattle.arn_base.specs.declared.records.Record.{Record}
 use Rattle.arn_base.specs.declared.records.Record.TheVariants as entry
@@ -17,6 +17,7 @@ use Rattle.guest_solo.specs.Start.{StartsFrom}
 use Rattle.guest_solo.proofs.SoloLemmas.{does-boot, does-isnt-refused, moved-boot, recorded-boot, refused-boot, booted-guest, same_error}
 use Rattle.solo_lineage.specs.declared.moves.Move.TheVariants as move
 use Rattle.solo_lineage.specs.Moves.{moves_from}
+use Rattle.solo_lineage.specs.Sources.{FitsWindow}
 use Rattle.guest_solo.proofs.solo.Solo.boot.Goals as goal
 
 pub returns-in-Err-clause-not_image : goal.returns-in-Err-clause-not_image
@@ -82,3 +83,8 @@ returns-in_default-boot_record-clause-not_image c =
     let none = sym c.is_some.ensures ∙ c.if-is_some.false in
     let does = subst (λ (m : Machine). Does m (input.Boot c.args.name.now) (machine_of (record c.self.inside { guest = Some c.in-Ok.started.guest; events = c.self.inside.events + 1 }))) c.self.view_is (does-boot c.self.inside _ _ c.index-file.result.now c.in-Ok.started none found within c.index-file.ensures starts) in
     (λ is. cc, λ all. absurd (does-isnt-refused _ _ _ does all.2))
+
+pub returns-clause-fits : goal.returns-clause-fits
+returns-clause-fits c =
+    let bytes : length c.as_slice-2.result.now ≡ length c.index-file.result.now.bytes = ap length c.as_slice-2.ensures in
+    subst (FitsWindow c.in-Ok.started.load) (ap (λ (len : ℕ). len - 24) (bytes ∙ sym c.len.ensures)) c.in-Ok.ensures.fits

@@ -1,0 +1,78 @@
+// Where pc goes after an instruction.
+ghost use Rattle.std.specs.Prelude.{◌≡◌, ◌≢◌, ◌%◌, ◌==◌, List};
+ghost use Rattle.arn_base.specs.Window.{Window};
+ghost use Rattle.rv64_isa.specs.declared.instruction.Instr.{Instr};
+ghost use Rattle.arn_model.specs.Instruction.{advanced, branches, jumps, next_pc as next_pc_of};
+ghost use Rattle.arn_model.specs.Machine.{with_register};
+ghost use Rattle.rv64_core.specs.Outcome.{Tells, OnStop};
+
+use crate::outcome::Outcome;
+use crate::registers::set_register;
+use arn_base::Cpu;
+use arn_model::limits::MISALIGNED;
+use rv64_isa::Reg;
+
+// Goes on to the next word.
+pub(crate) fn go_on(cpu: &mut Cpu) -> Outcome
+    ensures next { result ≡ Outcome.Next }
+    ensures cpu { cpu.new ≡ advanced cpu.old }
+{
+    cpu.pc = next_pc(cpu);
+    Outcome::Next
+}
+
+// Writes a register, and goes on to the next word.
+pub(crate) fn write(cpu: &mut Cpu, rd: Reg, value: u64) -> Outcome
+    ensures next { result ≡ Outcome.Next }
+    ensures cpu { cpu.new ≡ advanced (with_register cpu.old rd value) }
+{
+    set_register(cpu, rd, value);
+    go_on(cpu)
+}
+
+// Jumps to a target, and leaves the address of the next word in rd.
+pub(crate) fn jump(cpu: &mut Cpu, rd: Reg, target: u64) -> Outcome
+    ensures effect { (instr : Instr) → (memory : List Window) →
+        Tells result (jumps instr cpu.old memory rd target) cpu.new memory }
+    ensures cpu { OnStop result (cpu.new ≡ cpu.old) }
+    ensures no_memory { result ≢ Outcome.NoMemory }
+{
+    let link = next_pc(cpu);
+    if !is_aligned(target) {
+        return Outcome::End(MISALIGNED);
+    }
+    set_register(cpu, rd, link);
+    cpu.pc = target;
+    Outcome::Next
+}
+
+// Goes to a target if the branch is taken, and else to the next word.
+pub(crate) fn branch(cpu: &mut Cpu, taken: bool, target: u64) -> Outcome
+    ensures effect { (instr : Instr) → (memory : List Window) →
+        Tells result (branches instr cpu.old memory taken target) cpu.new memory }
+    ensures cpu { OnStop result (cpu.new ≡ cpu.old) }
+    ensures no_memory { result ≢ Outcome.NoMemory }
+{
+    if !taken {
+        return go_on(cpu);
+    }
+    if !is_aligned(target) {
+        return Outcome::End(MISALIGNED);
+    }
+    cpu.pc = target;
+    Outcome::Next
+}
+
+// Whether a target is a multiple of 4.
+fn is_aligned(target: u64) -> bool
+    ensures { result ≡ (target % 4 == 0) }
+{
+    target % 4 == 0
+}
+
+// The address of the next word.
+fn next_pc(cpu: &Cpu) -> u64
+    ensures { result ≡ next_pc_of cpu.now }
+{
+    cpu.pc.wrapping_add(4)
+}
