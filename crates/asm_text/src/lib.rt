@@ -1,0 +1,21 @@
+//! The statements of a program's text, one by one.
+#![tactic(auto)]
+
+mod characters;
+mod fault;
+mod form;
+mod formed;
+mod numbers;
+mod operands;
+mod reading;
+mod registers;
+mod statement;
+#[cfg(test)]
+mod tests;
+mod words;
+
+pub use characters::trimmed;
+pub use fault::AsmKind;
+pub use numbers::number_of;
+pub use reading::read;
+pub use statement::{Number, Reading, Statement};

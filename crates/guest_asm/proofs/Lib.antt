@@ -1,0 +1,12 @@
+pub mod Parting
+pub mod Naming
+pub mod Listing
+pub mod Sizes
+pub mod Pushing
+pub mod Coding
+pub mod Firsts
+pub mod Placing
+pub mod FaultLists
+pub mod Wording
+pub mod Imaging
+pub mod Soundness

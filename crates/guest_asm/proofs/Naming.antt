@@ -1,0 +1,92 @@
+-- Labels by their names.
+use Rattle.std.proofs.Common.{◌≡◌, ℕ, List, [], ◌∷◌, ◌++◌, Option, Some, None, refl, Bool, true, false, cond, option_map, is_some, ◌||◌, ap, sym, subst, ◌∙◌, append_assoc, append-nil, ◌<◌, ◌≤◌, ◌+◌, length, drop, get_or}
+use Rattle.std.specs.Prelude.{option_to_list}
+use Rattle.std.proofs.lemmas.List.{map-append, at_drop_more, at_drop_all}
+use Rattle.guest_asm.specs.Kept.{item_of, names_of, defined_at, HasPlaces, Knows}
+use Rattle.asm_text.specs.Statements.{Reading, reading}
+use Rattle.guest_asm.specs.declared.items.Item as kept_item
+use Rattle.guest_asm.specs.declared.labels.Labels.{Labels}
+use Rattle.std.proofs.lemmas.Slice.Eq.{bytes_eq-Decides}
+use Rattle.std.specs.List.{find}
+use Rattle.std.specs.Prelude.{bytes_eq, map}
+use Rattle.asm_text.specs.Names.{Named, number_by}
+use Rattle.guest_asm.specs.Assembled.{is_among, labels, defined_label}
+
+-- what one more definition tells of a name
+pub number_by_more : (named : List Named) (n : Named) (name : List ℕ) →
+    number_by (named ++ n ∷ []) name ≡ cond (is_some (number_by named name)) (number_by named name) (cond (bytes_eq n.name name) (Some n.number) None)
+number_by_more [] n name = elim (bytes_eq n.name name) as (λ b. option_map (λ m. m.number) (cond b (Some n) None) ≡ cond b (Some n.number) None) [ true ↦ refl | false ↦ refl ]
+number_by_more (m ∷ named) n name =
+    elim (bytes_eq m.name name) as (λ b. option_map (λ k. k.number) (cond b (Some m) (find (λ k. bytes_eq k.name name) (named ++ n ∷ []))) ≡ cond (is_some (option_map (λ k. k.number) (cond b (Some m) (find (λ k. bytes_eq k.name name) named)))) (option_map (λ k. k.number) (cond b (Some m) (find (λ k. bytes_eq k.name name) named))) (cond (bytes_eq n.name name) (Some n.number) None)) [
+      | true ↦ refl
+      | false ↦ number_by_more named n name
+    ]
+
+-- a name is among those of the definitions where it has a number
+pub among_named : (named : List Named) (name : List ℕ) → is_some (number_by named name) ≡ is_among (map (λ n. n.name) named) name
+among_named [] name = refl
+among_named (m ∷ named) name =
+    elim (bytes_eq m.name name) as (λ b. is_some (option_map (λ k. k.number) (cond b (Some m) (find (λ k. bytes_eq k.name name) named))) ≡ (b || is_among (map (λ n. n.name) named) name)) [
+      | true ↦ refl
+      | false ↦ among_named named name
+    ]
+
+chosen : (b : Bool) (o w : Option ℕ) → (b ≡ true → is_some o ≡ false) → cond (is_some o) o (cond b w None) ≡ cond b w o
+chosen true None w h = refl
+chosen true (Some n) w h = cc (h refl)
+chosen false None w h = refl
+chosen false (Some n) w h = refl
+
+stayed : (b : Bool) (o w : Option ℕ) → (b ≡ true → is_some o ≡ true) → cond (is_some o) o (cond b w None) ≡ o
+stayed true None w h = cc (h refl)
+stayed true (Some n) w h = refl
+stayed false None w h = refl
+stayed false (Some n) w h = refl
+
+-- the look-up after a definition of a label that had none
+pub defined_first : (named : List Named) (n : Named) (old new : List ℕ → Option ℕ) → ((name : List ℕ) → old name ≡ number_by named name) → is_some (old n.name) ≡ false →
+    ((name : List ℕ) → new name ≡ cond (bytes_eq n.name name) (Some n.number) (old name)) → (name : List ℕ) → new name ≡ number_by (named ++ n ∷ []) name
+defined_first named n old new so_far none told name =
+    let same : bytes_eq n.name name ≡ true → is_some (number_by named name) ≡ false =
+    λ h. subst (λ (k : List ℕ). is_some (number_by named k) ≡ false) ((bytes_eq-Decides n.name name).0 h) (rw so_far at none) in
+    told name ∙ ap (cond (bytes_eq n.name name) (Some n.number)) (so_far name) ∙ sym (number_by_more named n name ∙ chosen (bytes_eq n.name name) (number_by named name) (Some n.number) same)
+
+-- the look-up after another definition of a label
+pub defined_again : (named : List Named) (n : Named) (old : List ℕ → Option ℕ) → ((name : List ℕ) → old name ≡ number_by named name) → is_some (old n.name) ≡ true →
+    (name : List ℕ) → old name ≡ number_by (named ++ n ∷ []) name
+defined_again named n old so_far some name =
+    let same : bytes_eq n.name name ≡ true → is_some (number_by named name) ≡ true =
+    λ h. subst (λ (k : List ℕ). is_some (number_by named k) ≡ true) ((bytes_eq-Decides n.name name).0 h) (rw so_far at some) in
+    so_far name ∙ sym (number_by_more named n name ∙ stayed (bytes_eq n.name name) (number_by named name) (Some n.number) same)
+
+pub knows_places : (labels : Labels) (named : List Named) → HasPlaces labels named → Knows labels (names_of named)
+knows_places labels named h = λ name. ap is_some (h name) ∙ among_named named name
+
+pub names_both : (xs ys : List Named) → names_of (xs ++ ys) ≡ names_of xs ++ names_of ys
+names_both xs ys = map-append (λ n. n.name) xs ys
+
+pub names_defined : (address : ℕ) (r : Reading) → names_of (defined_at address r) ≡ option_to_list (defined_label r)
+names_defined address r = elim (defined_label r) as (λ o. names_of (map (λ name. record { name = name; number = address }) (option_to_list o)) ≡ option_to_list o) [ None ↦ refl | Some name ↦ refl ]
+
+-- the names behind a statement
+pub names_more : (named : List Named) (address : ℕ) (r : Reading) → names_of (named ++ defined_at address r) ≡ names_of named ++ option_to_list (defined_label r)
+names_more named address r = map-append (λ n. n.name) named (defined_at address r) ∙ ap (λ (ns : List (List ℕ)). names_of named ++ ns) (names_defined address r)
+
+-- the item that stands where none does
+abbrev pub no_item : kept_item.Item
+no_item = record { line = 0; text = record { ref_ptr = (0, 0); now = [] } }
+
+pub labels_more : (items : List kept_item.Item) (at : ℕ) (named : List Named) (address : ℕ) → at < length items →
+    names_of named ++ labels (map item_of (drop at items)) ≡ labels (map item_of items) →
+    names_of (named ++ defined_at address (reading (get_or items at no_item).text.now)) ++ labels (map item_of (drop (at + 1) items)) ≡ labels (map item_of items)
+labels_more items at named address h so_far =
+    let r = reading (get_or items at no_item).text.now in
+    let rest = labels (map item_of (drop (at + 1) items)) in
+    ap (λ (ns : List (List ℕ)). ns ++ rest) (names_more named address r) ∙ append_assoc (names_of named) (option_to_list (defined_label r)) rest
+    ∙ ap (λ (ns : List (List ℕ)). names_of named ++ ns) (sym (at_drop_more (λ (is : List kept_item.Item). labels (map item_of is)) items at no_item h))
+    ∙ so_far
+
+pub labels_end : (items : List kept_item.Item) (at : ℕ) (named : List Named) → length items ≤ at →
+    names_of named ++ labels (map item_of (drop at items)) ≡ labels (map item_of items) → names_of named ≡ labels (map item_of items)
+labels_end items at named h so_far =
+    sym (append-nil (names_of named)) ∙ ap (λ (ns : List (List ℕ)). names_of named ++ ns) (sym (at_drop_all (λ (is : List kept_item.Item). labels (map item_of is)) items at h)) ∙ so_far

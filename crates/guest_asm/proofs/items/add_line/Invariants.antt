@@ -1,0 +1,15 @@
+use Rattle.std.proofs.Common.{◌≡◌, ◌++◌, map, length}
+use Rattle.asm_text.specs.Characters.{statements, trimmed}
+use Rattle.guest_asm.specs.Kept.{item_of}
+use Rattle.guest_asm.specs.Parted.{left}
+use Rattle.asm_text.specs.Statements.{reading}
+use Rattle.guest_asm.proofs.items.add_line.Given as goal
+
+-- the statements so far and those of the parts that are left are all
+abbrev pub invariant-loop-part : goal.invariant-loop-part
+invariant-loop-part l =
+    let as_items = map (λ text. record { line = l.number; reading = reading text }) in
+    map item_of l.kept.items ++ as_items (map trimmed (left l.parts)) ≡ map item_of l.fn.kept.items ++ as_items (statements l.line)
+
+abbrev pub decreases-loop-part : goal.decreases-loop-part
+decreases-loop-part l = length (left l.parts)
