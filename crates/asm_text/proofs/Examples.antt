@@ -17,6 +17,22 @@ use Rattle.asm_text.specs.Statements.{Says, Wrong, reading}
 fp-is-s0 : register_of (codes "fp") ≡ Some 8
 fp-is-s0 = refl
 
+s11-is-x27 : register_of (codes "s11") ≡ Some 27
+unfolding digits
+s11-is-x27 = refl
+
+no-x32 : register_of (codes "x32") ≡ None
+unfolding digits
+no-x32 = refl
+
+no-s12 : register_of (codes "s12") ≡ None
+unfolding digits
+no-s12 = refl
+
+no-t7 : register_of (codes "t7") ≡ None
+unfolding digits
+no-t7 = refl
+
 number-minus : number_of (codes "-16") ≡ Some (negsuc 15)
 number-minus = refl
 
@@ -25,6 +41,12 @@ number-hex = refl
 
 number-hex-cases : number_of (codes "0xAf") ≡ Some (pos 175)
 number-hex-cases = refl
+
+number-upper-x : number_of (codes "0X1") ≡ None
+number-upper-x = refl
+
+number-padded-digit : number_of (codes "01") ≡ None
+number-padded-digit = refl
 
 number-padded : number_of (codes "010") ≡ None
 number-padded = refl

@@ -10,3 +10,6 @@ pub mod FaultLists
 pub mod Wording
 pub mod Imaging
 pub mod Soundness
+pub mod Lengths
+pub mod Accepting
+pub mod Examples

@@ -21,7 +21,7 @@ first_empty : {X : Type 0} (xs ys : List X) → xs ++ ys ≡ [] → xs ≡ []
 first_empty [] ys e = refl
 first_empty (x ∷ xs) ys e = cc
 
-second_empty : {X : Type 0} (xs ys : List X) → xs ++ ys ≡ [] → ys ≡ []
+pub second_empty : {X : Type 0} (xs ys : List X) → xs ++ ys ≡ [] → ys ≡ []
 second_empty [] ys e = e
 second_empty (x ∷ xs) ys e = cc
 
@@ -29,7 +29,7 @@ map_empty : {X Y : Type 0} (f : X → Y) (xs : List X) → map f xs ≡ [] → x
 map_empty f [] e = refl
 map_empty f (x ∷ xs) e = cc
 
-no_fault_if : (b : Bool) (kind : AsmKind) → fault_if b kind ≡ [] → b ≡ false
+pub no_fault_if : (b : Bool) (kind : AsmKind) → fault_if b kind ≡ [] → b ≡ false
 no_fault_if true kind e = cc
 no_fault_if false kind e = refl
 
@@ -37,14 +37,14 @@ not_false : (b : Bool) → not b ≡ false → b ≡ true
 not_false true e = refl
 not_false false e = cc
 
-no_first_fault : (fs : List Fault) → first_fault fs ≡ None → fs ≡ []
+pub no_first_fault : (fs : List Fault) → first_fault fs ≡ None → fs ≡ []
 no_first_fault [] e = refl
 no_first_fault (f ∷ fs) e = cc
 
 abbrev pub Faultless : List Named → Placed → Type 0
 Faultless named p = faults_of named p ≡ []
 
-each_faultless : (named : List Named) (all : List Placed) → flat_map (faults_at named) all ≡ [] → AllByRecursion (Faultless named) all
+pub each_faultless : (named : List Named) (all : List Placed) → flat_map (faults_at named) all ≡ [] → AllByRecursion (Faultless named) all
 each_faultless named [] e = tt
 each_faultless named (p ∷ ps) e = (
   map_empty (on_line p.line) (faults_of named p) (first_empty (faults_at named p) (flat_map (faults_at named) ps) e),

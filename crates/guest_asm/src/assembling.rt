@@ -1,4 +1,5 @@
-ghost use Rattle.std.specs.Prelude.{◌≡◌, ℕ, None, Some, Err, IfOk, OnOk};
+ghost use Rattle.std.specs.Prelude.{◌≡◌, ℕ, None, Some, Err, IfOk, OnOk, true};
+ghost use Rattle.arn_model.specs.Image.{is_image};
 ghost use Rattle.asm_text.specs.declared.fault.AsmKind.{AsmKind};
 ghost use Rattle.guest_asm.specs.Assembled.{fault_of, image_of_text};
 
@@ -18,6 +19,7 @@ use std::alloc::Global;
 /// time in the length of the text, and the logarithm of the number of labels for each look-up.
 pub fn assemble(alloc: Global, text: &[u8]) -> Result<Bytes, AsmError>
     ensures image { IfOk result (λ image. image ≡ image_of_text text.now) }
+    ensures accepted { IfOk result (λ image. is_image image ≡ true) }
     ensures faultless { OnOk result (fault_of text.now ≡ None) }
     ensures fault { (line : ℕ) (kind : AsmKind) → result ≡ Err (AsmError.Fault line kind) →
         fault_of text.now ≡ Some (record { line = line; kind = kind }) }

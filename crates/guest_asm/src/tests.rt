@@ -1,4 +1,5 @@
 use crate::{AsmError, assemble};
+use rv64_isa::{BranchOp, ImmOp, Instr, LoadOp, Reg, RegOp, StoreOp, decode};
 use std::alloc::{AllocError, Global};
 use std::test::Fail;
 
@@ -67,11 +68,226 @@ fn the_first_fault_is_told(rt: HostRuntime) -> Result<(), Fail> {
         (".zero 262145", "1 Range"),
         ("addi a0, a0, 4096; mv a0, 1; what", "1 Word"),
         ("x: ; addi a0, a0, 4096; x:", "1 Range"),
+        ("li a0", "1 Operand"),
+        ("addi a0, a0, 4096; mv a0, 1", "1 Operand"),
+        (".byte 256\nwhat", "1 Range"),
+        ("ecall\nmv a0, 1\nwhat\nj nowhere", "2 Operand"),
+        (".zero 262143\necall", "2 Align"),
     ];
     let alloc = rt.alloc();
     for (text, wanted) in cases {
         let found = shown_fault(alloc, text)?;
         assert_eq!(rt; found.as_str(), wanted, "{text}");
+    }
+    Ok(())
+}
+
+/// How many bytes stand in front of an image's body.
+const HEADER_LEN: usize = 24;
+
+fn register(number: u8) -> Result<Reg, Fail> {
+    Ok(Reg::new(number).ok_or("no register")?)
+}
+
+// The instruction whose word stands at an offset of the image of a text.
+fn decoded(alloc: Global, text: &str, offset: usize) -> Result<Option<Instr>, AsmError> {
+    let image = assemble(alloc, text.as_bytes())?;
+    let Some(body) = image.as_slice().get(HEADER_LEN..) else {
+        return Ok(None);
+    };
+    let Some(rest) = body.get(offset..) else {
+        return Ok(None);
+    };
+    let Some((word, _)) = rest.split_first_chunk::<4>() else {
+        return Ok(None);
+    };
+    Ok(decode(u32::from_le_bytes(*word)))
+}
+
+#[test]
+fn branches_loads_and_stores_decode_to_what_they_say(rt: HostRuntime) -> Result<(), Fail> {
+    let alloc = rt.alloc();
+    let (rd, rs1, rs2) = (register(5)?, register(6)?, register(7)?);
+    let branches = [
+        ("beq", BranchOp::Beq),
+        ("bne", BranchOp::Bne),
+        ("blt", BranchOp::Blt),
+        ("bge", BranchOp::Bge),
+        ("bltu", BranchOp::Bltu),
+        ("bgeu", BranchOp::Bgeu),
+    ];
+    for (name, op) in branches {
+        let text = format!(in alloc; "back: ; ecall ; {name} x6, x7, back")?;
+        let imm = -4;
+        let said = Instr::Branch { op, rs1, rs2, imm };
+        assert_eq!(rt; decoded(alloc, text.as_str(), 4)?, Some(said), "{name}");
+    }
+    let loads = [
+        ("lb", LoadOp::Lb),
+        ("lh", LoadOp::Lh),
+        ("lw", LoadOp::Lw),
+        ("ld", LoadOp::Ld),
+        ("lbu", LoadOp::Lbu),
+        ("lhu", LoadOp::Lhu),
+        ("lwu", LoadOp::Lwu),
+    ];
+    for (name, op) in loads {
+        let text = format!(in alloc; "{name} x5, -2048(x6)")?;
+        let imm = -2048;
+        let said = Instr::Load { op, rd, rs1, imm };
+        assert_eq!(rt; decoded(alloc, text.as_str(), 0)?, Some(said), "{name}");
+    }
+    let stores = [
+        ("sb", StoreOp::Sb),
+        ("sh", StoreOp::Sh),
+        ("sw", StoreOp::Sw),
+        ("sd", StoreOp::Sd),
+    ];
+    for (name, op) in stores {
+        let text = format!(in alloc; "{name} x7, 2047(x6)")?;
+        let imm = 2047;
+        let said = Instr::Store { op, rs1, rs2, imm };
+        assert_eq!(rt; decoded(alloc, text.as_str(), 0)?, Some(said), "{name}");
+    }
+    Ok(())
+}
+
+#[test]
+fn operations_decode_to_what_they_say(rt: HostRuntime) -> Result<(), Fail> {
+    let alloc = rt.alloc();
+    let (rd, rs1, rs2) = (register(5)?, register(6)?, register(7)?);
+    let immediates = [
+        ("addi", ImmOp::Addi, -2048),
+        ("slti", ImmOp::Slti, 2047),
+        ("sltiu", ImmOp::Sltiu, -1),
+        ("xori", ImmOp::Xori, 1),
+        ("ori", ImmOp::Ori, -2),
+        ("andi", ImmOp::Andi, 255),
+        ("slli", ImmOp::Slli, 63),
+        ("srli", ImmOp::Srli, 32),
+        ("srai", ImmOp::Srai, 63),
+        ("addiw", ImmOp::Addiw, -1),
+        ("slliw", ImmOp::Slliw, 31),
+        ("srliw", ImmOp::Srliw, 0),
+        ("sraiw", ImmOp::Sraiw, 31),
+    ];
+    for (name, op, imm) in immediates {
+        let text = format!(in alloc; "{name} x5, x6, {imm}")?;
+        let said = Instr::Imm { op, rd, rs1, imm };
+        assert_eq!(rt; decoded(alloc, text.as_str(), 0)?, Some(said), "{name}");
+    }
+    let operations = [
+        ("add", RegOp::Add),
+        ("sub", RegOp::Sub),
+        ("sll", RegOp::Sll),
+        ("slt", RegOp::Slt),
+        ("sltu", RegOp::Sltu),
+        ("xor", RegOp::Xor),
+        ("srl", RegOp::Srl),
+        ("sra", RegOp::Sra),
+        ("or", RegOp::Or),
+        ("and", RegOp::And),
+        ("addw", RegOp::Addw),
+        ("subw", RegOp::Subw),
+        ("sllw", RegOp::Sllw),
+        ("srlw", RegOp::Srlw),
+        ("sraw", RegOp::Sraw),
+    ];
+    for (name, op) in operations {
+        let text = format!(in alloc; "{name} x5, x6, x7")?;
+        let said = Instr::Op { op, rd, rs1, rs2 };
+        assert_eq!(rt; decoded(alloc, text.as_str(), 0)?, Some(said), "{name}");
+    }
+    Ok(())
+}
+
+#[test]
+fn the_other_statements_decode_to_what_they_say(rt: HostRuntime) -> Result<(), Fail> {
+    let alloc = rt.alloc();
+    let (zero, ra, rd, rs1) = (register(0)?, register(1)?, register(5)?, register(6)?);
+    let add = ImmOp::Addi;
+    let word = 0x0ff0_000f;
+    let cases = [
+        (
+            "lui x5, 0x80000",
+            0,
+            Instr::Lui {
+                rd,
+                imm: -0x8000_0000,
+            },
+        ),
+        ("auipc x5, 1", 0, Instr::Auipc { rd, imm: 4_096 }),
+        (
+            "jal ra, on ; .zero 8 ; on:",
+            0,
+            Instr::Jal { rd: ra, imm: 12 },
+        ),
+        (
+            "jalr ra, 4(x6)",
+            0,
+            Instr::Jalr {
+                rd: ra,
+                rs1,
+                imm: 4,
+            },
+        ),
+        ("fence", 0, Instr::Fence { word }),
+        ("ecall", 0, Instr::Ecall),
+        ("ebreak", 0, Instr::Ebreak),
+        (
+            "li x5, -7",
+            0,
+            Instr::Imm {
+                op: add,
+                rd,
+                rs1: zero,
+                imm: -7,
+            },
+        ),
+        (
+            "mv x5, x6",
+            0,
+            Instr::Imm {
+                op: add,
+                rd,
+                rs1,
+                imm: 0,
+            },
+        ),
+        ("here: ; j here", 0, Instr::Jal { rd: zero, imm: 0 }),
+        (
+            "la x5, at ; .zero 2040 ; at:",
+            0,
+            Instr::Lui { rd, imm: 0x1_1000 },
+        ),
+        (
+            "la x5, at ; .zero 2040 ; at:",
+            4,
+            Instr::Imm {
+                op: add,
+                rd,
+                rs1: rd,
+                imm: -2_048,
+            },
+        ),
+        (
+            "la x5, at ; .zero 2039 ; at:",
+            0,
+            Instr::Lui { rd, imm: 0x1_0000 },
+        ),
+        (
+            "la x5, at ; .zero 2039 ; at:",
+            4,
+            Instr::Imm {
+                op: add,
+                rd,
+                rs1: rd,
+                imm: 2_047,
+            },
+        ),
+    ];
+    for (text, offset, said) in cases {
+        assert_eq!(rt; decoded(alloc, text, offset)?, Some(said), "{text}");
     }
     Ok(())
 }
