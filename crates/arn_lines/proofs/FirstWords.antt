@@ -1,14 +1,14 @@
 -- A text splits one way at its first space.
 use Rattle.std.proofs.Common.{◌≡◌, ◌≢◌, ℕ, ◌^◌, ◌<◌, true, List, [], ◌∷◌, ◌++◌, length, get_or, codes, decimal, inl, inr, refl, sym, ◌∙◌, append_assoc, length-append, arith}
-use Rattle.std.specs.Prelude.{All, nat_lt}
+use Rattle.std.specs.Prelude.{All, ◌&&◌, nat_le, nat_lt}
 use Rattle.std.specs.List.{list_all}
-use Rattle.std.proofs.lemmas.Bool.{and_parts, ltb-true}
+use Rattle.std.proofs.lemmas.Bool.{and_parts, leb-true, ltb-true}
 use Rattle.std.proofs.lemmas.List.{get_or_at}
-use Rattle.std.proofs.lemmas.List.Elements.{All-cons, All-from_get_or, All-head, All-nil, All-tail, All-weaker}
+use Rattle.std.proofs.lemmas.List.Elements.{All-cons, All-from_get_or, All-head, All-nil, All-tail}
 use Rattle.std.proofs.lemmas.Str.Parse.{digit_at}
 use Rattle.arn_lines.specs.Grammar.{linkage_word, space}
 use Rattle.arn_lines.specs.Pieces.{AreThreeNumbers, IsFirstWord, IsNoSpace}
-use Rattle.arn_lines.specs.Words.{IsHexNumberFrom, IsName, IsNameByte, IsNumber}
+use Rattle.arn_lines.specs.Words.{IsHexNumberFrom, IsName, IsNumber, is_name_byte}
 use Rattle.arn_model.specs.declared.lineage.Linkage.{Linkage}
 use Rattle.arn_model.specs.declared.lineage.Linkage.TheVariants.{Copy}
 use Rattle.arn_lines.proofs.Decimals.{decimal_digits}
@@ -50,8 +50,18 @@ has_no_space text word rest clear e =
 pub no_first_word : (text word rest : List ℕ) → All IsNoSpace text → text ≢ word ++ space ++ rest
 no_first_word text word rest clear e = has_no_space text word rest clear (e ∙ split_text word rest)
 
+-- printable bytes have no space among them
+no_space-printable : (text : List ℕ) → list_all is_name_byte text ≡ true → All IsNoSpace text
+no_space-printable [] printable = All-nil IsNoSpace
+no_space-printable (c ∷ text) printable =
+    let parts = and_parts (is_name_byte c) (list_all is_name_byte text) printable in
+    let above = leb-true 33 c (and_parts (nat_le 33 c) (nat_le c 126) parts.0).0 in
+    All-cons IsNoSpace c text (λ e. absurd (omega arith)) (no_space-printable text parts.1)
+
 pub no_space-IsName : (text : List ℕ) → IsName text → All IsNoSpace text
-no_space-IsName text name = All-weaker IsNameByte IsNoSpace (λ c h e. absurd (omega (arith, h.0))) text name.printable
+no_space-IsName text name =
+    let long = and_parts (nat_le 1 (length text)) (nat_le (length text) 64 && list_all is_name_byte text) name in
+    no_space-printable text (and_parts (nat_le (length text) 64) (list_all is_name_byte text) long.1).1
 
 -- a written-out word without spaces, by a test that computes
 clear_from_test : (word : List ℕ) → list_all (λ c. nat_lt 32 c) word ≡ true → All IsNoSpace word

@@ -6,7 +6,7 @@ use Rattle.arn_model.specs.declared.lineage.Linkage.TheVariants.{Copy}
 use Rattle.arn_lines.specs.declared.line.Line.{Line}
 use Rattle.arn_lines.specs.declared.line.Line.TheVariants as line
 use Rattle.arn_lines.specs.declared.line.Reading.{Reading}
-use Rattle.arn_lines.specs.declared.line.Reading.TheVariants.{PassedOver, Unreadable, Says}
+use Rattle.arn_lines.specs.declared.line.Reading.TheVariants.{PassedOver, TooLong, Unreadable, Says}
 use Rattle.arn_lines.specs.Grammar.{IsBack, IsBoot, IsFile, IsLine, IsPassedOver, IsRun, IsType, Reads, linkage_word, space}
 use Rattle.arn_lines.specs.Pieces.{AreThreeNumbers, IsFirstWord}
 use Rattle.arn_lines.specs.Words.{IsBytes, IsHex}
@@ -154,21 +154,20 @@ IsLine-begins text (line.Type bytes) h over = no_hash 116 refl (subst IsPassedOv
 IsLine-begins text (line.Run count) h over = no_hash 114 refl (subst IsPassedOver h.is_text over)
 IsLine-begins text (line.Back linkage event from len) h over = no_hash 98 refl (subst IsPassedOver h.is_text over)
 
--- a line that says something is not unreadable
-says_nothing : (text : List ℕ) (l : Line) → Reads text Unreadable → ¬ Reads text (Says l)
-says_nothing text l unreadable says =
-    elim unreadable.says_nothing [
-      | inl long ↦ absurd (omega (arith, says.0))
-      | inr none ↦ none l says.1
-    ]
-
 pub Reads-same : (text : List ℕ) (a b : Reading) → Reads text a → Reads text b → a ≡ b
 Reads-same text PassedOver PassedOver h k = refl
+Reads-same text PassedOver TooLong h k = absurd (k.not_passed_over h)
 Reads-same text PassedOver Unreadable h k = absurd (k.not_passed_over h)
 Reads-same text PassedOver (Says l) h k = absurd (IsLine-begins text l k.1 h)
+Reads-same text TooLong PassedOver h k = absurd (h.not_passed_over k)
+Reads-same text TooLong TooLong h k = refl
+Reads-same text TooLong Unreadable h k = absurd (omega (arith, h.long, k.not_long))
+Reads-same text TooLong (Says l) h k = absurd (omega (arith, h.long, k.0))
 Reads-same text Unreadable PassedOver h k = absurd (h.not_passed_over k)
+Reads-same text Unreadable TooLong h k = absurd (omega (arith, h.not_long, k.long))
 Reads-same text Unreadable Unreadable h k = refl
-Reads-same text Unreadable (Says l) h k = absurd (says_nothing text l h k)
+Reads-same text Unreadable (Says l) h k = absurd (h.says_nothing l k.1)
 Reads-same text (Says l) PassedOver h k = absurd (IsLine-begins text l h.1 k)
-Reads-same text (Says l) Unreadable h k = absurd (says_nothing text l k h)
+Reads-same text (Says l) TooLong h k = absurd (omega (arith, h.0, k.long))
+Reads-same text (Says l) Unreadable h k = absurd (k.says_nothing l h.1)
 Reads-same text (Says l) (Says m) h k = ap Says (IsLine-same text l m h.1 k.1)

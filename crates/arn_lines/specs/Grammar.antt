@@ -1,13 +1,13 @@
 -- What a line says.
-use Rattle.std.specs.Prelude.{◌≡◌, ℕ, ◌<◌, ◌≤◌, ◌⊎◌, List, [], ◌∷◌, ◌++◌, length, codes}
+use Rattle.std.specs.Prelude.{◌≡◌, ℕ, ◌<◌, ◌≤◌, ◌&&◌, if◌then◌else◌, List, [], ◌∷◌, ◌++◌, length, take, drop, Option, Some, None, bytes_eq, codes}
 use Rattle.arn_model.specs.declared.lineage.Linkage.{Linkage}
 use Rattle.arn_model.specs.declared.lineage.Linkage.TheVariants.{Copy}
 use Rattle.arn_lines.specs.declared.line.Line.{Line}
 use Rattle.arn_lines.specs.declared.line.Line.TheVariants as line
 use Rattle.arn_lines.specs.declared.line.Reading.{Reading}
-use Rattle.arn_lines.specs.declared.line.Reading.TheVariants.{PassedOver, Unreadable, Says}
+use Rattle.arn_lines.specs.declared.line.Reading.TheVariants.{PassedOver, TooLong, Unreadable, Says}
 use Rattle.arn_lines.specs.declared.line.TheConstants.{MOST_LINE, MOST_RUN}
-use Rattle.arn_lines.specs.Words.{IsName, IsBytes, IsNumber}
+use Rattle.arn_lines.specs.Words.{is_name, IsName, IsBytes, IsNumber}
 
 -- words stand behind one another, with one space between
 abbrev pub space : List ℕ
@@ -51,7 +51,11 @@ pub record IsBack (text : List ℕ) (linkage : Linkage) (event from len : ℕ) :
   pub is_len : IsNumber len_text len
   pub is_text : text ≡ codes "back " ++ linkage_word linkage ++ codes " event " ++ event_text ++ space ++ from_text ++ space ++ len_text
 
--- the grammar: the text says this line
+-- the name in a line `asm NAME`, which opens a block: the lines behind it, up to `end`, belong to it
+abbrev pub block_name : List ℕ → Option (List ℕ)
+block_name text = if bytes_eq (take 4 text) (codes "asm ") && is_name (drop 4 text) then Some (drop 4 text) else None
+
+-- the grammar of the lines that stand by themselves: the text says this line
 abbrev pub IsLine : List ℕ → Line → Type 0
 IsLine text (line.File name bytes) = IsFile text name bytes
 IsLine text (line.Boot name) = IsBoot text name
@@ -64,14 +68,21 @@ abbrev pub IsPassedOver : List ℕ → Type 0
 IsPassedOver [] = Unit {0}
 IsPassedOver (c ∷ text) = c ≡ 35
 
--- a line that isn't passed over and says nothing: it is too long, or no line of the grammar
+-- a line that isn't passed over, and is too long, whatever it says
+pub record IsTooLong (text : List ℕ) : Type 0 where
+  pub not_passed_over : ¬ IsPassedOver text
+  pub long : MOST_LINE < length text
+
+-- a line that isn't passed over or too long, and is no line of the grammar
 pub record IsUnreadable (text : List ℕ) : Type 0 where
   pub not_passed_over : ¬ IsPassedOver text
-  pub says_nothing : (MOST_LINE < length text) ⊎ ((l : Line) → ¬ IsLine text l)
+  pub not_long : length text ≤ MOST_LINE
+  pub says_nothing : (l : Line) → ¬ IsLine text l
 
--- what a line of a session is
+-- what a line is that stands by itself
 abbrev pub Reads : List ℕ → Reading → Type 0
 Reads text PassedOver = IsPassedOver text
+Reads text TooLong = IsTooLong text
 Reads text Unreadable = IsUnreadable text
 Reads text (Says l) = (length text ≤ MOST_LINE) × IsLine text l
 

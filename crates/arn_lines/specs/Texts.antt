@@ -5,7 +5,7 @@ use Rattle.arn_base.specs.declared.records.Pair.{Pair}
 use Rattle.arn_lines.specs.declared.answer.RunEnd.{RunEnd}
 use Rattle.arn_lines.specs.declared.answer.RunEnd.TheVariants.{Done, Stalled, Budget}
 use Rattle.arn_lines.specs.declared.answer.Refusal.{Refusal}
-use Rattle.arn_lines.specs.declared.answer.Refusal.TheVariants.{NoLine, NoImage, NoPoint}
+use Rattle.arn_lines.specs.declared.answer.Refusal.TheVariants.{NoLong, NoLine, NoBoot, NoBooted, NoAsm, NoName, NoImage, NoPoint}
 
 abbrev pub line_end : List ℕ
 line_end = 10 ∷ []
@@ -33,7 +33,12 @@ abbrev pub ran_text : ℕ → RunEnd → List ℕ
 ran_text ran end = codes "ran " ++ decimal ran ++ codes " " ++ end_word end ++ line_end
 
 abbrev pub refusal_text : Refusal → List ℕ
+refusal_text NoLong = codes "no long" ++ line_end
 refusal_text NoLine = codes "no line" ++ line_end
+refusal_text NoBoot = codes "no boot" ++ line_end
+refusal_text NoBooted = codes "no booted" ++ line_end
+refusal_text (NoAsm line) = codes "no asm " ++ decimal line ++ line_end
+refusal_text NoName = codes "no name" ++ line_end
 refusal_text NoImage = codes "no image" ++ line_end
 refusal_text NoPoint = codes "no point" ++ line_end
 

@@ -1,5 +1,6 @@
 -- The words of a line: names, numbers and bytes.
-use Rattle.std.specs.Prelude.{◌≡◌, ℕ, ◌+◌, ◌*◌, ◌^◌, ◌<◌, ◌≤◌, ◌⊎◌, List, [], ◌∷◌, ◌++◌, length, All, codes, decimal, slice_index}
+use Rattle.std.specs.Prelude.{◌≡◌, ℕ, ◌+◌, ◌*◌, ◌^◌, ◌<◌, ◌≤◌, ◌⊎◌, nat_le, ◌&&◌, Bool, List, [], ◌∷◌, ◌++◌, length, codes, decimal, slice_index, IsTrue}
+use Rattle.std.specs.List.{list_all}
 
 -- the two spellings of the hex digits
 abbrev pub lower_digits : List ℕ
@@ -31,14 +32,15 @@ abbrev pub IsBytes : List ℕ → List ℕ → Type 0
 IsBytes text bytes = ((0 < length bytes) × IsHex text bytes) ⊎ ((text ≡ codes "-") × (bytes ≡ []))
 
 -- a byte of a name: printable, and no blank
-abbrev pub IsNameByte : ℕ → Type 0
-IsNameByte c = (33 ≤ c) × (c ≤ 126)
+abbrev pub is_name_byte : ℕ → Bool
+is_name_byte c = nat_le 33 c && nat_le c 126
 
 -- a name: 1 to 64 such bytes
-pub record IsName (text : List ℕ) : Type 0 where
-  pub at_least : 1 ≤ length text
-  pub at_most : length text ≤ 64
-  pub printable : All IsNameByte text
+abbrev pub is_name : List ℕ → Bool
+is_name text = nat_le 1 (length text) && (nat_le (length text) 64 && list_all is_name_byte text)
+
+abbrev pub IsName : List ℕ → Type 0
+IsName text = IsTrue (is_name text)
 
 -- hex digits behind a number spell a longer number
 abbrev pub IsHexNumberFrom : ℕ → List ℕ → ℕ → Type 0

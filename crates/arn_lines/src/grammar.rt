@@ -1,10 +1,10 @@
 // Lines of a session, read.
-ghost use Rattle.std.specs.Prelude.{◌≡◌, ◌≢◌, ℕ, ◌<◌, ◌↔◌, List, ◌++◌, length, IsTrue, IfOk, IfSome, IfNone, codes};
+ghost use Rattle.std.specs.Prelude.{◌≡◌, ◌≢◌, ℕ, ◌<◌, ◌↔◌, List, ◌++◌, length, IsTrue, IfOk, IfSome, IfNone, codes, option_map};
 ghost use Rattle.arn_model.specs.declared.lineage.Linkage.{Linkage};
-ghost use Rattle.arn_lines.specs.Grammar.{IsLine, IsPassedOver, Reads, linkage_word};
+ghost use Rattle.arn_lines.specs.Grammar.{IsLine, IsPassedOver, Reads, block_name, linkage_word};
 ghost use Rattle.arn_lines.specs.Pieces.{AreThreeNumbers, SaysNothing};
 
-use crate::words::{after, bytes, name, number, split_word};
+use crate::words::{after, bytes, is_name, name, number, split_word};
 use crate::{Line, MOST_LINE, MOST_RUN, Reading};
 use arn_base::NoMemory;
 use arn_model::Linkage;
@@ -112,7 +112,16 @@ fn said(alloc: Global, text: &[u8]) -> Result<Option<Line>, NoMemory>
     Ok(None)
 }
 
-/// Reads one line, without its LF, in time linear in its length.
+/// The name in a line `asm NAME`, which opens a block.
+pub fn block_name(line: &[u8]) -> Option<&[u8]>
+    ensures { option_map (λ name. name.now) result ≡ block_name line.now }
+{
+    let name = after(line, b"asm ")?;
+    is_name(name).then_some(name)
+}
+
+/// Reads one line, without its LF, in time linear in its length. A line that opens a block says
+/// nothing by itself.
 pub fn read_line(alloc: Global, line: &[u8]) -> Result<Reading, NoMemory>
     ensures ok { IfOk result (Reads line.now) }
 
@@ -124,7 +133,7 @@ pub fn read_line(alloc: Global, line: &[u8]) -> Result<Reading, NoMemory>
         return Ok(Reading::PassedOver);
     }
     if line.len() > MOST_LINE {
-        return Ok(Reading::Unreadable);
+        return Ok(Reading::TooLong);
     }
     Ok(match said(alloc, line)? {
         Some(line) => Reading::Says { line },

@@ -36,12 +36,14 @@ pub enum Line {
     },
 }
 
-/// What a line of the text is.
+/// What a line of the text is that stands by itself.
 #[derive(Debug, Drop)]
 pub enum Reading {
     /// Empty, or a comment.
     PassedOver,
-    /// Too long, or outside the grammar.
+    /// Above the bound, whatever it says.
+    TooLong,
+    /// Outside the grammar.
     Unreadable,
     Says { line: Line },
 }

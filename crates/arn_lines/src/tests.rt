@@ -8,6 +8,7 @@ use std::test::Fail;
 fn shown(alloc: Global, reading: &Reading) -> Result<String, AllocError> {
     match reading {
         Reading::PassedOver => format!(in alloc; "passed over"),
+        Reading::TooLong => format!(in alloc; "too long"),
         Reading::Unreadable => format!(in alloc; "unreadable"),
         Reading::Says { line } => shown_line(alloc, line),
     }
@@ -86,6 +87,9 @@ fn lines_are_read(rt: HostRuntime) -> Result<(), Fail> {
             "back copy 18446744073709551615 0 0",
         ),
         ("back copy event 18446744073709551616 0 0", "unreadable"),
+        ("asm p", "unreadable"),
+        ("asm ", "unreadable"),
+        ("asm", "unreadable"),
     ];
     for (line, wanted) in cases {
         let reading = read_line(rt.alloc(), line.as_bytes())?;
@@ -96,11 +100,36 @@ fn lines_are_read(rt: HostRuntime) -> Result<(), Fail> {
 }
 
 #[test]
-fn names_have_64_bytes_at_most(rt: HostRuntime) -> Result<(), Fail> {
-    let mut line = String::from_str(rt.alloc(), "boot ")?;
-    for _ in 0..64 {
-        line.push('n')?;
+fn blocks_are_named(rt: HostRuntime) -> Result<(), Fail> {
+    let cases = [
+        ("asm p", Some("p")),
+        ("asm -", Some("-")),
+        ("asm !~", Some("!~")),
+        ("asm asm", Some("asm")),
+        ("asm ", None),
+        ("asm", None),
+        ("asm p q", None),
+        ("asm  p", None),
+        ("asm p ", None),
+        ("asm p\r", None),
+        ("asm \x7f", None),
+        ("asm\tp", None),
+        (" asm p", None),
+        ("ASM p", None),
+        ("boot p", None),
+        ("", None),
+    ];
+    for (line, wanted) in cases {
+        let found = block_name(line.as_bytes());
+        assert_eq!(rt; found, wanted.map(|name| name.as_bytes()), "at {line}");
     }
+    Ok(())
+}
+
+#[test]
+fn names_have_64_bytes_at_most(rt: HostRuntime) -> Result<(), Fail> {
+    let longest = "n".repeat(rt.alloc(), 64)?;
+    let line = format!(in rt.alloc(); "boot {longest}")?;
     let reading = read_line(rt.alloc(), line.as_bytes())?;
     assert!(rt;
         matches!(
@@ -110,9 +139,19 @@ fn names_have_64_bytes_at_most(rt: HostRuntime) -> Result<(), Fail> {
             }
         )
     );
-    line.push('n')?;
+    let line = format!(in rt.alloc(); "boot {longest}n")?;
     let reading = read_line(rt.alloc(), line.as_bytes())?;
     assert!(rt; matches!(reading, Reading::Unreadable));
+    Ok(())
+}
+
+#[test]
+fn names_of_blocks_have_64_bytes_at_most(rt: HostRuntime) -> Result<(), Fail> {
+    let longest = "n".repeat(rt.alloc(), 64)?;
+    let line = format!(in rt.alloc(); "asm {longest}")?;
+    assert_eq!(rt; block_name(line.as_bytes()), Some(longest.as_bytes()));
+    let line = format!(in rt.alloc(); "asm {longest}n")?;
+    assert_eq!(rt; block_name(line.as_bytes()), None);
     Ok(())
 }
 
@@ -142,7 +181,18 @@ fn lines_have_a_mebibyte_at_most(rt: HostRuntime) -> Result<(), Fail> {
     );
     let longer = long_line(rt.alloc(), 2)?;
     let reading = read_line(rt.alloc(), longer.as_bytes())?;
+    assert!(rt; matches!(reading, Reading::TooLong));
+    Ok(())
+}
+
+#[test]
+fn long_nonsense_is_too_long(rt: HostRuntime) -> Result<(), Fail> {
+    let longest = vec![in rt.alloc(); b' '; MOST_LINE]?;
+    let reading = read_line(rt.alloc(), longest.as_slice())?;
     assert!(rt; matches!(reading, Reading::Unreadable));
+    let longer = vec![in rt.alloc(); b' '; MOST_LINE + 1]?;
+    let reading = read_line(rt.alloc(), longer.as_slice())?;
+    assert!(rt; matches!(reading, Reading::TooLong));
     Ok(())
 }
 
@@ -175,9 +225,6 @@ fn answers_are_written(rt: HostRuntime) -> Result<(), Fail> {
     push_back(&mut text, 3, 11, &[1])?;
     push_back(&mut text, 0, 0, &[])?;
     push_back(&mut text, 3, u128::MAX, &[1, 3, 4294967295])?;
-    for refusal in [Refusal::NoLine, Refusal::NoImage, Refusal::NoPoint] {
-        push_refusal(&mut text, refusal)?;
-    }
     let wanted = "event 0
 out 4 1 616263
 out 5 2 -
@@ -189,10 +236,31 @@ pair 2 94 1
 back pairs 3 instructions 11 groups 1
 back pairs 0 instructions 0 groups -
 back pairs 3 instructions 340282366920938463463374607431768211455 groups 1 3 4294967295
-no line
-no image
-no point
 ";
     assert_eq!(rt; text.as_str(), wanted);
+    Ok(())
+}
+
+#[test]
+fn refusals_are_written(rt: HostRuntime) -> Result<(), Fail> {
+    let cases = [
+        (Refusal::NoLong, "no long\n"),
+        (Refusal::NoLine, "no line\n"),
+        (Refusal::NoBoot, "no boot\n"),
+        (Refusal::NoBooted, "no booted\n"),
+        (Refusal::NoAsm { line: 7 }, "no asm 7\n"),
+        (
+            Refusal::NoAsm { line: u64::MAX },
+            "no asm 18446744073709551615\n",
+        ),
+        (Refusal::NoName, "no name\n"),
+        (Refusal::NoImage, "no image\n"),
+        (Refusal::NoPoint, "no point\n"),
+    ];
+    for (refusal, wanted) in cases {
+        let mut text = String::new(rt.alloc());
+        push_refusal(&mut text, refusal)?;
+        assert_eq!(rt; text.as_str(), wanted);
+    }
     Ok(())
 }

@@ -3,6 +3,7 @@ ghost use Rattle.std.specs.Prelude.{◌≡◌, ◌<◌, List, [], ◌∷◌, ◌
 ghost use Rattle.std.specs.String.{string_bytes};
 ghost use Rattle.arn_lines.specs.Pieces.{LeavesFront};
 ghost use Rattle.arn_lines.specs.Texts.{back_text, bytes_text, end_word, event_text, groups_text, out_text, pair_text, ran_text, refusal_text};
+ghost use Rattle.arn_lines.specs.declared.answer.Refusal.TheVariants.{NoAsm};
 ghost use Rattle.hex.specs.Hex.{encode_lower, lower_digits};
 
 use crate::{Refusal, RunEnd};
@@ -40,17 +41,32 @@ pub fn push_ran(text: &mut String, ran: u64, end: RunEnd) -> Result<(), NoMemory
     Ok(text.push_str(line.as_str())?)
 }
 
+fn push_no_asm(text: &mut String, line: u64) -> Result<(), NoMemory>
+    ensures ok { OnOk result
+        (string_bytes text.new ≡ string_bytes text.old ++ refusal_text (NoAsm line)) }
+    ensures err { OnErr result (string_bytes text.new ≡ string_bytes text.old) }
+{
+    let answer = format!(in *text.allocator(); "no asm {line}\n")?;
+    Ok(text.push_str(answer.as_str())?)
+}
+
 /// Appends the line of a refusal.
 pub fn push_refusal(text: &mut String, refusal: Refusal) -> Result<(), NoMemory>
     ensures ok { OnOk result
         (string_bytes text.new ≡ string_bytes text.old ++ refusal_text refusal) }
     ensures err { OnErr result (string_bytes text.new ≡ string_bytes text.old) }
 {
-    Ok(text.push_str(match refusal {
+    let line = match refusal {
+        Refusal::NoLong => "no long\n",
         Refusal::NoLine => "no line\n",
+        Refusal::NoBoot => "no boot\n",
+        Refusal::NoBooted => "no booted\n",
+        Refusal::NoAsm { line } => return push_no_asm(text, line),
+        Refusal::NoName => "no name\n",
         Refusal::NoImage => "no image\n",
         Refusal::NoPoint => "no point\n",
-    })?)
+    };
+    Ok(text.push_str(line)?)
 }
 
 /// Appends `pair E A K`.

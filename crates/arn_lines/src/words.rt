@@ -1,7 +1,8 @@
 // The words of a line: names, numbers and bytes.
 ghost use Rattle.std.specs.Prelude.{◌≡◌, ◌≢◌, ℕ, ◌+◌, ◌^◌, ◌<◌, ◌↔◌, List, ◌++◌, All, IsTrue, IfOk, IfSome, IfNone, codes, decimal};
+ghost use Rattle.std.specs.List.{list_all};
 ghost use Rattle.arn_lines.specs.Pieces.{IsFirstWord, IsNoSpace, IsUnpadded};
-ghost use Rattle.arn_lines.specs.Words.{IsBytes, IsHex, IsHexByte, IsHexDigit, IsHexNumber, IsName, IsNumber};
+ghost use Rattle.arn_lines.specs.Words.{IsBytes, IsHex, IsHexByte, IsHexDigit, IsHexNumber, IsName, IsNumber, is_name, is_name_byte};
 
 use arn_base::{Bytes, NoMemory};
 use std::alloc::Global;
@@ -30,10 +31,16 @@ pub(crate) fn split_word(text: &[u8]) -> Option<(&[u8], &[u8])>
     Some((&text[..at], &text[at + 1..]))
 }
 
-pub(crate) fn is_name(text: &[u8]) -> bool
-    ensures { IsTrue result ↔ IsName text.now }
+fn are_name_bytes(text: &[u8]) -> bool
+    ensures { result ≡ list_all is_name_byte text.now }
 {
-    !text.is_empty() && text.len() <= MOST_NAME && text.iter().all(|byte| byte.is_ascii_graphic())
+    text.iter().all(|byte| byte.is_ascii_graphic())
+}
+
+pub(crate) fn is_name(text: &[u8]) -> bool
+    ensures { result ≡ is_name text.now }
+{
+    !text.is_empty() && text.len() <= MOST_NAME && are_name_bytes(text)
 }
 
 // A copy of the text, if it is a name.

@@ -1,7 +1,5 @@
-pub mod LineLemmas
-pub mod ReaderLemmas
+pub mod UseLemmas
 pub mod FaultLemmas
-pub mod SizeLemmas
 pub mod EffectLemmas
 pub mod Moments
 pub mod CarryLemmas

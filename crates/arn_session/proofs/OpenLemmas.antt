@@ -12,7 +12,6 @@ use Rattle.log_store.specs.declared.size.TheConstants.{MOST_LOG}
 use Rattle.std.proofs.lemmas.Option.{IfSome_then}
 use Rattle.arn_session.specs.declared.status.Halt.{Halt}
 use Rattle.arn_session.specs.declared.status.Halt.TheVariants as halt
-use Rattle.arn_session.specs.Lines.{lines_of}
 use Rattle.arn_session.specs.Opening.{IsOpened}
 use Rattle.log_store.specs.Causes.{IsCauseOf}
 use Rattle.log_store.specs.declared.errors.OpenError.{OpenError}
@@ -20,6 +19,7 @@ use Rattle.log_store.specs.declared.errors.OpenError.TheVariants as opening
 use Rattle.arn_session.specs.Status.{open_status_of}
 use Rattle.arn_session.specs.declared.status.Status.{Status}
 use Rattle.arn_session.specs.declared.status.Status.TheVariants as status
+use Rattle.arn_commands.specs.Parts.{Part, text_parts}
 use Rattle.arn_session.specs.Effects.{Effect, committed}
 use Rattle.arn_session.specs.Carrying.{HoldsLog, IsAtRest, HoldsFirst, HoldsMore, CarriesOut, StopsAt, RestsMore, Keeps}
 use Rattle.arn_session.specs.CutOff.{BeginsText, FindsOut}
@@ -29,10 +29,10 @@ use Rattle.arn_session.proofs.CarryLemmas.{held-none, CarriesOut-then, StopsAt-b
 use Rattle.arn_session.proofs.StepLemmas.{told-at, told-too}
 
 -- answers of which the same was carried out, and more before
-pub Answers-map : {history : List Record} {lines : List (List ℕ)} {s0 s1 : ℕ} {carried all : List Effect → Type 0} → ((effects : List Effect) → carried effects → all effects) → Answers history lines carried s0 s1 → Answers history lines all s0 s1
-Answers-map more a = record { readings = a.readings; each_reads = a.each_reads; done = more _ a.done; on_run = a.on_run; executed = a.executed }
+pub Answers-map : {history : List Record} {parts : List Part} {s0 s1 : ℕ} {carried all : List Effect → Type 0} → ((effects : List Effect) → carried effects → all effects) → Answers history parts carried s0 s1 → Answers history parts all s0 s1
+Answers-map more a = record { commands = a.commands; each_asks = a.each_asks; done = more _ a.done; on_run = a.on_run; executed = a.executed }
 
-pub AnswersTaken-map : {history : List Record} {l0 l1 : Option (List ℕ)} {lines : List ℕ → List (List ℕ)} {s0 s1 : ℕ} {carried all : List Effect → Type 0} → ((effects : List Effect) → carried effects → all effects) → AnswersTaken history l0 l1 lines carried s0 s1 → AnswersTaken history l0 l1 lines all s0 s1
+pub AnswersTaken-map : {history : List Record} {l0 l1 : Option (List ℕ)} {parts : List ℕ → List Part} {s0 s1 : ℕ} {carried all : List Effect → Type 0} → ((effects : List Effect) → carried effects → all effects) → AnswersTaken history l0 l1 parts carried s0 s1 → AnswersTaken history l0 l1 parts all s0 s1
 AnswersTaken-map more a = record { taken = a.taken; is_taken = a.is_taken; answered = Answers-map more a.answered }
 
 pub BeginsText-map : {history : List Record} {text : List ℕ} {l : Option (List ℕ)} {s0 s1 : ℕ} {stops all : List Effect → List Effect → Type 0} → ((first rest : List Effect) → stops first rest → all first rest) → BeginsText history text l stops s0 s1 → BeginsText history text l all s0 s1
@@ -40,14 +40,18 @@ BeginsText-map more b = record {
   begun = b.begun;
   rest = b.rest;
   is_text = b.is_text;
-  are_lines = b.are_lines;
+  are_parts = b.are_parts;
   were_taken = b.were_taken;
   are_whole = b.are_whole;
   answered = b.answered;
   next = b.next;
   one_at_most = b.one_at_most;
-  each_reads = b.each_reads;
+  each_asks = b.each_asks;
   on_run = b.on_run;
+  begun_on_run = λ needed. elim (b.begun_on_run needed) [
+    | inl run ↦ inl run
+    | inr nothing ↦ inr (more _ _ nothing)
+  ];
   at = more _ _ b.at;
   executed = b.executed;
 }
@@ -79,12 +83,12 @@ FindsOut-map more b = record {
   begun = b.begun;
   rest = b.rest;
   is_text = b.is_text;
-  are_lines = b.are_lines;
+  are_parts = b.are_parts;
   were_taken = b.were_taken;
   are_whole = b.are_whole;
   answered = b.answered;
   next = b.next;
-  each_reads = b.each_reads;
+  each_asks = b.each_asks;
   needless = b.needless;
   needs = b.needs;
   done = more _ b.done;
@@ -176,14 +180,14 @@ module _ {D : Type 0} (image : D → Option (List ℕ)) (may_leave : D → List 
       (IfSome_then l0 (stops (λ e. not_source (sym is ∙ e)) (λ e. not_long (sym is ∙ e))) (λ text b. BeginsText-map (StopsAt-opened old mid new entries h0 h1 why opening) b)))
 
   -- the same of one that answered all
-  pub Answers-opened : (old mid new : D) (entries history : List Record) (h0 h1 : Option (List ℕ)) (l0 : Option (List ℕ)) (s0 s1 : ℕ) → entries ≡ history → CarriesOut image may_leave moment left_since old mid entries h0 h0 [] → IfSome l0 (λ text. Answers entries (lines_of text) (CarriesOut image may_leave moment left_since mid new entries h0 h1) s0 s1) → IfSome l0 (λ text. Answers history (lines_of text) (CarriesOut image may_leave moment left_since old new history h0 h1) s0 s1)
+  pub Answers-opened : (old mid new : D) (entries history : List Record) (h0 h1 : Option (List ℕ)) (l0 : Option (List ℕ)) (s0 s1 : ℕ) → entries ≡ history → CarriesOut image may_leave moment left_since old mid entries h0 h0 [] → IfSome l0 (λ text. Answers entries (text_parts text) (CarriesOut image may_leave moment left_since mid new entries h0 h1) s0 s1) → IfSome l0 (λ text. Answers history (text_parts text) (CarriesOut image may_leave moment left_since old new history h0 h1) s0 s1)
   Answers-opened old mid new entries history h0 h1 l0 s0 s1 same opening answers =
-      subst (λ (h : List Record). IfSome l0 (λ text. Answers h (lines_of text) (CarriesOut image may_leave moment left_since old new h h0 h1) s0 s1)) same
+      subst (λ (h : List Record). IfSome l0 (λ text. Answers h (text_parts text) (CarriesOut image may_leave moment left_since old new h h0 h1) s0 s1)) same
       (IfSome_then l0 answers (λ text a. Answers-map (CarriesOut-opened old mid new entries h0 h1 opening) a))
 
-  pub Taken-opened : (old mid new : D) (entries history : List Record) (h0 h1 : Option (List ℕ)) (l0 l : Option (List ℕ)) (lines : List ℕ → List (List ℕ)) (s0 s1 : ℕ) → entries ≡ history → CarriesOut image may_leave moment left_since old mid entries h0 h0 [] → AnswersTaken entries l0 l lines (CarriesOut image may_leave moment left_since mid new entries h0 h1) s0 s1 → AnswersTaken history l0 l lines (CarriesOut image may_leave moment left_since old new history h0 h1) s0 s1
-  Taken-opened old mid new entries history h0 h1 l0 l lines s0 s1 same opening taken =
-      subst (λ (h : List Record). AnswersTaken h l0 l lines (CarriesOut image may_leave moment left_since old new h h0 h1) s0 s1) same
+  pub Taken-opened : (old mid new : D) (entries history : List Record) (h0 h1 : Option (List ℕ)) (l0 l : Option (List ℕ)) (parts : List ℕ → List Part) (s0 s1 : ℕ) → entries ≡ history → CarriesOut image may_leave moment left_since old mid entries h0 h0 [] → AnswersTaken entries l0 l parts (CarriesOut image may_leave moment left_since mid new entries h0 h1) s0 s1 → AnswersTaken history l0 l parts (CarriesOut image may_leave moment left_since old new history h0 h1) s0 s1
+  Taken-opened old mid new entries history h0 h1 l0 l parts s0 s1 same opening taken =
+      subst (λ (h : List Record). AnswersTaken h l0 l parts (CarriesOut image may_leave moment left_since old new h h0 h1) s0 s1) same
       (AnswersTaken-map (CarriesOut-opened old mid new entries h0 h1 opening) taken)
 
   -- and of what a stop leaves

@@ -11,6 +11,11 @@ pub IfErr-then : {T E : Type 0} {P Q : E → Type 0} (r : Result T E) → IfErr 
 IfErr-then (Ok t) p then = tt
 IfErr-then (Err e) p then = then e p
 
+-- what follows from two facts of an error
+pub IfErr-two : {T E : Type 0} {P Q R : E → Type 0} (r : Result T E) → IfErr r P → IfErr r Q → ((e : E) → P e → Q e → R e) → IfErr r R
+IfErr-two (Ok t) p q both = tt
+IfErr-two (Err e) p q both = both e p q
+
 -- what holds in both cases
 pub by_result : {T E Q R : Type 0} {P : E → Type 0} (r : Result T E) → OnOk r Q → IfErr r P → (Q → R) → ((e : E) → P e → R) → R
 by_result (Ok t) q p ok err = ok q

@@ -1,9 +1,14 @@
 -- Which halt or which refusal a status is of.
-use Rattle.std.proofs.Common.{◌≡◌, Option, None, Some, refl, sym, ap, ◌∙◌}
+use Rattle.std.proofs.Common.{◌≡◌, ◌≢◌, Option, None, Some, refl, sym, ap, ◌∙◌}
+use Rattle.arn_commands.specs.declared.error.ReadError.{ReadError}
+use Rattle.arn_commands.specs.declared.error.ReadError.TheVariants as read
+use Rattle.guest_machine.specs.declared.differs.Differs.{Differs}
 use Rattle.log_store.specs.Causes.{BlamesBytes}
 use Rattle.log_store.specs.declared.errors.OpenError.{OpenError}
 use Rattle.log_store.specs.declared.errors.OpenError.TheVariants as opening
-use Rattle.arn_session.specs.Status.{status_of, open_status_of}
+use Rattle.arn_session.specs.Answering.{Standpoint}
+use Rattle.arn_session.specs.Ready.{BlamesRecords}
+use Rattle.arn_session.specs.Status.{status_of, open_status_of, read_halt_of}
 use Rattle.arn_session.specs.declared.status.Status.{Status}
 use Rattle.arn_session.specs.declared.status.Status.TheVariants as status
 use Rattle.arn_session.specs.declared.status.Damage.TheVariants as damage
@@ -89,3 +94,31 @@ no-error error s is none =
 -- two refusals with one status are one
 pub same-error : (a b : OpenError) → open_status_of a ≡ open_status_of b → a ≡ b
 same-error a b is = error-is a (open_status_of b) b (sym is) (error_for-status b)
+
+-- which error of the reading a halt is of
+pub source-was : (error : ReadError) → read_halt_of error ≡ halt.Source → error ≡ read.Source
+source-was read.Source is = refl
+source-was read.Long is = cc is
+source-was read.NoMemory is = cc is
+
+pub long-was : (error : ReadError) → read_halt_of error ≡ halt.Long → error ≡ read.Long
+long-was read.Source is = cc is
+long-was read.Long is = refl
+long-was read.NoMemory is = cc is
+
+-- an error of the reading blames no records
+pub read-blames : (error : ReadError) (at : Standpoint) → BlamesRecords (read_halt_of error) at
+read-blames read.Source at = tt
+read-blames read.Long at = tt
+read-blames read.NoMemory at = tt
+
+pub read-finds-none : (error : ReadError) (d : Differs) → read_halt_of error ≡ halt.Differs d → ⊥
+read-finds-none read.Source d is = cc is
+read-finds-none read.Long d is = cc is
+read-finds-none read.NoMemory d is = cc is
+
+-- where the reading ended neither at the source nor at the bound, memory ran out
+pub memory-was : (P : Halt → Type 0) (error : ReadError) → P halt.NoMemory → read_halt_of error ≢ halt.Source → read_halt_of error ≢ halt.Long → P (read_halt_of error)
+memory-was P read.Source p not_source not_long = absurd (not_source refl)
+memory-was P read.Long p not_source not_long = absurd (not_long refl)
+memory-was P read.NoMemory p not_source not_long = p

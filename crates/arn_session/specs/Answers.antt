@@ -1,5 +1,5 @@
 -- What a line does on a recorded history.
-use Rattle.std.specs.Prelude.{ℕ, ◌||◌, not, Bool, true, false, if◌then◌else◌, List, [], ◌∷◌, ◌++◌, length, flat_map, Option, Some, None, is_none}
+use Rattle.std.specs.Prelude.{ℕ, not, Bool, true, false, if◌then◌else◌, List, [], ◌∷◌, ◌++◌, length, flat_map, Option, Some, None, is_none}
 use Rattle.arn_base.specs.declared.records.Record.{Record}
 use Rattle.arn_base.specs.declared.records.Pair.{Pair}
 use Rattle.arn_model.specs.declared.history.Input.{Input}
@@ -13,11 +13,11 @@ use Rattle.log_model.specs.Records.{records_from, named}
 use Rattle.history_facts.specs.Facts.{is_booted_by, file_by, is_free_by, event_by, is_range_by, has_other_calls_by}
 use Rattle.arn_lines.specs.declared.line.Line.{Line}
 use Rattle.arn_lines.specs.declared.line.Line.TheVariants as line
-use Rattle.arn_lines.specs.declared.line.Reading.{Reading}
-use Rattle.arn_lines.specs.declared.line.Reading.TheVariants.{PassedOver, Unreadable, Says}
 use Rattle.arn_lines.specs.declared.answer.Refusal.{Refusal}
-use Rattle.arn_lines.specs.declared.answer.Refusal.TheVariants.{NoLine, NoImage, NoPoint}
+use Rattle.arn_lines.specs.declared.answer.Refusal.TheVariants.{NoLong, NoLine, NoBoot, NoBooted, NoAsm, NoName, NoImage, NoPoint}
 use Rattle.arn_lines.specs.Texts.{event_text, refusal_text, pair_text, back_text}
+use Rattle.arn_commands.specs.declared.command.Command.{Command}
+use Rattle.arn_commands.specs.declared.command.Command.TheVariants.{PassedOver, TooLong, Unreadable, Says, Faulty}
 use Rattle.arn_session.specs.Effects.{Effect, Commits, Prints, committed}
 use Rattle.arn_session.specs.Running.{run_effects}
 
@@ -28,17 +28,21 @@ refused_if false why = None
 
 -- the file of a boot isn't there, or it is no image
 abbrev pub file_refusal : Option (List ℕ) → Option Refusal
-file_refusal None = Some NoLine
+file_refusal None = Some NoName
 file_refusal (Some bytes) = refused_if (is_none (image_of bytes)) NoImage
 
 -- why a line is refused, if it is: the line and the records of the history tell
 abbrev pub refusal_of : List Record → Line → Option Refusal
-refusal_of history (line.File name bytes) = refused_if (is_booted_by history || not (is_free_by history name)) NoLine
-refusal_of history (line.Boot name) = if is_booted_by history then Some NoLine else file_refusal (file_by history name)
-refusal_of history (line.Type bytes) = refused_if (not (is_booted_by history)) NoLine
-refusal_of history (line.Run count) = refused_if (not (is_booted_by history)) NoLine
+refusal_of history (line.File name bytes) = if is_booted_by history then Some NoBooted else refused_if (not (is_free_by history name)) NoName
+refusal_of history (line.Boot name) = if is_booted_by history then Some NoBooted else file_refusal (file_by history name)
+refusal_of history (line.Type bytes) = refused_if (not (is_booted_by history)) NoBoot
+refusal_of history (line.Run count) = refused_if (not (is_booted_by history)) NoBoot
 refusal_of history (line.Back linkage event from len) =
     if has_other_calls_by history then Some NoLine else refused_if (not (is_range_by (event_by history event) from len)) NoPoint
+
+-- why a block is refused whose program has a fault on this line
+abbrev pub fault_refusal : List Record → ℕ → Refusal
+fault_refusal history at = if is_booted_by history then NoBooted else NoAsm at
 
 -- the machine to which a history led
 abbrev pub machine_of : List Record → Machine
@@ -71,18 +75,22 @@ abbrev pub effects_unless : Option Refusal → List Record → Line → List Eff
 effects_unless (Some why) history l = Prints (refusal_text why) ∷ []
 effects_unless None history l = line_effects history l
 
--- what any line does
-abbrev pub effects : List Record → Reading → List Effect
+-- what any command does
+abbrev pub effects : List Record → Command → List Effect
 effects history PassedOver = []
+effects history TooLong = Prints (refusal_text NoLong) ∷ []
 effects history Unreadable = Prints (refusal_text NoLine) ∷ []
 effects history (Says l) = effects_unless (refusal_of history l) history l
+effects history (Faulty at) = Prints (refusal_text (fault_refusal history at)) ∷ []
 
--- the history after a line
-abbrev pub history_after : List Record → Reading → List Record
-history_after history reading = history ++ committed (effects history reading)
+-- the history after a command
+abbrev pub history_after : List Record → Command → List Record
+history_after history command = history ++ committed (effects history command)
 
--- the line needs the running machine: it isn't refused
-abbrev pub needs_machine : List Record → Reading → Bool
+-- the command needs the running machine: it isn't refused
+abbrev pub needs_machine : List Record → Command → Bool
 needs_machine history PassedOver = false
+needs_machine history TooLong = false
 needs_machine history Unreadable = false
 needs_machine history (Says l) = is_none (refusal_of history l)
+needs_machine history (Faulty at) = false

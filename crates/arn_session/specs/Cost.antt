@@ -8,8 +8,8 @@ use Rattle.log_model.specs.Records.{named}
 use Rattle.guest_machine.specs.Differs.{rebuild_cost}
 use Rattle.arn_lines.specs.declared.line.Line.{Line}
 use Rattle.arn_lines.specs.declared.line.Line.TheVariants as line
-use Rattle.arn_lines.specs.declared.line.Reading.{Reading}
-use Rattle.arn_lines.specs.declared.line.Reading.TheVariants.{PassedOver, Unreadable, Says}
+use Rattle.arn_commands.specs.declared.command.Command.{Command}
+use Rattle.arn_commands.specs.declared.command.Command.TheVariants.{PassedOver, TooLong, Unreadable, Says, Faulty}
 use Rattle.arn_session.specs.Running.{ran_by, legs_of, slices_of}
 use Rattle.arn_session.specs.Answers.{machine_of, needs_machine, history_after}
 
@@ -25,22 +25,24 @@ line_cost history (line.Type bytes) = 0
 line_cost history (line.Run count) = slices_cost (machine_of history) (slices_of (legs_of (machine_of history) count))
 line_cost history (line.Back linkage event from len) = instructions_in (run (named history))
 
-abbrev pub reading_cost : List Record → Reading → ℕ
-reading_cost history PassedOver = 0
-reading_cost history Unreadable = 0
-reading_cost history (Says l) = line_cost history l
+abbrev pub command_cost : List Record → Command → ℕ
+command_cost history PassedOver = 0
+command_cost history TooLong = 0
+command_cost history Unreadable = 0
+command_cost history (Says l) = line_cost history l
+command_cost history (Faulty at) = 0
 
 -- where the machine isn't there yet, it is made by running the history again
 abbrev pub machine_cost : Bool → List Record → ℕ
 machine_cost is_there history = if is_there then 0 else rebuild_cost history
 
--- A line, where the machine is there or isn't yet. A refused line costs nothing.
-abbrev pub cost : Bool → List Record → Reading → ℕ
-cost is_there history reading =
-    if needs_machine history reading then machine_cost is_there history + reading_cost history reading else 0
+-- A command, where the machine is there or isn't yet. A refused one costs nothing.
+abbrev pub cost : Bool → List Record → Command → ℕ
+cost is_there history command =
+    if needs_machine history command then machine_cost is_there history + command_cost history command else 0
 
--- lines that follow one another
-abbrev pub total_cost : Bool → List Record → List Reading → ℕ
+-- commands that follow one another
+abbrev pub total_cost : Bool → List Record → List Command → ℕ
 total_cost is_there history [] = 0
-total_cost is_there history (reading ∷ readings) =
-    cost is_there history reading + total_cost (is_there || needs_machine history reading) (history_after history reading) readings
+total_cost is_there history (command ∷ commands) =
+    cost is_there history command + total_cost (is_there || needs_machine history command) (history_after history command) commands

@@ -3,11 +3,8 @@ pub mod Status
 pub mod Running
 pub mod Answers
 pub mod Cost
-pub mod Lines
 pub mod Transcript
 pub mod Words
-pub mod Sizes
-pub mod Reader
 pub mod Answering
 pub mod CutOff
 pub mod Carrying

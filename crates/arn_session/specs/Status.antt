@@ -2,6 +2,8 @@
 use Rattle.std.specs.Prelude.{ℕ}
 use Rattle.arn_base.specs.declared.errors.Stop.{Stop}
 use Rattle.arn_base.specs.declared.errors.Stop.TheVariants as stop
+use Rattle.arn_commands.specs.declared.error.ReadError.{ReadError}
+use Rattle.arn_commands.specs.declared.error.ReadError.TheVariants as read
 use Rattle.log_store.specs.declared.errors.CommitError.{CommitError}
 use Rattle.log_store.specs.declared.errors.CommitError.TheVariants as commit
 use Rattle.log_store.specs.declared.errors.OpenError.{OpenError}
@@ -48,6 +50,12 @@ open_status_of opening.NoMemory = status.NoMemory
 abbrev pub halt_of : Stop → Halt
 halt_of stop.Failed = halt.Sink
 halt_of stop.NoMemory = halt.NoMemory
+
+-- what ends a session whose next command isn't read
+abbrev pub read_halt_of : ReadError → Halt
+read_halt_of read.Source = halt.Source
+read_halt_of read.Long = halt.Long
+read_halt_of read.NoMemory = halt.NoMemory
 
 -- what ends a session whose commit doesn't succeed
 abbrev pub commit_halt_of : CommitError → Halt

@@ -3,7 +3,7 @@ use guest_machine::Machine;
 use log_store::Store;
 use std::alloc::Global;
 
-/// The log of a history, and the machine to which its records lead, once a line has needed it.
+/// The log of a history, and the machine to which its records lead, once a command has needed it.
 #[derive(Drop)]
 pub struct Kept {
     pub alloc: Global,

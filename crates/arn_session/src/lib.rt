@@ -1,4 +1,4 @@
-//! The session: reads lines from a source, answers each to a sink, and keeps the history in a log.
+//! The session: reads commands from a source, answers each to a sink, and keeps the history in a log.
 #![tactic(auto)]
 
 mod asking;
@@ -7,7 +7,6 @@ mod events;
 mod kept;
 mod lines;
 mod printing;
-mod reader;
 mod ready;
 mod refusals;
 mod running;

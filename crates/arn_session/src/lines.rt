@@ -1,15 +1,16 @@
 // What lines do.
-ghost use Rattle.std.specs.Prelude.{◌≡◌, ◌+◌, ◌≤◌, [], None, true, OnOk, IfErr, IsErrOf};
+ghost use Rattle.std.specs.Prelude.{◌≡◌, ◌⊎◌, ◌+◌, ◌≤◌, [], None, true, OnOk, IfErr, IsErrOf};
+ghost use Rattle.log_model.specs.Records.{IsRun};
 ghost use Rattle.arn_base.specs.Faults.{NeverFalls};
 ghost use Rattle.guest_machine.specs.declared.differs.Differs.{Differs};
 ghost use Rattle.log_store.specs.Stops.{GoesOn};
 ghost use Rattle.arn_session.specs.Answering.{standpoint_after, MadeOnRun};
 ghost use Rattle.arn_session.specs.Answers.{effects, line_effects, needs_machine, refusal_of};
 ghost use Rattle.arn_session.specs.Carrying.{StopsAt};
-ghost use Rattle.arn_session.specs.Cost.{cost, line_cost};
+ghost use Rattle.arn_session.specs.Cost.{cost, line_cost, machine_cost};
 ghost use Rattle.arn_session.specs.Kept.{IsReady, IsSound, standpoint_of};
 ghost use Rattle.arn_session.specs.Ready.{BlamesRecords};
-ghost use Rattle.arn_session.specs.Sizes.{Fits, LineFits};
+ghost use Rattle.arn_commands.specs.Sizes.{Fits, LineFits};
 ghost use Rattle.arn_session.specs.Standing.{Carries, IsCause, IsLineCause, IsOpen};
 
 use crate::asking::back;
@@ -17,20 +18,21 @@ use crate::events::{add_file, boot, type_in};
 use crate::kept::Kept;
 use crate::printing::print_refusal;
 use crate::ready::take_machine;
-use crate::refusals::refusal_of;
+use crate::refusals::{fault_refusal, refusal_of};
 use crate::running::run;
 use crate::status::Halt;
 use arn_base::{Disk, Sink, Steps};
-use arn_lines::{Line, Reading, Refusal};
+use arn_commands::Command;
+use arn_lines::{Line, Refusal};
 use guest_machine::Machine;
 use log_store::Store;
 use std::alloc::Global;
 use std::sync::ledger::Ledger;
 
-/// Does what a line that reads so says: commits what it adds to the history, and prints its answer.
+/// Does what a command asks for: commits what it adds to the history, and prints its answer.
 pub fn answer<D: Disk, K: Sink, L: Ledger>(
     kept: &mut Kept,
-    reading: Reading,
+    command: Command,
     disk: &mut D,
     text: &mut String,
     sink: &mut K,
@@ -38,35 +40,46 @@ pub fn answer<D: Disk, K: Sink, L: Ledger>(
 ) -> Result<(), Halt>
     requires open { IsOpen D.image kept.old.store disk.old }
     requires sound { IsSound kept.old }
-    requires fits { Fits reading }
+    requires fits { Fits command }
     ensures sound { OnOk result (IsSound kept.new) }
     ensures gained { OnOk result
-        (standpoint_of kept.new ≡ standpoint_after (standpoint_of kept.old) reading) }
+        (standpoint_of kept.new ≡ standpoint_after (standpoint_of kept.old) command) }
     ensures made { OnOk result (MadeOnRun (standpoint_of kept.old) (standpoint_of kept.new)) }
     ensures carries { OnOk result (
         Carries D.image D.may_leave D.moment D.left_since disk.old disk.new
         kept.old.store kept.new.store (K.holds sink.old) (K.holds sink.new)
-        (effects kept.old.store.entries reading)) }
+        (effects kept.old.store.entries command)) }
     ensures stops { IfErr result (λ halt.
         StopsAt D.image D.may_leave D.moment D.left_since disk.old disk.new
         kept.old.store.entries (K.holds sink.old) (K.holds sink.new) halt []
-        (effects kept.old.store.entries reading)) }
+        (effects kept.old.store.entries command)) }
     ensures cause { IfErr result (λ halt. IsLineCause halt
         (D.faults disk.old) (D.faults disk.new) (K.faults sink.old) (K.faults sink.new)) }
     ensures later { GoesOn D.image D.faults disk.old disk.new }
     ensures faults { NeverFalls (K.faults sink.old) (K.faults sink.new) }
     ensures blames { IfErr result (λ halt. BlamesRecords halt (standpoint_of kept.old)) }
     ensures needs { (d : Differs) → IsErrOf result (Halt.Differs d) →
-        needs_machine kept.old.store.entries reading ≡ true }
+        needs_machine kept.old.store.entries command ≡ true }
     ensures undone { (d : Differs) → IsErrOf result (Halt.Differs d) → (disk.new ≡ disk.old) ×
         (K.holds sink.new ≡ K.holds sink.old) }
+    ensures on_run { IfErr result (λ halt. needs_machine kept.old.store.entries command ≡ true →
+        IsRun kept.old.store.entries ⊎
+        StopsAt D.image D.may_leave D.moment D.left_since disk.old disk.new
+        kept.old.store.entries (K.holds sink.old) (K.holds sink.new) halt [] []) }
+    ensures found { (d : Differs) → IsErrOf result (Halt.Differs d) → steps.new ≤ steps.old +
+        machine_cost (standpoint_of kept.old).is_there kept.old.store.entries }
     ensures steps { steps.new ≤ steps.old + cost (standpoint_of kept.old).is_there
-        kept.old.store.entries reading }
+        kept.old.store.entries command }
 {
-    match reading {
-        Reading::PassedOver => Ok(()),
-        Reading::Unreadable => print_refusal(text, Refusal::NoLine, sink),
-        Reading::Says { line } => answer_line(kept, line, disk, text, sink, steps),
+    match command {
+        Command::PassedOver => Ok(()),
+        Command::TooLong => print_refusal(text, Refusal::NoLong, sink),
+        Command::Unreadable => print_refusal(text, Refusal::NoLine, sink),
+        Command::Says { line } => answer_line(kept, line, disk, text, sink, steps),
+        Command::Faulty { at } => {
+            let why = fault_refusal(kept.store.entries(), at);
+            print_refusal(text, why, sink)
+        }
     }
 }
 
@@ -84,27 +97,33 @@ fn answer_line<D: Disk, K: Sink, L: Ledger>(
     requires fits { LineFits line }
     ensures sound { OnOk result (IsSound kept.new) }
     ensures gained { OnOk result
-        (standpoint_of kept.new ≡ standpoint_after (standpoint_of kept.old) (Reading.Says line)) }
+        (standpoint_of kept.new ≡ standpoint_after (standpoint_of kept.old) (Command.Says line)) }
     ensures made { OnOk result (MadeOnRun (standpoint_of kept.old) (standpoint_of kept.new)) }
     ensures carries { OnOk result (
         Carries D.image D.may_leave D.moment D.left_since disk.old disk.new
         kept.old.store kept.new.store (K.holds sink.old) (K.holds sink.new)
-        (effects kept.old.store.entries (Reading.Says line))) }
+        (effects kept.old.store.entries (Command.Says line))) }
     ensures stops { IfErr result (λ halt.
         StopsAt D.image D.may_leave D.moment D.left_since disk.old disk.new
         kept.old.store.entries (K.holds sink.old) (K.holds sink.new) halt []
-        (effects kept.old.store.entries (Reading.Says line))) }
+        (effects kept.old.store.entries (Command.Says line))) }
     ensures cause { IfErr result (λ halt. IsLineCause halt
         (D.faults disk.old) (D.faults disk.new) (K.faults sink.old) (K.faults sink.new)) }
     ensures later { GoesOn D.image D.faults disk.old disk.new }
     ensures faults { NeverFalls (K.faults sink.old) (K.faults sink.new) }
     ensures blames { IfErr result (λ halt. BlamesRecords halt (standpoint_of kept.old)) }
     ensures needs { (d : Differs) → IsErrOf result (Halt.Differs d) →
-        needs_machine kept.old.store.entries (Reading.Says line) ≡ true }
+        needs_machine kept.old.store.entries (Command.Says line) ≡ true }
     ensures undone { (d : Differs) → IsErrOf result (Halt.Differs d) → (disk.new ≡ disk.old) ×
         (K.holds sink.new ≡ K.holds sink.old) }
+    ensures on_run { IfErr result (λ halt. needs_machine kept.old.store.entries (Command.Says line) ≡ true →
+        IsRun kept.old.store.entries ⊎
+        StopsAt D.image D.may_leave D.moment D.left_since disk.old disk.new
+        kept.old.store.entries (K.holds sink.old) (K.holds sink.new) halt [] []) }
+    ensures found { (d : Differs) → IsErrOf result (Halt.Differs d) → steps.new ≤ steps.old +
+        machine_cost (standpoint_of kept.old).is_there kept.old.store.entries }
     ensures steps { steps.new ≤ steps.old + cost (standpoint_of kept.old).is_there
-        kept.old.store.entries (Reading.Says line) }
+        kept.old.store.entries (Command.Says line) }
 {
     if let Some(why) = refusal_of(kept.store.entries(), &line) {
         return print_refusal(text, why, sink);

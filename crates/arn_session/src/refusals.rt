@@ -1,6 +1,6 @@
 // Why lines are refused.
 ghost use Rattle.std.specs.Prelude.{◌≡◌, option_map};
-ghost use Rattle.arn_session.specs.Answers.{refusal_of as refusal_by, file_refusal, refused_if};
+ghost use Rattle.arn_session.specs.Answers.{refusal_of as refusal_by, fault_refusal as fault_refusal_by, file_refusal, refused_if};
 ghost use Rattle.history_facts.specs.Facts.{file_by};
 
 use arn_base::Record;
@@ -14,17 +14,19 @@ pub fn refusal_of(entries: &[Record], line: &Line) -> Option<Refusal>
     ensures { result ≡ refusal_by entries.now line.now }
 {
     match line {
-        Line::File { name, .. } => refused_if(
-            is_booted(entries) || !is_free(entries, name.as_slice()),
-            Refusal::NoLine,
-        ),
+        Line::File { name, .. } => {
+            if is_booted(entries) {
+                return Some(Refusal::NoBooted);
+            }
+            refused_if(!is_free(entries, name.as_slice()), Refusal::NoName)
+        }
         Line::Boot { name } => {
             if is_booted(entries) {
-                return Some(Refusal::NoLine);
+                return Some(Refusal::NoBooted);
             }
             file_refusal(find_file(entries, name.as_slice()))
         }
-        Line::Type { .. } | Line::Run { .. } => refused_if(!is_booted(entries), Refusal::NoLine),
+        Line::Type { .. } | Line::Run { .. } => refused_if(!is_booted(entries), Refusal::NoBoot),
         Line::Back {
             event,
             from,
@@ -39,6 +41,17 @@ pub fn refusal_of(entries: &[Record], line: &Line) -> Option<Refusal>
     }
 }
 
+/// Why a block is refused whose program has a fault on this line.
+pub fn fault_refusal(entries: &[Record], at: u64) -> Refusal
+    ensures { result ≡ fault_refusal_by entries.now at }
+{
+    if is_booted(entries) {
+        Refusal::NoBooted
+    } else {
+        Refusal::NoAsm { line: at }
+    }
+}
+
 fn refused_if(refused: bool, why: Refusal) -> Option<Refusal>
     ensures { result ≡ refused_if refused why }
 {
@@ -50,7 +63,7 @@ fn file_refusal(file: Option<&[u8]>) -> Option<Refusal>
     ensures { result ≡ file_refusal (option_map (λ bytes. bytes.now) file.entry) }
 {
     let Some(bytes) = file else {
-        return Some(Refusal::NoLine);
+        return Some(Refusal::NoName);
     };
     refused_if(parse(bytes).is_err(), Refusal::NoImage)
 }

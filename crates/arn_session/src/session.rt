@@ -1,4 +1,4 @@
-// The top call: reads a source to its end, and answers each line to a sink.
+// The top call: reads a source to its end, and answers each command of its text to a sink.
 ghost use Rattle.std.specs.Prelude.{◌≡◌, ◌≢◌, ◌⊎◌, ◌↔◌, ◌<◌, ◌≤◌, ◌^◌, [], ℕ, List, length, drop, OnOk, IfErr, IsErrOf, IfSome, Some};
 ghost use Rattle.arn_base.specs.declared.records.Record.{Record};
 ghost use Rattle.arn_base.specs.Faults.{Rose, NeverFalls};
@@ -8,11 +8,11 @@ ghost use Rattle.log_store.specs.Stops.{GoesOn, IsOnlyRead, LeavesOnly};
 ghost use Rattle.log_store.specs.Refused.{IsNoLog};
 ghost use Rattle.log_store.specs.declared.errors.OpenError.{OpenError};
 ghost use Rattle.log_store.specs.declared.size.TheConstants.{MOST_LOG};
-ghost use Rattle.arn_session.specs.Answering.{standpoint_first, AnswersLine, BeginsLine, FindsLine, LeavesLine, TookFewer, TookAtMost};
+ghost use Rattle.arn_commands.specs.Parts.{text_parts, whole_parts};
+ghost use Rattle.arn_session.specs.Answering.{standpoint_first, TookFewer, TookAtMost};
 ghost use Rattle.arn_session.specs.Carrying.{CarriesOut, StopsAt, HoldsLog, HoldsMore, IsAtRest, RestsMore};
 ghost use Rattle.arn_session.specs.CutOff.{BeginsText, FindsOut};
 ghost use Rattle.arn_session.specs.Kept.{IsSound, standpoint_of};
-ghost use Rattle.arn_session.specs.Lines.{lines_of, whole_lines_of};
 ghost use Rattle.arn_session.specs.Opening.{FailsToOpen, IsOpened, NeverBegan};
 ghost use Rattle.arn_session.specs.Ready.{BlamesRecords, IsNoRun};
 ghost use Rattle.arn_session.specs.Standing.{IsLineCause, IsOpen};
@@ -22,52 +22,15 @@ ghost use Rattle.arn_session.specs.Words.{AreAccepted};
 
 use crate::kept::Kept;
 use crate::lines::answer;
-use crate::reader::Reader;
 use crate::status::{Damage, Halt, Status};
 use crate::words::are_accepted;
 use arn_base::{Chooser, Device, Disk, Sink, Source, Steps};
-use arn_lines::read_line;
+use arn_commands::{Commands, Next};
 use log_store::{Store, logs_read_one_way};
 use std::alloc::Global;
 use std::sync::ledger::Ledger;
 
-/// Answers a line; `line` is what is kept of it.
-fn answer_text<D: Disk, K: Sink, L: Ledger>(
-    line: &[u8],
-    kept: &mut Kept,
-    disk: &mut D,
-    text: &mut String,
-    sink: &mut K,
-    steps: &mut Steps<L>,
-) -> Result<(), Halt>
-    requires open { IsOpen D.image kept.old.store disk.old }
-    requires sound { IsSound kept.old }
-    ensures open { OnOk result (IsOpen D.image kept.new.store disk.new) }
-    ensures sound { OnOk result (IsSound kept.new) }
-    ensures ok { OnOk result (AnswersLine line.now (standpoint_of kept.old) (standpoint_of kept.new)
-        (CarriesOut D.image D.may_leave D.moment D.left_since disk.old disk.new
-        kept.old.store.entries (K.holds sink.old) (K.holds sink.new)) steps.old steps.new) }
-    ensures stops { IfErr result (λ halt.
-        LeavesLine (StopsAt D.image D.may_leave D.moment D.left_since disk.old disk.new
-        kept.old.store.entries (K.holds sink.old) (K.holds sink.new) halt []) steps.old steps.new ⊎
-        BeginsLine line.now (standpoint_of kept.old)
-        (StopsAt D.image D.may_leave D.moment D.left_since disk.old disk.new
-        kept.old.store.entries (K.holds sink.old) (K.holds sink.new) halt []) steps.old steps.new) }
-    ensures blames { IfErr result (λ halt. BlamesRecords halt (standpoint_of kept.old)) }
-    ensures finds { (d : Differs) → IsErrOf result (Halt.Differs d) →
-        FindsLine line.now (standpoint_of kept.old)
-        (CarriesOut D.image D.may_leave D.moment D.left_since disk.old disk.new
-        kept.old.store.entries (K.holds sink.old) (K.holds sink.new)) steps.old steps.new }
-    ensures cause { IfErr result (λ halt. IsLineCause halt
-        (D.faults disk.old) (D.faults disk.new) (K.faults sink.old) (K.faults sink.new)) }
-    ensures later { GoesOn D.image D.faults disk.old disk.new }
-    ensures faults { NeverFalls (K.faults sink.old) (K.faults sink.new) }
-{
-    let reading = read_line(kept.alloc, line)?;
-    answer(kept, reading, disk, text, sink, steps)
-}
-
-/// Reads the source to its end, and answers each line on the history of a log.
+/// Reads the source to its end, and does what each command of its text asks for on the history of a log.
 fn session<S: Source, K: Sink, D: Disk, L: Ledger>(
     alloc: Global,
     store: Store,
@@ -81,7 +44,7 @@ fn session<S: Source, K: Sink, D: Disk, L: Ledger>(
     ensures read { OnOk result
         (IfSome (S.left source.old) (λ text. S.left source.new ≡ Some [])) }
     ensures answered { OnOk result (IfSome (S.left source.old) (λ text.
-        Answers store.entries (lines_of text)
+        Answers store.entries (text_parts text)
         (CarriesOut D.image D.may_leave D.moment D.left_since disk.old disk.new
         store.entries (K.holds sink.old) (K.holds sink.new)) steps.old steps.new)) }
     ensures short { OnOk result
@@ -102,7 +65,7 @@ fn session<S: Source, K: Sink, D: Disk, L: Ledger>(
     ensures long { IsErrOf result Halt.Long → IfSome (S.left source.old) (λ text.
         (2 ^ 40 ≤ length text) × (S.left source.new ≡ Some (drop (2 ^ 40) text))) }
     ensures taken { IsErrOf result Halt.Source ⊎ IsErrOf result Halt.Long →
-        AnswersTaken store.entries (S.left source.old) (S.left source.new) whole_lines_of
+        AnswersTaken store.entries (S.left source.old) (S.left source.new) whole_parts
         (CarriesOut D.image D.may_leave D.moment D.left_since disk.old disk.new
         store.entries (K.holds sink.old) (K.holds sink.new)) steps.old steps.new }
     ensures at_most { TookAtMost (2 ^ 40) (S.left source.old) (S.left source.new) }
@@ -122,25 +85,26 @@ fn session<S: Source, K: Sink, D: Disk, L: Ledger>(
     ensures disk { IsErrOf result Halt.Disk → Rose (D.faults disk.old) (D.faults disk.new) }
     ensures later { GoesOn D.image D.faults disk.old disk.new }
 {
-    let mut reader = Reader::new(alloc)?;
+    let mut commands = Commands::new(alloc)?;
     let mut kept = Kept {
         alloc,
         store,
         machine: None,
     };
     let mut text = String::new(alloc);
-    let mut line = Vec::new(alloc);
-    while reader.next_line(source, &mut line)? {
-        answer_text(line.as_slice(), &mut kept, disk, &mut text, sink, steps)?;
+    loop {
+        match commands.next(source)? {
+            Next::More { command } => answer(&mut kept, command, disk, &mut text, sink, steps)?,
+            Next::Last { command } => {
+                return answer(&mut kept, command, disk, &mut text, sink, steps);
+            }
+            Next::End => return Ok(()),
+        }
     }
-    if line.is_empty() {
-        return Ok(());
-    }
-    answer_text(line.as_slice(), &mut kept, disk, &mut text, sink, steps)
 }
 
-/// Does all that the program does: opens the log, reads the source line by line, commits what each
-/// line adds to the history, and answers it to the sink.
+/// Does all that the program does: opens the log, reads the source command by command, commits what
+/// each adds to the history, and answers it to the sink.
 ///
 /// A session takes at most 2^40 bytes of the source. It needs no chooser and no devices as yet.
 pub fn arnold<S: Source, K: Sink, D: Disk, L: Ledger>(
@@ -159,12 +123,12 @@ pub fn arnold<S: Source, K: Sink, D: Disk, L: Ledger>(
         NeverBegan source.old source.new sink.old sink.new steps.old steps.new }
     ensures undisturbed { result ≡ Status.Usage → disk.new ≡ disk.old }
 
-    // A told source was read to its end, and every line of it was answered.
+    // A told source was read to its end, and every line and block of it was answered.
     ensures read { result ≡ Status.Done →
         IfSome (S.left source.old) (λ text. S.left source.new ≡ Some []) }
     ensures answered { result ≡ Status.Done → (history : List Record) →
         HoldsLog D.image disk.old history → IfSome (S.left source.old) (λ text.
-        Answers history (lines_of text)
+        Answers history (text_parts text)
         (CarriesOut D.image D.may_leave D.moment D.left_since disk.old disk.new
         history (K.holds sink.old) (K.holds sink.new)) steps.old steps.new) }
     ensures short { result ≡ Status.Done →
@@ -201,8 +165,8 @@ pub fn arnold<S: Source, K: Sink, D: Disk, L: Ledger>(
         history (K.holds sink.old) (K.holds sink.new) (Halt.Full log payload))
         steps.old steps.new) }
 
-    // Memory ran out, perhaps in the opening. The first lines were answered, and the answer to one
-    // more may have begun.
+    // Memory ran out, perhaps in the opening. The first lines and blocks were answered, and the answer
+    // to one more may have begun.
     ensures begun { result ≡ Status.NoMemory → (history : List Record) →
         HoldsLog D.image disk.old history →
         FailsToOpen D.image D.may_leave D.moment D.left_since disk.old disk.new history
@@ -235,10 +199,11 @@ pub fn arnold<S: Source, K: Sink, D: Disk, L: Ledger>(
     ensures long { result ≡ Status.Long → IfSome (S.left source.old) (λ text.
         (2 ^ 40 ≤ length text) × (S.left source.new ≡ Some (drop (2 ^ 40) text))) }
 
-    // Every line that was taken with its LF was answered, and nothing else.
+    // Every line that was taken with its LF was answered, and nothing else: no block whose `end`
+    // wasn't taken so.
     ensures taken { (result ≡ Status.Source) ⊎ (result ≡ Status.Long) →
         (history : List Record) → HoldsLog D.image disk.old history →
-        AnswersTaken history (S.left source.old) (S.left source.new) whole_lines_of
+        AnswersTaken history (S.left source.old) (S.left source.new) whole_parts
         (CarriesOut D.image D.may_leave D.moment D.left_since disk.old disk.new
         history (K.holds sink.old) (K.holds sink.new)) steps.old steps.new }
 

@@ -3,6 +3,7 @@ ghost use Rattle.std.specs.Prelude.{◌≡◌};
 ghost use Rattle.arn_session.specs.Status.{code_of, status_of};
 
 use arn_base::{NoMemory, Stop};
+use arn_commands::ReadError;
 use guest_machine::{Differs, RebuildError};
 use log_store::{CommitError, OpenError};
 use std::alloc::{AllocError, AllocFailed};
@@ -142,6 +143,21 @@ impl From<Stop> for Halt {
         match stop {
             Stop::Failed => Halt::Sink,
             Stop::NoMemory => Halt::NoMemory,
+        }
+    }
+}
+
+impl From<ReadError> for Halt {
+    ghost use Rattle.arn_session.specs.Status.{read_halt_of};
+    ghost use Rattle.std.specs.Prelude.{◌≡◌};
+
+    ghost from_gives = { λ error halt. halt ≡ read_halt_of error };
+
+    fn from(error: ReadError) -> Halt {
+        match error {
+            ReadError::Source => Halt::Source,
+            ReadError::Long => Halt::Long,
+            ReadError::NoMemory => Halt::NoMemory,
         }
     }
 }

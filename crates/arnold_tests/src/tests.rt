@@ -9,22 +9,24 @@ use std::fs;
 use std::process::Abort;
 use std::test::Fail;
 
-/// A line, without its LF, and what is printed for it.
+/// A line or a block, without its last LF, and what is printed for it.
 type Exchange = (&'static str, &'static str);
 
-/// A session in which lines are refused, a machine stalls, goes on, spends a budget and ends, and
-/// queries ask about each of its events.
+/// A session in which lines and blocks are refused, a machine stalls, goes on, spends a budget and
+/// ends, and queries ask about each of its events.
 ///
 /// The program in `good` reads three bytes from the console, writes them to it and exits.
 const EXCHANGES: &[Exchange] = &[
     ("# nothing is booted yet", ""),
     ("", ""),
-    ("run 5", "no line\n"),
+    ("run 5", "no boot\n"),
     ("back copy event 0 0 0", "no point\n"),
-    ("type 61", "no line\n"),
-    ("boot bad", "no line\n"),
+    ("type 61", "no boot\n"),
+    ("boot bad", "no name\n"),
     ("file bad 00", "event 0\n"),
-    ("file bad 00", "no line\n"),
+    ("file bad 00", "no name\n"),
+    ("asm bad\n ecall\nend", "no name\n"),
+    ("asm bad\n ecall\nfile good 00\nend", "no asm 2\n"),
     ("boot bad", "no image\n"),
     ("hello", "no line\n"),
     (
@@ -33,8 +35,9 @@ const EXCHANGES: &[Exchange] = &[
         "event 1\n",
     ),
     ("boot good", "event 2\n"),
-    ("boot good", "no line\n"),
-    ("file other 00", "no line\n"),
+    ("boot good", "no booted\n"),
+    ("file other 00", "no booted\n"),
+    ("asm other\n bogus\nend", "no booted\n"),
     ("run 0", "ran 0 budget\n"),
     ("run 100", "ran 4 stalled\n"),
     ("type 616263", "event 3\n"),
@@ -138,10 +141,80 @@ const OVERWRITTEN: &str = "\
     boot p\n\
     run 9\n";
 
+/// Reads three bytes, adds one to each, writes them and exits.
+const INCREMENT: &str = "\
+    asm p\n\
+    li a7, 11; li a0, 0; addi a1, sp, -16; li a2, 3; ecall\n\
+    lbu t0, 0(a1); addi t0, t0, 1; sb t0, 0(a1)\n\
+    lbu t0, 1(a1); addi t0, t0, 1; sb t0, 1(a1)\n\
+    lbu t0, 2(a1); addi t0, t0, 1; sb t0, 2(a1)\n\
+    li a7, 12; li a0, 1; ecall; li a7, 1; li a0, 0; ecall\n\
+    end\n\
+    boot p\n\
+    type 616263\n\
+    run 100\n\
+    back copy event 4 0 3\n";
+
+/// Reads a number, and writes the byte of a table that stands in this place.
+const LOOK_UP: &str = "\
+    asm p\n\
+    li a7, 11; li a0, 0; addi a1, sp, -16; li a2, 1; ecall\n\
+    lbu t0, 0(a1); la t1, table; add t1, t1, t0; lbu t0, 0(t1); sb t0, 0(a1)\n\
+    li a7, 12; li a0, 1; ecall; li a7, 1; li a0, 0; ecall\n\
+    table:\n\
+    .byte 10, 20, 30, 40\n\
+    end\n\
+    boot p\n\
+    type 02\n\
+    run 100\n\
+    back copy event 4 0 1\n";
+
+/// Reads a byte, and writes it with its sign as eight bytes.
+const EXTEND: &str = "\
+    asm p\n\
+    li a7, 11; li a0, 0; addi a1, sp, -16; li a2, 1; ecall\n\
+    lb t0, 0(a1); sd t0, -8(a1)\n\
+    li a7, 12; li a0, 1; addi a1, a1, -8; li a2, 8; ecall\n\
+    li a7, 1; li a0, 0; ecall\n\
+    end\n\
+    boot p\n\
+    type 80\n\
+    run 100\n\
+    back copy event 4 0 8\n";
+
+/// Sessions with blocks, and what is printed for them.
+const BLOCKS: &[(&str, &str)] = &[
+    (
+        INCREMENT,
+        "event 0\nevent 1\nevent 2\nout 4 1 626364\nran 20 done\n\
+        back pairs 0 instructions 20 groups 1\n",
+    ),
+    (
+        LOOK_UP,
+        "event 0\nevent 1\nevent 2\nout 4 1 1e\nran 17 done\n\
+        pair 0 94 0\nback pairs 1 instructions 17 groups 1\n",
+    ),
+    (
+        EXTEND,
+        "event 0\nevent 1\nevent 2\nout 4 1 80ffffffffffffff\nran 15 done\n\
+        pair 2 0 0\nback pairs 1 instructions 15 groups 1\n",
+    ),
+    (
+        "run 5\nboot p\nfile p 00\nboot p\nfile p 00\nasm q\n bogus\nend\nhello\n",
+        "no boot\nno name\nevent 0\nno image\nno name\nno asm 1\nno line\n",
+    ),
+    (
+        "asm p\necall\nend\nboot p\n\
+        boot p\nfile q 00\nasm q\necall\nend\nasm q\n bogus\nend\nhello\n",
+        "event 0\nevent 1\nno booted\nno booted\nno booted\nno booted\nno line\n",
+    ),
+    ("asm p\nli a0, 0\necall\n", "no asm 3\n"),
+];
+
 /// How many bytes a failing source gives at once, so that it is called often.
 const PIECE: usize = 7;
 
-/// All the lines, each with its LF.
+/// All the lines and blocks, each with its last LF.
 fn text_of(alloc: Global, exchanges: &[Exchange]) -> Result<String, NoMemory> {
     let mut text = String::new(alloc);
     for (line, _) in exchanges {
@@ -151,7 +224,7 @@ fn text_of(alloc: Global, exchanges: &[Exchange]) -> Result<String, NoMemory> {
     Ok(text)
 }
 
-/// What is printed for the lines that lie with their LF in so many bytes of the text.
+/// What is printed for the lines and blocks that lie with their last LF in so many bytes of the text.
 fn printed_within(alloc: Global, exchanges: &[Exchange], len: usize) -> Result<String, NoMemory> {
     let mut printed = String::new(alloc);
     let mut left = len;
@@ -163,6 +236,28 @@ fn printed_within(alloc: Global, exchanges: &[Exchange], len: usize) -> Result<S
         printed.push_str(answer)?;
     }
     Ok(printed)
+}
+
+/// This is printed for the text, whatever pieces the source gives it in.
+fn assert_prints(rt: &(impl Abort + AllocGlobal), text: &str, want: &str) -> Result<(), Fail> {
+    for piece in [1, 2, 3, 7, 4_096] {
+        let script = Script {
+            piece,
+            ..Script::of(text.as_bytes())
+        };
+        let ended = run(rt.alloc(), &["log"], &script)?;
+        assert_eq!(rt;
+            ended.status,
+            Status::Done,
+            "at {text} in pieces of {piece}"
+        );
+        assert_eq!(rt;
+            ended.sink.bytes(),
+            want.as_bytes(),
+            "at {text} in pieces of {piece}"
+        );
+    }
+    Ok(())
 }
 
 #[test]
@@ -197,31 +292,59 @@ fn prints_the_answer_to_each_line(rt: HostRuntime) -> Result<(), Fail> {
             no line\nno line\n",
         ),
     ] {
-        for piece in [1, 2, 3, 7, 4_096] {
-            let script = Script {
-                piece,
-                ..Script::of(text.as_bytes())
-            };
-            let ended = run(alloc, &["log"], &script)?;
-            assert_eq!(rt;
-                ended.status,
-                Status::Done,
-                "at {text} in pieces of {piece}"
-            );
-            assert_eq!(rt;
-                ended.sink.bytes(),
-                want.as_bytes(),
-                "at {text} in pieces of {piece}"
-            );
-        }
+        assert_prints(&rt, text, want)?;
     }
     Ok(())
 }
 
-/// The last line needs no LF.
+#[test]
+fn prints_the_answer_to_each_block(rt: HostRuntime) -> Result<(), Fail> {
+    for (text, want) in BLOCKS {
+        assert_prints(&rt, text, want)?;
+    }
+    Ok(())
+}
+
+/// A text, a line of so many bytes that says nothing, and another text.
+fn with_long_line(
+    alloc: Global,
+    before: &str,
+    len: usize,
+    after: &str,
+) -> Result<String, NoMemory> {
+    let mut text = String::from_str(alloc, before)?;
+    for _ in 0..len {
+        text.push('x')?;
+    }
+    text.push_str(after)?;
+    Ok(text)
+}
+
+#[test]
+fn tells_lines_that_are_too_long(rt: HostRuntime) -> Result<(), Fail> {
+    let alloc = rt.alloc();
+    for (before, len, after, want) in [
+        ("", 1_048_576, "\n", "no line\n"),
+        ("", 1_048_577, "\n", "no long\n"),
+        ("asm p\necall\n", 1_048_577, "\nend\n", "no asm 2\n"),
+    ] {
+        let text = with_long_line(alloc, before, len, after)?;
+        let ended = run(alloc, &["log"], &Script::of(text.as_bytes()))?;
+        assert_eq!(rt; ended.status, Status::Done, "at {len} bytes");
+        assert_eq!(rt; ended.sink.bytes(), want.as_bytes(), "at {len} bytes");
+    }
+    Ok(())
+}
+
+/// The last line needs no LF, be it the `end` of a block.
 #[test]
 fn answers_an_unfinished_line(rt: HostRuntime) -> Result<(), Fail> {
-    for (text, want) in [("hello", "no line\n"), ("\nfile p 00", "event 0\n")] {
+    for (text, want) in [
+        ("hello", "no line\n"),
+        ("\nfile p 00", "event 0\n"),
+        ("asm p\necall\nend", "event 0\n"),
+        ("asm p\necall", "no asm 2\n"),
+    ] {
         let ended = run(rt.alloc(), &["log"], &Script::of(text.as_bytes()))?;
         assert_eq!(rt; ended.status, Status::Done, "at {text}");
         assert_eq!(rt; ended.sink.bytes(), want.as_bytes(), "at {text}");
@@ -264,6 +387,22 @@ fn answers_what_a_failing_source_gave(rt: HostRuntime) -> Result<(), Fail> {
         assert_eq!(rt; ended.status, Status::Source, "at {call}");
     }
     panic!(rt; "the text has no end")
+}
+
+/// The source gives ten bytes at once: a line with its LF, and then parts of a block.
+#[test]
+fn a_source_fails_within_a_block(rt: HostRuntime) -> Result<(), Fail> {
+    for call in [1, 2, 3] {
+        let script = Script {
+            piece: 10,
+            source_fails: &[call],
+            ..Script::of(b"file q 00\nasm p\nli a0, 0\nend")
+        };
+        let ended = run(rt.alloc(), &["log"], &script)?;
+        assert_eq!(rt; ended.status, Status::Source, "at {call}");
+        assert_eq!(rt; ended.sink.bytes(), b"event 0\n".as_slice(), "at {call}");
+    }
+    Ok(())
 }
 
 #[test]
@@ -442,7 +581,11 @@ fn refuses_records_that_no_run_has(rt: HostRuntime) -> Result<(), Fail> {
             Status::Damaged(OTHER_OUTPUT),
             "no line\n",
         ),
-        ("boot p\nfile p 00\n", Status::Done, "no line\nno line\n"),
+        (
+            "boot p\nfile p 00\n",
+            Status::Done,
+            "no booted\nno booted\n",
+        ),
     ] {
         assert_ends(&rt, &mut disk, text, status, printed)?;
         assert_eq!(rt; disk.bytes(), bytes.as_slice());

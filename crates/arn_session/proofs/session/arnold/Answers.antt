@@ -8,7 +8,7 @@ use Rattle.arn_session.specs.Status.{status_of}
 use Rattle.arn_session.specs.declared.status.Halt.{Halt}
 use Rattle.arn_session.specs.declared.status.Halt.TheVariants as halt
 use Rattle.arn_session.specs.Answering.{standpoint_first}
-use Rattle.arn_session.specs.Lines.{whole_lines_of}
+use Rattle.arn_commands.specs.Parts.{whole_parts}
 use Rattle.arn_session.specs.Ready.{IsNoRun, BlamesRecords}
 use Rattle.arn_session.proofs.CarryLemmas.{CarriesOut-moments}
 use Rattle.arn_session.proofs.FaultLemmas.{Rose-after}
@@ -57,7 +57,7 @@ returns-in-Err-session-clause-opened g c =
 
 pub returns-in-Err-session-clause-taken : goal.returns-in-Err-session-clause-taken
 returns-in-Err-session-clause-taken g c = λ which history log.
-    Taken-opened g.D.Disk.image g.D.Disk.may_leave g.D.Disk.moment g.D.Disk.left_since c.args.disk.now c.open_log.new.disk c.session.new.disk c.in-Ok.store.entries history (g.K.Sink.holds c.args.sink.now) (g.K.Sink.holds c.session.new.sink) (g.S.Source.left c.args.source.now) (g.S.Source.left c.session.new.source) whole_lines_of c.args.steps.now c.session.new.steps
+    Taken-opened g.D.Disk.image g.D.Disk.may_leave g.D.Disk.moment g.D.Disk.left_since c.args.disk.now c.open_log.new.disk c.session.new.disk c.in-Ok.store.entries history (g.K.Sink.holds c.args.sink.now) (g.K.Sink.holds c.session.new.sink) (g.S.Source.left c.args.source.now) (g.S.Source.left c.session.new.source) whole_parts c.args.steps.now c.session.new.steps
     (store-history g.D.Disk.image g.D.Disk.may_leave g.D.Disk.moment g.D.Disk.left_since c.logs_read_one_way.ensures.one c.args.disk.now history c.in-Ok.store log c.in-Ok.ensures.recovered)
     (CarriesOut-open g.D.Disk.image g.D.Disk.may_leave g.D.Disk.moment g.D.Disk.left_since g.met.D.Disk.reads_may_stay g.met.D.Disk.counts_now c.logs_read_one_way.ensures.closed c.args.disk.now c.open_log.new.disk c.in-Ok.store (g.K.Sink.holds c.args.sink.now) c.in-Ok.ensures.later.tells c.in-Ok.ensures.left c.in-Ok.ensures.durable c.in-Ok.ensures.any_moment)
     (c.in-Err-session.ensures.taken (elim which [

@@ -1,25 +1,25 @@
--- Whole lines were read and answered. What is left to read falls.
+-- Whole parts of the text were read and answered. What is left to read falls.
 use Rattle.std.proofs.Common.{◌≤◌, ◌+◌, ◌-◌, length}
 use Rattle.arn_base.specs.Faults.{NeverFalls}
 use Rattle.log_store.specs.Stops.{GoesOn}
-use Rattle.arn_session.specs.declared.reader.TheConstants.{MOST_TAKEN}
+use Rattle.arn_commands.specs.declared.reader.TheConstants.{MOST_TAKEN}
 use Rattle.arn_session.specs.Carrying.{CarriesOut}
 use Rattle.arn_session.specs.Kept.{IsSound, standpoint_of}
 use Rattle.arn_session.specs.Standing.{IsOpen}
 use Rattle.arn_session.proofs.Progress.{Progress}
 use Rattle.arn_session.proofs.session.session.Given as goal
 
-abbrev pub invariant-loop-line : goal.invariant-loop-line
-invariant-loop-line g l =
+abbrev pub invariant-loop-text : goal.invariant-loop-text
+invariant-loop-text g l =
     record {
-      progress : Progress l.initial.kept.store.entries (g.S.Source.left l.initial.source) (g.S.Source.left l.source) (CarriesOut g.D.Disk.image g.D.Disk.may_leave g.D.Disk.moment g.D.Disk.left_since l.initial.disk l.disk l.initial.kept.store.entries (g.K.Sink.holds l.initial.sink) (g.K.Sink.holds l.sink)) l.initial.steps l.steps l.reader (standpoint_of l.kept);
+      progress : Progress l.initial.kept.store.entries (g.S.Source.left l.initial.source) (g.S.Source.left l.source) (CarriesOut g.D.Disk.image g.D.Disk.may_leave g.D.Disk.moment g.D.Disk.left_since l.initial.disk l.disk l.initial.kept.store.entries (g.K.Sink.holds l.initial.sink) (g.K.Sink.holds l.sink)) l.initial.steps l.steps l.commands (standpoint_of l.kept);
       is_open : IsOpen g.D.Disk.image l.kept.store l.disk;
       sound : IsSound l.kept;
-      within : l.reader.taken ≤ MOST_TAKEN;
+      within : l.commands.taken ≤ MOST_TAKEN;
       source : NeverFalls (g.S.Source.faults l.initial.source) (g.S.Source.faults l.source);
       sink : NeverFalls (g.K.Sink.faults l.initial.sink) (g.K.Sink.faults l.sink);
       later : GoesOn g.D.Disk.image g.D.Disk.faults l.initial.disk l.disk;
     }
 
-abbrev pub decreases-loop-line : goal.decreases-loop-line
-decreases-loop-line g l = (MOST_TAKEN + length l.reader.ahead) - l.reader.taken
+abbrev pub decreases-loop-text : goal.decreases-loop-text
+decreases-loop-text g l = (MOST_TAKEN + length l.commands.ahead) - l.commands.taken

@@ -1,0 +1,10 @@
+pub mod ReaderLemmas
+pub mod LineLemmas
+pub mod FaultLemmas
+pub mod SizeLemmas
+pub mod KeptLemmas
+pub mod PartLemmas
+pub mod BlockLemmas
+pub mod ResultLemmas
+pub mod ReadLemmas
+pub mod Examples
