@@ -5,7 +5,7 @@ use Rattle.guest_asm.specs.Assembled.{fault_of, image_of_text}
 use Rattle.arn_commands.specs.declared.command.Command.{Command}
 use Rattle.arn_commands.specs.declared.command.Command.TheVariants.{Says, Faulty}
 use Rattle.arn_commands.specs.Lines.{line_feed, lines_of, whole_lines_of}
-use Rattle.arn_commands.specs.Parts.{Part, Alone, Block, text_parts, whole_parts}
+use Rattle.arn_commands.specs.Parts.{Alone, Block, text_parts, whole_parts}
 use Rattle.arn_commands.specs.Commands.{block_command, faulty_line, no_statement, program_text}
 
 -- lines, each with its LF

@@ -68,6 +68,21 @@ ReadsWholeBlock-end name block command a b c l0 l1 l2 kept p read end asks =
       asks = asks p.lines p.held;
     }
 
+-- no part of it is whole where the block isn't
+unended_none_whole : (name : List ℕ) (block : BlockState) (a b c : ReaderState) (l0 l1 l2 : Option (List ℕ)) (kept : List ℕ) (p : ReadsLines block a b l0 l1) (read : ReadsLine [] b c l1 l2 kept) → filter is_whole (parts_in (Some name) (whole_lines_of (p.bytes ++ (read.line ++ [])))) ≡ []
+unended_none_whole name block a b c l0 l1 l2 kept p read =
+    let are : whole_lines_of (p.bytes ++ (read.line ++ [])) ≡ p.lines =
+    p.whole_lines_are (read.line ++ []) ∙ ap (λ (x : List ℕ). p.lines ++ whole_lines_of x) (append-nil read.line) ∙ ap (λ (x : List (List ℕ)). p.lines ++ x) (whole_lines_of-part read.line read.is_one) ∙ append-nil p.lines in
+    ap (λ (x : List (List ℕ)). filter is_whole (parts_in (Some name) x)) are ∙ ap (filter is_whole) (parts_in-unended name p.lines p.held.none_ends)
+
+-- the reading ended in the block
+pub ReadsNoBlock-part : (name : List ℕ) (block : BlockState) (a b c : ReaderState) (l0 l1 l2 : Option (List ℕ)) (kept : List ℕ) → ReadsLines block a b l0 l1 → ReadsLine [] b c l1 l2 kept → ReadsNoBlock name a c l0 l2
+ReadsNoBlock-part name block a b c l0 l1 l2 kept p read = record {
+  bytes = p.bytes ++ (read.line ++ []);
+  used = Uses-append p.bytes (read.line ++ []) a b c l0 l1 l2 p.used read.used;
+  none_whole = unended_none_whole name block a b c l0 l1 l2 kept p read;
+}
+
 -- the text ended in the block
 pub ReadsLastBlock-end : (name : List ℕ) (block : BlockState) (command : Command) (a b c : ReaderState) (l0 l1 l2 : Option (List ℕ)) (kept : List ℕ) → ReadsLines block a b l0 l1 → ReadsLine [] b c l1 l2 kept → IsAtEnd c l2 → ((lines : List (List ℕ)) (line : List ℕ) → HoldsLines block lines → IsOneLine line → IsKept line kept → IsLastPart (Some name) (lines ++ lines_of line) command) → ReadsLastBlock name command a c l0 l2
 ReadsLastBlock-end name block command a b c l0 l1 l2 kept p read end asks =
@@ -76,23 +91,25 @@ ReadsLastBlock-end name block command a b c l0 l1 l2 kept p read end asks =
       bytes = p.bytes ++ (read.line ++ []);
       used = Uses-append p.bytes (read.line ++ []) a b c l0 l1 l2 p.used read.used;
       last = subst (λ (x : List (List ℕ)). IsLastPart (Some name) x command) (sym are) (asks p.lines read.line p.held read.is_one read.is_kept);
+      none_whole = unended_none_whole name block a b c l0 l1 l2 kept p read;
       at_end = end;
-    }
-
--- the reading ended in the block
-pub ReadsNoBlock-part : (name : List ℕ) (block : BlockState) (a b c : ReaderState) (l0 l1 l2 : Option (List ℕ)) (kept : List ℕ) → ReadsLines block a b l0 l1 → ReadsLine [] b c l1 l2 kept → ReadsNoBlock name a c l0 l2
-ReadsNoBlock-part name block a b c l0 l1 l2 kept p read =
-    let are : whole_lines_of (p.bytes ++ (read.line ++ [])) ≡ p.lines =
-    p.whole_lines_are (read.line ++ []) ∙ ap (λ (x : List ℕ). p.lines ++ whole_lines_of x) (append-nil read.line) ∙ ap (λ (x : List (List ℕ)). p.lines ++ x) (whole_lines_of-part read.line read.is_one) ∙ append-nil p.lines in
-    record {
-      bytes = p.bytes ++ (read.line ++ []);
-      used = Uses-append p.bytes (read.line ++ []) a b c l0 l1 l2 p.used read.used;
-      none_whole = ap (λ (x : List (List ℕ)). filter is_whole (parts_in (Some name) x)) are ∙ ap (filter is_whole) (parts_in-unended name p.lines p.held.none_ends);
     }
 
 -- more bytes were used behind them
 pub UsesSome-lines : (block : BlockState) (a b c : ReaderState) (l0 l1 l2 : Option (List ℕ)) → ReadsLines block a b l0 l1 → UsesSome b c l1 l2 → UsesSome a c l0 l2
 UsesSome-lines block a b c l0 l1 l2 p more = record { bytes = p.bytes ++ more.bytes; used = Uses-append p.bytes more.bytes a b c l0 l1 l2 p.used more.used }
+
+-- a line without its LF isn't whole
+line_none_whole : (line : List ℕ) → IsOneLine line → whole_parts (line ++ []) ≡ []
+line_none_whole line one = ap whole_parts (append-nil line) ∙ ap (λ (x : List (List ℕ)). filter is_whole (parts_of x)) (whole_lines_of-part line one)
+
+-- a part of a line was read
+pub ReadsPart-line : (a b : ReaderState) (l0 l1 : Option (List ℕ)) (kept : List ℕ) → ReadsLine [] a b l0 l1 kept → ReadsPart a b l0 l1
+ReadsPart-line a b l0 l1 kept read = record {
+  bytes = read.line ++ [];
+  used = read.used;
+  none_whole = line_none_whole read.line read.is_one;
+}
 
 -- the text ended with a line, or behind one
 pub ReadsNext-last : (next : Next) (a b : ReaderState) (l0 l1 : Option (List ℕ)) (kept : List ℕ) → ReadsLine [] a b l0 l1 kept → IsAtEnd b l1 → ((line : List ℕ) → IsOneLine line → IsKept line kept → EndsText line next) → ReadsNext next a b l0 l1
@@ -104,6 +121,7 @@ ReadsNext-last (Last command) a b l0 l1 kept read end ends =
       part = last.part;
       used = read.used;
       is_last = ap text_parts (append-nil read.line) ∙ last.is_last;
+      none_whole = line_none_whole read.line read.is_one;
       at_end = end;
       asks = last.asks;
     }
@@ -136,6 +154,11 @@ opened_wholes : (name line bytes rest : List ℕ) → IsOneLine line → block_n
 opened_wholes name line bytes rest one opened =
     ap whole_parts (append_assoc (line ++ line_feed ∷ []) bytes rest) ∙ ap (λ (x : List (List ℕ)). filter is_whole (parts_of x)) (whole_lines_of-first line (bytes ++ rest) one) ∙ ap (filter is_whole) (parts_in-opened name line (whole_lines_of (bytes ++ rest)) opened)
 
+-- no part of both is whole where none of the block is
+opened_none_whole : (name line bytes : List ℕ) → IsOneLine line → block_name line ≡ Some name → filter is_whole (parts_in (Some name) (whole_lines_of bytes)) ≡ [] → whole_parts ((line ++ line_feed ∷ []) ++ bytes) ≡ []
+opened_none_whole name line bytes one opened none =
+    ap whole_parts (sym (append-nil ((line ++ line_feed ∷ []) ++ bytes))) ∙ opened_wholes name line bytes [] one opened ∙ ap (λ (x : List ℕ). filter is_whole (parts_in (Some name) (whole_lines_of x))) (append-nil bytes) ∙ none
+
 -- a block was read
 pub ReadsNext-block : (name : List ℕ) (next : Next) (a b c : ReaderState) (l0 l1 l2 : Option (List ℕ)) (kept : List ℕ) → ReadsLine (line_feed ∷ []) a b l0 l1 kept → ((line : List ℕ) → IsKept line kept → block_name line ≡ Some name) → ReadsBlock name next b c l1 l2 → ReadsNext next a c l0 l2
 ReadsNext-block name (More command) a b c l0 l1 l2 kept read opens block =
@@ -159,18 +182,11 @@ ReadsNext-block name (Last command) a b c l0 l1 l2 kept read opens block =
       part = block.last.part;
       used = Uses-append first block.bytes a b c l0 l1 l2 read.used block.used;
       is_last = ap text_parts (sym (append-nil (first ++ block.bytes))) ∙ opened_parts name read.line block.bytes [] read.is_one opened ∙ ap (λ (x : List ℕ). parts_in (Some name) (lines_of x)) (append-nil block.bytes) ∙ block.last.is_last;
+      none_whole = opened_none_whole name read.line block.bytes read.is_one opened block.none_whole;
       at_end = block.at_end;
       asks = block.last.asks;
     }
 ReadsNext-block name End a b c l0 l1 l2 kept read opens block = absurd block
-
--- a part of a line was read
-pub ReadsPart-line : (a b : ReaderState) (l0 l1 : Option (List ℕ)) (kept : List ℕ) → ReadsLine [] a b l0 l1 kept → ReadsPart a b l0 l1
-ReadsPart-line a b l0 l1 kept read = record {
-  bytes = read.line ++ [];
-  used = read.used;
-  none_whole = ap whole_parts (append-nil read.line) ∙ ap (λ (x : List (List ℕ)). filter is_whole (parts_of x)) (whole_lines_of-part read.line read.is_one);
-}
 
 -- a part of a block was read
 pub ReadsPart-block : (name : List ℕ) (a b c : ReaderState) (l0 l1 l2 : Option (List ℕ)) (kept : List ℕ) → ReadsLine (line_feed ∷ []) a b l0 l1 kept → ((line : List ℕ) → IsKept line kept → block_name line ≡ Some name) → ReadsNoBlock name b c l1 l2 → ReadsPart a c l0 l2
@@ -179,5 +195,5 @@ ReadsPart-block name a b c l0 l1 l2 kept read opens block =
     record {
       bytes = first ++ block.bytes;
       used = Uses-append first block.bytes a b c l0 l1 l2 read.used block.used;
-      none_whole = ap whole_parts (sym (append-nil (first ++ block.bytes))) ∙ opened_wholes name read.line block.bytes [] read.is_one (opens read.line read.is_kept) ∙ ap (λ (x : List ℕ). filter is_whole (parts_in (Some name) (whole_lines_of x))) (append-nil block.bytes) ∙ block.none_whole;
+      none_whole = opened_none_whole name read.line block.bytes read.is_one (opens read.line read.is_kept) block.none_whole;
     }

@@ -61,6 +61,7 @@ pub record ReadsLastBlock (name : List ℕ) (command : Command) (before after : 
   pub bytes : List ℕ
   pub used : Uses bytes before after left_before left_after
   pub last : IsLastPart (Some name) (lines_of bytes) command
+  pub none_whole : filter is_whole (parts_in (Some name) (whole_lines_of bytes)) ≡ []
   pub at_end : IsAtEnd after left_after
 
 -- the rest of a block of this name was read

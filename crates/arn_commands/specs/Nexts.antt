@@ -21,12 +21,13 @@ pub record ReadsMore (command : Command) (before after : ReaderState) (left_befo
   pub is_whole : IsWholePart bytes part
   pub asks : Asks part command
 
--- the last part was read, which ends with the text
+-- the last part was read, which isn't whole: it ends with the text
 pub record ReadsLast (command : Command) (before after : ReaderState) (left_before left_after : Option (List ℕ)) : Type 0 where
   pub bytes : List ℕ
   pub part : Part
   pub used : Uses bytes before after left_before left_after
   pub is_last : text_parts bytes ≡ part ∷ []
+  pub none_whole : whole_parts bytes ≡ []
   pub at_end : IsAtEnd after left_after
   pub asks : Asks part command
 

@@ -127,7 +127,7 @@ record Stands (text : List ℕ) (l : Option (List ℕ)) (parts : List Part) (par
   are_parts : text_parts text ≡ text_parts begun ++ text_parts rest
   were_taken : IfSome l (λ left. (beyond : List ℕ) × (rest ≡ beyond ++ left))
   is_begun : text_parts begun ≡ parts ++ part ∷ []
-  are_whole : (whole_parts begun ≡ text_parts begun) ⊎ (length text < 2 ^ 40)
+  are_whole : (whole_parts begun ≡ text_parts begun) ⊎ ((rest ≡ []) × (length text < 2 ^ 40))
 
 -- a command is begun that needs the machine, or those before it do
 begun_where : (history : List Record) (l0 l1 : Option (List ℕ)) (carried stops : List Effect → Type 0) (all : List Effect → List Effect → Type 0) (s0 s1 s2 : ℕ) (r : ReaderState) (at : Standpoint) (command : Command) (p : Progress history l0 l1 carried s0 s1 r at) → BeginsOne command at stops s1 s2 → StopsBehind history at carried stops all → needs_any history (p.answers.commands ++ command ∷ []) ≡ true → IsRun history ⊎ all (all_effects history p.answers.commands) []
@@ -203,7 +203,7 @@ stands_last history l0 l1 l2 carried s0 s1 r r' at command p read =
       are_parts = ap text_parts f.1 ∙ sym (append-nil (text_parts begun));
       were_taken = subst (λ (o : Option (List ℕ)). IfSome o (λ left. (beyond : List ℕ) × ([] ≡ beyond ++ left))) (sym f.0) ([], refl);
       is_begun = parts;
-      are_whole = inr (omega (arith, ap length f.1, short.some_room, count_taken begun r' l0 l2 used short.used_up));
+      are_whole = inr (refl, omega (arith, ap length f.1, short.some_room, count_taken begun r' l0 l2 used short.used_up));
     })
 
 pub BeginsText-whole : (history : List Record) (l0 l1 l2 : Option (List ℕ)) (carried stops : List Effect → Type 0) (all : List Effect → List Effect → Type 0) (s0 s1 s2 : ℕ) (r r' : ReaderState) (at : Standpoint) (command : Command) → Progress history l0 l1 carried s0 s1 r at → ReadsMore command r r' l1 l2 → BeginsOne command at stops s1 s2 → StopsBehind history at carried stops all → IfSome l0 (λ text. BeginsText history text l2 all s0 s2)

@@ -22,7 +22,7 @@ pub record BeginsText (history : List Record) (text : List ℕ) (source_after : 
   pub is_text : text ≡ begun ++ rest
   pub are_parts : text_parts text ≡ text_parts begun ++ text_parts rest
   pub were_taken : IfSome source_after (λ more. (beyond : List ℕ) × (rest ≡ beyond ++ more))
-  pub are_whole : (whole_parts begun ≡ text_parts begun) ⊎ (length text < 2 ^ 40)
+  pub are_whole : (whole_parts begun ≡ text_parts begun) ⊎ ((rest ≡ []) × (length text < 2 ^ 40))
   pub answered : List Command
   pub next : List Command
   pub one_at_most : length next ≤ 1
@@ -40,7 +40,7 @@ pub record FindsOut (history : List Record) (text : List ℕ) (source_after : Op
   pub is_text : text ≡ begun ++ rest
   pub are_parts : text_parts text ≡ text_parts begun ++ text_parts rest
   pub were_taken : IfSome source_after (λ more. (beyond : List ℕ) × (rest ≡ beyond ++ more))
-  pub are_whole : (whole_parts begun ≡ text_parts begun) ⊎ (length text < 2 ^ 40)
+  pub are_whole : (whole_parts begun ≡ text_parts begun) ⊎ ((rest ≡ []) × (length text < 2 ^ 40))
   pub answered : List Command
   pub next : Command
   pub each_asks : EachAsks (text_parts begun) (answered ++ next ∷ [])

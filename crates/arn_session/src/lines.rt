@@ -116,7 +116,8 @@ fn answer_line<D: Disk, K: Sink, L: Ledger>(
         needs_machine kept.old.store.entries (Command.Says line) ≡ true }
     ensures undone { (d : Differs) → IsErrOf result (Halt.Differs d) → (disk.new ≡ disk.old) ×
         (K.holds sink.new ≡ K.holds sink.old) }
-    ensures on_run { IfErr result (λ halt. needs_machine kept.old.store.entries (Command.Says line) ≡ true →
+    ensures on_run { IfErr result (λ halt.
+        needs_machine kept.old.store.entries (Command.Says line) ≡ true →
         IsRun kept.old.store.entries ⊎
         StopsAt D.image D.may_leave D.moment D.left_since disk.old disk.new
         kept.old.store.entries (K.holds sink.old) (K.holds sink.new) halt [] []) }
