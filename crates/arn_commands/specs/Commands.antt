@@ -15,6 +15,7 @@ use Rattle.arn_commands.specs.Parts.{Part, Alone, Block}
 abbrev pub no_statement : List ℕ
 no_statement = codes "?"
 
+-- what a line of a block is in the program's text, with its LF
 abbrev pub program_line : List ℕ → List ℕ
 program_line line = (if nat_lt MOST_LINE (length line) then no_statement else line) ++ line_feed ∷ []
 

@@ -6,11 +6,6 @@ pub OnOk-three : {T E P Q R S : Type 0} (r : Result T E) → OnOk r P → OnOk r
 OnOk-three (Ok t) p q s all = all p q s
 OnOk-three (Err e) p q s all = tt
 
--- what follows from a fact of an error
-pub IfErr-then : {T E : Type 0} {P Q : E → Type 0} (r : Result T E) → IfErr r P → ((e : E) → P e → Q e) → IfErr r Q
-IfErr-then (Ok t) p then = tt
-IfErr-then (Err e) p then = then e p
-
 -- what follows from two facts of an error
 pub IfErr-two : {T E : Type 0} {P Q R : E → Type 0} (r : Result T E) → IfErr r P → IfErr r Q → ((e : E) → P e → Q e → R e) → IfErr r R
 IfErr-two (Ok t) p q both = tt

@@ -1,4 +1,5 @@
 use Rattle.std.proofs.Common.{◌≡◌, ◌∙◌, [], ◌∷◌, ap, sym}
+use Rattle.std.proofs.lemmas.Result.{IfErr-weaker}
 use Rattle.std.proofs.lemmas.Bool.{false≢true}
 use Rattle.arn_lines.specs.declared.answer.Refusal.{Refusal}
 use Rattle.arn_lines.specs.declared.answer.Refusal.TheVariants.{NoLong, NoLine}
@@ -7,7 +8,6 @@ use Rattle.arn_commands.specs.declared.command.Command.{Command}
 use Rattle.arn_session.specs.Answers.{effects, fault_refusal, needs_machine}
 use Rattle.arn_session.specs.Effects.{Prints}
 use Rattle.arn_session.proofs.LineAnswers.{Carries-only, StopsAt-only}
-use Rattle.arn_session.proofs.ResultLemmas.{IfErr-then}
 use Rattle.arn_session.proofs.lines.answer.Goals as goal
 
 pub returns-in-TooLong-clause-carries : goal.returns-in-TooLong-clause-carries
@@ -44,12 +44,12 @@ returns-in-Faulty-clause-stops g c =
 
 pub returns-in-TooLong-clause-on_run : goal.returns-in-TooLong-clause-on_run
 returns-in-TooLong-clause-on_run g c =
-    IfErr-then c.print_refusal.result c.print_refusal.ensures.stops (λ halt stopped needed. absurd (false≢true (sym (ap (λ (x : Command). needs_machine c.args.kept.now.store.entries x) c.in-TooLong.is) ∙ needed)))
+    IfErr-weaker c.print_refusal.result _ _ (λ halt stopped needed. absurd (false≢true (sym (ap (λ (x : Command). needs_machine c.args.kept.now.store.entries x) c.in-TooLong.is) ∙ needed))) c.print_refusal.ensures.stops
 
 pub returns-in-Unreadable-clause-on_run : goal.returns-in-Unreadable-clause-on_run
 returns-in-Unreadable-clause-on_run g c =
-    IfErr-then c.print_refusal-in-Unreadable.result c.print_refusal-in-Unreadable.ensures.stops (λ halt stopped needed. absurd (false≢true (sym (ap (λ (x : Command). needs_machine c.args.kept.now.store.entries x) c.in-Unreadable.is) ∙ needed)))
+    IfErr-weaker c.print_refusal-in-Unreadable.result _ _ (λ halt stopped needed. absurd (false≢true (sym (ap (λ (x : Command). needs_machine c.args.kept.now.store.entries x) c.in-Unreadable.is) ∙ needed))) c.print_refusal-in-Unreadable.ensures.stops
 
 pub returns-in-Faulty-clause-on_run : goal.returns-in-Faulty-clause-on_run
 returns-in-Faulty-clause-on_run g c =
-    IfErr-then c.print_refusal-in-Faulty.result c.print_refusal-in-Faulty.ensures.stops (λ halt stopped needed. absurd (false≢true (sym (ap (λ (x : Command). needs_machine c.args.kept.now.store.entries x) c.in-Faulty.is) ∙ needed)))
+    IfErr-weaker c.print_refusal-in-Faulty.result _ _ (λ halt stopped needed. absurd (false≢true (sym (ap (λ (x : Command). needs_machine c.args.kept.now.store.entries x) c.in-Faulty.is) ∙ needed))) c.print_refusal-in-Faulty.ensures.stops

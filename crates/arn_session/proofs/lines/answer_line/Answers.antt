@@ -1,12 +1,12 @@
 use Rattle.std.proofs.Common.{◌≡◌, [], Some, Err, inl, inr, sym, ◌∙◌}
 use Rattle.std.proofs.lemmas.Bool.{false≢true}
-use Rattle.std.proofs.lemmas.Result.{err_from_is_err_and}
+use Rattle.std.proofs.lemmas.Result.{IfErr-weaker, err_from_is_err_and}
 use Rattle.arn_commands.specs.declared.command.Command.TheVariants.{Says}
 use Rattle.arn_lines.specs.Texts.{refusal_text}
 use Rattle.arn_session.specs.Answers.{effects, refusal_of}
 use Rattle.arn_session.specs.Kept.{standpoint_of}
 use Rattle.arn_session.proofs.LineAnswers.{Carries-only, StopsAt-only, StopsAt-not_made, cause-blames}
-use Rattle.arn_session.proofs.ResultLemmas.{IfErr-is, IfErr-then}
+use Rattle.arn_session.proofs.ResultLemmas.{IfErr-is}
 use Rattle.arn_session.proofs.TranscriptLemmas.{refused-line}
 use Rattle.arn_session.proofs.lines.answer_line.Goals as goal
 
@@ -37,7 +37,7 @@ returns-in_err-carry_out-clause-blames g c =
 pub returns-in-Some-clause-on_run : goal.returns-in-Some-clause-on_run
 returns-in-Some-clause-on_run g c =
     let why : refusal_of c.args.kept.now.store.entries c.args.line ≡ Some c.in-Some.why = sym (rw c.entries.ensures at c.refusal_of.ensures) ∙ c.in-Some.is in
-    IfErr-then c.print_refusal.result c.print_refusal.ensures.stops (λ halt stopped needed. absurd (false≢true (sym (refused-line c.args.kept.now.store.entries c.args.line c.in-Some.why why).0 ∙ needed)))
+    IfErr-weaker c.print_refusal.result _ _ (λ halt stopped needed. absurd (false≢true (sym (refused-line c.args.kept.now.store.entries c.args.line c.in-Some.why why).0 ∙ needed))) c.print_refusal.ensures.stops
 
 pub returns-in_err-machine-clause-on_run : goal.returns-in_err-machine-clause-on_run
 returns-in_err-machine-clause-on_run g c =

@@ -3,8 +3,7 @@ use Rattle.arn_session.specs.Answers.{machine_of}
 use Rattle.arn_session.specs.Running.{end_of}
 use Rattle.arn_session.proofs.FaultLemmas.{NeverFalls-append, GoesOn-append}
 use Rattle.arn_session.proofs.LegLemmas.{err-same, IsCause-sink, Carries-none, Carries-next, StopsAt-next, Carries-line, StopsAt-line}
-use Rattle.arn_session.proofs.ResultLemmas.{IfErr-then}
-use Rattle.std.proofs.lemmas.Result.{on_ok_weaker}
+use Rattle.std.proofs.lemmas.Result.{IfErr-weaker, on_ok_weaker}
 use Rattle.arn_session.proofs.RunLemmas.{SoFar-start, SoFar-more, SoFar-pending, is_more-true, is_more-false}
 use Rattle.arn_session.proofs.running.run.Goals as goal
 
@@ -72,8 +71,8 @@ returns-clause-carries g c =
 pub returns-clause-stops : goal.returns-clause-stops
 returns-clause-stops g c =
     let l = c.loop-alloc in
-    IfErr-then c.print_ran.result c.print_ran.ensures.stops
-    (λ why. StopsAt-line g.D.Disk.image g.D.Disk.may_leave g.D.Disk.moment g.D.Disk.left_since g.met.D.Disk.only_now (machine_of c.args.store.now.entries) c.args.count c.args.steps.now c.args.disk.now l.disk c.args.store.now l.store (g.K.Sink.holds c.args.sink.now) (g.K.Sink.holds l.sink) (g.K.Sink.holds c.print_ran.new.sink) l.machine.machine l.left l.leg.end l.steps (c.args.count - l.left) c.end_of.result why l.invariant.so_far (is_more-false l.leg.end c.loop-alloc-test.ensures) refl (c.end_of.ensures ∙ ap end_of c.standing.ensures.standing))
+    IfErr-weaker c.print_ran.result _ _
+    (λ why. StopsAt-line g.D.Disk.image g.D.Disk.may_leave g.D.Disk.moment g.D.Disk.left_since g.met.D.Disk.only_now (machine_of c.args.store.now.entries) c.args.count c.args.steps.now c.args.disk.now l.disk c.args.store.now l.store (g.K.Sink.holds c.args.sink.now) (g.K.Sink.holds l.sink) (g.K.Sink.holds c.print_ran.new.sink) l.machine.machine l.left l.leg.end l.steps (c.args.count - l.left) c.end_of.result why l.invariant.so_far (is_more-false l.leg.end c.loop-alloc-test.ensures) refl (c.end_of.ensures ∙ ap end_of c.standing.ensures.standing)) c.print_ran.ensures.stops
 
 pub returns-clause-cause : goal.returns-clause-cause
 returns-clause-cause g c =

@@ -1,6 +1,6 @@
 -- Each part goes on with what was read and answered, and an end of the text or of the reading ends it.
 use Rattle.std.proofs.Common.{◌≡◌, [], Err, OnOk, IfSome, subst, refl, sym, inl, inr, ap, ◌∙◌, arith}
-use Rattle.std.proofs.lemmas.Result.{err_from_is_err_and, on_ok_weaker, IfErr-at_err}
+use Rattle.std.proofs.lemmas.Result.{IfErr-weaker, err_from_is_err_and, on_ok_weaker, IfErr-at_err}
 use Rattle.arn_commands.specs.Nexts.{ReadsNext}
 use Rattle.arn_commands.specs.Reader.{ReaderState}
 use Rattle.arn_commands.specs.declared.error.ReadError.{ReadError}
@@ -18,7 +18,7 @@ use Rattle.arn_session.proofs.CarryLemmas.{CarriesOut-then, StopsAt-then, Carrie
 use Rattle.arn_session.proofs.CutLemmas.{stands-committed, BeginsText-none, BeginsText-before, BeginsText-whole, BeginsText-last, FindsOut-whole, FindsOut-last}
 use Rattle.arn_session.proofs.FaultLemmas.{NeverFalls-same, NeverFalls-append, Rose-after, GoesOn-append}
 use Rattle.arn_session.proofs.Progress.{Progress-start, Progress-part, IsDone, IsDone-end, IsDone-last, AnswersTaken-part, TookAtMost-part, TookFewer-part, TookMost-part, reads-less}
-use Rattle.arn_session.proofs.ResultLemmas.{OnOk-three, IfErr-then, IfErr-two, IfErr-is, by_result}
+use Rattle.arn_session.proofs.ResultLemmas.{OnOk-three, IfErr-two, IfErr-is, by_result}
 use Rattle.arn_session.proofs.StatusLemmas.{source-was, long-was, read-blames, read-finds-none, memory-was}
 use Rattle.arn_session.proofs.StepLemmas.{CarriesOut-none, StopsAt-nothing}
 use Rattle.arn_session.proofs.TranscriptLemmas.{blames-first}
@@ -240,7 +240,7 @@ returns-in-Last-clause-stops g c =
 pub returns-in-Last-clause-blames : goal.returns-in-Last-clause-blames
 returns-in-Last-clause-blames g c =
     let answers = c.loop-text.invariant.progress.answers in
-    IfErr-then c.answer-in-Last.result c.answer-in-Last.ensures.blames (λ why blames. blames-first c.args.store.entries answers.commands (standpoint_of c.loop-text.kept) answers.stands why blames)
+    IfErr-weaker c.answer-in-Last.result _ _ (λ why blames. blames-first c.args.store.entries answers.commands (standpoint_of c.loop-text.kept) answers.stands why blames) c.answer-in-Last.ensures.blames
 
 pub returns-in-Last-clause-finds : goal.returns-in-Last-clause-finds
 returns-in-Last-clause-finds g c = λ d is.
@@ -282,9 +282,9 @@ pub returns-in-Last-clause-still_rests : goal.returns-in-Last-clause-still_rests
 returns-in-Last-clause-still_rests g c =
     let answers = c.loop-text.invariant.progress.answers in
     let here = stands-committed c.args.store.entries answers.commands (standpoint_of c.loop-text.kept) answers.stands in
-    IfErr-then c.answer-in-Last.result c.answer-in-Last.ensures.stops (λ why stops.
+    IfErr-weaker c.answer-in-Last.result _ _ (λ why stops.
     StopsAt-rests g.D.Disk.image g.D.Disk.may_leave g.D.Disk.moment g.D.Disk.left_since c.args.disk.now c.answer-in-Last.new.disk c.args.store.entries (g.K.Sink.holds c.args.sink.now) (g.K.Sink.holds c.answer-in-Last.new.sink) why (all_effects c.args.store.entries answers.commands) _
-    (StopsAt-then g.D.Disk.image g.D.Disk.may_leave g.D.Disk.moment g.D.Disk.left_since c.args.disk.now c.loop-text.disk c.answer-in-Last.new.disk c.args.store.entries c.loop-text.kept.store.entries (g.K.Sink.holds c.args.sink.now) (g.K.Sink.holds c.loop-text.sink) (g.K.Sink.holds c.answer-in-Last.new.sink) why (all_effects c.args.store.entries answers.commands) _ here answers.done stops))
+    (StopsAt-then g.D.Disk.image g.D.Disk.may_leave g.D.Disk.moment g.D.Disk.left_since c.args.disk.now c.loop-text.disk c.answer-in-Last.new.disk c.args.store.entries c.loop-text.kept.store.entries (g.K.Sink.holds c.args.sink.now) (g.K.Sink.holds c.loop-text.sink) (g.K.Sink.holds c.answer-in-Last.new.sink) why (all_effects c.args.store.entries answers.commands) _ here answers.done stops)) c.answer-in-Last.ensures.stops
 
 pub returns-in-Last-clause-sink : goal.returns-in-Last-clause-sink
 returns-in-Last-clause-sink g c = λ is.

@@ -1,9 +1,9 @@
 -- A line, and the rest of the block that it opens.
 use Rattle.std.proofs.Common.{◌≡◌, ◌∙◌, Err, sym}
-use Rattle.std.proofs.lemmas.Result.{err_from_is_err_and}
+use Rattle.std.proofs.lemmas.Result.{IfErr-weaker, IfOk-weaker, err_from_is_err_and}
 use Rattle.arn_commands.proofs.BlockLemmas.{opened-name, opened-none}
 use Rattle.arn_commands.proofs.ReadLemmas.{ReadsMore-line, ReadsNext-block, ReadsNext-last, ReadsPart-block, ReadsPart-line, UsesSome-more}
-use Rattle.arn_commands.proofs.ResultLemmas.{IfErr-is, IfErr-then, IfOk-then}
+use Rattle.arn_commands.proofs.ResultLemmas.{IfErr-is}
 use Rattle.arn_commands.proofs.commands.Commands.next.Goals as goal
 
 pub returns-in_err-has_feed-clause-part : goal.returns-in_err-has_feed-clause-part
@@ -37,14 +37,14 @@ returns-in-Some-clause-next g c =
     let read = rw (c.if-not-has_feed.false, c.self.view_is) at c.in_ok-has_feed.ensures.line in
     let opened = rw c.as_slice-line.ensures.value at c.in_ok-block.ensures in
     let block = c.in-Some.block in
-    IfOk-then c.rest_of.result c.rest_of.ensures.block (λ next rest. ReadsNext-block block.name next _ _ _ _ _ _ _ read (λ line kept. (opened-name line block (sym c.in-Some.is ∙ opened line kept)).0) rest)
+    IfOk-weaker c.rest_of.result _ _ (λ next rest. ReadsNext-block block.name next _ _ _ _ _ _ _ read (λ line kept. (opened-name line block (sym c.in-Some.is ∙ opened line kept)).0) rest) c.rest_of.ensures.block
 
 pub returns-in-Some-clause-part : goal.returns-in-Some-clause-part
 returns-in-Some-clause-part g c =
     let read = rw (c.if-not-has_feed.false, c.self.view_is) at c.in_ok-has_feed.ensures.line in
     let opened = rw c.as_slice-line.ensures.value at c.in_ok-block.ensures in
     let block = c.in-Some.block in
-    IfErr-then c.rest_of.result c.rest_of.ensures.part (λ e rest other. ReadsPart-block block.name _ _ _ _ _ _ _ read (λ line kept. (opened-name line block (sym c.in-Some.is ∙ opened line kept)).0) (rest other))
+    IfErr-weaker c.rest_of.result _ _ (λ e rest other. ReadsPart-block block.name _ _ _ _ _ _ _ read (λ line kept. (opened-name line block (sym c.in-Some.is ∙ opened line kept)).0) (rest other)) c.rest_of.ensures.part
 
 pub returns-in-Some-clause-used : goal.returns-in-Some-clause-used
 returns-in-Some-clause-used g c =
