@@ -6,12 +6,12 @@ use Rattle.arn_base.specs.declared.boxes.Took.{Took}
 use Rattle.arn_base.specs.declared.boxes.Took.TheVariants as took
 
 -- a reply as it is recorded: a fault, or these bytes
-pub data Told : Type 0 where
-  Faults : Told
-  Gives : List ℕ → Told
+pub data DeviceReply : Type 0 where
+  Faults : DeviceReply
+  Gives : List ℕ → DeviceReply
 
 -- what the reply records: a count above the buffer's length is cut to it
-abbrev pub recorded : Reply → List ℕ → Told
+abbrev pub recorded : Reply → List ℕ → DeviceReply
 recorded (Gave n) buf = Gives (take n buf)
 recorded Fault buf = Faults
 
@@ -20,7 +20,7 @@ abbrev pub countable : ℕ → ℕ
 countable len = min len (2 ^ 32 - 1)
 
 -- a told reply, cut to a buffer of this length
-abbrev pub cut_to : ℕ → Told → Told
+abbrev pub cut_to : ℕ → DeviceReply → DeviceReply
 cut_to len (Gives bytes) = Gives (take (countable len) bytes)
 cut_to len Faults = Faults
 

@@ -27,6 +27,10 @@ Follows step old new =
 abbrev pub NoMore : (List ℕ → Type 0) → (List ℕ → Type 0) → Type 0
 NoMore old new = (bytes : List ℕ) → new bytes → old bytes
 
+-- each old outcome of a crash is still one
+abbrev pub NoLess : (List ℕ → Type 0) → (List ℕ → Type 0) → Type 0
+NoLess old new = (bytes : List ℕ) → old bytes → new bytes
+
 -- a crash leaves this and nothing else
 abbrev pub Only : List ℕ → (List ℕ → Type 0) → Type 0
 Only image outcomes = (bytes : List ℕ) → outcomes bytes → bytes ≡ image

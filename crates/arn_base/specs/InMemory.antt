@@ -1,5 +1,6 @@
 -- A source and a sink in memory.
-use Rattle.std.specs.Prelude.{ℕ, ◌≤◌, ◌<◌, List, [], length}
+use Rattle.std.specs.Prelude.{◌≡◌, ℕ, ◌+◌, ◌≤◌, ◌<◌, ◌↔◌, min, List, [], length, Contains}
+use Rattle.arn_base.specs.Faults.{greatest}
 
 -- a source: the bytes that are left, the most that it gives at once, the numbers of the calls that
 -- fail, how many calls there were, and how many of them failed
@@ -30,3 +31,14 @@ pub record SinkState : Type 0 where
 -- before the first call
 abbrev pub fresh_sink : List ℕ → SinkState
 fresh_sink fails = record { held = []; fails = fails; calls = 0; faults = 0 }
+
+-- the call was counted among the others, and failed exactly where its number is listed
+pub record CountsSource (has_failed : Type 0) (old new : SourceState) : Type 0 where
+  pub listed : has_failed ↔ Contains old.fails old.calls
+  pub same : new.fails ≡ old.fails
+  pub counted : new.calls ≡ min (old.calls + 1) greatest
+
+pub record CountsSink (has_failed : Type 0) (old new : SinkState) : Type 0 where
+  pub listed : has_failed ↔ Contains old.fails old.calls
+  pub same : new.fails ≡ old.fails
+  pub counted : new.calls ≡ min (old.calls + 1) greatest

@@ -1,7 +1,7 @@
 // The boxed objects of the outside: a chooser of slices, and devices.
 ghost use Rattle.std.specs.Prelude.{◌≡◌, ◌+◌, ℕ, ◌++◌, List, length, IfSome, Option, option_map};
 ghost use Rattle.arn_base.specs.declared.boxes.Choice.{Choice};
-ghost use Rattle.arn_base.specs.Device.{Told, Room, recorded, cut_to, taken, takes, left_after};
+ghost use Rattle.arn_base.specs.Device.{DeviceReply, Room, recorded, cut_to, taken, takes, left_after};
 
 /// Which of the runnable processes goes on, and for how many instructions. Whoever asked brings both
 /// into range.
@@ -39,7 +39,7 @@ pub trait Chooser: Drop {
 pub trait Device: Drop {
     /// The reply at each place of the coming calls of `ask`, from 0 on, where it tells it, before
     /// it is cut to the buffer.
-    ghost replies: { Self → ℕ → Option Told };
+    ghost replies: { Self → ℕ → Option DeviceReply };
 
     /// How many bytes it still takes, where it tells it.
     ghost room: { Self → Option Room };

@@ -1,7 +1,7 @@
 // A disk, and what a crash may leave on it.
-ghost use Rattle.std.specs.Prelude.{◌≡◌, ℕ, ◌+◌, ◌≤◌, List, length, take, drop, IfOk, OnOk, OnErr, IsErrOf, IfSome, Option, option_map};
+ghost use Rattle.std.specs.Prelude.{◌≡◌, ℕ, Bool, IsTrue, ◌+◌, ◌≤◌, List, length, take, drop, IfOk, OnOk, OnErr, IsErrOf, IfSome, Option, option_map};
 ghost use Rattle.arn_base.specs.Faults.{Rose, NeverFalls};
-ghost use Rattle.arn_base.specs.Disk.{overwrite, Torn, Cut, Follows, NoMore, Only, BothTell, Elapses};
+ghost use Rattle.arn_base.specs.Disk.{overwrite, Torn, Cut, Follows, NoMore, NoLess, Only, BothTell, Elapses};
 
 use crate::{Failed, Stop};
 
@@ -23,6 +23,9 @@ pub trait Disk {
     /// How often it has failed.
     ghost faults: { Self → ℕ };
 
+    /// Whether a call that changes it may want memory of its own.
+    ghost wants_memory: { Self → Bool };
+
     /// The length in bytes.
     fn len(&mut self) -> Result<u64, Failed>
         ensures length { IfOk result (λ len.
@@ -30,10 +33,12 @@ pub trait Disk {
 
         ensures image { image self.new ≡ image self.old }
         ensures crash { NoMore (may_leave self.old) (may_leave self.new) }
+        ensures keeps { NoLess (may_leave self.old) (may_leave self.new) }
         ensures time { Elapses moment left_since may_leave self.old self.new }
 
         ensures cause { OnErr result (Rose (faults self.old) (faults self.new)) }
-        ensures faults { NeverFalls (faults self.old) (faults self.new) };
+        ensures faults { NeverFalls (faults self.old) (faults self.new) }
+        ensures memory { wants_memory self.new ≡ wants_memory self.old };
 
     /// Fills the buffer with the bytes at an offset.
     fn read(&mut self, at: u64, buf: &mut [u8]) -> Result<(), Failed>
@@ -44,10 +49,12 @@ pub trait Disk {
 
         ensures image { image self.new ≡ image self.old }
         ensures crash { NoMore (may_leave self.old) (may_leave self.new) }
+        ensures keeps { NoLess (may_leave self.old) (may_leave self.new) }
         ensures time { Elapses moment left_since may_leave self.old self.new }
 
         ensures cause { OnErr result (Rose (faults self.old) (faults self.new)) }
-        ensures faults { NeverFalls (faults self.old) (faults self.new) };
+        ensures faults { NeverFalls (faults self.old) (faults self.new) }
+        ensures memory { wants_memory self.new ≡ wants_memory self.old };
 
     /// Writes bytes at an offset, over what is there and past the end. After a write that failed, a
     /// read may give any bytes there.
@@ -61,12 +68,15 @@ pub trait Disk {
         ensures no_memory { IsErrOf result Stop.NoMemory → image self.new ≡ image self.old }
 
         ensures crash { Follows (Torn at (length bytes.now)) (may_leave self.old) (may_leave self.new) }
+        ensures keeps { NoLess (may_leave self.old) (may_leave self.new) }
         ensures no_memory_crash { IsErrOf result Stop.NoMemory →
             NoMore (may_leave self.old) (may_leave self.new) }
         ensures time { Elapses moment left_since may_leave self.old self.new }
 
         ensures cause { IsErrOf result Stop.Failed → Rose (faults self.old) (faults self.new) }
-        ensures faults { NeverFalls (faults self.old) (faults self.new) };
+        ensures wanted { IsErrOf result Stop.NoMemory → IsTrue (wants_memory self.old) }
+        ensures faults { NeverFalls (faults self.old) (faults self.new) }
+        ensures memory { wants_memory self.new ≡ wants_memory self.old };
 
     /// Cuts the file to a length. A file that is shorter already stays as it is.
     fn cut(&mut self, len: u64) -> Result<(), Stop>
@@ -75,12 +85,15 @@ pub trait Disk {
         ensures no_memory { IsErrOf result Stop.NoMemory → image self.new ≡ image self.old }
 
         ensures crash { Follows (Cut len) (may_leave self.old) (may_leave self.new) }
+        ensures keeps { NoLess (may_leave self.old) (may_leave self.new) }
         ensures no_memory_crash { IsErrOf result Stop.NoMemory →
             NoMore (may_leave self.old) (may_leave self.new) }
         ensures time { Elapses moment left_since may_leave self.old self.new }
 
         ensures cause { IsErrOf result Stop.Failed → Rose (faults self.old) (faults self.new) }
-        ensures faults { NeverFalls (faults self.old) (faults self.new) };
+        ensures wanted { IsErrOf result Stop.NoMemory → IsTrue (wants_memory self.old) }
+        ensures faults { NeverFalls (faults self.old) (faults self.new) }
+        ensures memory { wants_memory self.new ≡ wants_memory self.old };
 
     /// After it, a crash leaves what a read gives.
     fn sync(&mut self) -> Result<(), Stop>
@@ -89,10 +102,13 @@ pub trait Disk {
 
         ensures image { image self.new ≡ image self.old }
         ensures crash { NoMore (may_leave self.old) (may_leave self.new) }
+        ensures keeps { OnErr result (NoLess (may_leave self.old) (may_leave self.new)) }
         ensures time { Elapses moment left_since may_leave self.old self.new }
 
         ensures cause { IsErrOf result Stop.Failed → Rose (faults self.old) (faults self.new) }
-        ensures faults { NeverFalls (faults self.old) (faults self.new) };
+        ensures wanted { IsErrOf result Stop.NoMemory → IsTrue (wants_memory self.old) }
+        ensures faults { NeverFalls (faults self.old) (faults self.new) }
+        ensures memory { wants_memory self.new ≡ wants_memory self.old };
 
     /// The bytes that it reads are among those that a crash now may leave.
     ghost reads_may_stay: { (disk : Self) → IfSome (image disk) (may_leave disk) };

@@ -1,8 +1,8 @@
 // Lists of plain values, which contracts see as lists.
-ghost use Rattle.std.specs.Prelude.{◌≡◌, ◌++◌, ◌∷◌, ◌↔◌, [], length, IsTrue, OnOk, OnErr, IfOk};
+ghost use Rattle.std.specs.Prelude.{◌≡◌, ◌++◌, ◌∷◌, ◌↔◌, [], length, take, IsTrue, OnOk, OnErr, IfOk};
 ghost use Rattle.std.specs.Cmp.Lexicographic.{pointwise, lists_per, lists_equiv};
 
-use crate::{Block, NoMemory, Origin, Pair};
+use crate::{Block, Member, NoMemory, Origin, Pair};
 use std::alloc::Global;
 use std::marker::Model;
 
@@ -27,6 +27,12 @@ pub type Pairs = Items<Pair>;
 /// Numbers, as those of calls or processes.
 pub type Numbers = Items<u32>;
 
+/// Processes of a state.
+pub type Members = Items<Member>;
+
+/// The memories of a state, each by its blocks.
+pub type Windows = Items<Blocks>;
+
 impl<T> Model for Items<T> {
     ghost use Rattle.std.specs.Prelude.{List};
 
@@ -35,7 +41,7 @@ impl<T> Model for Items<T> {
     ghost view = { λ list. list.items.items };
 }
 
-impl<T: Copy> Items<T> {
+impl<T: Drop> Items<T> {
     /// The empty list, which takes no memory until the first push.
     pub fn new(alloc: Global) -> Items<T>
         ensures { result ≡ [] }
@@ -85,11 +91,36 @@ impl<T: Eq> Eq for Items<T> {
     ghost laws = { lists_equiv T.Eq.laws };
 }
 
+impl<T: Copy> Items<T> {
+    /// Adds these behind the others.
+    pub fn extend_from_slice(&mut self, items: &[T]) -> Result<(), NoMemory>
+        ensures ok { OnOk result (self.new ≡ self.old ++ items.now) }
+        ensures err { OnErr result (self.new ≡ self.old) }
+    {
+        Ok(self.items.extend_from_slice(items)?)
+    }
+
+    /// Drops all but the first so many.
+    pub fn truncate(&mut self, len: usize)
+        ensures { self.new ≡ take len self.old }
+    {
+        self.items.truncate(len);
+    }
+}
+
 impl Items<u8> {
     pub fn from_slice(alloc: Global, bytes: &[u8]) -> Result<Bytes, NoMemory>
         ensures { IfOk result (λ made. made ≡ bytes.now) }
     {
         let items = Vec::from_slice(alloc, bytes)?;
         Ok(Items { items })
+    }
+}
+
+impl<T> From<Vec<T>> for Items<T> {
+    ghost from_gives = { λ items list. list ≡ items.items };
+
+    fn from(items: Vec<T>) -> Items<T> {
+        Items { items }
     }
 }

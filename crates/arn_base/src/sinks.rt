@@ -1,6 +1,7 @@
 // A sink in memory, and one over std's writers.
-ghost use Rattle.std.specs.Prelude.{◌≡◌, None};
-ghost use Rattle.arn_base.specs.InMemory.{fresh_sink};
+ghost use Rattle.std.specs.Prelude.{◌≡◌, ◌≤◌, ◌<◌, ◌++◌, length, take, None, IfOk, OnErr, IsErrOf};
+ghost use Rattle.arn_base.specs.Faults.{Rose, NeverFalls};
+ghost use Rattle.arn_base.specs.InMemory.{fresh_sink, CountsSink};
 
 use crate::fuses::Fuse;
 use crate::{Numbers, Sink, Stop};
@@ -53,7 +54,18 @@ impl Sink for VecSink {
 
     ghost faults = { λ sink. sink.faults };
 
-    fn put(&mut self, bytes: &[u8]) -> Result<usize, Stop> {
+    /// It fails the calls that are listed, and no others.
+    fn put(&mut self, bytes: &[u8]) -> Result<usize, Stop>
+        ensures within { IfOk result (λ count. count ≤ length bytes.now) }
+        ensures some { IfOk result (λ count. 0 < length bytes.now → 0 < count) }
+        ensures bytes { IfOk result (λ count.
+            self.new.held ≡ self.old.held ++ take count bytes.now) }
+        ensures err { OnErr result (self.new.held ≡ self.old.held) }
+
+        ensures counts { CountsSink (IsErrOf result Stop.Failed) self.old self.new }
+        ensures cause { IsErrOf result Stop.Failed → Rose self.old.faults self.new.faults }
+        ensures faults { NeverFalls self.old.faults self.new.faults }
+    {
         if self.fuse.blows() {
             return Err(Stop::Failed);
         }

@@ -1,6 +1,7 @@
 // A source in memory, and one over std's readers.
-ghost use Rattle.std.specs.Prelude.{◌≡◌, ◌≤◌, min, max, length, take, None};
-ghost use Rattle.arn_base.specs.InMemory.{fresh_source};
+ghost use Rattle.std.specs.Prelude.{◌≡◌, ◌≤◌, ◌<◌, ◌++◌, [], min, max, length, take, None, IfOk, OnErr, IsErr};
+ghost use Rattle.arn_base.specs.Faults.{Rose, NeverFalls};
+ghost use Rattle.arn_base.specs.InMemory.{fresh_source, CountsSource};
 
 use crate::fuses::Fuse;
 use crate::{Bytes, Failed, Numbers, Source};
@@ -71,7 +72,20 @@ impl Source for SliceSource {
 
     ghost faults = { λ source. source.faults };
 
-    fn take(&mut self, buf: &mut [u8]) -> Result<usize, Failed> {
+    /// It fails the calls that are listed, and no others.
+    fn take(&mut self, buf: &mut [u8]) -> Result<usize, Failed>
+        ensures within { IfOk result (λ count. count ≤ length buf.old) }
+        ensures bytes { IfOk result (λ count.
+            self.old.left ≡ take count buf.new ++ self.new.left) }
+        ensures end { IfOk result (λ count.
+            count ≡ 0 → 0 < length buf.old → self.old.left ≡ []) }
+        ensures err { OnErr result (self.new.left ≡ self.old.left) }
+        ensures most { self.new.most ≡ self.old.most }
+
+        ensures counts { CountsSource (IsErr result) self.old self.new }
+        ensures cause { OnErr result (Rose self.old.faults self.new.faults) }
+        ensures faults { NeverFalls self.old.faults self.new.faults }
+    {
         if self.fuse.blows() {
             return Err(Failed);
         }

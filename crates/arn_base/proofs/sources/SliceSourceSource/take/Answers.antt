@@ -1,5 +1,5 @@
 -- What was left is what was copied, and the rest.
-use Rattle.std.proofs.Common.{◌≡◌, ◌+◌, ◌-◌, ◌++◌, ℕ, List, length, Some, drop, take, ap, sym, ◌∙◌}
+use Rattle.std.proofs.Common.{◌≡◌, ◌+◌, ◌-◌, ◌++◌, ℕ, List, length, drop, take, ap, sym, ◌∙◌}
 use Rattle.std.proofs.lemmas.List.{take-append-drop, drop-drop, take_rest}
 use Rattle.arn_base.proofs.sources.SliceSourceSource.take.Goals as goal
 
@@ -9,4 +9,4 @@ left_copied bytes slice buf at n same copied =
 
 pub returns-clause-bytes : goal.returns-clause-bytes
 returns-clause-bytes c =
-    ap (λ (left : List ℕ). Some left) (ap (λ s. s.left) (sym c.self.view_is) ∙ left_copied c.self.inside.bytes c.as_slice.result.now _ c.self.inside.at c.copy_front-count.result c.as_slice.ensures c.copy_front-count.ensures.bytes)
+    ap (λ s. s.left) (sym c.self.view_is) ∙ left_copied c.self.inside.bytes c.as_slice.result.now _ c.self.inside.at c.copy_front-count.result c.as_slice.ensures c.copy_front-count.ensures.bytes
