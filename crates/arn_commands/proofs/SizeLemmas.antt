@@ -4,9 +4,9 @@ use Rattle.std.specs.Prelude.{◌&&◌, nat_le, bytes_eq}
 use Rattle.std.specs.List.{list_all}
 use Rattle.std.proofs.lemmas.Bool.{and_parts, leb-true}
 use Rattle.std.proofs.lemmas.Bool.Decides.{nat_tests}
-use Rattle.arn_model.specs.declared.limits.TheConstants.{MOST_FILE_BYTES, WINDOW_END, WINDOW_START}
-use Rattle.arn_model.specs.Image.{can_enter, fits_window, header_len, image_name, is_image, read_as_image}
-use Rattle.arn_model.specs.Run.{is_name}
+use Rattle.parts_model.specs.declared.limits.TheConstants.{MOST_FILE_BYTES, WINDOW_END, WINDOW_START}
+use Rattle.parts_model.specs.Image.{can_enter, fits_window, header_len, image_name, is_image, read_as_image}
+use Rattle.solo_model.specs.Run.{is_name}
 use Rattle.arn_lines.specs.declared.line.Line.{Line}
 use Rattle.arn_lines.specs.declared.line.Line.TheVariants as line
 use Rattle.arn_lines.specs.declared.line.Reading.{Reading}

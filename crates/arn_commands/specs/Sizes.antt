@@ -1,7 +1,7 @@
 -- How much a command holds.
 use Rattle.std.specs.Prelude.{◌<◌, ◌≤◌, ◌^◌, length, IsTrue}
-use Rattle.arn_model.specs.declared.limits.TheConstants.{MOST_FILE_BYTES}
-use Rattle.arn_model.specs.Run.{is_name}
+use Rattle.parts_model.specs.declared.limits.TheConstants.{MOST_FILE_BYTES}
+use Rattle.solo_model.specs.Run.{is_name}
 use Rattle.arn_lines.specs.declared.line.Line.{Line}
 use Rattle.arn_lines.specs.declared.line.Line.TheVariants as line
 use Rattle.arn_lines.specs.declared.line.TheConstants.{MOST_RUN}

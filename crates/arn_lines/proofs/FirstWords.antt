@@ -9,8 +9,8 @@ use Rattle.std.proofs.lemmas.Str.Parse.{digit_at}
 use Rattle.arn_lines.specs.Grammar.{linkage_word, space}
 use Rattle.arn_lines.specs.Pieces.{AreThreeNumbers, IsFirstWord, IsNoSpace}
 use Rattle.arn_lines.specs.Words.{IsHexNumberFrom, IsName, IsNumber, is_name_byte}
-use Rattle.arn_model.specs.declared.lineage.Linkage.{Linkage}
-use Rattle.arn_model.specs.declared.lineage.Linkage.TheVariants.{Copy}
+use Rattle.rv64_model.specs.declared.linkage.Linkage.{Linkage}
+use Rattle.rv64_model.specs.declared.linkage.Linkage.TheVariants.{Copy}
 use Rattle.arn_lines.proofs.Decimals.{decimal_digits}
 use Rattle.arn_lines.proofs.HexDigits.{IsHexDigit-range}
 

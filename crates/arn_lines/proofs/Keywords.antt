@@ -6,7 +6,7 @@ use Rattle.std.proofs.lemmas.Bool.{false≢true, leb-false}
 use Rattle.arn_lines.specs.declared.line.TheConstants.{MOST_RUN}
 use Rattle.arn_lines.specs.declared.line.Line.{Line}
 use Rattle.arn_lines.specs.declared.line.Line.TheVariants as line
-use Rattle.arn_model.specs.declared.lineage.Linkage.{Linkage}
+use Rattle.rv64_model.specs.declared.linkage.Linkage.{Linkage}
 use Rattle.arn_lines.specs.Grammar.{IsBack, IsBoot, IsFile, IsLine, IsRun, IsType, linkage_word, space}
 use Rattle.arn_lines.specs.Pieces.{AreThreeNumbers, IsFirstWord, SaysNothing}
 use Rattle.arn_lines.specs.Words.{IsBytes, IsName, IsNumber}

@@ -1,8 +1,8 @@
 -- A line reads one way.
 use Rattle.std.proofs.Common.{◌≡◌, ◌≢◌, ℕ, ◌<◌, ◌==◌, false, eq-eqb, List, [], ◌∷◌, ◌++◌, length, drop, codes, inl, inr, refl, sym, ap, subst, ◌∙◌, append_assoc, arith}
 use Rattle.std.proofs.lemmas.Bool.{false≢true}
-use Rattle.arn_model.specs.declared.lineage.Linkage.{Linkage}
-use Rattle.arn_model.specs.declared.lineage.Linkage.TheVariants.{Copy}
+use Rattle.rv64_model.specs.declared.linkage.Linkage.{Linkage}
+use Rattle.rv64_model.specs.declared.linkage.Linkage.TheVariants.{Copy}
 use Rattle.arn_lines.specs.declared.line.Line.{Line}
 use Rattle.arn_lines.specs.declared.line.Line.TheVariants as line
 use Rattle.arn_lines.specs.declared.line.Reading.{Reading}

@@ -1,7 +1,7 @@
 -- What a line says.
 use Rattle.std.specs.Prelude.{◌≡◌, ℕ, ◌<◌, ◌≤◌, ◌&&◌, if◌then◌else◌, List, [], ◌∷◌, ◌++◌, length, take, drop, Option, Some, None, bytes_eq, codes}
-use Rattle.arn_model.specs.declared.lineage.Linkage.{Linkage}
-use Rattle.arn_model.specs.declared.lineage.Linkage.TheVariants.{Copy}
+use Rattle.rv64_model.specs.declared.linkage.Linkage.{Linkage}
+use Rattle.rv64_model.specs.declared.linkage.Linkage.TheVariants.{Copy}
 use Rattle.arn_lines.specs.declared.line.Line.{Line}
 use Rattle.arn_lines.specs.declared.line.Line.TheVariants as line
 use Rattle.arn_lines.specs.declared.line.Reading.{Reading}

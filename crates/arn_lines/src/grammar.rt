@@ -1,13 +1,13 @@
 // Lines of a session, read.
 ghost use Rattle.std.specs.Prelude.{◌≡◌, ◌≢◌, ℕ, ◌<◌, ◌↔◌, List, ◌++◌, length, IsTrue, IfOk, IfSome, IfNone, codes, option_map};
-ghost use Rattle.arn_model.specs.declared.lineage.Linkage.{Linkage};
+ghost use Rattle.rv64_model.specs.declared.linkage.Linkage.{Linkage};
 ghost use Rattle.arn_lines.specs.Grammar.{IsLine, IsPassedOver, Reads, block_name, linkage_word};
 ghost use Rattle.arn_lines.specs.Pieces.{AreThreeNumbers, SaysNothing};
 
 use crate::words::{after, bytes, is_name, name, number, split_word};
 use crate::{Line, MOST_LINE, MOST_RUN, Reading};
 use arn_base::NoMemory;
-use arn_model::Linkage;
+use rv64_model::Linkage;
 use std::alloc::Global;
 
 fn is_passed_over(text: &[u8]) -> bool

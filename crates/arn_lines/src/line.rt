@@ -1,5 +1,5 @@
 use arn_base::Bytes;
-use arn_model::Linkage;
+use rv64_model::Linkage;
 
 /// How many bytes a line has at most, without its LF.
 pub const MOST_LINE: usize = 1_048_576;

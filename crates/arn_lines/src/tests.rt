@@ -1,6 +1,6 @@
 use super::*;
 use arn_base::Pair;
-use arn_model::Linkage;
+use rv64_model::Linkage;
 use std::alloc::{AllocError, Global};
 use std::test::Fail;
 

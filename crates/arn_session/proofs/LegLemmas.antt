@@ -2,10 +2,10 @@
 use Rattle.std.proofs.Common.{◌≡◌, ◌≢◌, ℕ, ◌+◌, ◌-◌, ◌≤◌, ◌++◌, ◌∙◌, List, [], ◌∷◌, Option, option_map, Result, Ok, Err, IfErr, IsErrAnd, refl, sym, ap, subst, append-nil}
 use Rattle.arn_base.specs.declared.records.Record.{Record}
 use Rattle.arn_base.specs.Faults.{NeverFalls}
-use Rattle.arn_model.specs.declared.history.Input.{Input}
-use Rattle.arn_model.specs.Machine.{Machine}
-use Rattle.arn_model.specs.Slice.{standing}
-use Rattle.arn_model.specs.Run.{steps_from, outputs_from}
+use Rattle.solo_model.specs.declared.history.Input.{Input}
+use Rattle.solo_model.specs.Machine.{Machine}
+use Rattle.solo_model.specs.Slice.{standing}
+use Rattle.solo_model.specs.Run.{steps_from, outputs_from}
 use Rattle.log_model.specs.Records.{records_from}
 use Rattle.log_store.specs.Stores.{StoreState}
 use Rattle.guest_machine.specs.Recorded.{Recorded, Runs}

@@ -6,17 +6,18 @@ use Rattle.arn_lines.specs.Texts.{out_text}
 use Rattle.arn_base.specs.Window.{Window, with_bytes}
 use Rattle.arn_base.specs.declared.records.Record.{Record}
 use Rattle.arn_base.specs.declared.records.Record.TheVariants as entry
-use Rattle.arn_model.specs.declared.history.Held.{Held}
-use Rattle.arn_model.specs.declared.history.Input.{Input}
-use Rattle.arn_model.specs.declared.history.Input.TheVariants as input
-use Rattle.arn_model.specs.declared.history.Output.{Output}
-use Rattle.arn_model.specs.Machine.{Machine, Process, Life, Live, Gone, process, with_process, windows, with_windows}
-use Rattle.arn_model.specs.Image.{Image, image_of}
-use Rattle.arn_model.specs.Instruction.{Effect, Next, Call, End}
-use Rattle.arn_model.specs.Step.{Step, Event, is_event, next_event, values}
-use Rattle.arn_model.specs.Call.{CallOutcome, Waits, Answers, Ends, Takes, Writes, called, call_step, with_result, without_queued}
-use Rattle.arn_model.specs.Slice.{stands_at, effect_step, step_if_live, step_if_made, next_step, steps_of, step_then, unless_ended, after_steps, is_possible}
-use Rattle.arn_model.specs.Run.{can_add, file_step, typed_step, is_booted, find_file, boot_if_found, boot_if_held, boot_if_image, input_steps, after_input, steps_from, outputs_from, output_of}
+use Rattle.parts_model.specs.declared.tagged.TaggedByte.{TaggedByte}
+use Rattle.solo_model.specs.declared.history.Input.{Input}
+use Rattle.solo_model.specs.declared.history.Input.TheVariants as input
+use Rattle.solo_model.specs.declared.history.Output.{Output}
+use Rattle.solo_model.specs.Machine.{Machine, Process, Life, Live, Gone, process, with_process, windows, with_windows}
+use Rattle.parts_model.specs.Image.{Image, image_of}
+use Rattle.rv64_model.specs.Instruction.{Effect, Next, Call, End}
+use Rattle.solo_model.specs.Step.{Step, Event, is_event, next_event}
+use Rattle.parts_model.specs.Tagged.{values}
+use Rattle.solo_model.specs.Call.{CallOutcome, Waits, Answers, Ends, Takes, Writes, called, call_step, with_result, without_queued}
+use Rattle.solo_model.specs.Slice.{stands_at, effect_step, step_if_live, step_if_made, next_step, steps_of, step_then, unless_ended, after_steps, is_possible}
+use Rattle.solo_model.specs.Run.{can_add, file_step, typed_step, is_booted, find_file, boot_if_found, boot_if_held, boot_if_image, input_steps, after_input, steps_from, outputs_from, output_of}
 use Rattle.log_model.specs.Records.{event_records, slice_records, input_records, records_from}
 use Rattle.history_facts.specs.Facts.{is_event as is_event_record}
 use Rattle.arn_session.specs.Running.{record_outputs, outputs_text}
@@ -92,11 +93,11 @@ else-counted : (b : Bool) (m : Machine) (steps : List Step) → AreCounted m ste
 else-counted true m steps are = tt
 else-counted false m steps are = are
 
-image-counted : (m : Machine) (path : List ℕ) (file : ℕ) (held : List Held) (image : Option Image) → AreCounted m (boot_if_image m path file held image)
+image-counted : (m : Machine) (path : List ℕ) (file : ℕ) (held : List TaggedByte) (image : Option Image) → AreCounted m (boot_if_image m path file held image)
 image-counted m path file held None = tt
 image-counted m path file held (Some image) = (record { counts = refl; event = refl }, tt)
 
-held-counted : (m : Machine) (path : List ℕ) (file : ℕ) (held : Option (List Held)) → AreCounted m (boot_if_held m path file held)
+held-counted : (m : Machine) (path : List ℕ) (file : ℕ) (held : Option (List TaggedByte)) → AreCounted m (boot_if_held m path file held)
 held-counted m path file None = tt
 held-counted m path file (Some held) = image-counted m path file held (image_of (values held))
 

@@ -1,7 +1,7 @@
 -- A machine that belongs to the records of a history.
 use Rattle.std.proofs.Common.{◌≡◌, ◌<◌, ◌≤◌, ◌^◌, ◌++◌, ℕ, List, [], length, sym, ap, subst, ◌∙◌}
 use Rattle.arn_base.specs.declared.records.Record.{Record}
-use Rattle.arn_model.specs.declared.history.Input.{Input}
+use Rattle.solo_model.specs.declared.history.Input.{Input}
 use Rattle.log_model.specs.Laws.{RecordsAreRun}
 use Rattle.log_model.specs.Records.{records, records_from, named, IsRun}
 use Rattle.guest_machine.specs.Laws.{NamedFollow, RecordsFollow, RunsFollow, RecordsLeaveRoom}

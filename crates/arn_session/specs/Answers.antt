@@ -2,13 +2,13 @@
 use Rattle.std.specs.Prelude.{ℕ, not, Bool, true, false, if◌then◌else◌, List, [], ◌∷◌, ◌++◌, length, flat_map, Option, Some, None, is_none}
 use Rattle.arn_base.specs.declared.records.Record.{Record}
 use Rattle.arn_base.specs.declared.records.Pair.{Pair}
-use Rattle.arn_model.specs.declared.history.Input.{Input}
-use Rattle.arn_model.specs.declared.history.Input.TheVariants as input
-use Rattle.arn_model.specs.declared.lineage.Linkage.{Linkage}
-use Rattle.arn_model.specs.Image.{image_of}
-use Rattle.arn_model.specs.Machine.{Machine}
-use Rattle.arn_model.specs.Run.{machine_after}
-use Rattle.arn_model.specs.Related.{event_pairs, groups_count, asked_groups}
+use Rattle.solo_model.specs.declared.history.Input.{Input}
+use Rattle.solo_model.specs.declared.history.Input.TheVariants as input
+use Rattle.rv64_model.specs.declared.linkage.Linkage.{Linkage}
+use Rattle.parts_model.specs.Image.{image_of}
+use Rattle.solo_model.specs.Machine.{Machine}
+use Rattle.solo_model.specs.Run.{machine_after}
+use Rattle.solo_model.specs.Related.{event_pairs, groups_count, asked_groups}
 use Rattle.log_model.specs.Records.{records_from, named}
 use Rattle.history_facts.specs.Facts.{is_booted_by, file_by, is_free_by, event_by, is_range_by, has_other_calls_by}
 use Rattle.arn_lines.specs.declared.line.Line.{Line}

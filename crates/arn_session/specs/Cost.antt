@@ -1,9 +1,9 @@
 -- A bound on the instructions that are executed to answer a line.
 use Rattle.std.specs.Prelude.{ℕ, ◌+◌, ◌||◌, Bool, if◌then◌else◌, List, [], ◌∷◌, length}
 use Rattle.arn_base.specs.declared.records.Record.{Record}
-use Rattle.arn_model.specs.declared.history.Input.{Input}
-use Rattle.arn_model.specs.Machine.{Machine}
-use Rattle.arn_model.specs.Run.{run, instructions_in}
+use Rattle.solo_model.specs.declared.history.Input.{Input}
+use Rattle.solo_model.specs.Machine.{Machine}
+use Rattle.solo_model.specs.Run.{run, instructions_in}
 use Rattle.log_model.specs.Records.{named}
 use Rattle.guest_machine.specs.Differs.{rebuild_cost}
 use Rattle.arn_lines.specs.declared.line.Line.{Line}

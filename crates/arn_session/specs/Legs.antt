@@ -1,8 +1,8 @@
 -- A leg of a run, as it was carried out.
 use Rattle.std.specs.Prelude.{◌≡◌, ℕ, ◌-◌, ◌≤◌, List, Some}
-use Rattle.arn_model.specs.declared.history.Input.{Input}
-use Rattle.arn_model.specs.Machine.{Machine}
-use Rattle.arn_model.specs.Slice.{standing}
+use Rattle.solo_model.specs.declared.history.Input.{Input}
+use Rattle.solo_model.specs.Machine.{Machine}
+use Rattle.solo_model.specs.Slice.{standing}
 use Rattle.log_model.specs.Records.{records_from}
 use Rattle.guest_machine.specs.declared.leg.Leg.{Leg}
 use Rattle.guest_machine.specs.declared.leg.LegEnd.TheVariants.{More}

@@ -1,13 +1,13 @@
 -- What a line `run N` does: legs of slices, each committed, until the machine is done or stalled, or the budget is spent.
 use Rattle.std.specs.Prelude.{ℕ, zero, suc, ◌+◌, ◌-◌, Bool, true, false, if◌then◌else◌, List, [], ◌∷◌, ◌++◌, flat_map, Option, Some, None}
 use Rattle.arn_base.specs.declared.records.Record.{Record}
-use Rattle.arn_model.specs.declared.history.Input.{Input}
-use Rattle.arn_model.specs.declared.history.Output.{Output}
-use Rattle.arn_model.specs.declared.history.Standing.{Standing}
-use Rattle.arn_model.specs.declared.history.Standing.TheVariants as standing
-use Rattle.arn_model.specs.Machine.{Machine}
-use Rattle.arn_model.specs.Slice.{standing, after_steps}
-use Rattle.arn_model.specs.Run.{steps_from, instructions_in, outputs_from, output_of}
+use Rattle.solo_model.specs.declared.history.Input.{Input}
+use Rattle.solo_model.specs.declared.history.Output.{Output}
+use Rattle.solo_model.specs.declared.history.Standing.{Standing}
+use Rattle.solo_model.specs.declared.history.Standing.TheVariants as standing
+use Rattle.solo_model.specs.Machine.{Machine}
+use Rattle.solo_model.specs.Slice.{standing, after_steps}
+use Rattle.solo_model.specs.Run.{steps_from, instructions_in, outputs_from, output_of}
 use Rattle.log_model.specs.Records.{records_from}
 use Rattle.history_facts.specs.Facts.{is_event}
 use Rattle.guest_machine.specs.declared.leg.LegEnd.{LegEnd}

@@ -3,7 +3,7 @@ ghost use Rattle.std.specs.Prelude.{◌≡◌, ◌≤◌, ◌<◌, ◌+◌, ◌^
 ghost use Rattle.arn_base.specs.Faults.{NeverFalls};
 ghost use Rattle.arn_lines.specs.declared.line.Line.TheVariants as line;
 ghost use Rattle.arn_lines.specs.Texts.{pair_text};
-ghost use Rattle.arn_model.specs.Run.{run, instructions_in};
+ghost use Rattle.solo_model.specs.Run.{run, instructions_in};
 ghost use Rattle.log_model.specs.Records.{named};
 ghost use Rattle.result_log.specs.Spelling.{HasSpelling};
 ghost use Rattle.arn_session.specs.Answers.{refusal_of, query_text, found_text};
@@ -15,7 +15,7 @@ use crate::printing::put_all;
 use crate::status::Halt;
 use arn_base::{NoMemory, Pair, Record, Sink, Steps};
 use arn_lines::{push_back, push_pair};
-use arn_model::Linkage;
+use rv64_model::Linkage;
 use guest_machine::Machine;
 use history_facts::records_tell_events;
 use solo_queries::{Found, back as sources_of};

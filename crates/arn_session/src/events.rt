@@ -1,9 +1,9 @@
 // Lines that become an event.
 ghost use Rattle.std.specs.Prelude.{◌≡◌, ◌<◌, ◌≤◌, ◌^◌, ◌++◌, [], ◌∷◌, None, All, length, OnOk, IfErr, IsTrue};
 ghost use Rattle.arn_base.specs.Faults.{NeverFalls};
-ghost use Rattle.arn_model.specs.declared.history.Input.TheVariants as input;
-ghost use Rattle.arn_model.specs.declared.limits.TheConstants.{MOST_FILE_BYTES};
-ghost use Rattle.arn_model.specs.Run.{is_name};
+ghost use Rattle.solo_model.specs.declared.history.Input.TheVariants as input;
+ghost use Rattle.parts_model.specs.declared.limits.TheConstants.{MOST_FILE_BYTES};
+ghost use Rattle.solo_model.specs.Run.{is_name};
 ghost use Rattle.arn_lines.specs.declared.line.Line.TheVariants as line;
 ghost use Rattle.arn_lines.specs.Texts.{event_text};
 ghost use Rattle.log_model.specs.Records.{IsRun};

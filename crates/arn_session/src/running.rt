@@ -1,8 +1,8 @@
 // The line that runs the machine.
 ghost use Rattle.std.specs.Prelude.{◌≡◌, ◌+◌, ◌-◌, ◌<◌, ◌≤◌, ◌^◌, ◌++◌, [], length, IfOk, IfErr, OnOk, string_bytes};
 ghost use Rattle.arn_base.specs.Faults.{NeverFalls};
-ghost use Rattle.arn_model.specs.Run.{output_of};
-ghost use Rattle.arn_model.specs.Slice.{standing};
+ghost use Rattle.solo_model.specs.Run.{output_of};
+ghost use Rattle.solo_model.specs.Slice.{standing};
 ghost use Rattle.arn_lines.specs.declared.line.TheConstants.{MOST_RUN};
 ghost use Rattle.log_store.specs.Stops.{GoesOn};
 ghost use Rattle.guest_machine.specs.Legs.{leg_of};
@@ -20,7 +20,7 @@ use crate::ready::{count_records, history_laws};
 use crate::status::Halt;
 use arn_base::{Disk, Extra, NoMemory, Record, Sink, Steps};
 use arn_lines::{RunEnd, push_out};
-use arn_model::Standing;
+use solo_model::Standing;
 use guest_machine::{Leg, LegEnd, Machine};
 use log_store::Store;
 use std::alloc::Global;

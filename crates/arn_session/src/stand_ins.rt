@@ -3,7 +3,7 @@ ghost use Rattle.std.specs.Prelude.{◌≡◌, ℕ, Some};
 ghost use Rattle.arn_session.specs.StandIns.{first_choice};
 
 use arn_base::{Choice, Chooser};
-use arn_model::limits::MOST_SLICE;
+use parts_model::limits::MOST_SLICE;
 
 /// Chooses the first process each time, for the longest slice.
 #[derive(Clone, Copy, Debug)]

@@ -2,7 +2,7 @@
 use Rattle.std.proofs.Common.{◌≡◌, ◌≤◌, ℕ, List, None, true, length, arith}
 use Rattle.std.proofs.lemmas.Bool.Decides.{nat_tests}
 use Rattle.arn_base.specs.Window.{bytes_of}
-use Rattle.arn_model.specs.Image.{is_image}
+use Rattle.parts_model.specs.Image.{is_image}
 use Rattle.guest_asm.specs.Assembled.{body, fault_of, image, image_of_text, placed}
 use Rattle.guest_asm.specs.Meanings.{most_bytes}
 use Rattle.guest_asm.proofs.Lengths.{length-body}

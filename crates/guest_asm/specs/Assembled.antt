@@ -2,8 +2,8 @@
 use Rattle.std.specs.Prelude.{ℕ, ◌+◌, ◌%◌, ◌==◌, ◌&&◌, not, nat_le, nat_lt, Bool, true, if◌then◌else◌, List, [], ◌∷◌, ◌++◌, map, flat_map, Option, Some, None, option_and_then, option_to_list, unwrap_or, bytes_eq}
 use Rattle.std.specs.List.{list_any}
 use Rattle.arn_base.specs.Window.{bytes_of}
-use Rattle.arn_model.specs.declared.limits.TheConstants.{WINDOW_START}
-use Rattle.arn_model.specs.Image.{image_name}
+use Rattle.parts_model.specs.declared.limits.TheConstants.{WINDOW_START}
+use Rattle.parts_model.specs.Image.{image_name}
 use Rattle.asm_text.specs.declared.fault.AsmKind.{AsmKind}
 use Rattle.asm_text.specs.declared.fault.AsmKind.TheVariants.{Word, Operand, Range, Label, Align, Size}
 use Rattle.asm_text.specs.Characters.{lines, statements}

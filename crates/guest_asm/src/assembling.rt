@@ -1,5 +1,5 @@
 ghost use Rattle.std.specs.Prelude.{◌≡◌, ℕ, None, Some, Err, IfOk, OnOk, true};
-ghost use Rattle.arn_model.specs.Image.{is_image};
+ghost use Rattle.parts_model.specs.Image.{is_image};
 ghost use Rattle.asm_text.specs.declared.fault.AsmKind.{AsmKind};
 ghost use Rattle.guest_asm.specs.Assembled.{fault_of, image_of_text};
 

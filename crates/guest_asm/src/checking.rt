@@ -14,7 +14,7 @@ use crate::faults::{either, fault_if, first_kind};
 use crate::labels::Labels;
 use crate::meanings::{has_fields, named_label, reaches};
 use crate::places::{Layout, Placed};
-use arn_model::limits::WINDOW_START;
+use parts_model::limits::WINDOW_START;
 use asm_text::{AsmKind, Reading, Statement, read};
 
 /// A fault of a line.

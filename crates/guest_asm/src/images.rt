@@ -12,7 +12,7 @@ use crate::encoding::{push_number, push_statement};
 use crate::labels::Labels;
 use crate::places::{Layout, Placed};
 use arn_base::{Bytes, NoMemory};
-use arn_model::limits::WINDOW_START;
+use parts_model::limits::WINDOW_START;
 use asm_text::{Reading, Statement, read};
 use std::alloc::Global;
 

@@ -17,7 +17,7 @@ use crate::items::Item;
 use crate::labels::{Labels, defined_label};
 use crate::meanings::{is_code, named_label, size};
 use arn_base::NoMemory;
-use arn_model::limits::WINDOW_START;
+use parts_model::limits::WINDOW_START;
 use asm_text::{AsmKind, Reading, Statement, read};
 use std::alloc::Global;
 

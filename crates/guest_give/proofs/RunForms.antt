@@ -5,8 +5,8 @@ use Rattle.std.proofs.lemmas.List.{take_more, map-append}
 use Rattle.arn_base.specs.declared.records.Src.{Src}
 use Rattle.arn_base.specs.declared.records.Origin.{Origin}
 use Rattle.arn_base.specs.declared.records.Give.{Give}
-use Rattle.arn_model.specs.declared.history.Held.{Held}
-use Rattle.arn_model.specs.Step.{given, held_bytes, held_from, values, one_origin, comes_before, onto_origins, origins_of}
+use Rattle.parts_model.specs.declared.tagged.TaggedByte.{TaggedByte}
+use Rattle.parts_model.specs.Tagged.{given, held_bytes, held_from, values, one_origin, comes_before, onto_origins, origins_of}
 use Rattle.guest_give.specs.Runs.{goes_on, with_place, whole_run}
 
 -- where a place comes before an origin, a further one goes on with both alike
@@ -65,11 +65,11 @@ unfolding HasLast
 RunsSoFar-none = record { runs = refl; has_last = refl; few = tt }
 
 -- the places of the first bytes
-places_in-more : (held : List Held) (i : ℕ) (d : Held) → i < length held → map (λ byte. byte.origin) (take (i + 1) held) ≡ map (λ byte. byte.origin) (take i held) ++ (get_or held i d).origin ∷ []
+places_in-more : (held : List TaggedByte) (i : ℕ) (d : TaggedByte) → i < length held → map (λ byte. byte.origin) (take (i + 1) held) ≡ map (λ byte. byte.origin) (take i held) ++ (get_or held i d).origin ∷ []
 places_in-more held i d within = ap (map (λ byte. byte.origin)) (take_more held i d within) ∙ map-append (λ byte. byte.origin) (take i held) (get_or held i d ∷ [])
 
 -- the first byte
-pub RunsSoFar-first : (held : List Held) (i : ℕ) (d : Held) (kept kept' : List Origin) (last last' : Option Origin) → i < length held → RunsSoFar (map (λ byte. byte.origin) (take i held)) kept last i → last ≡ None → kept' ≡ kept → last' ≡ Some (one_origin (get_or held i d).origin) → RunsSoFar (map (λ byte. byte.origin) (take (i + 1) held)) kept' last' (i + 1)
+pub RunsSoFar-first : (held : List TaggedByte) (i : ℕ) (d : TaggedByte) (kept kept' : List Origin) (last last' : Option Origin) → i < length held → RunsSoFar (map (λ byte. byte.origin) (take i held)) kept last i → last ≡ None → kept' ≡ kept → last' ≡ Some (one_origin (get_or held i d).origin) → RunsSoFar (map (λ byte. byte.origin) (take (i + 1) held)) kept' last' (i + 1)
 unfolding HasLast
 RunsSoFar-first held i d kept kept' last last' within s was same is =
     let places = map (λ byte. byte.origin) (take i held) in
@@ -88,7 +88,7 @@ RunsSoFar-first held i d kept kept' last last' within s was same is =
     }
 
 -- a further byte
-pub RunsSoFar-on : (held : List Held) (i : ℕ) (d : Held) (kept kept' : List Origin) (last last' : Option Origin) (run run' : Origin) → i < length held → RunsSoFar (map (λ byte. byte.origin) (take i held)) kept last i → last ≡ Some run → kept' ++ run' ∷ [] ≡ with_place (kept ++ run ∷ []) (get_or held i d).origin → run'.len ≤ run.len + 1 → last' ≡ Some run' → RunsSoFar (map (λ byte. byte.origin) (take (i + 1) held)) kept' last' (i + 1)
+pub RunsSoFar-on : (held : List TaggedByte) (i : ℕ) (d : TaggedByte) (kept kept' : List Origin) (last last' : Option Origin) (run run' : Origin) → i < length held → RunsSoFar (map (λ byte. byte.origin) (take i held)) kept last i → last ≡ Some run → kept' ++ run' ∷ [] ≡ with_place (kept ++ run ∷ []) (get_or held i d).origin → run'.len ≤ run.len + 1 → last' ≡ Some run' → RunsSoFar (map (λ byte. byte.origin) (take (i + 1) held)) kept' last' (i + 1)
 unfolding HasLast
 RunsSoFar-on held i d kept kept' last last' run run' within s was on few is =
     let places = map (λ byte. byte.origin) (take i held) in

@@ -2,7 +2,7 @@
 use Rattle.std.specs.Prelude.{ℕ, zero, suc, ◌+◌, ◌==◌, ◌&&◌, Bool, if◌then◌else◌, List, [], ◌∷◌}
 use Rattle.arn_base.specs.declared.records.Src.{Src}
 use Rattle.arn_base.specs.declared.records.Origin.{Origin}
-use Rattle.arn_model.specs.Step.{one_origin}
+use Rattle.parts_model.specs.Tagged.{one_origin}
 
 -- the place is the one behind those of the origin
 abbrev pub goes_on : Origin → Src → Bool

@@ -2,16 +2,16 @@
 #![tactic(auto)]
 
 ghost use Rattle.std.specs.Prelude.{◌≡◌, ◌<◌, ◌≤◌, ◌^◌, ◌++◌, ◌==◌, ◌+◌, ◌&&◌, ◌∷◌, [], length, map, IfOk, option_to_list};
-ghost use Rattle.arn_model.specs.Step.{given, held_bytes, one_origin, origins_of, values};
+ghost use Rattle.parts_model.specs.Tagged.{given, held_bytes, one_origin, origins_of, values};
 ghost use Rattle.guest_give.specs.Runs.{goes_on, with_place, whole_run};
 
 use arn_base::{Bytes, Give, NoMemory, Origin, Origins, Src};
-use arn_model::Held;
+use parts_model::TaggedByte;
 use std::alloc::Global;
 
 /// The bytes without their origins, and their origins as the longest runs: neighbours of one event
 /// whose places follow each other are one origin.
-pub fn give_of(alloc: Global, held: &[Held]) -> Result<Give, NoMemory>
+pub fn give_of(alloc: Global, held: &[TaggedByte]) -> Result<Give, NoMemory>
     requires few { length held.now < 2 ^ 32 }
     ensures given { IfOk result (λ give. give ≡ given held.now) }
     ensures few_bytes { IfOk result (λ give. length give.bytes ≤ length held.now) }
@@ -48,7 +48,7 @@ fn whole(alloc: Global, event: u64, len: u32) -> Result<Origins, NoMemory>
     Ok(origins)
 }
 
-fn bytes_of(alloc: Global, held: &[Held]) -> Result<Bytes, NoMemory>
+fn bytes_of(alloc: Global, held: &[TaggedByte]) -> Result<Bytes, NoMemory>
     ensures { IfOk result (λ bytes. bytes ≡ values held.now) }
 {
     let mut bytes = Bytes::new(alloc);
@@ -58,7 +58,7 @@ fn bytes_of(alloc: Global, held: &[Held]) -> Result<Bytes, NoMemory>
     Ok(bytes)
 }
 
-fn origins(alloc: Global, held: &[Held]) -> Result<Origins, NoMemory>
+fn origins(alloc: Global, held: &[TaggedByte]) -> Result<Origins, NoMemory>
     requires few { length held.now < 2 ^ 32 }
     ensures { IfOk result (λ origins. origins ≡ origins_of (map (λ byte. byte.origin) held.now)) }
 {

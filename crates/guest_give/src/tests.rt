@@ -1,10 +1,10 @@
 use crate::{give_of, give_whole};
 use arn_base::{Origin, Src};
-use arn_model::Held;
+use parts_model::TaggedByte;
 use std::test::Fail;
 
-fn held(value: u8, event: u64, at: u32) -> Held {
-    Held {
+fn held(value: u8, event: u64, at: u32) -> TaggedByte {
+    TaggedByte {
         value,
         origin: Src { event, at },
     }

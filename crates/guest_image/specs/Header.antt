@@ -1,6 +1,6 @@
 -- What the header of an image says.
 use Rattle.std.specs.Prelude.{◌≡◌, ℕ, List, Some, drop}
-use Rattle.arn_model.specs.Image.{image_of, header_len}
+use Rattle.parts_model.specs.Image.{image_of, header_len}
 use Rattle.guest_image.specs.declared.image.Image.{Image}
 
 -- the file is an image with this header; its body is the rest

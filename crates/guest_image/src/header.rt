@@ -1,10 +1,10 @@
 ghost use Rattle.std.specs.Prelude.{◌≡◌, ◌+◌, ◌≤◌, ◌↔◌, ◌&&◌, nat_le, length, take, drop, true, bytes_eq, IfOk, IsErr, None};
 ghost use Rattle.arn_base.specs.Window.{number_of};
-ghost use Rattle.arn_model.specs.Image.{image_of, image_name, can_enter as enters, is_image as is_image_of};
+ghost use Rattle.parts_model.specs.Image.{image_of, image_name, can_enter as enters, is_image as is_image_of};
 ghost use Rattle.guest_image.specs.Header.{IsHeaderOf};
 
 use crate::image::{HEADER_LEN, Image, NotImage};
-use arn_model::limits::{WINDOW_END, WINDOW_START};
+use parts_model::limits::{WINDOW_END, WINDOW_START};
 
 const NAME: &[u8; 8] = b"ARNIMG01";
 

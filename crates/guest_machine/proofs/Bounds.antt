@@ -2,15 +2,16 @@
 use Rattle.std.proofs.Common.{◌≡◌, ℕ, ◌+◌, ◌*◌, ◌≤◌, nat_le, ◌&&◌, Bool, true, false, cond, List, [], ◌∷◌, length, length-append, Option, Some, None, refl, ap, arith, slice_get}
 use Rattle.std.proofs.lemmas.Bool.Decides.{nat_tests}
 use Rattle.arn_base.specs.declared.records.Record.{Record}
-use Rattle.arn_model.specs.declared.history.Held.{Held}
-use Rattle.arn_model.specs.declared.history.Input.{Input}
-use Rattle.arn_model.specs.declared.history.Input.TheVariants as input
-use Rattle.arn_model.specs.declared.limits.TheConstants.{MOST_SLICE}
-use Rattle.arn_model.specs.Image.{Image, image_of}
-use Rattle.arn_model.specs.Machine.{Machine}
-use Rattle.arn_model.specs.Step.{Step, values}
-use Rattle.arn_model.specs.Slice.{steps_of, after_steps, is_possible, is_runnable}
-use Rattle.arn_model.specs.Run.{input_steps, after_input, steps_from, instructions_in, boot_if_found, boot_if_held, boot_if_image, find_file, is_booted, can_add, file_step, typed_step}
+use Rattle.parts_model.specs.declared.tagged.TaggedByte.{TaggedByte}
+use Rattle.solo_model.specs.declared.history.Input.{Input}
+use Rattle.solo_model.specs.declared.history.Input.TheVariants as input
+use Rattle.parts_model.specs.declared.limits.TheConstants.{MOST_SLICE}
+use Rattle.parts_model.specs.Image.{Image, image_of}
+use Rattle.solo_model.specs.Machine.{Machine}
+use Rattle.solo_model.specs.Step.{Step}
+use Rattle.parts_model.specs.Tagged.{values}
+use Rattle.solo_model.specs.Slice.{steps_of, after_steps, is_possible, is_runnable}
+use Rattle.solo_model.specs.Run.{input_steps, after_input, steps_from, instructions_in, boot_if_found, boot_if_held, boot_if_image, find_file, is_booted, can_add, file_step, typed_step}
 use Rattle.log_model.specs.Records.{event_records, slice_records, input_records, records_from}
 use Rattle.log_model.proofs.SliceForms.{steps_of-few}
 use Rattle.guest_machine.proofs.Behind.{after_steps-append, instructions_in-append}
@@ -26,11 +27,11 @@ typed-events : (m : Machine) (bytes : List ℕ) (b : Bool) → (after_steps m (c
 typed-events m bytes true = omega arith
 typed-events m bytes false = omega arith
 
-image-events : (m : Machine) (path : List ℕ) (file : ℕ) (held : List Held) (o : Option Image) → (after_steps m (boot_if_image m path file held o)).events ≤ m.events + length (event_records (boot_if_image m path file held o))
+image-events : (m : Machine) (path : List ℕ) (file : ℕ) (held : List TaggedByte) (o : Option Image) → (after_steps m (boot_if_image m path file held o)).events ≤ m.events + length (event_records (boot_if_image m path file held o))
 image-events m path file held None = omega arith
 image-events m path file held (Some image) = omega arith
 
-held-events : (m : Machine) (path : List ℕ) (file : ℕ) (o : Option (List Held)) → (after_steps m (boot_if_held m path file o)).events ≤ m.events + length (event_records (boot_if_held m path file o))
+held-events : (m : Machine) (path : List ℕ) (file : ℕ) (o : Option (List TaggedByte)) → (after_steps m (boot_if_held m path file o)).events ≤ m.events + length (event_records (boot_if_held m path file o))
 held-events m path file None = omega arith
 held-events m path file (Some held) = image-events m path file held (image_of (values held))
 

@@ -1,11 +1,12 @@
 -- How many events the steps of a process make.
 use Rattle.std.proofs.Common.{◌≡◌, ℕ, zero, suc, ◌+◌, ◌∙◌, Bool, true, false, cond, List, [], ◌∷◌, length, Option, Some, None, IfSome, refl, ap, arith, take}
 use Rattle.arn_base.specs.Window.{Window, with_bytes}
-use Rattle.arn_model.specs.Machine.{Machine, Process, Life, Live, Gone, process, windows, with_process, with_windows}
-use Rattle.arn_model.specs.Instruction.{Effect, Next, Call, End}
-use Rattle.arn_model.specs.Step.{Step, Event, is_event, next_event, values}
-use Rattle.arn_model.specs.Call.{CallOutcome, Waits, Answers, Ends, Takes, Writes, called, call_step, with_result, without_queued}
-use Rattle.arn_model.specs.Slice.{stands_at, effect_step, step_if_live, step_if_made, next_step, steps_of, step_then, unless_ended, after_steps}
+use Rattle.solo_model.specs.Machine.{Machine, Process, Life, Live, Gone, process, windows, with_process, with_windows}
+use Rattle.rv64_model.specs.Instruction.{Effect, Next, Call, End}
+use Rattle.solo_model.specs.Step.{Step, Event, is_event, next_event}
+use Rattle.parts_model.specs.Tagged.{values}
+use Rattle.solo_model.specs.Call.{CallOutcome, Waits, Answers, Ends, Takes, Writes, called, call_step, with_result, without_queued}
+use Rattle.solo_model.specs.Slice.{stands_at, effect_step, step_if_live, step_if_made, next_step, steps_of, step_then, unless_ended, after_steps}
 use Rattle.log_model.specs.Records.{event_records}
 
 -- how many events there are after steps

@@ -1,8 +1,8 @@
 -- Ends of legs at literal values.
 use Rattle.std.proofs.Common.{◌≡◌, [], ◌∷◌, Some, None, refl}
 use Rattle.arn_base.specs.declared.records.Record.TheVariants as entry
-use Rattle.arn_model.specs.declared.history.Input.TheVariants as input
-use Rattle.arn_model.specs.declared.history.Standing.TheVariants as standing
+use Rattle.solo_model.specs.declared.history.Input.TheVariants as input
+use Rattle.solo_model.specs.declared.history.Standing.TheVariants as standing
 use Rattle.guest_machine.specs.declared.leg.LegEnd.TheVariants as ends
 use Rattle.guest_machine.specs.Legs.{slice_within, spelled_len, leg_end}
 

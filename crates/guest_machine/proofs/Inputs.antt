@@ -2,14 +2,15 @@
 use Rattle.std.proofs.Common.{◌≡◌, ℕ, ◌+◌, ◌≤◌, ◌∙◌, ◌&&◌, Bool, true, false, cond, List, [], ◌∷◌, length, Option, Some, None, refl, sym, ap, arith, slice_get}
 use Rattle.arn_base.specs.declared.records.Record.{Record}
 use Rattle.arn_base.specs.declared.records.Record.TheVariants as entry
-use Rattle.arn_model.specs.declared.history.Held.{Held}
-use Rattle.arn_model.specs.declared.history.Input.{Input}
-use Rattle.arn_model.specs.declared.history.Input.TheVariants as input
-use Rattle.arn_model.specs.Image.{Image, image_of}
-use Rattle.arn_model.specs.Machine.{Machine}
-use Rattle.arn_model.specs.Step.{Step, values}
-use Rattle.arn_model.specs.Slice.{after_steps, is_possible}
-use Rattle.arn_model.specs.Run.{input_steps, after_input, instructions_in, boot_if_found, boot_if_held, boot_if_image, find_file, file_step, typed_step}
+use Rattle.parts_model.specs.declared.tagged.TaggedByte.{TaggedByte}
+use Rattle.solo_model.specs.declared.history.Input.{Input}
+use Rattle.solo_model.specs.declared.history.Input.TheVariants as input
+use Rattle.parts_model.specs.Image.{Image, image_of}
+use Rattle.solo_model.specs.Machine.{Machine}
+use Rattle.solo_model.specs.Step.{Step}
+use Rattle.parts_model.specs.Tagged.{values}
+use Rattle.solo_model.specs.Slice.{after_steps, is_possible}
+use Rattle.solo_model.specs.Run.{input_steps, after_input, instructions_in, boot_if_found, boot_if_held, boot_if_image, find_file, file_step, typed_step}
 use Rattle.log_model.specs.Records.{event_records, slice_records, input_records}
 use Rattle.guest_solo.specs.Input.{Does}
 use Rattle.guest_machine.proofs.Events.{events-slice}
@@ -27,11 +28,11 @@ pub typed-runs-none : (m : Machine) (bytes : List ℕ) (b : Bool) → 0 ≡ inst
 typed-runs-none m bytes true = refl
 typed-runs-none m bytes false = refl
 
-image-runs-none : (m : Machine) (path : List ℕ) (file : ℕ) (held : List Held) (o : Option Image) → 0 ≡ instructions_in (boot_if_image m path file held o)
+image-runs-none : (m : Machine) (path : List ℕ) (file : ℕ) (held : List TaggedByte) (o : Option Image) → 0 ≡ instructions_in (boot_if_image m path file held o)
 image-runs-none m path file held None = refl
 image-runs-none m path file held (Some image) = refl
 
-held-runs-none : (m : Machine) (path : List ℕ) (file : ℕ) (o : Option (List Held)) → 0 ≡ instructions_in (boot_if_held m path file o)
+held-runs-none : (m : Machine) (path : List ℕ) (file : ℕ) (o : Option (List TaggedByte)) → 0 ≡ instructions_in (boot_if_held m path file o)
 held-runs-none m path file None = refl
 held-runs-none m path file (Some held) = image-runs-none m path file held (image_of (values held))
 

@@ -1,10 +1,10 @@
 -- What holds of runs from the start.
 use Rattle.std.proofs.Common.{◌≡◌, ℕ, ◌<◌, ◌≤◌, ◌^◌, ◌++◌, ◌∙◌, List, [], length, refl, sym, ap, arith}
 use Rattle.arn_base.specs.declared.records.Record.{Record}
-use Rattle.arn_model.specs.declared.history.Input.{Input}
-use Rattle.arn_model.specs.Machine.{Machine, at_first}
-use Rattle.arn_model.specs.Slice.{after_steps}
-use Rattle.arn_model.specs.Run.{run, instructions_in}
+use Rattle.solo_model.specs.declared.history.Input.{Input}
+use Rattle.solo_model.specs.Machine.{Machine, at_first}
+use Rattle.solo_model.specs.Slice.{after_steps}
+use Rattle.solo_model.specs.Run.{run, instructions_in}
 use Rattle.log_model.specs.Records.{records, records_from, named}
 use Rattle.log_model.proofs.RecordForms.{run-again}
 use Rattle.guest_machine.specs.Recorded.{Recorded, Runs, IsAfter, HasRoom, recorded_first}

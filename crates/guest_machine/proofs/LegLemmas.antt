@@ -3,15 +3,15 @@ use Rattle.std.proofs.Common.{◌≡◌, ◌≢◌, ◌↔◌, ℕ, zero, suc, �
 use Rattle.std.proofs.lemmas.Bool.Decides.{nat_tests}
 use Rattle.std.proofs.lemmas.Grind.{flat_map-append}
 use Rattle.arn_base.specs.declared.records.Record.{Record}
-use Rattle.arn_model.specs.declared.history.Input.{Input}
-use Rattle.arn_model.specs.declared.history.Input.TheVariants as input
-use Rattle.arn_model.specs.declared.history.Standing.{Standing}
-use Rattle.arn_model.specs.declared.history.Standing.TheVariants as standing
-use Rattle.arn_model.specs.declared.limits.TheConstants.{MOST_SLICE}
-use Rattle.arn_model.specs.Machine.{Machine}
-use Rattle.arn_model.specs.Step.{Step}
-use Rattle.arn_model.specs.Slice.{standing, after_steps, is_possible, is_runnable}
-use Rattle.arn_model.specs.Run.{input_steps, after_input, steps_from, instructions_in}
+use Rattle.solo_model.specs.declared.history.Input.{Input}
+use Rattle.solo_model.specs.declared.history.Input.TheVariants as input
+use Rattle.solo_model.specs.declared.history.Standing.{Standing}
+use Rattle.solo_model.specs.declared.history.Standing.TheVariants as standing
+use Rattle.parts_model.specs.declared.limits.TheConstants.{MOST_SLICE}
+use Rattle.solo_model.specs.Machine.{Machine}
+use Rattle.solo_model.specs.Step.{Step}
+use Rattle.solo_model.specs.Slice.{standing, after_steps, is_possible, is_runnable}
+use Rattle.solo_model.specs.Run.{input_steps, after_input, steps_from, instructions_in}
 use Rattle.log_model.specs.Records.{input_records, records_from}
 use Rattle.result_log.specs.Spelling.{spelling, HasSpelling}
 use Rattle.guest_solo.proofs.SoloLemmas.{slice-steps, slice-some}

@@ -7,13 +7,13 @@ use Rattle.std.proofs.lemmas.List.Elements.{filter_map-append}
 use Rattle.std.proofs.lemmas.List.Sums.{sum_by-append}
 use Rattle.std.proofs.lemmas.Option.{slice_get_past}
 use Rattle.arn_base.specs.declared.records.Record.{Record}
-use Rattle.arn_model.specs.declared.history.Input.{Input}
-use Rattle.arn_model.specs.declared.limits.TheConstants.{MOST_SLICE}
-use Rattle.arn_model.specs.Machine.{Machine, at_first}
-use Rattle.arn_model.specs.Step.{Step}
-use Rattle.arn_model.specs.Deed.{is_instruction}
-use Rattle.arn_model.specs.Slice.{after_steps}
-use Rattle.arn_model.specs.Run.{after_input, input_steps, instructions_in, machine_after, run, steps_from}
+use Rattle.solo_model.specs.declared.history.Input.{Input}
+use Rattle.parts_model.specs.declared.limits.TheConstants.{MOST_SLICE}
+use Rattle.solo_model.specs.Machine.{Machine, at_first}
+use Rattle.solo_model.specs.Step.{Step}
+use Rattle.solo_model.specs.Deed.{is_instruction}
+use Rattle.solo_model.specs.Slice.{after_steps}
+use Rattle.solo_model.specs.Run.{after_input, input_steps, instructions_in, machine_after, run, steps_from}
 use Rattle.log_model.specs.Laws.{RecordsAppend}
 use Rattle.log_model.specs.Records.{named, named_by, records, records_from, IsRun}
 use Rattle.guest_machine.specs.declared.differs.Differs.{Differs}

@@ -4,13 +4,13 @@ use Rattle.std.proofs.lemmas.Bool.Decides.{nat_tests}
 use Rattle.std.proofs.lemmas.List.Elements.{All-append, All-cons, All-nil}
 use Rattle.arn_base.specs.declared.records.Record.{Record}
 use Rattle.arn_base.specs.declared.records.Record.TheVariants as entry
-use Rattle.arn_model.specs.declared.history.Input.{Input}
-use Rattle.arn_model.specs.declared.history.Input.TheVariants as input
-use Rattle.arn_model.specs.declared.limits.TheConstants.{MOST_SLICE}
-use Rattle.arn_model.specs.Machine.{Machine}
-use Rattle.arn_model.specs.Step.{Step}
-use Rattle.arn_model.specs.Slice.{after_steps, is_possible, is_runnable}
-use Rattle.arn_model.specs.Run.{input_steps, after_input, steps_from, instructions_in, is_booted}
+use Rattle.solo_model.specs.declared.history.Input.{Input}
+use Rattle.solo_model.specs.declared.history.Input.TheVariants as input
+use Rattle.parts_model.specs.declared.limits.TheConstants.{MOST_SLICE}
+use Rattle.solo_model.specs.Machine.{Machine}
+use Rattle.solo_model.specs.Step.{Step}
+use Rattle.solo_model.specs.Slice.{after_steps, is_possible, is_runnable}
+use Rattle.solo_model.specs.Run.{input_steps, after_input, steps_from, instructions_in, is_booted}
 use Rattle.log_model.specs.Records.{event_records, input_records, records_from}
 use Rattle.result_log.specs.Spelling.{HasSpelling}
 use Rattle.guest_solo.specs.Input.{Does}

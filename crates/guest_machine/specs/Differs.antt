@@ -2,7 +2,7 @@
 use Rattle.std.specs.Prelude.{◌≡◌, ◌≢◌, ℕ, ◌+◌, Bool, true, false, List, [], take, count_by, Option, None, Some, slice_get}
 use Rattle.arn_base.specs.declared.records.Record.{Record}
 use Rattle.arn_base.specs.declared.records.Record.TheVariants as entry
-use Rattle.arn_model.specs.Run.{run, instructions_in}
+use Rattle.solo_model.specs.Run.{run, instructions_in}
 use Rattle.log_model.specs.Records.{named}
 use Rattle.result_log.specs.Spelling.{spelling}
 use Rattle.guest_machine.specs.declared.differs.Differs.{Differs}

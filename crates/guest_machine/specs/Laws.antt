@@ -1,9 +1,9 @@
 -- What holds of runs and their records.
 use Rattle.std.specs.Prelude.{◌≡◌, ◌≢◌, ◌↔◌, ◌<◌, ◌≤◌, ◌^◌, ℕ, List, [], ◌++◌, length, is_some, IsTrue}
 use Rattle.arn_base.specs.declared.records.Record.{Record}
-use Rattle.arn_model.specs.declared.history.Input.{Input}
-use Rattle.arn_model.specs.Machine.{Machine}
-use Rattle.arn_model.specs.Slice.{standing, is_runnable}
+use Rattle.solo_model.specs.declared.history.Input.{Input}
+use Rattle.solo_model.specs.Machine.{Machine}
+use Rattle.solo_model.specs.Slice.{standing, is_runnable}
 use Rattle.log_model.specs.Records.{records, records_from, named}
 use Rattle.guest_machine.specs.Recorded.{Recorded, Runs, IsAfter, HasRoom}
 use Rattle.guest_machine.specs.Legs.{leg_end, leg_of}

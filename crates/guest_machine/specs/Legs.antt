@@ -1,14 +1,14 @@
 -- The slices of a leg, and what ends it.
 use Rattle.std.specs.Prelude.{◌≡◌, ◌<◌, ℕ, zero, suc, ◌+◌, ◌-◌, min, nat_le, if◌then◌else◌, List, [], ◌∷◌, ◌++◌, length, flat_map, Option, Some, None}
 use Rattle.arn_base.specs.declared.records.Record.{Record}
-use Rattle.arn_model.specs.declared.history.Input.{Input}
-use Rattle.arn_model.specs.declared.history.Input.TheVariants as input
-use Rattle.arn_model.specs.declared.history.Standing.{Standing}
-use Rattle.arn_model.specs.declared.history.Standing.TheVariants as standing
-use Rattle.arn_model.specs.declared.limits.TheConstants.{MOST_SLICE}
-use Rattle.arn_model.specs.Machine.{Machine}
-use Rattle.arn_model.specs.Slice.{standing}
-use Rattle.arn_model.specs.Run.{input_steps, after_input, instructions_in}
+use Rattle.solo_model.specs.declared.history.Input.{Input}
+use Rattle.solo_model.specs.declared.history.Input.TheVariants as input
+use Rattle.solo_model.specs.declared.history.Standing.{Standing}
+use Rattle.solo_model.specs.declared.history.Standing.TheVariants as standing
+use Rattle.parts_model.specs.declared.limits.TheConstants.{MOST_SLICE}
+use Rattle.solo_model.specs.Machine.{Machine}
+use Rattle.solo_model.specs.Slice.{standing}
+use Rattle.solo_model.specs.Run.{input_steps, after_input, instructions_in}
 use Rattle.log_model.specs.Records.{input_records}
 use Rattle.result_log.specs.Spelling.{spelling}
 use Rattle.guest_machine.specs.declared.leg.LegEnd.{LegEnd}

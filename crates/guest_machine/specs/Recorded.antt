@@ -1,10 +1,10 @@
 -- A machine with how many instructions it ran, and what inputs make of it.
 use Rattle.std.specs.Prelude.{◌≡◌, ◌<◌, ◌+◌, ◌^◌, ℕ, List, ◌++◌}
 use Rattle.arn_base.specs.declared.records.Record.{Record}
-use Rattle.arn_model.specs.declared.history.Input.{Input}
-use Rattle.arn_model.specs.Machine.{Machine, at_first}
-use Rattle.arn_model.specs.Slice.{after_steps}
-use Rattle.arn_model.specs.Run.{machine_after, run, steps_from, instructions_in}
+use Rattle.solo_model.specs.declared.history.Input.{Input}
+use Rattle.solo_model.specs.Machine.{Machine, at_first}
+use Rattle.solo_model.specs.Slice.{after_steps}
+use Rattle.solo_model.specs.Run.{machine_after, run, steps_from, instructions_in}
 use Rattle.log_model.specs.Records.{records_from}
 
 -- the machine, and how many instructions have run

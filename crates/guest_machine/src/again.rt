@@ -1,8 +1,8 @@
 // The inputs that records name, run again.
 ghost use Rattle.std.specs.Prelude.{◌≡◌, ◌≢◌, ◌+◌, ◌≤◌, ◌&&◌, ◌∷◌, [], true, All, OnOk, count_by, length, nat_le};
-ghost use Rattle.arn_model.specs.declared.history.Input.TheVariants as input;
-ghost use Rattle.arn_model.specs.Run.{input_steps, instructions_in, steps_from};
-ghost use Rattle.arn_model.specs.Slice.{is_possible};
+ghost use Rattle.solo_model.specs.declared.history.Input.TheVariants as input;
+ghost use Rattle.solo_model.specs.Run.{input_steps, instructions_in, steps_from};
+ghost use Rattle.solo_model.specs.Slice.{is_possible};
 ghost use Rattle.log_model.specs.Records.{named};
 ghost use Rattle.result_log.specs.Spelling.{HasSpelling, IsCounted, IsName};
 ghost use Rattle.guest_machine.specs.Differs.{is_slice};
@@ -10,8 +10,8 @@ ghost use Rattle.guest_machine.specs.Recorded.{HasRoom, Runs};
 
 use crate::machine::Machine;
 use arn_base::{NoMemory, Record, Steps};
-use arn_model::Standing;
-use arn_model::limits::{MOST_FILE_BYTES, MOST_SLICE};
+use solo_model::Standing;
+use parts_model::limits::{MOST_FILE_BYTES, MOST_SLICE};
 use guest_solo::MachineError;
 use std::sync::ledger::Ledger;
 

@@ -2,7 +2,7 @@
 ghost use Rattle.std.specs.Prelude.{◌≡◌};
 ghost use Rattle.guest_machine.specs.Legs.{leg_end as leg_end_of};
 
-use arn_model::Standing;
+use solo_model::Standing;
 
 /// A leg ends behind the slice with which its records' spellings have reached so many bytes.
 pub const MOST_LEG: u64 = 262_144;

@@ -1,8 +1,8 @@
 use crate::leg::{Leg, LegEnd, leg_end};
 use crate::pieces::{SLICE_RECORDS, file_record, keep_cut, keep_slice, typed_record};
 use arn_base::{NoMemory, Record, Steps};
-use arn_model::Standing;
-use arn_model::limits::{MOST_FILE_BYTES, MOST_SLICE};
+use solo_model::Standing;
+use parts_model::limits::{MOST_FILE_BYTES, MOST_SLICE};
 use guest_solo::{CutShort, MachineError, Solo, Turn};
 use std::alloc::Global;
 use std::marker::Model;
@@ -35,10 +35,10 @@ impl Model for Machine {
 
 impl Machine {
     ghost use Rattle.std.specs.Prelude.{◌≡◌, ◌≢◌, ◌+◌, ◌-◌, ◌<◌, ◌≤◌, ◌^◌, ◌↔◌, ◌⊎◌, ℕ, List, false, [], ◌∷◌, length, All, IfOk, IfErr, OnOk, OnErr, IsErrOf, IsNone, IsTrue, is_some, Some, Err};
-    ghost use Rattle.arn_model.specs.declared.history.Input.{Input};
-    ghost use Rattle.arn_model.specs.declared.history.Input.TheVariants as input;
-    ghost use Rattle.arn_model.specs.Slice.{is_possible, is_runnable, standing as standing_of};
-    ghost use Rattle.arn_model.specs.Run.{is_booted as has_process, find_file, is_free, is_name, input_steps, steps_from, instructions_in};
+    ghost use Rattle.solo_model.specs.declared.history.Input.{Input};
+    ghost use Rattle.solo_model.specs.declared.history.Input.TheVariants as input;
+    ghost use Rattle.solo_model.specs.Slice.{is_possible, is_runnable, standing as standing_of};
+    ghost use Rattle.solo_model.specs.Run.{is_booted as has_process, find_file, is_free, is_name, input_steps, steps_from, instructions_in};
     ghost use Rattle.result_log.specs.Spelling.{HasSpelling};
     ghost use Rattle.guest_solo.specs.Input.{IsRefused};
     ghost use Rattle.log_model.specs.Records.{input_records, records_from};

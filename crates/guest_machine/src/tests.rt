@@ -6,7 +6,7 @@ mod rebuild;
 
 use super::*;
 use arn_base::{Bytes, Extra, Give, NoMemory, Origin, Origins, Record, Steps};
-use arn_model::Standing;
+use solo_model::Standing;
 use std::alloc::Global;
 use std::marker::Brand;
 use std::sync::ledger::{Blank, Ledger};

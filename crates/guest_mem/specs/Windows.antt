@@ -1,7 +1,7 @@
 -- The windows through which a guest sees its memory.
 use Rattle.std.specs.Prelude.{ℕ, List, [], ◌∷◌, replicate, Option, Some, None}
 use Rattle.arn_base.specs.Window.{Window}
-use Rattle.arn_model.specs.declared.limits.TheConstants.{WINDOW_START}
+use Rattle.parts_model.specs.declared.limits.TheConstants.{WINDOW_START}
 use Rattle.guest_mem.specs.declared.limits.TheConstants.{SHARED_START}
 
 -- a list of so many zeros

@@ -8,7 +8,7 @@ ghost use Rattle.guest_mem.specs.Windows.{zeros, private_window};
 use crate::blocks::used_blocks;
 use crate::extent::Extent;
 use arn_base::{BadAddress, Blocks, Memory, NoMemory, StoreError};
-use arn_model::limits::{WINDOW_LEN, WINDOW_START};
+use parts_model::limits::{WINDOW_LEN, WINDOW_START};
 use std::alloc::Global;
 use std::marker::Model;
 
@@ -25,7 +25,7 @@ pub struct Space {
 
 impl Model for Space {
     ghost use Rattle.std.specs.Prelude.{ℕ, List, ◌≡◌, length};
-    ghost use Rattle.arn_model.specs.declared.limits.TheConstants.{WINDOW_LEN};
+    ghost use Rattle.parts_model.specs.declared.limits.TheConstants.{WINDOW_LEN};
 
     ghost Value = { List ℕ };
 

@@ -1,16 +1,16 @@
 -- What a process has open whose descriptors 0, 1 and 2 are the console.
 use Rattle.std.proofs.Common.{◌≡◌, ℕ, zero, suc, ◌<◌, ◌≤◌, ◌∙◌, true, false, List, [], ◌∷◌, Option, Some, None, replicate, refl, sym, ap, subst, slice_get, length, arith, nat_lt}
 use Rattle.std.specs.Option.{option_and_then}
-use Rattle.arn_model.specs.Machine.{Machine, Description, Console}
+use Rattle.solo_model.specs.Machine.{Machine, Description, Console}
 use Rattle.std.proofs.lemmas.List.{length-map}
-use Rattle.arn_model.specs.declared.history.Held.{Held}
+use Rattle.parts_model.specs.declared.tagged.TaggedByte.{TaggedByte}
 use Rattle.std.proofs.lemmas.Bool.{ltb-true, ltb-false}
-use Rattle.arn_model.specs.Call.{opened, read_from, write_to, error}
+use Rattle.solo_model.specs.Call.{opened, read_from, write_to, error}
 use Rattle.guest_solo.specs.declared.calls.Request.{Request}
 use Rattle.guest_solo.specs.declared.calls.Request.TheVariants as request
 use Rattle.guest_solo.specs.Request.{HasConsole, IsRead, IsWrite, outcome_of}
-use Rattle.arn_model.specs.Run.{first_descriptors}
-use Rattle.arn_model.specs.Step.{values}
+use Rattle.solo_model.specs.Run.{first_descriptors}
+use Rattle.parts_model.specs.Tagged.{values}
 use Rattle.guest_solo.specs.declared.guest.Guest.{Guest}
 use Rattle.guest_solo.specs.Guest.{process_of, descriptors_of}
 
@@ -57,7 +57,7 @@ pub opened-none : (g : Guest) (m : Machine) (fd : ℕ) → g.live ≡ true → m
 opened-none g m fd live is_open le = same_opened g m fd live is_open ∙ open_none fd le
 
 -- as many bytes without their origins
-length-values : (held : List Held) → length (values held) ≡ length held
+length-values : (held : List TaggedByte) → length (values held) ≡ length held
 length-values held = length-map held _
 
 -- A read or a write through a descriptor that is the console, and through one that isn't open. The arguments are those of the call.

@@ -9,18 +9,19 @@ use Rattle.arn_base.specs.declared.records.Origin.{Origin}
 use Rattle.solo_lineage.specs.declared.moves.Move.{Move}
 use Rattle.solo_lineage.specs.declared.moves.Move.TheVariants as move
 use Rattle.solo_lineage.specs.Moves.{moves_from, first_event}
-use Rattle.arn_model.specs.declared.history.Held.{Held}
-use Rattle.arn_model.specs.declared.history.Input.{Input}
-use Rattle.arn_model.specs.declared.history.Input.TheVariants as input
-use Rattle.arn_model.specs.Machine.{Machine, Name, Process, Console, Life, Live, Gone, process}
-use Rattle.arn_model.specs.Image.{Image, image_of}
-use Rattle.arn_model.specs.Instruction.{Effect, Next, Call, End}
-use Rattle.arn_model.specs.Step.{Step, is_event, held_bytes, held_from, values, event_counted, one_origin, onto_origins, comes_before, given}
-use Rattle.arn_model.specs.Deed.{is_instruction}
-use Rattle.arn_model.specs.Call.{CallOutcome, Waits, Answers, Ends, Takes, Writes, called, call_step, is_waiting}
-use Rattle.arn_model.specs.Slice.{isnt_waiting, is_live, stands_at, effect_step, step_if_live, step_if_made, can_go_on, is_runnable, is_possible, steps_of, after_steps, step_then, unless_ended}
-use Rattle.arn_model.specs.declared.limits.TheConstants.{MOST_FILE_BYTES, MOST_SLICE}
-use Rattle.arn_model.specs.Run.{file_among, can_add, file_step, typed_step, is_booted, is_free, is_name, find_file, input_steps, after_input, boot_if_found, boot_if_held, boot_if_image, boot_step, instructions_in}
+use Rattle.parts_model.specs.declared.tagged.TaggedByte.{TaggedByte}
+use Rattle.solo_model.specs.declared.history.Input.{Input}
+use Rattle.solo_model.specs.declared.history.Input.TheVariants as input
+use Rattle.solo_model.specs.Machine.{Machine, Name, Process, Console, Life, Live, Gone, process}
+use Rattle.parts_model.specs.Image.{Image, image_of}
+use Rattle.rv64_model.specs.Instruction.{Effect, Next, Call, End}
+use Rattle.solo_model.specs.Step.{Step, is_event, event_counted}
+use Rattle.parts_model.specs.Tagged.{held_bytes, held_from, values, one_origin, onto_origins, comes_before, given}
+use Rattle.solo_model.specs.Deed.{is_instruction}
+use Rattle.solo_model.specs.Call.{CallOutcome, Waits, Answers, Ends, Takes, Writes, called, call_step, is_waiting}
+use Rattle.solo_model.specs.Slice.{isnt_waiting, is_live, stands_at, effect_step, step_if_live, step_if_made, can_go_on, is_runnable, is_possible, steps_of, after_steps, step_then, unless_ended}
+use Rattle.parts_model.specs.declared.limits.TheConstants.{MOST_FILE_BYTES, MOST_SLICE}
+use Rattle.solo_model.specs.Run.{file_among, can_add, file_step, typed_step, is_booted, is_free, is_name, find_file, input_steps, after_input, boot_if_found, boot_if_held, boot_if_image, boot_step, instructions_in}
 use Rattle.log_model.specs.Records.{event_records}
 use Rattle.arn_base.specs.declared.records.Record.{Record}
 use Rattle.arn_base.specs.declared.records.Record.TheVariants as entry
@@ -58,11 +59,11 @@ does-typed m bytes m' booted after =
     record { step = typed_step m bytes; is_step = cond-true (is_booted m) (typed_step m bytes ∷ []) [] booted; after = after }
 
 -- the machine with other files
-files_with : Inside → List (List Held) → List Name → Machine
+files_with : Inside → List (List TaggedByte) → List Name → Machine
 files_with s contents names = record (machine_of s) { files = contents; names = names; events = s.events + 1 }
 
 -- a boot file as the model holds it
-content : BootFile → List Held
+content : BootFile → List TaggedByte
 content f = held_bytes f.event f.bytes
 
 -- the machine after one more file
@@ -74,14 +75,14 @@ files-after s f files path bytes is named same event =
     ap (λ (n : ℕ). map content old ++ held_bytes n bytes ∷ []) (sym event) ∙ ap (λ (bs : List ℕ). map content old ++ held_bytes f.event bs ∷ []) (sym same) ∙ sym (map-append content old (f ∷ [])) ∙ ap (map content) (sym is) in
     let e2 : names_from 0 old ++ record { path = path; file = length (map content old) } ∷ [] ≡ names_from 0 files.items =
     ap (λ (k : ℕ). names_from 0 old ++ record { path = path; file = k } ∷ []) (length-map old content ∙ sym (zero-add (length old))) ∙ ap (λ (p : List ℕ). names_from 0 old ++ record { path = p; file = 0 + length old } ∷ []) (sym named) ∙ sym (names_from-push 0 old f) ∙ ap (names_from 0) (sym is) in
-    ap (λ (c : List (List Held)). files_with s c (names_from 0 old ++ record { path = path; file = length (map content old) } ∷ [])) e1 ∙ ap (λ (n : List Name). files_with s (map content files.items) n) e2
+    ap (λ (c : List (List TaggedByte)). files_with s c (names_from 0 old ++ record { path = path; file = length (map content old) } ∷ [])) e1 ∙ ap (λ (n : List Name). files_with s (map content files.items) n) e2
 
 -- the machine with another queue
-typed_with : Inside → List Held → Machine
+typed_with : Inside → List TaggedByte → Machine
 typed_with s queue = record (machine_of s) { console = record { taken = s.taken; queue = queue }; events = s.events + 1 }
 
 -- the machine after a typed piece
-pub typed-after : (s : Inside) (typed : Vec Held Global) (bytes : List ℕ) → s.taken ≤ length s.typed.items → typed.items ≡ s.typed.items ++ held_bytes s.events bytes → (typed_step (machine_of s) bytes).after ≡ machine_of (record s { typed = typed; events = s.events + 1 })
+pub typed-after : (s : Inside) (typed : Vec TaggedByte Global) (bytes : List ℕ) → s.taken ≤ length s.typed.items → typed.items ≡ s.typed.items ++ held_bytes s.events bytes → (typed_step (machine_of s) bytes).after ≡ machine_of (record s { typed = typed; events = s.events + 1 })
 unfolding typed_with
 typed-after s typed bytes within is =
     ap (typed_with s) (sym (drop-append-le s.taken s.typed.items (held_bytes s.events bytes) within) ∙ ap (drop s.taken) (sym is))
@@ -263,9 +264,9 @@ pub record IsSlice (m : Machine) (count ran : ℕ) (records : List Record) (move
   pub moves_are : moves ≡ moves_from m (input_steps m (input.Slice 1 count))
   pub some : 1 ≤ ran
 
-pub slice-turn : (s : Inside) (m : Machine) (g : Guest) (typed : List Held) (count : ℕ) (m' : Machine) (ran : ℕ) (records : List Record) (moves : List Move) → machine_of s ≡ m → s.guest ≡ Some g → typed ≡ s.typed.items → is_possible m 1 count ≡ true → IsTurn (machine_with (machine_of s) g typed s.taken s.events) count m' ran records moves → IsSlice m count ran records moves
+pub slice-turn : (s : Inside) (m : Machine) (g : Guest) (typed : List TaggedByte) (count : ℕ) (m' : Machine) (ran : ℕ) (records : List Record) (moves : List Move) → machine_of s ≡ m → s.guest ≡ Some g → typed ≡ s.typed.items → is_possible m 1 count ≡ true → IsTurn (machine_with (machine_of s) g typed s.taken s.events) count m' ran records moves → IsSlice m count ran records moves
 slice-turn s m g typed count m' ran records moves view guest same possible turn =
-    let t : IsTurn m count m' ran records moves = subst (λ (x : Machine). IsTurn x count m' ran records moves) (ap (λ (held : List Held). machine_with (machine_of s) g held s.taken s.events) same ∙ sym (machine_of-guest s g guest) ∙ view) turn in
+    let t : IsTurn m count m' ran records moves = subst (λ (x : Machine). IsTurn x count m' ran records moves) (ap (λ (held : List TaggedByte). machine_with (machine_of s) g held s.taken s.events) same ∙ sym (machine_of-guest s g guest) ∙ view) turn in
     let steps = slice-steps m count possible in
     let some = slice-some m count possible in
     record {
@@ -300,10 +301,10 @@ pub record IsCut (m : Machine) (count ran : ℕ) (m' : Machine) : Type 0 where
   pub unmoved : moves_from m (input_steps m (input.Slice 1 ran)) ≡ []
   pub last : instructions_in (input_steps m (input.Slice 1 count)) ≡ ran + 1
 
-pub slice-cut : (s : Inside) (m : Machine) (g g' : Guest) (typed : List Held) (count taken events ran : ℕ) → machine_of s ≡ m → s.guest ≡ Some g → typed ≡ s.typed.items → is_possible m 1 count ≡ true → ran < count → IsTurn (machine_with (machine_of s) g typed s.taken s.events) ran (machine_with (machine_of s) g' typed taken events) ran [] [] → instructions_in (steps_of count 1 (machine_with (machine_of s) g typed s.taken s.events)) ≡ ran + 1 → IsCut m count ran (machine_with (machine_of s) g' s.typed.items taken events)
+pub slice-cut : (s : Inside) (m : Machine) (g g' : Guest) (typed : List TaggedByte) (count taken events ran : ℕ) → machine_of s ≡ m → s.guest ≡ Some g → typed ≡ s.typed.items → is_possible m 1 count ≡ true → ran < count → IsTurn (machine_with (machine_of s) g typed s.taken s.events) ran (machine_with (machine_of s) g' typed taken events) ran [] [] → instructions_in (steps_of count 1 (machine_with (machine_of s) g typed s.taken s.events)) ≡ ran + 1 → IsCut m count ran (machine_with (machine_of s) g' s.typed.items taken events)
 slice-cut s m g g' typed count taken events ran view guest same possible less turn last =
-    let old = ap (λ (held : List Held). machine_with (machine_of s) g held s.taken s.events) same ∙ sym (machine_of-guest s g guest) ∙ view in
-    let new = ap (λ (held : List Held). machine_with (machine_of s) g' held taken events) same in
+    let old = ap (λ (held : List TaggedByte). machine_with (machine_of s) g held s.taken s.events) same ∙ sym (machine_of-guest s g guest) ∙ view in
+    let new = ap (λ (held : List TaggedByte). machine_with (machine_of s) g' held taken events) same in
     let t : IsTurn m ran (machine_with (machine_of s) g' s.typed.items taken events) ran [] [] = subst (λ (x : Machine). IsTurn x ran (machine_with (machine_of s) g' s.typed.items taken events) ran [] []) old (subst (λ (x : Machine). IsTurn (machine_with (machine_of s) g typed s.taken s.events) ran x ran [] []) new turn) in
     let steps = shorter-steps m count ran possible less in
     record {

@@ -8,14 +8,16 @@ use Rattle.arn_base.specs.Window.{Window, bytes_at, bytes_of, number_at, number_
 use Rattle.rv64_isa.specs.Decoded.{decoded}
 use Rattle.rv64_isa.specs.declared.instruction.Instr.{Instr}
 use Rattle.rv64_isa.specs.declared.instruction.Instr.TheVariants.{Lui, Auipc, Jal, Jalr, Branch, Load, Store, Imm, Op, Fence, Ecall, Ebreak}
-use Rattle.arn_model.specs.declared.limits.TheConstants.{WINDOW_LEN, BAD_ACCESS, MISALIGNED}
-use Rattle.arn_model.specs.Machine.{Machine, Process, Life, Live, Gone, register}
-use Rattle.arn_model.specs.Values.{immediate, is_taken, load_len, load_result, sum}
-use Rattle.arn_model.specs.Operands.{accessed, address, store_len, stored_len}
-use Rattle.arn_model.specs.Instruction.{Effect, Next, Call, End, advanced, branches, executed, executed_if, fetched, instruction, jumped, loads, stores, without_bit_0}
-use Rattle.arn_model.specs.Step.{Step, is_event}
-use Rattle.arn_model.specs.Call.{CallOutcome, Waits, Answers, Ends, Takes, Writes, call_step, called}
-use Rattle.arn_model.specs.Slice.{effect_step, next_step, step_if_live, step_if_made}
+use Rattle.parts_model.specs.declared.limits.TheConstants.{WINDOW_LEN}
+use Rattle.rv64_model.specs.declared.statuses.TheConstants.{BAD_ACCESS, MISALIGNED}
+use Rattle.solo_model.specs.Machine.{Machine, Process, Life, Live, Gone}
+use Rattle.rv64_model.specs.Registers.{register}
+use Rattle.rv64_model.specs.Values.{immediate, is_taken, load_len, load_result, sum}
+use Rattle.rv64_model.specs.Operands.{accessed, address, store_len, stored_len}
+use Rattle.rv64_model.specs.Instruction.{Effect, Next, Call, End, advanced, branches, executed, executed_if, fetched, instruction, jumped, loads, stores, without_bit_0}
+use Rattle.solo_model.specs.Step.{Step, is_event}
+use Rattle.solo_model.specs.Call.{CallOutcome, Waits, Answers, Ends, Takes, Writes, call_step, called}
+use Rattle.solo_model.specs.Slice.{effect_step, next_step, step_if_live, step_if_made}
 use Rattle.guest_mem.specs.Windows.{private_window}
 use Rattle.solo_lineage.specs.Sources.{FitsStore, FitsWindow}
 use Rattle.guest_solo.specs.declared.guest.Guest.{Guest}

@@ -5,8 +5,9 @@ use Rattle.std.proofs.lemmas.Bool.Decides.{nat_tests}
 use Rattle.std.proofs.lemmas.List.{take-replicate, drop-replicate, length-replicate, take_all, append-nil}
 use Rattle.arn_base.specs.Disk.{overwrite}
 use Rattle.arn_base.specs.Window.{Window, with_bytes, is_whole_in}
-use Rattle.arn_model.specs.declared.limits.TheConstants.{WINDOW_START, WINDOW_END, WINDOW_LEN}
-use Rattle.arn_model.specs.Image.{Image, among_zeros, window_at_start, fits_window, image_of, is_image, read_as_image, can_enter, image_name, header_len}
+use Rattle.parts_model.specs.declared.limits.TheConstants.{WINDOW_START, WINDOW_END, WINDOW_LEN}
+use Rattle.parts_model.specs.Image.{Image, fits_window, image_of, is_image, read_as_image, can_enter, image_name, header_len}
+use Rattle.solo_model.specs.Start.{among_zeros, window_at_start}
 use Rattle.guest_mem.specs.Windows.{zeros, private_window}
 
 -- bytes over zeros

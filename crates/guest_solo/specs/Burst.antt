@@ -3,7 +3,7 @@ use Rattle.std.specs.Prelude.{◌≡◌, ◌<◌, ℕ, zero, suc, List}
 use Rattle.arn_base.specs.declared.machine.Cpu.{Cpu}
 use Rattle.guest_mem.specs.Windows.{private_window}
 use Rattle.rv64_isa.specs.declared.instruction.Instr.{Instr}
-use Rattle.arn_model.specs.Instruction.{Effect, Next, Call, End, instruction}
+use Rattle.rv64_model.specs.Instruction.{Effect, Next, Call, End, instruction}
 use Rattle.rv64_core.specs.declared.outcome.Outcome.{Outcome}
 use Rattle.rv64_core.specs.declared.outcome.Outcome.TheVariants as outcome
 

@@ -1,6 +1,6 @@
 -- Effects of instructions, told apart.
 use Rattle.std.specs.Prelude.{Bool, true, false}
-use Rattle.arn_model.specs.Instruction.{Effect, Next, Call, End, instruction}
+use Rattle.rv64_model.specs.Instruction.{Effect, Next, Call, End, instruction}
 use Rattle.guest_mem.specs.Windows.{private_window}
 use Rattle.guest_solo.specs.declared.guest.Guest.{Guest}
 

@@ -1,8 +1,8 @@
 -- Boot files and their names.
 use Rattle.std.specs.Prelude.{ℕ, ◌+◌, ◌&&◌, Bool, not, is_some, nat_lt, length, List, [], ◌∷◌}
-use Rattle.arn_model.specs.declared.limits.TheConstants.{MOST_FILES}
-use Rattle.arn_model.specs.Machine.{Name}
-use Rattle.arn_model.specs.Run.{file_among}
+use Rattle.parts_model.specs.declared.limits.TheConstants.{MOST_FILES}
+use Rattle.solo_model.specs.Machine.{Name}
+use Rattle.solo_model.specs.Run.{file_among}
 use Rattle.guest_solo.specs.declared.files.BootFile.{BootFile}
 
 -- the names of boot files, of which the first is file number n

@@ -1,7 +1,7 @@
 -- The one process as the model sees it.
 use Rattle.std.specs.Prelude.{Bool, true, false, List, [], ℕ, Option}
-use Rattle.arn_model.specs.Machine.{Process, Life, Live, Gone}
-use Rattle.arn_model.specs.Run.{first_descriptors}
+use Rattle.solo_model.specs.Machine.{Process, Life, Live, Gone}
+use Rattle.solo_model.specs.Run.{first_descriptors}
 use Rattle.guest_solo.specs.declared.guest.Guest.{Guest}
 
 abbrev pub life_of : Bool → Life

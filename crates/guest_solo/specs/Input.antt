@@ -1,9 +1,9 @@
 -- What an input does to a machine.
 use Rattle.std.specs.Prelude.{◌≡◌, [], ◌∷◌}
-use Rattle.arn_model.specs.declared.history.Input.{Input}
-use Rattle.arn_model.specs.Machine.{Machine}
-use Rattle.arn_model.specs.Step.{Step}
-use Rattle.arn_model.specs.Run.{input_steps}
+use Rattle.solo_model.specs.declared.history.Input.{Input}
+use Rattle.solo_model.specs.Machine.{Machine}
+use Rattle.solo_model.specs.Step.{Step}
+use Rattle.solo_model.specs.Run.{input_steps}
 
 -- the input is one step, which leads to the other machine
 pub record Does (m : Machine) (i : Input) (m' : Machine) : Type 0 where

@@ -2,9 +2,9 @@
 use Rattle.std.specs.Prelude.{◌≡◌, ◌<◌, ◌≤◌, ℕ, List, [], ◌∷◌, length, IsSome}
 use Rattle.arn_base.specs.Window.{bytes_at}
 use Rattle.guest_mem.specs.Windows.{private_window}
-use Rattle.arn_model.specs.declared.limits.TheConstants.{MOST_TRANSFER}
-use Rattle.arn_model.specs.Machine.{Machine, Process, Console}
-use Rattle.arn_model.specs.Call.{CallOutcome, Waits, Answers, Ends, Takes, Writes, called, unless_refused, console_read, cut, read_from, write_to, opened, argument}
+use Rattle.parts_model.specs.declared.limits.TheConstants.{MOST_TRANSFER}
+use Rattle.solo_model.specs.Machine.{Machine, Process, Console}
+use Rattle.solo_model.specs.Call.{CallOutcome, Waits, Answers, Ends, Takes, Writes, called, unless_refused, console_read, cut, read_from, write_to, opened, argument}
 use Rattle.guest_solo.specs.declared.calls.Request.{Request}
 use Rattle.guest_solo.specs.declared.calls.Request.TheVariants as request
 

@@ -1,7 +1,7 @@
 -- The machine of one process as the model sees it.
 use Rattle.std.specs.Prelude.{List, [], ◌∷◌, map, drop, Option, Some, None}
-use Rattle.arn_model.specs.Machine.{Machine, Process, Description, Console}
-use Rattle.arn_model.specs.Step.{held_bytes}
+use Rattle.solo_model.specs.Machine.{Machine, Process, Description, Console}
+use Rattle.parts_model.specs.Tagged.{held_bytes}
 use Rattle.guest_solo.specs.declared.guest.Guest.{Guest}
 use Rattle.guest_solo.specs.Files.{names_from}
 use Rattle.guest_solo.specs.Guest.{process_of}

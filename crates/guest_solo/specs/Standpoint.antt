@@ -1,7 +1,7 @@
 -- The instruction at which a process stands.
 use Rattle.std.specs.Prelude.{◌≡◌, Option, Some}
-use Rattle.arn_model.specs.declared.lineage.Deed.TheVariants.{Runs}
-use Rattle.arn_model.specs.Step.{Step}
+use Rattle.solo_model.specs.declared.lineage.Deed.TheVariants.{Runs}
+use Rattle.solo_model.specs.Step.{Step}
 use Rattle.solo_lineage.specs.Sources.{FitsStore, private_place}
 use Rattle.guest_solo.specs.declared.standpoint.Standpoint.{Standpoint}
 

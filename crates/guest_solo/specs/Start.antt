@@ -1,7 +1,8 @@
 -- How the process starts.
 use Rattle.std.specs.Prelude.{◌≡◌, ℕ, List, [], Some}
-use Rattle.arn_model.specs.Image.{Image, image_of, started}
-use Rattle.arn_model.specs.Run.{first_descriptors}
+use Rattle.parts_model.specs.Image.{Image, image_of}
+use Rattle.solo_model.specs.Start.{started}
+use Rattle.solo_model.specs.Run.{first_descriptors}
 use Rattle.guest_solo.specs.declared.start.Started.{Started}
 use Rattle.guest_solo.specs.Guest.{process_of}
 

@@ -1,10 +1,10 @@
 -- What a slice of the process does to the machine, in terms of the parts that it changes.
 use Rattle.std.specs.Prelude.{◌≡◌, ℕ, List, [], ◌∷◌, drop}
-use Rattle.arn_model.specs.declared.history.Held.{Held}
+use Rattle.parts_model.specs.declared.tagged.TaggedByte.{TaggedByte}
 use Rattle.arn_base.specs.declared.records.Record.{Record}
-use Rattle.arn_model.specs.Machine.{Machine, Console}
-use Rattle.arn_model.specs.Slice.{steps_of, after_steps}
-use Rattle.arn_model.specs.Run.{instructions_in}
+use Rattle.solo_model.specs.Machine.{Machine, Console}
+use Rattle.solo_model.specs.Slice.{steps_of, after_steps}
+use Rattle.solo_model.specs.Run.{instructions_in}
 use Rattle.log_model.specs.Records.{event_records}
 use Rattle.guest_solo.specs.declared.guest.Guest.{Guest}
 use Rattle.guest_solo.specs.Guest.{process_of}
@@ -12,7 +12,7 @@ use Rattle.solo_lineage.specs.declared.moves.Move.{Move}
 use Rattle.solo_lineage.specs.Moves.{moves_from}
 
 -- the machine with this process, with what was typed but for the bytes that were taken, after so many events
-abbrev pub machine_with : Machine → Guest → List Held → ℕ → ℕ → Machine
+abbrev pub machine_with : Machine → Guest → List TaggedByte → ℕ → ℕ → Machine
 machine_with m g typed taken events =
     record m {
       processes = process_of g ∷ [];

@@ -1,7 +1,7 @@
 ghost use Rattle.std.specs.Prelude.{◌≡◌, ◌≢◌, ◌+◌, ◌<◌, ◌≤◌};
 ghost use Rattle.guest_mem.specs.Windows.{private_window};
 ghost use Rattle.rv64_core.specs.Outcome.{Tells};
-ghost use Rattle.arn_model.specs.Instruction.{instruction};
+ghost use Rattle.rv64_model.specs.Instruction.{instruction};
 ghost use Rattle.guest_solo.specs.Burst.{RunsOn, StopsAt};
 
 use crate::guest::Guest;

@@ -1,16 +1,17 @@
 ghost use Rattle.std.specs.Prelude.{◌≡◌, ℕ, ◌+◌, ◌<◌, ◌≤◌, ◌^◌, true, nat_lt, IfOk, IfErr, IsSome};
 ghost use Rattle.arn_base.specs.Window.{bytes_at};
 ghost use Rattle.guest_mem.specs.Windows.{private_window};
-ghost use Rattle.arn_model.specs.Machine.{Machine, register as register_of};
-ghost use Rattle.arn_model.specs.Call.{CallOutcome, Answers, cut, unless_refused, error as error_of};
+ghost use Rattle.solo_model.specs.Machine.{Machine};
+ghost use Rattle.rv64_model.specs.Registers.{register as register_of};
+ghost use Rattle.solo_model.specs.Call.{CallOutcome, Answers, cut, unless_refused, error as error_of};
 ghost use Rattle.guest_solo.specs.Guest.{process_of};
 ghost use Rattle.guest_solo.specs.Request.{IsRequest, IsRead, IsWrite, IsReadCall, IsWriteCall, CanMove, TakesWithin};
 
 use crate::guest::Guest;
 use arn_base::Cpu;
-use arn_model::limits::{
-    BAD_ADDRESS, BAD_DESCRIPTOR, EXIT, MOST_TRANSFER, NO_SUCH_CALL, READ, WRITE,
-};
+use parts_model::refusals::{BAD_ADDRESS, BAD_DESCRIPTOR, NO_SUCH_CALL};
+use parts_model::calls::{EXIT, READ, WRITE};
+use parts_model::limits::MOST_TRANSFER;
 
 /// How many descriptors a process has from boot on, all of them the console.
 const OPEN_DESCRIPTORS: u64 = 3;

@@ -1,12 +1,12 @@
 ghost use Rattle.std.specs.Prelude.{◌≡◌, ◌<◌, ◌^◌, length, IfOk};
-ghost use Rattle.arn_model.specs.Step.{held_bytes as held_of};
+ghost use Rattle.parts_model.specs.Tagged.{held_bytes as held_of};
 
 use arn_base::{NoMemory, Src};
-use arn_model::Held;
+use parts_model::TaggedByte;
 use std::alloc::Global;
 
 /// Bytes of an event, each with its place.
-pub fn held_bytes(alloc: Global, event: u64, bytes: &[u8]) -> Result<Vec<Held>, NoMemory>
+pub fn held_bytes(alloc: Global, event: u64, bytes: &[u8]) -> Result<Vec<TaggedByte>, NoMemory>
     requires { length bytes.now < 2 ^ 32 }
     ensures { IfOk result (λ held. held.items ≡ held_of event bytes.now) }
 {
@@ -16,7 +16,7 @@ pub fn held_bytes(alloc: Global, event: u64, bytes: &[u8]) -> Result<Vec<Held>, 
             event,
             at: at as u32,
         };
-        held.push(Held {
+        held.push(TaggedByte {
             value: *value,
             origin,
         })?;

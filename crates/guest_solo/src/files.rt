@@ -1,9 +1,9 @@
 ghost use Rattle.std.specs.Prelude.{◌≡◌, ◌<◌, length, IfSome};
-ghost use Rattle.arn_model.specs.Run.{file_among};
+ghost use Rattle.solo_model.specs.Run.{file_among};
 ghost use Rattle.guest_solo.specs.Files.{names_from, is_free_among};
 
 use arn_base::{Bytes, NoMemory, Record};
-use arn_model::limits::MOST_FILES;
+use parts_model::limits::MOST_FILES;
 use guest_give::give_whole;
 use std::alloc::Global;
 
@@ -18,8 +18,8 @@ pub struct BootFile {
 impl BootFile {
     ghost use Rattle.std.specs.Prelude.{◌≡◌, ◌<◌, ◌^◌, length, IfOk, IsTrue};
     ghost use Rattle.arn_base.specs.declared.records.Record.TheVariants as entry;
-    ghost use Rattle.arn_model.specs.Step.{given, held_bytes};
-    ghost use Rattle.arn_model.specs.Run.{is_name};
+    ghost use Rattle.parts_model.specs.Tagged.{given, held_bytes};
+    ghost use Rattle.solo_model.specs.Run.{is_name};
     ghost use Rattle.result_log.specs.Spelling.{HasSpelling};
 
     pub fn new(alloc: Global, name: &[u8], bytes: &[u8], event: u64) -> Result<BootFile, NoMemory>

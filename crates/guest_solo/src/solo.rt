@@ -7,8 +7,9 @@ use crate::standpoint::{Standpoint, stands_before};
 use crate::start::start;
 use crate::turn::{CutShort, Turn, take_turn};
 use arn_base::{Record, Steps};
-use arn_model::limits::MOST_FILE_BYTES;
-use arn_model::{Held, Standing};
+use parts_model::limits::MOST_FILE_BYTES;
+use parts_model::TaggedByte;
+use solo_model::Standing;
 use guest_image::parse;
 use solo_lineage::Move;
 use std::alloc::Global;
@@ -21,7 +22,7 @@ pub struct Solo {
     alloc: Global,
     files: Vec<BootFile>,
     guest: Option<Guest>,
-    typed: Vec<Held>,
+    typed: Vec<TaggedByte>,
     taken: usize,
     events: u64,
 }
@@ -36,7 +37,7 @@ pub struct Booted {
 
 impl Model for Solo {
     ghost use Rattle.std.specs.Prelude.{◌≤◌, length};
-    ghost use Rattle.arn_model.specs.Machine.{Machine};
+    ghost use Rattle.solo_model.specs.Machine.{Machine};
 
     ghost Value = { Machine };
 
@@ -49,15 +50,15 @@ impl Model for Solo {
 
 impl Solo {
     ghost use Rattle.std.specs.Prelude.{◌≡◌, ◌≢◌, ◌+◌, ◌<◌, ◌≤◌, ◌^◌, ◌↔◌, true, false, [], ◌∷◌, length, All, IfOk, IfErr, OnOk, OnErr, IsErrOf, IsNone, IsTrue, is_some, option_to_list, Err, ◌⊎◌};
-    ghost use Rattle.arn_model.specs.declared.history.Input.TheVariants as input;
-    ghost use Rattle.arn_model.specs.Machine.{at_first};
-    ghost use Rattle.arn_model.specs.Slice.{is_possible, is_runnable, standing as standing_of};
-    ghost use Rattle.arn_model.specs.Run.{is_booted as has_process, find_file, is_free, is_name, input_steps, after_input, instructions_in};
+    ghost use Rattle.solo_model.specs.declared.history.Input.TheVariants as input;
+    ghost use Rattle.solo_model.specs.Machine.{at_first};
+    ghost use Rattle.solo_model.specs.Slice.{is_possible, is_runnable, standing as standing_of};
+    ghost use Rattle.solo_model.specs.Run.{is_booted as has_process, find_file, is_free, is_name, input_steps, after_input, instructions_in};
     ghost use Rattle.log_model.specs.Records.{event_records};
     ghost use Rattle.result_log.specs.Spelling.{HasSpelling};
     ghost use Rattle.guest_solo.specs.Input.{Does, IsRefused};
-    ghost use Rattle.arn_model.specs.Step.{Step, is_event};
-    ghost use Rattle.arn_model.specs.Slice.{next_step};
+    ghost use Rattle.solo_model.specs.Step.{Step, is_event};
+    ghost use Rattle.solo_model.specs.Slice.{next_step};
     ghost use Rattle.solo_lineage.specs.Moves.{moves_from};
     ghost use Rattle.solo_lineage.specs.Sources.{Fits};
     ghost use Rattle.guest_solo.specs.Standpoint.{StandsAt};

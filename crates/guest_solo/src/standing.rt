@@ -1,6 +1,6 @@
 ghost use Rattle.std.specs.Prelude.{◌≡◌, ◌↔◌, true, [], ◌∷◌, IsTrue};
-ghost use Rattle.arn_model.specs.Machine.{Machine};
-ghost use Rattle.arn_model.specs.Slice.{isnt_waiting, is_runnable, standing};
+ghost use Rattle.solo_model.specs.Machine.{Machine};
+ghost use Rattle.solo_model.specs.Slice.{isnt_waiting, is_runnable, standing};
 ghost use Rattle.guest_solo.specs.Guest.{process_of};
 ghost use Rattle.guest_solo.specs.Effects.{is_call, guest_stands_at};
 ghost use Rattle.guest_solo.specs.Request.{HasConsole};
@@ -8,7 +8,7 @@ ghost use Rattle.guest_solo.specs.Request.{HasConsole};
 use crate::calls::{Request, requested};
 use crate::guest::Guest;
 use arn_base::Memory;
-use arn_model::Standing;
+use solo_model::Standing;
 use rv64_isa::{Instr, decode};
 
 /// How a machine of this process stands.

@@ -1,10 +1,10 @@
 ghost use Rattle.std.specs.Prelude.{◌≡◌, ◌∷◌, [], false, length, Some, option_and_then};
 ghost use Rattle.arn_base.specs.Window.{number_at};
 ghost use Rattle.rv64_isa.specs.Decoded.{decoded};
-ghost use Rattle.arn_model.specs.declared.limits.TheConstants.{WINDOW_LEN};
-ghost use Rattle.arn_model.specs.Machine.{Machine};
-ghost use Rattle.arn_model.specs.Step.{Step, is_event};
-ghost use Rattle.arn_model.specs.Slice.{next_step};
+ghost use Rattle.parts_model.specs.declared.limits.TheConstants.{WINDOW_LEN};
+ghost use Rattle.solo_model.specs.Machine.{Machine};
+ghost use Rattle.solo_model.specs.Step.{Step, is_event};
+ghost use Rattle.solo_model.specs.Slice.{next_step};
 ghost use Rattle.guest_mem.specs.Windows.{private_window};
 ghost use Rattle.guest_solo.specs.Guest.{process_of};
 ghost use Rattle.guest_solo.specs.Standpoint.{StandsAt};

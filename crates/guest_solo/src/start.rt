@@ -1,12 +1,13 @@
 ghost use Rattle.std.specs.Prelude.{◌≡◌, ◌<◌, ◌≤◌, ◌^◌, ◌-◌, length, drop, None, IfOk, IfErr, IsErrOf, ◌↔◌, ◌⊎◌};
-ghost use Rattle.arn_model.specs.Image.{image_of, cpu_at_start};
+ghost use Rattle.parts_model.specs.Image.{image_of};
+ghost use Rattle.solo_model.specs.Start.{cpu_at_start};
 ghost use Rattle.solo_lineage.specs.Sources.{FitsWindow};
 ghost use Rattle.guest_solo.specs.Start.{StartsFrom};
 
 use crate::errors::MachineError;
 use crate::guest::Guest;
 use arn_base::{Cpu, StoreError};
-use arn_model::limits::WINDOW_END;
+use parts_model::limits::WINDOW_END;
 use guest_image::{HEADER_LEN, parse};
 use guest_mem::Space;
 use std::alloc::Global;

@@ -2,7 +2,7 @@ ghost use Rattle.std.specs.Prelude.{◌≡◌, ◌<◌};
 
 use super::*;
 use arn_base::{Bytes, Extra, Give, NoMemory, Origin, Origins, Record, Src, Steps};
-use arn_model::Standing;
+use solo_model::Standing;
 use rv64_isa::{Instr, LoadOp};
 use solo_lineage::Move;
 use std::alloc::Global;

@@ -1,12 +1,12 @@
 ghost use Rattle.std.specs.Prelude.{◌≡◌, ◌+◌, ◌<◌, ◌≤◌, ◌^◌, ◌↔◌, ℕ, suc, true, false, List, [], length, map, All, take, drop, IfOk, IfErr, OnOk, OnErr, IsOk, IsSome, Some, option_to_list};
 ghost use Rattle.arn_base.specs.Window.{bytes_at, with_bytes};
 ghost use Rattle.guest_mem.specs.Windows.{private_window};
-ghost use Rattle.arn_model.specs.Machine.{Machine};
-ghost use Rattle.arn_model.specs.Step.{values};
-ghost use Rattle.arn_model.specs.Instruction.{instruction, Call};
-ghost use Rattle.arn_model.specs.Call.{returned};
-ghost use Rattle.arn_model.specs.Slice.{steps_of};
-ghost use Rattle.arn_model.specs.Run.{instructions_in};
+ghost use Rattle.solo_model.specs.Machine.{Machine};
+ghost use Rattle.parts_model.specs.Tagged.{values};
+ghost use Rattle.rv64_model.specs.Instruction.{instruction, Call};
+ghost use Rattle.solo_model.specs.Call.{returned};
+ghost use Rattle.solo_model.specs.Slice.{steps_of};
+ghost use Rattle.solo_model.specs.Run.{instructions_in};
 ghost use Rattle.arn_base.specs.declared.records.Record.TheVariants as entry;
 ghost use Rattle.result_log.specs.Spelling.{HasSpelling};
 ghost use Rattle.solo_lineage.specs.Sources.{Fits, FitsWindow};
@@ -16,7 +16,7 @@ use crate::burst::{Burst, run_instructions};
 use crate::calls::{Request, call_number, requested};
 use crate::guest::Guest;
 use arn_base::{Bytes, Cpu, Extra, NoMemory, Record, Steps, StoreError};
-use arn_model::Held;
+use parts_model::TaggedByte;
 use guest_give::give_of;
 use rv64_core::Outcome;
 use solo_lineage::{Move, Places};
@@ -47,7 +47,7 @@ pub struct CutShort {
 pub fn take_turn<L: Ledger>(
     alloc: Global,
     guest: &mut Guest,
-    typed: &[Held],
+    typed: &[TaggedByte],
     taken: &mut usize,
     events: &mut u64,
     count: u32,
@@ -112,7 +112,7 @@ pub fn take_turn<L: Ledger>(
 fn serve(
     alloc: Global,
     guest: &mut Guest,
-    typed: &[Held],
+    typed: &[TaggedByte],
     taken: &mut usize,
     events: &mut u64,
 ) -> Result<Turn, NoMemory>
@@ -209,7 +209,7 @@ fn finish(cpu: &mut Cpu, outcome: u64)
 }
 
 // Where bytes of the console's queue came from.
-fn places_of(alloc: Global, held: &[Held]) -> Result<Places, NoMemory>
+fn places_of(alloc: Global, held: &[TaggedByte]) -> Result<Places, NoMemory>
     ensures { IfOk result (λ places. places ≡ map (λ byte. byte.origin) held.now) }
 {
     let mut places = Places::new(alloc);

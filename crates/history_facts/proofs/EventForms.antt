@@ -5,18 +5,19 @@ use Rattle.std.proofs.lemmas.List.{map-append}
 use Rattle.std.proofs.lemmas.List.Folds.{list_any-append}
 use Rattle.std.proofs.lemmas.List.Elements.{filter-append, filter_map-append}
 use Rattle.arn_base.specs.declared.records.Record.{Record}
-use Rattle.arn_model.specs.declared.history.Held.{Held}
-use Rattle.arn_model.specs.declared.history.Input.{Input}
-use Rattle.arn_model.specs.declared.history.Input.TheVariants as input
-use Rattle.arn_model.specs.Machine.{Machine, at_first}
-use Rattle.arn_model.specs.Image.{Image, image_of}
-use Rattle.arn_model.specs.Step.{Step, Event, values}
-use Rattle.arn_model.specs.Slice.{steps_of, is_possible}
-use Rattle.arn_model.specs.Run.{can_add, file_step, typed_step, is_booted, find_file, boot_if_found, boot_if_held, boot_if_image, input_steps, after_input, steps_from, run, events_of}
+use Rattle.parts_model.specs.declared.tagged.TaggedByte.{TaggedByte}
+use Rattle.solo_model.specs.declared.history.Input.{Input}
+use Rattle.solo_model.specs.declared.history.Input.TheVariants as input
+use Rattle.solo_model.specs.Machine.{Machine, at_first}
+use Rattle.parts_model.specs.Image.{Image, image_of}
+use Rattle.solo_model.specs.Step.{Step, Event}
+use Rattle.parts_model.specs.Tagged.{values}
+use Rattle.solo_model.specs.Slice.{steps_of, is_possible}
+use Rattle.solo_model.specs.Run.{can_add, file_step, typed_step, is_booted, find_file, boot_if_found, boot_if_held, boot_if_image, input_steps, after_input, steps_from, run, events_of}
 use Rattle.log_model.specs.Records.{event_records, slice_records, input_records, records_from}
-use Rattle.arn_model.specs.Related.{is_other_record}
-use Rattle.arn_model.specs.Related.{is_range}
-use Rattle.arn_model.specs.declared.limits.TheConstants.{MOST_ASKED}
+use Rattle.solo_model.specs.Related.{is_other_record}
+use Rattle.solo_model.specs.Related.{is_range}
+use Rattle.parts_model.specs.declared.limits.TheConstants.{MOST_ASKED}
 use Rattle.history_facts.specs.Facts.{is_event, is_range_by}
 use Rattle.history_facts.specs.Laws.{RecordsTellCalls, RecordsTellEvents}
 use Rattle.history_facts.proofs.StepForms.{Fits, MaybeQuiet, AreOfProcess, steps_of-AreOfProcess}
@@ -54,11 +55,11 @@ unless-AllFit : (b : Bool) (steps : List Step) → AllFit (events_of steps) → 
 unless-AllFit true steps all = tt
 unless-AllFit false steps all = all
 
-image-AllFit : (m : Machine) (path : List ℕ) (file : ℕ) (held : List Held) (image : Option Image) → AllFit (events_of (boot_if_image m path file held image))
+image-AllFit : (m : Machine) (path : List ℕ) (file : ℕ) (held : List TaggedByte) (image : Option Image) → AllFit (events_of (boot_if_image m path file held image))
 image-AllFit m path file held None = tt
 image-AllFit m path file held (Some image) = (record { is_event = refl; len = refl }, tt)
 
-held-AllFit : (m : Machine) (path : List ℕ) (file : ℕ) (held : Option (List Held)) → AllFit (events_of (boot_if_held m path file held))
+held-AllFit : (m : Machine) (path : List ℕ) (file : ℕ) (held : Option (List TaggedByte)) → AllFit (events_of (boot_if_held m path file held))
 held-AllFit m path file None = tt
 held-AllFit m path file (Some held) = image-AllFit m path file held (image_of (values held))
 

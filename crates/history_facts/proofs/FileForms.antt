@@ -7,15 +7,16 @@ use Rattle.std.proofs.lemmas.List.Folds.{list_any-append}
 use Rattle.std.proofs.lemmas.List.Sums.{sum_by-append}
 use Rattle.arn_base.specs.declared.records.Record.{Record}
 use Rattle.arn_base.specs.declared.records.Record.TheVariants as entry
-use Rattle.arn_model.specs.declared.history.Held.{Held}
-use Rattle.arn_model.specs.declared.history.Input.{Input}
-use Rattle.arn_model.specs.declared.history.Input.TheVariants as input
-use Rattle.arn_model.specs.declared.limits.TheConstants.{MOST_FILES}
-use Rattle.arn_model.specs.Machine.{Machine, Name, at_first}
-use Rattle.arn_model.specs.Image.{Image, image_of}
-use Rattle.arn_model.specs.Step.{Step, Event, values, held_from, held_bytes, given}
-use Rattle.arn_model.specs.Slice.{steps_of, after_steps, is_possible}
-use Rattle.arn_model.specs.Run.{can_add, file_step, typed_step, boot_step, is_booted, file_among, find_file, boot_if_found, boot_if_held, boot_if_image, input_steps, after_input, steps_from, machine_after}
+use Rattle.parts_model.specs.declared.tagged.TaggedByte.{TaggedByte}
+use Rattle.solo_model.specs.declared.history.Input.{Input}
+use Rattle.solo_model.specs.declared.history.Input.TheVariants as input
+use Rattle.parts_model.specs.declared.limits.TheConstants.{MOST_FILES}
+use Rattle.solo_model.specs.Machine.{Machine, Name, at_first}
+use Rattle.parts_model.specs.Image.{Image, image_of}
+use Rattle.solo_model.specs.Step.{Step, Event}
+use Rattle.parts_model.specs.Tagged.{values, held_from, held_bytes, given}
+use Rattle.solo_model.specs.Slice.{steps_of, after_steps, is_possible}
+use Rattle.solo_model.specs.Run.{can_add, file_step, typed_step, boot_step, is_booted, file_among, find_file, boot_if_found, boot_if_held, boot_if_image, input_steps, after_input, steps_from, machine_after}
 use Rattle.log_model.specs.Records.{event_records, slice_records, input_records, records_from, records}
 use Rattle.history_facts.specs.Facts.{is_boot, is_booted_by, is_file, file_by}
 use Rattle.history_facts.specs.Laws.{RecordsTellBoot, RecordsTellFiles, RecordsTellImages}
@@ -62,7 +63,7 @@ values-held_from event at (b ∷ bytes) = ap (λ (rest : List ℕ). b ∷ rest) 
 -- the machine and the records have no file of this name, or one with the same bytes
 data FileTold (m : Machine) (entries : List Record) (name : List ℕ) : Type 0 where
   Missing : find_file m name ≡ None → file_by entries name ≡ None → FileTold m entries name
-  Found : (file : ℕ) (held : List Held) → find_file m name ≡ Some file → slice_get m.files file ≡ Some held → file_by entries name ≡ Some (values held)
+  Found : (file : ℕ) (held : List TaggedByte) → find_file m name ≡ Some file → slice_get m.files file ≡ Some held → file_by entries name ≡ Some (values held)
       → FileTold m entries name
 
 -- the records tell the machine's files and its boot
@@ -109,7 +110,7 @@ same-FileTold : (m n : Machine) (entries more : List Record) (name : List ℕ) �
     → FileTold m entries name → FileTold n more name
 same-FileTold m n entries more name names files is (Missing none absent) = Missing (ap (λ (x : List Name). file_among x name) names ∙ none) (is ∙ absent)
 same-FileTold m n entries more name names files is (Found file held found there bytes) =
-    Found file held (ap (λ (x : List Name). file_among x name) names ∙ found) (ap (λ (x : List (List Held)). slice_get x file) files ∙ there) (is ∙ bytes)
+    Found file held (ap (λ (x : List Name). file_among x name) names ∙ found) (ap (λ (x : List (List TaggedByte)). slice_get x file) files ∙ there) (is ∙ bytes)
 
 -- a machine with the same files and boot
 same-Tells : (m n : Machine) (entries : List Record) → Same m n → Tells m entries → Tells n entries
@@ -189,7 +190,7 @@ if-Tells m true s entries tells after = after
 if-Tells m false s entries tells after = subst (Tells m) (sym (append-nil entries)) tells
 
 -- a boot
-boot-Tells : (m : Machine) (path : List ℕ) (file : ℕ) (held : List Held) (image : Image) (entries : List Record) → Tells m entries
+boot-Tells : (m : Machine) (path : List ℕ) (file : ℕ) (held : List TaggedByte) (image : Image) (entries : List Record) → Tells m entries
     → Tells (boot_step m path file held image).after (entries ++ entry.Boot path (given held) ∷ [])
 boot-Tells m path file held image entries tells =
     let e : Record = entry.Boot path (given held) in
@@ -200,12 +201,12 @@ boot-Tells m path file held image entries tells =
       files = λ name. same-FileTold m n entries (entries ++ e ∷ []) name refl refl (more-file_by entries e name refl) (tells.files name);
     }
 
-image-Tells : (m : Machine) (path : List ℕ) (file : ℕ) (held : List Held) (image : Option Image) (entries : List Record) → Tells m entries
+image-Tells : (m : Machine) (path : List ℕ) (file : ℕ) (held : List TaggedByte) (image : Option Image) (entries : List Record) → Tells m entries
     → Tells (after_steps m (boot_if_image m path file held image)) (entries ++ event_records (boot_if_image m path file held image))
 image-Tells m path file held None entries tells = subst (Tells m) (sym (append-nil entries)) tells
 image-Tells m path file held (Some image) entries tells = boot-Tells m path file held image entries tells
 
-held-Tells : (m : Machine) (path : List ℕ) (file : ℕ) (held : Option (List Held)) (entries : List Record) → Tells m entries
+held-Tells : (m : Machine) (path : List ℕ) (file : ℕ) (held : Option (List TaggedByte)) (entries : List Record) → Tells m entries
     → Tells (after_steps m (boot_if_held m path file held)) (entries ++ event_records (boot_if_held m path file held))
 held-Tells m path file None entries tells = subst (Tells m) (sym (append-nil entries)) tells
 held-Tells m path file (Some held) entries tells = image-Tells m path file held (image_of (values held)) entries tells
@@ -268,7 +269,7 @@ files-told inputs name =
     }
 
 -- a boot does nothing exactly where there is no image
-image-none : (m : Machine) (path : List ℕ) (file : ℕ) (held : List Held) (image : Option Image) → (boot_if_image m path file held image ≡ []) ↔ IsNone image
+image-none : (m : Machine) (path : List ℕ) (file : ℕ) (held : List TaggedByte) (image : Option Image) → (boot_if_image m path file held image ≡ []) ↔ IsNone image
 image-none m path file held None = (λ is. refl, λ is. refl)
 image-none m path file held (Some image) = (λ is. absurd cc, λ is. absurd cc)
 

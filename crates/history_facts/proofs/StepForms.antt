@@ -2,14 +2,16 @@
 use Rattle.std.proofs.Common.{◌≡◌, ℕ, zero, suc, ◌==◌, ◌%◌, nat_lt, Bool, true, false, if◌then◌else◌, List, [], ◌∷◌, length, Option, Some, None, take, refl, ap, ◌∙◌}
 use Rattle.std.proofs.Math.ListN.{length-set}
 use Rattle.arn_base.specs.Window.{Window, with_bytes}
-use Rattle.arn_model.specs.declared.history.Held.{Held}
-use Rattle.arn_model.specs.declared.limits.TheConstants.{EXIT, READ, WRITE, BAD_ADDRESS, NO_SUCH_CALL}
-use Rattle.arn_model.specs.Machine.{Machine, Process, Description, Console, Life, Live, Gone, process, windows, with_process, with_windows}
-use Rattle.arn_model.specs.Instruction.{Effect, Next, Call, End}
-use Rattle.arn_model.specs.Step.{Step, Event, is_event, values}
-use Rattle.arn_model.specs.Call.{CallOutcome, Waits, Answers, Ends, Takes, Writes, error, number, argument, opened, can_reach, cut, called, console_read, read_from, write_to, with_result, without_queued, call_step}
-use Rattle.arn_model.specs.Slice.{stands_at, effect_step, step_if_live, step_if_made, next_step, unless_ended, step_then, steps_of}
-use Rattle.arn_model.specs.Run.{is_booted}
+use Rattle.parts_model.specs.declared.tagged.TaggedByte.{TaggedByte}
+use Rattle.parts_model.specs.declared.calls.TheConstants.{EXIT, READ, WRITE}
+use Rattle.parts_model.specs.declared.refusals.TheConstants.{BAD_ADDRESS, NO_SUCH_CALL}
+use Rattle.solo_model.specs.Machine.{Machine, Process, Description, Console, Life, Live, Gone, process, windows, with_process, with_windows}
+use Rattle.rv64_model.specs.Instruction.{Effect, Next, Call, End}
+use Rattle.solo_model.specs.Step.{Step, Event, is_event}
+use Rattle.parts_model.specs.Tagged.{values}
+use Rattle.solo_model.specs.Call.{CallOutcome, Waits, Answers, Ends, Takes, Writes, error, number, argument, opened, can_reach, cut, called, console_read, read_from, write_to, with_result, without_queued, call_step}
+use Rattle.solo_model.specs.Slice.{stands_at, effect_step, step_if_live, step_if_made, next_step, unless_ended, step_then, steps_of}
+use Rattle.solo_model.specs.Run.{is_booted}
 use Rattle.history_facts.specs.Facts.{is_boot, is_file, event_len}
 use Rattle.history_facts.specs.Facts as fact
 
@@ -126,7 +128,7 @@ call-MaybeOfProcess m pid p (Ends status) fits =
       quiet = record { fits = record { is_event = refl; len = len-true (number p == EXIT) 0 fits }; boot = refl; file = refl };
     }
 call-MaybeOfProcess m pid p (Takes at n) fits =
-    let held : List Held = take n m.console.queue in
+    let held : List TaggedByte = take n m.console.queue in
     let queued : Same m (without_queued m n) = record { names = refl; files = refl; booted = refl } in
     record {
       same = counted-Same m _ _ (with_windows-Same m (without_queued m n) pid (with_result p n) (with_bytes (windows m p) at (values held)) queued);

@@ -5,9 +5,10 @@ use Rattle.arn_base.specs.declared.records.Extra.{Extra}
 use Rattle.arn_base.specs.declared.records.Extra.TheVariants as extra
 use Rattle.arn_base.specs.declared.records.Record.{Record}
 use Rattle.arn_base.specs.declared.records.Record.TheVariants as entry
-use Rattle.arn_model.specs.declared.limits.TheConstants.{MOST_FILES, EXIT}
-use Rattle.arn_model.specs.declared.limits.TheConstants.{MOST_ASKED}
-use Rattle.arn_model.specs.Related.{is_other_record}
+use Rattle.parts_model.specs.declared.limits.TheConstants.{MOST_FILES}
+use Rattle.parts_model.specs.declared.calls.TheConstants.{EXIT}
+use Rattle.parts_model.specs.declared.limits.TheConstants.{MOST_ASKED}
+use Rattle.solo_model.specs.Related.{is_other_record}
 
 -- the record starts the first process
 abbrev pub is_boot : Record → Bool

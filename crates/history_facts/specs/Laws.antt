@@ -1,12 +1,12 @@
 -- Records tell what the machine that made them would.
 use Rattle.std.specs.Prelude.{◌≡◌, ◌↔◌, ℕ, List, [], Some, false, is_some, IsNone}
-use Rattle.arn_model.specs.declared.history.Input.{Input}
-use Rattle.arn_model.specs.declared.history.Input.TheVariants as input
-use Rattle.arn_model.specs.Image.{image_of}
-use Rattle.arn_model.specs.Run.{machine_after, is_booted, find_file, is_free, input_steps}
-use Rattle.arn_model.specs.Related.{event_at}
+use Rattle.solo_model.specs.declared.history.Input.{Input}
+use Rattle.solo_model.specs.declared.history.Input.TheVariants as input
+use Rattle.parts_model.specs.Image.{image_of}
+use Rattle.solo_model.specs.Run.{machine_after, is_booted, find_file, is_free, input_steps}
+use Rattle.solo_model.specs.Related.{event_at}
 use Rattle.log_model.specs.Records.{records}
-use Rattle.arn_model.specs.Related.{has_other_calls, is_range}
+use Rattle.solo_model.specs.Related.{has_other_calls, is_range}
 use Rattle.history_facts.specs.Facts.{is_booted_by, file_by, is_free_by, event_by, is_range_by, has_other_calls_by}
 
 -- whether a process was made

@@ -1,10 +1,10 @@
 // Calls that queries don't follow.
 ghost use Rattle.std.specs.Prelude.{◌≡◌};
-ghost use Rattle.arn_model.specs.Related.{is_other_record};
+ghost use Rattle.solo_model.specs.Related.{is_other_record};
 ghost use Rattle.history_facts.specs.Facts.{has_other_calls_by};
 
 use arn_base::Record;
-use arn_model::limits::{EXIT, READ, WRITE};
+use parts_model::calls::{EXIT, READ, WRITE};
 
 /// Whether a call other than exit, read and write is among the records.
 pub fn has_other_calls(entries: &[Record]) -> bool

@@ -3,7 +3,8 @@ ghost use Rattle.std.specs.Prelude.{◌≡◌, ◌+◌, ◌&&◌, nat_le, option
 ghost use Rattle.history_facts.specs.Facts as fact;
 
 use arn_base::{Extra, Record};
-use arn_model::limits::{EXIT, MOST_ASKED};
+use parts_model::calls::EXIT;
+use parts_model::limits::MOST_ASKED;
 
 /// Whether there is such an event, counted from 0, with `len` bytes from the byte `from` on, and
 /// these aren't too many for one query.

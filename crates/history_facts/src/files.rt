@@ -3,7 +3,7 @@ ghost use Rattle.std.specs.Prelude.{◌≡◌, List, ◌∷◌, Some, None, IfSo
 ghost use Rattle.history_facts.specs.Facts as fact;
 
 use arn_base::Record;
-use arn_model::limits::MOST_FILES;
+use parts_model::limits::MOST_FILES;
 
 /// Whether a process was made.
 pub fn is_booted(entries: &[Record]) -> bool

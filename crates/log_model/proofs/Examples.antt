@@ -2,10 +2,10 @@
 use Rattle.std.proofs.Common.{◌≡◌, [], ◌∷◌, codes, Option, None, Some, refl}
 use Rattle.arn_base.specs.declared.records.Extra.TheVariants as extra
 use Rattle.arn_base.specs.declared.records.Record.TheVariants as entry
-use Rattle.arn_model.specs.declared.history.Input.TheVariants as input
-use Rattle.arn_model.specs.declared.lineage.Deed.TheVariants.{Returns}
-use Rattle.arn_model.specs.Machine.{at_first}
-use Rattle.arn_model.specs.Step.{Step, Event, nothing_received, nothing_put}
+use Rattle.solo_model.specs.declared.history.Input.TheVariants as input
+use Rattle.solo_model.specs.declared.lineage.Deed.TheVariants.{Returns}
+use Rattle.solo_model.specs.Machine.{at_first}
+use Rattle.solo_model.specs.Step.{Step, Event, nothing_received, nothing_put}
 use Rattle.log_model.specs.Records.{input_records, records, named}
 
 -- a file, and a second one of its name, which is refused; nothing is booted, so that nothing is typed and nothing runs

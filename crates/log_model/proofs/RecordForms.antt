@@ -3,14 +3,15 @@ use Rattle.std.proofs.Common.{◌≡◌, ◌⊎◌, ℕ, ◌≤◌, ◌++◌, �
 use Rattle.std.proofs.lemmas.Bool.{cond-true, cond-false}
 use Rattle.std.proofs.lemmas.List.Elements.{filter_map-append}
 use Rattle.arn_base.specs.declared.records.Record.{Record}
-use Rattle.arn_model.specs.declared.history.Held.{Held}
-use Rattle.arn_model.specs.declared.history.Input.{Input}
-use Rattle.arn_model.specs.declared.history.Input.TheVariants as input
-use Rattle.arn_model.specs.Machine.{Machine, at_first}
-use Rattle.arn_model.specs.Image.{Image, image_of}
-use Rattle.arn_model.specs.Step.{Step, values}
-use Rattle.arn_model.specs.Slice.{steps_of, after_steps, is_runnable, is_possible}
-use Rattle.arn_model.specs.Run.{can_add, file_step, typed_step, is_booted, find_file, boot_if_found, boot_if_held, boot_if_image, input_steps, after_input, steps_from, run, instructions_in}
+use Rattle.parts_model.specs.declared.tagged.TaggedByte.{TaggedByte}
+use Rattle.solo_model.specs.declared.history.Input.{Input}
+use Rattle.solo_model.specs.declared.history.Input.TheVariants as input
+use Rattle.solo_model.specs.Machine.{Machine, at_first}
+use Rattle.parts_model.specs.Image.{Image, image_of}
+use Rattle.solo_model.specs.Step.{Step}
+use Rattle.parts_model.specs.Tagged.{values}
+use Rattle.solo_model.specs.Slice.{steps_of, after_steps, is_runnable, is_possible}
+use Rattle.solo_model.specs.Run.{can_add, file_step, typed_step, is_booted, find_file, boot_if_found, boot_if_held, boot_if_image, input_steps, after_input, steps_from, run, instructions_in}
 use Rattle.log_model.specs.Records.{event_records, slice_records, input_records, records_from, records, named_by, named, IsRun}
 use Rattle.log_model.proofs.SliceForms.{slice-names-none, steps_of-few, steps_of-again, steps-some, fewer-possible}
 
@@ -28,12 +29,12 @@ unfolding NamesIt
 if-NamesIt i true s is = inr is
 if-NamesIt i false s is = inl refl
 
-image-NamesIt : (m : Machine) (path : List ℕ) (file : ℕ) (held : List Held) (image : Option Image) → NamesIt (input.Boot path) (boot_if_image m path file held image)
+image-NamesIt : (m : Machine) (path : List ℕ) (file : ℕ) (held : List TaggedByte) (image : Option Image) → NamesIt (input.Boot path) (boot_if_image m path file held image)
 unfolding NamesIt
 image-NamesIt m path file held None = inl refl
 image-NamesIt m path file held (Some image) = inr refl
 
-held-NamesIt : (m : Machine) (path : List ℕ) (file : ℕ) (held : Option (List Held)) → NamesIt (input.Boot path) (boot_if_held m path file held)
+held-NamesIt : (m : Machine) (path : List ℕ) (file : ℕ) (held : Option (List TaggedByte)) → NamesIt (input.Boot path) (boot_if_held m path file held)
 unfolding NamesIt
 held-NamesIt m path file None = inl refl
 held-NamesIt m path file (Some held) = image-NamesIt m path file held (image_of (values held))

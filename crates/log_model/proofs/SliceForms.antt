@@ -2,14 +2,14 @@
 use Rattle.std.proofs.Common.{◌≡◌, ℕ, zero, suc, ◌+◌, ◌≤◌, ◌∙◌, nat_le, ◌&&◌, Bool, true, false, cond, List, [], ◌∷◌, Option, None, Some, refl, ap, subst, arith}
 use Rattle.std.proofs.lemmas.Bool.Decides.{nat_tests}
 use Rattle.std.proofs.lemmas.List.Sums.{sum_by-cons}
-use Rattle.arn_model.specs.declared.limits.TheConstants.{MOST_SLICE}
-use Rattle.arn_model.specs.Machine.{Machine, Process, Life, Live, Gone, process}
-use Rattle.arn_model.specs.Instruction.{Effect, Next, Call, End}
-use Rattle.arn_model.specs.Step.{Step, Event, is_event}
-use Rattle.arn_model.specs.Deed.{is_instruction}
-use Rattle.arn_model.specs.Call.{CallOutcome, Waits, Answers, Ends, Takes, Writes, called, call_step}
-use Rattle.arn_model.specs.Slice.{stands_at, effect_step, step_if_live, step_if_made, next_step, unless_ended, step_then, steps_of}
-use Rattle.arn_model.specs.Run.{instructions_in}
+use Rattle.parts_model.specs.declared.limits.TheConstants.{MOST_SLICE}
+use Rattle.solo_model.specs.Machine.{Machine, Process, Life, Live, Gone, process}
+use Rattle.rv64_model.specs.Instruction.{Effect, Next, Call, End}
+use Rattle.solo_model.specs.Step.{Step, Event, is_event}
+use Rattle.solo_model.specs.Deed.{is_instruction}
+use Rattle.solo_model.specs.Call.{CallOutcome, Waits, Answers, Ends, Takes, Writes, called, call_step}
+use Rattle.solo_model.specs.Slice.{stands_at, effect_step, step_if_live, step_if_made, next_step, unless_ended, step_then, steps_of}
+use Rattle.solo_model.specs.Run.{instructions_in}
 use Rattle.log_model.specs.Records.{event_records, named_by, named}
 
 -- the event, if there is one, names no input

@@ -1,7 +1,7 @@
 -- What holds of the records of runs.
 use Rattle.std.specs.Prelude.{◌≡◌, List, ◌++◌}
-use Rattle.arn_model.specs.declared.history.Input.{Input}
-use Rattle.arn_model.specs.Run.{run, machine_after}
+use Rattle.solo_model.specs.declared.history.Input.{Input}
+use Rattle.solo_model.specs.Run.{run, machine_after}
 use Rattle.log_model.specs.Records.{records, records_from, named, IsRun}
 
 -- the inputs that the records of a run name do the same again, step by step

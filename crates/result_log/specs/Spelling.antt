@@ -7,7 +7,7 @@ use Rattle.arn_base.specs.declared.records.Extra.{Extra}
 use Rattle.arn_base.specs.declared.records.Extra.TheVariants as extra
 use Rattle.arn_base.specs.declared.records.Record.{Record}
 use Rattle.arn_base.specs.declared.records.Record.TheVariants as entry
-use Rattle.arn_model.specs.declared.limits.TheConstants.{MOST_NAME_BYTES}
+use Rattle.parts_model.specs.declared.limits.TheConstants.{MOST_NAME_BYTES}
 
 -- a number in so many bytes, the lowest byte first
 abbrev pub field : ℕ → ℕ → List ℕ

@@ -4,7 +4,7 @@ ghost use Rattle.result_log.specs.Spelling.{counted, extra_fields, give_fields, 
 
 use crate::split::ORIGIN_LEN;
 use arn_base::{Extra, Give, Record};
-use arn_model::limits::MOST_NAME_BYTES;
+use parts_model::limits::MOST_NAME_BYTES;
 
 // How many bytes a record's kind takes, as the tag of what a call did does.
 const KIND_LEN: u64 = 1;

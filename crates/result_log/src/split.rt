@@ -6,7 +6,7 @@ ghost use Rattle.result_log.specs.Spelling.{field, origin_fields, FitsOrigin};
 
 use crate::kinds::CALL;
 use arn_base::Origin;
-use arn_model::limits::MOST_NAME_BYTES;
+use parts_model::limits::MOST_NAME_BYTES;
 
 // How many bytes the fields of one origin take.
 pub(crate) const ORIGIN_LEN: usize = 16;

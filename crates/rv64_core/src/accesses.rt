@@ -2,15 +2,15 @@
 ghost use Rattle.std.specs.Prelude.{◌≡◌, ◌≢◌, ◌<◌, ◌*◌, ◌^◌, IsTrue, option_map};
 ghost use Rattle.arn_base.specs.Window.{number_at, IsAccessLength};
 ghost use Rattle.rv64_isa.specs.declared.instruction.Instr.{Instr};
-ghost use Rattle.arn_model.specs.Instruction.{loads, stores};
-ghost use Rattle.arn_model.specs.Operands.{store_len as store_len_of, stored_len};
-ghost use Rattle.arn_model.specs.Values.{load_len as load_len_of, load_result as load_result_of};
+ghost use Rattle.rv64_model.specs.Instruction.{loads, stores};
+ghost use Rattle.rv64_model.specs.Operands.{store_len as store_len_of, stored_len};
+ghost use Rattle.rv64_model.specs.Values.{load_len as load_len_of, load_result as load_result_of};
 ghost use Rattle.rv64_core.specs.Outcome.{Tells, OnStop};
 
 use crate::flow::{go_on, write};
 use crate::outcome::Outcome;
 use arn_base::{Cpu, Memory, StoreError};
-use arn_model::limits::BAD_ACCESS;
+use rv64_model::statuses::BAD_ACCESS;
 use rv64_isa::{LoadOp, Reg, StoreOp};
 
 // Loads a register from an address.

@@ -1,6 +1,6 @@
 ghost use Rattle.std.specs.Prelude.{◌≡◌, ◌-◌, ◌%◌, IsTrue};
-ghost use Rattle.arn_model.specs.Instruction.{executed};
-ghost use Rattle.arn_model.specs.Operands.{accessed as accessed_by, address as address_of};
+ghost use Rattle.rv64_model.specs.Instruction.{executed};
+ghost use Rattle.rv64_model.specs.Operands.{accessed as accessed_by, address as address_of};
 ghost use Rattle.rv64_core.specs.Outcome.{Tells, OnStop};
 
 use crate::accesses::{load, store};
@@ -9,7 +9,7 @@ use crate::outcome::Outcome;
 use crate::registers::register;
 use crate::values::{imm_result, is_taken, reg_result};
 use arn_base::{Cpu, Memory};
-use arn_model::limits::BREAKPOINT;
+use rv64_model::statuses::BREAKPOINT;
 use rv64_isa::{Instr, Reg};
 
 // Lets an instruction take effect.

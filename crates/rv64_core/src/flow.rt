@@ -2,14 +2,14 @@
 ghost use Rattle.std.specs.Prelude.{◌≡◌, ◌≢◌, ◌%◌, ◌==◌, List};
 ghost use Rattle.arn_base.specs.Window.{Window};
 ghost use Rattle.rv64_isa.specs.declared.instruction.Instr.{Instr};
-ghost use Rattle.arn_model.specs.Instruction.{advanced, branches, jumps, next_pc as next_pc_of};
-ghost use Rattle.arn_model.specs.Machine.{with_register};
+ghost use Rattle.rv64_model.specs.Instruction.{advanced, branches, jumps, next_pc as next_pc_of};
+ghost use Rattle.rv64_model.specs.Registers.{with_register};
 ghost use Rattle.rv64_core.specs.Outcome.{Tells, OnStop};
 
 use crate::outcome::Outcome;
 use crate::registers::set_register;
 use arn_base::Cpu;
-use arn_model::limits::MISALIGNED;
+use rv64_model::statuses::MISALIGNED;
 use rv64_isa::Reg;
 
 // Goes on to the next word.

@@ -1,6 +1,6 @@
 // The registers x0 to x31 over the 31 that are held.
 ghost use Rattle.std.specs.Prelude.{◌≡◌};
-ghost use Rattle.arn_model.specs.Machine.{register as value_of, with_register};
+ghost use Rattle.rv64_model.specs.Registers.{register as value_of, with_register};
 
 use arn_base::Cpu;
 use rv64_isa::Reg;

@@ -1,13 +1,13 @@
 ghost use Rattle.std.specs.Prelude.{◌≡◌, ◌+◌, IsTrue};
 ghost use Rattle.std.specs.Result.{result_ok};
 ghost use Rattle.arn_base.specs.Window.{number_at};
-ghost use Rattle.arn_model.specs.Instruction.{instruction};
+ghost use Rattle.rv64_model.specs.Instruction.{instruction};
 ghost use Rattle.rv64_core.specs.Outcome.{Tells, OnStop};
 
 use crate::execution::execute;
 use crate::outcome::Outcome;
 use arn_base::{BadAddress, Cpu, Memory, Steps};
-use arn_model::limits::{BAD_ACCESS, ILLEGAL_INSTRUCTION};
+use rv64_model::statuses::{BAD_ACCESS, ILLEGAL_INSTRUCTION};
 use rv64_isa::decode;
 use std::sync::ledger::Ledger;
 

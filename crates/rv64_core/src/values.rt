@@ -1,8 +1,8 @@
 // What instructions work out from values of 64 bits.
 ghost use Rattle.std.specs.Prelude.{◌≡◌, ◌%◌, ◌^◌};
 ghost use Rattle.std.specs.Int.{cast_unsigned, w64};
-ghost use Rattle.arn_model.specs.Values.{reg_result as reg_result_of, reg_op as reg_op_of};
-ghost use Rattle.arn_model.specs.Values.{imm_result as imm_result_of, is_taken as is_taken_by};
+ghost use Rattle.rv64_model.specs.Values.{reg_result as reg_result_of, reg_op as reg_op_of};
+ghost use Rattle.rv64_model.specs.Values.{imm_result as imm_result_of, is_taken as is_taken_by};
 
 use rv64_isa::{BranchOp, ImmOp, RegOp};
 

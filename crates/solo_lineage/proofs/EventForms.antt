@@ -5,12 +5,12 @@ use Rattle.std.proofs.lemmas.List.{length-map, length-take, length-take-le, leng
 use Rattle.std.proofs.lemmas.Option.{same_Some}
 use Rattle.std.proofs.lemmas.Bool.Decides.{nat_tests}
 use Rattle.arn_base.specs.Window.{Window, bytes_at, is_whole_in, window_bytes}
-use Rattle.arn_model.specs.declared.lineage.Deed.TheVariants as deed
-use Rattle.arn_model.specs.declared.lineage.Place.TheVariants.{Private}
-use Rattle.arn_model.specs.Machine.{Machine, Process, windows}
-use Rattle.arn_model.specs.Step.{Step, Event}
-use Rattle.arn_model.specs.Call.{can_reach}
-use Rattle.arn_model.specs.Run.{machine_after}
+use Rattle.solo_model.specs.declared.lineage.Deed.TheVariants as deed
+use Rattle.solo_model.specs.declared.lineage.Place.TheVariants.{Private}
+use Rattle.solo_model.specs.Machine.{Machine, Process, windows}
+use Rattle.solo_model.specs.Step.{Step, Event}
+use Rattle.solo_model.specs.Call.{can_reach}
+use Rattle.solo_model.specs.Run.{machine_after}
 use Rattle.solo_lineage.specs.declared.moves.Move.{Move}
 use Rattle.solo_lineage.specs.Moves.{queued_places, step_move, deed_of}
 use Rattle.solo_lineage.specs.Theorems.{IsShort, MovesTold, TellsStep, has_process, is_of_process, move_len}

@@ -9,25 +9,26 @@ use Rattle.rv64_isa.specs.declared.instruction.Instr.TheVariants.{Lui, Auipc, Ja
 use Rattle.rv64_isa.specs.declared.instruction.ImmOp.{ImmOp}
 use Rattle.rv64_isa.specs.declared.instruction.ImmOp.TheVariants.{Addi}
 use Rattle.arn_base.specs.declared.records.Src.{Src}
-use Rattle.arn_model.specs.declared.lineage.At.{At}
-use Rattle.arn_model.specs.declared.lineage.At.TheVariants.{Byte}
-use Rattle.arn_model.specs.declared.lineage.Deed.{Deed}
-use Rattle.arn_model.specs.declared.lineage.Deed.TheVariants as deed
-use Rattle.arn_model.specs.declared.lineage.Feed.{Feed}
-use Rattle.arn_model.specs.declared.lineage.Feed.TheVariants.{Old, In}
-use Rattle.arn_model.specs.declared.lineage.Operand.{Operand}
-use Rattle.arn_model.specs.declared.lineage.Operand.TheVariants.{Left, Right, Loaded}
-use Rattle.arn_model.specs.declared.lineage.Place.{Place}
-use Rattle.arn_model.specs.declared.lineage.Place.TheVariants as place
-use Rattle.arn_model.specs.declared.lineage.Point.{Point}
-use Rattle.arn_model.specs.declared.lineage.Spot.{Spot}
-use Rattle.arn_model.specs.declared.lineage.Spot.TheVariants as spot
-use Rattle.arn_model.specs.Deed.{within}
-use Rattle.arn_model.specs.Image.{header_len}
-use Rattle.arn_model.specs.Operands.{rd_of, rs1_of, rs2_of, stored_len, store_len}
-use Rattle.arn_model.specs.Values.{load_len}
-use Rattle.arn_model.specs.Flow.{is_zero, taken_if, unless_x0, imm_copies, copy_operands, register_spots, place_spot, place_spots, operand_spots, result_spots, is_register, in_place, carried, input_byte, placed, result_only, received, written, flow, if_below, shown}
-use Rattle.arn_model.specs.Tracking.{gather}
+use Rattle.solo_model.specs.declared.lineage.At.{At}
+use Rattle.solo_model.specs.declared.lineage.At.TheVariants.{Byte}
+use Rattle.solo_model.specs.declared.lineage.Deed.{Deed}
+use Rattle.solo_model.specs.declared.lineage.Deed.TheVariants as deed
+use Rattle.solo_model.specs.declared.lineage.Feed.{Feed}
+use Rattle.solo_model.specs.declared.lineage.Feed.TheVariants.{Old, In}
+use Rattle.rv64_model.specs.Carries.{Operand}
+use Rattle.rv64_model.specs.Carries.{Left, Right, Loaded}
+use Rattle.solo_model.specs.declared.lineage.Place.{Place}
+use Rattle.solo_model.specs.declared.lineage.Place.TheVariants as place
+use Rattle.solo_model.specs.declared.lineage.Point.{Point}
+use Rattle.solo_model.specs.declared.lineage.Spot.{Spot}
+use Rattle.solo_model.specs.declared.lineage.Spot.TheVariants as spot
+use Rattle.solo_model.specs.Deed.{within}
+use Rattle.parts_model.specs.Image.{header_len}
+use Rattle.rv64_model.specs.Operands.{rd_of, rs1_of, rs2_of, stored_len, store_len}
+use Rattle.rv64_model.specs.Values.{load_len}
+use Rattle.rv64_model.specs.Carries.{is_zero, taken_if, unless_x0, imm_copies, copy_operands}
+use Rattle.solo_model.specs.Flow.{register_spots, place_spot, place_spots, operand_spots, result_spots, is_register, in_place, carried, input_byte, placed, result_only, received, written, flow, if_below, shown}
+use Rattle.solo_model.specs.Tracking.{gather}
 use Rattle.solo_lineage.specs.Sources.{Shadow, points_of, source_by}
 
 -- one element at most

@@ -5,14 +5,15 @@ use Rattle.std.specs.List.{list_any, cons_option}
 use Rattle.std.proofs.lemmas.List.Sums.{sum_by-cons}
 use Rattle.std.proofs.lemmas.Option.{same_Some, none-some}
 use Rattle.arn_base.specs.Window.{Window, with_bytes}
-use Rattle.arn_model.specs.declared.history.Input.{Input}
-use Rattle.arn_model.specs.Machine.{Machine, Process, at_first, windows, with_windows}
-use Rattle.arn_model.specs.Step.{Step, Event, values}
-use Rattle.arn_model.specs.Deed.{is_instruction}
-use Rattle.arn_model.specs.Call.{without_queued, with_result}
-use Rattle.arn_model.specs.Slice.{after_steps}
-use Rattle.arn_model.specs.Run.{events_of, run, machine_after, instructions_in}
-use Rattle.arn_model.specs.Related.{process_of, group_of, query_groups, event_at, runs_in, groups_count, is_group}
+use Rattle.solo_model.specs.declared.history.Input.{Input}
+use Rattle.solo_model.specs.Machine.{Machine, Process, at_first, windows, with_windows}
+use Rattle.solo_model.specs.Step.{Step, Event}
+use Rattle.parts_model.specs.Tagged.{values}
+use Rattle.solo_model.specs.Deed.{is_instruction}
+use Rattle.solo_model.specs.Call.{without_queued, with_result}
+use Rattle.solo_model.specs.Slice.{after_steps}
+use Rattle.solo_model.specs.Run.{events_of, run, machine_after, instructions_in}
+use Rattle.solo_model.specs.Related.{process_of, group_of, query_groups, event_at, runs_in, groups_count, is_group}
 use Rattle.solo_lineage.specs.Theorems.{GroupsTold, groups_by, has_process}
 use Rattle.solo_lineage.proofs.StepForms.{Alone, Kind, AddsFile, Types, Boots, Executes, Returns, Exits, Receives, Gives, Faults, Chain, run-Chain}
 

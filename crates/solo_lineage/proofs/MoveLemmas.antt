@@ -3,14 +3,14 @@ use Rattle.std.proofs.Common.{◌≡◌, ℕ, zero, suc, ◌+◌, ◌-◌, ◌==
 use Rattle.std.specs.Prelude.{◌&&◌, option_map, unwrap_or}
 use Rattle.std.proofs.lemmas.Bool.{cases_Bool}
 use Rattle.arn_base.specs.declared.records.Src.{Src}
-use Rattle.arn_model.specs.declared.lineage.Feed.TheVariants.{Old}
-use Rattle.arn_model.specs.declared.lineage.At.{At}
-use Rattle.arn_model.specs.declared.lineage.At.TheVariants.{Byte}
-use Rattle.arn_model.specs.declared.lineage.Spot.{Spot}
-use Rattle.arn_model.specs.declared.lineage.Spot.TheVariants.{Register, Private}
-use Rattle.arn_model.specs.Deed.{within}
-use Rattle.arn_model.specs.Flow.{input_byte, is_register}
-use Rattle.arn_model.specs.Image.{header_len}
+use Rattle.solo_model.specs.declared.lineage.Feed.TheVariants.{Old}
+use Rattle.solo_model.specs.declared.lineage.At.{At}
+use Rattle.solo_model.specs.declared.lineage.At.TheVariants.{Byte}
+use Rattle.solo_model.specs.declared.lineage.Spot.{Spot}
+use Rattle.solo_model.specs.declared.lineage.Spot.TheVariants.{Register, Private}
+use Rattle.solo_model.specs.Deed.{within}
+use Rattle.solo_model.specs.Flow.{input_byte, is_register}
+use Rattle.parts_model.specs.Image.{header_len}
 use Rattle.solo_lineage.specs.declared.moves.Move.TheVariants.{Starts, Receives}
 use Rattle.solo_lineage.specs.Sources.{Shadow, after_move, move_input, source_by}
 use Rattle.solo_lineage.specs.Sources as sources

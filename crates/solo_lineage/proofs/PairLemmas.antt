@@ -3,8 +3,8 @@ use Rattle.std.proofs.Common.{◌≡◌, ℕ, zero, suc, ◌+◌, List, [], ◌�
 use Rattle.std.proofs.lemmas.List.{append-nil}
 use Rattle.arn_base.specs.declared.records.Src.{Src}
 use Rattle.arn_base.specs.declared.records.Pair.{Pair}
-use Rattle.arn_model.specs.declared.lineage.Point.{Point}
-use Rattle.arn_model.specs.Related.{byte_pairs, pairs_from}
+use Rattle.solo_model.specs.declared.lineage.Point.{Point}
+use Rattle.solo_model.specs.Related.{byte_pairs, pairs_from}
 use Rattle.solo_lineage.specs.Sources.{points_of}
 
 pairs_from-more : (sources : ℕ → List Point) (k n : ℕ) → pairs_from sources k (n + 1) ≡ pairs_from sources k n ++ byte_pairs (k + n) (sources (k + n))

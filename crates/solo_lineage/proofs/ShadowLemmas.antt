@@ -8,10 +8,10 @@ use Rattle.std.specs.Vec.{with_items}
 use Rattle.std.proofs.lemmas.List.{with_items_is}
 use borrow.Rule.Slice.PartMut.{put_mid}
 use Rattle.arn_base.specs.declared.records.Src.{Src}
-use Rattle.arn_model.specs.declared.lineage.Spot.{Spot}
-use Rattle.arn_model.specs.declared.lineage.Spot.TheVariants.{Register, Private}
-use Rattle.arn_model.specs.declared.limits.TheConstants.{WINDOW_START}
-use Rattle.arn_model.specs.Deed.{within}
+use Rattle.solo_model.specs.declared.lineage.Spot.{Spot}
+use Rattle.solo_model.specs.declared.lineage.Spot.TheVariants.{Register, Private}
+use Rattle.parts_model.specs.declared.limits.TheConstants.{WINDOW_START}
+use Rattle.solo_model.specs.Deed.{within}
 use Rattle.solo_lineage.specs.View.{shadow_of}
 use Rattle.solo_lineage.specs.Writes.{row_source, source_below, with_private}
 

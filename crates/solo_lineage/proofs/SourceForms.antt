@@ -2,15 +2,16 @@
 use Rattle.std.proofs.Common.{◌≡◌, ℕ, ◌+◌, ◌<◌, ◌≤◌, ◌==◌, ◌&&◌, Bool, true, false, if◌then◌else◌, List, [], ◌∷◌, refl, subst, ◌∙◌, arith}
 use Rattle.std.proofs.lemmas.Bool.Decides.{nat_tests}
 use Rattle.std.proofs.lemmas.Option.{none-some}
-use Rattle.arn_model.specs.declared.lineage.At.{At}
-use Rattle.arn_model.specs.declared.lineage.At.TheVariants.{Byte}
-use Rattle.arn_model.specs.declared.lineage.Point.{Point}
-use Rattle.arn_model.specs.declared.lineage.Spot.{Spot}
-use Rattle.arn_model.specs.Machine.{Machine, at_first}
-use Rattle.arn_model.specs.Step.{Step, is_event, next_event}
-use Rattle.arn_model.specs.Run.{run}
-use Rattle.arn_model.specs.Flow.{Table, copy_operands, flow, shown}
-use Rattle.arn_model.specs.Tracking.{Whole, input_set, untracked, whole_after, whole_from}
+use Rattle.solo_model.specs.declared.lineage.At.{At}
+use Rattle.solo_model.specs.declared.lineage.At.TheVariants.{Byte}
+use Rattle.solo_model.specs.declared.lineage.Point.{Point}
+use Rattle.solo_model.specs.declared.lineage.Spot.{Spot}
+use Rattle.solo_model.specs.Machine.{Machine, at_first}
+use Rattle.solo_model.specs.Step.{Step, is_event, next_event}
+use Rattle.solo_model.specs.Run.{run}
+use Rattle.rv64_model.specs.Carries.{Table, copy_operands}
+use Rattle.solo_model.specs.Flow.{flow, shown}
+use Rattle.solo_model.specs.Tracking.{Whole, input_set, untracked, whole_after, whole_from}
 use Rattle.solo_lineage.specs.Moves.{step_move}
 use Rattle.solo_lineage.specs.Sources.{Shadow, no_shadow, points_of, input_of, after_step, step_source, source_from}
 use Rattle.solo_lineage.specs.Theorems.{SourcesTold}

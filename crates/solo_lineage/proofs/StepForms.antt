@@ -6,17 +6,20 @@ use Rattle.arn_base.specs.declared.records.Extra.{Extra}
 use Rattle.arn_base.specs.declared.records.Extra.TheVariants as extra
 use Rattle.arn_base.specs.Window.{Window, with_bytes}
 use Rattle.rv64_isa.specs.declared.instruction.Instr.{Instr}
-use Rattle.arn_model.specs.declared.history.Held.{Held}
-use Rattle.arn_model.specs.declared.history.Input.{Input}
-use Rattle.arn_model.specs.declared.history.Input.TheVariants as input
-use Rattle.arn_model.specs.declared.limits.TheConstants.{MOST_TRANSFER, EXIT, READ, WRITE, BAD_ADDRESS, NO_SUCH_CALL}
-use Rattle.arn_model.specs.Machine.{Machine, Process, Description, Console, Life, Live, Gone, at_first, windows, with_windows}
-use Rattle.arn_model.specs.Image.{Image, image_of}
-use Rattle.arn_model.specs.Instruction.{Effect, Next, Call, End}
-use Rattle.arn_model.specs.Step.{Step, is_event, values}
-use Rattle.arn_model.specs.Call.{without_queued, with_result, error, CallOutcome, Waits, Answers, Ends, Takes, Writes, number, argument, opened, can_reach, cut, called, console_read, read_from, write_to, answer_step, exit_step, read_step, write_step, call_step}
-use Rattle.arn_model.specs.Slice.{instr_step, fault_step, stands_at, effect_step, step_if_live, step_if_made, next_step, unless_ended, step_then, steps_of, after_steps}
-use Rattle.arn_model.specs.Run.{is_booted, file_step, typed_step, boot_step, boot_if_image, boot_if_held, boot_if_found, find_file, input_steps, after_input, steps_from, run, machine_after}
+use Rattle.parts_model.specs.declared.tagged.TaggedByte.{TaggedByte}
+use Rattle.solo_model.specs.declared.history.Input.{Input}
+use Rattle.solo_model.specs.declared.history.Input.TheVariants as input
+use Rattle.parts_model.specs.declared.limits.TheConstants.{MOST_TRANSFER}
+use Rattle.parts_model.specs.declared.calls.TheConstants.{EXIT, READ, WRITE}
+use Rattle.parts_model.specs.declared.refusals.TheConstants.{BAD_ADDRESS, NO_SUCH_CALL}
+use Rattle.solo_model.specs.Machine.{Machine, Process, Description, Console, Life, Live, Gone, at_first, windows, with_windows}
+use Rattle.parts_model.specs.Image.{Image, image_of}
+use Rattle.rv64_model.specs.Instruction.{Effect, Next, Call, End}
+use Rattle.solo_model.specs.Step.{Step, is_event}
+use Rattle.parts_model.specs.Tagged.{values}
+use Rattle.solo_model.specs.Call.{without_queued, with_result, error, CallOutcome, Waits, Answers, Ends, Takes, Writes, number, argument, opened, can_reach, cut, called, console_read, read_from, write_to, answer_step, exit_step, read_step, write_step, call_step}
+use Rattle.solo_model.specs.Slice.{instr_step, fault_step, stands_at, effect_step, step_if_live, step_if_made, next_step, unless_ended, step_then, steps_of, after_steps}
+use Rattle.solo_model.specs.Run.{is_booted, file_step, typed_step, boot_step, boot_if_image, boot_if_held, boot_if_found, find_file, input_steps, after_input, steps_from, run, machine_after}
 
 -- at most one process, of group 1
 abbrev pub AtMostOne : List Process → Type 0
@@ -36,7 +39,7 @@ pub record Alone (m : Machine) (p : Process) : Type 0 where
 pub data Kind (m : Machine) : Step → Type 0 where
   AddsFile : (path bytes : List ℕ) → Kind m (file_step m path bytes)
   Types : (bytes : List ℕ) → Kind m (typed_step m bytes)
-  Boots : (path : List ℕ) (file : ℕ) (held : List Held) (image : Image) → slice_get m.files file ≡ Some held → Kind m (boot_step m path file held image)
+  Boots : (path : List ℕ) (file : ℕ) (held : List TaggedByte) (image : Image) → slice_get m.files file ≡ Some held → Kind m (boot_step m path file held image)
   Executes : (p : Process) (instr : Instr) (cpu : Cpu) (memory : List Window) → Alone m p → Kind m (instr_step m 1 p instr cpu memory)
   Returns : (p : Process) (result : ℕ) (more : Extra) → Alone m p → Kind m (answer_step m 1 p result more)
   Exits : (p : Process) (status : ℕ) → Alone m p → Kind m (exit_step m 1 p status)
@@ -177,12 +180,12 @@ unless-Chain : (m : Machine) (b : Bool) (steps : List Step) → Chain m steps �
 unless-Chain m true steps chain = tt
 unless-Chain m false steps chain = chain
 
-image-Chain : (m : Machine) (path : List ℕ) (file : ℕ) (held : List Held) → slice_get m.files file ≡ Some held → (image : Option Image)
+image-Chain : (m : Machine) (path : List ℕ) (file : ℕ) (held : List TaggedByte) → slice_get m.files file ≡ Some held → (image : Option Image)
     → Chain m (boot_if_image m path file held image)
 image-Chain m path file held found None = tt
 image-Chain m path file held found (Some image) = (Boots path file held image found, tt)
 
-held-Chain : (m : Machine) (path : List ℕ) (file : ℕ) (held : Option (List Held)) → slice_get m.files file ≡ held → Chain m (boot_if_held m path file held)
+held-Chain : (m : Machine) (path : List ℕ) (file : ℕ) (held : Option (List TaggedByte)) → slice_get m.files file ≡ held → Chain m (boot_if_held m path file held)
 held-Chain m path file None e = tt
 held-Chain m path file (Some held) e = image-Chain m path file held e (image_of (values held))
 

@@ -8,18 +8,19 @@ use Rattle.arn_base.specs.declared.records.Src.{Src}
 use Rattle.arn_base.specs.declared.records.Origin.{Origin}
 use Rattle.arn_base.specs.declared.records.Record.TheVariants as entry
 use Rattle.arn_base.specs.Window.{Window, with_bytes}
-use Rattle.arn_model.specs.declared.history.Held.{Held}
-use Rattle.arn_model.specs.declared.lineage.At.TheVariants.{Byte}
-use Rattle.arn_model.specs.declared.lineage.Cell.{Cell}
-use Rattle.arn_model.specs.declared.lineage.Cell.TheVariants as cell
-use Rattle.arn_model.specs.declared.lineage.Point.{Point}
-use Rattle.arn_model.specs.Machine.{Machine, Process, Channel, windows, with_windows}
-use Rattle.arn_model.specs.Step.{Step, next_event, held_bytes, held_from, given, values, comes_before, one_origin, onto_origins}
-use Rattle.arn_model.specs.Deed.{within}
-use Rattle.arn_model.specs.Call.{queued, without_queued, with_result}
-use Rattle.arn_model.specs.Run.{file_cells, console_end, file_step, typed_step}
-use Rattle.arn_model.specs.Flow.{copy_operands}
-use Rattle.arn_model.specs.Tracking.{Whole, cell_set, input_set, whole_after}
+use Rattle.parts_model.specs.declared.tagged.TaggedByte.{TaggedByte}
+use Rattle.solo_model.specs.declared.lineage.At.TheVariants.{Byte}
+use Rattle.solo_model.specs.declared.lineage.Cell.{Cell}
+use Rattle.solo_model.specs.declared.lineage.Cell.TheVariants as cell
+use Rattle.solo_model.specs.declared.lineage.Point.{Point}
+use Rattle.solo_model.specs.Machine.{Machine, Process, Channel, windows, with_windows}
+use Rattle.solo_model.specs.Step.{Step, next_event}
+use Rattle.parts_model.specs.Tagged.{held_bytes, held_from, given, values, comes_before, one_origin, onto_origins}
+use Rattle.solo_model.specs.Deed.{within}
+use Rattle.solo_model.specs.Call.{queued, without_queued, with_result}
+use Rattle.solo_model.specs.Run.{file_cells, console_end, file_step, typed_step}
+use Rattle.rv64_model.specs.Carries.{copy_operands}
+use Rattle.solo_model.specs.Tracking.{Whole, cell_set, input_set, whole_after}
 use Rattle.solo_lineage.specs.Moves.{first_event, file_event, queued_places, step_move}
 use Rattle.solo_lineage.specs.Sources.{place, points_of, input_of}
 use Rattle.solo_lineage.proofs.ListForms.{append-at, slice_get-drop, slice_get-in, slice_get-take}
@@ -27,7 +28,7 @@ use Rattle.solo_lineage.proofs.StepForms.{Kind, AddsFile, Types, Boots, Executes
 use Rattle.solo_lineage.proofs.FlowForms.{InputTold, input_len}
 
 -- a file's bytes are those of one event, and each has itself
-pub record FileTold (cells : Cell → List Point) (file : ℕ) (held : List Held) : Type 0 where
+pub record FileTold (cells : Cell → List Point) (file : ℕ) (held : List TaggedByte) : Type 0 where
   pub event : ℕ
   pub bytes : List ℕ
   pub is_held : held ≡ held_bytes event bytes
@@ -35,10 +36,10 @@ pub record FileTold (cells : Cell → List Point) (file : ℕ) (held : List Held
 
 -- each queued byte has the one from which it came
 abbrev pub ConsoleTold : (Cell → List Point) → Channel → Type 0
-ConsoleTold cells console = (k : ℕ) (h : Held) → slice_get console.queue k ≡ Some h → cells (cell.Console (console.taken + k)) ≡ points_of (Some h.origin)
+ConsoleTold cells console = (k : ℕ) (h : TaggedByte) → slice_get console.queue k ≡ Some h → cells (cell.Console (console.taken + k)) ≡ points_of (Some h.origin)
 
-abbrev pub FilesTold : (Cell → List Point) → List (List Held) → Type 0
-FilesTold cells files = (file : ℕ) (held : List Held) → slice_get files file ≡ Some held → FileTold cells file held
+abbrev pub FilesTold : (Cell → List Point) → List (List TaggedByte) → Type 0
+FilesTold cells files = (file : ℕ) (held : List TaggedByte) → slice_get files file ≡ Some held → FileTold cells file held
 
 -- what the kernel holds on a machine
 pub record CellsTold (m : Machine) (cells : Cell → List Point) : Type 0 where
@@ -62,7 +63,7 @@ with_windows-same m q [] = record { console = refl; files = refl; events = refl 
 with_windows-same m q (w ∷ memory) = record { console = refl; files = refl; events = refl }
 
 -- byte k of an event's bytes
-held_from-at : (event at : ℕ) (bytes : List ℕ) (k : ℕ) (h : Held) → slice_get (held_from event at bytes) k ≡ Some h → (k < length bytes) × (h.origin ≡ place event (at + k))
+held_from-at : (event at : ℕ) (bytes : List ℕ) (k : ℕ) (h : TaggedByte) → slice_get (held_from event at bytes) k ≡ Some h → (k < length bytes) × (h.origin ≡ place event (at + k))
 held_from-at event at [] k h e = absurd (none-some h e)
 held_from-at event at (b ∷ bytes) zero h e =
     let same = same_Some (record { value = b; origin = place event at }) h e in
@@ -134,7 +135,7 @@ first_event-onto : (s : Src) (origins : List Origin) → first_event (onto_origi
 first_event-onto s [] = refl
 first_event-onto s (o ∷ origins) = joined-first s o origins (comes_before s o)
 
-file_event-held : (event : ℕ) (bytes path : List ℕ) (held : List Held) → held ≡ held_bytes event bytes → 0 < length bytes → file_event (entry.Boot path (given held)) ≡ event
+file_event-held : (event : ℕ) (bytes path : List ℕ) (held : List TaggedByte) → held ≡ held_bytes event bytes → 0 < length bytes → file_event (entry.Boot path (given held)) ≡ event
 file_event-held event [] path held is some = absurd (omega arith)
 file_event-held event (b ∷ bytes) path held is some = rw is (first_event-onto (place event 0) _)
 
@@ -143,7 +144,7 @@ length-held_from event at [] = refl
 length-held_from event at (b ∷ bytes) = ap suc (length-held_from event (at + 1) bytes)
 
 -- the bytes of a file that is booted are those of its event
-file-source : (cells : Cell → List Point) (file : ℕ) (path : List ℕ) (held : List Held) → FileTold cells file held → (k : ℕ) → k < length held
+file-source : (cells : Cell → List Point) (file : ℕ) (path : List ℕ) (held : List TaggedByte) → FileTold cells file held → (k : ℕ) → k < length held
     → cell_set cells (file_cells file (length held) k) ≡ points_of (Some (place (file_event (entry.Boot path (given held))) k))
 file-source cells file path held t k h =
     let len : length held ≡ length t.bytes = ap length t.is_held ∙ length-held_from t.event 0 t.bytes in

@@ -4,11 +4,11 @@ use Rattle.arn_base.specs.declared.records.Src.{Src}
 use Rattle.arn_base.specs.declared.records.Origin.{Origin}
 use Rattle.arn_base.specs.declared.records.Record.{Record}
 use Rattle.arn_base.specs.declared.records.Record.TheVariants as entry
-use Rattle.arn_model.specs.declared.lineage.Deed.{Deed}
-use Rattle.arn_model.specs.declared.lineage.Deed.TheVariants as deed
-use Rattle.arn_model.specs.declared.lineage.Place.TheVariants.{Private}
-use Rattle.arn_model.specs.Machine.{Machine}
-use Rattle.arn_model.specs.Step.{Step, Event}
+use Rattle.solo_model.specs.declared.lineage.Deed.{Deed}
+use Rattle.solo_model.specs.declared.lineage.Deed.TheVariants as deed
+use Rattle.solo_model.specs.declared.lineage.Place.TheVariants.{Private}
+use Rattle.solo_model.specs.Machine.{Machine}
+use Rattle.solo_model.specs.Step.{Step, Event}
 use Rattle.solo_lineage.specs.declared.moves.Move.{Move}
 use Rattle.solo_lineage.specs.declared.moves.Move.TheVariants.{Arrives, Starts, Receives, Gives, Returns, Exits, Faults}
 

@@ -3,22 +3,23 @@
 use Rattle.std.specs.Prelude.{◌≡◌, ℕ, ◌+◌, ◌-◌, ◌==◌, ◌&&◌, ◌≤◌, if◌then◌else◌, List, [], ◌∷◌, length, Option, Some, None, slice_get, option_map}
 use Rattle.arn_base.specs.declared.records.Src.{Src}
 use Rattle.rv64_isa.specs.declared.instruction.Instr.{Instr}
-use Rattle.arn_model.specs.declared.lineage.At.{At}
-use Rattle.arn_model.specs.declared.lineage.At.TheVariants.{Byte}
-use Rattle.arn_model.specs.declared.lineage.Deed.{Deed}
-use Rattle.arn_model.specs.declared.lineage.Deed.TheVariants as deed
-use Rattle.arn_model.specs.declared.lineage.Feed.{Feed}
-use Rattle.arn_model.specs.declared.lineage.Feed.TheVariants.{Old, In}
-use Rattle.arn_model.specs.declared.lineage.Place.{Place}
-use Rattle.arn_model.specs.declared.lineage.Place.TheVariants.{Private}
-use Rattle.arn_model.specs.declared.lineage.Point.{Point}
-use Rattle.arn_model.specs.declared.lineage.Spot.{Spot}
-use Rattle.arn_model.specs.declared.limits.TheConstants.{WINDOW_START, WINDOW_END}
-use Rattle.arn_model.specs.Machine.{Machine}
-use Rattle.arn_model.specs.Image.{header_len}
-use Rattle.arn_model.specs.Operands.{stored_len}
-use Rattle.arn_model.specs.Step.{Step, is_event, next_event}
-use Rattle.arn_model.specs.Flow.{copy_operands, flow, shown}
+use Rattle.solo_model.specs.declared.lineage.At.{At}
+use Rattle.solo_model.specs.declared.lineage.At.TheVariants.{Byte}
+use Rattle.solo_model.specs.declared.lineage.Deed.{Deed}
+use Rattle.solo_model.specs.declared.lineage.Deed.TheVariants as deed
+use Rattle.solo_model.specs.declared.lineage.Feed.{Feed}
+use Rattle.solo_model.specs.declared.lineage.Feed.TheVariants.{Old, In}
+use Rattle.solo_model.specs.declared.lineage.Place.{Place}
+use Rattle.solo_model.specs.declared.lineage.Place.TheVariants.{Private}
+use Rattle.solo_model.specs.declared.lineage.Point.{Point}
+use Rattle.solo_model.specs.declared.lineage.Spot.{Spot}
+use Rattle.parts_model.specs.declared.limits.TheConstants.{WINDOW_START, WINDOW_END}
+use Rattle.solo_model.specs.Machine.{Machine}
+use Rattle.parts_model.specs.Image.{header_len}
+use Rattle.rv64_model.specs.Operands.{stored_len}
+use Rattle.solo_model.specs.Step.{Step, is_event, next_event}
+use Rattle.rv64_model.specs.Carries.{copy_operands}
+use Rattle.solo_model.specs.Flow.{flow, shown}
 use Rattle.solo_lineage.specs.declared.moves.Move.{Move}
 use Rattle.solo_lineage.specs.declared.moves.Move.TheVariants.{Arrives, Starts, Receives, Gives, Returns, Exits, Faults}
 use Rattle.solo_lineage.specs.Moves.{step_move, deed_of}

@@ -1,12 +1,12 @@
 -- What holds of the sources of a run's bytes.
 use Rattle.std.specs.Prelude.{◌≡◌, ◌≤◌, ℕ, List, [], ◌∷◌, length, Some, is_some, Bool, true, false, if◌then◌else◌}
-use Rattle.arn_model.specs.declared.history.Input.{Input}
-use Rattle.arn_model.specs.declared.lineage.Linkage.TheVariants.{Copy}
-use Rattle.arn_model.specs.Machine.{at_first}
-use Rattle.arn_model.specs.Step.{Step, Event}
-use Rattle.arn_model.specs.Run.{run, input_steps, machine_after, instructions_in}
-use Rattle.arn_model.specs.Related.{event_sources, event_at, process_of, query_groups, groups_count}
-use Rattle.arn_model.specs.declared.limits.TheConstants.{MOST_TRANSFER}
+use Rattle.solo_model.specs.declared.history.Input.{Input}
+use Rattle.rv64_model.specs.declared.linkage.Linkage.TheVariants.{Copy}
+use Rattle.solo_model.specs.Machine.{at_first}
+use Rattle.solo_model.specs.Step.{Step, Event}
+use Rattle.solo_model.specs.Run.{run, input_steps, machine_after, instructions_in}
+use Rattle.solo_model.specs.Related.{event_sources, event_at, process_of, query_groups, groups_count}
+use Rattle.parts_model.specs.declared.limits.TheConstants.{MOST_TRANSFER}
 use Rattle.solo_lineage.specs.declared.moves.Move.{Move}
 use Rattle.solo_lineage.specs.declared.moves.Move.TheVariants.{Arrives, Starts, Receives, Gives, Returns, Exits, Faults}
 use Rattle.solo_lineage.specs.Moves.{step_move, deed_of}

@@ -1,8 +1,8 @@
 -- What is kept of the sources of a process's bytes.
 use Rattle.std.specs.Prelude.{zero, suc, ◌-◌, ◌==◌, ◌&&◌, nat_le, if◌then◌else◌, List, [], Option, None, slice_index_or}
 use Rattle.arn_base.specs.declared.records.Src.{Src}
-use Rattle.arn_model.specs.declared.lineage.Spot.TheVariants.{Register, Private}
-use Rattle.arn_model.specs.declared.limits.TheConstants.{WINDOW_START}
+use Rattle.solo_model.specs.declared.lineage.Spot.TheVariants.{Register, Private}
+use Rattle.parts_model.specs.declared.limits.TheConstants.{WINDOW_START}
 use Rattle.solo_lineage.specs.Sources.{Shadow}
 
 -- for each of x1 to x31 where its bytes came from, the lowest first, and where those of the private window did

@@ -3,9 +3,10 @@ use Rattle.std.specs.Prelude.{ℕ, ℤ, zero, suc, ◌==◌, nat_lt, if◌then�
 use Rattle.rv64_isa.specs.declared.instruction.ImmOp.{ImmOp}
 use Rattle.rv64_isa.specs.declared.instruction.ImmOp.TheVariants.{Addi}
 use Rattle.arn_base.specs.declared.records.Src.{Src}
-use Rattle.arn_model.specs.declared.lineage.Spot.TheVariants.{Register, Private}
-use Rattle.arn_model.specs.Deed.{within}
-use Rattle.arn_model.specs.Flow.{is_register, is_zero}
+use Rattle.solo_model.specs.declared.lineage.Spot.TheVariants.{Register, Private}
+use Rattle.solo_model.specs.Deed.{within}
+use Rattle.solo_model.specs.Flow.{is_register}
+use Rattle.rv64_model.specs.Carries.{is_zero}
 use Rattle.solo_lineage.specs.Sources.{Shadow}
 
 -- the source of byte i of a row

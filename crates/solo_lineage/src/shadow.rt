@@ -1,13 +1,13 @@
 // Where the bytes of a process came from.
 ghost use Rattle.std.specs.Prelude.{◌≡◌, ◌+◌, ◌<◌, ◌≤◌, ◌^◌, IfOk, EachIndex, [], length, replicate, slice_index_or, slice_get};
-ghost use Rattle.arn_model.specs.Operands as operands;
-ghost use Rattle.arn_model.specs.Values as values;
+ghost use Rattle.rv64_model.specs.Operands as operands;
+ghost use Rattle.rv64_model.specs.Values as values;
 ghost use Rattle.solo_lineage.specs.Sources.{place};
 ghost use Rattle.solo_lineage.specs.Writes.{row_source};
 
 use crate::Move;
 use arn_base::{NoMemory, Pair, Src};
-use arn_model::limits::{WINDOW_LEN, WINDOW_START};
+use parts_model::limits::{WINDOW_LEN, WINDOW_START};
 use rv64_isa::{ImmOp, Instr, LoadOp, StoreOp};
 use std::alloc::Global;
 use std::iter::repeat_n;
@@ -29,7 +29,7 @@ pub struct Shadow {
 
 impl Model for Shadow {
     ghost use Rattle.std.specs.Prelude.{◌≡◌, length};
-    ghost use Rattle.arn_model.specs.declared.limits.TheConstants.{WINDOW_LEN};
+    ghost use Rattle.parts_model.specs.declared.limits.TheConstants.{WINDOW_LEN};
     ghost use Rattle.solo_lineage.specs.View.{Known};
 
     ghost Value = { Known };
@@ -42,9 +42,9 @@ impl Model for Shadow {
 
 impl Shadow {
     ghost use Rattle.std.specs.Prelude.{◌≡◌, ◌+◌, ◌-◌, ◌<◌, ◌≤◌, ◌^◌, ℕ, IfOk, if◌then◌else◌, length, slice_get};
-    ghost use Rattle.arn_model.specs.Related.{pairs_from};
-    ghost use Rattle.arn_model.specs.declared.lineage.Spot.{Spot};
-    ghost use Rattle.arn_model.specs.declared.lineage.Spot.TheVariants.{Register, Private};
+    ghost use Rattle.solo_model.specs.Related.{pairs_from};
+    ghost use Rattle.solo_model.specs.declared.lineage.Spot.{Spot};
+    ghost use Rattle.solo_model.specs.declared.lineage.Spot.TheVariants.{Register, Private};
     ghost use Rattle.solo_lineage.specs.Sources.{Fits, FitsStore, FitsWindow, after_instr, after_move, move_source, points_of, place};
     ghost use Rattle.solo_lineage.specs.View.{shadow_of};
     ghost use Rattle.solo_lineage.specs.Writes.{row_source, source_below, is_move, with_register, with_private};

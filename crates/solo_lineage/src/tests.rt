@@ -1,9 +1,9 @@
 ghost use Rattle.std.specs.Prelude.{◌+◌, ◌≤◌, IsTrue};
-ghost use Rattle.arn_model.specs.declared.limits.TheConstants.{WINDOW_START, WINDOW_END};
+ghost use Rattle.parts_model.specs.declared.limits.TheConstants.{WINDOW_START, WINDOW_END};
 
 use super::*;
 use arn_base::{NoMemory, Pair, Src};
-use arn_model::limits::{WINDOW_END, WINDOW_START};
+use parts_model::limits::{WINDOW_END, WINDOW_START};
 use rv64_isa::decode;
 use std::alloc::Global;
 use std::process::Abort;

@@ -4,13 +4,13 @@ use Rattle.std.proofs.lemmas.Bool.Decides.{nat_tests}
 use Rattle.std.proofs.lemmas.Option.{slice_get_past}
 use Rattle.arn_base.specs.declared.errors.NoMemory.{NoMemory}
 use Rattle.arn_base.specs.declared.records.Record.{Record}
-use Rattle.arn_model.specs.declared.history.Input.{Input}
-use Rattle.arn_model.specs.declared.limits.TheConstants.{MOST_ASKED}
-use Rattle.arn_model.specs.declared.lineage.Linkage.TheVariants.{Copy}
-use Rattle.arn_model.specs.Machine.{at_first}
-use Rattle.arn_model.specs.Step.{Step, Event}
-use Rattle.arn_model.specs.Run.{events_of, instructions_in, machine_after, run}
-use Rattle.arn_model.specs.Related.{asked_groups, event_at, event_sources, groups_count, is_range, query_groups}
+use Rattle.solo_model.specs.declared.history.Input.{Input}
+use Rattle.parts_model.specs.declared.limits.TheConstants.{MOST_ASKED}
+use Rattle.rv64_model.specs.declared.linkage.Linkage.TheVariants.{Copy}
+use Rattle.solo_model.specs.Machine.{at_first}
+use Rattle.solo_model.specs.Step.{Step, Event}
+use Rattle.solo_model.specs.Run.{events_of, instructions_in, machine_after, run}
+use Rattle.solo_model.specs.Related.{asked_groups, event_at, event_sources, groups_count, is_range, query_groups}
 use Rattle.log_model.specs.Laws.{NamedRunsAgain}
 use Rattle.log_model.specs.Records.{named, records}
 use Rattle.solo_lineage.specs.Sources.{no_shadow, points_of, source_from}

@@ -4,9 +4,9 @@ use Rattle.std.proofs.Math.Seq.{take-length}
 use Rattle.std.proofs.lemmas.List.{take_more}
 use Rattle.std.proofs.lemmas.List.Elements.{filter_map-append}
 use Rattle.arn_base.specs.declared.records.Record.{Record}
-use Rattle.arn_model.specs.Machine.{Machine, at_first}
-use Rattle.arn_model.specs.Step.{Step}
-use Rattle.arn_model.specs.Run.{instructions_in, machine_after, run, steps_from}
+use Rattle.solo_model.specs.Machine.{Machine, at_first}
+use Rattle.solo_model.specs.Step.{Step}
+use Rattle.solo_model.specs.Run.{instructions_in, machine_after, run, steps_from}
 use Rattle.log_model.specs.Records.{named, named_by}
 use Rattle.solo_queries.specs.declared.events.Asked.{Asked}
 use Rattle.solo_queries.specs.declared.events.Seen.{Seen}

@@ -3,16 +3,17 @@ use Rattle.std.proofs.Common.{◌≡◌, ◌≢◌, ℕ, zero, suc, ◌≤◌, B
 use Rattle.std.proofs.Math.ListN.{length-set}
 use Rattle.std.proofs.lemmas.Option.{slice_get_past}
 use Rattle.arn_base.specs.Window.{Window}
-use Rattle.arn_model.specs.declared.history.Held.{Held}
-use Rattle.arn_model.specs.declared.history.Input.{Input}
-use Rattle.arn_model.specs.declared.history.Input.TheVariants as input
-use Rattle.arn_model.specs.Image.{Image, image_of}
-use Rattle.arn_model.specs.Machine.{Machine, Process, Life, Live, Gone, at_first, process, with_process, with_windows}
-use Rattle.arn_model.specs.Instruction.{Effect, Next, Call, End}
-use Rattle.arn_model.specs.Step.{Step, is_event, values}
-use Rattle.arn_model.specs.Call.{CallOutcome, Waits, Answers, Ends, Takes, Writes, called, call_step, with_result, without_queued}
-use Rattle.arn_model.specs.Slice.{after_steps, can_go_on, effect_step, is_possible, is_runnable, next_step, stands_at, step_if_live, step_if_made, step_then, steps_of, unless_ended}
-use Rattle.arn_model.specs.Run.{after_input, boot_if_found, boot_if_held, boot_if_image, can_add, file_step, find_file, input_steps, is_booted, machine_after, steps_from, typed_step}
+use Rattle.parts_model.specs.declared.tagged.TaggedByte.{TaggedByte}
+use Rattle.solo_model.specs.declared.history.Input.{Input}
+use Rattle.solo_model.specs.declared.history.Input.TheVariants as input
+use Rattle.parts_model.specs.Image.{Image, image_of}
+use Rattle.solo_model.specs.Machine.{Machine, Process, Life, Live, Gone, at_first, process, with_process, with_windows}
+use Rattle.rv64_model.specs.Instruction.{Effect, Next, Call, End}
+use Rattle.solo_model.specs.Step.{Step, is_event}
+use Rattle.parts_model.specs.Tagged.{values}
+use Rattle.solo_model.specs.Call.{CallOutcome, Waits, Answers, Ends, Takes, Writes, called, call_step, with_result, without_queued}
+use Rattle.solo_model.specs.Slice.{after_steps, can_go_on, effect_step, is_possible, is_runnable, next_step, stands_at, step_if_live, step_if_made, step_then, steps_of, unless_ended}
+use Rattle.solo_model.specs.Run.{after_input, boot_if_found, boot_if_held, boot_if_image, can_add, file_step, find_file, input_steps, is_booted, machine_after, steps_from, typed_step}
 
 -- the machine has one process at most
 pub record IsSolo (m : Machine) : Type 0 where
@@ -75,11 +76,11 @@ if-solo : (m : Machine) (b : Bool) (s : Step) → IsSolo m → IsSolo s.after �
 if-solo m true s solo leads = leads
 if-solo m false s solo leads = solo
 
-image-solo : (m : Machine) (path : List ℕ) (file : ℕ) (held : List Held) (image : Option Image) → IsSolo m → IsSolo (after_steps m (boot_if_image m path file held image))
+image-solo : (m : Machine) (path : List ℕ) (file : ℕ) (held : List TaggedByte) (image : Option Image) → IsSolo m → IsSolo (after_steps m (boot_if_image m path file held image))
 image-solo m path file held None solo = solo
 image-solo m path file held (Some image) solo = record { few = omega arith }
 
-held-solo : (m : Machine) (path : List ℕ) (file : ℕ) (held : Option (List Held)) → IsSolo m → IsSolo (after_steps m (boot_if_held m path file held))
+held-solo : (m : Machine) (path : List ℕ) (file : ℕ) (held : Option (List TaggedByte)) → IsSolo m → IsSolo (after_steps m (boot_if_held m path file held))
 held-solo m path file None solo = solo
 held-solo m path file (Some held) solo = image-solo m path file held (image_of (values held)) solo
 

@@ -3,16 +3,17 @@ use Rattle.std.proofs.Common.{◌≡◌, ◌≢◌, subst, ℕ, zero, suc, ◌+�
 use Rattle.std.proofs.lemmas.Bool.Decides.{nat_tests}
 use Rattle.std.proofs.lemmas.Bool.{cond-true, cond-false}
 use Rattle.std.proofs.lemmas.List.Sums.{sum_by-append, sum_by-cons}
-use Rattle.arn_model.specs.declared.history.Held.{Held}
-use Rattle.arn_model.specs.declared.history.Input.{Input}
-use Rattle.arn_model.specs.declared.history.Input.TheVariants as input
-use Rattle.arn_model.specs.declared.limits.TheConstants.{MOST_SLICE}
-use Rattle.arn_model.specs.Image.{Image, image_of}
-use Rattle.arn_model.specs.Machine.{Machine}
-use Rattle.arn_model.specs.Step.{Step, next_event, values}
-use Rattle.arn_model.specs.Deed.{is_instruction}
-use Rattle.arn_model.specs.Slice.{after_steps, is_possible, is_runnable, next_step, steps_of, step_then}
-use Rattle.arn_model.specs.Run.{after_input, boot_if_found, boot_if_held, boot_if_image, can_add, file_step, find_file, input_steps, is_booted, instructions_in, steps_from, typed_step}
+use Rattle.parts_model.specs.declared.tagged.TaggedByte.{TaggedByte}
+use Rattle.solo_model.specs.declared.history.Input.{Input}
+use Rattle.solo_model.specs.declared.history.Input.TheVariants as input
+use Rattle.parts_model.specs.declared.limits.TheConstants.{MOST_SLICE}
+use Rattle.parts_model.specs.Image.{Image, image_of}
+use Rattle.solo_model.specs.Machine.{Machine}
+use Rattle.solo_model.specs.Step.{Step, next_event}
+use Rattle.parts_model.specs.Tagged.{values}
+use Rattle.solo_model.specs.Deed.{is_instruction}
+use Rattle.solo_model.specs.Slice.{after_steps, is_possible, is_runnable, next_step, steps_of, step_then}
+use Rattle.solo_model.specs.Run.{after_input, boot_if_found, boot_if_held, boot_if_image, can_add, file_step, find_file, input_steps, is_booted, instructions_in, steps_from, typed_step}
 use Rattle.solo_queries.proofs.Fewness.{IsSolo, others_stand, after_steps-append}
 use Rattle.solo_queries.proofs.StepForms.{next-taken, unable-none}
 
@@ -33,11 +34,11 @@ if-counts : (m : Machine) (b : Bool) (x s : Step) → cond b (x ∷ []) [] ≡ s
 if-counts m true x s is counts = this-counts m x s [] is counts
 if-counts m false x s is counts = absurd (no-head s is)
 
-image-counts : (m : Machine) (path : List ℕ) (file : ℕ) (held : List Held) (image : Option Image) (s : Step) → boot_if_image m path file held image ≡ s ∷ [] → Counts m s
+image-counts : (m : Machine) (path : List ℕ) (file : ℕ) (held : List TaggedByte) (image : Option Image) (s : Step) → boot_if_image m path file held image ≡ s ∷ [] → Counts m s
 image-counts m path file held None s is = absurd (no-head s is)
 image-counts m path file held (Some image) s is = this-counts m _ s [] is refl
 
-held-counts : (m : Machine) (path : List ℕ) (file : ℕ) (held : Option (List Held)) (s : Step) → boot_if_held m path file held ≡ s ∷ [] → Counts m s
+held-counts : (m : Machine) (path : List ℕ) (file : ℕ) (held : Option (List TaggedByte)) (s : Step) → boot_if_held m path file held ≡ s ∷ [] → Counts m s
 held-counts m path file None s is = absurd (no-head s is)
 held-counts m path file (Some held) s is = image-counts m path file held (image_of (values held)) s is
 

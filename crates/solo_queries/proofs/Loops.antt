@@ -1,9 +1,9 @@
 -- Instructions that run one by one.
 use Rattle.std.proofs.Common.{◌≡◌, ℕ, suc, ◌+◌, ◌-◌, ◌<◌, ◌≤◌, ◌++◌, ◌∙◌, true, false, List, [], ◌∷◌, Option, refl, sym, ap, subst, arith, append_assoc, append-nil}
-use Rattle.arn_model.specs.Machine.{Machine}
-use Rattle.arn_model.specs.Step.{Step, is_event, next_event}
-use Rattle.arn_model.specs.Slice.{is_runnable, steps_of, unless_ended}
-use Rattle.arn_model.specs.Run.{instructions_in}
+use Rattle.solo_model.specs.Machine.{Machine}
+use Rattle.solo_model.specs.Step.{Step, is_event, next_event}
+use Rattle.solo_model.specs.Slice.{is_runnable, steps_of, unless_ended}
+use Rattle.solo_model.specs.Run.{instructions_in}
 use Rattle.solo_queries.specs.declared.events.Asked.{Asked}
 use Rattle.solo_queries.specs.declared.events.Seen.{Seen}
 use Rattle.solo_queries.specs.declared.tracked.Ran.TheVariants as ran

@@ -4,17 +4,18 @@ use Rattle.std.proofs.lemmas.Bool.Decides.{nat_tests}
 use Rattle.std.proofs.lemmas.Bool.{cond-true, cond-false}
 use Rattle.std.proofs.lemmas.List.Elements.{filter_map-append}
 use Rattle.arn_base.specs.declared.records.Src.{Src}
-use Rattle.arn_model.specs.declared.lineage.At.{At}
-use Rattle.arn_model.specs.declared.lineage.Deed.{Deed}
-use Rattle.arn_model.specs.declared.lineage.Feed.{Feed}
-use Rattle.arn_model.specs.declared.lineage.Feed.TheVariants.{Old, In}
-use Rattle.arn_model.specs.declared.lineage.Spot.{Spot}
-use Rattle.arn_model.specs.declared.lineage.At.TheVariants.{Byte}
-use Rattle.arn_model.specs.Flow.{copy_operands, flow, shown}
-use Rattle.arn_model.specs.Machine.{Machine}
-use Rattle.arn_model.specs.Slice.{after_steps}
-use Rattle.arn_model.specs.Step.{Step, Event, is_event, next_event}
-use Rattle.arn_model.specs.Run.{events_of}
+use Rattle.solo_model.specs.declared.lineage.At.{At}
+use Rattle.solo_model.specs.declared.lineage.Deed.{Deed}
+use Rattle.solo_model.specs.declared.lineage.Feed.{Feed}
+use Rattle.solo_model.specs.declared.lineage.Feed.TheVariants.{Old, In}
+use Rattle.solo_model.specs.declared.lineage.Spot.{Spot}
+use Rattle.solo_model.specs.declared.lineage.At.TheVariants.{Byte}
+use Rattle.rv64_model.specs.Carries.{copy_operands}
+use Rattle.solo_model.specs.Flow.{flow, shown}
+use Rattle.solo_model.specs.Machine.{Machine}
+use Rattle.solo_model.specs.Slice.{after_steps}
+use Rattle.solo_model.specs.Step.{Step, Event, is_event, next_event}
+use Rattle.solo_model.specs.Run.{events_of}
 use Rattle.solo_lineage.specs.Sources.{Shadow, after_deed, after_step, shadow_from, source_by, source_from, step_source}
 
 -- sources of the same bytes are the same

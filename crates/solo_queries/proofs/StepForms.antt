@@ -2,15 +2,16 @@
 use Rattle.std.proofs.Common.{◌≡◌, ℕ, not, subst, zero, suc, ◌+◌, ◌∙◌, ◌&&◌, nat_le, Bool, true, false, List, [], ◌∷◌, Option, Some, None, IfSome, is_some, take, refl, ap}
 use Rattle.std.proofs.lemmas.Bool.{cond-true}
 use Rattle.arn_base.specs.Window.{Window, with_bytes}
-use Rattle.arn_model.specs.declared.history.Input.TheVariants as input
-use Rattle.arn_model.specs.declared.limits.TheConstants.{MOST_SLICE}
-use Rattle.arn_model.specs.Machine.{Machine, Process, Life, Live, Gone, process, windows, with_process, with_windows}
-use Rattle.arn_model.specs.Instruction.{Effect, Next, Call, End}
-use Rattle.arn_model.specs.Step.{Step, is_event, next_event, values}
-use Rattle.arn_model.specs.Deed.{is_instruction}
-use Rattle.arn_model.specs.Call.{CallOutcome, is_waiting, Waits, Answers, Ends, Takes, Writes, called, call_step, with_result, without_queued}
-use Rattle.arn_model.specs.Slice.{is_live, can_go_on, effect_step, is_possible, is_runnable, isnt_waiting, next_step, stands_at, step_if_live, step_if_made, step_then, steps_of, unless_ended}
-use Rattle.arn_model.specs.Run.{input_steps}
+use Rattle.solo_model.specs.declared.history.Input.TheVariants as input
+use Rattle.parts_model.specs.declared.limits.TheConstants.{MOST_SLICE}
+use Rattle.solo_model.specs.Machine.{Machine, Process, Life, Live, Gone, process, windows, with_process, with_windows}
+use Rattle.rv64_model.specs.Instruction.{Effect, Next, Call, End}
+use Rattle.solo_model.specs.Step.{Step, is_event, next_event}
+use Rattle.parts_model.specs.Tagged.{values}
+use Rattle.solo_model.specs.Deed.{is_instruction}
+use Rattle.solo_model.specs.Call.{CallOutcome, is_waiting, Waits, Answers, Ends, Takes, Writes, called, call_step, with_result, without_queued}
+use Rattle.solo_model.specs.Slice.{is_live, can_go_on, effect_step, is_possible, is_runnable, isnt_waiting, next_step, stands_at, step_if_live, step_if_made, step_then, steps_of, unless_ended}
+use Rattle.solo_model.specs.Run.{input_steps}
 use Rattle.solo_lineage.specs.Moves.{step_move}
 
 -- what holds of a step that a machine takes: it counts its event, has a move if it is one, and is an instruction

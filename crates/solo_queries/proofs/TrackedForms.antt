@@ -3,14 +3,14 @@ use Rattle.std.proofs.Common.{◌≡◌, ◌≢◌, ℕ, ◌+◌, ◌≤◌, ◌
 use Rattle.std.proofs.lemmas.Result.{IfOk-weaker}
 use Rattle.std.proofs.lemmas.List.Elements.{All-head}
 use Rattle.arn_base.specs.declared.errors.NoMemory.{NoMemory}
-use Rattle.arn_model.specs.declared.history.Input.{Input}
-use Rattle.arn_model.specs.declared.history.Input.TheVariants as input
-use Rattle.arn_model.specs.declared.lineage.Deed.TheVariants.{Runs}
-use Rattle.arn_model.specs.declared.lineage.Spot.{Spot}
-use Rattle.arn_model.specs.Machine.{Machine}
-use Rattle.arn_model.specs.Step.{Step, is_event}
-use Rattle.arn_model.specs.Slice.{after_steps, is_runnable, next_step}
-use Rattle.arn_model.specs.Run.{after_input, input_steps}
+use Rattle.solo_model.specs.declared.history.Input.{Input}
+use Rattle.solo_model.specs.declared.history.Input.TheVariants as input
+use Rattle.solo_model.specs.declared.lineage.Deed.TheVariants.{Runs}
+use Rattle.solo_model.specs.declared.lineage.Spot.{Spot}
+use Rattle.solo_model.specs.Machine.{Machine}
+use Rattle.solo_model.specs.Step.{Step, is_event}
+use Rattle.solo_model.specs.Slice.{after_steps, is_runnable, next_step}
+use Rattle.solo_model.specs.Run.{after_input, input_steps}
 use Rattle.guest_solo.specs.Input.{Does}
 use Rattle.guest_solo.specs.Standpoint.{StandsAt}
 use Rattle.guest_solo.specs.declared.standpoint.Standpoint.{Standpoint}

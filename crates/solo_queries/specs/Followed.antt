@@ -1,12 +1,12 @@
 -- What is known while a history runs again and the sources of its bytes are followed.
 use Rattle.std.specs.Prelude.{◌≡◌, ◌≤◌, ◌+◌, ℕ, Bool, true, false, List, [], ◌∷◌, ◌++◌, length, Option, Some, None, slice_get}
-use Rattle.arn_model.specs.declared.history.Input.{Input}
-use Rattle.arn_model.specs.declared.lineage.Spot.{Spot}
-use Rattle.arn_model.specs.Machine.{Machine, at_first}
-use Rattle.arn_model.specs.Step.{Step, Event, is_event}
-use Rattle.arn_model.specs.Slice.{after_steps, next_step}
-use Rattle.arn_model.specs.Run.{events_of, input_steps, machine_after}
-use Rattle.arn_model.specs.Related.{pairs_from}
+use Rattle.solo_model.specs.declared.history.Input.{Input}
+use Rattle.solo_model.specs.declared.lineage.Spot.{Spot}
+use Rattle.solo_model.specs.Machine.{Machine, at_first}
+use Rattle.solo_model.specs.Step.{Step, Event, is_event}
+use Rattle.solo_model.specs.Slice.{after_steps, next_step}
+use Rattle.solo_model.specs.Run.{events_of, input_steps, machine_after}
+use Rattle.solo_model.specs.Related.{pairs_from}
 use Rattle.solo_lineage.specs.declared.moves.Move.{Move}
 use Rattle.solo_lineage.specs.Moves.{step_move}
 use Rattle.solo_lineage.specs.Sources.{no_shadow, points_of, shadow_from, source_from}

@@ -1,10 +1,10 @@
 -- What a lineage query about bytes of an event is answered.
 use Rattle.std.specs.Prelude.{◌≡◌, ℕ, true, List}
 use Rattle.arn_base.specs.declared.records.Record.{Record}
-use Rattle.arn_model.specs.declared.history.Input.{Input}
-use Rattle.arn_model.specs.declared.lineage.Linkage.TheVariants.{Copy}
-use Rattle.arn_model.specs.Run.{run, instructions_in}
-use Rattle.arn_model.specs.Related.{event_at, event_pairs, groups_count, is_range, asked_groups}
+use Rattle.solo_model.specs.declared.history.Input.{Input}
+use Rattle.rv64_model.specs.declared.linkage.Linkage.TheVariants.{Copy}
+use Rattle.solo_model.specs.Run.{run, instructions_in}
+use Rattle.solo_model.specs.Related.{event_at, event_pairs, groups_count, is_range, asked_groups}
 use Rattle.log_model.specs.Records.{records}
 use Rattle.solo_queries.specs.declared.query.Found.{Found}
 

@@ -1,6 +1,6 @@
 // What is seen of the event that a query asks about.
 ghost use Rattle.std.specs.Prelude.{◌≡◌, ◌+◌, ◌<◌, ◌≤◌, ◌^◌, ◌↔◌, IfOk, IsTrue};
-ghost use Rattle.arn_model.specs.Related.{pairs_from};
+ghost use Rattle.solo_model.specs.Related.{pairs_from};
 ghost use Rattle.solo_lineage.specs.Sources.{move_source, points_of};
 ghost use Rattle.solo_lineage.specs.Theorems.{IsShort, is_of_process as has_process, move_len};
 ghost use Rattle.solo_lineage.specs.View.{shadow_of};

@@ -1,7 +1,7 @@
 // Lineage queries about the bytes of an event.
 ghost use Rattle.std.specs.Prelude.{◌≡◌, ◌≤◌, ◌<◌, ◌+◌, ◌^◌, All, IfOk, List, length, if◌then◌else◌};
-ghost use Rattle.arn_model.specs.declared.history.Input.{Input};
-ghost use Rattle.arn_model.specs.Run.{run, instructions_in};
+ghost use Rattle.solo_model.specs.declared.history.Input.{Input};
+ghost use Rattle.solo_model.specs.Run.{run, instructions_in};
 ghost use Rattle.log_model.specs.Records.{records};
 ghost use Rattle.result_log.specs.Spelling.{HasSpelling};
 ghost use Rattle.solo_lineage.specs.Theorems.{groups_by};

@@ -1,9 +1,9 @@
 // A recorded history that runs again.
 ghost use Rattle.std.specs.Prelude.{◌≡◌, ◌≢◌, ◌+◌, ◌<◌, ◌≤◌, ◌^◌, ◌++◌, [], ◌∷◌, ℕ, List, IfOk, IsNone, IsTrue, OnOk};
-ghost use Rattle.arn_model.specs.declared.history.Input.TheVariants as input;
-ghost use Rattle.arn_model.specs.Run.{input_steps, instructions_in, steps_from};
-ghost use Rattle.arn_model.specs.Slice.{is_runnable, steps_of};
-ghost use Rattle.arn_model.specs.Step.{Step};
+ghost use Rattle.solo_model.specs.declared.history.Input.TheVariants as input;
+ghost use Rattle.solo_model.specs.Run.{input_steps, instructions_in, steps_from};
+ghost use Rattle.solo_model.specs.Slice.{is_runnable, steps_of};
+ghost use Rattle.solo_model.specs.Step.{Step};
 ghost use Rattle.log_model.specs.Records.{named};
 ghost use Rattle.result_log.specs.Spelling.{HasSpelling, IsCounted, IsName};
 ghost use Rattle.solo_lineage.specs.Sources.{Fits};
@@ -11,8 +11,8 @@ ghost use Rattle.solo_queries.specs.Followed.{Advances, Follows, IsBetween, Trac
 
 use crate::events::{Asked, Seen, see};
 use arn_base::{NoMemory, Record, Steps};
-use arn_model::Standing;
-use arn_model::limits::{MOST_FILE_BYTES, MOST_SLICE};
+use solo_model::Standing;
+use parts_model::limits::{MOST_FILE_BYTES, MOST_SLICE};
 use guest_solo::{CutShort, MachineError, Solo, Standpoint, Turn};
 use solo_lineage::{Move, Shadow, moves_told};
 use std::alloc::Global;

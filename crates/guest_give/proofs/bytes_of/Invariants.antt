@@ -1,5 +1,5 @@
 use Rattle.std.proofs.Common.{◌≡◌, take}
-use Rattle.arn_model.specs.Step.{values}
+use Rattle.parts_model.specs.Tagged.{values}
 use Rattle.guest_give.proofs.bytes_of.Given as goal
 
 abbrev pub invariant-loop-byte : goal.invariant-loop-byte

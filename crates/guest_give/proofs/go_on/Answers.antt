@@ -1,6 +1,6 @@
 use Rattle.std.proofs.Common.{◌+◌, ◌++◌, ◌∷◌, ◌∙◌, [], Bool, List, if◌then◌else◌, append_assoc, sym, ap}
 use Rattle.arn_base.specs.declared.records.Origin.{Origin}
-use Rattle.arn_model.specs.Step.{one_origin}
+use Rattle.parts_model.specs.Tagged.{one_origin}
 use Rattle.guest_give.proofs.RunForms.{with_place-last}
 use Rattle.guest_give.proofs.go_on.Goals as goal
 

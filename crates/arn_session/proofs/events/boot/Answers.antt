@@ -1,5 +1,5 @@
 use Rattle.std.proofs.Common.{inl, [], ◌∷◌, refl, arith}
-use Rattle.arn_model.specs.declared.history.Input.TheVariants as input
+use Rattle.solo_model.specs.declared.history.Input.TheVariants as input
 use Rattle.arn_lines.specs.Texts.{event_text}
 use Rattle.arn_session.specs.Answers.{event_effects, machine_of}
 use Rattle.arn_session.specs.declared.status.Halt.TheVariants as halt

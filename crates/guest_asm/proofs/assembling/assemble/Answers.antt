@@ -1,5 +1,5 @@
 use Rattle.std.proofs.Common.{sym, ap, ◌∙◌}
-use Rattle.arn_model.specs.Image.{is_image}
+use Rattle.parts_model.specs.Image.{is_image}
 use Rattle.guest_asm.specs.Assembled.{items, placed}
 use Rattle.guest_asm.proofs.Accepting.{is_image-image_of_text}
 use Rattle.guest_asm.proofs.Soundness.{sound, stands_placed}

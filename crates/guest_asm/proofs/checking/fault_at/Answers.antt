@@ -1,5 +1,5 @@
 use Rattle.std.proofs.Common.{◌+◌, ap, not, sym, ◌∙◌}
-use Rattle.arn_model.specs.declared.limits.TheConstants.{WINDOW_START}
+use Rattle.parts_model.specs.declared.limits.TheConstants.{WINDOW_START}
 use Rattle.guest_asm.specs.Assembled.{fault_if, is_in_range}
 use Rattle.guest_asm.specs.First.{first_of}
 use Rattle.asm_text.specs.declared.fault.AsmKind.TheVariants.{Range}

@@ -1,5 +1,5 @@
 use Rattle.std.proofs.Common.{◌+◌, ◌++◌, ℕ, List, ap, sym, ◌∙◌}
-use Rattle.arn_model.specs.declared.limits.TheConstants.{WINDOW_START}
+use Rattle.parts_model.specs.declared.limits.TheConstants.{WINDOW_START}
 use Rattle.guest_asm.proofs.Imaging.{encodable, statement_bytes_said}
 use Rattle.guest_asm.proofs.images.push_placed.Goals as goal
 

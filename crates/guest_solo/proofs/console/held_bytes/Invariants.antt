@@ -1,5 +1,5 @@
 use Rattle.std.proofs.Common.{◌≡◌, ◌++◌, drop}
-use Rattle.arn_model.specs.Step.{held_from}
+use Rattle.parts_model.specs.Tagged.{held_from}
 use Rattle.guest_solo.proofs.console.held_bytes.Given as goal
 
 abbrev pub invariant-loop-at : goal.invariant-loop-at

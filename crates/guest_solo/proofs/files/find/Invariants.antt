@@ -1,5 +1,5 @@
 use Rattle.std.proofs.Common.{◌≡◌, drop}
-use Rattle.arn_model.specs.Run.{file_among}
+use Rattle.solo_model.specs.Run.{file_among}
 use Rattle.guest_solo.specs.Files.{names_from}
 use Rattle.guest_solo.proofs.files.find.Given as goal
 

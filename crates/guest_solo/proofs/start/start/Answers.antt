@@ -3,10 +3,11 @@ use Rattle.arn_base.specs.Disk.{overwrite}
 use Rattle.arn_base.specs.Window.{with_bytes}
 use Rattle.guest_mem.specs.Windows.{private_window}
 use Rattle.arn_base.specs.declared.machine.Cpu.{Cpu}
-use Rattle.arn_model.specs.declared.limits.TheConstants.{WINDOW_START}
-use Rattle.arn_model.specs.Image.{Image, cpu_at_start}
-use Rattle.arn_model.specs.Machine.{Process, Live}
-use Rattle.arn_model.specs.Run.{first_descriptors}
+use Rattle.parts_model.specs.declared.limits.TheConstants.{WINDOW_START}
+use Rattle.parts_model.specs.Image.{Image}
+use Rattle.solo_model.specs.Start.{cpu_at_start}
+use Rattle.solo_model.specs.Machine.{Process, Live}
+use Rattle.solo_model.specs.Run.{first_descriptors}
 use Rattle.guest_solo.proofs.StartLemmas.{image-fits, written-window, window-at_start}
 use Rattle.guest_solo.proofs.start.start.Goals as goal
 

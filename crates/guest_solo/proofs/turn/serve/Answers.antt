@@ -1,10 +1,10 @@
 use Rattle.std.proofs.Common.{◌≡◌, ◌+◌, ◌-◌, ◌∙◌, ℕ, List, map, take, drop, refl, ap, subst, arith}
 use Rattle.arn_base.specs.Window.{with_bytes}
 use Rattle.guest_mem.specs.Windows.{private_window}
-use Rattle.arn_model.specs.Step.{values, given}
+use Rattle.parts_model.specs.Tagged.{values, given}
 use Rattle.arn_base.specs.declared.machine.Cpu.{Cpu}
 use Rattle.arn_base.specs.declared.records.Give.{Give}
-use Rattle.arn_model.specs.Call.{returned}
+use Rattle.solo_model.specs.Call.{returned}
 use Rattle.guest_solo.proofs.TurnLemmas.{turn-takes, turn-writes, takes-last, writes-last, always}
 use Rattle.guest_solo.proofs.turn.serve.Goals as goal
 

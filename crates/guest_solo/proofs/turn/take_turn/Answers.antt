@@ -1,6 +1,6 @@
 use Rattle.std.proofs.Common.{◌≡◌, ◌-◌, ℕ, suc, ◌∙◌, arith, subst, add-zero}
 use Rattle.rv64_core.specs.declared.outcome.Outcome.{Outcome}
-use Rattle.arn_model.specs.Instruction.{Effect}
+use Rattle.rv64_model.specs.Instruction.{Effect}
 use Rattle.guest_solo.specs.Burst.{StopsAt}
 use Rattle.guest_solo.proofs.TurnLemmas.{turn-none, turn-behind, turn-cut, turn-faults, last-behind}
 use Rattle.guest_solo.proofs.turn.take_turn.Goals as goal

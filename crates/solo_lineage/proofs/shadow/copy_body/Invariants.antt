@@ -1,5 +1,5 @@
 use Rattle.std.proofs.Common.{◌≡◌, ◌+◌, ◌<◌, ℕ, Some}
-use Rattle.arn_model.specs.Image.{header_len}
+use Rattle.parts_model.specs.Image.{header_len}
 use Rattle.solo_lineage.specs.Sources.{place}
 use Rattle.solo_lineage.specs.Writes.{row_source}
 use Rattle.solo_lineage.proofs.shadow.copy_body.Given as goal

@@ -1,6 +1,6 @@
 use Rattle.std.proofs.Common.{◌++◌, [], ◌∷◌, List, ◌∙◌, ap, refl, subst}
 use Rattle.arn_base.specs.declared.records.Record.{Record}
-use Rattle.arn_model.specs.declared.history.Input.TheVariants as input
+use Rattle.solo_model.specs.declared.history.Input.TheVariants as input
 use Rattle.guest_machine.specs.Recorded.{Recorded, Runs}
 use Rattle.guest_machine.specs.View.{recorded_of}
 use Rattle.guest_machine.proofs.RunsLemmas.{boot-Runs}

@@ -1,5 +1,5 @@
 use Rattle.std.proofs.Common.{ℕ, ◌-◌, ◌∙◌, ap, sym, arith}
-use Rattle.arn_model.specs.declared.history.Standing.{Standing}
+use Rattle.solo_model.specs.declared.history.Standing.{Standing}
 use Rattle.guest_machine.specs.Legs.{leg_end}
 use Rattle.guest_machine.proofs.LegLemmas.{SoFar-start, SoFar-turn, SoFar-end, SoFar-pending, SoFar-cut, IsLeg, goes-on, slice-room}
 use Rattle.guest_machine.proofs.machine.Machine.run_leg.Given.{Over}

@@ -2,7 +2,7 @@ use Rattle.std.proofs.Common.{ℕ, ◌+◌, ◌++◌, [], ◌∷◌, List, ◌�
 use Rattle.std.proofs.lemmas.List.Elements.{All-cons}
 use Rattle.arn_base.specs.declared.records.Record.{Record}
 use Rattle.arn_base.specs.declared.records.Record.TheVariants as entry
-use Rattle.arn_model.specs.declared.history.Input.TheVariants as input
+use Rattle.solo_model.specs.declared.history.Input.TheVariants as input
 use Rattle.result_log.specs.Spelling.{HasSpelling}
 use Rattle.guest_machine.specs.Recorded.{Recorded, Runs}
 use Rattle.guest_machine.specs.View.{recorded_of}

@@ -1,12 +1,12 @@
 use Rattle.std.proofs.Common.{◌≡◌, ◌+◌, List, [], ◌∷◌, length, ap, sym, ◌∙◌, subst}
-use Rattle.arn_model.specs.Machine.{Machine}
-use Rattle.arn_model.specs.declared.history.Input.TheVariants as input
+use Rattle.solo_model.specs.Machine.{Machine}
+use Rattle.solo_model.specs.declared.history.Input.TheVariants as input
 use Rattle.guest_solo.specs.declared.files.BootFile.{BootFile}
 use Rattle.guest_solo.specs.Files.{names_from, is_free_among}
 use Rattle.guest_solo.specs.Input.{Does}
 use Rattle.guest_solo.specs.Solo.{machine_of}
 use Rattle.guest_solo.proofs.SoloLemmas.{does-file, files-after, can-add, moved-file}
-use Rattle.arn_model.specs.Run.{input_steps}
+use Rattle.solo_model.specs.Run.{input_steps}
 use Rattle.solo_lineage.specs.declared.moves.Move.TheVariants as move
 use Rattle.solo_lineage.specs.Moves.{moves_from}
 use Rattle.guest_solo.proofs.solo.Solo.add_file.Goals as goal

@@ -1,12 +1,12 @@
 use Rattle.std.proofs.Common.{◌≡◌, ◌+◌, ◌-◌, ◌<◌, ◌∙◌, ◌↔◌, ℕ, List, [], ◌∷◌, arith, Some, None, Err, IsErrOf, length, false, is_some, IsTrue, refl, sym, ap, subst}
-use Rattle.arn_model.specs.declared.history.Input.TheVariants as input
+use Rattle.solo_model.specs.declared.history.Input.TheVariants as input
 use Rattle.arn_base.specs.declared.records.Record.{Record}
 use Rattle.arn_base.specs.declared.records.Record.TheVariants as entry
-use Rattle.arn_model.specs.Step.{given, held_bytes}
+use Rattle.parts_model.specs.Tagged.{given, held_bytes}
 use Rattle.log_model.specs.Records.{event_records}
-use Rattle.arn_model.specs.Image.{image_of}
-use Rattle.arn_model.specs.Machine.{Machine}
-use Rattle.arn_model.specs.Run.{file_among, find_file, is_booted, input_steps}
+use Rattle.parts_model.specs.Image.{image_of}
+use Rattle.solo_model.specs.Machine.{Machine}
+use Rattle.solo_model.specs.Run.{file_among, find_file, is_booted, input_steps}
 use Rattle.guest_solo.specs.declared.files.BootFile.{BootFile}
 use Rattle.guest_solo.specs.declared.solo.Booted.{Booted}
 use Rattle.guest_solo.specs.declared.errors.MachineError.TheVariants as error

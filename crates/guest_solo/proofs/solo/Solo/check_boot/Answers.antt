@@ -1,8 +1,8 @@
 use Rattle.std.proofs.Common.{◌≡◌, ◌<◌, ◌∙◌, ◌↔◌, ℕ, List, Some, None, Ok, Err, IsErrOf, length, false, is_some, IsTrue, refl, sym, ap, subst}
-use Rattle.arn_model.specs.declared.history.Input.TheVariants as input
-use Rattle.arn_model.specs.Image.{image_of}
-use Rattle.arn_model.specs.Machine.{Machine}
-use Rattle.arn_model.specs.Run.{file_among, find_file, is_booted}
+use Rattle.solo_model.specs.declared.history.Input.TheVariants as input
+use Rattle.parts_model.specs.Image.{image_of}
+use Rattle.solo_model.specs.Machine.{Machine}
+use Rattle.solo_model.specs.Run.{file_among, find_file, is_booted}
 use Rattle.guest_solo.specs.declared.files.BootFile.{BootFile}
 use Rattle.guest_solo.specs.declared.errors.MachineError.TheVariants as error
 use Rattle.guest_solo.specs.Files.{names_from}

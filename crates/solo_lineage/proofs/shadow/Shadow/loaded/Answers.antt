@@ -1,6 +1,6 @@
 use Rattle.std.proofs.Common.{arith, ◌+◌, ◌∙◌, ap, ℕ, length-set}
 use Rattle.solo_lineage.proofs.ShadowLemmas.{loaded-more}
-use Rattle.arn_model.specs.declared.lineage.Spot.TheVariants.{Private}
+use Rattle.solo_model.specs.declared.lineage.Spot.TheVariants.{Private}
 use Rattle.solo_lineage.specs.View.{shadow_of}
 use Rattle.solo_lineage.proofs.shadow.Shadow.loaded.Goals as goal
 

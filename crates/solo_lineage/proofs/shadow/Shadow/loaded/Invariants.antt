@@ -1,5 +1,5 @@
 use Rattle.std.proofs.Common.{◌≡◌, ◌+◌, ℕ, length}
-use Rattle.arn_model.specs.declared.lineage.Spot.TheVariants.{Private}
+use Rattle.solo_model.specs.declared.lineage.Spot.TheVariants.{Private}
 use Rattle.solo_lineage.specs.View.{shadow_of}
 use Rattle.solo_lineage.specs.Writes.{row_source, source_below}
 use Rattle.solo_lineage.proofs.shadow.Shadow.loaded.Given as goal

@@ -1,5 +1,5 @@
 use Rattle.std.proofs.Common.{◌≡◌, ◌+◌}
-use Rattle.arn_model.specs.Related.{pairs_from}
+use Rattle.solo_model.specs.Related.{pairs_from}
 use Rattle.solo_lineage.specs.Sources.{move_source, points_of}
 use Rattle.solo_lineage.specs.View.{shadow_of}
 use Rattle.solo_lineage.proofs.shadow.Shadow.pairs.Given as goal

@@ -1,5 +1,5 @@
 use Rattle.std.proofs.Common.{◌+◌, ◌-◌, Some, arith}
-use Rattle.arn_model.specs.Image.{header_len}
+use Rattle.parts_model.specs.Image.{header_len}
 use Rattle.solo_lineage.specs.Sources.{place}
 use Rattle.solo_lineage.proofs.ShadowLemmas.{part-shadow}
 use Rattle.solo_lineage.proofs.shadow.Shadow.start.Goals as goal

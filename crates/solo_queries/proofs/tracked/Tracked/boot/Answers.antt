@@ -1,6 +1,6 @@
 use Rattle.std.proofs.Common.{arith, ap, refl, sym}
-use Rattle.arn_model.specs.declared.history.Input.TheVariants as input
-use Rattle.arn_model.specs.Machine.{Machine}
+use Rattle.solo_model.specs.declared.history.Input.TheVariants as input
+use Rattle.solo_model.specs.Machine.{Machine}
 use Rattle.solo_queries.proofs.TrackedForms.{Does-few, Does-follows}
 use Rattle.solo_queries.proofs.tracked.Tracked.boot.Goals as goal
 

@@ -1,7 +1,7 @@
 use Rattle.std.proofs.Common.{◌+◌, ◌≤◌, ◌++◌, IfOk, List, arith, subst, sym}
-use Rattle.arn_model.specs.declared.history.Input.TheVariants as input
-use Rattle.arn_model.specs.Run.{instructions_in}
-use Rattle.arn_model.specs.Step.{Step}
+use Rattle.solo_model.specs.declared.history.Input.TheVariants as input
+use Rattle.solo_model.specs.Run.{instructions_in}
+use Rattle.solo_model.specs.Step.{Step}
 use Rattle.solo_queries.specs.Followed.{Follows, Tracks}
 use Rattle.solo_queries.proofs.InputForms.{long-slice, own-slice}
 use Rattle.solo_queries.proofs.TrackedForms.{Tracks-none, Tracks-other}

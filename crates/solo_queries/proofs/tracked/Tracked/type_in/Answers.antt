@@ -1,5 +1,5 @@
 use Rattle.std.proofs.Common.{length, refl}
-use Rattle.arn_model.specs.declared.history.Input.TheVariants as input
+use Rattle.solo_model.specs.declared.history.Input.TheVariants as input
 use Rattle.solo_lineage.specs.declared.moves.Move.TheVariants.{Arrives}
 use Rattle.solo_queries.proofs.TrackedForms.{Does-follows}
 use Rattle.solo_queries.proofs.tracked.Tracked.type_in.Goals as goal

@@ -1,0 +1,29 @@
+-- The definitions at literal values.
+use Rattle.std.proofs.Common.{◌≡◌, ℕ, ◌++◌, List, [], ◌∷◌, Some, None, replicate, codes, refl}
+use Rattle.arn_base.specs.declared.records.Src.{Src}
+use Rattle.parts_model.specs.Image.{image_of}
+use Rattle.parts_model.specs.Tagged.{origins_of}
+
+-- the program that reads three bytes, writes them and exits, as a file
+program : List ℕ
+program =
+    codes "ARNIMG01" ++ (0 ∷ 0 ∷ 1 ∷ 0 ∷ 0 ∷ 0 ∷ 0 ∷ 0 ∷ []) ++ (0 ∷ 0 ∷ 1 ∷ 0 ∷ 0 ∷ 0 ∷ 0 ∷ 0 ∷ []) ++ (0x93 ∷ 0x08 ∷ 0xb0 ∷ 0x00 ∷ 0x73 ∷ 0 ∷ 0 ∷ 0 ∷ [])
+
+image-program : image_of program ≡ Some (record { entry = 0x10000; load = 0x10000; body = 0x93 ∷ 0x08 ∷ 0xb0 ∷ 0x00 ∷ 0x73 ∷ 0 ∷ 0 ∷ 0 ∷ [] })
+unfolding program
+image-program = refl
+
+-- a name that differs, and a file that ends in its header, are no images
+image-other : image_of (codes "ARNIMG02" ++ replicate 16 0) ≡ None
+image-other = refl
+
+image-short : image_of (codes "ARNIMG01") ≡ None
+image-short = refl
+
+-- places of two events, as the longest runs
+place_of : ℕ → ℕ → Src
+place_of event at = record { event = event; at = at }
+
+origins-joined : origins_of (place_of 7 0 ∷ place_of 7 1 ∷ place_of 9 0 ∷ place_of 7 1 ∷ []) ≡ record { event = 7; at = 0; len = 2 } ∷ record { event = 9; at = 0; len = 1 } ∷ record { event = 7; at = 1; len = 1 } ∷ []
+unfolding place_of
+origins-joined = refl

@@ -1,0 +1,8 @@
+use arn_base::Src;
+
+/// A byte, and the event byte that last wrote it.
+#[derive(Clone, Copy, Debug, PartialEq, Eq)]
+pub struct TaggedByte {
+    pub value: u8,
+    pub origin: Src,
+}

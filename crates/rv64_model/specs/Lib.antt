@@ -1,0 +1,5 @@
+pub mod Registers
+pub mod Values
+pub mod Operands
+pub mod Instruction
+pub mod Carries

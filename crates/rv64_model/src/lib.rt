@@ -1,0 +1,9 @@
+//! What one RV64I instruction does, and which bytes its result takes.
+//!
+//! The definitions stand in `specs/`. The types and numbers that code shares with them stand here.
+#![tactic(auto)]
+
+mod linkage;
+pub mod statuses;
+
+pub use linkage::Linkage;

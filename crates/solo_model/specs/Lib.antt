@@ -1,0 +1,10 @@
+pub mod Machine
+pub mod Start
+pub mod Step
+pub mod Deed
+pub mod Call
+pub mod Slice
+pub mod Run
+pub mod Flow
+pub mod Tracking
+pub mod Related
