@@ -1,2 +1,10 @@
+pub mod Numbered
 pub mod Tagged
 pub mod Image
+pub mod Channel
+pub mod Files
+pub mod Pipes
+pub mod Ports
+pub mod Processes
+pub mod Signals
+pub mod Replies
