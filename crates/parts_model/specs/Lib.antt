@@ -1,6 +1,8 @@
 pub mod Numbered
 pub mod Tagged
 pub mod Image
+pub mod Memory
+pub mod Blocks
 pub mod Channel
 pub mod Files
 pub mod Pipes

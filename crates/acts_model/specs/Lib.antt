@@ -1,0 +1,6 @@
+pub mod Bodies
+pub mod Views
+pub mod Acts
+pub mod Told
+pub mod Transfers
+pub mod Moved

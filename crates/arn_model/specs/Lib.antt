@@ -1,0 +1,12 @@
+pub mod Kernel
+pub mod Doing
+pub mod Paths
+pub mod ProcessCalls
+pub mod SignalCalls
+pub mod FileCalls
+pub mod TransferCalls
+pub mod ChannelCalls
+pub mod Row
+pub mod Step
+pub mod Turn
+pub mod Run
