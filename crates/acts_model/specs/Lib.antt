@@ -4,3 +4,5 @@ pub mod Acts
 pub mod Told
 pub mod Transfers
 pub mod Moved
+pub mod Records
+pub mod Disagreement

@@ -10,3 +10,5 @@ pub mod Row
 pub mod Step
 pub mod Turn
 pub mod Run
+pub mod Tells
+pub mod Laws

@@ -3,8 +3,10 @@
 //! The definitions stand in `specs/`. What code shares with them stands here.
 #![tactic(auto)]
 
+mod laws;
 mod run_state;
 
 pub use acts_model::Observer;
+pub use laws::runs_append;
 pub use run_state::RunState;
 pub use rv64_model::Linkage;

@@ -1,0 +1,19 @@
+-- What holds of every run.
+use Rattle.std.specs.Prelude.{◌≡◌, List, ◌++◌}
+use Rattle.arn_model.specs.Kernel.{Machine, at_first}
+use Rattle.arn_model.specs.Run.{Input, steps_from, machine_from, run}
+use Rattle.arn_model.specs.Tells.{StepTells, Along}
+use Rattle.arn_model.specs.Turn.{after_steps}
+
+-- each step of a run is one of a few kinds, and an event is as its record tells
+abbrev pub StepsTell : Type 0
+StepsTell = (inputs : List Input) → Along StepTells at_first (run inputs)
+
+-- what inputs do that stand one behind the other
+pub record RunsAppend (m : Machine) (inputs more : List Input) : Type 0 where
+  pub steps : steps_from m (inputs ++ more) ≡ steps_from m inputs ++ steps_from (machine_from m inputs) more
+  pub machine : machine_from m (inputs ++ more) ≡ machine_from (machine_from m inputs) more
+  pub reached : machine_from m inputs ≡ after_steps m (steps_from m inputs)
+
+abbrev pub EachRunAppends : Type 0
+EachRunAppends = (m : Machine) (inputs more : List Input) → RunsAppend m inputs more
