@@ -1,5 +1,5 @@
 ghost use Rattle.std.specs.Prelude.{◌≡◌};
-ghost use Rattle.result_log.specs.declared.errors.GetError.TheVariants as error;
+ghost use Rattle.schedule_log.specs.declared.errors.GetError.TheVariants as error;
 
 use arn_base::NoMemory;
 use thiserror::Error;

@@ -1,0 +1,2 @@
+//! The bytes by which given bytes and their origins are kept.
+#![tactic(auto)]
