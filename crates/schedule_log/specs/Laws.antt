@@ -1,11 +1,11 @@
 -- What holds of fields.
-use Rattle.std.specs.Prelude.{◌≡◌, ℕ, ◌<◌, ◌≤◌, ◌-◌, ◌^◌, Bool, List, ◌++◌, length, drop, slice_index, slice_range}
+use Rattle.std.specs.Prelude.{◌≡◌, ℕ, ◌<◌, ◌≤◌, ◌-◌, ◌^◌, Bool, List, ◌++◌, length, drop, slice_range, All}
 use Rattle.schedule_log.specs.Fields.{counted, field, flag_field, named, IsCounted, IsName}
 use Rattle.schedule_log.specs.Places.{Stands}
 
 -- each item is a byte
 abbrev pub AreBytes : List ℕ → Type 0
-AreBytes xs = (i : ℕ) → slice_index xs i < 256
+AreBytes xs = All (λ b. b < 256) xs
 
 -- bytes begin with one number of a width
 abbrev pub FieldOneWay : Type 0
