@@ -13,5 +13,5 @@ mod tests;
 
 pub use errors::GetError;
 pub use law::fields_spelled_one_way;
-pub use signals::{Delivery, get_signal, put_signal, split_signal};
-pub use slices::{get_slice, put_slice, split_slice};
+pub use signals::{Delivery, MOST_SIGNAL, SIGNAL, get_signal, put_signal, split_signal};
+pub use slices::{SLICE, get_slice, put_slice, split_slice};
