@@ -1,18 +1,20 @@
 -- How much the lines of a session hold.
-use Rattle.std.proofs.Common.{◌≡◌, ℕ, ◌+◌, ◌≤◌, ◌++◌, Bool, List, [], ◌∷◌, length, take, ap, arith, length-append, length-drop, inl, inr, codes, true}
+use Rattle.std.proofs.Common.{◌≡◌, ℕ, ◌+◌, ◌≤◌, ◌++◌, Bool, List, [], ◌∷◌, length, take, refl, ap, arith, length-append, length-drop, inl, inr, codes, true}
 use Rattle.std.specs.Prelude.{◌&&◌, nat_le, bytes_eq}
 use Rattle.std.specs.List.{list_all}
 use Rattle.std.proofs.lemmas.Bool.{and_parts, leb-true}
 use Rattle.std.proofs.lemmas.Bool.Decides.{nat_tests}
 use Rattle.parts_model.specs.declared.limits.TheConstants.{MOST_FILE_BYTES, WINDOW_END, WINDOW_START}
 use Rattle.parts_model.specs.Image.{can_enter, fits_window, header_len, image_name, is_image, read_as_image}
+use Rattle.rv64_model.specs.declared.linkage.Linkage.{Linkage}
+use Rattle.rv64_model.specs.declared.linkage.Linkage.TheVariants.{Copy, Data, Index}
 use Rattle.solo_model.specs.Run.{is_name}
 use Rattle.arn_lines.specs.declared.line.Line.{Line}
 use Rattle.arn_lines.specs.declared.line.Line.TheVariants as line
 use Rattle.arn_lines.specs.declared.line.Reading.{Reading}
 use Rattle.arn_lines.specs.declared.line.Reading.TheVariants.{PassedOver, TooLong, Unreadable, Says}
 use Rattle.arn_lines.specs.Words.{IsHex, IsBytes, IsName, is_name_byte}
-use Rattle.arn_lines.specs.Grammar.{IsLine, Reads, space}
+use Rattle.arn_lines.specs.Grammar.{IsLine, IsLinkage, Reads, space}
 use Rattle.arn_commands.specs.Commands.{line_command}
 use Rattle.arn_commands.specs.Sizes.{Fits, LineFits}
 
@@ -40,6 +42,12 @@ name-is_name text is =
     let high = (and_parts (nat_le (length text) 64) (list_all is_name_byte text) parts.1).0 in
     grind (arith, nat_tests)
 
+-- a line names `copy` alone
+IsLinkage-copy : (word : List ℕ) (linkage : Linkage) → IsLinkage word linkage → linkage ≡ Copy
+IsLinkage-copy word Copy is = refl
+IsLinkage-copy word Data is = absurd is
+IsLinkage-copy word Index is = absurd is
+
 line-fits : (text : List ℕ) (l : Line) → length text ≤ 1048576 → IsLine text l → LineFits l
 line-fits text (line.File name bytes) short is =
     let size = length-bytes is.hex bytes is.is_bytes in
@@ -51,7 +59,7 @@ line-fits text (line.Type bytes) short is =
     let whole = ap length is.is_text in
     omega (arith, size, whole, short, length-append (codes "type ") is.hex)
 line-fits text (line.Run count) short is = is.at_most
-line-fits text (line.Back linkage event from len) short is = tt
+line-fits text (line.Back linkage event from len) short is = IsLinkage-copy is.linkage_text linkage is.is_linkage
 
 -- what a line of a session says fits the machine
 pub Reads-fits : (text : List ℕ) (reading : Reading) → Reads text reading → Fits (line_command reading)

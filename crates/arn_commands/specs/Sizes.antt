@@ -1,5 +1,6 @@
 -- How much a command holds.
-use Rattle.std.specs.Prelude.{◌<◌, ◌≤◌, ◌^◌, length, IsTrue}
+use Rattle.std.specs.Prelude.{◌≡◌, ◌<◌, ◌≤◌, ◌^◌, length, IsTrue}
+use Rattle.rv64_model.specs.declared.linkage.Linkage.TheVariants.{Copy}
 use Rattle.parts_model.specs.declared.limits.TheConstants.{MOST_FILE_BYTES}
 use Rattle.solo_model.specs.Run.{is_name}
 use Rattle.arn_lines.specs.declared.line.Line.{Line}
@@ -8,13 +9,13 @@ use Rattle.arn_lines.specs.declared.line.TheConstants.{MOST_RUN}
 use Rattle.arn_commands.specs.declared.command.Command.{Command}
 use Rattle.arn_commands.specs.declared.command.Command.TheVariants.{PassedOver, TooLong, Unreadable, Says, Faulty}
 
--- names, files and pieces that the machine takes
+-- names, files, pieces and linkages that the machine takes
 abbrev pub LineFits : Line → Type 0
 LineFits (line.File name bytes) = IsTrue (is_name name) × (length bytes ≤ MOST_FILE_BYTES)
 LineFits (line.Boot name) = IsTrue (is_name name)
 LineFits (line.Type bytes) = length bytes < 2 ^ 32
 LineFits (line.Run count) = count ≤ MOST_RUN
-LineFits (line.Back linkage event from len) = Unit {0}
+LineFits (line.Back linkage event from len) = linkage ≡ Copy
 
 -- what a command holds
 abbrev pub Fits : Command → Type 0

@@ -1,16 +1,16 @@
 -- A text splits one way at its first space.
-use Rattle.std.proofs.Common.{◌≡◌, ◌≢◌, ℕ, ◌^◌, ◌<◌, true, List, [], ◌∷◌, ◌++◌, length, get_or, codes, decimal, inl, inr, refl, sym, ◌∙◌, append_assoc, length-append, arith}
+use Rattle.std.proofs.Common.{◌≡◌, ◌≢◌, ℕ, ◌^◌, ◌<◌, true, List, [], ◌∷◌, ◌++◌, length, get_or, codes, decimal, inl, inr, refl, sym, subst, ◌∙◌, append_assoc, length-append, arith}
 use Rattle.std.specs.Prelude.{All, ◌&&◌, nat_le, nat_lt}
 use Rattle.std.specs.List.{list_all}
 use Rattle.std.proofs.lemmas.Bool.{and_parts, leb-true, ltb-true}
 use Rattle.std.proofs.lemmas.List.{get_or_at}
 use Rattle.std.proofs.lemmas.List.Elements.{All-cons, All-from_get_or, All-head, All-nil, All-tail}
 use Rattle.std.proofs.lemmas.Str.Parse.{digit_at}
-use Rattle.arn_lines.specs.Grammar.{linkage_word, space}
+use Rattle.arn_lines.specs.Grammar.{IsLinkage, space}
 use Rattle.arn_lines.specs.Pieces.{AreThreeNumbers, IsFirstWord, IsNoSpace}
 use Rattle.arn_lines.specs.Words.{IsHexNumberFrom, IsName, IsNumber, is_name_byte}
 use Rattle.rv64_model.specs.declared.linkage.Linkage.{Linkage}
-use Rattle.rv64_model.specs.declared.linkage.Linkage.TheVariants.{Copy}
+use Rattle.rv64_model.specs.declared.linkage.Linkage.TheVariants.{Copy, Data, Index}
 use Rattle.arn_lines.proofs.Decimals.{decimal_digits}
 use Rattle.arn_lines.proofs.HexDigits.{IsHexDigit-range}
 
@@ -71,8 +71,10 @@ clear_from_test (c ∷ word) test =
     let above = ltb-true 32 c parts.0 in
     All-cons IsNoSpace c word (λ e. absurd (omega arith)) (clear_from_test word parts.1)
 
-pub no_space-linkage_word : (linkage : Linkage) → All IsNoSpace (linkage_word linkage)
-no_space-linkage_word Copy = clear_from_test (codes "copy") refl
+pub no_space-IsLinkage : (word : List ℕ) (linkage : Linkage) → IsLinkage word linkage → All IsNoSpace word
+no_space-IsLinkage word Copy is = subst (All IsNoSpace) (sym is) (clear_from_test (codes "copy") refl)
+no_space-IsLinkage word Data is = absurd is
+no_space-IsLinkage word Index is = absurd is
 
 no_space-digits : (digits : List ℕ) (before n : ℕ) → IsHexNumberFrom before digits n → All IsNoSpace digits
 no_space-digits [] before n h = All-nil IsNoSpace

@@ -1,5 +1,5 @@
 -- A line begins with one keyword.
-use Rattle.std.proofs.Common.{◌≡◌, ◌≢◌, ℕ, Bool, true, false, eq-eqb, leb, ◌==◌, List, ◌++◌, get_or, drop, codes, refl, sym, ap, ◌∙◌, append_assoc, arith}
+use Rattle.std.proofs.Common.{◌≡◌, ◌≢◌, ℕ, Bool, true, false, eq-eqb, leb, ◌==◌, List, ◌++◌, get_or, drop, codes, refl, sym, ap, subst, ◌∙◌, append_assoc, arith}
 use Rattle.std.specs.Prelude.{IfNone}
 use Rattle.std.specs.Bool.{then_some}
 use Rattle.std.proofs.lemmas.Bool.{false≢true, leb-false}
@@ -7,10 +7,10 @@ use Rattle.arn_lines.specs.declared.line.TheConstants.{MOST_RUN}
 use Rattle.arn_lines.specs.declared.line.Line.{Line}
 use Rattle.arn_lines.specs.declared.line.Line.TheVariants as line
 use Rattle.rv64_model.specs.declared.linkage.Linkage.{Linkage}
-use Rattle.arn_lines.specs.Grammar.{IsBack, IsBoot, IsFile, IsLine, IsRun, IsType, linkage_word, space}
+use Rattle.arn_lines.specs.Grammar.{IsBack, IsBoot, IsFile, IsLine, IsRun, IsLinkage, IsType, space}
 use Rattle.arn_lines.specs.Pieces.{AreThreeNumbers, IsFirstWord, SaysNothing}
 use Rattle.arn_lines.specs.Words.{IsBytes, IsName, IsNumber}
-use Rattle.arn_lines.proofs.FirstWords.{IsFirstWord-same, no_space-IsName, no_space-linkage_word}
+use Rattle.arn_lines.proofs.FirstWords.{IsFirstWord-same, no_space-IsLinkage, no_space-IsName}
 use Rattle.arn_lines.proofs.Numbers.{IsNumber-same}
 
 -- two texts that differ at some place
@@ -103,12 +103,13 @@ no_run_above text n false number same =
 -- the words of a `back` line
 pub IsBack-parts : (text word rest : List ℕ) (linkage : Linkage) (event from len : ℕ) → IsFirstWord text word rest
     → IsBack (codes "back " ++ text) linkage event from len
-    → (word ≡ linkage_word linkage) × (numbers : List ℕ) × (rest ≡ codes "event " ++ numbers) × AreThreeNumbers numbers event from len
+    → IsLinkage word linkage × (numbers : List ℕ) × (rest ≡ codes "event " ++ numbers) × AreThreeNumbers numbers event from len
 IsBack-parts text word rest linkage event from len first back =
     let numbers = back.event_text ++ space ++ back.from_text ++ space ++ back.len_text in
-    let said : text ≡ linkage_word linkage ++ space ++ (codes "event " ++ numbers) = ap (drop 5) back.is_text ∙ simp append_assoc in
-    let same = IsFirstWord-same text word rest (linkage_word linkage) (codes "event " ++ numbers) first (no_space-linkage_word linkage) said in (
-      sym same.0,
+    let whole : codes "back " ++ text ≡ codes "back " ++ (back.linkage_text ++ space ++ (codes "event " ++ numbers)) = back.is_text ∙ simp append_assoc in
+    let said : text ≡ back.linkage_text ++ space ++ (codes "event " ++ numbers) = ap (drop 5) whole in
+    let same = IsFirstWord-same text word rest back.linkage_text (codes "event " ++ numbers) first (no_space-IsLinkage back.linkage_text linkage back.is_linkage) said in (
+      subst (λ xs. IsLinkage xs linkage) same.0 back.is_linkage,
       numbers,
       sym same.1,
       record {
@@ -121,3 +122,22 @@ IsBack-parts text word rest linkage event from len first back =
         is_text = refl;
       },
     )
+
+-- these words are a `back` line
+pub IsBack-from : (text word rest numbers : List ℕ) (linkage : Linkage) (event from len : ℕ) → IsFirstWord text word rest
+    → IsLinkage word linkage → rest ≡ codes "event " ++ numbers → AreThreeNumbers numbers event from len
+    → IsBack (codes "back " ++ text) linkage event from len
+IsBack-from text word rest numbers linkage event from len first is said three =
+    let behind : rest ≡ codes "event " ++ (three.first_text ++ space ++ three.second_text ++ space ++ three.third_text) =
+    said ∙ ap (λ xs. codes "event " ++ xs) three.is_text in
+    record {
+      linkage_text = word;
+      event_text = three.first_text;
+      from_text = three.second_text;
+      len_text = three.third_text;
+      is_linkage = is;
+      is_event = three.is_first;
+      is_from = three.is_second;
+      is_len = three.is_third;
+      is_text = ap (λ xs. codes "back " ++ xs) (first.is_text ∙ ap (λ xs. word ++ space ++ xs) behind) ∙ simp append_assoc;
+    }

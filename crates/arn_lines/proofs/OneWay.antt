@@ -2,15 +2,15 @@
 use Rattle.std.proofs.Common.{◌≡◌, ◌≢◌, ℕ, ◌<◌, ◌==◌, false, eq-eqb, List, [], ◌∷◌, ◌++◌, length, drop, codes, inl, inr, refl, sym, ap, subst, ◌∙◌, append_assoc, arith}
 use Rattle.std.proofs.lemmas.Bool.{false≢true}
 use Rattle.rv64_model.specs.declared.linkage.Linkage.{Linkage}
-use Rattle.rv64_model.specs.declared.linkage.Linkage.TheVariants.{Copy}
+use Rattle.rv64_model.specs.declared.linkage.Linkage.TheVariants.{Copy, Data, Index}
 use Rattle.arn_lines.specs.declared.line.Line.{Line}
 use Rattle.arn_lines.specs.declared.line.Line.TheVariants as line
 use Rattle.arn_lines.specs.declared.line.Reading.{Reading}
 use Rattle.arn_lines.specs.declared.line.Reading.TheVariants.{PassedOver, TooLong, Unreadable, Says}
-use Rattle.arn_lines.specs.Grammar.{IsBack, IsBoot, IsFile, IsLine, IsPassedOver, IsRun, IsType, Reads, linkage_word, space}
+use Rattle.arn_lines.specs.Grammar.{IsBack, IsBoot, IsFile, IsLine, IsLinkage, IsPassedOver, IsRun, IsType, Reads, space}
 use Rattle.arn_lines.specs.Pieces.{AreThreeNumbers, IsFirstWord}
 use Rattle.arn_lines.specs.Words.{IsBytes, IsHex}
-use Rattle.arn_lines.proofs.FirstWords.{AreThreeNumbers-parts, IsFirstWord-same, no_space-IsName, no_space-IsNumber, no_space-linkage_word}
+use Rattle.arn_lines.proofs.FirstWords.{AreThreeNumbers-parts, IsFirstWord-same, no_space-IsLinkage, no_space-IsName, no_space-IsNumber}
 use Rattle.arn_lines.proofs.HexBytes.{IsHex-same}
 use Rattle.arn_lines.proofs.Keywords.{IsBack-parts, only_back_line, only_boot_line, only_file_line, only_run_line, only_type_line}
 use Rattle.arn_lines.proofs.Numbers.{IsNumber-same}
@@ -71,12 +71,16 @@ AreThreeNumbers-same text a b c d e f three too =
       IsNumber-same three.third_text c f three.is_third parts.2,
     )
 
-linkage_word-same : (a b : Linkage) → linkage_word a ≡ linkage_word b → a ≡ b
-linkage_word-same Copy Copy e = refl
+IsLinkage-same : (word : List ℕ) (a b : Linkage) → IsLinkage word a → IsLinkage word b → a ≡ b
+IsLinkage-same word Copy Copy is too = refl
+IsLinkage-same word Copy Data is too = absurd too
+IsLinkage-same word Copy Index is too = absurd too
+IsLinkage-same word Data b is too = absurd is
+IsLinkage-same word Index b is too = absurd is
 
 -- what stands behind the keyword of a `back` line
-IsBack-behind : (text : List ℕ) (linkage : Linkage) (event from len : ℕ) → IsBack text linkage event from len
-    → (numbers : List ℕ) × (text ≡ codes "back " ++ (linkage_word linkage ++ space ++ (codes "event " ++ numbers)))
+IsBack-behind : (text : List ℕ) (linkage : Linkage) (event from len : ℕ) (back : IsBack text linkage event from len)
+    → (numbers : List ℕ) × (text ≡ codes "back " ++ (back.linkage_text ++ space ++ (codes "event " ++ numbers)))
     × AreThreeNumbers numbers event from len
 IsBack-behind text linkage event from len back =
     let numbers = back.event_text ++ space ++ back.from_text ++ space ++ back.len_text in (
@@ -97,21 +101,20 @@ numbers-same : (numbers other : List ℕ) → codes "event " ++ numbers ≡ code
 numbers-same numbers other e = sym (ap (drop 6) e)
 
 -- the words of a `back` line, where they are known
-IsBack-known : (linkage other : Linkage) (numbers : List ℕ) (event from len : ℕ)
-    → IsBack (codes "back " ++ (linkage_word linkage ++ space ++ (codes "event " ++ numbers))) other event from len
+IsBack-known : (word : List ℕ) (linkage other : Linkage) (numbers : List ℕ) (event from len : ℕ) → IsLinkage word linkage
+    → IsBack (codes "back " ++ (word ++ space ++ (codes "event " ++ numbers))) other event from len
     → (linkage ≡ other) × AreThreeNumbers numbers event from len
-IsBack-known linkage other numbers event from len back =
-    let word = linkage_word linkage in
+IsBack-known word linkage other numbers event from len is back =
     let rest = codes "event " ++ numbers in
-    let first : IsFirstWord (word ++ space ++ rest) word rest = record { is_text = refl; no_space = no_space-linkage_word linkage } in
+    let first : IsFirstWord (word ++ space ++ rest) word rest = record { is_text = refl; no_space = no_space-IsLinkage word linkage is } in
     let parts = IsBack-parts (word ++ space ++ rest) word rest other event from len first back in
-    (linkage_word-same linkage other parts.0, rw (numbers-same numbers parts.1 parts.2) at parts.3)
+    (IsLinkage-same word linkage other is parts.0, rw (numbers-same numbers parts.1 parts.2) at parts.3)
 
 IsBack-same : (text : List ℕ) (l m : Linkage) (a b c d e f : ℕ) → IsBack text l a b c → IsBack text m d e f
     → (l ≡ m) × (a ≡ d) × (b ≡ e) × (c ≡ f)
 IsBack-same text l m a b c d e f back too =
     let behind = IsBack-behind text l a b c back in
-    let known = IsBack-known l m behind.0 d e f (subst (λ xs. IsBack xs m d e f) behind.1 too) in
+    let known = IsBack-known back.linkage_text l m behind.0 d e f back.is_linkage (subst (λ xs. IsBack xs m d e f) behind.1 too) in
     let numbers = AreThreeNumbers-same behind.0 a b c d e f behind.2 known.1 in
     (known.0, numbers.0, numbers.1, numbers.2)
 
@@ -135,7 +138,7 @@ IsLine-same text (line.Run count) b h k =
     ap line.Run same ∙ sym run.1
 IsLine-same text (line.Back l c d e) b h k =
     let behind = IsBack-behind text l c d e h in
-    let rest = linkage_word l ++ space ++ (codes "event " ++ behind.0) in
+    let rest = h.linkage_text ++ space ++ (codes "event " ++ behind.0) in
     let back = only_back_line rest b (subst (λ xs. IsLine xs b) behind.1 k) in
     let again : IsBack text back.0 back.1 back.2 back.3 = subst (λ xs. IsBack xs back.0 back.1 back.2 back.3) (sym behind.1) back.5 in
     let same = IsBack-same text l back.0 c d e back.1 back.2 back.3 h again in

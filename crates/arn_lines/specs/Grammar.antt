@@ -1,7 +1,7 @@
 -- What a line says.
 use Rattle.std.specs.Prelude.{◌≡◌, ℕ, ◌<◌, ◌≤◌, ◌&&◌, if◌then◌else◌, List, [], ◌∷◌, ◌++◌, length, take, drop, Option, Some, None, bytes_eq, codes}
 use Rattle.rv64_model.specs.declared.linkage.Linkage.{Linkage}
-use Rattle.rv64_model.specs.declared.linkage.Linkage.TheVariants.{Copy}
+use Rattle.rv64_model.specs.declared.linkage.Linkage.TheVariants.{Copy, Data, Index}
 use Rattle.arn_lines.specs.declared.line.Line.{Line}
 use Rattle.arn_lines.specs.declared.line.Line.TheVariants as line
 use Rattle.arn_lines.specs.declared.line.Reading.{Reading}
@@ -13,8 +13,11 @@ use Rattle.arn_lines.specs.Words.{is_name, IsName, IsBytes, IsNumber}
 abbrev pub space : List ℕ
 space = codes " "
 
-abbrev pub linkage_word : Linkage → List ℕ
-linkage_word Copy = codes "copy"
+-- the word names the linkage. Lines name `copy` alone
+abbrev pub IsLinkage : List ℕ → Linkage → Type 0
+IsLinkage word Copy = word ≡ codes "copy"
+IsLinkage word Data = ⊥
+IsLinkage word Index = ⊥
 
 -- `file NAME HEX`
 pub record IsFile (text name bytes : List ℕ) : Type 0 where
@@ -43,13 +46,15 @@ pub record IsRun (text : List ℕ) (count : ℕ) : Type 0 where
 
 -- `back LINKAGE event E FROM LEN`
 pub record IsBack (text : List ℕ) (linkage : Linkage) (event from len : ℕ) : Type 0 where
+  pub linkage_text : List ℕ
   pub event_text : List ℕ
   pub from_text : List ℕ
   pub len_text : List ℕ
+  pub is_linkage : IsLinkage linkage_text linkage
   pub is_event : IsNumber event_text event
   pub is_from : IsNumber from_text from
   pub is_len : IsNumber len_text len
-  pub is_text : text ≡ codes "back " ++ linkage_word linkage ++ codes " event " ++ event_text ++ space ++ from_text ++ space ++ len_text
+  pub is_text : text ≡ codes "back " ++ linkage_text ++ codes " event " ++ event_text ++ space ++ from_text ++ space ++ len_text
 
 -- the name in a line `asm NAME`, which opens a block: the lines behind it, up to `end`, belong to it
 abbrev pub block_name : List ℕ → Option (List ℕ)

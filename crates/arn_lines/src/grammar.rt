@@ -1,7 +1,7 @@
 // Lines of a session, read.
-ghost use Rattle.std.specs.Prelude.{◌≡◌, ◌≢◌, ℕ, ◌<◌, ◌↔◌, List, ◌++◌, length, IsTrue, IfOk, IfSome, IfNone, codes, option_map};
+ghost use Rattle.std.specs.Prelude.{◌≡◌, ℕ, ◌<◌, ◌↔◌, List, ◌++◌, length, IsTrue, IfOk, IfSome, IfNone, codes, option_map};
 ghost use Rattle.rv64_model.specs.declared.linkage.Linkage.{Linkage};
-ghost use Rattle.arn_lines.specs.Grammar.{IsLine, IsPassedOver, Reads, block_name, linkage_word};
+ghost use Rattle.arn_lines.specs.Grammar.{IsLine, IsLinkage, IsPassedOver, Reads, block_name};
 ghost use Rattle.arn_lines.specs.Pieces.{AreThreeNumbers, SaysNothing};
 
 use crate::words::{after, bytes, is_name, name, number, split_word};
@@ -56,8 +56,8 @@ fn run_line(text: &[u8]) -> Option<Line>
 }
 
 fn linkage(word: &[u8]) -> Option<Linkage>
-    ensures some { IfSome result (λ linkage. word.now ≡ linkage_word linkage) }
-    ensures none { IfNone result ((linkage : Linkage) → word.now ≢ linkage_word linkage) }
+    ensures some { IfSome result (IsLinkage word.now) }
+    ensures none { IfNone result ((linkage : Linkage) → ¬ IsLinkage word.now linkage) }
 {
     match word {
         b"copy" => Some(Linkage::Copy),

@@ -201,6 +201,8 @@ pub is_event-other : (item : Record) → ((pid ran : ℕ) → item ≢ entry.Sli
 is_event-other (entry.File name bytes) other = refl
 is_event-other (entry.Boot name give) other = refl
 is_event-other (entry.Typed bytes) other = refl
+is_event-other (entry.Unplug device) other = refl
 is_event-other (entry.Slice pid ran) other = absurd (other pid ran refl)
+is_event-other (entry.Signal pid signal cut handler) other = refl
 is_event-other (entry.Call pid number result extra) other = refl
 is_event-other (entry.End pid status) other = refl

@@ -2,7 +2,7 @@
 use Rattle.std.proofs.Common.{◌≡◌, ◌≢◌, Option, None, Some, refl, sym, ap, ◌∙◌}
 use Rattle.arn_commands.specs.declared.error.ReadError.{ReadError}
 use Rattle.arn_commands.specs.declared.error.ReadError.TheVariants as read
-use Rattle.guest_machine.specs.declared.differs.Differs.{Differs}
+use Rattle.arn_base.specs.declared.records.Differs.{Differs}
 use Rattle.log_store.specs.Causes.{BlamesBytes}
 use Rattle.log_store.specs.declared.errors.OpenError.{OpenError}
 use Rattle.log_store.specs.declared.errors.OpenError.TheVariants as opening

@@ -2,7 +2,7 @@
 use Rattle.std.specs.Prelude.{◌≡◌, false, List}
 use Rattle.arn_base.specs.declared.records.Record.{Record}
 use Rattle.log_model.specs.Records.{records, named, IsRun}
-use Rattle.guest_machine.specs.declared.differs.Differs.{Differs}
+use Rattle.arn_base.specs.declared.records.Differs.{Differs}
 use Rattle.guest_machine.specs.Differs.{IsFirstDifference}
 use Rattle.arn_session.specs.Answering.{Standpoint}
 use Rattle.arn_session.specs.declared.status.Halt.{Halt}

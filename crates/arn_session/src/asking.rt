@@ -1,6 +1,7 @@
 // The line that asks where bytes came from.
 ghost use Rattle.std.specs.Prelude.{◌≡◌, ◌≤◌, ◌<◌, ◌+◌, ◌^◌, ◌++◌, None, ℕ, All, length, OnOk, IfErr, string_bytes, flat_map, option_map};
 ghost use Rattle.arn_base.specs.Faults.{NeverFalls};
+ghost use Rattle.rv64_model.specs.declared.linkage.Linkage.TheVariants.{Copy};
 ghost use Rattle.arn_lines.specs.declared.line.Line.TheVariants as line;
 ghost use Rattle.arn_lines.specs.Texts.{pair_text};
 ghost use Rattle.solo_model.specs.Run.{run, instructions_in};
@@ -15,19 +16,17 @@ use crate::printing::put_all;
 use crate::status::Halt;
 use arn_base::{NoMemory, Pair, Record, Sink, Steps};
 use arn_lines::{push_back, push_pair};
-use rv64_model::Linkage;
 use guest_machine::Machine;
 use history_facts::records_tell_events;
 use solo_queries::{Found, back as sources_of};
 use std::alloc::Global;
 use std::sync::ledger::Ledger;
 
-/// Prints where `len` bytes of an event came from, from byte `from` on.
+/// Prints where `len` bytes of an event came from, from byte `from` on, under `copy`.
 pub fn back<K: Sink, L: Ledger>(
     alloc: Global,
     entries: &[Record],
     machine: &Machine,
-    linkage: Linkage,
     event: u64,
     from: u64,
     len: u64,
@@ -37,11 +36,11 @@ pub fn back<K: Sink, L: Ledger>(
 ) -> Result<(), Halt>
     requires ready { IsReady machine.now entries.now }
     requires spelled { All HasSpelling entries.now }
-    requires accepted { refusal_of entries.now (line.Back linkage event from len) ≡ None }
+    requires accepted { refusal_of entries.now (line.Back Copy event from len) ≡ None }
     ensures ok { OnOk result (K.holds sink.new ≡ option_map (λ held.
-        held ++ query_text (named entries.now) linkage event from len) (K.holds sink.old)) }
+        held ++ query_text (named entries.now) Copy event from len) (K.holds sink.old)) }
     ensures stops { IfErr result (λ halt.
-        StopsPut halt (query_text (named entries.now) linkage event from len)
+        StopsPut halt (query_text (named entries.now) Copy event from len)
         (K.holds sink.old) (K.holds sink.new)) }
     ensures cause { IfErr result (λ halt. (faults : ℕ) →
         IsCause halt faults faults (K.faults sink.old) (K.faults sink.new)) }
@@ -49,9 +48,7 @@ pub fn back<K: Sink, L: Ledger>(
     ensures steps { steps.new ≤ steps.old + instructions_in (run (named entries.now)) }
 {
     text.clear();
-    push_answer(
-        alloc, entries, machine, linkage, event, from, len, text, steps,
-    )?;
+    push_answer(alloc, entries, machine, event, from, len, text, steps)?;
     put_all(sink, text.as_bytes())
 }
 
@@ -60,7 +57,6 @@ fn push_answer<L: Ledger>(
     alloc: Global,
     entries: &[Record],
     machine: &Machine,
-    linkage: Linkage,
     event: u64,
     from: u64,
     len: u64,
@@ -69,15 +65,13 @@ fn push_answer<L: Ledger>(
 ) -> Result<(), NoMemory>
     requires ready { IsReady machine.now entries.now }
     requires spelled { All HasSpelling entries.now }
-    requires accepted { refusal_of entries.now (line.Back linkage event from len) ≡ None }
+    requires accepted { refusal_of entries.now (line.Back Copy event from len) ≡ None }
     ensures text { OnOk result (string_bytes text.new ≡ string_bytes text.old ++
-        query_text (named entries.now) linkage event from len) }
+        query_text (named entries.now) Copy event from len) }
     ensures steps { steps.new ≤ steps.old + instructions_in (run (named entries.now)) }
 {
     records_tell_events();
     count_entries(entries);
-    // There is one linkage as yet.
-    let Linkage::Copy = linkage;
     let ran = machine.instructions();
     let found = sources_of(alloc, entries, ran, event, from, len, steps)?;
     push_found(text, &found)

@@ -2,7 +2,7 @@
 ghost use Rattle.std.specs.Prelude.{◌≡◌, ◌⊎◌, ◌+◌, ◌≤◌, [], None, true, OnOk, IfErr, IsErrOf};
 ghost use Rattle.log_model.specs.Records.{IsRun};
 ghost use Rattle.arn_base.specs.Faults.{NeverFalls};
-ghost use Rattle.guest_machine.specs.declared.differs.Differs.{Differs};
+ghost use Rattle.arn_base.specs.declared.records.Differs.{Differs};
 ghost use Rattle.log_store.specs.Stops.{GoesOn};
 ghost use Rattle.arn_session.specs.Answering.{standpoint_after, MadeOnRun};
 ghost use Rattle.arn_session.specs.Answers.{effects, line_effects, needs_machine, refusal_of};
@@ -183,15 +183,13 @@ fn carry_out<D: Disk, K: Sink, L: Ledger>(
         Line::Type { bytes } => type_in(alloc, store, machine, bytes, disk, text, sink),
         Line::Run { count } => run(alloc, store, machine, count, disk, text, sink, steps),
         Line::Back {
-            linkage,
             event,
             from,
             len,
+            ..
         } => {
             let entries = store.entries();
-            back(
-                alloc, entries, machine, linkage, event, from, len, text, sink, steps,
-            )
+            back(alloc, entries, machine, event, from, len, text, sink, steps)
         }
     }
 }

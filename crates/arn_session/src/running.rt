@@ -20,9 +20,9 @@ use crate::ready::{count_records, history_laws};
 use crate::status::Halt;
 use arn_base::{Disk, Extra, NoMemory, Record, Sink, Steps};
 use arn_lines::{RunEnd, push_out};
-use solo_model::Standing;
 use guest_machine::{Leg, LegEnd, Machine};
 use log_store::Store;
+use solo_model::Standing;
 use std::alloc::Global;
 use std::sync::ledger::Ledger;
 

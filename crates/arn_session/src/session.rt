@@ -2,7 +2,7 @@
 ghost use Rattle.std.specs.Prelude.{◌≡◌, ◌≢◌, ◌⊎◌, ◌↔◌, ◌<◌, ◌≤◌, ◌^◌, [], ℕ, List, length, drop, OnOk, IfErr, IsErrOf, IfSome, Some};
 ghost use Rattle.arn_base.specs.declared.records.Record.{Record};
 ghost use Rattle.arn_base.specs.Faults.{Rose, NeverFalls};
-ghost use Rattle.guest_machine.specs.declared.differs.Differs.{Differs};
+ghost use Rattle.arn_base.specs.declared.records.Differs.{Differs};
 ghost use Rattle.log_store.specs.Causes.{IsCauseOf, BlamesBytes};
 ghost use Rattle.log_store.specs.Stops.{GoesOn, IsOnlyRead, LeavesOnly};
 ghost use Rattle.log_store.specs.Refused.{IsNoLog};

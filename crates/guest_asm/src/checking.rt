@@ -14,8 +14,8 @@ use crate::faults::{either, fault_if, first_kind};
 use crate::labels::Labels;
 use crate::meanings::{has_fields, named_label, reaches};
 use crate::places::{Layout, Placed};
-use parts_model::limits::WINDOW_START;
 use asm_text::{AsmKind, Reading, Statement, read};
+use parts_model::limits::WINDOW_START;
 
 /// A fault of a line.
 #[derive(Clone, Copy, Debug)]

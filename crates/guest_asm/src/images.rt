@@ -12,8 +12,8 @@ use crate::encoding::{push_number, push_statement};
 use crate::labels::Labels;
 use crate::places::{Layout, Placed};
 use arn_base::{Bytes, NoMemory};
-use parts_model::limits::WINDOW_START;
 use asm_text::{Reading, Statement, read};
+use parts_model::limits::WINDOW_START;
 use std::alloc::Global;
 
 /// The first bytes of an image.

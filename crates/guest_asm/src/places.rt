@@ -17,8 +17,8 @@ use crate::items::Item;
 use crate::labels::{Labels, defined_label};
 use crate::meanings::{is_code, named_label, size};
 use arn_base::NoMemory;
-use parts_model::limits::WINDOW_START;
 use asm_text::{AsmKind, Reading, Statement, read};
+use parts_model::limits::WINDOW_START;
 use std::alloc::Global;
 
 /// The address of the first statement.

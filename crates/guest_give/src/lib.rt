@@ -51,11 +51,8 @@ fn whole(alloc: Global, event: u64, len: u32) -> Result<Origins, NoMemory>
 fn bytes_of(alloc: Global, held: &[TaggedByte]) -> Result<Bytes, NoMemory>
     ensures { IfOk result (λ bytes. bytes ≡ values held.now) }
 {
-    let mut bytes = Bytes::new(alloc);
-    for byte in held {
-        bytes.push(byte.value)?;
-    }
-    Ok(bytes)
+    let bytes: Vec<u8> = held.iter().map(|byte| byte.value).collect(alloc)?;
+    Ok(Bytes::from(bytes))
 }
 
 fn origins(alloc: Global, held: &[TaggedByte]) -> Result<Origins, NoMemory>

@@ -1,9 +1,10 @@
 ghost use Rattle.std.specs.Prelude.{◌≡◌, ◌+◌, ◌≤◌, ◌↔◌, ◌&&◌, nat_le, length, take, drop, true, bytes_eq, IfOk, IsErr, None};
 ghost use Rattle.arn_base.specs.Window.{number_of};
-ghost use Rattle.parts_model.specs.Image.{image_of, image_name, can_enter as enters, is_image as is_image_of};
+ghost use Rattle.parts_model.specs.Image.{image_of, image_name, can_enter as enters, header_len, is_image as is_image_of};
 ghost use Rattle.guest_image.specs.Header.{IsHeaderOf};
 
 use crate::image::{HEADER_LEN, Image, NotImage};
+use byteorder::{ByteOrder, LittleEndian};
 use parts_model::limits::{WINDOW_END, WINDOW_START};
 
 const NAME: &[u8; 8] = b"ARNIMG01";
@@ -24,7 +25,7 @@ pub fn parse(bytes: &[u8]) -> Result<Image, NotImage>
 
 fn is_image(bytes: &[u8]) -> bool
     ensures result { result ≡ is_image_of bytes.now }
-    ensures long { result ≡ true → 24 ≤ length bytes.now }
+    ensures long { result ≡ true → header_len ≤ length bytes.now }
 {
     if bytes.len() < HEADER_LEN || !is_named(bytes) {
         return false;
@@ -41,7 +42,7 @@ fn is_named(bytes: &[u8]) -> bool
 }
 
 fn header(bytes: &[u8]) -> Image
-    requires { 24 ≤ length bytes.now }
+    requires { header_len ≤ length bytes.now }
     ensures entry { result.entry ≡ number_of (take 8 (drop 8 bytes.now)) }
     ensures load { result.load ≡ number_of (take 8 (drop 16 bytes.now)) }
 {
@@ -56,16 +57,7 @@ fn number(bytes: &[u8], at: usize) -> u64
     requires { at + 8 ≤ length bytes.now }
     ensures { result ≡ number_of (take 8 (drop at bytes.now)) }
 {
-    u64::from_le_bytes([
-        bytes[at],
-        bytes[at + 1],
-        bytes[at + 2],
-        bytes[at + 3],
-        bytes[at + 4],
-        bytes[at + 5],
-        bytes[at + 6],
-        bytes[at + 7],
-    ])
+    LittleEndian::read_u64(&bytes[at..])
 }
 
 fn can_enter(entry: u64) -> bool

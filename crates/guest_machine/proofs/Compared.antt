@@ -8,7 +8,7 @@ use Rattle.std.proofs.lemmas.Option.{get_or_from_slice_get, slice_get-get_or, sl
 use Rattle.arn_base.specs.declared.records.Record.{Record}
 use Rattle.result_log.specs.Laws.{SpelledOneWay, ReadsAsSpelled, ReadsBytes}
 use Rattle.result_log.specs.Spelling.{spelling, FitsFields, HasSpelling}
-use Rattle.guest_machine.specs.declared.differs.Differs.{Differs}
+use Rattle.arn_base.specs.declared.records.Differs.{Differs}
 use Rattle.guest_machine.specs.Differs.{spelling_if, IsFirstDifference}
 use Rattle.guest_machine.specs.Matching.{IsDifferenceAt, IsMatched, IsMismatch}
 

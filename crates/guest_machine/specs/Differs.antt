@@ -5,7 +5,7 @@ use Rattle.arn_base.specs.declared.records.Record.TheVariants as entry
 use Rattle.solo_model.specs.Run.{run, instructions_in}
 use Rattle.log_model.specs.Records.{named}
 use Rattle.result_log.specs.Spelling.{spelling}
-use Rattle.guest_machine.specs.declared.differs.Differs.{Differs}
+use Rattle.arn_base.specs.declared.records.Differs.{Differs}
 
 -- the spelling of a record, and no bytes where there is none
 abbrev pub spelling_if : Option Record → List ℕ
@@ -27,7 +27,9 @@ abbrev pub is_slice : Record → Bool
 is_slice (entry.File name bytes) = false
 is_slice (entry.Boot name give) = false
 is_slice (entry.Typed bytes) = false
+is_slice (entry.Unplug device) = false
 is_slice (entry.Slice pid ran) = true
+is_slice (entry.Signal pid signal cut handler) = false
 is_slice (entry.Call pid number result extra) = false
 is_slice (entry.End pid status) = false
 

@@ -1,7 +1,7 @@
 -- Records that are compared one by one.
 use Rattle.std.specs.Prelude.{◌≡◌, ◌≢◌, ℕ, ◌<◌, ◌≤◌, List, ◌++◌, length, take, Option, slice_get}
 use Rattle.arn_base.specs.declared.records.Record.{Record}
-use Rattle.guest_machine.specs.declared.differs.Differs.{Differs}
+use Rattle.arn_base.specs.declared.records.Differs.{Differs}
 use Rattle.guest_machine.specs.Differs.{spelling_if, IsFirstDifference}
 
 -- at this place stand two records, or one where another has none, whose spellings first differ at this byte

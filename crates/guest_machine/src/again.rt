@@ -5,18 +5,16 @@ ghost use Rattle.solo_model.specs.Run.{input_steps, instructions_in, steps_from}
 ghost use Rattle.solo_model.specs.Slice.{is_possible};
 ghost use Rattle.log_model.specs.Records.{named};
 ghost use Rattle.result_log.specs.Spelling.{HasSpelling, IsCounted, IsName};
+ghost use Rattle.guest_solo.specs.declared.turn.TheConstants.{PID};
 ghost use Rattle.guest_machine.specs.Differs.{is_slice};
 ghost use Rattle.guest_machine.specs.Recorded.{HasRoom, Runs};
 
 use crate::machine::Machine;
 use arn_base::{NoMemory, Record, Steps};
-use solo_model::Standing;
+use guest_solo::{MachineError, PID};
 use parts_model::limits::{MOST_FILE_BYTES, MOST_SLICE};
-use guest_solo::MachineError;
+use solo_model::Standing;
 use std::sync::ledger::Ledger;
-
-/// The number of the only process.
-const PID: u32 = 1;
 
 // Runs the input that a record names, if it names one. An input that is impossible does nothing.
 // The input's records go behind `out`.
@@ -42,7 +40,8 @@ pub fn run_named<L: Ledger>(
         Record::Boot { name, .. } => boot(machine, name.as_slice(), out),
         Record::Typed { bytes } => type_in(machine, bytes.as_slice(), out),
         Record::Slice { pid, ran } => run_slice(machine, *pid, *ran, out, steps),
-        Record::Call { .. } | Record::End { .. } => Ok(()),
+        Record::Unplug { .. } | Record::Signal { .. } | Record::Call { .. } | Record::End { .. } =>
+            Ok(()),
     }
 }
 

@@ -12,7 +12,8 @@ mod rebuild;
 #[cfg(test)]
 mod tests;
 
-pub use differs::{Differs, RebuildError};
+pub use arn_base::Differs;
+pub use differs::RebuildError;
 pub use guest_solo::MachineError;
 pub use law::{
     legs_end, legs_have_records, named_follow, records_follow, records_leave_room, runs_follow,

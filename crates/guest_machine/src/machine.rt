@@ -1,9 +1,9 @@
 use crate::leg::{Leg, LegEnd, leg_end};
 use crate::pieces::{SLICE_RECORDS, file_record, keep_cut, keep_slice, typed_record};
 use arn_base::{NoMemory, Record, Steps};
-use solo_model::Standing;
-use parts_model::limits::{MOST_FILE_BYTES, MOST_SLICE};
 use guest_solo::{CutShort, MachineError, Solo, Turn};
+use parts_model::limits::{MOST_FILE_BYTES, MOST_SLICE};
+use solo_model::Standing;
 use std::alloc::Global;
 use std::marker::Model;
 use std::sync::ledger::Ledger;

@@ -2,12 +2,12 @@
 ghost use Rattle.std.specs.Prelude.{◌≡◌, ◌≢◌, ◌≤◌, ◌++◌, ◌↔◌, All, Some, IfOk, IfSome, OnOk, IsErrOf, IsTrue, length, option_copied, slice_get, take};
 ghost use Rattle.arn_base.specs.declared.records.Record.{Record};
 ghost use Rattle.result_log.specs.Spelling.{FitsFields, HasSpelling};
-ghost use Rattle.guest_machine.specs.declared.differs.Differs.{Differs};
+ghost use Rattle.arn_base.specs.declared.records.Differs.{Differs};
 ghost use Rattle.guest_machine.specs.Differs.{spelling_if};
 ghost use Rattle.guest_machine.specs.Matching.{IsDifferenceAt, IsMatched, IsMismatch};
 
-use crate::differs::{Differs, RebuildError};
-use arn_base::{NoMemory, Record};
+use crate::differs::RebuildError;
+use arn_base::{Differs, NoMemory, Record};
 use result_log::{put_record, records_spelled_one_way};
 use std::alloc::Global;
 

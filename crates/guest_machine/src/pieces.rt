@@ -5,11 +5,9 @@ ghost use Rattle.result_log.specs.Spelling.{HasSpelling};
 ghost use Rattle.guest_machine.specs.Legs.{spelled_len as spelled_len_of};
 
 use arn_base::{Bytes, NoMemory, Record};
+use guest_solo::PID;
 use result_log::spelled_len;
 use std::alloc::Global;
-
-/// The number of the only process.
-const PID: u32 = 1;
 
 /// The record of a boot file.
 pub fn file_record(alloc: Global, name: &[u8], bytes: &[u8]) -> Result<Record, NoMemory>

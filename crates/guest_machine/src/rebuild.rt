@@ -1,6 +1,6 @@
 // The machine to which records lead.
 use crate::again::run_named;
-use crate::differs::{Differs, RebuildError};
+use crate::differs::RebuildError;
 use crate::law::{records_leave_room, runs_follow};
 use crate::machine::Machine;
 use crate::matching::{difference_at, match_records, record_at};
@@ -13,7 +13,7 @@ impl Machine {
     ghost use Rattle.std.specs.Prelude.{◌+◌, ◌≤◌, All, IfOk, IsErrOf, OnOk};
     ghost use Rattle.log_model.specs.Records.{named, records, IsRun};
     ghost use Rattle.result_log.specs.Spelling.{HasSpelling};
-    ghost use Rattle.guest_machine.specs.declared.differs.Differs.{Differs};
+    ghost use Rattle.arn_base.specs.declared.records.Differs.{Differs};
     ghost use Rattle.guest_machine.specs.Differs.{rebuild_cost, IsFirstDifference};
     ghost use Rattle.guest_machine.specs.Recorded.{IsAfter};
 

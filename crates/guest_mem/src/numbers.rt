@@ -3,39 +3,27 @@ ghost use Rattle.std.specs.Prelude.{◌≡◌, ◌<◌, ◌≤◌, ◌+◌, ◌^
 ghost use Rattle.arn_base.specs.Disk.{overwrite};
 ghost use Rattle.arn_base.specs.Window.{IsAccessLength, number_of, bytes_of};
 
+use byteorder::{ByteOrder, LittleEndian};
+
 fn load_2(bytes: &[u8], place: usize) -> u16
     requires { place + 2 ≤ length bytes.now }
     ensures { result ≡ number_of (take 2 (drop place bytes.now)) }
 {
-    u16::from_le_bytes([bytes[place], bytes[place + 1]])
+    LittleEndian::read_u16(&bytes[place..])
 }
 
 fn load_4(bytes: &[u8], place: usize) -> u32
     requires { place + 4 ≤ length bytes.now }
     ensures { result ≡ number_of (take 4 (drop place bytes.now)) }
 {
-    u32::from_le_bytes([
-        bytes[place],
-        bytes[place + 1],
-        bytes[place + 2],
-        bytes[place + 3],
-    ])
+    LittleEndian::read_u32(&bytes[place..])
 }
 
 fn load_8(bytes: &[u8], place: usize) -> u64
     requires { place + 8 ≤ length bytes.now }
     ensures { result ≡ number_of (take 8 (drop place bytes.now)) }
 {
-    u64::from_le_bytes([
-        bytes[place],
-        bytes[place + 1],
-        bytes[place + 2],
-        bytes[place + 3],
-        bytes[place + 4],
-        bytes[place + 5],
-        bytes[place + 6],
-        bytes[place + 7],
-    ])
+    LittleEndian::read_u64(&bytes[place..])
 }
 
 /// The number that the `len` bytes at a place spell.

@@ -1,8 +1,8 @@
 -- What is reached lies in the private window.
-use Rattle.std.proofs.Common.{◌≡◌, ◌+◌, ◌≤◌, ℕ, List, length, nat_le, Bool, true, false, Option, Some, None, IsSome, ◌&&◌, if◌then◌else◌, arith}
+use Rattle.std.proofs.Common.{◌≡◌, ◌+◌, ℕ, List, length, nat_le, Option, None, IsSome, ◌&&◌, if◌then◌else◌, arith}
 use Rattle.std.proofs.lemmas.Bool.Decides.{nat_tests}
 use Rattle.arn_base.specs.Window.{bytes_at}
-use Rattle.parts_model.specs.declared.limits.TheConstants.{WINDOW_START, WINDOW_END, WINDOW_LEN}
+use Rattle.parts_model.specs.declared.limits.TheConstants.{WINDOW_START, WINDOW_LEN}
 use Rattle.guest_mem.specs.Windows.{private_window}
 use Rattle.solo_lineage.specs.Sources.{FitsWindow}
 

@@ -1,5 +1,5 @@
 -- The instruction at which a process stands, and what it reaches.
-use Rattle.std.proofs.Common.{◌≡◌, ◌+◌, ◌%◌, ◌==◌, ◌≤◌, ℕ, zero, suc, Bool, true, false, if◌then◌else◌, List, [], ◌∷◌, length, Option, Some, None, IsSome, is_some, refl, sym, ap, ◌∙◌, subst, arith}
+use Rattle.std.proofs.Common.{◌≡◌, ◌%◌, ◌==◌, ◌≤◌, ℕ, Bool, true, false, if◌then◌else◌, List, [], ◌∷◌, length, Option, Some, None, is_some, refl, sym, ap, ◌∙◌, subst, arith}
 use Rattle.std.specs.Prelude.{option_map, option_and_then, slice_get}
 use Rattle.std.proofs.lemmas.Bool.{false≢true}
 use Rattle.std.proofs.lemmas.Option.{none-some, same_Some}
@@ -10,7 +10,7 @@ use Rattle.rv64_isa.specs.declared.instruction.Instr.{Instr}
 use Rattle.rv64_isa.specs.declared.instruction.Instr.TheVariants.{Lui, Auipc, Jal, Jalr, Branch, Load, Store, Imm, Op, Fence, Ecall, Ebreak}
 use Rattle.parts_model.specs.declared.limits.TheConstants.{WINDOW_LEN}
 use Rattle.rv64_model.specs.declared.statuses.TheConstants.{BAD_ACCESS, MISALIGNED}
-use Rattle.solo_model.specs.Machine.{Machine, Process, Life, Live, Gone}
+use Rattle.solo_model.specs.Machine.{Machine, Process}
 use Rattle.rv64_model.specs.Registers.{register}
 use Rattle.rv64_model.specs.Values.{immediate, is_taken, load_len, load_result, sum}
 use Rattle.rv64_model.specs.Operands.{accessed, address, store_len, stored_len}

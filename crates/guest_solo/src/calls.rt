@@ -9,9 +9,9 @@ ghost use Rattle.guest_solo.specs.Request.{IsRequest, IsRead, IsWrite, IsReadCal
 
 use crate::guest::Guest;
 use arn_base::Cpu;
-use parts_model::refusals::{BAD_ADDRESS, BAD_DESCRIPTOR, NO_SUCH_CALL};
 use parts_model::calls::{EXIT, READ, WRITE};
 use parts_model::limits::MOST_TRANSFER;
+use parts_model::refusals::{BAD_ADDRESS, BAD_DESCRIPTOR, NO_SUCH_CALL};
 
 /// How many descriptors a process has from boot on, all of them the console.
 const OPEN_DESCRIPTORS: u64 = 3;

@@ -3,8 +3,8 @@ ghost use Rattle.solo_model.specs.Run.{file_among};
 ghost use Rattle.guest_solo.specs.Files.{names_from, is_free_among};
 
 use arn_base::{Bytes, NoMemory, Record};
-use parts_model::limits::MOST_FILES;
 use guest_give::give_whole;
+use parts_model::limits::MOST_FILES;
 use std::alloc::Global;
 
 /// A file that was there before boot, and the event that brought it.

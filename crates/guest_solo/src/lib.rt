@@ -18,4 +18,4 @@ mod turn;
 pub use errors::MachineError;
 pub use solo::{Booted, Solo};
 pub use standpoint::Standpoint;
-pub use turn::{CutShort, Turn};
+pub use turn::{CutShort, PID, Turn};

@@ -8,8 +8,8 @@ ghost use Rattle.guest_solo.specs.Request.{HasConsole};
 use crate::calls::{Request, requested};
 use crate::guest::Guest;
 use arn_base::Memory;
-use solo_model::Standing;
 use rv64_isa::{Instr, decode};
+use solo_model::Standing;
 
 /// How a machine of this process stands.
 pub fn stands(guest: &Guest, queued: u64) -> Standing

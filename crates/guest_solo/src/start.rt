@@ -7,9 +7,9 @@ ghost use Rattle.guest_solo.specs.Start.{StartsFrom};
 use crate::errors::MachineError;
 use crate::guest::Guest;
 use arn_base::{Cpu, StoreError};
-use parts_model::limits::WINDOW_END;
 use guest_image::{HEADER_LEN, parse};
 use guest_mem::Space;
+use parts_model::limits::WINDOW_END;
 use std::alloc::Global;
 
 /// A process that starts, and the address at which its image's body lies.

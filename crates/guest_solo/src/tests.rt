@@ -2,9 +2,9 @@ ghost use Rattle.std.specs.Prelude.{◌≡◌, ◌<◌};
 
 use super::*;
 use arn_base::{Bytes, Extra, Give, NoMemory, Origin, Origins, Record, Src, Steps};
-use solo_model::Standing;
 use rv64_isa::{Instr, LoadOp};
 use solo_lineage::Move;
+use solo_model::Standing;
 use std::alloc::Global;
 use std::marker::Brand;
 use std::process::Abort;

@@ -16,8 +16,8 @@ use crate::burst::{Burst, run_instructions};
 use crate::calls::{Request, call_number, requested};
 use crate::guest::Guest;
 use arn_base::{Bytes, Cpu, Extra, NoMemory, Record, Steps, StoreError};
-use parts_model::TaggedByte;
 use guest_give::give_of;
+use parts_model::TaggedByte;
 use rv64_core::Outcome;
 use solo_lineage::{Move, Places};
 use std::alloc::Global;
@@ -25,7 +25,7 @@ use std::sync::ledger::Ledger;
 use thiserror::Error;
 
 /// The number of the only process.
-const PID: u32 = 1;
+pub const PID: u32 = 1;
 
 /// What a slice did: how many instructions ran; and the record of its event and what this did to
 /// bytes, if there was one.

@@ -38,7 +38,9 @@ file_by-append (entry.File n bytes ∷ front) back name =
     if-found_first (bytes_eq n name) bytes (file_by (front ++ back) name) (file_by front name) (file_by back name) (file_by-append front back name)
 file_by-append (entry.Boot n give ∷ front) back name = file_by-append front back name
 file_by-append (entry.Typed bytes ∷ front) back name = file_by-append front back name
+file_by-append (entry.Unplug device ∷ front) back name = file_by-append front back name
 file_by-append (entry.Slice pid ran ∷ front) back name = file_by-append front back name
+file_by-append (entry.Signal pid signal cut handler ∷ front) back name = file_by-append front back name
 file_by-append (entry.Call pid number result more ∷ front) back name = file_by-append front back name
 file_by-append (entry.End pid status ∷ front) back name = file_by-append front back name
 
@@ -77,7 +79,9 @@ quiet-file_by : (e : Record) (name : List ℕ) → is_file e ≡ false → file_
 quiet-file_by (entry.File n bytes) name is = absurd cc
 quiet-file_by (entry.Boot n give) name is = refl
 quiet-file_by (entry.Typed bytes) name is = refl
+quiet-file_by (entry.Unplug device) name is = refl
 quiet-file_by (entry.Slice pid ran) name is = refl
+quiet-file_by (entry.Signal pid signal cut handler) name is = refl
 quiet-file_by (entry.Call pid number result more) name is = refl
 quiet-file_by (entry.End pid status) name is = refl
 

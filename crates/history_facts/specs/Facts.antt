@@ -15,7 +15,9 @@ abbrev pub is_boot : Record → Bool
 is_boot (entry.File name bytes) = false
 is_boot (entry.Boot name give) = true
 is_boot (entry.Typed bytes) = false
+is_boot (entry.Unplug device) = false
 is_boot (entry.Slice pid ran) = false
+is_boot (entry.Signal pid signal cut handler) = false
 is_boot (entry.Call pid number result more) = false
 is_boot (entry.End pid status) = false
 
@@ -28,7 +30,9 @@ abbrev pub is_file : Record → Bool
 is_file (entry.File name bytes) = true
 is_file (entry.Boot name give) = false
 is_file (entry.Typed bytes) = false
+is_file (entry.Unplug device) = false
 is_file (entry.Slice pid ran) = false
+is_file (entry.Signal pid signal cut handler) = false
 is_file (entry.Call pid number result more) = false
 is_file (entry.End pid status) = false
 
@@ -38,7 +42,9 @@ file_by [] name = None
 file_by (entry.File n bytes ∷ entries) name = if bytes_eq n name then Some bytes else file_by entries name
 file_by (entry.Boot n give ∷ entries) name = file_by entries name
 file_by (entry.Typed bytes ∷ entries) name = file_by entries name
+file_by (entry.Unplug device ∷ entries) name = file_by entries name
 file_by (entry.Slice pid ran ∷ entries) name = file_by entries name
+file_by (entry.Signal pid signal cut handler ∷ entries) name = file_by entries name
 file_by (entry.Call pid number result more ∷ entries) name = file_by entries name
 file_by (entry.End pid status ∷ entries) name = file_by entries name
 
@@ -51,7 +57,9 @@ abbrev pub is_event : Record → Bool
 is_event (entry.File name bytes) = true
 is_event (entry.Boot name give) = true
 is_event (entry.Typed bytes) = true
+is_event (entry.Unplug device) = true
 is_event (entry.Slice pid ran) = false
+is_event (entry.Signal pid signal cut handler) = true
 is_event (entry.Call pid number result more) = true
 is_event (entry.End pid status) = true
 
@@ -63,14 +71,23 @@ event_by entries n = slice_get (filter is_event entries) n
 abbrev pub moved_len : Extra → ℕ
 moved_len extra.Nothing = 0
 moved_len (extra.Give given) = length given.bytes
+moved_len (extra.Start start) = 0
+moved_len (extra.Put file at bytes) = length bytes
 moved_len (extra.Console bytes) = length bytes
+moved_len (extra.Reply device bytes) = length bytes
+moved_len extra.Fault = 0
+moved_len extra.Absent = 0
+moved_len (extra.Name file path) = 0
+moved_len (extra.Sent device bytes) = length bytes
 
--- how many bytes an event with this record has: an exit and an end have a status alone
+-- how many bytes an event with this record has: an exit, an end and a signal that ends its process have a status alone
 abbrev pub event_len : Record → ℕ
 event_len (entry.File name bytes) = length bytes
 event_len (entry.Boot name give) = length give.bytes
 event_len (entry.Typed bytes) = length bytes
+event_len (entry.Unplug device) = 0
 event_len (entry.Slice pid ran) = 0
+event_len (entry.Signal pid signal cut handler) = if handler == 0 then 1 else 0
 event_len (entry.Call pid number result more) = if number == EXIT then 1 else moved_len more
 event_len (entry.End pid status) = 1
 

@@ -21,7 +21,9 @@ fn is_other_call(entry: &Record) -> bool
         Record::File { .. }
         | Record::Boot { .. }
         | Record::Typed { .. }
+        | Record::Unplug { .. }
         | Record::Slice { .. }
+        | Record::Signal { .. }
         | Record::End { .. } => false,
     }
 }

@@ -35,7 +35,8 @@ fn event_len(entry: &Record) -> u64
     match entry {
         Record::File { bytes, .. } | Record::Typed { bytes } => bytes.len() as u64,
         Record::Boot { give, .. } => give.bytes.len() as u64,
-        Record::Slice { .. } => 0,
+        Record::Unplug { .. } | Record::Slice { .. } => 0,
+        Record::Signal { handler, .. } => (*handler == 0).into(),
         Record::Call { number, .. } if *number == EXIT => 1,
         Record::Call { extra, .. } => moved_len(extra),
         Record::End { .. } => 1,
@@ -46,9 +47,12 @@ fn moved_len(extra: &Extra) -> u64
     ensures { result ≡ fact.moved_len extra.now }
 {
     match extra {
-        Extra::Nothing => 0,
         Extra::Give(give) => give.bytes.len() as u64,
-        Extra::Console { bytes } => bytes.len() as u64,
+        Extra::Put { bytes, .. }
+        | Extra::Console { bytes }
+        | Extra::Reply { bytes, .. }
+        | Extra::Sent { bytes, .. } => bytes.len() as u64,
+        Extra::Nothing | Extra::Start(_) | Extra::Fault | Extra::Absent | Extra::Name { .. } => 0,
     }
 }
 

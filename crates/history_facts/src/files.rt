@@ -47,7 +47,11 @@ fn is_file(entry: &Record) -> bool
 fn file_count(entries: &[Record]) -> u64
     ensures { result ≡ count_by fact.is_file entries.now }
 {
-    entries.iter().filter(|entry| is_file(entry)).count() as u64
+    let mut count = 0;
+    for entry in entries {
+        count += u64::from(is_file(entry));
+    }
+    count
 }
 
 // The bytes of a file, where the record brings one of this name.

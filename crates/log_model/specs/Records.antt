@@ -33,12 +33,15 @@ records_from m (i ∷ inputs) = input_records i (input_steps m i) ++ records_fro
 abbrev pub records : List Input → List Record
 records inputs = records_from at_first inputs
 
--- the input that a record names: a slice of as many instructions as ran
+-- the input that a record names: a slice of as many instructions as ran. The machine of one process has no devices
+-- and delivers no signals: records of these name no input
 abbrev pub named_by : Record → Option Input
 named_by (entry.File name bytes) = Some (input.File name bytes)
 named_by (entry.Boot name give) = Some (input.Boot name)
 named_by (entry.Typed bytes) = Some (input.Typed bytes)
+named_by (entry.Unplug device) = None
 named_by (entry.Slice pid ran) = Some (input.Slice pid ran)
+named_by (entry.Signal pid signal cut handler) = None
 named_by (entry.Call pid number result extra) = None
 named_by (entry.End pid status) = None
 

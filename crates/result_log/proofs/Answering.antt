@@ -1,7 +1,7 @@
 -- What is answered where a record is read.
 use Rattle.std.proofs.Common.{◌≡◌, ℕ, List, Result, Ok, Err, IfErr, IsErrAnd, IsErrOf, ap, sym, ◌∙◌}
-use Rattle.result_log.specs.declared.errors.GetError.{GetError}
-use Rattle.result_log.specs.declared.errors.GetError.TheVariants as error
+use Rattle.schedule_log.specs.declared.errors.GetError.{GetError}
+use Rattle.schedule_log.specs.declared.errors.GetError.TheVariants as error
 use Rattle.result_log.specs.Reading.{IsCause, IsMalformed, IsSpelled}
 
 -- the error that the exit of a `?` answers

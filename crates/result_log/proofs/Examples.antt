@@ -1,8 +1,11 @@
 -- Spellings at literal values.
-use Rattle.std.proofs.Common.{◌≡◌, [], ◌∷◌, codes, refl}
+use Rattle.std.proofs.Common.{◌≡◌, [], ◌∷◌, ◌++◌, codes, length, refl}
+use Rattle.std.specs.Prelude.{replicate, true, None, Some}
+use Rattle.arn_base.specs.declared.machine.Cpu.{Cpu}
 use Rattle.arn_base.specs.declared.records.Extra.TheVariants as extra
 use Rattle.arn_base.specs.declared.records.Record.TheVariants as entry
 use Rattle.result_log.specs.Spelling.{spelling}
+use Rattle.result_log.specs.States.{start_fields}
 
 -- 01 01 61 02000000 6162
 file : spelling (entry.File (codes "a") (codes "ab")) ≡ 1 ∷ 1 ∷ 0x61 ∷ 2 ∷ 0 ∷ 0 ∷ 0 ∷ 0x61 ∷ 0x62 ∷ []
@@ -54,6 +57,77 @@ call-console : spelling (entry.Call 258 12 2 (extra.Console (codes "ab")))
     ≡ 7 ∷ 2 ∷ 1 ∷ 0 ∷ 0 ∷ 12 ∷ 0 ∷ 0 ∷ 0 ∷ 0 ∷ 0 ∷ 0 ∷ 0 ∷ 2 ∷ 0 ∷ 0 ∷ 0 ∷ 0 ∷ 0 ∷ 0 ∷ 0
     ∷ 4 ∷ 2 ∷ 0 ∷ 0 ∷ 0 ∷ 0x61 ∷ 0x62 ∷ []
 call-console = refl
+
+-- 07 .. 03 05000000 02000000 01000000 7a: a write of a byte to file 5, at place 2
+call-put : spelling (entry.Call 2 12 1 (extra.Put 5 2 (codes "z")))
+    ≡ 7 ∷ 2 ∷ 0 ∷ 0 ∷ 0 ∷ 12 ∷ 0 ∷ 0 ∷ 0 ∷ 0 ∷ 0 ∷ 0 ∷ 0 ∷ 1 ∷ 0 ∷ 0 ∷ 0 ∷ 0 ∷ 0 ∷ 0 ∷ 0
+    ∷ 3 ∷ 5 ∷ 0 ∷ 0 ∷ 0 ∷ 2 ∷ 0 ∷ 0 ∷ 0 ∷ 1 ∷ 0 ∷ 0 ∷ 0 ∷ 0x7a ∷ []
+call-put = refl
+
+-- 07 .. 05 01000000 00000000: a read of device 1 that gave no bytes
+call-reply : spelling (entry.Call 1 11 0 (extra.Reply 1 []))
+    ≡ 7 ∷ 1 ∷ 0 ∷ 0 ∷ 0 ∷ 11 ∷ 0 ∷ 0 ∷ 0 ∷ 0 ∷ 0 ∷ 0 ∷ 0 ∷ 0 ∷ 0 ∷ 0 ∷ 0 ∷ 0 ∷ 0 ∷ 0 ∷ 0
+    ∷ 5 ∷ 1 ∷ 0 ∷ 0 ∷ 0 ∷ 0 ∷ 0 ∷ 0 ∷ 0 ∷ []
+call-reply = refl
+
+-- 07 01000000 0b00000000000000 fbffffffffffffff 06: the device failed, so a read answers -5
+call-fault : spelling (entry.Call 1 11 0xffff_ffff_ffff_fffb extra.Fault)
+    ≡ 7 ∷ 1 ∷ 0 ∷ 0 ∷ 0 ∷ 11 ∷ 0 ∷ 0 ∷ 0 ∷ 0 ∷ 0 ∷ 0 ∷ 0
+    ∷ 0xfb ∷ 0xff ∷ 0xff ∷ 0xff ∷ 0xff ∷ 0xff ∷ 0xff ∷ 0xff ∷ 6 ∷ []
+call-fault = refl
+
+-- 07 01000000 1500000000000000 edffffffffffffff 07: there is no such device, so call 21 answers -19
+call-absent : spelling (entry.Call 1 21 0xffff_ffff_ffff_ffed extra.Absent)
+    ≡ 7 ∷ 1 ∷ 0 ∷ 0 ∷ 0 ∷ 21 ∷ 0 ∷ 0 ∷ 0 ∷ 0 ∷ 0 ∷ 0 ∷ 0
+    ∷ 0xed ∷ 0xff ∷ 0xff ∷ 0xff ∷ 0xff ∷ 0xff ∷ 0xff ∷ 0xff ∷ 7 ∷ []
+call-absent = refl
+
+-- 07 .. 08 04000000 03 6c6f67: file 4 was opened, "log"
+call-name : spelling (entry.Call 1 9 5 (extra.Name 4 (codes "log")))
+    ≡ 7 ∷ 1 ∷ 0 ∷ 0 ∷ 0 ∷ 9 ∷ 0 ∷ 0 ∷ 0 ∷ 0 ∷ 0 ∷ 0 ∷ 0 ∷ 5 ∷ 0 ∷ 0 ∷ 0 ∷ 0 ∷ 0 ∷ 0 ∷ 0
+    ∷ 8 ∷ 4 ∷ 0 ∷ 0 ∷ 0 ∷ 3 ∷ 0x6c ∷ 0x6f ∷ 0x67 ∷ []
+call-name = refl
+
+-- 07 .. 09 02000000 02000000 6162: device 2 took two bytes
+call-sent : spelling (entry.Call 1 12 2 (extra.Sent 2 (codes "ab")))
+    ≡ 7 ∷ 1 ∷ 0 ∷ 0 ∷ 0 ∷ 12 ∷ 0 ∷ 0 ∷ 0 ∷ 0 ∷ 0 ∷ 0 ∷ 0 ∷ 2 ∷ 0 ∷ 0 ∷ 0 ∷ 0 ∷ 0 ∷ 0 ∷ 0
+    ∷ 9 ∷ 2 ∷ 0 ∷ 0 ∷ 0 ∷ 2 ∷ 0 ∷ 0 ∷ 0 ∷ 0x61 ∷ 0x62 ∷ []
+call-sent = refl
+
+-- no process writes these registers: x1 to x31 are 0, and the next instruction is at 0x10004
+idle : Cpu
+idle = record { x = replicate 31 0; pc = 0x10004 }
+
+-- 31 x 0000000000000000 0400010000000000 00 0100 ff04 256 x 00: no saved registers, and one block, 0x4ff
+start-block : start_fields (record {
+  cpu = idle;
+  slot = None;
+  blocks = record { number = 0x4ff; bytes = replicate 256 0 } ∷ [];
+}) ≡ replicate 248 0 ++ (4 ∷ 0 ∷ 1 ∷ 0 ∷ 0 ∷ 0 ∷ 0 ∷ 0 ∷ 0 ∷ 1 ∷ 0 ∷ 0xff ∷ 4 ∷ replicate 256 0)
+unfolding idle
+start-block = refl
+
+-- .. 01, the saved registers, 0000: saved registers, and no block
+start-slot : start_fields (record { cpu = idle; slot = Some idle; blocks = [] })
+    ≡ replicate 248 0 ++ (4 ∷ 0 ∷ 1 ∷ 0 ∷ 0 ∷ 0 ∷ 0 ∷ 0 ∷ 1 ∷ replicate 248 0) ++ (4 ∷ 0 ∷ 1 ∷ 0 ∷ 0 ∷ 0 ∷ 0 ∷ 0 ∷ 0 ∷ 0 ∷ [])
+unfolding idle
+start-slot = refl
+
+-- .. 02 and the start behind the call's numbers
+call-start : spelling (entry.Call 1 2 3 (extra.Start (record { cpu = idle; slot = None; blocks = [] })))
+    ≡ (7 ∷ 1 ∷ 0 ∷ 0 ∷ 0 ∷ 2 ∷ 0 ∷ 0 ∷ 0 ∷ 0 ∷ 0 ∷ 0 ∷ 0 ∷ 3 ∷ 0 ∷ 0 ∷ 0 ∷ 0 ∷ 0 ∷ 0 ∷ 0 ∷ 2 ∷ replicate 248 0)
+    ++ (4 ∷ 0 ∷ 1 ∷ 0 ∷ 0 ∷ 0 ∷ 0 ∷ 0 ∷ 0 ∷ 0 ∷ 0 ∷ [])
+unfolding idle
+call-start = refl
+
+-- 04 02000000
+unplug : spelling (entry.Unplug 2) ≡ 4 ∷ 2 ∷ 0 ∷ 0 ∷ 0 ∷ []
+unplug = refl
+
+-- 06 02000000 01 01 0400010000000000: signal 1 ended a call of process 2, whose handler is at 0x10004
+signal : spelling (entry.Signal 2 1 true 0x10004)
+    ≡ 6 ∷ 2 ∷ 0 ∷ 0 ∷ 0 ∷ 1 ∷ 1 ∷ 4 ∷ 0 ∷ 1 ∷ 0 ∷ 0 ∷ 0 ∷ 0 ∷ 0 ∷ []
+signal = refl
 
 -- 08 01000000 84: an end at a word that is no instruction
 end : spelling (entry.End 1 132) ≡ 8 ∷ 1 ∷ 0 ∷ 0 ∷ 0 ∷ 0x84 ∷ []

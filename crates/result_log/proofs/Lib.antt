@@ -1,9 +1,8 @@
 pub mod Answering
+pub mod Blocks
 pub mod Examples
-pub mod Fronts
 pub mod OneWay
 pub mod Options
-pub mod Origins
 pub mod Places
 pub mod Records
 pub mod Starting

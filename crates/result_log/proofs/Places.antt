@@ -6,11 +6,10 @@ use Rattle.std.proofs.Math.Seq.{take-append_seam, take-length}
 use Rattle.std.proofs.lemmas.List.Folds.{drop_split}
 use Rattle.arn_base.specs.declared.records.Record.{Record}
 use Rattle.arn_base.specs.declared.records.Record.TheVariants as entry
-use Rattle.result_log.specs.Laws.{ReadsBytes, ReadsOneWay, ReadsToItsEnd, SpelledWhereRead}
+use Rattle.result_log.specs.Laws.{ReadsBytes, ReadsOneWay, ReadsToItsEnd, SpelledOneWay, SpelledWhereRead}
 use Rattle.result_log.specs.Pieces.{Starts, StartsNone, StartsSome}
 use Rattle.result_log.specs.Reading.{IsMalformed, IsSpelled, Reads}
 use Rattle.result_log.specs.Spelling.{spelling}
-use Rattle.result_log.proofs.Records.{record-one}
 
 -- what stands from the place on
 read-behind : (bytes : List ℕ) (at : ℕ) (a : Record) (next : ℕ) → Reads bytes at a next
@@ -22,7 +21,9 @@ some-bytes : (a : Record) → 1 ≤ length (spelling a)
 some-bytes (entry.File name bytes) = omega arith
 some-bytes (entry.Boot name g) = omega arith
 some-bytes (entry.Typed bytes) = omega arith
+some-bytes (entry.Unplug device) = omega arith
 some-bytes (entry.Slice pid ran) = omega arith
+some-bytes (entry.Signal pid signal cut handler) = omega arith
 some-bytes (entry.Call pid number answer did) = omega arith
 some-bytes (entry.End pid status) = omega arith
 
@@ -37,8 +38,8 @@ reads-to-its-end bytes at a next r =
     omega (arith, long, r.forward, r.within, length-take (next - at) (drop at bytes), length-drop at bytes)
 
 -- at most one record is read at a place
-pub reads-one : ReadsOneWay
-reads-one bytes at a b next_a next_b reads_a reads_b =
+pub reads-one : SpelledOneWay → ReadsOneWay
+reads-one record-one bytes at a b next_a next_b reads_a reads_b =
     let same = record-one a b (drop next_a bytes) (drop next_b bytes) reads_a.has_spelling reads_a.fits reads_b.has_spelling reads_b.fits
     (sym (read-behind bytes at a next_a reads_a) ∙ read-behind bytes at b next_b reads_b) in
     let left : length (drop next_a bytes) ≡ length (drop next_b bytes) = ap (λ (xs : List ℕ). length xs) same.1 in

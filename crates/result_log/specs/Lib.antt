@@ -1,4 +1,5 @@
 pub mod Spelling
+pub mod States
 pub mod Reading
 pub mod Laws
 pub mod Pieces

@@ -1,8 +1,8 @@
 -- What is read at a place of bytes.
 use Rattle.std.specs.Prelude.{◌≡◌, ℕ, ◌≤◌, List, length, slice_range}
 use Rattle.arn_base.specs.declared.records.Record.{Record}
-use Rattle.result_log.specs.declared.errors.GetError.{GetError}
-use Rattle.result_log.specs.declared.errors.GetError.TheVariants as error
+use Rattle.schedule_log.specs.declared.errors.GetError.{GetError}
+use Rattle.schedule_log.specs.declared.errors.GetError.TheVariants as error
 use Rattle.result_log.specs.Spelling.{spelling, FitsFields, HasSpelling}
 
 -- the bytes from `at` to `next` are the spelling of the record

@@ -1,90 +1,17 @@
 // A record, read at the front of bytes, and the public call that reads one at a place.
-ghost use Rattle.std.specs.Prelude.{◌≡◌, ◌%◌, length, flat_map, IfOk, All, IfErr, IsErrOf, MatchOption, OnErr, ◌∷◌, ◌↔◌};
-ghost use Rattle.result_log.specs.Pieces.{Starts, StartsExtra, StartsGive, StartsNoExtra, StartsNoGive, StartsNone, StartsSome, StartsSomeExtra, StartsSomeGive};
+ghost use Rattle.std.specs.Prelude.{◌≡◌, IfOk, IfErr, IsErrOf, MatchOption, OnErr, ◌∷◌, ◌↔◌};
+ghost use Rattle.result_log.specs.Pieces.{Starts, StartsNone, StartsSome};
 ghost use Rattle.result_log.specs.Reading.{IsCause, IsMalformed, Reads};
-ghost use Rattle.result_log.specs.Spelling.{origin_fields, FitsOrigin};
 
 use crate::GetError;
-use crate::kinds::{BOOT, CALL, CONSOLE, END, FILE, GIVE, NOTHING, SLICE, TYPED};
-use crate::split::{
-    CallHead, ORIGIN_LEN, split_call_head, split_counted, split_named, split_origin, split_origins,
-    split_u8, split_u32,
-};
-use arn_base::{Bytes, Extra, Give, NoMemory, Origins, Record};
+use crate::extras::get_extra;
+use crate::kinds::{BOOT, CALL, END, FILE, TYPED, UNPLUG};
+use crate::split::{CallHead, split_call_head};
+use arn_base::{Bytes, NoMemory, Record};
+use exchange_log::front_give;
+use schedule_log::split::{split_counted, split_named, split_u8, split_u32};
+use schedule_log::{Delivery, SIGNAL, SLICE, split_signal, split_slice};
 use std::alloc::Global;
-
-fn read_origins(alloc: Global, fields: &[u8]) -> Result<Origins, NoMemory>
-    requires { length fields.now % ORIGIN_LEN ≡ 0 }
-    ensures read { IfOk result (λ origins. flat_map origin_fields origins ≡ fields.now) }
-    ensures fits { IfOk result (λ origins. All FitsOrigin origins) }
-{
-    let mut origins = Origins::new(alloc);
-    let mut left = fields;
-    while let Some((origin, rest)) = split_origin(left) {
-        origins.push(origin)?;
-        left = rest;
-    }
-    Ok(origins)
-}
-
-// Bytes that were given and their origins, or None where there are none.
-fn get_give(alloc: Global, bytes: &[u8]) -> Result<Option<(Give, &[u8])>, NoMemory>
-    ensures ok { IfOk result (λ read. MatchOption read (StartsNoGive bytes.now)
-        (λ found. StartsGive bytes.now found.0 found.1.now)) }
-    ensures err { OnErr result (StartsSomeGive bytes.now) }
-{
-    let Some((given, behind)) = split_counted(bytes) else {
-        return Ok(None);
-    };
-    let Some((fields, rest)) = split_origins(behind) else {
-        return Ok(None);
-    };
-    let bytes = Bytes::from_slice(alloc, given)?;
-    let origins = read_origins(alloc, fields)?;
-    Ok(Some((Give { bytes, origins }, rest)))
-}
-
-// A give behind its tag, or None where there is none.
-fn get_given(alloc: Global, bytes: &[u8]) -> Result<Option<(Extra, &[u8])>, NoMemory>
-    ensures ok { IfOk result (λ read. MatchOption read (StartsNoExtra (GIVE ∷ bytes.now))
-        (λ found. StartsExtra (GIVE ∷ bytes.now) found.0 found.1.now)) }
-    ensures err { OnErr result (StartsSomeExtra (GIVE ∷ bytes.now)) }
-{
-    let Some((give, rest)) = get_give(alloc, bytes)? else {
-        return Ok(None);
-    };
-    Ok(Some((Extra::Give(give), rest)))
-}
-
-// The bytes written to the console behind their tag, or None where there are none.
-fn get_console(alloc: Global, bytes: &[u8]) -> Result<Option<(Extra, &[u8])>, NoMemory>
-    ensures ok { IfOk result (λ read. MatchOption read (StartsNoExtra (CONSOLE ∷ bytes.now))
-        (λ found. StartsExtra (CONSOLE ∷ bytes.now) found.0 found.1.now)) }
-    ensures err { OnErr result (StartsSomeExtra (CONSOLE ∷ bytes.now)) }
-{
-    let Some((written, rest)) = split_counted(bytes) else {
-        return Ok(None);
-    };
-    let bytes = Bytes::from_slice(alloc, written)?;
-    Ok(Some((Extra::Console { bytes }, rest)))
-}
-
-// What a call did, or None where its tag or the tag's fields are not there.
-fn get_extra(alloc: Global, bytes: &[u8]) -> Result<Option<(Extra, &[u8])>, NoMemory>
-    ensures ok { IfOk result (λ read. MatchOption read (StartsNoExtra bytes.now)
-        (λ found. StartsExtra bytes.now found.0 found.1.now)) }
-    ensures err { OnErr result (StartsSomeExtra bytes.now) }
-{
-    let Some((tag, fields)) = split_u8(bytes) else {
-        return Ok(None);
-    };
-    match tag {
-        NOTHING => Ok(Some((Extra::Nothing, fields))),
-        GIVE => get_given(alloc, fields),
-        CONSOLE => get_console(alloc, fields),
-        _ => Ok(None),
-    }
-}
 
 // A file's record behind its kind, or None where there is none.
 fn get_file(alloc: Global, bytes: &[u8]) -> Result<Option<(Record, &[u8])>, NoMemory>
@@ -112,7 +39,7 @@ fn get_boot(alloc: Global, bytes: &[u8]) -> Result<Option<(Record, &[u8])>, NoMe
     let Some((name, behind)) = split_named(bytes) else {
         return Ok(None);
     };
-    let Some((give, rest)) = get_give(alloc, behind)? else {
+    let Some((give, rest)) = front_give(alloc, behind)? else {
         return Ok(None);
     };
     let name = Bytes::from_slice(alloc, name)?;
@@ -132,14 +59,43 @@ fn get_typed(alloc: Global, bytes: &[u8]) -> Result<Option<(Record, &[u8])>, NoM
     Ok(Some((Record::Typed { bytes }, rest)))
 }
 
+// The record of an unplugging behind its kind, or None where there is none.
+fn get_unplug(bytes: &[u8]) -> Option<(Record, &[u8])>
+    ensures { MatchOption result (StartsNone (UNPLUG ∷ bytes.now))
+        (λ found. Starts (UNPLUG ∷ bytes.now) found.0 found.1.now) }
+{
+    let (device, rest) = split_u32(bytes)?;
+    Some((Record::Unplug { device }, rest))
+}
+
 // A slice's record behind its kind, or None where there is none.
 fn get_slice(bytes: &[u8]) -> Option<(Record, &[u8])>
     ensures { MatchOption result (StartsNone (SLICE ∷ bytes.now))
         (λ found. Starts (SLICE ∷ bytes.now) found.0 found.1.now) }
 {
-    let (pid, behind) = split_u32(bytes)?;
-    let (ran, rest) = split_u32(behind)?;
+    let (pid, ran, rest) = split_slice(bytes)?;
     Some((Record::Slice { pid, ran }, rest))
+}
+
+// A delivery's record behind its kind, or None where there is none.
+fn get_signal(bytes: &[u8]) -> Option<(Record, &[u8])>
+    ensures { MatchOption result (StartsNone (SIGNAL ∷ bytes.now))
+        (λ found. Starts (SIGNAL ∷ bytes.now) found.0 found.1.now) }
+{
+    let (delivery, rest) = split_signal(bytes)?;
+    let Delivery {
+        pid,
+        signal,
+        cut,
+        handler,
+    } = delivery;
+    let entry = Record::Signal {
+        pid,
+        signal,
+        cut,
+        handler,
+    };
+    Some((entry, rest))
 }
 
 // A call's record behind its kind, or None where there is none.
@@ -188,7 +144,9 @@ fn get_fields(alloc: Global, kind: u8, fields: &[u8]) -> Result<Option<(Record, 
         FILE => get_file(alloc, fields),
         BOOT => get_boot(alloc, fields),
         TYPED => get_typed(alloc, fields),
+        UNPLUG => Ok(get_unplug(fields)),
         SLICE => Ok(get_slice(fields)),
+        SIGNAL => Ok(get_signal(fields)),
         CALL => get_call(alloc, fields),
         END => Ok(get_end(fields)),
         _ => Ok(None),

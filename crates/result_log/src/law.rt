@@ -1,6 +1,9 @@
 // What holds of the spellings as a whole.
 ghost use Rattle.result_log.specs.Laws.{ReadsAsSpelled, ReadsBytes, ReadsOneWay, ReadsToItsEnd, SpelledOneWay, SpelledWhereRead};
 
+use exchange_log::gives_spelled_one_way;
+use schedule_log::fields_spelled_one_way;
+
 /// A record is read where it is spelled, and nothing else is read there.
 pub fn records_spelled_one_way()
     // No spelling begins another, and no two records have the same.
@@ -20,4 +23,7 @@ pub fn records_spelled_one_way()
 
     // Reading goes on by as many bytes as the record's spelling has.
     ensures to_its_end { ReadsToItsEnd }
-{}
+{
+    fields_spelled_one_way();
+    gives_spelled_one_way();
+}

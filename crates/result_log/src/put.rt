@@ -2,114 +2,18 @@
 // of their types.
 ghost use Rattle.std.specs.Prelude.{◌≡◌, ◌++◌, length, All, OnOk, OnErr};
 ghost use Rattle.arn_base.specs.declared.records.Record.TheVariants as kind;
-ghost use Rattle.result_log.specs.Pieces.{call_head, LeavesFront};
+ghost use Rattle.schedule_log.specs.Fields.{IsCounted, IsName, LeavesFront};
+ghost use Rattle.exchange_log.specs.Gives.{FitsOrigin, GiveHasSpelling};
+ghost use Rattle.result_log.specs.Pieces.{call_head};
 ghost use Rattle.result_log.specs.Reading.{Reads};
-ghost use Rattle.result_log.specs.Spelling.{counted, extra_fields, field, give_fields, named, origin_fields, origins_fields, spelling, ExtraHasSpelling, FitsExtra, FitsFields, FitsOrigin, GiveHasSpelling, HasSpelling, IsCounted, IsName};
+ghost use Rattle.result_log.specs.Spelling.{spelling, ExtraHasSpelling, FitsFields, HasSpelling};
 
-use crate::kinds::{BOOT, CALL, CONSOLE, END, FILE, GIVE, NOTHING, SLICE, TYPED};
-use arn_base::{Extra, Give, NoMemory, Origin, Record};
-
-fn put_u8(out: &mut Vec<u8>, number: u8) -> Result<(), NoMemory>
-    ensures ok { OnOk result (out.new.items ≡ out.old.items ++ field 1 number) }
-    ensures err { OnErr result (out.new.items ≡ out.old.items) }
-{
-    Ok(out.extend_from_slice(&number.to_le_bytes())?)
-}
-
-fn put_u32(out: &mut Vec<u8>, number: u32) -> Result<(), NoMemory>
-    ensures ok { OnOk result (out.new.items ≡ out.old.items ++ field 4 number) }
-    ensures err { OnErr result (out.new.items ≡ out.old.items) }
-{
-    Ok(out.extend_from_slice(&number.to_le_bytes())?)
-}
-
-fn put_u64(out: &mut Vec<u8>, number: u64) -> Result<(), NoMemory>
-    ensures ok { OnOk result (out.new.items ≡ out.old.items ++ field 8 number) }
-    ensures err { OnErr result (out.new.items ≡ out.old.items) }
-{
-    Ok(out.extend_from_slice(&number.to_le_bytes())?)
-}
-
-fn put_bytes(out: &mut Vec<u8>, bytes: &[u8]) -> Result<(), NoMemory>
-    requires { IsCounted bytes.now }
-    ensures ok { OnOk result (out.new.items ≡ out.old.items ++ counted bytes.now) }
-    ensures err { OnErr result (LeavesFront out.old.items out.new.items) }
-{
-    put_u32(out, bytes.len() as u32)?;
-    Ok(out.extend_from_slice(bytes)?)
-}
-
-fn put_name(out: &mut Vec<u8>, name: &[u8]) -> Result<(), NoMemory>
-    requires { IsName name.now }
-    ensures ok { OnOk result (out.new.items ≡ out.old.items ++ named name.now) }
-    ensures err { OnErr result (LeavesFront out.old.items out.new.items) }
-{
-    put_u8(out, name.len() as u8)?;
-    Ok(out.extend_from_slice(name)?)
-}
-
-fn put_slice(out: &mut Vec<u8>, pid: u32, ran: u32) -> Result<(), NoMemory>
-    ensures ok { OnOk result (out.new.items ≡ out.old.items ++ spelling (kind.Slice pid ran)) }
-    ensures err { OnErr result (LeavesFront out.old.items out.new.items) }
-{
-    put_u8(out, SLICE)?;
-    put_u32(out, pid)?;
-    put_u32(out, ran)
-}
-
-fn put_origin(out: &mut Vec<u8>, origin: &Origin) -> Result<(), NoMemory>
-    ensures ok { OnOk result (out.new.items ≡ out.old.items ++ origin_fields origin.now) }
-    ensures fits { FitsOrigin origin.now }
-    ensures err { OnErr result (LeavesFront out.old.items out.new.items) }
-{
-    let Origin { event, at, len } = *origin;
-    put_u64(out, event)?;
-    put_u32(out, at)?;
-    put_u32(out, len)
-}
-
-fn put_origins(out: &mut Vec<u8>, origins: &[Origin]) -> Result<(), NoMemory>
-    requires { IsCounted origins.now }
-    ensures ok { OnOk result (out.new.items ≡ out.old.items ++ origins_fields origins.now) }
-    ensures fits { OnOk result (All FitsOrigin origins.now) }
-    ensures err { OnErr result (LeavesFront out.old.items out.new.items) }
-{
-    put_u32(out, origins.len() as u32)?;
-    for origin in origins {
-        put_origin(out, origin)?;
-    }
-    Ok(())
-}
-
-// Spelled alike behind the kind of a boot and the tag of a call.
-fn put_give(out: &mut Vec<u8>, give: &Give) -> Result<(), NoMemory>
-    requires { GiveHasSpelling give.now }
-    ensures ok { OnOk result (out.new.items ≡ out.old.items ++ give_fields give.now) }
-    ensures fits { OnOk result (All FitsOrigin give.now.origins) }
-    ensures err { OnErr result (LeavesFront out.old.items out.new.items) }
-{
-    put_bytes(out, give.bytes.as_slice())?;
-    put_origins(out, give.origins.as_slice())
-}
-
-fn put_extra(out: &mut Vec<u8>, did: &Extra) -> Result<(), NoMemory>
-    requires { ExtraHasSpelling did.now }
-    ensures ok { OnOk result (out.new.items ≡ out.old.items ++ extra_fields did.now) }
-    ensures fits { OnOk result (FitsExtra did.now) }
-    ensures err { OnErr result (LeavesFront out.old.items out.new.items) }
-{
-    match did {
-        Extra::Nothing => put_u8(out, NOTHING),
-        Extra::Give(give) => {
-            put_u8(out, GIVE)?;
-            put_give(out, give)
-        }
-        Extra::Console { bytes } => {
-            put_u8(out, CONSOLE)?;
-            put_bytes(out, bytes.as_slice())
-        }
-    }
-}
+use crate::kinds::{BOOT, CALL, END, FILE, TYPED, UNPLUG};
+use crate::put_extras::put_extra;
+use arn_base::{Extra, Give, NoMemory, Record};
+use exchange_log::put_give;
+use schedule_log::fields::{put_bytes, put_name, put_u8, put_u32, put_u64};
+use schedule_log::{Delivery, put_signal, put_slice};
 
 fn put_file(out: &mut Vec<u8>, name: &[u8], bytes: &[u8]) -> Result<(), NoMemory>
     requires name { IsName name.now }
@@ -143,6 +47,14 @@ fn put_typed(out: &mut Vec<u8>, bytes: &[u8]) -> Result<(), NoMemory>
 {
     put_u8(out, TYPED)?;
     put_bytes(out, bytes)
+}
+
+fn put_unplug(out: &mut Vec<u8>, device: u32) -> Result<(), NoMemory>
+    ensures ok { OnOk result (out.new.items ≡ out.old.items ++ spelling (kind.Unplug device)) }
+    ensures err { OnErr result (LeavesFront out.old.items out.new.items) }
+{
+    put_u8(out, UNPLUG)?;
+    put_u32(out, device)
 }
 
 // Appends what stands before the tag of a call.
@@ -194,7 +106,22 @@ fn put_parts(out: &mut Vec<u8>, entry: &Record) -> Result<(), NoMemory>
         Record::File { name, bytes } => put_file(out, name.as_slice(), bytes.as_slice()),
         Record::Boot { name, give } => put_boot(out, name.as_slice(), give),
         Record::Typed { bytes } => put_typed(out, bytes.as_slice()),
+        Record::Unplug { device } => put_unplug(out, *device),
         Record::Slice { pid, ran } => put_slice(out, *pid, *ran),
+        Record::Signal {
+            pid,
+            signal,
+            cut,
+            handler,
+        } => {
+            let delivery = Delivery {
+                pid: *pid,
+                signal: *signal,
+                cut: *cut,
+                handler: *handler,
+            };
+            put_signal(out, delivery)
+        }
         Record::Call {
             pid,
             number,
@@ -206,8 +133,8 @@ fn put_parts(out: &mut Vec<u8>, entry: &Record) -> Result<(), NoMemory>
 }
 
 /// Appends the spelling of a record: a byte for its kind, then its fields, with numbers in
-/// little-endian order and each list behind its length. Names have 1 to 64 bytes, and lists fewer
-/// than 2^32 items.
+/// little-endian order and each list behind its length. Names have 1 to 64 bytes, signals are 1 to
+/// 31, lists have fewer than 2^32 items, and there are fewer than 65,536 blocks.
 pub fn put_record(out: &mut Vec<u8>, entry: &Record) -> Result<(), NoMemory>
     requires { HasSpelling entry.now }
     ensures ok { OnOk result (out.new.items ≡ out.old.items ++ spelling entry.now) }

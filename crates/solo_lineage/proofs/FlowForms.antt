@@ -16,7 +16,7 @@ use Rattle.solo_model.specs.declared.lineage.Deed.TheVariants as deed
 use Rattle.solo_model.specs.declared.lineage.Feed.{Feed}
 use Rattle.solo_model.specs.declared.lineage.Feed.TheVariants.{Old, In}
 use Rattle.rv64_model.specs.Carries.{Operand}
-use Rattle.rv64_model.specs.Carries.{Left, Right, Loaded}
+use Rattle.rv64_model.specs.Carries.{Left, Right, Loaded, Address}
 use Rattle.solo_model.specs.declared.lineage.Place.{Place}
 use Rattle.solo_model.specs.declared.lineage.Place.TheVariants as place
 use Rattle.solo_model.specs.declared.lineage.Point.{Point}
@@ -85,6 +85,7 @@ operand_spots-Single : (pid : ℕ) (instr : Instr) (found : Option Place) (opera
 operand_spots-Single pid instr found (Left i) = register_spots-Single pid (rs1_of instr) i
 operand_spots-Single pid instr found (Right i) = register_spots-Single pid (rs2_of instr) i
 operand_spots-Single pid instr found (Loaded k) = place_spots-Single pid found k
+operand_spots-Single pid instr found (Address i) = register_spots-Single pid (rs1_of instr) i
 
 result_spots-Single : (pid : ℕ) (instr : Instr) (found : Option Place) (i : ℕ) → Single (result_spots copy_operands pid instr found i)
 result_spots-Single pid instr found i =

@@ -11,15 +11,12 @@ ghost use Rattle.solo_queries.specs.Followed.{Advances, Follows, IsBetween, Trac
 
 use crate::events::{Asked, Seen, see};
 use arn_base::{NoMemory, Record, Steps};
-use solo_model::Standing;
+use guest_solo::{CutShort, MachineError, PID, Solo, Standpoint, Turn};
 use parts_model::limits::{MOST_FILE_BYTES, MOST_SLICE};
-use guest_solo::{CutShort, MachineError, Solo, Standpoint, Turn};
 use solo_lineage::{Move, Shadow, moves_told};
+use solo_model::Standing;
 use std::alloc::Global;
 use std::sync::ledger::Ledger;
-
-/// The number of the only process.
-const PID: u32 = 1;
 
 /// A machine that runs a history again, and where the bytes of its process came from.
 #[derive(Drop)]
@@ -74,7 +71,10 @@ impl Tracked {
             Record::Boot { name, .. } => self.boot(alloc, name.as_slice(), asked),
             Record::Typed { bytes } => self.type_in(alloc, bytes.as_slice(), asked),
             Record::Slice { pid, ran } => self.run_slice(alloc, *pid, *ran, asked, steps),
-            Record::Call { .. } | Record::End { .. } => Ok(None),
+            Record::Unplug { .. }
+            | Record::Signal { .. }
+            | Record::Call { .. }
+            | Record::End { .. } => Ok(None),
         }
     }
 

@@ -96,3 +96,12 @@ fn tells_the_record_of_a_refused_input(rt: HostRuntime) -> Result<(), Fail> {
     assert_eq!(rt; rebuilt(rt.alloc(), entries.as_slice()), refused);
     Ok(())
 }
+
+#[test]
+fn tells_records_that_no_input_makes(rt: HostRuntime) -> Result<(), Fail> {
+    let mut entries = first_records(rt.alloc())?;
+    push(&mut entries, Record::Unplug { device: 0 })?;
+    let unplugged = differs(5, 0, Some(4), None);
+    assert_eq!(rt; rebuilt(rt.alloc(), entries.as_slice()), unplugged);
+    Ok(())
+}

@@ -1,6 +1,10 @@
 use Rattle.std.proofs.Common.{◌≡◌, ◌∙◌, ap, drop, sym}
-use Rattle.arn_lines.proofs.Keywords.{IsBack-parts, no_back_line}
+use Rattle.arn_lines.proofs.Keywords.{IsBack-from, IsBack-parts, no_back_line}
 use Rattle.arn_lines.proofs.grammar.back_line.Goals as goal
+
+pub returns-clause-some : goal.returns-clause-some
+returns-clause-some c =
+    IsBack-from c.args.text.now c.in_ok-word.word.now c.in_ok-word.rest.now c.in_ok-after.field-0.now c.in_ok-linkage.linkage c.in_ok-event.event c.in_ok-event.from c.in_ok-event.len c.in_ok-word.ensures.some c.in_ok-linkage.ensures.some c.in_ok-after.ensures.some c.in_ok-event.ensures.some
 
 pub returns-in_err-linkage-clause-none : goal.returns-in_err-linkage-clause-none
 returns-in_err-linkage-clause-none c =

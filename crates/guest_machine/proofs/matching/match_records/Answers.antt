@@ -1,6 +1,6 @@
 use Rattle.std.proofs.Common.{◌≡◌, ◌≢◌, ◌++◌, Bool, false, Some, IsTrue, option_copied, slice_get, take, ◌∙◌, sym, subst, Option}
 use Rattle.arn_base.specs.declared.records.Record.{Record}
-use Rattle.guest_machine.specs.declared.differs.Differs.{Differs}
+use Rattle.arn_base.specs.declared.records.Differs.{Differs}
 use Rattle.guest_machine.specs.Matching.{IsDifferenceAt, IsMismatch}
 use Rattle.guest_machine.proofs.Compared.{IsMatched-more, IsMismatch-here}
 use Rattle.guest_machine.proofs.matching.match_records.Goals as goal

@@ -1,8 +1,7 @@
-use Rattle.std.proofs.Common.{◌≡◌, ◌∙◌, Some, Option, ap, sym}
+use Rattle.std.proofs.Common.{◌∙◌, Some, Option, ap, sym}
 use Rattle.std.specs.Prelude.{option_map}
 use Rattle.rv64_isa.specs.declared.instruction.Instr.{Instr}
 use Rattle.rv64_model.specs.Operands.{accessed}
-use Rattle.guest_solo.specs.declared.standpoint.Standpoint.{Standpoint}
 use Rattle.guest_solo.proofs.StandpointLemmas.{guest-StandsAt}
 use Rattle.guest_solo.proofs.standpoint.stands_before.Goals as goal
 

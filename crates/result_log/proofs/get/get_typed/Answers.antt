@@ -1,7 +1,8 @@
 use Rattle.std.proofs.Common.{rules, ℕ, List, ◌∷◌, ap}
 use Rattle.arn_base.specs.declared.records.Record.{Record}
 use Rattle.arn_base.specs.declared.records.Record.TheVariants as entry
-use Rattle.result_log.specs.Pieces.{BeginsCounted, Starts}
+use Rattle.schedule_log.specs.Fields.{BeginsCounted}
+use Rattle.result_log.specs.Pieces.{Starts}
 use Rattle.result_log.proofs.Options.{OnErr-always}
 use Rattle.result_log.proofs.get.get_typed.Goals as goal
 

@@ -1,0 +1,5 @@
+pub mod Answering
+pub mod Examples
+pub mod OneWay
+pub mod Options
+pub mod Reading

@@ -1,0 +1,4 @@
+pub mod Examples
+pub mod OneWay
+pub mod Fronts
+pub mod Placed
