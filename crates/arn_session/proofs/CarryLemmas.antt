@@ -1,7 +1,7 @@
 -- Effects that were carried out, one behind the other.
 use Rattle.std.proofs.Common.{◌≡◌, ◌⊎◌, inl, inr, ℕ, ◌++◌, List, [], Option, Some, None, option_map, refl, sym, ap, subst, ◌∙◌, append_assoc, append-nil, ◌≢◌}
 use Rattle.arn_base.specs.declared.records.Record.{Record}
-use Rattle.log_model.specs.Records.{IsRun}
+use Rattle.solo_log.specs.Records.{IsRun}
 use Rattle.log_store.specs.Log.{IsLog}
 use Rattle.log_store.specs.Stops.{LeavesOnly}
 use Rattle.arn_session.specs.Effects.{Effect, committed, printed}

@@ -4,7 +4,7 @@ use Rattle.std.proofs.lemmas.Option.{IfSome_then}
 use Rattle.std.proofs.lemmas.List.Elements.{All-append}
 use Rattle.arn_base.specs.declared.records.Record.{Record}
 use Rattle.arn_base.specs.Disk.{Only}
-use Rattle.log_model.specs.Records.{IsRun}
+use Rattle.solo_log.specs.Records.{IsRun}
 use Rattle.result_log.specs.Spelling.{HasSpelling}
 use Rattle.log_store.specs.Log.{spellings}
 use Rattle.log_store.specs.Stores.{StoreState, IsLeftBy, IsBeforeOrAfter}

@@ -6,7 +6,7 @@ use Rattle.solo_model.specs.declared.history.Input.{Input}
 use Rattle.solo_model.specs.Machine.{Machine}
 use Rattle.solo_model.specs.Slice.{standing}
 use Rattle.solo_model.specs.Run.{steps_from, outputs_from}
-use Rattle.log_model.specs.Records.{records_from}
+use Rattle.solo_log.specs.Records.{records_from}
 use Rattle.log_store.specs.Stores.{StoreState}
 use Rattle.guest_machine.specs.Recorded.{Recorded, Runs}
 use Rattle.guest_machine.specs.Legs.{leg_of}

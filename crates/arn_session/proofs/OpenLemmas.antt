@@ -2,7 +2,7 @@
 use Rattle.std.proofs.Common.{◌≡◌, ◌≢◌, inl, ℕ, ◌≤◌, ◌++◌, List, [], length, Option, inr, Some, None, IfSome, is_some, refl, sym, subst, ◌∙◌, append-nil, arith, ◌<◌, ◌⊎◌}
 use Rattle.arn_base.specs.declared.records.Record.{Record}
 use Rattle.arn_base.specs.Disk.{Only}
-use Rattle.log_model.specs.Records.{IsRun}
+use Rattle.solo_log.specs.Records.{IsRun}
 use Rattle.log_store.specs.Log.{IsLog}
 use Rattle.log_store.specs.Laws.{ClosedAreLogs, LogsReadOneWay}
 use Rattle.log_store.specs.Stores.{StoreState, IsLeftBy, KeepsRecords}

@@ -18,7 +18,7 @@ use Rattle.parts_model.specs.Tagged.{values}
 use Rattle.solo_model.specs.Call.{CallOutcome, Waits, Answers, Ends, Takes, Writes, called, call_step, with_result, without_queued}
 use Rattle.solo_model.specs.Slice.{stands_at, effect_step, step_if_live, step_if_made, next_step, steps_of, step_then, unless_ended, after_steps, is_possible}
 use Rattle.solo_model.specs.Run.{can_add, file_step, typed_step, is_booted, find_file, boot_if_found, boot_if_held, boot_if_image, input_steps, after_input, steps_from, outputs_from, output_of}
-use Rattle.log_model.specs.Records.{event_records, slice_records, input_records, records_from}
+use Rattle.solo_log.specs.Records.{event_records, slice_records, input_records, records_from}
 use Rattle.history_facts.specs.Facts.{is_event as is_event_record}
 use Rattle.arn_session.specs.Running.{record_outputs, outputs_text}
 

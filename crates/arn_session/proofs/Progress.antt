@@ -3,7 +3,7 @@ use Rattle.std.proofs.Common.{◌≡◌, ◌≢◌, ℕ, ◌+◌, ◌-◌, ◌^�
 use Rattle.std.proofs.lemmas.Option.{IfSome_then}
 use Rattle.std.proofs.Math.Seq.{drop-append_seam}
 use Rattle.arn_base.specs.declared.records.Record.{Record}
-use Rattle.log_model.specs.Records.{IsRun}
+use Rattle.solo_log.specs.Records.{IsRun}
 use Rattle.arn_commands.specs.declared.command.Command.{Command}
 use Rattle.arn_commands.specs.Commands.{Asks, EachAsks}
 use Rattle.arn_commands.specs.Nexts.{IsWholePart, ReadsMore, ReadsLast, ReadsEnd, ReadsPart}

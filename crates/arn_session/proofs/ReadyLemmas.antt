@@ -2,8 +2,8 @@
 use Rattle.std.proofs.Common.{◌≡◌, ◌<◌, ◌≤◌, ◌^◌, ◌++◌, ℕ, List, [], length, sym, ap, subst, ◌∙◌}
 use Rattle.arn_base.specs.declared.records.Record.{Record}
 use Rattle.solo_model.specs.declared.history.Input.{Input}
-use Rattle.log_model.specs.Laws.{RecordsAreRun}
-use Rattle.log_model.specs.Records.{records, records_from, named, IsRun}
+use Rattle.solo_log.specs.Laws.{RecordsAreRun}
+use Rattle.solo_log.specs.Records.{records, records_from, named, IsRun}
 use Rattle.guest_machine.specs.Laws.{NamedFollow, RecordsFollow, RunsFollow, RecordsLeaveRoom}
 use Rattle.guest_machine.specs.Recorded.{Recorded, Runs, IsAfter, HasRoom}
 use Rattle.arn_session.specs.Kept.{IsReady}

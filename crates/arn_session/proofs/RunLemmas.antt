@@ -8,7 +8,7 @@ use Rattle.solo_model.specs.Step.{Step}
 use Rattle.solo_model.specs.Deed.{is_instruction}
 use Rattle.solo_model.specs.Slice.{standing, after_steps}
 use Rattle.solo_model.specs.Run.{input_steps, after_input, steps_from, instructions_in}
-use Rattle.log_model.specs.Records.{records_from}
+use Rattle.solo_log.specs.Records.{records_from}
 use Rattle.guest_machine.specs.declared.leg.Leg.{Leg}
 use Rattle.guest_machine.specs.declared.leg.LegEnd.{LegEnd}
 use Rattle.guest_machine.specs.declared.leg.LegEnd.TheVariants as leg_end

@@ -2,7 +2,7 @@
 use Rattle.std.proofs.Common.{◌≡◌, inl, inr, ℕ, ◌≤◌, ◌++◌, List, [], ◌∷◌, length, Option, Some, None, option_map, IfSome, is_some, true, false, refl, sym, ap, subst, ◌∙◌, append-nil}
 use Rattle.arn_base.specs.declared.records.Record.{Record}
 use Rattle.arn_base.specs.Disk.{Only}
-use Rattle.log_model.specs.Records.{IsRun}
+use Rattle.solo_log.specs.Records.{IsRun}
 use Rattle.log_store.specs.Log.{IsLog}
 use Rattle.log_store.specs.Laws.{ClosedAreLogs}
 use Rattle.log_store.specs.Stores.{StoreState, IsLeftBy, IsBeforeOrAfter}

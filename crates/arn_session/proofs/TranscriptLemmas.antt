@@ -14,7 +14,7 @@ use Rattle.arn_session.specs.Ready.{IsNoRun, BlamesRecords}
 use Rattle.arn_session.specs.declared.status.Halt.{Halt}
 use Rattle.arn_session.specs.declared.status.Halt.TheVariants as halt
 use Rattle.arn_session.specs.Transcript.{all_effects, history_behind, needs_any}
-use Rattle.log_model.specs.Records.{IsRun}
+use Rattle.solo_log.specs.Records.{IsRun}
 use Rattle.arn_session.proofs.EffectLemmas.{history-append}
 
 -- where a session stands behind these commands

@@ -1,7 +1,7 @@
 -- Where a session stands, and what it took of its text.
 use Rattle.std.specs.Prelude.{◌≡◌, ◌<◌, ◌≤◌, ℕ, ◌+◌, ◌||◌, Bool, false, List, length, Option, IfSome, ◌⊎◌, true}
 use Rattle.arn_base.specs.declared.records.Record.{Record}
-use Rattle.log_model.specs.Records.{IsRun}
+use Rattle.solo_log.specs.Records.{IsRun}
 use Rattle.arn_commands.specs.declared.command.Command.{Command}
 use Rattle.arn_session.specs.Answers.{needs_machine, history_after}
 

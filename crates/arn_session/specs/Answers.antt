@@ -9,7 +9,7 @@ use Rattle.parts_model.specs.Image.{image_of}
 use Rattle.solo_model.specs.Machine.{Machine}
 use Rattle.solo_model.specs.Run.{machine_after}
 use Rattle.solo_model.specs.Related.{event_pairs, groups_count, asked_groups}
-use Rattle.log_model.specs.Records.{records_from, named}
+use Rattle.solo_log.specs.Records.{records_from, named}
 use Rattle.history_facts.specs.Facts.{is_booted_by, file_by, is_free_by, event_by, is_range_by, has_other_calls_by}
 use Rattle.arn_lines.specs.declared.line.Line.{Line}
 use Rattle.arn_lines.specs.declared.line.Line.TheVariants as line

@@ -2,7 +2,7 @@
 use Rattle.std.specs.Prelude.{◌≡◌, ◌≢◌, ◌⊎◌, ℕ, ◌+◌, ◌<◌, ◌≤◌, List, [], ◌∷◌, ◌++◌, length, Option, Some, option_map, IfSome}
 use Rattle.arn_base.specs.declared.records.Record.{Record}
 use Rattle.arn_base.specs.Disk.{Only}
-use Rattle.log_model.specs.Records.{IsRun}
+use Rattle.solo_log.specs.Records.{IsRun}
 use Rattle.log_store.specs.Log.{IsLog, spellings}
 use Rattle.log_store.specs.Stops.{LeavesOnly}
 use Rattle.log_store.specs.declared.size.TheConstants.{MOST_LOG}

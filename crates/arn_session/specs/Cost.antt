@@ -4,7 +4,7 @@ use Rattle.arn_base.specs.declared.records.Record.{Record}
 use Rattle.solo_model.specs.declared.history.Input.{Input}
 use Rattle.solo_model.specs.Machine.{Machine}
 use Rattle.solo_model.specs.Run.{run, instructions_in}
-use Rattle.log_model.specs.Records.{named}
+use Rattle.solo_log.specs.Records.{named}
 use Rattle.guest_machine.specs.Differs.{rebuild_cost}
 use Rattle.arn_lines.specs.declared.line.Line.{Line}
 use Rattle.arn_lines.specs.declared.line.Line.TheVariants as line

@@ -9,7 +9,7 @@ use Rattle.arn_session.specs.Effects.{Effect}
 use Rattle.arn_session.specs.Answers.{needs_machine}
 use Rattle.arn_session.specs.Cost.{total_cost}
 use Rattle.arn_session.specs.Transcript.{all_effects, history_behind, needs_any}
-use Rattle.log_model.specs.Records.{IsRun}
+use Rattle.solo_log.specs.Records.{IsRun}
 
 -- A session that began on a history answered the first parts of a text, and began the answer to one more at most. All of them
 -- were taken, and no more instructions were executed than they cost. What the first parts ask for was carried out, and of what the

@@ -1,7 +1,7 @@
 -- What is kept beside the log of a history.
 use Rattle.std.specs.Prelude.{List, IfSome, is_some}
 use Rattle.arn_base.specs.declared.records.Record.{Record}
-use Rattle.log_model.specs.Records.{named, IsRun}
+use Rattle.solo_log.specs.Records.{named, IsRun}
 use Rattle.guest_machine.specs.Recorded.{Recorded, IsAfter}
 use Rattle.arn_session.specs.declared.kept.Kept.{Kept}
 use Rattle.arn_session.specs.Answering.{Standpoint}

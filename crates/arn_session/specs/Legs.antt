@@ -3,7 +3,7 @@ use Rattle.std.specs.Prelude.{◌≡◌, ℕ, ◌-◌, ◌≤◌, List, Some}
 use Rattle.solo_model.specs.declared.history.Input.{Input}
 use Rattle.solo_model.specs.Machine.{Machine}
 use Rattle.solo_model.specs.Slice.{standing}
-use Rattle.log_model.specs.Records.{records_from}
+use Rattle.solo_log.specs.Records.{records_from}
 use Rattle.guest_machine.specs.declared.leg.Leg.{Leg}
 use Rattle.guest_machine.specs.declared.leg.LegEnd.TheVariants.{More}
 use Rattle.guest_machine.specs.Legs.{leg_end, spelled_len}

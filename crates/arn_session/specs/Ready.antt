@@ -1,7 +1,7 @@
 -- Why there is no machine of a history.
 use Rattle.std.specs.Prelude.{◌≡◌, false, List}
 use Rattle.arn_base.specs.declared.records.Record.{Record}
-use Rattle.log_model.specs.Records.{records, named, IsRun}
+use Rattle.solo_log.specs.Records.{records, named, IsRun}
 use Rattle.arn_base.specs.declared.records.Differs.{Differs}
 use Rattle.guest_machine.specs.Differs.{IsFirstDifference}
 use Rattle.arn_session.specs.Answering.{Standpoint}

@@ -8,7 +8,7 @@ use Rattle.solo_model.specs.declared.history.Standing.TheVariants as standing
 use Rattle.solo_model.specs.Machine.{Machine}
 use Rattle.solo_model.specs.Slice.{standing, after_steps}
 use Rattle.solo_model.specs.Run.{steps_from, instructions_in, outputs_from, output_of}
-use Rattle.log_model.specs.Records.{records_from}
+use Rattle.solo_log.specs.Records.{records_from}
 use Rattle.history_facts.specs.Facts.{is_event}
 use Rattle.guest_machine.specs.declared.leg.LegEnd.{LegEnd}
 use Rattle.guest_machine.specs.declared.leg.LegEnd.TheVariants as leg_end

@@ -1,7 +1,7 @@
 -- What the commands of a session do.
 use Rattle.std.specs.Prelude.{◌≡◌, ◌≤◌, ℕ, ◌+◌, ◌||◌, Bool, true, false, List, [], ◌∷◌, ◌++◌, Option, option_map}
 use Rattle.arn_base.specs.declared.records.Record.{Record}
-use Rattle.log_model.specs.Records.{IsRun}
+use Rattle.solo_log.specs.Records.{IsRun}
 use Rattle.arn_commands.specs.declared.command.Command.{Command}
 use Rattle.arn_commands.specs.Parts.{Part}
 use Rattle.arn_commands.specs.Commands.{EachAsks}

@@ -5,7 +5,7 @@ ghost use Rattle.rv64_model.specs.declared.linkage.Linkage.TheVariants.{Copy};
 ghost use Rattle.arn_lines.specs.declared.line.Line.TheVariants as line;
 ghost use Rattle.arn_lines.specs.Texts.{pair_text};
 ghost use Rattle.solo_model.specs.Run.{run, instructions_in};
-ghost use Rattle.log_model.specs.Records.{named};
+ghost use Rattle.solo_log.specs.Records.{named};
 ghost use Rattle.result_log.specs.Spelling.{HasSpelling};
 ghost use Rattle.arn_session.specs.Answers.{refusal_of, query_text, found_text};
 ghost use Rattle.arn_session.specs.Kept.{IsReady};

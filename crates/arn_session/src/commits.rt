@@ -1,6 +1,6 @@
 // Records, added to the log of a history.
 ghost use Rattle.std.specs.Prelude.{◌≡◌, ◌++◌, [], ◌∷◌, ℕ, List, Option, All, OnOk, IfErr};
-ghost use Rattle.log_model.specs.Records.{IsRun};
+ghost use Rattle.solo_log.specs.Records.{IsRun};
 ghost use Rattle.log_store.specs.Stops.{GoesOn};
 ghost use Rattle.result_log.specs.Spelling.{HasSpelling};
 ghost use Rattle.arn_session.specs.Effects.{Commits, commit_of};

@@ -6,7 +6,7 @@ ghost use Rattle.parts_model.specs.declared.limits.TheConstants.{MOST_FILE_BYTES
 ghost use Rattle.solo_model.specs.Run.{is_name};
 ghost use Rattle.arn_lines.specs.declared.line.Line.TheVariants as line;
 ghost use Rattle.arn_lines.specs.Texts.{event_text};
-ghost use Rattle.log_model.specs.Records.{IsRun};
+ghost use Rattle.solo_log.specs.Records.{IsRun};
 ghost use Rattle.log_store.specs.Stops.{GoesOn};
 ghost use Rattle.result_log.specs.Spelling.{HasSpelling};
 ghost use Rattle.arn_session.specs.Answers.{refusal_of, event_effects, machine_of};

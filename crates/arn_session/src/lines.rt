@@ -1,6 +1,6 @@
 // What lines do.
 ghost use Rattle.std.specs.Prelude.{◌≡◌, ◌⊎◌, ◌+◌, ◌≤◌, [], None, true, OnOk, IfErr, IsErrOf};
-ghost use Rattle.log_model.specs.Records.{IsRun};
+ghost use Rattle.solo_log.specs.Records.{IsRun};
 ghost use Rattle.arn_base.specs.Faults.{NeverFalls};
 ghost use Rattle.arn_base.specs.declared.records.Differs.{Differs};
 ghost use Rattle.log_store.specs.Stops.{GoesOn};

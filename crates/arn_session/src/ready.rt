@@ -1,7 +1,7 @@
 // The machine of a history, there when a line needs it.
 ghost use Rattle.std.specs.Prelude.{◌≡◌, ◌+◌, ◌<◌, ◌≤◌, ◌^◌, All, length, is_some, IfOk, IfErr};
 ghost use Rattle.guest_machine.specs.Laws.{NamedFollow, RecordsFollow, RecordsLeaveRoom, RunsFollow};
-ghost use Rattle.log_model.specs.Laws.{RecordsAreRun};
+ghost use Rattle.solo_log.specs.Laws.{RecordsAreRun};
 ghost use Rattle.result_log.specs.Spelling.{HasSpelling};
 ghost use Rattle.arn_session.specs.Cost.{machine_cost};
 ghost use Rattle.arn_session.specs.Kept.{IsReady, IsSound, standpoint_of};
@@ -11,7 +11,7 @@ use crate::kept::Kept;
 use crate::status::Halt;
 use arn_base::Steps;
 use guest_machine::{Machine, named_follow, records_follow, records_leave_room, runs_follow};
-use log_model::records_are_run;
+use solo_log::records_are_run;
 use log_store::Store;
 use std::sync::ledger::Ledger;
 

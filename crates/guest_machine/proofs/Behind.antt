@@ -8,7 +8,7 @@ use Rattle.solo_model.specs.Step.{Step}
 use Rattle.solo_model.specs.Deed.{is_instruction}
 use Rattle.solo_model.specs.Slice.{after_steps}
 use Rattle.solo_model.specs.Run.{input_steps, after_input, steps_from, instructions_in}
-use Rattle.log_model.specs.Records.{input_records, records_from}
+use Rattle.solo_log.specs.Records.{input_records, records_from}
 
 pub after_steps-append : (m : Machine) (steps more : List Step) → after_steps m (steps ++ more) ≡ after_steps (after_steps m steps) more
 after_steps-append m [] more = refl

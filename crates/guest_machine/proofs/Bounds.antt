@@ -12,8 +12,8 @@ use Rattle.solo_model.specs.Step.{Step}
 use Rattle.parts_model.specs.Tagged.{values}
 use Rattle.solo_model.specs.Slice.{steps_of, after_steps, is_possible, is_runnable}
 use Rattle.solo_model.specs.Run.{input_steps, after_input, steps_from, instructions_in, boot_if_found, boot_if_held, boot_if_image, find_file, is_booted, can_add, file_step, typed_step}
-use Rattle.log_model.specs.Records.{event_records, slice_records, input_records, records_from}
-use Rattle.log_model.proofs.SliceForms.{steps_of-few}
+use Rattle.solo_log.specs.Records.{event_records, slice_records, input_records, records_from}
+use Rattle.solo_log.proofs.SliceForms.{steps_of-few}
 use Rattle.guest_machine.proofs.Behind.{after_steps-append, instructions_in-append}
 use Rattle.guest_machine.proofs.Events.{events-slice}
 use Rattle.guest_machine.proofs.Inputs.{file-runs-none, typed-runs-none, boot-runs-none}

@@ -7,7 +7,7 @@ use Rattle.solo_model.specs.Step.{Step, Event, is_event, next_event}
 use Rattle.parts_model.specs.Tagged.{values}
 use Rattle.solo_model.specs.Call.{CallOutcome, Waits, Answers, Ends, Takes, Writes, called, call_step, with_result, without_queued}
 use Rattle.solo_model.specs.Slice.{stands_at, effect_step, step_if_live, step_if_made, next_step, steps_of, step_then, unless_ended, after_steps}
-use Rattle.log_model.specs.Records.{event_records}
+use Rattle.solo_log.specs.Records.{event_records}
 
 -- how many events there are after steps
 abbrev events_after : ℕ → List Step → ℕ

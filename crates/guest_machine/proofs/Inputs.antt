@@ -11,7 +11,7 @@ use Rattle.solo_model.specs.Step.{Step}
 use Rattle.parts_model.specs.Tagged.{values}
 use Rattle.solo_model.specs.Slice.{after_steps, is_possible}
 use Rattle.solo_model.specs.Run.{input_steps, after_input, instructions_in, boot_if_found, boot_if_held, boot_if_image, find_file, file_step, typed_step}
-use Rattle.log_model.specs.Records.{event_records, slice_records, input_records}
+use Rattle.solo_log.specs.Records.{event_records, slice_records, input_records}
 use Rattle.guest_solo.specs.Input.{Does}
 use Rattle.guest_machine.proofs.Events.{events-slice}
 

@@ -5,8 +5,8 @@ use Rattle.solo_model.specs.declared.history.Input.{Input}
 use Rattle.solo_model.specs.Machine.{Machine, at_first}
 use Rattle.solo_model.specs.Slice.{after_steps}
 use Rattle.solo_model.specs.Run.{run, instructions_in}
-use Rattle.log_model.specs.Records.{records, records_from, named}
-use Rattle.log_model.proofs.RecordForms.{run-again}
+use Rattle.solo_log.specs.Records.{records, records_from, named}
+use Rattle.solo_log.proofs.RecordForms.{run-again}
 use Rattle.guest_machine.specs.Recorded.{Recorded, Runs, IsAfter, HasRoom, recorded_first}
 use Rattle.guest_machine.proofs.Behind.{records_from-append}
 use Rattle.guest_machine.proofs.Bounds.{events-few, instructions-few}

@@ -12,7 +12,7 @@ use Rattle.solo_model.specs.Machine.{Machine}
 use Rattle.solo_model.specs.Step.{Step}
 use Rattle.solo_model.specs.Slice.{standing, after_steps, is_possible, is_runnable}
 use Rattle.solo_model.specs.Run.{input_steps, after_input, steps_from, instructions_in}
-use Rattle.log_model.specs.Records.{input_records, records_from}
+use Rattle.solo_log.specs.Records.{input_records, records_from}
 use Rattle.result_log.specs.Spelling.{spelling, HasSpelling}
 use Rattle.guest_solo.proofs.SoloLemmas.{slice-steps, slice-some}
 use Rattle.guest_machine.specs.declared.leg.LegEnd.{LegEnd}

@@ -14,8 +14,8 @@ use Rattle.solo_model.specs.Step.{Step}
 use Rattle.solo_model.specs.Deed.{is_instruction}
 use Rattle.solo_model.specs.Slice.{after_steps}
 use Rattle.solo_model.specs.Run.{after_input, input_steps, instructions_in, machine_after, run, steps_from}
-use Rattle.log_model.specs.Laws.{RecordsAppend}
-use Rattle.log_model.specs.Records.{named, named_by, records, records_from, IsRun}
+use Rattle.solo_log.specs.Laws.{RecordsAppend}
+use Rattle.solo_log.specs.Records.{named, named_by, records, records_from, IsRun}
 use Rattle.arn_base.specs.declared.records.Differs.{Differs}
 use Rattle.guest_machine.specs.Differs.{is_slice, rebuild_cost, IsFirstDifference}
 use Rattle.guest_machine.specs.Matching.{IsDifferenceAt, IsMatched, IsMismatch}

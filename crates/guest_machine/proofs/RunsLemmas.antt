@@ -11,7 +11,7 @@ use Rattle.solo_model.specs.Machine.{Machine}
 use Rattle.solo_model.specs.Step.{Step}
 use Rattle.solo_model.specs.Slice.{after_steps, is_possible, is_runnable}
 use Rattle.solo_model.specs.Run.{input_steps, after_input, steps_from, instructions_in, is_booted}
-use Rattle.log_model.specs.Records.{event_records, input_records, records_from}
+use Rattle.solo_log.specs.Records.{event_records, input_records, records_from}
 use Rattle.result_log.specs.Spelling.{HasSpelling}
 use Rattle.guest_solo.specs.Input.{Does}
 use Rattle.guest_machine.specs.Recorded.{Recorded, Runs}

@@ -3,7 +3,7 @@ use Rattle.std.specs.Prelude.{◌≡◌, ◌≢◌, ℕ, ◌+◌, Bool, true, fa
 use Rattle.arn_base.specs.declared.records.Record.{Record}
 use Rattle.arn_base.specs.declared.records.Record.TheVariants as entry
 use Rattle.solo_model.specs.Run.{run, instructions_in}
-use Rattle.log_model.specs.Records.{named}
+use Rattle.solo_log.specs.Records.{named}
 use Rattle.result_log.specs.Spelling.{spelling}
 use Rattle.arn_base.specs.declared.records.Differs.{Differs}
 

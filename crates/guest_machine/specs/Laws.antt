@@ -4,7 +4,7 @@ use Rattle.arn_base.specs.declared.records.Record.{Record}
 use Rattle.solo_model.specs.declared.history.Input.{Input}
 use Rattle.solo_model.specs.Machine.{Machine}
 use Rattle.solo_model.specs.Slice.{standing, is_runnable}
-use Rattle.log_model.specs.Records.{records, records_from, named}
+use Rattle.solo_log.specs.Records.{records, records_from, named}
 use Rattle.guest_machine.specs.Recorded.{Recorded, Runs, IsAfter, HasRoom}
 use Rattle.guest_machine.specs.Legs.{leg_end, leg_of}
 

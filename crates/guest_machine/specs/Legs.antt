@@ -9,7 +9,7 @@ use Rattle.parts_model.specs.declared.limits.TheConstants.{MOST_SLICE}
 use Rattle.solo_model.specs.Machine.{Machine}
 use Rattle.solo_model.specs.Slice.{standing}
 use Rattle.solo_model.specs.Run.{input_steps, after_input, instructions_in}
-use Rattle.log_model.specs.Records.{input_records}
+use Rattle.solo_log.specs.Records.{input_records}
 use Rattle.result_log.specs.Spelling.{spelling}
 use Rattle.guest_machine.specs.declared.leg.LegEnd.{LegEnd}
 use Rattle.guest_machine.specs.declared.leg.LegEnd.TheVariants.{More, Budget, Done, Stalled}

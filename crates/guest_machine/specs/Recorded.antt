@@ -5,7 +5,7 @@ use Rattle.solo_model.specs.declared.history.Input.{Input}
 use Rattle.solo_model.specs.Machine.{Machine, at_first}
 use Rattle.solo_model.specs.Slice.{after_steps}
 use Rattle.solo_model.specs.Run.{machine_after, run, steps_from, instructions_in}
-use Rattle.log_model.specs.Records.{records_from}
+use Rattle.solo_log.specs.Records.{records_from}
 
 -- the machine, and how many instructions have run
 pub record Recorded : Type 0 where

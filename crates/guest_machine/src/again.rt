@@ -3,7 +3,7 @@ ghost use Rattle.std.specs.Prelude.{◌≡◌, ◌≢◌, ◌+◌, ◌≤◌, �
 ghost use Rattle.solo_model.specs.declared.history.Input.TheVariants as input;
 ghost use Rattle.solo_model.specs.Run.{input_steps, instructions_in, steps_from};
 ghost use Rattle.solo_model.specs.Slice.{is_possible};
-ghost use Rattle.log_model.specs.Records.{named};
+ghost use Rattle.solo_log.specs.Records.{named};
 ghost use Rattle.result_log.specs.Spelling.{HasSpelling, IsCounted, IsName};
 ghost use Rattle.guest_solo.specs.declared.turn.TheConstants.{PID};
 ghost use Rattle.guest_machine.specs.Differs.{is_slice};

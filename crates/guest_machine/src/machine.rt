@@ -41,7 +41,7 @@ impl Machine {
     ghost use Rattle.solo_model.specs.Run.{is_booted as has_process, find_file, is_free, is_name, input_steps, steps_from, instructions_in};
     ghost use Rattle.result_log.specs.Spelling.{HasSpelling};
     ghost use Rattle.guest_solo.specs.Input.{IsRefused};
-    ghost use Rattle.log_model.specs.Records.{input_records, records_from};
+    ghost use Rattle.solo_log.specs.Records.{input_records, records_from};
     ghost use Rattle.guest_machine.specs.Recorded.{recorded_first, Runs, HasRoom};
     ghost use Rattle.guest_machine.specs.Legs.{spelled_len, leg_end as leg_end_of, leg_of, IsCutLeg};
 

@@ -5,13 +5,13 @@ use crate::law::{records_leave_room, runs_follow};
 use crate::machine::Machine;
 use crate::matching::{difference_at, match_records, record_at};
 use arn_base::{Record, Steps};
-use log_model::records_append;
+use solo_log::records_append;
 use std::alloc::Global;
 use std::sync::ledger::Ledger;
 
 impl Machine {
     ghost use Rattle.std.specs.Prelude.{◌+◌, ◌≤◌, All, IfOk, IsErrOf, OnOk};
-    ghost use Rattle.log_model.specs.Records.{named, records, IsRun};
+    ghost use Rattle.solo_log.specs.Records.{named, records, IsRun};
     ghost use Rattle.result_log.specs.Spelling.{HasSpelling};
     ghost use Rattle.arn_base.specs.declared.records.Differs.{Differs};
     ghost use Rattle.guest_machine.specs.Differs.{rebuild_cost, IsFirstDifference};

@@ -22,7 +22,7 @@ use Rattle.solo_model.specs.Call.{CallOutcome, Waits, Answers, Ends, Takes, Writ
 use Rattle.solo_model.specs.Slice.{isnt_waiting, is_live, stands_at, effect_step, step_if_live, step_if_made, can_go_on, is_runnable, is_possible, steps_of, after_steps, step_then, unless_ended}
 use Rattle.parts_model.specs.declared.limits.TheConstants.{MOST_FILE_BYTES, MOST_SLICE}
 use Rattle.solo_model.specs.Run.{file_among, can_add, file_step, typed_step, is_booted, is_free, is_name, find_file, input_steps, after_input, boot_if_found, boot_if_held, boot_if_image, boot_step, instructions_in}
-use Rattle.log_model.specs.Records.{event_records}
+use Rattle.solo_log.specs.Records.{event_records}
 use Rattle.arn_base.specs.declared.records.Record.{Record}
 use Rattle.arn_base.specs.declared.records.Record.TheVariants as entry
 use Rattle.arn_base.specs.declared.records.Give.{Give}

@@ -17,7 +17,7 @@ use Rattle.solo_model.specs.Slice.{next_step, steps_of, step_then, step_if_live,
 use Rattle.std.proofs.lemmas.List.Sums.{sum_by-cons}
 use Rattle.solo_model.specs.Deed.{is_instruction}
 use Rattle.solo_model.specs.Run.{instructions_in}
-use Rattle.log_model.specs.Records.{event_records}
+use Rattle.solo_log.specs.Records.{event_records}
 use Rattle.arn_base.specs.declared.records.Record.TheVariants as entry
 use Rattle.arn_base.specs.declared.records.Extra.TheVariants as extra
 use Rattle.guest_solo.specs.declared.guest.Guest.{Guest}

@@ -5,7 +5,7 @@ use Rattle.arn_base.specs.declared.records.Record.{Record}
 use Rattle.solo_model.specs.Machine.{Machine, Console}
 use Rattle.solo_model.specs.Slice.{steps_of, after_steps}
 use Rattle.solo_model.specs.Run.{instructions_in}
-use Rattle.log_model.specs.Records.{event_records}
+use Rattle.solo_log.specs.Records.{event_records}
 use Rattle.guest_solo.specs.declared.guest.Guest.{Guest}
 use Rattle.guest_solo.specs.Guest.{process_of}
 use Rattle.solo_lineage.specs.declared.moves.Move.{Move}

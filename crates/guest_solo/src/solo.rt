@@ -54,7 +54,7 @@ impl Solo {
     ghost use Rattle.solo_model.specs.Machine.{at_first};
     ghost use Rattle.solo_model.specs.Slice.{is_possible, is_runnable, standing as standing_of};
     ghost use Rattle.solo_model.specs.Run.{is_booted as has_process, find_file, is_free, is_name, input_steps, after_input, instructions_in};
-    ghost use Rattle.log_model.specs.Records.{event_records};
+    ghost use Rattle.solo_log.specs.Records.{event_records};
     ghost use Rattle.result_log.specs.Spelling.{HasSpelling};
     ghost use Rattle.guest_solo.specs.Input.{Does, IsRefused};
     ghost use Rattle.solo_model.specs.Step.{Step, is_event};

@@ -14,7 +14,7 @@ use Rattle.solo_model.specs.Step.{Step, Event}
 use Rattle.parts_model.specs.Tagged.{values}
 use Rattle.solo_model.specs.Slice.{steps_of, is_possible}
 use Rattle.solo_model.specs.Run.{can_add, file_step, typed_step, is_booted, find_file, boot_if_found, boot_if_held, boot_if_image, input_steps, after_input, steps_from, run, events_of}
-use Rattle.log_model.specs.Records.{event_records, slice_records, input_records, records_from}
+use Rattle.solo_log.specs.Records.{event_records, slice_records, input_records, records_from}
 use Rattle.solo_model.specs.Related.{is_other_record}
 use Rattle.solo_model.specs.Related.{is_range}
 use Rattle.parts_model.specs.declared.limits.TheConstants.{MOST_ASKED}

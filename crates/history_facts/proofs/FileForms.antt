@@ -17,7 +17,7 @@ use Rattle.solo_model.specs.Step.{Step, Event}
 use Rattle.parts_model.specs.Tagged.{values, held_from, held_bytes, given}
 use Rattle.solo_model.specs.Slice.{steps_of, after_steps, is_possible}
 use Rattle.solo_model.specs.Run.{can_add, file_step, typed_step, boot_step, is_booted, file_among, find_file, boot_if_found, boot_if_held, boot_if_image, input_steps, after_input, steps_from, machine_after}
-use Rattle.log_model.specs.Records.{event_records, slice_records, input_records, records_from, records}
+use Rattle.solo_log.specs.Records.{event_records, slice_records, input_records, records_from, records}
 use Rattle.history_facts.specs.Facts.{is_boot, is_booted_by, is_file, file_by}
 use Rattle.history_facts.specs.Laws.{RecordsTellBoot, RecordsTellFiles, RecordsTellImages}
 use Rattle.history_facts.proofs.StepForms.{Same, MaybeQuiet, AreOfProcess, steps_of-AreOfProcess}

@@ -5,7 +5,7 @@ use Rattle.solo_model.specs.declared.history.Input.TheVariants as input
 use Rattle.parts_model.specs.Image.{image_of}
 use Rattle.solo_model.specs.Run.{machine_after, is_booted, find_file, is_free, input_steps}
 use Rattle.solo_model.specs.Related.{event_at}
-use Rattle.log_model.specs.Records.{records}
+use Rattle.solo_log.specs.Records.{records}
 use Rattle.solo_model.specs.Related.{has_other_calls, is_range}
 use Rattle.history_facts.specs.Facts.{is_booted_by, file_by, is_free_by, event_by, is_range_by, has_other_calls_by}
 

@@ -11,8 +11,8 @@ use Rattle.solo_model.specs.Machine.{at_first}
 use Rattle.solo_model.specs.Step.{Step, Event}
 use Rattle.solo_model.specs.Run.{events_of, instructions_in, machine_after, run}
 use Rattle.solo_model.specs.Related.{asked_groups, event_at, event_sources, groups_count, is_range, query_groups}
-use Rattle.log_model.specs.Laws.{NamedRunsAgain}
-use Rattle.log_model.specs.Records.{named, records}
+use Rattle.solo_log.specs.Laws.{NamedRunsAgain}
+use Rattle.solo_log.specs.Records.{named, records}
 use Rattle.solo_lineage.specs.Sources.{no_shadow, points_of, source_from}
 use Rattle.solo_lineage.specs.Theorems.{GroupsTold, SourcesTold, groups_by, has_process}
 use Rattle.solo_queries.specs.declared.events.Asked.{Asked}

@@ -7,7 +7,7 @@ use Rattle.arn_base.specs.declared.records.Record.{Record}
 use Rattle.solo_model.specs.Machine.{Machine, at_first}
 use Rattle.solo_model.specs.Step.{Step}
 use Rattle.solo_model.specs.Run.{instructions_in, machine_after, run, steps_from}
-use Rattle.log_model.specs.Records.{named, named_by}
+use Rattle.solo_log.specs.Records.{named, named_by}
 use Rattle.solo_queries.specs.declared.events.Asked.{Asked}
 use Rattle.solo_queries.specs.declared.events.Seen.{Seen}
 use Rattle.solo_queries.specs.declared.tracked.Tracked.{Tracked}

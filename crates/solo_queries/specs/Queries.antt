@@ -5,7 +5,7 @@ use Rattle.solo_model.specs.declared.history.Input.{Input}
 use Rattle.rv64_model.specs.declared.linkage.Linkage.TheVariants.{Copy}
 use Rattle.solo_model.specs.Run.{run, instructions_in}
 use Rattle.solo_model.specs.Related.{event_at, event_pairs, groups_count, is_range, asked_groups}
-use Rattle.log_model.specs.Records.{records}
+use Rattle.solo_log.specs.Records.{records}
 use Rattle.solo_queries.specs.declared.query.Found.{Found}
 
 -- these are the records of a history that ran so many instructions, and its event has the bytes that are asked about

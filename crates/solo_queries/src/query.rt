@@ -2,7 +2,7 @@
 ghost use Rattle.std.specs.Prelude.{◌≡◌, ◌≤◌, ◌<◌, ◌+◌, ◌^◌, All, IfOk, List, length, if◌then◌else◌};
 ghost use Rattle.solo_model.specs.declared.history.Input.{Input};
 ghost use Rattle.solo_model.specs.Run.{run, instructions_in};
-ghost use Rattle.log_model.specs.Records.{records};
+ghost use Rattle.solo_log.specs.Records.{records};
 ghost use Rattle.result_log.specs.Spelling.{HasSpelling};
 ghost use Rattle.solo_lineage.specs.Theorems.{groups_by};
 ghost use Rattle.solo_queries.specs.Queries.{IsAnswer, IsAsked};
@@ -10,7 +10,7 @@ ghost use Rattle.solo_queries.specs.Queries.{IsAnswer, IsAsked};
 use crate::events::{Asked, Seen};
 use crate::tracked::Tracked;
 use arn_base::{NoMemory, Pair, Record, Steps};
-use log_model::named_runs_again;
+use solo_log::named_runs_again;
 use solo_lineage::{groups_told, sources_told};
 use std::alloc::Global;
 use std::sync::ledger::Ledger;

@@ -4,7 +4,7 @@ ghost use Rattle.solo_model.specs.declared.history.Input.TheVariants as input;
 ghost use Rattle.solo_model.specs.Run.{input_steps, instructions_in, steps_from};
 ghost use Rattle.solo_model.specs.Slice.{is_runnable, steps_of};
 ghost use Rattle.solo_model.specs.Step.{Step};
-ghost use Rattle.log_model.specs.Records.{named};
+ghost use Rattle.solo_log.specs.Records.{named};
 ghost use Rattle.result_log.specs.Spelling.{HasSpelling, IsCounted, IsName};
 ghost use Rattle.solo_lineage.specs.Sources.{Fits};
 ghost use Rattle.solo_queries.specs.Followed.{Advances, Follows, IsBetween, Tracks};

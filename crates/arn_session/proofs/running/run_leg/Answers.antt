@@ -1,6 +1,6 @@
 use Rattle.std.proofs.Common.{◌∙◌, ◌^◌, ◌++◌, List, arith, refl, sym, ap, subst, inl}
 use Rattle.arn_base.specs.declared.records.Record.{Record}
-use Rattle.log_model.specs.Records.{IsRun}
+use Rattle.solo_log.specs.Records.{IsRun}
 use Rattle.guest_machine.specs.Legs.{leg_of}
 use Rattle.arn_session.specs.Kept.{IsReady}
 use Rattle.arn_session.specs.declared.status.Halt.TheVariants as halt

@@ -1,6 +1,6 @@
 use Rattle.std.proofs.Common.{◌++◌, ◌∷◌, [], take, Option, arith, subst}
 use Rattle.solo_model.specs.Run.{run, steps_from}
-use Rattle.log_model.specs.Records.{named}
+use Rattle.solo_log.specs.Records.{named}
 use Rattle.solo_queries.specs.declared.events.Asked.{Asked}
 use Rattle.solo_queries.specs.declared.events.Seen.{Seen}
 use Rattle.solo_queries.specs.Followed.{Follows, IsSeen, Tracks}

@@ -1,7 +1,7 @@
 use Rattle.std.proofs.Common.{rules, ◌≡◌, ◌<◌, ◌^◌, ◌∙◌, ℕ, length, Option, None, Err, slice_get, ap, subst, sym, arith}
 use Rattle.std.proofs.lemmas.Result.{err_from_is_err_and}
 use Rattle.arn_base.specs.declared.records.Record.{Record}
-use Rattle.log_model.specs.Records.{named, records}
+use Rattle.solo_log.specs.Records.{named, records}
 use Rattle.arn_base.specs.declared.records.Differs.{Differs}
 use Rattle.guest_machine.specs.declared.differs.RebuildError.{RebuildError}
 use Rattle.guest_machine.specs.declared.differs.RebuildError.TheVariants as rebuild_error

@@ -3,7 +3,7 @@ use Rattle.solo_model.specs.declared.history.Input.TheVariants as input
 use Rattle.arn_base.specs.declared.records.Record.{Record}
 use Rattle.arn_base.specs.declared.records.Record.TheVariants as entry
 use Rattle.parts_model.specs.Tagged.{given, held_bytes}
-use Rattle.log_model.specs.Records.{event_records}
+use Rattle.solo_log.specs.Records.{event_records}
 use Rattle.parts_model.specs.Image.{image_of}
 use Rattle.solo_model.specs.Machine.{Machine}
 use Rattle.solo_model.specs.Run.{file_among, find_file, is_booted, input_steps}

@@ -12,8 +12,8 @@ use Rattle.solo_model.specs.Step.{Step}
 use Rattle.parts_model.specs.Tagged.{values}
 use Rattle.solo_model.specs.Slice.{steps_of, after_steps, is_runnable, is_possible}
 use Rattle.solo_model.specs.Run.{can_add, file_step, typed_step, is_booted, find_file, boot_if_found, boot_if_held, boot_if_image, input_steps, after_input, steps_from, run, instructions_in}
-use Rattle.log_model.specs.Records.{event_records, slice_records, input_records, records_from, records, named_by, named, IsRun}
-use Rattle.log_model.proofs.SliceForms.{slice-names-none, steps_of-few, steps_of-again, steps-some, fewer-possible}
+use Rattle.solo_log.specs.Records.{event_records, slice_records, input_records, records_from, records, named_by, named, IsRun}
+use Rattle.solo_log.proofs.SliceForms.{slice-names-none, steps_of-few, steps_of-again, steps-some, fewer-possible}
 
 -- an input's records name nothing, where it does nothing, or an input that does the same and has the same records
 record NamesAgain (m : Machine) (i : Input) : Type 0 where

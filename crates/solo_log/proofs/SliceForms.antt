@@ -10,7 +10,7 @@ use Rattle.solo_model.specs.Deed.{is_instruction}
 use Rattle.solo_model.specs.Call.{CallOutcome, Waits, Answers, Ends, Takes, Writes, called, call_step}
 use Rattle.solo_model.specs.Slice.{stands_at, effect_step, step_if_live, step_if_made, next_step, unless_ended, step_then, steps_of}
 use Rattle.solo_model.specs.Run.{instructions_in}
-use Rattle.log_model.specs.Records.{event_records, named_by, named}
+use Rattle.solo_log.specs.Records.{event_records, named_by, named}
 
 -- the event, if there is one, names no input
 NamesNone : Option Event → Type 0

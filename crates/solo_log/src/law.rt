@@ -1,5 +1,5 @@
 // What holds of the records of runs.
-ghost use Rattle.log_model.specs.Laws.{NamedRunsAgain, RecordsAppend, RecordsAreRun};
+ghost use Rattle.solo_log.specs.Laws.{NamedRunsAgain, RecordsAppend, RecordsAreRun};
 
 /// What records name does the same again.
 pub fn named_runs_again()

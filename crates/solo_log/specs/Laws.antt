@@ -2,7 +2,7 @@
 use Rattle.std.specs.Prelude.{◌≡◌, List, ◌++◌}
 use Rattle.solo_model.specs.declared.history.Input.{Input}
 use Rattle.solo_model.specs.Run.{run, machine_after}
-use Rattle.log_model.specs.Records.{records, records_from, named, IsRun}
+use Rattle.solo_log.specs.Records.{records, records_from, named, IsRun}
 
 -- the inputs that the records of a run name do the same again, step by step
 abbrev pub NamedRunsAgain : Type 0

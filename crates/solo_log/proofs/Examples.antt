@@ -6,7 +6,7 @@ use Rattle.solo_model.specs.declared.history.Input.TheVariants as input
 use Rattle.solo_model.specs.declared.lineage.Deed.TheVariants.{Returns}
 use Rattle.solo_model.specs.Machine.{at_first}
 use Rattle.solo_model.specs.Step.{Step, Event, nothing_received, nothing_put}
-use Rattle.log_model.specs.Records.{input_records, records, named}
+use Rattle.solo_log.specs.Records.{input_records, records, named}
 
 -- a file, and a second one of its name, which is refused; nothing is booted, so that nothing is typed and nothing runs
 files : records (input.File (codes "a") (7 ∷ []) ∷ input.File (codes "a") [] ∷ input.Typed (8 ∷ []) ∷ input.Slice 1 5 ∷ []) ≡ entry.File (codes "a") (7 ∷ []) ∷ []
