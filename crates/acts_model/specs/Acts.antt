@@ -121,9 +121,10 @@ abbrev pub founded : Act → ℕ → Beginning → Bodies → Bodies
 founded (Founds child) event b bodies = begun child event b bodies
 founded act event b bodies = bodies
 
--- what a process sees before it starts from an image for the first time: nothing
+-- what process 1 sees before it starts from its image: zeros
 abbrev pub unborn : ℕ → View
-unborn event = record { body = record { cpu = cpu_at 0; slot = None; window = event; segment = None }; window = []; segment = [] }
+unborn event =
+    record { body = record { cpu = cpu_at 0; slot = None; window = event; segment = None }; window = zeros WINDOW_LEN; segment = [] }
 
 -- the result that a call's record holds
 abbrev pub result_of : Act → ℕ

@@ -3,7 +3,7 @@ use Rattle.std.specs.Prelude.{ℕ, ◌==◌, nat_le, nat_lt, ◌&&◌, Bool, if�
 use Rattle.arn_base.specs.declared.machine.Cpu.{Cpu}
 use Rattle.rv64_isa.specs.declared.instruction.Instr.{Instr}
 use Rattle.rv64_model.specs.Operands.{accessed}
-use Rattle.parts_model.specs.declared.limits.TheConstants.{WINDOW_START, WINDOW_END}
+use Rattle.parts_model.specs.declared.limits.TheConstants.{WINDOW_START, WINDOW_END, SEGMENT_START, SEGMENT_END}
 use Rattle.parts_model.specs.Image.{read_as_image}
 use Rattle.acts_model.specs.Acts as act
 use Rattle.acts_model.specs.Bodies.{Body}
@@ -25,9 +25,17 @@ holds_of x = record { window = x.window; segment = x.segment }
 abbrev pub is_private : ℕ → Bool
 is_private at = nat_le WINDOW_START at && nat_lt at WINDOW_END
 
--- where an address lies
+-- or of the shared one
+abbrev pub is_shared : ℕ → Bool
+is_shared at = nat_le SEGMENT_START at && nat_lt at SEGMENT_END
+
+-- the memory in which an address lies
+abbrev pub memory_at : Holds → ℕ → Option ℕ
+memory_at holds at = if is_private at then Some holds.window else if is_shared at then holds.segment else None
+
+-- where it lies
 abbrev pub place_at : Holds → ℕ → Option Place
-place_at holds at = option_map (λ made. record { made = made; at = at }) (if is_private at then Some holds.window else holds.segment)
+place_at holds at = option_map (λ made. record { made = made; at = at }) (memory_at holds at)
 
 -- where so many bytes from an address on lie: nowhere, if there are none
 abbrev pub place_of : Holds → ℕ → ℕ → Option Place

@@ -7,7 +7,7 @@ use Rattle.parts_model.specs.declared.tagged.TaggedByte.{TaggedByte}
 use Rattle.parts_model.specs.Channel.{Channel, no_bytes}
 use Rattle.parts_model.specs.Files as files
 use Rattle.parts_model.specs.Files.{Files, no_files}
-use Rattle.parts_model.specs.Numbered.{nth}
+use Rattle.parts_model.specs.Numbered.{nth, nth_from_one, with_nth_from_one}
 use Rattle.parts_model.specs.Pipes.{Pipes, End, ReadEnd, WriteEnd, end_closed}
 use Rattle.parts_model.specs.Ports.{Port, Ports, port_at, freed}
 use Rattle.parts_model.specs.Processes as table
@@ -169,16 +169,16 @@ descriptors_of k pid = unwrap_or (option_map (λ p. p.descriptors) (process k.pr
 
 -- the handling of process n, if it lives
 abbrev pub handling_of : Kernel → ℕ → Option Handling
-handling_of k pid = nth k.handling (pid - 1)
+handling_of k pid = nth_from_one k.handling pid
 
 abbrev pub with_handling : ℕ → (Handling → Handling) → Kernel → Kernel
-with_handling pid change k = record k { handling = slice_set k.handling (pid - 1) (option_map change (handling_of k pid)) }
+with_handling pid change k = record k { handling = with_nth_from_one k.handling pid (option_map change (handling_of k pid)) }
 
 -- a process ends with a status byte: its descriptors are closed, and its children have no parent from then on
 abbrev pub ended : ℕ → TaggedByte → Kernel → Kernel
 ended pid status k =
     let k' = all_dropped (descriptors_of k pid) k in
-    record k' { processes = table.ended k'.processes pid status; handling = slice_set k'.handling (pid - 1) None }
+    record k' { processes = table.ended k'.processes pid status; handling = with_nth_from_one k'.handling pid None }
 
 -- a process without handlers and pending signals
 abbrev pub no_handling : Handling

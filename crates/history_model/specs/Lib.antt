@@ -1,0 +1,5 @@
+pub mod Events
+pub mod Moments
+pub mod Groups
+pub mod Exchanges
+pub mod Names

@@ -1,0 +1,8 @@
+//! The records by which a run is kept, and the inputs that records name.
+//!
+//! The definitions stand in `specs/`. What holds of them is stated by functions that do nothing.
+#![tactic(auto)]
+
+mod law;
+
+pub use law::{events_recorded, records_append};
