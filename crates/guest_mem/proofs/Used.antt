@@ -1,6 +1,6 @@
 -- The blocks that aren't all zero, one block at a time.
 use Rattle.std.proofs.Common.{◌≡◌, ℕ, ◌+◌, List, [], ◌++◌, refl, ap, add-one}
-use Rattle.guest_mem.specs.Blocks.{block_of, used_block, used_blocks}
+use Rattle.parts_model.specs.Blocks.{block_of, used_block, used_blocks}
 
 pub used_blocks-none : (bytes : List ℕ) → used_blocks bytes 0 ≡ []
 unfolding used_blocks

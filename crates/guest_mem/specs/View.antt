@@ -4,7 +4,7 @@ use Rattle.std.specs.Option.{option_copied_mut}
 use Rattle.arn_base.specs.Window.{Window}
 use Rattle.guest_mem.specs.declared.shared_view.SharedView.{SharedView}
 use Rattle.guest_mem.specs.declared.view.View.{View}
-use Rattle.guest_mem.specs.Windows.{windows}
+use Rattle.parts_model.specs.Memory.{windows}
 
 -- the windows that a view shows
 abbrev pub view_windows : View → List Window

@@ -1,9 +1,9 @@
 // The blocks of a window that aren't all zero.
 ghost use Rattle.std.specs.Prelude.{◌≡◌, ◌+◌, ◌*◌, ◌<◌, ◌≤◌, ◌^◌, ◌++◌, length, IfOk, OnOk, OnErr};
-ghost use Rattle.guest_mem.specs.Blocks.{block_of, used_block, is_used, blocks_of};
+ghost use Rattle.parts_model.specs.Blocks.{block_of, used_block, is_used, blocks_of};
 
-use crate::limits::BLOCK_LEN;
 use arn_base::{Block, Blocks, NoMemory};
+use parts_model::limits::BLOCK_LEN;
 use std::alloc::Global;
 
 /// The block of a number.

@@ -2,7 +2,7 @@
 ghost use Rattle.std.specs.Prelude.{◌≡◌, ◌<◌, ◌≤◌, ◌+◌, ◌^◌, ◌*◌, ◌↔◌, IsOk, IfOk, OnOk, OnErr, IsSome, IsNone, Err, Some, length, option_copied};
 ghost use Rattle.std.specs.Result.{result_ok};
 ghost use Rattle.arn_base.specs.Window.{IsAccessLength, number_at, bytes_of, bytes_at, with_bytes};
-ghost use Rattle.guest_mem.specs.Windows.{one_window};
+ghost use Rattle.parts_model.specs.Memory.{one_window};
 
 use crate::numbers;
 use arn_base::BadAddress;

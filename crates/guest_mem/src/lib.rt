@@ -4,7 +4,6 @@
 
 mod blocks;
 mod extent;
-mod limits;
 mod numbers;
 mod segment;
 mod shared_view;
@@ -13,7 +12,6 @@ mod space;
 mod tests;
 mod view;
 
-pub use limits::{BLOCK_LEN, SEGMENT_LEN, SHARED_END, SHARED_START};
 pub use segment::Segment;
 pub use shared_view::SharedView;
 pub use space::Space;

@@ -2,22 +2,22 @@
 ghost use Rattle.std.specs.Prelude.{◌≡◌, ◌≢◌, ◌↔◌, false, length, IfOk, OnOk, OnErr, IsErr, IsNone, Some, Err, option_copied};
 ghost use Rattle.std.specs.Result.{result_ok};
 ghost use Rattle.arn_base.specs.Window.{bytes_at, with_bytes};
-ghost use Rattle.guest_mem.specs.Blocks.{blocks_of};
-ghost use Rattle.guest_mem.specs.Windows.{zeros, segment_window};
+ghost use Rattle.parts_model.specs.Blocks.{blocks_of};
+ghost use Rattle.parts_model.specs.Memory.{zeros, segment_window};
 
 use crate::blocks::used_blocks;
 use crate::extent::Extent;
-use crate::limits::{SEGMENT_LEN, SHARED_START};
 use arn_base::{BadAddress, Blocks, Memory, NoMemory, StoreError};
+use parts_model::limits::{SEGMENT_LEN, SEGMENT_START};
 use std::alloc::Global;
 use std::marker::Model;
 
 const SHARED: Extent = Extent {
-    from: SHARED_START,
+    from: SEGMENT_START,
     len: SEGMENT_LEN,
 };
 
-/// The bytes of a segment. Processes that hold it see them in the shared window, the first at `SHARED_START`.
+/// The bytes of a segment. Processes that hold it see them in the shared window, the first at `SEGMENT_START`.
 #[derive(Debug, Drop)]
 pub struct Segment {
     bytes: Vec<u8>,
@@ -25,7 +25,7 @@ pub struct Segment {
 
 impl Model for Segment {
     ghost use Rattle.std.specs.Prelude.{ℕ, List, ◌≡◌, length};
-    ghost use Rattle.guest_mem.specs.declared.limits.TheConstants.{SEGMENT_LEN};
+    ghost use Rattle.parts_model.specs.declared.limits.TheConstants.{SEGMENT_LEN};
 
     ghost Value = { List ℕ };
 
@@ -94,7 +94,7 @@ impl Segment {
 }
 
 impl Memory for Segment {
-    ghost use Rattle.guest_mem.specs.Windows.{segment_window};
+    ghost use Rattle.parts_model.specs.Memory.{segment_window};
 
     ghost windows = { segment_window };
 

@@ -2,8 +2,8 @@
 ghost use Rattle.std.specs.Prelude.{◌≡◌, ◌≢◌, ◌↔◌, false, length, IfOk, OnOk, OnErr, IsErr, IsNone, Some, Err, option_copied};
 ghost use Rattle.std.specs.Result.{result_ok};
 ghost use Rattle.arn_base.specs.Window.{bytes_at, with_bytes};
-ghost use Rattle.guest_mem.specs.Blocks.{blocks_of};
-ghost use Rattle.guest_mem.specs.Windows.{zeros, private_window};
+ghost use Rattle.parts_model.specs.Blocks.{blocks_of};
+ghost use Rattle.parts_model.specs.Memory.{zeros, private_window};
 
 use crate::blocks::used_blocks;
 use crate::extent::Extent;

@@ -2,7 +2,7 @@
 use Rattle.std.proofs.Common.{◌≡◌, ℕ, zero, suc, List, refl, subst}
 use Rattle.arn_base.specs.declared.machine.Cpu.{Cpu}
 use Rattle.rv64_isa.specs.declared.instruction.Instr.{Instr}
-use Rattle.guest_mem.specs.Windows.{private_window}
+use Rattle.parts_model.specs.Memory.{private_window}
 use Rattle.rv64_model.specs.Instruction.{Next, instruction}
 use Rattle.guest_solo.specs.Burst.{RunsOn}
 

@@ -3,7 +3,7 @@ use Rattle.std.proofs.Common.{◌≡◌, ◌+◌, ℕ, List, length, nat_le, Opt
 use Rattle.std.proofs.lemmas.Bool.Decides.{nat_tests}
 use Rattle.arn_base.specs.Window.{bytes_at}
 use Rattle.parts_model.specs.declared.limits.TheConstants.{WINDOW_START, WINDOW_LEN}
-use Rattle.guest_mem.specs.Windows.{private_window}
+use Rattle.parts_model.specs.Memory.{private_window}
 use Rattle.solo_lineage.specs.Sources.{FitsWindow}
 
 within-FitsWindow : (at len : ℕ) (bytes : Option (List ℕ)) (space : List ℕ) → length space ≡ WINDOW_LEN

@@ -18,7 +18,7 @@ use Rattle.rv64_model.specs.Instruction.{Effect, Next, Call, End, advanced, bran
 use Rattle.solo_model.specs.Step.{Step, is_event}
 use Rattle.solo_model.specs.Call.{CallOutcome, Waits, Answers, Ends, Takes, Writes, call_step, called}
 use Rattle.solo_model.specs.Slice.{effect_step, next_step, step_if_live, step_if_made}
-use Rattle.guest_mem.specs.Windows.{private_window}
+use Rattle.parts_model.specs.Memory.{private_window}
 use Rattle.solo_lineage.specs.Sources.{FitsStore, FitsWindow}
 use Rattle.guest_solo.specs.declared.guest.Guest.{Guest}
 use Rattle.guest_solo.specs.declared.standpoint.Standpoint.{Standpoint}

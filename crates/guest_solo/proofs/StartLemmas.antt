@@ -8,7 +8,7 @@ use Rattle.arn_base.specs.Window.{Window, with_bytes, is_whole_in}
 use Rattle.parts_model.specs.declared.limits.TheConstants.{WINDOW_START, WINDOW_END, WINDOW_LEN}
 use Rattle.parts_model.specs.Image.{Image, fits_window, image_of, is_image, read_as_image, can_enter, image_name, header_len}
 use Rattle.solo_model.specs.Start.{among_zeros, window_at_start}
-use Rattle.guest_mem.specs.Windows.{zeros, private_window}
+use Rattle.parts_model.specs.Memory.{zeros, private_window}
 
 -- bytes over zeros
 overwrite-zeros : (len at : ℕ) (bytes : List ℕ) → at ≤ len → overwrite (zeros len) at bytes ≡ among_zeros len at bytes

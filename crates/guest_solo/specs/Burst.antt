@@ -1,7 +1,7 @@
 -- Instructions of one process in a row, none of which is a call or an end.
 use Rattle.std.specs.Prelude.{◌≡◌, ◌<◌, ℕ, zero, suc, List}
 use Rattle.arn_base.specs.declared.machine.Cpu.{Cpu}
-use Rattle.guest_mem.specs.Windows.{private_window}
+use Rattle.parts_model.specs.Memory.{private_window}
 use Rattle.rv64_isa.specs.declared.instruction.Instr.{Instr}
 use Rattle.rv64_model.specs.Instruction.{Effect, Next, Call, End, instruction}
 use Rattle.rv64_core.specs.declared.outcome.Outcome.{Outcome}

@@ -1,7 +1,7 @@
 -- Effects of instructions, told apart.
 use Rattle.std.specs.Prelude.{Bool, true, false}
 use Rattle.rv64_model.specs.Instruction.{Effect, Next, Call, End, instruction}
-use Rattle.guest_mem.specs.Windows.{private_window}
+use Rattle.parts_model.specs.Memory.{private_window}
 use Rattle.guest_solo.specs.declared.guest.Guest.{Guest}
 
 -- the instruction is a call

@@ -1,7 +1,7 @@
 -- What a guest asks of the kernel, as the model says it.
 use Rattle.std.specs.Prelude.{◌≡◌, ◌<◌, ◌≤◌, ℕ, List, [], ◌∷◌, length, IsSome}
 use Rattle.arn_base.specs.Window.{bytes_at}
-use Rattle.guest_mem.specs.Windows.{private_window}
+use Rattle.parts_model.specs.Memory.{private_window}
 use Rattle.parts_model.specs.declared.limits.TheConstants.{MOST_TRANSFER}
 use Rattle.solo_model.specs.Machine.{Machine, Process, Console}
 use Rattle.solo_model.specs.Call.{CallOutcome, Waits, Answers, Ends, Takes, Writes, called, unless_refused, console_read, cut, read_from, write_to, opened, argument}

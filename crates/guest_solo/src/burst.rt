@@ -1,5 +1,5 @@
 ghost use Rattle.std.specs.Prelude.{◌≡◌, ◌≢◌, ◌+◌, ◌<◌, ◌≤◌};
-ghost use Rattle.guest_mem.specs.Windows.{private_window};
+ghost use Rattle.parts_model.specs.Memory.{private_window};
 ghost use Rattle.rv64_core.specs.Outcome.{Tells};
 ghost use Rattle.rv64_model.specs.Instruction.{instruction};
 ghost use Rattle.guest_solo.specs.Burst.{RunsOn, StopsAt};

@@ -1,6 +1,6 @@
 ghost use Rattle.std.specs.Prelude.{◌≡◌, ℕ, ◌+◌, ◌<◌, ◌≤◌, ◌^◌, true, nat_lt, IfOk, IfErr, IsSome};
 ghost use Rattle.arn_base.specs.Window.{bytes_at};
-ghost use Rattle.guest_mem.specs.Windows.{private_window};
+ghost use Rattle.parts_model.specs.Memory.{private_window};
 ghost use Rattle.solo_model.specs.Machine.{Machine};
 ghost use Rattle.rv64_model.specs.Registers.{register as register_of};
 ghost use Rattle.solo_model.specs.Call.{CallOutcome, Answers, cut, unless_refused, error as error_of};

@@ -5,7 +5,7 @@ ghost use Rattle.parts_model.specs.declared.limits.TheConstants.{WINDOW_LEN};
 ghost use Rattle.solo_model.specs.Machine.{Machine};
 ghost use Rattle.solo_model.specs.Step.{Step, is_event};
 ghost use Rattle.solo_model.specs.Slice.{next_step};
-ghost use Rattle.guest_mem.specs.Windows.{private_window};
+ghost use Rattle.parts_model.specs.Memory.{private_window};
 ghost use Rattle.guest_solo.specs.Guest.{process_of};
 ghost use Rattle.guest_solo.specs.Standpoint.{StandsAt};
 

@@ -1,6 +1,6 @@
 ghost use Rattle.std.specs.Prelude.{◌≡◌, ◌+◌, ◌<◌, ◌≤◌, ◌^◌, ◌↔◌, ℕ, suc, true, false, List, [], length, map, All, take, drop, IfOk, IfErr, OnOk, OnErr, IsOk, IsSome, Some, option_to_list};
 ghost use Rattle.arn_base.specs.Window.{bytes_at, with_bytes};
-ghost use Rattle.guest_mem.specs.Windows.{private_window};
+ghost use Rattle.parts_model.specs.Memory.{private_window};
 ghost use Rattle.solo_model.specs.Machine.{Machine};
 ghost use Rattle.parts_model.specs.Tagged.{values};
 ghost use Rattle.rv64_model.specs.Instruction.{instruction, Call};

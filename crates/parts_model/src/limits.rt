@@ -17,7 +17,7 @@ pub const SEGMENT_END: u64 = 0x8001_0000;
 pub const SEGMENT_LEN: u64 = 0x1_0000;
 
 /// How many bytes a block of a window has.
-pub const BLOCK_LEN: u64 = 256;
+pub const BLOCK_LEN: usize = 256;
 
 /// How many processes are live, or ended and not yet waited for, at most.
 pub const MOST_PROCESSES: u64 = 64;

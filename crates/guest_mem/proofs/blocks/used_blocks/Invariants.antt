@@ -1,5 +1,5 @@
 use Rattle.std.proofs.Common.{◌≡◌}
-use Rattle.guest_mem.specs.Blocks.{used_blocks}
+use Rattle.parts_model.specs.Blocks.{used_blocks}
 use Rattle.guest_mem.proofs.blocks.used_blocks.Given as goal
 
 abbrev pub invariant-loop-number : goal.invariant-loop-number

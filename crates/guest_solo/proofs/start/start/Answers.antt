@@ -1,7 +1,7 @@
 use Rattle.std.proofs.Common.{◌≡◌, ◌∙◌, subst, ◌-◌, ℕ, List, drop, length-drop, arith, ap, refl}
 use Rattle.arn_base.specs.Disk.{overwrite}
 use Rattle.arn_base.specs.Window.{with_bytes}
-use Rattle.guest_mem.specs.Windows.{private_window}
+use Rattle.parts_model.specs.Memory.{private_window}
 use Rattle.arn_base.specs.declared.machine.Cpu.{Cpu}
 use Rattle.parts_model.specs.declared.limits.TheConstants.{WINDOW_START}
 use Rattle.parts_model.specs.Image.{Image}

@@ -1,6 +1,6 @@
 use Rattle.std.proofs.Common.{◌≡◌, ◌+◌, ◌-◌, ◌∙◌, ℕ, List, map, take, drop, refl, ap, subst, arith}
 use Rattle.arn_base.specs.Window.{with_bytes}
-use Rattle.guest_mem.specs.Windows.{private_window}
+use Rattle.parts_model.specs.Memory.{private_window}
 use Rattle.parts_model.specs.Tagged.{values, given}
 use Rattle.arn_base.specs.declared.machine.Cpu.{Cpu}
 use Rattle.arn_base.specs.declared.records.Give.{Give}

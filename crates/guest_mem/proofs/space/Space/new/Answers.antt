@@ -1,6 +1,6 @@
 -- Copies of 0 are zeros.
 use Rattle.std.proofs.Common.{◌≡◌, ℕ, List, replicate}
-use Rattle.guest_mem.specs.Windows.{zeros}
+use Rattle.parts_model.specs.Memory.{zeros}
 use Rattle.guest_mem.proofs.space.Space.new.Goals as goal
 
 zeros-replicate : (len : ℕ) (bytes : List ℕ) → bytes ≡ replicate len 0 → bytes ≡ zeros len
