@@ -1,2 +1,4 @@
 pub mod Literals
 pub mod ProcessCallsExamples
+pub mod SignalCallsExamples
+pub mod FileCallsExamples
