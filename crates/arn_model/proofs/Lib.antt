@@ -2,3 +2,5 @@ pub mod Literals
 pub mod ProcessCallsExamples
 pub mod SignalCallsExamples
 pub mod FileCallsExamples
+pub mod ChannelCallsExamples
+pub mod TransferCallsExamples

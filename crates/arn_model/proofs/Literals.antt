@@ -13,7 +13,7 @@ use Rattle.acts_model.specs.Acts.{Returns}
 use Rattle.acts_model.specs.Bodies.{Bodies, View, nobody}
 use Rattle.acts_model.specs.Moved.{Nothing}
 use Rattle.acts_model.specs.Views.{cpu_at}
-use Rattle.arn_model.specs.Doing.{Request, Does}
+use Rattle.arn_model.specs.Doing.{Doing, Request, Waits, Does, Asks}
 use Rattle.arn_model.specs.Kernel.{Handling, Opened, Kernel, Machine}
 
 -- an error as a result
@@ -101,3 +101,9 @@ at_event_5 k = record { bodies = nobody; kernel = k; events = 5 }
 -- a call ends with a result, moves nothing and leaves the kernel so
 abbrev pub results : ℕ → Kernel → Request
 results result k = Does (record { act = Returns result; extra = extra.Nothing; incoming = Nothing; outgoing = None; bytes = []; kernel = k })
+
+-- what a call does, where it does something without a question
+abbrev pub doing_in : Request → Option Doing
+doing_in Waits = None
+doing_in (Does d) = Some d
+doing_in (Asks question) = None
