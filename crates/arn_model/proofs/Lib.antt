@@ -4,3 +4,4 @@ pub mod SignalCallsExamples
 pub mod FileCallsExamples
 pub mod ChannelCallsExamples
 pub mod TransferCallsExamples
+pub mod SliceExamples
