@@ -5,3 +5,4 @@ pub mod FileCallsExamples
 pub mod ChannelCallsExamples
 pub mod TransferCallsExamples
 pub mod SliceExamples
+pub mod RunExamples
