@@ -6,3 +6,4 @@ pub mod ChannelCallsExamples
 pub mod TransferCallsExamples
 pub mod SliceExamples
 pub mod RunExamples
+pub mod BootExamples
