@@ -1,1 +1,10 @@
+pub mod BootExamples
+pub mod ChannelCallsExamples
+pub mod FileCallsExamples
+pub mod Literals
+pub mod ProcessCallsExamples
+pub mod RunExamples
 pub mod RunLemmas
+pub mod SignalCallsExamples
+pub mod SliceExamples
+pub mod TransferCallsExamples

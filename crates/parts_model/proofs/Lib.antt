@@ -1,1 +1,7 @@
 pub mod Examples
+pub mod FilesExamples
+pub mod PipesExamples
+pub mod PortsExamples
+pub mod ProcessesExamples
+pub mod SignalsExamples
+pub mod RepliesExamples

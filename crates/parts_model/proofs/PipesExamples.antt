@@ -1,0 +1,95 @@
+-- Channels and pipes at literal values.
+use Rattle.std.proofs.Common.{◌≡◌, ℕ, [], ◌∷◌, Some, None, length, replicate, Bool, true, false, refl}
+use Rattle.parts_model.specs.declared.tagged.TaggedByte.{TaggedByte}
+use Rattle.parts_model.specs.Channel.{Channel, no_bytes, channel_end, put_behind, front, without_front}
+use Rattle.parts_model.specs.Pipes.{Pipe, ReadEnd, WriteEnd, new_pipe, pipe_made, free_pipes, room, can_put, can_take, with_put, with_taken, end_closed}
+
+-- a byte of an event
+byte : ℕ → ℕ → ℕ → TaggedByte
+byte value event at = record { value = value; origin = record { event = event; at = at } }
+
+-- two bytes of event 3, and behind them one of event 5
+three_bytes : Channel
+three_bytes = put_behind (put_behind no_bytes 3 (10 ∷ 11 ∷ [])) 5 (12 ∷ [])
+
+queued : three_bytes ≡ record { taken = 0; queue = byte 10 3 0 ∷ byte 11 3 1 ∷ byte 12 5 0 ∷ [] }
+unfolding three_bytes byte
+queued = refl
+
+front-two : front three_bytes 2 ≡ byte 10 3 0 ∷ byte 11 3 1 ∷ []
+unfolding three_bytes byte
+front-two = refl
+
+front-all : front three_bytes 9 ≡ byte 10 3 0 ∷ byte 11 3 1 ∷ byte 12 5 0 ∷ []
+unfolding three_bytes byte
+front-all = refl
+
+-- what has left the queue counts on: the place behind it stays
+left-behind : without_front three_bytes 2 ≡ record { taken = 2; queue = byte 12 5 0 ∷ [] }
+unfolding three_bytes byte
+left-behind = refl
+
+end-stays : channel_end (without_front three_bytes 2) ≡ 3
+unfolding three_bytes
+end-stays = refl
+
+-- a pipe with so many bytes, and a reader or none, a writer or none
+pipe_with : ℕ → Bool → Bool → Pipe
+pipe_with count reader writer = record { channel = record { taken = 0; queue = replicate count (byte 1 0 0) }; has_reader = reader; has_writer = writer }
+
+-- a pipe holds 4,096 bytes: a write to a full one is ready where nothing reads it, which refuses the write
+full-room : room (pipe_with 4096 true true) ≡ 0
+unfolding pipe_with byte
+full-room = refl
+
+full-put : can_put (pipe_with 4096 true true) ≡ false
+unfolding pipe_with byte
+full-put = refl
+
+full-unread : can_put (pipe_with 4096 false true) ≡ true
+unfolding pipe_with byte
+full-unread = refl
+
+nearly-full-put : can_put (pipe_with 4095 true true) ≡ true
+unfolding pipe_with byte
+nearly-full-put = refl
+
+-- of two bytes it takes the one for which there is room
+nearly-full-takes : length (with_put (pipe_with 4095 true true) (7 ∷ 8 ∷ []) 5).channel.queue ≡ 4096
+unfolding pipe_with byte
+nearly-full-takes = refl
+
+-- a read of an empty pipe is ready where nothing writes it
+empty-take : can_take (pipe_with 0 true true) ≡ false
+unfolding pipe_with byte
+empty-take = refl
+
+empty-unwritten : can_take (pipe_with 0 true false) ≡ true
+unfolding pipe_with byte
+empty-unwritten = refl
+
+one-take : can_take (pipe_with 1 true true) ≡ true
+unfolding pipe_with byte
+one-take = refl
+
+-- at most what is there is taken
+takes-all : (with_taken (record new_pipe { channel = three_bytes }) 9).channel ≡ record { taken = 3; queue = [] }
+unfolding three_bytes
+takes-all = refl
+
+-- a pipe with one end stays, one without ends is gone, and its number isn't given again
+one-end : end_closed (Some new_pipe ∷ []) 0 ReadEnd ≡ Some (record { channel = no_bytes; has_reader = false; has_writer = true }) ∷ []
+one-end = refl
+
+no-ends : end_closed (end_closed (Some new_pipe ∷ Some new_pipe ∷ []) 0 ReadEnd) 0 WriteEnd ≡ None ∷ Some new_pipe ∷ []
+no-ends = refl
+
+made-after-gone : pipe_made (None ∷ []) ≡ None ∷ Some (record { channel = no_bytes; has_reader = true; has_writer = true }) ∷ []
+made-after-gone = refl
+
+-- there may be 64; one that is gone doesn't count
+free-none : free_pipes (replicate 64 (Some new_pipe)) ≡ 0
+free-none = refl
+
+free-one : free_pipes (None ∷ replicate 63 (Some new_pipe)) ≡ 1
+free-one = refl
