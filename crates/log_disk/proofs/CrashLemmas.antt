@@ -1,9 +1,12 @@
 -- What a crash may leave after each call.
-use Rattle.std.proofs.Common.{◌≡◌, ◌⊎◌, ℕ, ◌+◌, ◌≤◌, ◌<◌, min, max, List, length, take, slice_index, refl, sym, ◌∙◌, inl, inr, arith}
+use Rattle.std.proofs.Common.{◌≡◌, ◌⊎◌, ℕ, ◌+◌, ◌≤◌, ◌<◌, min, max, List, [], ◌∷◌, ◌++◌, length, take, slice_index, refl, sym, subst, ◌∙◌, inl, inr, arith}
 use Rattle.std.proofs.lemmas.Bool.{cases_lt}
 use Rattle.std.proofs.lemmas.List.{places, same_lists, ext_get_or, take-take, length-take, length-drop, get_or-take, get_or-drop}
-use Rattle.std.proofs.lemmas.List.Elements.{All-push}
-use Rattle.arn_base.specs.Disk.{overwrite, Torn, Cut, Follows, NoMore, Only}
+use Rattle.std.specs.List.{All}
+use Rattle.std.proofs.Math.Seq.{drop-append_seam, take-append_seam}
+use Rattle.std.proofs.lemmas.List.Elements.{All-drop, All-head, All-push, All-take}
+use Rattle.log_disk.specs.declared.ranges.Range.{Range}
+use Rattle.arn_base.specs.Disk.{overwrite, Torn, Cut, Follows, NoLess, NoMore, Only}
 use Rattle.log_disk.specs.Crash.{Held, Crash, Stays, Covers, durable, shortest, longest}
 use Rattle.log_disk.specs.Laws.{Crash-image}
 use Rattle.log_disk.specs.Steps.{span, written_to, cut_to}
@@ -51,6 +54,63 @@ Stays-written held at n piece k in_range kept outside = record {
   below = omega (arith, length-overwrite held.image piece at in_range, kept.below);
   untouched = All-push (λ range. ¬ Covers range k) held.written (span at n) kept.untouched (λ covered. absurd (omega arith));
 }
+
+-- a list with one more is untouched where each of them is
+untouched-fewer : (ranges : List Range) (range : Range) (k : ℕ) → All (λ r. ¬ Covers r k) (ranges ++ range ∷ []) →
+    All (λ r. ¬ Covers r k) ranges
+untouched-fewer ranges range k h =
+    subst (All (λ r. ¬ Covers r k)) (take-append_seam ranges (range ∷ []))
+    (All-take (λ r. ¬ Covers r k) (length ranges) (ranges ++ range ∷ []) h)
+
+-- the last of them too
+All-last : (ranges : List Range) (range : Range) (k : ℕ) → All (λ r. ¬ Covers r k) (ranges ++ range ∷ []) → ¬ Covers range k
+All-last ranges range k h =
+    All-head (λ r. ¬ Covers r k) range []
+    (subst (All (λ r. ¬ Covers r k)) (drop-append_seam ranges (range ∷ []))
+    (All-drop (λ r. ¬ Covers r k) (length ranges) (ranges ++ range ∷ []) h))
+
+-- a place that stays after a write stays before it
+was_kept : (held : Held) (at n : ℕ) (piece : List ℕ) (k : ℕ) → at ≤ length held.image →
+    Stays (written_to (span at n) piece held) k → Stays held k
+was_kept held at n piece k in_range kept = record {
+  below = omega (arith, kept.below);
+  untouched = untouched-fewer held.written (span at n) k kept.untouched;
+}
+
+-- and lies outside of it
+Stays-outside : (held : Held) (at n : ℕ) (piece : List ℕ) (k : ℕ) →
+    Stays (written_to (span at n) piece held) k → (k < at) ⊎ (at + n ≤ k)
+Stays-outside held at n piece k kept =
+    elim (cases_in at (at + n) k) [
+      | inl inside ↦ absurd (All-last held.written (span at n) k kept.untouched inside)
+      | inr outside ↦ outside
+    ]
+
+-- a crash after a write may leave what one before it might
+pub NoLess-written : (held : Held) (at n : ℕ) (piece : List ℕ) → at ≤ length held.image → length piece ≤ n →
+    NoLess (Crash held) (Crash (written_to (span at n) piece held))
+NoLess-written held at n piece in_range whole bytes crash =
+    let size = length-overwrite held.image piece at in_range in
+    record {
+      no_shorter = omega (arith, size, crash.no_shorter);
+      no_longer = omega (arith, size, crash.no_longer);
+      stays = λ k kept.
+          let before : Stays held k = was_kept held at n piece k in_range kept in
+          let outside = Stays-outside held at n piece k kept in
+          crash.stays k before ∙ sym (slice_index-overwrite held.image piece at k in_range (behind at n k (length piece) whole outside));
+    }
+
+-- and one after a cut
+pub NoLess-cut : (held : Held) (len : ℕ) → NoLess (Crash held) (Crash (cut_to len held))
+NoLess-cut held len bytes crash =
+    let size = length-take len held.image in
+    record {
+      no_shorter = omega (arith, size, crash.no_shorter);
+      no_longer = omega (arith, size, crash.no_longer);
+      stays = λ k kept.
+          crash.stays k (record { below = omega (arith, size, kept.below); untouched = kept.untouched })
+          ∙ sym (get_or-take len held.image k 0 (omega (arith, size, kept.below)));
+    }
 
 -- bytes that are patched in a range and cut differ from those that aren't by a torn write
 Torn-patched : (image bytes : List ℕ) (at n greatest : ℕ) → at ≤ greatest →
