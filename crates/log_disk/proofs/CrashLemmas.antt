@@ -1,10 +1,10 @@
 -- What a crash may leave after each call.
-use Rattle.std.proofs.Common.{◌≡◌, ◌⊎◌, ℕ, ◌+◌, ◌≤◌, ◌<◌, min, max, List, [], ◌∷◌, ◌++◌, length, take, slice_index, refl, sym, subst, ◌∙◌, inl, inr, arith}
+use Rattle.std.proofs.Common.{◌≡◌, ◌⊎◌, ℕ, ◌+◌, ◌≤◌, ◌<◌, min, max, List, [], ◌∷◌, ◌++◌, length, take, slice_index, refl, sym, ◌∙◌, inl, inr, arith}
 use Rattle.std.proofs.lemmas.Bool.{cases_lt}
 use Rattle.std.proofs.lemmas.List.{places, same_lists, ext_get_or, take-take, length-take, length-drop, get_or-take, get_or-drop}
+use Rattle.std.specs.Prelude.{Some}
 use Rattle.std.specs.List.{All}
-use Rattle.std.proofs.Math.Seq.{drop-append_seam, take-append_seam}
-use Rattle.std.proofs.lemmas.List.Elements.{All-drop, All-head, All-push, All-take}
+use Rattle.std.proofs.lemmas.List.Elements.{All-pop, All-push}
 use Rattle.log_disk.specs.declared.ranges.Range.{Range}
 use Rattle.arn_base.specs.Disk.{overwrite, Torn, Cut, Follows, NoLess, NoMore, Only}
 use Rattle.log_disk.specs.Crash.{Held, Crash, Stays, Covers, durable, shortest, longest}
@@ -55,26 +55,17 @@ Stays-written held at n piece k in_range kept outside = record {
   untouched = All-push (λ range. ¬ Covers range k) held.written (span at n) kept.untouched (λ covered. absurd (omega arith));
 }
 
--- a list with one more is untouched where each of them is
-untouched-fewer : (ranges : List Range) (range : Range) (k : ℕ) → All (λ r. ¬ Covers r k) (ranges ++ range ∷ []) →
-    All (λ r. ¬ Covers r k) ranges
-untouched-fewer ranges range k h =
-    subst (All (λ r. ¬ Covers r k)) (take-append_seam ranges (range ∷ []))
-    (All-take (λ r. ¬ Covers r k) (length ranges) (ranges ++ range ∷ []) h)
-
--- the last of them too
-All-last : (ranges : List Range) (range : Range) (k : ℕ) → All (λ r. ¬ Covers r k) (ranges ++ range ∷ []) → ¬ Covers range k
-All-last ranges range k h =
-    All-head (λ r. ¬ Covers r k) range []
-    (subst (All (λ r. ¬ Covers r k)) (drop-append_seam ranges (range ∷ []))
-    (All-drop (λ r. ¬ Covers r k) (length ranges) (ranges ++ range ∷ []) h))
+-- the ranges before the last one don't cover the place, and the last doesn't
+untouched-parts : (ranges : List Range) (range : Range) (k : ℕ) → All (λ r. ¬ Covers r k) (ranges ++ range ∷ []) →
+    All (λ r. ¬ Covers r k) ranges × ¬ Covers range k
+untouched-parts ranges range k h = All-pop (λ r. ¬ Covers r k) (ranges ++ range ∷ []) ranges (Some range) refl h
 
 -- a place that stays after a write stays before it
 was_kept : (held : Held) (at n : ℕ) (piece : List ℕ) (k : ℕ) → at ≤ length held.image →
     Stays (written_to (span at n) piece held) k → Stays held k
 was_kept held at n piece k in_range kept = record {
   below = omega (arith, kept.below);
-  untouched = untouched-fewer held.written (span at n) k kept.untouched;
+  untouched = (untouched-parts held.written (span at n) k kept.untouched).0;
 }
 
 -- and lies outside of it
@@ -82,7 +73,7 @@ Stays-outside : (held : Held) (at n : ℕ) (piece : List ℕ) (k : ℕ) →
     Stays (written_to (span at n) piece held) k → (k < at) ⊎ (at + n ≤ k)
 Stays-outside held at n piece k kept =
     elim (cases_in at (at + n) k) [
-      | inl inside ↦ absurd (All-last held.written (span at n) k kept.untouched inside)
+      | inl inside ↦ absurd ((untouched-parts held.written (span at n) k kept.untouched).1 inside)
       | inr outside ↦ outside
     ]
 
