@@ -3,11 +3,11 @@ use Rattle.std.proofs.Common.{◌≡◌, ◌⊎◌, ℕ, ◌≤◌, List, length
 use Rattle.std.proofs.Math.Nat.{le_refl}
 use Rattle.arn_base.specs.declared.errors.Stop.{Stop}
 use Rattle.arn_base.specs.declared.errors.Stop.TheVariants.{Failed, NoMemory}
-use Rattle.arn_base.specs.Disk.{Torn, Cut, Follows, NoMore, Only, Elapses}
+use Rattle.arn_base.specs.Disk.{Torn, Cut, Follows, NoLess, NoMore, Only, Elapses}
 use Rattle.log_disk.specs.Crash.{Held, Crash, durable}
 use Rattle.log_disk.specs.InMemory.{InMemory, Fused, Makes, changed, moment_of, LeftSince}
 use Rattle.log_disk.specs.Steps.{span, written_to, cut_to}
-use Rattle.log_disk.proofs.CrashLemmas.{Follows-written, Follows-cut, NoMore-durable, Crash-durable, Torn-overwrite, Torn-self, Cut-self, Cut-take}
+use Rattle.log_disk.proofs.CrashLemmas.{Follows-written, Follows-cut, NoLess-cut, NoLess-written, NoMore-durable, Crash-durable, Torn-overwrite, Torn-self, Cut-self, Cut-take}
 
 -- a call that succeeds makes this change, and one that doesn't changes nothing
 pub record Does (result : Result (Unit {0}) Stop) (next : Held) (old new : InMemory) : Type 0 where
@@ -53,6 +53,19 @@ pub Elapses-made : (result : Result (Unit {0}) Stop) (next : Held) (old new : In
     Does result next old new → Elapses moment_of LeftSince (λ disk. Crash disk.held) old new
 Elapses-made (Ok u) next old new makes = rw makes.ok (Elapses-changed next old)
 Elapses-made (Err error) next old new makes = rw makes.err (Elapses-same old)
+
+-- a call that changes only what it says takes nothing from what a crash may leave
+pub NoLess-made : (result : Result (Unit {0}) Stop) (next : Held) (old new : InMemory) → Does result next old new →
+    NoLess (Crash old.held) (Crash next) → NoLess (Crash old.held) (Crash new.held)
+NoLess-made (Ok u) next old new makes more = rw makes.ok more
+NoLess-made (Err error) next old new makes more = rw makes.err (λ bytes left. left)
+
+-- nor one that may fail
+pub NoLess-makes : (result : Result (Unit {0}) Stop) (done torn : Held) (old new : InMemory) → Makes result done torn old new →
+    NoLess (Crash old.held) (Crash done) → NoLess (Crash old.held) (Crash torn) → NoLess (Crash old.held) (Crash new.held)
+NoLess-makes (Ok u) done torn old new makes whole part = rw makes.ok whole
+NoLess-makes (Err Failed) done torn old new makes whole part = rw (makes.failed refl) part
+NoLess-makes (Err NoMemory) done torn old new makes whole part = rw (makes.no_memory refl) (λ bytes left. left)
 
 -- what a crash may leave after a write
 pub Follows-write : (result : Result (Unit {0}) Stop) (old new : InMemory) (at n : ℕ) (piece : List ℕ) →

@@ -1,9 +1,12 @@
 -- What a crash may leave after each call.
-use Rattle.std.proofs.Common.{◌≡◌, ◌⊎◌, ℕ, ◌+◌, ◌≤◌, ◌<◌, min, max, List, length, take, slice_index, refl, sym, ◌∙◌, inl, inr, arith}
+use Rattle.std.proofs.Common.{◌≡◌, ◌⊎◌, ℕ, ◌+◌, ◌≤◌, ◌<◌, min, max, List, [], ◌∷◌, ◌++◌, length, take, slice_index, refl, sym, ◌∙◌, inl, inr, arith}
 use Rattle.std.proofs.lemmas.Bool.{cases_lt}
 use Rattle.std.proofs.lemmas.List.{places, same_lists, ext_get_or, take-take, length-take, length-drop, get_or-take, get_or-drop}
-use Rattle.std.proofs.lemmas.List.Elements.{All-push}
-use Rattle.arn_base.specs.Disk.{overwrite, Torn, Cut, Follows, NoMore, Only}
+use Rattle.std.specs.Prelude.{Some}
+use Rattle.std.specs.List.{All}
+use Rattle.std.proofs.lemmas.List.Elements.{All-pop, All-push}
+use Rattle.log_disk.specs.declared.ranges.Range.{Range}
+use Rattle.arn_base.specs.Disk.{overwrite, Torn, Cut, Follows, NoLess, NoMore, Only}
 use Rattle.log_disk.specs.Crash.{Held, Crash, Stays, Covers, durable, shortest, longest}
 use Rattle.log_disk.specs.Laws.{Crash-image}
 use Rattle.log_disk.specs.Steps.{span, written_to, cut_to}
@@ -51,6 +54,54 @@ Stays-written held at n piece k in_range kept outside = record {
   below = omega (arith, length-overwrite held.image piece at in_range, kept.below);
   untouched = All-push (λ range. ¬ Covers range k) held.written (span at n) kept.untouched (λ covered. absurd (omega arith));
 }
+
+-- the ranges before the last one don't cover the place, and the last doesn't
+untouched-parts : (ranges : List Range) (range : Range) (k : ℕ) → All (λ r. ¬ Covers r k) (ranges ++ range ∷ []) →
+    All (λ r. ¬ Covers r k) ranges × ¬ Covers range k
+untouched-parts ranges range k h = All-pop (λ r. ¬ Covers r k) (ranges ++ range ∷ []) ranges (Some range) refl h
+
+-- a place that stays after a write stays before it
+was_kept : (held : Held) (at n : ℕ) (piece : List ℕ) (k : ℕ) → at ≤ length held.image →
+    Stays (written_to (span at n) piece held) k → Stays held k
+was_kept held at n piece k in_range kept = record {
+  below = omega (arith, kept.below);
+  untouched = (untouched-parts held.written (span at n) k kept.untouched).0;
+}
+
+-- and lies outside of it
+Stays-outside : (held : Held) (at n : ℕ) (piece : List ℕ) (k : ℕ) →
+    Stays (written_to (span at n) piece held) k → (k < at) ⊎ (at + n ≤ k)
+Stays-outside held at n piece k kept =
+    elim (cases_in at (at + n) k) [
+      | inl inside ↦ absurd ((untouched-parts held.written (span at n) k kept.untouched).1 inside)
+      | inr outside ↦ outside
+    ]
+
+-- a crash after a write may leave what one before it might
+pub NoLess-written : (held : Held) (at n : ℕ) (piece : List ℕ) → at ≤ length held.image → length piece ≤ n →
+    NoLess (Crash held) (Crash (written_to (span at n) piece held))
+NoLess-written held at n piece in_range whole bytes crash =
+    let size = length-overwrite held.image piece at in_range in
+    record {
+      no_shorter = omega (arith, size, crash.no_shorter);
+      no_longer = omega (arith, size, crash.no_longer);
+      stays = λ k kept.
+          let before : Stays held k = was_kept held at n piece k in_range kept in
+          let outside = Stays-outside held at n piece k kept in
+          crash.stays k before ∙ sym (slice_index-overwrite held.image piece at k in_range (behind at n k (length piece) whole outside));
+    }
+
+-- and one after a cut
+pub NoLess-cut : (held : Held) (len : ℕ) → NoLess (Crash held) (Crash (cut_to len held))
+NoLess-cut held len bytes crash =
+    let size = length-take len held.image in
+    record {
+      no_shorter = omega (arith, size, crash.no_shorter);
+      no_longer = omega (arith, size, crash.no_longer);
+      stays = λ k kept.
+          crash.stays k (record { below = omega (arith, size, kept.below); untouched = kept.untouched })
+          ∙ sym (get_or-take len held.image k 0 (omega (arith, size, kept.below)));
+    }
 
 -- bytes that are patched in a range and cut differ from those that aren't by a torn write
 Torn-patched : (image bytes : List ℕ) (at n greatest : ℕ) → at ≤ greatest →

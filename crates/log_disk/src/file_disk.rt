@@ -60,7 +60,7 @@ fn counted<T>(faults: &mut u64, answer: io::Result<T>) -> Result<T, Stop>
 }
 
 impl<R: Files + Clone + Drop> Disk for FileDisk<R> {
-    ghost use Rattle.std.specs.Prelude.{None};
+    ghost use Rattle.std.specs.Prelude.{None, true};
 
     ghost image = { λ _. None };
 
@@ -71,6 +71,8 @@ impl<R: Files + Clone + Drop> Disk for FileDisk<R> {
     ghost left_since = { λ _ _ _. Unit {0} };
 
     ghost faults = { λ disk. disk.faults };
+
+    ghost wants_memory = { λ _. true };
 
     ghost reads_may_stay = { λ _. tt };
 

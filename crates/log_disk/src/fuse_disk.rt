@@ -74,7 +74,7 @@ impl FuseDisk {
 }
 
 impl Disk for FuseDisk {
-    ghost use Rattle.std.specs.Prelude.{Some};
+    ghost use Rattle.std.specs.Prelude.{Some, true};
     ghost use Rattle.log_disk.specs.Crash.{Crash};
     ghost use Rattle.log_disk.specs.InMemory.{LeftSince, moment_of};
     ghost use Rattle.log_disk.specs.Laws.{Crash-image, LeftSince-now, Crash-left};
@@ -88,6 +88,8 @@ impl Disk for FuseDisk {
     ghost left_since = { λ fuse. LeftSince fuse.disk };
 
     ghost faults = { λ fuse. fuse.faults };
+
+    ghost wants_memory = { λ _. true };
 
     ghost reads_may_stay = { λ fuse. Crash-image fuse.disk.held };
 

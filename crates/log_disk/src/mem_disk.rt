@@ -63,7 +63,7 @@ impl MemDisk {
 }
 
 impl Disk for MemDisk {
-    ghost use Rattle.std.specs.Prelude.{Some};
+    ghost use Rattle.std.specs.Prelude.{Some, true};
     ghost use Rattle.log_disk.specs.Crash.{Crash};
     ghost use Rattle.log_disk.specs.InMemory.{LeftSince, moment_of};
     ghost use Rattle.log_disk.specs.Laws.{Crash-image, LeftSince-now, Crash-left};
@@ -77,6 +77,8 @@ impl Disk for MemDisk {
     ghost left_since = { LeftSince };
 
     ghost faults = { λ _. 0 };
+
+    ghost wants_memory = { λ _. true };
 
     ghost reads_may_stay = { λ disk. Crash-image disk.held };
 

@@ -122,7 +122,9 @@ none_of_9 : (e : Record) (bytes rest : List ℕ) → 9 ∷ bytes ≢ spelling e 
 none_of_9 (entry.File name content) bytes rest e = cc e
 none_of_9 (entry.Boot name g) bytes rest e = cc e
 none_of_9 (entry.Typed content) bytes rest e = cc e
+none_of_9 (entry.Unplug device) bytes rest e = cc e
 none_of_9 (entry.Slice pid ran) bytes rest e = cc e
+none_of_9 (entry.Signal pid signal cut handler) bytes rest e = cc e
 none_of_9 (entry.Call pid number answer did) bytes rest e = cc e
 none_of_9 (entry.End pid status) bytes rest e = cc e
 

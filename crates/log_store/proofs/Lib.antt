@@ -8,6 +8,7 @@ pub mod OnePlace
 pub mod OneWay
 pub mod ReadRecords
 pub mod Reopening
+pub mod Shut
 pub mod Spellings
 pub mod Told
 pub mod Walks

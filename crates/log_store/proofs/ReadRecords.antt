@@ -130,7 +130,9 @@ pub spelling-long : (e : Record) → 0 < length (spelling e)
 spelling-long (entry.File name bytes) = omega arith
 spelling-long (entry.Boot name g) = omega arith
 spelling-long (entry.Typed bytes) = omega arith
+spelling-long (entry.Unplug device) = omega arith
 spelling-long (entry.Slice pid ran) = omega arith
+spelling-long (entry.Signal pid signal cut handler) = omega arith
 spelling-long (entry.Call pid number answer did) = omega arith
 spelling-long (entry.End pid status) = omega arith
 

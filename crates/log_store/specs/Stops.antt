@@ -1,5 +1,5 @@
 -- What a stop of the machine leaves on a disk.
-use Rattle.std.specs.Prelude.{◌≡◌, ◌⊎◌, ℕ, ◌≤◌, List, Option, is_some, IfSome}
+use Rattle.std.specs.Prelude.{◌≡◌, ◌⊎◌, ℕ, ◌≤◌, List, ◌++◌, Option, is_some, IfSome}
 use Rattle.arn_base.specs.Disk.{NoMore, Only}
 use Rattle.arn_base.specs.Faults.{NeverFalls}
 
@@ -29,3 +29,8 @@ pub record GoesOn {D : Type 0} (image : D → Option (List ℕ)) (faults : D →
     : Type 0 where
   pub tells : is_some (image new) ≡ is_some (image old)
   pub never_falls : NeverFalls (faults old) (faults new)
+
+-- a stop now may leave these bytes, with others behind them
+pub record MayStayShut (may_leave : List ℕ → Type 0) (old : List ℕ) : Type 0 where
+  pub rest : List ℕ
+  pub stays : may_leave (old ++ rest)

@@ -26,3 +26,9 @@ pub record KeepsRecords (old new : List ℕ) : Type 0 where
 pub record IsBeforeOrAfter (entries more : List Record) (bytes : List ℕ) : Type 0 where
   pub is_log : IsLog bytes entries ⊎ IsLog bytes (entries ++ more)
   pub fits : length bytes ≤ MOST_LOG
+
+-- a stop now may leave a log of these records
+pub record MayLeaveLog (may_leave : List ℕ → Type 0) (entries : List Record) : Type 0 where
+  pub left : List ℕ
+  pub may_be : may_leave left
+  pub is_log : IsLog left entries

@@ -1,11 +1,11 @@
 // The bytes of a commit, and their way to the disk.
-ghost use Rattle.std.specs.Prelude.{◌≡◌, ◌+◌, ◌<◌, ◌≤◌, ◌++◌, ◌∷◌, [], ℕ, All, length, drop, IfSome, IfOk, OnOk, OnErr, IsErrOf, option_map};
+ghost use Rattle.std.specs.Prelude.{◌≡◌, ◌+◌, ◌<◌, ◌≤◌, ◌++◌, ◌∷◌, [], ℕ, All, length, drop, IfSome, IfOk, OnOk, OnErr, IsErrOf, IsTrue, option_map};
 ghost use Rattle.arn_base.specs.Disk.{Only};
 ghost use Rattle.arn_base.specs.Faults.{Rose};
 ghost use Rattle.result_log.specs.Spelling.{counted, HasSpelling};
 ghost use Rattle.log_store.specs.Log.{spellings, IsCommit, IsSpellable};
 ghost use Rattle.log_store.specs.Pieces.{with_frame, IsTorn};
-ghost use Rattle.log_store.specs.Stops.{NothingPending, LeavesOnly, GoesOn};
+ghost use Rattle.log_store.specs.Stops.{NothingPending, LeavesOnly, MayStayShut, GoesOn};
 
 use crate::errors::CommitError;
 use crate::format::{CLOSED, LENGTH_LEN, OPEN};
@@ -67,8 +67,11 @@ pub fn add_frame<D: Disk>(disk: &mut D, log_len: u64, bytes: &[u8]) -> Result<()
 
     ensures any_moment { IfSome (D.image disk.old) (λ old. Only old (D.may_leave disk.old) →
         LeavesOnly D.moment D.left_since disk.old disk.new (IsTorn old bytes.now)) }
+    ensures shut { OnErr result (IfSome (D.image disk.old) (MayStayShut (D.may_leave disk.new))) }
 
     ensures cause { IsErrOf result Stop.Failed → Rose (D.faults disk.old) (D.faults disk.new) }
+    ensures wanted { IsErrOf result Stop.NoMemory → IsTrue (D.wants_memory disk.old) }
+    ensures memory { D.wants_memory disk.new ≡ D.wants_memory disk.old }
     ensures later { GoesOn D.image D.faults disk.old disk.new }
 {
     write_through(disk, log_len, bytes)?;

@@ -1,6 +1,6 @@
 // Changes of a disk that are synced at once.
-ghost use Rattle.std.specs.Prelude.{◌≡◌, ◌≤◌, List, ℕ, length, take, IfSome, OnOk, IsErrOf, option_map};
-ghost use Rattle.arn_base.specs.Disk.{overwrite, Torn, Cut, Only};
+ghost use Rattle.std.specs.Prelude.{◌≡◌, ◌≤◌, List, ℕ, length, take, IfSome, OnOk, OnErr, IsErrOf, IsTrue, option_map};
+ghost use Rattle.arn_base.specs.Disk.{overwrite, Torn, Cut, NoLess, Only};
 ghost use Rattle.arn_base.specs.Faults.{Rose};
 ghost use Rattle.log_store.specs.Stops.{NothingPending, LeavesOnly, GoesOn};
 
@@ -17,7 +17,12 @@ pub fn write_through<D: Disk>(disk: &mut D, at: u64, bytes: &[u8]) -> Result<(),
     ensures any_moment { (old : List ℕ) → Only old (D.may_leave disk.old) →
         LeavesOnly D.moment D.left_since disk.old disk.new (Torn at (length bytes.now) old) }
 
+    // What a crash might leave before it, it may leave after an error.
+    ensures keeps { OnErr result (NoLess (D.may_leave disk.old) (D.may_leave disk.new)) }
+
     ensures cause { IsErrOf result Stop.Failed → Rose (D.faults disk.old) (D.faults disk.new) }
+    ensures wanted { IsErrOf result Stop.NoMemory → IsTrue (D.wants_memory disk.old) }
+    ensures memory { D.wants_memory disk.new ≡ D.wants_memory disk.old }
     ensures later { GoesOn D.image D.faults disk.old disk.new }
 {
     disk.write(at, bytes)?;

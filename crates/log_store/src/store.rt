@@ -4,7 +4,7 @@ ghost use Rattle.arn_base.specs.Disk.{Only};
 ghost use Rattle.arn_base.specs.Faults.{Rose};
 ghost use Rattle.result_log.specs.Spelling.{HasSpelling};
 ghost use Rattle.log_store.specs.Causes.{IsCauseOf, BlamesBytes};
-ghost use Rattle.log_store.specs.Stores.{IsLeftBy, IsBeforeOrAfter, KeepsRecords};
+ghost use Rattle.log_store.specs.Stores.{IsLeftBy, IsBeforeOrAfter, KeepsRecords, MayLeaveLog};
 ghost use Rattle.log_store.specs.Log.{log_name, spellings, IsLog, IsClosedLog};
 ghost use Rattle.log_store.specs.Refused.{IsNoLog};
 ghost use Rattle.log_store.specs.Stops.{NothingPending, LeavesOnly, IsOnlyRead, GoesOn};
@@ -116,7 +116,8 @@ impl Store {
     }
 
     /// Adds records to the log. A stop of the machine leaves all of them or none, and after Ok all.
-    /// After an error the store holds none, but the log may hold them where the store isn't usable.
+    /// After an error the store holds none, but the log may hold them where the store isn't usable:
+    /// a stop then may leave all of them or none.
     ///
     /// It makes its buffer before the first of four calls of the disk: it writes the frame behind
     /// the closed gate, syncs, opens the gate, and syncs.
@@ -140,6 +141,10 @@ impl Store {
             LeavesOnly D.moment D.left_since disk.old disk.new
             (IsBeforeOrAfter self.old.entries entries.items)) }
 
+        // After an error a stop may still leave the log of before.
+        ensures before { OnErr result (IfSome (D.image disk.old) (λ _.
+            MayLeaveLog (D.may_leave disk.new) self.old.entries)) }
+
         ensures fits { OnOk result
             (self.old.log_len + 5 + length (spellings entries.items) ≤ MOST_LOG) }
         ensures fits_disk { IsErrOf result CommitError.Disk →
@@ -152,6 +157,10 @@ impl Store {
         // After NoMemory nothing changed, or the store can't go on.
         ensures no_memory { IsErrOf result CommitError.NoMemory →
             ((self.new ≡ self.old) × (disk.new ≡ disk.old)) ⊎ (self.new.usable ≡ false) }
+        // It can't go on only where the disk wanted memory of its own.
+        ensures wanted { IsErrOf result CommitError.NoMemory → self.new.usable ≡ false →
+            IsTrue (D.wants_memory disk.old) }
+        ensures memory { D.wants_memory disk.new ≡ D.wants_memory disk.old }
         ensures cause { IsErrOf result CommitError.Disk →
             Rose (D.faults disk.old) (D.faults disk.new) }
         ensures later { GoesOn D.image D.faults disk.old disk.new }

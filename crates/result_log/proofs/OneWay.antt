@@ -81,7 +81,7 @@ module _ (field-one : FieldOneWay) where
   cpu-one a b s t fits_a fits_b e =
       let whole = sym (append_assoc (registers_fields a.x) (field 8 a.pc) s) ∙ e ∙ append_assoc (registers_fields b.x) (field 8 b.pc) t in
       let x = items-one (field 8) IsRegister (λ m n u v m_fits n_fits h. field-one 8 m n u v m_fits n_fits h) a.x b.x (field 8 a.pc ++ s) (field 8 b.pc ++ t)
-          (omega (arith, fits_a.0.many, fits_b.0.many)) fits_a.0.fits fits_b.0.fits whole in
+      (omega (arith, fits_a.0.many, fits_b.0.many)) fits_a.0.fits fits_b.0.fits whole in
       let pc = field-one 8 a.pc b.pc s t fits_a.1 fits_b.1 x.1 in
       (cpu-same a b x.0 pc.0, pc.1)
 

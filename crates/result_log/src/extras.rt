@@ -2,9 +2,7 @@
 ghost use Rattle.std.specs.Prelude.{IfOk, MatchOption, OnErr, ◌∷◌};
 ghost use Rattle.result_log.specs.Pieces.{StartsExtra, StartsNoExtra, StartsSomeExtra};
 
-use crate::kinds::{
-    ABSENT, CONSOLE, FAULT, GIVE, NAME, NOTHING, PUT, REPLY, SENT, START,
-};
+use crate::kinds::{ABSENT, CONSOLE, FAULT, GIVE, NAME, NOTHING, PUT, REPLY, SENT, START};
 use crate::split::{PutParts, split_device, split_path, split_put};
 use crate::starts::{Parts, read_blocks, split_start};
 use arn_base::{Bytes, Extra, NoMemory, Start};

@@ -131,7 +131,10 @@ fn extra_len(did: &Extra) -> u64
         Extra::Nothing => KIND_LEN,
         Extra::Give(give) => KIND_LEN + give_len(give),
         Extra::Start(start) => KIND_LEN + start_len(start),
-        Extra::Put { bytes, .. } => KIND_LEN + NUMBER_LEN + NUMBER_LEN + counted_len(bytes.as_slice()),
+        Extra::Put { bytes, .. } => KIND_LEN
+            + NUMBER_LEN
+            + NUMBER_LEN
+            + counted_len(bytes.as_slice()),
         Extra::Console { bytes } => KIND_LEN + counted_len(bytes.as_slice()),
         Extra::Reply { bytes, .. } | Extra::Sent { bytes, .. } => {
             KIND_LEN + NUMBER_LEN + counted_len(bytes.as_slice())
@@ -155,9 +158,7 @@ pub fn spelled_len(entry: &Record) -> u64
         Record::Typed { bytes } => KIND_LEN + counted_len(bytes.as_slice()),
         Record::Unplug { .. } => KIND_LEN + NUMBER_LEN,
         Record::Slice { .. } => KIND_LEN + NUMBER_LEN + NUMBER_LEN,
-        Record::Signal { .. } => {
-            KIND_LEN + NUMBER_LEN + SIGNAL_LEN + FLAG_LEN + ADDRESS_LEN
-        }
+        Record::Signal { .. } => { KIND_LEN + NUMBER_LEN + SIGNAL_LEN + FLAG_LEN + ADDRESS_LEN }
         Record::Call { extra, .. } => {
             KIND_LEN + NUMBER_LEN + CALL_NUMBER_LEN + CALL_NUMBER_LEN + extra_len(extra)
         }

@@ -4,9 +4,7 @@ ghost use Rattle.arn_base.specs.declared.records.Extra.TheVariants as did;
 ghost use Rattle.schedule_log.specs.Fields.{counted, field, IsCounted, IsName, LeavesFront};
 ghost use Rattle.result_log.specs.Spelling.{extra_fields, ExtraHasSpelling, FitsExtra};
 
-use crate::kinds::{
-    ABSENT, CONSOLE, FAULT, GIVE, NAME, NOTHING, PUT, REPLY, SENT, START,
-};
+use crate::kinds::{ABSENT, CONSOLE, FAULT, GIVE, NAME, NOTHING, PUT, REPLY, SENT, START};
 use crate::starts::put_start;
 use arn_base::{Extra, NoMemory};
 use exchange_log::put_give;

@@ -1,8 +1,9 @@
 ghost use Rattle.std.specs.Prelude.{IfOk};
 ghost use Rattle.result_log.specs.Spelling.{ExtraHasSpelling, GiveHasSpelling, HasSpelling};
+ghost use Rattle.result_log.specs.States.{StartHasSpelling};
 
 use crate::{GetError, get_record, put_record, spelled_len};
-use arn_base::{Bytes, Extra, Give, NoMemory, Origin, Origins, Record};
+use arn_base::{Block, Blocks, Bytes, Cpu, Extra, Give, NoMemory, Origin, Origins, Record, Start};
 use std::alloc::Global;
 use std::process::Abort;
 use std::test::Fail;
@@ -14,6 +15,9 @@ const FILE: [u8; 9] = [1, 1, 0x61, 2, 0, 0, 0, 0x61, 0x62];
 const CALL: [u8; 21] = [
     7, 1, 0, 0, 0, 11, 0, 0, 0, 0, 0, 0, 0, 1, 0, 0, 0, 0, 0, 0, 0,
 ];
+
+// Signal 1 ended a call of process 2, whose handler is at 0x10004.
+const SIGNAL: [u8; 15] = [6, 2, 0, 0, 0, 1, 1, 4, 0, 1, 0, 0, 0, 0, 0];
 
 // The byte "x", from place 5 of event 2.
 const GIVE: [u8; 25] = [
@@ -88,22 +92,27 @@ fn a_typed_piece(rt: HostRuntime) -> Result<(), Fail> {
 }
 
 #[test]
-fn a_slice_and_an_end(rt: HostRuntime) -> Result<(), Fail> {
+fn records_without_lists(rt: HostRuntime) -> Result<(), Fail> {
     let slice = Record::Slice {
         pid: 1,
         ran: 1_000_000,
     };
-    assert_spelled(
-        &rt,
-        rt.alloc(),
-        slice,
-        &[5, 1, 0, 0, 0, 0x40, 0x42, 0x0f, 0],
-    )?;
+    let bytes = [5, 1, 0, 0, 0, 0x40, 0x42, 0x0f, 0];
+    assert_spelled(&rt, rt.alloc(), slice, &bytes)?;
     let end = Record::End {
         pid: 1,
         status: 132,
     };
     assert_spelled(&rt, rt.alloc(), end, &[8, 1, 0, 0, 0, 0x84])?;
+    let unplug = Record::Unplug { device: 2 };
+    assert_spelled(&rt, rt.alloc(), unplug, &[4, 2, 0, 0, 0])?;
+    let signal = Record::Signal {
+        pid: 2,
+        signal: 1,
+        cut: true,
+        handler: 0x10004,
+    };
+    assert_spelled(&rt, rt.alloc(), signal, &SIGNAL)?;
     Ok(())
 }
 
@@ -139,6 +148,77 @@ fn calls(rt: HostRuntime) -> Result<(), Fail> {
     let bytes = Bytes::from_slice(rt.alloc(), b"ab")?;
     let extra = Extra::Console { bytes };
     assert_call_spelled(&rt, rt.alloc(), extra, &[4, 2, 0, 0, 0, 0x61, 0x62])?;
+
+    let bytes = Bytes::from_slice(rt.alloc(), b"z")?;
+    let extra = Extra::Put {
+        file: 5,
+        at: 2,
+        bytes,
+    };
+    let tagged = [3, 5, 0, 0, 0, 2, 0, 0, 0, 1, 0, 0, 0, 0x7a];
+    assert_call_spelled(&rt, rt.alloc(), extra, &tagged)?;
+
+    let path = Bytes::from_slice(rt.alloc(), b"log")?;
+    let extra = Extra::Name { file: 4, path };
+    assert_call_spelled(
+        &rt,
+        rt.alloc(),
+        extra,
+        &[8, 4, 0, 0, 0, 3, 0x6c, 0x6f, 0x67],
+    )?;
+    Ok(())
+}
+
+#[test]
+fn calls_of_devices(rt: HostRuntime) -> Result<(), Fail> {
+    let bytes = Bytes::new(rt.alloc());
+    let extra = Extra::Reply { device: 1, bytes };
+    assert_call_spelled(&rt, rt.alloc(), extra, &[5, 1, 0, 0, 0, 0, 0, 0, 0])?;
+    assert_call_spelled(&rt, rt.alloc(), Extra::Fault, &[6])?;
+    assert_call_spelled(&rt, rt.alloc(), Extra::Absent, &[7])?;
+    let bytes = Bytes::from_slice(rt.alloc(), b"ab")?;
+    let extra = Extra::Sent { device: 2, bytes };
+    assert_call_spelled(
+        &rt,
+        rt.alloc(),
+        extra,
+        &[9, 2, 0, 0, 0, 2, 0, 0, 0, 0x61, 0x62],
+    )?;
+    Ok(())
+}
+
+// All registers 0 but pc, none saved, and a block of 7s.
+fn start(alloc: Global) -> Result<Start, NoMemory>
+    ensures { IfOk result StartHasSpelling }
+{
+    let cpu = Cpu {
+        x: [0; 31],
+        pc: 0x10004,
+    };
+    let mut blocks = Blocks::new(alloc);
+    blocks.push(Block {
+        number: 0x4ff,
+        bytes: [7; 256],
+    })?;
+    Ok(Start {
+        cpu,
+        slot: None,
+        blocks,
+    })
+}
+
+#[test]
+fn starts(rt: HostRuntime) -> Result<(), Fail> {
+    let mut tagged = Vec::from_slice(rt.alloc(), &[2])?;
+    for _ in 0..248 {
+        tagged.push(0)?;
+    }
+    tagged.extend_from_slice(&[4, 0, 1, 0, 0, 0, 0, 0, 0, 1, 0, 0xff, 4])?;
+    for _ in 0..256 {
+        tagged.push(7)?;
+    }
+    let extra = Extra::Start(start(rt.alloc())?);
+    assert_call_spelled(&rt, rt.alloc(), extra, tagged.as_slice())?;
     Ok(())
 }
 
@@ -159,13 +239,13 @@ fn file_named(alloc: Global, letters: u8) -> Result<Vec<u8>, NoMemory> {
 
 #[test]
 fn no_records(rt: HostRuntime) -> Result<(), Fail> {
-    for kind in [0, 4, 6, 9, 255] {
+    for kind in [0, 6, 9, 255] {
         let mut bytes = Vec::from_slice(rt.alloc(), &FILE)?;
         bytes.push(kind)?;
         bytes.extend_from_slice(&[0; 40])?;
         assert_malformed(&rt, rt.alloc(), bytes.as_slice(), 9);
     }
-    for tag in [2, 3, 5, 9, 255] {
+    for tag in [10, 255] {
         let mut bytes = Vec::from_slice(rt.alloc(), &CALL)?;
         bytes.push(tag)?;
         bytes.extend_from_slice(&[0; 40])?;
@@ -173,6 +253,11 @@ fn no_records(rt: HostRuntime) -> Result<(), Fail> {
     }
     for at in [1, 9, 10, usize::MAX] {
         assert_malformed(&rt, rt.alloc(), &FILE, at);
+    }
+    for (place, byte) in [(5, 0), (5, 32), (6, 2)] {
+        let mut signal = SIGNAL;
+        signal[place] = byte;
+        assert_malformed(&rt, rt.alloc(), &signal, 0);
     }
     assert_malformed(&rt, rt.alloc(), &FILE[..8], 0);
     assert_malformed(&rt, rt.alloc(), &CALL, 0);

@@ -32,22 +32,22 @@ field-spelled-2 bytes all long =
 pub field-spelled-4 : FieldSpelled 4
 field-spelled-4 bytes all long =
     let small = small-items bytes all in (
-  from_le_bytes w32 bytes,
-  (
-    omega (arith, small 0, small 1, small 2, small 3),
-    sym (le_bytes_4 bytes (from_le_bytes w32 bytes) long small refl),
-  ),
-)
+      from_le_bytes w32 bytes,
+      (
+        omega (arith, small 0, small 1, small 2, small 3),
+        sym (le_bytes_4 bytes (from_le_bytes w32 bytes) long small refl),
+      ),
+    )
 
 pub field-spelled-8 : FieldSpelled 8
 field-spelled-8 bytes all long =
     let small = small-items bytes all in (
-  from_le_bytes w64 bytes,
-  (
-    omega (arith, small 0, small 1, small 2, small 3, small 4, small 5, small 6, small 7),
-    sym (le_bytes_8 bytes (from_le_bytes w64 bytes) long small refl),
-  ),
-)
+      from_le_bytes w64 bytes,
+      (
+        omega (arith, small 0, small 1, small 2, small 3, small 4, small 5, small 6, small 7),
+        sym (le_bytes_8 bytes (from_le_bytes w64 bytes) long small refl),
+      ),
+    )
 
 -- a field and what stands behind it, by the two parts of a split
 joined : (width n : ℕ) (bytes front rest : List ℕ) → field width n ≡ front → front ≡ take width bytes → rest ≡ drop width bytes

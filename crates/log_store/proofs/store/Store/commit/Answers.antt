@@ -4,6 +4,7 @@ use Rattle.log_store.specs.Log.{spellings, IsCommit}
 use Rattle.log_store.specs.Pieces.{with_frame, IsTorn}
 use Rattle.log_store.specs.declared.size.TheConstants.{MOST_LOG}
 use Rattle.log_store.proofs.Logs.{commit_bytes, torn_left, with_frame-left}
+use Rattle.log_store.proofs.Shut.{may_leave_log}
 use Rattle.log_store.proofs.Told.{told_after, told_weaker}
 use Rattle.log_store.proofs.store.Store.commit.Goals as goal
 
@@ -39,3 +40,7 @@ returns-clause-any_moment g c =
     told_weaker g.D.Disk.may_leave g.D.Disk.moment g.D.Disk.left_since (g.D.Disk.image c.args.disk.now) c.args.disk.now c.add_frame.new.disk
     (IsLeftBy c.args.self.now) (λ old. IsTorn old bytes) (λ old. IsBeforeOrAfter c.args.self.now.entries more) c.requires.left c.add_frame.ensures.any_moment
     (λ old left is_left torn. torn_left c.args.self.now old left bytes more is_left is same fits torn)
+
+pub returns-clause-before : goal.returns-clause-before
+returns-clause-before g c =
+    may_leave_log c.args.self.now (g.D.Disk.image c.args.disk.now) (g.D.Disk.may_leave c.add_frame.new.disk) c.requires.left c.in-Err.ensures.shut
