@@ -7,3 +7,4 @@ pub mod TransferCallsExamples
 pub mod SliceExamples
 pub mod RunExamples
 pub mod BootExamples
+pub mod ProgramExamples
