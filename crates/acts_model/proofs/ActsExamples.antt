@@ -1,10 +1,10 @@
 -- What acts do to a process, and to bodies, at literal values.
 use Rattle.std.proofs.Common.{◌≡◌, ℕ, List, [], ◌∷◌, ◌++◌, length, take, drop, Option, Some, None, option_map, replicate, codes, true, false, refl}
 use Rattle.arn_base.specs.declared.machine.Cpu.{Cpu}
-use Rattle.rv64_model.specs.Registers.{register, with_register}
+use Rattle.rv64_model.specs.Registers.{with_register}
 use Rattle.parts_model.specs.Blocks.{used_blocks, with_blocks}
 use Rattle.parts_model.specs.Memory.{zeros}
-use Rattle.acts_model.specs.Acts.{Act, Returns, Receives, Gives, Starts, Forks, Founds, Shares, Leaves, Delivers, Exits, Faults, Dies, acted, done, founded, begun, beginning_of, beginning_in, start_of, result_of}
+use Rattle.acts_model.specs.Acts.{Returns, Receives, Gives, Starts, Forks, Founds, Shares, Leaves, Delivers, Exits, Faults, Dies, acted, done, founded, beginning_of, beginning_in, start_of}
 use Rattle.acts_model.specs.Bodies.{Body, Bodies, View, seen, nth_body, with_nth, found, with_found, body_at, with_body, memory_at, with_memory, put, remove}
 use Rattle.acts_model.specs.Views.{cpu_at}
 

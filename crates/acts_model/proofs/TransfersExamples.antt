@@ -1,5 +1,5 @@
 -- Which bytes acts and instructions move, at literal values.
-use Rattle.std.proofs.Common.{◌≡◌, ℕ, List, [], ◌∷◌, ◌++◌, Option, Some, None, pos, negsuc, codes, true, false, refl}
+use Rattle.std.proofs.Common.{◌≡◌, ℕ, List, [], ◌∷◌, ◌++◌, Option, Some, None, pos, negsuc, codes, true, refl}
 use Rattle.arn_base.specs.declared.machine.Cpu.{Cpu}
 use Rattle.rv64_isa.specs.declared.instruction.Instr.TheVariants.{Load, Store, Imm}
 use Rattle.rv64_isa.specs.declared.instruction.LoadOp.TheVariants.{Lb}

@@ -1,12 +1,10 @@
 -- A program that reads three bytes, writes them and exits, run to its end.
-use Rattle.std.proofs.Common.{◌≡◌, ℕ, List, [], ◌∷◌, ◌++◌, map, replicate, Some, None, refl}
+use Rattle.std.proofs.Common.{◌≡◌, ℕ, List, [], ◌∷◌, ◌++◌, replicate, Some, None, refl}
 use Rattle.arn_base.specs.declared.records.Extra.TheVariants as extra
 use Rattle.arn_base.specs.declared.records.Record.TheVariants as entry
 use Rattle.rv64_isa.specs.Decoded as decoding
 use Rattle.rv64_model.specs.Registers.{with_register}
 use Rattle.acts_model.specs.Bodies.{nth_body, with_nth, found, with_found, body_at, with_body, memory_at, with_memory, put, remove}
-use Rattle.acts_model.specs.Moved.{Outside, Nothing, From, ConsoleByte, is_instruction}
-use Rattle.acts_model.specs.Transfers.{Transfer, Arrives, Receives, Gives, Exits}
 use Rattle.acts_model.specs.Views.{cpu_at}
 use Rattle.arn_model.specs.declared.run_state.RunState.TheVariants as state
 use Rattle.arn_model.specs.Kernel.{Machine}
