@@ -192,6 +192,10 @@ possible-other : is_possible exiting 2 1 ≡ false
 unfolding exiting standing exit_7 calm decoding.decoded_by row answered nth_body with_nth found with_found body_at with_body memory_at with_memory put remove
 possible-other = refl
 
+possible-none : is_possible exiting 0 1 ≡ false
+unfolding exiting standing exit_7 calm body_at nth_body
+possible-none = refl
+
 possible-waiting : is_possible (waiting calm) 1 1 ≡ false
 unfolding waiting standing read_one calm decoding.decoded_by row answered nth_body with_nth found with_found body_at with_body memory_at with_memory put remove
 possible-waiting = refl
