@@ -141,6 +141,23 @@ closes-listener :
 unfolding row listening pipe_open
 closes-listener = refl
 
+-- the last of a connection, which reads pipe 0 and writes pipe 1
+connection : Kernel
+connection = record (kernel_with (description.Connection 0 1)) { pipes = pipe_open ∷ pipe_open ∷ [] }
+
+closes-connection :
+    row 10 (at_event_5 connection) 1 (calling (3 ∷ [])) ≡
+    results 0
+    (record kernel {
+      descriptions = opening description.Console 3 ∷ None ∷ [];
+      pipes =
+          Some (record { channel = record { taken = 0; queue = [] }; has_reader = false; has_writer = true })
+          ∷ Some (record { channel = record { taken = 0; queue = [] }; has_reader = true; has_writer = false })
+          ∷ [];
+    })
+unfolding row connection pipe_open
+closes-connection = refl
+
 -- a descriptor that isn't open, and a number that none has
 close-free : row 10 (at_event_5 kernel) 1 (calling (3 ∷ [])) ≡ results (minus 9) kernel
 unfolding row
