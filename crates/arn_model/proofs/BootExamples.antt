@@ -1,17 +1,14 @@
 -- The boot at literal values.
-use Rattle.std.proofs.Common.{◌≡◌, ℕ, List, [], ◌∷◌, ◌++◌, length, map, take, drop, replicate, codes, Option, Some, None, option_map, refl}
+use Rattle.std.proofs.Common.{◌≡◌, ℕ, List, [], ◌∷◌, ◌++◌, length, map, take, codes, Some, None, option_map, refl}
 use Rattle.arn_base.specs.declared.records.Record.TheVariants as entry
-use Rattle.parts_model.specs.declared.open.Description.TheVariants as description
-use Rattle.acts_model.specs.Bodies.{nobody, seen, nth_body, with_nth, found, with_found, body_at, with_body, memory_at, with_memory, put, remove}
+use Rattle.acts_model.specs.Bodies.{seen, nth_body, with_nth, found, with_found, body_at, with_body, memory_at, with_memory, put, remove}
 use Rattle.acts_model.specs.Moved.{Outside, From, FileByte}
-use Rattle.acts_model.specs.Transfers.{Transfer, Arrives, Starts}
+use Rattle.acts_model.specs.Transfers.{Arrives, Starts}
 use Rattle.acts_model.specs.Views.{cpu_at}
 use Rattle.rv64_model.specs.Registers.{with_register}
 use Rattle.parts_model.specs.Tagged.{held_bytes}
-use Rattle.arn_model.specs.Kernel.{Kernel, Machine, at_first, booted}
-use Rattle.arn_model.specs.Row.{row, answered}
 use Rattle.arn_model.specs.Run.{Input, File, Boot, run, machine_after, events_of}
-use Rattle.arn_model.proofs.Literals.{byte, alone, opening, quiet, kernel}
+use Rattle.arn_model.proofs.Literals.{kernel}
 
 -- an image of one word, in a file `b`
 image : List ℕ

@@ -1,14 +1,14 @@
 -- The calls that make channels at literal values.
-use Rattle.std.proofs.Common.{◌≡◌, ℕ, List, [], ◌∷◌, ◌++◌, Option, Some, None, replicate, true, false, refl}
+use Rattle.std.proofs.Common.{◌≡◌, List, [], ◌∷◌, Option, Some, None, replicate, true, refl}
 use Rattle.arn_base.specs.declared.records.Extra.TheVariants as extra
 use Rattle.parts_model.specs.declared.open.Conn.{Conn}
 use Rattle.parts_model.specs.declared.open.Description.TheVariants as description
 use Rattle.parts_model.specs.Pipes.{Pipe}
 use Rattle.parts_model.specs.Ports.{Port}
-use Rattle.parts_model.specs.Replies.{GaveBytes, TookBytes, Failed, IsAbsent, IsHere}
+use Rattle.parts_model.specs.Replies.{Failed, IsAbsent, IsHere}
 use Rattle.acts_model.specs.Acts.{Returns}
 use Rattle.acts_model.specs.Moved.{Nothing}
-use Rattle.arn_model.specs.Doing.{Request, Doing, Here, Waits, Does, Asks}
+use Rattle.arn_model.specs.Doing.{Doing, Here, Waits, Does, Asks}
 use Rattle.arn_model.specs.Kernel.{Kernel}
 use Rattle.arn_model.specs.Row.{row, answered}
 use Rattle.arn_model.proofs.Literals.{minus, calling, alone, opening, kernel, kernel_with, crowded, at_event_5, results}

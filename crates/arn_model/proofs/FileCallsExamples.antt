@@ -1,16 +1,15 @@
 -- The calls on names and descriptors at literal values.
-use Rattle.std.proofs.Common.{◌≡◌, ℕ, List, [], ◌∷◌, ◌++◌, Option, Some, None, replicate, true, false, refl}
+use Rattle.std.proofs.Common.{◌≡◌, ℕ, [], ◌∷◌, ◌++◌, Option, Some, None, replicate, true, false, refl}
 use Rattle.arn_base.specs.declared.records.Extra.{Extra}
 use Rattle.arn_base.specs.declared.records.Extra.TheVariants as extra
 use Rattle.parts_model.specs.declared.open.Description.TheVariants as description
-use Rattle.parts_model.specs.Files.{File}
 use Rattle.parts_model.specs.Pipes.{Pipe}
 use Rattle.acts_model.specs.Acts.{Returns}
 use Rattle.acts_model.specs.Moved.{Nothing}
 use Rattle.arn_model.specs.Doing.{Request, Does}
 use Rattle.arn_model.specs.Kernel.{Kernel}
 use Rattle.arn_model.specs.Row.{row}
-use Rattle.arn_model.proofs.Literals.{minus, calling, byte, alone, living, opening, quiet, files_held, kernel, kernel_with, crowded, at_event_5, results}
+use Rattle.arn_model.proofs.Literals.{minus, calling, alone, opening, files_held, kernel, kernel_with, crowded, at_event_5, results}
 
 -- a call ends with a result, and its record holds this beside
 results_with : ℕ → Extra → Kernel → Request
@@ -141,6 +140,23 @@ closes-listener :
     })
 unfolding row listening pipe_open
 closes-listener = refl
+
+-- the last of a connection, which reads pipe 0 and writes pipe 1
+connection : Kernel
+connection = record (kernel_with (description.Connection 0 1)) { pipes = pipe_open ∷ pipe_open ∷ [] }
+
+closes-connection :
+    row 10 (at_event_5 connection) 1 (calling (3 ∷ [])) ≡
+    results 0
+    (record kernel {
+      descriptions = opening description.Console 3 ∷ None ∷ [];
+      pipes =
+          Some (record { channel = record { taken = 0; queue = [] }; has_reader = false; has_writer = true })
+          ∷ Some (record { channel = record { taken = 0; queue = [] }; has_reader = true; has_writer = false })
+          ∷ [];
+    })
+unfolding row connection pipe_open
+closes-connection = refl
 
 -- a descriptor that isn't open, and a number that none has
 close-free : row 10 (at_event_5 kernel) 1 (calling (3 ∷ [])) ≡ results (minus 9) kernel

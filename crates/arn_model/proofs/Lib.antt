@@ -8,3 +8,4 @@ pub mod RunLemmas
 pub mod SignalCallsExamples
 pub mod SliceExamples
 pub mod TransferCallsExamples
+pub mod ProgramExamples

@@ -10,7 +10,7 @@ use Rattle.parts_model.specs.Processes.{Process, Processes, Live, none_open}
 use Rattle.parts_model.specs.Signals.{no_handlers, none_pending}
 use Rattle.rv64_model.specs.Registers.{with_register}
 use Rattle.acts_model.specs.Acts.{Returns}
-use Rattle.acts_model.specs.Bodies.{Bodies, View, nobody}
+use Rattle.acts_model.specs.Bodies.{View, nobody}
 use Rattle.acts_model.specs.Moved.{Nothing}
 use Rattle.acts_model.specs.Views.{cpu_at}
 use Rattle.arn_model.specs.Doing.{Doing, Request, Waits, Does, Asks}

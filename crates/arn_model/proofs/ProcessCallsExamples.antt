@@ -3,7 +3,7 @@ use Rattle.std.proofs.Common.{◌≡◌, ℕ, List, [], ◌∷◌, ◌++◌, Opt
 use Rattle.arn_base.specs.declared.records.Extra.TheVariants as extra
 use Rattle.parts_model.specs.Blocks.{used_blocks}
 use Rattle.parts_model.specs.declared.open.Description.TheVariants as description
-use Rattle.parts_model.specs.Processes.{Process, Live, Ended, none_open}
+use Rattle.parts_model.specs.Processes.{Process, Ended, none_open}
 use Rattle.parts_model.specs.Signals.{with_handler, with_pending, no_handlers, none_pending}
 use Rattle.acts_model.specs.Acts.{Receives, Starts, Forks, Founds, Exits}
 use Rattle.acts_model.specs.Bodies.{View}
@@ -11,7 +11,7 @@ use Rattle.acts_model.specs.Moved.{Nothing, From, FileByte, StatusByte}
 use Rattle.arn_model.specs.Doing.{Request, Waits, Does}
 use Rattle.arn_model.specs.Kernel.{Kernel}
 use Rattle.arn_model.specs.Row.{row}
-use Rattle.arn_model.proofs.Literals.{minus, arguments, calling, byte, living, alone, opening, quiet, files_held, kernel, kernel_with, crowded, at_event_5, results}
+use Rattle.arn_model.proofs.Literals.{minus, calling, byte, living, opening, quiet, kernel, at_event_5, results}
 
 -- exit: 300 modulo 256 is 44. Process 1 has no parent, so it is gone, and its descriptors are closed
 exits-first :

@@ -1,22 +1,20 @@
 -- Inputs, moments and past states at literal values.
-use Rattle.std.proofs.Common.{◌≡◌, ℕ, List, [], ◌∷◌, ◌++◌, length, map, replicate, codes, Option, Some, None, pos, true, false, refl}
-use Rattle.arn_base.specs.declared.machine.Cpu.{Cpu}
+use Rattle.std.proofs.Common.{◌≡◌, ℕ, List, [], ◌∷◌, ◌++◌, length, map, replicate, codes, Some, None, pos, true, false, refl}
 use Rattle.arn_base.specs.declared.records.Extra.TheVariants as extra
 use Rattle.arn_base.specs.declared.records.Record.TheVariants as entry
 use Rattle.rv64_isa.specs.declared.instruction.Instr.TheVariants.{Imm}
 use Rattle.rv64_isa.specs.declared.instruction.ImmOp.TheVariants.{Addi}
 use Rattle.rv64_isa.specs.Decoded as decoding
-use Rattle.parts_model.specs.declared.open.Description.TheVariants as description
 use Rattle.parts_model.specs.Signals.{with_handler, with_pending, no_handlers, none_pending}
 use Rattle.acts_model.specs.Bodies.{nobody, nth_body, with_nth, found, with_found, body_at, with_body, memory_at, with_memory, put, remove}
-use Rattle.acts_model.specs.Moved.{Moved, Outside, ConsoleByte, FileByte}
+use Rattle.acts_model.specs.Moved.{Outside, ConsoleByte, FileByte}
 use Rattle.acts_model.specs.Transfers.{Transfer, Arrives, Runs, Exits, Delivers}
 use Rattle.acts_model.specs.Views.{cpu_at}
-use Rattle.arn_model.specs.Kernel.{Kernel, Machine, Handling, at_first, booted}
+use Rattle.arn_model.specs.Kernel.{Kernel, Machine, Handling, booted}
 use Rattle.arn_model.specs.Row.{row, answered}
-use Rattle.arn_model.specs.Run.{Input, File, Boot, Typed, Unplug, Slice, input_steps, after_input, steps_from, run, machine_after, events_of, instructions_in, within, state_at, typed_step, unplug_step, can_add, is_booted}
+use Rattle.arn_model.specs.Run.{Input, File, Boot, Typed, Unplug, Slice, input_steps, after_input, steps_from, run, machine_after, events_of, instructions_in, within, state_at, unplug_step}
 use Rattle.arn_model.specs.Step.{Step}
-use Rattle.arn_model.proofs.Literals.{byte, alone, living, opening, quiet, files_held, kernel, at_event_5}
+use Rattle.arn_model.proofs.Literals.{byte, files_held, kernel, at_event_5}
 
 -- a boot file `a` of three bytes is event 0
 file_a : Input

@@ -1,5 +1,5 @@
 -- The calls on signals and segments at literal values.
-use Rattle.std.proofs.Common.{◌≡◌, ℕ, List, [], ◌∷◌, Some, None, Bool, replicate, true, refl}
+use Rattle.std.proofs.Common.{◌≡◌, [], ◌∷◌, Some, None, replicate, true, refl}
 use Rattle.arn_base.specs.declared.records.Extra.TheVariants as extra
 use Rattle.parts_model.specs.Processes.{Ended, none_open}
 use Rattle.parts_model.specs.Signals.{with_handler, with_pending, no_handlers, none_pending}

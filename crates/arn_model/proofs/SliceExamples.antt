@@ -10,9 +10,8 @@ use Rattle.rv64_model.specs.Registers.{with_register}
 use Rattle.parts_model.specs.declared.open.Description.TheVariants as description
 use Rattle.parts_model.specs.Replies.{TookBytes}
 use Rattle.parts_model.specs.Signals.{with_handler, with_pending, no_handlers, none_pending}
-use Rattle.acts_model.specs.Bodies.{View, seen, nth_body, with_nth, found, with_found, body_at, with_body, memory_at, with_memory, put, remove}
-use Rattle.acts_model.specs.Moved.{Event}
-use Rattle.acts_model.specs.Transfers.{Transfer, Runs, Exits, Faults, Gives, Delivers, Dies}
+use Rattle.acts_model.specs.Bodies.{seen, nth_body, with_nth, found, with_found, body_at, with_body, memory_at, with_memory, put, remove}
+use Rattle.acts_model.specs.Transfers.{Transfer, Runs, Exits, Gives, Delivers, Dies}
 use Rattle.acts_model.specs.Views.{cpu_at}
 use Rattle.arn_model.specs.declared.run_state.RunState.TheVariants as state
 use Rattle.arn_model.specs.Kernel.{Kernel, Machine, Handling}
@@ -20,7 +19,7 @@ use Rattle.arn_model.specs.Row.{row, answered}
 use Rattle.arn_model.specs.Run.{Slice, input_steps, after_input, events_of}
 use Rattle.arn_model.specs.Step.{Step}
 use Rattle.arn_model.specs.Turn.{is_possible, is_runnable, run_state}
-use Rattle.arn_model.proofs.Literals.{minus, arguments, byte, living, opening, quiet, kernel, kernel_with}
+use Rattle.arn_model.proofs.Literals.{minus, arguments, kernel, kernel_with}
 
 -- `li a7, 1; li a0, 7; ecall`
 exit_7 : List ℕ
@@ -192,6 +191,10 @@ possible-empty = refl
 possible-other : is_possible exiting 2 1 ≡ false
 unfolding exiting standing exit_7 calm decoding.decoded_by row answered nth_body with_nth found with_found body_at with_body memory_at with_memory put remove
 possible-other = refl
+
+possible-none : is_possible exiting 0 1 ≡ false
+unfolding exiting standing exit_7 calm body_at nth_body
+possible-none = refl
 
 possible-waiting : is_possible (waiting calm) 1 1 ≡ false
 unfolding waiting standing read_one calm decoding.decoded_by row answered nth_body with_nth found with_found body_at with_body memory_at with_memory put remove

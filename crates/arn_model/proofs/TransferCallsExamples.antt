@@ -1,20 +1,19 @@
 -- The calls that move bytes at literal values.
-use Rattle.std.proofs.Common.{◌≡◌, ℕ, List, [], ◌∷◌, ◌++◌, length, Option, Some, None, option_map, Bool, replicate, true, false, refl}
+use Rattle.std.proofs.Common.{◌≡◌, ℕ, List, [], ◌∷◌, ◌++◌, length, Some, None, option_map, Bool, replicate, true, false, refl}
 use Rattle.arn_base.specs.declared.records.Extra.{Extra}
 use Rattle.arn_base.specs.declared.records.Extra.TheVariants as extra
 use Rattle.parts_model.specs.declared.open.Description.{Description}
 use Rattle.parts_model.specs.declared.open.Description.TheVariants as description
 use Rattle.parts_model.specs.declared.tagged.TaggedByte.{TaggedByte}
 use Rattle.parts_model.specs.Memory.{zeros}
-use Rattle.parts_model.specs.Pipes.{Pipe}
-use Rattle.parts_model.specs.Replies.{GaveBytes, TookBytes, Failed, IsAbsent, IsHere}
+use Rattle.parts_model.specs.Replies.{GaveBytes, TookBytes, Failed, IsAbsent}
 use Rattle.acts_model.specs.Acts.{Returns, Receives, Gives}
 use Rattle.acts_model.specs.Bodies.{View}
 use Rattle.acts_model.specs.Moved.{Nothing, Outside, From, ConsoleByte, PipeByte, FileByte}
-use Rattle.arn_model.specs.Doing.{Request, Doing, Reads, Writes, Waits, Does, Asks}
+use Rattle.arn_model.specs.Doing.{Doing, Reads, Writes, Waits, Does, Asks}
 use Rattle.arn_model.specs.Kernel.{Kernel}
 use Rattle.arn_model.specs.Row.{row, answered}
-use Rattle.arn_model.proofs.Literals.{minus, calling, byte, opening, files_held, kernel, kernel_with, at_event_5, results, doing_in}
+use Rattle.arn_model.proofs.Literals.{minus, calling, byte, files_held, kernel, kernel_with, at_event_5, results, doing_in}
 
 -- four bytes were read from the console before; two bytes of event 2 and one of event 4 are left
 typed : Kernel

@@ -27,3 +27,45 @@ place_of event at = record { event = event; at = at }
 origins-joined : origins_of (place_of 7 0 ∷ place_of 7 1 ∷ place_of 9 0 ∷ place_of 7 1 ∷ []) ≡ record { event = 7; at = 0; len = 2 } ∷ record { event = 9; at = 0; len = 1 } ∷ record { event = 7; at = 1; len = 1 } ∷ []
 unfolding place_of
 origins-joined = refl
+
+-- an image with an entry and a load address, of three bytes each, and a body
+image_at : List ℕ → List ℕ → List ℕ → List ℕ
+image_at entry load body = codes "ARNIMG01" ++ entry ++ replicate 5 0 ++ load ++ replicate 5 0 ++ body
+
+-- an empty body may lie at the window's end, and one byte may not
+image-empty-last : image_of (image_at (0 ∷ 0 ∷ 1 ∷ []) (0 ∷ 0 ∷ 5 ∷ []) []) ≡ Some (record { entry = 0x10000; load = 0x50000; body = [] })
+unfolding image_at
+image-empty-last = refl
+
+image-empty-behind : image_of (image_at (0 ∷ 0 ∷ 1 ∷ []) (1 ∷ 0 ∷ 5 ∷ []) []) ≡ None
+unfolding image_at
+image-empty-behind = refl
+
+image-across : image_of (image_at (0 ∷ 0 ∷ 1 ∷ []) (0xff ∷ 0xff ∷ 4 ∷ []) (7 ∷ 8 ∷ [])) ≡ None
+unfolding image_at
+image-across = refl
+
+image-last : image_of (image_at (0 ∷ 0 ∷ 1 ∷ []) (0xff ∷ 0xff ∷ 4 ∷ []) (7 ∷ [])) ≡ Some (record { entry = 0x10000; load = 0x4ffff; body = 7 ∷ [] })
+unfolding image_at
+image-last = refl
+
+image-below : image_of (image_at (0 ∷ 0 ∷ 1 ∷ []) (0xff ∷ 0xff ∷ 0 ∷ []) (7 ∷ 8 ∷ [])) ≡ None
+unfolding image_at
+image-below = refl
+
+-- the entry is a multiple of 4 in the window, also outside the body
+entry-last : image_of (image_at (0xfc ∷ 0xff ∷ 4 ∷ []) (0 ∷ 0 ∷ 1 ∷ []) (7 ∷ [])) ≡ Some (record { entry = 0x4fffc; load = 0x10000; body = 7 ∷ [] })
+unfolding image_at
+entry-last = refl
+
+entry-behind : image_of (image_at (0 ∷ 0 ∷ 5 ∷ []) (0 ∷ 0 ∷ 1 ∷ []) (7 ∷ [])) ≡ None
+unfolding image_at
+entry-behind = refl
+
+entry-below : image_of (image_at (0xfc ∷ 0xff ∷ 0 ∷ []) (0 ∷ 0 ∷ 1 ∷ []) (7 ∷ [])) ≡ None
+unfolding image_at
+entry-below = refl
+
+entry-askew : image_of (image_at (2 ∷ 0 ∷ 1 ∷ []) (0 ∷ 0 ∷ 1 ∷ []) (7 ∷ [])) ≡ None
+unfolding image_at
+entry-askew = refl

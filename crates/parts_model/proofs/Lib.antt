@@ -1,5 +1,6 @@
 pub mod Examples
 pub mod FilesExamples
+pub mod ChannelExamples
 pub mod PipesExamples
 pub mod PortsExamples
 pub mod ProcessesExamples

@@ -1,37 +1,12 @@
--- Channels and pipes at literal values.
+-- Pipes at literal values.
 use Rattle.std.proofs.Common.{◌≡◌, ℕ, [], ◌∷◌, Some, None, length, replicate, Bool, true, false, refl}
 use Rattle.parts_model.specs.declared.tagged.TaggedByte.{TaggedByte}
-use Rattle.parts_model.specs.Channel.{Channel, no_bytes, channel_end, put_behind, front, without_front}
+use Rattle.parts_model.specs.Channel.{no_bytes}
 use Rattle.parts_model.specs.Pipes.{Pipe, ReadEnd, WriteEnd, new_pipe, pipe_made, free_pipes, room, can_put, can_take, with_put, with_taken, end_closed}
 
 -- a byte of an event
 byte : ℕ → ℕ → ℕ → TaggedByte
 byte value event at = record { value = value; origin = record { event = event; at = at } }
-
--- two bytes of event 3, and behind them one of event 5
-three_bytes : Channel
-three_bytes = put_behind (put_behind no_bytes 3 (10 ∷ 11 ∷ [])) 5 (12 ∷ [])
-
-queued : three_bytes ≡ record { taken = 0; queue = byte 10 3 0 ∷ byte 11 3 1 ∷ byte 12 5 0 ∷ [] }
-unfolding three_bytes byte
-queued = refl
-
-front-two : front three_bytes 2 ≡ byte 10 3 0 ∷ byte 11 3 1 ∷ []
-unfolding three_bytes byte
-front-two = refl
-
-front-all : front three_bytes 9 ≡ byte 10 3 0 ∷ byte 11 3 1 ∷ byte 12 5 0 ∷ []
-unfolding three_bytes byte
-front-all = refl
-
--- what has left the queue counts on: the place behind it stays
-left-behind : without_front three_bytes 2 ≡ record { taken = 2; queue = byte 12 5 0 ∷ [] }
-unfolding three_bytes byte
-left-behind = refl
-
-end-stays : channel_end (without_front three_bytes 2) ≡ 3
-unfolding three_bytes
-end-stays = refl
 
 -- a pipe with so many bytes, and a reader or none, a writer or none
 pipe_with : ℕ → Bool → Bool → Pipe
@@ -73,8 +48,12 @@ unfolding pipe_with byte
 one-take = refl
 
 -- at most what is there is taken
-takes-all : (with_taken (record new_pipe { channel = three_bytes }) 9).channel ≡ record { taken = 3; queue = [] }
-unfolding three_bytes
+takes-some : (with_taken (pipe_with 3 true true) 2).channel ≡ record { taken = 2; queue = byte 1 0 0 ∷ [] }
+unfolding pipe_with byte
+takes-some = refl
+
+takes-all : (with_taken (pipe_with 3 true true) 9).channel ≡ record { taken = 3; queue = [] }
+unfolding pipe_with byte
 takes-all = refl
 
 -- a pipe with one end stays, one without ends is gone, and its number isn't given again

@@ -1,0 +1,182 @@
+-- What acts do to a process, and to bodies, at literal values.
+use Rattle.std.proofs.Common.{◌≡◌, ℕ, List, [], ◌∷◌, ◌++◌, length, take, drop, Option, Some, None, option_map, replicate, codes, true, false, refl}
+use Rattle.arn_base.specs.declared.machine.Cpu.{Cpu}
+use Rattle.rv64_model.specs.Registers.{with_register}
+use Rattle.parts_model.specs.Blocks.{used_blocks, with_blocks}
+use Rattle.parts_model.specs.Memory.{zeros}
+use Rattle.acts_model.specs.Acts.{Returns, Receives, Gives, Starts, Forks, Founds, Shares, Leaves, Delivers, Exits, Faults, Dies, acted, done, founded, beginning_of, beginning_in, start_of}
+use Rattle.acts_model.specs.Bodies.{Body, Bodies, View, seen, nth_body, with_nth, found, with_found, body_at, with_body, memory_at, with_memory, put, remove}
+use Rattle.acts_model.specs.Views.{cpu_at}
+
+-- a process that stands at 0x10000 with 9 in x10, and sees these bytes, in memories that events 4 and 6 made
+sees : Cpu → Option Cpu → List ℕ → List ℕ → View
+sees cpu slot window segment = record { body = record { cpu = cpu; slot = slot; window = 4; segment = Some 6 }; window = window; segment = segment }
+
+nine : Cpu
+nine = with_register (cpu_at 0x10000) 10 9
+
+before : View
+before = sees nine None (1 ∷ 2 ∷ 3 ∷ 4 ∷ []) (5 ∷ 6 ∷ [])
+
+-- behind a call, with a result in x10
+behind : ℕ → Cpu
+behind result = with_register (cpu_at 0x10004) 10 result
+
+returned : acted 8 (Returns 3) before ≡ Some (sees (behind 3) None (1 ∷ 2 ∷ 3 ∷ 4 ∷ []) (5 ∷ 6 ∷ []))
+unfolding before sees nine behind
+returned = refl
+
+received : acted 8 (Receives 0x10002 (7 ∷ 8 ∷ []) 2) before ≡ Some (sees (behind 2) None (1 ∷ 2 ∷ 7 ∷ 8 ∷ []) (5 ∷ 6 ∷ []))
+unfolding before sees nine behind
+received = refl
+
+received-shared : acted 8 (Receives 0x80000001 (7 ∷ []) 1) before ≡ Some (sees (behind 1) None (1 ∷ 2 ∷ 3 ∷ 4 ∷ []) (5 ∷ 7 ∷ []))
+unfolding before sees nine behind
+received-shared = refl
+
+gave : acted 8 (Gives 0x10002 2 2) before ≡ Some (sees (behind 2) None (1 ∷ 2 ∷ 3 ∷ 4 ∷ []) (5 ∷ 6 ∷ []))
+unfolding before sees nine behind
+gave = refl
+
+forked : acted 8 (Forks 3) before ≡ Some (sees (behind 3) None (1 ∷ 2 ∷ 3 ∷ 4 ∷ []) (5 ∷ 6 ∷ []))
+unfolding before sees nine behind
+forked = refl
+
+founded-child : acted 8 (Founds 3) before ≡ Some (sees (behind 3) None (1 ∷ 2 ∷ 3 ∷ 4 ∷ []) (5 ∷ 6 ∷ []))
+unfolding before sees nine behind
+founded-child = refl
+
+-- a delivery: x10 is the signal and pc the handler, and the slot keeps what was interrupted
+delivered : acted 8 (Delivers 2 0x10020 false) before ≡ Some (sees (with_register (cpu_at 0x10020) 10 2) (Some nine) (1 ∷ 2 ∷ 3 ∷ 4 ∷ []) (5 ∷ 6 ∷ []))
+unfolding before sees nine
+delivered = refl
+
+-- at a call that isn't ready, that call first ends with -4
+delivered-cut : acted 8 (Delivers 2 0x10020 true) before ≡ Some (sees (with_register (cpu_at 0x10020) 10 2) (Some (behind 0xfffffffffffffffc)) (1 ∷ 2 ∷ 3 ∷ 4 ∷ []) (5 ∷ 6 ∷ []))
+unfolding before sees nine behind
+delivered-cut = refl
+
+-- the return from it restores the registers and pc, and empties the slot
+left : acted 8 Leaves (sees (cpu_at 0x10024) (Some nine) [] []) ≡ Some (sees nine None [] [])
+unfolding sees nine
+left = refl
+
+-- ends
+exited : acted 8 Exits before ≡ None
+exited = refl
+
+faulted : acted 8 (Faults 139) before ≡ None
+faulted = refl
+
+dead : acted 8 (Dies 2 false) before ≡ None
+dead = refl
+
+-- a fresh segment of 65,536 zeros, named by the event
+lonely : View
+lonely = record { body = record { cpu = nine; slot = None; window = 4; segment = None }; window = 1 ∷ []; segment = [] }
+
+shared : acted 8 Shares lonely ≡ Some (record { body = record { cpu = behind 0; slot = None; window = 4; segment = Some 8 }; window = 1 ∷ []; segment = replicate 65536 0 })
+unfolding lonely nine behind zeros
+shared = refl
+
+-- a start at 0x10008 from an image of one word at 0x10004, with a block of three bytes from 0x10001: the slot is empty, and the segment gone
+image : List ℕ
+image = codes "ARNIMG01" ++ (8 ∷ 0 ∷ 1 ∷ 0 ∷ 0 ∷ 0 ∷ 0 ∷ 0 ∷ 4 ∷ 0 ∷ 1 ∷ 0 ∷ 0 ∷ 0 ∷ 0 ∷ 0 ∷ 0x73 ∷ 0x74 ∷ 0x75 ∷ 0x76 ∷ [])
+
+start : Option View
+start = acted 8 (Starts image 0x10001 3) (sees nine (Some nine) (1 ∷ 2 ∷ 3 ∷ 4 ∷ []) (5 ∷ 6 ∷ []))
+
+-- x10 is the block's address, x11 its length, x2 that address rounded down to a multiple of 16
+started-body :
+    option_map (λ v. v.body) start ≡
+    Some (record {
+      cpu = with_register (with_register (with_register (cpu_at 0x10008) 10 0x4fffd) 11 3) 2 0x4fff0;
+      slot = None;
+      window = 8;
+      segment = None;
+    })
+unfolding start sees nine image
+started-body = refl
+
+-- zeros but for the body and the block
+started-head : option_map (λ v. take 9 v.window) start ≡ Some (0 ∷ 0 ∷ 0 ∷ 0 ∷ 0x73 ∷ 0x74 ∷ 0x75 ∷ 0x76 ∷ 0 ∷ [])
+unfolding start sees nine image
+started-head = refl
+
+started-tail : option_map (λ v. drop 262140 v.window) start ≡ Some (0 ∷ 2 ∷ 3 ∷ 4 ∷ [])
+unfolding start sees nine image
+started-tail = refl
+
+-- process 1 with a filled slot, and process 2, which share the segment of event 6
+one : Body
+one = record { cpu = nine; slot = Some (cpu_at 0x10040); window = 4; segment = Some 6 }
+
+two : Body
+two = record { cpu = cpu_at 0x10080; slot = None; window = 5; segment = Some 6 }
+
+bodies : Bodies
+bodies =
+    record {
+      bodies = None ∷ Some one ∷ Some two ∷ [];
+      memories = record { made = 4; bytes = 1 ∷ 2 ∷ [] } ∷ record { made = 5; bytes = 3 ∷ 4 ∷ [] } ∷ record { made = 6; bytes = 5 ∷ 6 ∷ [] } ∷ [];
+    }
+
+-- what a process with these registers and a filled slot sees
+child_sees : ℕ → Cpu → Option ℕ → List ℕ → View
+child_sees window cpu segment bytes =
+    record { body = record { cpu = cpu; slot = Some (cpu_at 0x10040); window = window; segment = segment }; window = 1 ∷ 2 ∷ []; segment = bytes }
+
+-- a fork as event 9: the child has the registers with 0 in x10, the slot, a copy of the window as the memory of event 9, and the segment
+forks-child : seen (done 1 9 (Forks 3) bodies) 3 ≡ Some (child_sees 9 (behind 0) (Some 6) (5 ∷ 6 ∷ []))
+unfolding bodies one two nine behind child_sees nth_body with_nth found with_found body_at with_body memory_at with_memory put remove
+forks-child = refl
+
+forks-parent : seen (done 1 9 (Forks 3) bodies) 1 ≡ Some (child_sees 4 (behind 3) (Some 6) (5 ∷ 6 ∷ []))
+unfolding bodies one two nine behind child_sees nth_body with_nth found with_found body_at with_body memory_at with_memory put remove
+forks-parent = refl
+
+forks-other : seen (done 1 9 (Forks 3) bodies) 2 ≡ seen bodies 2
+unfolding bodies one two nine behind nth_body with_nth found with_found body_at with_body memory_at with_memory put remove
+forks-other = refl
+
+-- a child that starts a group isn't made in its parent's
+founds-none : seen (done 1 9 (Founds 3) bodies) 3 ≡ None
+unfolding bodies one two nine nth_body with_nth found with_found body_at with_body memory_at with_memory put remove
+founds-none = refl
+
+-- it is beside it, and holds no segment
+founds-child : option_map (λ v. seen (founded (Founds 3) 9 (beginning_of v) bodies) 3) (seen bodies 1) ≡ Some (Some (child_sees 9 (behind 0) None []))
+unfolding bodies one two nine behind child_sees nth_body with_nth found with_found body_at with_body memory_at with_memory put remove
+founds-child = refl
+
+-- bytes received in the segment are seen by both
+receives-shared : option_map (λ v. v.segment) (seen (done 1 9 (Receives 0x80000000 (7 ∷ []) 1) bodies) 2) ≡ Some (7 ∷ 6 ∷ [])
+unfolding bodies one two nine nth_body with_nth found with_found body_at with_body memory_at with_memory put remove
+receives-shared = refl
+
+-- a process that ends is gone, and the other stays
+exits-self : seen (done 1 9 Exits bodies) 1 ≡ None
+unfolding bodies one two nine nth_body with_nth found with_found body_at with_body memory_at with_memory put remove
+exits-self = refl
+
+exits-other : seen (done 1 9 Exits bodies) 2 ≡ seen bodies 2
+unfolding bodies one two nine nth_body with_nth found with_found body_at with_body memory_at with_memory put remove
+exits-other = refl
+
+-- a beginning is read from its record: of 512 bytes the second block isn't all zero
+second_block : View
+second_block = record lonely { window = replicate 256 0 ++ (7 ∷ replicate 255 0) }
+
+begins-recorded :
+    start_of (beginning_of second_block) ≡
+    record { cpu = behind 0; slot = None; blocks = record { number = 1; bytes = 7 ∷ replicate 255 0 } ∷ [] }
+unfolding second_block lonely nine behind used_blocks
+begins-recorded = refl
+
+begins-read : take 258 (beginning_in (start_of (beginning_of second_block))).window ≡ replicate 256 0 ++ (7 ∷ 0 ∷ [])
+unfolding second_block lonely nine used_blocks with_blocks zeros
+begins-read = refl
+
+begins-long : length (beginning_in (start_of (beginning_of second_block))).window ≡ 262144
+unfolding second_block lonely nine used_blocks with_blocks zeros
+begins-long = refl

@@ -1,0 +1,3 @@
+pub mod ToldExamples
+pub mod ActsExamples
+pub mod TransfersExamples
