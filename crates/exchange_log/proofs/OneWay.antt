@@ -6,7 +6,7 @@ use Rattle.arn_base.specs.declared.records.Origin.{Origin}
 use Rattle.arn_base.specs.declared.records.Give.{Give}
 use Rattle.schedule_log.specs.Fields.{counted, field}
 use Rattle.schedule_log.specs.Laws.{CountedOneWay, FieldOneWay}
-use Rattle.exchange_log.specs.Gives.{give_fields, origin_fields, origins_fields, FitsOrigin, GiveOneWay}
+use Rattle.exchange_log.specs.Gives.{origin_fields, origins_fields, FitsOrigin, GiveOneWay}
 
 -- how many bytes the fields of origins take
 pub length-origins : (origins : List Origin) → length (flat_map origin_fields origins) ≡ 16 * length origins

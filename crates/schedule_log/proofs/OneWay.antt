@@ -1,10 +1,10 @@
 -- What is spelled at the front of bytes is spelled there in one way.
 use Rattle.std.proofs.Common.{◌≡◌, ℕ, ◌<◌, ◌^◌, List, [], ◌∷◌, ◌++◌, length, drop, slice_index, refl, sym, ap, ◌∙◌, append_assoc, arith}
-use Rattle.std.specs.Prelude.{Bool, true, false}
+use Rattle.std.specs.Prelude.{true, false}
 use Rattle.std.proofs.lemmas.List.{append_cancel_left}
 use Rattle.byteorder.specs.Endian.{little_from}
 use Rattle.byteorder.specs.Numbers.{little_number-reads_back}
-use Rattle.schedule_log.specs.Fields.{counted, field, flag_field, named, BeginsCounted, BeginsNamed, OnlyCounted, OnlyNamed}
+use Rattle.schedule_log.specs.Fields.{field, BeginsCounted, BeginsNamed, OnlyCounted, OnlyNamed}
 use Rattle.schedule_log.specs.Laws.{CountedOneWay, FieldOneWay, FlagOneWay, NamedOneWay}
 
 -- the number of a field, and what stands behind it
