@@ -1,12 +1,12 @@
 -- A process ends: its children lose their parent, and those that had ended are gone.
-use Rattle.std.proofs.Common.{◌≡◌, ◌⊎◌, inl, inr, ℕ, zero, suc, Bool, true, false, List, [], ◌∷◌, ◌++◌, ◌+◌, length, arith, map, set, Option, Some, None, refl, ap, sym, ◌∙◌}
-use Rattle.std.specs.Prelude.{filter, slice_get, option_and_then, option_map}
+use Rattle.std.proofs.Common.{◌≡◌, inl, inr, ℕ, zero, suc, Bool, true, List, [], ◌∷◌, ◌++◌, ◌+◌, length, arith, map, set, Option, Some, None, refl, ap, sym, ◌∙◌}
+use Rattle.std.specs.Prelude.{filter, option_and_then, option_map}
 use Rattle.std.proofs.lemmas.List.{map-set}
 use Rattle.std.proofs.lemmas.Bool.Decides.{eqb_tells}
 use Rattle.parts_model.specs.declared.tagged.TaggedByte.{TaggedByte}
 use Rattle.parts_model.specs.Numbered.{nth, how_many}
-use Rattle.parts_model.specs.Processes.{Process, Processes, Life, Live, Ended, process, with_process, numbers_from, is_live, is_alive, live, is_child_of, if_awaited, orphan, with_end, ended, with_change, with_descriptor}
-use Rattle.guest_procs.specs.Sound.{is_any, present, holds, IsSound}
+use Rattle.parts_model.specs.Processes.{Process, Processes, Life, Live, Ended, process, with_process, is_live, is_alive, orphan, with_end, ended, with_change, with_descriptor}
+use Rattle.guest_procs.specs.Sound.{is_any, holds, IsSound}
 use Rattle.guest_procs.proofs.Tables.{kept, Follows, follows-map, follows-with_process, follows-follows, numbers_from-push, numbers_from-with_process, length-present}
 
 -- the order in which one process loses its parent and ends doesn't matter

@@ -1,11 +1,11 @@
 -- What the table shows under one number.
-use Rattle.std.proofs.Common.{◌≡◌, ℕ, zero, suc, ◌-◌, ◌<◌, ◌≤◌, List, [], ◌∷◌, length, map, get_or, set, Option, Some, None, refl, ap, sym, ◌∙◌, arith, sub-one}
-use Rattle.std.specs.Prelude.{slice_get, option_and_then, option_map, IsSome}
+use Rattle.std.proofs.Common.{◌≡◌, ℕ, zero, suc, ◌-◌, ◌<◌, ◌≤◌, List, [], ◌∷◌, length, get_or, set, Option, Some, None, refl, arith}
+use Rattle.std.specs.Prelude.{IsSome}
 use Rattle.std.proofs.lemmas.List.{map-set}
 use Rattle.guest_procs.specs.declared.process.Process.{Process as Code}
-use Rattle.guest_procs.specs.Shown.{process_of, shown, shown_all}
+use Rattle.guest_procs.specs.Shown.{shown, shown_all}
 use Rattle.parts_model.specs.Numbered.{nth}
-use Rattle.parts_model.specs.Processes.{Process, process, with_process}
+use Rattle.parts_model.specs.Processes.{process, with_process}
 
 nth-shown : (all : List (Option Code)) (i : ℕ) (d : Option Code) → i < length all → nth (shown_all all) i ≡ shown (get_or all i d)
 nth-shown [] i d inside = absurd (omega arith)

@@ -1,12 +1,9 @@
 -- Tables of processes, and the lists of those that are there and of those that live.
-use Rattle.std.proofs.Common.{◌≡◌, ◌≢◌, ◌⊎◌, inl, inr, ℕ, zero, suc, ◌+◌, ◌<◌, Bool, true, false, cond, List, [], ◌∷◌, ◌++◌, length, map, get_or, set, Option, Some, None, refl, ap, sym, subst, ◌∙◌, arith, add-one, append_assoc, length-append}
-use Rattle.std.specs.Prelude.{filter, slice_get, option_and_then, count_by, is_some, option_map}
-use Rattle.std.proofs.lemmas.List.{map-set}
+use Rattle.std.proofs.Common.{◌≡◌, ◌⊎◌, inl, inr, ℕ, zero, suc, ◌+◌, Bool, true, false, cond, List, [], ◌∷◌, ◌++◌, length, map, set, Option, Some, None, refl, ap, sym, arith, add-one, append_assoc, length-append}
+use Rattle.std.specs.Prelude.{filter, slice_get, option_and_then, is_some}
 use Rattle.std.proofs.lemmas.List.Sums.{sum_by-cons}
-use Rattle.std.proofs.lemmas.Bool.Decides.{eqb_tells}
-use Rattle.parts_model.specs.declared.tagged.TaggedByte.{TaggedByte}
 use Rattle.parts_model.specs.Numbered.{nth, how_many}
-use Rattle.parts_model.specs.Processes.{Process, Processes, Live, Ended, process, with_process, numbers_from, is_live, live, orphan, with_end, ended, is_child_of}
+use Rattle.parts_model.specs.Processes.{Process, Processes, process, with_process, numbers_from}
 use Rattle.guest_procs.specs.Sound.{is_any, present, holds, visited}
 
 -- the element behind others, and another in its place
@@ -80,18 +77,18 @@ kept-from later before pre (None ∷ all) (Some q ∷ new) (one here rest) =
 kept-from later before pre (Some p ∷ all) (None ∷ new) (one here rest) =
     let tail = simp (append_assoc, length-append) at (kept-from later before (pre ++ None ∷ []) all new rest) in
     elim (is_or_not (before p)) [
-      inl held ↦ rw (held, process-seam pre None new) tail
+      | inl held ↦ rw (held, process-seam pre None new) tail
       | inr not_held ↦ rw not_held tail
     ]
 kept-from later before pre (Some p ∷ all) (Some q ∷ new) (one here rest) =
     let tail = simp (append_assoc, length-append) at (kept-from later before (pre ++ Some q ∷ []) all new rest) in
     elim (is_or_not (later q)) [
-      inl holds_now ↦ rw (here holds_now, process-seam pre (Some q) new, holds_now) (ap (λ (pids : List ℕ). (length pre + 1) ∷ pids) tail)
+      | inl holds_now ↦ rw (here holds_now, process-seam pre (Some q) new, holds_now) (ap (λ (pids : List ℕ). (length pre + 1) ∷ pids) tail)
       | inr not_now ↦
-        elim (is_or_not (before p)) [
-          inl held ↦ rw (held, process-seam pre (Some q) new, not_now) tail
-          | inr not_held ↦ rw (not_held, not_now) tail
-        ]
+          elim (is_or_not (before p)) [
+            | inl held ↦ rw (held, process-seam pre (Some q) new, not_now) tail
+            | inr not_held ↦ rw (not_held, not_now) tail
+          ]
     ]
 
 pub kept : (later before : Process → Bool) (all new : Processes) → Follows later before all new → filter (λ pid. holds later (process new pid)) (numbers_from before 1 all) ≡ numbers_from later 1 new

@@ -1,8 +1,7 @@
 -- What is found among the numbers of the processes that are there.
-use Rattle.std.proofs.Common.{◌≡◌, ◌≢◌, ◌⊎◌, inl, inr, ℕ, ◌&&◌, not, Bool, true, false, List, [], ◌∷◌, Option, Some, None, refl, ap, sym, ◌∙◌}
+use Rattle.std.proofs.Common.{◌≡◌, ◌≢◌, inl, inr, ℕ, ◌&&◌, not, Bool, true, false, List, [], ◌∷◌, Option, Some, None, refl, ap, sym, ◌∙◌}
 use Rattle.std.specs.Prelude.{filter, find, option_and_then, option_map}
 use Rattle.std.specs.List.{list_any}
-use Rattle.parts_model.specs.declared.tagged.TaggedByte.{TaggedByte}
 use Rattle.parts_model.specs.Processes.{Process, Processes, Life, Live, Ended, process, is_alive, status_in, is_child_of, children, ended_children}
 use Rattle.guest_procs.specs.Answers.{first, ended_as, ended_by, lowest_ended}
 use Rattle.guest_procs.specs.Sound.{is_any, present, holds, is_ended_child}
@@ -17,7 +16,7 @@ none_passes : (test : ℕ → Bool) (pids : List ℕ) → list_any test pids ≡
 none_passes test [] none = refl
 none_passes test (pid ∷ pids) none =
     elim (is_or_not (test pid)) [
-      inl h ↦ let wrong : true ≡ false = rw h at none in cc
+      | inl h ↦ let wrong : true ≡ false = rw h at none in cc
       | inr h ↦ rw h (none_passes test pids (let rest : list_any test pids ≡ false = rw h at none in rest))
     ]
 
@@ -25,7 +24,7 @@ some_passes : (test : ℕ → Bool) (pids : List ℕ) → list_any test pids ≡
 some_passes test [] some = λ e. cc
 some_passes test (pid ∷ pids) some =
     elim (is_or_not (test pid)) [
-      inl h ↦ rw h (λ e. cc)
+      | inl h ↦ rw h (λ e. cc)
       | inr h ↦ rw h (some_passes test pids (let rest : list_any test pids ≡ true = rw h at some in rest))
     ]
 
@@ -33,10 +32,10 @@ first_passes : (test : ℕ → Bool) (pids : List ℕ) (pid : ℕ) (rest : List 
 first_passes test [] pid rest is = cc
 first_passes test (p ∷ pids) pid rest is =
     elim (is_or_not (test p)) [
-      inl h ↦
-        let same : (p ∷ filter test pids) ≡ (pid ∷ rest) = rw h at is in
-        let head : p ≡ pid = cc in
-        rw (← head) h
+      | inl h ↦
+          let same : (p ∷ filter test pids) ≡ (pid ∷ rest) = rw h at is in
+          let head : p ≡ pid = cc in
+          rw (← head) h
       | inr h ↦ first_passes test pids pid rest (let same : filter test pids ≡ (pid ∷ rest) = rw h at is in same)
     ]
 

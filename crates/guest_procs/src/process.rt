@@ -112,7 +112,10 @@ impl Process {
     pub fn free(&self) -> u32
         ensures { result ≡ free_descriptors (process_of self.now) }
     {
-        self.descriptors.iter().filter(|found| found.is_none()).count() as u32
+        self.descriptors
+            .iter()
+            .filter(|found| found.is_none())
+            .count() as u32
     }
 
     /// The lowest number of a descriptor that isn't open.

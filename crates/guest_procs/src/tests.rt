@@ -4,8 +4,9 @@ use std::test::Fail;
 #[test]
 fn there_are_at_most_64_processes(rt: HostRuntime) -> Result<(), Fail> {
     let mut procs = Procs::new(rt.alloc());
-    for _count in 0..64 {
-        procs.boot()?;
+    for made in 0..64 {
+        let pid = procs.boot()?;
+        assert_eq!(rt; pid, made + 1);
     }
     assert_eq!(rt; procs.live().len(), 64);
     assert_eq!(rt; procs.boot(), Err(ProcError::TooMany));
@@ -17,7 +18,8 @@ fn there_are_at_most_16_descriptors(rt: HostRuntime) -> Result<(), Fail> {
     let mut procs = Procs::new(rt.alloc());
     procs.boot()?;
     for count in 0..16 {
-        assert_eq!(rt; procs.place(1, 7), Ok(count));
+        let number = procs.place(1, 7)?;
+        assert_eq!(rt; number, count);
     }
     assert_eq!(rt; procs.free(1), 0);
     assert_eq!(rt; procs.place(1, 7), Err(ProcError::TooMany));

@@ -1,7 +1,7 @@
 use Rattle.std.proofs.Common.{rules}
 use Rattle.std.proofs.lemmas.Fn.{filter_same}
 use Rattle.parts_model.specs.Processes.{process, is_live}
-use Rattle.guest_procs.specs.Sound.{holds, is_any}
+use Rattle.guest_procs.specs.Sound.{holds}
 use Rattle.guest_procs.proofs.lists.keep_live.Goals as goal
 
 pub returns : goal.returns

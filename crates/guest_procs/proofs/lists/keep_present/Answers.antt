@@ -1,6 +1,6 @@
 use Rattle.std.proofs.Common.{rules}
 use Rattle.std.proofs.lemmas.Fn.{filter_same}
-use Rattle.parts_model.specs.Processes.{process, is_live}
+use Rattle.parts_model.specs.Processes.{process}
 use Rattle.guest_procs.specs.Sound.{holds, is_any}
 use Rattle.guest_procs.proofs.lists.keep_present.Goals as goal
 

@@ -1,4 +1,4 @@
-use Rattle.std.proofs.Common.{◌≡◌, Some, None, sym, ◌∙◌}
+use Rattle.std.proofs.Common.{Some, None, ◌∙◌}
 use Rattle.guest_procs.proofs.Waits.{lowest_ended-found}
 use Rattle.guest_procs.proofs.lists.lowest_ended.Goals as goal
 

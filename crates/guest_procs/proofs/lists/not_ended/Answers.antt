@@ -1,7 +1,7 @@
-use Rattle.std.proofs.Common.{◌≡◌, ℕ, List, true, false, sym, ap, ◌∙◌}
+use Rattle.std.proofs.Common.{sym, ap, ◌∙◌}
 use Rattle.std.specs.List.{list_any}
 use Rattle.parts_model.specs.Processes.{process, is_child_of}
-use Rattle.guest_procs.specs.Sound.{holds, present}
+use Rattle.guest_procs.specs.Sound.{holds}
 use Rattle.guest_procs.proofs.Waits.{no_children, some_children, none_ended}
 use Rattle.guest_procs.proofs.lists.not_ended.Goals as goal
 

@@ -1,4 +1,4 @@
-use Rattle.std.proofs.Common.{◌≡◌, ◌<◌, length, arith, sym, ap, ◌∙◌, None}
+use Rattle.std.proofs.Common.{◌<◌, length, arith, sym, ap, ◌∙◌, None}
 use Rattle.guest_procs.specs.Shown.{shown}
 use Rattle.guest_procs.proofs.Numbers.{process-shown}
 use Rattle.guest_procs.proofs.slots.find.Goals as goal

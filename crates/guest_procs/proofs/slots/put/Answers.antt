@@ -1,5 +1,4 @@
-use Rattle.std.proofs.Common.{◌≡◌, ◌<◌}
-use Rattle.guest_procs.proofs.Numbers.{process-positive, process-inside, with_process-shown}
+use Rattle.guest_procs.proofs.Numbers.{process-positive, with_process-shown}
 use Rattle.guest_procs.proofs.slots.put.Goals as goal
 
 pub returns : goal.returns

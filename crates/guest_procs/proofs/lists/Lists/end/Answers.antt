@@ -1,4 +1,4 @@
-use Rattle.std.proofs.Common.{◌≡◌, ◌∙◌}
+use Rattle.std.proofs.Common.{◌∙◌}
 use Rattle.guest_procs.proofs.Ends.{ended-is, ended-sound}
 use Rattle.guest_procs.proofs.lists.Lists.end.Goals as goal
 

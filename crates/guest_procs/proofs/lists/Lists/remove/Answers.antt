@@ -1,4 +1,3 @@
-use Rattle.std.proofs.Common.{◌≡◌}
 use Rattle.guest_procs.proofs.Ends.{removed-sound}
 use Rattle.guest_procs.proofs.lists.Lists.remove.Goals as goal
 

@@ -1,4 +1,4 @@
-use Rattle.std.proofs.Common.{◌≡◌, sym, rules}
+use Rattle.std.proofs.Common.{sym}
 use Rattle.guest_procs.proofs.Tables.{with_process-none}
 use Rattle.guest_procs.proofs.table.Table.orphan.Goals as goal
 

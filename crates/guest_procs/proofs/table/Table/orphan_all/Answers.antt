@@ -1,4 +1,4 @@
-use Rattle.std.proofs.Common.{◌≡◌, ◌≤◌, ℕ, List, [], length, drop, arith, ap, ◌∙◌}
+use Rattle.std.proofs.Common.{◌≤◌, length, arith, ap, ◌∙◌}
 use Rattle.std.proofs.lemmas.List.{drop_all}
 use Rattle.parts_model.specs.Processes.{orphan}
 use Rattle.guest_procs.specs.Sound.{visited}

@@ -1,4 +1,4 @@
-use Rattle.std.proofs.Common.{◌≡◌, sym, ◌∙◌}
+use Rattle.std.proofs.Common.{sym}
 use Rattle.parts_model.specs.Processes.{process}
 use Rattle.guest_procs.proofs.Tables.{with_process-none, not_present}
 use Rattle.guest_procs.proofs.table.Table.remove.Goals as goal
