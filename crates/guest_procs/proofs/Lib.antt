@@ -1,0 +1,5 @@
+pub mod Ends
+pub mod Lowest
+pub mod Numbers
+pub mod Tables
+pub mod Waits

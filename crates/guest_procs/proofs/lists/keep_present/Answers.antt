@@ -1,0 +1,9 @@
+use Rattle.std.proofs.Common.{rules}
+use Rattle.std.proofs.lemmas.Fn.{filter_same}
+use Rattle.parts_model.specs.Processes.{process}
+use Rattle.guest_procs.specs.Sound.{holds, is_any}
+use Rattle.guest_procs.proofs.lists.keep_present.Goals as goal
+
+pub returns : goal.returns
+returns c =
+    filter_same _ (λ pid. holds is_any (process c.args.table.now pid)) _ (λ pid kept f k. search rules) _ _ c.retain.ensures.filtered

@@ -1,0 +1,14 @@
+//! The table of processes: which live, whose child each is, and what each has open.
+#![tactic(auto)]
+
+mod answers;
+mod lists;
+mod process;
+mod procs;
+mod slots;
+mod table;
+#[cfg(test)]
+mod tests;
+
+pub use answers::{Ended, ProcError};
+pub use procs::Procs;
