@@ -1,7 +1,7 @@
 -- Slots that hold a device each or are empty.
-use Rattle.std.specs.Prelude.{◌≡◌, ◌≢◌, ◌↔◌, ℕ, ◌+◌, List, [], ◌++◌, length, take, Option, None, Some, IfSome, IsNone, is_some, slice_get, option_and_then, option_map}
+use Rattle.std.specs.Prelude.{◌≡◌, ◌≢◌, ◌↔◌, ℕ, ◌+◌, List, [], ◌++◌, length, take, Option, IfSome, IsNone, is_some, slice_get, option_and_then, option_map}
 use Rattle.arn_base.specs.Device.{DeviceReply, Faults, Gives, Room, cut_to, takes, left_after}
-use Rattle.parts_model.specs.Replies.{Answered, GaveBytes, TookBytes, Failed, IsAbsent, IsHere}
+use Rattle.parts_model.specs.Replies.{Answered, GaveBytes, TookBytes, Failed, IsAbsent}
 use Rattle.guest_devices.specs.Answers.{Asked, Here, Reads, Writes, here_answer}
 
 -- what slot n holds

@@ -1,5 +1,5 @@
 -- What a recorded call says that its device answered.
-use Rattle.std.specs.Prelude.{ℕ, List, length, Option, option_and_then}
+use Rattle.std.specs.Prelude.{◌≡◌, ℕ, ◌<◌, ◌^◌, List, length, Option, Some, option_and_then}
 use Rattle.std.specs.Borrow.{Bor}
 use Rattle.arn_base.specs.Device.{countable}
 use Rattle.arn_base.specs.declared.records.Record.{Record}
@@ -28,3 +28,13 @@ abbrev pub told_answer : Option Answered → Asked → Answered
 told_answer reply (asked.Here n) = here_answer (is_here reply)
 told_answer reply (asked.Reads n len) = as_read (to_read (countable len) reply)
 told_answer reply (asked.Writes n bytes) = as_written (to_write (countable (length bytes)) reply)
+
+-- a reply counts as what is answered by it
+abbrev pub CountsHere : Type 0
+CountsHere = (reply : Option Answered) (n : ℕ) → is_here (Some (told_answer reply (asked.Here n))) ≡ is_here reply
+
+abbrev pub CountsReads : Type 0
+CountsReads = (reply : Option Answered) (n len : ℕ) → len < 2 ^ 32 → to_read len (Some (told_answer reply (asked.Reads n len))) ≡ to_read len reply
+
+abbrev pub CountsWrites : Type 0
+CountsWrites = (reply : Option Answered) (n : ℕ) (bytes : List ℕ) → length bytes < 2 ^ 32 → to_write (length bytes) (Some (told_answer reply (asked.Writes n bytes))) ≡ to_write (length bytes) reply

@@ -6,12 +6,14 @@ mod answers;
 mod choosers;
 mod copies;
 mod devices;
+mod law;
 mod slots;
 mod told;
 
 pub use answers::{Answer, Answers};
 pub use choosers::{RoundChooser, ScriptChooser, SeededChooser};
 pub use devices::{EntropyDevice, ScriptDevice, ScriptReply, SilentDevice};
+pub use law::told_counts_as_named;
 pub use slots::{Live, Slots, unplug, unplug_in};
 pub use told::Told;
 
