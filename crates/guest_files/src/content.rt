@@ -67,6 +67,25 @@ impl Content {
         }
     }
 
+    /// The bytes of an event, and no holder.
+    pub fn with_bytes(alloc: Global, bytes: &[u8], event: u64) -> Result<Content, FileError>
+        ensures ok { IfOk result (λ content.
+            content ≡ record { bytes = held_bytes event bytes.now; holders = 0 }) }
+        ensures too_long { (result ≡ Err FileError.TooLong) ↔
+            (MOST_FILE_BYTES < length bytes.now) }
+        ensures answers { IfErr result IsWriteError }
+    {
+        if bytes.len() > MOST_BYTES {
+            return Err(FileError::TooLong);
+        }
+        let mut held = vec![in alloc; UNWRITTEN; bytes.len()]?;
+        tag_over(&mut held, bytes, event);
+        Ok(Content {
+            bytes: held,
+            holders: 0,
+        })
+    }
+
     pub fn len(&self) -> u32
         ensures length { result ≡ length self.now.bytes }
         ensures most { result ≤ MOST_FILE_BYTES }

@@ -1,10 +1,10 @@
 // Files by number, and their names.
-ghost use Rattle.std.specs.Prelude.{◌≡◌, nat_lt, [], ◌↔◌, ◌≤◌, ◌<◌, ◌^◌, length, option_map, Some, Err, IfOk, IfErr, IfSome, OnOk, OnErr, IsSome, IsNone, IsTrue};
+ghost use Rattle.std.specs.Prelude.{◌≡◌, ◌≢◌, nat_lt, false, None, [], ◌↔◌, ◌≤◌, ◌<◌, ◌^◌, length, option_map, Some, Err, IfOk, IfErr, IfSome, OnOk, OnErr, IsSome, IsNone, IsTrue};
 ghost use Rattle.parts_model.specs.declared.limits.TheConstants.{MOST_FILE_BYTES};
 ghost use Rattle.parts_model.specs.Files.{file_bytes, find_file, fitting, held, is_full, made, next_file, no_files, reached_again, read_from, released, unnamed, written};
 ghost use Rattle.parts_model.specs.Numbered.{nth};
-ghost use Rattle.parts_model.specs.Tagged.{given};
-ghost use Rattle.guest_files.specs.Errors.{IsCreateError, IsWriteError};
+ghost use Rattle.parts_model.specs.Tagged.{given, held_bytes};
+ghost use Rattle.guest_files.specs.Errors.{IsCreateError, IsRefusal, IsWriteError};
 ghost use Rattle.guest_files.specs.Table.{IsHeld, IsPlace, IsThere};
 
 use crate::FileError;
@@ -60,6 +60,42 @@ impl Files {
         self.names.find(path)
     }
 
+    // Whether there may be a file of this name, and there is none yet.
+    fn check_free(&self, path: &[u8]) -> Result<(), FileError>
+        ensures free { OnOk result (find_file self.now path.now ≡ None) }
+        ensures room { OnOk result (is_full self.now ≡ false) }
+
+        ensures exists { (result ≡ Err FileError.Exists) ↔ IsSome (find_file self.now path.now) }
+        ensures too_many { (result ≡ Err FileError.TooMany) ↔
+            (IsNone (find_file self.now path.now) × IsTrue (is_full self.now)) }
+        ensures answers { IfErr result IsRefusal }
+    {
+        if self.find(path).is_some() {
+            return Err(FileError::Exists);
+        }
+        if self.is_full() {
+            return Err(FileError::TooMany);
+        }
+        Ok(())
+    }
+
+    // Puts a new file under a free name, and answers its number.
+    fn insert(&mut self, path: &[u8], content: Content) -> Result<u32, NoMemory>
+        requires free { find_file self.old path.now ≡ None }
+        requires few { length self.old.all < 2 ^ 31 }
+        requires not_held { content.holders ≡ 0 }
+        ensures made { OnOk result (self.new ≡ made self.old path.now content.bytes) }
+        ensures number { IfOk result (λ file. file ≡ next_file self.old) }
+        ensures err { OnErr result (self.new ≡ self.old) }
+    {
+        let number = self.all.len() as u32;
+        self.all.reserve(1)?;
+        self.names.add(path, number)?;
+        self.all.push_reserved(Some(content));
+        self.present += 1;
+        Ok(number)
+    }
+
     /// Makes an empty file under a free name, and answers its number.
     pub fn create(&mut self, path: &[u8]) -> Result<u32, FileError>
         requires few { length self.old.all < 2 ^ 31 }
@@ -73,19 +109,31 @@ impl Files {
         ensures answers { IfErr result IsCreateError }
         ensures err { OnErr result (self.new ≡ self.old) }
     {
-        if self.names.find(path).is_some() {
-            return Err(FileError::Exists);
-        }
-        if self.is_full() {
-            return Err(FileError::TooMany);
-        }
-        let alloc = *self.all.allocator();
-        let number = self.all.len() as u32;
-        self.all.reserve(1)?;
-        self.names.add(path, number)?;
-        self.all.push_reserved(Some(Content::new(alloc)));
-        self.present += 1;
-        Ok(number)
+        self.check_free(path)?;
+        let content = Content::new(*self.all.allocator());
+        Ok(self.insert(path, content)?)
+    }
+
+    /// Makes a file of the bytes of an event under a free name, and answers its number.
+    pub fn create_with(&mut self, path: &[u8], bytes: &[u8], event: u64) -> Result<u32, FileError>
+        requires few { length self.old.all < 2 ^ 31 }
+
+        ensures made { OnOk result
+            (self.new ≡ made self.old path.now (held_bytes event bytes.now)) }
+        ensures number { IfOk result (λ file. file ≡ next_file self.old) }
+
+        ensures exists { (result ≡ Err FileError.Exists) ↔ IsSome (find_file self.old path.now) }
+        ensures too_many { (result ≡ Err FileError.TooMany) ↔
+            (IsNone (find_file self.old path.now) × IsTrue (is_full self.old)) }
+        ensures too_long { (result ≡ Err FileError.TooLong) ↔
+            (IsNone (find_file self.old path.now) × (is_full self.old ≡ false) ×
+            (MOST_FILE_BYTES < length bytes.now)) }
+        ensures answers { IfErr result (λ error. error ≢ FileError.NoFile) }
+        ensures err { OnErr result (self.new ≡ self.old) }
+    {
+        self.check_free(path)?;
+        let content = Content::with_bytes(*self.all.allocator(), bytes, event)?;
+        Ok(self.insert(path, content)?)
     }
 
     /// Takes a name away, and answers the number of its file. The file stays while something holds it.

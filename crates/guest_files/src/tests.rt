@@ -61,8 +61,7 @@ fn a_full_file_takes_no_byte(rt: HostRuntime) -> Result<(), Fail> {
 #[test]
 fn the_last_write_is_the_origin(rt: HostRuntime) -> Result<(), Fail> {
     let mut files = Files::new(rt.alloc());
-    assert_eq!(rt; files.create(b"f"), Ok(0));
-    assert_eq!(rt; write(&rt, &mut files, 0, b"abcd", 3), Ok(4));
+    assert_eq!(rt; files.create_with(b"f", b"abcd", 3), Ok(0));
     assert_eq!(rt; write(&rt, &mut files, 1, b"xy", 5), Ok(2));
     let give = read(&rt, &files, 0, 9)?;
     assert_eq!(rt; give.bytes.as_slice(), b"axyd".as_slice());
