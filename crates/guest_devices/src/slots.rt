@@ -1,8 +1,9 @@
 // Devices in slots.
 ghost use Rattle.std.specs.Prelude.{◌≡◌, ◌≢◌, ◌+◌, ◌↔◌, ℕ, length, IsNone, IfSome, IsTrue, IsSome, min, option_map, ◌++◌};
 ghost use Rattle.arn_base.specs.Device.{cut_to, left_after, takes};
-ghost use Rattle.guest_devices.specs.Answers.{Asked, Here, Reads, Writes, here_answer, read_answer, write_answer, IsWithin};
-ghost use Rattle.guest_devices.specs.Slots.{answer_of, in_slot, taken_by, ReadsSlot, UnplugsSlot, WritesSlot};
+ghost use Rattle.parts_model.specs.Numbered.{nth};
+ghost use Rattle.guest_devices.specs.Answers.{read_answer, write_answer, IsWithin};
+ghost use Rattle.guest_devices.specs.Slots.{answer_of, taken_by, ReadsSlot, UnplugsSlot, WritesSlot};
 
 use crate::{Answer, Answers};
 use arn_base::{Device, Reply, Took};
@@ -113,7 +114,7 @@ impl<D: Device> Answers for Slots<'_, D> {
 
 /// Drops the device in slot `n`. False comes exactly where there is none.
 pub fn unplug_in<D: Device>(devices: &mut Vec<Option<D>>, n: u32) -> bool
-    ensures there { IsTrue result ↔ IsSome (in_slot devices.old.items n) }
+    ensures there { IsTrue result ↔ IsSome (nth devices.old.items n) }
     ensures unplugged { UnplugsSlot n devices.old.items devices.new.items }
 {
     match devices.get_mut(n as usize) {
@@ -124,7 +125,7 @@ pub fn unplug_in<D: Device>(devices: &mut Vec<Option<D>>, n: u32) -> bool
 
 /// `unplug_in` at boxed devices.
 pub fn unplug(devices: &mut Vec<Option<Box<dyn Device>>>, n: u32) -> bool
-    ensures there { IsTrue result ↔ IsSome (in_slot devices.old.items n) }
+    ensures there { IsTrue result ↔ IsSome (nth devices.old.items n) }
     ensures unplugged { UnplugsSlot n devices.old.items devices.new.items }
 {
     unplug_in(devices, n)

@@ -3,7 +3,7 @@ ghost use Rattle.std.specs.Prelude.{◌≡◌};
 ghost use Rattle.guest_files.specs.declared.errors.FileError.TheVariants as file_error;
 
 use arn_base::NoMemory;
-use std::alloc::{AllocError, AllocFailed};
+use std::alloc::AllocError;
 use thiserror::Error;
 
 /// Why a call on files is refused.
@@ -33,14 +33,6 @@ impl From<AllocError> for FileError {
     ghost from_gives = { λ _ e. e ≡ file_error.NoMemory };
 
     fn from(_: AllocError) -> FileError {
-        FileError::NoMemory
-    }
-}
-
-impl<T: Drop> From<AllocFailed<T>> for FileError {
-    ghost from_gives = { λ _ e. e ≡ file_error.NoMemory };
-
-    fn from(_: AllocFailed<T>) -> FileError {
         FileError::NoMemory
     }
 }
