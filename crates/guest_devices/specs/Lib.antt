@@ -1,0 +1,5 @@
+pub mod Answers
+pub mod Scripts
+pub mod Seeded
+pub mod Slots
+pub mod Told

@@ -1,0 +1,4 @@
+pub mod FileForms
+pub mod NameForms
+pub mod Numbers
+pub mod Tagging
