@@ -115,9 +115,10 @@ abbrev pub FitsFiles : Files → Description → Type 0
 FitsFiles files (description.File file position) = LiesInFile files file position
 FitsFiles files other = Unit {0}
 
--- so do those of all open files
-abbrev pub IsSound : Kernel → Type 0
-IsSound k = (n : ℕ) → IfSome (nth k.descriptions n) (λ o. FitsFiles k.files o.what)
+-- what the kernel keeps: the positions of all open files lie in their files, and a name stands for a file that was made
+pub record IsSound (k : Kernel) : Type 0 where
+  pub fits : (n : ℕ) → IfSome (nth k.descriptions n) (λ o. FitsFiles k.files o.what)
+  pub named : (path : List ℕ) (file : ℕ) → find_file k.files path ≡ Some file → file < length k.files.all
 
 -- an event of a process, as its record tells it
 pub record EventTells (m : Machine) (pid : ℕ) (v : View) (d : Doing) (entry : Record) : Type 0 where
