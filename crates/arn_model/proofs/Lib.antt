@@ -1,4 +1,5 @@
 pub mod Numbers
 pub mod Quiet
 pub mod Closing
+pub mod Effects
 pub mod RunLemmas
