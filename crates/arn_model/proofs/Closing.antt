@@ -160,7 +160,7 @@ quiet-without_port number (Some p) k =
     quiet-trans k k' (without_servers p.waiting k') (quiet-ports k (freed k.ports number)) (quiet-without_servers p.waiting k')
 
 -- how files are held
-reached-quiet : (fs : Files) (file : ℕ) (o p : Option files.File) → nth fs.all file ≡ o → FileSame (option_map (λ f. f.bytes) o) (option_map (λ f. f.bytes) p) → FilesQuiet fs (files.with_file fs file p)
+pub reached-quiet : (fs : Files) (file : ℕ) (o p : Option files.File) → nth fs.all file ≡ o → FileSame (option_map (λ f. f.bytes) o) (option_map (λ f. f.bytes) p) → FilesQuiet fs (files.with_file fs file p)
 reached-quiet fs file o p e same = record { names = refl; made = length-set fs.all file p; files = each }
   where
     there : (x : Option (Option files.File)) → option_and_then (λ thing. thing) x ≡ o → FileSame (option_map (λ f. f.bytes) o) (option_map (λ f. f.bytes) (option_and_then (λ y. p) x))
@@ -176,7 +176,7 @@ reached-quiet fs file o p e same = record { names = refl; made = length-set fs.a
     each : (q : ℕ) → FileSame (file_bytes fs q) (file_bytes (files.with_file fs file p) q)
     each q = subst (λ (x : Option files.File). FileSame (file_bytes fs q) (option_map (λ f. f.bytes) x)) (sym (nth-set fs.all file p q)) (by_test q (q == file) refl)
 
-files-same : (fs : Files) → FilesQuiet fs fs
+pub files-same : (fs : Files) → FilesQuiet fs fs
 files-same fs = record { names = refl; made = refl; files = λ file. file-same (file_bytes fs file) (file_bytes fs file) refl }
 
 pub held-quiet : (fs : Files) (file : ℕ) → FilesQuiet fs (files.held fs file)

@@ -35,7 +35,7 @@ pub record KernelTells (k : Kernel) (event : ℕ) (bytes : List ℕ) (outgoing :
   pub sound : IsSound k → IsSound new
   pub grows : length k.processes ≤ length new.processes
 
-kept-same : (event file : ℕ) (o p : Option (List TaggedByte)) → FileSame o p → FileKept event None file o p
+pub kept-same : (event file : ℕ) (o p : Option (List TaggedByte)) → FileSame o p → FileKept event None file o p
 kept-same event file o None h = tt
 kept-same event file None (Some p) h = absurd h
 kept-same event file (Some o) (Some p) h = h
@@ -197,3 +197,59 @@ ended-tells pid s event k =
     tells-then k event (s ∷ []) (Some (status_of pid)) (EndsLife pid) NoName None k'' (kernel.ended pid (status_at event s) k)
     (then-tells k event (s ∷ []) (Some (status_of pid)) (EndsLife pid) k' k'' (quiet-all_dropped (descriptors_of k pid) k) (table-ended pid s event k') refl)
     (quiet-handling k'' (slice_set k'.handling (pid - 1) None))
+
+-- a child
+pub forked-process : (all : Processes) (p : Option Process) (q : ℕ) → process (all ++ p ∷ []) q ≡ cond (q == length all + 1) p (process all q)
+forked-process all p zero = none (0 == length all + 1) refl
+  where
+    none : (b : Bool) → (0 == length all + 1) ≡ b → None ≡ cond b p None
+    none true e = absurd (let k = eqb-true 0 (length all + 1) e in omega arith)
+    none false e = refl
+forked-process all p (suc i) =
+    nth-push all p i
+    ∙ ap (λ (b : Bool). cond b p (nth all i)) (sym (suc-test i (length all)) ∙ ap (λ (n : ℕ). suc i == n) (let e : suc (length all) ≡ length all + 1 = omega arith in e))
+
+child-status : (parent : ℕ) (o : Option Process) → status_in (option_map (table.child_of parent) o) ≡ None
+child-status parent None = refl
+child-status parent (Some p) = refl
+
+child-lives : (parent : ℕ) (o : Option Process) → lives_in o ≡ true → lives_in (option_map (table.child_of parent) o) ≡ true
+child-lives parent None e = e
+child-lives parent (Some p) e = refl
+
+table-forked : (pid event : ℕ) (k : Kernel) → lives k pid ≡ true → KernelTells k event [] None (BeginsLife (table.next_process k.processes)) NoName None (record k { processes = table.forked k.processes pid })
+table-forked pid event k alive =
+    let child = option_map (table.child_of pid) (process k.processes pid) in
+    record {
+      holds = holds;
+      living = λ q. ap lives_in (forked-process k.processes child q) ∙ (live q (q == length k.processes + 1) ∙ ap (λ (b : Bool). cond b true (lives k q)) (eq-swap q (length k.processes + 1)));
+      names = λ path. refl;
+      kept = λ file. kept-same event file (file_bytes k.files file) (file_bytes k.files file) (file-same (file_bytes k.files file) (file_bytes k.files file) refl);
+      sound = λ h. record { fits = h.fits; named = h.named };
+      grows = let e = length_push k.processes child in omega arith;
+    }
+  where
+    live : (q : ℕ) (b : Bool) → lives_in (cond b (option_map (table.child_of pid) (process k.processes pid)) (process k.processes q)) ≡ cond b true (lives k q)
+    live q true = child-lives pid (process k.processes pid) alive
+    live q false = refl
+
+    status : (q : ℕ) (h : TaggedByte) (b : Bool) → status_in (cond b (option_map (table.child_of pid) (process k.processes pid)) (process k.processes q)) ≡ Some h → table.status_of k.processes q ≡ Some h
+    status q h true e = absurd (let n = child-status pid (process k.processes pid) in cc)
+    status q h false e = e
+
+    holds : HoldsAfter k event [] None (record k { processes = table.forked k.processes pid })
+    holds (ConsoleByte n) h e = inr (refl, e)
+    holds (PipeByte pipe n) h e = inr (refl, e)
+    holds (FileByte file at) h e = inr (refl, e)
+    holds (StatusByte q) h e =
+        inr (refl, status q h (q == length k.processes + 1) (ap status_in (sym (forked-process k.processes (option_map (table.child_of pid) (process k.processes pid)) q)) ∙ e))
+
+pub forked-tells : (pid event : ℕ) (k : Kernel) → lives k pid ≡ true → KernelTells k event [] None (BeginsLife (table.next_process k.processes)) NoName None (kernel.forked pid k)
+forked-tells pid event k alive =
+    let k' = record k { processes = table.forked k.processes pid } in
+    let hs = k.handling ++ option_map child_handling (handling_of k pid) ∷ [] in
+    let k'' = record k' { handling = hs } in
+    let life = BeginsLife (table.next_process k.processes) in
+    tells-then k event [] None life NoName None k'' (kernel.forked pid k)
+    (tells-then k event [] None life NoName None k' k'' (table-forked pid event k alive) (quiet-handling k' hs))
+    (quiet-all_also_held (descriptors_of k pid) k'')

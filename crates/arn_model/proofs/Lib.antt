@@ -2,4 +2,5 @@ pub mod Numbers
 pub mod Quiet
 pub mod Closing
 pub mod Effects
+pub mod Naming
 pub mod RunLemmas
