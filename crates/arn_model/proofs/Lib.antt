@@ -3,4 +3,5 @@ pub mod Quiet
 pub mod Closing
 pub mod Effects
 pub mod Naming
+pub mod Putting
 pub mod RunLemmas
