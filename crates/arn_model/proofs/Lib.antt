@@ -4,4 +4,5 @@ pub mod Closing
 pub mod Effects
 pub mod Naming
 pub mod Putting
+pub mod Calling
 pub mod RunLemmas
