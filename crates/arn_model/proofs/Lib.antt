@@ -5,4 +5,5 @@ pub mod Effects
 pub mod Naming
 pub mod Putting
 pub mod Calling
+pub mod ProcessTells
 pub mod RunLemmas
