@@ -6,4 +6,6 @@ pub mod Naming
 pub mod Putting
 pub mod Calling
 pub mod ProcessTells
+pub mod SignalTells
+pub mod FileTells
 pub mod RunLemmas
