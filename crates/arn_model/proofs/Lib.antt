@@ -8,4 +8,5 @@ pub mod Calling
 pub mod ProcessTells
 pub mod SignalTells
 pub mod FileTells
+pub mod Reach
 pub mod RunLemmas
