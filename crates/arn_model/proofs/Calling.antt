@@ -7,7 +7,7 @@ use Rattle.arn_base.specs.declared.records.Extra.TheVariants as extra
 use Rattle.arn_base.specs.declared.records.Record.{Record}
 use Rattle.arn_base.specs.declared.records.Record.TheVariants as entry
 use Rattle.parts_model.specs.declared.calls.TheConstants as number
-use Rattle.parts_model.specs.declared.limits.TheConstants.{MOST_TRANSFER}
+use Rattle.parts_model.specs.declared.limits.TheConstants.{MOST_TRANSFER, WINDOW_LEN}
 use Rattle.parts_model.specs.declared.tagged.TaggedByte.{TaggedByte}
 use Rattle.parts_model.specs.Files.{file_bytes, find_file}
 use Rattle.parts_model.specs.Processes as table
@@ -61,6 +61,7 @@ pub record At (m : Machine) (pid : ℕ) (v : View) (n : ℕ) : Type 0 where
   pub number : n ≡ call_number v.body.cpu
   pub sound : IsSound m.kernel
   pub alive : lives m.kernel pid ≡ true
+  pub fits : length v.window ≤ WINDOW_LEN
 
 abbrev pub DoneCall : Machine → ℕ → View → ℕ → Doing → Type 0
 DoneCall m pid v n d = Done m pid v d (entry.Call pid n (result_of d.act) d.extra)

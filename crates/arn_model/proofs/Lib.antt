@@ -9,4 +9,5 @@ pub mod ProcessTells
 pub mod SignalTells
 pub mod FileTells
 pub mod Reach
+pub mod TransferTells
 pub mod RunLemmas
