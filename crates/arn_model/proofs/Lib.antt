@@ -10,4 +10,6 @@ pub mod SignalTells
 pub mod FileTells
 pub mod Reach
 pub mod TransferTells
+pub mod ChannelTells
+pub mod RowTells
 pub mod RunLemmas
