@@ -12,4 +12,6 @@ pub mod Reach
 pub mod TransferTells
 pub mod ChannelTells
 pub mod RowTells
+pub mod Places
+pub mod Fitting
 pub mod RunLemmas
