@@ -24,13 +24,9 @@ use Rattle.arn_model.specs.Doing.{Doing, Request, Waits, Does, Asks, Refusal, re
 use Rattle.arn_model.specs.Kernel.{Kernel, Machine}
 use Rattle.arn_model.specs.Row.{answered}
 use Rattle.arn_model.specs.Tells as tells
-use Rattle.arn_model.specs.Tells.{lives, named_after, FileAfter, ForksRightly, IsSound, EventTells}
+use Rattle.arn_model.specs.Tells.{lives, named_after, FileAfter, ForksRightly, IsSound, EventTells, HasNumbers}
 use Rattle.arn_model.proofs.Effects.{FileKept, KernelTells, quiet-tells}
 use Rattle.arn_model.proofs.Quiet.{Quiet, quiet-refl}
-
--- fewer processes have been made than there are results that are no errors
-abbrev pub HasFew : Kernel → Type 0
-HasFew k = length k.processes < 2 ^ 63
 
 -- who lives after an act
 abbrev pub life_by : ℕ → Act → LifeChange
@@ -49,7 +45,7 @@ life_by pid (Dies signal cut) = EndsLife pid
 
 -- an event of a process: it tells, and the kernel stays sound
 pub record Done (m : Machine) (pid : ℕ) (v : View) (d : Doing) (entry : Record) : Type 0 where
-  pub told : HasFew d.kernel → EventTells m pid v d entry
+  pub told : HasNumbers d.kernel → EventTells m pid v d entry
   pub living : (q : ℕ) → lives d.kernel q ≡ lives_after (life_by pid d.act) q (lives m.kernel q)
   pub sound : IsSound d.kernel
   pub grows : length m.kernel.processes ≤ length d.kernel.processes
@@ -94,7 +90,7 @@ right-by v n result more act s e t w pid =
     ∙ (ap (λ (b : Bool). or_else (wrong_if (not b) n (call_number v.body.cpu)) rest) (eq-eqb n (call_number v.body.cpu) e)
     ∙ (ap (λ (a : Act). act_wrong v a more) t ∙ w))
 
-pub done-call : (m : Machine) (pid : ℕ) (v : View) (n : ℕ) (d : Doing) (name : NameChange) (put : Option Written) → At m pid v n → (HasFew d.kernel → CallTells m pid v n d name put) → KernelTells m.kernel m.events d.bytes d.outgoing (life_by pid d.act) name put d.kernel → DoneCall m pid v n d
+pub done-call : (m : Machine) (pid : ℕ) (v : View) (n : ℕ) (d : Doing) (name : NameChange) (put : Option Written) → At m pid v n → (HasNumbers d.kernel → CallTells m pid v n d name put) → KernelTells m.kernel m.events d.bytes d.outgoing (life_by pid d.act) name put d.kernel → DoneCall m pid v n d
 done-call m pid v n d name put at call k =
     record { told = λ few. told (call few); living = k.living; sound = k.sound at.sound; grows = k.grows }
   where

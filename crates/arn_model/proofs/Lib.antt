@@ -14,4 +14,5 @@ pub mod ChannelTells
 pub mod RowTells
 pub mod Places
 pub mod Fitting
+pub mod TurnTells
 pub mod RunLemmas

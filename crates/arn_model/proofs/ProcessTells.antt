@@ -25,11 +25,11 @@ use Rattle.arn_model.specs.Kernel as kernel
 use Rattle.arn_model.specs.Kernel.{Kernel, Machine, status_at, with_handling, also_held, all_also_held, descriptors_of}
 use Rattle.arn_model.specs.Paths.{isnt_path_len, path_of}
 use Rattle.arn_model.specs.ProcessCalls.{status_of, exit_row, child_act, child_extra, fork_row, exec_doing, exec_bytes, exec_file, exec_row, wait_status, wait_child, isnt_any, wait_row, getpid_row, yield_row}
-use Rattle.arn_model.specs.Tells.{lives, HoldsSegment, kernel_byte}
+use Rattle.arn_model.specs.Tells.{lives, HoldsSegment, kernel_byte, HasNumbers}
 use Rattle.arn_model.proofs.Quiet.{Less, Quiet, quiet-refl, quiet-table, TableQuiet}
 use Rattle.arn_model.proofs.Closing.{process-change, length-with_process, status_in, lives_in, quiet-with_handling}
 use Rattle.arn_model.proofs.Effects.{KernelTells, quiet-tells, ended-tells, forked-tells}
-use Rattle.arn_model.proofs.Calling.{HasFew, Done, DoneCall, At, RequestTells, CallTells, done-call, done-plain, unless-refused, refused-tells}
+use Rattle.arn_model.proofs.Calling.{Done, DoneCall, At, RequestTells, CallTells, done-call, done-plain, unless-refused, refused-tells}
 
 pub exit-tells : (m : Machine) (pid : ℕ) (v : View) → At m pid v EXIT → RequestTells m pid v EXIT (exit_row m pid v)
 exit-tells m pid v at =
@@ -45,7 +45,7 @@ held-processes [] k = refl
 held-processes (None ∷ ns) k = held-processes ns k
 held-processes (Some n ∷ ns) k = held-processes ns (also_held n k)
 
-child-success : (pid : ℕ) (k : Kernel) → HasFew (kernel.forked pid k) → is_success (table.next_process k.processes) ≡ true
+child-success : (pid : ℕ) (k : Kernel) → HasNumbers (kernel.forked pid k) → is_success (table.next_process k.processes) ≡ true
 child-success pid k few =
     lt-ltb (length k.processes + 1) (2 ^ 63)
     (subst (λ (n : ℕ). n < 2 ^ 63)
