@@ -16,3 +16,4 @@ pub mod Places
 pub mod Fitting
 pub mod TurnTells
 pub mod RunLemmas
+pub mod StepsTell
