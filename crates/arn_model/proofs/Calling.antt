@@ -1,6 +1,6 @@
 -- What a call tells, from what its act, its record and its kernel say; and refusals.
-use Rattle.std.proofs.Common.{◌≡◌, ℕ, ◌<◌, ◌≤◌, ◌^◌, List, [], ◌∷◌, length, refl, ap, ap₂, ◌∙◌, sym, subst, Option, Some, None, unwrap_or, Bool, true, false, ◌==◌, ◌&&◌, not, cond, if◌then◌else◌, arith, nat_le}
-use Rattle.std.proofs.lemmas.Bool.{eq-eqb, eqb-true, and_right, and_parts, not-true}
+use Rattle.std.proofs.Common.{◌≡◌, ℕ, ◌≤◌, List, [], ◌∷◌, length, refl, ap, ◌∙◌, sym, Option, Some, None, unwrap_or, Bool, true, false, ◌==◌, ◌&&◌, not, cond, if◌then◌else◌, nat_le}
+use Rattle.std.proofs.lemmas.Bool.{eq-eqb, and_right, and_parts, not-true}
 use Rattle.arn_base.specs.declared.machine.Cpu.{Cpu}
 use Rattle.arn_base.specs.declared.records.Extra.{Extra}
 use Rattle.arn_base.specs.declared.records.Extra.TheVariants as extra
@@ -16,11 +16,10 @@ use Rattle.rv64_model.specs.Instruction.{Effect, Call}
 use Rattle.acts_model.specs.Acts.{Act, Returns, Receives, Gives, Starts, Forks, Founds, Shares, Leaves, Delivers, Exits, Faults, Dies, result_of}
 use Rattle.acts_model.specs.Bodies.{View, seen}
 use Rattle.acts_model.specs.Disagreement.{wrong_with, wrong_if, or_else, isnt_call, is_other_call, act_wrong}
-use Rattle.acts_model.specs.Records.{process_of, held_len, plain_len, counts_itself, LifeChange, BeginsLife, EndsLife, NoLife, call_life, life_told, lives_after, NameChange, NoName, call_name, name_told, Written, call_put, put_told, give_in}
-use Rattle.acts_model.specs.Told.{Kind, Exit, Fork, Exec, Wait, Sigreturn, Read, Write, Shm, Other, kind_of, call_act, is_pipe_write}
+use Rattle.acts_model.specs.Records.{held_len, plain_len, LifeChange, BeginsLife, EndsLife, NoLife, call_life, lives_after, NameChange, NoName, call_name, Written, call_put, put_told, give_in}
+use Rattle.acts_model.specs.Told.{Kind, Exit, Fork, Exec, Wait, Sigreturn, Read, Write, Shm, Other, kind_of, call_act}
 use Rattle.acts_model.specs.Views.{stands_at, call_number, argument, error}
-use Rattle.arn_model.specs.Doing as doing
-use Rattle.arn_model.specs.Doing.{Doing, Request, Waits, Does, Asks, Refusal, returning, returns, refused, unless_refused}
+use Rattle.arn_model.specs.Doing.{Doing, Request, Waits, Does, Asks, Refusal, returning, refused, unless_refused}
 use Rattle.arn_model.specs.Kernel.{Kernel, Machine}
 use Rattle.arn_model.specs.Row.{answered}
 use Rattle.arn_model.specs.Tells as tells

@@ -1,7 +1,5 @@
 -- What the calls that make channels tell.
-use Rattle.std.proofs.Common.{◌≡◌, ℕ, ◌+◌, ◌*◌, ◌^◌, List, [], ◌∷◌, length, refl, Option, Some, None, Bool, true, false, ◌==◌, not, if◌then◌else◌, nat_lt}
-use Rattle.arn_base.specs.declared.machine.Cpu.{Cpu}
-use Rattle.arn_base.specs.declared.records.Extra.{Extra}
+use Rattle.std.proofs.Common.{ℕ, ◌+◌, ◌*◌, ◌^◌, [], ◌∷◌, length, refl, Option, Some, None, Bool, true, false, ◌==◌, not, if◌then◌else◌, nat_lt}
 use Rattle.arn_base.specs.declared.records.Extra.TheVariants as extra
 use Rattle.parts_model.specs.declared.calls.TheConstants.{PIPE, LISTEN, CONNECT, ACCEPT, DEVICE}
 use Rattle.parts_model.specs.declared.limits.TheConstants.{GREATEST_PORT}
@@ -11,7 +9,7 @@ use Rattle.parts_model.specs.declared.open.Description.TheVariants as descriptio
 use Rattle.parts_model.specs.declared.refusals.TheConstants.{BAD_DESCRIPTOR, NO_ROOM, NO_DEVICE, BAD_ARGUMENT, NO_DESCRIPTOR_ROOM, PORT_IN_USE, CONNECTION_REFUSED}
 use Rattle.parts_model.specs.Pipes.{free_pipes}
 use Rattle.parts_model.specs.Ports.{is_in_use, is_full, listened, can_connect, connected, oldest, accepted}
-use Rattle.parts_model.specs.Replies.{Answered, is_here}
+use Rattle.parts_model.specs.Replies.{is_here}
 use Rattle.acts_model.specs.Bodies.{View}
 use Rattle.acts_model.specs.Views.{argument, error}
 use Rattle.arn_model.specs.ChannelCalls.{with_pipe, pipe_opened, pipe_row, listen_row, new_conn, connects, connect_row, accept_conn, accept_at, accept_row, device_asked, device_row, device_opened}
@@ -23,7 +21,7 @@ use Rattle.arn_model.specs.Row.{answered}
 use Rattle.arn_model.specs.TransferCalls.{absent, was_unplugged, unless_unplugged}
 use Rattle.arn_model.proofs.Quiet.{Quiet, quiet-refl, quiet-trans, quiet-new_pipe, quiet-ports}
 use Rattle.arn_model.proofs.Closing.{quiet-opens}
-use Rattle.arn_model.proofs.Calling.{Plain, DoneCall, At, RequestTells, done-plain, unless-refused, refused-tells}
+use Rattle.arn_model.proofs.Calling.{DoneCall, At, RequestTells, done-plain, unless-refused, refused-tells}
 
 pub pipe-tells : (m : Machine) (pid : ℕ) (v : View) → At m pid v PIPE → RequestTells m pid v PIPE (pipe_row m pid v)
 pipe-tells m pid v at =
@@ -37,9 +35,9 @@ pipe-tells m pid v at =
     (returns result k'')
     at refl refl
     (λ none.
-        done-plain m pid v PIPE result extra.Nothing k'' at (record { told = refl; length = refl; life = refl; put = refl; gives = refl }) refl
-        (quiet-trans m.kernel k k'' (quiet-new_pipe m.kernel)
-        (quiet-trans k k' k'' (quiet-opens pid (description.Reader pipe) k (λ s. tt)) (quiet-opens pid (description.Writer pipe) k' (λ s. tt)))))
+    done-plain m pid v PIPE result extra.Nothing k'' at (record { told = refl; length = refl; life = refl; put = refl; gives = refl }) refl
+    (quiet-trans m.kernel k k'' (quiet-new_pipe m.kernel)
+    (quiet-trans k k' k'' (quiet-opens pid (description.Reader pipe) k (λ s. tt)) (quiet-opens pid (description.Writer pipe) k' (λ s. tt)))))
 
 pub listen-tells : (m : Machine) (pid : ℕ) (v : View) → At m pid v LISTEN → RequestTells m pid v LISTEN (listen_row m pid v)
 listen-tells m pid v at =
@@ -55,8 +53,8 @@ listen-tells m pid v at =
     (returns (next_descriptor m.kernel pid) k')
     at refl refl
     (λ none.
-        done-plain m pid v LISTEN (next_descriptor m.kernel pid) extra.Nothing k' at (record { told = refl; length = refl; life = refl; put = refl; gives = refl }) refl
-        (quiet-trans m.kernel k k' (quiet-ports m.kernel (listened m.kernel.ports port)) (quiet-opens pid (description.Listener port) k (λ s. tt))))
+    done-plain m pid v LISTEN (next_descriptor m.kernel pid) extra.Nothing k' at (record { told = refl; length = refl; life = refl; put = refl; gives = refl }) refl
+    (quiet-trans m.kernel k k' (quiet-ports m.kernel (listened m.kernel.ports port)) (quiet-opens pid (description.Listener port) k (λ s. tt))))
 
 quiet-connects : (pid port : ℕ) (conn : Conn) (k : Kernel) → Quiet k (connects pid port conn k)
 quiet-connects pid port conn k =

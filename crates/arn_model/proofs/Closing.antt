@@ -1,5 +1,5 @@
 -- Each way in which the kernel opens, holds and closes is a quiet change.
-use Rattle.std.proofs.Common.{◌≡◌, ℕ, zero, suc, ◌+◌, ◌-◌, ◌<◌, ◌≤◌, List, [], ◌∷◌, ◌++◌, length, refl, ap, ◌∙◌, sym, subst, Option, Some, None, IfSome, Bool, true, false, ◌==◌, cond, if◌then◌else◌, ◌||◌, arith, option_map, option_and_then, is_some, slice_get, slice_set, nat_lt, length-set, length-append}
+use Rattle.std.proofs.Common.{◌≡◌, ℕ, zero, suc, ◌+◌, ◌-◌, List, [], ◌∷◌, ◌++◌, length, refl, ap, ◌∙◌, sym, subst, Option, Some, None, IfSome, Bool, true, false, ◌==◌, cond, if◌then◌else◌, ◌||◌, arith, option_map, option_and_then, is_some, slice_get, slice_set, nat_lt, length-set}
 use Rattle.parts_model.specs.declared.open.Conn.{Conn}
 use Rattle.parts_model.specs.declared.open.Description.{Description}
 use Rattle.parts_model.specs.declared.open.Description.TheVariants.{Console, File, Reader, Writer, Connection, Listener, Device}
@@ -9,15 +9,14 @@ use Rattle.parts_model.specs.Files.{Files, file_bytes}
 use Rattle.parts_model.specs.Numbered.{nth}
 use Rattle.parts_model.specs.Pipes as pipes
 use Rattle.parts_model.specs.Pipes.{Pipe, End, ReadEnd, WriteEnd}
-use Rattle.parts_model.specs.Ports.{Port, Ports, port_at, freed}
+use Rattle.parts_model.specs.Ports.{Port, port_at, freed}
 use Rattle.parts_model.specs.Processes as table
 use Rattle.parts_model.specs.Processes.{Process, Processes, Life, process, lowest_free}
-use Rattle.arn_model.specs.Kernel as kernel
 use Rattle.arn_model.specs.Kernel.{Kernel, Opened, Handling, placed, with_new, opens, with_count, also_held, all_also_held, without_end, without_side, without_servers, without_port, closed, less_held, dropped, all_dropped, closes, with_what, with_description, with_handling, handling_of}
-use Rattle.arn_model.specs.Tells.{at_position, kernel_byte, lives, LiesInFile, FitsFiles, IsSound}
+use Rattle.arn_model.specs.Tells.{at_position, FitsFiles, IsSound}
 use Rattle.std.proofs.lemmas.Bool.{eqb-true}
-use Rattle.arn_model.proofs.Numbers.{suc-test, nth-change, nth-set, nth-push, nth-within}
-use Rattle.arn_model.proofs.Quiet.{Less, less-same, less-none, FileSame, file-same, Quiet, quiet-refl, quiet-trans, FilesQuiet, quiet-files, pipe_byte, quiet-pipe, quiet-new_pipe, TableQuiet, quiet-table, quiet-descriptions, quiet-handling, quiet-ports}
+use Rattle.arn_model.proofs.Numbers.{suc-test, nth-change, nth-set, nth-push}
+use Rattle.arn_model.proofs.Quiet.{Less, less-same, FileSame, file-same, Quiet, quiet-refl, quiet-trans, FilesQuiet, quiet-files, pipe_byte, quiet-pipe, quiet-table, quiet-descriptions, quiet-handling, quiet-ports}
 
 -- one process changes
 pub process-change : (f : Option Process → Option Process) → f None ≡ None → (all : Processes) (pid q : ℕ) → process (table.with_process all pid (f (process all pid))) q ≡ cond (q == pid) (f (process all q)) (process all q)
@@ -90,8 +89,8 @@ pub quiet-new : (what : Description) (k : Kernel) → (IsSound k → FitsFiles k
 quiet-new what k h =
     quiet-descriptions k (k.descriptions ++ Some (record { what = what; descriptors = 1 }) ∷ [])
     (λ s n.
-        subst (λ (o : Option Opened). IfSome o (λ o. FitsFiles k.files o.what)) (sym (nth-push k.descriptions (Some (record { what = what; descriptors = 1 })) n))
-        (fits-none k.files (n == length k.descriptions) (Some (record { what = what; descriptors = 1 })) (nth k.descriptions n) (h s) (s.fits n)))
+    subst (λ (o : Option Opened). IfSome o (λ o. FitsFiles k.files o.what)) (sym (nth-push k.descriptions (Some (record { what = what; descriptors = 1 })) n))
+    (fits-none k.files (n == length k.descriptions) (Some (record { what = what; descriptors = 1 })) (nth k.descriptions n) (h s) (s.fits n)))
 
 pub quiet-opens : (pid : ℕ) (what : Description) (k : Kernel) → (IsSound k → FitsFiles k.files what) → Quiet k (opens pid what k)
 quiet-opens pid what k h = quiet-trans k (with_new what k) (opens pid what k) (quiet-new what k h) (quiet-placed pid (length k.descriptions) (with_new what k))
@@ -101,8 +100,8 @@ pub quiet-described : (k : Kernel) (n : ℕ) (f : Option Opened → Option Opene
 quiet-described k n f e h =
     quiet-descriptions k (slice_set k.descriptions n (f (nth k.descriptions n)))
     (λ s q.
-        subst (λ (o : Option Opened). IfSome o (λ o. FitsFiles k.files o.what)) (sym (nth-change f e k.descriptions n q))
-        (by_test s q (q == n) refl))
+    subst (λ (o : Option Opened). IfSome o (λ o. FitsFiles k.files o.what)) (sym (nth-change f e k.descriptions n q))
+    (by_test s q (q == n) refl))
   where
     by_test : IsSound k → (q : ℕ) (b : Bool) → (q == n) ≡ b → IfSome (cond b (f (nth k.descriptions q)) (nth k.descriptions q)) (λ o. FitsFiles k.files o.what)
     by_test s q true t = h s (nth k.descriptions q) (ap (λ i. nth k.descriptions i) (sym (eqb-true q n t))) (s.fits q)
@@ -217,8 +216,8 @@ quiet-in_place : (n : ℕ) (k : Kernel) (p : Option Opened) → (IsSound k → I
 quiet-in_place n k p h =
     quiet-descriptions k (slice_set k.descriptions n p)
     (λ s q.
-        subst (λ (o : Option Opened). IfSome o (λ o. FitsFiles k.files o.what)) (sym (nth-set k.descriptions n p q))
-        (fits-none k.files (q == n) (option_and_then (λ y. p) (slice_get k.descriptions q)) (nth k.descriptions q) (there s (slice_get k.descriptions q)) (s.fits q)))
+    subst (λ (o : Option Opened). IfSome o (λ o. FitsFiles k.files o.what)) (sym (nth-set k.descriptions n p q))
+    (fits-none k.files (q == n) (option_and_then (λ y. p) (slice_get k.descriptions q)) (nth k.descriptions q) (there s (slice_get k.descriptions q)) (s.fits q)))
   where
     there : IsSound k → (x : Option (Option Opened)) → IfSome (option_and_then (λ y. p) x) (λ o. FitsFiles k.files o.what)
     there s None = tt

@@ -1,23 +1,21 @@
 -- What an event may do to the kernel, and what each change that isn't quiet does.
-use Rattle.std.proofs.Common.{◌≡◌, ◌⊎◌, inl, inr, ℕ, zero, suc, ◌+◌, ◌-◌, ◌<◌, ◌≤◌, List, [], ◌∷◌, ◌++◌, length, take, drop, map, refl, ap, ◌∙◌, sym, subst, Option, Some, None, IfSome, Bool, true, false, ◌==◌, cond, if◌then◌else◌, ◌||◌, not, arith, option_map, option_and_then, is_some, slice_get, slice_set, nat_lt, nat_le, length-set, length-append}
-use Rattle.std.proofs.lemmas.Bool.{eq-eqb, eqb-true, eqb-false, ne_eqb, lt-ltb, le-ltb, ltb-true, ltb-false, le-leb, lt-leb}
-use Rattle.std.proofs.lemmas.Option.{slice_get-map, slice_get_within}
+use Rattle.std.proofs.Common.{◌≡◌, ◌⊎◌, inl, inr, ℕ, zero, suc, ◌+◌, ◌-◌, ◌≤◌, List, [], ◌∷◌, ◌++◌, length, map, refl, ap, ◌∙◌, sym, subst, Option, Some, None, Bool, true, false, ◌==◌, cond, if◌then◌else◌, ◌||◌, arith, option_map, option_and_then, is_some, slice_get, slice_set}
+use Rattle.std.proofs.lemmas.Bool.{eq-eqb, eqb-true, eqb-false, ne_eqb}
+use Rattle.std.proofs.lemmas.Option.{slice_get-map}
 use Rattle.std.proofs.lemmas.List.{length_push}
-use Rattle.parts_model.specs.declared.open.Description.{Description}
 use Rattle.parts_model.specs.declared.tagged.TaggedByte.{TaggedByte}
-use Rattle.parts_model.specs.Files as files
 use Rattle.parts_model.specs.Files.{Files, Name, file_bytes, file_among, find_file}
 use Rattle.parts_model.specs.Numbered.{nth}
 use Rattle.parts_model.specs.Processes as table
 use Rattle.parts_model.specs.Processes.{Process, Processes, Life, Live, Ended, process}
-use Rattle.acts_model.specs.Moved.{KernelByte, ConsoleByte, PipeByte, FileByte, StatusByte, Range, place_in, within_if}
+use Rattle.acts_model.specs.Moved.{KernelByte, ConsoleByte, PipeByte, FileByte, StatusByte, Range, within_if}
 use Rattle.acts_model.specs.Records.{LifeChange, BeginsLife, EndsLife, NoLife, lives_after, NameChange, NoName, Written}
 use Rattle.arn_model.specs.Kernel as kernel
 use Rattle.arn_model.specs.Kernel.{Kernel, Opened, Handling, all_dropped, descriptors_of, all_also_held, handling_of, child_handling, status_at}
 use Rattle.arn_model.specs.ProcessCalls.{status_of}
 use Rattle.arn_model.specs.Tells.{kernel_byte, lives, named_after, patched, put_byte, outgoing_byte, HoldsAfter, IsSound}
 use Rattle.arn_model.proofs.Numbers.{suc-test, nth-push}
-use Rattle.arn_model.proofs.Quiet.{Less, FileSame, file-same, Quiet, quiet-handling}
+use Rattle.arn_model.proofs.Quiet.{FileSame, file-same, Quiet, quiet-handling}
 use Rattle.arn_model.proofs.Closing.{process-change, length-with_process, status_in, lives_in, quiet-all_dropped, quiet-all_also_held}
 
 -- a file that is there was there before with what is written over its bytes, or it is new and empty

@@ -1,31 +1,28 @@
 -- What the calls on names and descriptors tell.
-use Rattle.std.proofs.Common.{◌≡◌, ℕ, ◌+◌, ◌<◌, ◌≤◌, List, [], ◌∷◌, length, refl, ap, ◌∙◌, sym, subst, Option, Some, None, IfSome, Bool, true, false, ◌==◌, ◌||◌, not, cond, if◌then◌else◌, arith, nat_lt, option_map, option_and_then, is_some, unwrap_or}
+use Rattle.std.proofs.Common.{◌≡◌, ℕ, ◌<◌, ◌≤◌, List, [], ◌∷◌, length, refl, ◌∙◌, subst, Option, Some, None, IfSome, Bool, true, false, ◌==◌, ◌||◌, not, if◌then◌else◌, arith, nat_lt, option_map, is_some, unwrap_or}
 use Rattle.std.proofs.lemmas.Bool.{ltb-false}
 use Rattle.std.proofs.lemmas.List.{length_push}
-use Rattle.arn_base.specs.declared.machine.Cpu.{Cpu}
-use Rattle.arn_base.specs.declared.records.Extra.{Extra}
 use Rattle.arn_base.specs.declared.records.Extra.TheVariants as extra
 use Rattle.parts_model.specs.declared.calls.TheConstants.{OPEN, CLOSE, SEEK, DUP, UNLINK}
 use Rattle.parts_model.specs.declared.open.Description.{Description}
 use Rattle.parts_model.specs.declared.open.Description.TheVariants as description
 use Rattle.parts_model.specs.declared.refusals.TheConstants.{NO_FILE, BAD_DESCRIPTOR, NO_ROOM, BAD_ADDRESS, NAME_TAKEN, BAD_ARGUMENT, NO_DESCRIPTOR_ROOM}
 use Rattle.parts_model.specs.declared.tagged.TaggedByte.{TaggedByte}
-use Rattle.parts_model.specs.Files.{Files, find_file, file_bytes, is_full, made, next_file, unnamed, held}
+use Rattle.parts_model.specs.Files.{find_file, file_bytes, is_full, made, next_file, unnamed, held}
 use Rattle.parts_model.specs.Numbered.{nth}
 use Rattle.acts_model.specs.Bodies.{View}
 use Rattle.acts_model.specs.Records.{NoLife, Names, Unnames, NoName}
 use Rattle.acts_model.specs.Views.{argument, can_reach}
-use Rattle.arn_model.specs.Doing.{Request, Does, returns, refuse, refused}
+use Rattle.arn_model.specs.Doing.{returns, refuse}
 use Rattle.arn_model.specs.FileCalls.{has_no_room, opens_file, opened_as, open_found, open_new, open_row, unlink_found, unlink_row, file_len, seek_in, seek_what, seek_opened, seek_row, close_opened, close_row, dup_opened, dup_row}
-use Rattle.arn_model.specs.Kernel.{Kernel, Machine, Opened, description_of, what_is, next_descriptor, placed, opens, also_held, closes, with_description}
+use Rattle.arn_model.specs.Kernel.{Kernel, Machine, Opened, description_of, what_is, next_descriptor, placed, also_held, closes, with_description}
 use Rattle.arn_model.specs.Paths.{isnt_path_len, path_of}
-use Rattle.arn_model.specs.Tells.{LiesInFile, FitsFiles, IsSound}
-use Rattle.arn_model.proofs.Quiet.{Quiet, quiet-refl, quiet-trans, quiet-files}
+use Rattle.arn_model.specs.Tells.{FitsFiles, IsSound}
+use Rattle.arn_model.proofs.Quiet.{Quiet, quiet-trans, quiet-files}
 use Rattle.arn_model.proofs.Closing.{quiet-opens, quiet-placed, quiet-also_held, quiet-closes, quiet-with_description, held-quiet}
 use Rattle.arn_model.proofs.Effects.{KernelTells, quiet-tells, tells-then}
 use Rattle.arn_model.proofs.Naming.{found-names, made-tells, unnamed-tells}
-use Rattle.arn_model.proofs.Calling.{Plain, DoneCall, At, RequestTells, done-named, done-plain, unless-refused, refused-tells}
-
+use Rattle.arn_model.proofs.Calling.{At, RequestTells, done-named, done-plain, unless-refused, refused-tells}
 
 starts-in : (o : Option (List TaggedByte)) → IfSome o (λ bytes. 0 ≤ length bytes)
 starts-in None = tt
@@ -45,9 +42,9 @@ open-found-tells m pid v path at None e = refused-tells m pid v OPEN NO_FILE at 
 open-found-tells m pid v path at (Some file) e =
     unless-refused m pid v OPEN (refuse NO_DESCRIPTOR_ROOM (has_no_room m.kernel pid) ∷ []) (opened_as m pid path file m.kernel) at refl refl
     (λ none.
-        done-named m pid v OPEN (next_descriptor m.kernel pid) (extra.Name file path) (Names path file) (opens_file pid file m.kernel) at
-        (record { told = refl; length = refl; life = refl; put = refl; gives = refl }) refl
-        (named (opens_file pid file m.kernel) (quiet-tells m.kernel m.events [] (opens_file pid file m.kernel) (quiet-opens_file pid file m.kernel (at.sound.named path file e)))))
+    done-named m pid v OPEN (next_descriptor m.kernel pid) (extra.Name file path) (Names path file) (opens_file pid file m.kernel) at
+    (record { told = refl; length = refl; life = refl; put = refl; gives = refl }) refl
+    (named (opens_file pid file m.kernel) (quiet-tells m.kernel m.events [] (opens_file pid file m.kernel) (quiet-opens_file pid file m.kernel (at.sound.named path file e)))))
   where
     named : (k : Kernel) → KernelTells m.kernel m.events [] None NoLife NoName None k → KernelTells m.kernel m.events [] None NoLife (Names path file) None k
     named k t = record { holds = t.holds; living = t.living; names = λ name. t.names name ∙ found-names m.kernel.files.names path file e name; kept = t.kept; sound = t.sound; grows = t.grows }
@@ -64,11 +61,11 @@ open-new-tells m pid v path at =
     (opened_as m pid path file k)
     at refl refl
     (λ none.
-        done-named m pid v OPEN (next_descriptor m.kernel pid) (extra.Name file path) (Names path file) (opens_file pid file k) at
-        (record { told = refl; length = refl; life = refl; put = refl; gives = refl }) refl
-        (tells-then m.kernel m.events [] None NoLife (Names path file) None k (opens_file pid file k)
-        (made-tells m.kernel m.events path (free (find_file m.kernel.files path) none.0))
-        (quiet-opens_file pid file k (let g = length_push m.kernel.files.all (Some (record { bytes = []; holders = 0 })) in omega arith))))
+    done-named m pid v OPEN (next_descriptor m.kernel pid) (extra.Name file path) (Names path file) (opens_file pid file k) at
+    (record { told = refl; length = refl; life = refl; put = refl; gives = refl }) refl
+    (tells-then m.kernel m.events [] None NoLife (Names path file) None k (opens_file pid file k)
+    (made-tells m.kernel m.events path (free (find_file m.kernel.files path) none.0))
+    (quiet-opens_file pid file k (let g = length_push m.kernel.files.all (Some (record { bytes = []; holders = 0 })) in omega arith))))
   where
     free : (o : Option ℕ) → is_some o ≡ false → o ≡ None
     free None e = refl
@@ -127,9 +124,9 @@ seek-in-tells m pid v n position at (description.File file old) e =
     let lies = described m.kernel n (description.File file old) e at.sound in
     unless-refused m pid v SEEK (refuse BAD_ARGUMENT (nat_lt (file_len m.kernel file) position) ∷ []) (returns position k) at refl refl
     (λ none.
-        done-plain m pid v SEEK position extra.Nothing k at (record { told = refl; length = refl; life = refl; put = refl; gives = refl }) refl
-        (quiet-with_description n (description.File file position) m.kernel
-        (λ s o f. record { made = lies.made; inside = within-len (file_bytes m.kernel.files file) position none.0 })))
+    done-plain m pid v SEEK position extra.Nothing k at (record { told = refl; length = refl; life = refl; put = refl; gives = refl }) refl
+    (quiet-with_description n (description.File file position) m.kernel
+    (λ s o f. record { made = lies.made; inside = within-len (file_bytes m.kernel.files file) position none.0 })))
 seek-in-tells m pid v n position at description.Console e = refused-tells m pid v SEEK BAD_ARGUMENT at refl refl
 seek-in-tells m pid v n position at (description.Reader pipe) e = refused-tells m pid v SEEK BAD_ARGUMENT at refl refl
 seek-in-tells m pid v n position at (description.Writer pipe) e = refused-tells m pid v SEEK BAD_ARGUMENT at refl refl
@@ -162,8 +159,8 @@ dup-opened-tells m pid v at (Some n) =
     let k = placed pid n (also_held n m.kernel) in
     unless-refused m pid v DUP (refuse NO_DESCRIPTOR_ROOM (has_no_room m.kernel pid) ∷ []) (returns (next_descriptor m.kernel pid) k) at refl refl
     (λ none.
-        done-plain m pid v DUP (next_descriptor m.kernel pid) extra.Nothing k at (record { told = refl; length = refl; life = refl; put = refl; gives = refl }) refl
-        (quiet-trans m.kernel (also_held n m.kernel) k (quiet-also_held n m.kernel) (quiet-placed pid n (also_held n m.kernel))))
+    done-plain m pid v DUP (next_descriptor m.kernel pid) extra.Nothing k at (record { told = refl; length = refl; life = refl; put = refl; gives = refl }) refl
+    (quiet-trans m.kernel (also_held n m.kernel) k (quiet-also_held n m.kernel) (quiet-placed pid n (also_held n m.kernel))))
 
 pub dup-tells : (m : Machine) (pid : ℕ) (v : View) → At m pid v DUP → RequestTells m pid v DUP (dup_row m pid v)
 dup-tells m pid v at = dup-opened-tells m pid v at (description_of m.kernel pid (argument v.body.cpu 0))

@@ -1,6 +1,6 @@
 -- No memory has more bytes than a private window, and who has a body lives: every act and instruction keeps this.
-use Rattle.std.proofs.Common.{◌≡◌, ℕ, zero, suc, ◌+◌, ◌-◌, ◌<◌, ◌≤◌, min, List, [], ◌∷◌, ◌++◌, length, take, drop, replicate, refl, ap, ◌∙◌, sym, subst, Option, Some, None, unwrap_or, Bool, true, false, ◌==◌, ◌%◌, ◌^◌, ◌&&◌, cond, if◌then◌else◌, arith, nat_lt, nat_le, is_some, option_map, length-take, length-drop, length-append, length-take-le}
-use Rattle.std.proofs.lemmas.Bool.{eqb-true, eqb-false, eq-eqb, ne_eqb, and_parts, leb-true}
+use Rattle.std.proofs.Common.{◌≡◌, ℕ, ◌+◌, ◌-◌, ◌≤◌, List, [], ◌∷◌, ◌++◌, length, take, drop, refl, ap, ◌∙◌, sym, subst, Option, Some, None, unwrap_or, Bool, true, false, ◌==◌, ◌%◌, cond, if◌then◌else◌, arith, nat_le, is_some, option_map, length-take, length-drop, length-append, length-take-le}
+use Rattle.std.proofs.lemmas.Bool.{eqb-true, eq-eqb, and_parts, leb-true}
 use Rattle.std.proofs.lemmas.List.{length-replicate}
 use Rattle.arn_base.specs.Disk.{overwrite}
 use Rattle.arn_base.specs.declared.machine.Cpu.{Cpu}
@@ -9,21 +9,21 @@ use Rattle.rv64_isa.specs.declared.instruction.Instr.{Instr}
 use Rattle.rv64_isa.specs.declared.instruction.Instr.TheVariants.{Lui, Auipc, Jal, Jalr, Branch, Load, Store, Imm, Op, Fence, Ecall, Ebreak}
 use Rattle.rv64_isa.specs.Decoded.{decoded}
 use Rattle.rv64_model.specs.Instruction.{Effect, Next, Call, End, jumps, jumped, branches, loads, stores, executed, executed_if, fetched, advanced}
-use Rattle.rv64_model.specs.Operands.{address, store_len}
+use Rattle.rv64_model.specs.Operands.{address}
 use Rattle.rv64_model.specs.Registers.{register}
 use Rattle.rv64_model.specs.Values.{immediate, sum, is_taken, load_len, load_result}
 use Rattle.rv64_model.specs.declared.statuses.TheConstants.{MISALIGNED, BAD_ACCESS}
-use Rattle.parts_model.specs.declared.limits.TheConstants.{WINDOW_START, WINDOW_END, WINDOW_LEN, SEGMENT_LEN}
+use Rattle.parts_model.specs.declared.limits.TheConstants.{WINDOW_START, WINDOW_LEN, SEGMENT_LEN}
 use Rattle.parts_model.specs.Image.{Image, read_as_image}
 use Rattle.parts_model.specs.Memory.{zeros, shared_window}
-use Rattle.acts_model.specs.Acts.{Act, Returns, Receives, Gives, Starts, Forks, Founds, Shares, Leaves, Delivers, Exits, Faults, Dies, acted, restored, started, with_fresh_segment, beginning_of, child_view, done, done_by, joined, founded, begun}
+use Rattle.acts_model.specs.Acts.{Act, Returns, Receives, Gives, Starts, Forks, Founds, Shares, Leaves, Delivers, Exits, Faults, Dies, acted, restored, started, with_fresh_segment, beginning_of, child_view, done, done_by, joined, founded}
 use Rattle.acts_model.specs.Bodies.{Body, Bodies, View, body_at, memory_at, segment_bytes, view, seen, put, remove, become}
-use Rattle.acts_model.specs.Records.{lives_after, LifeChange}
-use Rattle.acts_model.specs.Views.{reach, bytes_in, read, with_reach, written, stands_at, with_result, among_zeros, block_at}
+use Rattle.acts_model.specs.Records.{lives_after}
+use Rattle.acts_model.specs.Views.{reach, read, with_reach, written, stands_at, with_result, among_zeros, block_at}
 use Rattle.arn_model.specs.Step.{advanced_view}
 use Rattle.arn_model.proofs.Calling.{life_by}
 use Rattle.arn_model.proofs.Effects.{eq-swap}
-use Rattle.arn_model.proofs.Places.{put-body, put-memory, remove-body, remove-memory, laid, laid_segment}
+use Rattle.arn_model.proofs.Places.{put-body, put-memory, remove-body, remove-memory, laid_segment}
 
 abbrev pub IsSmall : List ℕ → Type 0
 IsSmall bytes = length bytes ≤ WINDOW_LEN

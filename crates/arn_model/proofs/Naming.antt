@@ -1,9 +1,8 @@
 -- Files that are made, and names that come and go.
-use Rattle.std.proofs.Common.{◌≡◌, ◌⊎◌, inl, inr, ℕ, zero, suc, ◌+◌, ◌-◌, ◌<◌, ◌≤◌, List, [], ◌∷◌, ◌++◌, length, refl, ap, ◌∙◌, sym, subst, Option, Some, None, IfSome, Bool, true, false, ◌==◌, cond, if◌then◌else◌, ◌||◌, not, arith, option_map, option_and_then, slice_get, nat_lt, length-append}
-use Rattle.std.specs.Prelude.{filter, bytes_eq}
+use Rattle.std.proofs.Common.{◌≡◌, inr, ℕ, ◌+◌, ◌<◌, ◌≤◌, List, [], ◌∷◌, ◌++◌, length, refl, ap, ◌∙◌, sym, subst, Option, Some, None, IfSome, Bool, true, false, ◌==◌, cond, if◌then◌else◌, ◌||◌, not, arith, option_map, option_and_then, slice_get, nat_lt}
+use Rattle.std.specs.Prelude.{bytes_eq}
 use Rattle.std.proofs.lemmas.Bool.{eqb-true}
 use Rattle.std.proofs.lemmas.List.{length_push}
-use Rattle.std.proofs.lemmas.Option.{slice_get_past}
 use Rattle.std.proofs.lemmas.Slice.Eq.{bytes_eq-Decides}
 use Rattle.parts_model.specs.declared.open.Description.{Description}
 use Rattle.parts_model.specs.declared.open.Description.TheVariants.{Console, File, Reader, Writer, Connection, Listener, Device}
@@ -12,11 +11,11 @@ use Rattle.parts_model.specs.Files as files
 use Rattle.parts_model.specs.Files.{Files, Name, file_bytes, file_among, find_file, made, next_file, unnamed, without_name}
 use Rattle.parts_model.specs.Numbered.{nth}
 use Rattle.acts_model.specs.Moved.{KernelByte, ConsoleByte, PipeByte, FileByte, StatusByte}
-use Rattle.acts_model.specs.Records.{NoLife, NameChange, Names, Unnames, NoName}
+use Rattle.acts_model.specs.Records.{NoLife, Names, Unnames}
 use Rattle.arn_model.specs.Kernel.{Kernel, Opened}
-use Rattle.arn_model.specs.Tells.{kernel_byte, named_after, HoldsAfter, LiesInFile, FitsFiles, IsSound}
+use Rattle.arn_model.specs.Tells.{kernel_byte, named_after, HoldsAfter, FitsFiles, IsSound}
 use Rattle.arn_model.proofs.Numbers.{nth-push, nth-past}
-use Rattle.arn_model.proofs.Quiet.{FileSame, file-same, FilesQuiet, Quiet, quiet-files}
+use Rattle.arn_model.proofs.Quiet.{FileSame, file-same, FilesQuiet, quiet-files}
 use Rattle.arn_model.proofs.Closing.{reached-quiet, files-same}
 use Rattle.arn_model.proofs.Effects.{FileKept, KernelTells, kept-same}
 

@@ -1,5 +1,5 @@
 -- What the calls on processes tell.
-use Rattle.std.proofs.Common.{◌≡◌, ℕ, zero, suc, ◌+◌, ◌%◌, ◌<◌, ◌≤◌, ◌^◌, List, [], ◌∷◌, ◌++◌, length, refl, ap, ap₂, ◌∙◌, sym, subst, Option, Some, None, Bool, true, false, ◌==◌, ◌&&◌, ◌||◌, not, cond, if◌then◌else◌, arith, nat_lt, option_map, option_and_then, is_some, slice_get}
+use Rattle.std.proofs.Common.{◌≡◌, ℕ, zero, suc, ◌+◌, ◌%◌, ◌<◌, ◌^◌, List, [], ◌∷◌, ◌++◌, length, refl, ap, ap₂, ◌∙◌, sym, subst, Option, Some, None, Bool, true, false, ◌==◌, ◌&&◌, ◌||◌, not, cond, if◌then◌else◌, arith, nat_lt, option_map, option_and_then, is_some, slice_get}
 use Rattle.std.proofs.lemmas.Bool.{lt-ltb, or_parts, or_from, not-false, eqb-true}
 use Rattle.std.proofs.lemmas.List.{length_push}
 use Rattle.arn_base.specs.declared.records.Extra.TheVariants as extra
@@ -14,22 +14,22 @@ use Rattle.parts_model.specs.Processes.{Process, Processes, Life, Live, Ended, p
 use Rattle.parts_model.specs.Replies.{is_success}
 use Rattle.parts_model.specs.Signals.{no_handlers}
 use Rattle.parts_model.specs.Tagged.{values, given}
-use Rattle.acts_model.specs.Acts.{Act, Receives, Returns, Starts, Forks, Founds, Exits, beginning_of, start_of}
+use Rattle.acts_model.specs.Acts.{Receives, Returns, Forks, Founds, Exits}
 use Rattle.acts_model.specs.Bodies.{View}
-use Rattle.acts_model.specs.Disagreement.{Wrong, wrong_if, or_else, is_outside, isnt_block}
-use Rattle.acts_model.specs.Moved.{Range, Nothing, From, FileByte, StatusByte}
-use Rattle.acts_model.specs.Records.{BeginsLife, NoLife, LifeChange, NoName}
+use Rattle.acts_model.specs.Disagreement.{wrong_if, or_else, is_outside, isnt_block}
+use Rattle.acts_model.specs.Moved.{Nothing, From, FileByte}
+use Rattle.acts_model.specs.Records.{BeginsLife, NoLife, NoName}
 use Rattle.acts_model.specs.Views.{argument, can_reach}
-use Rattle.arn_model.specs.Doing.{Doing, Request, Waits, Does, refuse, refused}
+use Rattle.arn_model.specs.Doing.{Doing, Does, refuse, refused}
 use Rattle.arn_model.specs.Kernel as kernel
 use Rattle.arn_model.specs.Kernel.{Kernel, Machine, status_at, with_handling, also_held, all_also_held, descriptors_of}
 use Rattle.arn_model.specs.Paths.{isnt_path_len, path_of}
 use Rattle.arn_model.specs.ProcessCalls.{status_of, exit_row, child_act, child_extra, fork_row, exec_doing, exec_bytes, exec_file, exec_row, wait_status, wait_child, isnt_any, wait_row, getpid_row, yield_row}
-use Rattle.arn_model.specs.Tells.{lives, HoldsSegment, kernel_byte, HasNumbers}
-use Rattle.arn_model.proofs.Quiet.{Less, Quiet, quiet-refl, quiet-table, TableQuiet}
+use Rattle.arn_model.specs.Tells.{lives, kernel_byte, HasNumbers}
+use Rattle.arn_model.proofs.Quiet.{Quiet, quiet-refl, quiet-table}
 use Rattle.arn_model.proofs.Closing.{process-change, length-with_process, status_in, lives_in, quiet-with_handling}
-use Rattle.arn_model.proofs.Effects.{KernelTells, quiet-tells, ended-tells, forked-tells}
-use Rattle.arn_model.proofs.Calling.{Done, DoneCall, At, RequestTells, CallTells, done-call, done-plain, unless-refused, refused-tells}
+use Rattle.arn_model.proofs.Effects.{quiet-tells, ended-tells, forked-tells}
+use Rattle.arn_model.proofs.Calling.{DoneCall, At, RequestTells, done-call, done-plain, unless-refused, refused-tells}
 
 pub exit-tells : (m : Machine) (pid : ℕ) (v : View) → At m pid v EXIT → RequestTells m pid v EXIT (exit_row m pid v)
 exit-tells m pid v at =
@@ -62,31 +62,31 @@ fork-done m pid v at None e =
     let child = table.next_process m.kernel.processes in
     done-call m pid v FORK (fork-doing m pid v None) NoName None at
     (λ few.
-        record {
-          told = ap (λ (b : Bool). if b then Founds child else Returns child) (child-success pid m.kernel few);
-          fine = refl;
-          forks = (refl, e, refl);
-          length = refl;
-          receives = refl;
-          life = ap (λ (b : Bool). if b then BeginsLife child else NoLife) (child-success pid m.kernel few);
-          name = refl;
-          put = refl;
-        })
+    record {
+      told = ap (λ (b : Bool). if b then Founds child else Returns child) (child-success pid m.kernel few);
+      fine = refl;
+      forks = (refl, e, refl);
+      length = refl;
+      receives = refl;
+      life = ap (λ (b : Bool). if b then BeginsLife child else NoLife) (child-success pid m.kernel few);
+      name = refl;
+      put = refl;
+    })
     (forked-tells pid m.events m.kernel at.alive)
 fork-done m pid v at (Some segment) e =
     let child = table.next_process m.kernel.processes in
     done-call m pid v FORK (fork-doing m pid v (Some segment)) NoName None at
     (λ few.
-        record {
-          told = ap (λ (b : Bool). if b then Forks child else Returns child) (child-success pid m.kernel few);
-          fine = refl;
-          forks = (refl, (segment, e));
-          length = refl;
-          receives = refl;
-          life = ap (λ (b : Bool). if b then BeginsLife child else NoLife) (child-success pid m.kernel few);
-          name = refl;
-          put = refl;
-        })
+    record {
+      told = ap (λ (b : Bool). if b then Forks child else Returns child) (child-success pid m.kernel few);
+      fine = refl;
+      forks = (refl, (segment, e));
+      length = refl;
+      receives = refl;
+      life = ap (λ (b : Bool). if b then BeginsLife child else NoLife) (child-success pid m.kernel few);
+      name = refl;
+      put = refl;
+    })
     (forked-tells pid m.events m.kernel at.alive)
 
 pub fork-tells : (m : Machine) (pid : ℕ) (v : View) → At m pid v FORK → RequestTells m pid v FORK (fork_row m pid v)
@@ -102,16 +102,16 @@ exec-done : (m : Machine) (pid : ℕ) (v : View) (file : ℕ) (held : List Tagge
 exec-done m pid v file held at block e image =
     done-call m pid v EXEC (exec_doing m pid v file held) NoName None at
     (λ few.
-        record {
-          told = refl;
-          fine = exec-fine (values held) (is_image (values held)) (isnt_block v (argument v.body.cpu 2) (argument v.body.cpu 3)) (argument v.body.cpu 3) image block;
-          forks = tt;
-          length = refl;
-          receives = record { held = held; all = refl; received = refl; there = λ n l. there n; told = refl };
-          life = refl;
-          name = refl;
-          put = refl;
-        })
+    record {
+      told = refl;
+      fine = exec-fine (values held) (is_image (values held)) (isnt_block v (argument v.body.cpu 2) (argument v.body.cpu 3)) (argument v.body.cpu 3) image block;
+      forks = tt;
+      length = refl;
+      receives = record { held = held; all = refl; received = refl; there = λ n l. there n; told = refl };
+      life = refl;
+      name = refl;
+      put = refl;
+    })
     (quiet-tells m.kernel m.events (values held) (exec_doing m pid v file held).kernel (quiet-with_handling pid (λ h. record h { handlers = no_handlers }) m.kernel))
   where
     there : (n : ℕ) → kernel_byte m.kernel (FileByte file (0 + n)) ≡ slice_get held n
@@ -145,9 +145,9 @@ exec-tells m pid v at =
     (exec_file m pid v (find_file m.kernel.files (path_of v path len)))
     at refl refl
     (λ none.
-        exec-file-tells m pid v at
-        (or_from (nat_lt MOST_BLOCK_BYTES block_len) (is_outside v block block_len) (or_parts (isnt_path_len len) (nat_lt MOST_BLOCK_BYTES block_len) none.0).1 none.1.1.0)
-        (find_file m.kernel.files (path_of v path len)))
+    exec-file-tells m pid v at
+    (or_from (nat_lt MOST_BLOCK_BYTES block_len) (is_outside v block block_len) (or_parts (isnt_path_len len) (nat_lt MOST_BLOCK_BYTES block_len) none.0).1 none.1.1.0)
+    (find_file m.kernel.files (path_of v path len)))
 
 -- a child that has ended
 reaped-quiet : (k : Kernel) (child : ℕ) (status : TaggedByte) → table.status_of k.processes child ≡ Some status → Quiet k (record k { processes = table.reaped k.processes child })
@@ -185,16 +185,16 @@ wait-status-tells m pid v child at reach (Some status) e =
     let d : Doing = record { act = Receives (argument v.body.cpu 0) (status.value ∷ []) child; extra = extra.Give (given (status ∷ [])); incoming = From (status_of child); outgoing = None; bytes = status.value ∷ []; kernel = k } in
     done-call m pid v WAIT d NoName None at
     (λ few.
-        record {
-          told = refl;
-          fine = ap (λ (b : Bool). wrong_if (not b) 1 0) reach;
-          forks = tt;
-          length = refl;
-          receives = record { held = status ∷ []; all = refl; received = refl; there = there; told = refl };
-          life = refl;
-          name = refl;
-          put = refl;
-        })
+    record {
+      told = refl;
+      fine = ap (λ (b : Bool). wrong_if (not b) 1 0) reach;
+      forks = tt;
+      length = refl;
+      receives = record { held = status ∷ []; all = refl; received = refl; there = there; told = refl };
+      life = refl;
+      name = refl;
+      put = refl;
+    })
     (quiet-tells m.kernel m.events (status.value ∷ []) k (reaped-quiet m.kernel child status e))
   where
     there : (n : ℕ) → n < 1 → table.status_of m.kernel.processes child ≡ slice_get (status ∷ []) n

@@ -1,11 +1,9 @@
 -- Bytes that are put into pipes and files, and taken from channels.
-use Rattle.std.proofs.Common.{◌≡◌, ◌⊎◌, inl, inr, ℕ, zero, suc, ◌+◌, ◌-◌, ◌<◌, ◌≤◌, min, List, [], ◌∷◌, ◌++◌, length, take, drop, refl, ap, ap₂, ◌∙◌, sym, subst, Option, Some, None, IfSome, Bool, true, false, ◌==◌, ◌&&◌, cond, if◌then◌else◌, arith, option_map, option_and_then, slice_get, slice_set, nat_lt, nat_le, length-set, length-append, length-take, length-drop, take_all, length-take-le, append-nil}
+use Rattle.std.proofs.Common.{◌≡◌, ◌⊎◌, inl, inr, ℕ, zero, suc, ◌+◌, ◌-◌, ◌<◌, ◌≤◌, min, List, [], ◌∷◌, ◌++◌, length, take, drop, refl, ap, ap₂, ◌∙◌, sym, subst, Option, Some, None, IfSome, Bool, true, false, ◌==◌, ◌&&◌, cond, if◌then◌else◌, arith, option_map, option_and_then, slice_get, nat_lt, nat_le, length-set, length-append, length-take, length-drop, take_all, length-take-le, append-nil}
 use Rattle.std.proofs.lemmas.List.{drop_all}
 use Rattle.std.proofs.lemmas.Bool.{eq-eqb, eqb-true, lt-ltb, le-ltb, ltb-true, ltb-false, le-leb, lt-leb, leb-true, leb-false}
-use Rattle.std.proofs.lemmas.Option.{slice_get_within, slice_get_past}
 use Rattle.parts_model.specs.declared.open.Description.{Description}
 use Rattle.parts_model.specs.declared.open.Description.TheVariants.{Console, File, Reader, Writer, Connection, Listener, Device}
-use Rattle.parts_model.specs.declared.limits.TheConstants.{MOST_FILE_BYTES}
 use Rattle.parts_model.specs.declared.tagged.TaggedByte.{TaggedByte}
 use Rattle.parts_model.specs.Channel.{Channel, channel_end, put_behind, front, without_front}
 use Rattle.parts_model.specs.Files as files
@@ -14,12 +12,12 @@ use Rattle.parts_model.specs.Numbered.{nth}
 use Rattle.parts_model.specs.Pipes as pipes
 use Rattle.parts_model.specs.Pipes.{Pipe, room, with_put, with_taken}
 use Rattle.parts_model.specs.Tagged.{held_from, held_bytes}
-use Rattle.acts_model.specs.Moved.{KernelByte, ConsoleByte, PipeByte, FileByte, StatusByte, Range, within, within_if}
+use Rattle.acts_model.specs.Moved.{ConsoleByte, PipeByte, FileByte, StatusByte, within, within_if}
 use Rattle.acts_model.specs.Records.{NoLife, NoName, Written}
 use Rattle.arn_model.specs.Kernel.{Kernel, Opened}
-use Rattle.arn_model.specs.Tells.{at_position, kernel_byte, put_byte, outgoing_byte, patched, HoldsAfter, LiesInFile, FitsFiles, IsSound}
+use Rattle.arn_model.specs.Tells.{at_position, kernel_byte, put_byte, HoldsAfter, FitsFiles}
 use Rattle.arn_model.proofs.Numbers.{nth-change, get-take, get-drop, get-left, get-right}
-use Rattle.arn_model.proofs.Quiet.{Less, FileSame, file-same, Quiet, quiet-pipe, quiet-console, pipe_byte}
+use Rattle.arn_model.proofs.Quiet.{Less, file-same, Quiet, quiet-pipe, quiet-console, pipe_byte}
 use Rattle.arn_model.proofs.Effects.{FileKept, KernelTells, kept-same, eq-swap}
 
 -- bytes that leave a channel

@@ -1,23 +1,20 @@
 -- Changes of the kernel that put no byte anywhere and leave who lives, names and what files hold.
-use Rattle.std.proofs.Common.{◌≡◌, ℕ, zero, suc, ◌+◌, ◌-◌, ◌<◌, ◌≤◌, List, [], ◌∷◌, ◌++◌, length, take, drop, refl, ap, ◌∙◌, sym, subst, Option, Some, None, IfSome, Bool, true, false, ◌==◌, cond, arith, option_map, option_and_then, is_some, slice_get, slice_set, nat_lt, length-set, length-append}
-use Rattle.parts_model.specs.declared.open.Conn.{Conn}
+use Rattle.std.proofs.Common.{◌≡◌, ℕ, ◌≤◌, List, length, refl, ap, ◌∙◌, sym, subst, Option, Some, None, IfSome, Bool, true, false, ◌==◌, cond, arith, option_and_then, is_some, slice_get, slice_set, nat_lt}
 use Rattle.parts_model.specs.declared.open.Description.{Description}
 use Rattle.parts_model.specs.declared.open.Description.TheVariants.{Console, File, Reader, Writer, Connection, Listener, Device}
 use Rattle.parts_model.specs.declared.tagged.TaggedByte.{TaggedByte}
 use Rattle.parts_model.specs.Channel.{Channel}
-use Rattle.parts_model.specs.Files as files
-use Rattle.parts_model.specs.Files.{Files, Name, file_bytes, file_among, find_file}
+use Rattle.parts_model.specs.Files.{Files, Name, file_bytes, file_among}
 use Rattle.parts_model.specs.Numbered.{nth}
 use Rattle.parts_model.specs.Pipes as pipes
 use Rattle.parts_model.specs.Pipes.{Pipe, Pipes, End, ReadEnd, WriteEnd}
-use Rattle.parts_model.specs.Ports.{Port, Ports}
+use Rattle.parts_model.specs.Ports.{Ports}
 use Rattle.parts_model.specs.Processes as table
 use Rattle.parts_model.specs.Processes.{Process, Processes, Life, process}
 use Rattle.acts_model.specs.Moved.{KernelByte, ConsoleByte, PipeByte, FileByte, StatusByte}
-use Rattle.arn_model.specs.Kernel as kernel
 use Rattle.arn_model.specs.Kernel.{Kernel, Opened, Handling}
-use Rattle.arn_model.specs.Tells.{at_position, kernel_byte, lives, LiesInFile, FitsFiles, IsSound}
-use Rattle.arn_model.proofs.Numbers.{nth-change, nth-set, nth-push}
+use Rattle.arn_model.specs.Tells.{at_position, kernel_byte, lives, FitsFiles, IsSound}
+use Rattle.arn_model.proofs.Numbers.{nth-change, nth-push}
 
 -- what the first is, the second is
 abbrev pub Less : Option TaggedByte → Option TaggedByte → Type 0

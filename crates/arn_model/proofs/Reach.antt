@@ -1,12 +1,12 @@
 -- Bytes that a process reaches: a shorter range is reached too, and has the first of them.
-use Rattle.std.proofs.Common.{◌≡◌, ℕ, zero, suc, ◌+◌, ◌-◌, ◌<◌, ◌≤◌, min, List, [], ◌∷◌, ◌++◌, length, take, drop, refl, ap, ap₂, ◌∙◌, sym, subst, Option, Some, None, unwrap_or, Bool, true, false, ◌==◌, ◌&&◌, not, cond, if◌then◌else◌, arith, nat_lt, nat_le, is_some, option_map, length-take, length-drop, take-take, length-take-le}
-use Rattle.std.proofs.lemmas.Bool.{eq-eqb, and_parts, and_left, and_right, le-leb, lt-leb, leb-true, leb-false}
+use Rattle.std.proofs.Common.{◌≡◌, ℕ, ◌+◌, ◌-◌, ◌<◌, ◌≤◌, List, [], ◌∷◌, length, take, drop, refl, ap, ap₂, ◌∙◌, sym, Option, Some, None, unwrap_or, Bool, true, false, ◌&&◌, not, if◌then◌else◌, arith, nat_lt, nat_le, is_some, option_map, length-take, length-drop, take-take, length-take-le}
+use Rattle.std.proofs.lemmas.Bool.{eq-eqb, and_parts, and_right, le-leb, lt-leb, leb-true}
 use Rattle.std.proofs.lemmas.List.{take_min}
 use Rattle.arn_base.specs.Window.{Window, is_whole_in, window_bytes, bytes_at}
 use Rattle.parts_model.specs.declared.limits.TheConstants.{WINDOW_START, WINDOW_LEN, SEGMENT_START}
 use Rattle.parts_model.specs.Memory.{windows, shared_window, segment_window}
 use Rattle.acts_model.specs.Bodies.{View}
-use Rattle.acts_model.specs.Disagreement.{Wrong, wrong_if, first_difference, differ_from, is_outside}
+use Rattle.acts_model.specs.Disagreement.{first_difference, differ_from, is_outside}
 use Rattle.acts_model.specs.Views.{reach, bytes_in, can_reach, read}
 
 whole-shorter : (w : Window) (at len less : ℕ) → less ≤ len → is_whole_in w at len ≡ true → is_whole_in w at less ≡ true
@@ -74,10 +74,11 @@ shared-shorter (Some bytes) at len less xs l e = by_test (is_whole_in (record { 
     by_test true t e =
         let w : Window = record { from = SEGMENT_START; bytes = bytes } in
         let parts = and_parts (nat_le SEGMENT_START at) (nat_le (at + len) (SEGMENT_START + length bytes)) t in
-        let same : window_bytes w at len ≡ xs = cc in
-        (leb-true SEGMENT_START at parts.0,
-        ap (λ (b : Bool). if b then Some (window_bytes w at less) else None) (whole-shorter w at len less l t)
-        ∙ ap (λ (ys : List ℕ). Some ys) (first-taken w at len less l ∙ ap (λ (ys : List ℕ). take less ys) same))
+        let same : window_bytes w at len ≡ xs = cc in (
+          leb-true SEGMENT_START at parts.0,
+          ap (λ (b : Bool). if b then Some (window_bytes w at less) else None) (whole-shorter w at len less l t)
+              ∙ ap (λ (ys : List ℕ). Some ys) (first-taken w at len less l ∙ ap (λ (ys : List ℕ). take less ys) same),
+        )
 
 windows-shorter : (space : List ℕ) (o : Option (List ℕ)) (at len less : ℕ) (xs : List ℕ) → length space ≤ WINDOW_LEN → 0 < less → less ≤ len → bytes_at (windows space o) at len ≡ Some xs → bytes_at (windows space o) at less ≡ Some (take less xs)
 windows-shorter space o at len less xs fits some l e = by_test (is_whole_in (record { from = WINDOW_START; bytes = space }) at len) refl e
@@ -109,11 +110,11 @@ pub gave-first : (v : View) (at len n : ℕ) → length v.window ≤ WINDOW_LEN 
 gave-first v at len n fits e =
     differ-same (take n (read v at len)) (bytes_in v at (length (take n (read v at len))))
     (λ some.
-        let xs = read v at len in
-        let whole = read-len v at len e in
-        let cut = length-take n xs in
-        windows-shorter v.window (option_map (λ made. v.segment) v.body.segment) at len (length (take n xs)) xs fits some (omega arith) (bytes-reached v at len e)
-        ∙ ap (λ (ys : List ℕ). Some ys) (ap (λ (i : ℕ). take i xs) cut ∙ take_min n xs))
+    let xs = read v at len in
+    let whole = read-len v at len e in
+    let cut = length-take n xs in
+    windows-shorter v.window (option_map (λ made. v.segment) v.body.segment) at len (length (take n xs)) xs fits some (omega arith) (bytes-reached v at len e)
+    ∙ ap (λ (ys : List ℕ). Some ys) (ap (λ (i : ℕ). take i xs) cut ∙ take_min n xs))
 
 pub gave-all : (v : View) (at len : ℕ) → can_reach v at len ≡ true → differ_from (read v at len) (bytes_in v at (length (read v at len))) ≡ None
 gave-all v at len e =

@@ -1,18 +1,13 @@
 -- What every row of the table of calls tells, built or not.
-use Rattle.std.proofs.Common.{◌≡◌, ℕ, [], ◌∷◌, refl, sym, subst, Bool, true, false, ◌==◌, cond, if◌then◌else◌}
+use Rattle.std.proofs.Common.{◌≡◌, ℕ, refl, sym, subst, Bool, true, false, ◌==◌, if◌then◌else◌}
 use Rattle.std.proofs.lemmas.Bool.{eqb-true}
 use Rattle.parts_model.specs.declared.calls.TheConstants.{EXIT, FORK, EXEC, WAIT, GETPID, KILL, SIGACTION, SIGRETURN, OPEN, CLOSE, READ, WRITE, SEEK, DUP, PIPE, UNLINK, SHM, LISTEN, CONNECT, ACCEPT, DEVICE, YIELD}
 use Rattle.parts_model.specs.declared.refusals.TheConstants.{NO_SUCH_CALL}
 use Rattle.acts_model.specs.Bodies.{View}
 use Rattle.acts_model.specs.Views.{call_number}
-use Rattle.arn_model.specs.ChannelCalls.{pipe_row, listen_row, connect_row, accept_row, device_row}
 use Rattle.arn_model.specs.Doing.{Request, refused}
-use Rattle.arn_model.specs.FileCalls.{open_row, unlink_row, seek_row, close_row, dup_row}
 use Rattle.arn_model.specs.Kernel.{Machine}
-use Rattle.arn_model.specs.ProcessCalls.{exit_row, fork_row, exec_row, wait_row, getpid_row, yield_row}
 use Rattle.arn_model.specs.Row.{row, is_built, request}
-use Rattle.arn_model.specs.SignalCalls.{kill_row, sigaction_row, sigreturn_row, shm_row}
-use Rattle.arn_model.specs.TransferCalls.{read_row, write_row}
 use Rattle.arn_model.proofs.Calling.{At, RequestTells, refused-tells}
 use Rattle.arn_model.proofs.ChannelTells.{pipe-tells, listen-tells, connect-tells, accept-tells, device-tells}
 use Rattle.arn_model.proofs.FileTells.{open-tells, unlink-tells, seek-tells, close-tells, dup-tells}

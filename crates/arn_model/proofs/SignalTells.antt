@@ -1,5 +1,5 @@
 -- What the calls on signals and segments tell.
-use Rattle.std.proofs.Common.{◌≡◌, ℕ, List, [], ◌∷◌, refl, ap, ◌∙◌, sym, Option, Some, None, Bool, true, false, not, is_none, is_some}
+use Rattle.std.proofs.Common.{ℕ, [], ◌∷◌, refl, ap, None, Bool, true, not, is_none, is_some}
 use Rattle.arn_base.specs.declared.records.Extra.TheVariants as extra
 use Rattle.parts_model.specs.declared.calls.TheConstants.{KILL, SIGACTION, SIGRETURN, SHM}
 use Rattle.parts_model.specs.declared.refusals.TheConstants.{NO_PROCESS, BAD_ARGUMENT}
@@ -42,15 +42,15 @@ sigreturn-tells m pid v at =
     let d : Doing = record { act = Leaves; extra = extra.Nothing; incoming = Nothing; outgoing = None; bytes = []; kernel = m.kernel } in
     unless-refused m pid v SIGRETURN (refuse BAD_ARGUMENT (is_none v.body.slot) ∷ []) (does_only Leaves m.kernel) at refl refl
     (λ none.
-        done-call m pid v SIGRETURN d NoName None at
-        (λ few. record { told = refl; fine = ap (λ (b : Bool). wrong_if b 0 (error BAD_ARGUMENT)) none.0; forks = tt; length = refl; receives = refl; life = refl; name = refl; put = refl })
-        (quiet-tells m.kernel m.events [] m.kernel (quiet-refl m.kernel)))
+    done-call m pid v SIGRETURN d NoName None at
+    (λ few. record { told = refl; fine = ap (λ (b : Bool). wrong_if b 0 (error BAD_ARGUMENT)) none.0; forks = tt; length = refl; receives = refl; life = refl; name = refl; put = refl })
+    (quiet-tells m.kernel m.events [] m.kernel (quiet-refl m.kernel)))
 
 pub shm-tells : (m : Machine) (pid : ℕ) (v : View) → At m pid v SHM → RequestTells m pid v SHM (shm_row m pid v)
 shm-tells m pid v at =
     let d : Doing = record { act = Shares; extra = extra.Nothing; incoming = Nothing; outgoing = None; bytes = []; kernel = m.kernel } in
     unless-refused m pid v SHM (refuse BAD_ARGUMENT (is_some v.body.segment) ∷ []) (does_only Shares m.kernel) at refl refl
     (λ none.
-        done-call m pid v SHM d NoName None at
-        (λ few. record { told = refl; fine = refl; forks = tt; length = refl; receives = refl; life = refl; name = refl; put = refl })
-        (quiet-tells m.kernel m.events [] m.kernel (quiet-refl m.kernel)))
+    done-call m pid v SHM d NoName None at
+    (λ few. record { told = refl; fine = refl; forks = tt; length = refl; receives = refl; life = refl; name = refl; put = refl })
+    (quiet-tells m.kernel m.events [] m.kernel (quiet-refl m.kernel)))

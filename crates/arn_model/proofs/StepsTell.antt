@@ -1,5 +1,5 @@
 -- What the steps of every run tell.
-use Rattle.std.proofs.Common.{◌≡◌, ℕ, zero, suc, ◌+◌, ◌<◌, ◌≤◌, ◌^◌, List, [], ◌∷◌, ◌++◌, length, refl, ap, ◌∙◌, sym, subst, Option, Some, None, Bool, true, false, ◌==◌, cond, if◌then◌else◌, arith, nat_lt, lt_of_le_of_lt}
+use Rattle.std.proofs.Common.{◌≡◌, ℕ, ◌+◌, ◌≤◌, List, [], ◌∷◌, ◌++◌, length, refl, ap, ◌∙◌, sym, subst, Option, Some, None, Bool, true, false, ◌==◌, cond, if◌then◌else◌, arith, nat_lt, lt_of_le_of_lt}
 use Rattle.std.proofs.lemmas.Bool.{eq-eqb, ltb-false}
 use Rattle.std.proofs.lemmas.List.{length_push}
 use Rattle.parts_model.specs.declared.open.Description.TheVariants.{Console}
@@ -10,11 +10,11 @@ use Rattle.parts_model.specs.Processes as table
 use Rattle.parts_model.specs.Processes.{Process}
 use Rattle.parts_model.specs.Tagged.{held_bytes, values}
 use Rattle.acts_model.specs.Acts.{Starts, unborn, done, done_by}
-use Rattle.acts_model.specs.Bodies.{Bodies, View, nobody, body_at, memory_at, found, seen, put}
+use Rattle.acts_model.specs.Bodies.{Bodies, View, memory_at, found, seen, put}
 use Rattle.arn_model.specs.Kernel as kernel
 use Rattle.arn_model.specs.Kernel.{Kernel, Machine, at_first, also_held, placed, opens, no_handling}
 use Rattle.arn_model.specs.Laws as laws
-use Rattle.arn_model.specs.Run.{Input, File, Boot, Typed, Unplug, Slice, is_booted, file_step, typed_step, unplug_step, boot_step, can_add, boot_from, boot_found, may_unplug, input_steps, after_input, steps_from, machine_from, run}
+use Rattle.arn_model.specs.Run.{Input, File, Boot, Typed, Unplug, Slice, is_booted, file_step, typed_step, unplug_step, boot_step, can_add, boot_from, boot_found, may_unplug, input_steps, after_input, steps_from, run}
 use Rattle.arn_model.specs.Step.{Step}
 use Rattle.arn_model.specs.Tells.{lives, IsSound, StepTells, Boots, Adds, Types, Unplugs, HasNumbers, Along}
 use Rattle.arn_model.specs.Turn.{after_steps, turn, steps_of, is_possible}

@@ -1,6 +1,6 @@
 -- What the calls that move bytes tell.
-use Rattle.std.proofs.Common.{◌≡◌, ℕ, zero, suc, ◌+◌, ◌-◌, ◌<◌, ◌≤◌, min, List, [], ◌∷◌, ◌++◌, length, take, drop, refl, ap, ap₂, ◌∙◌, sym, subst, Option, Some, None, IfSome, unwrap_or, Bool, true, false, ◌==◌, ◌&&◌, not, cond, if◌then◌else◌, arith, nat_lt, nat_le, option_map, option_and_then, slice_get, length-take, length-drop, take_all, length-set}
-use Rattle.std.proofs.lemmas.Bool.{eqb-true, eqb-false, and_from, le-leb, leb-true, leb-false, not-false}
+use Rattle.std.proofs.Common.{◌≡◌, ℕ, ◌+◌, ◌-◌, ◌<◌, ◌≤◌, min, List, [], ◌∷◌, length, take, drop, refl, ap, ◌∙◌, sym, subst, Option, Some, None, IfSome, unwrap_or, Bool, true, false, ◌==◌, not, if◌then◌else◌, arith, nat_le, option_map, option_and_then, slice_get, length-take, length-drop, take_all, length-set}
+use Rattle.std.proofs.lemmas.Bool.{eqb-false, and_from, le-leb, leb-true, leb-false, not-false}
 use Rattle.std.proofs.lemmas.List.{length-map}
 use Rattle.arn_base.specs.declared.machine.Cpu.{Cpu}
 use Rattle.arn_base.specs.declared.records.Extra.{Extra}
@@ -14,28 +14,27 @@ use Rattle.parts_model.specs.declared.tagged.TaggedByte.{TaggedByte}
 use Rattle.parts_model.specs.Channel.{Channel, front, without_front, channel_end}
 use Rattle.parts_model.specs.Files.{file_bytes, fitting, read_from, written, rewritten}
 use Rattle.parts_model.specs.Numbered.{nth}
-use Rattle.parts_model.specs.Pipes as pipes
 use Rattle.parts_model.specs.Pipes.{Pipe, room, with_put, with_taken, with_change}
 use Rattle.parts_model.specs.Replies.{Answered, GaveBytes, TookBytes, Failed, IsAbsent, IsHere, ReadReply, Reads, ReadFails, ReadAbsent, WriteReply, Takes, WriteFails, WriteAbsent, to_read, to_write}
-use Rattle.parts_model.specs.Tagged.{values, given}
-use Rattle.acts_model.specs.Acts.{Act, Receives, Returns, Gives}
+use Rattle.parts_model.specs.Tagged.{values}
+use Rattle.acts_model.specs.Acts.{Returns, Gives}
 use Rattle.acts_model.specs.Bodies.{View}
-use Rattle.acts_model.specs.Disagreement.{wrong_if, is_outside, given_wrong}
-use Rattle.acts_model.specs.Moved.{KernelByte, ConsoleByte, PipeByte, FileByte, Range, Outside, Nothing, From, behind}
+use Rattle.acts_model.specs.Disagreement.{wrong_if, given_wrong}
+use Rattle.acts_model.specs.Moved.{KernelByte, ConsoleByte, PipeByte, FileByte, Range, behind}
 use Rattle.acts_model.specs.Records.{NoLife, NoName, Written, held_len, plain_len, call_name, call_put, give_in}
-use Rattle.acts_model.specs.Told.{write_act, is_pipe_write}
+use Rattle.acts_model.specs.Told.{write_act}
 use Rattle.acts_model.specs.Views.{argument, can_reach, read, error}
 use Rattle.arn_model.specs.Doing as doing
 use Rattle.arn_model.specs.Doing.{Doing, Request, Waits, Does, Asks, returns, refuse, refused, unless_refused}
-use Rattle.arn_model.specs.Kernel.{Kernel, Machine, Opened, description_of, what_is, with_description}
+use Rattle.arn_model.specs.Kernel.{Kernel, Machine, description_of, what_is, with_description}
 use Rattle.arn_model.specs.Row.{answered}
-use Rattle.arn_model.specs.Tells.{kernel_byte, at_position, LiesInFile, FitsFiles, IsSound}
-use Rattle.arn_model.specs.TransferCalls.{cut, if_moving, receiving, received, read_console, read_file, read_empty, read_queue, read_pipe, was_unplugged, absent, unless_unplugged, read_from_what, read_what, read_opened, read_row, giving, write_console, put_into_file, write_file, put_into_pipe, write_room, write_pipe, write_to_what, write_what, write_opened, write_row, device_failed, device_read, device_write}
+use Rattle.arn_model.specs.Tells.{kernel_byte, at_position}
+use Rattle.arn_model.specs.TransferCalls.{cut, if_moving, receiving, read_console, read_file, read_empty, read_queue, read_pipe, was_unplugged, absent, unless_unplugged, read_from_what, read_what, read_opened, read_row, giving, write_console, put_into_file, write_file, put_into_pipe, write_pipe, write_to_what, write_what, write_opened, write_row, device_read, device_write}
 use Rattle.arn_model.proofs.Numbers.{get-take, get-drop}
-use Rattle.arn_model.proofs.Quiet.{Quiet, quiet-refl, quiet-trans}
+use Rattle.arn_model.proofs.Quiet.{Quiet, quiet-refl}
 use Rattle.arn_model.proofs.Closing.{quiet-with_description}
 use Rattle.arn_model.proofs.Effects.{KernelTells, quiet-tells, tells-then}
-use Rattle.arn_model.proofs.Putting.{front-there, quiet-taken, quiet-front, piped-tells, LiesIn, written-tells, written-behind}
+use Rattle.arn_model.proofs.Putting.{front-there, quiet-taken, quiet-front, piped-tells, written-tells, written-behind}
 use Rattle.arn_model.proofs.Calling.{Plain, DoneCall, At, RequestTells, done-call, done-plain, unless-refused, refused-tells}
 use Rattle.arn_model.proofs.FileTells.{described}
 use Rattle.arn_model.proofs.Reach.{isnt-outside, read-len, gave-first, gave-all}
@@ -59,16 +58,16 @@ receiving-done m pid v len first held k at reach short there q =
     let e = length-map held (λ (h : TaggedByte). h.value) in
     done-call m pid v READ (receiving (argument v.body.cpu 1) first held k) NoName None at
     (λ few.
-        record {
-          told = refl;
-          fine = ap (λ (b : Bool). wrong_if b (length (values held)) 0) (isnt-outside v (argument v.body.cpu 1) len (length (values held)) (omega arith) reach);
-          forks = tt;
-          length = refl;
-          receives = record { held = held; all = refl; received = refl; there = there; told = refl };
-          life = refl;
-          name = refl;
-          put = refl;
-        })
+    record {
+      told = refl;
+      fine = ap (λ (b : Bool). wrong_if b (length (values held)) 0) (isnt-outside v (argument v.body.cpu 1) len (length (values held)) (omega arith) reach);
+      forks = tt;
+      length = refl;
+      receives = record { held = held; all = refl; received = refl; there = there; told = refl };
+      life = refl;
+      name = refl;
+      put = refl;
+    })
     (quiet-tells m.kernel m.events (values held) k q)
 
 front-short : (c : Channel) (most : ℕ) (held : List TaggedByte) → front c most ≡ held → length held ≤ most
@@ -80,8 +79,8 @@ read-console-tells m pid v most at reach (b ∷ held) e =
     receiving-done m pid v most (ConsoleByte m.kernel.console.taken) (b ∷ held) (record m.kernel { console = without_front m.kernel.console (length (b ∷ held)) }) at reach
     (front-short m.kernel.console most (b ∷ held) e)
     (λ i l.
-        front-there m.kernel.console most i (subst (λ (h : List TaggedByte). i < length h) (sym e) l)
-        ∙ ap (λ (h : List TaggedByte). slice_get h i) e)
+    front-there m.kernel.console most i (subst (λ (h : List TaggedByte). i < length h) (sym e) l)
+    ∙ ap (λ (h : List TaggedByte). slice_get h i) e)
     (quiet-front m.kernel (length (b ∷ held)))
 
 -- what is read from a file, where there is one
@@ -124,9 +123,9 @@ read-queue-tells m pid v pipe most p at reach there (b ∷ held) e =
     receiving-done m pid v most (PipeByte pipe p.channel.taken) (b ∷ held) (record m.kernel { pipes = with_change m.kernel.pipes pipe (λ q. with_taken q (length (b ∷ held))) }) at reach
     (front-short p.channel most (b ∷ held) e)
     (λ i l.
-        ap (λ (o : Option Pipe). option_and_then (λ p'. at_position p'.channel (p.channel.taken + i)) o) there
-        ∙ (front-there p.channel most i (subst (λ (h : List TaggedByte). i < length h) (sym e) l)
-        ∙ ap (λ (h : List TaggedByte). slice_get h i) e))
+    ap (λ (o : Option Pipe). option_and_then (λ p'. at_position p'.channel (p.channel.taken + i)) o) there
+    ∙ (front-there p.channel most i (subst (λ (h : List TaggedByte). i < length h) (sym e) l)
+    ∙ ap (λ (h : List TaggedByte). slice_get h i) e))
     (quiet-taken m.kernel pipe (length (b ∷ held)))
 
 read-pipe-tells : (m : Machine) (pid : ℕ) (v : View) (pipe most : ℕ) → At m pid v READ → can_reach v (argument v.body.cpu 1) most ≡ true → (o : Option Pipe) → nth m.kernel.pipes pipe ≡ o → RequestTells m pid v READ (read_pipe m pipe (argument v.body.cpu 1) most o)
@@ -149,16 +148,16 @@ device-read-done m pid v device len at reach (Reads bytes) short =
     let a = argument v.body.cpu 1 in
     done-call m pid v READ (device_read m device a (Reads bytes)) NoName None at
     (λ few.
-        record {
-          told = refl;
-          fine = ap (λ (b : Bool). wrong_if b (length bytes) 0) (isnt-outside v a len (length bytes) short reach);
-          forks = tt;
-          length = refl;
-          receives = refl;
-          life = refl;
-          name = refl;
-          put = refl;
-        })
+    record {
+      told = refl;
+      fine = ap (λ (b : Bool). wrong_if b (length bytes) 0) (isnt-outside v a len (length bytes) short reach);
+      forks = tt;
+      length = refl;
+      receives = refl;
+      life = refl;
+      name = refl;
+      put = refl;
+    })
     (quiet-tells m.kernel m.events bytes m.kernel (quiet-refl m.kernel))
 device-read-done m pid v device len at reach ReadFails short =
     done-plain m pid v READ (error DEVICE_FAULT) extra.Fault m.kernel at (record { told = refl; length = refl; life = refl; put = refl; gives = refl }) refl (quiet-refl m.kernel)
@@ -278,15 +277,15 @@ write-file-tells m pid v n file position len at reach what =
     let put : Option Written = Some (record { file = file; at = position; bytes = bytes }) in
     unless-refused m pid v WRITE (refuse NO_ROOM (position == MOST_FILE_BYTES) ∷ []) (Does (put_into_file m n a file position bytes)) at refl refl
     (λ none.
-        giving-done m pid v bytes (extra.Put file position bytes) (Some range) put k' at
-        (record { told = refl; fine = gave-first v a len (fitting position (length all)) at.fits reach; len = refl; put = refl; name = refl; gives = refl })
-        (tells-then m.kernel m.events bytes (Some range) NoLife NoName put k k' (written-tells m.kernel m.events file position bytes fits lies.inside)
-        (quiet-with_description n (description.File file (position + length bytes)) k
-        (λ s o f.
-            record {
-              made = let l = lies.made in let e = length-set m.kernel.files.all file (option_map (rewritten position bytes m.events) (nth m.kernel.files.all file)) in omega arith;
-              inside = written-behind m.events file position bytes m.kernel.files fits lies.inside;
-            }))))
+    giving-done m pid v bytes (extra.Put file position bytes) (Some range) put k' at
+    (record { told = refl; fine = gave-first v a len (fitting position (length all)) at.fits reach; len = refl; put = refl; name = refl; gives = refl })
+    (tells-then m.kernel m.events bytes (Some range) NoLife NoName put k k' (written-tells m.kernel m.events file position bytes fits lies.inside)
+    (quiet-with_description n (description.File file (position + length bytes)) k
+    (λ s o f.
+    record {
+      made = let l = lies.made in let e = length-set m.kernel.files.all file (option_map (rewritten position bytes m.events) (nth m.kernel.files.all file)) in omega arith;
+      inside = written-behind m.events file position bytes m.kernel.files fits lies.inside;
+    }))))
 
 -- what a pipe has room for
 cut-some : (count : ℕ) → (count == 0) ≡ false → 0 < cut count

@@ -1,32 +1,31 @@
 -- What the steps of a turn tell: a delivery, instructions, and a call or an end by fault.
-use Rattle.std.proofs.Common.{◌≡◌, ℕ, zero, suc, ◌+◌, ◌<◌, ◌≤◌, ◌^◌, List, [], ◌∷◌, ◌++◌, length, refl, ap, ◌∙◌, sym, subst, Option, Some, None, IfSome, Bool, true, false, ◌==◌, not, cond, if◌then◌else◌, arith, option_map, nat_lt}
+use Rattle.std.proofs.Common.{◌≡◌, ℕ, zero, suc, ◌+◌, ◌≤◌, List, [], ◌∷◌, ◌++◌, length, refl, ap, ◌∙◌, sym, subst, Option, Some, None, IfSome, Bool, true, false, ◌==◌, not, if◌then◌else◌, arith, option_map, nat_lt}
 use Rattle.std.specs.Prelude.{option_to_list}
 use Rattle.std.proofs.lemmas.Bool.{eq-eqb}
 use Rattle.arn_base.specs.declared.machine.Cpu.{Cpu}
 use Rattle.arn_base.specs.Window.{Window}
-use Rattle.arn_base.specs.declared.records.Extra.TheVariants as extra
 use Rattle.arn_base.specs.declared.records.Record.{Record}
 use Rattle.arn_base.specs.declared.records.Record.TheVariants as entry
 use Rattle.rv64_isa.specs.declared.instruction.Instr.{Instr}
 use Rattle.rv64_model.specs.Instruction.{Effect, Next, Call, End}
 use Rattle.parts_model.specs.Files.{file_bytes}
 use Rattle.parts_model.specs.Replies.{Answered}
-use Rattle.acts_model.specs.Acts.{Act, Returns, Receives, Gives, Starts, Forks, Founds, Shares, Leaves, Delivers, Exits, Faults, Dies, beginning_of}
+use Rattle.acts_model.specs.Acts.{Delivers, Faults, Dies}
 use Rattle.acts_model.specs.Bodies.{View, seen}
-use Rattle.acts_model.specs.Disagreement.{Wrong, status_wrong, wrong_if}
-use Rattle.acts_model.specs.Records.{LifeChange, EndsLife, NoLife, NoName, lives_after}
+use Rattle.acts_model.specs.Disagreement.{status_wrong, wrong_if}
+use Rattle.acts_model.specs.Records.{EndsLife, NoLife, NoName, lives_after}
 use Rattle.acts_model.specs.Views.{stands_at, call_number}
 use Rattle.arn_model.specs.Doing.{Doing, Request, Waits, Does, Asks}
-use Rattle.arn_model.specs.Kernel.{Kernel, Machine, status_at}
+use Rattle.arn_model.specs.Kernel.{Machine}
 use Rattle.arn_model.specs.Row.{request, does, answered}
 use Rattle.parts_model.specs.Signals.{with_pending}
-use Rattle.arn_model.specs.Step.{Step, plain_step, event_step, call_step, ending, fault_step, last_by, plain_by, waits, due_signal, handler, without_signal, only, delivering, delivery_of, delivery_step, advanced_view}
+use Rattle.arn_model.specs.Step.{Step, plain_step, event_step, call_step, ending, last_by, plain_by, waits, due_signal, handler, without_signal, only, delivering, delivery_of, advanced_view}
 use Rattle.arn_model.specs.Tells.{lives, IsSound, EventTells, StepTells, Runs, Happens, HasNumbers, Along}
-use Rattle.arn_model.specs.Turn.{after_steps, after_first, delivery_in, plain_in, steps_then, plains, last_in, last_of, turn_from, turn, steps_of}
+use Rattle.arn_model.specs.Turn.{after_steps, after_first, delivery_in, plain_in, steps_then, plains, last_in, last_of, turn, steps_of}
 use Rattle.arn_model.proofs.Closing.{quiet-with_handling}
 use Rattle.arn_model.proofs.Effects.{KernelTells, quiet-tells, ended-tells}
-use Rattle.arn_model.proofs.Calling.{At, Done, RequestTells, life_by, kept-after}
-use Rattle.arn_model.proofs.Fitting.{BodiesFit, SmallView, seen-fits, fit-put, fit-more, after-fits, advanced-small}
+use Rattle.arn_model.proofs.Calling.{Done, RequestTells, life_by, kept-after}
+use Rattle.arn_model.proofs.Fitting.{BodiesFit, seen-fits, fit-put, fit-more, after-fits, advanced-small}
 use Rattle.arn_model.proofs.RowTells.{request-tells}
 
 -- what is kept: the kernel is sound, who has a body lives, and memories fit their windows
