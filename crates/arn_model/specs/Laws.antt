@@ -1,13 +1,13 @@
 -- What holds of every run.
 use Rattle.std.specs.Prelude.{◌≡◌, List, ◌++◌}
 use Rattle.arn_model.specs.Kernel.{Machine, at_first}
-use Rattle.arn_model.specs.Run.{Input, steps_from, machine_from, run}
-use Rattle.arn_model.specs.Tells.{StepTells, Along}
+use Rattle.arn_model.specs.Run.{Input, steps_from, machine_from, run, machine_after}
+use Rattle.arn_model.specs.Tells.{StepTells, HasNumbers, Along}
 use Rattle.arn_model.specs.Turn.{after_steps}
 
--- each step of a run is one of a few kinds, and an event is as its record tells
+-- each step of a run is one of a few kinds, and an event is as its record tells, while processes have numbers
 abbrev pub StepsTell : Type 0
-StepsTell = (inputs : List Input) → Along StepTells at_first (run inputs)
+StepsTell = (inputs : List Input) → HasNumbers (machine_after inputs).kernel → Along StepTells at_first (run inputs)
 
 -- what inputs do that stand one behind the other
 pub record RunsAppend (m : Machine) (inputs more : List Input) : Type 0 where

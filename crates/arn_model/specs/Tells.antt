@@ -1,5 +1,5 @@
 -- What each step of a run tells: all that may be known of a call without a look at its row.
-use Rattle.std.specs.Prelude.{◌≡◌, ◌⊎◌, ℕ, ◌-◌, ◌<◌, ◌≤◌, ◌==◌, nat_lt, Bool, true, false, if◌then◌else◌, List, [], ◌∷◌, length, Option, Some, None, IfSome, is_some, option_map, option_and_then, slice_get, bytes_eq}
+use Rattle.std.specs.Prelude.{◌≡◌, ◌⊎◌, ℕ, ◌-◌, ◌^◌, ◌<◌, ◌≤◌, ◌==◌, nat_lt, Bool, true, false, if◌then◌else◌, List, [], ◌∷◌, length, Option, Some, None, IfSome, is_some, option_map, option_and_then, slice_get, bytes_eq}
 use Rattle.arn_base.specs.declared.records.Extra.{Extra}
 use Rattle.arn_base.specs.declared.records.Extra.TheVariants as extra
 use Rattle.arn_base.specs.declared.records.Record.{Record}
@@ -115,9 +115,10 @@ abbrev pub FitsFiles : Files → Description → Type 0
 FitsFiles files (description.File file position) = LiesInFile files file position
 FitsFiles files other = Unit {0}
 
--- so do those of all open files
-abbrev pub IsSound : Kernel → Type 0
-IsSound k = (n : ℕ) → IfSome (nth k.descriptions n) (λ o. FitsFiles k.files o.what)
+-- what the kernel keeps: the positions of all open files lie in their files, and a name stands for a file that was made
+pub record IsSound (k : Kernel) : Type 0 where
+  pub fits : (n : ℕ) → IfSome (nth k.descriptions n) (λ o. FitsFiles k.files o.what)
+  pub named : (path : List ℕ) (file : ℕ) → find_file k.files path ≡ Some file → file < length k.files.all
 
 -- an event of a process, as its record tells it
 pub record EventTells (m : Machine) (pid : ℕ) (v : View) (d : Doing) (entry : Record) : Type 0 where
@@ -151,6 +152,10 @@ pub data StepTells (m : Machine) (s : Step) : Type 0 where
   Adds : (path bytes : List ℕ) → can_add m path bytes ≡ true → s ≡ file_step m path bytes → StepTells m s
   Types : (bytes : List ℕ) → is_booted m ≡ true → s ≡ typed_step m bytes → StepTells m s
   Unplugs : (device : ℕ) → may_unplug m device ≡ true → s ≡ unplug_step m device → StepTells m s
+
+-- fewer than 2^63 processes have been made, so that no child's number is an error
+abbrev pub HasNumbers : Kernel → Type 0
+HasNumbers k = length k.processes < 2 ^ 63
 
 -- a fact of each step, from a machine on
 abbrev pub Along : (Machine → Step → Type 0) → Machine → List Step → Type 0

@@ -1,7 +1,12 @@
 // What holds of every run, as functions that do nothing.
-ghost use Rattle.arn_model.specs.Laws.{EachRunAppends};
+ghost use Rattle.arn_model.specs.Laws.{EachRunAppends, StepsTell};
 
 /// What inputs do that stand one behind the other.
 pub fn runs_append()
     ensures { EachRunAppends }
+{}
+
+/// What each step of a run is, and what the record of an event tells of it.
+pub fn steps_tell()
+    ensures { StepsTell }
 {}

@@ -1,0 +1,213 @@
+-- What a call tells, from what its act, its record and its kernel say; and refusals.
+use Rattle.std.proofs.Common.{◌≡◌, ℕ, ◌≤◌, List, [], ◌∷◌, length, refl, ap, ◌∙◌, sym, Option, Some, None, unwrap_or, Bool, true, false, ◌==◌, ◌&&◌, not, cond, if◌then◌else◌, nat_le}
+use Rattle.std.proofs.lemmas.Bool.{eq-eqb, and_right, and_parts, not-true}
+use Rattle.arn_base.specs.declared.machine.Cpu.{Cpu}
+use Rattle.arn_base.specs.declared.records.Extra.{Extra}
+use Rattle.arn_base.specs.declared.records.Extra.TheVariants as extra
+use Rattle.arn_base.specs.declared.records.Record.{Record}
+use Rattle.arn_base.specs.declared.records.Record.TheVariants as entry
+use Rattle.parts_model.specs.declared.calls.TheConstants as number
+use Rattle.parts_model.specs.declared.limits.TheConstants.{MOST_TRANSFER, WINDOW_LEN}
+use Rattle.parts_model.specs.declared.tagged.TaggedByte.{TaggedByte}
+use Rattle.parts_model.specs.Files.{file_bytes, find_file}
+use Rattle.parts_model.specs.Processes as table
+use Rattle.parts_model.specs.Replies.{Answered, is_success}
+use Rattle.rv64_model.specs.Instruction.{Effect, Call}
+use Rattle.acts_model.specs.Acts.{Act, Returns, Receives, Gives, Starts, Forks, Founds, Shares, Leaves, Delivers, Exits, Faults, Dies, result_of}
+use Rattle.acts_model.specs.Bodies.{View, seen}
+use Rattle.acts_model.specs.Disagreement.{wrong_with, wrong_if, or_else, isnt_call, is_other_call, act_wrong}
+use Rattle.acts_model.specs.Records.{held_len, plain_len, LifeChange, BeginsLife, EndsLife, NoLife, call_life, lives_after, NameChange, NoName, call_name, Written, call_put, put_told, give_in}
+use Rattle.acts_model.specs.Told.{Kind, Exit, Fork, Exec, Wait, Sigreturn, Read, Write, Shm, Other, kind_of, call_act}
+use Rattle.acts_model.specs.Views.{stands_at, call_number, argument, error}
+use Rattle.arn_model.specs.Doing.{Doing, Request, Waits, Does, Asks, Refusal, returning, refused, unless_refused}
+use Rattle.arn_model.specs.Kernel.{Kernel, Machine}
+use Rattle.arn_model.specs.Row.{answered}
+use Rattle.arn_model.specs.Tells as tells
+use Rattle.arn_model.specs.Tells.{lives, named_after, FileAfter, ForksRightly, IsSound, EventTells, HasNumbers}
+use Rattle.arn_model.proofs.Effects.{FileKept, KernelTells, quiet-tells}
+use Rattle.arn_model.proofs.Quiet.{Quiet, quiet-refl}
+
+-- who lives after an act
+abbrev pub life_by : ℕ → Act → LifeChange
+life_by pid (Returns result) = NoLife
+life_by pid (Receives at bytes result) = NoLife
+life_by pid (Gives at len result) = NoLife
+life_by pid (Starts file block block_len) = NoLife
+life_by pid (Forks child) = BeginsLife child
+life_by pid (Founds child) = BeginsLife child
+life_by pid Shares = NoLife
+life_by pid Leaves = NoLife
+life_by pid (Delivers signal handler cut) = NoLife
+life_by pid Exits = EndsLife pid
+life_by pid (Faults status) = EndsLife pid
+life_by pid (Dies signal cut) = EndsLife pid
+
+-- an event of a process: it tells, and the kernel stays sound
+pub record Done (m : Machine) (pid : ℕ) (v : View) (d : Doing) (entry : Record) : Type 0 where
+  pub told : HasNumbers d.kernel → EventTells m pid v d entry
+  pub living : (q : ℕ) → lives d.kernel q ≡ lives_after (life_by pid d.act) q (lives m.kernel q)
+  pub sound : IsSound d.kernel
+  pub grows : length m.kernel.processes ≤ length d.kernel.processes
+
+-- a live process stands at the call of a number, in a machine whose kernel is sound
+pub record At (m : Machine) (pid : ℕ) (v : View) (n : ℕ) : Type 0 where
+  pub seen : seen m.bodies pid ≡ Some v
+  pub stands : stands_at v ≡ Call
+  pub number : n ≡ call_number v.body.cpu
+  pub sound : IsSound m.kernel
+  pub alive : lives m.kernel pid ≡ true
+  pub fits : length v.window ≤ WINDOW_LEN
+
+abbrev pub DoneCall : Machine → ℕ → View → ℕ → Doing → Type 0
+DoneCall m pid v n d = Done m pid v d (entry.Call pid n (result_of d.act) d.extra)
+
+abbrev pub RequestTells : Machine → ℕ → View → ℕ → Request → Type 0
+RequestTells m pid v n Waits = Unit {0}
+RequestTells m pid v n (Does d) = DoneCall m pid v n d
+RequestTells m pid v n (Asks question) = (reply : Option Answered) → DoneCall m pid v n (answered m pid v question reply)
+
+-- the record's side of what a call tells
+pub record CallTells (m : Machine) (pid : ℕ) (v : View) (n : ℕ) (d : Doing) (naming : NameChange) (writing : Option Written) : Type 0 where
+  pub told : call_act (kind_of n) v.body.cpu (result_of d.act) d.extra ≡ d.act
+  pub fine : act_wrong v d.act d.extra ≡ None
+  pub forks : ForksRightly (table.next_process m.kernel.processes) v d.act d.extra
+  pub length : unwrap_or (held_len d.extra) (plain_len n (result_of d.act) d.extra) ≡ length d.bytes
+  pub receives : tells.Receives m.kernel d.incoming d.bytes (entry.Call pid n (result_of d.act) d.extra)
+  pub life : call_life pid n (result_of d.act) ≡ life_by pid d.act
+  pub name : call_name n d.extra ≡ naming
+  pub put : call_put n d.extra ≡ writing
+
+pub kept-after : (event file : ℕ) (entry : Record) (put : Option Written) → put_told entry ≡ put → (o p : Option (List TaggedByte)) → FileKept event put file o p → FileAfter event entry file o p
+kept-after event file entry put e o None h = tt
+kept-after event file entry put e None (Some new) h = h
+kept-after event file entry put e (Some old) (Some new) h = h ∙ ap (λ (w : Option Written). tells.patched event w file old) (sym e)
+
+right-by : (v : View) (n result : ℕ) (more : Extra) (act : Act) → stands_at v ≡ Call → n ≡ call_number v.body.cpu → call_act (kind_of n) v.body.cpu result more ≡ act → act_wrong v act more ≡ None → (pid : ℕ) → wrong_with v (stands_at v) (entry.Call pid n result more) ≡ None
+right-by v n result more act s e t w pid =
+    let rest = act_wrong v (call_act (kind_of n) v.body.cpu result more) more in
+    ap (λ (x : Effect). or_else (isnt_call x n) (or_else (is_other_call v.body.cpu n) rest)) s
+    ∙ (ap (λ (b : Bool). or_else (wrong_if (not b) n (call_number v.body.cpu)) rest) (eq-eqb n (call_number v.body.cpu) e)
+    ∙ (ap (λ (a : Act). act_wrong v a more) t ∙ w))
+
+pub done-call : (m : Machine) (pid : ℕ) (v : View) (n : ℕ) (d : Doing) (name : NameChange) (put : Option Written) → At m pid v n → (HasNumbers d.kernel → CallTells m pid v n d name put) → KernelTells m.kernel m.events d.bytes d.outgoing (life_by pid d.act) name put d.kernel → DoneCall m pid v n d
+done-call m pid v n d name put at call k =
+    record { told = λ few. told (call few); living = k.living; sound = k.sound at.sound; grows = k.grows }
+  where
+    told : CallTells m pid v n d name put → EventTells m pid v d (entry.Call pid n (result_of d.act) d.extra)
+    told c =
+        record {
+          inner = refl;
+          process = refl;
+          seen = at.seen;
+          told = ap (λ (a : Act). Some a) c.told;
+          right = right-by v n (result_of d.act) d.extra d.act at.stands at.number c.told c.fine pid;
+          forks = c.forks;
+          length = c.length;
+          receives = c.receives;
+          holds = k.holds;
+          lives = λ q. k.living q ∙ ap (λ (l : LifeChange). lives_after l q (lives m.kernel q)) (sym c.life);
+          names = λ path. k.names path ∙ ap (λ (c : NameChange). named_after c path (find_file m.kernel.files path)) (sym c.name);
+          files = λ file. kept-after m.events file (entry.Call pid n (result_of d.act) d.extra) put c.put (file_bytes m.kernel.files file) (file_bytes d.kernel.files file) (k.kept file);
+        }
+
+-- a call that returns, and moves nothing
+pub record Plain (pid n : ℕ) (cpu : Cpu) (result : ℕ) (more : Extra) : Type 0 where
+  pub told : call_act (kind_of n) cpu result more ≡ Returns result
+  pub length : unwrap_or (held_len more) (plain_len n result more) ≡ 0
+  pub life : call_life pid n result ≡ NoLife
+  pub put : call_put n more ≡ None
+  pub gives : give_in more ≡ None
+
+pub done-named : (m : Machine) (pid : ℕ) (v : View) (n result : ℕ) (more : Extra) (name : NameChange) (k : Kernel) → At m pid v n → Plain pid n v.body.cpu result more → call_name n more ≡ name → KernelTells m.kernel m.events [] None NoLife name None k → DoneCall m pid v n (returning result more k)
+done-named m pid v n result more name k at p e t =
+    done-call m pid v n (returning result more k) name None at
+    (λ few. record { told = p.told; fine = refl; forks = tt; length = p.length; receives = p.gives; life = p.life; name = e; put = p.put })
+    t
+
+pub done-plain : (m : Machine) (pid : ℕ) (v : View) (n result : ℕ) (more : Extra) (k : Kernel) → At m pid v n → Plain pid n v.body.cpu result more → call_name n more ≡ NoName → Quiet m.kernel k → DoneCall m pid v n (returning result more k)
+done-plain m pid v n result more k at p e q = done-named m pid v n result more NoName k at p e (quiet-tells m.kernel m.events [] k q)
+
+-- a result that no act but a return has
+abbrev pub is_error : ℕ → Bool
+is_error result = not (is_success result) && (not (nat_le result MOST_TRANSFER) && not (result == 0))
+
+abbrev isnt_exit : Kind → Bool
+isnt_exit Exit = false
+isnt_exit Fork = true
+isnt_exit Exec = true
+isnt_exit Wait = true
+isnt_exit Sigreturn = true
+isnt_exit Read = true
+isnt_exit Write = true
+isnt_exit Shm = true
+isnt_exit Other = true
+
+either-isnt : (b : Bool) (x y : Kind) → isnt_exit x ≡ true → isnt_exit y ≡ true → isnt_exit (cond b x y) ≡ true
+either-isnt true x y e f = e
+either-isnt false x y e f = f
+
+kind-isnt : (n : ℕ) → (n == number.EXIT) ≡ false → isnt_exit (kind_of n) ≡ true
+kind-isnt n e =
+    let k8 = cond (n == number.SHM) Shm Other in
+    let h8 : isnt_exit k8 ≡ true = either-isnt (n == number.SHM) Shm Other refl refl in
+    let k7 = cond (n == number.WRITE) Write k8 in
+    let h7 : isnt_exit k7 ≡ true = either-isnt (n == number.WRITE) Write k8 refl h8 in
+    let k6 = cond (n == number.READ) Read k7 in
+    let h6 : isnt_exit k6 ≡ true = either-isnt (n == number.READ) Read k7 refl h7 in
+    let k5 = cond (n == number.SIGRETURN) Sigreturn k6 in
+    let h5 : isnt_exit k5 ≡ true = either-isnt (n == number.SIGRETURN) Sigreturn k6 refl h6 in
+    let k4 = cond (n == number.WAIT) Wait k5 in
+    let h4 : isnt_exit k4 ≡ true = either-isnt (n == number.WAIT) Wait k5 refl h5 in
+    let k3 = cond (n == number.EXEC) Exec k4 in
+    let h3 : isnt_exit k3 ≡ true = either-isnt (n == number.EXEC) Exec k4 refl h4 in
+    let k2 = cond (n == number.FORK) Fork k3 in
+    let h2 : isnt_exit k2 ≡ true = either-isnt (n == number.FORK) Fork k3 refl h3 in
+    ap (λ (b : Bool). isnt_exit (cond b Exit k2)) e ∙ h2
+
+error-act : (kind : Kind) (cpu : Cpu) (result : ℕ) → isnt_exit kind ≡ true → is_success result ≡ false → nat_le result MOST_TRANSFER ≡ false → (result == 0) ≡ false → call_act kind cpu result extra.Nothing ≡ Returns result
+error-act Exit cpu result h a b c = absurd (cc)
+error-act Fork cpu result h a b c = ap (λ (t : Bool). if t then Forks result else Returns result) a
+error-act Exec cpu result h a b c = refl
+error-act Wait cpu result h a b c = refl
+error-act Sigreturn cpu result h a b c = ap (λ (t : Bool). if t then Leaves else Returns result) c
+error-act Read cpu result h a b c = refl
+error-act Write cpu result h a b c = ap (λ (t : Bool). if t then Gives (argument cpu 1) result result else Returns result) (and_right (nat_le 1 result) (nat_le result MOST_TRANSFER) b)
+error-act Shm cpu result h a b c = ap (λ (t : Bool). if t then Shares else Returns result) c
+error-act Other cpu result h a b c = refl
+
+pub error-plain : (pid n : ℕ) (cpu : Cpu) (result : ℕ) → (n == number.EXIT) ≡ false → is_error result ≡ true → Plain pid n cpu result extra.Nothing
+error-plain pid n cpu result e h =
+    let parts = and_parts (not (is_success result)) (not (nat_le result MOST_TRANSFER) && not (result == 0)) h in
+    let more = and_parts (not (nat_le result MOST_TRANSFER)) (not (result == 0)) parts.1 in
+    let a = not-true (is_success result) parts.0 in
+    let b = not-true (nat_le result MOST_TRANSFER) more.0 in
+    let c = not-true (result == 0) more.1 in
+    record {
+      told = error-act (kind_of n) cpu result (kind-isnt n e) a b c;
+      length = ap (λ (t : Bool). if t then result else if n == number.EXIT then 1 else 0) (and_right (n == number.WRITE) (nat_le result MOST_TRANSFER) b) ∙ ap (λ (t : Bool). if t then 1 else 0) e;
+      life = ap (λ (t : Bool). if t then EndsLife pid else if (n == number.FORK) && is_success result then BeginsLife result else NoLife) e ∙ ap (λ (t : Bool). if t then BeginsLife result else NoLife) (and_right (n == number.FORK) (is_success result) a);
+      put = refl;
+      gives = refl;
+    }
+
+-- refusals
+abbrev pub are_errors : List Refusal → Bool
+are_errors [] = true
+are_errors (r ∷ refusals) = is_error (error r.number) && are_errors refusals
+
+abbrev pub NoneApplies : List Refusal → Type 0
+NoneApplies [] = Unit {0}
+NoneApplies (r ∷ refusals) = (r.applies ≡ false) × NoneApplies refusals
+
+pub refused-tells : (m : Machine) (pid : ℕ) (v : View) (n e : ℕ) → At m pid v n → (n == number.EXIT) ≡ false → is_error (error e) ≡ true → RequestTells m pid v n (refused e m.kernel)
+refused-tells m pid v n e at x h = done-plain m pid v n (error e) extra.Nothing m.kernel at (error-plain pid n v.body.cpu (error e) x h) refl (quiet-refl m.kernel)
+
+pub unless-refused : (m : Machine) (pid : ℕ) (v : View) (n : ℕ) (refusals : List Refusal) (goes_on : Request) → At m pid v n → (n == number.EXIT) ≡ false → are_errors refusals ≡ true → (NoneApplies refusals → RequestTells m pid v n goes_on) → RequestTells m pid v n (unless_refused m.kernel refusals goes_on)
+unless-refused m pid v n [] goes_on at x h next = next tt
+unless-refused m pid v n (r ∷ refusals) goes_on at x h next =
+    let parts = and_parts (is_error (error r.number)) (are_errors refusals) h in
+    by_test r.applies (refused-tells m pid v n r.number at x parts.0) (λ e. unless-refused m pid v n refusals goes_on at x parts.1 (λ none. next (e, none))) refl
+  where
+    by_test : (b : Bool) → RequestTells m pid v n (refused r.number m.kernel) → (r.applies ≡ false → RequestTells m pid v n (unless_refused m.kernel refusals goes_on)) → r.applies ≡ b → RequestTells m pid v n (if b then refused r.number m.kernel else unless_refused m.kernel refusals goes_on)
+    by_test true stops next e = stops
+    by_test false stops next e = next e

@@ -1,0 +1,253 @@
+-- What an event may do to the kernel, and what each change that isn't quiet does.
+use Rattle.std.proofs.Common.{◌≡◌, ◌⊎◌, inl, inr, ℕ, zero, suc, ◌+◌, ◌-◌, ◌≤◌, List, [], ◌∷◌, ◌++◌, length, map, refl, ap, ◌∙◌, sym, subst, Option, Some, None, Bool, true, false, ◌==◌, cond, if◌then◌else◌, ◌||◌, arith, option_map, option_and_then, is_some, slice_get, slice_set}
+use Rattle.std.proofs.lemmas.Bool.{eq-eqb, eqb-true, eqb-false, ne_eqb}
+use Rattle.std.proofs.lemmas.Option.{slice_get-map}
+use Rattle.std.proofs.lemmas.List.{length_push}
+use Rattle.parts_model.specs.declared.tagged.TaggedByte.{TaggedByte}
+use Rattle.parts_model.specs.Files.{Files, Name, file_bytes, file_among, find_file}
+use Rattle.parts_model.specs.Numbered.{nth, with_nth_from_one}
+use Rattle.parts_model.specs.Processes as table
+use Rattle.parts_model.specs.Processes.{Process, Processes, Life, Live, Ended, process}
+use Rattle.acts_model.specs.Moved.{KernelByte, ConsoleByte, PipeByte, FileByte, StatusByte, Range, within_if}
+use Rattle.acts_model.specs.Records.{LifeChange, BeginsLife, EndsLife, NoLife, lives_after, NameChange, NoName, Written}
+use Rattle.arn_model.specs.Kernel as kernel
+use Rattle.arn_model.specs.Kernel.{Kernel, Opened, Handling, all_dropped, descriptors_of, all_also_held, handling_of, child_handling, status_at}
+use Rattle.arn_model.specs.ProcessCalls.{status_of}
+use Rattle.arn_model.specs.Tells.{kernel_byte, lives, named_after, patched, put_byte, outgoing_byte, HoldsAfter, IsSound}
+use Rattle.arn_model.proofs.Numbers.{suc-test, nth-push}
+use Rattle.arn_model.proofs.Quiet.{FileSame, file-same, Quiet, quiet-handling}
+use Rattle.arn_model.proofs.Closing.{process-change, length-with_process, status_in, lives_in, quiet-all_dropped, quiet-all_also_held}
+
+-- a file that is there was there before with what is written over its bytes, or it is new and empty
+abbrev pub FileKept : ℕ → Option Written → ℕ → Option (List TaggedByte) → Option (List TaggedByte) → Type 0
+FileKept event put file old None = Unit {0}
+FileKept event put file None (Some new) = new ≡ []
+FileKept event put file (Some old) (Some new) = new ≡ patched event put file old
+
+-- the kernel's side of what an event tells
+pub record KernelTells (k : Kernel) (event : ℕ) (bytes : List ℕ) (outgoing : Option Range) (life : LifeChange) (name : NameChange) (put : Option Written) (new : Kernel) : Type 0 where
+  pub holds : HoldsAfter k event bytes outgoing new
+  pub living : (q : ℕ) → lives new q ≡ lives_after life q (lives k q)
+  pub names : (path : List ℕ) → find_file new.files path ≡ named_after name path (find_file k.files path)
+  pub kept : (file : ℕ) → FileKept event put file (file_bytes k.files file) (file_bytes new.files file)
+  pub sound : IsSound k → IsSound new
+  pub grows : length k.processes ≤ length new.processes
+
+pub kept-same : (event file : ℕ) (o p : Option (List TaggedByte)) → FileSame o p → FileKept event None file o p
+kept-same event file o None h = tt
+kept-same event file None (Some p) h = absurd h
+kept-same event file (Some o) (Some p) h = h
+
+kept-then : (event : ℕ) (put : Option Written) (file : ℕ) (o p q : Option (List TaggedByte)) → FileKept event put file o p → FileSame p q → FileKept event put file o q
+kept-then event put file o p None h k = tt
+kept-then event put file o None (Some q) h k = absurd k
+kept-then event put file None (Some p) (Some q) h k = k ∙ h
+kept-then event put file (Some o) (Some p) (Some q) h k = k ∙ h
+
+pub quiet-tells : (k : Kernel) (event : ℕ) (bytes : List ℕ) (new : Kernel) → Quiet k new → KernelTells k event bytes None NoLife NoName None new
+quiet-tells k event bytes new q =
+    record {
+      holds = λ b h e. inr (refl, q.bytes b h e);
+      living = q.lives;
+      names = λ path. ap (λ (names : List Name). file_among names path) q.names;
+      kept = λ file. kept-same event file (file_bytes k.files file) (file_bytes new.files file) (q.files file);
+      sound = q.sound;
+      grows = q.grows;
+    }
+
+pub tells-then : (k : Kernel) (event : ℕ) (bytes : List ℕ) (outgoing : Option Range) (life : LifeChange) (name : NameChange) (put : Option Written) (mid new : Kernel) → KernelTells k event bytes outgoing life name put mid → Quiet mid new → KernelTells k event bytes outgoing life name put new
+tells-then k event bytes outgoing life name put mid new t q =
+    record {
+      holds = λ b h e. t.holds b h (q.bytes b h e);
+      living = λ p. q.lives p ∙ t.living p;
+      names = λ path. ap (λ (names : List Name). file_among names path) q.names ∙ t.names path;
+      kept = λ file. kept-then event put file (file_bytes k.files file) (file_bytes mid.files file) (file_bytes new.files file) (t.kept file) (q.files file);
+      sound = λ s. q.sound (t.sound s);
+      grows = let a = t.grows in let b = q.grows in omega arith;
+    }
+
+-- a quiet change first, and then one that leaves files
+pub then-tells : (k : Kernel) (event : ℕ) (bytes : List ℕ) (outgoing : Option Range) (life : LifeChange) (mid new : Kernel) → Quiet k mid → KernelTells mid event bytes outgoing life NoName None new → new.files ≡ mid.files → KernelTells k event bytes outgoing life NoName None new
+then-tells k event bytes outgoing life mid new q t same =
+    record {
+      holds = λ b h e. by_case b h (t.holds b h e);
+      living = λ p. t.living p ∙ ap (λ (x : Bool). lives_after life p x) (q.lives p);
+      names = λ path. t.names path ∙ ap (λ (names : List Name). file_among names path) q.names;
+      kept = λ file. subst (λ (fs : Files). FileKept event None file (file_bytes k.files file) (file_bytes fs file)) (sym same) (kept-same event file (file_bytes k.files file) (file_bytes mid.files file) (q.files file));
+      sound = λ s. t.sound (q.sound s);
+      grows = let a = t.grows in let b = q.grows in omega arith;
+    }
+  where
+    by_case : (b : KernelByte) (h : TaggedByte) → (outgoing_byte event bytes outgoing b ≡ Some h) ⊎ ((outgoing_byte event bytes outgoing b ≡ None) × (kernel_byte mid b ≡ Some h)) → (outgoing_byte event bytes outgoing b ≡ Some h) ⊎ ((outgoing_byte event bytes outgoing b ≡ None) × (kernel_byte k b ≡ Some h))
+    by_case b h (inl e) = inl e
+    by_case b h (inr e) = inr (e.0, q.bytes b h e.1)
+
+pub eq-swap : (a b : ℕ) → (a == b) ≡ (b == a)
+eq-swap a b = by_test (a == b) refl
+  where
+    by_test : (t : Bool) → (a == b) ≡ t → t ≡ (b == a)
+    by_test true e = sym (eq-eqb b a (sym (eqb-true a b e)))
+    by_test false e = let ne = eqb-false a b e in sym (ne_eqb b a (λ k. ne (sym k)))
+
+-- the table of processes
+
+nth-map : {A B : Type 0} → (f : Option A → Option B) → f None ≡ None → (xs : List (Option A)) (j : ℕ) → nth (map f xs) j ≡ f (nth xs j)
+nth-map {A = A} {B = B} f e xs j = ap (λ (o : Option (Option B)). option_and_then (λ thing. thing) o) (slice_get-map f xs j) ∙ nth-mapped f e (slice_get xs j)
+  where
+    nth-mapped : (f : Option A → Option B) → f None ≡ None → (o : Option (Option A)) → option_and_then (λ thing. thing) (option_map f o) ≡ f (option_and_then (λ thing. thing) o)
+    nth-mapped f e None = sym e
+    nth-mapped f e (Some x) = refl
+
+process-map : (f : Option Process → Option Process) → f None ≡ None → (all : Processes) (q : ℕ) → process (map f all) q ≡ f (process all q)
+process-map f e all zero = sym e
+process-map f e all (suc i) = nth-map f e all i
+
+length-mapped : (f : Option Process → Option Process) (all : Processes) → length (map f all) ≡ length all
+length-mapped f [] = refl
+length-mapped f (p ∷ all) = ap suc (length-mapped f all)
+
+ended-process : (all : Processes) (pid : ℕ) (status : TaggedByte) (q : ℕ) → process (table.ended all pid status) q ≡ option_and_then (table.orphan pid) (cond (q == pid) (option_and_then (table.with_end status) (process all q)) (process all q))
+ended-process all pid status q =
+    process-map (option_and_then (table.orphan pid)) refl (table.with_process all pid (option_and_then (table.with_end status) (process all pid))) q
+    ∙ ap (λ (o : Option Process). option_and_then (table.orphan pid) o) (process-change (option_and_then (table.with_end status)) refl all pid q)
+
+-- the process that ends
+awaited-status : (b : Bool) (p : Process) (status h : TaggedByte) → p.life ≡ Ended status → status_in (if b then Some p else None) ≡ Some h → Some status ≡ Some h
+awaited-status true p status h l e = ap (λ (x : Life). table.status_in x) (sym l) ∙ e
+awaited-status false p status h l e = absurd (cc)
+
+orphan-status : (pid : ℕ) (o : Option Process) (h : TaggedByte) → status_in (option_and_then (table.orphan pid) o) ≡ Some h → status_in o ≡ Some h
+orphan-status pid None h e = e
+orphan-status pid (Some p) h e = by_test (table.is_child_of pid p) e
+  where
+    kept : (b : Bool) → status_in (if b then Some (record p { parent = None }) else None) ≡ Some h → table.status_in p.life ≡ Some h
+    kept true e = e
+    kept false e = absurd (cc)
+
+    by_test : (b : Bool) → status_in (if b then table.if_awaited (record p { parent = None }) else Some p) ≡ Some h → table.status_in p.life ≡ Some h
+    by_test true e = kept (table.is_live p || false) e
+    by_test false e = e
+
+orphan-lives : (pid : ℕ) (o : Option Process) → lives_in (option_and_then (table.orphan pid) o) ≡ lives_in o
+orphan-lives pid None = refl
+orphan-lives pid (Some p) = by_test (table.is_child_of pid p)
+  where
+    dead : (l : Life) → lives_in (if table.is_alive l || false then Some (record { life = l; parent = None; descriptors = p.descriptors }) else None) ≡ lives_in (Some (record p { life = l }))
+    dead Live = refl
+    dead (Ended status) = refl
+
+    by_test : (b : Bool) → lives_in (if b then table.if_awaited (record p { parent = None }) else Some p) ≡ lives_in (Some p)
+    by_test true = dead p.life
+    by_test false = refl
+
+end-status : (status : TaggedByte) (o : Option Process) (h : TaggedByte) → status_in (option_and_then (table.with_end status) o) ≡ Some h → Some status ≡ Some h
+end-status status None h e = absurd (cc)
+end-status status (Some p) h e = awaited-status (false || is_some p.parent) (record p { life = Ended status; descriptors = table.none_open }) status h refl e
+
+end-lives : (status : TaggedByte) (o : Option Process) → lives_in (option_and_then (table.with_end status) o) ≡ false
+end-lives status None = refl
+end-lives status (Some p) = by_test (false || is_some p.parent)
+  where
+    by_test : (b : Bool) → lives_in (if b then Some (record p { life = Ended status; descriptors = table.none_open }) else None) ≡ false
+    by_test true = refl
+    by_test false = refl
+
+-- the status byte, where the process is the one that ends
+abbrev put_byte-of : ℕ → ℕ → Bool → Option TaggedByte
+put_byte-of event s b = put_byte event (s ∷ []) (within_if b 0 1 0)
+
+table-ended : (pid s event : ℕ) (k : Kernel) → KernelTells k event (s ∷ []) (Some (status_of pid)) (EndsLife pid) NoName None (record k { processes = table.ended k.processes pid (status_at event s) })
+table-ended pid s event k =
+    record {
+      holds = holds;
+      living = living;
+      names = λ path. refl;
+      kept = λ file. kept-same event file (file_bytes k.files file) (file_bytes k.files file) (file-same (file_bytes k.files file) (file_bytes k.files file) refl);
+      sound = λ h. record { fits = h.fits; named = h.named };
+      grows = let e = length-mapped (option_and_then (table.orphan pid)) (table.with_process k.processes pid (option_and_then (table.with_end (status_at event s)) (process k.processes pid))) in let g = length-with_process k.processes pid (option_and_then (table.with_end (status_at event s)) (process k.processes pid)) in omega arith;
+    }
+  where
+    by_test : (q : ℕ) (h : TaggedByte) (b : Bool) → (q == pid) ≡ b → status_in (option_and_then (table.orphan pid) (cond b (option_and_then (table.with_end (status_at event s)) (process k.processes q)) (process k.processes q))) ≡ Some h → (outgoing_byte event (s ∷ []) (Some (status_of pid)) (StatusByte q) ≡ Some h) ⊎ ((outgoing_byte event (s ∷ []) (Some (status_of pid)) (StatusByte q) ≡ None) × (table.status_of k.processes q ≡ Some h))
+    by_test q h true t e =
+        let o = option_and_then (table.with_end (status_at event s)) (process k.processes q) in
+        inl (ap (λ (b : Bool). put_byte-of event s b) (eq-swap pid q ∙ t) ∙ end-status (status_at event s) (process k.processes q) h (orphan-status pid o h e))
+    by_test q h false t e = inr (ap (λ (b : Bool). put_byte-of event s b) (eq-swap pid q ∙ t), orphan-status pid (process k.processes q) h e)
+
+    holds : HoldsAfter k event (s ∷ []) (Some (status_of pid)) (record k { processes = table.ended k.processes pid (status_at event s) })
+    holds (ConsoleByte n) h e = inr (refl, e)
+    holds (PipeByte pipe n) h e = inr (refl, e)
+    holds (FileByte file at) h e = inr (refl, e)
+    holds (StatusByte q) h e = by_test q h (q == pid) refl (ap status_in (sym (ended-process k.processes pid (status_at event s) q)) ∙ e)
+
+    live : (q : ℕ) (b : Bool) (o : Option Process) → lives_in (option_and_then (table.orphan pid) (cond b (option_and_then (table.with_end (status_at event s)) o) o)) ≡ cond b false (lives_in o)
+    live q true o = orphan-lives pid (option_and_then (table.with_end (status_at event s)) o) ∙ end-lives (status_at event s) o
+    live q false o = orphan-lives pid o
+
+    living : (q : ℕ) → is_some (table.live_process (table.ended k.processes pid (status_at event s)) q) ≡ lives_after (EndsLife pid) q (lives k q)
+    living q =
+        ap lives_in (ended-process k.processes pid (status_at event s) q)
+        ∙ (live q (q == pid) (process k.processes q) ∙ ap (λ (b : Bool). cond b false (lives k q)) (eq-swap q pid))
+
+pub ended-tells : (pid s event : ℕ) (k : Kernel) → KernelTells k event (s ∷ []) (Some (status_of pid)) (EndsLife pid) NoName None (kernel.ended pid (status_at event s) k)
+ended-tells pid s event k =
+    let k' = all_dropped (descriptors_of k pid) k in
+    let k'' = record k' { processes = table.ended k'.processes pid (status_at event s) } in
+    tells-then k event (s ∷ []) (Some (status_of pid)) (EndsLife pid) NoName None k'' (kernel.ended pid (status_at event s) k)
+    (then-tells k event (s ∷ []) (Some (status_of pid)) (EndsLife pid) k' k'' (quiet-all_dropped (descriptors_of k pid) k) (table-ended pid s event k') refl)
+    (quiet-handling k'' (with_nth_from_one k'.handling pid None))
+
+-- a child
+pub forked-process : (all : Processes) (p : Option Process) (q : ℕ) → process (all ++ p ∷ []) q ≡ cond (q == length all + 1) p (process all q)
+forked-process all p zero = none (0 == length all + 1) refl
+  where
+    none : (b : Bool) → (0 == length all + 1) ≡ b → None ≡ cond b p None
+    none true e = absurd (let k = eqb-true 0 (length all + 1) e in omega arith)
+    none false e = refl
+forked-process all p (suc i) =
+    nth-push all p i
+    ∙ ap (λ (b : Bool). cond b p (nth all i)) (sym (suc-test i (length all)) ∙ ap (λ (n : ℕ). suc i == n) (let e : suc (length all) ≡ length all + 1 = omega arith in e))
+
+child-status : (parent : ℕ) (o : Option Process) → status_in (option_map (table.child_of parent) o) ≡ None
+child-status parent None = refl
+child-status parent (Some p) = refl
+
+child-lives : (parent : ℕ) (o : Option Process) → lives_in o ≡ true → lives_in (option_map (table.child_of parent) o) ≡ true
+child-lives parent None e = e
+child-lives parent (Some p) e = refl
+
+table-forked : (pid event : ℕ) (k : Kernel) → lives k pid ≡ true → KernelTells k event [] None (BeginsLife (table.next_process k.processes)) NoName None (record k { processes = table.forked k.processes pid })
+table-forked pid event k alive =
+    let child = option_map (table.child_of pid) (process k.processes pid) in
+    record {
+      holds = holds;
+      living = λ q. ap lives_in (forked-process k.processes child q) ∙ (live q (q == length k.processes + 1) ∙ ap (λ (b : Bool). cond b true (lives k q)) (eq-swap q (length k.processes + 1)));
+      names = λ path. refl;
+      kept = λ file. kept-same event file (file_bytes k.files file) (file_bytes k.files file) (file-same (file_bytes k.files file) (file_bytes k.files file) refl);
+      sound = λ h. record { fits = h.fits; named = h.named };
+      grows = let e = length_push k.processes child in omega arith;
+    }
+  where
+    live : (q : ℕ) (b : Bool) → lives_in (cond b (option_map (table.child_of pid) (process k.processes pid)) (process k.processes q)) ≡ cond b true (lives k q)
+    live q true = child-lives pid (process k.processes pid) alive
+    live q false = refl
+
+    status : (q : ℕ) (h : TaggedByte) (b : Bool) → status_in (cond b (option_map (table.child_of pid) (process k.processes pid)) (process k.processes q)) ≡ Some h → table.status_of k.processes q ≡ Some h
+    status q h true e = absurd (let n = child-status pid (process k.processes pid) in cc)
+    status q h false e = e
+
+    holds : HoldsAfter k event [] None (record k { processes = table.forked k.processes pid })
+    holds (ConsoleByte n) h e = inr (refl, e)
+    holds (PipeByte pipe n) h e = inr (refl, e)
+    holds (FileByte file at) h e = inr (refl, e)
+    holds (StatusByte q) h e =
+        inr (refl, status q h (q == length k.processes + 1) (ap status_in (sym (forked-process k.processes (option_map (table.child_of pid) (process k.processes pid)) q)) ∙ e))
+
+pub forked-tells : (pid event : ℕ) (k : Kernel) → lives k pid ≡ true → KernelTells k event [] None (BeginsLife (table.next_process k.processes)) NoName None (kernel.forked pid k)
+forked-tells pid event k alive =
+    let k' = record k { processes = table.forked k.processes pid } in
+    let hs = k.handling ++ option_map child_handling (handling_of k pid) ∷ [] in
+    let k'' = record k' { handling = hs } in
+    let life = BeginsLife (table.next_process k.processes) in
+    tells-then k event [] None life NoName None k'' (kernel.forked pid k)
+    (tells-then k event [] None life NoName None k' k'' (table-forked pid event k alive) (quiet-handling k' hs))
+    (quiet-all_also_held (descriptors_of k pid) k'')

@@ -1,0 +1,288 @@
+-- No memory has more bytes than a private window, and who has a body lives: every act and instruction keeps this.
+use Rattle.std.proofs.Common.{◌≡◌, ℕ, ◌+◌, ◌-◌, ◌≤◌, List, [], ◌∷◌, ◌++◌, length, take, drop, refl, ap, ◌∙◌, sym, subst, Option, Some, None, unwrap_or, Bool, true, false, ◌==◌, ◌%◌, cond, if◌then◌else◌, arith, nat_le, is_some, option_map, length-take, length-drop, length-append, length-take-le}
+use Rattle.std.proofs.lemmas.Bool.{eqb-true, eq-eqb, and_parts, leb-true}
+use Rattle.std.proofs.lemmas.List.{length-replicate}
+use Rattle.arn_base.specs.Disk.{overwrite}
+use Rattle.arn_base.specs.declared.machine.Cpu.{Cpu}
+use Rattle.arn_base.specs.Window.{Window, is_whole_in, window_bytes, window_with, bytes_at, with_bytes, bytes_of, number_at}
+use Rattle.rv64_isa.specs.declared.instruction.Instr.{Instr}
+use Rattle.rv64_isa.specs.declared.instruction.Instr.TheVariants.{Lui, Auipc, Jal, Jalr, Branch, Load, Store, Imm, Op, Fence, Ecall, Ebreak}
+use Rattle.rv64_isa.specs.Decoded.{decoded}
+use Rattle.rv64_model.specs.Instruction.{Effect, Next, Call, End, jumps, jumped, branches, loads, stores, executed, executed_if, fetched, advanced}
+use Rattle.rv64_model.specs.Operands.{address}
+use Rattle.rv64_model.specs.Registers.{register}
+use Rattle.rv64_model.specs.Values.{immediate, sum, is_taken, load_len, load_result}
+use Rattle.rv64_model.specs.declared.statuses.TheConstants.{MISALIGNED, BAD_ACCESS}
+use Rattle.parts_model.specs.declared.limits.TheConstants.{WINDOW_START, WINDOW_LEN, SEGMENT_LEN}
+use Rattle.parts_model.specs.Image.{Image, read_as_image}
+use Rattle.parts_model.specs.Memory.{zeros, shared_window}
+use Rattle.acts_model.specs.Acts.{Act, Returns, Receives, Gives, Starts, Forks, Founds, Shares, Leaves, Delivers, Exits, Faults, Dies, acted, restored, started, with_fresh_segment, beginning_of, child_view, done, done_by, joined, founded}
+use Rattle.acts_model.specs.Bodies.{Body, Bodies, View, body_at, memory_at, segment_bytes, view, seen, put, remove, become}
+use Rattle.acts_model.specs.Records.{lives_after}
+use Rattle.acts_model.specs.Views.{reach, read, with_reach, written, stands_at, with_result, among_zeros, block_at}
+use Rattle.arn_model.specs.Step.{advanced_view}
+use Rattle.arn_model.proofs.Calling.{life_by}
+use Rattle.arn_model.proofs.Effects.{eq-swap}
+use Rattle.arn_model.proofs.Places.{put-body, put-memory, remove-body, remove-memory, laid_segment}
+
+abbrev pub IsSmall : List ℕ → Type 0
+IsSmall bytes = length bytes ≤ WINDOW_LEN
+
+abbrev pub AllSmall : List Window → Type 0
+AllSmall [] = Unit {0}
+AllSmall (w ∷ ws) = IsSmall w.bytes × AllSmall ws
+
+pub record SmallView (v : View) : Type 0 where
+  pub window : IsSmall v.window
+  pub segment : IsSmall v.segment
+
+shared-small : (o : Option (List ℕ)) → ((bytes : List ℕ) → o ≡ Some bytes → IsSmall bytes) → AllSmall (shared_window o)
+shared-small None h = tt
+shared-small (Some bytes) h = (h bytes refl, tt)
+
+reach-small : (v : View) → SmallView v → AllSmall (reach v)
+reach-small v s = (s.window, by_segment v.body.segment)
+  where
+    by_segment : (o : Option ℕ) → AllSmall (shared_window (option_map (λ made. v.segment) o))
+    by_segment None = tt
+    by_segment (Some k) = (s.segment, tt)
+
+overwritten-len : (old : List ℕ) (at : ℕ) (bytes : List ℕ) → at + length bytes ≤ length old → length (overwrite old at bytes) ≡ length old
+overwritten-len old at bytes l =
+    let a = length-take-le at old (omega arith) in
+    let b = length-append (take at old) bytes in
+    let c = length-append (take at old ++ bytes) (drop (at + length bytes) old) in
+    let d = length-drop (at + length bytes) old in
+    omega arith
+
+with-small : (ws : List Window) (at : ℕ) (bytes : List ℕ) → AllSmall ws → AllSmall (with_bytes ws at bytes)
+with-small [] at bytes h = tt
+with-small (w ∷ ws) at bytes h = by_test (is_whole_in w at (length bytes)) refl (with-small ws at bytes h.1)
+  where
+    by_test : (b : Bool) → is_whole_in w at (length bytes) ≡ b → AllSmall (with_bytes ws at bytes) → AllSmall (if b then window_with w at bytes ∷ ws else w ∷ with_bytes ws at bytes)
+    by_test true t ih =
+        let parts = and_parts (nat_le w.from at) (nat_le (at + length bytes) (w.from + length w.bytes)) t in
+        let x = leb-true w.from at parts.0 in
+        let y = leb-true (at + length bytes) (w.from + length w.bytes) parts.1 in
+        let e = overwritten-len w.bytes (at - w.from) bytes (omega arith) in
+        let small = h.0 in
+        (omega arith, h.1)
+    by_test false t ih = (h.0, ih)
+
+with_reach-small : (ws : List Window) (v : View) → AllSmall ws → SmallView v → SmallView (with_reach ws v)
+with_reach-small [] v h s = s
+with_reach-small (w ∷ []) v h s = record { window = h.0; segment = s.segment }
+with_reach-small (w ∷ x ∷ more) v h s = record { window = h.0; segment = h.1.0 }
+
+window-small : (w : Window) (at len : ℕ) → IsSmall w.bytes → IsSmall (window_bytes w at len)
+window-small w at len h =
+    let a = length-take len (drop (at - w.from) w.bytes) in
+    let b = length-drop (at - w.from) w.bytes in
+    omega arith
+
+found-small : (ws : List Window) (at len : ℕ) → AllSmall ws → IsSmall (unwrap_or (bytes_at ws at len) [])
+found-small [] at len h = omega arith
+found-small (w ∷ ws) at len h = by_test (is_whole_in w at len) (found-small ws at len h.1)
+  where
+    by_test : (b : Bool) → IsSmall (unwrap_or (bytes_at ws at len) []) → IsSmall (unwrap_or (if b then Some (window_bytes w at len) else bytes_at ws at len) [])
+    by_test true ih = window-small w at len h.0
+    by_test false ih = ih
+
+-- instructions
+
+abbrev SmallEffect : Effect → Type 0
+SmallEffect (Next instr cpu memory) = AllSmall memory
+SmallEffect Call = Unit {0}
+SmallEffect (End status) = Unit {0}
+
+jumps-small : (instr : Instr) (cpu : Cpu) (ws : List Window) (rd target : ℕ) → AllSmall ws → SmallEffect (jumps instr cpu ws rd target)
+jumps-small instr cpu ws rd target h = by_test (target % 4 == 0)
+  where
+    by_test : (b : Bool) → SmallEffect (if b then Next instr (jumped cpu rd target) ws else End MISALIGNED)
+    by_test true = h
+    by_test false = tt
+
+branches-small : (instr : Instr) (cpu : Cpu) (ws : List Window) (b : Bool) (target : ℕ) → AllSmall ws → SmallEffect (branches instr cpu ws b target)
+branches-small instr cpu ws false target h = h
+branches-small instr cpu ws true target h = jumps-small instr cpu ws 0 target h
+
+loads-small : (instr : Instr) (cpu : Cpu) (ws : List Window) (rd : ℕ) (o : Option ℕ) → AllSmall ws → SmallEffect (loads instr cpu ws rd o)
+loads-small instr cpu ws rd None h = tt
+loads-small instr cpu ws rd (Some value) h = h
+
+stores-small : (instr : Instr) (cpu : Cpu) (ws : List Window) (at len value : ℕ) → AllSmall ws → SmallEffect (stores instr cpu ws at len value)
+stores-small instr cpu ws at len value h = by_test (is_some (bytes_at ws at len))
+  where
+    by_test : (b : Bool) → SmallEffect (if b then Next instr (advanced cpu) (with_bytes ws at (bytes_of len value)) else End BAD_ACCESS)
+    by_test true = with-small ws at (bytes_of len value) h
+    by_test false = tt
+
+executed-small : (instr : Instr) (cpu : Cpu) (ws : List Window) → AllSmall ws → SmallEffect (executed instr cpu ws)
+executed-small (Lui rd imm) cpu ws h = h
+executed-small (Auipc rd imm) cpu ws h = h
+executed-small (Jal rd imm) cpu ws h = jumps-small (Jal rd imm) cpu ws rd _ h
+executed-small (Jalr rd rs1 imm) cpu ws h = jumps-small (Jalr rd rs1 imm) cpu ws rd _ h
+executed-small (Branch op rs1 rs2 imm) cpu ws h = branches-small (Branch op rs1 rs2 imm) cpu ws (is_taken op (register cpu rs1) (register cpu rs2)) (sum cpu.pc (immediate imm)) h
+executed-small (Load op rd rs1 imm) cpu ws h = loads-small (Load op rd rs1 imm) cpu ws rd (option_map (load_result op) (number_at ws (address cpu rs1 imm) (load_len op))) h
+executed-small (Store op rs1 rs2 imm) cpu ws h = stores-small (Store op rs1 rs2 imm) cpu ws _ _ _ h
+executed-small (Imm op rd rs1 imm) cpu ws h = h
+executed-small (Op op rd rs1 rs2) cpu ws h = h
+executed-small (Fence word) cpu ws h = h
+executed-small Ecall cpu ws h = tt
+executed-small Ebreak cpu ws h = tt
+
+executed_if-small : (o : Option Instr) (cpu : Cpu) (ws : List Window) → AllSmall ws → SmallEffect (executed_if o cpu ws)
+executed_if-small None cpu ws h = tt
+executed_if-small (Some instr) cpu ws h = executed-small instr cpu ws h
+
+fetched-small : (o : Option ℕ) (cpu : Cpu) (ws : List Window) → AllSmall ws → SmallEffect (fetched o cpu ws)
+fetched-small None cpu ws h = tt
+fetched-small (Some word) cpu ws h = executed_if-small (decoded word) cpu ws h
+
+pub advanced-small : (v : View) (instr : Instr) (cpu : Cpu) (memory : List Window) → SmallView v → stands_at v ≡ Next instr cpu memory → SmallView (advanced_view cpu memory v)
+advanced-small v instr cpu memory s e =
+    let small : AllSmall memory = subst SmallEffect e (fetched-small (number_at (reach v) v.body.cpu.pc 4) v.body.cpu (reach v) (reach-small v s)) in
+    with_reach-small memory (record v { body = record v.body { cpu = cpu } }) small (record { window = s.window; segment = s.segment })
+
+-- acts
+
+started-small : (event : ℕ) (image : Image) (block : List ℕ) → IsSmall block → SmallView (started event image block)
+started-small event image block h =
+    let zeroed = among_zeros WINDOW_LEN (image.load - WINDOW_START) image.body in
+    let a = length-take (block_at (length block) - WINDOW_START) zeroed in
+    let b = length-append (take (block_at (length block) - WINDOW_START) zeroed) block in
+    record { window = omega arith; segment = omega arith }
+
+fresh-small : (event : ℕ) (v : View) → SmallView v → SmallView (with_fresh_segment event v)
+unfolding zeros
+fresh-small event v s = let e = length-replicate {A = ℕ} SEGMENT_LEN 0 in record { window = s.window; segment = omega arith }
+
+restored-small : (o : Option Cpu) (v : View) → SmallView v → SmallView (restored o v)
+restored-small None v s = s
+restored-small (Some cpu) v s = record { window = s.window; segment = s.segment }
+
+abbrev SmallIf : Option View → Type 0
+SmallIf None = Unit {0}
+SmallIf (Some v) = SmallView v
+
+acted-small : (event : ℕ) (act : Act) (v : View) → SmallView v → SmallIf (acted event act v)
+acted-small event (Returns result) v s = record { window = s.window; segment = s.segment }
+acted-small event (Receives at bytes result) v s =
+    let w = with_reach-small (with_bytes (reach v) at bytes) v (with-small (reach v) at bytes (reach-small v s)) s in record { window = w.window; segment = w.segment }
+acted-small event (Gives at len result) v s = record { window = s.window; segment = s.segment }
+acted-small event (Starts file block block_len) v s = started-small event (read_as_image file) (read v block block_len) (found-small (reach v) block block_len (reach-small v s))
+acted-small event (Forks child) v s = record { window = s.window; segment = s.segment }
+acted-small event (Founds child) v s = record { window = s.window; segment = s.segment }
+acted-small event Shares v s = let w = fresh-small event v s in record { window = w.window; segment = w.segment }
+acted-small event Leaves v s = restored-small v.body.slot v s
+acted-small event (Delivers signal handler cut) v s = record { window = s.window; segment = s.segment }
+acted-small event Exits v s = tt
+acted-small event (Faults status) v s = tt
+acted-small event (Dies signal cut) v s = tt
+
+-- bodies
+
+pub record BodiesFit (b : Bodies) (living : ℕ → Bool) : Type 0 where
+  pub alive : (q : ℕ) (x : Body) → body_at b q ≡ Some x → living q ≡ true
+  pub small : (k : ℕ) → IsSmall (memory_at b k)
+
+segment-small : (b : Bodies) (living : ℕ → Bool) → BodiesFit b living → (o : Option ℕ) → IsSmall (segment_bytes b o)
+segment-small b living h None = omega arith
+segment-small b living h (Some k) = h.small k
+
+pub seen-fits : (b : Bodies) (living : ℕ → Bool) (p : ℕ) (v : View) → BodiesFit b living → seen b p ≡ Some v → (living p ≡ true) × SmallView v
+seen-fits b living p v h e = by_body (body_at b p) refl e
+  where
+    by_body : (o : Option Body) → body_at b p ≡ o → option_map (view b) o ≡ Some v → (living p ≡ true) × SmallView v
+    by_body None t e = absurd (cc)
+    by_body (Some x) t e =
+        let same : view b x ≡ v = cc in
+        let there : SmallView (view b x) = record { window = h.small x.window; segment = segment-small b living h x.segment } in
+        (h.alive p x t, subst SmallView same there)
+
+laid_segment-small : (o : Option ℕ) (bytes : List ℕ) (k : ℕ) (old : List ℕ) → IsSmall bytes → IsSmall old → IsSmall (laid_segment o bytes k old)
+laid_segment-small None bytes k old h g = g
+laid_segment-small (Some s) bytes k old h g = either (k == s)
+  where
+    either : (b : Bool) → IsSmall (cond b bytes old)
+    either true = h
+    either false = g
+
+pub fit-put : (b : Bodies) (living : ℕ → Bool) (p : ℕ) (v : View) → BodiesFit b living → living p ≡ true → SmallView v → BodiesFit (put p v b) living
+fit-put b living p v h lives s =
+    record {
+      alive = λ q x e. by_test q x (q == p) refl (sym (put-body p v b q) ∙ e);
+      small = λ k. subst IsSmall (sym (put-memory p v b k)) (either (k == v.body.window) (laid_segment v.body.segment v.segment k (memory_at b k)) (laid_segment-small v.body.segment v.segment k (memory_at b k) s.segment (h.small k)));
+    }
+  where
+    by_test : (q : ℕ) (x : Body) (t : Bool) → (q == p) ≡ t → cond t (Some v.body) (body_at b q) ≡ Some x → living q ≡ true
+    by_test q x true t e = ap living (eqb-true q p t) ∙ lives
+    by_test q x false t e = h.alive q x e
+
+    either : (t : Bool) (other : List ℕ) → IsSmall other → IsSmall (cond t v.window other)
+    either true other g = s.window
+    either false other g = g
+
+fit-remove : (b : Bodies) (living left : ℕ → Bool) (p : ℕ) → BodiesFit b living → ((q : ℕ) → (q == p) ≡ false → living q ≡ true → left q ≡ true) → BodiesFit (remove p b) left
+fit-remove b living left p h stays =
+    record {
+      alive = λ q x e. by_test q x (q == p) refl (sym (remove-body p b q) ∙ e);
+      small = λ k. subst IsSmall (sym (remove-memory p b k)) (h.small k);
+    }
+  where
+    by_test : (q : ℕ) (x : Body) (t : Bool) → (q == p) ≡ t → cond t None (body_at b q) ≡ Some x → left q ≡ true
+    by_test q x true t e = absurd (cc)
+    by_test q x false t e = stays q t (h.alive q x e)
+
+pub fit-more : (b : Bodies) (living more : ℕ → Bool) → BodiesFit b living → ((q : ℕ) → living q ≡ true → more q ≡ true) → BodiesFit b more
+fit-more b living more h g = record { alive = λ q x e. g q (h.alive q x e); small = h.small }
+
+-- a process more lives, or one fewer
+begins-more : (child q : ℕ) (b : Bool) → b ≡ true → (if child == q then true else b) ≡ true
+begins-more child q b e = by_test (child == q)
+  where
+    by_test : (t : Bool) → (if t then true else b) ≡ true
+    by_test true = refl
+    by_test false = e
+
+begins-itself : (child : ℕ) (b : Bool) → (if child == child then true else b) ≡ true
+begins-itself child b = ap (λ (t : Bool). if t then true else b) (eq-eqb child child refl)
+
+ends-others : (p q : ℕ) (b : Bool) → (q == p) ≡ false → b ≡ true → (if p == q then false else b) ≡ true
+ends-others p q b e g = ap (λ (t : Bool). if t then false else b) (eq-swap p q ∙ e) ∙ g
+
+pub after-fits : (pid event : ℕ) (act : Act) (v : View) (b : Bodies) (living : ℕ → Bool) → BodiesFit b living → seen b pid ≡ Some v → BodiesFit (founded act event (beginning_of v) (done pid event act b)) (λ q. lives_after (life_by pid act) q (living q))
+after-fits pid event act v b living h e =
+    subst (λ (o : Option View). BodiesFit (founded act event (beginning_of v) (done_by pid event act o b)) (λ q. lives_after (life_by pid act) q (living q))) (sym e)
+    (by_act act (acted-small event act v there.1))
+  where
+    there : (living pid ≡ true) × SmallView v
+    there = seen-fits b living pid v h e
+
+    child_small : (o : Option ℕ) (bytes : List ℕ) → IsSmall bytes → SmallView (child_view event (beginning_of v) o bytes)
+    child_small o bytes s = record { window = let t = seen-fits b living pid v h e in t.1.window; segment = s }
+
+    forked : (child : ℕ) (o : Option ℕ) (bytes : List ℕ) → IsSmall bytes → SmallView (with_result child v) → BodiesFit (put child (child_view event (beginning_of v) o bytes) (put pid (with_result child v) b)) (λ q. if child == q then true else living q)
+    forked child o bytes s t =
+        let all : ℕ → Bool = λ q. if child == q then true else living q in
+        let own = seen-fits b living pid v h e in
+        fit-put (put pid (with_result child v) b) all child (child_view event (beginning_of v) o bytes)
+        (fit-more (put pid (with_result child v) b) living all (fit-put b living pid (with_result child v) h own.0 t) (λ q g. begins-more child q (living q) g))
+        (begins-itself child (living child)) (child_small o bytes s)
+
+    removed : BodiesFit (remove pid b) (λ q. if pid == q then false else living q)
+    removed = fit-remove b living (λ q. if pid == q then false else living q) pid h (λ q t g. ends-others pid q (living q) t g)
+
+    by_act : (act : Act) → SmallIf (acted event act v) → BodiesFit (founded act event (beginning_of v) (joined act event v (become pid (acted event act v) b))) (λ q. lives_after (life_by pid act) q (living q))
+    by_act (Returns result) s = fit-put b living pid (with_result result v) h there.0 s
+    by_act (Receives at bytes result) s = fit-put b living pid (with_result result (written at bytes v)) h there.0 s
+    by_act (Gives at len result) s = fit-put b living pid (with_result result v) h there.0 s
+    by_act (Starts file block block_len) s = fit-put b living pid (started event (read_as_image file) (read v block block_len)) h there.0 s
+    by_act (Forks child) s = forked child v.body.segment v.segment (there.1.segment) s
+    by_act (Founds child) s = forked child None [] (omega arith) s
+    by_act Shares s = fit-put b living pid _ h there.0 s
+    by_act Leaves s = fit-put b living pid _ h there.0 s
+    by_act (Delivers signal handler cut) s = fit-put b living pid _ h there.0 s
+    by_act Exits s = removed
+    by_act (Faults status) s = removed
+    by_act (Dies signal cut) s = removed

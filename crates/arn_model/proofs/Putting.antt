@@ -1,0 +1,339 @@
+-- Bytes that are put into pipes and files, and taken from channels.
+use Rattle.std.proofs.Common.{◌≡◌, ◌⊎◌, inl, inr, ℕ, zero, suc, ◌+◌, ◌-◌, ◌<◌, ◌≤◌, min, List, [], ◌∷◌, ◌++◌, length, take, drop, refl, ap, ap₂, ◌∙◌, sym, subst, Option, Some, None, IfSome, Bool, true, false, ◌==◌, ◌&&◌, cond, if◌then◌else◌, arith, option_map, option_and_then, slice_get, nat_lt, nat_le, length-set, length-append, length-take, length-drop, take_all, length-take-le, append-nil}
+use Rattle.std.proofs.lemmas.List.{drop_all}
+use Rattle.std.proofs.lemmas.Bool.{eq-eqb, eqb-true, lt-ltb, le-ltb, ltb-true, ltb-false, le-leb, lt-leb, leb-true, leb-false}
+use Rattle.parts_model.specs.declared.open.Description.{Description}
+use Rattle.parts_model.specs.declared.open.Description.TheVariants.{Console, File, Reader, Writer, Connection, Listener, Device}
+use Rattle.parts_model.specs.declared.tagged.TaggedByte.{TaggedByte}
+use Rattle.parts_model.specs.Channel.{Channel, channel_end, put_behind, front, without_front}
+use Rattle.parts_model.specs.Files as files
+use Rattle.parts_model.specs.Files.{Files, Name, file_bytes, laid_over, fitting, written, rewritten}
+use Rattle.parts_model.specs.Numbered.{nth}
+use Rattle.parts_model.specs.Pipes as pipes
+use Rattle.parts_model.specs.Pipes.{Pipe, room, with_put, with_taken}
+use Rattle.parts_model.specs.Tagged.{held_from, held_bytes}
+use Rattle.acts_model.specs.Moved.{ConsoleByte, PipeByte, FileByte, StatusByte, within, within_if}
+use Rattle.acts_model.specs.Records.{NoLife, NoName, Written}
+use Rattle.arn_model.specs.Kernel.{Kernel, Opened}
+use Rattle.arn_model.specs.Tells.{at_position, kernel_byte, put_byte, HoldsAfter, FitsFiles}
+use Rattle.arn_model.proofs.Numbers.{nth-change, get-take, get-drop, get-left, get-right}
+use Rattle.arn_model.proofs.Quiet.{Less, file-same, Quiet, quiet-pipe, quiet-console, pipe_byte}
+use Rattle.arn_model.proofs.Effects.{FileKept, KernelTells, kept-same, eq-swap}
+
+-- bytes that leave a channel
+pub front-less : (c : Channel) (d n : ℕ) → Less (at_position (without_front c d) n) (at_position c n)
+front-less c d n = by_test (nat_lt n (c.taken + d)) refl
+  where
+    by_test : (b : Bool) → nat_lt n (c.taken + d) ≡ b → Less (if b then None else slice_get (drop d c.queue) (n - (c.taken + d))) (at_position c n)
+    by_test true t h e = absurd (cc)
+    by_test false t h e =
+        let l : c.taken + d ≤ n = ltb-false n (c.taken + d) t in
+        let i : n - c.taken ≡ d + (n - (c.taken + d)) = omega arith in
+        ap (λ b. if b then None else slice_get c.queue (n - c.taken)) (le-ltb n c.taken (omega arith))
+        ∙ (ap (λ i. slice_get c.queue i) i ∙ (sym (get-drop d c.queue (n - (c.taken + d))) ∙ e))
+
+pub front-there : (c : Channel) (most n : ℕ) → n < length (front c most) → at_position c (c.taken + n) ≡ slice_get (front c most) n
+front-there c most n l =
+    let a : n < most = omega (arith, length-take most c.queue) in
+    let i : c.taken + n - c.taken ≡ n = omega arith in
+    ap (λ b. if b then None else slice_get c.queue (c.taken + n - c.taken)) (le-ltb (c.taken + n) c.taken (omega arith))
+    ∙ (ap (λ i. slice_get c.queue i) i ∙ sym (get-take most c.queue n a))
+
+pub quiet-taken : (k : Kernel) (pipe most : ℕ) → Quiet k (record k { pipes = pipes.with_change k.pipes pipe (λ q. with_taken q most) })
+quiet-taken k pipe most = quiet-pipe k pipe (option_map (λ q. with_taken q most)) refl each
+  where
+    each : (o : Option Pipe) (n : ℕ) → Less (pipe_byte (option_map (λ q. with_taken q most) o) n) (pipe_byte o n)
+    each None n h e = e
+    each (Some p) n h e = front-less p.channel (min most (length p.channel.queue)) n h e
+
+pub quiet-front : (k : Kernel) (d : ℕ) → Quiet k (record k { console = without_front k.console d })
+quiet-front k d = quiet-console k (without_front k.console d) (front-less k.console d)
+
+-- the bytes of an event
+pub held-at : (event at : ℕ) (bytes : List ℕ) (j : ℕ) → slice_get (held_from event at bytes) j ≡ option_map (λ b. record { value = b; origin = record { event = event; at = at + j } }) (slice_get bytes j)
+held-at event at [] j = refl
+held-at event at (b ∷ bytes) zero = ap (λ (i : ℕ). Some (record { value = b; origin = record { event = event; at = i } })) (let e : at ≡ at + 0 = omega arith in e)
+held-at event at (b ∷ bytes) (suc j) =
+    held-at event (at + 1) bytes j
+    ∙ ap (λ (i : ℕ). option_map (λ b. record { value = b; origin = record { event = event; at = i } }) (slice_get bytes j)) (let e : at + 1 + j ≡ at + suc j = omega arith in e)
+
+pub length-held : (event at : ℕ) (bytes : List ℕ) → length (held_from event at bytes) ≡ length bytes
+length-held event at [] = refl
+length-held event at (b ∷ bytes) = ap suc (length-held event (at + 1) bytes)
+
+-- what is put at a place of a range, and what isn't
+pub within-there : (a n b : ℕ) → a ≤ b → b < a + n → within a n b ≡ Some (b - a)
+within-there a n b l g = ap₂ (λ (x y : Bool). if x && y then Some (b - a) else None) (le-leb a b l) (lt-ltb b (a + n) g)
+
+pub within-before : (a n b : ℕ) → b < a → within a n b ≡ None
+within-before a n b l = ap (λ (x : Bool). if x && nat_lt b (a + n) then Some (b - a) else None) (lt-leb a b l)
+
+within-behind : (a n b : ℕ) → a + n ≤ b → within a n b ≡ None
+within-behind a n b l = by_test (nat_le a b) (nat_lt b (a + n)) (le-ltb b (a + n) l)
+  where
+    by_test : (x y : Bool) → y ≡ false → (if x && y then Some (b - a) else None) ≡ None
+    by_test true y e = ap (λ (y : Bool). if y then Some (b - a) else None) e
+    by_test false y e = refl
+
+-- byte n of a list that has bytes of an event in the place from `at` on
+abbrev pub PutAt : ℕ → ℕ → List ℕ → List TaggedByte → List TaggedByte → Type 0
+PutAt event at bytes old new = (n : ℕ) (h : TaggedByte) → slice_get new n ≡ Some h → (put_byte event bytes (within at (length bytes) n) ≡ Some h) ⊎ ((within at (length bytes) n ≡ None) × (slice_get old n ≡ Some h))
+
+laid-put : (event at : ℕ) (bytes : List ℕ) (old : List TaggedByte) → at ≤ length old → PutAt event at bytes old (laid_over old at (held_bytes event bytes))
+laid-put event at bytes old l n h e = by_front (nat_lt n at) refl
+  where
+    size : length (take at old) ≡ at
+    size = length-take-le at old l
+
+    mid : length (held_bytes event bytes) ≡ length bytes
+    mid = length-held event 0 bytes
+
+    both : length (take at old ++ held_bytes event bytes) ≡ at + length bytes
+    both = let a = size in let b = mid in omega (arith, length-append (take at old) (held_bytes event bytes))
+
+    rest : List TaggedByte
+    rest = drop (at + length (held_bytes event bytes)) old
+
+    behind : at + length bytes ≤ n → slice_get old n ≡ Some h
+    behind g =
+        let len = both in
+        let m = mid in
+        let j : n ≡ length (take at old ++ held_bytes event bytes) + (n - (at + length bytes)) = omega arith in
+        let i : at + length (held_bytes event bytes) + (n - (at + length bytes)) ≡ n = omega arith in
+        ap (λ (i : ℕ). slice_get old i) (sym i)
+        ∙ (sym (get-drop (at + length (held_bytes event bytes)) old (n - (at + length bytes)))
+        ∙ (sym (get-right (take at old ++ held_bytes event bytes) (drop (at + length (held_bytes event bytes)) old) (n - (at + length bytes)))
+        ∙ (ap (λ (i : ℕ). slice_get (laid_over old at (held_bytes event bytes)) i) (sym j) ∙ e)))
+
+    inside : at ≤ n → n < at + length bytes → put_byte event bytes (Some (n - at)) ≡ Some h
+    inside g m =
+        let len = both in
+        let s = size in
+        let j : n ≡ length (take at old) + (n - at) = omega arith in
+        sym (held-zero (n - at))
+        ∙ (sym (get-right (take at old) (held_bytes event bytes) (n - at))
+        ∙ (ap (λ (i : ℕ). slice_get (take at old ++ held_bytes event bytes) i) (sym j)
+        ∙ (sym (get-left (take at old ++ held_bytes event bytes) (drop (at + length (held_bytes event bytes)) old) n (omega arith)) ∙ e)))
+      where
+        held-zero : (j : ℕ) → slice_get (held_bytes event bytes) j ≡ put_byte event bytes (Some j)
+        held-zero j = held-at event 0 bytes j ∙ ap (λ (i : ℕ). option_map (λ b. record { value = b; origin = record { event = event; at = i } }) (slice_get bytes j)) (let z : 0 + j ≡ j = omega arith in z)
+
+    front_part : n < at → slice_get old n ≡ Some h
+    front_part g =
+        let len = both in
+        let s = size in
+        sym (get-take at old n g)
+        ∙ (sym (get-left (take at old) (held_bytes event bytes) n (omega arith))
+        ∙ (sym (get-left (take at old ++ held_bytes event bytes) (drop (at + length (held_bytes event bytes)) old) n (omega arith)) ∙ e))
+
+    by_behind : at ≤ n → (b : Bool) → nat_lt n (at + length bytes) ≡ b → (put_byte event bytes (within at (length bytes) n) ≡ Some h) ⊎ ((within at (length bytes) n ≡ None) × (slice_get old n ≡ Some h))
+    by_behind g true t =
+        let m = ltb-true n (at + length bytes) t in
+        inl (ap (λ (o : Option ℕ). put_byte event bytes o) (within-there at (length bytes) n g m) ∙ inside g m)
+    by_behind g false t = let m = ltb-false n (at + length bytes) t in inr (within-behind at (length bytes) n m, behind m)
+
+    by_front : (b : Bool) → nat_lt n at ≡ b → (put_byte event bytes (within at (length bytes) n) ≡ Some h) ⊎ ((within at (length bytes) n ≡ None) × (slice_get old n ≡ Some h))
+    by_front true t = let g = ltb-true n at t in inr (within-before at (length bytes) n g, front_part g)
+    by_front false t = by_behind (ltb-false n at t) (nat_lt n (at + length bytes)) refl
+
+append-laid : (old new : List TaggedByte) → laid_over old (length old) new ≡ old ++ new
+append-laid old new =
+    ap₂ (λ (x y : List TaggedByte). x ++ new ++ y) (take_all (length old) old (omega arith)) (drop_all (length old + length new) old (omega arith))
+    ∙ append-nil (old ++ new)
+
+append-put : (event : ℕ) (bytes : List ℕ) (old : List TaggedByte) → PutAt event (length old) bytes old (old ++ held_bytes event bytes)
+append-put event bytes old = subst (λ (new : List TaggedByte). PutAt event (length old) bytes old new) (append-laid old (held_bytes event bytes)) (laid-put event (length old) bytes old (omega arith))
+
+-- positions of a channel are places of its queue, further on by how many were taken
+le-shift : (t q n : ℕ) → t ≤ n → nat_le (t + q) n ≡ nat_le q (n - t)
+le-shift t q n l = by_test (nat_le q (n - t)) refl
+  where
+    by_test : (b : Bool) → nat_le q (n - t) ≡ b → nat_le (t + q) n ≡ b
+    by_test true e = let m = leb-true q (n - t) e in le-leb (t + q) n (omega arith)
+    by_test false e = let m = leb-false q (n - t) e in lt-leb (t + q) n (omega arith)
+
+lt-shift : (t q n : ℕ) → t ≤ n → nat_lt n (t + q) ≡ nat_lt (n - t) q
+lt-shift t q n l = by_test (nat_lt (n - t) q) refl
+  where
+    by_test : (b : Bool) → nat_lt (n - t) q ≡ b → nat_lt n (t + q) ≡ b
+    by_test true e = let m = ltb-true (n - t) q e in lt-ltb n (t + q) (omega arith)
+    by_test false e = let m = ltb-false (n - t) q e in le-ltb n (t + q) (omega arith)
+
+within-shift : (t q len n : ℕ) → t ≤ n → within (t + q) len n ≡ within q len (n - t)
+within-shift t q len n l =
+    let sum : t + q + len ≡ t + (q + len) = omega arith in
+    let less : n - (t + q) ≡ n - t - q = omega arith in
+    ap (λ (m : ℕ). if nat_le (t + q) n && nat_lt n m then Some (n - (t + q)) else None) sum
+    ∙ (ap₂ (λ (x y : Bool). if x && y then Some (n - (t + q)) else None) (le-shift t q n l) (lt-shift t (q + len) n l)
+    ∙ ap (λ (m : ℕ). if nat_le q (n - t) && nat_lt (n - t) (q + len) then Some m else None) less)
+
+channel-put : (event : ℕ) (bytes : List ℕ) (c : Channel) (n : ℕ) (h : TaggedByte) → at_position (put_behind c event bytes) n ≡ Some h → (put_byte event bytes (within (channel_end c) (length bytes) n) ≡ Some h) ⊎ ((within (channel_end c) (length bytes) n ≡ None) × (at_position c n ≡ Some h))
+channel-put event bytes c n h e = by_test (nat_lt n c.taken) refl e
+  where
+    old : nat_lt n c.taken ≡ false → slice_get c.queue (n - c.taken) ≡ Some h → at_position c n ≡ Some h
+    old t e = ap (λ b. if b then None else slice_get c.queue (n - c.taken)) t ∙ e
+
+    moved : nat_lt n c.taken ≡ false → (put_byte event bytes (within (length c.queue) (length bytes) (n - c.taken)) ≡ Some h) ⊎ ((within (length c.queue) (length bytes) (n - c.taken) ≡ None) × (slice_get c.queue (n - c.taken) ≡ Some h)) → (put_byte event bytes (within (channel_end c) (length bytes) n) ≡ Some h) ⊎ ((within (channel_end c) (length bytes) n ≡ None) × (at_position c n ≡ Some h))
+    moved t (inl e) = inl (ap (λ (o : Option ℕ). put_byte event bytes o) (within-shift c.taken (length c.queue) (length bytes) n (ltb-false n c.taken t)) ∙ e)
+    moved t (inr e) = inr (within-shift c.taken (length c.queue) (length bytes) n (ltb-false n c.taken t) ∙ e.0, old t e.1)
+
+    by_test : (b : Bool) → nat_lt n c.taken ≡ b → (if b then None else slice_get (c.queue ++ held_bytes event bytes) (n - c.taken)) ≡ Some h → (put_byte event bytes (within (channel_end c) (length bytes) n) ≡ Some h) ⊎ ((within (channel_end c) (length bytes) n ≡ None) × (at_position c n ≡ Some h))
+    by_test true t e = absurd (cc)
+    by_test false t e = moved t (append-put event bytes c.queue (n - c.taken) h e)
+
+-- into a pipe
+pub piped-tells : (k : Kernel) (event pipe : ℕ) (p : Pipe) (bytes : List ℕ) → nth k.pipes pipe ≡ Some p → length bytes ≤ room p → KernelTells k event bytes (Some (record { first = PipeByte pipe (channel_end p.channel); len = length bytes })) NoLife NoName None (record k { pipes = pipes.with_change k.pipes pipe (λ q. with_put q bytes event) })
+piped-tells k event pipe p bytes there fits =
+    record {
+      holds = holds;
+      living = λ q. refl;
+      names = λ path. refl;
+      kept = λ file. kept-same event file (file_bytes k.files file) (file_bytes k.files file) (file-same (file_bytes k.files file) (file_bytes k.files file) refl);
+      sound = λ s. record { fits = s.fits; named = s.named };
+      grows = omega arith;
+    }
+  where
+    own : (o : Option Pipe) (n : ℕ) (h : TaggedByte) → o ≡ Some p → pipe_byte (option_map (λ q. with_put q bytes event) o) n ≡ Some h → (put_byte event bytes (within (channel_end p.channel) (length bytes) n) ≡ Some h) ⊎ ((within (channel_end p.channel) (length bytes) n ≡ None) × (pipe_byte o n ≡ Some h))
+    own None n h x e = absurd (cc)
+    own (Some q) n h x e =
+        let same : q ≡ p = cc in
+        subst (λ (p : Pipe). (put_byte event bytes (within (channel_end p.channel) (length bytes) n) ≡ Some h) ⊎ ((within (channel_end p.channel) (length bytes) n ≡ None) × (at_position q.channel n ≡ Some h))) same
+        (channel-put event bytes q.channel n h
+        (ap (λ (bytes : List ℕ). at_position (put_behind q.channel event bytes) n) (sym (take_all (room q) bytes (subst (λ (p : Pipe). length bytes ≤ room p) (sym same) fits))) ∙ e))
+
+    none_if : (b : Bool) (n : ℕ) → b ≡ false → put_byte event bytes (within_if b (channel_end p.channel) (length bytes) n) ≡ None
+    none_if true n e = absurd (cc)
+    none_if false n e = refl
+
+    side : (q n : ℕ) (h : TaggedByte) (b : Bool) → b ≡ true → (put_byte event bytes (within (channel_end p.channel) (length bytes) n) ≡ Some h) ⊎ ((within (channel_end p.channel) (length bytes) n ≡ None) × (pipe_byte (nth k.pipes q) n ≡ Some h)) → (put_byte event bytes (within_if b (channel_end p.channel) (length bytes) n) ≡ Some h) ⊎ ((put_byte event bytes (within_if b (channel_end p.channel) (length bytes) n) ≡ None) × (pipe_byte (nth k.pipes q) n ≡ Some h))
+    side q n h true t (inl e) = inl e
+    side q n h true t (inr e) = inr (ap (λ (o : Option ℕ). put_byte event bytes o) e.0, e.1)
+    side q n h false t e = absurd (cc)
+
+    by_test : (q n : ℕ) (h : TaggedByte) (b : Bool) → (q == pipe) ≡ b → pipe_byte (cond b (option_map (λ q. with_put q bytes event) (nth k.pipes q)) (nth k.pipes q)) n ≡ Some h → (put_byte event bytes (within_if (pipe == q) (channel_end p.channel) (length bytes) n) ≡ Some h) ⊎ ((put_byte event bytes (within_if (pipe == q) (channel_end p.channel) (length bytes) n) ≡ None) × (pipe_byte (nth k.pipes q) n ≡ Some h))
+    by_test q n h true t e = side q n h (pipe == q) (eq-swap pipe q ∙ t) (own (nth k.pipes q) n h (ap (λ (i : ℕ). nth k.pipes i) (eqb-true q pipe t) ∙ there) e)
+    by_test q n h false t e = inr (none_if (pipe == q) n (eq-swap pipe q ∙ t), e)
+
+    holds : HoldsAfter k event bytes (Some (record { first = PipeByte pipe (channel_end p.channel); len = length bytes })) (record k { pipes = pipes.with_change k.pipes pipe (λ q. with_put q bytes event) })
+    holds (ConsoleByte n) h e = inr (refl, e)
+    holds (PipeByte q n) h e = by_test q n h (q == pipe) refl (ap (λ (o : Option Pipe). pipe_byte o n) (sym (nth-change (option_map (λ q. with_put q bytes event)) refl k.pipes pipe q)) ∙ e)
+    holds (FileByte file at) h e = inr (refl, e)
+    holds (StatusByte q) h e = inr (refl, e)
+
+-- into a file, at a place in it
+
+abbrev pub LiesIn : Option (List TaggedByte) → ℕ → Type 0
+LiesIn old at = IfSome old (λ bytes. at ≤ length bytes)
+
+length-laid : (old new : List TaggedByte) (at : ℕ) → at ≤ length old → (length old ≤ length (laid_over old at new)) × (at + length new ≤ length (laid_over old at new))
+length-laid old new at l =
+    let a = length-take-le at old l in
+    let b = length-append (take at old) new in
+    let c = length-append (take at old ++ new) (drop (at + length new) old) in
+    let d = length-drop (at + length new) old in
+    (omega arith, omega arith)
+
+abbrev file_of : Option files.File → Option (List TaggedByte)
+file_of o = option_map (λ f. f.bytes) o
+
+abbrev rewritten_file : ℕ → List ℕ → ℕ → Option files.File → Option files.File
+rewritten_file at bytes event o = option_map (rewritten at bytes event) o
+
+-- where the file is there, and as many bytes fit
+rewritten-is : (event at : ℕ) (bytes : List ℕ) (f : files.File) → take (fitting at (length bytes)) bytes ≡ bytes → (rewritten at bytes event f).bytes ≡ laid_over f.bytes at (held_bytes event bytes)
+rewritten-is event at bytes f fits = ap (λ (bytes : List ℕ). laid_over f.bytes at (held_bytes event bytes)) fits
+
+pub written-longer : (event file at : ℕ) (bytes : List ℕ) (fs : Files) → take (fitting at (length bytes)) bytes ≡ bytes → LiesIn (file_bytes fs file) at → (q position : ℕ) → LiesIn (file_bytes fs q) position → LiesIn (file_bytes (written fs file at bytes event) q) position
+written-longer event file at bytes fs fits inside q position lies =
+    subst (λ (o : Option files.File). LiesIn (file_of o) position) (sym (nth-change (option_map (rewritten at bytes event)) refl fs.all file q))
+    (by_test (q == file) refl)
+  where
+    longer : (o : Option files.File) → LiesIn (file_of o) at → LiesIn (file_of o) position → LiesIn (file_of (rewritten_file at bytes event o)) position
+    longer None a l = tt
+    longer (Some f) a l =
+        let g = (length-laid f.bytes (held_bytes event bytes) at a).0 in
+        subst (λ (b : List TaggedByte). position ≤ length b) (sym (rewritten-is event at bytes f fits)) (omega arith)
+
+    by_test : (b : Bool) → (q == file) ≡ b → LiesIn (file_of (cond b (rewritten_file at bytes event (nth fs.all q)) (nth fs.all q))) position
+    by_test true t = longer (nth fs.all q) (subst (λ (i : ℕ). LiesIn (file_bytes fs i) at) (sym (eqb-true q file t)) inside) lies
+    by_test false t = lies
+
+-- the place behind what was written
+pub written-behind : (event file at : ℕ) (bytes : List ℕ) (fs : Files) → take (fitting at (length bytes)) bytes ≡ bytes → LiesIn (file_bytes fs file) at → LiesIn (file_bytes (written fs file at bytes event) file) (at + length bytes)
+written-behind event file at bytes fs fits inside =
+    subst (λ (o : Option files.File). LiesIn (file_of o) (at + length bytes)) (sym (nth-change (option_map (rewritten at bytes event)) refl fs.all file file))
+    (subst (λ (b : Bool). LiesIn (file_of (cond b (rewritten_file at bytes event (nth fs.all file)) (nth fs.all file))) (at + length bytes)) (sym (eq-eqb file file refl))
+    (behind (nth fs.all file) inside))
+  where
+    behind : (o : Option files.File) → LiesIn (file_of o) at → LiesIn (file_of (rewritten_file at bytes event o)) (at + length bytes)
+    behind None a = tt
+    behind (Some f) a =
+        let g = (length-laid f.bytes (held_bytes event bytes) at a).1 in
+        let m = length-held event 0 bytes in
+        subst (λ (b : List TaggedByte). at + length bytes ≤ length b) (sym (rewritten-is event at bytes f fits)) (omega arith)
+
+written-fits : (event file at : ℕ) (bytes : List ℕ) (fs : Files) → take (fitting at (length bytes)) bytes ≡ bytes → LiesIn (file_bytes fs file) at → (what : Description) → FitsFiles fs what → FitsFiles (written fs file at bytes event) what
+written-fits event file at bytes fs fits inside Console f = tt
+written-fits event file at bytes fs fits inside (File q position) f =
+    record {
+      made = let l = f.made in let e = length-set fs.all file (option_map (rewritten at bytes event) (nth fs.all file)) in omega arith;
+      inside = written-longer event file at bytes fs fits inside q position f.inside;
+    }
+written-fits event file at bytes fs fits inside (Reader pipe) f = tt
+written-fits event file at bytes fs fits inside (Writer pipe) f = tt
+written-fits event file at bytes fs fits inside (Connection reads writes) f = tt
+written-fits event file at bytes fs fits inside (Listener port) f = tt
+written-fits event file at bytes fs fits inside (Device device) f = tt
+
+pub written-tells : (k : Kernel) (event file at : ℕ) (bytes : List ℕ) → take (fitting at (length bytes)) bytes ≡ bytes → LiesIn (file_bytes k.files file) at → KernelTells k event bytes (Some (record { first = FileByte file at; len = length bytes })) NoLife NoName (Some (record { file = file; at = at; bytes = bytes })) (record k { files = written k.files file at bytes event })
+written-tells k event file at bytes fits inside =
+    record {
+      holds = holds;
+      living = λ q. refl;
+      names = λ path. refl;
+      kept = λ q. subst (λ (o : Option files.File). FileKept event put q (file_bytes k.files q) (file_of o)) (sym (change q)) (kept q (q == file) refl (nth k.files.all q));
+      sound = λ s. record {
+        fits = λ n. each (nth k.descriptions n) (s.fits n);
+        named = λ path q e. let l = s.named path q e in let g = length-set k.files.all file (option_map (rewritten at bytes event) (nth k.files.all file)) in omega arith;
+      };
+      grows = omega arith;
+    }
+  where
+    put : Option Written
+    put = Some (record { file = file; at = at; bytes = bytes })
+
+    change : (q : ℕ) → nth (written k.files file at bytes event).all q ≡ cond (q == file) (rewritten_file at bytes event (nth k.files.all q)) (nth k.files.all q)
+    change q = nth-change (option_map (rewritten at bytes event)) refl k.files.all file q
+
+    each : (o : Option Opened) → IfSome o (λ o. FitsFiles k.files o.what) → IfSome o (λ o. FitsFiles (written k.files file at bytes event) o.what)
+    each None f = tt
+    each (Some o) f = written-fits event file at bytes k.files fits inside o.what f
+
+    kept : (q : ℕ) (b : Bool) → (q == file) ≡ b → (o : Option files.File) → FileKept event (Some (record { file = file; at = at; bytes = bytes })) q (file_of o) (file_of (cond b (rewritten_file at bytes event o) o))
+    kept q true t None = tt
+    kept q false t None = tt
+    kept q true t (Some f) = rewritten-is event at bytes f fits ∙ sym (ap (λ (b : Bool). if b then laid_over f.bytes at (held_bytes event bytes) else f.bytes) (eq-swap file q ∙ t))
+    kept q false t (Some f) = sym (ap (λ (b : Bool). if b then laid_over f.bytes at (held_bytes event bytes) else f.bytes) (eq-swap file q ∙ t))
+
+    own : (o : Option files.File) (n : ℕ) (h : TaggedByte) → LiesIn (file_of o) at → option_and_then (λ bytes. slice_get bytes n) (file_of (rewritten_file at bytes event o)) ≡ Some h → (put_byte event bytes (within at (length bytes) n) ≡ Some h) ⊎ ((within at (length bytes) n ≡ None) × (option_and_then (λ bytes. slice_get bytes n) (file_of o) ≡ Some h))
+    own None n h l e = absurd (cc)
+    own (Some f) n h l e = laid-put event at bytes f.bytes l n h (ap (λ (b : List TaggedByte). slice_get b n) (sym (rewritten-is event at bytes f fits)) ∙ e)
+
+    none_if : (b : Bool) (n : ℕ) → b ≡ false → put_byte event bytes (within_if b at (length bytes) n) ≡ None
+    none_if true n e = absurd (cc)
+    none_if false n e = refl
+
+    side : (q n : ℕ) (h : TaggedByte) (b : Bool) → b ≡ true → (put_byte event bytes (within at (length bytes) n) ≡ Some h) ⊎ ((within at (length bytes) n ≡ None) × (kernel_byte k (FileByte q n) ≡ Some h)) → (put_byte event bytes (within_if b at (length bytes) n) ≡ Some h) ⊎ ((put_byte event bytes (within_if b at (length bytes) n) ≡ None) × (kernel_byte k (FileByte q n) ≡ Some h))
+    side q n h true t (inl e) = inl e
+    side q n h true t (inr e) = inr (ap (λ (o : Option ℕ). put_byte event bytes o) e.0, e.1)
+    side q n h false t e = absurd (cc)
+
+    by_test : (q n : ℕ) (h : TaggedByte) (b : Bool) → (q == file) ≡ b → option_and_then (λ bytes. slice_get bytes n) (file_of (cond b (rewritten_file at bytes event (nth k.files.all q)) (nth k.files.all q))) ≡ Some h → (put_byte event bytes (within_if (file == q) at (length bytes) n) ≡ Some h) ⊎ ((put_byte event bytes (within_if (file == q) at (length bytes) n) ≡ None) × (kernel_byte k (FileByte q n) ≡ Some h))
+    by_test q n h true t e = side q n h (file == q) (eq-swap file q ∙ t) (own (nth k.files.all q) n h (subst (λ (i : ℕ). LiesIn (file_bytes k.files i) at) (sym (eqb-true q file t)) inside) e)
+    by_test q n h false t e = inr (none_if (file == q) n (eq-swap file q ∙ t), e)
+
+    holds : HoldsAfter k event bytes (Some (record { first = FileByte file at; len = length bytes })) (record k { files = written k.files file at bytes event })
+    holds (ConsoleByte n) h e = inr (refl, e)
+    holds (PipeByte q n) h e = inr (refl, e)
+    holds (FileByte q n) h e = by_test q n h (q == file) refl (ap (λ (o : Option files.File). option_and_then (λ bytes. slice_get bytes n) (file_of o)) (sym (change q)) ∙ e)
+    holds (StatusByte q) h e = inr (refl, e)

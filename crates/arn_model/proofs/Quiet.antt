@@ -1,0 +1,227 @@
+-- Changes of the kernel that put no byte anywhere and leave who lives, names and what files hold.
+use Rattle.std.proofs.Common.{◌≡◌, ℕ, ◌≤◌, List, length, refl, ap, ◌∙◌, sym, subst, Option, Some, None, IfSome, Bool, true, false, ◌==◌, cond, arith, option_and_then, is_some, slice_get, slice_set, nat_lt}
+use Rattle.parts_model.specs.declared.open.Description.{Description}
+use Rattle.parts_model.specs.declared.open.Description.TheVariants.{Console, File, Reader, Writer, Connection, Listener, Device}
+use Rattle.parts_model.specs.declared.tagged.TaggedByte.{TaggedByte}
+use Rattle.parts_model.specs.Channel.{Channel}
+use Rattle.parts_model.specs.Files.{Files, Name, file_bytes, file_among}
+use Rattle.parts_model.specs.Numbered.{nth}
+use Rattle.parts_model.specs.Pipes as pipes
+use Rattle.parts_model.specs.Pipes.{Pipe, Pipes, End, ReadEnd, WriteEnd}
+use Rattle.parts_model.specs.Ports.{Ports}
+use Rattle.parts_model.specs.Processes as table
+use Rattle.parts_model.specs.Processes.{Process, Processes, Life, process}
+use Rattle.acts_model.specs.Moved.{KernelByte, ConsoleByte, PipeByte, FileByte, StatusByte}
+use Rattle.arn_model.specs.Kernel.{Kernel, Opened, Handling}
+use Rattle.arn_model.specs.Tells.{at_position, kernel_byte, lives, FitsFiles, IsSound}
+use Rattle.arn_model.proofs.Numbers.{nth-change, nth-push}
+
+-- what the first is, the second is
+abbrev pub Less : Option TaggedByte → Option TaggedByte → Type 0
+Less new old = (h : TaggedByte) → new ≡ Some h → old ≡ Some h
+
+pub less-same : (new old : Option TaggedByte) → new ≡ old → Less new old
+less-same new old e h k = sym e ∙ k
+
+pub less-none : (old : Option TaggedByte) → Less None old
+less-none old h k = absurd (cc)
+
+pub less-cond : (b : Bool) (x y z : Option TaggedByte) → Less x z → Less y z → Less (cond b x y) z
+less-cond true x y z h k = h
+less-cond false x y z h k = k
+
+-- a file has the bytes that it had, or it is gone
+abbrev pub FileSame : Option (List TaggedByte) → Option (List TaggedByte) → Type 0
+FileSame old None = Unit {0}
+FileSame None (Some new) = ⊥
+FileSame (Some old) (Some new) = new ≡ old
+
+pub file-same : (o p : Option (List TaggedByte)) → p ≡ o → FileSame o p
+file-same None None e = tt
+file-same None (Some new) e = absurd (cc)
+file-same (Some old) None e = tt
+file-same (Some old) (Some new) e = cc
+
+file-through : (o p q : Option (List TaggedByte)) → FileSame o p → FileSame p q → FileSame o q
+file-through o p None h k = tt
+file-through o None (Some q) h k = absurd k
+file-through None (Some p) (Some q) h k = absurd h
+file-through (Some o) (Some p) (Some q) h k = k ∙ h
+
+pub record Quiet (old new : Kernel) : Type 0 where
+  pub bytes : (b : KernelByte) → Less (kernel_byte new b) (kernel_byte old b)
+  pub lives : (q : ℕ) → lives new q ≡ lives old q
+  pub names : new.files.names ≡ old.files.names
+  pub files : (file : ℕ) → FileSame (file_bytes old.files file) (file_bytes new.files file)
+  pub sound : IsSound old → IsSound new
+  pub grows : length old.processes ≤ length new.processes
+
+pub quiet-refl : (k : Kernel) → Quiet k k
+quiet-refl k = record { bytes = λ b h e. e; lives = λ q. refl; names = refl; files = λ file. file-same (file_bytes k.files file) (file_bytes k.files file) refl; sound = λ s. s; grows = omega arith }
+
+pub quiet-trans : (k l m : Kernel) → Quiet k l → Quiet l m → Quiet k m
+quiet-trans k l m h g =
+    record {
+      bytes = λ b x e. h.bytes b x (g.bytes b x e);
+      lives = λ q. g.lives q ∙ h.lives q;
+      names = g.names ∙ h.names;
+      files = λ file. file-through (file_bytes k.files file) (file_bytes l.files file) (file_bytes m.files file) (h.files file) (g.files file);
+      sound = λ s. g.sound (h.sound s);
+      grows = let a = h.grows in let b = g.grows in omega arith;
+    }
+
+-- files
+
+pub record FilesQuiet (old new : Files) : Type 0 where
+  pub names : new.names ≡ old.names
+  pub made : length new.all ≡ length old.all
+  pub files : (file : ℕ) → FileSame (file_bytes old file) (file_bytes new file)
+
+lies-same : (position : ℕ) (o p : Option (List TaggedByte)) → FileSame o p → IfSome o (λ bytes. position ≤ length bytes) → IfSome p (λ bytes. position ≤ length bytes)
+lies-same position o None h k = tt
+lies-same position None (Some p) h k = absurd h
+lies-same position (Some o) (Some p) h k = subst (λ (bytes : List TaggedByte). position ≤ length bytes) (sym h) k
+
+fits-same : (old new : Files) → FilesQuiet old new → (what : Description) → FitsFiles old what → FitsFiles new what
+fits-same old new h Console f = tt
+fits-same old new h (File file position) f =
+    record { made = let e = h.made in let l = f.made in omega arith; inside = lies-same position (file_bytes old file) (file_bytes new file) (h.files file) f.inside }
+fits-same old new h (Reader pipe) f = tt
+fits-same old new h (Writer pipe) f = tt
+fits-same old new h (Connection reads writes) f = tt
+fits-same old new h (Listener port) f = tt
+fits-same old new h (Device device) f = tt
+
+fits-if : (old new : Files) → FilesQuiet old new → (o : Option Opened) → IfSome o (λ o. FitsFiles old o.what) → IfSome o (λ o. FitsFiles new o.what)
+fits-if old new h None f = tt
+fits-if old new h (Some o) f = fits-same old new h o.what f
+
+file-less : (at : ℕ) (o p : Option (List TaggedByte)) → FileSame o p → Less (option_and_then (λ bytes. slice_get bytes at) p) (option_and_then (λ bytes. slice_get bytes at) o)
+file-less at o None h x e = absurd (cc)
+file-less at None (Some p) h x e = absurd h
+file-less at (Some o) (Some p) h x e = ap (λ (bytes : List TaggedByte). slice_get bytes at) (sym h) ∙ e
+
+files-bytes : (k : Kernel) (fs : Files) → FilesQuiet k.files fs → (b : KernelByte) → Less (kernel_byte (record k { files = fs }) b) (kernel_byte k b)
+files-bytes k fs h (ConsoleByte n) x e = e
+files-bytes k fs h (PipeByte pipe n) x e = e
+files-bytes k fs h (FileByte file at) x e = file-less at (file_bytes k.files file) (file_bytes fs file) (h.files file) x e
+files-bytes k fs h (StatusByte pid) x e = e
+
+files-sound : (k : Kernel) (fs : Files) → FilesQuiet k.files fs → IsSound k → IsSound (record k { files = fs })
+files-sound k fs h s =
+    record {
+      fits = λ n. fits-if k.files fs h (nth k.descriptions n) (s.fits n);
+      named = λ path file e. let l = s.named path file (ap (λ (names : List Name). file_among names path) (sym h.names) ∙ e) in let m = h.made in omega arith;
+    }
+
+pub quiet-files : (k : Kernel) (fs : Files) → FilesQuiet k.files fs → Quiet k (record k { files = fs })
+quiet-files k fs h =
+    record { bytes = files-bytes k fs h; lives = λ q. refl; names = h.names; files = h.files; sound = files-sound k fs h; grows = omega arith }
+
+-- pipes
+
+abbrev pub pipe_byte : Option Pipe → ℕ → Option TaggedByte
+pipe_byte p n = option_and_then (λ p. at_position p.channel n) p
+
+pub quiet-pipes : (k : Kernel) (ps : Pipes) → ((pipe n : ℕ) → Less (pipe_byte (nth ps pipe) n) (pipe_byte (nth k.pipes pipe) n)) → Quiet k (record k { pipes = ps })
+quiet-pipes k ps h =
+    record { bytes = bytes; lives = λ q. refl; names = refl; files = λ file. file-same (file_bytes k.files file) (file_bytes k.files file) refl; sound = λ s. record { fits = s.fits; named = s.named }; grows = omega arith }
+  where
+    bytes : (b : KernelByte) → Less (kernel_byte (record k { pipes = ps }) b) (kernel_byte k b)
+    bytes (ConsoleByte n) x e = e
+    bytes (PipeByte pipe n) x e = h pipe n x e
+    bytes (FileByte file at) x e = e
+    bytes (StatusByte pid) x e = e
+
+pub quiet-pipe : (k : Kernel) (pipe : ℕ) (f : Option Pipe → Option Pipe) → f None ≡ None → ((o : Option Pipe) (n : ℕ) → Less (pipe_byte (f o) n) (pipe_byte o n)) → Quiet k (record k { pipes = slice_set k.pipes pipe (f (nth k.pipes pipe)) })
+quiet-pipe k pipe f e less = quiet-pipes k (slice_set k.pipes pipe (f (nth k.pipes pipe))) each
+  where
+    each : (q n : ℕ) → Less (pipe_byte (nth (slice_set k.pipes pipe (f (nth k.pipes pipe))) q) n) (pipe_byte (nth k.pipes q) n)
+    each q n =
+        subst (λ (o : Option Pipe). Less (pipe_byte o n) (pipe_byte (nth k.pipes q) n)) (sym (nth-change f e k.pipes pipe q))
+        (by_test (q == pipe))
+      where
+        by_test : (b : Bool) → Less (pipe_byte (cond b (f (nth k.pipes q)) (nth k.pipes q)) n) (pipe_byte (nth k.pipes q) n)
+        by_test true = less (nth k.pipes q) n
+        by_test false = less-same (pipe_byte (nth k.pipes q) n) (pipe_byte (nth k.pipes q) n) refl
+
+pub quiet-new_pipe : (k : Kernel) → Quiet k (record k { pipes = pipes.pipe_made k.pipes })
+quiet-new_pipe k = quiet-pipes k (pipes.pipe_made k.pipes) each
+  where
+    empty : (n : ℕ) (b : Bool) → ◌≡◌ {A = Option TaggedByte} (cond b None None) None
+    empty n true = refl
+    empty n false = refl
+
+    fresh : (o : Option TaggedByte) (n : ℕ) → Less (pipe_byte (Some pipes.new_pipe) n) o
+    fresh o n = subst (λ (x : Option TaggedByte). Less x o) (sym (empty n (nat_lt n 0))) (less-none o)
+
+    each : (q n : ℕ) → Less (pipe_byte (nth (pipes.pipe_made k.pipes) q) n) (pipe_byte (nth k.pipes q) n)
+    each q n =
+        subst (λ (o : Option Pipe). Less (pipe_byte o n) (pipe_byte (nth k.pipes q) n)) (sym (nth-push k.pipes (Some pipes.new_pipe) q))
+        (by_test (q == length k.pipes))
+      where
+        by_test : (b : Bool) → Less (pipe_byte (cond b (Some pipes.new_pipe) (nth k.pipes q)) n) (pipe_byte (nth k.pipes q) n)
+        by_test true = fresh (pipe_byte (nth k.pipes q) n) n
+        by_test false = less-same (pipe_byte (nth k.pipes q) n) (pipe_byte (nth k.pipes q) n) refl
+
+-- the table of processes
+
+pub record TableQuiet (old new : Processes) : Type 0 where
+  pub bytes : (q : ℕ) → Less (table.status_of new q) (table.status_of old q)
+  pub lives : (q : ℕ) → is_some (table.live_process new q) ≡ is_some (table.live_process old q)
+  pub grows : length old ≤ length new
+
+pub quiet-table : (k : Kernel) (ps : Processes) → TableQuiet k.processes ps → Quiet k (record k { processes = ps })
+quiet-table k ps h =
+    record { bytes = bytes; lives = h.lives; names = refl; files = λ file. file-same (file_bytes k.files file) (file_bytes k.files file) refl; sound = λ s. record { fits = s.fits; named = s.named }; grows = h.grows }
+  where
+    bytes : (b : KernelByte) → Less (kernel_byte (record k { processes = ps }) b) (kernel_byte k b)
+    bytes (ConsoleByte n) x e = e
+    bytes (PipeByte pipe n) x e = e
+    bytes (FileByte file at) x e = e
+    bytes (StatusByte pid) x e = h.bytes pid x e
+
+-- descriptions
+
+pub quiet-descriptions : (k : Kernel) (ds : List (Option Opened)) → (IsSound k → (n : ℕ) → IfSome (nth ds n) (λ o. FitsFiles k.files o.what)) → Quiet k (record k { descriptions = ds })
+quiet-descriptions k ds h =
+    record { bytes = bytes; lives = λ q. refl; names = refl; files = λ file. file-same (file_bytes k.files file) (file_bytes k.files file) refl; sound = λ s. record { fits = h s; named = s.named }; grows = omega arith }
+  where
+    bytes : (b : KernelByte) → Less (kernel_byte (record k { descriptions = ds }) b) (kernel_byte k b)
+    bytes (ConsoleByte n) x e = e
+    bytes (PipeByte pipe n) x e = e
+    bytes (FileByte file at) x e = e
+    bytes (StatusByte pid) x e = e
+
+-- handling, ports
+
+pub quiet-handling : (k : Kernel) (hs : List (Option Handling)) → Quiet k (record k { handling = hs })
+quiet-handling k hs =
+    record { bytes = bytes; lives = λ q. refl; names = refl; files = λ file. file-same (file_bytes k.files file) (file_bytes k.files file) refl; sound = λ s. record { fits = s.fits; named = s.named }; grows = omega arith }
+  where
+    bytes : (b : KernelByte) → Less (kernel_byte (record k { handling = hs }) b) (kernel_byte k b)
+    bytes (ConsoleByte n) x e = e
+    bytes (PipeByte pipe n) x e = e
+    bytes (FileByte file at) x e = e
+    bytes (StatusByte pid) x e = e
+
+pub quiet-ports : (k : Kernel) (ps : Ports) → Quiet k (record k { ports = ps })
+quiet-ports k ps =
+    record { bytes = bytes; lives = λ q. refl; names = refl; files = λ file. file-same (file_bytes k.files file) (file_bytes k.files file) refl; sound = λ s. record { fits = s.fits; named = s.named }; grows = omega arith }
+  where
+    bytes : (b : KernelByte) → Less (kernel_byte (record k { ports = ps }) b) (kernel_byte k b)
+    bytes (ConsoleByte n) x e = e
+    bytes (PipeByte pipe n) x e = e
+    bytes (FileByte file at) x e = e
+    bytes (StatusByte pid) x e = e
+
+-- the console
+pub quiet-console : (k : Kernel) (c : Channel) → ((n : ℕ) → Less (at_position c n) (at_position k.console n)) → Quiet k (record k { console = c })
+quiet-console k c h =
+    record { bytes = bytes; lives = λ q. refl; names = refl; files = λ file. file-same (file_bytes k.files file) (file_bytes k.files file) refl; sound = λ s. record { fits = s.fits; named = s.named }; grows = omega arith }
+  where
+    bytes : (b : KernelByte) → Less (kernel_byte (record k { console = c }) b) (kernel_byte k b)
+    bytes (ConsoleByte n) x e = h n x e
+    bytes (PipeByte pipe n) x e = e
+    bytes (FileByte file at) x e = e
+    bytes (StatusByte pid) x e = e
