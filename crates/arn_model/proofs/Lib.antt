@@ -27,3 +27,7 @@ pub mod Places
 pub mod Fitting
 pub mod TurnTells
 pub mod StepsTell
+pub mod FewDescriptors
+pub mod FineRequests
+pub mod ToldReplies
+pub mod TurnReplies

@@ -1,9 +1,12 @@
 -- What holds of every run.
-use Rattle.std.specs.Prelude.{◌≡◌, List, ◌++◌}
+use Rattle.std.specs.Prelude.{◌≡◌, ℕ, List, ◌++◌, Option, Some, None}
+use Rattle.parts_model.specs.Replies.{Answered, reply_named}
+use Rattle.acts_model.specs.Moved.{Event}
 use Rattle.arn_model.specs.Kernel.{Machine, at_first}
 use Rattle.arn_model.specs.Run.{Input, steps_from, machine_from, run, machine_after}
+use Rattle.arn_model.specs.Step.{Step}
 use Rattle.arn_model.specs.Tells.{StepTells, HasNumbers, Along}
-use Rattle.arn_model.specs.Turn.{after_steps}
+use Rattle.arn_model.specs.Turn.{turn, after_steps}
 
 -- each step of a run is one of a few kinds, and an event is as its record tells, while processes have numbers
 abbrev pub StepsTell : Type 0
@@ -17,3 +20,19 @@ pub record RunsAppend (m : Machine) (inputs more : List Input) : Type 0 where
 
 abbrev pub EachRunAppends : Type 0
 EachRunAppends = (m : Machine) (inputs more : List Input) → RunsAppend m inputs more
+
+-- the reply that the record of a step names
+abbrev pub reply_of_event : Option Event → Option Answered
+reply_of_event None = None
+reply_of_event (Some event) = reply_named event.entry
+
+abbrev pub reply_told : Option Step → Option Answered
+reply_told None = None
+reply_told (Some s) = reply_of_event s.moved.inside.event
+
+-- a turn is the same with the reply that the record of its last step names
+abbrev pub ReplyIsTold : ℕ → ℕ → Option Answered → Machine → Type 0
+ReplyIsTold n pid reply m = let t = turn n pid reply m in turn n pid (reply_told t.last) m ≡ t
+
+abbrev pub RepliesAreTold : Type 0
+RepliesAreTold = (inputs : List Input) (n pid : ℕ) (reply : Option Answered) → ReplyIsTold n pid reply (machine_after inputs)

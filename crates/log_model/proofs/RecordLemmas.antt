@@ -1,17 +1,24 @@
--- Records of inputs, and of the events among their steps.
-use Rattle.std.proofs.Common.{◌≡◌, ℕ, zero, suc, ◌++◌, List, [], ◌∷◌, Option, Some, None, Bool, true, false, map, filter, filter_map, option_map, option_to_list, length, if◌then◌else◌, nat_lt, refl, sym, ap, ◌∙◌, append_assoc}
+-- Records of inputs that stand one behind the other.
+use Rattle.std.proofs.Common.{◌≡◌, List, [], ◌∷◌, ◌++◌, Option, map, filter_map, refl, sym, ap, ◌∙◌, append_assoc}
+use Rattle.std.proofs.lemmas.List.{map-append}
+use Rattle.std.proofs.lemmas.List.Elements.{filter_map-append}
 use Rattle.arn_base.specs.declared.records.Record.{Record}
-use Rattle.arn_base.specs.declared.records.Record.TheVariants as entry
-use Rattle.rv64_model.specs.Instruction.{Effect, Next, Call, End}
-use Rattle.parts_model.specs.Replies.{Answered}
-use Rattle.acts_model.specs.Bodies.{View, seen}
 use Rattle.acts_model.specs.Moved.{Event}
-use Rattle.acts_model.specs.Records.{is_event}
-use Rattle.acts_model.specs.Views.{stands_at}
-use Rattle.arn_model.specs.Doing.{Doing}
 use Rattle.arn_model.specs.Kernel.{Machine}
-use Rattle.arn_model.specs.Row.{request, does}
-use Rattle.arn_model.specs.Run.{Input, File, Boot, Typed, Unplug, Slice, input_steps, after_input, steps_from, machine_from, events_of, boot_found, boot_from, can_add, is_booted, may_unplug}
-use Rattle.arn_model.specs.Step.{Step, plain_by, last_by, delivery_of, due_signal, call_step}
-use Rattle.arn_model.specs.Turn.{Turn, plains, plain_in, steps_then, steps_of, turn, turn_from, delivery_in, after_first, after_steps, last_of, last_in, is_possible}
-use Rattle.log_model.specs.Records.{event_records, slice_records, input_records, records_from}
+use Rattle.arn_model.specs.Run.{Input, input_steps, after_input, machine_from}
+use Rattle.arn_model.specs.Step.{Step}
+use Rattle.log_model.specs.Records.{event_records, input_records, records_from}
+
+pub event_records-append : (steps more : List Step) → event_records (steps ++ more) ≡ event_records steps ++ event_records more
+event_records-append steps more =
+    let event : Step → Option Event = λ (s : Step). s.moved.inside.event in
+    let entry : Event → Record = λ (e : Event). e.entry in
+    ap (map entry) (filter_map-append event steps more) ∙ map-append entry (filter_map event steps) (filter_map event more)
+
+pub records_from-append : (m : Machine) (inputs more : List Input) → records_from m (inputs ++ more) ≡ records_from m inputs ++ records_from (machine_from m inputs) more
+records_from-append m [] more = refl
+records_from-append m (i ∷ inputs) more =
+    let first = input_records i (input_steps m i) in
+    let m' = after_input m i in
+    ap (λ (rest : List Record). first ++ rest) (records_from-append m' inputs more)
+    ∙ sym (append_assoc first (records_from m' inputs) (records_from (machine_from m' inputs) more))

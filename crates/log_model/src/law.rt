@@ -1,14 +1,30 @@
 // What holds of the records of runs.
-ghost use Rattle.log_model.specs.Laws.{EventsRecorded, RecordsAppend};
+ghost use Rattle.log_model.specs.Laws.{EventsRecorded, NamedRunsAgain, RecordsAppend, RecordsAreRun};
+
+use arn_model::{replies_are_told, runs_append};
 
 /// Records are only ever added.
 pub fn records_append()
     ensures { RecordsAppend }
-{
-}
+{}
 
 /// The records of a run without its slices are those of its events, in order.
 pub fn events_recorded()
     ensures { EventsRecorded }
+{}
+
+/// What records name does the same again.
+pub fn named_runs_again()
+    ensures { NamedRunsAgain }
 {
+    runs_append();
+    replies_are_told();
+}
+
+/// The records of any inputs are those of a run.
+pub fn records_are_run()
+    ensures { RecordsAreRun }
+{
+    runs_append();
+    replies_are_told();
 }

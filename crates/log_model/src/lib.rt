@@ -5,4 +5,4 @@
 
 mod law;
 
-pub use law::{events_recorded, records_append};
+pub use law::{events_recorded, named_runs_again, records_append, records_are_run};

@@ -1,0 +1,87 @@
+-- A call does the same with the reply that its record names.
+use Rattle.std.proofs.Common.{◌≡◌, ℕ, ◌==◌, ◌≤◌, ◌&&◌, Bool, true, false, cond, min, List, length, take, Option, None, Some, option_map, refl, ap, ◌∙◌, arith, length-take}
+use Rattle.std.proofs.lemmas.Bool.Decides.{nat_tests}
+use Rattle.std.proofs.lemmas.List.{take_all, take_min}
+use Rattle.arn_base.specs.declared.records.Extra.TheVariants as extra
+use Rattle.rv64_model.specs.Instruction.{Effect, Next, Call, End}
+use Rattle.parts_model.specs.declared.calls.TheConstants.{DEVICE}
+use Rattle.parts_model.specs.declared.limits.TheConstants.{MOST_DESCRIPTORS}
+use Rattle.parts_model.specs.Replies as replies
+use Rattle.parts_model.specs.Replies.{Answered, GaveBytes, TookBytes, Failed, IsAbsent, IsHere, is_success, reply_in, to_read, to_write, is_here}
+use Rattle.acts_model.specs.Acts.{result_of}
+use Rattle.acts_model.specs.Bodies.{View}
+use Rattle.acts_model.specs.Views.{read, call_number, stands_at}
+use Rattle.arn_model.specs.ChannelCalls.{device_opened}
+use Rattle.arn_model.specs.Doing.{Doing, Question, Here, Reads, Writes, Request, Waits, Does, Asks}
+use Rattle.arn_model.specs.Kernel.{Machine, next_descriptor}
+use Rattle.arn_model.specs.Laws.{reply_told}
+use Rattle.arn_model.specs.Row.{answered, does, request}
+use Rattle.arn_model.specs.Step.{call_step, last_by}
+use Rattle.arn_model.specs.TransferCalls.{giving, device_read, device_write}
+use Rattle.arn_model.specs.Turn.{last_in}
+use Rattle.arn_model.proofs.FewDescriptors.{Few, next-small}
+use Rattle.arn_model.proofs.FineRequests.{Fine, FineQuestion, request-Fine}
+
+-- a device that was found is told by the call's number and its small result
+found-told : (m : Machine) (pid device number result : ℕ) → (number == DEVICE) ≡ true → result ≤ MOST_DESCRIPTORS → is_here (cond ((number == DEVICE) && is_success result) (Some IsHere) None) ≡ true
+found-told m pid device number result is small =
+    let both : ((number == DEVICE) && is_success result) ≡ true = grind (arith, nat_tests) in
+    ap (λ (b : Bool). is_here (cond b (Some IsHere) None)) both
+
+here-told : (m : Machine) (pid device number : ℕ) (b : Bool) → (number == DEVICE) ≡ true → Few m.kernel.processes → let d = device_opened m pid device b in device_opened m pid device (is_here (reply_in number (result_of d.act) d.extra)) ≡ d
+here-told m pid device number true is few =
+    ap (device_opened m pid device) (found-told m pid device number (next_descriptor m.kernel pid) is (next-small m.kernel pid few))
+here-told m pid device number false is few = refl
+
+-- bytes that were cut are cut again
+take-again : (n : ℕ) (bytes : List ℕ) → take n (take n bytes) ≡ take n bytes
+take-again n bytes = take_all n (take n bytes) (omega (arith, length-take n bytes))
+
+-- and a count of those that were taken is cut again
+take-as-much : (n len : ℕ) (bytes : List ℕ) → let k = min n len in take (min (length (take k bytes)) len) bytes ≡ take k bytes
+take-as-much n len bytes =
+    let k = min n len in
+    let same : min (length (take k bytes)) len ≡ min k (length bytes) = omega (arith, length-take k bytes) in
+    ap (λ (i : ℕ). take i bytes) same ∙ take_min k bytes
+
+read-told : (m : Machine) (device at len number : ℕ) (reply : Option Answered) → let d = device_read m device at (to_read len reply) in device_read m device at (to_read len (reply_in number (result_of d.act) d.extra)) ≡ d
+read-told m device at len number None = refl
+read-told m device at len number (Some (GaveBytes bytes)) = ap (λ (x : List ℕ). device_read m device at (replies.Reads x)) (take-again len bytes)
+read-told m device at len number (Some (TookBytes n)) = refl
+read-told m device at len number (Some Failed) = refl
+read-told m device at len number (Some IsAbsent) = refl
+read-told m device at len number (Some IsHere) = refl
+
+write-told : (m : Machine) (device at len number : ℕ) (bytes : List ℕ) (reply : Option Answered) → let d = device_write m device at bytes (to_write len reply) in device_write m device at bytes (to_write len (reply_in number (result_of d.act) d.extra)) ≡ d
+write-told m device at len number bytes None = refl
+write-told m device at len number bytes (Some (GaveBytes gave)) = refl
+write-told m device at len number bytes (Some (TookBytes n)) = ap (λ (x : List ℕ). giving at x (extra.Sent device x) None m.kernel) (take-as-much n len bytes)
+write-told m device at len number bytes (Some Failed) = refl
+write-told m device at len number bytes (Some IsAbsent) = refl
+write-told m device at len number bytes (Some IsHere) = refl
+
+answered-told : (m : Machine) (pid : ℕ) (v : View) (number : ℕ) (question : Question) (reply : Option Answered) → FineQuestion number question → Few m.kernel.processes → let d = answered m pid v question reply in answered m pid v question (reply_in number (result_of d.act) d.extra) ≡ d
+unfolding answered FineQuestion
+answered-told m pid v number (Here device) reply is few = here-told m pid device number (is_here reply) is few
+answered-told m pid v number (Reads device at len) reply is few = read-told m device at len number reply
+answered-told m pid v number (Writes device at len) reply is few = write-told m device at len number (read v at len) reply
+
+called-told : (m : Machine) (pid : ℕ) (v : View) (reply : Option Answered) (r : Request) → Fine (call_number v.body.cpu) r → Few m.kernel.processes → let step = option_map (call_step m pid v) (does m pid v reply r) in option_map (call_step m pid v) (does m pid v (reply_told step) r) ≡ step
+unfolding Fine
+called-told m pid v reply Waits fine few = refl
+called-told m pid v reply (Does d) fine few = refl
+called-told m pid v reply (Asks question) fine few = ap (λ (d : Doing). Some (call_step m pid v d)) (answered-told m pid v (call_number v.body.cpu) question reply fine few)
+
+last_by-told : (m : Machine) (pid : ℕ) (v : View) (reply : Option Answered) (e : Effect) → Few m.kernel.processes → last_by m pid v (reply_told (last_by m pid v reply e)) e ≡ last_by m pid v reply e
+last_by-told m pid v reply (Next instr cpu memory) few = refl
+last_by-told m pid v reply Call few = called-told m pid v reply (request m pid v) (request-Fine m pid v few) few
+last_by-told m pid v reply (End status) few = refl
+
+last_in-told : (m : Machine) (pid : ℕ) (reply : Option Answered) (o : Option View) → Few m.kernel.processes → last_in m pid (reply_told (last_in m pid reply o)) o ≡ last_in m pid reply o
+last_in-told m pid reply None few = refl
+last_in-told m pid reply (Some v) few = last_by-told m pid v reply (stands_at v) few
+
+-- the same where there may be none
+pub last-told : (b : Bool) (m : Machine) (pid : ℕ) (reply : Option Answered) (o : Option View) → Few m.kernel.processes → let last = cond b (last_in m pid reply o) None in cond b (last_in m pid (reply_told last) o) None ≡ last
+last-told true m pid reply o few = last_in-told m pid reply o few
+last-told false m pid reply o few = refl

@@ -1,0 +1,5 @@
+use Rattle.log_model.proofs.RunLemmas.{records-kept}
+use Rattle.log_model.proofs.law.events_recorded.Goals as goal
+
+pub returns : goal.returns
+returns c = records-kept

@@ -1,0 +1,5 @@
+use Rattle.log_model.proofs.RunLemmas.{run-again}
+use Rattle.log_model.proofs.law.named_runs_again.Goals as goal
+
+pub returns : goal.returns
+returns c = run-again c.runs_append.ensures c.replies_are_told.ensures
