@@ -11,8 +11,8 @@ use crate::kept::Kept;
 use crate::status::Halt;
 use arn_base::Steps;
 use guest_machine::{Machine, named_follow, records_follow, records_leave_room, runs_follow};
-use solo_log::records_are_run;
 use log_store::Store;
+use solo_log::records_are_run;
 use std::sync::ledger::Ledger;
 
 /// Takes the machine out of what is kept; where it isn't there yet, it is made by running what the

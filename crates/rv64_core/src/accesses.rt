@@ -10,8 +10,8 @@ ghost use Rattle.rv64_core.specs.Outcome.{Tells, OnStop};
 use crate::flow::{go_on, write};
 use crate::outcome::Outcome;
 use arn_base::{Cpu, Memory, StoreError};
-use rv64_model::statuses::BAD_ACCESS;
 use rv64_isa::{LoadOp, Reg, StoreOp};
+use rv64_model::statuses::BAD_ACCESS;
 
 // Loads a register from an address.
 pub(crate) fn load<M: Memory>(op: LoadOp, rd: Reg, at: u64, cpu: &mut Cpu, mem: &M) -> Outcome

@@ -9,8 +9,8 @@ use crate::outcome::Outcome;
 use crate::registers::register;
 use crate::values::{imm_result, is_taken, reg_result};
 use arn_base::{Cpu, Memory};
-use rv64_model::statuses::BREAKPOINT;
 use rv64_isa::{Instr, Reg};
+use rv64_model::statuses::BREAKPOINT;
 
 // Lets an instruction take effect.
 pub(crate) fn execute<M: Memory>(instr: &Instr, cpu: &mut Cpu, mem: &mut M) -> Outcome

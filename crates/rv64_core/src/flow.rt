@@ -9,8 +9,8 @@ ghost use Rattle.rv64_core.specs.Outcome.{Tells, OnStop};
 use crate::outcome::Outcome;
 use crate::registers::set_register;
 use arn_base::Cpu;
-use rv64_model::statuses::MISALIGNED;
 use rv64_isa::Reg;
+use rv64_model::statuses::MISALIGNED;
 
 // Goes on to the next word.
 pub(crate) fn go_on(cpu: &mut Cpu) -> Outcome

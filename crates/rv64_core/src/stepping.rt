@@ -7,8 +7,8 @@ ghost use Rattle.rv64_core.specs.Outcome.{Tells, OnStop};
 use crate::execution::execute;
 use crate::outcome::Outcome;
 use arn_base::{BadAddress, Cpu, Memory, Steps};
-use rv64_model::statuses::{BAD_ACCESS, ILLEGAL_INSTRUCTION};
 use rv64_isa::decode;
+use rv64_model::statuses::{BAD_ACCESS, ILLEGAL_INSTRUCTION};
 use std::sync::ledger::Ledger;
 
 /// Runs the instruction at pc. It is counted whatever it comes to.

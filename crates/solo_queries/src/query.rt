@@ -10,8 +10,8 @@ ghost use Rattle.solo_queries.specs.Queries.{IsAnswer, IsAsked};
 use crate::events::{Asked, Seen};
 use crate::tracked::Tracked;
 use arn_base::{NoMemory, Pair, Record, Steps};
-use solo_log::named_runs_again;
 use solo_lineage::{groups_told, sources_told};
+use solo_log::named_runs_again;
 use std::alloc::Global;
 use std::sync::ledger::Ledger;
 
