@@ -54,9 +54,6 @@ quiet-process k pid change same =
     status true (Some p) = ap table.status_in (same p)
     status false o = refl
 
-    some_if : (l : Life) (p : Process) → Bool
-    some_if l p = is_some (if table.is_alive l then Some p else None)
-
     bool : (b : Bool) (p q : Process) → is_some (if b then Some p else None) ≡ is_some (if b then Some q else None)
     bool true p q = refl
     bool false p q = refl

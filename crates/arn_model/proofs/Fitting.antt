@@ -36,10 +36,6 @@ pub record SmallView (v : View) : Type 0 where
   pub window : IsSmall v.window
   pub segment : IsSmall v.segment
 
-shared-small : (o : Option (List ℕ)) → ((bytes : List ℕ) → o ≡ Some bytes → IsSmall bytes) → AllSmall (shared_window o)
-shared-small None h = tt
-shared-small (Some bytes) h = (h bytes refl, tt)
-
 reach-small : (v : View) → SmallView v → AllSmall (reach v)
 reach-small v s = (s.window, by_segment v.body.segment)
   where

@@ -91,9 +91,6 @@ laid-put event at bytes old l n h e = by_front (nat_lt n at) refl
     both : length (take at old ++ held_bytes event bytes) ≡ at + length bytes
     both = let a = size in let b = mid in omega (arith, length-append (take at old) (held_bytes event bytes))
 
-    rest : List TaggedByte
-    rest = drop (at + length (held_bytes event bytes)) old
-
     behind : at + length bytes ≤ n → slice_get old n ≡ Some h
     behind g =
         let len = both in

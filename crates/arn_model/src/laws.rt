@@ -6,7 +6,8 @@ pub fn runs_append()
     ensures { EachRunAppends }
 {}
 
-/// What each step of a run is, and what the record of an event tells of it.
+/// What each step of a run is, and what the record of an event tells of it, where fewer than 2^63
+/// processes have been made.
 pub fn steps_tell()
     ensures { StepsTell }
 {}
