@@ -15,7 +15,8 @@ use Rattle.parts_model.specs.Tagged.{held_from, held_bytes}
 use Rattle.acts_model.specs.Moved.{ConsoleByte, PipeByte, FileByte, StatusByte, within, within_if}
 use Rattle.acts_model.specs.Records.{NoLife, NoName, Written}
 use Rattle.arn_model.specs.Kernel.{Kernel, Opened}
-use Rattle.arn_model.specs.Tells.{at_position, kernel_byte, put_byte, HoldsAfter, FitsFiles}
+use Rattle.arn_model.specs.Sound.{FitsFiles}
+use Rattle.arn_model.specs.Tells.{at_position, kernel_byte, put_byte, HoldsAfter}
 use Rattle.arn_model.proofs.Numbers.{nth-change, get-take, get-drop, get-left, get-right}
 use Rattle.arn_model.proofs.Quiet.{Less, file-same, Quiet, quiet-pipe, quiet-console, pipe_byte}
 use Rattle.arn_model.proofs.Effects.{FileKept, KernelTells, kept-same, eq-swap}

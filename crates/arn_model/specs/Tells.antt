@@ -106,20 +106,6 @@ is_inner (entry.Call pid number result more) = true
 is_inner (entry.End pid status) = true
 is_inner other = false
 
--- the position of an open file lies in the file
-pub record LiesInFile (files : Files) (file position : ℕ) : Type 0 where
-  pub made : file < length files.all
-  pub inside : IfSome (file_bytes files file) (λ bytes. position ≤ length bytes)
-
-abbrev pub FitsFiles : Files → Description → Type 0
-FitsFiles files (description.File file position) = LiesInFile files file position
-FitsFiles files other = Unit {0}
-
--- what the kernel keeps: the positions of all open files lie in their files, and a name stands for a file that was made
-pub record IsSound (k : Kernel) : Type 0 where
-  pub fits : (n : ℕ) → IfSome (nth k.descriptions n) (λ o. FitsFiles k.files o.what)
-  pub named : (path : List ℕ) (file : ℕ) → find_file k.files path ≡ Some file → file < length k.files.all
-
 -- an event of a process, as its record tells it
 pub record EventTells (m : Machine) (pid : ℕ) (v : View) (d : Doing) (entry : Record) : Type 0 where
   -- the record's process sees this, its act is the one that the record tells, and nothing is wrong with it

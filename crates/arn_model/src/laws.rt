@@ -1,5 +1,5 @@
 // What holds of every run, as functions that do nothing.
-ghost use Rattle.arn_model.specs.Laws.{EachRunAppends, StepsTell};
+ghost use Rattle.arn_model.specs.Laws.{EachRunAppends, EachRunIsSound, StepsTell};
 
 /// What inputs do that stand one behind the other.
 pub fn runs_append()
@@ -10,4 +10,9 @@ pub fn runs_append()
 /// processes have been made.
 pub fn steps_tell()
     ensures { StepsTell }
+{}
+
+/// What every machine of a run keeps.
+pub fn runs_sound()
+    ensures { EachRunIsSound }
 {}
