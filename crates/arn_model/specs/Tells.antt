@@ -1,17 +1,15 @@
 -- What each step of a run tells: all that may be known of a call without a look at its row.
-use Rattle.std.specs.Prelude.{◌≡◌, ◌⊎◌, ℕ, ◌-◌, ◌^◌, ◌<◌, ◌≤◌, ◌==◌, nat_lt, Bool, true, false, if◌then◌else◌, List, [], ◌∷◌, length, Option, Some, None, IfSome, is_some, option_map, option_and_then, slice_get, bytes_eq}
+use Rattle.std.specs.Prelude.{◌≡◌, ◌⊎◌, ℕ, ◌-◌, ◌^◌, ◌<◌, ◌==◌, nat_lt, Bool, true, false, if◌then◌else◌, List, [], ◌∷◌, length, Option, Some, None, is_some, option_map, option_and_then, slice_get, bytes_eq}
 use Rattle.arn_base.specs.declared.records.Extra.{Extra}
 use Rattle.arn_base.specs.declared.records.Extra.TheVariants as extra
 use Rattle.arn_base.specs.declared.records.Record.{Record}
 use Rattle.arn_base.specs.declared.records.Record.TheVariants as entry
 use Rattle.arn_base.specs.declared.machine.Cpu.{Cpu}
 use Rattle.arn_base.specs.Window.{Window}
-use Rattle.parts_model.specs.declared.open.Description.{Description}
-use Rattle.parts_model.specs.declared.open.Description.TheVariants as description
 use Rattle.parts_model.specs.Image.{is_image}
 use Rattle.parts_model.specs.declared.tagged.TaggedByte.{TaggedByte}
 use Rattle.parts_model.specs.Channel.{Channel}
-use Rattle.parts_model.specs.Files.{Files, find_file, file_bytes, laid_over}
+use Rattle.parts_model.specs.Files.{find_file, file_bytes, laid_over}
 use Rattle.parts_model.specs.Numbered.{nth}
 use Rattle.parts_model.specs.Processes as table
 use Rattle.parts_model.specs.Tagged.{held_bytes, values, given}
