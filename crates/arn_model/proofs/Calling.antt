@@ -23,7 +23,8 @@ use Rattle.arn_model.specs.Doing.{Doing, Request, Waits, Does, Asks, Refusal, re
 use Rattle.arn_model.specs.Kernel.{Kernel, Machine}
 use Rattle.arn_model.specs.Row.{answered}
 use Rattle.arn_model.specs.Tells as tells
-use Rattle.arn_model.specs.Tells.{lives, named_after, FileAfter, ForksRightly, IsSound, EventTells, HasNumbers}
+use Rattle.arn_model.specs.Sound.{IsSound}
+use Rattle.arn_model.specs.Tells.{lives, named_after, FileAfter, ForksRightly, EventTells, HasNumbers}
 use Rattle.arn_model.proofs.Effects.{FileKept, KernelTells, quiet-tells}
 use Rattle.arn_model.proofs.Quiet.{Quiet, quiet-refl}
 

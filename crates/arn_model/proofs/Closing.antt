@@ -13,7 +13,8 @@ use Rattle.parts_model.specs.Ports.{Port, port_at, freed}
 use Rattle.parts_model.specs.Processes as table
 use Rattle.parts_model.specs.Processes.{Process, Processes, Life, process, lowest_free}
 use Rattle.arn_model.specs.Kernel.{Kernel, Opened, Handling, placed, with_new, opens, with_count, also_held, all_also_held, without_end, without_side, without_servers, without_port, closed, less_held, dropped, all_dropped, closes, with_what, with_description, with_handling, handling_of}
-use Rattle.arn_model.specs.Tells.{at_position, FitsFiles, IsSound}
+use Rattle.arn_model.specs.Sound.{FitsFiles, IsSound}
+use Rattle.arn_model.specs.Tells.{at_position}
 use Rattle.std.proofs.lemmas.Bool.{eqb-true}
 use Rattle.arn_model.proofs.Numbers.{suc-test, nth-change, nth-set, nth-push}
 use Rattle.arn_model.proofs.Quiet.{Less, less-same, FileSame, file-same, Quiet, quiet-refl, quiet-trans, FilesQuiet, quiet-files, pipe_byte, quiet-pipe, quiet-table, quiet-descriptions, quiet-handling, quiet-ports}
@@ -53,9 +54,6 @@ quiet-process k pid change same =
     status true None = refl
     status true (Some p) = ap table.status_in (same p)
     status false o = refl
-
-    some_if : (l : Life) (p : Process) → Bool
-    some_if l p = is_some (if table.is_alive l then Some p else None)
 
     bool : (b : Bool) (p q : Process) → is_some (if b then Some p else None) ≡ is_some (if b then Some q else None)
     bool true p q = refl

@@ -13,7 +13,8 @@ use Rattle.acts_model.specs.Records.{LifeChange, BeginsLife, EndsLife, NoLife, l
 use Rattle.arn_model.specs.Kernel as kernel
 use Rattle.arn_model.specs.Kernel.{Kernel, Opened, Handling, all_dropped, descriptors_of, all_also_held, handling_of, child_handling, status_at}
 use Rattle.arn_model.specs.ProcessCalls.{status_of}
-use Rattle.arn_model.specs.Tells.{kernel_byte, lives, named_after, patched, put_byte, outgoing_byte, HoldsAfter, IsSound}
+use Rattle.arn_model.specs.Sound.{IsSound}
+use Rattle.arn_model.specs.Tells.{kernel_byte, lives, named_after, patched, put_byte, outgoing_byte, HoldsAfter}
 use Rattle.arn_model.proofs.Numbers.{suc-test, nth-push}
 use Rattle.arn_model.proofs.Quiet.{FileSame, file-same, Quiet, quiet-handling}
 use Rattle.arn_model.proofs.Closing.{process-change, length-with_process, status_in, lives_in, quiet-all_dropped, quiet-all_also_held}

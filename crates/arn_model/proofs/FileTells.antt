@@ -17,7 +17,7 @@ use Rattle.arn_model.specs.Doing.{returns, refuse}
 use Rattle.arn_model.specs.FileCalls.{has_no_room, opens_file, opened_as, open_found, open_new, open_row, unlink_found, unlink_row, file_len, seek_in, seek_what, seek_opened, seek_row, close_opened, close_row, dup_opened, dup_row}
 use Rattle.arn_model.specs.Kernel.{Kernel, Machine, Opened, description_of, what_is, next_descriptor, placed, also_held, closes, with_description}
 use Rattle.arn_model.specs.Paths.{isnt_path_len, path_of}
-use Rattle.arn_model.specs.Tells.{FitsFiles, IsSound}
+use Rattle.arn_model.specs.Sound.{FitsFiles, IsSound}
 use Rattle.arn_model.proofs.Quiet.{Quiet, quiet-trans, quiet-files}
 use Rattle.arn_model.proofs.Closing.{quiet-opens, quiet-placed, quiet-also_held, quiet-closes, quiet-with_description, held-quiet}
 use Rattle.arn_model.proofs.Effects.{KernelTells, quiet-tells, tells-then}

@@ -36,10 +36,6 @@ pub record SmallView (v : View) : Type 0 where
   pub window : IsSmall v.window
   pub segment : IsSmall v.segment
 
-shared-small : (o : Option (List ℕ)) → ((bytes : List ℕ) → o ≡ Some bytes → IsSmall bytes) → AllSmall (shared_window o)
-shared-small None h = tt
-shared-small (Some bytes) h = (h bytes refl, tt)
-
 reach-small : (v : View) → SmallView v → AllSmall (reach v)
 reach-small v s = (s.window, by_segment v.body.segment)
   where
@@ -183,7 +179,7 @@ acted-small event (Dies signal cut) v s = tt
 -- bodies
 
 pub record BodiesFit (b : Bodies) (living : ℕ → Bool) : Type 0 where
-  pub alive : (q : ℕ) (x : Body) → body_at b q ≡ Some x → living q ≡ true
+  pub alive : (q : ℕ) → is_some (body_at b q) ≡ living q
   pub small : (k : ℕ) → IsSmall (memory_at b k)
 
 segment-small : (b : Bodies) (living : ℕ → Bool) → BodiesFit b living → (o : Option ℕ) → IsSmall (segment_bytes b o)
@@ -198,7 +194,7 @@ seen-fits b living p v h e = by_body (body_at b p) refl e
     by_body (Some x) t e =
         let same : view b x ≡ v = cc in
         let there : SmallView (view b x) = record { window = h.small x.window; segment = segment-small b living h x.segment } in
-        (h.alive p x t, subst SmallView same there)
+        (sym (h.alive p) ∙ ap (λ (o : Option Body). is_some o) t, subst SmallView same there)
 
 laid_segment-small : (o : Option ℕ) (bytes : List ℕ) (k : ℕ) (old : List ℕ) → IsSmall bytes → IsSmall old → IsSmall (laid_segment o bytes k old)
 laid_segment-small None bytes k old h g = g
@@ -208,48 +204,47 @@ laid_segment-small (Some s) bytes k old h g = either (k == s)
     either true = h
     either false = g
 
-pub fit-put : (b : Bodies) (living : ℕ → Bool) (p : ℕ) (v : View) → BodiesFit b living → living p ≡ true → SmallView v → BodiesFit (put p v b) living
-fit-put b living p v h lives s =
+pub fit-put : (b : Bodies) (living new : ℕ → Bool) (p : ℕ) (v : View) → BodiesFit b living → new p ≡ true → ((q : ℕ) → (q == p) ≡ false → new q ≡ living q) → SmallView v → BodiesFit (put p v b) new
+fit-put b living new p v h lives others s =
     record {
-      alive = λ q x e. by_test q x (q == p) refl (sym (put-body p v b q) ∙ e);
+      alive = λ q. ap (λ (o : Option Body). is_some o) (put-body p v b q) ∙ by_test q (q == p) refl;
       small = λ k. subst IsSmall (sym (put-memory p v b k)) (either (k == v.body.window) (laid_segment v.body.segment v.segment k (memory_at b k)) (laid_segment-small v.body.segment v.segment k (memory_at b k) s.segment (h.small k)));
     }
   where
-    by_test : (q : ℕ) (x : Body) (t : Bool) → (q == p) ≡ t → cond t (Some v.body) (body_at b q) ≡ Some x → living q ≡ true
-    by_test q x true t e = ap living (eqb-true q p t) ∙ lives
-    by_test q x false t e = h.alive q x e
+    by_test : (q : ℕ) (t : Bool) → (q == p) ≡ t → is_some (cond t (Some v.body) (body_at b q)) ≡ new q
+    by_test q true t = sym (ap new (eqb-true q p t) ∙ lives)
+    by_test q false t = h.alive q ∙ sym (others q t)
 
     either : (t : Bool) (other : List ℕ) → IsSmall other → IsSmall (cond t v.window other)
     either true other g = s.window
     either false other g = g
 
-fit-remove : (b : Bodies) (living left : ℕ → Bool) (p : ℕ) → BodiesFit b living → ((q : ℕ) → (q == p) ≡ false → living q ≡ true → left q ≡ true) → BodiesFit (remove p b) left
-fit-remove b living left p h stays =
+fit-remove : (b : Bodies) (living left : ℕ → Bool) (p : ℕ) → BodiesFit b living → left p ≡ false → ((q : ℕ) → (q == p) ≡ false → left q ≡ living q) → BodiesFit (remove p b) left
+fit-remove b living left p h gone others =
     record {
-      alive = λ q x e. by_test q x (q == p) refl (sym (remove-body p b q) ∙ e);
+      alive = λ q. ap (λ (o : Option Body). is_some o) (remove-body p b q) ∙ by_test q (q == p) refl;
       small = λ k. subst IsSmall (sym (remove-memory p b k)) (h.small k);
     }
   where
-    by_test : (q : ℕ) (x : Body) (t : Bool) → (q == p) ≡ t → cond t None (body_at b q) ≡ Some x → left q ≡ true
-    by_test q x true t e = absurd (cc)
-    by_test q x false t e = stays q t (h.alive q x e)
+    by_test : (q : ℕ) (t : Bool) → (q == p) ≡ t → is_some (cond t None (body_at b q)) ≡ left q
+    by_test q true t = sym (ap left (eqb-true q p t) ∙ gone)
+    by_test q false t = h.alive q ∙ sym (others q t)
 
-pub fit-more : (b : Bodies) (living more : ℕ → Bool) → BodiesFit b living → ((q : ℕ) → living q ≡ true → more q ≡ true) → BodiesFit b more
-fit-more b living more h g = record { alive = λ q x e. g q (h.alive q x e); small = h.small }
+pub fit-same : (b : Bodies) (living same : ℕ → Bool) → BodiesFit b living → ((q : ℕ) → same q ≡ living q) → BodiesFit b same
+fit-same b living same h g = record { alive = λ q. h.alive q ∙ sym (g q); small = h.small }
 
 -- a process more lives, or one fewer
-begins-more : (child q : ℕ) (b : Bool) → b ≡ true → (if child == q then true else b) ≡ true
-begins-more child q b e = by_test (child == q)
-  where
-    by_test : (t : Bool) → (if t then true else b) ≡ true
-    by_test true = refl
-    by_test false = e
+begins-others : (child q : ℕ) (b : Bool) → (q == child) ≡ false → (if child == q then true else b) ≡ b
+begins-others child q b e = ap (λ (t : Bool). if t then true else b) (eq-swap child q ∙ e)
 
 begins-itself : (child : ℕ) (b : Bool) → (if child == child then true else b) ≡ true
 begins-itself child b = ap (λ (t : Bool). if t then true else b) (eq-eqb child child refl)
 
-ends-others : (p q : ℕ) (b : Bool) → (q == p) ≡ false → b ≡ true → (if p == q then false else b) ≡ true
-ends-others p q b e g = ap (λ (t : Bool). if t then false else b) (eq-swap p q ∙ e) ∙ g
+ends-others : (p q : ℕ) (b : Bool) → (q == p) ≡ false → (if p == q then false else b) ≡ b
+ends-others p q b e = ap (λ (t : Bool). if t then false else b) (eq-swap p q ∙ e)
+
+ends-itself : (p : ℕ) (b : Bool) → (if p == p then false else b) ≡ false
+ends-itself p b = ap (λ (t : Bool). if t then false else b) (eq-eqb p p refl)
 
 pub after-fits : (pid event : ℕ) (act : Act) (v : View) (b : Bodies) (living : ℕ → Bool) → BodiesFit b living → seen b pid ≡ Some v → BodiesFit (founded act event (beginning_of v) (done pid event act b)) (λ q. lives_after (life_by pid act) q (living q))
 after-fits pid event act v b living h e =
@@ -266,23 +261,23 @@ after-fits pid event act v b living h e =
     forked child o bytes s t =
         let all : ℕ → Bool = λ q. if child == q then true else living q in
         let own = seen-fits b living pid v h e in
-        fit-put (put pid (with_result child v) b) all child (child_view event (beginning_of v) o bytes)
-        (fit-more (put pid (with_result child v) b) living all (fit-put b living pid (with_result child v) h own.0 t) (λ q g. begins-more child q (living q) g))
-        (begins-itself child (living child)) (child_small o bytes s)
+        fit-put (put pid (with_result child v) b) living all child (child_view event (beginning_of v) o bytes)
+        (fit-put b living living pid (with_result child v) h own.0 (λ q g. refl) t)
+        (begins-itself child (living child)) (λ q g. begins-others child q (living q) g) (child_small o bytes s)
 
     removed : BodiesFit (remove pid b) (λ q. if pid == q then false else living q)
-    removed = fit-remove b living (λ q. if pid == q then false else living q) pid h (λ q t g. ends-others pid q (living q) t g)
+    removed = fit-remove b living (λ q. if pid == q then false else living q) pid h (ends-itself pid (living pid)) (λ q g. ends-others pid q (living q) g)
 
     by_act : (act : Act) → SmallIf (acted event act v) → BodiesFit (founded act event (beginning_of v) (joined act event v (become pid (acted event act v) b))) (λ q. lives_after (life_by pid act) q (living q))
-    by_act (Returns result) s = fit-put b living pid (with_result result v) h there.0 s
-    by_act (Receives at bytes result) s = fit-put b living pid (with_result result (written at bytes v)) h there.0 s
-    by_act (Gives at len result) s = fit-put b living pid (with_result result v) h there.0 s
-    by_act (Starts file block block_len) s = fit-put b living pid (started event (read_as_image file) (read v block block_len)) h there.0 s
+    by_act (Returns result) s = fit-put b living living pid (with_result result v) h there.0 (λ q g. refl) s
+    by_act (Receives at bytes result) s = fit-put b living living pid (with_result result (written at bytes v)) h there.0 (λ q g. refl) s
+    by_act (Gives at len result) s = fit-put b living living pid (with_result result v) h there.0 (λ q g. refl) s
+    by_act (Starts file block block_len) s = fit-put b living living pid (started event (read_as_image file) (read v block block_len)) h there.0 (λ q g. refl) s
     by_act (Forks child) s = forked child v.body.segment v.segment (there.1.segment) s
     by_act (Founds child) s = forked child None [] (omega arith) s
-    by_act Shares s = fit-put b living pid _ h there.0 s
-    by_act Leaves s = fit-put b living pid _ h there.0 s
-    by_act (Delivers signal handler cut) s = fit-put b living pid _ h there.0 s
+    by_act Shares s = fit-put b living living pid _ h there.0 (λ q g. refl) s
+    by_act Leaves s = fit-put b living living pid _ h there.0 (λ q g. refl) s
+    by_act (Delivers signal handler cut) s = fit-put b living living pid _ h there.0 (λ q g. refl) s
     by_act Exits s = removed
     by_act (Faults status) s = removed
     by_act (Dies signal cut) s = removed

@@ -13,7 +13,8 @@ use Rattle.parts_model.specs.Numbered.{nth}
 use Rattle.acts_model.specs.Moved.{KernelByte, ConsoleByte, PipeByte, FileByte, StatusByte}
 use Rattle.acts_model.specs.Records.{NoLife, Names, Unnames}
 use Rattle.arn_model.specs.Kernel.{Kernel, Opened}
-use Rattle.arn_model.specs.Tells.{kernel_byte, named_after, HoldsAfter, FitsFiles, IsSound}
+use Rattle.arn_model.specs.Sound.{FitsFiles, IsSound}
+use Rattle.arn_model.specs.Tells.{kernel_byte, named_after, HoldsAfter}
 use Rattle.arn_model.proofs.Numbers.{nth-push, nth-past}
 use Rattle.arn_model.proofs.Quiet.{FileSame, file-same, FilesQuiet, quiet-files}
 use Rattle.arn_model.proofs.Closing.{reached-quiet, files-same}

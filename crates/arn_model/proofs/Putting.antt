@@ -15,7 +15,8 @@ use Rattle.parts_model.specs.Tagged.{held_from, held_bytes}
 use Rattle.acts_model.specs.Moved.{ConsoleByte, PipeByte, FileByte, StatusByte, within, within_if}
 use Rattle.acts_model.specs.Records.{NoLife, NoName, Written}
 use Rattle.arn_model.specs.Kernel.{Kernel, Opened}
-use Rattle.arn_model.specs.Tells.{at_position, kernel_byte, put_byte, HoldsAfter, FitsFiles}
+use Rattle.arn_model.specs.Sound.{FitsFiles}
+use Rattle.arn_model.specs.Tells.{at_position, kernel_byte, put_byte, HoldsAfter}
 use Rattle.arn_model.proofs.Numbers.{nth-change, get-take, get-drop, get-left, get-right}
 use Rattle.arn_model.proofs.Quiet.{Less, file-same, Quiet, quiet-pipe, quiet-console, pipe_byte}
 use Rattle.arn_model.proofs.Effects.{FileKept, KernelTells, kept-same, eq-swap}
@@ -90,9 +91,6 @@ laid-put event at bytes old l n h e = by_front (nat_lt n at) refl
 
     both : length (take at old ++ held_bytes event bytes) ≡ at + length bytes
     both = let a = size in let b = mid in omega (arith, length-append (take at old) (held_bytes event bytes))
-
-    rest : List TaggedByte
-    rest = drop (at + length (held_bytes event bytes)) old
 
     behind : at + length bytes ≤ n → slice_get old n ≡ Some h
     behind g =

@@ -13,7 +13,8 @@ use Rattle.parts_model.specs.Processes as table
 use Rattle.parts_model.specs.Processes.{Process, Processes, Life, process}
 use Rattle.acts_model.specs.Moved.{KernelByte, ConsoleByte, PipeByte, FileByte, StatusByte}
 use Rattle.arn_model.specs.Kernel.{Kernel, Opened, Handling}
-use Rattle.arn_model.specs.Tells.{at_position, kernel_byte, lives, FitsFiles, IsSound}
+use Rattle.arn_model.specs.Sound.{FitsFiles, IsSound}
+use Rattle.arn_model.specs.Tells.{at_position, kernel_byte, lives}
 use Rattle.arn_model.proofs.Numbers.{nth-change, nth-push}
 
 -- what the first is, the second is

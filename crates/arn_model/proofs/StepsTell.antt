@@ -2,7 +2,7 @@
 use Rattle.std.proofs.lemmas.List.{length-replicate}
 use Rattle.parts_model.specs.declared.limits.TheConstants.{WINDOW_LEN}
 use Rattle.parts_model.specs.Memory as memory
-use Rattle.std.proofs.Common.{◌≡◌, ℕ, ◌+◌, ◌≤◌, List, [], ◌∷◌, ◌++◌, length, refl, ap, ◌∙◌, sym, subst, Option, Some, None, Bool, true, false, ◌==◌, cond, if◌then◌else◌, arith, nat_lt, lt_of_le_of_lt}
+use Rattle.std.proofs.Common.{◌≡◌, ℕ, ◌+◌, ◌≤◌, List, [], ◌∷◌, ◌++◌, length, refl, ap, ◌∙◌, sym, subst, Option, Some, None, Bool, true, false, ◌==◌, cond, if◌then◌else◌, arith, nat_lt, lt_of_le_of_lt, is_some, zero, suc}
 use Rattle.std.proofs.lemmas.Bool.{eq-eqb, ltb-false}
 use Rattle.std.proofs.lemmas.List.{length_push}
 use Rattle.parts_model.specs.declared.open.Description.TheVariants.{Console}
@@ -13,17 +13,18 @@ use Rattle.parts_model.specs.Processes as table
 use Rattle.parts_model.specs.Processes.{Process}
 use Rattle.parts_model.specs.Tagged.{held_bytes, values}
 use Rattle.acts_model.specs.Acts.{Starts, unborn, done, done_by}
-use Rattle.acts_model.specs.Bodies.{Bodies, View, memory_at, found, seen, put}
+use Rattle.acts_model.specs.Bodies.{Body, Bodies, View, memory_at, found, seen, put}
 use Rattle.arn_model.specs.Kernel as kernel
 use Rattle.arn_model.specs.Kernel.{Kernel, Machine, at_first, also_held, placed, opens, no_handling}
 use Rattle.arn_model.specs.Laws as laws
-use Rattle.arn_model.specs.Run.{Input, File, Boot, Typed, Unplug, Slice, is_booted, file_step, typed_step, unplug_step, boot_step, can_add, boot_from, boot_found, may_unplug, input_steps, after_input, steps_from, run}
+use Rattle.arn_model.specs.Run.{machine_from, Input, File, Boot, Typed, Unplug, Slice, is_booted, file_step, typed_step, unplug_step, boot_step, can_add, boot_from, boot_found, may_unplug, input_steps, after_input, steps_from, run}
 use Rattle.arn_model.specs.Step.{Step}
-use Rattle.arn_model.specs.Tells.{lives, IsSound, StepTells, Boots, Adds, Types, Unplugs, HasNumbers, Along}
+use Rattle.arn_model.specs.Sound.{IsSound, IsSoundMachine}
+use Rattle.arn_model.specs.Tells.{lives, StepTells, Boots, Adds, Types, Unplugs, HasNumbers, Along}
 use Rattle.arn_model.specs.Turn.{after_steps, turn, steps_of, is_possible}
 use Rattle.arn_model.proofs.Closing.{lives_in, quiet-opens, quiet-also_held, quiet-placed}
 use Rattle.arn_model.proofs.Effects.{forked-process}
-use Rattle.arn_model.proofs.Fitting.{BodiesFit, SmallView, fit-put, fit-more, after-fits}
+use Rattle.arn_model.proofs.Fitting.{BodiesFit, SmallView, fit-put, fit-same, after-fits}
 use Rattle.arn_model.proofs.Naming.{made-sound}
 use Rattle.arn_model.proofs.Places.{nobody-at}
 use Rattle.arn_model.proofs.Quiet.{Quiet, quiet-trans}
@@ -56,12 +57,12 @@ first-lives k q = ap lives_in (forked-process k.processes (Some (record { life =
     by_test true = refl
     by_test false = refl
 
-booted-more : (k : Kernel) (q : ℕ) → lives k q ≡ true → lives (kernel.booted k) q ≡ true
-booted-more k q e = let o = opened-quiet (first_made k) in o.lives q ∙ (first-lives k q ∙ by_test (q == length k.processes + 1))
-  where
-    by_test : (b : Bool) → cond b true (lives k q) ≡ true
-    by_test true = refl
-    by_test false = e
+booted-others : (k : Kernel) (q : ℕ) → nat_lt 0 (length k.processes) ≡ false → (q == 1) ≡ false → lives (kernel.booted k) q ≡ lives k q
+booted-others k q e t =
+    let o = opened-quiet (first_made k) in
+    let l = ltb-false 0 (length k.processes) e in
+    let one : length k.processes + 1 ≡ 1 = omega arith in
+    o.lives q ∙ (first-lives k q ∙ ap (λ (b : Bool). cond b true (lives k q)) (ap (λ (n : ℕ). q == n) one ∙ t))
 
 booted-first : (k : Kernel) → nat_lt 0 (length k.processes) ≡ false → lives (kernel.booted k) 1 ≡ true
 booted-first k e =
@@ -92,13 +93,12 @@ unborn-window event = let e = length-replicate {A = ℕ} WINDOW_LEN 0 in omega a
 boot-good : (m : Machine) (path : List ℕ) (file : ℕ) (held : List TaggedByte) → MachineSound m → is_booted m ≡ false → find_file m.kernel.files path ≡ Some file → file_bytes m.kernel.files file ≡ Some held → is_image (values held) ≡ true → StepGood m (boot_step m path file held)
 boot-good m path file held s first e f image =
     let living = lives (kernel.booted m.kernel) in
-    let bodies = fit-more m.bodies (lives m.kernel) living s.bodies (λ q h. booted-more m.kernel q h) in
     let born : SmallView (unborn m.events) = record { window = unborn-window m.events; segment = omega arith } in
     record {
       sound =
           record {
             kernel = booted-sound m.kernel s.kernel;
-            bodies = starts-fit m.events (values held) (put 1 (unborn m.events) m.bodies) living (fit-put m.bodies living 1 (unborn m.events) bodies (booted-first m.kernel first) born);
+            bodies = starts-fit m.events (values held) (put 1 (unborn m.events) m.bodies) living (fit-put m.bodies (lives m.kernel) living 1 (unborn m.events) s.bodies (booted-first m.kernel first) (λ q t. booted-others m.kernel q first t) born);
           };
       grows = booted-grows m.kernel;
       tells = λ few. Boots path file held first e f image refl;
@@ -124,7 +124,7 @@ boot-found-good m path s first = by_name (find_file m.kernel.files path) refl
 file-good : (m : Machine) (path bytes : List ℕ) → MachineSound m → can_add m path bytes ≡ true → StepGood m (file_step m path bytes)
 file-good m path bytes s e =
     record {
-      sound = record { kernel = made-sound m.kernel path (held_bytes m.events bytes) s.kernel; bodies = fit-more m.bodies (lives m.kernel) (lives (file_step m path bytes).after.kernel) s.bodies (λ q h. h) };
+      sound = record { kernel = made-sound m.kernel path (held_bytes m.events bytes) s.kernel; bodies = fit-same m.bodies (lives m.kernel) (lives (file_step m path bytes).after.kernel) s.bodies (λ q. refl) };
       grows = omega arith;
       tells = λ few. Adds path bytes e refl;
     }
@@ -135,7 +135,7 @@ typed-good m bytes s e =
       sound =
           record {
             kernel = record { fits = s.kernel.fits; named = s.kernel.named };
-            bodies = fit-more m.bodies (lives m.kernel) (lives (typed_step m bytes).after.kernel) s.bodies (λ q h. h);
+            bodies = fit-same m.bodies (lives m.kernel) (lives (typed_step m bytes).after.kernel) s.bodies (λ q. refl);
           };
       grows = omega arith;
       tells = λ few. Types bytes e refl;
@@ -147,7 +147,7 @@ unplug-good m device s e =
       sound =
           record {
             kernel = record { fits = s.kernel.fits; named = s.kernel.named };
-            bodies = fit-more m.bodies (lives m.kernel) (lives (unplug_step m device).after.kernel) s.bodies (λ q h. h);
+            bodies = fit-same m.bodies (lives m.kernel) (lives (unplug_step m device).after.kernel) s.bodies (λ q. refl);
           };
       grows = omega arith;
       tells = λ few. Unplugs device e refl;
@@ -188,12 +188,16 @@ steps-good m (i ∷ inputs) s =
     let good = input-good m i s in
     along-append StepGood m (input_steps m i) (steps_from (after_input m i) inputs) good (steps-good (after_input m i) inputs (along-sound m (input_steps m i) s good))
 
+none-lives : (q : ℕ) → false ≡ lives at_first.kernel q
+none-lives zero = refl
+none-lives (suc i) = refl
+
 pub at_first-sound : MachineSound at_first
 unfolding memory_at found
 at_first-sound =
     record {
       kernel = record { fits = λ n. tt; named = λ path file e. absurd (cc) };
-      bodies = record { alive = λ q x e. absurd (let n = nobody-at q in cc); small = λ k. omega arith };
+      bodies = record { alive = λ q. ap (λ (o : Option Body). is_some o) (nobody-at q) ∙ none-lives q; small = λ k. omega arith };
     }
 
 along-grows : (m : Machine) (steps : List Step) → Along StepGood m steps → length m.kernel.processes ≤ length (after_steps m steps).kernel.processes
@@ -207,3 +211,20 @@ along-tells m (s ∷ steps) h few = (h.0.tells (lt_of_le_of_lt (along-grows s.af
 pub steps-tell : laws.StepsTell
 steps-tell inputs few =
     along-tells at_first (run inputs) (steps-good at_first inputs at_first-sound) (subst (λ (m : Machine). HasNumbers m.kernel) (machine_from-steps at_first inputs) few)
+
+-- soundness along a run
+
+sound-of : (m : Machine) → MachineSound m → IsSoundMachine m
+sound-of m s = record { kernel = s.kernel; bodies = s.bodies.alive; memories = s.bodies.small }
+
+along-all-sound : (m : Machine) (steps : List Step) → MachineSound m → Along StepGood m steps → Along (λ m s. IsSoundMachine m) m steps
+along-all-sound m [] s h = tt
+along-all-sound m (x ∷ steps) s h = (sound-of m s, along-all-sound x.after steps h.0.sound h.1)
+
+pub runs-sound : laws.EachRunIsSound
+runs-sound inputs =
+    let good = steps-good at_first inputs at_first-sound in
+    record {
+      along = along-all-sound at_first (run inputs) at_first-sound good;
+      last = sound-of (machine_from at_first inputs) (subst MachineSound (sym (machine_from-steps at_first inputs)) (along-sound at_first (run inputs) at_first-sound good));
+    }

@@ -20,12 +20,13 @@ use Rattle.arn_model.specs.Kernel.{Machine}
 use Rattle.arn_model.specs.Row.{request, does, answered}
 use Rattle.parts_model.specs.Signals.{with_pending}
 use Rattle.arn_model.specs.Step.{Step, plain_step, event_step, call_step, ending, last_by, plain_by, waits, due_signal, handler, without_signal, only, delivering, delivery_of, advanced_view}
-use Rattle.arn_model.specs.Tells.{lives, IsSound, EventTells, StepTells, Runs, Happens, HasNumbers, Along}
+use Rattle.arn_model.specs.Sound.{IsSound}
+use Rattle.arn_model.specs.Tells.{lives, EventTells, StepTells, Runs, Happens, HasNumbers, Along}
 use Rattle.arn_model.specs.Turn.{after_steps, after_first, delivery_in, plain_in, steps_then, plains, last_in, last_of, turn, steps_of}
 use Rattle.arn_model.proofs.Closing.{quiet-with_handling}
 use Rattle.arn_model.proofs.Effects.{KernelTells, quiet-tells, ended-tells}
 use Rattle.arn_model.proofs.Calling.{Done, RequestTells, life_by, kept-after}
-use Rattle.arn_model.proofs.Fitting.{BodiesFit, seen-fits, fit-put, fit-more, after-fits, advanced-small}
+use Rattle.arn_model.proofs.Fitting.{BodiesFit, seen-fits, fit-put, fit-same, after-fits, advanced-small}
 use Rattle.arn_model.proofs.RowTells.{request-tells}
 
 -- what is kept: the kernel is sound, who has a body lives, and memories fit their windows
@@ -46,9 +47,9 @@ event-good m pid v d entry s e done =
           record {
             kernel = done.sound;
             bodies =
-                fit-more _ (λ q. lives_after (life_by pid d.act) q (lives m.kernel q)) (lives d.kernel)
+                fit-same _ (λ q. lives_after (life_by pid d.act) q (lives m.kernel q)) (lives d.kernel)
                 (after-fits pid m.events d.act v m.bodies (lives m.kernel) s.bodies e)
-                (λ q h. done.living q ∙ h);
+                done.living;
           };
       grows = done.grows;
       tells = λ few. Happens pid v d entry (done.told few) refl;
@@ -59,7 +60,7 @@ plain-good : (m : Machine) (pid : ℕ) (v : View) (instr : Instr) (cpu : Cpu) (m
 plain-good m pid v instr cpu memory s e x =
     let there = seen-fits m.bodies (lives m.kernel) pid v s.bodies e in
     record {
-      sound = record { kernel = s.kernel; bodies = fit-put m.bodies (lives m.kernel) pid (advanced_view cpu memory v) s.bodies there.0 (advanced-small v instr cpu memory there.1 x) };
+      sound = record { kernel = s.kernel; bodies = fit-put m.bodies (lives m.kernel) (lives m.kernel) pid (advanced_view cpu memory v) s.bodies there.0 (λ q g. refl) (advanced-small v instr cpu memory there.1 x) };
       grows = omega arith;
       tells = λ few. Runs pid v instr cpu memory e x refl;
     }

@@ -4,6 +4,7 @@ use Rattle.parts_model.specs.Replies.{Answered, reply_named}
 use Rattle.acts_model.specs.Moved.{Event}
 use Rattle.arn_model.specs.Kernel.{Machine, at_first}
 use Rattle.arn_model.specs.Run.{Input, steps_from, machine_from, run, machine_after}
+use Rattle.arn_model.specs.Sound.{IsSoundMachine}
 use Rattle.arn_model.specs.Step.{Step}
 use Rattle.arn_model.specs.Tells.{StepTells, HasNumbers, Along}
 use Rattle.arn_model.specs.Turn.{turn, after_steps}
@@ -11,6 +12,14 @@ use Rattle.arn_model.specs.Turn.{turn, after_steps}
 -- each step of a run is one of a few kinds, and an event is as its record tells, while processes have numbers
 abbrev pub StepsTell : Type 0
 StepsTell = (inputs : List Input) → HasNumbers (machine_after inputs).kernel → Along StepTells at_first (run inputs)
+
+-- a run's machine is sound before each step and at the end
+pub record RunIsSound (inputs : List Input) : Type 0 where
+  pub along : Along (λ m s. IsSoundMachine m) at_first (run inputs)
+  pub last : IsSoundMachine (machine_after inputs)
+
+abbrev pub EachRunIsSound : Type 0
+EachRunIsSound = (inputs : List Input) → RunIsSound inputs
 
 -- what inputs do that stand one behind the other
 pub record RunsAppend (m : Machine) (inputs more : List Input) : Type 0 where

@@ -11,4 +11,5 @@ pub mod Step
 pub mod Turn
 pub mod Run
 pub mod Tells
+pub mod Sound
 pub mod Laws

@@ -1,17 +1,15 @@
 -- What each step of a run tells: all that may be known of a call without a look at its row.
-use Rattle.std.specs.Prelude.{◌≡◌, ◌⊎◌, ℕ, ◌-◌, ◌^◌, ◌<◌, ◌≤◌, ◌==◌, nat_lt, Bool, true, false, if◌then◌else◌, List, [], ◌∷◌, length, Option, Some, None, IfSome, is_some, option_map, option_and_then, slice_get, bytes_eq}
+use Rattle.std.specs.Prelude.{◌≡◌, ◌⊎◌, ℕ, ◌-◌, ◌^◌, ◌<◌, ◌==◌, nat_lt, Bool, true, false, if◌then◌else◌, List, [], ◌∷◌, length, Option, Some, None, is_some, option_map, option_and_then, slice_get, bytes_eq}
 use Rattle.arn_base.specs.declared.records.Extra.{Extra}
 use Rattle.arn_base.specs.declared.records.Extra.TheVariants as extra
 use Rattle.arn_base.specs.declared.records.Record.{Record}
 use Rattle.arn_base.specs.declared.records.Record.TheVariants as entry
 use Rattle.arn_base.specs.declared.machine.Cpu.{Cpu}
 use Rattle.arn_base.specs.Window.{Window}
-use Rattle.parts_model.specs.declared.open.Description.{Description}
-use Rattle.parts_model.specs.declared.open.Description.TheVariants as description
 use Rattle.parts_model.specs.Image.{is_image}
 use Rattle.parts_model.specs.declared.tagged.TaggedByte.{TaggedByte}
 use Rattle.parts_model.specs.Channel.{Channel}
-use Rattle.parts_model.specs.Files.{Files, find_file, file_bytes, laid_over}
+use Rattle.parts_model.specs.Files.{find_file, file_bytes, laid_over}
 use Rattle.parts_model.specs.Numbered.{nth}
 use Rattle.parts_model.specs.Processes as table
 use Rattle.parts_model.specs.Tagged.{held_bytes, values, given}
@@ -105,20 +103,6 @@ is_inner (entry.Signal pid signal cut handler) = true
 is_inner (entry.Call pid number result more) = true
 is_inner (entry.End pid status) = true
 is_inner other = false
-
--- the position of an open file lies in the file
-pub record LiesInFile (files : Files) (file position : ℕ) : Type 0 where
-  pub made : file < length files.all
-  pub inside : IfSome (file_bytes files file) (λ bytes. position ≤ length bytes)
-
-abbrev pub FitsFiles : Files → Description → Type 0
-FitsFiles files (description.File file position) = LiesInFile files file position
-FitsFiles files other = Unit {0}
-
--- what the kernel keeps: the positions of all open files lie in their files, and a name stands for a file that was made
-pub record IsSound (k : Kernel) : Type 0 where
-  pub fits : (n : ℕ) → IfSome (nth k.descriptions n) (λ o. FitsFiles k.files o.what)
-  pub named : (path : List ℕ) (file : ℕ) → find_file k.files path ≡ Some file → file < length k.files.all
 
 -- an event of a process, as its record tells it
 pub record EventTells (m : Machine) (pid : ℕ) (v : View) (d : Doing) (entry : Record) : Type 0 where

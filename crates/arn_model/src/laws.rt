@@ -1,12 +1,13 @@
 // What holds of every run, as functions that do nothing.
-ghost use Rattle.arn_model.specs.Laws.{EachRunAppends, RepliesAreTold, StepsTell};
+ghost use Rattle.arn_model.specs.Laws.{EachRunAppends, EachRunIsSound, RepliesAreTold, StepsTell};
 
 /// What inputs do that stand one behind the other.
 pub fn runs_append()
     ensures { EachRunAppends }
 {}
 
-/// What each step of a run is, and what the record of an event tells of it.
+/// What each step of a run is, and what the record of an event tells of it, where fewer than 2^63
+/// processes have been made.
 pub fn steps_tell()
     ensures { StepsTell }
 {}
@@ -14,4 +15,9 @@ pub fn steps_tell()
 /// A turn is the same with the reply that the record of its last step names.
 pub fn replies_are_told()
     ensures { RepliesAreTold }
+{}
+
+/// What every machine of a run keeps.
+pub fn runs_sound()
+    ensures { EachRunIsSound }
 {}
