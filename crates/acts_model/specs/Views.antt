@@ -43,6 +43,10 @@ with_cpu cpu v = record v { body = record v.body { cpu = cpu } }
 abbrev pub stands_at : View → Effect
 stands_at v = instruction v.body.cpu (reach v)
 
+-- what it sees after an instruction
+abbrev pub after_instr : Cpu → List Window → View → View
+after_instr cpu memory v = with_reach memory (with_cpu cpu v)
+
 -- an error as a call's result
 abbrev pub error : ℕ → ℕ
 error number = 2 ^ 64 - number

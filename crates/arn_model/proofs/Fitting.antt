@@ -20,7 +20,7 @@ use Rattle.acts_model.specs.Acts.{Act, Returns, Receives, Gives, Starts, Forks, 
 use Rattle.acts_model.specs.Bodies.{Body, Bodies, View, body_at, memory_at, segment_bytes, view, seen, put, remove, become}
 use Rattle.acts_model.specs.Records.{lives_after}
 use Rattle.acts_model.specs.Views.{reach, read, with_reach, written, stands_at, with_result, among_zeros, block_at}
-use Rattle.arn_model.specs.Step.{advanced_view}
+use Rattle.acts_model.specs.Views.{after_instr}
 use Rattle.arn_model.proofs.Calling.{life_by}
 use Rattle.arn_model.proofs.Effects.{eq-swap}
 use Rattle.arn_model.proofs.Places.{put-body, put-memory, remove-body, remove-memory, laid_segment}
@@ -135,7 +135,7 @@ fetched-small : (o : Option ℕ) (cpu : Cpu) (ws : List Window) → AllSmall ws 
 fetched-small None cpu ws h = tt
 fetched-small (Some word) cpu ws h = executed_if-small (decoded word) cpu ws h
 
-pub advanced-small : (v : View) (instr : Instr) (cpu : Cpu) (memory : List Window) → SmallView v → stands_at v ≡ Next instr cpu memory → SmallView (advanced_view cpu memory v)
+pub advanced-small : (v : View) (instr : Instr) (cpu : Cpu) (memory : List Window) → SmallView v → stands_at v ≡ Next instr cpu memory → SmallView (after_instr cpu memory v)
 advanced-small v instr cpu memory s e =
     let small : AllSmall memory = subst SmallEffect e (fetched-small (number_at (reach v) v.body.cpu.pc 4) v.body.cpu (reach v) (reach-small v s)) in
     with_reach-small memory (record v { body = record v.body { cpu = cpu } }) small (record { window = s.window; segment = s.segment })

@@ -19,7 +19,8 @@ use Rattle.arn_model.specs.Doing.{Doing, Request, Waits, Does, Asks}
 use Rattle.arn_model.specs.Kernel.{Machine}
 use Rattle.arn_model.specs.Row.{request, does, answered}
 use Rattle.parts_model.specs.Signals.{with_pending}
-use Rattle.arn_model.specs.Step.{Step, plain_step, event_step, call_step, ending, last_by, plain_by, waits, due_signal, handler, without_signal, only, delivering, delivery_of, advanced_view}
+use Rattle.acts_model.specs.Views.{after_instr}
+use Rattle.arn_model.specs.Step.{Step, plain_step, event_step, call_step, ending, last_by, plain_by, waits, due_signal, handler, without_signal, only, delivering, delivery_of}
 use Rattle.arn_model.specs.Sound.{IsSound}
 use Rattle.arn_model.specs.Tells.{lives, EventTells, StepTells, Runs, Happens, HasNumbers, Along}
 use Rattle.arn_model.specs.Turn.{after_steps, after_first, delivery_in, plain_in, steps_then, plains, last_in, last_of, turn, steps_of}
@@ -60,7 +61,7 @@ plain-good : (m : Machine) (pid : ℕ) (v : View) (instr : Instr) (cpu : Cpu) (m
 plain-good m pid v instr cpu memory s e x =
     let there = seen-fits m.bodies (lives m.kernel) pid v s.bodies e in
     record {
-      sound = record { kernel = s.kernel; bodies = fit-put m.bodies (lives m.kernel) (lives m.kernel) pid (advanced_view cpu memory v) s.bodies there.0 (λ q g. refl) (advanced-small v instr cpu memory there.1 x) };
+      sound = record { kernel = s.kernel; bodies = fit-put m.bodies (lives m.kernel) (lives m.kernel) pid (after_instr cpu memory v) s.bodies there.0 (λ q g. refl) (advanced-small v instr cpu memory there.1 x) };
       grows = omega arith;
       tells = λ few. Runs pid v instr cpu memory e x refl;
     }

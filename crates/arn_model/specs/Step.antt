@@ -14,7 +14,7 @@ use Rattle.acts_model.specs.Bodies.{Bodies, View, put}
 use Rattle.acts_model.specs.Moved.{Moved, Nothing}
 use Rattle.acts_model.specs.Told.{delivery_act}
 use Rattle.acts_model.specs.Transfers.{holds_of, transfer, instr_transfer}
-use Rattle.acts_model.specs.Views.{stands_at, with_cpu, with_reach, call_number}
+use Rattle.acts_model.specs.Views.{stands_at, after_instr, call_number}
 use Rattle.arn_model.specs.Doing.{Doing}
 use Rattle.arn_model.specs.Kernel.{Kernel, Machine, Handling, handling_of, with_handling, status_at, ended}
 use Rattle.arn_model.specs.ProcessCalls.{status_of}
@@ -25,10 +25,6 @@ pub record Step : Type 0 where
   pub moved : Moved
   pub bytes : List ℕ
   pub after : Machine
-
--- what a process sees after an instruction
-abbrev pub advanced_view : Cpu → List Window → View → View
-advanced_view cpu memory v = with_reach memory (with_cpu cpu v)
 
 -- an instruction that the next one follows
 abbrev pub plain_step : Machine → ℕ → View → Instr → Cpu → List Window → Step
@@ -42,7 +38,7 @@ plain_step m pid v instr cpu memory =
             outgoing = None;
           };
       bytes = [];
-      after = record m { bodies = put pid (advanced_view cpu memory v) m.bodies };
+      after = record m { bodies = put pid (after_instr cpu memory v) m.bodies };
     }
 
 -- bodies after an act of a process, the child that it may found among them

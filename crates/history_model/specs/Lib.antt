@@ -3,3 +3,4 @@ pub mod Moments
 pub mod Groups
 pub mod Exchanges
 pub mod Names
+pub mod Alone
