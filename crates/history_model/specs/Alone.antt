@@ -122,10 +122,12 @@ call_start number result (extra.Start start) = if (number == FORK) && is_success
 call_start number result more = None
 
 -- the group's first process begins, with what the fork's record holds
+abbrev pub begin_inside : ℕ → ℕ → Record → Start → Inside
+begin_inside g event e start =
+    record { actor = Some g; before = start.cpu; transfer = Begins g event; event = Some (record { number = event; entry = e }) }
+
 abbrev pub begins : ℕ → ℕ → Record → Start → Own → Own
-begins g event e start own =
-    noted (record { actor = Some g; before = start.cpu; transfer = Begins g event; event = Some (record { number = event; entry = e }) })
-    (begun g event (beginning_in start) own.bodies) own
+begins g event e start own = noted (begin_inside g event e start) (begun g event (beginning_in start) own.bodies) own
 
 abbrev pub begins_if : ℕ → ℕ → ℕ → Record → Option Start → Own → Made
 begins_if g child event e None own = Makes own

@@ -1,0 +1,4 @@
+//! What ties the records of a run, and a group that is replayed alone from them, to the run itself.
+//!
+//! What holds is stated by functions that do nothing.
+#![tactic(auto)]
