@@ -23,11 +23,22 @@ fn shown_line(alloc: Global, line: &Line) -> Result<String, AllocError> {
         Line::Type { bytes } => format!(in alloc; "type {:?}", bytes.as_slice()),
         Line::Run { count } => format!(in alloc; "run {count}"),
         Line::Back {
-            linkage: Linkage::Copy,
+            linkage,
             event,
             from,
             len,
-        } => format!(in alloc; "back copy {event} {from} {len}"),
+        } => {
+            let linkage = linkage_word(*linkage);
+            format!(in alloc; "back {linkage} {event} {from} {len}")
+        }
+    }
+}
+
+fn linkage_word(linkage: Linkage) -> &'static str {
+    match linkage {
+        Linkage::Copy => "copy",
+        Linkage::Data => "data",
+        Linkage::Index => "index",
     }
 }
 
