@@ -191,7 +191,7 @@ fn keeps(alloc: Global, bytes: &[u8], call: u32, want: usize) -> Result<bool, No
 struct LongDisk;
 
 impl Disk for LongDisk {
-    ghost use Rattle.std.specs.Prelude.{None};
+    ghost use Rattle.std.specs.Prelude.{None, false};
     ghost use Rattle.arn_base.specs.Faults.{greatest};
 
     ghost image = { λ _. None };
@@ -203,6 +203,8 @@ impl Disk for LongDisk {
     ghost left_since = { λ _ _ _. ⊥ };
 
     ghost faults = { λ _. greatest };
+
+    ghost wants_memory = { λ _. false };
 
     ghost reads_may_stay = { λ _. tt };
 
