@@ -47,10 +47,6 @@ pub not_present : (x : Option Process) → holds is_any x ≡ false → x ≡ No
 not_present None gone = refl
 not_present (Some p) gone = cc
 
-pub is_present : (x : Option Process) → holds is_any x ≡ true → is_some x ≡ true
-is_present None here = here
-is_present (Some p) here = refl
-
 -- where a test holds later, another held before
 pub data Follows (later before : Process → Bool) : Processes → Processes → Type 0 where
   none : Follows later before [] []

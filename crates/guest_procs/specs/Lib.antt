@@ -1,3 +1,4 @@
 pub mod Answers
 pub mod Shown
 pub mod Sound
+pub mod Status

@@ -3,11 +3,12 @@ use Rattle.std.specs.Prelude.{List, map, Option, option_map}
 use Rattle.guest_procs.specs.declared.process.Process as code
 use Rattle.guest_procs.specs.declared.process.Life as code_life
 use Rattle.guest_procs.specs.declared.process.Life.TheVariants as life
+use Rattle.guest_procs.specs.Status.{status_byte}
 use Rattle.parts_model.specs.Processes.{Life, Live, Ended, Process, Processes}
 
 abbrev pub life_of : code_life.Life → Life
 life_of life.Live = Live
-life_of (life.Ended status) = Ended status
+life_of (life.Ended status event) = Ended (status_byte status event)
 
 -- a process
 abbrev pub process_of : code.Process → Process

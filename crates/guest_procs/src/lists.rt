@@ -1,17 +1,17 @@
 // The numbers of the processes that are there, and of those that live.
-ghost use Rattle.std.specs.Prelude.{◌≡◌, ◌<◌, ◌^◌, ◌++◌, ◌∷◌, [], length, filter, find, Some, None, IfOk, IfErr, OnOk, OnErr, IsTrue, IsSome, IsNone, option_and_then};
+ghost use Rattle.std.specs.Prelude.{◌≡◌, ◌<◌, ◌^◌, ◌++◌, ◌∷◌, [], length, filter, find, Some, None, IfOk, IfErr, OnOk, OnErr, IsTrue, IfSome, IsSome, IsNone, option_and_then};
 ghost use Rattle.std.specs.List.{list_any};
 ghost use Rattle.std.specs.Result.{result_ok};
 ghost use Rattle.guest_procs.specs.Answers.{WaitFails, lowest_ended};
 ghost use Rattle.guest_procs.specs.Shown.{process_of};
 ghost use Rattle.guest_procs.specs.Sound.{is_any, present, holds, is_ended_child, IsSound};
-ghost use Rattle.parts_model.specs.Processes.{process, with_process, next_process, is_full, is_live, is_child_of, ended, with_change, with_descriptor, descriptor, lowest_free, placed};
+ghost use Rattle.guest_procs.specs.Status.{status_byte};
+ghost use Rattle.parts_model.specs.Processes.{process, with_process, next_process, is_full, is_live, is_child_of, ended, status_of, with_change, with_descriptor, descriptor, lowest_free, placed};
 
 use crate::answers::{Ended, ProcError};
 use crate::process::Process;
 use crate::table::Table;
 use arn_base::NoMemory;
-use parts_model::TaggedByte;
 use parts_model::limits::{MOST_DESCRIPTORS, MOST_PROCESSES};
 use std::alloc::Global;
 
@@ -56,7 +56,9 @@ fn has_child(pids: &[u32], table: &Table, parent: u32) -> bool
 /// How the lowest child of a process that has ended did so.
 fn lowest_ended(pids: &[u32], table: &Table, parent: u32) -> Option<Ended>
     requires { pids.now ≡ present table.now }
-    ensures { result ≡ lowest_ended table.now parent }
+    ensures answer { result ≡ lowest_ended table.now parent }
+    ensures told { IfSome result (λ e.
+        status_of table.now e.pid ≡ Some (status_byte e.status e.event)) }
 {
     let pid = first_ended(pids, table, parent)?;
     table.ended(pid)
@@ -79,6 +81,7 @@ fn not_ended(pids: &[u32], table: &Table, parent: u32) -> ProcError
 pub fn next_ended(pids: &[u32], table: &Table, parent: u32) -> Result<Ended, ProcError>
     requires { pids.now ≡ present table.now }
     ensures answer { result_ok result ≡ lowest_ended table.now parent }
+    ensures told { IfOk result (λ e. status_of table.now e.pid ≡ Some (status_byte e.status e.event)) }
     ensures why { IfErr result (WaitFails table.now parent) }
 {
     match lowest_ended(pids, table, parent) {
@@ -138,14 +141,14 @@ impl Lists {
         keep_live(&mut self.live, &self.table);
     }
 
-    /// Ends a process with a status byte. Its children have no parent from then on.
-    pub fn end(&mut self, pid: u32, status: TaggedByte)
+    /// Ends a process with a status, by an event. Its children have no parent from then on.
+    pub fn end(&mut self, pid: u32, status: u8, event: u64)
         requires { IsSound self.old.table self.old.present.items self.old.live.items }
-        ensures table { self.new.table ≡ ended self.old.table pid status }
+        ensures table { self.new.table ≡ ended self.old.table pid (status_byte status event) }
         ensures sound { IsSound self.new.table self.new.present.items self.new.live.items }
     {
         self.table.orphan_all(&self.present, pid);
-        self.table.end(pid, status);
+        self.table.end(pid, status, event);
         self.keep();
     }
 

@@ -1,18 +1,20 @@
 // One process of the table.
-ghost use Rattle.std.specs.Prelude.{◌≡◌, ◌<◌, length, position, is_none, None, IfSome, IsSome};
+ghost use Rattle.std.specs.Prelude.{◌≡◌, ◌<◌, length, position, is_none, option_map, None, Some, IfSome, IsSome};
+ghost use Rattle.guest_procs.specs.Answers.{ended_as};
 ghost use Rattle.guest_procs.specs.Shown.{process_of, shown};
+ghost use Rattle.guest_procs.specs.Status.{status_byte};
 ghost use Rattle.parts_model.specs.Processes.{Live, none_open, child_of, is_live, is_child_of, if_awaited, orphan, with_end, status_in, descriptor, free_descriptors, lowest_free, with_descriptor};
 
-use parts_model::TaggedByte;
+use crate::answers::Ended;
 use parts_model::limits::MOST_DESCRIPTORS;
 
 const COUNT: usize = MOST_DESCRIPTORS as usize;
 
-/// It lives, or it has ended with a status byte, whose origin is the event that ended it.
+/// It lives, or an event has ended it with a status.
 #[derive(Clone, Copy, Debug)]
 pub enum Life {
     Live,
-    Ended(TaggedByte),
+    Ended { status: u8, event: u64 },
 }
 
 /// A process: its parent while that lives, and what each descriptor stands for.
@@ -60,13 +62,16 @@ impl Process {
         }
     }
 
-    /// The status byte with which it has ended.
-    pub fn status(&self) -> Option<TaggedByte>
-        ensures { result ≡ status_in (process_of self.now).life }
+    /// How it has ended, if it has. Its number is this one.
+    pub fn ended_as(&self, pid: u32) -> Option<Ended>
+        ensures answer { result ≡ option_map (ended_as pid) (status_in (process_of self.now).life) }
+        ensures number { IfSome result (λ e. e.pid ≡ pid) }
+        ensures told { IfSome result (λ e.
+            status_in (process_of self.now).life ≡ Some (status_byte e.status e.event)) }
     {
         match self.life {
             Life::Live => None,
-            Life::Ended(status) => Some(status),
+            Life::Ended { status, event } => Some(Ended { pid, status, event }),
         }
     }
 
@@ -97,11 +102,11 @@ impl Process {
     }
 
     /// What it is once it has ended.
-    pub fn ended(self, status: TaggedByte) -> Option<Process>
-        ensures { shown result ≡ with_end status (process_of self) }
+    pub fn ended(self, status: u8, event: u64) -> Option<Process>
+        ensures { shown result ≡ with_end (status_byte status event) (process_of self) }
     {
         let ended = Process {
-            life: Life::Ended(status),
+            life: Life::Ended { status, event },
             parent: self.parent,
             descriptors: [None; COUNT],
         };

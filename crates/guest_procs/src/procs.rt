@@ -1,17 +1,15 @@
 // The table of processes.
 ghost use Rattle.std.specs.Prelude.{◌≡◌, ◌<◌, ◌^◌, ◌++◌, ◌∷◌, [], length, Ok, Err, Some, None, IfOk, IfErr, OnOk, OnErr, IsTrue, IsOk, IsSome, IsNone, option_and_then, option_map, ◌↔◌};
 ghost use Rattle.std.specs.Result.{result_ok};
-ghost use Rattle.parts_model.specs.declared.tagged.TaggedByte.{TaggedByte};
-ghost use Rattle.parts_model.specs.Processes.{process, live_process, live, is_live, is_full, next_process, booted, forked, ended, reaped, descriptor, free_descriptors, lowest_free, placed, with_change, with_descriptor};
+ghost use Rattle.parts_model.specs.Processes.{process, live_process, live, is_live, is_full, next_process, booted, forked, ended, reaped, status_of, descriptor, free_descriptors, lowest_free, placed, with_change, with_descriptor};
 ghost use Rattle.guest_procs.specs.Answers.{MakeFails, WaitFails, lowest_ended};
 ghost use Rattle.guest_procs.specs.Shown.{process_of};
+ghost use Rattle.guest_procs.specs.Status.{status_byte};
 ghost use Rattle.guest_procs.specs.declared.answers.ProcError.TheVariants as error;
 
 use crate::answers::{Ended, ProcError};
 use crate::lists::{self, Lists};
 use crate::process::Process;
-use arn_base::Src;
-use parts_model::TaggedByte;
 use std::alloc::Global;
 use std::marker::Model;
 
@@ -93,8 +91,7 @@ impl Procs {
     /// Ends a live process with a status, by an event. Its children have no parent from then on. NoProcess says that it
     /// doesn't live.
     pub fn end(&mut self, pid: u32, status: u8, event: u64) -> Result<(), ProcError>
-        ensures ok { OnOk result (self.new ≡
-            ended self.old pid (record { value = status; origin = record { event = event; at = 0 } })) }
+        ensures ok { OnOk result (self.new ≡ ended self.old pid (status_byte status event)) }
         ensures lives { IsOk result ↔ IsSome (live_process self.old pid) }
         ensures why { IfErr result (λ e. e ≡ error.NoProcess) }
         ensures err { OnErr result (self.new ≡ self.old) }
@@ -102,14 +99,7 @@ impl Procs {
         if !self.lists.table.is_live(pid) {
             return Err(ProcError::NoProcess);
         }
-        let origin = Src { event, at: 0 };
-        self.lists.end(
-            pid,
-            TaggedByte {
-                value: status,
-                origin,
-            },
-        );
+        self.lists.end(pid, status, event);
         Ok(())
     }
 
@@ -117,6 +107,7 @@ impl Procs {
     /// has ended.
     pub fn next_ended(&self, parent: u32) -> Result<Ended, ProcError>
         ensures answer { result_ok result ≡ lowest_ended self.now parent }
+        ensures told { IfOk result (λ e. status_of self.now e.pid ≡ Some (status_byte e.status e.event)) }
         ensures why { IfErr result (WaitFails self.now parent) }
     {
         lists::next_ended(&self.lists.present, &self.lists.table, parent)
@@ -125,6 +116,7 @@ impl Procs {
     /// The same, and that child is gone from then on.
     pub fn reap(&mut self, parent: u32) -> Result<Ended, ProcError>
         ensures answer { result_ok result ≡ lowest_ended self.old parent }
+        ensures told { IfOk result (λ e. status_of self.old e.pid ≡ Some (status_byte e.status e.event)) }
         ensures why { IfErr result (WaitFails self.old parent) }
         ensures ok { IfOk result (λ child. self.new ≡ reaped self.old child.pid) }
         ensures err { OnErr result (self.new ≡ self.old) }

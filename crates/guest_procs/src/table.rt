@@ -1,15 +1,15 @@
 // The processes by their numbers.
-ghost use Rattle.std.specs.Prelude.{◌≡◌, ◌++◌, ◌∷◌, [], length, map, option_copied, option_and_then, IsSome, Some, None, OnOk, OnErr, ◌<◌};
+ghost use Rattle.std.specs.Prelude.{◌≡◌, ◌++◌, ◌∷◌, [], length, map, option_copied, option_and_then, IfSome, IsSome, Some, None, OnOk, OnErr, ◌<◌};
 ghost use Rattle.guest_procs.specs.Answers.{ended_by};
 ghost use Rattle.guest_procs.specs.Shown.{process_of, shown};
 ghost use Rattle.guest_procs.specs.Sound.{is_any, present, holds, is_ended_child};
-ghost use Rattle.parts_model.specs.Processes.{process, with_process, is_live, is_child_of, orphan, with_end, with_change, with_descriptor};
+ghost use Rattle.guest_procs.specs.Status.{status_byte};
+ghost use Rattle.parts_model.specs.Processes.{process, with_process, is_live, is_child_of, orphan, with_end, status_of, with_change, with_descriptor};
 
 use crate::answers::Ended;
 use crate::process::Process;
 use crate::slots;
 use arn_base::NoMemory;
-use parts_model::TaggedByte;
 use parts_model::limits::MOST_DESCRIPTORS;
 use std::alloc::Global;
 use std::marker::Model;
@@ -106,14 +106,11 @@ impl Table {
 
     /// How a process has ended, if it has.
     pub fn ended(&self, pid: u32) -> Option<Ended>
-        ensures { result ≡ ended_by self.now pid }
+        ensures answer { result ≡ ended_by self.now pid }
+        ensures told { IfSome result (λ e.
+            status_of self.now e.pid ≡ Some (status_byte e.status e.event)) }
     {
-        let status = self.find(pid)?.status()?;
-        Some(Ended {
-            pid,
-            status: status.value,
-            event: status.origin.event,
-        })
+        self.find(pid)?.ended_as(pid)
     }
 
     /// Takes the parent away from a process, if that is this one.
@@ -137,13 +134,13 @@ impl Table {
         }
     }
 
-    /// Ends a process with a status byte.
-    pub fn end(&mut self, pid: u32, status: TaggedByte)
+    /// Ends a process with a status, by an event.
+    pub fn end(&mut self, pid: u32, status: u8, event: u64)
         ensures { self.new ≡ with_process self.old pid
-            (option_and_then (with_end status) (process self.old pid)) }
+            (option_and_then (with_end (status_byte status event)) (process self.old pid)) }
     {
         if let Some(process) = self.find(pid) {
-            let ended = process.ended(status);
+            let ended = process.ended(status, event);
             self.put(pid, ended);
         }
     }

@@ -1,2 +1,3 @@
 pub mod Members
 pub mod Rooms
+pub mod Started

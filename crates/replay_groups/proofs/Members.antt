@@ -3,11 +3,12 @@ use Rattle.std.proofs.Common.{◌≡◌, ◌≢◌, inl, inr, ℕ, zero, suc, �
 use Rattle.std.proofs.Math.Seq.{get_or-append_seam}
 use Rattle.std.proofs.lemmas.List.{get_or-set_same, get_or-set_other, get_or_past}
 use Rattle.std.proofs.lemmas.Bool.Decides.{eqb_tells}
-use Rattle.replay_groups.specs.Groups.{members_from, members_of}
+use Rattle.replay_groups.specs.Groups.{members_from, members_of, IsStarted}
 use Rattle.replay_groups.specs.Sound.{list_of, TellsMembers}
+use Rattle.replay_groups.proofs.Started.{group_at-next, started-some, started-inside, started-later, all-started}
 
 -- one more process, which is in the group
-members-same : (groups : List ℕ) (pid group next : ℕ) → pid + length groups ≡ next → members_from pid group (groups ++ group ∷ []) ≡ members_from pid group groups ++ next ∷ []
+pub members-same : (groups : List ℕ) (pid group next : ℕ) → pid + length groups ≡ next → members_from pid group (groups ++ group ∷ []) ≡ members_from pid group groups ++ next ∷ []
 members-same [] pid group next is =
     let e : pid ≡ next = omega arith in
     elim (eqb_tells group group) [ inl h ↦ rw h.0 (ap (λ (n : ℕ). n ∷ []) e) | inr h ↦ absurd (h.1 refl) ]
@@ -16,7 +17,7 @@ members-same (g ∷ groups) pid group next is =
     elim (eqb_tells g group) [ inl h ↦ rw h.0 (ap (λ (ms : List ℕ). pid ∷ ms) rest) | inr h ↦ rw h.0 rest ]
 
 -- or in another
-members-other : (groups : List ℕ) (pid group other : ℕ) → other ≢ group → members_from pid group (groups ++ other ∷ []) ≡ members_from pid group groups
+pub members-other : (groups : List ℕ) (pid group other : ℕ) → other ≢ group → members_from pid group (groups ++ other ∷ []) ≡ members_from pid group groups
 members-other [] pid group other differs =
     elim (eqb_tells other group) [ inl h ↦ absurd (differs h.1) | inr h ↦ rw h.0 refl ]
 members-other (g ∷ groups) pid group other differs =
@@ -77,6 +78,7 @@ module _ (groups : List ℕ) (lists : List (List ℕ)) (pid : ℕ) (tells : Tell
   started last new_groups new_lists groups_are lists_are last_is = rw (groups_are, lists_are, last_is) (record {
     same_length = simp length-append (ap (λ (n : ℕ). n + 1) tells.same_length);
     members = λ group. started-list groups lists pid group tells next;
+    started = all-started groups pid tells.started (group_at-next groups pid pid next);
   })
 
 -- the lists after a process was added to a group that was started
@@ -118,11 +120,18 @@ joined-list groups lists pid group other tells next some inside =
           list_of-other (grown lists group pid) [] other differs ∙ all
     ]
 
+-- a group that was started has a list
+started-listed : (groups : List ℕ) (lists : List (List ℕ)) (group : ℕ) → TellsMembers groups lists → IsStarted groups group → group - 1 < length lists
+started-listed groups lists group tells is_started =
+    let inside = started-inside groups group is_started in
+    let same = tells.same_length in omega (arith, inside, same)
+
 -- a process that joins a group
 module _ (groups : List ℕ) (lists : List (List ℕ)) (pid : ℕ) (tells : TellsMembers groups lists) (next : pid ≡ length groups + 1) where
-  pub joined : (group : ℕ) (last : List ℕ) (new_groups : List ℕ) (pushed new_lists : List (List ℕ)) → 0 < group → group - 1 < length lists → new_groups ≡ groups ++ group ∷ [] → pushed ≡ set lists (group - 1) (get_or lists (group - 1) [] ++ pid ∷ []) → new_lists ≡ pushed ++ last ∷ [] → last ≡ [] → TellsMembers new_groups new_lists
-  joined group last new_groups pushed new_lists some inside groups_are pushed_is lists_are last_is =
+  pub joined : (group : ℕ) (last : List ℕ) (new_groups : List ℕ) (pushed new_lists : List (List ℕ)) → IsStarted groups group → new_groups ≡ groups ++ group ∷ [] → pushed ≡ set lists (group - 1) (get_or lists (group - 1) [] ++ pid ∷ []) → new_lists ≡ pushed ++ last ∷ [] → last ≡ [] → TellsMembers new_groups new_lists
+  joined group last new_groups pushed new_lists is_started groups_are pushed_is lists_are last_is =
       rw (groups_are, lists_are, pushed_is, last_is) (record {
         same_length = simp (length-append, length-set) (ap (λ (n : ℕ). n + 1) tells.same_length);
-        members = λ other. unfold grown in joined-list groups lists pid group other tells next some inside;
+        members = λ other. unfold grown in joined-list groups lists pid group other tells next (started-some groups group is_started) (started-listed groups lists group tells is_started);
+        started = all-started groups group tells.started (started-later groups group group is_started);
       })

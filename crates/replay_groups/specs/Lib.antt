@@ -1,3 +1,4 @@
 pub mod Groups
+pub mod Laws
 pub mod Room
 pub mod Sound

@@ -1,8 +1,8 @@
--- The lists tell each group's members.
+-- The lists tell each group's members, and each group was started.
 use Rattle.std.specs.Prelude.{ℕ, zero, suc, ◌≡◌, List, [], length, map, slice_index_or, Option, IfSome}
 use Rattle.std.specs.Global.{Vec}
 use Rattle.replay_groups.specs.declared.lists.Lists.{Lists}
-use Rattle.replay_groups.specs.Groups.{members_of}
+use Rattle.replay_groups.specs.Groups.{group_at, members_of, IsStarted}
 use Rattle.replay_groups.specs.Room.{HasRoom, HasMemberRoom}
 
 -- what the lists hold
@@ -20,10 +20,11 @@ abbrev pub list_of : List (List ℕ) → ℕ → List ℕ
 list_of lists zero = []
 list_of lists (suc i) = slice_index_or lists i []
 
--- there is a list for each process, and the list of each group has its members
+-- there is a list for each process, the list of each group has its members, and the group of each process was started
 pub record TellsMembers (groups : List ℕ) (lists : List (List ℕ)) : Type 0 where
   pub same_length : length lists ≡ length groups
   pub members : (group : ℕ) → list_of lists group ≡ members_of groups group
+  pub started : (pid : ℕ) → IfSome (group_at groups pid) (IsStarted groups)
 
 -- and memory is kept for the next process of the group for which it was reserved
 pub record IsSound (lists : Lists) (reserved : Option ℕ) : Type 0 where

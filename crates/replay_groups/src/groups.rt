@@ -1,6 +1,6 @@
 // Which process is in which group.
-ghost use Rattle.std.specs.Prelude.{◌≡◌, ◌≢◌, OnOk, OnErr, IsNone, IsSome, Some};
-ghost use Rattle.replay_groups.specs.Groups.{no_groups, group_of, next_process, members_of, with_process};
+ghost use Rattle.std.specs.Prelude.{◌≡◌, ◌≢◌, OnOk, OnErr, IsNone, IfSome, Some};
+ghost use Rattle.replay_groups.specs.Groups.{no_groups, group_at, next_number, members_of, with_member, IsStarted};
 
 use crate::lists::{self, Lists};
 use arn_base::NoMemory;
@@ -16,9 +16,9 @@ pub struct Groups {
 }
 
 impl Model for Groups {
-    ghost use Rattle.replay_groups.specs.Groups.{Groups};
+    ghost use Rattle.replay_groups.specs.Groups.{Grouping};
 
-    ghost Value = { Groups };
+    ghost Value = { Grouping };
 
     ghost use Rattle.replay_groups.specs.Sound.{IsSound};
 
@@ -51,8 +51,8 @@ impl Groups {
 
     /// Adds a process that starts a group, whose number is the process's.
     pub fn start(&mut self, pid: u32) -> Result<(), NoMemory>
-        requires { pid ≡ next_process self.old.groups }
-        ensures ok { OnOk result (self.new ≡ with_process self.old pid) }
+        requires { pid ≡ next_number self.old.groups }
+        ensures ok { OnOk result (self.new ≡ with_member self.old pid) }
         ensures err { OnErr result (self.new ≡ self.old) }
         ensures memory { OnErr result (IsNone self.old.reserved) }
     {
@@ -62,11 +62,11 @@ impl Groups {
         Ok(())
     }
 
-    /// Adds a process to the group of other processes.
+    /// Adds a process to a group that another has started.
     pub fn join(&mut self, pid: u32, group: u32) -> Result<(), NoMemory>
-        requires next { pid ≡ next_process self.old.groups }
-        requires started { IsSome (group_of self.old.groups group) }
-        ensures ok { OnOk result (self.new ≡ with_process self.old group) }
+        requires next { pid ≡ next_number self.old.groups }
+        requires started { IsStarted self.old.groups group }
+        ensures ok { OnOk result (self.new ≡ with_member self.old group) }
         ensures err { OnErr result (self.new ≡ self.old) }
         ensures memory { OnErr result (self.old.reserved ≢ Some group) }
     {
@@ -79,7 +79,8 @@ impl Groups {
 
     /// The group of a process.
     pub fn of(&self, pid: u32) -> Option<u32>
-        ensures { result ≡ group_of self.now.groups pid }
+        ensures group { result ≡ group_at self.now.groups pid }
+        ensures started { IfSome result (IsStarted self.now.groups) }
     {
         lists::group_of(&self.lists.groups, pid)
     }

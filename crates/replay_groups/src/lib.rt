@@ -2,8 +2,10 @@
 #![tactic(auto)]
 
 mod groups;
+mod law;
 mod lists;
 #[cfg(test)]
 mod tests;
 
 pub use groups::Groups;
+pub use law::groups_grow;

@@ -1,6 +1,6 @@
 // The groups by the numbers of their processes.
-ghost use Rattle.std.specs.Prelude.{◌≡◌, ◌≤◌, ◌<◌, ◌-◌, ◌+◌, ◌++◌, ◌∷◌, [], ℕ, length, map, slice_get, slice_set, slice_index_or, IfSome, IsSome, IsOk, OnOk, OnErr, vec_len, vec_capacity};
-ghost use Rattle.replay_groups.specs.Groups.{group_of, next_process};
+ghost use Rattle.std.specs.Prelude.{◌≡◌, ◌≤◌, ◌<◌, ◌-◌, ◌+◌, ◌++◌, ◌∷◌, [], ℕ, length, map, slice_get, slice_set, slice_index_or, IfSome, IsOk, OnOk, OnErr, vec_len, vec_capacity};
+ghost use Rattle.replay_groups.specs.Groups.{group_at, next_number, IsStarted};
 ghost use Rattle.replay_groups.specs.Room.{HasRoom, HasMemberRoom, SameLists};
 ghost use Rattle.replay_groups.specs.Sound.{list_of, numbers, SameNumbers, TellsMembers};
 
@@ -26,7 +26,7 @@ fn place(number: u32) -> usize
 
 /// The group of a process.
 pub fn group_of(groups: &[u32], pid: u32) -> Option<u32>
-    ensures { result ≡ group_of groups.now pid }
+    ensures { result ≡ group_at groups.now pid }
 {
     if pid == 0 {
         return None;
@@ -126,7 +126,7 @@ impl Lists {
     pub fn start(&mut self, pid: u32) -> Result<(), NoMemory>
         requires room { HasRoom self.old }
         requires tells { TellsMembers self.old.groups.items (numbers self.old.members.items) }
-        requires next { pid ≡ next_process self.old.groups.items }
+        requires next { pid ≡ next_number self.old.groups.items }
         requires spare { self.old.spare.items ≡ [] }
         ensures given { IsOk result }
         ensures groups { self.new.groups.items ≡ self.old.groups.items ++ pid ∷ [] }
@@ -144,8 +144,8 @@ impl Lists {
         requires room { HasRoom self.old }
         requires member_room { HasMemberRoom self.old.members.items group }
         requires tells { TellsMembers self.old.groups.items (numbers self.old.members.items) }
-        requires next { pid ≡ next_process self.old.groups.items }
-        requires started { IsSome (group_of self.old.groups.items group) }
+        requires next { pid ≡ next_number self.old.groups.items }
+        requires started { IsStarted self.old.groups.items group }
         ensures given { IsOk result }
         ensures groups { self.new.groups.items ≡ self.old.groups.items ++ group ∷ [] }
         ensures tells { TellsMembers self.new.groups.items (numbers self.new.members.items) }
