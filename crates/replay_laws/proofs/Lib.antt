@@ -1,0 +1,4 @@
+pub mod Places
+pub mod Blocks
+pub mod Sized
+pub mod Owned
