@@ -2,3 +2,5 @@ pub mod Places
 pub mod Blocks
 pub mod Sized
 pub mod Owned
+pub mod Agrees
+pub mod Acts
