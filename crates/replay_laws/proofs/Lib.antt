@@ -4,3 +4,4 @@ pub mod Sized
 pub mod Owned
 pub mod Agrees
 pub mod Acts
+pub mod Told
