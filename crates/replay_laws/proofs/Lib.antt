@@ -5,3 +5,4 @@ pub mod Owned
 pub mod Agrees
 pub mod Acts
 pub mod Told
+pub mod Steps

@@ -11,6 +11,7 @@ use Rattle.parts_model.specs.declared.calls.TheConstants as number
 use Rattle.parts_model.specs.declared.calls.TheConstants.{FORK}
 use Rattle.parts_model.specs.Image.{is_image}
 use Rattle.parts_model.specs.Replies.{is_success}
+use Rattle.parts_model.specs.Processes.{next_process}
 use Rattle.acts_model.specs.Acts.{Act, Returns, Receives, Gives, Starts, Forks, Founds, Shares, Leaves, Delivers, Exits, Faults, Dies, beginning_of, start_of}
 use Rattle.acts_model.specs.Bodies.{View}
 use Rattle.acts_model.specs.Disagreement.{Wrong, wrong_if, or_else, isnt_block, isnt_call, is_other_call, act_wrong, wrong_with, call_wrong}
@@ -233,3 +234,36 @@ call-tale p child v n result more h w = by_test (n == FORK) refl
     by_test false e =
         let act = call_act (kind_of n) v.body.cpu result more in
         other-tale p v n result more act e (other-none (kind_of n) v.body.cpu result more (kind-other n e)) (starts-well v act more w)
+
+signal-tale : (p : ℕ) (v : View) (signal handler : ℕ) (cut b : Bool) → Tale p v (entry.Signal p signal cut handler) (cond b (Dies signal cut) (Delivers signal handler cut))
+signal-tale p v signal handler cut true = record { groups = λ gs. refl; begins = λ g e own. refl; begin = λ g e. refl; child = tt; starts = tt }
+signal-tale p v signal handler cut false = record { groups = λ gs. refl; begins = λ g e own. refl; begin = λ g e. refl; child = tt; starts = tt }
+
+same-number : (p q : ℕ) → Some p ≡ Some q → p ≡ q
+same-number p q e = cc
+
+same-act : (a b : Act) → Some a ≡ Some b → a ≡ b
+same-act a b e = cc
+
+-- of an event that is as its record tells it
+pub event-tale : (m : Machine) (pid : ℕ) (v : View) (d : Doing) (r : Record) → EventTells m pid v d r → Tale pid v r d.act
+event-tale m pid v d (entry.Call p n result more) t =
+    let act = call_act (kind_of n) v.body.cpu result more in
+    let is : act ≡ d.act = same-act act d.act t.told in
+    let right = or-next (is_other_call v.body.cpu n) (act_wrong v act more) (or-next (isnt_call (stands_at v) n) (or_else (is_other_call v.body.cpu n) (act_wrong v act more)) t.right) in
+    let child = m.kernel.processes in
+    let forks : ForksRightly (next_process child) v act more = subst (λ (a : Act). ForksRightly (next_process child) v a more) (sym is) t.forks in
+    subst (λ (q : ℕ). Tale q v (entry.Call p n result more) d.act) (same-number p pid t.process)
+    (subst (λ (a : Act). Tale p v (entry.Call p n result more) a) is (call-tale p (next_process child) v n result more forks right))
+event-tale m pid v d (entry.Signal p signal cut handler) t =
+    subst (λ (q : ℕ). Tale q v (entry.Signal p signal cut handler) d.act) (same-number p pid t.process)
+    (subst (λ (a : Act). Tale p v (entry.Signal p signal cut handler) a) (same-act (delivery_act signal handler cut) d.act t.told) (signal-tale p v signal handler cut (handler == 0)))
+event-tale m pid v d (entry.End p status) t =
+    subst (λ (q : ℕ). Tale q v (entry.End p status) d.act) (same-number p pid t.process)
+    (subst (λ (a : Act). Tale p v (entry.End p status) a) (same-act (Faults status) d.act t.told)
+    (record { groups = λ gs. refl; begins = λ g e own. refl; begin = λ g e. refl; child = tt; starts = tt }))
+event-tale m pid v d (entry.Boot path give) t = absurd (let e = t.inner in cc)
+event-tale m pid v d (entry.File path bytes) t = absurd (let e = t.inner in cc)
+event-tale m pid v d (entry.Typed bytes) t = absurd (let e = t.inner in cc)
+event-tale m pid v d (entry.Unplug device) t = absurd (let e = t.inner in cc)
+event-tale m pid v d (entry.Slice p ran) t = absurd (let e = t.inner in cc)
