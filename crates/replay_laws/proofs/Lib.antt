@@ -6,3 +6,4 @@ pub mod Agrees
 pub mod Acts
 pub mod Told
 pub mod Steps
+pub mod Heard
