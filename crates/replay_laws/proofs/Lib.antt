@@ -7,3 +7,4 @@ pub mod Acts
 pub mod Told
 pub mod Steps
 pub mod Heard
+pub mod Turns

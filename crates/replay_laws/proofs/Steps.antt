@@ -31,7 +31,7 @@ use Rattle.arn_model.specs.Sound.{IsSoundMachine}
 use Rattle.arn_model.specs.Step.{Step, plain_step, event_step, plain_by, last_by, delivery_of, due_signal, call_step, handler, waits}
 use Rattle.arn_model.specs.Tells.{lives, StepTells, Runs, Happens, Boots, Adds, Types, Unplugs, EventTells, ForksRightly, extra_in, is_inner, Along}
 use Rattle.arn_model.specs.Turn.{plains, plain_in, steps_then, delivery_in, after_steps, last_of, last_in}
-use Rattle.history_model.specs.Alone.{Standing, after_record, after_signal, after_last}
+use Rattle.history_model.specs.Alone.{Own, Made, Makes, begins_by, Standing, after_record, after_signal, after_last}
 use Rattle.history_model.specs.Groups.{Groups, groups_told, groups_from}
 use Rattle.log_model.specs.Records.{event_records}
 use Rattle.replay_laws.proofs.Owned.{changed-other, Owner}
@@ -130,6 +130,22 @@ counted false n = n
 pub count : List Step → ℕ
 count [] = 0
 count (s ∷ steps) = counted (is_instruction s.moved.inside) (count steps)
+
+pub told-none : told [] ≡ []
+unfolding told
+told-none = refl
+
+pub told-more : (s : Step) (steps : List Step) → told (s ∷ steps) ≡ told_by s.moved.inside.event (told steps)
+unfolding told
+told-more s steps = refl
+
+pub count-none : count [] ≡ 0
+unfolding count
+count-none = refl
+
+pub count-more : (s : Step) (steps : List Step) → count (s ∷ steps) ≡ counted (is_instruction s.moved.inside) (count steps)
+unfolding count
+count-more s steps = refl
 
 pub records-told : (steps : List Step) → event_records steps ≡ told steps
 unfolding told
@@ -258,6 +274,7 @@ pub record FirstIs (m : Machine) (p : ℕ) (s : Step) : Type 0 where
   pub signals : (g until : ℕ) (t : Standing) → after_record g until t entry ≡ after_signal g p entry t
   pub uncounted : is_call_or_end entry ≡ false
   pub groups : (gs : Groups) → groups_told entry gs ≡ gs
+  pub begins : (g e : ℕ) (own : Own) → begins_by g e entry own ≡ Makes own
 
 pub record LastIs (m : Machine) (p : ℕ) (s : Step) : Type 0 where
   pub view : View
@@ -349,7 +366,7 @@ last-by m p reply (Some v) = by_effect (stands_at v)
 delivery-is : (m : Machine) (p : ℕ) (s : Step) → Delivery p s → StepTells m s → FirstIs m p s
 delivery-is m p s d t =
     let i = inner-of m p s (entry.Signal p d.signal d.cut d.handler) refl refl d.has t in
-    record { view = i.view; doing = i.doing; entry = entry.Signal p d.signal d.cut d.handler; is = i.is; tells = i.tells; signals = λ g until t. refl; uncounted = refl; groups = λ gs. refl }
+    record { view = i.view; doing = i.doing; entry = entry.Signal p d.signal d.cut d.handler; is = i.is; tells = i.tells; signals = λ g until t. refl; uncounted = refl; groups = λ gs. refl; begins = λ g e own. refl }
 
 ending-is : (m : Machine) (p : ℕ) (s : Step) → LastOf p s → StepTells m s → LastIs m p s
 ending-is m p s (Calls n result more has) t =
