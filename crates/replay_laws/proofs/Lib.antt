@@ -8,3 +8,4 @@ pub mod Told
 pub mod Steps
 pub mod Heard
 pub mod Turns
+pub mod Late
