@@ -9,3 +9,5 @@ pub mod Steps
 pub mod Heard
 pub mod Turns
 pub mod Late
+pub mod Boots
+pub mod Inputs
