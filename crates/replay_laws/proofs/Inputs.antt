@@ -1,6 +1,6 @@
 -- What each input of a run does: nothing, one step from outside, the boot, or a turn.
-use Rattle.std.proofs.Common.{◌≡◌, ℕ, ◌≤◌, ◌<◌, ◌+◌, ◌&&◌, List, [], ◌∷◌, ◌++◌, length, refl, ap, ◌∙◌, sym, subst, Option, Some, None, Bool, true, false, cond, arith, nat_lt}
-use Rattle.std.proofs.lemmas.Bool.{cond-true, cond-false, and_parts}
+use Rattle.std.proofs.Common.{◌≡◌, ℕ, zero, suc, ◌≤◌, ◌<◌, ◌+◌, ◌&&◌, List, [], ◌∷◌, ◌++◌, length, refl, ap, ◌∙◌, sym, subst, Option, Some, None, Bool, true, false, cond, arith, nat_lt}
+use Rattle.std.proofs.lemmas.Bool.{cond-true, cond-false, and_parts, lt-ltb}
 use Rattle.arn_base.specs.declared.records.Record.{Record}
 use Rattle.arn_base.specs.declared.records.Record.TheVariants as entry
 use Rattle.parts_model.specs.declared.tagged.TaggedByte.{TaggedByte}
@@ -14,14 +14,14 @@ use Rattle.arn_model.specs.Kernel.{Machine}
 use Rattle.arn_model.specs.Run.{Input, File, Boot, Typed, Unplug, Slice, input_steps, after_input, steps_from, instructions_in, is_booted, can_add, may_unplug, boot_found, boot_from, boot_step, file_step, typed_step, unplug_step}
 use Rattle.arn_model.specs.Sound.{IsSoundMachine}
 use Rattle.arn_model.specs.Step.{Step}
-use Rattle.arn_model.specs.Tells.{Along}
+use Rattle.arn_model.specs.Tells.{lives, Along}
 use Rattle.arn_model.specs.Turn.{after_steps, turn, steps_of, can_go_on, is_runnable, is_possible}
 use Rattle.history_model.specs.Alone.{Standing, after_record}
 use Rattle.history_model.specs.Groups.{Groups, groups_told, groups_from}
 use Rattle.log_model.specs.Records.{event_records, slice_records, input_records, records_from}
 use Rattle.replay_laws.specs.Heard.{part}
 use Rattle.replay_laws.proofs.Late.{groups-append}
-use Rattle.replay_laws.proofs.Steps.{Known, along-first, along-rest, next, told, records-told, told-groups}
+use Rattle.replay_laws.proofs.Steps.{Known, along-first, along-rest, next, live-number, seen-lives, told, records-told, told-groups}
 
 -- a step from outside, which concerns no group
 pub record IsOutside (m : Machine) (s : Step) (r : Record) : Type 0 where
@@ -137,6 +137,16 @@ pub sound-first : (m : Machine) (steps : List Step) → Along Known m steps → 
 sound-first m [] h s = s
 sound-first m (x ∷ steps) h s = h.0.sound
 
--- a process that has a number was booted, and stays so
-booted-then : (m : Machine) (p : ℕ) → 0 < length m.kernel.processes → is_booted m ≡ true
-booted-then m p l = Rattle.std.proofs.lemmas.Bool.lt-ltb 0 (length m.kernel.processes) l
+-- once a process has seen something, the machine stays booted
+seen-booted : (m : Machine) (p : ℕ) (v : View) → IsSoundMachine m → seen m.bodies p ≡ Some v → 0 < length m.kernel.processes
+seen-booted m p v s e = by_number p (sym (s.bodies p) ∙ seen-lives m.bodies p v e)
+  where
+    by_number : (p : ℕ) → lives m.kernel p ≡ true → 0 < length m.kernel.processes
+    by_number zero k = absurd (cc)
+    by_number (suc i) k = let l = live-number m.kernel (suc i) k in omega arith
+
+pub stays-booted : (m : Machine) (p : ℕ) (v : View) (steps : List Step) → IsSoundMachine m → seen m.bodies p ≡ Some v → Along Known m steps → is_booted (after_steps m steps) ≡ true
+stays-booted m p v steps s e h =
+    let some = seen-booted m p v s e in
+    let grown = along-numbers m steps h in
+    lt-ltb 0 (length (after_steps m steps).kernel.processes) (omega arith)

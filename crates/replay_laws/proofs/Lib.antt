@@ -11,3 +11,4 @@ pub mod Turns
 pub mod Late
 pub mod Boots
 pub mod Inputs
+pub mod Whole

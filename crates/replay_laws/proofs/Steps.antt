@@ -75,7 +75,7 @@ live-number k (suc i) e = by_order (nat_le (length k.processes) i) refl
     by_order true t = let none = ap (λ (o : Option Process). is_some o) (nth-past k.processes i (leb-true (length k.processes) i t)) in absurd (let no : true ≡ false = sym e ∙ none in cc)
     by_order false t = let l = leb-false (length k.processes) i t in omega arith
 
-seen-lives : (b : Bodies) (p : ℕ) (v : View) → seen b p ≡ Some v → is_some (body_at b p) ≡ true
+pub seen-lives : (b : Bodies) (p : ℕ) (v : View) → seen b p ≡ Some v → is_some (body_at b p) ≡ true
 seen-lives b p v e = by_body (body_at b p) e
   where
     by_body : (o : Option Body) → option_map (view b) o ≡ Some v → is_some o ≡ true
