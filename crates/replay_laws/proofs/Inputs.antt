@@ -116,7 +116,7 @@ input-groups i steps gs = by_input i ∙ ap (λ (rs : List Record). groups_from 
     by_input (Unplug device) = refl
     by_input (Slice pid count reply) = slice-groups pid steps gs
 
-along-numbers : (m : Machine) (steps : List Step) → Along Known m steps → length m.kernel.processes ≤ length (after_steps m steps).kernel.processes
+pub along-numbers : (m : Machine) (steps : List Step) → Along Known m steps → length m.kernel.processes ≤ length (after_steps m steps).kernel.processes
 along-numbers m [] h = omega arith
 along-numbers m (s ∷ steps) h = let a = h.0.numbers in let b = along-numbers s.after steps h.1 in omega arith
 

@@ -1,6 +1,6 @@
 -- The induction over the inputs of a run: up to the moment turn for turn, behind it no record matters.
 use Rattle.std.proofs.Common.{◌≡◌, ℕ, zero, suc, ◌<◌, ◌≤◌, ◌+◌, ◌-◌, ◌&&◌, List, [], ◌∷◌, ◌++◌, length, refl, ap, ap₂, ◌∙◌, sym, subst, append-nil, append_assoc, Option, Some, None, Bool, true, false, ◌==◌, cond, arith, nat_le, is_some}
-use Rattle.std.proofs.lemmas.Bool.{leb-true, leb-false, le-leb}
+use Rattle.std.proofs.lemmas.Bool.{leb-true, leb-false, le-leb, lt-leb}
 use Rattle.arn_base.specs.declared.records.Record.{Record}
 use Rattle.arn_base.specs.declared.records.Record.TheVariants as entry
 use Rattle.parts_model.specs.declared.tagged.TaggedByte.{TaggedByte}
@@ -17,11 +17,11 @@ use Rattle.arn_model.specs.Tells.{Along, HasNumbers, lives}
 use Rattle.arn_model.specs.Turn.{after_steps, turn, steps_of}
 use Rattle.arn_model.specs.Laws.{StepsTell, EachRunIsSound, EachRunAppends}
 use Rattle.history_model.specs.Alone as alone
-use Rattle.history_model.specs.Alone.{Own, Made, Makes, Standing, made_if, boots, nothing_own, after_boot, after_record, after_slice, replayed, settled}
+use Rattle.history_model.specs.Alone.{Own, Made, Makes, Standing, and_then, made_if, boots, nothing_own, after_boot, after_record, after_slice, replayed, settled}
 use Rattle.history_model.specs.Groups.{Groups, group_of, groups_told, groups_from, is_number}
 use Rattle.history_model.specs.Moments.{changed}
 use Rattle.log_model.specs.Records.{event_records, slice_records, input_records, records_from, records}
-use Rattle.replay_laws.specs.Heard.{part, parts, heard_at}
+use Rattle.replay_laws.specs.Heard.{own_part, part, parts, heard_at}
 use Rattle.replay_laws.specs.Laws.{IsRestriction, PassesThrough, GroupsPassThrough}
 use Rattle.replay_laws.proofs.Places.{nobody-at}
 use Rattle.replay_laws.proofs.Owned.{Owner, Private, changed-same}
@@ -31,7 +31,7 @@ use Rattle.replay_laws.proofs.Steps.{Known, along-known, along-first, along-rest
 use Rattle.replay_laws.proofs.Heard.{parts-append}
 use Rattle.replay_laws.proofs.Turns.{Settles, Ends, Stood, turn-ends}
 use Rattle.replay_laws.proofs.Late.{made-settled, nothing-later, replayed-append, replayed-groups, groups-append}
-use Rattle.replay_laws.proofs.Inputs.{IsOutside, Takes, Rests, Comes, Begins, Turns, takes, none-recorded, input-groups, later-groups, sound-first, stays-booted}
+use Rattle.replay_laws.proofs.Inputs.{IsOutside, Takes, Rests, Comes, Begins, Turns, takes, none-recorded, input-groups, along-numbers, later-groups, sound-first, stays-booted}
 
 -- the records of an input that takes these steps, and of what follows
 abbrev all_records : Input → Machine → List Step → List Input → List Record
@@ -70,7 +70,7 @@ inputs-later g until own (i ∷ inputs) m t h = by_input (takes m i) (λ m t h. 
         let same : made_if (t.is_ended && (g == 1)) t.made (boots t.events r) ≡ t.made = ap (λ (b : Bool). made_if (b && (g == 1)) t.made (boots t.events r)) h.ended in
         subst Goal (sym is)
         (subst (λ (rs : List Record). Settles (replayed g until t (rs ++ records_from s.after inputs)) own) (sym (told (s ∷ [])))
-        (rest s.after (after_boot g r t) (record { late = h.late; ended = h.ended; settled = λ event. ap (λ (x : Made). Rattle.history_model.specs.Alone.and_then x (alone.plains (record { pid = t.pid; ran = t.ran; event = event }) 0 t.owed)) same ∙ h.settled event })))
+        (rest s.after (after_boot g r t) (record { late = h.late; ended = h.ended; settled = λ event. ap (λ (x : Made). and_then x (alone.plains (record { pid = t.pid; ran = t.ran; event = event }) 0 t.owed)) same ∙ h.settled event })))
     by_input (Turns pid count reply v is told sees) rest =
         subst (λ (rs : List Record). Settles (replayed g until t (rs ++ records_from (after_steps m (input_steps m i)) inputs)) own) (sym (told (input_steps m i))) (slice pid (input_steps m i) rest)
 
@@ -138,3 +138,92 @@ then-on g gs t old mid m s first h k =
       joint = k.joint;
       inside = k.inside ∙ (ap (λ xs. xs ++ parts gs g first) h ∙ append_assoc old (part gs g s.moved.inside) (parts gs g first));
     }
+
+-- an input's steps, whatever they are
+abbrev InputGoal : ℕ → Groups → ℕ → ℕ → Input → List Input → Machine → Standing → List Inside → List Step → Type 0
+InputGoal g gs until now i inputs m t old steps = Along Known m (steps ++ steps_from (after_steps m steps) inputs) → IsSoundMachine (after_steps m (steps ++ steps_from (after_steps m steps) inputs)) → ((q : ℕ) → groups_from (all_records i m steps inputs) t.groups q ≡ gs q) → Reaches g gs (replayed g until t (all_records i m steps inputs)) old m (within (until - now) (steps ++ steps_from (after_steps m steps) inputs))
+
+-- none
+none-goes : (g : ℕ) (gs : Groups) (until now : ℕ) (i : Input) (inputs : List Input) (m : Machine) (t : Standing) (h : Stood g gs now t m) → t.is_ended ≡ true → (is_booted m ≡ false → t.owed ≡ 0) → now ≤ until → Goes g gs until inputs → InputGoal g gs until now i inputs m t h.own.inside []
+none-goes g gs until now i inputs m t h ended idle early go known sound final =
+    let b = rest-before g gs t t m i [] inputs (sym (ap (λ (rs : List Record). groups_from rs t.groups) (none-recorded i))) ended idle known sound final in
+    subst (λ (rs : List Record). Reaches g gs (replayed g until t (rs ++ records_from m inputs)) h.own.inside m (within (until - now) (steps_from m inputs))) (sym (none-recorded i)) (go now t m h b early)
+
+-- one from outside
+comes-goes : (g : ℕ) (gs : Groups) (until now : ℕ) (i : Input) (inputs : List Input) (m : Machine) (t : Standing) (h : Stood g gs now t m) → t.is_ended ≡ true → (is_booted m ≡ false → t.owed ≡ 0) → now ≤ until → Goes g gs until inputs → (s : Step) (r : Record) → input_records i (s ∷ []) ≡ r ∷ [] → IsOutside m s r → InputGoal g gs until now i inputs m t h.own.inside (s ∷ [])
+comes-goes g gs until now i inputs m t h ended idle early go s r told out known sound final =
+    let t' : Standing = record t { events = t.events + 1 } in
+    let later = joint-later g h.owner h.owner gs m.events (m.events + 1) m.bodies h.own.bodies (λ k l. refl) (omega arith) h.joint in
+    let there = subst (λ (w : Bodies). Joint g h.owner gs s.after.events w h.own.bodies) (sym out.bodies) (subst (λ (e : ℕ). Joint g h.owner gs e m.bodies h.own.bodies) (sym out.events) later) in
+    let h' : Stood g gs now t' s.after = record { owner = h.owner; own = h.own; settled = h.settled; joint = there; events = ap (λ (k : ℕ). k + 1) h.events ∙ sym out.events; moment = h.moment } in
+    let groups : t.groups ≡ groups_from (input_records i (s ∷ [])) t.groups = sym (ap (λ (rs : List Record). groups_from rs t.groups) told ∙ out.groups t.groups) in
+    let b = rest-before g gs t t' m i (s ∷ []) inputs groups ended (λ e. idle (sym out.booted ∙ e)) known sound final in
+    let rest = go now t' s.after h' b early in
+    let first = within (until - now) (steps_from s.after inputs) in
+    let all = then-on g gs (replayed g until t' (records_from s.after inputs)) h.own.inside h.own.inside m s first (sym (ap (λ xs. h.own.inside ++ xs) (out.part gs g) ∙ append-nil h.own.inside)) rest in
+    let same : within (until - now) (s ∷ steps_from s.after inputs) ≡ s ∷ first = ap (λ b. unless_reached b (until - now) (λ left. s ∷ within left (steps_from s.after inputs))) out.uncounted in
+    subst (λ (rs : List Record). Reaches g gs (replayed g until t (rs ++ records_from s.after inputs)) h.own.inside m (within (until - now) (s ∷ steps_from s.after inputs))) (sym told)
+    (subst (λ (x : Standing). Reaches g gs (replayed g until x (records_from s.after inputs)) h.own.inside m (within (until - now) (s ∷ steps_from s.after inputs))) (sym (out.stands g until t))
+    (subst (λ (xs : List Step). Reaches g gs (replayed g until t' (records_from s.after inputs)) h.own.inside m xs) (sym same) all))
+
+-- the boot
+boot-goes : (g : ℕ) (gs : Groups) (until now : ℕ) (i : Input) (inputs : List Input) (m : Machine) (t : Standing) (h : Stood g gs now t m) → t.is_ended ≡ true → (is_booted m ≡ false → t.owed ≡ 0) → now ≤ until → Goes g gs until inputs → (path : List ℕ) (file : ℕ) (held : List TaggedByte) → input_records i (boot_step m path file held ∷ []) ≡ entry.Boot path (given held) ∷ [] → is_booted m ≡ false → is_image (values held) ≡ true → InputGoal g gs until now i inputs m t h.own.inside (boot_step m path file held ∷ [])
+boot-goes g gs until now i inputs m t h ended idle early go path file held told first image known sound final =
+    let r = entry.Boot path (given held) in
+    let s = boot_step m path file held in
+    let rest_records = records_from s.after inputs in
+    let t' = after_boot g r t in
+    let sound' = sound-first s.after (steps_from s.after inputs) known.1 sound in
+    let number : 1 < next s.after = live-number s.after.kernel 1 (sym (sound'.bodies 1) ∙ boot-lives m.events (values held) m.bodies) in
+    let one : gs 1 ≡ Some 1 = sym (final 1) ∙ (ap (λ (rs : List Record). groups_from (rs ++ rest_records) t.groups 1) told ∙ (later-groups s.after inputs (changed t.groups 1 (Some 1)) 1 known.1 number ∙ changed-same t.groups 1 (Some 1))) in
+    let mine = is_number g (gs 1) in
+    let own' = boot_own mine m.events r (values held) h.own in
+    let made : made_if (t.is_ended && (g == 1)) t.made (boots t.events r) ≡ Makes own' =
+    ap (λ (b : Bool). made_if (b && (g == 1)) t.made (boots t.events r)) ended
+    ∙ (ap₂ (λ (x : Made) (e : ℕ). made_if (g == 1) x (boots e r)) (made-settled h.own t (idle first) h.settled) h.events
+    ∙ boot-made g m.events path (given held) h.own gs one image) in
+    let joint = boot-joint g m.events h.owner gs (values held) m.bodies h.own.bodies image h.joint in
+    let joint' = subst (λ (b : Bodies). JointAt g (changed h.owner m.events (Private 1)) gs s.after b) (sym (boot-own-bodies mine m.events r (values held) h.own)) joint in
+    let h' : Stood g gs now t' s.after = record {
+      owner = changed h.owner m.events (Private 1);
+      own = own';
+      settled = λ event. ap₂ (λ (x : Made) (k : ℕ). and_then x (alone.plains (record { pid = t.pid; ran = t.ran; event = event }) 0 k)) made (idle first);
+      joint = joint';
+      events = ap (λ (k : ℕ). k + 1) h.events;
+      moment = h.moment;
+    } in
+    let groups : t'.groups ≡ groups_from (input_records i (s ∷ [])) t.groups = sym (ap (λ (rs : List Record). groups_from rs t.groups) told) in
+    let b = rest-before g gs t t' m i (s ∷ []) inputs groups ended (λ e. idle first) known sound final in
+    let rest = go now t' s.after h' b early in
+    let all = then-on g gs (replayed g until t' rest_records) h.own.inside own'.inside m s (within (until - now) (steps_from s.after inputs)) (boot-own-inside mine m.events r (values held) h.own ∙ ap (λ xs. h.own.inside ++ xs) (sym (append-nil (own_part mine (boot_inside m.events r (values held)))))) rest in
+    subst (λ (rs : List Record). Reaches g gs (replayed g until t (rs ++ rest_records)) h.own.inside m (within (until - now) (s ∷ steps_from s.after inputs))) (sym told) all
+
+-- behind steps that are all within the moment
+go-on : (g : ℕ) (gs : Groups) (until now : ℕ) (inputs : List Input) (heard : List Inside) (m : Machine) (S : List Step) (t : Standing) → Goes g gs until inputs → (e : Ends g gs until (now + count S) (heard ++ parts gs g (within (until - now) S)) t (after_steps m (within (until - now) S)) (after_steps m S)) → Before g gs t (after_steps m S) inputs → now ≤ until → count S ≤ until - now → Reaches g gs (replayed g until t (records_from (after_steps m S) inputs)) heard m (within (until - now) (S ++ steps_from (after_steps m S) inputs))
+go-on g gs until now inputs heard m S t go e b early le =
+    let c = count S in
+    let m' = after_steps m S in
+    let left = until - (now + c) in
+    let over : c + left ≡ until - now = omega arith in
+    let all : within (until - now) S ≡ S = ap₂ (λ (i : ℕ) (xs : List Step). within i xs) (sym over) (sym (append-nil S)) ∙ (within-over left S [] ∙ append-nil S) in
+    let more : within (until - now) (S ++ steps_from m' inputs) ≡ S ++ within left (steps_from m' inputs) = ap (λ (i : ℕ). within i (S ++ steps_from m' inputs)) (sym over) ∙ within-over left S (steps_from m' inputs) in
+    let stood : Stood g gs (now + c) t m' = record { owner = e.owner; own = e.own; settled = e.settled; joint = subst (λ (xs : List Step). JointAt g e.owner gs (after_steps m xs) e.own.bodies) all e.joint; events = e.events; moment = e.moment } in
+    let next = go (now + c) t m' stood b (omega arith) in
+    let first = within left (steps_from m' inputs) in
+    subst (λ (xs : List Step). Reaches g gs (replayed g until t (records_from m' inputs)) heard m xs) (sym more)
+    (record {
+      owner = next.owner;
+      own = next.own;
+      is = next.is;
+      joint = subst (λ (x : Machine). JointAt g next.owner gs x next.own.bodies) (sym (after-append m S first)) next.joint;
+      inside = heard-on gs g heard e.own.inside next.own.inside S first (e.inside ∙ ap (λ xs. heard ++ parts gs g xs) all) next.inside;
+    })
+
+-- a turn that the moment cuts
+cut-off : (g : ℕ) (gs : Groups) (until now : ℕ) (inputs : List Input) (heard : List Inside) (m : Machine) (S : List Step) (t : Standing) → (e : Ends g gs until (now + count S) (heard ++ parts gs g (within (until - now) S)) t (after_steps m (within (until - now) S)) (after_steps m S)) → now ≤ until → until - now < count S → Reaches g gs (replayed g until t (records_from (after_steps m S) inputs)) heard m (within (until - now) (S ++ steps_from (after_steps m S) inputs))
+cut-off g gs until now inputs heard m S t e early gt =
+    let at = e.moment in
+    let over : Over until e.own t = record { late = omega arith; ended = e.ended ∙ lt-leb (now + count S) until (omega arith); settled = e.settled } in
+    let later = inputs-later g until e.own inputs (after_steps m S) t over in
+    subst (λ (xs : List Step). Reaches g gs (replayed g until t (records_from (after_steps m S) inputs)) heard m xs) (sym (within-first (until - now) S (steps_from (after_steps m S) inputs) gt))
+    (record { owner = e.owner; own = e.own; is = later; joint = e.joint; inside = e.inside })
