@@ -227,3 +227,105 @@ cut-off g gs until now inputs heard m S t e early gt =
     let later = inputs-later g until e.own inputs (after_steps m S) t over in
     subst (λ (xs : List Step). Reaches g gs (replayed g until t (records_from (after_steps m S) inputs)) heard m xs) (sym (within-first (until - now) S (steps_from (after_steps m S) inputs) gt))
     (record { owner = e.owner; own = e.own; is = later; joint = e.joint; inside = e.inside })
+
+-- the records of a slice that takes steps
+slice-told : (pid : ℕ) (s : Step) (steps : List Step) → slice_records pid (s ∷ steps) ≡ entry.Slice pid (count (s ∷ steps)) ∷ told (s ∷ steps)
+slice-told pid s steps = ap₂ (λ (k : ℕ) (rs : List Record). entry.Slice pid k ∷ rs) (instructions-count (s ∷ steps)) (records-told (s ∷ steps))
+
+-- numbers that are given keep their groups over an input and all that follows
+all-groups : (i : Input) (m : Machine) (steps : List Step) (inputs : List Input) (x : Groups) (q : ℕ) → Along Known m (steps ++ steps_from (after_steps m steps) inputs) → q < next m → groups_from (all_records i m steps inputs) x q ≡ x q
+all-groups i m steps inputs x q known l =
+    let m' = after_steps m steps in
+    let first = along-first Known m steps (steps_from m' inputs) known in
+    let grown = along-numbers m steps first in
+    ap (λ (y : Groups). y q) (groups-append (input_records i steps) (records_from m' inputs) x)
+    ∙ (later-groups m' inputs (groups_from (input_records i steps) x) q (along-rest Known m steps (steps_from m' inputs) known) (omega arith)
+    ∙ (ap (λ (y : Groups). y q) (input-groups i steps x)
+    ∙ told-groups m steps x q first l))
+
+-- a turn
+some-goes : (g : ℕ) (gs : Groups) (until now : ℕ) (i : Input) (inputs : List Input) (m : Machine) (t : Standing) (h : Stood g gs now t m) → now ≤ until → Goes g gs until inputs → (pid count' : ℕ) (reply : Option Answered) (v : View) → ((steps : List Step) → input_records i steps ≡ slice_records pid steps) → seen m.bodies pid ≡ Some v → (s : Step) (ss : List Step) → steps_of (turn count' pid reply m) ≡ s ∷ ss → InputGoal g gs until now i inputs m t h.own.inside (s ∷ ss)
+some-goes g gs until now i inputs m t h early go pid count' reply v slices sees s ss is known sound final =
+    let S : List Step = s ∷ ss in
+    let c = count S in
+    let m' = after_steps m S in
+    let T = steps_of (turn count' pid reply m) in
+    let sound_now = sound-first m (S ++ steps_from m' inputs) known sound in
+    let number = seen-number m pid v sound_now sees in
+    let same : t.groups pid ≡ gs pid = sym (all-groups i m S inputs t.groups pid known number) ∙ final pid in
+    let rest_known = along-rest Known m S (steps_from m' inputs) known in
+    let below : (q : ℕ) → q < next m' → groups_from (told S) t.groups q ≡ gs q = λ q l.
+        sym (later-groups m' inputs (groups_from (told S) t.groups) q rest_known l)
+        ∙ (ap (λ (x : Groups). groups_from (records_from m' inputs) x q) (sym (input-groups i S t.groups))
+        ∙ (ap (λ (x : Groups). x q) (sym (groups-append (input_records i S) (records_from m' inputs) t.groups)) ∙ final q)) in
+    let known_turn = subst (λ (xs : List Step). Along Known m xs) (sym is) (along-first Known m S (steps_from m' inputs) known) in
+    let below_turn = subst (λ (xs : List Step). (q : ℕ) → q < next (after_steps m xs) → groups_from (told xs) t.groups q ≡ gs q) (sym is) below in
+    let ends = turn-ends g gs until now count' pid reply t m h early same known_turn below_turn in
+    let ends' = subst (λ (xs : List Step). Ends g gs until (now + count xs) (h.own.inside ++ parts gs g (within (until - now) xs)) (replayed g until (after_slice g until pid (count xs) t) (told xs)) (after_steps m (within (until - now) xs)) (after_steps m xs)) is ends in
+    let t1 = replayed g until (after_slice g until pid c t) (told S) in
+    let groups : t1.groups ≡ groups_from (input_records i S) t.groups = replayed-groups g until (told S) (after_slice g until pid c t) ∙ sym (input-groups i S t.groups) in
+    let recorded : input_records i S ≡ entry.Slice pid c ∷ told S = slices S ∙ slice-told pid s ss in
+    let booted = stays-booted m pid v S sound_now sees (along-first Known m S (steps_from m' inputs) known) in
+    subst (λ (rs : List Record). Reaches g gs (replayed g until t (rs ++ records_from m' inputs)) h.own.inside m (within (until - now) (S ++ steps_from m' inputs))) (sym recorded)
+    (subst (λ (x : Standing). Reaches g gs x h.own.inside m (within (until - now) (S ++ steps_from m' inputs))) (sym (replayed-append g until (told S) (records_from m' inputs) (after_slice g until pid c t)))
+    (by_order ends' groups booted (nat_le c (until - now)) refl))
+  where
+    by_order : (e : Ends g gs until (now + count (s ∷ ss)) (h.own.inside ++ parts gs g (within (until - now) (s ∷ ss))) (replayed g until (after_slice g until pid (count (s ∷ ss)) t) (told (s ∷ ss))) (after_steps m (within (until - now) (s ∷ ss))) (after_steps m (s ∷ ss))) → (replayed g until (after_slice g until pid (count (s ∷ ss)) t) (told (s ∷ ss))).groups ≡ groups_from (input_records i (s ∷ ss)) t.groups → is_booted (after_steps m (s ∷ ss)) ≡ true → (b : Bool) → nat_le (count (s ∷ ss)) (until - now) ≡ b → Reaches g gs (replayed g until (replayed g until (after_slice g until pid (count (s ∷ ss)) t) (told (s ∷ ss))) (records_from (after_steps m (s ∷ ss)) inputs)) h.own.inside m (within (until - now) ((s ∷ ss) ++ steps_from (after_steps m (s ∷ ss)) inputs))
+    by_order e groups booted true k =
+        let le = leb-true (count (s ∷ ss)) (until - now) k in
+        let t1 = replayed g until (after_slice g until pid (count (s ∷ ss)) t) (told (s ∷ ss)) in
+        let b = rest-before g gs t t1 m i (s ∷ ss) inputs groups (e.ended ∙ le-leb (now + count (s ∷ ss)) until (omega arith)) (λ f. absurd (let no : true ≡ false = sym booted ∙ f in cc)) known sound final in
+        go-on g gs until now inputs h.own.inside m (s ∷ ss) t1 go e b early le
+    by_order e groups booted false k =
+        cut-off g gs until now inputs h.own.inside m (s ∷ ss) (replayed g until (after_slice g until pid (count (s ∷ ss)) t) (told (s ∷ ss))) e early (leb-false (count (s ∷ ss)) (until - now) k)
+
+inputs-reach : (g : ℕ) (gs : Groups) (until : ℕ) (inputs : List Input) → Goes g gs until inputs
+inputs-reach g gs until [] now t m h b early = record { owner = h.owner; own = h.own; is = h.settled; joint = h.joint; inside = sym (append-nil h.own.inside) }
+inputs-reach g gs until (i ∷ inputs) now t m h b early = by_input (takes m i) (inputs-reach g gs until inputs) b.known b.sound b.final
+  where
+    turn-goes : (pid count' : ℕ) (reply : Option Answered) (v : View) → ((steps : List Step) → input_records i steps ≡ slice_records pid steps) → seen m.bodies pid ≡ Some v → Goes g gs until inputs → (S : List Step) → steps_of (turn count' pid reply m) ≡ S → InputGoal g gs until now i inputs m t h.own.inside S
+    turn-goes pid count' reply v slices sees go [] is = none-goes g gs until now i inputs m t h b.ended b.idle early go
+    turn-goes pid count' reply v slices sees go (s ∷ ss) is = some-goes g gs until now i inputs m t h early go pid count' reply v slices sees s ss is
+
+    by_input : Takes m i → Goes g gs until inputs → InputGoal g gs until now i inputs m t h.own.inside (input_steps m i)
+    by_input (Rests is) go = subst (InputGoal g gs until now i inputs m t h.own.inside) (sym is) (none-goes g gs until now i inputs m t h b.ended b.idle early go)
+    by_input (Comes s r is told out) go =
+        subst (InputGoal g gs until now i inputs m t h.own.inside) (sym is) (comes-goes g gs until now i inputs m t h b.ended b.idle early go s r (told (s ∷ []) ∙ out.records) out)
+    by_input (Begins path file held is told first image) go =
+        subst (InputGoal g gs until now i inputs m t h.own.inside) (sym is) (boot-goes g gs until now i inputs m t h b.ended b.idle early go path file held (told (boot_step m path file held ∷ [])) first image)
+    by_input (Turns pid count' reply v is told sees) go = turn-goes pid count' reply v told sees go (input_steps m i) (sym is)
+
+-- at first there is nobody
+nobody-joint : (g : ℕ) (owner : ℕ → Owner) (gs : Groups) → Joint g owner gs 0 nobody nobody
+nobody-joint g owner gs =
+    record {
+      owned = record { fits = λ p. rw (nobody-at p) tt; whole = λ p. rw (nobody-at p) tt };
+      agrees = record { bodies = λ p. by_test p (is_number g (gs p)); memories = λ p x k of e holds. refl };
+    }
+  where
+    by_test : (p : ℕ) (b : Bool) → body_at nobody p ≡ cond b (body_at nobody p) None
+    by_test p true = refl
+    by_test p false = nobody-at p
+
+first-stood : (g : ℕ) (gs : Groups) → Stood g gs 0 alone.at_first at_first
+first-stood g gs = record { owner = λ k. Private 0; own = nothing_own; settled = λ event. refl; joint = nobody-joint g (λ k. Private 0) gs; events = refl; moment = refl }
+
+pub passes : StepsTell → EachRunIsSound → EachRunAppends → GroupsPassThrough
+unfolding first-stood
+passes tell sound append inputs g moment few =
+    let gs = group_of (records inputs) in
+    let all = run inputs in
+    let sounds = sound inputs in
+    let known = along-known at_first all (tell inputs few) sounds.along sounds.numbers in
+    let there : machine_after inputs ≡ after_steps at_first all = (append at_first inputs []).reached in
+    let b : Before g gs alone.at_first at_first inputs = record { ended = refl; idle = λ e. refl; known = known; sound = subst IsSoundMachine there sounds.last; final = λ q. refl } in
+    let e = inputs-reach g gs moment inputs 0 alone.at_first at_first (first-stood g gs) b (omega arith) in
+    let zero_off : moment - 0 ≡ moment = omega arith in
+    let j = subst (λ (k : ℕ). JointAt g e.owner gs (after_steps at_first (within k all)) e.own.bodies) zero_off e.joint in
+    let t = replayed g moment alone.at_first (records inputs) in
+    record {
+      own = e.own;
+      made = e.is t.events;
+      whole = record { bodies = j.agrees.bodies; views = λ p of. same-seen g gs (state_at inputs moment).bodies e.own.bodies p j.agrees of };
+      heard = e.inside ∙ ap (λ (k : ℕ). parts gs g (within k all)) zero_off;
+    }
