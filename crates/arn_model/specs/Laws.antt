@@ -13,11 +13,11 @@ use Rattle.arn_model.specs.Turn.{turn, after_steps}
 abbrev pub StepsTell : Type 0
 StepsTell = (inputs : List Input) → HasNumbers (machine_after inputs).kernel → Along StepTells at_first (run inputs)
 
--- numbers that were given to processes are not given again
+-- as many numbers have been given to processes, or more
 abbrev pub KeepsNumbers : Machine → Step → Type 0
 KeepsNumbers m s = length m.kernel.processes ≤ length s.after.kernel.processes
 
--- a run's machine is sound before each step and at the end
+-- a run's machine is sound before each step and at the end, and no step gives a process's number again
 pub record RunIsSound (inputs : List Input) : Type 0 where
   pub along : Along (λ m s. IsSoundMachine m) at_first (run inputs)
   pub last : IsSoundMachine (machine_after inputs)

@@ -2,7 +2,6 @@
 use Rattle.std.proofs.Common.{◌≡◌, ℕ, ◌+◌, ◌<◌, List, [], ◌∷◌, length, refl, ap, ap₂, ◌∙◌, sym, subst, Option, Some, None, IfSome, option_map, Bool, true, false, ◌==◌, cond, arith}
 use Rattle.std.proofs.lemmas.Bool.{eqb-true}
 use Rattle.arn_base.specs.declared.machine.Cpu.{Cpu}
-use Rattle.arn_base.specs.declared.records.Extra.{Extra}
 use Rattle.arn_base.specs.Window.{Window, with_bytes}
 use Rattle.rv64_isa.specs.declared.instruction.Instr.{Instr}
 use Rattle.rv64_model.specs.Instruction.{Next}
@@ -10,7 +9,6 @@ use Rattle.parts_model.specs.declared.limits.TheConstants.{WINDOW_LEN}
 use Rattle.acts_model.specs.Acts.{Act, Returns, Receives, Gives, Starts, Forks, Founds, Shares, Leaves, Delivers, Exits, Faults, Dies, Beginning, beginning_of, beginning_in, start_of, acted, restored, child_view, begun, done_by, founded}
 use Rattle.acts_model.specs.Bodies.{Body, Bodies, View, body_at, view, seen, put, become}
 use Rattle.acts_model.specs.Views.{with_reach, reach, stands_at, after_instr, with_cpu}
-use Rattle.arn_model.specs.Tells.{ForksRightly}
 use Rattle.history_model.specs.Groups.{Groups, is_number}
 use Rattle.history_model.specs.Moments.{changed}
 use Rattle.replay_laws.proofs.Blocks.{blocks-whole}

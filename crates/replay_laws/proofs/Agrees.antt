@@ -1,6 +1,6 @@
 -- A group alone agrees with the whole machine, and goes on to agree over whatever a process puts.
 use Rattle.std.proofs.Common.{◌≡◌, inl, inr, ℕ, ◌<◌, ◌≤◌, List, length, refl, ap, ap₂, ◌∙◌, sym, subst, Option, Some, None, IfSome, option_map, Bool, true, false, ◌==◌, cond}
-use Rattle.std.proofs.lemmas.Bool.{eq-eqb, eqb-true, eqb-false}
+use Rattle.std.proofs.lemmas.Bool.{eq-eqb, eqb-true}
 use Rattle.parts_model.specs.declared.limits.TheConstants.{WINDOW_LEN}
 use Rattle.acts_model.specs.Bodies.{Body, Bodies, View, body_at, memory_at, IsHolder, view, seen, segment_bytes, put, remove, become}
 use Rattle.history_model.specs.Groups.{Groups, is_number}

@@ -1,5 +1,5 @@
 -- The boot, in the whole machine and in group 1 alone.
-use Rattle.std.proofs.Common.{◌≡◌, ℕ, ◌+◌, List, [], ◌∷◌, ◌++◌, length, refl, ap, ap₂, ◌∙◌, sym, subst, append-nil, Option, Some, None, option_map, Bool, true, false, not, ◌==◌, cond, arith, is_some, ne_eqb}
+use Rattle.std.proofs.Common.{◌≡◌, ℕ, ◌+◌, List, [], ◌++◌, length, refl, ap, ap₂, ◌∙◌, sym, subst, append-nil, Option, Some, None, option_map, Bool, true, false, not, ◌==◌, cond, arith, is_some, ne_eqb}
 use Rattle.std.proofs.lemmas.Bool.{eq-eqb, eqb-true, eqb-false}
 use Rattle.std.proofs.lemmas.List.{length-replicate}
 use Rattle.arn_base.specs.declared.records.Give.{Give}
@@ -8,13 +8,13 @@ use Rattle.arn_base.specs.declared.records.Record.TheVariants as entry
 use Rattle.parts_model.specs.declared.limits.TheConstants.{WINDOW_LEN}
 use Rattle.parts_model.specs.Image.{is_image, read_as_image}
 use Rattle.parts_model.specs.Memory.{zeros}
-use Rattle.acts_model.specs.Acts.{Act, Starts, acted, done, done_by, started, unborn}
+use Rattle.acts_model.specs.Acts.{Act, Starts, done, done_by, started, unborn}
 use Rattle.acts_model.specs.Bodies.{Body, Bodies, View, body_at, memory_at, segment_bytes, view, seen, put}
-use Rattle.acts_model.specs.Disagreement.{Wrong, wrong_with, wrong_if, or_else, isnt_block}
+use Rattle.acts_model.specs.Disagreement.{Wrong, wrong_if, or_else, isnt_block}
 use Rattle.acts_model.specs.Moved.{Inside}
 use Rattle.acts_model.specs.Transfers.{holds_of, transfer}
-use Rattle.acts_model.specs.Views.{stands_at, read}
-use Rattle.history_model.specs.Alone.{Own, Made, Makes, made_if, unless_wrong, act_done, noted, boots}
+use Rattle.acts_model.specs.Views.{read}
+use Rattle.history_model.specs.Alone.{Own, Makes, made_if, unless_wrong, act_done, noted, boots}
 use Rattle.history_model.specs.Groups.{Groups, is_number}
 use Rattle.history_model.specs.Moments.{changed}
 use Rattle.replay_laws.specs.Heard.{own_part}

@@ -4,10 +4,10 @@ use Rattle.arn_base.specs.declared.machine.Cpu.{Cpu}
 use Rattle.arn_base.specs.declared.records.Record.{Record}
 use Rattle.arn_base.specs.Window.{Window}
 use Rattle.rv64_isa.specs.declared.instruction.Instr.{Instr}
-use Rattle.rv64_model.specs.Instruction.{Effect, Next}
-use Rattle.acts_model.specs.Acts.{Act, Founds, beginning_of, beginning_in, start_of, begun, done_by, done, founded}
+use Rattle.rv64_model.specs.Instruction.{Next}
+use Rattle.acts_model.specs.Acts.{Act, Founds, beginning_of, start_of, done_by, founded}
 use Rattle.acts_model.specs.Bodies.{Bodies, View, seen, put}
-use Rattle.acts_model.specs.Disagreement.{Wrong, wrong_with}
+use Rattle.acts_model.specs.Disagreement.{Wrong}
 use Rattle.acts_model.specs.Moved.{Inside}
 use Rattle.acts_model.specs.Told.{act_of}
 use Rattle.acts_model.specs.Transfers.{holds_of, transfer, instr_transfer}
@@ -21,11 +21,11 @@ use Rattle.history_model.specs.Alone as alone
 use Rattle.history_model.specs.Alone.{Own, Made, Makes, Slice, noted, plain_by, plain_in, plain_or, act_done, unless_wrong, record_done, record_seen, happens, begin_inside, begins}
 use Rattle.history_model.specs.Groups.{Groups, is_number}
 use Rattle.history_model.specs.Moments.{changed}
-use Rattle.replay_laws.specs.Heard.{own_part, begin_by, part, parts}
+use Rattle.replay_laws.specs.Heard.{own_part, part, parts}
 use Rattle.replay_laws.proofs.Owned.{Owner}
 use Rattle.replay_laws.proofs.Agrees.{Agrees, Joint, if_own, same-seen, number-true}
 use Rattle.replay_laws.proofs.Acts.{made_for, GroupsFit, begun_bodies, joint-done, joint-moved}
-use Rattle.replay_laws.proofs.Told.{begun_own, begun_inside, Tale, event-tale}
+use Rattle.replay_laws.proofs.Told.{begun_own, begun_inside, event-tale}
 use Rattle.replay_laws.proofs.Steps.{plains-all, JointAt}
 
 bodies-if : (b : Bool) (x y : Own) → (cond b x y).bodies ≡ cond b x.bodies y.bodies

@@ -5,7 +5,7 @@ use Rattle.parts_model.specs.declared.limits.TheConstants.{WINDOW_LEN}
 use Rattle.acts_model.specs.Bodies.{Body, Bodies, View, body_at, memory_at, IsHolder, put, remove}
 use Rattle.history_model.specs.Groups.{Groups}
 use Rattle.history_model.specs.Moments.{changed}
-use Rattle.replay_laws.proofs.Places.{laid, laid_segment, put-body, put-memory, remove-body, remove-memory}
+use Rattle.replay_laws.proofs.Places.{laid_segment, put-body, put-memory, remove-body, remove-memory}
 
 -- a memory is the window of one process, or the segment of one group
 pub data Owner : Type 0 where

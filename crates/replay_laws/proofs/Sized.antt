@@ -1,5 +1,5 @@
 -- A private window keeps its length, whatever an instruction or an act does.
-use Rattle.std.proofs.Common.{◌≡◌, ℕ, ◌+◌, ◌-◌, ◌≤◌, List, [], ◌∷◌, ◌++◌, length, take, drop, replicate, refl, ap, ◌∙◌, subst, Option, Some, None, IfSome, unwrap_or, Bool, true, false, ◌==◌, ◌&&◌, ◌||◌, ◌%◌, cond, if◌then◌else◌, arith, nat_le, nat_lt, is_some, not, option_map, length-take, length-drop, length-append, length-take-le}
+use Rattle.std.proofs.Common.{◌≡◌, ℕ, ◌+◌, ◌-◌, ◌≤◌, List, [], ◌∷◌, ◌++◌, length, take, drop, replicate, refl, ◌∙◌, subst, Option, Some, None, IfSome, unwrap_or, Bool, true, false, ◌==◌, ◌&&◌, ◌||◌, ◌%◌, if◌then◌else◌, arith, nat_le, nat_lt, is_some, option_map, length-take, length-drop, length-append, length-take-le}
 use Rattle.std.proofs.lemmas.Bool.{and_parts, leb-true, ltb-false}
 use Rattle.std.proofs.lemmas.List.{length-replicate}
 use Rattle.arn_base.specs.Disk.{overwrite}
@@ -19,7 +19,7 @@ use Rattle.std.specs.Prelude.{bytes_eq}
 use Rattle.acts_model.specs.Acts.{Act, Returns, Receives, Gives, Starts, Forks, Founds, Shares, Leaves, Delivers, Exits, Faults, Dies, acted, restored}
 use Rattle.acts_model.specs.Bodies.{View}
 use Rattle.acts_model.specs.Disagreement.{is_outside, isnt_block}
-use Rattle.acts_model.specs.Views.{reach, read, with_reach, written, stands_at, after_instr, among_zeros, block_at, window_at_start}
+use Rattle.acts_model.specs.Views.{reach, read, with_reach, stands_at, after_instr, among_zeros, block_at, window_at_start}
 
 -- the first window, where there is one, is a whole private one
 abbrev FirstWhole : List Window → Type 0

@@ -1,5 +1,5 @@
 -- What each step of a turn tells, and how steps follow one another.
-use Rattle.std.proofs.Common.{◌≡◌, ℕ, zero, suc, ◌≤◌, ◌<◌, ◌+◌, ◌||◌, List, [], ◌∷◌, ◌++◌, length, take, map, filter_map, slice_get, refl, ap, ◌∙◌, sym, subst, Option, Some, None, IfSome, is_some, option_map, option_and_then, Bool, true, false, cond, nat_lt, nat_le, arith, ne_eqb}
+use Rattle.std.proofs.Common.{◌≡◌, ℕ, zero, suc, ◌≤◌, ◌<◌, ◌+◌, ◌||◌, List, [], ◌∷◌, ◌++◌, length, take, map, filter_map, refl, ap, ◌∙◌, sym, subst, Option, Some, None, IfSome, is_some, option_map, option_and_then, Bool, true, false, cond, nat_lt, nat_le, arith}
 use Rattle.std.specs.List.{cons_option}
 use Rattle.std.proofs.lemmas.Bool.{ltb-false, leb-true, leb-false}
 use Rattle.std.proofs.lemmas.List.Sums.{sum_by-cons}
@@ -26,17 +26,17 @@ use Rattle.arn_model.specs.Doing.{Doing}
 use Rattle.arn_model.specs.Kernel.{Kernel, Machine}
 use Rattle.arn_model.specs.Laws.{KeepsNumbers}
 use Rattle.arn_model.specs.Row.{request, does}
-use Rattle.arn_model.specs.Run.{instructions_in, within, unless_reached, is_booted}
+use Rattle.arn_model.specs.Run.{instructions_in, within, unless_reached}
 use Rattle.arn_model.specs.Sound.{IsSoundMachine}
 use Rattle.arn_model.specs.Step.{Step, plain_step, event_step, plain_by, last_by, delivery_of, due_signal, call_step, handler, waits}
 use Rattle.arn_model.specs.Tells.{lives, StepTells, Runs, Happens, Boots, Adds, Types, Unplugs, EventTells, ForksRightly, extra_in, is_inner, Along}
 use Rattle.arn_model.specs.Turn.{plains, plain_in, steps_then, delivery_in, after_steps, last_of, last_in}
-use Rattle.history_model.specs.Alone.{Own, Made, Makes, begins_by, Standing, after_record, after_signal, after_last}
+use Rattle.history_model.specs.Alone.{Own, Makes, begins_by, Standing, after_record, after_signal, after_last}
 use Rattle.history_model.specs.Groups.{Groups, groups_told, groups_from}
 use Rattle.log_model.specs.Records.{event_records}
 use Rattle.replay_laws.proofs.Owned.{changed-other, Owner}
 use Rattle.replay_laws.proofs.Agrees.{Joint}
-use Rattle.replay_laws.proofs.Told.{Tale, groups_after, event-tale}
+use Rattle.replay_laws.proofs.Told.{groups_after, event-tale}
 
 -- all that is known of a step
 pub record Known (m : Machine) (s : Step) : Type 0 where
@@ -92,8 +92,8 @@ abbrev pub event_groups : Option Event → Groups → Groups
 event_groups None gs = gs
 event_groups (Some e) gs = groups_told e.entry gs
 
-after-keep : (p next q : ℕ) (v : View) (m : Machine) (d : Doing) (r : Record) (gs : Groups) → EventTells m p v d r → q < next_process m.kernel.processes → groups_after p d.act gs q ≡ gs q
-after-keep p n q v m d r gs t l = by_act d.act t.forks
+after-keep : (p q : ℕ) (v : View) (m : Machine) (d : Doing) (r : Record) (gs : Groups) → EventTells m p v d r → q < next_process m.kernel.processes → groups_after p d.act gs q ≡ gs q
+after-keep p q v m d r gs t l = by_act d.act t.forks
   where
     by_act : (a : Act) → ForksRightly (next_process m.kernel.processes) v a (extra_in r) → groups_after p a gs q ≡ gs q
     by_act (act.Forks c) h = changed-other gs c (gs p) q (λ e. let is = h.0 in omega arith)
@@ -105,7 +105,7 @@ pub step-groups : (m : Machine) (s : Step) (gs : Groups) (q : ℕ) → StepTells
 step-groups m s gs q (Runs pid v instr cpu memory sees stands is) l = ap (λ (x : Step). event_groups x.moved.inside.event gs q) is
 step-groups m s gs q (Happens pid v d r t is) l =
     ap (λ (x : Step). event_groups x.moved.inside.event gs q) is
-    ∙ (ap (λ (f : Groups). f q) ((event-tale m pid v d r t).groups gs) ∙ after-keep pid 0 q v m d r gs t l)
+    ∙ (ap (λ (f : Groups). f q) ((event-tale m pid v d r t).groups gs) ∙ after-keep pid q v m d r gs t l)
 step-groups m s gs q (Boots path file held first e f image is) l =
     let few = ltb-false 0 (length m.kernel.processes) first in
     ap (λ (x : Step). event_groups x.moved.inside.event gs q) is ∙ changed-other gs 1 (Some 1) q (λ k. omega arith)

@@ -1,5 +1,5 @@
 -- What the record of an event tells of groups, and of a group's first process, is what its act does.
-use Rattle.std.proofs.Common.{◌≡◌, ℕ, ◌&&◌, List, [], ◌∷◌, refl, ap, ◌∙◌, sym, subst, Option, Some, None, Bool, true, false, not, ◌==◌, cond, if◌then◌else◌}
+use Rattle.std.proofs.Common.{◌≡◌, ℕ, ◌&&◌, List, [], ◌∷◌, length, refl, ap, ◌∙◌, sym, subst, Option, Some, None, Bool, true, false, not, ◌==◌, cond}
 use Rattle.std.proofs.lemmas.Bool.{eqb-true}
 use Rattle.arn_base.specs.declared.machine.Cpu.{Cpu}
 use Rattle.arn_base.specs.declared.records.Extra.{Extra}
@@ -14,15 +14,15 @@ use Rattle.parts_model.specs.Replies.{is_success}
 use Rattle.parts_model.specs.Processes.{next_process}
 use Rattle.acts_model.specs.Acts.{Act, Returns, Receives, Gives, Starts, Forks, Founds, Shares, Leaves, Delivers, Exits, Faults, Dies, beginning_of, start_of}
 use Rattle.acts_model.specs.Bodies.{View}
-use Rattle.acts_model.specs.Disagreement.{Wrong, wrong_if, or_else, isnt_block, isnt_call, is_other_call, act_wrong, wrong_with, call_wrong}
+use Rattle.acts_model.specs.Disagreement.{Wrong, wrong_if, or_else, isnt_block, isnt_call, is_other_call, act_wrong}
 use Rattle.acts_model.specs.Moved.{Inside}
-use Rattle.acts_model.specs.Records.{process_of, BeginsLife, life_told}
-use Rattle.acts_model.specs.Told.{Kind, Exit, Fork, Exec, Wait, Sigreturn, Read, Write, Shm, Other, kind_of, call_act, fork_act, write_act, is_pipe_write, delivery_act, act_of}
+use Rattle.acts_model.specs.Records.{BeginsLife, NoLife, life_told}
+use Rattle.acts_model.specs.Told.{Kind, Exit, Fork, Exec, Wait, Sigreturn, Read, Write, Shm, Other, kind_of, call_act, fork_act, is_pipe_write, delivery_act}
 use Rattle.acts_model.specs.Views.{stands_at}
 use Rattle.arn_model.specs.Doing.{Doing}
 use Rattle.arn_model.specs.Kernel.{Machine}
-use Rattle.arn_model.specs.Tells.{ForksRightly, EventTells, is_inner}
-use Rattle.history_model.specs.Alone.{Own, Made, Makes, begins, begin_inside, begins_if, begins_by, call_start}
+use Rattle.arn_model.specs.Tells.{ForksRightly, EventTells}
+use Rattle.history_model.specs.Alone.{Own, Makes, begins, begin_inside, begins_if, begins_by, call_start}
 use Rattle.history_model.specs.Groups.{Groups, group_forked, groups_told}
 use Rattle.history_model.specs.Moments.{changed}
 use Rattle.replay_laws.specs.Heard.{begin_if, begin_by}
@@ -75,7 +75,7 @@ or-next (Some w) b e = absurd (cc)
 
 starts-well : (v : View) (act : Act) (more : Extra) → act_wrong v act more ≡ None → StartsWell v act
 starts-well v (Starts file block len) more e =
-    let image = wrong_if (not (is_image file)) (Rattle.std.proofs.Common.length file) 0 in
+    let image = wrong_if (not (is_image file)) (length file) 0 in
     let blocks = wrong_if (isnt_block v block len) len 0 in
     (image-true (is_image file) (no-wrong (not (is_image file)) _ 0 (or-first image blocks e)), no-wrong (isnt_block v block len) len 0 (or-next image blocks e))
 starts-well v (Returns result) more e = tt
@@ -181,7 +181,7 @@ founds-tale p child v result start true e h =
       groups = λ gs. ap (λ (b : Bool). cond b (changed gs result (Some result)) gs) e;
       begins = λ g i own. ap (λ (o : Option Start). begins_if g result i r o own) found ∙ makes-if (result == g) (begins g i r (start_of (beginning_of v)) own) own;
       begin = λ g i. ap (λ (o : Option Start). begin_if g result i r o) found;
-      child = ap (λ (b : Bool). cond b (BeginsLife result) Rattle.acts_model.specs.Records.NoLife) e;
+      child = ap (λ (b : Bool). cond b (BeginsLife result) NoLife) e;
       starts = tt;
     }
   where
@@ -206,7 +206,7 @@ forks-tale p v result more true e none joins =
       groups = λ gs. ap (λ (b : Bool). cond b (group_forked p result more gs) gs) e ∙ joins gs;
       begins = λ g i own. ap (λ (o : Option Start). begins_if g result i r o own) none;
       begin = λ g i. ap (λ (o : Option Start). begin_if g result i r o) none;
-      child = ap (λ (b : Bool). cond b (BeginsLife result) Rattle.acts_model.specs.Records.NoLife) e;
+      child = ap (λ (b : Bool). cond b (BeginsLife result) NoLife) e;
       starts = tt;
     }
 forks-tale p v result more false e none joins =

@@ -1,5 +1,5 @@
 -- The records of one turn, replayed, lead to where the turn leads.
-use Rattle.std.proofs.Common.{◌≡◌, ℕ, suc, ◌≤◌, ◌<◌, ◌+◌, ◌-◌, min, List, [], ◌∷◌, ◌++◌, length, take, refl, ap, ap₂, ◌∙◌, sym, subst, append-nil, append_assoc, take_all, Option, Some, None, IfSome, option_to_list, Bool, true, false, ◌==◌, cond, arith, nat_le, nat_lt, le_refl}
+use Rattle.std.proofs.Common.{◌≡◌, ℕ, suc, ◌≤◌, ◌<◌, ◌+◌, ◌-◌, min, List, [], ◌∷◌, ◌++◌, length, take, refl, ap, ap₂, ◌∙◌, sym, subst, append-nil, append_assoc, take_all, Option, Some, None, IfSome, option_to_list, Bool, true, false, cond, arith, nat_le, le_refl}
 use Rattle.std.proofs.lemmas.Bool.{eq-eqb, leb-true, leb-false, le-leb}
 use Rattle.arn_base.specs.declared.records.Record.{Record}
 use Rattle.parts_model.specs.Processes.{next_process}
@@ -22,8 +22,8 @@ use Rattle.replay_laws.specs.Heard.{part, parts}
 use Rattle.replay_laws.proofs.Owned.{Owner, changed-same}
 use Rattle.replay_laws.proofs.Agrees.{Agrees, number-true}
 use Rattle.replay_laws.proofs.Acts.{made_for, GroupsFit}
-use Rattle.replay_laws.proofs.Told.{Tale, begun_own, groups_after, BeginsChild, event-tale}
-use Rattle.replay_laws.proofs.Steps.{Known, along-first, along-rest, after-append, next, live-number, told, told_by, count, counted, told-none, told-more, count-none, count-more, FirstIs, LastIs, first-tells, last-tells, ArePlain, plains-plain, told-plain, count-plain, within-plain, within-part, Kept, plains-keep, event-counts, JointAt}
+use Rattle.replay_laws.proofs.Told.{groups_after, BeginsChild, event-tale}
+use Rattle.replay_laws.proofs.Steps.{Known, along-rest, after-append, next, live-number, told, count, counted, told-none, told-more, count-none, count-more, FirstIs, LastIs, first-tells, last-tells, ArePlain, plains-plain, told-plain, count-plain, within-plain, within-part, Kept, plains-keep, event-counts, JointAt}
 use Rattle.replay_laws.proofs.Heard.{parts-append, mine, slice_at, RunsTo, PlainTo, plains-joint, does, own_did, own_after, own-inside, event-joint}
 
 -- a standing in a slice whose begin is reached

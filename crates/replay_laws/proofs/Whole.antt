@@ -1,5 +1,5 @@
 -- The induction over the inputs of a run: up to the moment turn for turn, behind it no record matters.
-use Rattle.std.proofs.Common.{◌≡◌, ℕ, zero, suc, ◌<◌, ◌≤◌, ◌+◌, ◌-◌, ◌&&◌, List, [], ◌∷◌, ◌++◌, length, refl, ap, ap₂, ◌∙◌, sym, subst, append-nil, append_assoc, Option, Some, None, Bool, true, false, ◌==◌, cond, arith, nat_le, is_some}
+use Rattle.std.proofs.Common.{◌≡◌, ℕ, zero, suc, ◌<◌, ◌≤◌, ◌+◌, ◌-◌, ◌&&◌, List, [], ◌∷◌, ◌++◌, refl, ap, ap₂, ◌∙◌, sym, subst, append-nil, append_assoc, Option, Some, None, Bool, true, false, ◌==◌, cond, arith, nat_le}
 use Rattle.std.proofs.lemmas.Bool.{leb-true, leb-false, le-leb, lt-leb}
 use Rattle.arn_base.specs.declared.records.Record.{Record}
 use Rattle.arn_base.specs.declared.records.Record.TheVariants as entry
@@ -7,22 +7,22 @@ use Rattle.parts_model.specs.declared.tagged.TaggedByte.{TaggedByte}
 use Rattle.parts_model.specs.Image.{is_image}
 use Rattle.parts_model.specs.Replies.{Answered}
 use Rattle.parts_model.specs.Tagged.{given, values}
-use Rattle.acts_model.specs.Bodies.{Body, Bodies, View, body_at, nobody, seen}
+use Rattle.acts_model.specs.Bodies.{Bodies, View, body_at, nobody, seen}
 use Rattle.acts_model.specs.Moved.{Inside, is_instruction}
 use Rattle.arn_model.specs.Kernel.{Machine, at_first}
-use Rattle.arn_model.specs.Run.{Input, input_steps, after_input, steps_from, instructions_in, is_booted, boot_step, within, unless_reached, run, machine_after, state_at}
+use Rattle.arn_model.specs.Run.{Input, input_steps, steps_from, instructions_in, is_booted, boot_step, within, unless_reached, run, machine_after, state_at}
 use Rattle.arn_model.specs.Sound.{IsSoundMachine}
 use Rattle.arn_model.specs.Step.{Step}
-use Rattle.arn_model.specs.Tells.{Along, HasNumbers, lives}
+use Rattle.arn_model.specs.Tells.{Along}
 use Rattle.arn_model.specs.Turn.{after_steps, turn, steps_of}
 use Rattle.arn_model.specs.Laws.{StepsTell, EachRunIsSound, EachRunAppends}
 use Rattle.history_model.specs.Alone as alone
 use Rattle.history_model.specs.Alone.{Own, Made, Makes, Standing, and_then, made_if, boots, nothing_own, after_boot, after_record, after_slice, replayed, settled}
-use Rattle.history_model.specs.Groups.{Groups, group_of, groups_told, groups_from, is_number}
+use Rattle.history_model.specs.Groups.{Groups, group_of, groups_from, is_number}
 use Rattle.history_model.specs.Moments.{changed}
 use Rattle.log_model.specs.Records.{event_records, slice_records, input_records, records_from, records}
-use Rattle.replay_laws.specs.Heard.{own_part, part, parts, heard_at}
-use Rattle.replay_laws.specs.Laws.{IsRestriction, PassesThrough, GroupsPassThrough}
+use Rattle.replay_laws.specs.Heard.{own_part, part, parts}
+use Rattle.replay_laws.specs.Laws.{GroupsPassThrough}
 use Rattle.replay_laws.proofs.Places.{nobody-at}
 use Rattle.replay_laws.proofs.Owned.{Owner, Private, changed-same}
 use Rattle.replay_laws.proofs.Agrees.{Joint, joint-later, same-seen}
@@ -255,9 +255,9 @@ some-goes g gs until now i inputs m t h early go pid count' reply v slices sees 
     let same : t.groups pid ≡ gs pid = sym (all-groups i m S inputs t.groups pid known number) ∙ final pid in
     let rest_known = along-rest Known m S (steps_from m' inputs) known in
     let below : (q : ℕ) → q < next m' → groups_from (told S) t.groups q ≡ gs q = λ q l.
-        sym (later-groups m' inputs (groups_from (told S) t.groups) q rest_known l)
-        ∙ (ap (λ (x : Groups). groups_from (records_from m' inputs) x q) (sym (input-groups i S t.groups))
-        ∙ (ap (λ (x : Groups). x q) (sym (groups-append (input_records i S) (records_from m' inputs) t.groups)) ∙ final q)) in
+    sym (later-groups m' inputs (groups_from (told S) t.groups) q rest_known l)
+    ∙ (ap (λ (x : Groups). groups_from (records_from m' inputs) x q) (sym (input-groups i S t.groups))
+    ∙ (ap (λ (x : Groups). x q) (sym (groups-append (input_records i S) (records_from m' inputs) t.groups)) ∙ final q)) in
     let known_turn = subst (λ (xs : List Step). Along Known m xs) (sym is) (along-first Known m S (steps_from m' inputs) known) in
     let below_turn = subst (λ (xs : List Step). (q : ℕ) → q < next (after_steps m xs) → groups_from (told xs) t.groups q ≡ gs q) (sym is) below in
     let ends = turn-ends g gs until now count' pid reply t m h early same known_turn below_turn in
