@@ -104,6 +104,11 @@ is_inner (entry.Call pid number result more) = true
 is_inner (entry.End pid status) = true
 is_inner other = false
 
+-- what a call's record holds beside the result
+abbrev pub extra_in : Record → Extra
+extra_in (entry.Call pid number result more) = more
+extra_in other = extra.Nothing
+
 -- an event of a process, as its record tells it
 pub record EventTells (m : Machine) (pid : ℕ) (v : View) (d : Doing) (entry : Record) : Type 0 where
   -- the record's process sees this, its act is the one that the record tells, and nothing is wrong with it
@@ -112,7 +117,7 @@ pub record EventTells (m : Machine) (pid : ℕ) (v : View) (d : Doing) (entry : 
   pub seen : seen m.bodies pid ≡ Some v
   pub told : act_of v.body.cpu entry ≡ Some d.act
   pub right : wrong_with v (stands_at v) entry ≡ None
-  pub forks : ForksRightly (table.next_process m.kernel.processes) v d.act d.extra
+  pub forks : ForksRightly (table.next_process m.kernel.processes) v d.act (extra_in entry)
   -- the event's bytes, where they come from and what they become
   pub length : event_len entry ≡ length d.bytes
   pub receives : Receives m.kernel d.incoming d.bytes entry

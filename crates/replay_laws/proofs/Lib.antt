@@ -1,0 +1,14 @@
+pub mod Places
+pub mod Blocks
+pub mod Sized
+pub mod Owned
+pub mod Agrees
+pub mod Acts
+pub mod Told
+pub mod Steps
+pub mod Heard
+pub mod Turns
+pub mod Late
+pub mod Boots
+pub mod Inputs
+pub mod Whole

@@ -2,3 +2,7 @@
 //!
 //! What holds is stated by functions that do nothing.
 #![tactic(auto)]
+
+mod law;
+
+pub use law::groups_pass_through;

@@ -1,0 +1,157 @@
+-- A group alone agrees with the whole machine, and goes on to agree over whatever a process puts.
+use Rattle.std.proofs.Common.{◌≡◌, inl, inr, ℕ, ◌<◌, ◌≤◌, List, length, refl, ap, ap₂, ◌∙◌, sym, subst, Option, Some, None, IfSome, option_map, Bool, true, false, ◌==◌, cond}
+use Rattle.std.proofs.lemmas.Bool.{eq-eqb, eqb-true}
+use Rattle.parts_model.specs.declared.limits.TheConstants.{WINDOW_LEN}
+use Rattle.acts_model.specs.Bodies.{Body, Bodies, View, body_at, memory_at, IsHolder, view, seen, segment_bytes, put, remove, become}
+use Rattle.history_model.specs.Groups.{Groups, is_number}
+use Rattle.replay_laws.proofs.Places.{laid, laid_segment, put-body, put-memory, remove-body, remove-memory}
+use Rattle.replay_laws.proofs.Owned.{Owner, Fits, Owned, owned-later, put-owned, remove-owned, holder, apart}
+
+abbrev no_body : Option Body
+no_body = None
+
+pub number-true : (g : ℕ) (o : Option ℕ) → is_number g o ≡ true → o ≡ Some g
+number-true g None e = absurd (cc)
+number-true g (Some m) e = ap Some (eqb-true m g e)
+
+pub number-same : (g : ℕ) (o : Option ℕ) → o ≡ Some g → is_number g o ≡ true
+number-same g o e = ap (is_number g) e ∙ eq-eqb g g refl
+
+pub number-false : (g : ℕ) (o : Option ℕ) → is_number g o ≡ false → o ≡ Some g → ⊥
+number-false g o e f = let t = number-same g o f in absurd (let no : false ≡ true = sym e ∙ t in cc)
+
+pub number-other : (g : ℕ) (o : Option ℕ) → (o ≡ Some g → ⊥) → is_number g o ≡ false
+number-other g o ne = by_test (is_number g o) refl
+  where
+    by_test : (b : Bool) → is_number g o ≡ b → b ≡ false
+    by_test true e = absurd (ne (number-true g o e))
+    by_test false e = refl
+
+-- own has the bodies of the group's live members, and the memories that these hold
+pub record Agrees (g : ℕ) (gs : Groups) (whole own : Bodies) : Type 0 where
+  pub bodies : (p : ℕ) → body_at own p ≡ cond (is_number g (gs p)) (body_at whole p) None
+  pub memories : (p : ℕ) (x : Body) (k : ℕ) → gs p ≡ Some g → body_at whole p ≡ Some x → IsHolder x k → memory_at own k ≡ memory_at whole k
+
+pub record Joint (g : ℕ) (owner : ℕ → Owner) (gs : Groups) (n : ℕ) (whole own : Bodies) : Type 0 where
+  pub owned : Owned owner gs n whole
+  pub agrees : Agrees g gs whole own
+
+-- what a view puts into a memory that it holds doesn't depend on what was there
+laid-held : (v : View) (k : ℕ) (old new : List ℕ) → IsHolder v.body k → laid v k old ≡ laid v k new
+laid-held v k old new (inl e) = ap (λ t. cond t v.window (laid_segment v.body.segment v.segment k old)) (eq-eqb k v.body.window (sym e)) ∙ sym (ap (λ t. cond t v.window (laid_segment v.body.segment v.segment k new)) (eq-eqb k v.body.window (sym e)))
+laid-held v k old new (inr e) = ap (cond (k == v.body.window) v.window) (by_segment v.body.segment e)
+  where
+    by_segment : (o : Option ℕ) → o ≡ Some k → laid_segment o v.segment k old ≡ laid_segment o v.segment k new
+    by_segment None e = absurd (cc)
+    by_segment (Some s) e = let same : k == s ≡ true = eq-eqb k s (cc) in ap (λ t. cond t v.segment old) same ∙ sym (ap (λ t. cond t v.segment new) same)
+
+some-same : (x y : Body) → Some x ≡ Some y → x ≡ y
+some-same x y e = cc
+
+both-put : (g : ℕ) (gs : Groups) (p : ℕ) (v : View) (w o : Bodies) → gs p ≡ Some g → Agrees g gs w o → Agrees g gs (put p v w) (put p v o)
+both-put g gs p v w o mine h =
+    record {
+      bodies = λ q. put-body p v o q ∙ (by_test q (q == p) refl ∙ ap (λ x. cond (is_number g (gs q)) x None) (sym (put-body p v w q)));
+      memories = λ q x k of e holds. put-memory p v o k ∙ (memory q x k (q == p) refl of (sym (put-body p v w q) ∙ e) holds ∙ sym (put-memory p v w k));
+    }
+  where
+    by_test : (q : ℕ) (t : Bool) → (q == p) ≡ t → cond t (Some v.body) (body_at o q) ≡ cond (is_number g (gs q)) (cond t (Some v.body) (body_at w q)) None
+    by_test q true e = ap (λ t. cond t (Some v.body) None) (sym (number-same g (gs q) (ap gs (eqb-true q p e) ∙ mine)))
+    by_test q false e = h.bodies q
+
+    memory : (q : ℕ) (x : Body) (k : ℕ) (t : Bool) → (q == p) ≡ t → gs q ≡ Some g → cond t (Some v.body) (body_at w q) ≡ Some x → IsHolder x k → laid v k (memory_at o k) ≡ laid v k (memory_at w k)
+    memory q x k true e of is holds = laid-held v k (memory_at o k) (memory_at w k) (subst (λ (y : Body). IsHolder y k) (sym (some-same v.body x is)) holds)
+    memory q x k false e of is holds = ap (laid v k) (h.memories q x k of is holds)
+
+one-put : (g : ℕ) (owner : ℕ → Owner) (gs : Groups) (n p : ℕ) (v : View) (w o : Bodies) → (gs p ≡ Some g → ⊥) → Fits owner gs n p v.body → Owned owner gs n w → Agrees g gs w o → Agrees g gs (put p v w) o
+one-put g owner gs n p v w o other f own h =
+    record {
+      bodies = λ q. by_test q (q == p) refl ∙ ap (λ x. cond (is_number g (gs q)) x None) (sym (put-body p v w q));
+      memories = λ q x k of e holds. memory q x k (q == p) refl of (sym (put-body p v w q) ∙ e) holds;
+    }
+  where
+    none : (q : ℕ) → q ≡ p → is_number g (gs q) ≡ false
+    none q e = number-other g (gs q) (λ k. other (ap gs (sym e) ∙ k))
+
+    by_test : (q : ℕ) (t : Bool) → (q == p) ≡ t → body_at o q ≡ cond (is_number g (gs q)) (cond t (Some v.body) (body_at w q)) None
+    by_test q true e = h.bodies q ∙ (ap (λ t. cond t (body_at w q) None) (none q (eqb-true q p e)) ∙ sym (ap (λ t. cond t (Some v.body) None) (none q (eqb-true q p e))))
+    by_test q false e = h.bodies q
+
+    memory : (q : ℕ) (x : Body) (k : ℕ) (t : Bool) → (q == p) ≡ t → gs q ≡ Some g → cond t (Some v.body) (body_at w q) ≡ Some x → IsHolder x k → memory_at o k ≡ memory_at (put p v w) k
+    memory q x k true e of is holds = absurd (other (ap gs (sym (eqb-true q p e)) ∙ of))
+    memory q x k false e of is holds =
+        let fq = let P = λ (z : Option Body). IfSome z (Fits owner gs n q) in subst P is (own.fits q) in
+        h.memories q x k of is holds ∙ sym (apart owner gs n p q v w k f (λ s. other (s ∙ of)) (holder owner gs n q x k fq holds))
+
+both-remove : (g : ℕ) (gs : Groups) (p : ℕ) (w o : Bodies) → Agrees g gs w o → Agrees g gs (remove p w) (remove p o)
+both-remove g gs p w o h =
+    record {
+      bodies = λ q. remove-body p o q ∙ (by_test q (q == p) ∙ ap (λ x. cond (is_number g (gs q)) x None) (sym (remove-body p w q)));
+      memories = λ q x k of e holds. remove-memory p o k ∙ (memory q x k (q == p) of (sym (remove-body p w q) ∙ e) holds ∙ sym (remove-memory p w k));
+    }
+  where
+    nothing : (t : Bool) → None ≡ cond t None no_body
+    nothing true = refl
+    nothing false = refl
+
+    by_test : (q : ℕ) (t : Bool) → cond t None (body_at o q) ≡ cond (is_number g (gs q)) (cond t None (body_at w q)) None
+    by_test q true = nothing (is_number g (gs q))
+    by_test q false = h.bodies q
+
+    memory : (q : ℕ) (x : Body) (k : ℕ) (t : Bool) → gs q ≡ Some g → cond t None (body_at w q) ≡ Some x → IsHolder x k → memory_at o k ≡ memory_at w k
+    memory q x k true of is holds = absurd (cc)
+    memory q x k false of is holds = h.memories q x k of is holds
+
+one-remove : (g : ℕ) (gs : Groups) (p : ℕ) (w o : Bodies) → (gs p ≡ Some g → ⊥) → Agrees g gs w o → Agrees g gs (remove p w) o
+one-remove g gs p w o other h =
+    record {
+      bodies = λ q. by_test q (q == p) refl ∙ ap (λ x. cond (is_number g (gs q)) x None) (sym (remove-body p w q));
+      memories = λ q x k of e holds. memory q x k (q == p) of (sym (remove-body p w q) ∙ e) holds ∙ sym (remove-memory p w k);
+    }
+  where
+    by_test : (q : ℕ) (t : Bool) → (q == p) ≡ t → body_at o q ≡ cond (is_number g (gs q)) (cond t None (body_at w q)) None
+    by_test q true e = let no = number-other g (gs q) (λ k. other (ap gs (sym (eqb-true q p e)) ∙ k)) in h.bodies q ∙ (ap (λ t. cond t (body_at w q) None) no ∙ sym (ap (λ t. cond t no_body None) no))
+    by_test q false e = h.bodies q
+
+    memory : (q : ℕ) (x : Body) (k : ℕ) (t : Bool) → gs q ≡ Some g → cond t None (body_at w q) ≡ Some x → IsHolder x k → memory_at o k ≡ memory_at w k
+    memory q x k true of is holds = absurd (cc)
+    memory q x k false of is holds = h.memories q x k of is holds
+
+-- the view fits and its window is whole
+pub record Good (owner : ℕ → Owner) (gs : Groups) (n p : ℕ) (v : View) : Type 0 where
+  pub fits : Fits owner gs n p v.body
+  pub whole : length v.window ≡ WINDOW_LEN
+
+-- the bodies after a change, where the process is the group's
+abbrev pub if_own : Bool → Bodies → Bodies → Bodies
+if_own t new old = cond t new old
+
+pub joint-become : (g : ℕ) (owner : ℕ → Owner) (gs : Groups) (n p : ℕ) (v : Option View) (w o : Bodies) → IfSome v (Good owner gs n p) → Joint g owner gs n w o → Joint g owner gs n (become p v w) (if_own (is_number g (gs p)) (become p v o) o)
+joint-become g owner gs n p None w o f h = record { owned = remove-owned owner gs n p w h.owned; agrees = by_test (is_number g (gs p)) refl }
+  where
+    by_test : (t : Bool) → is_number g (gs p) ≡ t → Agrees g gs (remove p w) (cond t (remove p o) o)
+    by_test true e = both-remove g gs p w o h.agrees
+    by_test false e = one-remove g gs p w o (number-false g (gs p) e) h.agrees
+joint-become g owner gs n p (Some v) w o f h = record { owned = put-owned owner gs n p v w f.fits f.whole h.owned; agrees = by_test (is_number g (gs p)) refl }
+  where
+    by_test : (t : Bool) → is_number g (gs p) ≡ t → Agrees g gs (put p v w) (cond t (put p v o) o)
+    by_test true e = both-put g gs p v w o (number-true g (gs p) e) h.agrees
+    by_test false e = one-put g owner gs n p v w o (number-false g (gs p) e) f.fits h.owned h.agrees
+
+pub joint-later : (g : ℕ) (owner owner' : ℕ → Owner) (gs : Groups) (n n' : ℕ) (w o : Bodies) → ((k : ℕ) → k < n → owner' k ≡ owner k) → n ≤ n' → Joint g owner gs n w o → Joint g owner' gs n' w o
+joint-later g owner owner' gs n n' w o same le h = record { owned = owned-later owner owner' gs n n' w same le h.owned; agrees = h.agrees }
+
+-- a member sees the same in both
+pub same-seen : (g : ℕ) (gs : Groups) (w o : Bodies) (p : ℕ) → Agrees g gs w o → gs p ≡ Some g → seen o p ≡ seen w p
+same-seen g gs w o p h of = by_body (body_at w p) refl (h.bodies p ∙ ap (λ t. cond t (body_at w p) None) (number-same g (gs p) of))
+  where
+    by_segment : (x : Body) (s : Option ℕ) → body_at w p ≡ Some x → x.segment ≡ s → segment_bytes o s ≡ segment_bytes w s
+    by_segment x None e k = refl
+    by_segment x (Some i) e k = h.memories p x i of e (inr k)
+
+    same : (x : Body) → body_at w p ≡ Some x → view o x ≡ view w x
+    same x e = ap₂ (λ (a b : List ℕ). record { body = x; window = a; segment = b }) (h.memories p x x.window of e (inl refl)) (by_segment x x.segment e refl)
+
+    by_body : (b : Option Body) → body_at w p ≡ b → body_at o p ≡ body_at w p → option_map (view o) (body_at o p) ≡ option_map (view w) (body_at w p)
+    by_body None e k = rw (k ∙ e, e) refl
+    by_body (Some x) e k = rw (k ∙ e, e) (ap Some (same x e))

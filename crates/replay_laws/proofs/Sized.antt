@@ -1,0 +1,180 @@
+-- A private window keeps its length, whatever an instruction or an act does.
+use Rattle.std.proofs.Common.{◌≡◌, ℕ, ◌+◌, ◌-◌, ◌≤◌, List, [], ◌∷◌, ◌++◌, length, take, drop, replicate, refl, ◌∙◌, subst, Option, Some, None, IfSome, unwrap_or, Bool, true, false, ◌==◌, ◌&&◌, ◌||◌, ◌%◌, if◌then◌else◌, arith, nat_le, nat_lt, is_some, option_map, length-take, length-drop, length-append, length-take-le}
+use Rattle.std.proofs.lemmas.Bool.{and_parts, leb-true, ltb-false}
+use Rattle.std.proofs.lemmas.List.{length-replicate}
+use Rattle.arn_base.specs.Disk.{overwrite}
+use Rattle.arn_base.specs.declared.machine.Cpu.{Cpu}
+use Rattle.arn_base.specs.Window.{Window, is_whole_in, window_bytes, window_with, bytes_at, with_bytes, bytes_of, number_at}
+use Rattle.rv64_isa.specs.declared.instruction.Instr.{Instr}
+use Rattle.rv64_isa.specs.declared.instruction.Instr.TheVariants.{Lui, Auipc, Jal, Jalr, Branch, Load, Store, Imm, Op, Fence, Ecall, Ebreak}
+use Rattle.rv64_isa.specs.Decoded.{decoded}
+use Rattle.rv64_model.specs.Instruction.{Effect, Next, Call, End, jumps, jumped, branches, loads, stores, executed, executed_if, fetched, advanced}
+use Rattle.rv64_model.specs.Operands.{address}
+use Rattle.rv64_model.specs.Registers.{register}
+use Rattle.rv64_model.specs.Values.{immediate, sum, is_taken, load_len, load_result}
+use Rattle.rv64_model.specs.declared.statuses.TheConstants.{MISALIGNED, BAD_ACCESS}
+use Rattle.parts_model.specs.declared.limits.TheConstants.{WINDOW_START, WINDOW_END, WINDOW_LEN, MOST_BLOCK_BYTES}
+use Rattle.parts_model.specs.Image.{Image, image_name, header_len, can_enter, fits_window, is_image, read_as_image}
+use Rattle.std.specs.Prelude.{bytes_eq}
+use Rattle.acts_model.specs.Acts.{Act, Returns, Receives, Gives, Starts, Forks, Founds, Shares, Leaves, Delivers, Exits, Faults, Dies, acted, restored}
+use Rattle.acts_model.specs.Bodies.{View}
+use Rattle.acts_model.specs.Disagreement.{is_outside, isnt_block}
+use Rattle.acts_model.specs.Views.{reach, read, with_reach, stands_at, after_instr, among_zeros, block_at, window_at_start}
+
+-- the first window, where there is one, is a whole private one
+abbrev FirstWhole : List Window → Type 0
+FirstWhole [] = Unit {0}
+FirstWhole (w ∷ ws) = length w.bytes ≡ WINDOW_LEN
+
+overwritten-len : (old : List ℕ) (at : ℕ) (bytes : List ℕ) → at + length bytes ≤ length old → length (overwrite old at bytes) ≡ length old
+overwritten-len old at bytes l =
+    let a = length-take-le at old (omega arith) in
+    let b = length-append (take at old) bytes in
+    let c = length-append (take at old ++ bytes) (drop (at + length bytes) old) in
+    let d = length-drop (at + length bytes) old in
+    omega arith
+
+with-whole : (ws : List Window) (at : ℕ) (bytes : List ℕ) → FirstWhole ws → FirstWhole (with_bytes ws at bytes)
+with-whole [] at bytes h = tt
+with-whole (w ∷ ws) at bytes h = by_test (is_whole_in w at (length bytes)) refl
+  where
+    by_test : (b : Bool) → is_whole_in w at (length bytes) ≡ b → FirstWhole (if b then window_with w at bytes ∷ ws else w ∷ with_bytes ws at bytes)
+    by_test true t =
+        let parts = and_parts (nat_le w.from at) (nat_le (at + length bytes) (w.from + length w.bytes)) t in
+        let x = leb-true w.from at parts.0 in
+        let y = leb-true (at + length bytes) (w.from + length w.bytes) parts.1 in
+        overwritten-len w.bytes (at - w.from) bytes (omega arith) ∙ h
+    by_test false t = h
+
+with_reach-whole : (ws : List Window) (v : View) → FirstWhole ws → length v.window ≡ WINDOW_LEN → length (with_reach ws v).window ≡ WINDOW_LEN
+with_reach-whole [] v h s = s
+with_reach-whole (w ∷ []) v h s = h
+with_reach-whole (w ∷ x ∷ more) v h s = h
+
+-- what is read has no more bytes than were asked for
+read-few : (ws : List Window) (at len : ℕ) → length (unwrap_or (bytes_at ws at len) []) ≤ len
+read-few [] at len = omega arith
+read-few (w ∷ ws) at len = by_test (is_whole_in w at len) (read-few ws at len)
+  where
+    by_test : (b : Bool) → length (unwrap_or (bytes_at ws at len) []) ≤ len → length (unwrap_or (if b then Some (window_bytes w at len) else bytes_at ws at len) []) ≤ len
+    by_test true ih = let a = length-take len (drop (at - w.from) w.bytes) in omega arith
+    by_test false ih = ih
+
+-- instructions
+
+abbrev WholeEffect : Effect → Type 0
+WholeEffect (Next instr cpu memory) = FirstWhole memory
+WholeEffect Call = Unit {0}
+WholeEffect (End status) = Unit {0}
+
+jumps-whole : (instr : Instr) (cpu : Cpu) (ws : List Window) (rd target : ℕ) → FirstWhole ws → WholeEffect (jumps instr cpu ws rd target)
+jumps-whole instr cpu ws rd target h = by_test (target % 4 == 0)
+  where
+    by_test : (b : Bool) → WholeEffect (if b then Next instr (jumped cpu rd target) ws else End MISALIGNED)
+    by_test true = h
+    by_test false = tt
+
+branches-whole : (instr : Instr) (cpu : Cpu) (ws : List Window) (b : Bool) (target : ℕ) → FirstWhole ws → WholeEffect (branches instr cpu ws b target)
+branches-whole instr cpu ws false target h = h
+branches-whole instr cpu ws true target h = jumps-whole instr cpu ws 0 target h
+
+loads-whole : (instr : Instr) (cpu : Cpu) (ws : List Window) (rd : ℕ) (o : Option ℕ) → FirstWhole ws → WholeEffect (loads instr cpu ws rd o)
+loads-whole instr cpu ws rd None h = tt
+loads-whole instr cpu ws rd (Some value) h = h
+
+stores-whole : (instr : Instr) (cpu : Cpu) (ws : List Window) (at len value : ℕ) → FirstWhole ws → WholeEffect (stores instr cpu ws at len value)
+stores-whole instr cpu ws at len value h = by_test (is_some (bytes_at ws at len))
+  where
+    by_test : (b : Bool) → WholeEffect (if b then Next instr (advanced cpu) (with_bytes ws at (bytes_of len value)) else End BAD_ACCESS)
+    by_test true = with-whole ws at (bytes_of len value) h
+    by_test false = tt
+
+executed-whole : (instr : Instr) (cpu : Cpu) (ws : List Window) → FirstWhole ws → WholeEffect (executed instr cpu ws)
+executed-whole (Lui rd imm) cpu ws h = h
+executed-whole (Auipc rd imm) cpu ws h = h
+executed-whole (Jal rd imm) cpu ws h = jumps-whole (Jal rd imm) cpu ws rd _ h
+executed-whole (Jalr rd rs1 imm) cpu ws h = jumps-whole (Jalr rd rs1 imm) cpu ws rd _ h
+executed-whole (Branch op rs1 rs2 imm) cpu ws h = branches-whole (Branch op rs1 rs2 imm) cpu ws (is_taken op (register cpu rs1) (register cpu rs2)) (sum cpu.pc (immediate imm)) h
+executed-whole (Load op rd rs1 imm) cpu ws h = loads-whole (Load op rd rs1 imm) cpu ws rd (option_map (load_result op) (number_at ws (address cpu rs1 imm) (load_len op))) h
+executed-whole (Store op rs1 rs2 imm) cpu ws h = stores-whole (Store op rs1 rs2 imm) cpu ws _ _ _ h
+executed-whole (Imm op rd rs1 imm) cpu ws h = h
+executed-whole (Op op rd rs1 rs2) cpu ws h = h
+executed-whole (Fence word) cpu ws h = h
+executed-whole Ecall cpu ws h = tt
+executed-whole Ebreak cpu ws h = tt
+
+executed_if-whole : (o : Option Instr) (cpu : Cpu) (ws : List Window) → FirstWhole ws → WholeEffect (executed_if o cpu ws)
+executed_if-whole None cpu ws h = tt
+executed_if-whole (Some instr) cpu ws h = executed-whole instr cpu ws h
+
+fetched-whole : (o : Option ℕ) (cpu : Cpu) (ws : List Window) → FirstWhole ws → WholeEffect (fetched o cpu ws)
+fetched-whole None cpu ws h = tt
+fetched-whole (Some word) cpu ws h = executed_if-whole (decoded word) cpu ws h
+
+pub instr-whole : (v : View) (instr : Instr) (cpu : Cpu) (memory : List Window) → length v.window ≡ WINDOW_LEN → stands_at v ≡ Next instr cpu memory → length (after_instr cpu memory v).window ≡ WINDOW_LEN
+instr-whole v instr cpu memory s e =
+    let whole : FirstWhole memory = subst WholeEffect e (fetched-whole (number_at (reach v) v.body.cpu.pc 4) v.body.cpu (reach v) s) in
+    with_reach-whole memory (record v { body = record v.body { cpu = cpu } }) whole s
+
+-- acts
+
+-- what a process starts from is an image, and its block isn't too long
+abbrev pub StartsWell : View → Act → Type 0
+StartsWell v (Starts file block len) = (is_image file ≡ true) × (isnt_block v block len ≡ false)
+StartsWell v act = Unit {0}
+
+image-fits : (file : List ℕ) → is_image file ≡ true → fits_window (read_as_image file) ≡ true
+image-fits file e =
+    let image = read_as_image file in
+    let a = and_parts (nat_le header_len (length file)) (bytes_eq (take 8 file) image_name && (can_enter image.entry && fits_window image)) e in
+    let b = and_parts (bytes_eq (take 8 file) image_name) (can_enter image.entry && fits_window image) a.1 in
+    (and_parts (can_enter image.entry) (fits_window image) b.1).1
+
+among-len : (len offset : ℕ) (bytes : List ℕ) → offset + length bytes ≤ len → length (among_zeros len offset bytes) ≡ len
+among-len len offset bytes l =
+    let front : List ℕ = replicate offset 0 in
+    let back : List ℕ = replicate (len - (offset + length bytes)) 0 in
+    let a = length-replicate {A = ℕ} offset 0 in
+    let b = length-append front bytes in
+    let c = length-append (front ++ bytes) back in
+    let d = length-replicate {A = ℕ} (len - (offset + length bytes)) 0 in
+    omega arith
+
+start-len : (image : Image) (block : List ℕ) → fits_window image ≡ true → length block ≤ MOST_BLOCK_BYTES → length (window_at_start image block) ≡ WINDOW_LEN
+start-len image block e l =
+    let parts = and_parts (nat_le WINDOW_START image.load) (nat_le (image.load + length image.body) WINDOW_END) e in
+    let x = leb-true WINDOW_START image.load parts.0 in
+    let y = leb-true (image.load + length image.body) WINDOW_END parts.1 in
+    let zeroed = among_zeros WINDOW_LEN (image.load - WINDOW_START) image.body in
+    let a = among-len WINDOW_LEN (image.load - WINDOW_START) image.body (omega arith) in
+    let b = length-take-le (block_at (length block) - WINDOW_START) zeroed (omega arith) in
+    let c = length-append (take (block_at (length block) - WINDOW_START) zeroed) block in
+    omega arith
+
+either-false : (a b : Bool) → (a || b) ≡ false → a ≡ false
+either-false true b e = e
+either-false false b e = refl
+
+block-few : (v : View) (block len : ℕ) → isnt_block v block len ≡ false → length (read v block len) ≤ MOST_BLOCK_BYTES
+block-few v block len e =
+    let l = ltb-false MOST_BLOCK_BYTES len (either-false (nat_lt MOST_BLOCK_BYTES len) (is_outside v block len) e) in
+    let r = read-few (reach v) block len in
+    omega arith
+
+restored-whole : (o : Option Cpu) (v : View) → length v.window ≡ WINDOW_LEN → length (restored o v).window ≡ WINDOW_LEN
+restored-whole None v s = s
+restored-whole (Some cpu) v s = s
+
+pub acted-whole : (event : ℕ) (act : Act) (v : View) → StartsWell v act → length v.window ≡ WINDOW_LEN → IfSome (acted event act v) (λ w. length w.window ≡ WINDOW_LEN)
+acted-whole event (Returns result) v h s = s
+acted-whole event (Receives at bytes result) v h s = with_reach-whole (with_bytes (reach v) at bytes) v (with-whole (reach v) at bytes s) s
+acted-whole event (Gives at len result) v h s = s
+acted-whole event (Starts file block block_len) v h s = start-len (read_as_image file) (read v block block_len) (image-fits file h.0) (block-few v block block_len h.1)
+acted-whole event (Forks child) v h s = s
+acted-whole event (Founds child) v h s = s
+acted-whole event Shares v h s = s
+acted-whole event Leaves v h s = restored-whole v.body.slot v s
+acted-whole event (Delivers signal handler cut) v h s = s
+acted-whole event Exits v h s = tt
+acted-whole event (Faults status) v h s = tt
+acted-whole event (Dies signal cut) v h s = tt
