@@ -1,0 +1,2 @@
+pub mod TellsTurn
+pub mod TellsUntil

@@ -2,3 +2,7 @@
 //!
 //! What holds is stated by functions that do nothing.
 #![tactic(auto)]
+
+mod tells;
+
+pub use tells::{records_tell_moments, records_tell_runs};

@@ -1,0 +1,24 @@
+// What the records of a run tell of it.
+ghost use Rattle.replay_laws.specs.Laws.{RecordsTellMoments, RecordsTellRuns};
+
+use arn_model::{runs_append, runs_sound, steps_tell};
+use log_model::events_recorded;
+
+/// What the records of a run tell of its end, where fewer than 2^63 processes have been made.
+pub fn records_tell_runs()
+    ensures { RecordsTellRuns }
+{
+    steps_tell();
+    runs_append();
+    runs_sound();
+    events_recorded();
+}
+
+/// What they tell of a moment.
+pub fn records_tell_moments()
+    ensures { RecordsTellMoments }
+{
+    steps_tell();
+    runs_append();
+    runs_sound();
+}
