@@ -1,2 +1,7 @@
 pub mod TellsTurn
 pub mod TellsUntil
+pub mod TellsSteps
+pub mod TellsLives
+pub mod TellsSegments
+pub mod TellsNames
+pub mod TellsRuns

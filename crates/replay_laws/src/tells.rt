@@ -19,6 +19,5 @@ pub fn records_tell_moments()
     ensures { RecordsTellMoments }
 {
     steps_tell();
-    runs_append();
     runs_sound();
 }
