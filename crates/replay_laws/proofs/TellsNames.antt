@@ -14,6 +14,7 @@ use Rattle.arn_model.specs.Row.{can_unplug}
 use Rattle.arn_model.specs.Run as run
 use Rattle.arn_model.specs.Run.{is_free, can_add, may_unplug}
 use Rattle.arn_model.specs.Step.{Step}
+use Rattle.arn_model.specs.TransferCalls.{was_unplugged}
 use Rattle.arn_model.specs.Tells.{is_inner, named_after, StepTells, Runs, Happens, Boots, Adds, Types, Unplugs}
 use Rattle.history_model.specs.Names as names
 use Rattle.history_model.specs.Names.{named_by, named_from}
@@ -140,6 +141,10 @@ names-keep name m s old facts is = by_kind facts.tells
     there : (x : Step) → s ≡ x → NamesAre name x.after (by_event (named_at name) x.moved.inside.event old) → NamesAre name s.after (by_event (named_at name) s.moved.inside.event old)
     there x same r = subst (λ (x : Step). NamesAre name x.after (by_event (named_at name) x.moved.inside.event old)) (sym same) r
 
+    unplugged-booted : (device : ℕ) → may_unplug m device ≡ true → run.is_booted m ≡ true
+    unplugged-booted device may =
+        let rest = not (was_unplugged m.kernel device) in first-of (run.is_booted m) rest (second-of can_unplug (run.is_booted m && rest) may)
+
     by_kind : StepTells m s → NamesAre name s.after (by_event (named_at name) s.moved.inside.event old)
     by_kind (Runs p v instr cpu memory sees stands same) = there _ same (record { file = is.file; next = is.next })
     by_kind (Happens p v d e tells same) =
@@ -169,4 +174,4 @@ names-keep name m s old facts is = by_kind facts.tells
     by_kind (Types bytes may same) =
         there _ same (record { file = is.file; next = λ none. absurd (not-both (run.is_booted m) may none) })
     by_kind (Unplugs device may same) =
-        there _ same (record { file = is.file; next = λ none. absurd (not-both (run.is_booted m) (first-of (run.is_booted m) _ (second-of can_unplug _ may)) none) })
+        there _ same (record { file = is.file; next = λ none. absurd (not-both (run.is_booted m) (unplugged-booted device may) none) })
