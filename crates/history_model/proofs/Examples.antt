@@ -1,6 +1,5 @@
 -- What lists of records tell, at literal values.
-use Rattle.std.proofs.Common.{◌≡◌, ℕ, zero, suc, ◌<◌, List, [], ◌∷◌, ◌++◌, Option, Some, None, map, replicate, codes, true, false, refl, sym, ap, subst, ◌∙◌, arith, unwrap_or, option_and_then, Contains}
-use Rattle.arn_base.specs.declared.machine.Cpu.{Cpu}
+use Rattle.std.proofs.Common.{◌≡◌, ℕ, zero, suc, List, [], ◌∷◌, ◌++◌, Option, Some, None, map, replicate, codes, true, false, refl, sym, ap, subst, ◌∙◌, arith, unwrap_or, Contains}
 use Rattle.arn_base.specs.declared.records.Extra.{Extra}
 use Rattle.arn_base.specs.declared.records.Extra.TheVariants as extra
 use Rattle.arn_base.specs.declared.records.Give.{Give}
@@ -10,7 +9,7 @@ use Rattle.arn_base.specs.declared.records.Record.TheVariants as entry
 use Rattle.history_model.specs.Events.{how_many, event_at, len_of, is_range}
 use Rattle.history_model.specs.Exchanges.{received, founded, Edge, ByBytes, ByFork, Back, Starting, Backward, Forth, Beginning, Forward}
 use Rattle.history_model.specs.Groups.{group_of, count_of, event_group}
-use Rattle.history_model.specs.Moments.{Numbered, total, events_until, lives_at, segments_told, segment_at}
+use Rattle.history_model.specs.Moments.{total, events_until, lives_at, segments_told, segment_at}
 use Rattle.history_model.specs.Names.{is_booted, file_named, brought, may_bring}
 
 -- bytes that came from one place

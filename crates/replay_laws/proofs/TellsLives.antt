@@ -1,5 +1,5 @@
 -- The records tell who lives, and whether a process was made.
-use Rattle.std.proofs.Common.{◌≡◌, ℕ, zero, suc, ◌+◌, ◌<◌, ◌≤◌, ◌==◌, ◌&&◌, ◌||◌, Bool, true, false, cond, nat_lt, List, [], ◌∷◌, Option, None, Some, is_some, length, map, refl, sym, ap, subst, ◌∙◌, arith, ne_eqb, option_map}
+use Rattle.std.proofs.Common.{◌≡◌, ℕ, zero, suc, ◌≤◌, ◌==◌, ◌||◌, Bool, true, false, cond, nat_lt, List, [], ◌∷◌, Option, None, Some, is_some, length, map, refl, sym, ap, subst, ◌∙◌, arith, ne_eqb, option_map}
 use Rattle.std.specs.List.{list_any}
 use Rattle.std.proofs.lemmas.Bool.Decides.{nat_tests}
 use Rattle.arn_base.specs.declared.records.Record.{Record}
@@ -14,11 +14,11 @@ use Rattle.arn_model.specs.Kernel.{Kernel, Machine}
 use Rattle.arn_model.specs.Run as run
 use Rattle.arn_model.specs.Step.{Step}
 use Rattle.arn_model.specs.Tells.{lives, is_inner, StepTells, Runs, Happens, Boots, Adds, Types, Unplugs}
-use Rattle.history_model.specs.Moments.{Numbered, lives_by}
+use Rattle.history_model.specs.Moments.{lives_by}
 use Rattle.history_model.specs.Names as names
 use Rattle.replay_laws.proofs.TellsSteps.{Facts, by_event, fold_events, as_numbered}
 
--- process 1 is the one that a boot makes
+-- The table after a boot: process 1 is the one that it makes. Its descriptors are opened one after the other
 abbrev first_opened : Processes → ℕ → Processes
 first_opened all n =
     table.with_change (table.with_change (table.with_change (table.booted all) 1 (table.placed n)) 1 (table.placed 0)) 1 (table.placed 0)
@@ -35,8 +35,7 @@ first-lives (x ∷ all) n q none = absurd (some none)
 booted-lives : (k : Kernel) (q : ℕ) → nat_lt 0 (length k.processes) ≡ false → cond (1 == q) true (lives k q) ≡ lives (kernel.booted k) q
 booted-lives k q none = first-lives k.processes (length k.descriptions) q none
 
--- who lives
-
+-- who lives: one process, before and after an event
 abbrev pub life_by : ℕ → ℕ → Record → Bool → Bool
 life_by pid n e before = lives_after (life_told e) pid before
 

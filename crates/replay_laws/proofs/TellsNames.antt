@@ -1,11 +1,11 @@
 -- The records tell which file a name stands for.
-use Rattle.std.proofs.Common.{◌≡◌, ℕ, ◌+◌, ◌&&◌, not, Bool, true, false, cond, List, [], ◌∷◌, ◌++◌, Option, None, Some, is_some, length, map, filter, bytes_eq, refl, sym, ap, subst, ◌∙◌, arith, nat_lt}
+use Rattle.std.proofs.Common.{◌≡◌, ℕ, ◌+◌, ◌&&◌, not, Bool, true, false, cond, List, [], ◌∷◌, ◌++◌, Option, None, Some, is_some, map, filter, bytes_eq, refl, sym, ap, subst, ◌∙◌}
 use Rattle.std.specs.List.{list_any}
 use Rattle.std.proofs.lemmas.List.{length_push}
 use Rattle.std.proofs.lemmas.Slice.Eq.{bytes_eq-Decides}
 use Rattle.arn_base.specs.declared.records.Record.{Record}
 use Rattle.arn_base.specs.declared.records.Record.TheVariants as entry
-use Rattle.parts_model.specs.Files.{Files, Name, file_among, find_file, next_file, made}
+use Rattle.parts_model.specs.Files.{Name, file_among, find_file, next_file}
 use Rattle.parts_model.specs.Tagged.{held_bytes}
 use Rattle.acts_model.specs.Moved.{Event}
 use Rattle.acts_model.specs.Records.{is_event, NameChange, Names, Unnames, NoName, name_told}

@@ -1,28 +1,25 @@
 -- What the records of a run tell of it, and of a moment.
-use Rattle.std.proofs.Common.{◌≡◌, ℕ, zero, suc, ◌+◌, ◌<◌, Bool, false, List, [], Option, None, IfSome, length, map, filter, refl, sym, ap, subst, ◌∙◌, arith}
+use Rattle.std.proofs.Common.{◌≡◌, ℕ, zero, suc, false, List, [], Option, None, IfSome, length, map, refl, sym, ap, subst, ◌∙◌, arith}
 use Rattle.std.specs.List.{list_any}
 use Rattle.arn_base.specs.declared.records.Record.{Record}
 use Rattle.parts_model.specs.Files.{find_file}
 use Rattle.acts_model.specs.Bodies.{body_at}
-use Rattle.acts_model.specs.Records.{is_event}
 use Rattle.arn_model.specs.Kernel.{Machine, at_first}
 use Rattle.arn_model.specs.Laws.{StepsTell, EachRunIsSound, EachRunAppends}
 use Rattle.arn_model.specs.Run as run
 use Rattle.arn_model.specs.Run.{Input, machine_after, state_at, events_of, within}
-use Rattle.arn_model.specs.Step.{Step}
-use Rattle.arn_model.specs.Tells.{Along, lives}
+use Rattle.arn_model.specs.Tells.{lives}
 use Rattle.arn_model.specs.Turn.{after_steps}
-use Rattle.history_model.specs.Events.{how_many}
-use Rattle.history_model.specs.Moments.{Numbered, lives_at, lives_by, segment_at, segments_by, segments_told, events_until}
+use Rattle.history_model.specs.Moments.{Numbered, lives_by, segment_at, segments_by, segments_told, events_until}
 use Rattle.history_model.specs.Names as names
 use Rattle.history_model.specs.Names.{named_from}
 use Rattle.log_model.specs.Laws.{EventsRecorded}
-use Rattle.log_model.specs.Records.{records, event_records}
+use Rattle.log_model.specs.Records.{records}
 use Rattle.replay_laws.specs.Laws as laws
 use Rattle.replay_laws.specs.Laws.{TellsRun, TellsMoment}
 use Rattle.replay_laws.proofs.TellsLives.{LifeIs, life_by, life-keeps, lives-fold, BootIs, boot_by, boot-keeps, boots-fold}
 use Rattle.replay_laws.proofs.TellsNames.{Naming, NamesAre, named_at, names-keep, names-fold, named-kept, boot-kept}
-use Rattle.replay_laws.proofs.TellsSegments.{SegmentsAre, HoldIn, segments-keep, segments-first, segments-fold}
+use Rattle.replay_laws.proofs.TellsSegments.{SegmentsAre, segments-keep, segments-first, segments-fold}
 use Rattle.replay_laws.proofs.TellsSteps.{Facts, run-facts, within-along, fold_events, fold-keeps, as_numbered, numbered-events, events-counted}
 use Rattle.replay_laws.proofs.TellsUntil.{events-until, from-total}
 

@@ -1,5 +1,5 @@
 -- The records tell which segment each live process holds.
-use Rattle.std.proofs.Common.{◌≡◌, ℕ, ◌+◌, ◌==◌, ◌&&◌, Bool, true, false, cond, List, [], ◌∷◌, Option, None, Some, IfSome, zero, suc, map, refl, sym, ap, subst, ◌∙◌, arith, option_map, unwrap_or}
+use Rattle.std.proofs.Common.{◌≡◌, ℕ, ◌==◌, ◌&&◌, Bool, true, false, cond, List, [], ◌∷◌, Option, None, Some, IfSome, zero, suc, map, refl, sym, ap, subst, ◌∙◌, arith, option_map, unwrap_or}
 use Rattle.std.proofs.lemmas.Bool.{eq-eqb, eqb-true, eqb-false, cond-false}
 use Rattle.std.proofs.Common.{ne_eqb, length}
 use Rattle.arn_base.specs.declared.machine.Cpu.{Cpu}
@@ -18,11 +18,11 @@ use Rattle.acts_model.specs.Moved.{Event}
 use Rattle.acts_model.specs.Records.{process_of}
 use Rattle.acts_model.specs.Told as told
 use Rattle.acts_model.specs.Told.{Kind, kind_of, call_act, act_of, delivery_act, is_pipe_write}
-use Rattle.acts_model.specs.Views.{reach, with_reach, with_cpu, after_instr, written, with_result, argument}
+use Rattle.acts_model.specs.Views.{reach, with_reach, with_cpu, after_instr, argument}
 use Rattle.arn_model.specs.Kernel.{Machine, at_first}
 use Rattle.arn_model.specs.Step.{Step}
-use Rattle.arn_model.specs.Tells.{is_inner, EventTells, StepTells, Runs, Happens, Boots, Adds, Types, Unplugs}
-use Rattle.history_model.specs.Moments.{Numbered, changed, segment_forked, segment_started, segment_called, segments_told, segments_by}
+use Rattle.arn_model.specs.Tells.{is_inner, StepTells, Runs, Happens, Boots, Adds, Types, Unplugs}
+use Rattle.history_model.specs.Moments.{changed, segment_forked, segment_started, segment_called, segments_told, segments_by}
 use Rattle.replay_laws.proofs.TellsSteps.{Facts, by_event, fold_events, as_numbered}
 
 -- bodies by number: what is put is found, and nothing else changes

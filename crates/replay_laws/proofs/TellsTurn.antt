@@ -1,8 +1,7 @@
 -- What an input's steps are, by their records: at most a delivery first, instructions, at most a call or an end behind them; or one step of
 -- what comes from outside.
-use Rattle.std.proofs.Common.{◌≡◌, ℕ, zero, suc, ◌+◌, ◌||◌, ◌++◌, Bool, true, false, cond, nat_lt, List, [], ◌∷◌, Option, None, Some, length, option_to_list, option_map, refl, sym, ap, ◌∙◌, arith}
+use Rattle.std.proofs.Common.{◌≡◌, ℕ, zero, suc, ◌+◌, ◌||◌, ◌++◌, Bool, true, false, cond, nat_lt, List, [], ◌∷◌, Option, None, Some, length, option_to_list, option_map, refl, ap, ◌∙◌, arith}
 use Rattle.std.proofs.lemmas.List.Sums.{sum_by-cons}
-use Rattle.arn_base.specs.declared.records.Record.{Record}
 use Rattle.arn_base.specs.declared.records.Record.TheVariants as entry
 use Rattle.arn_base.specs.declared.records.Extra.{Extra}
 use Rattle.rv64_model.specs.Instruction.{Effect, Next, Call, End}
@@ -19,7 +18,6 @@ use Rattle.arn_model.specs.Row.{request, does}
 use Rattle.arn_model.specs.Run.{instructions_in}
 use Rattle.arn_model.specs.Step.{Step, plain_by, last_by, delivery_of, delivering, due_signal, call_step, handler, waits}
 use Rattle.arn_model.specs.Turn.{Turn, plains, plain_in, steps_then, steps_of, turn, delivery_in, after_first, after_steps, last_of, last_in}
-use Rattle.log_model.specs.Records.{event_records}
 
 -- a delivery: a signal's record, and no instruction
 pub record Delivery (s : Step) : Type 0 where
@@ -153,17 +151,13 @@ abbrev pub one_if_some : Option Step → ℕ
 one_if_some None = 0
 one_if_some (Some s) = 1
 
+or-true : (b : Bool) → (b || true) ≡ true
+or-true true = refl
+or-true false = refl
+
 pub last-is : (s : Step) → Last s → is_instruction s.moved.inside ≡ true
 last-is s (Calls number pid call result more e) = rw e (or-true (is_plain s.moved.inside.transfer))
-  where
-    or-true : (b : Bool) → (b || true) ≡ true
-    or-true true = refl
-    or-true false = refl
 last-is s (Ends number pid status e) = rw e (or-true (is_plain s.moved.inside.transfer))
-  where
-    or-true : (b : Bool) → (b || true) ≡ true
-    or-true true = refl
-    or-true false = refl
 
 last-one : (o : Option Step) → MaybeLast o → instructions_in (option_to_list o) ≡ one_if_some o
 last-one None is = refl

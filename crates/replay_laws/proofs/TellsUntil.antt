@@ -1,5 +1,5 @@
 -- The events that have happened at a moment, by the records, are those of the run's steps up to it; and the records count its instructions.
-use Rattle.std.proofs.Common.{◌≡◌, ◌⊎◌, inl, inr, ℕ, zero, suc, ◌+◌, ◌<◌, ◌≤◌, ◌++◌, Bool, true, false, cond, nat_le, List, [], ◌∷◌, Option, None, Some, length, map, option_to_list, refl, sym, ap, subst, ◌∙◌, arith, append_assoc}
+use Rattle.std.proofs.Common.{◌≡◌, ℕ, zero, suc, ◌+◌, ◌<◌, ◌≤◌, ◌++◌, Bool, true, false, cond, nat_le, List, [], ◌∷◌, Option, None, Some, length, map, option_to_list, refl, sym, ap, subst, ◌∙◌, arith, append_assoc}
 use Rattle.std.proofs.lemmas.Bool.Decides.{nat_tests}
 use Rattle.std.specs.List.{cons_option}
 use Rattle.std.proofs.lemmas.List.Sums.{sum_by-append}
@@ -8,7 +8,6 @@ use Rattle.arn_base.specs.declared.records.Record.TheVariants as entry
 use Rattle.parts_model.specs.declared.tagged.TaggedByte.{TaggedByte}
 use Rattle.parts_model.specs.Files.{find_file, file_bytes}
 use Rattle.parts_model.specs.Image.{is_image}
-use Rattle.parts_model.specs.Replies.{Answered}
 use Rattle.parts_model.specs.Tagged.{values, given}
 use Rattle.acts_model.specs.Moved.{Event, is_instruction}
 use Rattle.arn_model.specs.Kernel.{Machine, at_first}

@@ -4,7 +4,8 @@ ghost use Rattle.replay_laws.specs.Laws.{RecordsTellMoments, RecordsTellRuns};
 use arn_model::{runs_append, runs_sound, steps_tell};
 use log_model::events_recorded;
 
-/// What the records of a run tell of its end, where fewer than 2^63 processes have been made.
+/// What the records of a run tell of it: how many instructions and events there were, whether a process
+/// was made, and which file a name stands for; where fewer than 2^63 processes have been made.
 pub fn records_tell_runs()
     ensures { RecordsTellRuns }
 {
@@ -14,7 +15,8 @@ pub fn records_tell_runs()
     events_recorded();
 }
 
-/// What they tell of a moment.
+/// What the records of a run tell of a moment: who lives, and which segment each live process holds;
+/// where fewer than 2^63 processes have been made.
 pub fn records_tell_moments()
     ensures { RecordsTellMoments }
 {
