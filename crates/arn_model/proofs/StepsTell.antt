@@ -221,9 +221,9 @@ along-all-sound : (m : Machine) (steps : List Step) → MachineSound m → Along
 along-all-sound m [] s h = tt
 along-all-sound m (x ∷ steps) s h = (sound-of m s, along-all-sound x.after steps h.0.sound h.1)
 
-along-all-grows : (m : Machine) (steps : List Step) → Along StepGood m steps → Along (λ m s. length m.kernel.processes ≤ length s.after.kernel.processes) m steps
-along-all-grows m [] h = tt
-along-all-grows m (x ∷ steps) h = (h.0.grows, along-all-grows x.after steps h.1)
+along-numbers : (m : Machine) (steps : List Step) → Along StepGood m steps → Along laws.KeepsNumbers m steps
+along-numbers m [] h = tt
+along-numbers m (x ∷ steps) h = (h.0.grows, along-numbers x.after steps h.1)
 
 pub runs-sound : laws.EachRunIsSound
 runs-sound inputs =
@@ -231,5 +231,5 @@ runs-sound inputs =
     record {
       along = along-all-sound at_first (run inputs) at_first-sound good;
       last = sound-of (machine_from at_first inputs) (subst MachineSound (sym (machine_from-steps at_first inputs)) (along-sound at_first (run inputs) at_first-sound good));
-      grows = along-all-grows at_first (run inputs) good;
+      numbers = along-numbers at_first (run inputs) good;
     }

@@ -83,7 +83,7 @@ stays : (a b : ℕ) → a ≤ b → nat_lt 0 a ≡ true → nat_lt 0 b ≡ true
 stays a b h e = grind (arith, nat_tests)
 
 pub stays-booted : (m : Machine) (s : Step) → Facts m s → run.is_booted m ≡ true → run.is_booted s.after ≡ true
-stays-booted m s facts is = stays (length m.kernel.processes) (length s.after.kernel.processes) facts.grows is
+stays-booted m s facts is = stays (length m.kernel.processes) (length s.after.kernel.processes) facts.numbers is
 
 pub boot-booted : (k : Kernel) → nat_lt 0 (length k.processes) ≡ false → nat_lt 0 (length (kernel.booted k).processes) ≡ true
 boot-booted k none = made-of (kernel.booted k).processes 1 (sym (booted-lives k 1 none))

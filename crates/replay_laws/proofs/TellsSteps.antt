@@ -1,10 +1,10 @@
 -- What is known of each step of a run, and folds over the events of steps.
-use Rattle.std.proofs.Common.{◌≡◌, ℕ, zero, suc, ◌+◌, ◌≤◌, Bool, true, false, List, [], ◌∷◌, Option, None, Some, length, map, refl, sym, ap, subst, ◌∙◌, arith}
+use Rattle.std.proofs.Common.{◌≡◌, ℕ, zero, suc, ◌+◌, Bool, true, false, List, [], ◌∷◌, Option, None, Some, length, map, refl, sym, ap, subst, ◌∙◌, arith}
 use Rattle.std.specs.List.{cons_option}
 use Rattle.arn_base.specs.declared.records.Record.{Record}
 use Rattle.acts_model.specs.Moved.{Event, is_instruction}
 use Rattle.arn_model.specs.Kernel.{Machine, at_first}
-use Rattle.arn_model.specs.Laws.{StepsTell, EachRunIsSound}
+use Rattle.arn_model.specs.Laws.{StepsTell, EachRunIsSound, KeepsNumbers}
 use Rattle.arn_model.specs.Run.{Input, run, machine_after, events_of, within, unless_reached}
 use Rattle.arn_model.specs.Sound.{IsSoundMachine}
 use Rattle.arn_model.specs.Step.{Step}
@@ -17,14 +17,14 @@ use Rattle.replay_laws.proofs.TellsUntil.{numbered}
 pub record Facts (m : Machine) (s : Step) : Type 0 where
   pub tells : StepTells m s
   pub sound : IsSoundMachine m
-  pub grows : length m.kernel.processes ≤ length s.after.kernel.processes
+  pub numbers : KeepsNumbers m s
 
-facts-along : (m : Machine) (steps : List Step) → Along StepTells m steps → Along (λ m s. IsSoundMachine m) m steps → Along (λ m s. length m.kernel.processes ≤ length s.after.kernel.processes) m steps → Along Facts m steps
-facts-along m [] tells sound grows = tt
-facts-along m (s ∷ steps) tells sound grows = (record { tells = tells.0; sound = sound.0; grows = grows.0 }, facts-along s.after steps tells.1 sound.1 grows.1)
+facts-along : (m : Machine) (steps : List Step) → Along StepTells m steps → Along (λ m s. IsSoundMachine m) m steps → Along KeepsNumbers m steps → Along Facts m steps
+facts-along m [] tells sound numbers = tt
+facts-along m (s ∷ steps) tells sound numbers = (record { tells = tells.0; sound = sound.0; numbers = numbers.0 }, facts-along s.after steps tells.1 sound.1 numbers.1)
 
 pub run-facts : StepsTell → EachRunIsSound → (inputs : List Input) → HasNumbers (machine_after inputs).kernel → Along Facts at_first (run inputs)
-run-facts tell sound inputs few = facts-along at_first (run inputs) (tell inputs few) (sound inputs).along (sound inputs).grows
+run-facts tell sound inputs few = facts-along at_first (run inputs) (tell inputs few) (sound inputs).along (sound inputs).numbers
 
 -- a fact of each step is one of those up to a moment
 pub within-along : (P : Machine → Step → Type 0) (m : Machine) (left : ℕ) (steps : List Step) → Along P m steps → Along P m (within left steps)
