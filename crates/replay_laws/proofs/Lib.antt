@@ -4,4 +4,5 @@ pub mod TellsSteps
 pub mod TellsLives
 pub mod TellsSegments
 pub mod TellsNames
+pub mod TellsBrought
 pub mod TellsRuns

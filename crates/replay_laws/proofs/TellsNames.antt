@@ -28,7 +28,7 @@ same-change (Unnames path) name before = refl
 same-change NoName name before = refl
 
 -- a new name behind the others is found, where it was free
-pushed : (all : List Name) (path : List ℕ) (file : ℕ) → file_among all path ≡ None → (name : List ℕ) → cond (bytes_eq path name) (Some file) (file_among all name) ≡ file_among (all ++ record { path = path; file = file } ∷ []) name
+pub pushed : (all : List Name) (path : List ℕ) (file : ℕ) → file_among all path ≡ None → (name : List ℕ) → cond (bytes_eq path name) (Some file) (file_among all name) ≡ file_among (all ++ record { path = path; file = file } ∷ []) name
 pushed [] path file free name = refl
 pushed (x ∷ all) path file free name = by_tests (bytes_eq x.path path) refl (bytes_eq x.path name) refl (bytes_eq path name) refl (λ none. pushed all path file none name) free
   where
@@ -116,34 +116,34 @@ inner-named name n (entry.Signal pid signal cut handler) old is = refl
 inner-named name n (entry.Call pid number result more) old is = refl
 inner-named name n (entry.End pid status) old is = refl
 
-free-none : (o : Option ℕ) (b : Bool) → (not (is_some o) && b) ≡ true → o ≡ None
+pub free-none : (o : Option ℕ) (b : Bool) → (not (is_some o) && b) ≡ true → o ≡ None
 free-none None b e = refl
 free-none (Some x) b e = cc
 
-first-of : (a b : Bool) → (a && b) ≡ true → a ≡ true
+pub first-of : (a b : Bool) → (a && b) ≡ true → a ≡ true
 first-of true b e = refl
 first-of false b e = cc
 
-second-of : (a b : Bool) → (a && b) ≡ true → b ≡ true
+pub second-of : (a b : Bool) → (a && b) ≡ true → b ≡ true
 second-of true b e = e
 second-of false b e = cc
 
-not-both : (b : Bool) → b ≡ true → b ≡ false → ⊥
+pub not-both : (b : Bool) → b ≡ true → b ≡ false → ⊥
 not-both b e f = cc
 
-not-not : (b : Bool) → not b ≡ true → b ≡ false
+pub not-not : (b : Bool) → not b ≡ true → b ≡ false
 not-not true e = cc
 not-not false e = refl
+
+pub unplugged-booted : (m : Machine) (device : ℕ) → may_unplug m device ≡ true → run.is_booted m ≡ true
+unplugged-booted m device may =
+    let rest = not (was_unplugged m.kernel device) in first-of (run.is_booted m) rest (second-of can_unplug (run.is_booted m && rest) may)
 
 pub names-keep : (name : List ℕ) (m : Machine) (s : Step) (old : Naming) → Facts m s → NamesAre name m old → NamesAre name s.after (by_event (named_at name) s.moved.inside.event old)
 names-keep name m s old facts is = by_kind facts.tells
   where
     there : (x : Step) → s ≡ x → NamesAre name x.after (by_event (named_at name) x.moved.inside.event old) → NamesAre name s.after (by_event (named_at name) s.moved.inside.event old)
     there x same r = subst (λ (x : Step). NamesAre name x.after (by_event (named_at name) x.moved.inside.event old)) (sym same) r
-
-    unplugged-booted : (device : ℕ) → may_unplug m device ≡ true → run.is_booted m ≡ true
-    unplugged-booted device may =
-        let rest = not (was_unplugged m.kernel device) in first-of (run.is_booted m) rest (second-of can_unplug (run.is_booted m && rest) may)
 
     by_kind : StepTells m s → NamesAre name s.after (by_event (named_at name) s.moved.inside.event old)
     by_kind (Runs p v instr cpu memory sees stands same) = there _ same (record { file = is.file; next = is.next })
@@ -174,4 +174,4 @@ names-keep name m s old facts is = by_kind facts.tells
     by_kind (Types bytes may same) =
         there _ same (record { file = is.file; next = λ none. absurd (not-both (run.is_booted m) may none) })
     by_kind (Unplugs device may same) =
-        there _ same (record { file = is.file; next = λ none. absurd (not-both (run.is_booted m) (unplugged-booted device may) none) })
+        there _ same (record { file = is.file; next = λ none. absurd (not-both (run.is_booted m) (unplugged-booted m device may) none) })

@@ -1,7 +1,8 @@
 -- What the records of a run tell of it, and of a moment.
-use Rattle.std.proofs.Common.{◌≡◌, ℕ, zero, suc, false, List, [], Option, None, IfSome, length, map, refl, sym, ap, subst, ◌∙◌, arith}
-use Rattle.std.specs.List.{list_any}
+use Rattle.std.proofs.Common.{◌≡◌, not, ◌&&◌, is_some, nat_lt, Some, ℕ, zero, suc, false, List, [], Option, None, IfSome, length, map, refl, sym, ap, subst, ◌∙◌, arith}
+use Rattle.std.specs.List.{list_any, count_by}
 use Rattle.arn_base.specs.declared.records.Record.{Record}
+use Rattle.parts_model.specs.declared.limits.TheConstants.{MOST_FILES}
 use Rattle.parts_model.specs.Files.{find_file}
 use Rattle.acts_model.specs.Bodies.{body_at}
 use Rattle.arn_model.specs.Kernel.{Machine, at_first}
@@ -12,12 +13,13 @@ use Rattle.arn_model.specs.Tells.{lives}
 use Rattle.arn_model.specs.Turn.{after_steps}
 use Rattle.history_model.specs.Moments.{Numbered, lives_by, segment_at, segments_by, segments_told, events_until}
 use Rattle.history_model.specs.Names as names
-use Rattle.history_model.specs.Names.{named_from}
+use Rattle.history_model.specs.Names.{named_from, is_file, brought_from}
 use Rattle.log_model.specs.Laws.{EventsRecorded}
 use Rattle.log_model.specs.Records.{records}
 use Rattle.replay_laws.specs.Laws as laws
 use Rattle.replay_laws.specs.Laws.{TellsRun, TellsMoment}
 use Rattle.replay_laws.proofs.TellsLives.{LifeIs, life_by, life-keeps, lives-fold, BootIs, boot_by, boot-keeps, boots-fold}
+use Rattle.replay_laws.proofs.TellsBrought.{Brought, BroughtIs, UntilBooted, brings, brought-kept, count-kept, bytes-fold, count-fold, brought-keeps, brought-free}
 use Rattle.replay_laws.proofs.TellsNames.{Naming, NamesAre, named_at, names-keep, names-fold, named-kept, boot-kept}
 use Rattle.replay_laws.proofs.TellsSegments.{SegmentsAre, segments-keep, segments-first, segments-fold}
 use Rattle.replay_laws.proofs.TellsSteps.{Facts, run-facts, within-along, fold_events, fold-keeps, as_numbered, numbered-events, events-counted}
@@ -54,7 +56,38 @@ records-tell-runs tell append sound recorded inputs few =
           ∙ names-fold name (events_of steps) none_named
           ∙ (fold-keeps (named_at name) (NamesAre name) (names-keep name) at_first steps none_named facts (record { file = refl; next = λ none. refl })).file
           ∙ sym (ap (λ (m : Machine). find_file m.kernel.files name) reached);
+      brought = λ none name. brought-at name ∙ (files-are none name).bytes;
+      may_bring =
+          λ none name.
+          ap (λ (o : Option (List ℕ)). not (is_some o) && nat_lt (count_by is_file (records inputs)) MOST_FILES) (brought-at name)
+          ∙ ap (λ (n : ℕ). not (is_some (last-brought name).bytes) && nat_lt n MOST_FILES) (count-at name)
+          ∙ brought-free name (machine_after inputs) (last-brought name) (files-are none name);
     }
+  where
+    no_file : Brought
+    no_file = record { count = 0; bytes = None }
+
+    last-brought : List ℕ → Brought
+    last-brought name = fold_events (brings name) (events_of (run.run inputs)) no_file
+
+    brought-at : (name : List ℕ) → names.brought (records inputs) name ≡ (last-brought name).bytes
+    brought-at name =
+        brought-kept (records inputs) name None
+        ∙ ap (λ (es : List Record). brought_from es name None) (recorded inputs)
+        ∙ bytes-fold name (events_of (run.run inputs)) no_file
+
+    count-at : (name : List ℕ) → count_by is_file (records inputs) ≡ (last-brought name).count
+    count-at name =
+        count-kept (records inputs)
+        ∙ ap (λ (es : List Record). count_by is_file es) (recorded inputs)
+        ∙ omega (arith, count-fold name (events_of (run.run inputs)) no_file)
+
+    files-are : run.is_booted (machine_after inputs) ≡ false → (name : List ℕ) → BroughtIs name (machine_after inputs) (last-brought name)
+    files-are none name =
+        subst (λ (m : Machine). UntilBooted name m (last-brought name)) (sym (run-reached append inputs))
+        (fold-keeps (brings name) (UntilBooted name) (brought-keeps name) at_first (run.run inputs) no_file (run-facts tell sound inputs few)
+        (λ none. record { count = refl; bytes = refl; there = refl }))
+        none
 
 -- of a moment
 
