@@ -1,14 +1,12 @@
 -- Until a process is made, the records tell the bytes of each file, and whether one more may be brought.
-use Rattle.std.proofs.Common.{◌≡◌, ℕ, zero, suc, ◌+◌, ◌<◌, ◌≤◌, ◌==◌, ◌&&◌, not, Bool, true, false, cond, nat_le, nat_lt, List, [], ◌∷◌, ◌++◌, Option, None, Some, is_some, length, map, filter, slice_get, bytes_eq, refl, sym, ap, subst, ◌∙◌, arith, option_map, option_and_then}
+use Rattle.std.proofs.Common.{◌≡◌, ℕ, zero, suc, ◌+◌, ◌<◌, ◌&&◌, not, Bool, true, false, cond, nat_le, nat_lt, List, [], ◌∷◌, ◌++◌, Option, None, Some, is_some, length, map, filter, bytes_eq, refl, sym, ap, subst, ◌∙◌, arith, option_map, option_and_then}
 use Rattle.std.specs.List.{count_by}
 use Rattle.std.proofs.lemmas.Bool.Decides.{nat_tests}
 use Rattle.std.proofs.lemmas.List.Sums.{sum_by-cons, sum_by-append}
 use Rattle.arn_base.specs.declared.records.Record.{Record}
 use Rattle.arn_base.specs.declared.records.Record.TheVariants as entry
 use Rattle.parts_model.specs.declared.limits.TheConstants.{MOST_FILES}
-use Rattle.parts_model.specs.declared.tagged.TaggedByte.{TaggedByte}
-use Rattle.parts_model.specs.Files as files
-use Rattle.parts_model.specs.Files.{Files, File, file_bytes, find_file, is_full, made, next_file}
+use Rattle.parts_model.specs.Files.{Files, File, file_bytes, find_file, made, next_file}
 use Rattle.parts_model.specs.Numbered.{nth, how_many}
 use Rattle.parts_model.specs.Tagged.{held_from, held_bytes, values}
 use Rattle.acts_model.specs.Moved.{Event}
@@ -18,8 +16,7 @@ use Rattle.arn_model.specs.Run as run
 use Rattle.arn_model.specs.Run.{is_free, boot_step}
 use Rattle.arn_model.specs.Step.{Step}
 use Rattle.arn_model.specs.Tells.{is_inner, StepTells, Runs, Happens, Boots, Adds, Types, Unplugs}
-use Rattle.history_model.specs.Names as names
-use Rattle.history_model.specs.Names.{is_file, brought_from, may_bring}
+use Rattle.history_model.specs.Names.{is_file, brought_from}
 use Rattle.replay_laws.specs.Laws.{named_bytes}
 use Rattle.replay_laws.proofs.TellsLives.{seen-booted, stays-booted, boot-booted}
 use Rattle.replay_laws.proofs.TellsNames.{pushed, not-both, not-not, first-of, second-of, free-none, unplugged-booted}

@@ -1,5 +1,5 @@
 -- What the records of a run tell of it, and of a moment.
-use Rattle.std.proofs.Common.{◌≡◌, not, ◌&&◌, is_some, nat_lt, Some, ℕ, zero, suc, false, List, [], Option, None, IfSome, length, map, refl, sym, ap, subst, ◌∙◌, arith}
+use Rattle.std.proofs.Common.{◌≡◌, not, ◌&&◌, is_some, nat_lt, ℕ, zero, suc, false, List, [], Option, None, IfSome, length, map, refl, sym, ap, subst, ◌∙◌, arith}
 use Rattle.std.specs.List.{list_any, count_by}
 use Rattle.arn_base.specs.declared.records.Record.{Record}
 use Rattle.parts_model.specs.declared.limits.TheConstants.{MOST_FILES}
