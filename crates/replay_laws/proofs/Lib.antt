@@ -12,3 +12,11 @@ pub mod Late
 pub mod Boots
 pub mod Inputs
 pub mod Whole
+pub mod TellsTurn
+pub mod TellsUntil
+pub mod TellsSteps
+pub mod TellsLives
+pub mod TellsSegments
+pub mod TellsNames
+pub mod TellsBrought
+pub mod TellsRuns

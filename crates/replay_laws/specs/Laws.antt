@@ -1,11 +1,12 @@
 -- What holds of the records of runs, and of groups alone.
-use Rattle.std.specs.Prelude.{◌≡◌, ℕ, if◌then◌else◌, List, Option, Some, None, IfSome, option_and_then}
+use Rattle.std.specs.Prelude.{◌≡◌, ℕ, false, if◌then◌else◌, List, Option, Some, None, IfSome, option_map, option_and_then}
 use Rattle.acts_model.specs.Bodies.{Bodies, body_at, seen}
 use Rattle.arn_model.specs.Kernel.{Machine}
 use Rattle.arn_model.specs.Run as run
-use Rattle.arn_model.specs.Run.{Input, machine_after, state_at, events_of, instructions_in}
+use Rattle.arn_model.specs.Run.{Input, machine_after, state_at, instructions_in, is_free}
 use Rattle.arn_model.specs.Tells.{HasNumbers, lives}
-use Rattle.parts_model.specs.Files.{find_file}
+use Rattle.parts_model.specs.Files.{Files, find_file, file_bytes}
+use Rattle.parts_model.specs.Tagged.{values}
 use Rattle.history_model.specs.Alone.{Own, Makes, alone}
 use Rattle.history_model.specs.Events.{how_many}
 use Rattle.history_model.specs.Groups.{Groups, group_of, is_number}
@@ -39,13 +40,19 @@ pub record TellsMoment (inputs : List Input) (moment pid : ℕ) : Type 0 where
   pub lives : lives_at (records inputs) moment pid ≡ lives (state_at inputs moment).kernel pid
   pub holds : IfSome (body_at (state_at inputs moment).bodies pid) (λ x. segment_at (records inputs) moment pid ≡ x.segment)
 
+-- the bytes of the file with this name
+abbrev pub named_bytes : Files → List ℕ → Option (List ℕ)
+named_bytes files name = option_map values (option_and_then (file_bytes files) (find_file files name))
+
 -- the records tell how many instructions have run and how many events there have been, whether a process was made, and which file a name
--- stands for
+-- stands for; and until a process is made, the bytes of files, and whether one more may be brought
 pub record TellsRun (inputs : List Input) : Type 0 where
   pub instructions : total (records inputs) ≡ instructions_in (run.run inputs)
   pub events : how_many (records inputs) ≡ (machine_after inputs).events
   pub booted : names.is_booted (records inputs) ≡ run.is_booted (machine_after inputs)
   pub named : (name : List ℕ) → names.file_named (records inputs) name ≡ find_file (machine_after inputs).kernel.files name
+  pub brought : run.is_booted (machine_after inputs) ≡ false → (name : List ℕ) → names.brought (records inputs) name ≡ named_bytes (machine_after inputs).kernel.files name
+  pub may_bring : run.is_booted (machine_after inputs) ≡ false → (name : List ℕ) → names.may_bring (records inputs) name ≡ is_free (machine_after inputs).kernel.files name
 
 abbrev pub RecordsTellMoments : Type 0
 RecordsTellMoments = (inputs : List Input) (moment pid : ℕ) → HasNumbers (machine_after inputs).kernel → TellsMoment inputs moment pid

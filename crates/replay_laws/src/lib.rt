@@ -4,5 +4,7 @@
 #![tactic(auto)]
 
 mod law;
+mod tells;
 
 pub use law::groups_pass_through;
+pub use tells::{records_tell_moments, records_tell_runs};

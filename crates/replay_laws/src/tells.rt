@@ -1,0 +1,25 @@
+// What the records of a run tell of it.
+ghost use Rattle.replay_laws.specs.Laws.{RecordsTellMoments, RecordsTellRuns};
+
+use arn_model::{runs_append, runs_sound, steps_tell};
+use log_model::events_recorded;
+
+/// What the records of a run tell of it: how many instructions and events there were, whether a process
+/// was made, and which file a name stands for; where fewer than 2^63 processes have been made.
+pub fn records_tell_runs()
+    ensures { RecordsTellRuns }
+{
+    steps_tell();
+    runs_append();
+    runs_sound();
+    events_recorded();
+}
+
+/// What the records of a run tell of a moment: who lives, and which segment each live process holds;
+/// where fewer than 2^63 processes have been made.
+pub fn records_tell_moments()
+    ensures { RecordsTellMoments }
+{
+    steps_tell();
+    runs_sound();
+}
