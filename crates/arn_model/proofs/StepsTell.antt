@@ -221,10 +221,15 @@ along-all-sound : (m : Machine) (steps : List Step) → MachineSound m → Along
 along-all-sound m [] s h = tt
 along-all-sound m (x ∷ steps) s h = (sound-of m s, along-all-sound x.after steps h.0.sound h.1)
 
+along-numbers : (m : Machine) (steps : List Step) → Along StepGood m steps → Along laws.KeepsNumbers m steps
+along-numbers m [] h = tt
+along-numbers m (x ∷ steps) h = (h.0.grows, along-numbers x.after steps h.1)
+
 pub runs-sound : laws.EachRunIsSound
 runs-sound inputs =
     let good = steps-good at_first inputs at_first-sound in
     record {
       along = along-all-sound at_first (run inputs) at_first-sound good;
       last = sound-of (machine_from at_first inputs) (subst MachineSound (sym (machine_from-steps at_first inputs)) (along-sound at_first (run inputs) at_first-sound good));
+      numbers = along-numbers at_first (run inputs) good;
     }

@@ -1,5 +1,5 @@
 -- What holds of every run.
-use Rattle.std.specs.Prelude.{◌≡◌, ℕ, List, ◌++◌, Option, Some, None}
+use Rattle.std.specs.Prelude.{◌≡◌, ◌≤◌, ℕ, List, ◌++◌, length, Option, Some, None}
 use Rattle.parts_model.specs.Replies.{Answered, reply_named}
 use Rattle.acts_model.specs.Moved.{Event}
 use Rattle.arn_model.specs.Kernel.{Machine, at_first}
@@ -13,10 +13,15 @@ use Rattle.arn_model.specs.Turn.{turn, after_steps}
 abbrev pub StepsTell : Type 0
 StepsTell = (inputs : List Input) → HasNumbers (machine_after inputs).kernel → Along StepTells at_first (run inputs)
 
+-- numbers that were given to processes are not given again
+abbrev pub KeepsNumbers : Machine → Step → Type 0
+KeepsNumbers m s = length m.kernel.processes ≤ length s.after.kernel.processes
+
 -- a run's machine is sound before each step and at the end
 pub record RunIsSound (inputs : List Input) : Type 0 where
   pub along : Along (λ m s. IsSoundMachine m) at_first (run inputs)
   pub last : IsSoundMachine (machine_after inputs)
+  pub numbers : Along KeepsNumbers at_first (run inputs)
 
 abbrev pub EachRunIsSound : Type 0
 EachRunIsSound = (inputs : List Input) → RunIsSound inputs
