@@ -1,0 +1,4 @@
+pub mod Sets
+pub mod Takes
+pub mod Central
+pub mod Stored
