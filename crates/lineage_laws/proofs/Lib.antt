@@ -2,3 +2,4 @@ pub mod Sets
 pub mod Takes
 pub mod Central
 pub mod Stored
+pub mod Joined

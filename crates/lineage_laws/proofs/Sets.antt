@@ -44,3 +44,9 @@ pub gather-each : (P : EventByte → Type 0) (i : At → List EventByte) (a : Lo
 gather-each P i a k [] h = tt
 gather-each P i a k (Prior l ∷ ds) h = append-each P (a l) (gather i a ds) (k l) (gather-each P i a k ds h.1)
 gather-each P i a k (Received at ∷ ds) h = append-each P (i at) (gather i a ds) h.0 (gather-each P i a k ds h.1)
+
+-- a received byte that has P has Q
+pub each-received : (P Q : At → Type 0) → ((at : At) → P at → Q at) → (ds : List Dependence) → EachReceived P ds → EachReceived Q ds
+each-received P Q f [] h = tt
+each-received P Q f (Prior l ∷ ds) h = (tt, each-received P Q f ds h.1)
+each-received P Q f (Received at ∷ ds) h = (f at h.0, each-received P Q f ds h.1)
