@@ -3,3 +3,4 @@ pub mod Takes
 pub mod Central
 pub mod Stored
 pub mod Joined
+pub mod Homes
