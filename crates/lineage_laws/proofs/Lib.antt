@@ -4,3 +4,4 @@ pub mod Central
 pub mod Stored
 pub mod Joined
 pub mod Homes
+pub mod Groups
