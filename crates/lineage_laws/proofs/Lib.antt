@@ -5,3 +5,4 @@ pub mod Stored
 pub mod Joined
 pub mod Homes
 pub mod Groups
+pub mod Told
