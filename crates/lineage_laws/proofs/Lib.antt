@@ -6,3 +6,4 @@ pub mod Joined
 pub mod Homes
 pub mod Groups
 pub mod Told
+pub mod Origins
