@@ -7,3 +7,4 @@ pub mod Homes
 pub mod Groups
 pub mod Told
 pub mod Origins
+pub mod Holding
