@@ -8,3 +8,4 @@ pub mod Groups
 pub mod Told
 pub mod Origins
 pub mod Holding
+pub mod Outside
