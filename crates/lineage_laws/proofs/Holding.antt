@@ -50,6 +50,9 @@ put-body p v b q =
     body-with p (Some v.body) (with_memory v.body.window v.window old) q
     ∙ ap (cond (q == p) (Some v.body)) (body-kept v.body.window v.window old q ∙ body-segment v.body.segment v.segment b q)
 
+pub put-here : (p : ℕ) (v : View) (b : Bodies) → body_at (put p v b) p ≡ Some v.body
+put-here p v b = put-body p v b p ∙ ap (λ (t : Bool). cond t (Some v.body) (body_at b p)) (eq-eqb p p refl)
+
 remove-body : (p : ℕ) (b : Bodies) (q : ℕ) → body_at (remove p b) q ≡ cond (q == p) None (body_at b q)
 unfolding remove
 remove-body p b q = body-with p None b q

@@ -116,7 +116,7 @@ every-stable table event_at n (m ∷ list) before last t c e at l =
     ∙ points-earlier n m.inside.event _ t.points e at (number-is event_at n before c.0 m m.inside.event c.1) l
 
 -- an event is the step's own, or a later one
-this_or_later : (n : ℕ) (event : Option Event) (e : ℕ) → n ≤ e → ((x : Event) × (event ≡ Some x) × (e ≡ n)) ⊎ (next n event ≤ e)
+pub this_or_later : (n : ℕ) (event : Option Event) (e : ℕ) → n ≤ e → ((x : Event) × (event ≡ Some x) × (e ≡ n)) ⊎ (next n event ≤ e)
 this_or_later n None e h = inr h
 this_or_later n (Some event) e h = by_test (e == n) (eqb-true e n)  refl
   where

@@ -9,3 +9,6 @@ pub mod Told
 pub mod Origins
 pub mod Holding
 pub mod Outside
+pub mod Fits
+pub mod Runs
+pub mod Whole
