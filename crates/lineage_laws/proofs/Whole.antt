@@ -39,7 +39,7 @@ use Rattle.lineage_laws.proofs.Runs.{groups_along, steps-are, along-within, last
 nothing-held : (byte : KernelByte) → kernel_byte at_first.kernel byte ≡ None
 nothing-held (ConsoleByte n) = by_test (nat_lt n 0)
   where
-    by_test : (b : Bool) → cond b None (slice_get [] (n - 0)) ≡ None {X = TaggedByte}
+    by_test : (b : Bool) → cond {A = Option TaggedByte} b None (slice_get [] (n - 0)) ≡ None
     by_test true = refl
     by_test false = refl
 nothing-held (PipeByte pipe n) = refl
