@@ -1,13 +1,12 @@
 -- Whole tracking is the tracking of all steps by items, with the items' sets put in their place.
-use Rattle.std.proofs.Common.{◌≡◌, ℕ, suc, List, [], ◌∷◌, ◌++◌, map, flat_map, refl, ap, ◌∙◌, sym, append-nil, Option, Some, None, Bool, true, false, ◌==◌, cond}
+use Rattle.std.proofs.Common.{◌≡◌, ℕ, List, [], ◌∷◌, map, flat_map, Option, Some, None, Bool, true, false, ◌==◌, cond}
 use Rattle.rv64_model.specs.Carries.{Table}
-use Rattle.arn_base.specs.declared.machine.Cpu.{Cpu}
-use Rattle.acts_model.specs.Moved.{Event, Inside, Incoming, Range, Moved}
+use Rattle.acts_model.specs.Moved.{Event, Moved}
 use Rattle.acts_model.specs.Transfers.{Transfer}
-use Rattle.lineage_model.specs.Flow.{Location, At, Dependence, flow, shown}
-use Rattle.lineage_model.specs.Tracking.{EventByte, Tracked, gather, points_after, after, items, alone_after, alone_from}
+use Rattle.lineage_model.specs.Flow.{Location, At, flow, shown}
+use Rattle.lineage_model.specs.Tracking.{EventByte, Tracked, points_after, after, items, alone_after, alone_from}
 use Rattle.lineage_model.specs.Whole.{Whole, given, whole_after, whole_from}
-use Rattle.lineage_laws.proofs.Sets.{EachReceived, gather-joins}
+use Rattle.lineage_laws.proofs.Sets.{gather-joins}
 use Rattle.lineage_laws.proofs.Takes.{Takes, flow-each, shown-each}
 
 -- each set of w is what v makes of the items of t

@@ -1,29 +1,24 @@
 -- Each step of a run fits what the lemmas on lists of steps need.
-use Rattle.std.proofs.Common.{◌≡◌, ◌⊎◌, inl, inr, ℕ, zero, suc, ◌+◌, ◌<◌, ◌≤◌, List, [], ◌∷◌, length, refl, ap, ap₂, ◌∙◌, sym, subst, Option, Some, None, option_map, option_and_then, slice_get, Bool, true, false, ◌==◌, ◌&&◌, cond, arith, nat_lt, true≢false}
-use Rattle.std.proofs.lemmas.Bool.{eq-eqb, eqb-true, le-ltb}
+use Rattle.std.proofs.Common.{◌≡◌, ◌⊎◌, inl, inr, ℕ, ◌+◌, ◌≤◌, List, [], ◌∷◌, length, refl, ap, ◌∙◌, sym, subst, Option, Some, None, option_map, option_and_then, slice_get, Bool, true, false, ◌==◌, cond, arith, nat_lt, true≢false}
+use Rattle.std.proofs.lemmas.Bool.{eq-eqb, le-ltb}
 use Rattle.arn_base.specs.declared.machine.Cpu.{Cpu}
 use Rattle.arn_base.specs.Window.{Window}
-use Rattle.arn_base.specs.declared.records.Extra.{Extra}
 use Rattle.arn_base.specs.declared.records.Extra.TheVariants as extra
 use Rattle.arn_base.specs.declared.records.Record.{Record}
 use Rattle.arn_base.specs.declared.records.Record.TheVariants as entry
-use Rattle.arn_base.specs.declared.records.Start.{Start}
 use Rattle.rv64_isa.specs.declared.instruction.Instr.{Instr}
-use Rattle.rv64_model.specs.Instruction.{Next}
 use Rattle.parts_model.specs.declared.calls.TheConstants as number
 use Rattle.parts_model.specs.declared.tagged.TaggedByte.{TaggedByte}
 use Rattle.parts_model.specs.Files.{file_bytes}
 use Rattle.parts_model.specs.Processes as table
-use Rattle.parts_model.specs.Replies.{is_success}
 use Rattle.parts_model.specs.Tagged.{values, given}
-use Rattle.acts_model.specs.Acts.{Act, Returns, Receives, Gives, Starts, Forks, Founds, Shares, Leaves, Delivers, Exits, Faults, Dies, unborn, acted, joined, done, done_by, beginning_of}
-use Rattle.acts_model.specs.Bodies.{Body, View, body_at, view, seen, put, become}
+use Rattle.acts_model.specs.Acts.{Act, Returns, Receives, Gives, Starts, Forks, Founds, Shares, Leaves, Delivers, Exits, Faults, Dies, unborn, done, done_by, beginning_of}
+use Rattle.acts_model.specs.Bodies.{Body, View, body_at, view, seen, put}
 use Rattle.acts_model.specs.Moved as moved
 use Rattle.acts_model.specs.Moved.{KernelByte, FileByte, Range, behind, Event, Incoming, Outside, Nothing, From}
 use Rattle.acts_model.specs.Records.{process_of, event_len, give_of}
 use Rattle.acts_model.specs.Transfers as transfers
 use Rattle.acts_model.specs.Transfers.{Transfer, Holds, holds_of, transfer}
-use Rattle.acts_model.specs.Views.{stands_at}
 use Rattle.arn_model.specs.Doing.{Doing}
 use Rattle.arn_model.specs.Kernel.{Kernel, Machine}
 use Rattle.arn_model.specs.Laws.{KeepsNumbers}
@@ -31,16 +26,16 @@ use Rattle.arn_model.specs.Run.{boot_step, file_step, typed_step, unplug_step}
 use Rattle.arn_model.specs.Step.{Step, plain_step, event_step, after_act}
 use Rattle.arn_model.specs.Tells as tells
 use Rattle.arn_model.specs.Tells.{EventTells, StepTells, Runs, Happens, Boots, Adds, Types, Unplugs, ComesFrom, kernel_byte}
-use Rattle.history_model.specs.Alone.{begin_inside, call_start}
+use Rattle.history_model.specs.Alone.{begin_inside}
 use Rattle.history_model.specs.Groups.{Groups, groups_told, group_forked}
 use Rattle.history_model.specs.Moments.{changed}
 use Rattle.lineage_model.specs.Flow.{At, Byte, StartRegister, StartSlot, StartMemory, received_byte, shown}
 use Rattle.lineage_model.specs.Joined.{is_source}
-use Rattle.replay_laws.specs.Heard.{begin_if, begin_by, begin_part}
+use Rattle.replay_laws.specs.Heard.{begin_if, begin_by}
 use Rattle.lineage_laws.proofs.Takes.{EachStart, Takes, IsStart}
-use Rattle.lineage_laws.proofs.Stored.{Held, next, Linked, IsSourced, source_shown, EventFits, FitsBy, placed}
-use Rattle.lineage_laws.proofs.Homes.{Memories, actor_of, group_in}
-use Rattle.lineage_laws.proofs.Groups.{MadeBy, BeginsIn, InsideFits}
+use Rattle.lineage_laws.proofs.Stored.{next, IsSourced, source_shown, FitsBy}
+use Rattle.lineage_laws.proofs.Homes.{Memories, actor_of}
+use Rattle.lineage_laws.proofs.Groups.{BeginsIn, InsideFits}
 use Rattle.lineage_laws.proofs.Told.{memory_called, memory_by, IsQuiet, Says, SaysFounds, SaysForks, SaysOther, entry-says, IsSilent, Receipt, OfGive, OfDevice, OfNone, entry-receipt}
 use Rattle.lineage_laws.proofs.Origins.{origins, held-linked, receives-linked, holds-kept}
 use Rattle.lineage_laws.proofs.Holding.{put-here, seen-body, HoldsIn, BodiesFit, fit-more, Makes, done-fit, founded-fit, put-fit, run-fit, act-lies, instr-lies}

@@ -1,9 +1,7 @@
 -- A group's own part of a run suffices for its own locations and events: no other step writes its locations, and its steps take no others.
-use Rattle.std.proofs.Common.{◌≡◌, ℕ, zero, suc, ◌+◌, ◌<◌, ◌≤◌, List, [], ◌∷◌, ◌++◌, map, refl, ap, ap₂, ◌∙◌, sym, subst, append-nil, Option, Some, None, IfSome, option_and_then, unwrap_or, Bool, true, false, ◌==◌, cond, arith, ne_eqb, true≢false, ◌⊎◌, inl, inr}
-use Rattle.std.specs.List.{AllByRecursion}
+use Rattle.std.proofs.Common.{◌≡◌, ℕ, suc, ◌<◌, List, [], ◌∷◌, ◌++◌, map, refl, ap, ap₂, ◌∙◌, sym, subst, append-nil, Option, Some, None, IfSome, option_and_then, unwrap_or, Bool, true, false, ◌==◌, cond, arith, true≢false, ◌⊎◌, inl, inr}
 use Rattle.std.proofs.lemmas.Bool.{eq-eqb, eqb-true}
 use Rattle.arn_base.specs.declared.machine.Cpu.{Cpu}
-use Rattle.arn_base.specs.declared.records.Record.{Record}
 use Rattle.arn_base.specs.declared.records.Start.{Start}
 use Rattle.rv64_model.specs.Carries.{Table}
 use Rattle.acts_model.specs.Moved.{Event, Inside, Moved}
@@ -11,12 +9,12 @@ use Rattle.acts_model.specs.Transfers.{Transfer, Founds, Begins}
 use Rattle.arn_model.specs.Step.{Step}
 use Rattle.history_model.specs.Alone.{begin_inside}
 use Rattle.history_model.specs.Groups.{Groups, is_number}
-use Rattle.lineage_model.specs.Flow.{Location, Register, Slot, Memory, At, Dependence, Prior, flow, written, shown, result_only, begun, or_else}
+use Rattle.lineage_model.specs.Flow.{Location, At, Dependence, Prior, flow, written, shown, result_only, begun, or_else}
 use Rattle.lineage_model.specs.Tracking.{EventByte, Tracked, gather, points_after, after, items, alone_after, alone_from}
 use Rattle.replay_laws.specs.Heard.{is_own, own_part, begin_part, part, parts}
 use Rattle.lineage_laws.proofs.Central.{every}
 use Rattle.lineage_laws.proofs.Stored.{next, count, NumberIs, points-earlier, points-new}
-use Rattle.lineage_laws.proofs.Homes.{Memories, owner, actor_of, group_in, Founding, Lies, EachPrior, gather-same, prior-weaker, unwrap-prior, begun-priors, result-mine, written-priors, shown-priors, StartsIn, IsOwned, written-mine}
+use Rattle.lineage_laws.proofs.Homes.{Memories, owner, actor_of, group_in, Lies, EachPrior, gather-same, prior-weaker, unwrap-prior, begun-priors, result-mine, written-priors, shown-priors, StartsIn, IsOwned, written-mine}
 
 -- the event is of the group that acts
 abbrev pub MadeBy : (ℕ → Option ℕ) → Option ℕ → Option Event → Type 0

@@ -1,14 +1,14 @@
 -- Each live process holds memories of its own group, and after each act it still does.
-use Rattle.std.proofs.Common.{◌≡◌, ℕ, zero, suc, ◌≤◌, ◌<◌, List, [], ◌∷◌, length, refl, ap, ◌∙◌, sym, subst, Option, Some, None, option_map, option_and_then, Bool, true, false, ◌==◌, cond, arith, ne_eqb, ◌⊎◌, inl, inr}
+use Rattle.std.proofs.Common.{◌≡◌, ℕ, zero, suc, ◌≤◌, List, [], ◌∷◌, length, refl, ap, ◌∙◌, sym, subst, Option, Some, None, option_map, option_and_then, Bool, true, false, ◌==◌, cond, arith, ne_eqb, inl, inr}
 use Rattle.std.proofs.lemmas.Bool.{eq-eqb, eqb-true, eqb-false}
 use Rattle.arn_base.specs.declared.machine.Cpu.{Cpu}
 use Rattle.arn_base.specs.Window.{Window, with_bytes}
 use Rattle.rv64_isa.specs.declared.instruction.Instr.{Instr}
 use Rattle.rv64_model.specs.Operands.{accessed}
-use Rattle.acts_model.specs.Acts.{Act, Returns, Receives, Gives, Starts, Forks, Founds, Shares, Leaves, Delivers, Exits, Faults, Dies, restored, acted, Beginning, beginning_of, child_view, begun, joined, done_by, done, founded}
+use Rattle.acts_model.specs.Acts.{Act, Returns, Receives, Gives, Starts, Forks, Founds, Shares, Leaves, Delivers, Exits, Faults, Dies, restored, acted, Beginning, beginning_of, child_view, joined, done_by, done, founded}
 use Rattle.acts_model.specs.Bodies.{Body, Bodies, View, IsHolder, nth_body, with_nth, body_at, with_body, with_memory, with_segment, view, seen, put, remove, become}
-use Rattle.acts_model.specs.Transfers.{Place, Holds, holds_of, is_private, is_shared, memory_at, place_at, place_of, transfer, instr_transfer}
-use Rattle.acts_model.specs.Views.{reach, with_reach, written}
+use Rattle.acts_model.specs.Transfers.{holds_of, is_private, is_shared, place_at, place_of, transfer, instr_transfer}
+use Rattle.acts_model.specs.Views.{reach, with_reach}
 use Rattle.history_model.specs.Groups.{Groups}
 use Rattle.lineage_laws.proofs.Homes.{Memories, PlaceIs, Lies}
 

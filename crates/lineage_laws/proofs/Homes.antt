@@ -1,5 +1,5 @@
 -- Each location belongs to one group: a step writes locations of the group that acts or starts, from those of that group.
-use Rattle.std.proofs.Common.{◌≡◌, ℕ, zero, suc, ◌+◌, ◌-◌, List, [], ◌∷◌, ◌++◌, map, flat_map, refl, ap, ap₂, ◌∙◌, sym, subst, Option, Some, None, IfSome, option_map, option_and_then, unwrap_or, Bool, true, false, ◌==◌, ◌&&◌, cond, nat_lt, ◌⊎◌, inl, inr}
+use Rattle.std.proofs.Common.{◌≡◌, ℕ, zero, suc, ◌+◌, ◌-◌, List, [], ◌∷◌, ◌++◌, map, flat_map, refl, ap, ap₂, ◌∙◌, sym, Option, Some, None, IfSome, option_map, option_and_then, unwrap_or, Bool, true, false, ◌==◌, ◌&&◌, cond, nat_lt, ◌⊎◌, inl, inr}
 use Rattle.std.specs.List.{AllByRecursion}
 use Rattle.std.proofs.lemmas.Bool.{eqb-true}
 use Rattle.rv64_isa.specs.declared.instruction.Instr.{Instr}
@@ -10,7 +10,7 @@ use Rattle.acts_model.specs.Moved.{within}
 use Rattle.acts_model.specs.Transfers.{Place, Transfer, Arrives, Starts, Runs, Returns, Receives, Gives, Forks, Founds, Begins, Shares, Delivers, Leaves, Exits, Faults, Dies}
 use Rattle.acts_model.specs.Views.{block_at}
 use Rattle.history_model.specs.Groups.{Groups}
-use Rattle.lineage_model.specs.Flow.{Location, Register, Slot, Memory, At, Byte, StartRegister, StartSlot, StartMemory, Dependence, Prior, Received, register_bytes, operand_bytes, flow, written, shown, when, offset, bytes_at, result_bytes, ran, result_only, received_byte, block_byte, body_byte, started_byte, started, unless_result, copied, begun, or_else, received, cleared, saved, delivered, left, if_below}
+use Rattle.lineage_model.specs.Flow.{Location, Register, Slot, Memory, At, Byte, StartRegister, StartSlot, StartMemory, Dependence, Prior, Received, register_bytes, operand_bytes, written, shown, when, offset, bytes_at, result_bytes, ran, result_only, received_byte, block_byte, body_byte, started_byte, unless_result, copied, begun, or_else, saved}
 use Rattle.lineage_model.specs.Tracking.{EventByte, gather}
 use Rattle.lineage_laws.proofs.Sets.{append-each}
 

@@ -1,7 +1,7 @@
 -- What reaches an event's byte by items and stored origins is what whole tracking gives it: by induction on the event's number.
-use Rattle.std.proofs.Common.{◌≡◌, ℕ, zero, suc, ◌+◌, ◌<◌, ◌≤◌, List, [], ◌∷◌, ◌++◌, map, flat_map, refl, ap, ap₂, ◌∙◌, sym, subst, Option, Some, None, Bool, true, false, ◌==◌, IsTrue, IfSome, cond, arith, nat_lt, ◌⊎◌, inl, inr}
+use Rattle.std.proofs.Common.{◌≡◌, ℕ, zero, suc, ◌<◌, ◌≤◌, List, [], ◌∷◌, ◌++◌, flat_map, refl, ap, ◌∙◌, sym, subst, Option, Some, None, Bool, true, false, ◌==◌, IfSome, cond, arith, nat_lt, ◌⊎◌, inl, inr}
 use Rattle.std.specs.List.{AllByRecursion}
-use Rattle.std.proofs.lemmas.Bool.{eq-eqb, eqb-true}
+use Rattle.std.proofs.lemmas.Bool.{eqb-true}
 use Rattle.rv64_model.specs.Carries.{Table}
 use Rattle.arn_base.specs.declared.records.Record.{Record}
 use Rattle.arn_base.specs.declared.records.Src.{Src}
@@ -11,7 +11,6 @@ use Rattle.acts_model.specs.Transfers.{Transfer}
 use Rattle.lineage_model.specs.Flow.{Location, At, Byte, StartRegister, StartSlot, StartMemory, Dependence, Received, received_byte, flow, shown}
 use Rattle.lineage_model.specs.Joined.{Reaching, is_source, origin_of, from_origin, from_received, from_item_at, from_item, source_byte, from_event, reached}
 use Rattle.lineage_model.specs.Tracking.{EventByte, Tracked, gather, points_after, after, items, alone_after}
-use Rattle.lineage_model.specs.Whole.{Whole}
 use Rattle.lineage_laws.proofs.Sets.{EachReceived, each-weaker, flat_map-same, gather-each, each-received}
 use Rattle.lineage_laws.proofs.Takes.{IsByte, shown-bytes}
 use Rattle.lineage_laws.proofs.Central.{every}

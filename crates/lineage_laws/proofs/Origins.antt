@@ -7,11 +7,11 @@ use Rattle.arn_base.specs.declared.records.Origin.{Origin}
 use Rattle.arn_base.specs.declared.records.Record.{Record}
 use Rattle.arn_base.specs.declared.records.Src.{Src}
 use Rattle.parts_model.specs.declared.tagged.TaggedByte.{TaggedByte}
-use Rattle.parts_model.specs.Tagged.{comes_before, one_origin, onto_origins, origins_of, given, values}
+use Rattle.parts_model.specs.Tagged.{comes_before, one_origin, onto_origins, origins_of, given}
 use Rattle.acts_model.specs.Moved.{KernelByte, ConsoleByte, PipeByte, FileByte, StatusByte, Range, behind, byte_of, within, place_from, place_in, Incoming, Outside, Nothing, From}
 use Rattle.acts_model.specs.Records.{give_of}
 use Rattle.arn_model.specs.Kernel.{Kernel}
-use Rattle.arn_model.specs.Tells.{kernel_byte, ReceivesHeld, Receives, Spans, put_byte, outgoing_byte, HoldsAfter}
+use Rattle.arn_model.specs.Tells.{kernel_byte, Receives, Spans, put_byte, outgoing_byte, HoldsAfter}
 use Rattle.lineage_model.specs.Joined.{origin_at, origin_of}
 use Rattle.lineage_laws.proofs.Stored.{Held, Names, Linked, Kept, placed}
 

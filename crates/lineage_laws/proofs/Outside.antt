@@ -1,16 +1,15 @@
 -- What the kernel holds after a boot, a boot file and a typed piece: what it held, and the bytes that came from outside.
-use Rattle.std.proofs.Common.{◌≡◌, ◌⊎◌, inl, inr, ℕ, zero, suc, ◌+◌, ◌-◌, ◌<◌, ◌≤◌, List, [], ◌∷◌, ◌++◌, length, refl, ap, ap₂, ◌∙◌, sym, subst, Option, Some, None, option_map, option_and_then, slice_get, Bool, true, false, ◌==◌, ◌&&◌, cond, arith, nat_lt, nat_le, ne_eqb}
-use Rattle.std.proofs.lemmas.Bool.{eq-eqb, eqb-true, eqb-false, leb-true, ltb-true, ltb-false, lt-ltb, le-ltb, le-leb, lt-leb}
+use Rattle.std.proofs.Common.{◌≡◌, ◌⊎◌, inl, inr, ℕ, zero, suc, ◌+◌, ◌-◌, ◌<◌, ◌≤◌, List, [], ◌∷◌, ◌++◌, length, refl, ap, ap₂, ◌∙◌, sym, Option, Some, None, option_map, option_and_then, slice_get, Bool, true, false, ◌==◌, ◌&&◌, cond, arith, nat_lt, ne_eqb}
+use Rattle.std.proofs.lemmas.Bool.{eq-eqb, eqb-true, eqb-false, ltb-true, ltb-false, lt-ltb, le-leb, lt-leb}
 use Rattle.arn_base.specs.declared.records.Src.{Src}
-use Rattle.parts_model.specs.declared.open.Description.TheVariants.{Console}
 use Rattle.parts_model.specs.declared.tagged.TaggedByte.{TaggedByte}
 use Rattle.parts_model.specs.Channel.{Channel, channel_end, put_behind}
-use Rattle.parts_model.specs.Files.{File, Files, file_bytes, made, next_file}
+use Rattle.parts_model.specs.Files.{File, next_file}
 use Rattle.parts_model.specs.Numbered.{nth}
 use Rattle.parts_model.specs.Processes as table
 use Rattle.parts_model.specs.Processes.{Processes}
 use Rattle.parts_model.specs.Tagged.{held_from, held_bytes}
-use Rattle.acts_model.specs.Moved.{KernelByte, ConsoleByte, PipeByte, FileByte, StatusByte, Range, within, within_if, place_in}
+use Rattle.acts_model.specs.Moved.{KernelByte, ConsoleByte, PipeByte, FileByte, StatusByte, within, within_if, place_in}
 use Rattle.arn_model.specs.Kernel.{Kernel, Machine, booted}
 use Rattle.arn_model.specs.Run.{file_step, typed_step}
 use Rattle.arn_model.specs.Tells.{at_position, kernel_byte}

@@ -1,14 +1,11 @@
 -- All steps of a run up to a moment fit.
-use Rattle.std.proofs.Common.{◌≡◌, ◌⊎◌, inl, inr, ℕ, zero, suc, ◌+◌, ◌<◌, ◌≤◌, List, [], ◌∷◌, ◌++◌, length, map, filter, filter_map, refl, ap, ◌∙◌, sym, subst, Option, Some, None, is_some, option_map, option_and_then, slice_get, Bool, true, false, ◌==◌, cond, arith, nat_lt, ne_eqb, true≢false}
+use Rattle.std.proofs.Common.{◌≡◌, ◌⊎◌, inl, inr, ℕ, zero, suc, ◌+◌, ◌<◌, ◌≤◌, List, [], ◌∷◌, length, map, filter, refl, ap, ◌∙◌, sym, subst, Option, Some, None, is_some, option_and_then, slice_get, Bool, true, false, cond, arith, nat_lt, ne_eqb, true≢false}
 use Rattle.std.proofs.lemmas.Bool.{ltb-true, ltb-false}
 use Rattle.std.proofs.lemmas.Option.{slice_get_past}
 use Rattle.std.specs.List.{cons_option}
-use Rattle.arn_base.specs.declared.records.Extra.TheVariants as extra
 use Rattle.arn_base.specs.declared.records.Record.{Record}
 use Rattle.arn_base.specs.declared.records.Record.TheVariants as entry
 use Rattle.rv64_model.specs.Carries.{Table}
-use Rattle.parts_model.specs.declared.calls.TheConstants as number
-use Rattle.parts_model.specs.Numbered.{nth}
 use Rattle.parts_model.specs.Processes as table
 use Rattle.parts_model.specs.Processes.{Process, Processes}
 use Rattle.acts_model.specs.Acts.{Act, Forks, Founds}
@@ -17,9 +14,9 @@ use Rattle.acts_model.specs.Moved.{Event, is_instruction}
 use Rattle.acts_model.specs.Records.{is_event}
 use Rattle.arn_model.specs.Kernel.{Kernel, Machine}
 use Rattle.arn_model.specs.Laws.{KeepsNumbers}
-use Rattle.arn_model.specs.Run.{within, unless_reached, events_of, boot_step}
+use Rattle.arn_model.specs.Run.{within, unless_reached, events_of}
 use Rattle.arn_model.specs.Sound.{IsSoundMachine}
-use Rattle.arn_model.specs.Step.{Step, event_step}
+use Rattle.arn_model.specs.Step.{Step}
 use Rattle.arn_model.specs.Tells as tells
 use Rattle.arn_model.specs.Tells.{lives, EventTells, StepTells, Runs, Happens, Boots, Adds, Types, Unplugs, Along}
 use Rattle.arn_model.specs.Turn.{after_steps}
@@ -30,14 +27,13 @@ use Rattle.lineage_model.specs.Joined.{is_source}
 use Rattle.lineage_model.specs.Tracking.{EventByte, Tracked, gather, items, points_after, alone_after}
 use Rattle.log_model.specs.Records.{event_records}
 use Rattle.lineage_laws.proofs.Central.{every}
-use Rattle.lineage_laws.proofs.Stored.{Held, next, count, FitsBy, Chain, points-new}
+use Rattle.lineage_laws.proofs.Stored.{next, count, FitsBy, Chain, points-new}
 use Rattle.lineage_laws.proofs.Joined.{this_or_later, every-stable}
-use Rattle.lineage_laws.proofs.Homes.{Memories}
 use Rattle.lineage_laws.proofs.Groups.{AllFit, moves}
 use Rattle.lineage_laws.proofs.Told.{Says, SaysFounds, SaysForks, SaysOther, entry-says}
 use Rattle.lineage_laws.proofs.Origins.{origins}
 use Rattle.lineage_laws.proofs.Holding.{BodiesFit}
-use Rattle.lineage_laws.proofs.Fits.{memories, makers, groups_by, Whose, StepIs, Settled, IsThere, Around, step-is}
+use Rattle.lineage_laws.proofs.Fits.{memories, makers, groups_by, Whose, StepIs, IsThere, Around, step-is}
 
 -- the groups after steps
 abbrev pub groups_along : List Step → Groups → Groups

@@ -1,9 +1,9 @@
 -- Gathering commutes with putting sets in the place of items.
-use Rattle.std.proofs.Common.{◌≡◌, List, [], ◌∷◌, ◌++◌, map, flat_map, refl, ap, ap₂, ◌∙◌, sym, Bool, true, false, cond, Option, None, Some, IfSome, unwrap_or}
+use Rattle.std.proofs.Common.{◌≡◌, List, [], ◌∷◌, ◌++◌, flat_map, refl, ap, ap₂, ◌∙◌, sym}
 use Rattle.std.specs.List.{AllByRecursion}
 use Rattle.std.proofs.lemmas.Grind.{flat_map-append}
 use Rattle.lineage_model.specs.Flow.{Location, At, Dependence, Prior, Received}
-use Rattle.lineage_model.specs.Tracking.{EventByte, taken, gather}
+use Rattle.lineage_model.specs.Tracking.{EventByte, gather}
 
 -- a received byte has P
 abbrev pub IfReceived : (At → Type 0) → Dependence → Type 0

@@ -1,19 +1,19 @@
 -- What stored origins name: at each moment each byte of the kernel has the set of the event byte that it is a copy of, and no later step
 -- changes that byte's set.
-use Rattle.std.proofs.Common.{◌≡◌, ℕ, suc, ◌<◌, ◌≤◌, List, [], ◌∷◌, ◌++◌, map, flat_map, refl, ap, ap₂, ◌∙◌, sym, subst, append-nil, Option, Some, None, Bool, true, false, ◌==◌, IsTrue, IfSome, option_map, unwrap_or, cond, arith, ne_eqb}
+use Rattle.std.proofs.Common.{◌≡◌, ℕ, suc, ◌<◌, ◌≤◌, List, [], ◌∷◌, flat_map, refl, ap, ap₂, ◌∙◌, sym, subst, append-nil, Option, Some, None, Bool, true, false, IsTrue, cond, arith, ne_eqb}
 use Rattle.std.proofs.lemmas.Bool.{eq-eqb}
 use Rattle.rv64_model.specs.Carries.{Table}
 use Rattle.arn_base.specs.declared.records.Record.{Record}
 use Rattle.arn_base.specs.declared.records.Src.{Src}
-use Rattle.acts_model.specs.Moved.{KernelByte, Range, byte_of, place_in, Event, Inside, Incoming, Outside, Nothing, From, Moved, is_plain}
+use Rattle.acts_model.specs.Moved.{KernelByte, Range, byte_of, place_in, Event, Incoming, Outside, Nothing, From, Moved, is_plain}
 use Rattle.acts_model.specs.Records.{event_len}
-use Rattle.acts_model.specs.Transfers.{Transfer, Arrives, Starts, Runs, Returns, Receives, Gives, Forks, Founds, Begins, Shares, Delivers, Leaves, Exits, Faults, Dies}
-use Rattle.lineage_model.specs.Flow.{Location, At, Byte, StartRegister, StartSlot, StartMemory, Dependence, shown, received_byte, if_below}
+use Rattle.acts_model.specs.Transfers.{Transfer, Arrives, Starts, Runs, Receives, Founds, Begins}
+use Rattle.lineage_model.specs.Flow.{At, Byte, StartRegister, StartSlot, StartMemory, Dependence, shown, received_byte, if_below}
 use Rattle.lineage_model.specs.Joined.{Reaching, is_source, origin_of, from_origin, from_received, from_item_at, from_item}
-use Rattle.lineage_model.specs.Tracking.{EventByte, Tracked, gather, points_after, after, items}
-use Rattle.lineage_model.specs.Whole.{Whole, set_of, source, received, given, kernel_set, kernel_after, whole_after, whole_from}
+use Rattle.lineage_model.specs.Tracking.{EventByte, gather, points_after, after, items}
+use Rattle.lineage_model.specs.Whole.{Whole, set_of, received, given, kernel_set, kernel_after, whole_after, whole_from}
 use Rattle.lineage_laws.proofs.Sets.{gather-received}
-use Rattle.lineage_laws.proofs.Takes.{EachStart, Takes, IsStart, shown-prior}
+use Rattle.lineage_laws.proofs.Takes.{Takes, shown-prior}
 use Rattle.lineage_laws.proofs.Central.{IsValue}
 
 -- the event byte of which each byte of the kernel is a copy

@@ -1,6 +1,5 @@
 -- Which received bytes a step takes: those of transfers that receive, and no others.
-use Rattle.std.proofs.Common.{◌≡◌, ℕ, zero, suc, ◌+◌, ◌-◌, ◌<◌, List, [], ◌∷◌, ◌++◌, map, refl, ap, ◌∙◌, sym, Option, Some, None, IfSome, option_map, unwrap_or, Bool, true, false, ◌==◌, ◌&&◌, cond, nat_lt}
-use Rattle.std.specs.List.{AllByRecursion}
+use Rattle.std.proofs.Common.{◌≡◌, ℕ, zero, suc, ◌+◌, ◌-◌, ◌<◌, List, [], ◌∷◌, map, refl, Option, Some, None, IfSome, option_map, unwrap_or, Bool, true, false, ◌==◌, ◌&&◌, cond, nat_lt}
 use Rattle.std.proofs.lemmas.Bool.{ltb-true}
 use Rattle.rv64_model.specs.Carries.{Table}
 use Rattle.rv64_model.specs.Operands.{rd_of, stored_len}
@@ -9,8 +8,8 @@ use Rattle.parts_model.specs.Image.{header_len}
 use Rattle.acts_model.specs.Moved.{within}
 use Rattle.acts_model.specs.Transfers.{Place, Transfer, Arrives, Starts, Runs, Returns, Receives, Gives, Forks, Founds, Begins, Shares, Delivers, Leaves, Exits, Faults, Dies}
 use Rattle.acts_model.specs.Views.{block_at}
-use Rattle.lineage_model.specs.Flow.{Location, Register, Slot, Memory, At, Byte, StartRegister, StartSlot, StartMemory, Dependence, Prior, Received, flow, written, shown, when, offset, bytes_at, result_bytes, operand_bytes, ran, result_only, received_byte, block_byte, body_byte, started_byte, started, unless_result, copied, begun, or_else, received, cleared, saved, delivered, left, if_below}
-use Rattle.lineage_laws.proofs.Sets.{IfReceived, EachReceived}
+use Rattle.lineage_model.specs.Flow.{Location, Register, Slot, Memory, At, Byte, StartRegister, StartSlot, StartMemory, Dependence, Prior, Received, flow, written, shown, when, offset, bytes_at, result_bytes, ran, result_only, received_byte, block_byte, body_byte, started_byte, unless_result, copied, begun, or_else, saved, if_below}
+use Rattle.lineage_laws.proofs.Sets.{EachReceived}
 
 -- bytes with which a child begins have P
 pub record EachStart (P : At → Type 0) : Type 0 where

@@ -1,37 +1,35 @@
 -- Whole tracking is what the tracking of groups alone and stored origins join to, at every moment of every run.
-use Rattle.std.proofs.Common.{◌≡◌, ◌⊎◌, inl, inr, ℕ, zero, suc, ◌+◌, ◌-◌, ◌<◌, ◌≤◌, List, [], ◌∷◌, length, map, flat_map, refl, ap, ◌∙◌, sym, subst, Option, Some, None, option_map, slice_get, Bool, true, false, cond, arith, nat_lt, le_refl, true≢false}
+use Rattle.std.proofs.Common.{◌≡◌, inl, inr, ℕ, zero, suc, ◌+◌, ◌-◌, ◌<◌, ◌≤◌, List, [], length, flat_map, refl, ap, ◌∙◌, sym, subst, Option, Some, None, option_map, slice_get, Bool, true, false, cond, arith, nat_lt, true≢false}
 use Rattle.std.specs.List.{AllByRecursion}
 use Rattle.std.proofs.lemmas.List.{length-map}
 use Rattle.arn_base.specs.declared.records.Record.{Record}
 use Rattle.arn_base.specs.declared.records.Src.{Src}
 use Rattle.rv64_model.specs.Carries.{Table}
 use Rattle.parts_model.specs.declared.tagged.TaggedByte.{TaggedByte}
-use Rattle.acts_model.specs.Bodies.{Body, body_at, nth_body}
-use Rattle.acts_model.specs.Moved.{KernelByte, ConsoleByte, PipeByte, FileByte, StatusByte, Moved}
+use Rattle.acts_model.specs.Bodies.{body_at, nth_body}
+use Rattle.acts_model.specs.Moved.{KernelByte, ConsoleByte, PipeByte, FileByte, StatusByte}
 use Rattle.arn_model.specs.Kernel.{at_first}
 use Rattle.arn_model.specs.Laws.{StepsTell, EachRunIsSound, EachRunAppends}
 use Rattle.arn_model.specs.Run.{Input, machine_after, run, within, state_at, events_of}
 use Rattle.arn_model.specs.Sound.{IsSoundMachine}
-use Rattle.arn_model.specs.Step.{Step}
 use Rattle.arn_model.specs.Tells.{HasNumbers, Along, kernel_byte}
-use Rattle.arn_model.specs.Turn.{after_steps}
-use Rattle.history_model.specs.Events.{events, event_at, how_many}
-use Rattle.history_model.specs.Groups.{Groups, groups_from, group_of, event_group}
+use Rattle.history_model.specs.Events.{event_at, how_many}
+use Rattle.history_model.specs.Groups.{Groups, groups_from, group_of}
 use Rattle.lineage_model.specs.Flow.{Location, Register, Slot, Memory, At, Byte}
-use Rattle.lineage_model.specs.Joined.{Reaching, is_source, from_item, reached}
-use Rattle.lineage_model.specs.Tracking.{EventByte, Tracked, untracked, alone}
+use Rattle.lineage_model.specs.Joined.{Reaching, from_item}
+use Rattle.lineage_model.specs.Tracking.{EventByte, Tracked, untracked}
 use Rattle.lineage_model.specs.Whole as model
 use Rattle.lineage_model.specs.Whole.{Whole, whole}
 use Rattle.log_model.specs.Laws.{EventsRecorded}
 use Rattle.log_model.specs.Records.{records, event_records}
-use Rattle.lineage_laws.specs.Laws.{whole_at, local_at, items_in, items_at, joined_point, joined_location, IsOf, OfRegister, OfSlot, OfMemory, IsJoined, LineageIsJoined}
+use Rattle.lineage_laws.specs.Laws.{whole_at, local_at, items_in, items_at, joined_point, joined_location, IsOf, OfRegister, OfSlot, OfMemory, LineageIsJoined}
 use Rattle.lineage_laws.proofs.Central.{Joins, every, central}
-use Rattle.lineage_laws.proofs.Stored.{Held, count, Chain, HasOrigin, IsKept, kept-all, is_value}
-use Rattle.lineage_laws.proofs.Joined.{Bounded, bounded, AreBelow, Known, known, ArePoints, AreItems, reached-whole, location-whole}
+use Rattle.lineage_laws.proofs.Stored.{count, Chain, IsKept, kept-all, is_value}
+use Rattle.lineage_laws.proofs.Joined.{Bounded, bounded, Known, known, AreItems, reached-whole, location-whole}
 use Rattle.lineage_laws.proofs.Homes.{Memories, owner}
 use Rattle.lineage_laws.proofs.Groups.{Agrees, agrees, moves}
 use Rattle.lineage_laws.proofs.Origins.{origins}
-use Rattle.lineage_laws.proofs.Holding.{HoldsIn, BodiesFit, holder-is}
+use Rattle.lineage_laws.proofs.Holding.{BodiesFit, holder-is}
 use Rattle.lineage_laws.proofs.Fits.{memories, makers, StepIs}
 use Rattle.lineage_laws.proofs.Runs.{groups_along, steps-are, along-within, last-fits, fits-all, chain-all, IsKnown, known-all, count-is, within-events, groups-events, groups-steps}
 
