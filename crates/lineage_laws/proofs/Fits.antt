@@ -129,10 +129,13 @@ quiet-begins pid n holds e _ q h = h
 says-begins : (pid n : ℕ) (holds : Holds) (e : Record) (act : Act) → Says pid e act → BeginsIn (transfer pid n holds act) (Some (record { number = n; entry = e }))
 says-begins pid n holds e act (SaysFounds child start is success made) =
     let E : Record = entry.Call pid number.FORK child (extra.Start start) in
-    subst (λ (a : Act). BeginsIn (transfer pid n holds a) (Some (record { number = n; entry = e }))) (sym made)
-    (start, refl, λ g.
-      subst (λ (x : Record). begin_by g n x ≡ cond (child == g) (begin_inside g n x start ∷ []) []) (sym is)
-      (ap (λ (b : Bool). begin_if g child n E (cond b (Some start) None)) success))
+    subst (λ (a : Act). BeginsIn (transfer pid n holds a) (Some (record { number = n; entry = e }))) (sym made) (
+      start,
+      refl,
+      λ g.
+          subst (λ (x : Record). begin_by g n x ≡ cond (child == g) (begin_inside g n x start ∷ []) []) (sym is)
+          (ap (λ (b : Bool). begin_if g child n E (cond b (Some start) None)) success),
+    )
 says-begins pid n holds e act (SaysForks child more is success forked none made) =
     subst (λ (a : Act). BeginsIn (transfer pid n holds a) (Some (record { number = n; entry = e }))) (sym made)
     (λ g. subst (λ (x : Record). begin_by g n x ≡ []) (sym is) (ap (begin_if g child n (entry.Call pid number.FORK child more)) none))
@@ -157,11 +160,11 @@ event-makes event_at gs groups m pid v d e t a h (SaysFounds child start is succ
     let bound = h.small in
     subst (Makes gs (memories event_at gs) (length d.kernel.processes) m.events pid) (sym made) (
       a.settles child small
-      ∙ (ap (λ (x : Record). groups_told x groups child) is
-      ∙ (ap (λ (b : Bool). cond b (changed groups child (Some child)) groups child) success
-      ∙ ap (λ (b : Bool). cond b (Some child) (groups child)) (eq-eqb child child refl))),
+          ∙ (ap (λ (x : Record). groups_told x groups child) is
+          ∙ (ap (λ (b : Bool). cond b (changed groups child (Some child)) groups child) success
+          ∙ ap (λ (b : Bool). cond b (Some child) (groups child)) (eq-eqb child child refl))),
       ap (option_and_then (memory_by gs)) a.there
-      ∙ (ap (memory_by gs) is ∙ ap (λ (b : Bool). memory_called gs pid child (cond b (Some start) None)) success),
+          ∙ (ap (memory_by gs) is ∙ ap (λ (b : Bool). memory_called gs pid child (cond b (Some start) None)) success),
       small,
       λ k. let same : h.group ≡ child = some-is h.group child (sym h.is ∙ k) in absurd (omega arith),
     )
@@ -170,11 +173,11 @@ event-makes event_at gs groups m pid v d e t a h (SaysForks child more is succes
     let small : child ≤ length d.kernel.processes = a.later child kid.0 (ap (λ (x : Act). body_at (after_act m pid v x) child) made ∙ kid.1) in
     subst (Makes gs (memories event_at gs) (length d.kernel.processes) m.events pid) (sym made) (
       a.settles child small
-      ∙ (ap (λ (x : Record). groups_told x groups child) is
-      ∙ (ap (λ (b : Bool). cond b (group_forked pid child more groups) groups child) success
-      ∙ (ap (λ (f : Groups). f child) (forked groups)
-      ∙ (ap (λ (b : Bool). cond b (groups pid) (groups child)) (eq-eqb child child refl)
-      ∙ sym (a.settled pid (a.before pid v.body (seen-body m.bodies pid v t.seen))))))),
+          ∙ (ap (λ (x : Record). groups_told x groups child) is
+          ∙ (ap (λ (b : Bool). cond b (group_forked pid child more groups) groups child) success
+          ∙ (ap (λ (f : Groups). f child) (forked groups)
+          ∙ (ap (λ (b : Bool). cond b (groups pid) (groups child)) (eq-eqb child child refl)
+          ∙ sym (a.settled pid (a.before pid v.body (seen-body m.bodies pid v t.seen))))))),
       ap (option_and_then (memory_by gs)) a.there ∙ (ap (memory_by gs) is ∙ ap (memory_called gs pid child) none),
     )
 event-makes event_at gs groups m pid v d e t a h (SaysOther same none own quiet) =

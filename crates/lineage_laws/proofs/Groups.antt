@@ -130,7 +130,7 @@ start-step gs ms g n maker table actor pid from into event all own f number isnt
           ap (λ (o : Option (List Dependence)). gather (items (Some event)) all.locations (unwrap_or (or_else o (begun g into l)) (Prior l ∷ []))) (result-none gs ms pid g l isnt e)
           ∙ (ap (λ (i : ℕ). gather (items (Some event)) all.locations (unwrap_or (begun g i l) (Prior l ∷ []))) (sym number)
           ∙ gather-same (items (Some event)) all.locations own.locations (flow table (Begins g event.number) l)
-            (unwrap-prior (λ x. all.locations x ≡ own.locations x) (Prior l ∷ []) (begun g event.number l) (h.locations l e, tt) (begun-priors (λ x. all.locations x ≡ own.locations x) g event.number l)));
+          (unwrap-prior (λ x. all.locations x ≡ own.locations x) (Prior l ∷ []) (begun g event.number l) (h.locations l e, tt) (begun-priors (λ x. all.locations x ≡ own.locations x) g event.number l)));
       points = λ e at k m. by_age e at m (this_or_old n (Some event) e f.number k);
     }
   where

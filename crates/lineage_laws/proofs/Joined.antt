@@ -117,7 +117,7 @@ every-stable table event_at n (m ∷ list) before last t c e at l =
 -- an event is the step's own, or a later one
 pub this_or_later : (n : ℕ) (event : Option Event) (e : ℕ) → n ≤ e → ((x : Event) × (event ≡ Some x) × (e ≡ n)) ⊎ (next n event ≤ e)
 this_or_later n None e h = inr h
-this_or_later n (Some event) e h = by_test (e == n) (eqb-true e n)  refl
+this_or_later n (Some event) e h = by_test (e == n) (eqb-true e n) refl
   where
     by_test : (b : Bool) → (b ≡ true → e ≡ n) → (e == n) ≡ b → ((x : Event) × (Some event ≡ Some x) × (e ≡ n)) ⊎ (suc n ≤ e)
     by_test true k f = inl (event, refl, k refl)
@@ -203,7 +203,7 @@ reached-here event_at found m final all points b known items p e at l h =
         ∙ (ap (flat_map (from_item event_at final)) (sym (k.source s at)) ∙ sym (points e at))
     by_source k false s =
         let same = each-weaker (IsBelow e) (λ i. from_item event_at p i ≡ from_item event_at final i)
-            (λ i below. item-same event_at e p final h i.event i.at below (known-earlier event_at all i.event (known i.event (before i below)))) (all.points e at) (b.points e at) in
+        (λ i below. item-same event_at e p final h i.event i.at below (known-earlier event_at all i.event (known i.event (before i below)))) (all.points e at) (b.points e at) in
         ap (flat_map (from_item event_at p)) (items e at l k.entry k.there s)
         ∙ (flat_map-same (from_item event_at p) (from_item event_at final) (all.points e at) same ∙ sym (points e at))
       where

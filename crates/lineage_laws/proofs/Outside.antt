@@ -84,8 +84,10 @@ channel-kept c event bytes p h e = by_front (nat_lt p c.taken) refl (nat_lt p (c
         let l = ltb-false p c.taken t in
         let g = ltb-true p (channel_end c) u in
         let found = sym (ap (λ (b : Bool). cond b None (slice_get (c.queue ++ held_bytes event bytes) (p - c.taken))) t) ∙ e in
-        inl (within-before (channel_end c) (length bytes) p g,
-          ap (λ (b : Bool). cond b None (slice_get c.queue (p - c.taken))) t ∙ (sym (get-left c.queue (held_bytes event bytes) (p - c.taken) (omega arith)) ∙ found))
+        inl (
+          within-before (channel_end c) (length bytes) p g,
+          ap (λ (b : Bool). cond b None (slice_get c.queue (p - c.taken))) t ∙ (sym (get-left c.queue (held_bytes event bytes) (p - c.taken) (omega arith)) ∙ found),
+        )
     by_front false t false u =
         let l = ltb-false p c.taken t in
         let g = ltb-false p (channel_end c) u in

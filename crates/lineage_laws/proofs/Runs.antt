@@ -123,18 +123,20 @@ steps-are event_at gs groups m (s ∷ steps) t k sound last bodies is found =
     let events = events_of steps in
     let after = after-sound m s steps sound last in
     let around : Around event_at gs groups m s =
-        record {
-          numbers = k.0;
-          before = body-below m sound.0;
-          later = body-below s.after after;
-          bodies = bodies;
-          there = found-here event_at m.events o events found;
-          settled = λ q l. is q ∙ along-settled m (s ∷ steps) groups q t k l;
-          settles = λ q l. is q ∙ along-settled s.after steps (groups_by o groups) q t.1 k.1 l;
-        } in
-    let now = step-is event_at gs groups m s t.0 around in
-    (now, steps-are event_at gs (groups_by o groups) s.after steps t.1 k.1 sound.1 last now.bodies is
-      (subst (λ (n : ℕ). AreFound event_at n (event_records steps)) (sym now.events) (found-next event_at m.events o events found)))
+    record {
+      numbers = k.0;
+      before = body-below m sound.0;
+      later = body-below s.after after;
+      bodies = bodies;
+      there = found-here event_at m.events o events found;
+      settled = λ q l. is q ∙ along-settled m (s ∷ steps) groups q t k l;
+      settles = λ q l. is q ∙ along-settled s.after steps (groups_by o groups) q t.1 k.1 l;
+    } in
+    let now = step-is event_at gs groups m s t.0 around in (
+      now,
+      steps-are event_at gs (groups_by o groups) s.after steps t.1 k.1 sound.1 last now.bodies is
+          (subst (λ (n : ℕ). AreFound event_at n (event_records steps)) (sym now.events) (found-next event_at m.events o events found)),
+    )
 
 -- so do the steps up to a moment
 pub along-within : (P : Machine → Step → Type 0) (m : Machine) (steps : List Step) (moment : ℕ) → Along P m steps → Along P m (within moment steps)

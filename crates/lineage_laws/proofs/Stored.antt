@@ -198,9 +198,9 @@ step-value table event_at n m list w before last c h (Some event) is f =
     let number = f.number in
     let later : event.number < next n m.inside.event = subst (λ (x : Option Event). event.number < next n x) (sym is) (omega arith) in
     let new : (at : At) → final event.number at ≡ gather (given m w) w.tracked.locations (shown m.inside.transfer at) =
-        λ at. stable table event_at (next n m.inside.event) c.0 last list (whole_after table m w) c.2 event.number at later
-        ∙ (ap (λ (x : Option Event). points_after x (λ at. gather (given m w) w.tracked.locations (shown m.inside.transfer at)) w.tracked.points event.number at) is
-        ∙ points-new event (λ at. gather (given m w) w.tracked.locations (shown m.inside.transfer at)) w.tracked.points at) in
+    λ at. stable table event_at (next n m.inside.event) c.0 last list (whole_after table m w) c.2 event.number at later
+    ∙ (ap (λ (x : Option Event). points_after x (λ at. gather (given m w) w.tracked.locations (shown m.inside.transfer at)) w.tracked.points event.number at) is
+    ∙ points-new event (λ at. gather (given m w) w.tracked.locations (shown m.inside.transfer at)) w.tracked.points at) in
     takes-weaker (IsSourced m.incoming event.entry) (λ at. given m w at ≡ flat_map (from_item event_at final) (items (Some event) at))
     (λ at s. value-at event_at n m w before final event is h f.there (stable table event_at n before last (m ∷ list) w c) new f.linked at s ∙ sym (append-nil _))
     m.inside.transfer f.takes

@@ -159,7 +159,7 @@ owned-location tab inputs moment g l r o =
     (joins-at tab inputs moment r).locations l
     ∙ (ap (flat_map (from_item event (final_at tab inputs moment))) same
     ∙ sym (location-whole event m (joined_point tab inputs moment) (final_at tab inputs moment) (all_at tab inputs moment) (whole-point tab inputs moment r) (known-at tab inputs moment r) own
-      (subst (AllByRecursion (λ i. i.event < m)) same ((bounded-at tab inputs moment r).locations l))))
+    (subst (AllByRecursion (λ i. i.event < m)) same ((bounded-at tab inputs moment r).locations l))))
 
 bodies-at : (inputs : List Input) (moment : ℕ) → Run inputs moment → BodiesFit (group_of (records inputs)) (memories (event_at (records inputs)) (group_of (records inputs))) (length (state_at inputs moment).kernel.processes) (state_at inputs moment).bodies
 bodies-at inputs moment r =
