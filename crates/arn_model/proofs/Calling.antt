@@ -73,7 +73,9 @@ pub record CallTells (m : Machine) (pid : ℕ) (v : View) (n : ℕ) (d : Doing) 
   pub fine : act_wrong v d.act d.extra ≡ None
   pub forks : ForksRightly (table.next_process m.kernel.processes) v d.act d.extra
   pub length : unwrap_or (held_len d.extra) (plain_len n (result_of d.act) d.extra) ≡ length d.bytes
+  pub comes : tells.ComesFrom d.act d.incoming
   pub receives : tells.Receives m.kernel d.incoming d.bytes (entry.Call pid n (result_of d.act) d.extra)
+  pub spans : tells.Spans d.outgoing d.bytes
   pub life : call_life pid n (result_of d.act) ≡ life_by pid d.act
   pub name : call_name n d.extra ≡ naming
   pub put : call_put n d.extra ≡ writing
@@ -104,7 +106,9 @@ done-call m pid v n d name put at call k =
           right = right-by v n (result_of d.act) d.extra d.act at.stands at.number c.told c.fine pid;
           forks = c.forks;
           length = c.length;
+          comes = c.comes;
           receives = c.receives;
+          spans = c.spans;
           holds = k.holds;
           lives = λ q. k.living q ∙ ap (λ (l : LifeChange). lives_after l q (lives m.kernel q)) (sym c.life);
           names = λ path. k.names path ∙ ap (λ (c : NameChange). named_after c path (find_file m.kernel.files path)) (sym c.name);
@@ -122,7 +126,7 @@ pub record Plain (pid n : ℕ) (cpu : Cpu) (result : ℕ) (more : Extra) : Type 
 pub done-named : (m : Machine) (pid : ℕ) (v : View) (n result : ℕ) (more : Extra) (name : NameChange) (k : Kernel) → At m pid v n → Plain pid n v.body.cpu result more → call_name n more ≡ name → KernelTells m.kernel m.events [] None NoLife name None k → DoneCall m pid v n (returning result more k)
 done-named m pid v n result more name k at p e t =
     done-call m pid v n (returning result more k) name None at
-    (λ few. record { told = p.told; fine = refl; forks = tt; length = p.length; receives = p.gives; life = p.life; name = e; put = p.put })
+    (λ few. record { told = p.told; fine = refl; forks = tt; length = p.length; comes = tt; receives = p.gives; spans = tt; life = p.life; name = e; put = p.put })
     t
 
 pub done-plain : (m : Machine) (pid : ℕ) (v : View) (n result : ℕ) (more : Extra) (k : Kernel) → At m pid v n → Plain pid n v.body.cpu result more → call_name n more ≡ NoName → Quiet m.kernel k → DoneCall m pid v n (returning result more k)

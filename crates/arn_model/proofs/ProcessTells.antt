@@ -36,7 +36,7 @@ exit-tells m pid v at =
     let status = argument v.body.cpu 0 % 256 in
     let d : Doing = record { act = Exits; extra = extra.Nothing; incoming = Nothing; outgoing = Some (status_of pid); bytes = status ∷ []; kernel = kernel.ended pid (status_at m.events status) m.kernel } in
     done-call m pid v EXIT d NoName None at
-    (λ few. record { told = refl; fine = refl; forks = tt; length = refl; receives = refl; life = refl; name = refl; put = refl })
+    (λ few. record { told = refl; fine = refl; forks = tt; length = refl; comes = tt; receives = refl; spans = refl; life = refl; name = refl; put = refl })
     (ended-tells pid status m.events m.kernel)
 
 -- a child's number is no error where few processes have been made
@@ -67,7 +67,9 @@ fork-done m pid v at None e =
       fine = refl;
       forks = (refl, e, refl);
       length = refl;
+      comes = tt;
       receives = refl;
+      spans = tt;
       life = ap (λ (b : Bool). if b then BeginsLife child else NoLife) (child-success pid m.kernel few);
       name = refl;
       put = refl;
@@ -82,7 +84,9 @@ fork-done m pid v at (Some segment) e =
       fine = refl;
       forks = (refl, (segment, e));
       length = refl;
+      comes = tt;
       receives = refl;
+      spans = tt;
       life = ap (λ (b : Bool). if b then BeginsLife child else NoLife) (child-success pid m.kernel few);
       name = refl;
       put = refl;
@@ -107,7 +111,9 @@ exec-done m pid v file held at block e image =
       fine = exec-fine (values held) (is_image (values held)) (isnt_block v (argument v.body.cpu 2) (argument v.body.cpu 3)) (argument v.body.cpu 3) image block;
       forks = tt;
       length = refl;
+      comes = tt;
       receives = record { held = held; all = refl; received = refl; there = λ n l. there n; told = refl };
+      spans = tt;
       life = refl;
       name = refl;
       put = refl;
@@ -190,7 +196,9 @@ wait-status-tells m pid v child at reach (Some status) e =
       fine = ap (λ (b : Bool). wrong_if (not b) 1 0) reach;
       forks = tt;
       length = refl;
+      comes = tt;
       receives = record { held = status ∷ []; all = refl; received = refl; there = there; told = refl };
+      spans = tt;
       life = refl;
       name = refl;
       put = refl;

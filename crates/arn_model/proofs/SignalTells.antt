@@ -43,7 +43,7 @@ sigreturn-tells m pid v at =
     unless-refused m pid v SIGRETURN (refuse BAD_ARGUMENT (is_none v.body.slot) ∷ []) (does_only Leaves m.kernel) at refl refl
     (λ none.
     done-call m pid v SIGRETURN d NoName None at
-    (λ few. record { told = refl; fine = ap (λ (b : Bool). wrong_if b 0 (error BAD_ARGUMENT)) none.0; forks = tt; length = refl; receives = refl; life = refl; name = refl; put = refl })
+    (λ few. record { told = refl; fine = ap (λ (b : Bool). wrong_if b 0 (error BAD_ARGUMENT)) none.0; forks = tt; length = refl; comes = tt; receives = refl; spans = tt; life = refl; name = refl; put = refl })
     (quiet-tells m.kernel m.events [] m.kernel (quiet-refl m.kernel)))
 
 pub shm-tells : (m : Machine) (pid : ℕ) (v : View) → At m pid v SHM → RequestTells m pid v SHM (shm_row m pid v)
@@ -52,5 +52,5 @@ shm-tells m pid v at =
     unless-refused m pid v SHM (refuse BAD_ARGUMENT (is_some v.body.segment) ∷ []) (does_only Shares m.kernel) at refl refl
     (λ none.
     done-call m pid v SHM d NoName None at
-    (λ few. record { told = refl; fine = refl; forks = tt; length = refl; receives = refl; life = refl; name = refl; put = refl })
+    (λ few. record { told = refl; fine = refl; forks = tt; length = refl; comes = tt; receives = refl; spans = tt; life = refl; name = refl; put = refl })
     (quiet-tells m.kernel m.events [] m.kernel (quiet-refl m.kernel)))

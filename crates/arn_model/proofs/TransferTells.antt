@@ -28,7 +28,7 @@ use Rattle.arn_model.specs.Doing as doing
 use Rattle.arn_model.specs.Doing.{Doing, Request, Waits, Does, Asks, returns, refuse, refused, unless_refused}
 use Rattle.arn_model.specs.Kernel.{Kernel, Machine, description_of, what_is, with_description}
 use Rattle.arn_model.specs.Row.{answered}
-use Rattle.arn_model.specs.Tells.{kernel_byte, at_position}
+use Rattle.arn_model.specs.Tells.{kernel_byte, at_position, Spans}
 use Rattle.arn_model.specs.TransferCalls.{cut, if_moving, receiving, read_console, read_file, read_empty, read_queue, read_pipe, was_unplugged, absent, unless_unplugged, read_from_what, read_what, read_opened, read_row, giving, write_console, put_into_file, write_file, put_into_pipe, write_pipe, write_to_what, write_what, write_opened, write_row, device_read, device_write}
 use Rattle.arn_model.proofs.Numbers.{get-take, get-drop}
 use Rattle.arn_model.proofs.Quiet.{Quiet, quiet-refl}
@@ -63,7 +63,9 @@ receiving-done m pid v len first held k at reach short there q =
       fine = ap (λ (b : Bool). wrong_if b (length (values held)) 0) (isnt-outside v (argument v.body.cpu 1) len (length (values held)) (omega arith) reach);
       forks = tt;
       length = refl;
+      comes = tt;
       receives = record { held = held; all = refl; received = refl; there = there; told = refl };
+      spans = tt;
       life = refl;
       name = refl;
       put = refl;
@@ -153,7 +155,9 @@ device-read-done m pid v device len at reach (Reads bytes) short =
       fine = ap (λ (b : Bool). wrong_if b (length bytes) 0) (isnt-outside v a len (length bytes) short reach);
       forks = tt;
       length = refl;
+      comes = tt;
       receives = refl;
+      spans = tt;
       life = refl;
       name = refl;
       put = refl;
@@ -234,10 +238,10 @@ record Gave (v : View) (bytes : List ℕ) (more : Extra) (writing : Option Writt
   pub name : call_name WRITE more ≡ NoName
   pub gives : give_in more ≡ None
 
-giving-done : (m : Machine) (pid : ℕ) (v : View) (bytes : List ℕ) (more : Extra) (outgoing : Option Range) (writing : Option Written) (k : Kernel) → At m pid v WRITE → Gave v bytes more writing → KernelTells m.kernel m.events bytes outgoing NoLife NoName writing k → DoneCall m pid v WRITE (giving (argument v.body.cpu 1) bytes more outgoing k)
-giving-done m pid v bytes more outgoing writing k at g t =
+giving-done : (m : Machine) (pid : ℕ) (v : View) (bytes : List ℕ) (more : Extra) (outgoing : Option Range) (writing : Option Written) (k : Kernel) → At m pid v WRITE → Gave v bytes more writing → Spans outgoing bytes → KernelTells m.kernel m.events bytes outgoing NoLife NoName writing k → DoneCall m pid v WRITE (giving (argument v.body.cpu 1) bytes more outgoing k)
+giving-done m pid v bytes more outgoing writing k at g spans t =
     done-call m pid v WRITE (giving (argument v.body.cpu 1) bytes more outgoing k) NoName writing at
-    (λ few. record { told = g.told; fine = g.fine; forks = tt; length = g.len; receives = g.gives; life = refl; name = g.name; put = g.put })
+    (λ few. record { told = g.told; fine = g.fine; forks = tt; length = g.len; comes = tt; receives = g.gives; spans = spans; life = refl; name = g.name; put = g.put })
     t
 
 write-console-tells : (m : Machine) (pid : ℕ) (v : View) (len : ℕ) → At m pid v WRITE → can_reach v (argument v.body.cpu 1) len ≡ true → RequestTells m pid v WRITE (write_console m (argument v.body.cpu 1) (read v (argument v.body.cpu 1) len))
@@ -245,6 +249,7 @@ write-console-tells m pid v len at reach =
     let bytes = read v (argument v.body.cpu 1) len in
     giving-done m pid v bytes (extra.Console bytes) None None m.kernel at
     (record { told = refl; fine = gave-all v (argument v.body.cpu 1) len reach; len = refl; put = refl; name = refl; gives = refl })
+    tt
     (quiet-tells m.kernel m.events bytes m.kernel (quiet-refl m.kernel))
 
 -- what fits is taken whole
@@ -279,6 +284,7 @@ write-file-tells m pid v n file position len at reach what =
     (λ none.
     giving-done m pid v bytes (extra.Put file position bytes) (Some range) put k' at
     (record { told = refl; fine = gave-first v a len (fitting position (length all)) at.fits reach; len = refl; put = refl; name = refl; gives = refl })
+    refl
     (tells-then m.kernel m.events bytes (Some range) NoLife NoName put k k' (written-tells m.kernel m.events file position bytes fits lies.inside)
     (quiet-with_description n (description.File file (position + length bytes)) k
     (λ s o f.
@@ -312,6 +318,7 @@ piped-done m pid v pipe len p at reach some most there has =
       name = refl;
       gives = refl;
     })
+    refl
     (piped-tells m.kernel m.events pipe p bytes there sized.3)
   where
     sizes : (room len all taken : ℕ) → 0 < len → len ≤ MOST_TRANSFER → all ≡ len → taken ≡ min room all → (room ≡ 0 → ⊥) → (1 ≤ taken) × (taken ≤ MOST_TRANSFER) × (taken ≤ len) × (taken ≤ room)
@@ -338,6 +345,7 @@ device-write-done m pid v device len at reach (Takes n) =
     let bytes = take n (read v a len) in
     giving-done m pid v bytes (extra.Sent device bytes) None None m.kernel at
     (record { told = refl; fine = gave-first v a len n at.fits reach; len = refl; put = refl; name = refl; gives = refl })
+    tt
     (quiet-tells m.kernel m.events bytes m.kernel (quiet-refl m.kernel))
 device-write-done m pid v device len at reach WriteFails =
     done-plain m pid v WRITE (error DEVICE_FAULT) extra.Fault m.kernel at (record { told = refl; length = refl; life = refl; put = refl; gives = refl }) refl (quiet-refl m.kernel)

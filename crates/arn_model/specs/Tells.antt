@@ -15,6 +15,7 @@ use Rattle.parts_model.specs.Processes as table
 use Rattle.parts_model.specs.Tagged.{held_bytes, values, given}
 use Rattle.rv64_isa.specs.declared.instruction.Instr.{Instr}
 use Rattle.rv64_model.specs.Instruction.{Next}
+use Rattle.acts_model.specs.Acts as acts
 use Rattle.acts_model.specs.Acts.{Act, Forks, Founds, beginning_of, start_of}
 use Rattle.acts_model.specs.Bodies.{View, seen}
 use Rattle.acts_model.specs.Disagreement.{wrong_with}
@@ -50,6 +51,16 @@ abbrev pub Receives : Kernel → Incoming → List ℕ → Record → Type 0
 Receives k Outside bytes entry = give_of entry ≡ None
 Receives k Nothing bytes entry = give_of entry ≡ None
 Receives k (From range) bytes entry = ReceivesHeld k range bytes entry
+
+-- an act that receives bytes has them from somewhere
+abbrev pub ComesFrom : Act → Incoming → Type 0
+ComesFrom (acts.Receives at bytes result) Nothing = ⊥
+ComesFrom act incoming = Unit {0}
+
+-- what the bytes of an event become are as many
+abbrev pub Spans : Option Range → List ℕ → Type 0
+Spans None bytes = Unit {0}
+Spans (Some range) bytes = range.len ≡ length bytes
 
 -- the event byte that is put into a kernel byte, with itself as origin
 abbrev pub put_byte : ℕ → List ℕ → Option ℕ → Option TaggedByte
@@ -120,7 +131,9 @@ pub record EventTells (m : Machine) (pid : ℕ) (v : View) (d : Doing) (entry : 
   pub forks : ForksRightly (table.next_process m.kernel.processes) v d.act (extra_in entry)
   -- the event's bytes, where they come from and what they become
   pub length : event_len entry ≡ length d.bytes
+  pub comes : ComesFrom d.act d.incoming
   pub receives : Receives m.kernel d.incoming d.bytes entry
+  pub spans : Spans d.outgoing d.bytes
   pub holds : HoldsAfter m.kernel m.events d.bytes d.outgoing d.kernel
   -- processes, names and files change as the record says
   pub lives : (q : ℕ) → lives d.kernel q ≡ lives_after (life_told entry) q (lives m.kernel q)

@@ -1,0 +1,14 @@
+pub mod Sets
+pub mod Takes
+pub mod Central
+pub mod Stored
+pub mod Joined
+pub mod Homes
+pub mod Groups
+pub mod Told
+pub mod Origins
+pub mod Holding
+pub mod Outside
+pub mod Fits
+pub mod Runs
+pub mod Whole

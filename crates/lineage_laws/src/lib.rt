@@ -3,3 +3,7 @@
 //!
 //! What holds is stated by functions that do nothing.
 #![tactic(auto)]
+
+mod law;
+
+pub use law::lineage_is_joined;

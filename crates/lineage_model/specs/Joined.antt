@@ -8,7 +8,7 @@ use Rattle.arn_base.specs.declared.records.Record.{Record}
 use Rattle.arn_base.specs.declared.records.Record.TheVariants as entry
 use Rattle.arn_base.specs.declared.records.Src.{Src}
 use Rattle.parts_model.specs.declared.calls.TheConstants.{READ}
-use Rattle.acts_model.specs.Records.{give_of}
+use Rattle.acts_model.specs.Records.{event_len, give_of}
 use Rattle.lineage_model.specs.Flow.{At, Byte}
 use Rattle.lineage_model.specs.Tracking.{EventByte}
 
@@ -54,22 +54,19 @@ from_item_at event_at earlier event at = earlier event at
 abbrev pub from_item : (ℕ → Option Record) → Reaching → EventByte → List EventByte
 from_item event_at earlier item = from_item_at event_at earlier item.event item.at
 
--- what reaches a byte of an event of the outside, or another that has these items in its group
-abbrev pub from_items : (ℕ → Option Record) → Reaching → ℕ → At → Bool → List EventByte → List EventByte
-from_items event_at earlier event at true items = record { event = event; at = at } ∷ []
-from_items event_at earlier event at false items = flat_map (from_item event_at earlier) items
+-- a byte of an event of the outside is its own source. The event has no byte behind its end, and none with which a group begins
+abbrev pub source_byte : ℕ → ℕ → At → List EventByte
+source_byte event len (Byte k) = if nat_lt k len then record { event = event; at = Byte k } ∷ [] else []
+source_byte event len at = []
 
--- the event is a source
-abbrev pub is_source_in : Option Record → Bool
-is_source_in None = false
-is_source_in (Some e) = is_source e
-
-abbrev pub is_source_at : (ℕ → Option Record) → ℕ → Bool
-is_source_at event_at event = is_source_in (event_at event)
+-- what reaches a byte of an event that has these items in its group, or is of the outside
+abbrev pub from_event : (ℕ → Option Record) → Reaching → ℕ → At → List EventByte → Option Record → List EventByte
+from_event event_at earlier event at items None = []
+from_event event_at earlier event at items (Some e) =
+    if is_source e then source_byte event (event_len e) at else flat_map (from_item event_at earlier) items
 
 -- What reaches bytes of the first n events, where `items` gives the items that a byte of an event has in its own group. Origins and forks are
 -- earlier events, so that this ends.
 abbrev pub reached : (ℕ → Option Record) → (ℕ → At → List EventByte) → ℕ → Reaching
 reached event_at items zero event at = []
-reached event_at items (suc n) event at =
-    from_items event_at (reached event_at items n) event at (is_source_at event_at event) (items event at)
+reached event_at items (suc n) event at = from_event event_at (reached event_at items n) event at (items event at) (event_at event)

@@ -1,0 +1,212 @@
+-- Each live process holds memories of its own group, and after each act it still does.
+use Rattle.std.proofs.Common.{◌≡◌, ℕ, zero, suc, ◌≤◌, List, [], ◌∷◌, length, refl, ap, ◌∙◌, sym, subst, Option, Some, None, option_map, option_and_then, Bool, true, false, ◌==◌, cond, arith, ne_eqb, inl, inr}
+use Rattle.std.proofs.lemmas.Bool.{eq-eqb, eqb-true, eqb-false}
+use Rattle.arn_base.specs.declared.machine.Cpu.{Cpu}
+use Rattle.arn_base.specs.Window.{Window, with_bytes}
+use Rattle.rv64_isa.specs.declared.instruction.Instr.{Instr}
+use Rattle.rv64_model.specs.Operands.{accessed}
+use Rattle.acts_model.specs.Acts.{Act, Returns, Receives, Gives, Starts, Forks, Founds, Shares, Leaves, Delivers, Exits, Faults, Dies, restored, acted, Beginning, beginning_of, child_view, joined, done_by, done, founded}
+use Rattle.acts_model.specs.Bodies.{Body, Bodies, View, IsHolder, nth_body, with_nth, body_at, with_body, with_memory, with_segment, view, seen, put, remove, become}
+use Rattle.acts_model.specs.Transfers.{holds_of, is_private, is_shared, place_at, place_of, transfer, instr_transfer}
+use Rattle.acts_model.specs.Views.{reach, with_reach}
+use Rattle.history_model.specs.Groups.{Groups}
+use Rattle.lineage_laws.proofs.Homes.{Memories, PlaceIs, Lies}
+
+-- bodies by number
+suc-test : (q p : ℕ) → (suc q == suc p) ≡ (q == p)
+suc-test q p = by_test (q == p) refl
+  where
+    by_test : (b : Bool) → (q == p) ≡ b → (suc q == suc p) ≡ b
+    by_test true e = eq-eqb (suc q) (suc p) (ap suc (eqb-true q p e))
+    by_test false e = let ne = eqb-false q p e in ne_eqb (suc q) (suc p) (λ k. ne (omega arith))
+
+nth-with : (p : ℕ) (x : Option Body) (xs : List (Option Body)) (q : ℕ) → nth_body (with_nth p x xs) q ≡ cond (q == p) x (nth_body xs q)
+unfolding nth_body with_nth
+nth-with zero x [] zero = refl
+nth-with zero x [] (suc q) = ap (λ (b : Bool). cond b x None) (sym (ne_eqb (suc q) zero (λ k. omega arith)))
+nth-with zero x (y ∷ ys) zero = refl
+nth-with zero x (y ∷ ys) (suc q) = ap (λ (b : Bool). cond b x (nth_body ys q)) (sym (ne_eqb (suc q) zero (λ k. omega arith)))
+nth-with (suc p) x [] zero = ap (λ (b : Bool). cond b x None) (sym (ne_eqb zero (suc p) (λ k. omega arith)))
+nth-with (suc p) x [] (suc q) = nth-with p x [] q ∙ ap (λ (b : Bool). cond b x None) (sym (suc-test q p))
+nth-with (suc p) x (y ∷ ys) zero = ap (λ (b : Bool). cond b x y) (sym (ne_eqb zero (suc p) (λ k. omega arith)))
+nth-with (suc p) x (y ∷ ys) (suc q) = nth-with p x ys q ∙ ap (λ (b : Bool). cond b x (nth_body ys q)) (sym (suc-test q p))
+
+body-with : (p : ℕ) (x : Option Body) (b : Bodies) (q : ℕ) → body_at (with_body p x b) q ≡ cond (q == p) x (body_at b q)
+unfolding body_at with_body
+body-with p x b q = nth-with p x b.bodies q
+
+body-kept : (k : ℕ) (bytes : List ℕ) (b : Bodies) (q : ℕ) → body_at (with_memory k bytes b) q ≡ body_at b q
+unfolding body_at with_memory
+body-kept k bytes b q = refl
+
+body-segment : (o : Option ℕ) (bytes : List ℕ) (b : Bodies) (q : ℕ) → body_at (with_segment o bytes b) q ≡ body_at b q
+body-segment None bytes b q = refl
+body-segment (Some k) bytes b q = body-kept k bytes b q
+
+pub put-body : (p : ℕ) (v : View) (b : Bodies) (q : ℕ) → body_at (put p v b) q ≡ cond (q == p) (Some v.body) (body_at b q)
+unfolding put
+put-body p v b q =
+    let old = with_segment v.body.segment v.segment b in
+    body-with p (Some v.body) (with_memory v.body.window v.window old) q
+    ∙ ap (cond (q == p) (Some v.body)) (body-kept v.body.window v.window old q ∙ body-segment v.body.segment v.segment b q)
+
+pub put-here : (p : ℕ) (v : View) (b : Bodies) → body_at (put p v b) p ≡ Some v.body
+put-here p v b = put-body p v b p ∙ ap (λ (t : Bool). cond t (Some v.body) (body_at b p)) (eq-eqb p p refl)
+
+remove-body : (p : ℕ) (b : Bodies) (q : ℕ) → body_at (remove p b) q ≡ cond (q == p) None (body_at b q)
+unfolding remove
+remove-body p b q = body-with p None b q
+
+pub seen-body : (b : Bodies) (p : ℕ) (v : View) → seen b p ≡ Some v → body_at b p ≡ Some v.body
+seen-body b p v e = by_body (body_at b p) e
+  where
+    by_body : (o : Option Body) → option_map (view b) o ≡ Some v → o ≡ Some v.body
+    by_body None e = absurd (cc)
+    by_body (Some x) e = let same : view b x ≡ v = cc in ap (λ (v : View). Some v.body) same
+
+-- a process has a group, and its memories belong to it
+pub record HoldsIn (gs : Groups) (ms : Memories) (most pid : ℕ) (x : Body) : Type 0 where
+  pub group : ℕ
+  pub is : gs pid ≡ Some group
+  pub small : group ≤ most
+  pub window : ms x.window ≡ gs pid
+  pub segment : (made : ℕ) → x.segment ≡ Some made → ms made ≡ gs pid
+
+abbrev pub BodiesFit : Groups → Memories → ℕ → Bodies → Type 0
+BodiesFit gs ms most b = (q : ℕ) (x : Body) → body_at b q ≡ Some x → HoldsIn gs ms most q x
+
+pub fit-more : (gs : Groups) (ms : Memories) (less most : ℕ) (b : Bodies) → less ≤ most → BodiesFit gs ms less b → BodiesFit gs ms most b
+fit-more gs ms less most b l h q x e =
+    let k = h q x e in
+    let s = k.small in
+    record { group = k.group; is = k.is; small = (omega arith); window = k.window; segment = k.segment }
+
+same-hold : (gs : Groups) (ms : Memories) (most pid : ℕ) (x y : Body) → y.window ≡ x.window → y.segment ≡ x.segment → HoldsIn gs ms most pid x → HoldsIn gs ms most pid y
+same-hold gs ms most pid x y w s h =
+    record { group = h.group; is = h.is; small = h.small; window = ap ms w ∙ h.window; segment = λ made e. h.segment made (sym s ∙ e) }
+
+fit-put : (gs : Groups) (ms : Memories) (most : ℕ) (b : Bodies) (p : ℕ) (v : View) → BodiesFit gs ms most b → HoldsIn gs ms most p v.body → BodiesFit gs ms most (put p v b)
+fit-put gs ms most b p v h k q x e = by_test (q == p) refl (sym (put-body p v b q) ∙ e)
+  where
+    by_test : (t : Bool) → (q == p) ≡ t → cond t (Some v.body) (body_at b q) ≡ Some x → HoldsIn gs ms most q x
+    by_test true t f =
+        let same : v.body ≡ x = cc in
+        subst (λ (r : ℕ). HoldsIn gs ms most r x) (sym (eqb-true q p t)) (subst (HoldsIn gs ms most p) same k)
+    by_test false t f = h q x f
+
+fit-remove : (gs : Groups) (ms : Memories) (most : ℕ) (b : Bodies) (p : ℕ) → BodiesFit gs ms most b → BodiesFit gs ms most (remove p b)
+fit-remove gs ms most b p h q x e = by_test (q == p) (sym (remove-body p b q) ∙ e)
+  where
+    by_test : (t : Bool) → cond t None (body_at b q) ≡ Some x → HoldsIn gs ms most q x
+    by_test true f = absurd (cc)
+    by_test false f = h q x f
+
+-- what an act at an event makes belongs to the group that acts, or to the one that starts
+abbrev pub Makes : Groups → Memories → ℕ → ℕ → ℕ → Act → Type 0
+Makes gs ms most event pid (Forks child) = (gs child ≡ gs pid) × (ms event ≡ gs pid)
+Makes gs ms most event pid (Founds child) = (gs child ≡ Some child) × (ms event ≡ Some child) × (child ≤ most) × (gs pid ≡ Some child → ⊥)
+Makes gs ms most event pid act = ms event ≡ gs pid
+
+reach-body : (ws : List Window) (v : View) → (with_reach ws v).body ≡ v.body
+reach-body [] v = refl
+reach-body (w ∷ []) v = refl
+reach-body (w ∷ s ∷ more) v = refl
+
+restored-fit : (gs : Groups) (ms : Memories) (most pid : ℕ) (v : View) (slot : Option Cpu) → HoldsIn gs ms most pid v.body → HoldsIn gs ms most pid (restored slot v).body
+restored-fit gs ms most pid v None h = h
+restored-fit gs ms most pid v (Some cpu) h = record { group = h.group; is = h.is; small = h.small; window = h.window; segment = h.segment }
+
+become-fit : (gs : Groups) (ms : Memories) (most event pid : ℕ) (act : Act) (v : View) (b : Bodies) → Makes gs ms most event pid act → HoldsIn gs ms most pid v.body → BodiesFit gs ms most b → BodiesFit gs ms most (become pid (acted event act v) b)
+become-fit gs ms most event pid (Returns result) v b k h f = fit-put gs ms most b pid _ f (same-hold gs ms most pid v.body _ refl refl h)
+become-fit gs ms most event pid (Receives at bytes result) v b k h f =
+    let same = reach-body (with_bytes (reach v) at bytes) v in
+    fit-put gs ms most b pid _ f (same-hold gs ms most pid v.body _ (ap (λ (x : Body). x.window) same) (ap (λ (x : Body). x.segment) same) h)
+become-fit gs ms most event pid (Gives at len result) v b k h f = fit-put gs ms most b pid _ f (same-hold gs ms most pid v.body _ refl refl h)
+become-fit gs ms most event pid (Starts file block block_len) v b k h f = fit-put gs ms most b pid _ f (record { group = h.group; is = h.is; small = h.small; window = k; segment = λ made e. absurd (cc) })
+become-fit gs ms most event pid (Forks child) v b k h f = fit-put gs ms most b pid _ f (same-hold gs ms most pid v.body _ refl refl h)
+become-fit gs ms most event pid (Founds child) v b k h f = fit-put gs ms most b pid _ f (same-hold gs ms most pid v.body _ refl refl h)
+become-fit gs ms most event pid Shares v b k h f = fit-put gs ms most b pid _ f (record { group = h.group; is = h.is; small = h.small; window = h.window; segment = λ made e. let same : event ≡ made = cc in ap ms (sym same) ∙ k })
+become-fit gs ms most event pid Leaves v b k h f = fit-put gs ms most b pid (restored v.body.slot v) f (restored-fit gs ms most pid v v.body.slot h)
+become-fit gs ms most event pid (Delivers signal handler cut) v b k h f = fit-put gs ms most b pid _ f (same-hold gs ms most pid v.body _ refl refl h)
+become-fit gs ms most event pid Exits v b k h f = fit-remove gs ms most b pid f
+become-fit gs ms most event pid (Faults status) v b k h f = fit-remove gs ms most b pid f
+become-fit gs ms most event pid (Dies signal cut) v b k h f = fit-remove gs ms most b pid f
+
+joined-fit : (gs : Groups) (ms : Memories) (most event pid : ℕ) (act : Act) (v : View) (b : Bodies) → Makes gs ms most event pid act → HoldsIn gs ms most pid v.body → BodiesFit gs ms most b → BodiesFit gs ms most (joined act event v b)
+joined-fit gs ms most event pid (Forks child) v b k h f =
+    fit-put gs ms most b child (child_view event (beginning_of v) v.body.segment v.segment) f
+    (record { group = h.group; is = k.0 ∙ h.is; small = h.small; window = k.1 ∙ sym k.0; segment = λ made e. h.segment made e ∙ sym k.0 })
+joined-fit gs ms most event pid _ v b k h f = f
+
+-- after an act in the group of its process
+pub done-fit : (gs : Groups) (ms : Memories) (most event pid : ℕ) (act : Act) (b : Bodies) → Makes gs ms most event pid act → BodiesFit gs ms most b → BodiesFit gs ms most (done pid event act b)
+done-fit gs ms most event pid act b k f = by_seen (seen b pid) refl
+  where
+    by_seen : (o : Option View) → seen b pid ≡ o → BodiesFit gs ms most (done_by pid event act o b)
+    by_seen None e = f
+    by_seen (Some v) e =
+        let h = f pid v.body (seen-body b pid v e) in
+        joined-fit gs ms most event pid act v (become pid (acted event act v) b) k h (become-fit gs ms most event pid act v b k h f)
+
+-- and where a child starts a group
+pub founded-fit : (gs : Groups) (ms : Memories) (most event pid : ℕ) (act : Act) (start : Beginning) (b : Bodies) → Makes gs ms most event pid act → BodiesFit gs ms most b → BodiesFit gs ms most (founded act event start b)
+founded-fit gs ms most event pid (Founds child) start b k f =
+    fit-put gs ms most b child (child_view event start None []) f
+    (record { group = child; is = k.0; small = k.2; window = k.1 ∙ sym k.0; segment = λ made e. absurd (cc) })
+founded-fit gs ms most event pid _ start b k f = f
+
+pub put-fit : (gs : Groups) (ms : Memories) (most : ℕ) (b : Bodies) (p : ℕ) (v : View) → BodiesFit gs ms most b → HoldsIn gs ms most p v.body → BodiesFit gs ms most (put p v b)
+put-fit gs ms most b p v f h = fit-put gs ms most b p v f h
+
+-- an instruction leaves what a process holds
+pub run-fit : (gs : Groups) (ms : Memories) (most pid : ℕ) (cpu : Cpu) (ws : List Window) (v : View) (b : Bodies) → HoldsIn gs ms most pid v.body → BodiesFit gs ms most b → BodiesFit gs ms most (put pid (with_reach ws (record v { body = record v.body { cpu = cpu } })) b)
+run-fit gs ms most pid cpu ws v b h f =
+    let same = reach-body ws (record v { body = record v.body { cpu = cpu } }) in
+    fit-put gs ms most b pid _ f (same-hold gs ms most pid v.body _ (ap (λ (x : Body). x.window) same) (ap (λ (x : Body). x.segment) same) h)
+
+-- a place that a process reaches is in a memory of its group
+private-is : (gs : Groups) (ms : Memories) (most pid : ℕ) (x : Body) (at : ℕ) (b c : Bool) → HoldsIn gs ms most pid x → PlaceIs ms (gs pid) (option_map (λ made. record { made = made; at = at }) (cond b (Some x.window) (cond c x.segment None)))
+private-is gs ms most pid x at true c h = h.window
+private-is gs ms most pid x at false true h = by_segment x.segment h.segment
+  where
+    by_segment : (o : Option ℕ) → ((made : ℕ) → o ≡ Some made → ms made ≡ gs pid) → PlaceIs ms (gs pid) (option_map (λ made. record { made = made; at = at }) o)
+    by_segment None k = tt
+    by_segment (Some made) k = k made refl
+private-is gs ms most pid x at false false h = tt
+
+place-is : (gs : Groups) (ms : Memories) (most pid : ℕ) (x : Body) (at : ℕ) → HoldsIn gs ms most pid x → PlaceIs ms (gs pid) (place_at (holds_of x) at)
+place-is gs ms most pid x at h = private-is gs ms most pid x at (is_private at) (is_shared at) h
+
+some-place-is : (gs : Groups) (ms : Memories) (most pid : ℕ) (x : Body) (at len : ℕ) → HoldsIn gs ms most pid x → PlaceIs ms (gs pid) (place_of (holds_of x) at len)
+some-place-is gs ms most pid x at len h = by_test (len == 0)
+  where
+    by_test : (b : Bool) → PlaceIs ms (gs pid) (cond b None (place_at (holds_of x) at))
+    by_test true = tt
+    by_test false = place-is gs ms most pid x at h
+
+-- so what an act moves lies in its group
+pub act-lies : (gs : Groups) (ms : Memories) (most event pid : ℕ) (x : Body) (act : Act) → HoldsIn gs ms most pid x → Makes gs ms most event pid act → Lies gs ms (transfer pid event (holds_of x) act)
+act-lies gs ms most event pid x (Returns result) h k = tt
+act-lies gs ms most event pid x (Receives at bytes result) h k = some-place-is gs ms most pid x at (length bytes) h
+act-lies gs ms most event pid x (Gives at len result) h k = some-place-is gs ms most pid x at len h
+act-lies gs ms most event pid x (Starts file block block_len) h k = (k, some-place-is gs ms most pid x block block_len h)
+act-lies gs ms most event pid x (Forks child) h k = record { process = k.0; old = h.window; new = k.1 }
+act-lies gs ms most event pid x (Founds child) h k = record { process = k.0; old = h.window; new = k.1; other = k.3 }
+act-lies gs ms most event pid x Shares h k = k
+act-lies gs ms most event pid x Leaves h k = tt
+act-lies gs ms most event pid x (Delivers signal handler cut) h k = tt
+act-lies gs ms most event pid x Exits h k = tt
+act-lies gs ms most event pid x (Faults status) h k = tt
+act-lies gs ms most event pid x (Dies signal cut) h k = tt
+
+pub instr-lies : (gs : Groups) (ms : Memories) (most pid : ℕ) (cpu : Cpu) (x : Body) (instr : Instr) → HoldsIn gs ms most pid x → Lies gs ms (instr_transfer pid cpu (holds_of x) instr)
+instr-lies gs ms most pid cpu x instr h = by_access (accessed instr cpu)
+  where
+    by_access : (o : Option ℕ) → PlaceIs ms (gs pid) (option_and_then (place_at (holds_of x)) o)
+    by_access None = tt
+    by_access (Some at) = place-is gs ms most pid x at h
+
+-- a memory that a process holds is of its group
+pub holder-is : (gs : Groups) (ms : Memories) (most pid : ℕ) (x : Body) (made : ℕ) → HoldsIn gs ms most pid x → IsHolder x made → ms made ≡ gs pid
+holder-is gs ms most pid x made h (inl e) = ap ms (sym e) ∙ h.window
+holder-is gs ms most pid x made h (inr e) = h.segment made e
