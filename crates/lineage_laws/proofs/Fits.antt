@@ -156,7 +156,7 @@ event-makes : (event_at : ℕ → Option Record) (gs groups : Groups) (m : Machi
 event-makes event_at gs groups m pid v d e t a h (SaysFounds child start is success made) =
     let kid = founds-body m pid child v in
     let small : child ≤ length d.kernel.processes = a.later child kid.0 (ap (λ (x : Act). body_at (after_act m pid v x) child) made ∙ kid.1) in
-    let fork = (subst (λ (x : Act). tells.ForksRightly (table.next_process m.kernel.processes) v x d.extra) made t.forks).0 in
+    let fork = (subst (λ (x : Act). tells.ForksRightly (table.next_process m.kernel.processes) v x (tells.extra_in e)) made t.forks).0 in
     let bound = h.small in
     subst (Makes gs (memories event_at gs) (length d.kernel.processes) m.events pid) (sym made) (
       a.settles child small

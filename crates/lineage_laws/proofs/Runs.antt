@@ -62,8 +62,8 @@ step-settled m s groups q (Happens pid v d e t is) l =
     ∙ told-settled m pid e d.act groups q l new (entry-says v.body.cpu pid e d.act t.inner t.process t.told)
   where
     new : (child : ℕ) → ((d.act ≡ Founds child) ⊎ (d.act ≡ Forks child)) → child ≡ length m.kernel.processes + 1
-    new child (inl made) = (subst (λ (x : Act). tells.ForksRightly (table.next_process m.kernel.processes) v x d.extra) made t.forks).0
-    new child (inr made) = (subst (λ (x : Act). tells.ForksRightly (table.next_process m.kernel.processes) v x d.extra) made t.forks).0
+    new child (inl made) = (subst (λ (x : Act). tells.ForksRightly (table.next_process m.kernel.processes) v x (tells.extra_in e)) made t.forks).0
+    new child (inr made) = (subst (λ (x : Act). tells.ForksRightly (table.next_process m.kernel.processes) v x (tells.extra_in e)) made t.forks).0
 step-settled m s groups q (Boots path file held first found bytes image is) l =
     let none = ltb-false 0 (length m.kernel.processes) first in
     ap (λ (s : Step). groups_by s.moved.inside.event groups q) is
