@@ -81,7 +81,8 @@ fn not_ended(pids: &[u32], table: &Table, parent: u32) -> ProcError
 pub fn next_ended(pids: &[u32], table: &Table, parent: u32) -> Result<Ended, ProcError>
     requires { pids.now ≡ present table.now }
     ensures answer { result_ok result ≡ lowest_ended table.now parent }
-    ensures told { IfOk result (λ e. status_of table.now e.pid ≡ Some (status_byte e.status e.event)) }
+    ensures told { IfOk result (λ e.
+        status_of table.now e.pid ≡ Some (status_byte e.status e.event)) }
     ensures why { IfErr result (WaitFails table.now parent) }
 {
     match lowest_ended(pids, table, parent) {

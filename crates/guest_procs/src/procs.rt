@@ -107,7 +107,8 @@ impl Procs {
     /// has ended.
     pub fn next_ended(&self, parent: u32) -> Result<Ended, ProcError>
         ensures answer { result_ok result ≡ lowest_ended self.now parent }
-        ensures told { IfOk result (λ e. status_of self.now e.pid ≡ Some (status_byte e.status e.event)) }
+        ensures told { IfOk result (λ e.
+            status_of self.now e.pid ≡ Some (status_byte e.status e.event)) }
         ensures why { IfErr result (WaitFails self.now parent) }
     {
         lists::next_ended(&self.lists.present, &self.lists.table, parent)
@@ -116,7 +117,8 @@ impl Procs {
     /// The same, and that child is gone from then on.
     pub fn reap(&mut self, parent: u32) -> Result<Ended, ProcError>
         ensures answer { result_ok result ≡ lowest_ended self.old parent }
-        ensures told { IfOk result (λ e. status_of self.old e.pid ≡ Some (status_byte e.status e.event)) }
+        ensures told { IfOk result (λ e.
+            status_of self.old e.pid ≡ Some (status_byte e.status e.event)) }
         ensures why { IfErr result (WaitFails self.old parent) }
         ensures ok { IfOk result (λ child. self.new ≡ reaped self.old child.pid) }
         ensures err { OnErr result (self.new ≡ self.old) }

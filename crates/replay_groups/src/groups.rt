@@ -62,7 +62,7 @@ impl Groups {
         Ok(())
     }
 
-    /// Adds a process to a group that another has started.
+    /// Adds a process to a group that an earlier process started.
     pub fn join(&mut self, pid: u32, group: u32) -> Result<(), NoMemory>
         requires next { pid ≡ next_number self.old.groups }
         requires started { IsStarted self.old.groups group }
