@@ -1,0 +1,5 @@
+pub mod Changes
+pub mod InPlace
+pub mod Numbers
+pub mod Places
+pub mod Puts

@@ -1,0 +1,57 @@
+// One live process.
+ghost use Rattle.std.specs.Prelude.{◌≡◌, Some, None, is_some, unwrap_or};
+ghost use Rattle.acts_model.specs.Acts.{cut_off};
+ghost use Rattle.acts_model.specs.Views.{returned};
+ghost use Rattle.rv64_model.specs.Registers.{with_register};
+
+use crate::registers;
+use arn_base::Cpu;
+use guest_mem::Space;
+use guest_signals::Signals;
+
+/// A segment that a process holds: the event that made it, and its key in the table.
+#[derive(Clone, Copy, Debug)]
+pub struct Shared {
+    pub made: u64,
+    pub key: usize,
+}
+
+/// Registers, signals, the private window with the event that made it, and the segment that is held.
+#[derive(Debug, Drop)]
+pub struct Guest {
+    pub cpu: Cpu,
+    pub signals: Signals,
+    pub space: Space,
+    pub made: u64,
+    pub segment: Option<Shared>,
+}
+
+impl Guest {
+    /// A call ends with a result.
+    pub fn returns(&mut self, answer: u64)
+        ensures { self.new ≡ record self.old { cpu = returned self.old.cpu answer } }
+    {
+        registers::set_result(&mut self.cpu, answer);
+    }
+
+    /// A handler begins. The registers that it interrupts go to the slot.
+    pub fn delivers(&mut self, signal: u8, handler: u64, cut: bool)
+        ensures { self.new ≡ record self.old {
+            cpu = record (with_register (cut_off cut self.old.cpu) 10 signal) { pc = handler };
+            signals = record self.old.signals { slot = Some (cut_off cut self.old.cpu) } } }
+    {
+        registers::cut_off(&mut self.cpu, cut);
+        self.signals.save(&self.cpu);
+        registers::enter(&mut self.cpu, signal, handler);
+    }
+
+    /// A handler ends. False says that the slot is empty.
+    pub fn leaves(&mut self) -> bool
+        ensures left { result ≡ is_some self.old.signals.slot }
+        ensures restored { self.new ≡ record self.old {
+            cpu = unwrap_or self.old.signals.slot self.old.cpu;
+            signals = record self.old.signals { slot = None } } }
+    {
+        self.signals.leave(&mut self.cpu)
+    }
+}

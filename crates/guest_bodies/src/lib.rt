@@ -1,0 +1,11 @@
+//! The bodies of live processes: registers, save slots and memories, and what acts do to them.
+//!
+//! It knows no descriptors, files or pipes. So it serves a whole machine and a group of processes
+//! alone.
+#![tactic(auto)]
+
+mod bodies;
+mod guest;
+mod registers;
+
+pub use bodies::Bodies;
