@@ -5,7 +5,7 @@ use Rattle.parts_model.specs.Numbered.{nth}
 use Rattle.acts_model.specs.Acts.{Act, acted, joined, done_by, done}
 use Rattle.acts_model.specs.Bodies.{Bodies, View, seen, put, become, remove}
 use Rattle.guest_bodies.specs.Follows.{Shows, Follows, KeepsWatches}
-use Rattle.guest_bodies.specs.Kept.{Segments, body_of, held_bytes, view_of, shown_of, watch_of, shown_all, IsWhole, SameNames, IsApart, IsSound}
+use Rattle.guest_bodies.specs.Kept.{Segments, body_of, held_bytes, view_of, shown_of, watch_of, shown_all, IfHeld, IsWhole, SameNames, IsApart, IsSound}
 use Rattle.guest_bodies.specs.Shown.{Guests, Shown, Watch, seen_in, watch_in}
 use Rattle.guest_bodies.specs.declared.guest.Guest.{Guest}
 use Rattle.guest_bodies.specs.declared.guest.Shared.{Shared}
@@ -17,10 +17,6 @@ use Rattle.guest_bodies.proofs.Puts.{refreshed, fresh_segment, own_segment, seen
 pub record Changes (p : ℕ) (x : Option Guest) (all new : List (Option Guest)) : Type 0 where
   pub own : nth new p ≡ x
   pub kept : (q : ℕ) → q ≢ p → nth new q ≡ nth all q
-
--- a segment that is held is in the table
-abbrev pub IfHeld : Option Shared → Segments → Type 0
-IfHeld o segs = IfSome o (λ s. IsSome (nth segs s.key))
 
 -- segments under other keys than this are as before
 pub record KeepsBeside (key : Option ℕ) (segs new : Segments) : Type 0 where
@@ -62,7 +58,7 @@ whole-names segs g None whole = tt
 whole-names segs g (Some s) whole = whole.1
 
 own-held : (segs : Segments) (g : Guest) → IsWhole segs g → own_segment (view_of segs g) (name_of g.segment) ≡ held_bytes segs g.segment
-own-held segs g whole = own-is g.segment g.made g.space (held_bytes segs g.segment) (whole-names segs g g.segment whole) (held-none segs g.segment) (view_of segs g) refl refl refl
+own-held segs g whole = own-is g.segment g.made g.memory.space (held_bytes segs g.segment) (whole-names segs g g.segment whole) (held-none segs g.segment) (view_of segs g) refl refl refl
 
 -- what another process sees of its window
 other-window : (o : Option Shared) (k : ℕ) (bytes old : List ℕ) → IfSome o (λ s. s.made ≢ k) → laid_segment (name_of o) bytes k old ≡ old
@@ -93,7 +89,7 @@ other-segments g h o (Some t) segs new apart same whole keeps v is_window is_seg
 refreshed-other : (g h : Guest) (segs new : Segments) → IsApart g h → IsApart h g → IsWhole segs h → KeepsBeside (key_of g.segment) segs new → view_of new h ≡ refreshed (view_of new g) (view_of segs h)
 refreshed-other g h segs new apart back whole keeps =
     ap₂ (λ (a c : List ℕ). record { body = body_of h; window = a; segment = c })
-      (sym (ap (λ t. cond t g.space (laid_segment (name_of g.segment) (held_bytes new g.segment) h.made h.space)) (ne_eqb h.made g.made back.windows) ∙ other-window g.segment h.made (held_bytes new g.segment) h.space apart.segment))
+      (sym (ap (λ t. cond t g.memory.space (laid_segment (name_of g.segment) (held_bytes new g.segment) h.made h.memory.space)) (ne_eqb h.made g.made back.windows) ∙ other-window g.segment h.made (held_bytes new g.segment) h.memory.space apart.segment))
       (other-segments g h g.segment h.segment segs new back.segment apart.shared whole keeps (view_of new g) refl refl refl)
 
 -- a process that changes is put among what is shown
@@ -103,7 +99,7 @@ follows-put p g all new segs segs' sound sound' changes keeps = record { shows =
     own : (b : Bodies) → seen_in (shown_all new segs') p ≡ seen (put p (view_of segs' g) b) p
     own b =
         seen-shown new segs' p ∙ (ap (option_map (view_of segs')) changes.own
-        ∙ (ap (λ (bytes : List ℕ). Some (record { body = body_of g; window = g.space; segment = bytes })) (sym (own-held segs' g (subst (λ (o : Option Guest). IfSome o (IsWhole segs')) changes.own (sound'.whole p))))
+        ∙ (ap (λ (bytes : List ℕ). Some (record { body = body_of g; window = g.memory.space; segment = bytes })) (sym (own-held segs' g (subst (λ (o : Option Guest). IfSome o (IsWhole segs')) changes.own (sound'.whole p))))
         ∙ sym (seen-same p (view_of segs' g) b)))
 
     by_guest : (q : ℕ) → q ≢ p → (o : Option Guest) → nth all q ≡ o → option_map (view_of segs') o ≡ option_map (refreshed (view_of segs' g)) (option_map (view_of segs) o)

@@ -1,15 +1,16 @@
 -- Acts that change a process where it stands, and no bytes.
-use Rattle.std.proofs.Common.{◌≡◌, ℕ, List, set, get_or, Option, Some, IsSome, ap, subst, sym, refl, ◌∙◌}
+use Rattle.std.proofs.Common.{◌≡◌, ℕ, List, set, get_or, Option, Some, None, unwrap_or, IsSome, ap, subst, sym, refl, ◌∙◌}
+use Rattle.arn_base.specs.declared.machine.Cpu.{Cpu}
 use Rattle.parts_model.specs.Numbered.{nth}
-use Rattle.acts_model.specs.Acts.{Act, Returns, Receives, Gives, Starts, Forks, Founds, Shares, Leaves, Delivers, Exits, Faults, Dies, acted, joined, done}
+use Rattle.acts_model.specs.Acts.{Act, Returns, Receives, Gives, Starts, Forks, Founds, Shares, Leaves, Delivers, Exits, Faults, Dies, acted, joined, done, restored}
 use Rattle.acts_model.specs.Bodies.{Bodies, View}
 use Rattle.acts_model.specs.Views.{with_result}
 use Rattle.guest_bodies.specs.Follows.{Follows, KeepsWatches, IsResult}
-use Rattle.guest_bodies.specs.Kept.{Segments, view_of, watch_of, shown_all, IsSound}
+use Rattle.guest_bodies.specs.Kept.{Segments, view_of, watch_of, shown_all, IfHeld, IsSound}
 use Rattle.guest_bodies.specs.Shown.{Guests}
 use Rattle.guest_bodies.specs.declared.guest.Guest.{Guest}
 use Rattle.guest_bodies.proofs.Numbers.{nth-get_or}
-use Rattle.guest_bodies.proofs.Changes.{Changes, IfHeld, key_of, sound-changed, set-changes, same-keeps, there-of, live-there, follows-changed, watches-kept}
+use Rattle.guest_bodies.proofs.Changes.{Changes, key_of, sound-changed, set-changes, same-keeps, there-of, live-there, follows-changed, watches-kept}
 
 -- a process is found where it stands, and is this one from now on
 pub record Place (guests : Guests) (all : List (Option Guest)) (segs : Segments) (p : ℕ) (g g' : Guest) : Type 0 where
@@ -67,3 +68,8 @@ joined-result event answer (Delivers s h cut) v is b = refl
 joined-result event answer Exits v is b = refl
 joined-result event answer (Faults status) v is b = refl
 joined-result event answer (Dies s cut) v is b = refl
+
+-- a handler ends, if one runs
+pub restored-is : (segs : Segments) (g : Guest) (o : Option Cpu) → g.signals.slot ≡ o → restored o (view_of segs g) ≡ view_of segs (record g { cpu = unwrap_or o g.cpu; signals = record g.signals { slot = None } })
+restored-is segs g None is = ap (λ (slot : Option Cpu). view_of segs (record g { signals = record g.signals { slot = slot } })) is
+restored-is segs g (Some cpu) is = refl

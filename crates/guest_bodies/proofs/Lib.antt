@@ -3,3 +3,4 @@ pub mod InPlace
 pub mod Numbers
 pub mod Places
 pub mod Puts
+pub mod Spelled

@@ -1,10 +1,13 @@
 -- Processes as they are kept, and what is shown of them.
 use Rattle.std.specs.Prelude.{◌≡◌, ◌≢◌, ℕ, List, [], map, set, Option, Some, None, IfSome, IsSome, option_map, unwrap_or}
+use Rattle.arn_base.specs.Window.{Window}
+use Rattle.parts_model.specs.Memory.{windows}
 use Rattle.parts_model.specs.Numbered.{nth}
 use Rattle.acts_model.specs.Bodies.{Body, View}
 use Rattle.guest_bodies.specs.Shown.{Watch, Shown, Guests}
 use Rattle.guest_bodies.specs.declared.guest.Guest.{Guest}
 use Rattle.guest_bodies.specs.declared.guest.Shared.{Shared}
+use Rattle.guest_bodies.specs.declared.reach.Reach.{Reach}
 
 -- the bytes of segments, by key
 abbrev pub Segments : Type 0
@@ -19,7 +22,7 @@ held_bytes segments None = []
 held_bytes segments (Some s) = unwrap_or (nth segments s.key) []
 
 abbrev pub view_of : Segments → Guest → View
-view_of segments g = record { body = body_of g; window = g.space; segment = held_bytes segments g.segment }
+view_of segments g = record { body = body_of g; window = g.memory.space; segment = held_bytes segments g.segment }
 
 abbrev pub watch_of : Guest → Watch
 watch_of g = record { handlers = g.signals.handlers; pending = g.signals.pending }
@@ -30,10 +33,18 @@ shown_of segments g = record { view = view_of segments g; watch = watch_of g }
 abbrev pub shown_all : List (Option Guest) → Segments → Guests
 shown_all guests segments = map (option_map (shown_of segments)) guests
 
+-- the windows of the memories that are at hand
+abbrev pub windows_of : Reach → List Window
+windows_of r = windows r.space r.segment
+
 -- the segments, with other bytes in the one that is held
 abbrev pub with_held : Option Shared → List ℕ → Segments → Segments
 with_held None bytes segments = segments
 with_held (Some s) bytes segments = set segments s.key (Some bytes)
+
+-- a segment that is held is in the table
+abbrev pub IfHeld : Option Shared → Segments → Type 0
+IfHeld o segments = IfSome o (λ s. IsSome (nth segments s.key))
 
 -- a held segment is in the table, and isn't the window
 abbrev pub IsWhole : Segments → Guest → Type 0

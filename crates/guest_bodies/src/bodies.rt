@@ -1,6 +1,6 @@
 // The bodies of live processes.
 ghost use Rattle.std.specs.Prelude.{◌≡◌, ◌↔◌, ℕ, [], Some, None, IfSome, IsTrue, is_some, option_map};
-ghost use Rattle.acts_model.specs.Acts.{Act, done};
+ghost use Rattle.acts_model.specs.Acts.{Act, Leaves, Delivers, done};
 ghost use Rattle.parts_model.specs.Signals.{due_signal, handler_of, is_signal};
 ghost use Rattle.guest_bodies.specs.Follows.{Follows, KeepsWatches, IsResult, IsEnd};
 ghost use Rattle.guest_bodies.specs.Shown.{IsLive, seen_in, signals_in, watch_in};

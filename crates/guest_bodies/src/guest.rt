@@ -4,9 +4,9 @@ ghost use Rattle.acts_model.specs.Acts.{cut_off};
 ghost use Rattle.acts_model.specs.Views.{returned};
 ghost use Rattle.rv64_model.specs.Registers.{with_register};
 
+use crate::reach::Reach;
 use crate::registers;
 use arn_base::Cpu;
-use guest_mem::Space;
 use guest_signals::Signals;
 
 /// A segment that a process holds: the event that made it, and its key in the table.
@@ -21,7 +21,7 @@ pub struct Shared {
 pub struct Guest {
     pub cpu: Cpu,
     pub signals: Signals,
-    pub space: Space,
+    pub memory: Reach,
     pub made: u64,
     pub segment: Option<Shared>,
 }

@@ -6,6 +6,7 @@
 
 mod bodies;
 mod guest;
+mod reach;
 mod registers;
 
 pub use bodies::Bodies;
