@@ -1,4 +1,6 @@
 pub mod Changes
+pub mod Counts
+pub mod Lent
 pub mod InPlace
 pub mod Numbers
 pub mod Places

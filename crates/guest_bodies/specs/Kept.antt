@@ -1,5 +1,5 @@
 -- Processes as they are kept, and what is shown of them.
-use Rattle.std.specs.Prelude.{◌≡◌, ◌≢◌, ℕ, List, [], map, set, Option, Some, None, IfSome, IsSome, option_map, unwrap_or}
+use Rattle.std.specs.Prelude.{◌≡◌, ◌≢◌, ◌<◌, ℕ, List, [], length, map, slice_set as set, Option, Some, None, IfSome, IsSome, option_map, unwrap_or}
 use Rattle.arn_base.specs.Window.{Window}
 use Rattle.parts_model.specs.Memory.{windows}
 use Rattle.parts_model.specs.Numbered.{nth}
@@ -37,14 +37,27 @@ shown_all guests segments = map (option_map (shown_of segments)) guests
 abbrev pub windows_of : Reach → List Window
 windows_of r = windows r.space r.segment
 
+-- the segment that is held, as it lies in the table
+abbrev pub lent : Segments → Option Shared → Option (List ℕ)
+lent segments None = None
+lent segments (Some s) = nth segments s.key
+
+-- the segments, with this under the key of the one that is held
+abbrev pub with_key : Option Shared → Option (List ℕ) → Segments → Segments
+with_key None bytes segments = segments
+with_key (Some s) bytes segments = set segments s.key bytes
+
 -- the segments, with other bytes in the one that is held
 abbrev pub with_held : Option Shared → List ℕ → Segments → Segments
-with_held None bytes segments = segments
-with_held (Some s) bytes segments = set segments s.key (Some bytes)
+with_held o bytes segments = with_key o (Some bytes) segments
 
 -- a segment that is held is in the table
 abbrev pub IfHeld : Option Shared → Segments → Type 0
 IfHeld o segments = IfSome o (λ s. IsSome (nth segments s.key))
+
+-- its key is one of the table
+abbrev pub IfKey : Option Shared → Segments → Type 0
+IfKey o segments = IfSome o (λ s. s.key < length segments)
 
 -- a held segment is in the table, and isn't the window
 abbrev pub IsWhole : Segments → Guest → Type 0

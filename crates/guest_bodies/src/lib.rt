@@ -6,6 +6,7 @@
 
 mod bodies;
 mod guest;
+mod held;
 mod reach;
 mod registers;
 
