@@ -1,15 +1,16 @@
 -- One process changes, and with it perhaps the bytes of the segment that it holds.
 use Rattle.std.proofs.Common.{◌≡◌, ◌≢◌, ℕ, ◌==◌, Bool, true, false, cond, List, [], ◌∷◌, map, set, Option, None, Some, IsSome, IfSome, is_some, option_map, unwrap_or, refl, sym, ap, ap₂, subst, ◌∙◌, ne_eqb}
 use Rattle.std.proofs.lemmas.Bool.{eq-eqb, eqb-true, eqb-false}
+use Rattle.std.proofs.lemmas.List.{map-set}
 use Rattle.parts_model.specs.Numbered.{nth}
 use Rattle.acts_model.specs.Acts.{Act, acted, joined, done_by, done}
 use Rattle.acts_model.specs.Bodies.{Bodies, View, seen, put, become, remove}
 use Rattle.guest_bodies.specs.Follows.{Shows, Follows, KeepsWatches}
-use Rattle.guest_bodies.specs.Kept.{Segments, body_of, held_bytes, view_of, shown_of, watch_of, shown_all, IfHeld, IsWhole, SameNames, IsApart, IsSound}
+use Rattle.guest_bodies.specs.Kept.{Segments, body_of, held_bytes, view_of, shown_of, watch_of, shown_all, with_held, IfHeld, IsWhole, SameNames, IsApart, IsSound}
 use Rattle.guest_bodies.specs.Shown.{Guests, Shown, Watch, seen_in, watch_in}
 use Rattle.guest_bodies.specs.declared.guest.Guest.{Guest}
 use Rattle.guest_bodies.specs.declared.guest.Shared.{Shared}
-use Rattle.guest_bodies.proofs.Numbers.{IsSome-within, nth-map, nth-set, nth-set_other}
+use Rattle.guest_bodies.proofs.Numbers.{IsSome-within, nth-map, nth-set, nth-set_other, set-nth}
 use Rattle.guest_bodies.proofs.Places.{laid, laid_segment}
 use Rattle.guest_bodies.proofs.Puts.{refreshed, fresh_segment, own_segment, seen-other, seen-same, seen-removed}
 
@@ -241,3 +242,25 @@ live-there guests all segs p is live = by_guest (nth all p) (subst (λ (o : Opti
 -- its segment is in the table
 pub there-of : (p : ℕ) (g : Guest) (all : List (Option Guest)) (segs : Segments) → IsSound all segs → nth all p ≡ Some g → IfSome g.segment (λ s. IsSome (nth segs s.key))
 there-of p g all segs sound is = whole-there segs g g.segment (subst (λ (o : Option Guest). IfSome o (IsWhole segs)) is (sound.whole p))
+
+-- other bytes in the segment that is held
+pub held-keeps : (o : Option Shared) (bytes : List ℕ) (segs : Segments) → KeepsBeside (key_of o) segs (with_held o bytes segs)
+held-keeps None bytes segs = record { kept = λ k other there. refl }
+held-keeps (Some s) bytes segs = record { kept = λ k other there. nth-set_other segs s.key (Some bytes) k (λ (e : k ≡ s.key). other (ap (λ (n : ℕ). Some n) (sym e))) }
+
+pub held-there : (o : Option Shared) (bytes : List ℕ) (segs : Segments) → IfHeld o segs → IfHeld o (with_held o bytes segs)
+held-there None bytes segs there = tt
+held-there (Some s) bytes segs there = ap (λ (x : Option (List ℕ)). is_some x) (nth-set segs s.key (Some bytes) (IsSome-within segs s.key there))
+
+-- a change that shows nothing
+pub same-shown : (p : ℕ) (g g' : Guest) (all : List (Option Guest)) (segs segs' : Segments) → nth all p ≡ Some g → segs' ≡ segs → view_of segs' g' ≡ view_of segs g → watch_of g' ≡ watch_of g → shown_all (set all p (Some g')) segs' ≡ shown_all all segs
+same-shown p g g' all segs segs' is same view watch =
+    ap (shown_all (set all p (Some g'))) same
+    ∙ (map-set (option_map (shown_of segs)) all p (Some g')
+    ∙ set-nth (shown_all all segs) p (Some (shown_of segs g')) (there (nth-map (shown_of segs) all p ∙ ap (option_map (shown_of segs)) is)) (nth-map (shown_of segs) all p ∙ (ap (option_map (shown_of segs)) is ∙ sym (ap (λ (s : Shown). Some s) shown))))
+  where
+    shown : shown_of segs g' ≡ shown_of segs g
+    shown = ap₂ (λ (v : View) (w : Watch). record { view = v; watch = w }) (sym (ap (λ (l : Segments). view_of l g') same) ∙ view) watch
+
+    there : {o : Option Shown} → o ≡ Some (shown_of segs g) → IsSome o
+    there e = ap (λ (o : Option Shown). is_some o) e

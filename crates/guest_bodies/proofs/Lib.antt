@@ -1,6 +1,7 @@
 pub mod Changes
 pub mod Counts
 pub mod Lent
+pub mod Ends
 pub mod InPlace
 pub mod Numbers
 pub mod Places

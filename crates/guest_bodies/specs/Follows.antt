@@ -1,5 +1,5 @@
 -- How processes change: as the definitions of acts say. They speak of bodies and memories; what is promised is what processes see of both.
-use Rattle.std.specs.Prelude.{◌≡◌, ◌≢◌, ℕ, List, Option, Some, None}
+use Rattle.std.specs.Prelude.{◌≡◌, ◌≢◌, ℕ, List, Option, Some, None, option_map}
 use Rattle.arn_base.specs.Window.{Window}
 use Rattle.arn_base.specs.declared.machine.Cpu.{Cpu}
 use Rattle.acts_model.specs.Acts.{Act, Returns, Receives, Gives, Starts, Forks, Founds, Shares, Leaves, Delivers, Exits, Faults, Dies}
@@ -20,6 +20,12 @@ pub record Follows (old : Guests) (change : Bodies → Bodies) (new : Guests) : 
 -- no process takes signals otherwise than before
 pub record KeepsWatches (old new : Guests) : Type 0 where
   pub kept : (p : ℕ) → watch_in new p ≡ watch_in old p
+
+-- one process takes signals otherwise; what each sees is as before
+pub record Rewatches (p : ℕ) (change : Watch → Watch) (old new : Guests) : Type 0 where
+  pub own : watch_in new p ≡ option_map change (watch_in old p)
+  pub kept : (q : ℕ) → q ≢ p → watch_in new q ≡ watch_in old q
+  pub seen : (q : ℕ) → seen_in new q ≡ seen_in old q
 
 -- one process takes signals so, and all others as before
 pub record SetsWatch (p : ℕ) (watch : Option Watch) (old new : Guests) : Type 0 where

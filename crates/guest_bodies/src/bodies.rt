@@ -1,15 +1,20 @@
 // The bodies of live processes.
-ghost use Rattle.std.specs.Prelude.{◌≡◌, ◌↔◌, ℕ, [], Some, None, IfSome, IsTrue, is_some, option_map};
-ghost use Rattle.acts_model.specs.Acts.{Act, Leaves, Delivers, done};
-ghost use Rattle.parts_model.specs.Signals.{due_signal, handler_of, is_signal};
-ghost use Rattle.guest_bodies.specs.Follows.{Follows, KeepsWatches, IsResult, IsEnd};
+ghost use Rattle.std.specs.Prelude.{◌≡◌, ◌≢◌, ◌+◌, ◌↔◌, ℕ, [], true, false, Some, None, IfSome, IsTrue, is_some, option_map, option_copied};
+ghost use Rattle.acts_model.specs.Acts.{Act, Receives, Leaves, Delivers, done};
+ghost use Rattle.parts_model.specs.Signals.{can_set, due_signal, handler_of, is_signal, with_handler, with_pending};
+ghost use Rattle.acts_model.specs.Views.{bytes_in};
+ghost use Rattle.rv64_core.specs.Outcome.{OnStop};
+ghost use Rattle.guest_bodies.specs.Follows.{Follows, KeepsWatches, Ran, Rewatches, SetsWatch, IsResult, IsEnd};
 ghost use Rattle.guest_bodies.specs.Shown.{IsLive, seen_in, signals_in, watch_in};
 
 use crate::guest::Guest;
-use arn_base::Cpu;
+use crate::held;
+use arn_base::{Cpu, Steps};
 use guest_mem::Segment;
+use rv64_core::Outcome;
 use std::alloc::Global;
 use std::marker::Model;
+use std::sync::ledger::Ledger;
 
 /// The registers, save slots and memories of live processes, by process number.
 #[derive(Debug, Drop)]
@@ -53,6 +58,77 @@ impl Bodies {
         }
     }
 
+    /// Runs the instruction at which a process stands, and counts it whatever it comes to. It is
+    /// one call of `rv64_core::step` on the process's registers and memories.
+    pub fn step<L: Ledger>(&mut self, pid: u32, steps: &mut Steps<L>) -> Outcome
+        requires live { IsLive self.old pid }
+        ensures tick { steps.new ≡ steps.old + 1 }
+        ensures ran { Ran result pid self.old self.new }
+        ensures stop { OnStop result (self.new ≡ self.old) }
+        ensures watches { KeepsWatches self.old self.new }
+        ensures memory { result ≢ Outcome.NoMemory }
+    {
+        match &mut self.guests[pid as usize] {
+            Some(guest) => held::step(guest, &mut self.segments, steps),
+            None => unreachable!(),
+        }
+    }
+
+    /// A call of a process ends with a result and with bytes for it at an address. Where they don't
+    /// lie whole in one window, it gets none.
+    pub fn receives(&mut self, pid: u32, at: u64, bytes: &[u8], answer: u64)
+        requires live { IsLive self.old pid }
+        ensures follows { (event : ℕ) →
+            Follows self.old (done pid event (Receives at bytes.now answer)) self.new }
+        ensures watches { KeepsWatches self.old self.new }
+    {
+        match &mut self.guests[pid as usize] {
+            Some(guest) => {
+                held::write(guest, &mut self.segments, at, bytes);
+                guest.returns(answer);
+            }
+            None => unreachable!(),
+        }
+    }
+
+    /// The bytes of a range of a process's addresses, where they lie whole in one window.
+    pub fn bytes(&self, pid: u32, at: u64, len: u64) -> Option<&[u8]>
+        requires live { IsLive self.now pid }
+        ensures { IfSome (seen_in self.now pid) (λ v. option_copied result ≡ bytes_in v at len) }
+    {
+        match &self.guests[pid as usize] {
+            Some(guest) => held::bytes(guest, &self.segments, at, len),
+            None => unreachable!(),
+        }
+    }
+
+    /// Sets a handler, or takes one away where it is 0. False says that it may not be set.
+    pub fn set_handler(&mut self, pid: u32, signal: u8, handler: u64) -> bool
+        requires live { IsLive self.old pid }
+        ensures allowed { result ≡ can_set signal handler }
+        ensures set { IsTrue result → Rewatches pid (λ w.
+            record w { handlers = with_handler w.handlers signal handler }) self.old self.new }
+        ensures refused { result ≡ false → self.new ≡ self.old }
+    {
+        match &mut self.guests[pid as usize] {
+            Some(guest) => guest.signals.set(signal, handler),
+            None => unreachable!(),
+        }
+    }
+
+    /// Makes a signal pending.
+    pub fn post(&mut self, pid: u32, signal: u8)
+        requires live { IsLive self.old pid }
+        requires signal { IsTrue (is_signal signal) }
+        ensures { Rewatches pid (λ w.
+            record w { pending = with_pending w.pending signal true }) self.old self.new }
+    {
+        match &mut self.guests[pid as usize] {
+            Some(guest) => guest.signals.post(signal),
+            None => unreachable!(),
+        }
+    }
+
     /// A handler begins, without a look at what is pending. `cut` says that this ends a call.
     pub fn delivers(&mut self, pid: u32, signal: u8, handler: u64, cut: bool)
         requires live { IsLive self.old pid }
@@ -77,6 +153,16 @@ impl Bodies {
             Some(guest) => guest.leaves(),
             None => unreachable!(),
         }
+    }
+
+    /// A process ends.
+    pub fn ends(&mut self, pid: u32)
+        requires live { IsLive self.old pid }
+        ensures follows { (event : ℕ) → (act : Act) → IsEnd act →
+            Follows self.old (done pid event act) self.new }
+        ensures watches { SetsWatch pid None self.old self.new }
+    {
+        self.guests[pid as usize] = None;
     }
 
     /// Whether a process lives.

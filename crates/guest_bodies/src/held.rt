@@ -11,11 +11,11 @@ use rv64_core::Outcome;
 use std::sync::ledger::Ledger;
 
 /// Brings the segment that a process holds out of the table to it.
-fn lend(guest: &mut Guest, segments: &mut [Option<Segment>])
-    requires { IfHeld guest.old.segment segments.old }
+fn lend(guest: &mut Guest, segments: &mut Vec<Option<Segment>>)
+    requires { IfHeld guest.old.segment segments.old.items }
     ensures guest { guest.new ≡ record guest.old {
-        memory = record guest.old.memory { segment = lent segments.old guest.old.segment } } }
-    ensures segments { segments.new ≡ with_key guest.old.segment None segments.old }
+        memory = record guest.old.memory { segment = lent segments.old.items guest.old.segment } } }
+    ensures segments { segments.new.items ≡ with_key guest.old.segment None segments.old.items }
 {
     guest.memory.segment = match guest.segment {
         Some(shared) => segments[shared.key].take(),
@@ -24,11 +24,11 @@ fn lend(guest: &mut Guest, segments: &mut [Option<Segment>])
 }
 
 /// Brings it back.
-fn take_back(guest: &mut Guest, segments: &mut [Option<Segment>])
-    requires { IfKey guest.old.segment segments.old }
+fn take_back(guest: &mut Guest, segments: &mut Vec<Option<Segment>>)
+    requires { IfKey guest.old.segment segments.old.items }
     ensures guest { guest.new ≡ record guest.old {
         memory = record guest.old.memory { segment = guest.new.memory.segment } } }
-    ensures segments { segments.new ≡ with_key guest.old.segment guest.old.memory.segment segments.old }
+    ensures segments { segments.new.items ≡ with_key guest.old.segment guest.old.memory.segment segments.old.items }
 {
     if let Some(shared) = guest.segment {
         segments[shared.key] = guest.memory.segment.take();
@@ -38,17 +38,19 @@ fn take_back(guest: &mut Guest, segments: &mut [Option<Segment>])
 /// Runs the instruction at which the process stands, and counts it.
 pub fn step<L: Ledger>(
     guest: &mut Guest,
-    segments: &mut [Option<Segment>],
+    segments: &mut Vec<Option<Segment>>,
     steps: &mut Steps<L>,
 ) -> Outcome
-    requires { IfHeld guest.old.segment segments.old }
+    requires { IfHeld guest.old.segment segments.old.items }
     ensures tick { steps.new ≡ steps.old + 1 }
-    ensures effect { Tells result (stands_at (view_of segments.old guest.old))
-        guest.new.cpu (reach (view_of segments.new guest.new)) }
+    ensures effect { Tells result (stands_at (view_of segments.old.items guest.old))
+        guest.new.cpu (reach (view_of segments.new.items guest.new)) }
     ensures guest { guest.new ≡ record guest.old { cpu = guest.new.cpu; memory = guest.new.memory } }
-    ensures segments { segments.new ≡
-        with_held guest.old.segment (held_bytes segments.new guest.old.segment) segments.old }
-    ensures stop { OnStop result (view_of segments.new guest.new ≡ view_of segments.old guest.old) }
+    ensures segments { segments.new.items ≡
+        with_held guest.old.segment (held_bytes segments.new.items guest.old.segment) segments.old.items }
+    ensures stop { OnStop result
+        (view_of segments.new.items guest.new ≡ view_of segments.old.items guest.old) }
+    ensures table { OnStop result (segments.new.items ≡ segments.old.items) }
     ensures memory { result ≢ Outcome.NoMemory }
 {
     lend(guest, segments);
@@ -58,13 +60,13 @@ pub fn step<L: Ledger>(
 }
 
 /// A process receives bytes at an address, where they lie whole in one window.
-pub fn write(guest: &mut Guest, segments: &mut [Option<Segment>], at: u64, bytes: &[u8])
-    requires { IfHeld guest.old.segment segments.old }
-    ensures written { view_of segments.new guest.new ≡
-        written at bytes.now (view_of segments.old guest.old) }
+pub fn write(guest: &mut Guest, segments: &mut Vec<Option<Segment>>, at: u64, bytes: &[u8])
+    requires { IfHeld guest.old.segment segments.old.items }
+    ensures written { view_of segments.new.items guest.new ≡
+        written at bytes.now (view_of segments.old.items guest.old) }
     ensures guest { guest.new ≡ record guest.old { memory = guest.new.memory } }
-    ensures segments { segments.new ≡
-        with_held guest.old.segment (held_bytes segments.new guest.old.segment) segments.old }
+    ensures segments { segments.new.items ≡
+        with_held guest.old.segment (held_bytes segments.new.items guest.old.segment) segments.old.items }
 {
     lend(guest, segments);
     guest.memory.write(at, bytes);
@@ -74,12 +76,12 @@ pub fn write(guest: &mut Guest, segments: &mut [Option<Segment>], at: u64, bytes
 /// The bytes of a range of addresses, where they lie whole in one window.
 pub fn bytes<'a>(
     guest: &'a Guest,
-    segments: &'a [Option<Segment>],
+    segments: &'a Vec<Option<Segment>>,
     at: u64,
     len: u64,
 ) -> Option<&'a [u8]>
-    requires { IfHeld guest.now.segment segments.now }
-    ensures { option_copied result ≡ bytes_in (view_of segments.now guest.now) at len }
+    requires { IfHeld guest.now.segment segments.now.items }
+    ensures { option_copied result ≡ bytes_in (view_of segments.now.items guest.now) at len }
 {
     if let Ok(bytes) = guest.memory.space.slice(at, len) {
         return Some(bytes);
