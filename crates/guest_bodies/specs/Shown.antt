@@ -1,13 +1,17 @@
 -- What is shown of live processes: what each sees, and how it takes signals. Processes that share a segment name it by the same event.
 use Rattle.std.specs.Prelude.{◌≡◌, ◌≢◌, ℕ, List, Bool, true, false, Option, Some, None, IfSome, IsSome, option_map}
 use Rattle.parts_model.specs.Numbered.{nth}
-use Rattle.parts_model.specs.Signals.{Signals}
+use Rattle.parts_model.specs.Signals.{Signals, none_pending}
 use Rattle.acts_model.specs.Bodies.{Body, Bodies, View, seen}
 
 -- which signals have handlers, and which are pending
 pub record Watch : Type 0 where
   pub handlers : List ℕ
   pub pending : List Bool
+
+-- a child has the same handlers, and nothing pending
+abbrev pub inherited : Watch → Watch
+inherited w = record { handlers = w.handlers; pending = none_pending }
 
 -- a live process
 pub record Shown : Type 0 where

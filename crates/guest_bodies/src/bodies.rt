@@ -1,15 +1,17 @@
 // The bodies of live processes.
-ghost use Rattle.std.specs.Prelude.{◌≡◌, ◌≢◌, ◌+◌, ◌↔◌, ℕ, [], true, false, Some, None, IfSome, IsTrue, is_some, option_map, option_copied};
-ghost use Rattle.acts_model.specs.Acts.{Act, Receives, Leaves, Delivers, done};
+ghost use Rattle.std.specs.Prelude.{◌≡◌, ◌≢◌, ◌+◌, ◌↔◌, ℕ, [], true, false, Some, None, IfSome, IsNone, IsTrue, OnOk, OnErr, is_some, option_map, option_copied};
+ghost use Rattle.acts_model.specs.Acts.{Act, Receives, Forks, Founds, Leaves, Delivers, begun, beginning_of, done};
+ghost use Rattle.parts_model.specs.Numbered.{nth};
 ghost use Rattle.parts_model.specs.Signals.{can_set, due_signal, handler_of, is_signal, with_handler, with_pending};
 ghost use Rattle.acts_model.specs.Views.{bytes_in};
 ghost use Rattle.rv64_core.specs.Outcome.{OnStop};
 ghost use Rattle.guest_bodies.specs.Follows.{Follows, KeepsWatches, Ran, Rewatches, SetsWatch, IsResult, IsEnd};
-ghost use Rattle.guest_bodies.specs.Shown.{IsLive, seen_in, signals_in, watch_in};
+ghost use Rattle.guest_bodies.specs.Shown.{IsFresh, IsLive, inherited, seen_in, signals_in, watch_in};
 
 use crate::guest::Guest;
 use crate::held;
-use arn_base::{Cpu, Steps};
+use crate::table::{fork, make_room};
+use arn_base::{Cpu, NoMemory, Steps};
 use guest_mem::Segment;
 use rv64_core::Outcome;
 use std::alloc::Global;
@@ -163,6 +165,48 @@ impl Bodies {
         ensures watches { SetsWatch pid None self.old self.new }
     {
         self.guests[pid as usize] = None;
+    }
+
+    /// A process makes a child in its own group, whose number it gets as the call's result. The child
+    /// shares its segment.
+    pub fn forks(&mut self, pid: u32, child: u32, event: u64) -> Result<(), NoMemory>
+        requires live { IsLive self.old pid }
+        requires dead { IsNone (nth self.old child) }
+        requires fresh { IsFresh self.old event }
+        ensures follows { OnOk result (Follows self.old (done pid event (Forks child)) self.new) }
+        ensures watches { OnOk result
+            (SetsWatch child (option_map inherited (watch_in self.old pid)) self.old self.new) }
+        ensures err { OnErr result (self.new ≡ self.old) }
+    {
+        let guest = match &self.guests[pid as usize] {
+            Some(parent) => parent.child(event, parent.segment)?,
+            None => unreachable!(),
+        };
+        make_room(&mut self.guests, child)?;
+        fork(&mut self.guests, pid, child, guest);
+        Ok(())
+    }
+
+    /// A process makes a child that starts a group, whose number it gets as the call's result. The
+    /// child holds no segment.
+    pub fn founds(&mut self, pid: u32, child: u32, event: u64) -> Result<(), NoMemory>
+        requires live { IsLive self.old pid }
+        requires dead { IsNone (nth self.old child) }
+        requires fresh { IsFresh self.old event }
+        ensures follows { OnOk result (IfSome (seen_in self.old pid) (λ v.
+            Follows self.old (λ b. begun child event (beginning_of v)
+            (done pid event (Founds child) b)) self.new)) }
+        ensures watches { OnOk result
+            (SetsWatch child (option_map inherited (watch_in self.old pid)) self.old self.new) }
+        ensures err { OnErr result (self.new ≡ self.old) }
+    {
+        let guest = match &self.guests[pid as usize] {
+            Some(parent) => parent.child(event, None)?,
+            None => unreachable!(),
+        };
+        make_room(&mut self.guests, child)?;
+        fork(&mut self.guests, pid, child, guest);
+        Ok(())
     }
 
     /// Whether a process lives.

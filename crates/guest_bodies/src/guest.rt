@@ -1,12 +1,13 @@
 // One live process.
-ghost use Rattle.std.specs.Prelude.{◌≡◌, Some, None, is_some, unwrap_or};
+ghost use Rattle.std.specs.Prelude.{◌≡◌, Some, None, IfOk, is_some, unwrap_or};
 ghost use Rattle.acts_model.specs.Acts.{cut_off};
 ghost use Rattle.acts_model.specs.Views.{returned};
+ghost use Rattle.parts_model.specs.Signals.{none_pending};
 ghost use Rattle.rv64_model.specs.Registers.{with_register};
 
 use crate::reach::Reach;
 use crate::registers;
-use arn_base::Cpu;
+use arn_base::{Cpu, NoMemory};
 use guest_signals::Signals;
 
 /// A segment that a process holds: the event that made it, and its key in the table.
@@ -53,5 +54,30 @@ impl Guest {
             signals = record self.old.signals { slot = None } } }
     {
         self.signals.leave(&mut self.cpu)
+    }
+
+    /// The child of a fork. It holds this segment, and has a copy of the private window, which the
+    /// event of the fork makes.
+    pub fn child(&self, event: u64, segment: Option<Shared>) -> Result<Guest, NoMemory>
+        ensures { IfOk result (λ child. child ≡ record {
+            cpu = returned self.now.cpu 0;
+            signals = record self.now.signals { pending = none_pending };
+            memory = record { space = self.now.memory.space; segment = None };
+            made = event;
+            segment = segment }) }
+    {
+        let memory = Reach {
+            space: self.memory.space.copy()?,
+            segment: None,
+        };
+        let mut cpu = self.cpu;
+        registers::set_result(&mut cpu, 0);
+        Ok(Guest {
+            cpu,
+            signals: self.signals.child(),
+            memory,
+            made: event,
+            segment,
+        })
     }
 }

@@ -9,5 +9,6 @@ mod guest;
 mod held;
 mod reach;
 mod registers;
+mod table;
 
 pub use bodies::Bodies;
