@@ -2,6 +2,7 @@ pub mod Changes
 pub mod Counts
 pub mod Lent
 pub mod Ends
+pub mod Forks
 pub mod Fresh
 pub mod InPlace
 pub mod Numbers
