@@ -7,12 +7,12 @@ use Rattle.acts_model.specs.Acts.{Act, Returns, Receives, Gives, Starts, Forks, 
 use Rattle.acts_model.specs.Bodies.{Bodies, View, put}
 use Rattle.acts_model.specs.Views.{reach, with_cpu, with_reach, with_result}
 use Rattle.guest_bodies.specs.Follows.{Follows, KeepsWatches, Rewatches, IsResult}
-use Rattle.guest_bodies.specs.Kept.{Segments, view_of, watch_of, shown_all, with_held, IfHeld, IsSound}
-use Rattle.guest_bodies.specs.Shown.{Guests, Watch}
+use Rattle.guest_bodies.specs.Kept.{Segments, view_of, shown_of, watch_of, shown_all, with_held, IfHeld, IsSound}
+use Rattle.guest_bodies.specs.Shown.{Guests, Watch, signals_of, signals_in}
 use Rattle.guest_bodies.specs.declared.guest.Guest.{Guest}
 use Rattle.guest_bodies.specs.declared.guest.Shared.{Shared}
 use Rattle.guest_bodies.specs.declared.reach.Reach.{Reach}
-use Rattle.guest_bodies.proofs.Numbers.{nth-get_or}
+use Rattle.guest_bodies.proofs.Numbers.{nth-get_or, nth-map}
 use Rattle.guest_bodies.proofs.Changes.{Changes, KeepsBeside, key_of, sound-changed, set-changes, same-keeps, held-keeps, held-there, there-of, live-there, seen-shown, watch-shown, follows-put, follows-changed, watches-kept}
 
 -- a process is found where it stands, and is this one from now on
@@ -124,3 +124,7 @@ in_place-rewatches {guests} {all} {segs} {p} {g} {g'} at change watch seen =
     by_test : (q : ℕ) (b : Bool) → (q == p) ≡ b → option_map (view_of segs) (nth (set all p (Some g')) q) ≡ option_map (view_of segs) (nth all q)
     by_test q true e = ap (λ (i : ℕ). option_map (view_of segs) (nth (set all p (Some g')) i)) (eqb-true q p e) ∙ (ap (option_map (view_of segs)) at.changes.own ∙ (ap (λ (v : View). Some v) seen ∙ sym (ap (λ (i : ℕ). option_map (view_of segs) (nth all i)) (eqb-true q p e) ∙ ap (option_map (view_of segs)) at.stands)))
     by_test q false e = ap (option_map (view_of segs)) (at.changes.kept q (eqb-false q p e))
+
+pub in_place-signals : {guests : Guests} {all : List (Option Guest)} {segs : Segments} {p : ℕ} {g g' : Guest} → Place guests all segs p g g' → signals_in guests p ≡ Some g.signals
+in_place-signals {guests} {all} {segs} {p} {g} {g'} at =
+    ap (λ (gs : Guests). signals_in gs p) (sym at.shown) ∙ (ap (option_map signals_of) (nth-map (shown_of segs) all p) ∙ ap (λ (o : Option Guest). option_map signals_of (option_map (shown_of segs) o)) at.stands)

@@ -1,3 +1,4 @@
+pub mod Begins
 pub mod Changes
 pub mod Counts
 pub mod Lent
@@ -8,4 +9,6 @@ pub mod InPlace
 pub mod Numbers
 pub mod Places
 pub mod Puts
+pub mod Shares
 pub mod Spelled
+pub mod Window

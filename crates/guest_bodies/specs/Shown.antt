@@ -1,13 +1,19 @@
 -- What is shown of live processes: what each sees, and how it takes signals. Processes that share a segment name it by the same event.
-use Rattle.std.specs.Prelude.{◌≡◌, ◌≢◌, ℕ, List, Bool, true, false, Option, Some, None, IfSome, IsSome, option_map}
+use Rattle.std.specs.Prelude.{◌≡◌, ◌≢◌, ◌≤◌, ◌+◌, ◌*◌, ℕ, List, Bool, true, false, Option, Some, None, IfSome, IsSome, option_map}
+use Rattle.arn_base.specs.declared.machine.Block.{Block}
+use Rattle.parts_model.specs.declared.limits.TheConstants.{BLOCK_LEN, WINDOW_LEN}
 use Rattle.parts_model.specs.Numbered.{nth}
-use Rattle.parts_model.specs.Signals.{Signals, none_pending}
+use Rattle.parts_model.specs.Signals.{Signals, no_handlers, none_pending}
 use Rattle.acts_model.specs.Bodies.{Body, Bodies, View, seen}
 
 -- which signals have handlers, and which are pending
 pub record Watch : Type 0 where
   pub handlers : List ℕ
   pub pending : List Bool
+
+-- no handler, and nothing pending
+abbrev pub fresh_watch : Watch
+fresh_watch = record { handlers = no_handlers; pending = none_pending }
 
 -- a child has the same handlers, and nothing pending
 abbrev pub inherited : Watch → Watch
@@ -49,3 +55,7 @@ pub record IsUnheldBy (made : ℕ) (x : Body) : Type 0 where
 -- no live process holds a memory that this event made
 pub record IsFresh (guests : Guests) (event : ℕ) : Type 0 where
   pub unheld : (p : ℕ) → IfSome (seen_in guests p) (λ v. IsUnheldBy event v.body)
+
+-- a block of a window lies whole in it
+abbrev pub IsInside : Block → Type 0
+IsInside block = BLOCK_LEN * (block.number + 1) ≤ WINDOW_LEN

@@ -1,17 +1,18 @@
 // The bodies of live processes.
-ghost use Rattle.std.specs.Prelude.{◌≡◌, ◌≢◌, ◌+◌, ◌↔◌, ℕ, [], true, false, Some, None, IfSome, IsNone, IsTrue, OnOk, OnErr, is_some, option_map, option_copied};
-ghost use Rattle.acts_model.specs.Acts.{Act, Receives, Forks, Founds, Leaves, Delivers, begun, beginning_of, done};
+ghost use Rattle.std.specs.Prelude.{◌≡◌, ◌≢◌, ◌+◌, ◌↔◌, ℕ, [], true, false, Some, None, IfSome, IsNone, IsTrue, All, IfOk, OnOk, OnErr, is_some, option_map, option_copied};
+ghost use Rattle.acts_model.specs.Acts.{Act, Receives, Forks, Founds, Shares, Leaves, Delivers, begun, beginning_in, beginning_of, done, start_of};
 ghost use Rattle.parts_model.specs.Numbered.{nth};
-ghost use Rattle.parts_model.specs.Signals.{can_set, due_signal, handler_of, is_signal, with_handler, with_pending};
+ghost use Rattle.parts_model.specs.Signals.{can_set, due_signal, handler_of, is_signal, with_handler, with_pending, without};
 ghost use Rattle.acts_model.specs.Views.{bytes_in};
 ghost use Rattle.rv64_core.specs.Outcome.{OnStop};
 ghost use Rattle.guest_bodies.specs.Follows.{Follows, KeepsWatches, Ran, Rewatches, SetsWatch, IsResult, IsEnd};
-ghost use Rattle.guest_bodies.specs.Shown.{IsFresh, IsLive, inherited, seen_in, signals_in, watch_in};
+ghost use Rattle.guest_bodies.specs.Shown.{IsFresh, IsInside, IsLive, fresh_watch, inherited, seen_in, signals_in, watch_in};
 
-use crate::guest::Guest;
+use crate::guest::{Guest, Shared, begin};
 use crate::held;
 use crate::table::{fork, make_room};
-use arn_base::{Cpu, NoMemory, Steps};
+use crate::windows::window_of;
+use arn_base::{Cpu, NoMemory, Start, Steps};
 use guest_mem::Segment;
 use rv64_core::Outcome;
 use std::alloc::Global;
@@ -21,6 +22,7 @@ use std::sync::ledger::Ledger;
 /// The registers, save slots and memories of live processes, by process number.
 #[derive(Debug, Drop)]
 pub struct Bodies {
+    alloc: Global,
     guests: Vec<Option<Guest>>,
     segments: Vec<Option<Segment>>,
 }
@@ -42,6 +44,7 @@ impl Bodies {
         ensures { result ≡ [] }
     {
         Bodies {
+            alloc,
             guests: Vec::new(alloc),
             segments: Vec::new(alloc),
         }
@@ -207,6 +210,65 @@ impl Bodies {
         make_room(&mut self.guests, child)?;
         fork(&mut self.guests, pid, child, guest);
         Ok(())
+    }
+
+    /// A process gets a fresh segment of zeros, in the place of one that it may hold.
+    pub fn shares(&mut self, pid: u32, event: u64) -> Result<(), NoMemory>
+        requires live { IsLive self.old pid }
+        requires fresh { IsFresh self.old event }
+        ensures follows { OnOk result (Follows self.old (done pid event Shares) self.new) }
+        ensures watches { KeepsWatches self.old self.new }
+        ensures err { OnErr result (self.new ≡ self.old) }
+    {
+        let segment = Segment::new(self.alloc)?;
+        let key = self.segments.len();
+        self.segments.push(Some(segment))?;
+        match &mut self.guests[pid as usize] {
+            Some(guest) => guest.shares(Shared { made: event, key }),
+            None => unreachable!(),
+        }
+        Ok(())
+    }
+
+    /// A child begins that starts a group, as a record tells. It takes signals as if no handler had
+    /// been set.
+    pub fn begin(&mut self, child: u32, event: u64, start: &Start) -> Result<(), NoMemory>
+        requires dead { IsNone (nth self.old child) }
+        requires fresh { IsFresh self.old event }
+        requires inside { All IsInside start.now.blocks }
+        ensures follows { OnOk result
+            (Follows self.old (begun child event (beginning_in start.now)) self.new) }
+        ensures watches { OnOk result (SetsWatch child (Some fresh_watch) self.old self.new) }
+        ensures err { OnErr result (self.new ≡ self.old) }
+    {
+        let space = window_of(self.alloc, start.blocks.as_slice())?;
+        make_room(&mut self.guests, child)?;
+        self.guests[child as usize] = Some(begin(event, start, space));
+        Ok(())
+    }
+
+    /// How a child that a process now forked would begin, as a record holds it.
+    pub fn start_of(&self, pid: u32) -> Result<Start, NoMemory>
+        requires live { IsLive self.now pid }
+        ensures { IfOk result (λ start. IfSome (seen_in self.now pid) (λ v.
+            start ≡ start_of (beginning_of v))) }
+    {
+        match &self.guests[pid as usize] {
+            Some(guest) => guest.start(),
+            None => unreachable!(),
+        }
+    }
+
+    /// Takes the due signal away.
+    pub fn drop_due(&mut self, pid: u32)
+        requires live { IsLive self.old pid }
+        ensures { IfSome (signals_in self.old pid) (λ s. Rewatches pid (λ w.
+            record w { pending = without w.pending (due_signal s) }) self.old self.new) }
+    {
+        match &mut self.guests[pid as usize] {
+            Some(guest) => guest.signals.drop_due(),
+            None => unreachable!(),
+        }
     }
 
     /// Whether a process lives.

@@ -2,12 +2,14 @@
 ghost use Rattle.std.specs.Prelude.{◌≡◌, Some, None, IfOk, is_some, unwrap_or};
 ghost use Rattle.acts_model.specs.Acts.{cut_off};
 ghost use Rattle.acts_model.specs.Views.{returned};
-ghost use Rattle.parts_model.specs.Signals.{none_pending};
+ghost use Rattle.parts_model.specs.Blocks.{blocks_of};
+ghost use Rattle.parts_model.specs.Signals.{no_signals, none_pending};
 ghost use Rattle.rv64_model.specs.Registers.{with_register};
 
 use crate::reach::Reach;
 use crate::registers;
-use arn_base::{Cpu, NoMemory};
+use arn_base::{Cpu, NoMemory, Start};
+use guest_mem::Space;
 use guest_signals::Signals;
 
 /// A segment that a process holds: the event that made it, and its key in the table.
@@ -79,5 +81,55 @@ impl Guest {
             made: event,
             segment,
         })
+    }
+
+    /// A process gets a fresh segment, in the place of one that it may hold.
+    pub fn shares(&mut self, shared: Shared)
+        ensures { self.new ≡ record self.old {
+            cpu = returned self.old.cpu 0;
+            segment = Some shared } }
+    {
+        self.segment = Some(shared);
+        self.returns(0);
+    }
+
+    /// How the child of a fork begins.
+    pub fn start(&self) -> Result<Start, NoMemory>
+        ensures { IfOk result (λ start. start ≡ record {
+            cpu = returned self.now.cpu 0;
+            slot = self.now.signals.slot;
+            blocks = blocks_of self.now.memory.space }) }
+    {
+        let blocks = self.memory.space.blocks()?;
+        let mut cpu = self.cpu;
+        registers::set_result(&mut cpu, 0);
+        let slot = self.signals.slot().copied();
+        Ok(Start { cpu, slot, blocks })
+    }
+}
+
+/// A process that begins as a record tells. The event makes its private window.
+pub fn begin(event: u64, start: &Start, space: Space) -> Guest
+    ensures { result ≡ record {
+        cpu = start.now.cpu;
+        signals = record no_signals { slot = start.now.slot };
+        memory = record { space = space; segment = None };
+        made = event;
+        segment = None } }
+{
+    let mut signals = Signals::new();
+    if let Some(cpu) = &start.slot {
+        signals.save(cpu);
+    }
+    let memory = Reach {
+        space,
+        segment: None,
+    };
+    Guest {
+        cpu: start.cpu,
+        signals,
+        memory,
+        made: event,
+        segment: None,
     }
 }

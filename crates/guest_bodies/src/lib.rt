@@ -10,5 +10,6 @@ mod held;
 mod reach;
 mod registers;
 mod table;
+mod windows;
 
 pub use bodies::Bodies;
