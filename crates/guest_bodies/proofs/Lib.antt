@@ -1,6 +1,7 @@
 pub mod Begins
 pub mod Changes
 pub mod Counts
+pub mod Laid
 pub mod Lent
 pub mod Ends
 pub mod Forks
