@@ -1,0 +1,15 @@
+pub mod Begins
+pub mod Changes
+pub mod Counts
+pub mod Laid
+pub mod Lent
+pub mod Ends
+pub mod Forks
+pub mod Fresh
+pub mod InPlace
+pub mod Numbers
+pub mod Places
+pub mod Puts
+pub mod Shares
+pub mod Spelled
+pub mod Window

@@ -1,0 +1,12 @@
+use Rattle.std.proofs.Common.{◌≡◌, drop, length}
+use Rattle.parts_model.specs.Blocks.{with_blocks}
+use Rattle.parts_model.specs.Memory.{zeros}
+use Rattle.parts_model.specs.declared.limits.TheConstants.{WINDOW_LEN}
+use Rattle.guest_bodies.proofs.windows.window_of.Given as goal
+
+abbrev pub invariant-loop-block : goal.invariant-loop-block
+invariant-loop-block l =
+    record {
+      laid : with_blocks (drop l.block-index l.blocks) l.space ≡ with_blocks l.blocks (zeros WINDOW_LEN);
+      size : length l.space ≡ WINDOW_LEN;
+    }

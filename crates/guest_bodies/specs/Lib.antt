@@ -1,0 +1,3 @@
+pub mod Follows
+pub mod Kept
+pub mod Shown

@@ -1,0 +1,318 @@
+// The bodies of live processes.
+ghost use Rattle.std.specs.Prelude.{◌≡◌, ◌≢◌, ◌+◌, ◌↔◌, ℕ, [], true, false, Some, None, IfSome, IsNone, IsTrue, All, IfOk, OnOk, OnErr, is_some, option_map, option_copied};
+ghost use Rattle.acts_model.specs.Acts.{Act, Receives, Forks, Founds, Shares, Leaves, Delivers, begun, beginning_in, beginning_of, done, start_of};
+ghost use Rattle.parts_model.specs.Numbered.{nth};
+ghost use Rattle.parts_model.specs.Signals.{can_set, due_signal, handler_of, is_signal, with_handler, with_pending, without};
+ghost use Rattle.acts_model.specs.Views.{bytes_in};
+ghost use Rattle.rv64_core.specs.Outcome.{OnStop};
+ghost use Rattle.guest_bodies.specs.Follows.{Follows, KeepsWatches, Ran, Rewatches, SetsWatch, IsResult, IsEnd};
+ghost use Rattle.guest_bodies.specs.Shown.{IsFresh, IsInside, IsLive, fresh_watch, inherited, seen_in, signals_in, watch_in};
+
+use crate::guest::{Guest, Shared, begin};
+use crate::held;
+use crate::table::{fork, make_room};
+use crate::windows::window_of;
+use arn_base::{Cpu, NoMemory, Start, Steps};
+use guest_mem::Segment;
+use rv64_core::Outcome;
+use std::alloc::Global;
+use std::marker::Model;
+use std::sync::ledger::Ledger;
+
+/// The registers, save slots and memories of live processes, by process number.
+#[derive(Debug, Drop)]
+pub struct Bodies {
+    alloc: Global,
+    guests: Vec<Option<Guest>>,
+    segments: Vec<Option<Segment>>,
+}
+
+impl Model for Bodies {
+    ghost use Rattle.guest_bodies.specs.Shown.{Guests};
+    ghost use Rattle.guest_bodies.specs.Kept.{shown_all, IsSound};
+
+    ghost Value = { Guests };
+
+    ghost view = { λ b. shown_all b.guests.items b.segments.items };
+
+    ghost invariant = { λ b. IsSound b.guests.items b.segments.items };
+}
+
+impl Bodies {
+    /// No process.
+    pub fn new(alloc: Global) -> Bodies
+        ensures { result ≡ [] }
+    {
+        Bodies {
+            alloc,
+            guests: Vec::new(alloc),
+            segments: Vec::new(alloc),
+        }
+    }
+
+    /// A call of a process that moves no bytes to it ends with a result.
+    pub fn returns(&mut self, pid: u32, answer: u64)
+        requires live { IsLive self.old pid }
+        ensures follows { (event : ℕ) → (act : Act) → IsResult act answer →
+            Follows self.old (done pid event act) self.new }
+        ensures watches { KeepsWatches self.old self.new }
+    {
+        match &mut self.guests[pid as usize] {
+            Some(guest) => guest.returns(answer),
+            None => unreachable!(),
+        }
+    }
+
+    /// Runs the instruction at which a process stands, and counts it whatever it comes to. It is
+    /// one call of `rv64_core::step` on the process's registers and memories.
+    pub fn step<L: Ledger>(&mut self, pid: u32, steps: &mut Steps<L>) -> Outcome
+        requires live { IsLive self.old pid }
+        ensures tick { steps.new ≡ steps.old + 1 }
+        ensures ran { Ran result pid self.old self.new }
+        ensures stop { OnStop result (self.new ≡ self.old) }
+        ensures watches { KeepsWatches self.old self.new }
+        ensures memory { result ≢ Outcome.NoMemory }
+    {
+        match &mut self.guests[pid as usize] {
+            Some(guest) => held::step(guest, &mut self.segments, steps),
+            None => unreachable!(),
+        }
+    }
+
+    /// A call of a process ends with a result and with bytes for it at an address. Where they don't
+    /// lie whole in one window, it gets none.
+    pub fn receives(&mut self, pid: u32, at: u64, bytes: &[u8], answer: u64)
+        requires live { IsLive self.old pid }
+        ensures follows { (event : ℕ) →
+            Follows self.old (done pid event (Receives at bytes.now answer)) self.new }
+        ensures watches { KeepsWatches self.old self.new }
+    {
+        match &mut self.guests[pid as usize] {
+            Some(guest) => {
+                held::write(guest, &mut self.segments, at, bytes);
+                guest.returns(answer);
+            }
+            None => unreachable!(),
+        }
+    }
+
+    /// The bytes of a range of a process's addresses, where they lie whole in one window.
+    pub fn bytes(&self, pid: u32, at: u64, len: u64) -> Option<&[u8]>
+        requires live { IsLive self.now pid }
+        ensures { IfSome (seen_in self.now pid) (λ v. option_copied result ≡ bytes_in v at len) }
+    {
+        match &self.guests[pid as usize] {
+            Some(guest) => held::bytes(guest, &self.segments, at, len),
+            None => unreachable!(),
+        }
+    }
+
+    /// Sets a handler, or takes one away where it is 0. False says that it may not be set.
+    pub fn set_handler(&mut self, pid: u32, signal: u8, handler: u64) -> bool
+        requires live { IsLive self.old pid }
+        ensures allowed { result ≡ can_set signal handler }
+        ensures set { IsTrue result → Rewatches pid (λ w.
+            record w { handlers = with_handler w.handlers signal handler }) self.old self.new }
+        ensures refused { result ≡ false → self.new ≡ self.old }
+    {
+        match &mut self.guests[pid as usize] {
+            Some(guest) => guest.signals.set(signal, handler),
+            None => unreachable!(),
+        }
+    }
+
+    /// Makes a signal pending.
+    pub fn post(&mut self, pid: u32, signal: u8)
+        requires live { IsLive self.old pid }
+        requires signal { IsTrue (is_signal signal) }
+        ensures { Rewatches pid (λ w.
+            record w { pending = with_pending w.pending signal true }) self.old self.new }
+    {
+        match &mut self.guests[pid as usize] {
+            Some(guest) => guest.signals.post(signal),
+            None => unreachable!(),
+        }
+    }
+
+    /// A handler begins, without a look at what is pending. `cut` says that this ends a call.
+    pub fn delivers(&mut self, pid: u32, signal: u8, handler: u64, cut: bool)
+        requires live { IsLive self.old pid }
+        ensures follows { (event : ℕ) →
+            Follows self.old (done pid event (Delivers signal handler cut)) self.new }
+        ensures watches { KeepsWatches self.old self.new }
+    {
+        match &mut self.guests[pid as usize] {
+            Some(guest) => guest.delivers(signal, handler, cut),
+            None => unreachable!(),
+        }
+    }
+
+    /// A handler ends. False says that none runs: then nothing changes.
+    pub fn leaves(&mut self, pid: u32) -> bool
+        requires live { IsLive self.old pid }
+        ensures left { IfSome (seen_in self.old pid) (λ v. result ≡ is_some v.body.slot) }
+        ensures follows { (event : ℕ) → Follows self.old (done pid event Leaves) self.new }
+        ensures watches { KeepsWatches self.old self.new }
+    {
+        match &mut self.guests[pid as usize] {
+            Some(guest) => guest.leaves(),
+            None => unreachable!(),
+        }
+    }
+
+    /// A process ends.
+    pub fn ends(&mut self, pid: u32)
+        requires live { IsLive self.old pid }
+        ensures follows { (event : ℕ) → (act : Act) → IsEnd act →
+            Follows self.old (done pid event act) self.new }
+        ensures watches { SetsWatch pid None self.old self.new }
+    {
+        self.guests[pid as usize] = None;
+    }
+
+    /// A process makes a child in its own group, whose number it gets as the call's result. The child
+    /// shares its segment.
+    pub fn forks(&mut self, pid: u32, child: u32, event: u64) -> Result<(), NoMemory>
+        requires live { IsLive self.old pid }
+        requires dead { IsNone (nth self.old child) }
+        requires fresh { IsFresh self.old event }
+        ensures follows { OnOk result (Follows self.old (done pid event (Forks child)) self.new) }
+        ensures watches { OnOk result
+            (SetsWatch child (option_map inherited (watch_in self.old pid)) self.old self.new) }
+        ensures err { OnErr result (self.new ≡ self.old) }
+    {
+        let guest = match &self.guests[pid as usize] {
+            Some(parent) => parent.child(event, parent.segment)?,
+            None => unreachable!(),
+        };
+        make_room(&mut self.guests, child)?;
+        fork(&mut self.guests, pid, child, guest);
+        Ok(())
+    }
+
+    /// A process makes a child that starts a group, whose number it gets as the call's result. The
+    /// child holds no segment.
+    pub fn founds(&mut self, pid: u32, child: u32, event: u64) -> Result<(), NoMemory>
+        requires live { IsLive self.old pid }
+        requires dead { IsNone (nth self.old child) }
+        requires fresh { IsFresh self.old event }
+        ensures follows { OnOk result (IfSome (seen_in self.old pid) (λ v.
+            Follows self.old (λ b. begun child event (beginning_of v)
+            (done pid event (Founds child) b)) self.new)) }
+        ensures watches { OnOk result
+            (SetsWatch child (option_map inherited (watch_in self.old pid)) self.old self.new) }
+        ensures err { OnErr result (self.new ≡ self.old) }
+    {
+        let guest = match &self.guests[pid as usize] {
+            Some(parent) => parent.child(event, None)?,
+            None => unreachable!(),
+        };
+        make_room(&mut self.guests, child)?;
+        fork(&mut self.guests, pid, child, guest);
+        Ok(())
+    }
+
+    /// A process gets a fresh segment of zeros, in the place of one that it may hold.
+    pub fn shares(&mut self, pid: u32, event: u64) -> Result<(), NoMemory>
+        requires live { IsLive self.old pid }
+        requires fresh { IsFresh self.old event }
+        ensures follows { OnOk result (Follows self.old (done pid event Shares) self.new) }
+        ensures watches { KeepsWatches self.old self.new }
+        ensures err { OnErr result (self.new ≡ self.old) }
+    {
+        let segment = Segment::new(self.alloc)?;
+        let key = self.segments.len();
+        self.segments.push(Some(segment))?;
+        match &mut self.guests[pid as usize] {
+            Some(guest) => guest.shares(Shared { made: event, key }),
+            None => unreachable!(),
+        }
+        Ok(())
+    }
+
+    /// A child begins that starts a group, as a record tells. It takes signals as if no handler had
+    /// been set.
+    pub fn begin(&mut self, child: u32, event: u64, start: &Start) -> Result<(), NoMemory>
+        requires dead { IsNone (nth self.old child) }
+        requires fresh { IsFresh self.old event }
+        requires inside { All IsInside start.now.blocks }
+        ensures follows { OnOk result
+            (Follows self.old (begun child event (beginning_in start.now)) self.new) }
+        ensures watches { OnOk result (SetsWatch child (Some fresh_watch) self.old self.new) }
+        ensures err { OnErr result (self.new ≡ self.old) }
+    {
+        let space = window_of(self.alloc, start.blocks.as_slice())?;
+        make_room(&mut self.guests, child)?;
+        self.guests[child as usize] = Some(begin(event, start, space));
+        Ok(())
+    }
+
+    /// How a child that a process now forked would begin, as a record holds it.
+    pub fn start_of(&self, pid: u32) -> Result<Start, NoMemory>
+        requires live { IsLive self.now pid }
+        ensures { IfOk result (λ start. IfSome (seen_in self.now pid) (λ v.
+            start ≡ start_of (beginning_of v))) }
+    {
+        match &self.guests[pid as usize] {
+            Some(guest) => guest.start(),
+            None => unreachable!(),
+        }
+    }
+
+    /// Takes the due signal away.
+    pub fn drop_due(&mut self, pid: u32)
+        requires live { IsLive self.old pid }
+        ensures { IfSome (signals_in self.old pid) (λ s. Rewatches pid (λ w.
+            record w { pending = without w.pending (due_signal s) }) self.old self.new) }
+    {
+        match &mut self.guests[pid as usize] {
+            Some(guest) => guest.signals.drop_due(),
+            None => unreachable!(),
+        }
+    }
+
+    /// Whether a process lives.
+    pub fn is_live(&self, pid: u32) -> bool
+        ensures { IsTrue result ↔ IsLive self.now pid }
+    {
+        match self.guests.get(pid as usize) {
+            Some(guest) => guest.is_some(),
+            None => false,
+        }
+    }
+
+    /// The registers of a process.
+    pub fn cpu(&self, pid: u32) -> &Cpu
+        requires live { IsLive self.now pid }
+        ensures { option_map (λ v. v.body.cpu) (seen_in self.now pid) ≡ Some result.now }
+    {
+        match &self.guests[pid as usize] {
+            Some(guest) => &guest.cpu,
+            None => unreachable!(),
+        }
+    }
+
+    /// The signal that is delivered next.
+    pub fn due(&self, pid: u32) -> Option<u8>
+        requires live { IsLive self.now pid }
+        ensures due { IfSome (signals_in self.now pid) (λ s. result ≡ due_signal s) }
+        ensures signal { IfSome result (λ signal. IsTrue (is_signal signal)) }
+    {
+        match &self.guests[pid as usize] {
+            Some(guest) => guest.signals.due(),
+            None => unreachable!(),
+        }
+    }
+
+    /// A signal's handler, 0 where it has none.
+    pub fn handler(&self, pid: u32, signal: u8) -> u64
+        requires live { IsLive self.now pid }
+        requires signal { IsTrue (is_signal signal) }
+        ensures { IfSome (watch_in self.now pid) (λ w. result ≡ handler_of w.handlers signal) }
+    {
+        match &self.guests[pid as usize] {
+            Some(guest) => guest.signals.handler(signal),
+            None => unreachable!(),
+        }
+    }
+}

@@ -1,0 +1,135 @@
+// One live process.
+ghost use Rattle.std.specs.Prelude.{◌≡◌, Some, None, IfOk, is_some, unwrap_or};
+ghost use Rattle.acts_model.specs.Acts.{cut_off};
+ghost use Rattle.acts_model.specs.Views.{returned};
+ghost use Rattle.parts_model.specs.Blocks.{blocks_of};
+ghost use Rattle.parts_model.specs.Signals.{no_signals, none_pending};
+ghost use Rattle.rv64_model.specs.Registers.{with_register};
+
+use crate::reach::Reach;
+use crate::registers;
+use arn_base::{Cpu, NoMemory, Start};
+use guest_mem::Space;
+use guest_signals::Signals;
+
+/// A segment that a process holds: the event that made it, and its key in the table.
+#[derive(Clone, Copy, Debug)]
+pub struct Shared {
+    pub made: u64,
+    pub key: usize,
+}
+
+/// Registers, signals, the private window with the event that made it, and the segment that is held.
+#[derive(Debug, Drop)]
+pub struct Guest {
+    pub cpu: Cpu,
+    pub signals: Signals,
+    pub memory: Reach,
+    pub made: u64,
+    pub segment: Option<Shared>,
+}
+
+impl Guest {
+    /// A call ends with a result.
+    pub fn returns(&mut self, answer: u64)
+        ensures { self.new ≡ record self.old { cpu = returned self.old.cpu answer } }
+    {
+        registers::set_result(&mut self.cpu, answer);
+    }
+
+    /// A handler begins. The registers that it interrupts go to the slot.
+    pub fn delivers(&mut self, signal: u8, handler: u64, cut: bool)
+        ensures { self.new ≡ record self.old {
+            cpu = record (with_register (cut_off cut self.old.cpu) 10 signal) { pc = handler };
+            signals = record self.old.signals { slot = Some (cut_off cut self.old.cpu) } } }
+    {
+        registers::cut_off(&mut self.cpu, cut);
+        self.signals.save(&self.cpu);
+        registers::enter(&mut self.cpu, signal, handler);
+    }
+
+    /// A handler ends. False says that the slot is empty.
+    pub fn leaves(&mut self) -> bool
+        ensures left { result ≡ is_some self.old.signals.slot }
+        ensures restored { self.new ≡ record self.old {
+            cpu = unwrap_or self.old.signals.slot self.old.cpu;
+            signals = record self.old.signals { slot = None } } }
+    {
+        self.signals.leave(&mut self.cpu)
+    }
+
+    /// The child of a fork. It holds this segment, and has a copy of the private window, which the
+    /// event of the fork makes.
+    pub fn child(&self, event: u64, segment: Option<Shared>) -> Result<Guest, NoMemory>
+        ensures { IfOk result (λ child. child ≡ record {
+            cpu = returned self.now.cpu 0;
+            signals = record self.now.signals { pending = none_pending };
+            memory = record { space = self.now.memory.space; segment = None };
+            made = event;
+            segment = segment }) }
+    {
+        let memory = Reach {
+            space: self.memory.space.copy()?,
+            segment: None,
+        };
+        let mut cpu = self.cpu;
+        registers::set_result(&mut cpu, 0);
+        Ok(Guest {
+            cpu,
+            signals: self.signals.child(),
+            memory,
+            made: event,
+            segment,
+        })
+    }
+
+    /// A process gets a fresh segment, in the place of one that it may hold.
+    pub fn shares(&mut self, shared: Shared)
+        ensures { self.new ≡ record self.old {
+            cpu = returned self.old.cpu 0;
+            segment = Some shared } }
+    {
+        self.segment = Some(shared);
+        self.returns(0);
+    }
+
+    /// How the child of a fork begins.
+    pub fn start(&self) -> Result<Start, NoMemory>
+        ensures { IfOk result (λ start. start ≡ record {
+            cpu = returned self.now.cpu 0;
+            slot = self.now.signals.slot;
+            blocks = blocks_of self.now.memory.space }) }
+    {
+        let blocks = self.memory.space.blocks()?;
+        let mut cpu = self.cpu;
+        registers::set_result(&mut cpu, 0);
+        let slot = self.signals.slot().copied();
+        Ok(Start { cpu, slot, blocks })
+    }
+}
+
+/// A process that begins as a record tells. The event makes its private window.
+pub fn begin(event: u64, start: &Start, space: Space) -> Guest
+    ensures { result ≡ record {
+        cpu = start.now.cpu;
+        signals = record no_signals { slot = start.now.slot };
+        memory = record { space = space; segment = None };
+        made = event;
+        segment = None } }
+{
+    let mut signals = Signals::new();
+    if let Some(cpu) = &start.slot {
+        signals.save(cpu);
+    }
+    let memory = Reach {
+        space,
+        segment: None,
+    };
+    Guest {
+        cpu: start.cpu,
+        signals,
+        memory,
+        made: event,
+        segment: None,
+    }
+}

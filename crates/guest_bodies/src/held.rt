@@ -1,0 +1,93 @@
+// Access of a process to its memories: the private window, and the segment in the table.
+ghost use Rattle.std.specs.Prelude.{◌≡◌, ◌≢◌, ◌+◌, None, option_copied};
+ghost use Rattle.acts_model.specs.Views.{bytes_in, reach, stands_at, written};
+ghost use Rattle.guest_bodies.specs.Kept.{IfHeld, IfKey, held_bytes, lent, view_of, with_held, with_key};
+ghost use Rattle.rv64_core.specs.Outcome.{Tells, OnStop};
+
+use crate::guest::Guest;
+use arn_base::Steps;
+use guest_mem::Segment;
+use rv64_core::Outcome;
+use std::sync::ledger::Ledger;
+
+/// Brings the segment that a process holds out of the table to it.
+fn lend(guest: &mut Guest, segments: &mut Vec<Option<Segment>>)
+    requires { IfHeld guest.old.segment segments.old.items }
+    ensures guest { guest.new ≡ record guest.old {
+        memory = record guest.old.memory { segment = lent segments.old.items guest.old.segment } } }
+    ensures segments { segments.new.items ≡ with_key guest.old.segment None segments.old.items }
+{
+    guest.memory.segment = match guest.segment {
+        Some(shared) => segments[shared.key].take(),
+        None => None,
+    };
+}
+
+/// Brings it back.
+fn take_back(guest: &mut Guest, segments: &mut Vec<Option<Segment>>)
+    requires { IfKey guest.old.segment segments.old.items }
+    ensures guest { guest.new ≡ record guest.old {
+        memory = record guest.old.memory { segment = guest.new.memory.segment } } }
+    ensures segments { segments.new.items ≡ with_key guest.old.segment guest.old.memory.segment segments.old.items }
+{
+    if let Some(shared) = guest.segment {
+        segments[shared.key] = guest.memory.segment.take();
+    }
+}
+
+/// Runs the instruction at which the process stands, and counts it.
+pub fn step<L: Ledger>(
+    guest: &mut Guest,
+    segments: &mut Vec<Option<Segment>>,
+    steps: &mut Steps<L>,
+) -> Outcome
+    requires { IfHeld guest.old.segment segments.old.items }
+    ensures tick { steps.new ≡ steps.old + 1 }
+    ensures effect { Tells result (stands_at (view_of segments.old.items guest.old))
+        guest.new.cpu (reach (view_of segments.new.items guest.new)) }
+    ensures guest { guest.new ≡ record guest.old { cpu = guest.new.cpu; memory = guest.new.memory } }
+    ensures segments { segments.new.items ≡
+        with_held guest.old.segment (held_bytes segments.new.items guest.old.segment) segments.old.items }
+    ensures stop { OnStop result
+        (view_of segments.new.items guest.new ≡ view_of segments.old.items guest.old) }
+    ensures table { OnStop result (segments.new.items ≡ segments.old.items) }
+    ensures memory { result ≢ Outcome.NoMemory }
+{
+    lend(guest, segments);
+    let outcome = rv64_core::step(&mut guest.cpu, &mut guest.memory, steps);
+    take_back(guest, segments);
+    outcome
+}
+
+/// A process receives bytes at an address, where they lie whole in one window.
+pub fn write(guest: &mut Guest, segments: &mut Vec<Option<Segment>>, at: u64, bytes: &[u8])
+    requires { IfHeld guest.old.segment segments.old.items }
+    ensures written { view_of segments.new.items guest.new ≡
+        written at bytes.now (view_of segments.old.items guest.old) }
+    ensures guest { guest.new ≡ record guest.old { memory = guest.new.memory } }
+    ensures segments { segments.new.items ≡
+        with_held guest.old.segment (held_bytes segments.new.items guest.old.segment) segments.old.items }
+{
+    lend(guest, segments);
+    guest.memory.write(at, bytes);
+    take_back(guest, segments);
+}
+
+/// The bytes of a range of addresses, where they lie whole in one window.
+pub fn bytes<'a>(
+    guest: &'a Guest,
+    segments: &'a Vec<Option<Segment>>,
+    at: u64,
+    len: u64,
+) -> Option<&'a [u8]>
+    requires { IfHeld guest.now.segment segments.now.items }
+    ensures { option_copied result ≡ bytes_in (view_of segments.now.items guest.now) at len }
+{
+    if let Ok(bytes) = guest.memory.space.slice(at, len) {
+        return Some(bytes);
+    }
+    match &segments[guest.segment?.key] {
+        Some(segment) => segment.slice(at, len).ok(),
+        None => unreachable!(),
+    }
+}

@@ -1,0 +1,15 @@
+//! The bodies of live processes: registers, save slots and memories, and what acts do to them.
+//!
+//! It knows no descriptors, files or pipes. So it serves a whole machine and a group of processes
+//! alone.
+#![tactic(auto)]
+
+mod bodies;
+mod guest;
+mod held;
+mod reach;
+mod registers;
+mod table;
+mod windows;
+
+pub use bodies::Bodies;

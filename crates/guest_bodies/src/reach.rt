@@ -1,0 +1,49 @@
+// The memories that a process reaches.
+ghost use Rattle.std.specs.Prelude.{◌≡◌, ◌≢◌, ◌↔◌, false, length, OnOk, OnErr, IsNone, IsSome, IsTrue, Err};
+ghost use Rattle.arn_base.specs.Window.{bytes_at, with_bytes, bytes_of, IsAccessLength};
+ghost use Rattle.guest_bodies.specs.Kept.{windows_of};
+
+use arn_base::{BadAddress, Memory, StoreError};
+use guest_mem::{Segment, Space};
+
+/// The private window of a process and, only while it runs or receives, the segment that it holds.
+/// Both are here by value, so that whoever serves one instruction can't leave others in their place.
+#[derive(Debug, Drop)]
+pub struct Reach {
+    pub space: Space,
+    pub segment: Option<Segment>,
+}
+
+impl Reach {
+    /// Writes bytes at an address, where they lie whole in one window.
+    pub fn write(&mut self, at: u64, bytes: &[u8])
+        ensures { windows_of self.new ≡ with_bytes (windows_of self.old) at bytes.now }
+    {
+        if self.space.write_from(at, bytes).is_err() {
+            if let Some(segment) = &mut self.segment {
+                let _ = segment.write_from(at, bytes);
+            }
+        }
+    }
+}
+
+impl Memory for Reach {
+    ghost windows = { windows_of };
+
+    ghost wants_memory = { λ m. false };
+
+    fn load(&self, at: u64, len: u8) -> Result<u64, BadAddress> {
+        match (self.space.load(at, len), &self.segment) {
+            (Err(BadAddress), Some(segment)) => segment.load(at, len),
+            (found, _) => found,
+        }
+    }
+
+    #[tactic(auto, using(crate::proofs::Spelled::lengths))]
+    fn store(&mut self, at: u64, len: u8, value: u64) -> Result<(), StoreError> {
+        match (self.space.store(at, len, value), &mut self.segment) {
+            (Err(StoreError::BadAddress), Some(segment)) => segment.store(at, len, value),
+            (done, _) => done,
+        }
+    }
+}

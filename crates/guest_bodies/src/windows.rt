@@ -1,0 +1,36 @@
+// The private window of a process that begins.
+ghost use Rattle.std.specs.Prelude.{◌≡◌, ◌+◌, ◌≤◌, length, IfOk, All};
+ghost use Rattle.arn_base.specs.Disk.{overwrite};
+ghost use Rattle.parts_model.specs.Blocks.{with_blocks};
+ghost use Rattle.parts_model.specs.Memory.{zeros};
+ghost use Rattle.guest_bodies.specs.Shown.{IsInside};
+
+use arn_base::{Block, NoMemory};
+use guest_mem::Space;
+use parts_model::limits::{BLOCK_LEN, WINDOW_LEN, WINDOW_START};
+use std::alloc::Global;
+
+/// Lays bytes over those at an offset of a window.
+fn lay(space: &mut Space, offset: u64, bytes: &[u8])
+    requires length { length space.old ≡ WINDOW_LEN }
+    requires inside { offset + length bytes.now ≤ WINDOW_LEN }
+    ensures laid { space.new ≡ overwrite space.old offset bytes.now }
+    ensures length { length space.new ≡ WINDOW_LEN }
+{
+    match space.write_from(WINDOW_START + offset, bytes) {
+        Ok(()) => {}
+        Err(_) => unreachable!(),
+    }
+}
+
+/// The window whose blocks that aren't all zero are these.
+pub fn window_of(alloc: Global, blocks: &[Block]) -> Result<Space, NoMemory>
+    requires { All IsInside blocks.now }
+    ensures { IfOk result (λ space. space ≡ with_blocks blocks.now (zeros WINDOW_LEN)) }
+{
+    let mut space = Space::new(alloc)?;
+    for block in blocks {
+        lay(&mut space, BLOCK_LEN as u64 * block.number as u64, &block.bytes);
+    }
+    Ok(space)
+}
