@@ -90,8 +90,8 @@ other-segments g h o (Some t) segs new apart same whole keeps v is_window is_seg
 refreshed-other : (g h : Guest) (segs new : Segments) → IsApart g h → IsApart h g → IsWhole segs h → KeepsBeside (key_of g.segment) segs new → view_of new h ≡ refreshed (view_of new g) (view_of segs h)
 refreshed-other g h segs new apart back whole keeps =
     ap₂ (λ (a c : List ℕ). record { body = body_of h; window = a; segment = c })
-      (sym (ap (λ t. cond t g.memory.space (laid_segment (name_of g.segment) (held_bytes new g.segment) h.made h.memory.space)) (ne_eqb h.made g.made back.windows) ∙ other-window g.segment h.made (held_bytes new g.segment) h.memory.space apart.segment))
-      (other-segments g h g.segment h.segment segs new back.segment apart.shared whole keeps (view_of new g) refl refl refl)
+    (sym (ap (λ t. cond t g.memory.space (laid_segment (name_of g.segment) (held_bytes new g.segment) h.made h.memory.space)) (ne_eqb h.made g.made back.windows) ∙ other-window g.segment h.made (held_bytes new g.segment) h.memory.space apart.segment))
+    (other-segments g h g.segment h.segment segs new back.segment apart.shared whole keeps (view_of new g) refl refl refl)
 
 -- a process that changes is put among what is shown
 pub follows-put : (p : ℕ) (g : Guest) (all new : List (Option Guest)) (segs segs' : Segments) → IsSound all segs → IsSound new segs' → Changes p (Some g) all new → KeepsBeside (key_of g.segment) segs segs' → Follows (shown_all all segs) (put p (view_of segs' g)) (shown_all new segs')
@@ -124,17 +124,18 @@ follows-put p g all new segs segs' sound sound' changes keeps = record { shows =
 
 -- two processes stay apart where their memories stay
 pub apart-named : (g g' h : Guest) → g'.made ≡ g.made → g'.segment ≡ g.segment → IsApart g h × IsApart h g → IsApart g' h × IsApart h g'
-apart-named g g' h made segment both =
-    (record {
-      windows = λ e. both.0.windows (sym made ∙ e);
-      segment = subst (λ (o : Option Shared). IfSome o (λ s. s.made ≢ h.made)) (sym segment) both.0.segment;
-      shared = subst (λ (o : Option Shared). IfSome o (λ s. IfSome h.segment (SameNames s))) (sym segment) both.0.shared;
-    },
-    record {
-      windows = λ e. both.1.windows (e ∙ made);
-      segment = by_segment h.segment both.1.segment;
-      shared = subst (λ (o : Option Shared). IfSome h.segment (λ s. IfSome o (SameNames s))) (sym segment) both.1.shared;
-    })
+apart-named g g' h made segment both = (
+  record {
+    windows = λ e. both.0.windows (sym made ∙ e);
+    segment = subst (λ (o : Option Shared). IfSome o (λ s. s.made ≢ h.made)) (sym segment) both.0.segment;
+    shared = subst (λ (o : Option Shared). IfSome o (λ s. IfSome h.segment (SameNames s))) (sym segment) both.0.shared;
+  },
+  record {
+    windows = λ e. both.1.windows (e ∙ made);
+    segment = by_segment h.segment both.1.segment;
+    shared = subst (λ (o : Option Shared). IfSome h.segment (λ s. IfSome o (SameNames s))) (sym segment) both.1.shared;
+  },
+)
   where
     by_segment : (o : Option Shared) → IfSome o (λ s. s.made ≢ g.made) → IfSome o (λ s. s.made ≢ g'.made)
     by_segment None apart = tt
@@ -200,9 +201,10 @@ sound-changed p g g' all new segs segs' sound is made segment changes keeps ther
     beside : (q : ℕ) → q ≢ p → (o : Option Guest) → nth all q ≡ o → IfSome o (λ h. IsApart g' h × IsApart h g')
     beside q ne None e = tt
     beside q ne (Some h) e =
-        apart-named g g' h made segment
-        (subst (λ (o : Option Guest). IfSome o (IsApart g)) e (subst (λ (o : Option Guest). IfSome o (λ x. IfSome (nth all q) (IsApart x))) is (sound.apart p q (λ k. ne (sym k)))),
-        subst (λ (o : Option Guest). IfSome o (IsApart h)) is (subst (λ (o : Option Guest). IfSome o (λ x. IfSome (nth all p) (IsApart x))) e (sound.apart q p ne)))
+        apart-named g g' h made segment (
+          subst (λ (o : Option Guest). IfSome o (IsApart g)) e (subst (λ (o : Option Guest). IfSome o (λ x. IfSome (nth all q) (IsApart x))) is (sound.apart p q (λ k. ne (sym k)))),
+          subst (λ (o : Option Guest). IfSome o (IsApart h)) is (subst (λ (o : Option Guest). IfSome o (λ x. IfSome (nth all p) (IsApart x))) e (sound.apart q p ne)),
+        )
 
 -- from what a process sees to what its act does
 pub follows-done : (old new : Guests) (p event : ℕ) (act : Act) (v v' : View) → seen_in old p ≡ Some v → acted event act v ≡ Some v' → ((b : Bodies) → joined act event v b ≡ b) → Follows old (put p v') new → Follows old (done p event act) new

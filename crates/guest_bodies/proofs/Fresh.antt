@@ -32,17 +32,18 @@ no-segment (Some s) (Some t) is = cc
 
 -- a process without a segment, in a new window
 pub lone-apart : (event : ℕ) (g h : Guest) → g.made ≡ event → g.segment ≡ None → IsUnheldBy event (body_of h) → IsApart g h × IsApart h g
-lone-apart event g h made segment unheld =
-    (record {
-      windows = λ e. unheld.window (sym e ∙ made);
-      segment = subst (λ (o : Option Shared). IfSome o (λ s. s.made ≢ h.made)) (sym segment) tt;
-      shared = subst (λ (o : Option Shared). IfSome o (λ s. IfSome h.segment (SameNames s))) (sym segment) tt;
-    },
-    record {
-      windows = λ e. unheld.window (e ∙ made);
-      segment = subst (λ (n : ℕ). IfSome h.segment (λ s. s.made ≢ n)) (sym made) (segment-new event h.segment unheld.segment);
-      shared = no-segment h.segment g.segment segment;
-    })
+lone-apart event g h made segment unheld = (
+  record {
+    windows = λ e. unheld.window (sym e ∙ made);
+    segment = subst (λ (o : Option Shared). IfSome o (λ s. s.made ≢ h.made)) (sym segment) tt;
+    shared = subst (λ (o : Option Shared). IfSome o (λ s. IfSome h.segment (SameNames s))) (sym segment) tt;
+  },
+  record {
+    windows = λ e. unheld.window (e ∙ made);
+    segment = subst (λ (n : ℕ). IfSome h.segment (λ s. s.made ≢ n)) (sym made) (segment-new event h.segment unheld.segment);
+    shared = no-segment h.segment g.segment segment;
+  },
+)
 
 -- two names are the same as themselves
 same-names : (s : Shared) → SameNames s s
@@ -54,17 +55,18 @@ same-both (Some s) = same-names s
 
 -- a process in a new window that shares the segment of another
 pub sharing-apart : (event : ℕ) (g parent h : Guest) → g.made ≡ event → g.segment ≡ parent.segment → IsUnheldBy event (body_of h) → IfSome parent.segment (λ s. s.made ≢ h.made) → IfSome parent.segment (λ s. IfSome h.segment (SameNames s)) → IfSome h.segment (λ s. IfSome parent.segment (SameNames s)) → IsApart g h × IsApart h g
-sharing-apart event g parent h made segment unheld apart shared back =
-    (record {
-      windows = λ e. unheld.window (sym e ∙ made);
-      segment = subst (λ (o : Option Shared). IfSome o (λ s. s.made ≢ h.made)) (sym segment) apart;
-      shared = subst (λ (o : Option Shared). IfSome o (λ s. IfSome h.segment (SameNames s))) (sym segment) shared;
-    },
-    record {
-      windows = λ e. unheld.window (e ∙ made);
-      segment = subst (λ (n : ℕ). IfSome h.segment (λ s. s.made ≢ n)) (sym made) (segment-new event h.segment unheld.segment);
-      shared = subst (λ (o : Option Shared). IfSome h.segment (λ s. IfSome o (SameNames s))) (sym segment) back;
-    })
+sharing-apart event g parent h made segment unheld apart shared back = (
+  record {
+    windows = λ e. unheld.window (sym e ∙ made);
+    segment = subst (λ (o : Option Shared). IfSome o (λ s. s.made ≢ h.made)) (sym segment) apart;
+    shared = subst (λ (o : Option Shared). IfSome o (λ s. IfSome h.segment (SameNames s))) (sym segment) shared;
+  },
+  record {
+    windows = λ e. unheld.window (e ∙ made);
+    segment = subst (λ (n : ℕ). IfSome h.segment (λ s. s.made ≢ n)) (sym made) (segment-new event h.segment unheld.segment);
+    shared = subst (λ (o : Option Shared). IfSome h.segment (λ s. IfSome o (SameNames s))) (sym segment) back;
+  },
+)
 
 -- the child of a process among all, the parent itself among them
 pub child-apart : (event p : ℕ) (g parent : Guest) (all : List (Option Guest)) (segs : Segments) → IsSound all segs → IsNew event all → nth all p ≡ Some parent → g.made ≡ event → g.segment ≡ parent.segment → (q : ℕ) → IfSome (nth all q) (λ h. IsApart g h × IsApart h g)

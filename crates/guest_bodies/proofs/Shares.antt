@@ -52,9 +52,10 @@ module _ {guests : Guests} {all : List (Option Guest)} {segs : Segments} {p : �
       let apart : IsApart g h = subst (λ (o : Option Guest). IfSome o (IsApart g)) here (subst (λ (o : Option Guest). IfSome o (λ x. IfSome (nth all q) (IsApart x))) at.stands (at.sound.apart p q (λ e. ne (sym e)))) in
       let back : IsApart h g = subst (λ (o : Option Guest). IfSome o (IsApart h)) at.stands (subst (λ (o : Option Guest). IfSome o (λ x. IfSome (nth all p) (IsApart x))) here (at.sound.apart q p ne)) in
       let unheld : IsUnheldBy event (body_of h) = subst (λ (o : Option Guest). IfSome o (λ x. IsUnheldBy event (body_of x))) here (new.unheld q) in
-      let whole : IsWhole segs h = subst (λ (o : Option Guest). IfSome o (IsWhole segs)) here (at.sound.whole q) in
-      (record { windows = apart.windows; segment = λ (e : event ≡ h.made). unheld.window (sym e); shared = none-named event key segs h h.segment is whole unheld.segment },
-      record { windows = back.windows; segment = back.segment; shared = named-none event key segs h h.segment is whole unheld.segment })
+      let whole : IsWhole segs h = subst (λ (o : Option Guest). IfSome o (IsWhole segs)) here (at.sound.whole q) in (
+        record { windows = apart.windows; segment = λ (e : event ≡ h.made). unheld.window (sym e); shared = none-named event key segs h h.segment is whole unheld.segment },
+        record { windows = back.windows; segment = back.segment; shared = named-none event key segs h h.segment is whole unheld.segment },
+      )
 
   pub shares-sound : IsSound (set all p (Some (sharing g event key))) segs'
   shares-sound = sound-put p (sharing g event key) all (set all p (Some (sharing g event key))) segs segs' at.sound at.changes keeps (ap (λ (o : Option (List ℕ)). is_some o) there, λ (e : event ≡ g.made). held.window (sym e)) (λ q ne. beside q ne (nth all q) refl)

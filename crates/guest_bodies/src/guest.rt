@@ -40,8 +40,9 @@ impl Guest {
     /// A handler begins. The registers that it interrupts go to the slot.
     pub fn delivers(&mut self, signal: u8, handler: u64, cut: bool)
         ensures { self.new ≡ record self.old {
-            cpu = record (with_register (cut_off cut self.old.cpu) 10 signal) { pc = handler };
-            signals = record self.old.signals { slot = Some (cut_off cut self.old.cpu) } } }
+          cpu = record (with_register (cut_off cut self.old.cpu) 10 signal) { pc = handler };
+          signals = record self.old.signals { slot = Some (cut_off cut self.old.cpu) };
+        } }
     {
         registers::cut_off(&mut self.cpu, cut);
         self.signals.save(&self.cpu);
@@ -52,8 +53,9 @@ impl Guest {
     pub fn leaves(&mut self) -> bool
         ensures left { result ≡ is_some self.old.signals.slot }
         ensures restored { self.new ≡ record self.old {
-            cpu = unwrap_or self.old.signals.slot self.old.cpu;
-            signals = record self.old.signals { slot = None } } }
+          cpu = unwrap_or self.old.signals.slot self.old.cpu;
+          signals = record self.old.signals { slot = None };
+        } }
     {
         self.signals.leave(&mut self.cpu)
     }
@@ -62,11 +64,12 @@ impl Guest {
     /// event of the fork makes.
     pub fn child(&self, event: u64, segment: Option<Shared>) -> Result<Guest, NoMemory>
         ensures { IfOk result (λ child. child ≡ record {
-            cpu = returned self.now.cpu 0;
-            signals = record self.now.signals { pending = none_pending };
-            memory = record { space = self.now.memory.space; segment = None };
-            made = event;
-            segment = segment }) }
+          cpu = returned self.now.cpu 0;
+          signals = record self.now.signals { pending = none_pending };
+          memory = record { space = self.now.memory.space; segment = None };
+          made = event;
+          segment = segment;
+        }) }
     {
         let memory = Reach {
             space: self.memory.space.copy()?,
@@ -86,8 +89,9 @@ impl Guest {
     /// A process gets a fresh segment, in the place of one that it may hold.
     pub fn shares(&mut self, shared: Shared)
         ensures { self.new ≡ record self.old {
-            cpu = returned self.old.cpu 0;
-            segment = Some shared } }
+          cpu = returned self.old.cpu 0;
+          segment = Some shared;
+        } }
     {
         self.segment = Some(shared);
         self.returns(0);
@@ -96,9 +100,10 @@ impl Guest {
     /// How the child of a fork begins.
     pub fn start(&self) -> Result<Start, NoMemory>
         ensures { IfOk result (λ start. start ≡ record {
-            cpu = returned self.now.cpu 0;
-            slot = self.now.signals.slot;
-            blocks = blocks_of self.now.memory.space }) }
+          cpu = returned self.now.cpu 0;
+          slot = self.now.signals.slot;
+          blocks = blocks_of self.now.memory.space;
+        }) }
     {
         let blocks = self.memory.space.blocks()?;
         let mut cpu = self.cpu;
@@ -111,11 +116,12 @@ impl Guest {
 /// A process that begins as a record tells. The event makes its private window.
 pub fn begin(event: u64, start: &Start, space: Space) -> Guest
     ensures { result ≡ record {
-        cpu = start.now.cpu;
-        signals = record no_signals { slot = start.now.slot };
-        memory = record { space = space; segment = None };
-        made = event;
-        segment = None } }
+      cpu = start.now.cpu;
+      signals = record no_signals { slot = start.now.slot };
+      memory = record { space = space; segment = None };
+      made = event;
+      segment = None;
+    } }
 {
     let mut signals = Signals::new();
     if let Some(cpu) = &start.slot {

@@ -14,7 +14,8 @@ use std::sync::ledger::Ledger;
 fn lend(guest: &mut Guest, segments: &mut Vec<Option<Segment>>)
     requires { IfHeld guest.old.segment segments.old.items }
     ensures guest { guest.new ≡ record guest.old {
-        memory = record guest.old.memory { segment = lent segments.old.items guest.old.segment } } }
+      memory = record guest.old.memory { segment = lent segments.old.items guest.old.segment };
+    } }
     ensures segments { segments.new.items ≡ with_key guest.old.segment None segments.old.items }
 {
     guest.memory.segment = match guest.segment {
@@ -27,7 +28,8 @@ fn lend(guest: &mut Guest, segments: &mut Vec<Option<Segment>>)
 fn take_back(guest: &mut Guest, segments: &mut Vec<Option<Segment>>)
     requires { IfKey guest.old.segment segments.old.items }
     ensures guest { guest.new ≡ record guest.old {
-        memory = record guest.old.memory { segment = guest.new.memory.segment } } }
+      memory = record guest.old.memory { segment = guest.new.memory.segment };
+    } }
     ensures segments { segments.new.items ≡ with_key guest.old.segment guest.old.memory.segment segments.old.items }
 {
     if let Some(shared) = guest.segment {

@@ -30,7 +30,11 @@ pub fn window_of(alloc: Global, blocks: &[Block]) -> Result<Space, NoMemory>
 {
     let mut space = Space::new(alloc)?;
     for block in blocks {
-        lay(&mut space, BLOCK_LEN as u64 * block.number as u64, &block.bytes);
+        lay(
+            &mut space,
+            BLOCK_LEN as u64 * block.number as u64,
+            &block.bytes,
+        );
     }
     Ok(space)
 }

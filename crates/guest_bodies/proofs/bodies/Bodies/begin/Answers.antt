@@ -21,8 +21,8 @@ returns-clause-follows c =
     let segs = c.self.inside.segments.items in
     let space : c.in_ok-space.space ≡ with_blocks c.args.start.now.blocks (zeros WINDOW_LEN) = c.in_ok-space.ensures ∙ ap (λ (l : List Block). with_blocks l (zeros WINDOW_LEN)) c.as_slice.ensures in
     let view : view_of segs c.begin.result ≡ child_view c.args.event (beginning_in c.args.start.now) None [] =
-          ap (view_of segs) c.begin.ensures
-          ∙ ap (λ (w : List ℕ). child_view c.args.event (record { cpu = c.args.start.now.cpu; slot = c.args.start.now.slot; window = w }) None []) space in
+    ap (view_of segs) c.begin.ensures
+    ∙ ap (λ (w : List ℕ). child_view c.args.event (record { cpu = c.args.start.now.cpu; slot = c.args.start.now.slot; window = w }) None []) space in
     subst (λ (v : View). Follows c.args.self.now (put c.args.child v) (shown_all (set c.make_room.new.all.items c.args.child (Some c.begin.result)) segs)) view
     (begins-follows c.args.self.now c.self.inside.guests.items c.make_room.new.all.items segs c.args.child c.args.event c.begin.result c.self.view_is c.self.invariant c.requires.fresh (record { same = c.make_room.ensures.same }) c.in_ok-make_room.ensures.room (ap (λ (g : Guest). g.made) c.begin.ensures) (ap (λ (g : Guest). g.segment) c.begin.ensures))
 

@@ -21,8 +21,8 @@ returns-clause-ran g c =
     let before : View = view_of c.self.inside.segments.items c.in-Some.guest in
     let after : View = view_of c.step.new.segments.items c.step.new.guest in
     let back : after ≡ with_reach (reach after) (with_cpu c.step.new.guest.cpu before) =
-          subst (λ (x : Guest). view_of c.step.new.segments.items x ≡ with_reach (reach (view_of c.step.new.segments.items x)) (with_cpu c.step.new.guest.cpu before)) (sym c.step.ensures.guest)
-          (sym (reach-back c.self.inside.segments.items c.step.new.segments.items c.in-Some.guest c.step.new.guest.cpu c.step.new.guest.memory)) in
+    subst (λ (x : Guest). view_of c.step.new.segments.items x ≡ with_reach (reach (view_of c.step.new.segments.items x)) (with_cpu c.step.new.guest.cpu before)) (sym c.step.ensures.guest)
+    (sym (reach-back c.self.inside.segments.items c.step.new.segments.items c.in-Some.guest c.step.new.guest.cpu c.step.new.guest.memory)) in
     record {
       before = before;
       cpu = c.step.new.guest.cpu;
@@ -30,14 +30,14 @@ returns-clause-ran g c =
       stood = sym (ap (λ (gs : Guests). seen_in gs c.args.pid) c.self.view_is) ∙ (seen-shown c.self.inside.guests.items c.self.inside.segments.items c.args.pid ∙ ap (option_map (view_of c.self.inside.segments.items)) at.stands);
       tells = c.step.ensures.effect;
       follows = subst (λ (v : View). Follows c.args.self.now (put c.args.pid v) (shown_all (set c.self.inside.guests.items c.args.pid (Some c.step.new.guest)) c.step.new.segments.items)) back
-        (moved-put at (ap (λ (x : Guest). x.made) c.step.ensures.guest) (ap (λ (x : Guest). x.segment) c.step.ensures.guest) (held_bytes c.step.new.segments.items c.in-Some.guest.segment) c.step.new.segments.items c.step.ensures.segments);
+          (moved-put at (ap (λ (x : Guest). x.made) c.step.ensures.guest) (ap (λ (x : Guest). x.segment) c.step.ensures.guest) (held_bytes c.step.new.segments.items c.in-Some.guest.segment) c.step.new.segments.items c.step.ensures.segments);
     }
 
 pub returns-clause-stop : goal.returns-clause-stop
 returns-clause-stop g c =
     let at = place c.args.self.now c.self.inside.guests.items c.self.inside.segments.items c.args.pid c.index_mut.result.now c.in-Some.guest c.step.new.guest c.self.view_is c.self.invariant c.requires.live c.index_mut.ensures.value c.in-Some.is in
     OnStop-both c.step.result (λ (seen : view_of c.step.new.segments.items c.step.new.guest ≡ view_of c.self.inside.segments.items c.in-Some.guest) (same : c.step.new.segments.items ≡ c.self.inside.segments.items).
-      same-shown c.args.pid c.in-Some.guest c.step.new.guest c.self.inside.guests.items c.self.inside.segments.items c.step.new.segments.items at.stands same seen (ap watch_of c.step.ensures.guest) ∙ c.self.view_is)
+    same-shown c.args.pid c.in-Some.guest c.step.new.guest c.self.inside.guests.items c.self.inside.segments.items c.step.new.segments.items at.stands same seen (ap watch_of c.step.ensures.guest) ∙ c.self.view_is)
     c.step.ensures.stop c.step.ensures.table
 
 pub returns-clause-watches : goal.returns-clause-watches
