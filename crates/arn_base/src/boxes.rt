@@ -1,5 +1,5 @@
 // The boxed objects of the outside: a chooser of slices, and devices.
-ghost use Rattle.std.specs.Prelude.{◌≡◌, ◌+◌, ℕ, ◌++◌, List, length, IfSome, Option, option_map};
+ghost use Rattle.std.specs.Prelude.{◌≡◌, ◌+◌, ℕ, ◌++◌, List, length, IfSome, IsTrue, Bool, ◌↔◌, Option, option_map};
 ghost use Rattle.arn_base.specs.declared.boxes.Choice.{Choice};
 ghost use Rattle.arn_base.specs.Device.{DeviceReply, Room, recorded, cut_to, taken, takes, left_after};
 
@@ -47,13 +47,17 @@ pub trait Device: Drop {
     /// The bytes that it took, where it tells them.
     ghost took: { Self → Option (List ℕ) };
 
+    /// Whether the coming call of `put` at each place, from 0 on, is a fault, where it tells it.
+    ghost put_faults: { Self → ℕ → Option Bool };
+
     /// Asks for as many bytes as the buffer has.
     fn ask(&mut self, buf: &mut [u8]) -> Reply
         ensures reply { IfSome (replies self.old 0) (λ told.
             recorded result buf.new ≡ cut_to (length buf.old) told) }
         ensures later { (k : ℕ) → replies self.new k ≡ replies self.old (k + 1) }
         ensures room { room self.new ≡ room self.old }
-        ensures took { took self.new ≡ took self.old };
+        ensures took { took self.new ≡ took self.old }
+        ensures put_faults { (k : ℕ) → put_faults self.new k ≡ put_faults self.old k };
 
     /// Hands over bytes.
     fn put(&mut self, bytes: &[u8]) -> Took
@@ -63,7 +67,9 @@ pub trait Device: Drop {
             option_map (λ room. left_after room (length (taken result bytes.now))) (room self.old) }
         ensures took { took self.new ≡
             option_map (λ had. had ++ taken result bytes.now) (took self.old) }
-        ensures replies { (k : ℕ) → replies self.new k ≡ replies self.old k };
+        ensures replies { (k : ℕ) → replies self.new k ≡ replies self.old k }
+        ensures fault { IfSome (put_faults self.old 0) (λ told. IsTrue told ↔ (result ≡ Took.Fault)) }
+        ensures later { (k : ℕ) → put_faults self.new k ≡ put_faults self.old (k + 1) };
 }
 
 impl Chooser for Box<dyn Chooser> {
@@ -80,6 +86,8 @@ impl Device for Box<dyn Device> {
     ghost room = { λ b. (Device-box b).room b.value };
 
     ghost took = { λ b. (Device-box b).took b.value };
+
+    ghost put_faults = { λ b. (Device-box b).put_faults b.value };
 
     fn ask(&mut self, buf: &mut [u8]) -> Reply {
         (**self).ask(buf)

@@ -161,6 +161,8 @@ impl Device for Echo {
 
     ghost took = { λ _. None };
 
+    ghost put_faults = { λ _ _. None };
+
     fn ask(&mut self, _buf: &mut [u8]) -> Reply {
         Reply::Gave(self.count)
     }

@@ -8,8 +8,7 @@ use Rattle.arn_commands.specs.Commands.{Asks, EachAsks}
 use Rattle.arn_commands.specs.Nexts.{ReadsMore, ReadsLast}
 use Rattle.arn_commands.specs.Parts.{Part, text_parts, whole_parts}
 use Rattle.arn_commands.specs.Reader.{ReaderState, fresh_reader, Uses, UsesSome}
-use Rattle.arn_session.specs.Printing.{PutsLess}
-use Rattle.arn_session.specs.Effects.{Effect, committed}
+use Rattle.session_effects.specs.Effects.{Effect, committed}
 use Rattle.arn_session.specs.Answers.{effects, needs_machine}
 use Rattle.arn_session.specs.Answering.{Standpoint, standpoint_first}
 use Rattle.arn_session.specs.Cost.{cost, machine_cost, total_cost}
@@ -19,40 +18,7 @@ use Rattle.arn_session.specs.Transcript.{all_effects, history_behind, needs_any}
 use Rattle.arn_session.specs.CutOff.{BeginsText, FindsOut}
 use Rattle.arn_session.proofs.UseLemmas.{Uses-append, Uses-none}
 use Rattle.arn_session.proofs.TranscriptLemmas.{standpoint_behind, history_behind-committed, all_effects-one, total_cost-push, there-needed, history-unchanged, needless-cost, needs_any-push, never-needed, on-run-here}
-use Rattle.arn_session.proofs.CarryLemmas.{held-none, held-more}
 use Rattle.arn_session.proofs.Progress.{Progress, Progress-start, EachAsks-push, stands-history, text_taken, are_taken, count_taken, parts-more, wholes-more, GoesOnBy}
-
--- bytes in the middle of being put
-pub record PutSoFar (bytes rest : List ℕ) (held holds : Option (List ℕ)) : Type 0 where
-  pub put : List ℕ
-  pub are_bytes : bytes ≡ put ++ rest
-  pub printed : holds ≡ option_map (λ before. before ++ put) held
-
-pub PutSoFar-start : (bytes : List ℕ) (held : Option (List ℕ)) → PutSoFar bytes bytes held held
-PutSoFar-start bytes held = record { put = []; are_bytes = refl; printed = held-none held }
-
-pub PutSoFar-more : (bytes rest rest' : List ℕ) (count : ℕ) (h0 h1 h2 : Option (List ℕ)) → PutSoFar bytes rest h0 h1 → h2 ≡ option_map (λ before. before ++ take count rest) h1 → rest' ≡ drop count rest → PutSoFar bytes rest' h0 h2
-PutSoFar-more bytes rest rest' count h0 h1 h2 p put is = record {
-  put = p.put ++ take count rest;
-  are_bytes = p.are_bytes ∙ ap (λ (x : List ℕ). p.put ++ x) (sym (take-append-drop count rest)) ∙ sym (append_assoc p.put (take count rest) (drop count rest)) ∙ ap (λ (x : List ℕ). (p.put ++ take count rest) ++ x) (sym is);
-  printed = held-more h0 h1 h2 _ _ _ p.printed put refl;
-}
-
--- all bytes behind the first ones
-pub take-rest : (bytes : List ℕ) (count : ℕ) → take (length bytes - count) (drop count bytes) ≡ drop count bytes
-take-rest bytes count = ap (λ (n : ℕ). take n (drop count bytes)) (sym (length-drop count bytes)) ∙ take_all (length (drop count bytes)) (drop count bytes) (omega arith)
-
--- all bytes were put
-pub PutSoFar-all : (bytes rest : List ℕ) (held holds : Option (List ℕ)) → PutSoFar bytes rest held holds → length rest ≡ 0 → holds ≡ option_map (λ before. before ++ bytes) held
-PutSoFar-all bytes [] held holds p none = p.printed ∙ ap (λ (x : List ℕ). option_map (λ before. before ++ x) held) (sym (p.are_bytes ∙ append-nil p.put))
-PutSoFar-all bytes (byte ∷ rest) held holds p none = absurd (omega (arith, none))
-
--- not all bytes were put
-pub PutSoFar-less : (bytes rest : List ℕ) (h0 h1 h2 : Option (List ℕ)) → PutSoFar bytes rest h0 h1 → length rest ≢ 0 → h2 ≡ h1 → PutsLess bytes h0 h2
-PutSoFar-less bytes rest h0 h1 h2 p some same = record {
-  front = record { put = p.put; left = rest; are_bytes = p.are_bytes; printed = same ∙ p.printed };
-  some_left = λ none. some (ap length none);
-}
 
 -- what was taken of a text begins with the bytes that were used
 text_used : (seen more : List ℕ) (reader : ReaderState) (l0 l : Option (List ℕ)) → Uses (seen ++ more) fresh_reader reader l0 l → IfSome l0 (λ text. (rest : List ℕ) × (text ≡ seen ++ rest) × IfSome l (λ left. (beyond : List ℕ) × (rest ≡ beyond ++ left)))

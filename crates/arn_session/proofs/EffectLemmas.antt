@@ -2,7 +2,7 @@
 use Rattle.std.proofs.Common.{◌≡◌, ℕ, ◌++◌, List, [], ◌∷◌, sym, ap, ◌∙◌, append_assoc, append-nil}
 use Rattle.std.proofs.lemmas.Grind.{flat_map-append}
 use Rattle.arn_base.specs.declared.records.Record.{Record}
-use Rattle.arn_session.specs.Effects.{Effect, Commits, Prints, records_of, text_of, committed, printed}
+use Rattle.session_effects.specs.Effects.{Effect, Commits, Prints, records_of, text_of, committed, printed}
 
 pub committed-append : (first others : List Effect) → committed (first ++ others) ≡ committed first ++ committed others
 committed-append first others = flat_map-append records_of first others

@@ -1,16 +1,11 @@
 pub mod UseLemmas
 pub mod FaultLemmas
 pub mod EffectLemmas
-pub mod Moments
-pub mod CarryLemmas
-pub mod StepLemmas
-pub mod CommitLemmas
 pub mod ReadyLemmas
 pub mod PartLemmas
 pub mod TranscriptLemmas
 pub mod Progress
 pub mod CutLemmas
-pub mod PrintLemmas
 pub mod ResultLemmas
 pub mod AskLemmas
 pub mod OpenLemmas

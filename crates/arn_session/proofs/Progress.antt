@@ -9,7 +9,7 @@ use Rattle.arn_commands.specs.Commands.{Asks, EachAsks}
 use Rattle.arn_commands.specs.Nexts.{IsWholePart, ReadsMore, ReadsLast, ReadsEnd, ReadsPart}
 use Rattle.arn_commands.specs.Parts.{Part, text_parts, whole_parts}
 use Rattle.arn_commands.specs.Reader.{ReaderState, fresh_reader, to_come, Uses, UsesSome, StopsShort, IsAtEnd}
-use Rattle.arn_session.specs.Effects.{Effect, committed}
+use Rattle.session_effects.specs.Effects.{Effect, committed}
 use Rattle.arn_session.specs.Answers.{effects}
 use Rattle.arn_session.specs.Answering.{Standpoint, standpoint_after, standpoint_first, MadeOnRun, TookFewer, TookAtMost}
 use Rattle.arn_session.specs.Cost.{cost, total_cost}

@@ -17,7 +17,7 @@ use Rattle.guest_machine.specs.Legs.{leg_of, leg_end, spelled_len}
 use Rattle.arn_lines.specs.declared.answer.RunEnd.{RunEnd}
 use Rattle.arn_lines.specs.Texts.{ran_text}
 use Rattle.arn_session.specs.Cost.{slices_cost}
-use Rattle.arn_session.specs.Effects.{Effect, Prints}
+use Rattle.session_effects.specs.Effects.{Effect, Prints}
 use Rattle.arn_session.specs.Legs.{IsLeg}
 use Rattle.arn_session.specs.Running.{after_inputs, ran_by, is_more, has_more, legs_from, legs_of, slices_of, leg_effects, legs_effects, ran_effects, run_effects, end_of}
 

@@ -12,8 +12,8 @@ use Rattle.arn_session.specs.Status.{status_of, open_status_of, read_halt_of}
 use Rattle.arn_session.specs.declared.status.Status.{Status}
 use Rattle.arn_session.specs.declared.status.Status.TheVariants as status
 use Rattle.arn_session.specs.declared.status.Damage.TheVariants as damage
-use Rattle.arn_session.specs.declared.status.Halt.{Halt}
-use Rattle.arn_session.specs.declared.status.Halt.TheVariants as halt
+use Rattle.session_effects.specs.declared.halt.Halt.{Halt}
+use Rattle.session_effects.specs.declared.halt.Halt.TheVariants as halt
 
 -- the halt of a status, if there is one
 abbrev pub halt_for : Status → Option Halt

@@ -6,13 +6,13 @@ use Rattle.arn_lines.specs.Texts.{refusal_text}
 use Rattle.arn_lines.specs.declared.line.Line.{Line}
 use Rattle.arn_commands.specs.declared.command.Command.{Command}
 use Rattle.arn_commands.specs.declared.command.Command.TheVariants.{PassedOver, TooLong, Unreadable, Says, Faulty}
-use Rattle.arn_session.specs.Effects.{Effect, Prints, committed}
+use Rattle.session_effects.specs.Effects.{Effect, Prints, committed}
 use Rattle.arn_session.specs.Answers.{effects, effects_unless, line_effects, refusal_of, needs_machine, history_after}
 use Rattle.arn_session.specs.Answering.{Standpoint, standpoint_after, standpoint_first, MadeOnRun}
 use Rattle.arn_session.specs.Cost.{command_cost, cost, line_cost, machine_cost, total_cost}
 use Rattle.arn_session.specs.Ready.{IsNoRun, BlamesRecords}
-use Rattle.arn_session.specs.declared.status.Halt.{Halt}
-use Rattle.arn_session.specs.declared.status.Halt.TheVariants as halt
+use Rattle.session_effects.specs.declared.halt.Halt.{Halt}
+use Rattle.session_effects.specs.declared.halt.Halt.TheVariants as halt
 use Rattle.arn_session.specs.Transcript.{all_effects, history_behind, needs_any}
 use Rattle.solo_log.specs.Records.{IsRun}
 use Rattle.arn_session.proofs.EffectLemmas.{history-append}

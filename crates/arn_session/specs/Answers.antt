@@ -18,7 +18,7 @@ use Rattle.arn_lines.specs.declared.answer.Refusal.TheVariants.{NoLong, NoLine, 
 use Rattle.arn_lines.specs.Texts.{event_text, refusal_text, pair_text, back_text}
 use Rattle.arn_commands.specs.declared.command.Command.{Command}
 use Rattle.arn_commands.specs.declared.command.Command.TheVariants.{PassedOver, TooLong, Unreadable, Says, Faulty}
-use Rattle.arn_session.specs.Effects.{Effect, Commits, Prints, committed}
+use Rattle.session_effects.specs.Effects.{Effect, Commits, Prints, committed}
 use Rattle.arn_session.specs.Running.{run_effects}
 
 -- a refusal where something holds

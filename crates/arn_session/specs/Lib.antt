@@ -1,4 +1,3 @@
-pub mod Effects
 pub mod Status
 pub mod Running
 pub mod Answers
@@ -7,8 +6,6 @@ pub mod Transcript
 pub mod Words
 pub mod Answering
 pub mod CutOff
-pub mod Carrying
-pub mod Printing
 pub mod Kept
 pub mod Standing
 pub mod Ready

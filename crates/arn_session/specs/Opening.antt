@@ -1,9 +1,10 @@
 -- A session that ends before it begins, since its log wasn't opened.
 use Rattle.std.specs.Prelude.{◌≡◌, ℕ, ◌≤◌, List, [], length, Option}
 use Rattle.arn_base.specs.declared.records.Record.{Record}
+use Rattle.arn_base.specs.declared.disk.Disk.{Ghosts}
 use Rattle.log_store.specs.Log.{IsLog}
 use Rattle.log_store.specs.declared.size.TheConstants.{MOST_LOG}
-use Rattle.arn_session.specs.Carrying.{IsAtRest, Keeps}
+use Rattle.session_effects.specs.Carrying.{IsAtRest, Keeps}
 use Rattle.arn_session.specs.declared.status.Status.{Status}
 use Rattle.arn_session.specs.declared.status.Status.TheVariants as status
 use Rattle.arn_session.specs.declared.status.Damage.TheVariants as damage
@@ -31,9 +32,10 @@ HasBegun (status.Full log payload) = Unit {0}
 HasBegun status.Long = Unit {0}
 
 -- the same, and of a disk at rest a stop at any moment leaves the history
-pub record FailsToOpen {S K D : Type 0} (image : D → Option (List ℕ)) (may_leave : D → List ℕ → Type 0) (moment : D → ℕ) (left_since : D → ℕ → List ℕ → Type 0) (old new : D) (history : List Record) (source source' : S) (sink sink' : K) (steps steps' : ℕ) : Type 0 where
+pub record FailsToOpen {S K D : Type 0} (is_run : List Record → Type 0) (d : Ghosts D) (old new : D)
+    (history : List Record) (source source' : S) (sink sink' : K) (steps steps' : ℕ) : Type 0 where
   pub never : NeverBegan source source' sink sink' steps steps'
-  pub keeps : IsAtRest image may_leave old history → Keeps may_leave moment left_since old new history [] []
+  pub keeps : IsAtRest d old history → Keeps is_run d old new history [] []
 
 -- a session that began has a log that isn't too long
 abbrev pub IsOpened : Status → List ℕ → Type 0

@@ -5,8 +5,8 @@ use Rattle.solo_log.specs.Records.{records, named, IsRun}
 use Rattle.arn_base.specs.declared.records.Differs.{Differs}
 use Rattle.guest_machine.specs.Differs.{IsFirstDifference}
 use Rattle.arn_session.specs.Answering.{Standpoint}
-use Rattle.arn_session.specs.declared.status.Halt.{Halt}
-use Rattle.arn_session.specs.declared.status.Halt.TheVariants as halt
+use Rattle.session_effects.specs.declared.halt.Halt.{Halt}
+use Rattle.session_effects.specs.declared.halt.Halt.TheVariants as halt
 
 -- the records aren't those of a run, and this is where that shows first
 pub record IsNoRun (history : List Record) (d : Differs) : Type 0 where

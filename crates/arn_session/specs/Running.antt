@@ -16,7 +16,7 @@ use Rattle.guest_machine.specs.Legs.{leg_of, leg_end, spelled_len}
 use Rattle.arn_lines.specs.declared.answer.RunEnd.{RunEnd}
 use Rattle.arn_lines.specs.declared.answer.RunEnd.TheVariants.{Done, Stalled, Budget}
 use Rattle.arn_lines.specs.Texts.{out_text, ran_text}
-use Rattle.arn_session.specs.Effects.{Effect, Prints, commit_of}
+use Rattle.session_effects.specs.Effects.{Effect, Prints, commit_of}
 
 -- the machine after inputs
 abbrev pub after_inputs : Machine → List Input → Machine

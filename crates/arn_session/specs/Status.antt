@@ -1,11 +1,7 @@
 -- How a session ends.
 use Rattle.std.specs.Prelude.{ℕ}
-use Rattle.arn_base.specs.declared.errors.Stop.{Stop}
-use Rattle.arn_base.specs.declared.errors.Stop.TheVariants as stop
 use Rattle.arn_commands.specs.declared.error.ReadError.{ReadError}
 use Rattle.arn_commands.specs.declared.error.ReadError.TheVariants as read
-use Rattle.log_store.specs.declared.errors.CommitError.{CommitError}
-use Rattle.log_store.specs.declared.errors.CommitError.TheVariants as commit
 use Rattle.log_store.specs.declared.errors.OpenError.{OpenError}
 use Rattle.log_store.specs.declared.errors.OpenError.TheVariants as opening
 use Rattle.guest_machine.specs.declared.differs.RebuildError.{RebuildError}
@@ -13,8 +9,8 @@ use Rattle.guest_machine.specs.declared.differs.RebuildError.TheVariants as rebu
 use Rattle.arn_session.specs.declared.status.Status.{Status}
 use Rattle.arn_session.specs.declared.status.Status.TheVariants as status
 use Rattle.arn_session.specs.declared.status.Damage.TheVariants as damage
-use Rattle.arn_session.specs.declared.status.Halt.{Halt}
-use Rattle.arn_session.specs.declared.status.Halt.TheVariants as halt
+use Rattle.session_effects.specs.declared.halt.Halt.{Halt}
+use Rattle.session_effects.specs.declared.halt.Halt.TheVariants as halt
 
 -- the code with which the program ends
 abbrev pub code_of : Status → ℕ
@@ -46,22 +42,11 @@ open_status_of (opening.Malformed at) = status.Damaged (damage.Malformed at)
 open_status_of opening.Disk = status.Disk
 open_status_of opening.NoMemory = status.NoMemory
 
--- what ends a session whose sink stops
-abbrev pub halt_of : Stop → Halt
-halt_of stop.Failed = halt.Sink
-halt_of stop.NoMemory = halt.NoMemory
-
 -- what ends a session whose next command isn't read
 abbrev pub read_halt_of : ReadError → Halt
 read_halt_of read.Source = halt.Source
 read_halt_of read.Long = halt.Long
 read_halt_of read.NoMemory = halt.NoMemory
-
--- what ends a session whose commit doesn't succeed
-abbrev pub commit_halt_of : CommitError → Halt
-commit_halt_of commit.Disk = halt.Disk
-commit_halt_of (commit.Full log payload) = halt.Full log payload
-commit_halt_of commit.NoMemory = halt.NoMemory
 
 -- what ends a session whose machine can't be made again
 abbrev pub rebuild_halt_of : RebuildError → Halt

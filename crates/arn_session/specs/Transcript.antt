@@ -5,7 +5,7 @@ use Rattle.solo_log.specs.Records.{IsRun}
 use Rattle.arn_commands.specs.declared.command.Command.{Command}
 use Rattle.arn_commands.specs.Parts.{Part}
 use Rattle.arn_commands.specs.Commands.{EachAsks}
-use Rattle.arn_session.specs.Effects.{Effect, printed}
+use Rattle.session_effects.specs.Effects.{Effect, printed}
 use Rattle.arn_session.specs.Answers.{effects, needs_machine, history_after}
 use Rattle.arn_session.specs.Cost.{total_cost}
 

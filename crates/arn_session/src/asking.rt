@@ -9,15 +9,14 @@ ghost use Rattle.solo_log.specs.Records.{named};
 ghost use Rattle.result_log.specs.Spelling.{HasSpelling};
 ghost use Rattle.arn_session.specs.Answers.{refusal_of, query_text, found_text};
 ghost use Rattle.arn_session.specs.Kept.{IsReady};
-ghost use Rattle.arn_session.specs.Printing.{StopsPut};
-ghost use Rattle.arn_session.specs.Standing.{IsCause};
+ghost use Rattle.session_effects.specs.Printing.{StopsPut};
+ghost use Rattle.session_effects.specs.Standing.{IsCause};
 
-use crate::printing::put_all;
-use crate::status::Halt;
 use arn_base::{NoMemory, Pair, Record, Sink, Steps};
 use arn_lines::{push_back, push_pair};
 use guest_machine::Machine;
 use history_facts::records_tell_events;
+use session_effects::{Halt, put_all};
 use solo_queries::{Found, back as sources_of};
 use std::alloc::Global;
 use std::sync::ledger::Ledger;

@@ -10,19 +10,19 @@ ghost use Rattle.solo_log.specs.Records.{IsRun};
 ghost use Rattle.log_store.specs.Stops.{GoesOn};
 ghost use Rattle.result_log.specs.Spelling.{HasSpelling};
 ghost use Rattle.arn_session.specs.Answers.{refusal_of, event_effects, machine_of};
-ghost use Rattle.arn_session.specs.Effects.{Commits, Prints};
-ghost use Rattle.arn_session.specs.Carrying.{StopsAt};
+ghost use Rattle.session_effects.specs.Effects.{Commits, Prints};
+ghost use Rattle.session_effects.specs.Carrying.{StopsAt};
 ghost use Rattle.arn_session.specs.Kept.{IsReady};
-ghost use Rattle.arn_session.specs.Standing.{Carries, IsCause, IsOpen};
+ghost use Rattle.session_effects.specs.Standing.{Carries, IsCause, IsOpen};
 
-use crate::commits::commit;
 use crate::printing::print_event;
 use crate::ready::{count_records, history_laws};
-use crate::status::Halt;
+use crate::runs::SoloRuns;
 use arn_base::{Bytes, Disk, Record, Sink};
 use guest_machine::{Machine, MachineError};
 use history_facts::{records_tell_boot, records_tell_files, records_tell_images};
 use log_store::Store;
+use session_effects::{Halt, commit, effects_follow};
 use std::alloc::Global;
 
 // Commits the records of an event, and then prints its number.
@@ -34,15 +34,15 @@ fn finish<D: Disk, K: Sink>(
     text: &mut String,
     sink: &mut K,
 ) -> Result<(), Halt>
-    requires open { IsOpen D.image store.old disk.old }
+    requires open { IsOpen D.Disk store.old disk.old }
     requires spelled { All HasSpelling entries.items }
     requires run { IsRun store.old.entries → IsRun (store.old.entries ++ entries.items) }
     ensures carries { OnOk result (
-        Carries D.image D.may_leave D.moment D.left_since disk.old disk.new
+        Carries IsRun D.Disk disk.old disk.new
         store.old store.new (K.holds sink.old) (K.holds sink.new)
         (Commits entries.items ∷ Prints (event_text event) ∷ [])) }
     ensures stops { IfErr result (λ halt.
-        StopsAt D.image D.may_leave D.moment D.left_since disk.old disk.new
+        StopsAt IsRun D.Disk disk.old disk.new
         store.old.entries (K.holds sink.old) (K.holds sink.new) halt []
         (Commits entries.items ∷ Prints (event_text event) ∷ [])) }
     ensures cause { IfErr result (λ halt. IsCause halt
@@ -50,7 +50,8 @@ fn finish<D: Disk, K: Sink>(
     ensures later { GoesOn D.image D.faults disk.old disk.new }
     ensures faults { NeverFalls (K.faults sink.old) (K.faults sink.new) }
 {
-    commit(store, disk, entries)?;
+    effects_follow::<SoloRuns, D>();
+    commit::<SoloRuns, D>(store, disk, entries)?;
     print_event(text, event, sink)
 }
 
@@ -65,18 +66,18 @@ pub fn add_file<D: Disk, K: Sink>(
     text: &mut String,
     sink: &mut K,
 ) -> Result<(), Halt>
-    requires open { IsOpen D.image store.old disk.old }
+    requires open { IsOpen D.Disk store.old disk.old }
     requires ready { IsReady machine.old store.old.entries }
     requires name { IsTrue (is_name name) }
     requires bytes { length bytes ≤ MOST_FILE_BYTES }
     requires accepted { refusal_of store.old.entries (line.File name bytes) ≡ None }
     ensures ready { OnOk result (IsReady machine.new store.new.entries) }
     ensures carries { OnOk result (
-        Carries D.image D.may_leave D.moment D.left_since disk.old disk.new
+        Carries IsRun D.Disk disk.old disk.new
         store.old store.new (K.holds sink.old) (K.holds sink.new)
         (event_effects (machine_of store.old.entries) (input.File name bytes))) }
     ensures stops { IfErr result (λ halt.
-        StopsAt D.image D.may_leave D.moment D.left_since disk.old disk.new
+        StopsAt IsRun D.Disk disk.old disk.new
         store.old.entries (K.holds sink.old) (K.holds sink.new) halt []
         (event_effects (machine_of store.old.entries) (input.File name bytes))) }
     ensures cause { IfErr result (λ halt. IsCause halt
@@ -84,6 +85,7 @@ pub fn add_file<D: Disk, K: Sink>(
     ensures later { GoesOn D.image D.faults disk.old disk.new }
     ensures faults { NeverFalls (K.faults sink.old) (K.faults sink.new) }
 {
+    effects_follow::<SoloRuns, D>();
     count_records(store);
     history_laws();
     records_tell_boot();
@@ -107,17 +109,17 @@ pub fn boot<D: Disk, K: Sink>(
     text: &mut String,
     sink: &mut K,
 ) -> Result<(), Halt>
-    requires open { IsOpen D.image store.old disk.old }
+    requires open { IsOpen D.Disk store.old disk.old }
     requires ready { IsReady machine.old store.old.entries }
     requires name { IsTrue (is_name name) }
     requires accepted { refusal_of store.old.entries (line.Boot name) ≡ None }
     ensures ready { OnOk result (IsReady machine.new store.new.entries) }
     ensures carries { OnOk result (
-        Carries D.image D.may_leave D.moment D.left_since disk.old disk.new
+        Carries IsRun D.Disk disk.old disk.new
         store.old store.new (K.holds sink.old) (K.holds sink.new)
         (event_effects (machine_of store.old.entries) (input.Boot name))) }
     ensures stops { IfErr result (λ halt.
-        StopsAt D.image D.may_leave D.moment D.left_since disk.old disk.new
+        StopsAt IsRun D.Disk disk.old disk.new
         store.old.entries (K.holds sink.old) (K.holds sink.new) halt []
         (event_effects (machine_of store.old.entries) (input.Boot name))) }
     ensures cause { IfErr result (λ halt. IsCause halt
@@ -125,6 +127,7 @@ pub fn boot<D: Disk, K: Sink>(
     ensures later { GoesOn D.image D.faults disk.old disk.new }
     ensures faults { NeverFalls (K.faults sink.old) (K.faults sink.new) }
 {
+    effects_follow::<SoloRuns, D>();
     count_records(store);
     history_laws();
     records_tell_boot();
@@ -149,17 +152,17 @@ pub fn type_in<D: Disk, K: Sink>(
     text: &mut String,
     sink: &mut K,
 ) -> Result<(), Halt>
-    requires open { IsOpen D.image store.old disk.old }
+    requires open { IsOpen D.Disk store.old disk.old }
     requires ready { IsReady machine.old store.old.entries }
     requires bytes { length bytes < 2 ^ 32 }
     requires accepted { refusal_of store.old.entries (line.Type bytes) ≡ None }
     ensures ready { OnOk result (IsReady machine.new store.new.entries) }
     ensures carries { OnOk result (
-        Carries D.image D.may_leave D.moment D.left_since disk.old disk.new
+        Carries IsRun D.Disk disk.old disk.new
         store.old store.new (K.holds sink.old) (K.holds sink.new)
         (event_effects (machine_of store.old.entries) (input.Typed bytes))) }
     ensures stops { IfErr result (λ halt.
-        StopsAt D.image D.may_leave D.moment D.left_since disk.old disk.new
+        StopsAt IsRun D.Disk disk.old disk.new
         store.old.entries (K.holds sink.old) (K.holds sink.new) halt []
         (event_effects (machine_of store.old.entries) (input.Typed bytes))) }
     ensures cause { IfErr result (λ halt. IsCause halt
@@ -167,6 +170,7 @@ pub fn type_in<D: Disk, K: Sink>(
     ensures later { GoesOn D.image D.faults disk.old disk.new }
     ensures faults { NeverFalls (K.faults sink.old) (K.faults sink.new) }
 {
+    effects_follow::<SoloRuns, D>();
     count_records(store);
     history_laws();
     records_tell_boot();

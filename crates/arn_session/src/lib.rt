@@ -2,7 +2,6 @@
 #![tactic(auto)]
 
 mod asking;
-mod commits;
 mod events;
 mod kept;
 mod lines;
@@ -10,6 +9,7 @@ mod printing;
 mod ready;
 mod refusals;
 mod running;
+mod runs;
 mod session;
 mod stand_ins;
 mod status;
@@ -19,5 +19,5 @@ mod words;
 
 pub use session::arnold;
 pub use stand_ins::FirstChooser;
-pub use status::{Damage, Halt, Status};
+pub use status::{Damage, Status};
 pub use words::{Options, WordsError, are_accepted, read_words};

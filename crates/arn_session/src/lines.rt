@@ -6,12 +6,13 @@ ghost use Rattle.arn_base.specs.declared.records.Differs.{Differs};
 ghost use Rattle.log_store.specs.Stops.{GoesOn};
 ghost use Rattle.arn_session.specs.Answering.{standpoint_after, MadeOnRun};
 ghost use Rattle.arn_session.specs.Answers.{effects, line_effects, needs_machine, refusal_of};
-ghost use Rattle.arn_session.specs.Carrying.{StopsAt};
+ghost use Rattle.session_effects.specs.Carrying.{StopsAt};
 ghost use Rattle.arn_session.specs.Cost.{cost, line_cost, machine_cost};
 ghost use Rattle.arn_session.specs.Kept.{IsReady, IsSound, standpoint_of};
 ghost use Rattle.arn_session.specs.Ready.{BlamesRecords};
 ghost use Rattle.arn_commands.specs.Sizes.{Fits, LineFits};
-ghost use Rattle.arn_session.specs.Standing.{Carries, IsCause, IsLineCause, IsOpen};
+ghost use Rattle.session_effects.specs.Standing.{Carries, IsCause, IsOpen};
+ghost use Rattle.arn_session.specs.Standing.{IsLineCause};
 
 use crate::asking::back;
 use crate::events::{add_file, boot, type_in};
@@ -20,12 +21,13 @@ use crate::printing::print_refusal;
 use crate::ready::take_machine;
 use crate::refusals::{fault_refusal, refusal_of};
 use crate::running::run;
-use crate::status::Halt;
+use crate::runs::SoloRuns;
 use arn_base::{Disk, Sink, Steps};
 use arn_commands::Command;
 use arn_lines::{Line, Refusal};
 use guest_machine::Machine;
 use log_store::Store;
+use session_effects::{Halt, effects_follow};
 use std::alloc::Global;
 use std::sync::ledger::Ledger;
 
@@ -38,7 +40,7 @@ pub fn answer<D: Disk, K: Sink, L: Ledger>(
     sink: &mut K,
     steps: &mut Steps<L>,
 ) -> Result<(), Halt>
-    requires open { IsOpen D.image kept.old.store disk.old }
+    requires open { IsOpen D.Disk kept.old.store disk.old }
     requires sound { IsSound kept.old }
     requires fits { Fits command }
     ensures sound { OnOk result (IsSound kept.new) }
@@ -46,11 +48,11 @@ pub fn answer<D: Disk, K: Sink, L: Ledger>(
         (standpoint_of kept.new ≡ standpoint_after (standpoint_of kept.old) command) }
     ensures made { OnOk result (MadeOnRun (standpoint_of kept.old) (standpoint_of kept.new)) }
     ensures carries { OnOk result (
-        Carries D.image D.may_leave D.moment D.left_since disk.old disk.new
+        Carries IsRun D.Disk disk.old disk.new
         kept.old.store kept.new.store (K.holds sink.old) (K.holds sink.new)
         (effects kept.old.store.entries command)) }
     ensures stops { IfErr result (λ halt.
-        StopsAt D.image D.may_leave D.moment D.left_since disk.old disk.new
+        StopsAt IsRun D.Disk disk.old disk.new
         kept.old.store.entries (K.holds sink.old) (K.holds sink.new) halt []
         (effects kept.old.store.entries command)) }
     ensures cause { IfErr result (λ halt. IsLineCause halt
@@ -64,13 +66,14 @@ pub fn answer<D: Disk, K: Sink, L: Ledger>(
         (K.holds sink.new ≡ K.holds sink.old) }
     ensures on_run { IfErr result (λ halt. needs_machine kept.old.store.entries command ≡ true →
         IsRun kept.old.store.entries ⊎
-        StopsAt D.image D.may_leave D.moment D.left_since disk.old disk.new
+        StopsAt IsRun D.Disk disk.old disk.new
         kept.old.store.entries (K.holds sink.old) (K.holds sink.new) halt [] []) }
     ensures found { (d : Differs) → IsErrOf result (Halt.Differs d) → steps.new ≤ steps.old +
         machine_cost (standpoint_of kept.old).is_there kept.old.store.entries }
     ensures steps { steps.new ≤ steps.old + cost (standpoint_of kept.old).is_there
         kept.old.store.entries command }
 {
+    effects_follow::<SoloRuns, D>();
     match command {
         Command::PassedOver => Ok(()),
         Command::TooLong => print_refusal(text, Refusal::NoLong, sink),
@@ -92,7 +95,7 @@ fn answer_line<D: Disk, K: Sink, L: Ledger>(
     sink: &mut K,
     steps: &mut Steps<L>,
 ) -> Result<(), Halt>
-    requires open { IsOpen D.image kept.old.store disk.old }
+    requires open { IsOpen D.Disk kept.old.store disk.old }
     requires sound { IsSound kept.old }
     requires fits { LineFits line }
     ensures sound { OnOk result (IsSound kept.new) }
@@ -100,11 +103,11 @@ fn answer_line<D: Disk, K: Sink, L: Ledger>(
         (standpoint_of kept.new ≡ standpoint_after (standpoint_of kept.old) (Command.Says line)) }
     ensures made { OnOk result (MadeOnRun (standpoint_of kept.old) (standpoint_of kept.new)) }
     ensures carries { OnOk result (
-        Carries D.image D.may_leave D.moment D.left_since disk.old disk.new
+        Carries IsRun D.Disk disk.old disk.new
         kept.old.store kept.new.store (K.holds sink.old) (K.holds sink.new)
         (effects kept.old.store.entries (Command.Says line))) }
     ensures stops { IfErr result (λ halt.
-        StopsAt D.image D.may_leave D.moment D.left_since disk.old disk.new
+        StopsAt IsRun D.Disk disk.old disk.new
         kept.old.store.entries (K.holds sink.old) (K.holds sink.new) halt []
         (effects kept.old.store.entries (Command.Says line))) }
     ensures cause { IfErr result (λ halt. IsLineCause halt
@@ -119,13 +122,14 @@ fn answer_line<D: Disk, K: Sink, L: Ledger>(
     ensures on_run { IfErr result (λ halt.
         needs_machine kept.old.store.entries (Command.Says line) ≡ true →
         IsRun kept.old.store.entries ⊎
-        StopsAt D.image D.may_leave D.moment D.left_since disk.old disk.new
+        StopsAt IsRun D.Disk disk.old disk.new
         kept.old.store.entries (K.holds sink.old) (K.holds sink.new) halt [] []) }
     ensures found { (d : Differs) → IsErrOf result (Halt.Differs d) → steps.new ≤ steps.old +
         machine_cost (standpoint_of kept.old).is_there kept.old.store.entries }
     ensures steps { steps.new ≤ steps.old + cost (standpoint_of kept.old).is_there
         kept.old.store.entries (Command.Says line) }
 {
+    effects_follow::<SoloRuns, D>();
     if let Some(why) = refusal_of(kept.store.entries(), &line) {
         return print_refusal(text, why, sink);
     }
@@ -156,17 +160,17 @@ fn carry_out<D: Disk, K: Sink, L: Ledger>(
     sink: &mut K,
     steps: &mut Steps<L>,
 ) -> Result<(), Halt>
-    requires open { IsOpen D.image store.old disk.old }
+    requires open { IsOpen D.Disk store.old disk.old }
     requires ready { IsReady machine.old store.old.entries }
     requires fits { LineFits line }
     requires accepted { refusal_of store.old.entries line ≡ None }
     ensures ready { OnOk result (IsReady machine.new store.new.entries) }
     ensures carries { OnOk result (
-        Carries D.image D.may_leave D.moment D.left_since disk.old disk.new
+        Carries IsRun D.Disk disk.old disk.new
         store.old store.new (K.holds sink.old) (K.holds sink.new)
         (line_effects store.old.entries line)) }
     ensures stops { IfErr result (λ halt.
-        StopsAt D.image D.may_leave D.moment D.left_since disk.old disk.new
+        StopsAt IsRun D.Disk disk.old disk.new
         store.old.entries (K.holds sink.old) (K.holds sink.new) halt []
         (line_effects store.old.entries line)) }
     ensures cause { IfErr result (λ halt. IsCause halt
@@ -175,6 +179,7 @@ fn carry_out<D: Disk, K: Sink, L: Ledger>(
     ensures faults { NeverFalls (K.faults sink.old) (K.faults sink.new) }
     ensures steps { steps.new ≤ steps.old + line_cost store.old.entries line }
 {
+    effects_follow::<SoloRuns, D>();
     match line {
         Line::File { name, bytes } => {
             add_file(alloc, store, machine, name, bytes, disk, text, sink)

@@ -2,30 +2,12 @@
 ghost use Rattle.std.specs.Prelude.{◌≡◌, ◌++◌, ℕ, OnOk, IfErr, option_map};
 ghost use Rattle.arn_base.specs.Faults.{NeverFalls};
 ghost use Rattle.arn_lines.specs.Texts.{event_text, refusal_text, ran_text};
-ghost use Rattle.arn_session.specs.Printing.{StopsPut};
-ghost use Rattle.arn_session.specs.Standing.{IsCause};
+ghost use Rattle.session_effects.specs.Printing.{StopsPut};
+ghost use Rattle.session_effects.specs.Standing.{IsCause};
 
-use crate::status::Halt;
-use arn_base::{Sink, Stop};
+use arn_base::Sink;
 use arn_lines::{Refusal, RunEnd, push_event, push_ran, push_refusal};
-
-/// Puts all of the bytes.
-pub fn put_all<K: Sink>(sink: &mut K, bytes: &[u8]) -> Result<(), Halt>
-    ensures ok { OnOk result
-        (K.holds sink.new ≡ option_map (λ held. held ++ bytes.now) (K.holds sink.old)) }
-    ensures stops { IfErr result (λ halt.
-        StopsPut halt bytes.now (K.holds sink.old) (K.holds sink.new)) }
-    ensures cause { IfErr result (λ halt. (faults : ℕ) →
-        IsCause halt faults faults (K.faults sink.old) (K.faults sink.new)) }
-    ensures faults { NeverFalls (K.faults sink.old) (K.faults sink.new) }
-{
-    let mut rest = bytes;
-    while !rest.is_empty() {
-        let count = sink.put(rest)?;
-        rest = &rest[count..];
-    }
-    Ok(())
-}
+use session_effects::{Halt, put_all};
 
 /// Prints `event E`.
 pub fn print_event<K: Sink>(text: &mut String, event: u64, sink: &mut K) -> Result<(), Halt>

@@ -8,10 +8,11 @@ ghost use Rattle.arn_session.specs.Kept.{IsReady, IsSound, standpoint_of};
 ghost use Rattle.arn_session.specs.Ready.{BlamesRecords, IsNotMade};
 
 use crate::kept::Kept;
-use crate::status::Halt;
+use crate::status::rebuild_halt;
 use arn_base::Steps;
 use guest_machine::{Machine, named_follow, records_follow, records_leave_room, runs_follow};
 use log_store::Store;
+use session_effects::Halt;
 use solo_log::records_are_run;
 use std::sync::ledger::Ledger;
 
@@ -30,7 +31,7 @@ pub fn take_machine<L: Ledger>(kept: &mut Kept, steps: &mut Steps<L>) -> Result<
 {
     match kept.machine.take() {
         Some(machine) => Ok(machine),
-        None => Ok(Machine::rebuild(kept.alloc, kept.store.entries(), steps)?),
+        None => { Machine::rebuild(kept.alloc, kept.store.entries(), steps).map_err(rebuild_halt) }
     }
 }
 

@@ -9,19 +9,20 @@ ghost use Rattle.guest_machine.specs.Legs.{leg_of};
 ghost use Rattle.arn_session.specs.Answers.{machine_of};
 ghost use Rattle.arn_session.specs.Cost.{slices_cost};
 ghost use Rattle.arn_session.specs.Running.{leg_effects, legs_of, slices_of, outputs_text, record_outputs, run_effects, end_of as end_by};
-ghost use Rattle.arn_session.specs.Carrying.{StopsAt};
+ghost use Rattle.session_effects.specs.Carrying.{StopsAt};
 ghost use Rattle.arn_session.specs.Kept.{IsReady};
-ghost use Rattle.arn_session.specs.Standing.{Carries, IsCause, IsOpen};
+ghost use Rattle.session_effects.specs.Standing.{Carries, IsCause, IsOpen};
 ghost use Rattle.arn_session.specs.Legs.{IsLeg};
+ghost use Rattle.solo_log.specs.Records.{IsRun};
 
-use crate::commits::commit_some;
-use crate::printing::{print_ran, put_all};
+use crate::printing::print_ran;
 use crate::ready::{count_records, history_laws};
-use crate::status::Halt;
+use crate::runs::SoloRuns;
 use arn_base::{Disk, Extra, NoMemory, Record, Sink, Steps};
 use arn_lines::{RunEnd, push_out};
 use guest_machine::{Leg, LegEnd, Machine};
 use log_store::Store;
+use session_effects::{Halt, commit_some, effects_follow, put_all};
 use solo_model::Standing;
 use std::alloc::Global;
 use std::sync::ledger::Ledger;
@@ -37,16 +38,16 @@ pub fn run<D: Disk, K: Sink, L: Ledger>(
     sink: &mut K,
     steps: &mut Steps<L>,
 ) -> Result<(), Halt>
-    requires open { IsOpen D.image store.old disk.old }
+    requires open { IsOpen D.Disk store.old disk.old }
     requires ready { IsReady machine.old store.old.entries }
     requires few { count ≤ MOST_RUN }
     ensures ready { OnOk result (IsReady machine.new store.new.entries) }
     ensures carries { OnOk result (
-        Carries D.image D.may_leave D.moment D.left_since disk.old disk.new
+        Carries IsRun D.Disk disk.old disk.new
         store.old store.new (K.holds sink.old) (K.holds sink.new)
         (run_effects (machine_of store.old.entries) count)) }
     ensures stops { IfErr result (λ halt.
-        StopsAt D.image D.may_leave D.moment D.left_since disk.old disk.new
+        StopsAt IsRun D.Disk disk.old disk.new
         store.old.entries (K.holds sink.old) (K.holds sink.new) halt []
         (run_effects (machine_of store.old.entries) count)) }
     ensures cause { IfErr result (λ halt. IsCause halt
@@ -56,6 +57,7 @@ pub fn run<D: Disk, K: Sink, L: Ledger>(
     ensures steps { steps.new ≤ steps.old + slices_cost (machine_of store.old.entries)
         (slices_of (legs_of (machine_of store.old.entries) count)) }
 {
+    effects_follow::<SoloRuns, D>();
     let mut leg = run_leg(alloc, store, machine, count, disk, text, sink, steps)?;
     let mut left = count - leg.ran;
     while leg.end == LegEnd::More {
@@ -76,18 +78,18 @@ fn run_leg<D: Disk, K: Sink, L: Ledger>(
     sink: &mut K,
     steps: &mut Steps<L>,
 ) -> Result<Leg, Halt>
-    requires open { IsOpen D.image store.old disk.old }
+    requires open { IsOpen D.Disk store.old disk.old }
     requires ready { IsReady machine.old store.old.entries }
     requires few { left ≤ MOST_RUN }
     ensures ready { OnOk result (IsReady machine.new store.new.entries) }
     ensures leg { IfOk result (λ leg. IsLeg machine.old.machine left
         (leg_of machine.old.machine left) leg machine.new.machine) }
     ensures carries { OnOk result (
-        Carries D.image D.may_leave D.moment D.left_since disk.old disk.new
+        Carries IsRun D.Disk disk.old disk.new
         store.old store.new (K.holds sink.old) (K.holds sink.new)
         (leg_effects machine.old.machine (leg_of machine.old.machine left))) }
     ensures stops { IfErr result (λ halt.
-        StopsAt D.image D.may_leave D.moment D.left_since disk.old disk.new
+        StopsAt IsRun D.Disk disk.old disk.new
         store.old.entries (K.holds sink.old) (K.holds sink.new) halt []
         (leg_effects machine.old.machine (leg_of machine.old.machine left))) }
     ensures cause { IfErr result (λ halt. IsCause halt
@@ -97,6 +99,7 @@ fn run_leg<D: Disk, K: Sink, L: Ledger>(
     ensures steps { steps.new ≤ steps.old +
         slices_cost machine.old.machine (leg_of machine.old.machine left) }
 {
+    effects_follow::<SoloRuns, D>();
     count_records(store);
     history_laws();
     let event = machine.events();
@@ -104,7 +107,7 @@ fn run_leg<D: Disk, K: Sink, L: Ledger>(
     let leg = machine.run_leg(left, &mut entries, steps)?;
     text.clear();
     push_outputs(text, event, entries.as_slice())?;
-    commit_some(store, disk, entries)?;
+    commit_some::<SoloRuns, D>(store, disk, entries)?;
     put_all(sink, text.as_bytes())?;
     Ok(leg)
 }

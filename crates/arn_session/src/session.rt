@@ -10,23 +10,27 @@ ghost use Rattle.log_store.specs.declared.errors.OpenError.{OpenError};
 ghost use Rattle.log_store.specs.declared.size.TheConstants.{MOST_LOG};
 ghost use Rattle.arn_commands.specs.Parts.{text_parts, whole_parts};
 ghost use Rattle.arn_session.specs.Answering.{standpoint_first, TookFewer, TookAtMost};
-ghost use Rattle.arn_session.specs.Carrying.{CarriesOut, StopsAt, HoldsLog, HoldsMore, IsAtRest, RestsMore};
+ghost use Rattle.session_effects.specs.Carrying.{CarriesOut, StopsAt, HoldsLog, HoldsMore, IsAtRest, RestsMore};
 ghost use Rattle.arn_session.specs.CutOff.{BeginsText, FindsOut};
 ghost use Rattle.arn_session.specs.Kept.{IsSound, standpoint_of};
 ghost use Rattle.arn_session.specs.Opening.{FailsToOpen, IsOpened, NeverBegan};
 ghost use Rattle.arn_session.specs.Ready.{BlamesRecords, IsNoRun};
-ghost use Rattle.arn_session.specs.Standing.{IsLineCause, IsOpen};
+ghost use Rattle.session_effects.specs.Standing.{IsOpen};
+ghost use Rattle.arn_session.specs.Standing.{IsLineCause};
 ghost use Rattle.arn_session.specs.Status.{open_status_of};
 ghost use Rattle.arn_session.specs.Transcript.{Answers, AnswersTaken};
 ghost use Rattle.arn_session.specs.Words.{AreAccepted};
+ghost use Rattle.solo_log.specs.Records.{IsRun};
 
 use crate::kept::Kept;
 use crate::lines::answer;
-use crate::status::{Damage, Halt, Status};
+use crate::runs::SoloRuns;
+use crate::status::{Damage, Status, read_halt};
 use crate::words::are_accepted;
 use arn_base::{Chooser, Device, Disk, Sink, Source, Steps};
 use arn_commands::{Commands, Next};
 use log_store::{Store, logs_read_one_way};
+use session_effects::{Halt, effects_follow, openings_follow};
 use std::alloc::Global;
 use std::sync::ledger::Ledger;
 
@@ -39,25 +43,25 @@ fn session<S: Source, K: Sink, D: Disk, L: Ledger>(
     disk: &mut D,
     steps: &mut Steps<L>,
 ) -> Result<(), Halt>
-    requires open { IsOpen D.image store disk.old }
+    requires open { IsOpen D.Disk store disk.old }
 
     ensures read { OnOk result
         (IfSome (S.left source.old) (λ text. S.left source.new ≡ Some [])) }
     ensures answered { OnOk result (IfSome (S.left source.old) (λ text.
         Answers store.entries (text_parts text)
-        (CarriesOut D.image D.may_leave D.moment D.left_since disk.old disk.new
+        (CarriesOut IsRun D.Disk disk.old disk.new
         store.entries (K.holds sink.old) (K.holds sink.new)) steps.old steps.new)) }
     ensures short { OnOk result
         (IfSome (S.left source.old) (λ text. length text < 2 ^ 40)) }
 
     ensures stops { IfErr result (λ halt. halt ≢ Halt.Source → halt ≢ Halt.Long →
         IfSome (S.left source.old) (λ text. BeginsText store.entries text (S.left source.new)
-        (StopsAt D.image D.may_leave D.moment D.left_since disk.old disk.new
+        (StopsAt IsRun D.Disk disk.old disk.new
         store.entries (K.holds sink.old) (K.holds sink.new) halt) steps.old steps.new)) }
     ensures blames { IfErr result (λ halt. BlamesRecords halt (standpoint_first store.entries)) }
     ensures finds { (d : Differs) → IsErrOf result (Halt.Differs d) →
         IfSome (S.left source.old) (λ text. FindsOut store.entries text (S.left source.new)
-        (CarriesOut D.image D.may_leave D.moment D.left_since disk.old disk.new
+        (CarriesOut IsRun D.Disk disk.old disk.new
         store.entries (K.holds sink.old) (K.holds sink.new)) steps.old steps.new) }
 
     ensures early { IsErrOf result Halt.Source →
@@ -66,18 +70,18 @@ fn session<S: Source, K: Sink, D: Disk, L: Ledger>(
         (2 ^ 40 ≤ length text) × (S.left source.new ≡ Some (drop (2 ^ 40) text))) }
     ensures taken { IsErrOf result Halt.Source ⊎ IsErrOf result Halt.Long →
         AnswersTaken store.entries (S.left source.old) (S.left source.new) whole_parts
-        (CarriesOut D.image D.may_leave D.moment D.left_since disk.old disk.new
+        (CarriesOut IsRun D.Disk disk.old disk.new
         store.entries (K.holds sink.old) (K.holds sink.new)) steps.old steps.new }
     ensures at_most { TookAtMost (2 ^ 40) (S.left source.old) (S.left source.new) }
 
-    ensures any_moment { IsAtRest D.image D.may_leave disk.old store.entries →
-        LeavesOnly D.moment D.left_since disk.old disk.new (HoldsMore store.entries) }
+    ensures any_moment { IsAtRest D.Disk disk.old store.entries →
+        LeavesOnly D.moment D.left_since disk.old disk.new (HoldsMore IsRun store.entries) }
 
-    ensures rests { OnOk result (IsAtRest D.image D.may_leave disk.old store.entries →
-        RestsMore D.image D.may_leave disk.new store.entries) }
+    ensures rests { OnOk result (IsAtRest D.Disk disk.old store.entries →
+        RestsMore D.Disk disk.new store.entries) }
     ensures still_rests { IfErr result (λ halt. halt ≢ Halt.Disk → halt ≢ Halt.NoMemory →
-        IsAtRest D.image D.may_leave disk.old store.entries →
-        RestsMore D.image D.may_leave disk.new store.entries) }
+        IsAtRest D.Disk disk.old store.entries →
+        RestsMore D.Disk disk.new store.entries) }
 
     ensures source { IsErrOf result Halt.Source →
         Rose (S.faults source.old) (S.faults source.new) }
@@ -85,6 +89,7 @@ fn session<S: Source, K: Sink, D: Disk, L: Ledger>(
     ensures disk { IsErrOf result Halt.Disk → Rose (D.faults disk.old) (D.faults disk.new) }
     ensures later { GoesOn D.image D.faults disk.old disk.new }
 {
+    effects_follow::<SoloRuns, D>();
     let mut commands = Commands::new(alloc)?;
     let mut kept = Kept {
         alloc,
@@ -93,7 +98,11 @@ fn session<S: Source, K: Sink, D: Disk, L: Ledger>(
     };
     let mut text = String::new(alloc);
     loop {
-        match commands.next(source)? {
+        let next = match commands.next(source) {
+            Ok(next) => next,
+            Err(error) => return Err(read_halt(error)),
+        };
+        match next {
             Next::More { command } => answer(&mut kept, command, disk, &mut text, sink, steps)?,
             Next::Last { command } => {
                 return answer(&mut kept, command, disk, &mut text, sink, steps);
@@ -127,9 +136,9 @@ pub fn arnold<S: Source, K: Sink, D: Disk, L: Ledger>(
     ensures read { result ≡ Status.Done →
         IfSome (S.left source.old) (λ text. S.left source.new ≡ Some []) }
     ensures answered { result ≡ Status.Done → (history : List Record) →
-        HoldsLog D.image disk.old history → IfSome (S.left source.old) (λ text.
+        HoldsLog D.Disk disk.old history → IfSome (S.left source.old) (λ text.
         Answers history (text_parts text)
-        (CarriesOut D.image D.may_leave D.moment D.left_since disk.old disk.new
+        (CarriesOut IsRun D.Disk disk.old disk.new
         history (K.holds sink.old) (K.holds sink.new)) steps.old steps.new) }
     ensures short { result ≡ Status.Done →
         IfSome (S.left source.old) (λ text. length text < 2 ^ 40) }
@@ -143,36 +152,36 @@ pub fn arnold<S: Source, K: Sink, D: Disk, L: Ledger>(
 
     // The sink failed before all that was to be printed had been put.
     ensures cut { result ≡ Status.Sink → (history : List Record) →
-        HoldsLog D.image disk.old history → IfSome (S.left source.old) (λ text.
+        HoldsLog D.Disk disk.old history → IfSome (S.left source.old) (λ text.
         BeginsText history text (S.left source.new)
-        (StopsAt D.image D.may_leave D.moment D.left_since disk.old disk.new
+        (StopsAt IsRun D.Disk disk.old disk.new
         history (K.holds sink.old) (K.holds sink.new) Halt.Sink) steps.old steps.new) }
 
     // The disk failed in the opening, or in a commit: what comes before that commit was printed.
     ensures stopped { result ≡ Status.Disk → (history : List Record) →
-        HoldsLog D.image disk.old history →
-        FailsToOpen D.image D.may_leave D.moment D.left_since disk.old disk.new history
+        HoldsLog D.Disk disk.old history →
+        FailsToOpen IsRun D.Disk disk.old disk.new history
         source.old source.new sink.old sink.new steps.old steps.new ⊎
         IfSome (S.left source.old) (λ text. BeginsText history text (S.left source.new)
-        (StopsAt D.image D.may_leave D.moment D.left_since disk.old disk.new
+        (StopsAt IsRun D.Disk disk.old disk.new
         history (K.holds sink.old) (K.holds sink.new) Halt.Disk) steps.old steps.new) }
 
     // A commit doesn't fit into the log: what comes before it was printed, and no more.
     ensures full { (log payload : ℕ) → result ≡ Status.Full log payload →
-        (history : List Record) → HoldsLog D.image disk.old history →
+        (history : List Record) → HoldsLog D.Disk disk.old history →
         IfSome (S.left source.old) (λ text. BeginsText history text (S.left source.new)
-        (StopsAt D.image D.may_leave D.moment D.left_since disk.old disk.new
+        (StopsAt IsRun D.Disk disk.old disk.new
         history (K.holds sink.old) (K.holds sink.new) (Halt.Full log payload))
         steps.old steps.new) }
 
     // Memory ran out, perhaps in the opening. The first lines and blocks were answered, and the answer
     // to one more may have begun.
     ensures begun { result ≡ Status.NoMemory → (history : List Record) →
-        HoldsLog D.image disk.old history →
-        FailsToOpen D.image D.may_leave D.moment D.left_since disk.old disk.new history
+        HoldsLog D.Disk disk.old history →
+        FailsToOpen IsRun D.Disk disk.old disk.new history
         source.old source.new sink.old sink.new steps.old steps.new ⊎
         IfSome (S.left source.old) (λ text. BeginsText history text (S.left source.new)
-        (StopsAt D.image D.may_leave D.moment D.left_since disk.old disk.new
+        (StopsAt IsRun D.Disk disk.old disk.new
         history (K.holds sink.old) (K.holds sink.new) Halt.NoMemory) steps.old steps.new) }
 
     // The bytes of the disk are no log, or too long.
@@ -189,10 +198,10 @@ pub fn arnold<S: Source, K: Sink, D: Disk, L: Ledger>(
 
     // The records of the log aren't those of a run, and a line needed the machine.
     ensures differs { (d : Differs) → result ≡ Status.Damaged (Damage.Differs d) →
-        (history : List Record) → HoldsLog D.image disk.old history →
+        (history : List Record) → HoldsLog D.Disk disk.old history →
         IsNoRun history d × IfSome (S.left source.old) (λ text.
         FindsOut history text (S.left source.new)
-        (CarriesOut D.image D.may_leave D.moment D.left_since disk.old disk.new
+        (CarriesOut IsRun D.Disk disk.old disk.new
         history (K.holds sink.old) (K.holds sink.new)) steps.old steps.new) }
 
     // As many bytes were taken as a session takes at most.
@@ -202,27 +211,29 @@ pub fn arnold<S: Source, K: Sink, D: Disk, L: Ledger>(
     // Every line that was taken with its LF was answered, and nothing else: no block whose `end`
     // wasn't taken so.
     ensures taken { (result ≡ Status.Source) ⊎ (result ≡ Status.Long) →
-        (history : List Record) → HoldsLog D.image disk.old history →
+        (history : List Record) → HoldsLog D.Disk disk.old history →
         AnswersTaken history (S.left source.old) (S.left source.new) whole_parts
-        (CarriesOut D.image D.may_leave D.moment D.left_since disk.old disk.new
+        (CarriesOut IsRun D.Disk disk.old disk.new
         history (K.holds sink.old) (K.holds sink.new)) steps.old steps.new }
 
     // However the call ends, a stop at any moment since it began leaves a log of the history and
     // of more records behind it: of a run, if it was one. Which records these are, the clauses
     // above say.
     ensures any_moment { (history : List Record) →
-        IsAtRest D.image D.may_leave disk.old history →
-        LeavesOnly D.moment D.left_since disk.old disk.new (HoldsMore history) }
+        IsAtRest D.Disk disk.old history →
+        LeavesOnly D.moment D.left_since disk.old disk.new (HoldsMore IsRun history) }
 
     // But where the disk failed or memory ran out, nothing is pending then, as at the start.
     ensures rests { result ≢ Status.Disk → result ≢ Status.NoMemory → (history : List Record) →
-        IsAtRest D.image D.may_leave disk.old history →
-        RestsMore D.image D.may_leave disk.new history }
+        IsAtRest D.Disk disk.old history →
+        RestsMore D.Disk disk.new history }
 
     ensures at_most { TookAtMost (2 ^ 40) (S.left source.old) (S.left source.new) }
     ensures chooser { chooser.new ≡ chooser.old }
     ensures devices { devices.new ≡ devices.old }
 {
+    effects_follow::<SoloRuns, D>();
+    openings_follow::<SoloRuns, D>();
     if !are_accepted(words) {
         return Status::Usage;
     }

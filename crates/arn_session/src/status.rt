@@ -1,12 +1,11 @@
 // How a session ends.
 ghost use Rattle.std.specs.Prelude.{◌≡◌};
-ghost use Rattle.arn_session.specs.Status.{code_of, status_of};
+ghost use Rattle.arn_session.specs.Status.{code_of, status_of, read_halt_of, rebuild_halt_of};
 
-use arn_base::{NoMemory, Stop};
 use arn_commands::ReadError;
 use guest_machine::{Differs, RebuildError};
-use log_store::{CommitError, OpenError};
-use std::alloc::{AllocError, AllocFailed};
+use log_store::OpenError;
+use session_effects::Halt;
 use std::fmt;
 
 /// How a session ends.
@@ -98,96 +97,24 @@ impl fmt::Display for Damage {
     }
 }
 
-/// Why a session ends before its text does.
-#[derive(Clone, Copy, Debug, PartialEq, Eq)]
-pub enum Halt {
-    NoMemory,
-    Source,
-    Sink,
-    Long,
-    Disk,
-    Full { log: u64, payload: u64 },
-    Differs(Differs),
-}
-
-impl From<NoMemory> for Halt {
-    ghost use Rattle.std.specs.Prelude.{◌≡◌};
-    ghost use Rattle.arn_session.specs.declared.status.Halt.TheVariants as halt;
-
-    ghost from_gives = { λ _ e. e ≡ halt.NoMemory };
-
-    fn from(_: NoMemory) -> Halt {
-        Halt::NoMemory
+/// What ends a session whose next command isn't read.
+pub fn read_halt(error: ReadError) -> Halt
+    ensures { result ≡ read_halt_of error }
+{
+    match error {
+        ReadError::Source => Halt::Source,
+        ReadError::Long => Halt::Long,
+        ReadError::NoMemory => Halt::NoMemory,
     }
 }
 
-impl From<AllocError> for Halt {
-    ghost use Rattle.std.specs.Prelude.{◌≡◌};
-    ghost use Rattle.arn_session.specs.declared.status.Halt.TheVariants as halt;
-
-    ghost from_gives = { λ _ e. e ≡ halt.NoMemory };
-
-    fn from(_: AllocError) -> Halt {
-        Halt::NoMemory
-    }
-}
-
-impl From<Stop> for Halt {
-    ghost use Rattle.arn_session.specs.Status.{halt_of};
-    ghost use Rattle.std.specs.Prelude.{◌≡◌};
-
-    ghost from_gives = { λ stop halt. halt ≡ halt_of stop };
-
-    /// What stops a sink ends a session.
-    fn from(stop: Stop) -> Halt {
-        match stop {
-            Stop::Failed => Halt::Sink,
-            Stop::NoMemory => Halt::NoMemory,
-        }
-    }
-}
-
-impl From<ReadError> for Halt {
-    ghost use Rattle.arn_session.specs.Status.{read_halt_of};
-    ghost use Rattle.std.specs.Prelude.{◌≡◌};
-
-    ghost from_gives = { λ error halt. halt ≡ read_halt_of error };
-
-    fn from(error: ReadError) -> Halt {
-        match error {
-            ReadError::Source => Halt::Source,
-            ReadError::Long => Halt::Long,
-            ReadError::NoMemory => Halt::NoMemory,
-        }
-    }
-}
-
-impl From<CommitError> for Halt {
-    ghost use Rattle.arn_session.specs.Status.{commit_halt_of};
-    ghost use Rattle.std.specs.Prelude.{◌≡◌};
-
-    ghost from_gives = { λ error halt. halt ≡ commit_halt_of error };
-
-    fn from(error: CommitError) -> Halt {
-        match error {
-            CommitError::Disk => Halt::Disk,
-            CommitError::Full { log, payload } => Halt::Full { log, payload },
-            CommitError::NoMemory => Halt::NoMemory,
-        }
-    }
-}
-
-impl From<RebuildError> for Halt {
-    ghost use Rattle.arn_session.specs.Status.{rebuild_halt_of};
-    ghost use Rattle.std.specs.Prelude.{◌≡◌};
-
-    ghost from_gives = { λ error halt. halt ≡ rebuild_halt_of error };
-
-    fn from(error: RebuildError) -> Halt {
-        match error {
-            RebuildError::Differs(differs) => Halt::Differs(differs),
-            RebuildError::NoMemory => Halt::NoMemory,
-        }
+/// What ends a session whose machine can't be made again.
+pub fn rebuild_halt(error: RebuildError) -> Halt
+    ensures { result ≡ rebuild_halt_of error }
+{
+    match error {
+        RebuildError::Differs(differs) => Halt::Differs(differs),
+        RebuildError::NoMemory => Halt::NoMemory,
     }
 }
 

@@ -1,13 +1,17 @@
 // Devices.
-ghost use Rattle.std.specs.Prelude.{◌≡◌, ◌+◌, ◌≤◌, [], ℕ, Some, slice_get, IfOk, vec_len, vec_capacity, length};
+ghost use Rattle.std.specs.Prelude.{◌≡◌, ◌+◌, ◌≤◌, [], ℕ, Some, false, slice_get, IfOk, vec_len, vec_capacity, length};
 ghost use Rattle.arn_base.specs.Device.{Endless, Gives, Upto, countable, cut_to, recorded};
 ghost use Rattle.guest_devices.specs.Scripts.{told_by};
+ghost use Rattle.rand_core.specs.Steps.{fill_via_u32};
+ghost use Rattle.rand_pcg.specs.Lcg.{started, increment_of};
+ghost use Rattle.rand_pcg.specs.Pcg.{multiplier_64, pcg32};
 
 use crate::copies::copy_front;
 use arn_base::{Bytes, Device, NoMemory, Reply, Took};
 use rand_core::utils::fill_bytes_via_u32;
 use rand_pcg::Lcg64Xsh32;
 use std::alloc::Global;
+use std::marker::Model;
 
 /// A reply of a script.
 #[derive(Drop)]
@@ -38,6 +42,8 @@ impl ScriptDevice {
         ensures room { IfOk result (λ device.
             ⟦<ScriptDevice as Device>⟧.room device ≡ Some (Upto room)) }
         ensures took { IfOk result (λ device. ⟦<ScriptDevice as Device>⟧.took device ≡ Some []) }
+        ensures put_faults { IfOk result (λ device. (k : ℕ) →
+            ⟦<ScriptDevice as Device>⟧.put_faults device k ≡ Some false) }
     {
         let taken = Vec::with_capacity(alloc, room as usize)?;
         Ok(ScriptDevice {
@@ -50,7 +56,7 @@ impl ScriptDevice {
 }
 
 impl Device for ScriptDevice {
-    ghost use Rattle.std.specs.Prelude.{◌+◌, Some, slice_get};
+    ghost use Rattle.std.specs.Prelude.{◌+◌, Some, slice_get, false};
     ghost use Rattle.arn_base.specs.Device.{Upto};
     ghost use Rattle.guest_devices.specs.Scripts.{told_by};
 
@@ -59,6 +65,8 @@ impl Device for ScriptDevice {
     ghost room = { λ d. Some (Upto d.room) };
 
     ghost took = { λ d. Some d.taken.items };
+
+    ghost put_faults = { λ _ _. Some false };
 
     fn ask(&mut self, buf: &mut [u8]) -> Reply {
         match self.replies.get(self.next) {
@@ -96,13 +104,14 @@ impl SilentDevice {
     pub fn new() -> SilentDevice
         ensures replies { (k : ℕ) → ⟦<SilentDevice as Device>⟧.replies result k ≡ Some (Gives []) }
         ensures room { ⟦<SilentDevice as Device>⟧.room result ≡ Some Endless }
+        ensures put_faults { (k : ℕ) → ⟦<SilentDevice as Device>⟧.put_faults result k ≡ Some false }
     {
         SilentDevice
     }
 }
 
 impl Device for SilentDevice {
-    ghost use Rattle.std.specs.Prelude.{[], None, Some};
+    ghost use Rattle.std.specs.Prelude.{[], None, Some, false};
     ghost use Rattle.arn_base.specs.Device.{Endless, Gives};
 
     ghost replies = { λ _ _. Some (Gives []) };
@@ -110,6 +119,8 @@ impl Device for SilentDevice {
     ghost room = { λ _. Some Endless };
 
     ghost took = { λ _. None };
+
+    ghost put_faults = { λ _ _. Some false };
 
     fn ask(&mut self, _buf: &mut [u8]) -> Reply {
         Reply::Gave(0)
@@ -128,9 +139,19 @@ pub struct EntropyDevice {
     words: Lcg64Xsh32,
 }
 
+impl Model for EntropyDevice {
+    ghost use Rattle.rand_pcg.specs.Lcg.{Lcg};
+
+    ghost Value = { Lcg };
+
+    ghost view = { λ d. d.words };
+}
+
 impl EntropyDevice {
     pub fn new(seed: u64) -> EntropyDevice
-        ensures { ⟦<EntropyDevice as Device>⟧.room result ≡ Some Endless }
+        ensures words { result ≡ started 64 multiplier_64 seed (increment_of 64 2) }
+        ensures room { ⟦<EntropyDevice as Device>⟧.room result ≡ Some Endless }
+        ensures put_faults { (k : ℕ) → ⟦<EntropyDevice as Device>⟧.put_faults result k ≡ Some false }
     {
         EntropyDevice {
             words: Lcg64Xsh32::new(seed, 2),
@@ -139,7 +160,7 @@ impl EntropyDevice {
 }
 
 impl Device for EntropyDevice {
-    ghost use Rattle.std.specs.Prelude.{None, Some};
+    ghost use Rattle.std.specs.Prelude.{None, Some, false};
     ghost use Rattle.arn_base.specs.Device.{Endless};
 
     ghost replies = { λ _ _. None };
@@ -148,12 +169,20 @@ impl Device for EntropyDevice {
 
     ghost took = { λ _. None };
 
-    fn ask(&mut self, buf: &mut [u8]) -> Reply {
+    ghost put_faults = { λ _ _. Some false };
+
+    fn ask(&mut self, buf: &mut [u8]) -> Reply
+        ensures filled { (buf.new, self.new) ≡ fill_via_u32 pcg32 (length buf.old) self.old }
+        ensures gave { result ≡ Reply.Gave (countable (length buf.old)) }
+    {
         fill_bytes_via_u32(&mut self.words, buf);
         Reply::Gave(all_of(buf))
     }
 
-    fn put(&mut self, bytes: &[u8]) -> Took {
+    fn put(&mut self, bytes: &[u8]) -> Took
+        ensures all { result ≡ Took.Count (countable (length bytes.now)) }
+        ensures same { self.new ≡ self.old }
+    {
         Took::Count(all_of(bytes))
     }
 }

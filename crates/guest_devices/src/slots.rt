@@ -15,6 +15,7 @@ fn ask_device<D: Device>(device: &mut D, buf: &mut [u8]) -> Answer
     ensures later { (k : ℕ) → D.replies device.new k ≡ D.replies device.old (k + 1) }
     ensures room { D.room device.new ≡ D.room device.old }
     ensures took { D.took device.new ≡ D.took device.old }
+    ensures put_faults { (k : ℕ) → D.put_faults device.new k ≡ D.put_faults device.old k }
     ensures present { result ≢ Answer.Absent }
     ensures within { IsWithin result (length buf.old) }
 {
@@ -34,6 +35,9 @@ fn put_device<D: Device>(device: &mut D, bytes: &[u8]) -> Answer
     ensures took { D.took device.new ≡
         option_map (λ had. had ++ taken_by (write_answer result) bytes.now) (D.took device.old) }
     ensures replies { (k : ℕ) → D.replies device.new k ≡ D.replies device.old k }
+    ensures fault { IfSome (D.put_faults device.old 0) (λ told.
+        IsTrue told ↔ (result ≡ Answer.Fault)) }
+    ensures later { (k : ℕ) → D.put_faults device.new k ≡ D.put_faults device.old (k + 1) }
     ensures present { result ≢ Answer.Absent }
     ensures within { IsWithin result (length bytes.now) }
 {
@@ -60,7 +64,7 @@ pub type Live<'a> = Slots<'a, Box<dyn Device>>;
 
 // Asks the device in slot `n` once, if there is one.
 fn ask_in<D: Device>(devices: &mut Vec<Option<D>>, n: usize, buf: &mut [u8]) -> Answer
-    ensures asked { ReadsSlot D.replies D.room D.took n (length buf.old)
+    ensures asked { ReadsSlot D.replies D.room D.took D.put_faults n (length buf.old)
         (read_answer result buf.new) devices.old.items devices.new.items }
     ensures within { IsWithin result (length buf.old) }
 {
@@ -75,7 +79,7 @@ fn ask_in<D: Device>(devices: &mut Vec<Option<D>>, n: usize, buf: &mut [u8]) -> 
 
 // Hands bytes to the device in slot `n` once, if there is one.
 fn put_in<D: Device>(devices: &mut Vec<Option<D>>, n: usize, bytes: &[u8]) -> Answer
-    ensures handed { WritesSlot D.replies D.room D.took n bytes.now
+    ensures handed { WritesSlot D.replies D.room D.took D.put_faults n bytes.now
         (write_answer result) devices.old.items devices.new.items }
     ensures within { IsWithin result (length bytes.now) }
 {
@@ -93,7 +97,7 @@ impl<D: Device> Answers for Slots<'_, D> {
     ghost use Rattle.guest_devices.specs.Slots.{SlotAnswers};
 
     ghost answers = { λ slots asked answer after.
-        SlotAnswers D.replies D.room D.took asked answer slots.devices.now.items after.devices.now.items
+        SlotAnswers D.replies D.room D.took D.put_faults asked answer slots.devices.now.items after.devices.now.items
         × (after.devices.ghost_name ≡ slots.devices.ghost_name) };
 
     fn here(&mut self, n: u64) -> bool {

@@ -13,20 +13,20 @@ use Rattle.arn_session.proofs.lines.answer_line.Goals as goal
 pub returns-in-Some-clause-carries : goal.returns-in-Some-clause-carries
 returns-in-Some-clause-carries g c =
     let why : refusal_of c.args.kept.now.store.entries c.args.line ≡ Some c.in-Some.why = sym (rw c.entries.ensures at c.refusal_of.ensures) ∙ c.in-Some.is in
-    Carries-only g.D.Disk.image g.D.Disk.may_leave g.D.Disk.moment g.D.Disk.left_since g.met.D.Disk.only_now c.print_refusal.result c.args.disk.now c.args.kept.now.store (g.K.Sink.holds c.args.sink.now) (g.K.Sink.holds c.print_refusal.new.sink) (refusal_text c.in-Some.why) _
+    Carries-only g.D.Disk c.effects_follow.ensures.follow c.print_refusal.result c.args.disk.now c.args.kept.now.store (g.K.Sink.holds c.args.sink.now) (g.K.Sink.holds c.print_refusal.new.sink) (refusal_text c.in-Some.why) _
     (refused-line c.args.kept.now.store.entries c.args.line c.in-Some.why why).1 c.requires.«open» c.print_refusal.ensures.ok
 
 pub returns-in-Some-clause-stops : goal.returns-in-Some-clause-stops
 returns-in-Some-clause-stops g c =
     let why : refusal_of c.args.kept.now.store.entries c.args.line ≡ Some c.in-Some.why = sym (rw c.entries.ensures at c.refusal_of.ensures) ∙ c.in-Some.is in
-    StopsAt-only g.D.Disk.image g.D.Disk.may_leave g.D.Disk.moment g.D.Disk.left_since g.met.D.Disk.only_now c.print_refusal.result c.args.disk.now c.args.kept.now.store (g.K.Sink.holds c.args.sink.now) (g.K.Sink.holds c.print_refusal.new.sink) (refusal_text c.in-Some.why) _
+    StopsAt-only g.D.Disk c.effects_follow.ensures.follow c.print_refusal.result c.args.disk.now c.args.kept.now.store (g.K.Sink.holds c.args.sink.now) (g.K.Sink.holds c.print_refusal.new.sink) (refusal_text c.in-Some.why) _
     (refused-line c.args.kept.now.store.entries c.args.line c.in-Some.why why).1 c.requires.«open» c.print_refusal.ensures.stops
 
 pub returns-in_err-machine-clause-stops : goal.returns-in_err-machine-clause-stops
 returns-in_err-machine-clause-stops g c =
     let p = err_from_is_err_and c.from_residual.result c.from_residual.ensures.1 in
     let is : c.from_residual.result ≡ Err c.in_err-machine.field-0.0 = cc (p.1, p.2) in
-    IfErr-is c.from_residual.result _ c.in_err-machine.field-0.0 is (StopsAt-not_made g.D.Disk.image g.D.Disk.may_leave g.D.Disk.moment g.D.Disk.left_since g.met.D.Disk.only_now c.args.disk.now c.args.kept.now.store (g.K.Sink.holds c.args.sink.now) (effects c.args.kept.now.store.entries (Says c.args.line)) c.in_err-machine.field-0.0 c.in_err-machine.ensures.not_made)
+    IfErr-is c.from_residual.result _ c.in_err-machine.field-0.0 is (StopsAt-not_made g.D.Disk c.effects_follow.ensures.follow c.args.disk.now c.args.kept.now.store (g.K.Sink.holds c.args.sink.now) (effects c.args.kept.now.store.entries (Says c.args.line)) c.in_err-machine.field-0.0 c.in_err-machine.ensures.not_made)
 
 pub returns-in_err-carry_out-clause-blames : goal.returns-in_err-carry_out-clause-blames
 returns-in_err-carry_out-clause-blames g c =
@@ -43,7 +43,7 @@ pub returns-in_err-machine-clause-on_run : goal.returns-in_err-machine-clause-on
 returns-in_err-machine-clause-on_run g c =
     let p = err_from_is_err_and c.from_residual.result c.from_residual.ensures.1 in
     let is : c.from_residual.result ≡ Err c.in_err-machine.field-0.0 = cc (p.1, p.2) in
-    IfErr-is c.from_residual.result _ c.in_err-machine.field-0.0 is (λ needed. inr (StopsAt-not_made g.D.Disk.image g.D.Disk.may_leave g.D.Disk.moment g.D.Disk.left_since g.met.D.Disk.only_now c.args.disk.now c.args.kept.now.store (g.K.Sink.holds c.args.sink.now) [] c.in_err-machine.field-0.0 c.in_err-machine.ensures.not_made))
+    IfErr-is c.from_residual.result _ c.in_err-machine.field-0.0 is (λ needed. inr (StopsAt-not_made g.D.Disk c.effects_follow.ensures.follow c.args.disk.now c.args.kept.now.store (g.K.Sink.holds c.args.sink.now) [] c.in_err-machine.field-0.0 c.in_err-machine.ensures.not_made))
 
 pub returns-in_err-carry_out-clause-on_run : goal.returns-in_err-carry_out-clause-on_run
 returns-in_err-carry_out-clause-on_run g c =

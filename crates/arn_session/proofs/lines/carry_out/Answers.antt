@@ -18,10 +18,10 @@ copy-Back l linkage event from len is fits =
 
 pub returns-in-Back-clause-carries : goal.returns-in-Back-clause-carries
 returns-in-Back-clause-carries g c =
-    Carries-only g.D.Disk.image g.D.Disk.may_leave g.D.Disk.moment g.D.Disk.left_since g.met.D.Disk.only_now c.back.result c.args.disk.now c.args.store.now (g.K.Sink.holds c.args.sink.now) (g.K.Sink.holds c.back.new.sink) (query_text (named c.args.store.now.entries) Copy c.in-Back.event c.in-Back.from c.in-Back.len) _
+    Carries-only g.D.Disk c.effects_follow.ensures.follow c.back.result c.args.disk.now c.args.store.now (g.K.Sink.holds c.args.sink.now) (g.K.Sink.holds c.back.new.sink) (query_text (named c.args.store.now.entries) Copy c.in-Back.event c.in-Back.from c.in-Back.len) _
     (ap (λ (l : Line). line_effects c.args.store.now.entries l) (copy-Back c.args.line _ c.in-Back.event c.in-Back.from c.in-Back.len c.in-Back.is c.requires.fits)) c.requires.«open» (rw c.entries-entries.ensures at c.back.ensures.ok)
 
 pub returns-in-Back-clause-stops : goal.returns-in-Back-clause-stops
 returns-in-Back-clause-stops g c =
-    StopsAt-only g.D.Disk.image g.D.Disk.may_leave g.D.Disk.moment g.D.Disk.left_since g.met.D.Disk.only_now c.back.result c.args.disk.now c.args.store.now (g.K.Sink.holds c.args.sink.now) (g.K.Sink.holds c.back.new.sink) (query_text (named c.args.store.now.entries) Copy c.in-Back.event c.in-Back.from c.in-Back.len) _
+    StopsAt-only g.D.Disk c.effects_follow.ensures.follow c.back.result c.args.disk.now c.args.store.now (g.K.Sink.holds c.args.sink.now) (g.K.Sink.holds c.back.new.sink) (query_text (named c.args.store.now.entries) Copy c.in-Back.event c.in-Back.from c.in-Back.len) _
     (ap (λ (l : Line). line_effects c.args.store.now.entries l) (copy-Back c.args.line _ c.in-Back.event c.in-Back.from c.in-Back.len c.in-Back.is c.requires.fits)) c.requires.«open» (rw c.entries-entries.ensures at c.back.ensures.stops)

@@ -11,9 +11,9 @@ pub returns-in_err-leg-clause-stops : goal.returns-in_err-leg-clause-stops
 returns-in_err-leg-clause-stops g c =
     let n = c.run_leg.new in
     let holds = g.K.Sink.holds c.args.sink.now in
-    let none = Carries-none g.D.Disk.image g.D.Disk.may_leave g.D.Disk.moment g.D.Disk.left_since g.met.D.Disk.only_now c.args.disk.now c.args.store.now holds c.requires.open in
+    let none = Carries-none g.D.Disk c.effects_follow.ensures.follow c.args.disk.now c.args.store.now holds c.requires.open in
     err-same c.from_residual.result c.in_err-leg.field-0.0 _ c.from_residual.ensures.1
-    (StopsAt-next g.D.Disk.image g.D.Disk.may_leave g.D.Disk.moment g.D.Disk.left_since (machine_of c.args.store.now.entries) c.args.count c.args.steps.now c.args.disk.now c.args.disk.now n.disk c.args.store.now c.args.store.now holds holds (g.K.Sink.holds n.sink) c.args.machine.now.machine c.args.count c.args.steps.now c.in_err-leg.field-0.0 (SoFar-start _ _ _ _ _ c.requires.ready.is_after.leads none) c.in_err-leg.ensures.stops)
+    (StopsAt-next g.D.Disk c.effects_follow.ensures.follow (machine_of c.args.store.now.entries) c.args.count c.args.steps.now c.args.disk.now c.args.disk.now n.disk c.args.store.now c.args.store.now holds holds (g.K.Sink.holds n.sink) c.args.machine.now.machine c.args.count c.args.steps.now c.in_err-leg.field-0.0 (SoFar-start _ _ _ _ _ c.requires.ready.is_after.leads none) c.in_err-leg.ensures.stops)
 
 pub returns-in_err-leg-clause-steps : goal.returns-in_err-leg-clause-steps
 returns-in_err-leg-clause-steps g c =
@@ -24,11 +24,11 @@ loop-alloc-init g c =
     let n = c.run_leg.new in
     let e = c.in_ok-leg.ensures in
     let holds = g.K.Sink.holds c.args.sink.now in
-    let none = Carries-none g.D.Disk.image g.D.Disk.may_leave g.D.Disk.moment g.D.Disk.left_since g.met.D.Disk.only_now c.args.disk.now c.args.store.now holds c.requires.open in
+    let none = Carries-none g.D.Disk c.effects_follow.ensures.follow c.args.disk.now c.args.store.now holds c.requires.open in
     record {
       ready = e.ready;
       so_far =
-          Carries-next g.D.Disk.image g.D.Disk.may_leave g.D.Disk.moment g.D.Disk.left_since (machine_of c.args.store.now.entries) c.args.count c.args.steps.now c.args.disk.now c.args.disk.now n.disk c.args.store.now c.args.store.now n.store holds holds (g.K.Sink.holds n.sink) c.args.machine.now.machine n.machine.machine c.args.count (c.args.count - c.in_ok-leg.leg.ran) c.args.steps.now n.steps c.in_ok-leg.leg
+          Carries-next g.D.Disk c.effects_follow.ensures.follow (machine_of c.args.store.now.entries) c.args.count c.args.steps.now c.args.disk.now c.args.disk.now n.disk c.args.store.now c.args.store.now n.store holds holds (g.K.Sink.holds n.sink) c.args.machine.now.machine n.machine.machine c.args.count (c.args.count - c.in_ok-leg.leg.ran) c.args.steps.now n.steps c.in_ok-leg.leg
           (SoFar-start _ _ _ _ _ c.requires.ready.is_after.leads none) e.leg refl c.run_leg.ensures.steps e.carries;
       later = c.run_leg.ensures.later;
       faults = c.run_leg.ensures.faults;
@@ -40,7 +40,7 @@ returns-in_err-leg-2-clause-stops g c =
     let n = c.run_leg-in-loop-alloc.new in
     let so_far = SoFar-more _ _ _ _ _ _ l.leg.end _ (is_more-true l.leg.end c.loop-alloc-test.ensures) l.invariant.so_far in
     err-same c.from_residual-in_err-leg-2.result c.in_err-leg-2.field-0.0 _ c.from_residual-in_err-leg-2.ensures.1
-    (StopsAt-next g.D.Disk.image g.D.Disk.may_leave g.D.Disk.moment g.D.Disk.left_since (machine_of c.args.store.now.entries) c.args.count c.args.steps.now c.args.disk.now l.disk n.disk c.args.store.now l.store (g.K.Sink.holds c.args.sink.now) (g.K.Sink.holds l.sink) (g.K.Sink.holds n.sink) l.machine.machine l.left l.steps c.in_err-leg-2.field-0.0 so_far c.in_err-leg-2.ensures.stops)
+    (StopsAt-next g.D.Disk c.effects_follow.ensures.follow (machine_of c.args.store.now.entries) c.args.count c.args.steps.now c.args.disk.now l.disk n.disk c.args.store.now l.store (g.K.Sink.holds c.args.sink.now) (g.K.Sink.holds l.sink) (g.K.Sink.holds n.sink) l.machine.machine l.left l.steps c.in_err-leg-2.field-0.0 so_far c.in_err-leg-2.ensures.stops)
 
 pub returns-in_err-leg-2-clause-steps : goal.returns-in_err-leg-2-clause-steps
 returns-in_err-leg-2-clause-steps g c =
@@ -55,7 +55,7 @@ loop-alloc-preserved g c =
     record {
       ready = e.ready;
       so_far =
-          Carries-next g.D.Disk.image g.D.Disk.may_leave g.D.Disk.moment g.D.Disk.left_since (machine_of c.args.store.now.entries) c.args.count c.args.steps.now c.args.disk.now l.disk n.disk c.args.store.now l.store n.store (g.K.Sink.holds c.args.sink.now) (g.K.Sink.holds l.sink) (g.K.Sink.holds n.sink) l.machine.machine n.machine.machine l.left (l.left - c.in_ok-leg-2.leg.ran) l.steps n.steps c.in_ok-leg-2.leg
+          Carries-next g.D.Disk c.effects_follow.ensures.follow (machine_of c.args.store.now.entries) c.args.count c.args.steps.now c.args.disk.now l.disk n.disk c.args.store.now l.store n.store (g.K.Sink.holds c.args.sink.now) (g.K.Sink.holds l.sink) (g.K.Sink.holds n.sink) l.machine.machine n.machine.machine l.left (l.left - c.in_ok-leg-2.leg.ran) l.steps n.steps c.in_ok-leg-2.leg
           (SoFar-more _ _ _ _ _ _ l.leg.end _ (is_more-true l.leg.end c.loop-alloc-test.ensures) l.invariant.so_far) e.leg refl c.run_leg-in-loop-alloc.ensures.steps e.carries;
       later = GoesOn-append g.D.Disk.image g.D.Disk.faults c.args.disk.now l.disk n.disk l.invariant.later c.run_leg-in-loop-alloc.ensures.later;
       faults = NeverFalls-append _ _ _ l.invariant.faults c.run_leg-in-loop-alloc.ensures.faults;
@@ -65,14 +65,14 @@ pub returns-clause-carries : goal.returns-clause-carries
 returns-clause-carries g c =
     let l = c.loop-alloc in
     on_ok_weaker c.print_ran.result
-    (Carries-line g.D.Disk.image g.D.Disk.may_leave g.D.Disk.moment g.D.Disk.left_since g.met.D.Disk.only_now (machine_of c.args.store.now.entries) c.args.count c.args.steps.now c.args.disk.now l.disk c.args.store.now l.store (g.K.Sink.holds c.args.sink.now) (g.K.Sink.holds l.sink) (g.K.Sink.holds c.print_ran.new.sink) l.machine.machine l.left l.leg.end l.steps (c.args.count - l.left) c.end_of.result l.invariant.so_far (is_more-false l.leg.end c.loop-alloc-test.ensures) refl (c.end_of.ensures ∙ ap end_of c.standing.ensures.standing))
+    (Carries-line g.D.Disk c.effects_follow.ensures.follow (machine_of c.args.store.now.entries) c.args.count c.args.steps.now c.args.disk.now l.disk c.args.store.now l.store (g.K.Sink.holds c.args.sink.now) (g.K.Sink.holds l.sink) (g.K.Sink.holds c.print_ran.new.sink) l.machine.machine l.left l.leg.end l.steps (c.args.count - l.left) c.end_of.result l.invariant.so_far (is_more-false l.leg.end c.loop-alloc-test.ensures) refl (c.end_of.ensures ∙ ap end_of c.standing.ensures.standing))
     c.print_ran.ensures.ok
 
 pub returns-clause-stops : goal.returns-clause-stops
 returns-clause-stops g c =
     let l = c.loop-alloc in
     IfErr-weaker c.print_ran.result _ _
-    (λ why. StopsAt-line g.D.Disk.image g.D.Disk.may_leave g.D.Disk.moment g.D.Disk.left_since g.met.D.Disk.only_now (machine_of c.args.store.now.entries) c.args.count c.args.steps.now c.args.disk.now l.disk c.args.store.now l.store (g.K.Sink.holds c.args.sink.now) (g.K.Sink.holds l.sink) (g.K.Sink.holds c.print_ran.new.sink) l.machine.machine l.left l.leg.end l.steps (c.args.count - l.left) c.end_of.result why l.invariant.so_far (is_more-false l.leg.end c.loop-alloc-test.ensures) refl (c.end_of.ensures ∙ ap end_of c.standing.ensures.standing)) c.print_ran.ensures.stops
+    (λ why. StopsAt-line g.D.Disk c.effects_follow.ensures.follow (machine_of c.args.store.now.entries) c.args.count c.args.steps.now c.args.disk.now l.disk c.args.store.now l.store (g.K.Sink.holds c.args.sink.now) (g.K.Sink.holds l.sink) (g.K.Sink.holds c.print_ran.new.sink) l.machine.machine l.left l.leg.end l.steps (c.args.count - l.left) c.end_of.result why l.invariant.so_far (is_more-false l.leg.end c.loop-alloc-test.ensures) refl (c.end_of.ensures ∙ ap end_of c.standing.ensures.standing)) c.print_ran.ensures.stops
 
 pub returns-clause-cause : goal.returns-clause-cause
 returns-clause-cause g c =

@@ -3,9 +3,10 @@ use Rattle.arn_base.specs.Faults.{NeverFalls}
 use Rattle.log_store.specs.Stops.{GoesOn}
 use Rattle.arn_session.specs.Answers.{machine_of}
 use Rattle.arn_session.specs.Kept.{IsReady}
-use Rattle.arn_session.specs.Standing.{Carries}
+use Rattle.session_effects.specs.Standing.{Carries}
 use Rattle.arn_session.proofs.RunLemmas.{SoFar, turns}
 use Rattle.arn_session.proofs.running.run.Given as goal
+use Rattle.solo_log.specs.Records.{IsRun}
 
 abbrev pub invariant-loop-alloc : goal.invariant-loop-alloc
 invariant-loop-alloc g l =
@@ -13,7 +14,7 @@ invariant-loop-alloc g l =
       ready : IsReady l.machine l.store.entries;
       so_far :
           SoFar (machine_of l.fn.store.entries) l.count l.fn.steps
-          (Carries g.D.Disk.image g.D.Disk.may_leave g.D.Disk.moment g.D.Disk.left_since l.fn.disk l.disk l.fn.store l.store (g.K.Sink.holds l.fn.sink) (g.K.Sink.holds l.sink))
+          (Carries IsRun g.D.Disk l.fn.disk l.disk l.fn.store l.store (g.K.Sink.holds l.fn.sink) (g.K.Sink.holds l.sink))
           l.machine.machine l.left l.leg.end l.steps;
       later : GoesOn g.D.Disk.image g.D.Disk.faults l.fn.disk l.disk;
       faults : NeverFalls (g.K.Sink.faults l.fn.sink) (g.K.Sink.faults l.sink);

@@ -3,8 +3,7 @@ use Rattle.arn_base.specs.declared.records.Record.{Record}
 use Rattle.solo_log.specs.Records.{IsRun}
 use Rattle.guest_machine.specs.Legs.{leg_of}
 use Rattle.arn_session.specs.Kept.{IsReady}
-use Rattle.arn_session.specs.declared.status.Halt.TheVariants as halt
-use Rattle.arn_session.proofs.StepLemmas.{StopsAt-nothing}
+use Rattle.session_effects.specs.declared.halt.Halt.TheVariants as halt
 use Rattle.arn_session.proofs.ReadyLemmas.{ready-more, room-for}
 use Rattle.arn_session.proofs.LegLemmas.{err-same, committed-of, leg-entries, leg-text, StopsAt-leg_commit, StopsAt-leg_text, Carries-leg}
 use Rattle.arn_session.proofs.running.run_leg.Goals as goal
@@ -17,7 +16,7 @@ run_leg-requires g c = record {
 pub returns-in_err-leg-clause-stops : goal.returns-in_err-leg-clause-stops
 returns-in_err-leg-clause-stops g c =
     err-same c.from_residual.result halt.NoMemory _ c.from_residual.ensures.1
-    (StopsAt-nothing g.D.Disk.image g.D.Disk.may_leave g.D.Disk.moment g.D.Disk.left_since g.met.D.Disk.only_now c.args.disk.now c.args.store.now.entries (g.K.Sink.holds c.args.sink.now) halt.NoMemory _ (inl refl, inl refl))
+    (c.effects_follow.ensures.follow.stops c.args.disk.now c.args.store.now.entries (g.K.Sink.holds c.args.sink.now) halt.NoMemory _ (inl refl, inl refl))
 
 pub push_outputs-requires : goal.push_outputs-requires
 push_outputs-requires g c =
@@ -27,7 +26,7 @@ push_outputs-requires g c =
 pub returns-in_err-push_outputs-clause-stops : goal.returns-in_err-push_outputs-clause-stops
 returns-in_err-push_outputs-clause-stops g c =
     err-same c.from_residual-in_err-push_outputs.result halt.NoMemory _ c.from_residual-in_err-push_outputs.ensures.1
-    (StopsAt-nothing g.D.Disk.image g.D.Disk.may_leave g.D.Disk.moment g.D.Disk.left_since g.met.D.Disk.only_now c.args.disk.now c.args.store.now.entries (g.K.Sink.holds c.args.sink.now) halt.NoMemory _ (inl refl, inl refl))
+    (c.effects_follow.ensures.follow.stops c.args.disk.now c.args.store.now.entries (g.K.Sink.holds c.args.sink.now) halt.NoMemory _ (inl refl, inl refl))
 
 pub commit_some-requires-clause-run : goal.commit_some-requires-clause-run
 commit_some-requires-clause-run g c =
@@ -44,7 +43,7 @@ returns-in_err-commit_some-clause-stops g c =
     let are = leg-entries m c.run_leg.new.self (leg_of m.machine c.args.left) c.new-entries.result.items c.run_leg.new.out.items c.new-entries.ensures.items c.in_ok-leg.ensures.runs in
     let holds = g.K.Sink.holds c.args.sink.now in
     err-same c.from_residual-in_err-commit_some.result c.in_err-commit_some.field-0.0 _ c.from_residual-in_err-commit_some.ensures.1
-    (StopsAt-leg_commit g.D.Disk.image g.D.Disk.may_leave g.D.Disk.moment g.D.Disk.left_since c.args.disk.now c.commit_some.new.disk c.args.store.now.entries holds holds c.in_err-commit_some.field-0.0 m.machine (leg_of m.machine c.args.left) c.run_leg.new.out.items are (c.in_err-commit_some.ensures.stops holds))
+    (StopsAt-leg_commit g.D.Disk c.effects_follow.ensures.follow c.args.disk.now c.commit_some.new.disk c.args.store.now.entries holds holds c.in_err-commit_some.field-0.0 m.machine (leg_of m.machine c.args.left) c.run_leg.new.out.items are (c.in_err-commit_some.ensures.stops holds))
 
 pub returns-in_err-put_all-clause-stops : goal.returns-in_err-put_all-clause-stops
 returns-in_err-put_all-clause-stops g c =
@@ -54,7 +53,7 @@ returns-in_err-put_all-clause-stops g c =
     let text = leg-text c.events-event.result m.machine leg c.as_slice.result.now c.run_leg.new.out.items _ _ c.events-event.ensures c.as_slice.ensures.value are c.clear.ensures.bytes c.in_ok-push_outputs.ensures in
     let holds = g.K.Sink.holds c.args.sink.now in
     err-same c.from_residual-in_err-put_all.result c.in_err-put_all.field-0.0 _ c.from_residual-in_err-put_all.ensures.1
-    (StopsAt-leg_text g.D.Disk.image g.D.Disk.may_leave g.D.Disk.moment g.D.Disk.left_since g.met.D.Disk.only_now c.args.disk.now c.commit_some.new.disk c.args.store.now.entries holds (g.K.Sink.holds c.put_all.new.sink) c.in_err-put_all.field-0.0 m.machine leg c.run_leg.new.out.items c.as_bytes.result.now are (c.as_bytes.ensures.value ∙ text) (c.in_ok-commit_some.ensures.carries holds).out c.in_err-put_all.ensures.stops)
+    (StopsAt-leg_text g.D.Disk c.effects_follow.ensures.follow c.args.disk.now c.commit_some.new.disk c.args.store.now.entries holds (g.K.Sink.holds c.put_all.new.sink) c.in_err-put_all.field-0.0 m.machine leg c.run_leg.new.out.items c.as_bytes.result.now are (c.as_bytes.ensures.value ∙ text) (c.in_ok-commit_some.ensures.carries holds).out c.in_err-put_all.ensures.stops)
 
 pub returns-clause-ready : goal.returns-clause-ready
 returns-clause-ready g c =
@@ -74,4 +73,4 @@ returns-clause-carries g c =
     let are = leg-entries m c.run_leg.new.self leg c.new-entries.result.items c.run_leg.new.out.items c.new-entries.ensures.items c.in_ok-leg.ensures.runs in
     let text = leg-text c.events-event.result m.machine leg c.as_slice.result.now c.run_leg.new.out.items _ _ c.events-event.ensures c.as_slice.ensures.value are c.clear.ensures.bytes c.in_ok-push_outputs.ensures in
     let holds = g.K.Sink.holds c.args.sink.now in
-    Carries-leg g.D.Disk.image g.D.Disk.may_leave g.D.Disk.moment g.D.Disk.left_since g.met.D.Disk.only_now c.args.disk.now c.commit_some.new.disk c.args.store.now c.commit_some.new.store holds (g.K.Sink.holds c.put_all.new.sink) m.machine leg c.run_leg.new.out.items c.as_bytes.result.now are (c.as_bytes.ensures.value ∙ text) (c.in_ok-commit_some.ensures.carries holds) c.in_ok-put_all.ensures.ok
+    Carries-leg g.D.Disk c.effects_follow.ensures.follow c.args.disk.now c.commit_some.new.disk c.args.store.now c.commit_some.new.store holds (g.K.Sink.holds c.put_all.new.sink) m.machine leg c.run_leg.new.out.items c.as_bytes.result.now are (c.as_bytes.ensures.value ∙ text) (c.in_ok-commit_some.ensures.carries holds) c.in_ok-put_all.ensures.ok

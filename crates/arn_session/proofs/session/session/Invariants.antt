@@ -3,17 +3,18 @@ use Rattle.std.proofs.Common.{◌≤◌, ◌+◌, ◌-◌, length}
 use Rattle.arn_base.specs.Faults.{NeverFalls}
 use Rattle.log_store.specs.Stops.{GoesOn}
 use Rattle.arn_commands.specs.declared.reader.TheConstants.{MOST_TAKEN}
-use Rattle.arn_session.specs.Carrying.{CarriesOut}
+use Rattle.session_effects.specs.Carrying.{CarriesOut}
 use Rattle.arn_session.specs.Kept.{IsSound, standpoint_of}
-use Rattle.arn_session.specs.Standing.{IsOpen}
+use Rattle.session_effects.specs.Standing.{IsOpen}
 use Rattle.arn_session.proofs.Progress.{Progress}
 use Rattle.arn_session.proofs.session.session.Given as goal
+use Rattle.solo_log.specs.Records.{IsRun}
 
-abbrev pub invariant-loop-text : goal.invariant-loop-text
-invariant-loop-text g l =
+abbrev pub invariant-loop-next : goal.invariant-loop-next
+invariant-loop-next g l =
     record {
-      progress : Progress l.initial.kept.store.entries (g.S.Source.left l.initial.source) (g.S.Source.left l.source) (CarriesOut g.D.Disk.image g.D.Disk.may_leave g.D.Disk.moment g.D.Disk.left_since l.initial.disk l.disk l.initial.kept.store.entries (g.K.Sink.holds l.initial.sink) (g.K.Sink.holds l.sink)) l.initial.steps l.steps l.commands (standpoint_of l.kept);
-      is_open : IsOpen g.D.Disk.image l.kept.store l.disk;
+      progress : Progress l.initial.kept.store.entries (g.S.Source.left l.initial.source) (g.S.Source.left l.source) (CarriesOut IsRun g.D.Disk l.initial.disk l.disk l.initial.kept.store.entries (g.K.Sink.holds l.initial.sink) (g.K.Sink.holds l.sink)) l.initial.steps l.steps l.commands (standpoint_of l.kept);
+      is_open : IsOpen g.D.Disk l.kept.store l.disk;
       sound : IsSound l.kept;
       within : l.commands.taken ≤ MOST_TAKEN;
       source : NeverFalls (g.S.Source.faults l.initial.source) (g.S.Source.faults l.source);
@@ -21,5 +22,5 @@ invariant-loop-text g l =
       later : GoesOn g.D.Disk.image g.D.Disk.faults l.initial.disk l.disk;
     }
 
-abbrev pub decreases-loop-text : goal.decreases-loop-text
-decreases-loop-text g l = (MOST_TAKEN + length l.commands.ahead) - l.commands.taken
+abbrev pub decreases-loop-next : goal.decreases-loop-next
+decreases-loop-next g l = (MOST_TAKEN + length l.commands.ahead) - l.commands.taken

@@ -1,9 +1,9 @@
 use Rattle.std.proofs.Common.{length, sym, ◌∙◌}
 use Rattle.std.proofs.lemmas.Bool.{eqb-false}
-use Rattle.arn_session.proofs.CutLemmas.{PutSoFar-more, take-rest}
-use Rattle.arn_session.proofs.FaultLemmas.{NeverFalls-append}
-use Rattle.arn_session.proofs.PrintLemmas.{StopsPut-so_far}
-use Rattle.arn_session.proofs.printing.put_all.Goals as goal
+use Rattle.session_effects.proofs.PrintLemmas.{PutSoFar-more, take-rest}
+use Rattle.session_effects.proofs.FaultLemmas.{NeverFalls-append}
+use Rattle.session_effects.proofs.PrintLemmas.{StopsPut-so_far}
+use Rattle.session_effects.proofs.printing.put_all.Goals as goal
 
 pub returns-in_err-count-clause-stops : goal.returns-in_err-count-clause-stops
 returns-in_err-count-clause-stops g c =

@@ -1,7 +1,7 @@
 -- What was put of a text.
 use Rattle.std.specs.Prelude.{◌≡◌, ◌≢◌, ℕ, List, [], ◌++◌, Option, option_map}
-use Rattle.arn_session.specs.declared.status.Halt.{Halt}
-use Rattle.arn_session.specs.declared.status.Halt.TheVariants as halt
+use Rattle.session_effects.specs.declared.halt.Halt.{Halt}
+use Rattle.session_effects.specs.declared.halt.Halt.TheVariants as halt
 
 -- a beginning of the bytes was put, perhaps none or all of them; the others are left
 pub record PutsFront (bytes : List ℕ) (held holds : Option (List ℕ)) : Type 0 where

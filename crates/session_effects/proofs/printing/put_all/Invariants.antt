@@ -1,8 +1,8 @@
 -- What was put and the rest are the bytes.
 use Rattle.std.proofs.Common.{length}
 use Rattle.arn_base.specs.Faults.{NeverFalls}
-use Rattle.arn_session.proofs.CutLemmas.{PutSoFar}
-use Rattle.arn_session.proofs.printing.put_all.Given as goal
+use Rattle.session_effects.proofs.PrintLemmas.{PutSoFar}
+use Rattle.session_effects.proofs.printing.put_all.Given as goal
 
 abbrev pub invariant-loop-rest : goal.invariant-loop-rest
 invariant-loop-rest g l =

@@ -1,0 +1,9 @@
+pub mod FaultLemmas
+pub mod DiskLaws
+pub mod EffectLemmas
+pub mod Moments
+pub mod CarryLemmas
+pub mod StepLemmas
+pub mod CommitLemmas
+pub mod PrintLemmas
+pub mod OpenLemmas

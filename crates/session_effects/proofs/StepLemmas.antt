@@ -1,0 +1,198 @@
+-- One effect: a text that is printed, or records that are committed.
+use Rattle.std.proofs.Common.{◌≡◌, inl, inr, ℕ, ◌≤◌, ◌++◌, List, [], ◌∷◌, length, Option, Some, None, option_map, IfSome, is_some, true, false, refl, sym, ap, subst, ◌∙◌, append-nil}
+use Rattle.arn_base.specs.declared.records.Record.{Record}
+use Rattle.arn_base.specs.Disk.{Only}
+use Rattle.log_store.specs.Log.{IsLog}
+use Rattle.log_store.specs.Laws.{ClosedAreLogs}
+use Rattle.log_store.specs.Stores.{StoreState, IsLeftBy, IsBeforeOrAfter}
+use Rattle.log_store.specs.Stops.{LeavesOnly, NothingPending}
+use Rattle.log_store.specs.declared.size.TheConstants.{MOST_LOG}
+use Rattle.session_effects.specs.Effects.{Effect, Commits, Prints, committed, printed}
+use Rattle.session_effects.specs.Carrying.{IsAtRest, HoldsFirst, HoldsAll, Keeps, CarriesOut, IsInText, Stopped, StopsAt}
+use Rattle.session_effects.specs.Printing.{PutsFront, StopsPut}
+use Rattle.session_effects.specs.declared.halt.Halt.{Halt}
+use Rattle.session_effects.specs.declared.halt.Halt.TheVariants as halt
+use Rattle.session_effects.proofs.EffectLemmas.{committed-one, printed-one}
+use Rattle.session_effects.proofs.Moments.{leaves-none, leaves-weaker}
+use Rattle.session_effects.proofs.CarryLemmas.{held-none}
+use Rattle.arn_base.specs.declared.disk.Disk.{Ghosts}
+use Rattle.session_effects.proofs.DiskLaws.{OnlyNow, CountsNow, MayStay}
+
+-- what is told of an option that is there
+pub told-at : {X : Type 0} (o : Option X) (x : X) (P : X → Type 0) → o ≡ Some x → IfSome o P → P x
+told-at o x P is p = subst (λ t. IfSome t P) is p
+
+-- an option that is there where another is
+pub told-too : {X : Type 0} (o was : Option X) (x : X) → was ≡ Some x → is_some o ≡ is_some was → (y : X) × (o ≡ Some y)
+told-too None was x is tells = absurd (no (tells ∙ ap is_some is))
+  where
+    no : false ≡ true → ⊥
+    no is = cc
+told-too (Some y) was x is tells = (y, refl)
+
+-- the same history, with no effect behind it
+none-first : (is_run : List Record → Type 0) (history : List Record) (effects : List Effect) (bytes : List ℕ) → IsLog bytes history → length bytes ≤ MOST_LOG → HoldsFirst is_run history effects bytes
+none-first is_run history effects bytes log fits =
+    let same : history ≡ history ++ committed [] = sym (append-nil history) in
+    record {
+      first = [];
+      others = effects;
+      are_effects = refl;
+      is_log = subst (IsLog bytes) same log;
+      still_run = λ was. subst is_run same was;
+      fits = fits;
+    }
+
+-- a commit that may be there or not
+commit-first : (is_run : List Record → Type 0) (history entries : List Record) (bytes : List ℕ) → (is_run history → is_run (history ++ entries)) → IsBeforeOrAfter history entries bytes → HoldsFirst is_run history (Commits entries ∷ []) bytes
+commit-first is_run history entries bytes run left = elim left.is_log [
+  | inl before ↦ none-first is_run history (Commits entries ∷ []) bytes before left.fits
+  | inr after ↦
+      let same : history ++ entries ≡ history ++ committed (Commits entries ∷ []) = ap (λ (x : List Record). history ++ x) (sym (committed-one entries)) in
+      record {
+        first = Commits entries ∷ [];
+        others = [];
+        are_effects = refl;
+        is_log = subst (IsLog bytes) same after;
+        still_run = λ was. subst is_run same (run was);
+        fits = left.fits;
+      }
+]
+
+-- a commit that may be there or not, behind no other effect
+commit-all : (history entries : List Record) (bytes : List ℕ) → IsBeforeOrAfter history entries bytes → HoldsAll history [] (Commits entries ∷ []) bytes
+commit-all history entries bytes left = elim left.is_log [
+  | inl before ↦ inl (subst (IsLog bytes) (sym (append-nil history)) before)
+  | inr after ↦ inr (subst (IsLog bytes) (ap (λ (x : List Record). history ++ x) (sym (committed-one entries))) after)
+]
+
+-- a text that is put whole commits nothing, and is all that is printed
+no_commit : {entries : List Record} → Commits entries ∷ [] ≡ [] → ⊥
+no_commit is = cc
+
+module _ {D : Type 0} (is_run : List Record → Type 0) (d : Ghosts D) where
+  -- nothing happens to a disk that is at rest
+  Keeps-none : OnlyNow D d → (disk : D) (history : List Record) (done next : List Effect) → committed done ≡ [] → IsAtRest d disk history → Keeps is_run d disk disk history done next
+  Keeps-none only_now disk history done next none rest =
+      let holds : (bytes : List ℕ) → d.may_leave disk bytes → IsLog bytes history = λ bytes may. subst (λ x. IsLog x history) (sym (rest.only bytes may)) rest.is_log in
+      let fits : (bytes : List ℕ) → d.may_leave disk bytes → length bytes ≤ MOST_LOG = λ bytes may. subst (λ x. length x ≤ MOST_LOG) (sym (rest.only bytes may)) rest.fits in
+      let still : history ≡ history ++ committed done = sym (ap (λ (x : List Record). history ++ x) none ∙ append-nil history) in
+      record {
+        any_moment = leaves-none d.moment d.left_since disk (HoldsFirst is_run history (done ++ next)) (λ bytes left. none-first is_run history (done ++ next) bytes (holds bytes (only_now disk bytes left)) (fits bytes (only_now disk bytes left)));
+        now = λ bytes may. inl (subst (IsLog bytes) still (holds bytes may));
+        still_run = λ was. subst is_run still was;
+      }
+
+  -- effects that commit nothing leave the disk as it was
+  CarriesOut-quiet : OnlyNow D d → (disk : D) (history : List Record) (h0 h1 : Option (List ℕ)) (effects : List Effect) → committed effects ≡ [] → h1 ≡ option_map (λ before. before ++ printed effects) h0 → CarriesOut is_run d disk disk history h0 h1 effects
+  CarriesOut-quiet only_now disk history h0 h1 effects none put = record {
+    put = put;
+    rests = λ was. subst (IsAtRest d disk) (sym (ap (λ (x : List Record). history ++ x) none ∙ append-nil history)) was;
+    keeps = λ was. Keeps-none only_now disk history effects [] none was;
+  }
+
+  -- nothing was carried out
+  pub CarriesOut-none : OnlyNow D d → (disk : D) (history : List Record) (held : Option (List ℕ)) → CarriesOut is_run d disk disk history held held []
+  CarriesOut-none only_now disk history held = CarriesOut-quiet only_now disk history held held [] refl (held-none held)
+
+  -- a text was printed
+  pub CarriesOut-text : OnlyNow D d → (disk : D) (history : List Record) (h0 h1 : Option (List ℕ)) (text : List ℕ) → h1 ≡ option_map (λ before. before ++ text) h0 → CarriesOut is_run d disk disk history h0 h1 (Prints text ∷ [])
+  CarriesOut-text only_now disk history h0 h1 text put =
+      CarriesOut-quiet only_now disk history h0 h1 (Prints text ∷ []) refl (put ∙ ap (λ (x : List ℕ). option_map (λ before. before ++ x) h0) (sym (printed-one text)))
+
+  -- a disk at rest is at rest behind no effects
+  still_rests : (disk : D) (history : List Record) → IsAtRest d disk history → IsAtRest d disk (history ++ [])
+  still_rests disk history was = subst (IsAtRest d disk) (sym (append-nil history)) was
+
+  -- a beginning of a text was printed
+  stops_in : OnlyNow D d → (disk : D) (history : List Record) (h0 h1 : Option (List ℕ)) (why : Halt) (text : List ℕ) (p : PutsFront text h0 h1) → Stopped d disk why (Prints text ∷ []) p.put [] → StopsAt is_run d disk disk history h0 h1 why [] (Prints text ∷ [])
+  stops_in only_now disk history h0 h1 why text p stopped = record {
+    done = [];
+    undone = Prints text ∷ [];
+    are_rest = refl;
+    part = p.put;
+    next = [];
+    stopped = stopped;
+    put = p.printed;
+    keeps = λ was. Keeps-none only_now disk history [] [] refl was;
+    rests = λ none was. still_rests disk history was;
+  }
+
+  in_text : (text put left : List ℕ) → text ≡ put ++ left → IsInText (Prints text ∷ []) put left
+  in_text text put left is = record { more = []; is_text = ap (λ (x : List ℕ). Prints x ∷ []) is }
+
+  pub StopsAt-text : OnlyNow D d → (disk : D) (history : List Record) (h0 h1 : Option (List ℕ)) (why : Halt) (text : List ℕ) → StopsPut why text h0 h1 → StopsAt is_run d disk disk history h0 h1 why [] (Prints text ∷ [])
+  StopsAt-text only_now disk history h0 h1 halt.Sink text p = stops_in only_now disk history h0 h1 halt.Sink text p.front (p.front.left, in_text text p.front.put p.front.left p.front.are_bytes, p.some_left, refl)
+  StopsAt-text only_now disk history h0 h1 halt.NoMemory text p = stops_in only_now disk history h0 h1 halt.NoMemory text p (inr (p.left, in_text text p.put p.left p.are_bytes), inl refl)
+  StopsAt-text only_now disk history h0 h1 halt.Source text p = absurd p
+  StopsAt-text only_now disk history h0 h1 halt.Long text p = absurd p
+  StopsAt-text only_now disk history h0 h1 halt.Disk text p = absurd p
+  StopsAt-text only_now disk history h0 h1 (halt.Full log payload) text p = absurd p
+  StopsAt-text only_now disk history h0 h1 (halt.Differs at) text p = absurd p
+
+  -- nothing was carried out before memory ran out, or records turned out to be others
+  pub StopsAt-nothing : OnlyNow D d → (disk : D) (history : List Record) (held : Option (List ℕ)) (why : Halt) (effects : List Effect) → Stopped d disk why effects [] [] → StopsAt is_run d disk disk history held held why [] effects
+  StopsAt-nothing only_now disk history held why effects stopped = record {
+    done = [];
+    undone = effects;
+    are_rest = refl;
+    part = [];
+    next = [];
+    stopped = stopped;
+    put = held-none held;
+    keeps = λ was. Keeps-none only_now disk history [] [] refl was;
+    rests = λ none was. still_rests disk history was;
+  }
+
+  -- what a commit leaves
+  commit-keeps : (old new : D) (history entries : List Record) (done next : List Effect) → done ++ next ≡ Commits entries ∷ [] → (is_run history → is_run (history ++ entries)) → (is_run history → is_run (history ++ committed done)) → ((bytes : List ℕ) → d.may_leave new bytes → HoldsAll history done next bytes) → LeavesOnly d.moment d.left_since old new (IsBeforeOrAfter history entries) → Keeps is_run d old new history done next
+  commit-keeps old new history entries done next is run still now any = record {
+    any_moment = leaves-weaker d.moment d.left_since old new (IsBeforeOrAfter history entries) (HoldsFirst is_run history (done ++ next)) any (λ bytes left. subst (λ (x : List Effect). HoldsFirst is_run history x bytes) (sym is) (commit-first is_run history entries bytes run left));
+    now = now;
+    still_run = still;
+  }
+
+  -- records were committed
+  pub CarriesOut-commit : MayStay D d → CountsNow D d → ClosedAreLogs → (old new : D) (store store' : StoreState) (entries : List Record) (held : Option (List ℕ)) → (is_run store.entries → is_run (store.entries ++ entries)) → store'.entries ≡ store.entries ++ entries → is_some (d.image new) ≡ is_some (d.image old) → IfSome (d.image new) (IsLeftBy store') → NothingPending d.image d.may_leave new → IfSome (d.image old) (λ bytes. Only bytes (d.may_leave old) → LeavesOnly d.moment d.left_since old new (IsBeforeOrAfter store.entries entries)) → CarriesOut is_run d old new store.entries held held (Commits entries ∷ [])
+  CarriesOut-commit stays counts closed old new store store' entries held run added tells left pending any =
+      let one : store.entries ++ entries ≡ store.entries ++ committed (Commits entries ∷ []) = ap (λ (x : List Record). store.entries ++ x) (sym (committed-one entries)) in
+      record {
+        put = held-none held;
+        rests = λ was.
+            let told = told-too (d.image new) (d.image old) was.bytes was.is_image tells in
+            let is_left = told-at (d.image new) told.0 (IsLeftBy store') told.1 left in
+            let moments = told-at (d.image old) was.bytes (λ bytes. Only bytes (d.may_leave old) → LeavesOnly d.moment d.left_since old new (IsBeforeOrAfter store.entries entries)) was.is_image any was.only in
+            let here = moments.each told.0 (counts new (d.moment old) told.0 moments.later (told-at (d.image new) told.0 (d.may_leave new) told.1 (stays new))) in
+            record {
+              bytes = told.0;
+              is_image = told.1;
+              is_log = subst (IsLog told.0) (added ∙ one) (closed told.0 store'.entries is_left.is_log);
+              fits = here.fits;
+              only = told-at (d.image new) told.0 (λ bytes. Only bytes (d.may_leave new)) told.1 pending;
+            };
+        keeps = λ was.
+            let told = told-too (d.image new) (d.image old) was.bytes was.is_image tells in
+            let is_left = told-at (d.image new) told.0 (IsLeftBy store') told.1 left in
+            let moments = told-at (d.image old) was.bytes (λ bytes. Only bytes (d.may_leave old) → LeavesOnly d.moment d.left_since old new (IsBeforeOrAfter store.entries entries)) was.is_image any was.only in
+            let only = told-at (d.image new) told.0 (λ bytes. Only bytes (d.may_leave new)) told.1 pending in
+            commit-keeps old new store.entries entries (Commits entries ∷ []) [] refl run (λ r. subst is_run one (run r))
+            (λ bytes may. inl (subst (λ x. IsLog x (store.entries ++ committed (Commits entries ∷ []))) (sym (only bytes may)) (subst (IsLog told.0) (added ∙ one) (closed told.0 store'.entries is_left.is_log))))
+            moments;
+      }
+
+  -- a commit may be there or not
+  pub StopsAt-commit : CountsNow D d → (old new : D) (history entries : List Record) (held : Option (List ℕ)) (why : Halt) → (is_run history → is_run (history ++ entries)) → Stopped d new why (Commits entries ∷ []) [] (Commits entries ∷ []) → IfSome (d.image old) (λ bytes. Only bytes (d.may_leave old) → LeavesOnly d.moment d.left_since old new (IsBeforeOrAfter history entries)) → StopsAt is_run d old new history held held why [] (Commits entries ∷ [])
+  StopsAt-commit counts old new history entries held why run stopped any = record {
+    done = [];
+    undone = Commits entries ∷ [];
+    are_rest = refl;
+    part = [];
+    next = Commits entries ∷ [];
+    stopped = stopped;
+    put = held-none held;
+    keeps = λ was.
+        let moments = told-at (d.image old) was.bytes (λ bytes. Only bytes (d.may_leave old) → LeavesOnly d.moment d.left_since old new (IsBeforeOrAfter history entries)) was.is_image any was.only in
+        commit-keeps old new history entries [] (Commits entries ∷ []) refl run (λ r. subst is_run (sym (append-nil history)) r)
+        (λ bytes may. commit-all history entries bytes (moments.each bytes (counts new (d.moment old) bytes moments.later may))) moments;
+    rests = λ none was. absurd (no_commit none);
+  }

@@ -1,0 +1,6 @@
+pub mod Effects
+pub mod Carrying
+pub mod Printing
+pub mod Standing
+pub mod Halts
+pub mod Laws

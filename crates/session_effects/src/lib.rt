@@ -1,0 +1,17 @@
+//! Effects: records that are committed to a log, and bytes that are put into a sink, in order. What it
+//! means to carry them out, and what each halt leaves.
+//!
+//! Which lists of records are those of a run is the caller's to say (`Runs`).
+#![tactic(auto)]
+
+mod commits;
+mod halt;
+mod law;
+mod printing;
+mod runs;
+
+pub use commits::{commit, commit_some};
+pub use halt::Halt;
+pub use law::{effects_follow, openings_follow};
+pub use printing::put_all;
+pub use runs::Runs;
