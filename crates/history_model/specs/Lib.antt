@@ -3,4 +3,5 @@ pub mod Moments
 pub mod Groups
 pub mod Exchanges
 pub mod Names
+pub mod Broken
 pub mod Alone
