@@ -8,8 +8,6 @@ mod error;
 mod law;
 mod next;
 mod reader;
-#[cfg(test)]
-mod tests;
 
 pub use command::Command;
 pub use commands::Commands;

@@ -5,8 +5,6 @@ mod answer;
 mod grammar;
 mod law;
 mod line;
-#[cfg(test)]
-mod tests;
 mod texts;
 mod words;
 

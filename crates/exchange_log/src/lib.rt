@@ -6,8 +6,6 @@ mod law;
 mod len;
 mod origins;
 mod put;
-#[cfg(test)]
-mod tests;
 
 pub use get::{front_give, get_give};
 pub use law::gives_spelled_one_way;

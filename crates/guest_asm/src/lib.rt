@@ -13,8 +13,6 @@ mod labels;
 mod meanings;
 mod places;
 mod splitting;
-#[cfg(test)]
-mod tests;
 
 pub use asm_text::AsmKind;
 pub use assembling::assemble;

@@ -16,6 +16,3 @@ pub use devices::{EntropyDevice, ScriptDevice, ScriptReply, SilentDevice};
 pub use law::told_counts_as_named;
 pub use slots::{Live, Slots, unplug, unplug_in};
 pub use told::Told;
-
-#[cfg(test)]
-mod tests;

@@ -8,6 +8,3 @@ mod names;
 
 pub use errors::FileError;
 pub use files::Files;
-
-#[cfg(test)]
-mod tests;

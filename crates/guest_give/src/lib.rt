@@ -107,6 +107,3 @@ fn single(place: Src) -> Origin
         len: 1,
     }
 }
-
-#[cfg(test)]
-mod tests;

@@ -3,8 +3,6 @@
 
 mod header;
 mod image;
-#[cfg(test)]
-mod tests;
 
 pub use header::parse;
 pub use image::{HEADER_LEN, Image, NotImage};

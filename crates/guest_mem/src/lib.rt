@@ -8,8 +8,6 @@ mod numbers;
 mod segment;
 mod shared_view;
 mod space;
-#[cfg(test)]
-mod tests;
 mod view;
 
 pub use segment::Segment;

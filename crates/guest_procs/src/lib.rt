@@ -7,8 +7,6 @@ mod process;
 mod procs;
 mod slots;
 mod table;
-#[cfg(test)]
-mod tests;
 
 pub use answers::{Ended, ProcError};
 pub use procs::Procs;

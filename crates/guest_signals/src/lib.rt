@@ -3,7 +3,5 @@
 #![tactic(auto)]
 
 mod signals;
-#[cfg(test)]
-mod tests;
 
 pub use signals::Signals;

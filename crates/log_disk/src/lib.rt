@@ -15,6 +15,3 @@ mod ranges;
 pub use file_disk::FileDisk;
 pub use fuse_disk::FuseDisk;
 pub use mem_disk::MemDisk;
-
-#[cfg(test)]
-mod tests;

@@ -17,6 +17,3 @@ pub use errors::{CommitError, OpenError};
 pub use law::logs_read_one_way;
 pub use size::{MOST_LOG, frame_end};
 pub use store::Store;
-
-#[cfg(test)]
-mod tests;

@@ -4,8 +4,6 @@
 mod groups;
 mod law;
 mod lists;
-#[cfg(test)]
-mod tests;
 
 pub use groups::Groups;
 pub use law::groups_grow;

@@ -10,8 +10,6 @@ mod put;
 mod put_extras;
 mod split;
 mod starts;
-#[cfg(test)]
-mod tests;
 
 pub use get::get_record;
 pub use law::records_spelled_one_way;

@@ -8,8 +8,6 @@ mod law;
 mod signals;
 mod slices;
 pub mod split;
-#[cfg(test)]
-mod tests;
 
 pub use errors::GetError;
 pub use law::fields_spelled_one_way;

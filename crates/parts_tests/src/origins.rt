@@ -1,5 +1,5 @@
-use crate::{give_of, give_whole};
 use arn_base::{Origin, Src};
+use guest_give::{give_of, give_whole};
 use parts_model::TaggedByte;
 use std::test::Fail;
 

@@ -1,5 +1,5 @@
-use super::*;
 use arn_base::Cpu;
+use guest_signals::Signals;
 use std::test::Fail;
 
 #[test]

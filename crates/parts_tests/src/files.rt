@@ -1,5 +1,5 @@
-use crate::{FileError, Files};
 use arn_base::{Give, Origin};
+use guest_files::{FileError, Files};
 use std::process::Abort;
 use std::test::Fail;
 

@@ -1,8 +1,8 @@
 ghost use Rattle.std.specs.Prelude.{IfOk};
 ghost use Rattle.exchange_log.specs.Gives.{GiveHasSpelling};
 
-use crate::{GetError, get_give, give_len, put_give};
 use arn_base::{Bytes, Give, NoMemory, Origin, Origins};
+use exchange_log::{GetError, get_give, give_len, put_give};
 use std::alloc::Global;
 use std::test::Fail;
 

@@ -1,5 +1,8 @@
-use super::*;
 use arn_base::Pair;
+use arn_lines::{
+    Line, MOST_LINE, Reading, Refusal, RunEnd, block_name, push_back, push_event, push_out,
+    push_pair, push_ran, push_refusal, read_line,
+};
 use rv64_model::Linkage;
 use std::alloc::{AllocError, Global};
 use std::test::Fail;

@@ -1,4 +1,4 @@
-use crate::{Delivery, GetError, get_signal, get_slice, put_signal, put_slice};
+use schedule_log::{Delivery, GetError, get_signal, get_slice, put_signal, put_slice};
 use std::test::Fail;
 
 // Process 1 ran a million instructions; then signal 1 ended a call of process 2, whose handler is at

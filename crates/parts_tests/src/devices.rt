@@ -1,5 +1,7 @@
-use crate::*;
 use arn_base::{Bytes, Choice, Chooser, Device, Reply};
+use guest_devices::{
+    Answer, EntropyDevice, ScriptDevice, ScriptReply, SeededChooser, Slots, unplug,
+};
 use std::process::Abort;
 use std::test::Fail;
 

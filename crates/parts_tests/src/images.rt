@@ -1,4 +1,4 @@
-use super::*;
+use guest_image::{Image, parse};
 
 // The bytes stand in the order name, entry, load address, body.
 #[test]

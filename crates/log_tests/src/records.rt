@@ -2,8 +2,8 @@ ghost use Rattle.std.specs.Prelude.{IfOk};
 ghost use Rattle.result_log.specs.Spelling.{ExtraHasSpelling, GiveHasSpelling, HasSpelling};
 ghost use Rattle.result_log.specs.States.{StartHasSpelling};
 
-use crate::{GetError, get_record, put_record, spelled_len};
 use arn_base::{Block, Blocks, Bytes, Cpu, Extra, Give, NoMemory, Origin, Origins, Record, Start};
+use result_log::{GetError, get_record, put_record, spelled_len};
 use std::alloc::Global;
 use std::process::Abort;
 use std::test::Fail;

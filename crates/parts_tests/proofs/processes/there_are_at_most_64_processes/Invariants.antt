@@ -1,5 +1,5 @@
 use Rattle.std.proofs.Common.{◌≤◌, length}
-use Rattle.guest_procs.proofs.tests.there_are_at_most_64_processes.Given as goal
+use Rattle.parts_tests.proofs.processes.there_are_at_most_64_processes.Given as goal
 
 abbrev pub invariant-loop-made : goal.invariant-loop-made
 invariant-loop-made g l = length l.procs ≤ l.made

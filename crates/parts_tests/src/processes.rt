@@ -1,4 +1,4 @@
-use super::*;
+use guest_procs::{Ended, ProcError, Procs};
 use std::test::Fail;
 
 #[test]

@@ -1,4 +1,4 @@
-use super::*;
+use replay_groups::Groups;
 use std::test::Fail;
 
 #[test]

@@ -1,6 +1,6 @@
 use Rattle.std.proofs.Common.{◌≡◌, [], ◌∷◌, Some, None, IsSome, refl}
 use Rattle.parts_model.specs.Processes.{Process, Processes, process, with_change, placed}
-use Rattle.guest_procs.proofs.tests.there_are_at_most_16_descriptors.Goals as goal
+use Rattle.parts_tests.proofs.processes.there_are_at_most_16_descriptors.Goals as goal
 
 first-there : (all new : Processes) (change : Process → Process) → IsSome (process all 1) → new ≡ with_change all 1 change → IsSome (process new 1)
 first-there [] new change some is = cc

@@ -1,5 +1,5 @@
-use super::*;
 use arn_base::{Bytes, Numbers, SliceSource};
+use arn_commands::{Command, Commands, Next, parts_ask_one_way};
 use arn_lines::{Line, MOST_LINE};
 use std::alloc::{AllocError, Global};
 use std::test::Fail;

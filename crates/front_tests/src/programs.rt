@@ -1,4 +1,4 @@
-use crate::{AsmError, assemble};
+use guest_asm::{AsmError, assemble};
 use rv64_isa::{BranchOp, ImmOp, Instr, LoadOp, Reg, RegOp, StoreOp, decode};
 use std::alloc::{AllocError, Global};
 use std::test::Fail;

@@ -1,8 +1,8 @@
 ghost use Rattle.std.specs.Prelude.{◌≡◌, ◌∷◌, [], IfOk};
 ghost use Rattle.log_disk.specs.InMemory.{fresh};
 
-use super::*;
 use arn_base::{Bytes, Disk, Failed, NoMemory, Numbers, Stop};
+use log_disk::{FileDisk, FuseDisk, MemDisk};
 use std::alloc::Global;
 use std::fs;
 use std::process::Abort;

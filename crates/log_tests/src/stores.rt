@@ -1,9 +1,9 @@
 ghost use Rattle.std.specs.Prelude.{◌<◌, ◌^◌, All, IfOk};
 ghost use Rattle.result_log.specs.Spelling.{HasSpelling, IsCounted, IsName};
 
-use crate::{CommitError, OpenError, Store, frame_end};
 use arn_base::{Bytes, Disk, Failed, NoMemory, Numbers, Record, Stop};
 use log_disk::{FuseDisk, MemDisk};
+use log_store::{CommitError, OpenError, Store, frame_end};
 use std::alloc::Global;
 use std::test::Fail;
 

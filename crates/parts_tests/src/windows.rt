@@ -1,5 +1,5 @@
-use super::*;
 use arn_base::{BadAddress, Memory, StoreError};
+use guest_mem::{Segment, SharedView, Space, View};
 use std::test::Fail;
 
 #[test]

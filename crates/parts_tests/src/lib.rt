@@ -1,0 +1,19 @@
+//! The parts of the kernel, each by itself.
+#![tactic(auto)]
+
+#[cfg(test)]
+mod devices;
+#[cfg(test)]
+mod files;
+#[cfg(test)]
+mod groups;
+#[cfg(test)]
+mod images;
+#[cfg(test)]
+mod origins;
+#[cfg(test)]
+mod processes;
+#[cfg(test)]
+mod signals;
+#[cfg(test)]
+mod windows;
