@@ -1,6 +1,6 @@
 use arn_base::{Bytes, Choice, Chooser, Device, Reply};
 use guest_devices::{
-    Answer, EntropyDevice, ScriptDevice, ScriptReply, SeededChooser, Slots, unplug,
+    Answer, Answers, EntropyDevice, ScriptDevice, ScriptReply, SeededChooser, Slots, unplug,
 };
 use std::process::Abort;
 use std::test::Fail;
