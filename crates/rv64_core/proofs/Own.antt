@@ -5,7 +5,7 @@ use Rattle.arn_base.specs.declared.machine.Cpu.{Cpu}
 use Rattle.rv64_isa.specs.Decoded.{decoded}
 use Rattle.rv64_isa.specs.declared.instruction.Instr.{Instr}
 use Rattle.rv64_isa.specs.declared.instruction.Instr.TheVariants.{Lui, Auipc, Jal, Jalr, Branch, Load, Store, Imm, Op, Fence, Ecall, Ebreak}
-use Rattle.rv64_model.specs.Instruction.{Effect, Next, Call, End, jumps, branches, loads, stores, executed, executed_if, fetched, instruction, jumped, advanced, without_bit_0}
+use Rattle.rv64_model.specs.Instruction.{Effect, Next, Call, End, jumps, branches, loads, executed, executed_if, fetched, instruction, jumped, advanced, without_bit_0}
 use Rattle.rv64_model.specs.Operands.{address, store_len}
 use Rattle.rv64_model.specs.Registers.{register}
 use Rattle.rv64_model.specs.Values.{immediate, sum, is_taken, load_len, load_result}

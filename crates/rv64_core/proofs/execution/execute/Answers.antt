@@ -1,4 +1,4 @@
-use Rattle.std.proofs.Common.{◌≡◌, subst, inl, inr}
+use Rattle.std.proofs.Common.{subst, inl, inr}
 use Rattle.rv64_core.proofs.Own.{Goes, goes, leads}
 use Rattle.rv64_core.proofs.execution.execute.Goals as goal
 

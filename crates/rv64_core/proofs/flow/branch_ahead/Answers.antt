@@ -1,4 +1,3 @@
-use Rattle.std.proofs.Common.{rules, ◌≡◌}
 use Rattle.rv64_core.proofs.flow.branch_ahead.Goals as goal
 
 pub returns-then-taken : goal.returns-then-taken
