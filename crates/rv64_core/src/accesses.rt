@@ -1,16 +1,18 @@
 // Loads and stores.
-ghost use Rattle.std.specs.Prelude.{◌≡◌, ◌≢◌, ◌<◌, ◌*◌, ◌^◌, IsTrue, option_map};
+ghost use Rattle.std.specs.Prelude.{◌≡◌, ◌≢◌, ◌<◌, ℕ, IsTrue, option_map};
+ghost use Rattle.std.specs.Result.{result_ok};
 ghost use Rattle.arn_base.specs.Window.{number_at, IsAccessLength};
 ghost use Rattle.rv64_isa.specs.declared.instruction.Instr.{Instr};
 ghost use Rattle.rv64_model.specs.Instruction.{loads, stores};
 ghost use Rattle.rv64_model.specs.Operands.{store_len as store_len_of, stored_len};
 ghost use Rattle.rv64_model.specs.Values.{load_len as load_len_of, load_result as load_result_of};
 ghost use Rattle.rv64_core.specs.Outcome.{Tells, OnStop};
+ghost use Rattle.rv64_core.specs.Prospect.{Foretells};
 
 use crate::flow::{go_on, write};
-use crate::outcome::Outcome;
-use arn_base::{Cpu, Memory, StoreError};
-use rv64_isa::{LoadOp, Reg, StoreOp};
+use crate::outcome::{Outcome, Prospect};
+use arn_base::{BadAddress, Cpu, Memory, StoreError};
+use rv64_isa::{Instr, LoadOp, Reg, StoreOp};
 use rv64_model::statuses::BAD_ACCESS;
 
 // Loads a register from an address.
@@ -21,10 +23,27 @@ pub(crate) fn load<M: Memory>(op: LoadOp, rd: Reg, at: u64, cpu: &mut Cpu, mem: 
     ensures cpu { OnStop result (cpu.new ≡ cpu.old) }
     ensures no_memory { result ≢ Outcome.NoMemory }
 {
-    match mem.load(at, load_len(op)) {
-        Ok(number) => write(cpu, rd, load_result(op, number)),
+    match loaded(op, at, mem) {
+        Ok(value) => write(cpu, rd, value),
         Err(_) => Outcome::End(BAD_ACCESS),
     }
+}
+
+// The value of a register after a load. Each access has a length that is constant, so that it can
+// be compiled to one load.
+fn loaded<M: Memory>(op: LoadOp, at: u64, mem: &M) -> Result<u64, BadAddress>
+    ensures { result_ok result ≡
+        option_map (load_result_of op) (number_at (M.windows mem.now) at (load_len_of op)) }
+{
+    Ok(match op {
+        LoadOp::Lb => i64::from((mem.load(at, 1)? as u8).cast_signed()).cast_unsigned(),
+        LoadOp::Lh => i64::from((mem.load(at, 2)? as u16).cast_signed()).cast_unsigned(),
+        LoadOp::Lw => i64::from((mem.load(at, 4)? as u32).cast_signed()).cast_unsigned(),
+        LoadOp::Ld => mem.load(at, 8)?,
+        LoadOp::Lbu => mem.load(at, 1)?,
+        LoadOp::Lhu => mem.load(at, 2)?,
+        LoadOp::Lwu => mem.load(at, 4)?,
+    })
 }
 
 // Stores the low bytes of a value at an address.
@@ -42,10 +61,39 @@ pub(crate) fn store<M: Memory>(
     ensures memory { OnStop result (M.windows mem.new ≡ M.windows mem.old) }
     ensures no_memory { (result ≡ Outcome.NoMemory) → IsTrue (M.wants_memory mem.old) }
 {
-    match mem.store(at, store_len(op), value) {
+    let stored = match op {
+        StoreOp::Sb => mem.store(at, 1, value),
+        StoreOp::Sh => mem.store(at, 2, value),
+        StoreOp::Sw => mem.store(at, 4, value),
+        StoreOp::Sd => mem.store(at, 8, value),
+    };
+    match stored {
         Ok(()) => go_on(cpu),
         Err(StoreError::BadAddress) => Outcome::End(BAD_ACCESS),
         Err(StoreError::NoMemory) => Outcome::NoMemory,
+    }
+}
+
+// What a load would come to.
+pub(crate) fn load_ahead<M: Memory>(instr: Instr, op: LoadOp, at: u64, mem: &M) -> Prospect
+    ensures { (cpu : Cpu) → (rd : ℕ) → let memory = M.windows mem.now in
+        let value = option_map (load_result_of op) (number_at memory at (load_len_of op)) in
+        Foretells result (loads instr cpu memory rd value) }
+{
+    match mem.load(at, load_len(op)) {
+        Ok(_) => Prospect::Next(instr),
+        Err(_) => Prospect::End(BAD_ACCESS),
+    }
+}
+
+// What a store would come to. It takes effect exactly where its bytes could be loaded.
+pub(crate) fn store_ahead<M: Memory>(instr: Instr, op: StoreOp, at: u64, mem: &M) -> Prospect
+    ensures { (cpu : Cpu) → (value : ℕ) →
+        Foretells result (stores instr cpu (M.windows mem.now) at (store_len_of op) value) }
+{
+    match mem.load(at, store_len(op)) {
+        Ok(_) => Prospect::Next(instr),
+        Err(_) => Prospect::End(BAD_ACCESS),
     }
 }
 
@@ -59,19 +107,6 @@ fn load_len(op: LoadOp) -> u8
         LoadOp::Lh | LoadOp::Lhu => 2,
         LoadOp::Lw | LoadOp::Lwu => 4,
         LoadOp::Ld => 8,
-    }
-}
-
-// The value of a register after a load of this number.
-fn load_result(op: LoadOp, number: u64) -> u64
-    requires { number < 2 ^ (8 * load_len_of op) }
-    ensures { result ≡ load_result_of op number }
-{
-    match op {
-        LoadOp::Lb => i64::from((number as u8).cast_signed()).cast_unsigned(),
-        LoadOp::Lh => i64::from((number as u16).cast_signed()).cast_unsigned(),
-        LoadOp::Lw => i64::from((number as u32).cast_signed()).cast_unsigned(),
-        LoadOp::Ld | LoadOp::Lbu | LoadOp::Lhu | LoadOp::Lwu => number,
     }
 }
 

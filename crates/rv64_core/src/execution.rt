@@ -1,19 +1,44 @@
-ghost use Rattle.std.specs.Prelude.{◌≡◌, ◌-◌, ◌%◌, IsTrue};
-ghost use Rattle.rv64_model.specs.Instruction.{executed};
-ghost use Rattle.rv64_model.specs.Operands.{accessed as accessed_by, address as address_of};
+// What instructions do, and what they would do.
+ghost use Rattle.std.specs.Prelude.{◌≡◌, ◌<◌, ◌-◌, ◌%◌, IsTrue, OnOk, OnErr};
+ghost use Rattle.rv64_model.specs.Instruction.{executed, instruction, Next};
+ghost use Rattle.rv64_model.specs.Operands.{accessed as accessed_by, address as address_of, stored_len};
 ghost use Rattle.rv64_core.specs.Outcome.{Tells, OnStop};
+ghost use Rattle.rv64_core.specs.Prospect.{TakesEffect, Foretells};
 
-use crate::accesses::{load, store};
-use crate::flow::{branch, go_on, jump, write};
-use crate::outcome::Outcome;
+use crate::accesses::{load, load_ahead, store, store_ahead};
+use crate::flow::{branch, branch_ahead, go_on, jump, jump_ahead, write};
+use crate::outcome::{Outcome, Prospect};
 use crate::registers::register;
 use crate::values::{imm_result, is_taken, reg_result};
-use arn_base::{Cpu, Memory};
+use arn_base::{Cpu, Memory, NoMemory};
 use rv64_isa::{Instr, Reg};
 use rv64_model::statuses::BREAKPOINT;
 
+/// Executes the instruction that `next_instr` gave. It isn't counted, and fails only at a store that
+/// finds no memory, which may be tried again.
+pub fn execute<M: Memory>(instr: &Instr, cpu: &mut Cpu, mem: &mut M) -> Result<(), NoMemory>
+    // It is the instruction at pc, and it takes effect.
+    requires { TakesEffect instr.now (instruction cpu.old (M.windows mem.old)) }
+
+    // The registers and the memory are those that the manual gives the instruction.
+    ensures ok { OnOk result (instruction cpu.old (M.windows mem.old)
+        ≡ Next instr.now cpu.new (M.windows mem.new)) }
+
+    // NoMemory comes only at a store, from a memory that wants memory.
+    ensures store { OnErr result (0 < stored_len instr.now) }
+    ensures no_memory { OnErr result (IsTrue (M.wants_memory mem.old)) }
+    ensures err_cpu { OnErr result (cpu.new ≡ cpu.old) }
+    ensures err_memory { OnErr result (M.windows mem.new ≡ M.windows mem.old) }
+{
+    match take_effect(instr, cpu, mem) {
+        Outcome::Next => Ok(()),
+        Outcome::NoMemory => Err(NoMemory),
+        Outcome::Call | Outcome::End(_) => unreachable!(),
+    }
+}
+
 // Lets an instruction take effect.
-pub(crate) fn execute<M: Memory>(instr: &Instr, cpu: &mut Cpu, mem: &mut M) -> Outcome
+pub(crate) fn take_effect<M: Memory>(instr: &Instr, cpu: &mut Cpu, mem: &mut M) -> Outcome
     ensures effect { Tells result (executed instr.now cpu.old (M.windows mem.old))
         cpu.new (M.windows mem.new) }
     ensures cpu { OnStop result (cpu.new ≡ cpu.old) }
@@ -44,6 +69,29 @@ pub(crate) fn execute<M: Memory>(instr: &Instr, cpu: &mut Cpu, mem: &mut M) -> O
         Instr::Fence { .. } => go_on(cpu),
         Instr::Ecall => Outcome::Call,
         Instr::Ebreak => Outcome::End(BREAKPOINT),
+    }
+}
+
+// What an instruction would come to.
+pub(crate) fn look_ahead<M: Memory>(instr: Instr, cpu: &Cpu, mem: &M) -> Prospect
+    ensures { Foretells result (executed instr cpu.now (M.windows mem.now)) }
+{
+    match instr {
+        Instr::Jal { imm, .. } => jump_ahead(instr, cpu.pc.wrapping_add_signed(imm)),
+        Instr::Jalr { rs1, imm, .. } => jump_ahead(instr, without_bit_0(address(cpu, rs1, imm))),
+        Instr::Branch { op, rs1, rs2, imm } => {
+            let taken = is_taken(op, register(cpu, rs1), register(cpu, rs2));
+            branch_ahead(instr, taken, cpu.pc.wrapping_add_signed(imm))
+        }
+        Instr::Load { op, rs1, imm, .. } => load_ahead(instr, op, address(cpu, rs1, imm), mem),
+        Instr::Store { op, rs1, imm, .. } => store_ahead(instr, op, address(cpu, rs1, imm), mem),
+        Instr::Ecall => Prospect::Call,
+        Instr::Ebreak => Prospect::End(BREAKPOINT),
+        Instr::Lui { .. }
+        | Instr::Auipc { .. }
+        | Instr::Imm { .. }
+        | Instr::Op { .. }
+        | Instr::Fence { .. } => Prospect::Next(instr),
     }
 }
 

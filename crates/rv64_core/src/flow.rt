@@ -1,15 +1,16 @@
 // Where pc goes after an instruction.
-ghost use Rattle.std.specs.Prelude.{◌≡◌, ◌≢◌, ◌%◌, ◌==◌, List};
+ghost use Rattle.std.specs.Prelude.{◌≡◌, ◌≢◌, ◌%◌, ◌==◌, ℕ, List};
 ghost use Rattle.arn_base.specs.Window.{Window};
 ghost use Rattle.rv64_isa.specs.declared.instruction.Instr.{Instr};
 ghost use Rattle.rv64_model.specs.Instruction.{advanced, branches, jumps, next_pc as next_pc_of};
 ghost use Rattle.rv64_model.specs.Registers.{with_register};
 ghost use Rattle.rv64_core.specs.Outcome.{Tells, OnStop};
+ghost use Rattle.rv64_core.specs.Prospect.{Foretells};
 
-use crate::outcome::Outcome;
+use crate::outcome::{Outcome, Prospect};
 use crate::registers::set_register;
 use arn_base::Cpu;
-use rv64_isa::Reg;
+use rv64_isa::{Instr, Reg};
 use rv64_model::statuses::MISALIGNED;
 
 // Goes on to the next word.
@@ -61,6 +62,30 @@ pub(crate) fn branch(cpu: &mut Cpu, taken: bool, target: u64) -> Outcome
     }
     cpu.pc = target;
     Outcome::Next
+}
+
+// What a jump would come to.
+pub(crate) fn jump_ahead(instr: Instr, target: u64) -> Prospect
+    ensures { (cpu : Cpu) → (memory : List Window) → (rd : ℕ) →
+        Foretells result (jumps instr cpu memory rd target) }
+{
+    if is_aligned(target) {
+        Prospect::Next(instr)
+    } else {
+        Prospect::End(MISALIGNED)
+    }
+}
+
+// What a branch would come to.
+pub(crate) fn branch_ahead(instr: Instr, taken: bool, target: u64) -> Prospect
+    ensures { (cpu : Cpu) → (memory : List Window) →
+        Foretells result (branches instr cpu memory taken target) }
+{
+    if taken {
+        jump_ahead(instr, target)
+    } else {
+        Prospect::Next(instr)
+    }
 }
 
 // Whether a target is a multiple of 4.

@@ -14,6 +14,6 @@ mod stepping;
 mod tests;
 mod values;
 
-pub use execution::accessed;
-pub use outcome::Outcome;
-pub use stepping::step;
+pub use execution::{accessed, execute};
+pub use outcome::{Outcome, Prospect};
+pub use stepping::{is_at_call, next_instr, step};

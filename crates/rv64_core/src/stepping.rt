@@ -1,13 +1,14 @@
-ghost use Rattle.std.specs.Prelude.{◌≡◌, ◌+◌, IsTrue};
+ghost use Rattle.std.specs.Prelude.{◌≡◌, ◌+◌, ◌↔◌, IsTrue, IfOk, IfErr};
 ghost use Rattle.std.specs.Result.{result_ok};
 ghost use Rattle.arn_base.specs.Window.{number_at};
-ghost use Rattle.rv64_model.specs.Instruction.{instruction};
+ghost use Rattle.rv64_model.specs.Instruction.{instruction, executed, Call, End};
 ghost use Rattle.rv64_core.specs.Outcome.{Tells, OnStop};
+ghost use Rattle.rv64_core.specs.Prospect.{Foretells};
 
-use crate::execution::execute;
-use crate::outcome::Outcome;
+use crate::execution::{look_ahead, take_effect};
+use crate::outcome::{Outcome, Prospect};
 use arn_base::{BadAddress, Cpu, Memory, Steps};
-use rv64_isa::decode;
+use rv64_isa::{Instr, decode};
 use rv64_model::statuses::{BAD_ACCESS, ILLEGAL_INSTRUCTION};
 use std::sync::ledger::Ledger;
 
@@ -31,13 +32,50 @@ pub fn step<M: Memory, L: Ledger>(cpu: &mut Cpu, mem: &mut M, steps: &mut Steps<
     ensures no_memory { (result ≡ Outcome.NoMemory) → IsTrue (M.wants_memory mem.old) }
 {
     steps.tick();
+    match instr_at_pc(cpu, mem) {
+        Ok(instr) => take_effect(&instr, cpu, mem),
+        Err(status) => Outcome::End(status),
+    }
+}
+
+/// Says what the instruction at pc would come to, and counts it whatever that is. Its jump has a
+/// fit target, and its load or store a range within a window: so it may be executed by `execute`.
+pub fn next_instr<M: Memory, L: Ledger>(cpu: &Cpu, mem: &M, steps: &mut Steps<L>) -> Prospect
+    ensures tick { steps.new ≡ steps.old + 1 }
+
+    // It is what the manual gives the instruction.
+    ensures effect { Foretells result (instruction cpu.now (M.windows mem.now)) }
+{
+    steps.tick();
+    match instr_at_pc(cpu, mem) {
+        Ok(instr) => look_ahead(instr, cpu, mem),
+        Err(status) => Prospect::End(status),
+    }
+}
+
+/// Whether an ECALL stands at pc. It is not counted.
+pub fn is_at_call<M: Memory>(cpu: &Cpu, mem: &M) -> bool
+    ensures { IsTrue result ↔ (instruction cpu.now (M.windows mem.now) ≡ Call) }
+{
+    match instr_at_pc(cpu, mem) {
+        Ok(instr) => instr == Instr::Ecall,
+        Err(_) => false,
+    }
+}
+
+// The instruction at pc, or the status with which its process ends if there is none.
+fn instr_at_pc<M: Memory>(cpu: &Cpu, mem: &M) -> Result<Instr, u8>
+    ensures ok { IfOk result (λ instr. instruction cpu.now (M.windows mem.now)
+        ≡ executed instr cpu.now (M.windows mem.now)) }
+    ensures err { IfErr result (λ status. instruction cpu.now (M.windows mem.now) ≡ End status) }
+{
     let Ok(word) = fetch(cpu, mem) else {
-        return Outcome::End(BAD_ACCESS);
+        return Err(BAD_ACCESS);
     };
-    let Some(instr) = decode(word) else {
-        return Outcome::End(ILLEGAL_INSTRUCTION);
-    };
-    execute(&instr, cpu, mem)
+    match decode(word) {
+        Some(instr) => Ok(instr),
+        None => Err(ILLEGAL_INSTRUCTION),
+    }
 }
 
 // The word at pc.

@@ -1,12 +1,15 @@
 ghost use Rattle.std.specs.Prelude.{◌≡◌, ◌<◌};
+ghost use Rattle.rv64_model.specs.Instruction.{instruction};
+ghost use Rattle.rv64_core.specs.Prospect.{Foretells};
 
 mod flat;
 mod rows;
 
 use super::*;
-use arn_base::{Cpu, Memory, Steps};
+use arn_base::{Cpu, Memory, NoMemory, Steps};
 use flat::Flat;
-use rows::{BAD_STORES, BRANCHES, FIRST, LOADS, OPERATIONS, OTHERS, SECOND, STORED, STORES};
+use rows::{AHEAD, BAD_STORES, BRANCHES, FIRST, LOADS, OPERATIONS, OTHERS, SECOND, STORED, STORES};
+use rv64_isa::{Instr, decode};
 use std::alloc::{AllocError, Global};
 use std::marker::Brand;
 use std::process::Abort;
@@ -24,6 +27,34 @@ fn step_counted<L: Ledger>(cpu: &mut Cpu, memory: &mut Flat, blank: Blank) -> Ou
 
 fn step_once(cpu: &mut Cpu, memory: &mut Flat) -> Outcome {
     step_counted::<Brand>(cpu, memory, Blank::new(1))
+}
+
+fn look_counted<M: Memory, L: Ledger>(cpu: &Cpu, memory: &M, blank: Blank) -> Prospect
+    requires name { blank.name ≡ L.name }
+    requires parts { blank.parts ≡ L.parts }
+    requires some { 0 < blank.parts }
+    ensures { Foretells result (instruction cpu.now (M.windows memory.now)) }
+{
+    let mut steps = Steps::<L>::new(blank);
+    next_instr(cpu, memory, &mut steps)
+}
+
+fn look<M: Memory>(cpu: &Cpu, memory: &M) -> Prospect
+    ensures { Foretells result (instruction cpu.now (M.windows memory.now)) }
+{
+    look_counted::<M, Brand>(cpu, memory, Blank::new(1))
+}
+
+// Looks ahead, and executes what takes effect.
+fn look_and_execute<M: Memory>(cpu: &mut Cpu, memory: &mut M) -> Outcome {
+    match look(cpu, memory) {
+        Prospect::Next(instr) => match execute(&instr, cpu, memory) {
+            Ok(()) => Outcome::Next,
+            Err(NoMemory) => Outcome::NoMemory,
+        },
+        Prospect::Call => Outcome::Call,
+        Prospect::End(status) => Outcome::End(status),
+    }
 }
 
 // What an instruction at 0x1_0000 does, and nothing else.
@@ -80,11 +111,24 @@ fn expected(mut cpu: Cpu, after: After) -> (Outcome, Cpu) {
     }
 }
 
-// Runs the instruction at 0x1_0000, which does this and nothing else to the registers.
-fn check(rt: &impl Abort, name: &str, memory: &mut Flat, mut cpu: Cpu, after: After) {
+// Runs the instruction at 0x1_0000, which does this and nothing else to the registers: in one step,
+// and on a copy by a look ahead. The memories are equal then.
+fn check(
+    rt: &impl Abort,
+    name: &str,
+    memory: &mut Flat,
+    mut cpu: Cpu,
+    after: After,
+) -> Result<(), AllocError> {
     let (outcome, registers) = expected(cpu, after);
+    let mut copy = memory.copy()?;
+    let mut ahead = cpu;
     assert_eq!(rt; step_once(&mut cpu, memory), outcome, "{name}");
     assert_eq!(rt; cpu, registers, "{name}");
+    assert_eq!(rt; look_and_execute(&mut ahead, &mut copy), outcome, "{name}");
+    assert_eq!(rt; ahead, registers, "{name}");
+    assert_eq!(rt; copy.bytes(), memory.bytes(), "{name}");
+    Ok(())
 }
 
 #[test]
@@ -92,16 +136,16 @@ fn instructions_do_what_the_manual_says(rt: HostRuntime) -> Result<(), Fail> {
     for (name, word, x6, x7, x5) in &OPERATIONS {
         let mut memory = Flat::of_words(rt.alloc(), 0x1_0000, &[*word])?;
         let cpu = holding(0x1234, *x6, *x7);
-        check(&rt, name, &mut memory, cpu, After::Wrote(5, *x5));
+        check(&rt, name, &mut memory, cpu, After::Wrote(5, *x5))?;
     }
     for (name, word, x6, x7, pc) in &BRANCHES {
         let mut memory = Flat::of_words(rt.alloc(), 0x1_0000, &[*word])?;
         let cpu = holding(0x1234, *x6, *x7);
-        check(&rt, name, &mut memory, cpu, After::WentTo(*pc));
+        check(&rt, name, &mut memory, cpu, After::WentTo(*pc))?;
     }
     for (name, word, x6, after) in &OTHERS {
         let mut memory = Flat::of_words(rt.alloc(), 0x1_0000, &[*word])?;
-        check(&rt, name, &mut memory, holding(0x1234, *x6, 0), *after);
+        check(&rt, name, &mut memory, holding(0x1234, *x6, 0), *after)?;
     }
     Ok(())
 }
@@ -121,18 +165,18 @@ fn check_numbers(rt: &impl Abort, name: &str, memory: &Flat, first: u64, second:
 fn loads_and_stores_do_what_the_manual_says(rt: HostRuntime) -> Result<(), Fail> {
     for (name, word, x6, after) in &LOADS {
         let mut memory = with_numbers(rt.alloc(), *word)?;
-        check(&rt, name, &mut memory, holding(0x1234, *x6, 0), *after);
+        check(&rt, name, &mut memory, holding(0x1234, *x6, 0), *after)?;
     }
     for (name, word, x6, first, second) in &STORES {
         let mut memory = with_numbers(rt.alloc(), *word)?;
         let cpu = holding(0x1234, *x6, STORED);
-        check(&rt, name, &mut memory, cpu, After::WentTo(0x1_0004));
+        check(&rt, name, &mut memory, cpu, After::WentTo(0x1_0004))?;
         check_numbers(&rt, name, &memory, *first, *second);
     }
     for (name, word, x6) in &BAD_STORES {
         let mut memory = with_numbers(rt.alloc(), *word)?;
         let cpu = holding(0x1234, *x6, STORED);
-        check(&rt, name, &mut memory, cpu, After::Ended(139));
+        check(&rt, name, &mut memory, cpu, After::Ended(139))?;
         check_numbers(&rt, name, &memory, FIRST, SECOND);
     }
     Ok(())
@@ -147,9 +191,11 @@ fn a_store_without_memory_may_be_tried_again(rt: HostRuntime) -> Result<(), Fail
     memory.is_full = true;
     assert_eq!(rt; step_once(&mut cpu, &mut memory), Outcome::NoMemory);
     assert_eq!(rt; cpu, before);
+    assert_eq!(rt; look_and_execute(&mut cpu, &mut memory), Outcome::NoMemory);
+    assert_eq!(rt; cpu, before);
     check_numbers(&rt, "full", &memory, FIRST, SECOND);
     memory.is_full = false;
-    check(&rt, "again", &mut memory, cpu, After::WentTo(0x1_0004));
+    check(&rt, "again", &mut memory, cpu, After::WentTo(0x1_0004))?;
     check_numbers(&rt, "again", &memory, STORED, SECOND);
     Ok(())
 }
@@ -195,6 +241,29 @@ fn fetches_outside_end_the_process(rt: HostRuntime) -> Result<(), Fail> {
             "at {pc:x}"
         );
         assert_eq!(rt; cpu, after, "at {pc:x}");
+        assert_eq!(rt; look(&cpu, &memory), Prospect::End(139), "at {pc:x}");
+        assert_eq!(rt; is_at_call(&cpu, &memory), false, "at {pc:x}");
     }
+    Ok(())
+}
+
+#[test]
+fn a_look_ahead_tells_what_would_come(rt: HostRuntime) -> Result<(), Fail> {
+    for (name, word, x6, outcome) in &AHEAD {
+        let memory = with_numbers(rt.alloc(), *word)?;
+        let cpu = holding(0x1234, *x6, 0);
+        let prospect = match outcome {
+            Outcome::Next => decode(*word).map(Prospect::Next),
+            Outcome::Call => Some(Prospect::Call),
+            Outcome::End(status) => Some(Prospect::End(*status)),
+            Outcome::NoMemory => None,
+        };
+        assert_eq!(rt; Some(look(&cpu, &memory)), prospect, "{name}");
+        let is_call = *outcome == Outcome::Call;
+        assert_eq!(rt; is_at_call(&cpu, &memory), is_call, "{name}");
+    }
+    let memory = Flat::of_words(rt.alloc(), 0x1_0000, &[0x0ff0_000f])?;
+    let fence = Instr::Fence { word: 0x0ff0_000f };
+    assert_eq!(rt; look(&holding(0, 0, 0), &memory), Prospect::Next(fence));
     Ok(())
 }

@@ -26,6 +26,19 @@ impl Flat {
         })
     }
 
+    pub(crate) fn copy(&self) -> Result<Flat, AllocError> {
+        let bytes = Vec::from_slice(*self.bytes.allocator(), self.bytes.as_slice())?;
+        Ok(Flat {
+            from: self.from,
+            bytes,
+            is_full: self.is_full,
+        })
+    }
+
+    pub(crate) fn bytes(&self) -> &[u8] {
+        self.bytes.as_slice()
+    }
+
     // The place of a range among the bytes.
     fn place(&self, at: u64, len: u8) -> Result<usize, BadAddress>
         ensures whole { IsOk result ↔ ((self.now.from ≤ at) ×

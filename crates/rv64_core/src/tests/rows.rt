@@ -1,8 +1,8 @@
 // Instructions, and what each does. The words are those that LLVM's assembler writes, and the values
 // are worked out by the manual's text.
 
-use super::After;
 use super::After::{Called, Ended, Linked, WentTo, Wrote};
+use super::{After, Outcome};
 
 // The numbers with bits 63 and 0, with bit 63, with all bits below it, and with all bits.
 const ENDS: u64 = 0x8000_0000_0000_0001;
@@ -291,4 +291,27 @@ pub(crate) static BAD_STORES: [(&str, u32, u64); 6] = [
     ("sd across the end", 0x0073_3023, 0x1_000d),
     ("sd across the start", 0xfe73_3e23, 0x1_0000),
     ("sw from x0", 0x0070_2223, 0x1_0004),
+];
+
+// A name, the word, the value of x6, and what the instruction would come to in the memory of the
+// loads and stores.
+pub(crate) static AHEAD: [(&str, u32, u64, Outcome); 13] = [
+    ("addi", 0x0013_0293, 5, Outcome::Next),
+    ("lb at the last byte", 0x0003_0083, 0x1_0013, Outcome::Next),
+    ("lb at the end", 0x0003_0083, 0x1_0014, Outcome::End(139)),
+    ("sd of the last bytes", 0x0073_3023, 0x1_000c, Outcome::Next),
+    (
+        "sd across the end",
+        0x0073_3023,
+        0x1_000d,
+        Outcome::End(139),
+    ),
+    ("jal", 0x0080_02ef, 0, Outcome::Next),
+    ("jal askew", 0x0060_00ef, 0, Outcome::End(135)),
+    ("jalr askew", 0x0023_00e7, 0x2_0000, Outcome::End(135)),
+    ("branch askew", 0x0003_0163, 0, Outcome::End(135)),
+    ("branch askew, not taken", 0x0003_0163, 1, Outcome::Next),
+    ("ecall", 0x0000_0073, 5, Outcome::Call),
+    ("ebreak", 0x0010_0073, 5, Outcome::End(133)),
+    ("all zeros", 0x0000_0000, 5, Outcome::End(132)),
 ];
