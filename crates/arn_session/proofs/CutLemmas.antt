@@ -12,7 +12,7 @@ use Rattle.session_effects.specs.Effects.{Effect, committed}
 use Rattle.arn_session.specs.Answers.{effects, needs_machine}
 use Rattle.arn_session.specs.Answering.{Standpoint, standpoint_first}
 use Rattle.arn_session.specs.Cost.{cost, machine_cost, total_cost}
-use Rattle.guest_machine.specs.Differs.{rebuild_cost}
+use Rattle.solo_machine.specs.Differs.{rebuild_cost}
 use Rattle.solo_log.specs.Records.{IsRun}
 use Rattle.arn_session.specs.Transcript.{all_effects, history_behind, needs_any}
 use Rattle.arn_session.specs.CutOff.{BeginsText, FindsOut}

@@ -8,11 +8,11 @@ use Rattle.solo_model.specs.Slice.{standing}
 use Rattle.solo_model.specs.Run.{steps_from, outputs_from}
 use Rattle.solo_log.specs.Records.{records_from, IsRun}
 use Rattle.log_store.specs.Stores.{StoreState}
-use Rattle.guest_machine.specs.Recorded.{Recorded, Runs}
-use Rattle.guest_machine.specs.Legs.{leg_of}
-use Rattle.guest_machine.specs.declared.leg.Leg.{Leg}
-use Rattle.guest_machine.specs.declared.leg.LegEnd.{LegEnd}
-use Rattle.guest_machine.specs.declared.leg.LegEnd.TheVariants as leg_end
+use Rattle.solo_machine.specs.Recorded.{Recorded, Runs}
+use Rattle.solo_machine.specs.Legs.{leg_of}
+use Rattle.solo_machine.specs.declared.leg.Leg.{Leg}
+use Rattle.solo_machine.specs.declared.leg.LegEnd.{LegEnd}
+use Rattle.solo_machine.specs.declared.leg.LegEnd.TheVariants as leg_end
 use Rattle.arn_lines.specs.declared.answer.RunEnd.{RunEnd}
 use Rattle.arn_lines.specs.Texts.{ran_text}
 use Rattle.arn_session.specs.Cost.{slices_cost}

@@ -2,7 +2,7 @@
 use Rattle.std.proofs.Common.{◌≡◌, ℕ, ◌++◌, List, [], ◌∷◌, Option, option_map, Result, Ok, Err, IfErr, OnOk, IsErrAnd, refl, sym, ap, subst, ◌∙◌, append-nil}
 use Rattle.arn_base.specs.declared.records.Record.{Record}
 use Rattle.log_store.specs.Stores.{StoreState}
-use Rattle.guest_machine.specs.Recorded.{Recorded}
+use Rattle.solo_machine.specs.Recorded.{Recorded}
 use Rattle.session_effects.specs.Effects.{Effect, Commits, Prints, committed}
 use Rattle.session_effects.specs.Carrying.{StopsAt}
 use Rattle.arn_session.specs.Kept.{IsReady}

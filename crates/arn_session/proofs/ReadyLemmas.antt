@@ -4,8 +4,8 @@ use Rattle.arn_base.specs.declared.records.Record.{Record}
 use Rattle.solo_model.specs.declared.history.Input.{Input}
 use Rattle.solo_log.specs.Laws.{RecordsAreRun}
 use Rattle.solo_log.specs.Records.{records, records_from, named, IsRun}
-use Rattle.guest_machine.specs.Laws.{NamedFollow, RecordsFollow, RunsFollow, RecordsLeaveRoom}
-use Rattle.guest_machine.specs.Recorded.{Recorded, Runs, IsAfter, HasRoom}
+use Rattle.solo_machine.specs.Laws.{NamedFollow, RecordsFollow, RunsFollow, RecordsLeaveRoom}
+use Rattle.solo_machine.specs.Recorded.{Recorded, Runs, IsAfter, HasRoom}
 use Rattle.arn_session.specs.Kept.{IsReady}
 
 -- it still belongs to them after more inputs, with the records of these

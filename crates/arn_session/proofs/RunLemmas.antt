@@ -9,11 +9,11 @@ use Rattle.solo_model.specs.Deed.{is_instruction}
 use Rattle.solo_model.specs.Slice.{standing, after_steps}
 use Rattle.solo_model.specs.Run.{input_steps, after_input, steps_from, instructions_in}
 use Rattle.solo_log.specs.Records.{records_from}
-use Rattle.guest_machine.specs.declared.leg.Leg.{Leg}
-use Rattle.guest_machine.specs.declared.leg.LegEnd.{LegEnd}
-use Rattle.guest_machine.specs.declared.leg.LegEnd.TheVariants as leg_end
-use Rattle.guest_machine.specs.contracts.leg.LegEndPartialEq.TheImpl as end_eq
-use Rattle.guest_machine.specs.Legs.{leg_of, leg_end, spelled_len}
+use Rattle.solo_machine.specs.declared.leg.Leg.{Leg}
+use Rattle.solo_machine.specs.declared.leg.LegEnd.{LegEnd}
+use Rattle.solo_machine.specs.declared.leg.LegEnd.TheVariants as leg_end
+use Rattle.solo_machine.specs.contracts.leg.LegEndPartialEq.TheImpl as end_eq
+use Rattle.solo_machine.specs.Legs.{leg_of, leg_end, spelled_len}
 use Rattle.arn_lines.specs.declared.answer.RunEnd.{RunEnd}
 use Rattle.arn_lines.specs.Texts.{ran_text}
 use Rattle.arn_session.specs.Cost.{slices_cost}

@@ -5,7 +5,7 @@ use Rattle.solo_model.specs.declared.history.Input.{Input}
 use Rattle.solo_model.specs.Machine.{Machine}
 use Rattle.solo_model.specs.Run.{run, instructions_in}
 use Rattle.solo_log.specs.Records.{named}
-use Rattle.guest_machine.specs.Differs.{rebuild_cost}
+use Rattle.solo_machine.specs.Differs.{rebuild_cost}
 use Rattle.arn_lines.specs.declared.line.Line.{Line}
 use Rattle.arn_lines.specs.declared.line.Line.TheVariants as line
 use Rattle.arn_commands.specs.declared.command.Command.{Command}

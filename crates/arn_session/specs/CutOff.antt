@@ -4,7 +4,7 @@ use Rattle.arn_base.specs.declared.records.Record.{Record}
 use Rattle.arn_commands.specs.declared.command.Command.{Command}
 use Rattle.arn_commands.specs.Parts.{text_parts, whole_parts}
 use Rattle.arn_commands.specs.Commands.{EachAsks}
-use Rattle.guest_machine.specs.Differs.{rebuild_cost}
+use Rattle.solo_machine.specs.Differs.{rebuild_cost}
 use Rattle.session_effects.specs.Effects.{Effect}
 use Rattle.arn_session.specs.Answers.{needs_machine}
 use Rattle.arn_session.specs.Cost.{total_cost}

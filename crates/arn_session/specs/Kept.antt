@@ -2,7 +2,7 @@
 use Rattle.std.specs.Prelude.{List, IfSome, is_some}
 use Rattle.arn_base.specs.declared.records.Record.{Record}
 use Rattle.solo_log.specs.Records.{named, IsRun}
-use Rattle.guest_machine.specs.Recorded.{Recorded, IsAfter}
+use Rattle.solo_machine.specs.Recorded.{Recorded, IsAfter}
 use Rattle.arn_session.specs.declared.kept.Kept.{Kept}
 use Rattle.arn_session.specs.Answering.{Standpoint}
 

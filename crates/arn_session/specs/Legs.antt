@@ -4,9 +4,9 @@ use Rattle.solo_model.specs.declared.history.Input.{Input}
 use Rattle.solo_model.specs.Machine.{Machine}
 use Rattle.solo_model.specs.Slice.{standing}
 use Rattle.solo_log.specs.Records.{records_from}
-use Rattle.guest_machine.specs.declared.leg.Leg.{Leg}
-use Rattle.guest_machine.specs.declared.leg.LegEnd.TheVariants.{More}
-use Rattle.guest_machine.specs.Legs.{leg_end, spelled_len}
+use Rattle.solo_machine.specs.declared.leg.Leg.{Leg}
+use Rattle.solo_machine.specs.declared.leg.LegEnd.TheVariants.{More}
+use Rattle.solo_machine.specs.Legs.{leg_end, spelled_len}
 use Rattle.arn_session.specs.Running.{ran_by, after_inputs}
 
 -- these slices of a run with so much of the budget left lead from a machine to another, and end so

@@ -3,7 +3,7 @@ use Rattle.std.specs.Prelude.{◌≡◌, false, List}
 use Rattle.arn_base.specs.declared.records.Record.{Record}
 use Rattle.solo_log.specs.Records.{records, named, IsRun}
 use Rattle.arn_base.specs.declared.records.Differs.{Differs}
-use Rattle.guest_machine.specs.Differs.{IsFirstDifference}
+use Rattle.solo_machine.specs.Differs.{IsFirstDifference}
 use Rattle.arn_session.specs.Answering.{Standpoint}
 use Rattle.session_effects.specs.declared.halt.Halt.{Halt}
 use Rattle.session_effects.specs.declared.halt.Halt.TheVariants as halt

@@ -10,9 +10,9 @@ use Rattle.solo_model.specs.Slice.{standing, after_steps}
 use Rattle.solo_model.specs.Run.{steps_from, instructions_in, outputs_from, output_of}
 use Rattle.solo_log.specs.Records.{records_from}
 use Rattle.history_facts.specs.Facts.{is_event}
-use Rattle.guest_machine.specs.declared.leg.LegEnd.{LegEnd}
-use Rattle.guest_machine.specs.declared.leg.LegEnd.TheVariants as leg_end
-use Rattle.guest_machine.specs.Legs.{leg_of, leg_end, spelled_len}
+use Rattle.solo_machine.specs.declared.leg.LegEnd.{LegEnd}
+use Rattle.solo_machine.specs.declared.leg.LegEnd.TheVariants as leg_end
+use Rattle.solo_machine.specs.Legs.{leg_of, leg_end, spelled_len}
 use Rattle.arn_lines.specs.declared.answer.RunEnd.{RunEnd}
 use Rattle.arn_lines.specs.declared.answer.RunEnd.TheVariants.{Done, Stalled, Budget}
 use Rattle.arn_lines.specs.Texts.{out_text, ran_text}

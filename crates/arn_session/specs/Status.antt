@@ -4,8 +4,8 @@ use Rattle.arn_commands.specs.declared.error.ReadError.{ReadError}
 use Rattle.arn_commands.specs.declared.error.ReadError.TheVariants as read
 use Rattle.log_store.specs.declared.errors.OpenError.{OpenError}
 use Rattle.log_store.specs.declared.errors.OpenError.TheVariants as opening
-use Rattle.guest_machine.specs.declared.differs.RebuildError.{RebuildError}
-use Rattle.guest_machine.specs.declared.differs.RebuildError.TheVariants as rebuild
+use Rattle.solo_machine.specs.declared.differs.RebuildError.{RebuildError}
+use Rattle.solo_machine.specs.declared.differs.RebuildError.TheVariants as rebuild
 use Rattle.arn_session.specs.declared.status.Status.{Status}
 use Rattle.arn_session.specs.declared.status.Status.TheVariants as status
 use Rattle.arn_session.specs.declared.status.Damage.TheVariants as damage

@@ -14,9 +14,9 @@ ghost use Rattle.session_effects.specs.Standing.{IsCause};
 
 use arn_base::{NoMemory, Pair, Record, Sink, Steps};
 use arn_lines::{push_back, push_pair};
-use guest_machine::Machine;
 use history_facts::records_tell_events;
 use session_effects::{Halt, put_all};
+use solo_machine::Machine;
 use solo_queries::{Found, back as sources_of};
 use std::alloc::Global;
 use std::sync::ledger::Ledger;

@@ -19,10 +19,10 @@ use crate::printing::print_event;
 use crate::ready::{count_records, history_laws};
 use crate::runs::SoloRuns;
 use arn_base::{Bytes, Disk, Record, Sink};
-use guest_machine::{Machine, MachineError};
 use history_facts::{records_tell_boot, records_tell_files, records_tell_images};
 use log_store::Store;
 use session_effects::{Halt, commit, effects_follow};
+use solo_machine::{Machine, MachineError};
 use std::alloc::Global;
 
 // Commits the records of an event, and then prints its number.

@@ -1,6 +1,6 @@
 // What is kept of a history.
-use guest_machine::Machine;
 use log_store::Store;
+use solo_machine::Machine;
 use std::alloc::Global;
 
 /// The log of a history, and the machine to which its records lead, once a command has needed it.

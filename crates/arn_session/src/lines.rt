@@ -25,9 +25,9 @@ use crate::runs::SoloRuns;
 use arn_base::{Disk, Sink, Steps};
 use arn_commands::Command;
 use arn_lines::{Line, Refusal};
-use guest_machine::Machine;
 use log_store::Store;
 use session_effects::{Halt, effects_follow};
+use solo_machine::Machine;
 use std::alloc::Global;
 use std::sync::ledger::Ledger;
 

@@ -1,6 +1,6 @@
 // The machine of a history, there when a line needs it.
 ghost use Rattle.std.specs.Prelude.{◌≡◌, ◌+◌, ◌<◌, ◌≤◌, ◌^◌, All, length, is_some, IfOk, IfErr};
-ghost use Rattle.guest_machine.specs.Laws.{NamedFollow, RecordsFollow, RecordsLeaveRoom, RunsFollow};
+ghost use Rattle.solo_machine.specs.Laws.{NamedFollow, RecordsFollow, RecordsLeaveRoom, RunsFollow};
 ghost use Rattle.solo_log.specs.Laws.{RecordsAreRun};
 ghost use Rattle.result_log.specs.Spelling.{HasSpelling};
 ghost use Rattle.arn_session.specs.Cost.{machine_cost};
@@ -10,10 +10,10 @@ ghost use Rattle.arn_session.specs.Ready.{BlamesRecords, IsNotMade};
 use crate::kept::Kept;
 use crate::status::rebuild_halt;
 use arn_base::Steps;
-use guest_machine::{Machine, named_follow, records_follow, records_leave_room, runs_follow};
 use log_store::Store;
 use session_effects::Halt;
 use solo_log::records_are_run;
+use solo_machine::{Machine, named_follow, records_follow, records_leave_room, runs_follow};
 use std::sync::ledger::Ledger;
 
 /// Takes the machine out of what is kept; where it isn't there yet, it is made by running what the

@@ -3,9 +3,9 @@ ghost use Rattle.std.specs.Prelude.{◌≡◌};
 ghost use Rattle.arn_session.specs.Status.{code_of, status_of, read_halt_of, rebuild_halt_of};
 
 use arn_commands::ReadError;
-use guest_machine::{Differs, RebuildError};
 use log_store::OpenError;
 use session_effects::Halt;
+use solo_machine::{Differs, RebuildError};
 use std::fmt;
 
 /// How a session ends.

@@ -1,9 +1,9 @@
 use super::*;
 use arn_base::{Bytes, Disk, NoMemory, Numbers};
 use arn_session::{Damage, Status};
-use guest_machine::Differs;
 use log_disk::{FileDisk, FuseDisk, MemDisk};
 use log_store::{OpenError, Store};
+use solo_machine::Differs;
 use std::alloc::Global;
 use std::fs;
 use std::process::Abort;

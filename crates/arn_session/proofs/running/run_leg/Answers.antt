@@ -1,7 +1,7 @@
 use Rattle.std.proofs.Common.{◌∙◌, ◌^◌, ◌++◌, List, arith, refl, sym, ap, subst, inl}
 use Rattle.arn_base.specs.declared.records.Record.{Record}
 use Rattle.solo_log.specs.Records.{IsRun}
-use Rattle.guest_machine.specs.Legs.{leg_of}
+use Rattle.solo_machine.specs.Legs.{leg_of}
 use Rattle.arn_session.specs.Kept.{IsReady}
 use Rattle.session_effects.specs.declared.halt.Halt.TheVariants as halt
 use Rattle.arn_session.proofs.ReadyLemmas.{ready-more, room-for}
