@@ -19,6 +19,10 @@ fresh_watch = record { handlers = no_handlers; pending = none_pending }
 abbrev pub inherited : Watch → Watch
 inherited w = record { handlers = w.handlers; pending = none_pending }
 
+-- who starts anew has no handlers; what is pending stays
+abbrev pub restarted : Watch → Watch
+restarted w = record { handlers = no_handlers; pending = w.pending }
+
 -- a live process
 pub record Shown : Type 0 where
   pub view : View

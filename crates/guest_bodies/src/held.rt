@@ -1,6 +1,6 @@
 // Access of a process to its memories: the private window, and the segment in the table.
-ghost use Rattle.std.specs.Prelude.{◌≡◌, ◌≢◌, ◌+◌, None, option_copied};
-ghost use Rattle.acts_model.specs.Views.{bytes_in, reach, stands_at, written};
+ghost use Rattle.std.specs.Prelude.{◌≡◌, ◌≢◌, ◌≤◌, ◌+◌, None, length, option_copied};
+ghost use Rattle.acts_model.specs.Views.{bytes_in, reach, read, stands_at, written};
 ghost use Rattle.guest_bodies.specs.Kept.{IfHeld, IfKey, held_bytes, lent, view_of, with_held, with_key};
 ghost use Rattle.rv64_core.specs.Outcome.{Tells, OnStop};
 
@@ -91,5 +91,22 @@ pub fn bytes<'a>(
     match &segments[guest.segment?.key] {
         Some(segment) => segment.slice(at, len).ok(),
         None => unreachable!(),
+    }
+}
+
+/// The bytes of a range of addresses, none where they don't lie whole in one window.
+pub fn block<'a>(
+    guest: &'a Guest,
+    segments: &'a Vec<Option<Segment>>,
+    at: u64,
+    len: u64,
+) -> &'a [u8]
+    requires { IfHeld guest.now.segment segments.now.items }
+    ensures bytes { result.now ≡ read (view_of segments.now.items guest.now) at len }
+    ensures few { length result.now ≤ len }
+{
+    match bytes(guest, segments, at, len) {
+        Some(bytes) => bytes,
+        None => &[],
     }
 }
