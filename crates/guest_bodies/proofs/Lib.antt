@@ -16,4 +16,5 @@ pub mod Puts
 pub mod Shares
 pub mod Spelled
 pub mod Starts
+pub mod Unheld
 pub mod Window

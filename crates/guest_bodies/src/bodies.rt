@@ -174,8 +174,8 @@ impl Bodies {
         self.guests[pid as usize] = None;
     }
 
-    /// A process makes a child in its own group, whose number it gets as the call's result. The child
-    /// shares its segment.
+    /// A process makes a child in its own group, whose number it gets as the call's result. The
+    /// child shares its segment.
     pub fn forks(&mut self, pid: u32, child: u32, event: u64) -> Result<(), NoMemory>
         requires live { IsLive self.old pid }
         requires dead { IsNone (nth self.old child) }

@@ -17,4 +17,4 @@ mod tests;
 mod windows;
 
 pub use bodies::Bodies;
-pub use law::later_is_fresh;
+pub use law::{later_is_fresh, others_stay_unheld};
