@@ -1,11 +1,9 @@
 -- What an image is, and the first window that it gives.
-use Rattle.std.proofs.Common.{◌≡◌, ℕ, ◌+◌, ◌-◌, ◌≤◌, ◌++◌, ◌∙◌, Bool, true, false, cond, List, [], ◌∷◌, length, take, drop, replicate, Option, Some, None, option_map, unwrap_or, refl, sym, ap, subst, arith, length-append, length-take, nat_le, ◌&&◌, bytes_eq}
-use Rattle.std.proofs.lemmas.Bool.Decides.{nat_tests}
+use Rattle.std.proofs.Common.{◌≡◌, ℕ, ◌+◌, ◌-◌, ◌≤◌, ◌++◌, ◌∙◌, Bool, true, cond, List, length, take, drop, replicate, Some, None, sym, ap, arith, length-append}
 use Rattle.std.proofs.lemmas.List.{take-replicate, drop-replicate, length-replicate, drop_all, append-nil}
 use Rattle.arn_base.specs.Disk.{overwrite}
-use Rattle.arn_base.specs.Window.{Window, bytes_at, is_whole_in, window_bytes}
 use Rattle.parts_model.specs.declared.limits.TheConstants.{WINDOW_START, WINDOW_END, WINDOW_LEN}
-use Rattle.parts_model.specs.Image.{Image, fits_window, image_of, is_image, read_as_image, can_enter, image_name, header_len}
+use Rattle.parts_model.specs.Image.{Image, image_of, is_image, read_as_image}
 use Rattle.parts_model.specs.Memory.{zeros}
 use Rattle.acts_model.specs.Views.{among_zeros}
 

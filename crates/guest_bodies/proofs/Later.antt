@@ -1,9 +1,8 @@
 -- A later event made nothing that is held.
 use Rattle.std.proofs.Common.{◌≡◌, ◌<◌, ℕ, Option, Some, None, IfSome, option_map, subst, sym, arith}
-use Rattle.acts_model.specs.Bodies.{Body, Bodies, View, body_at, view}
-use Rattle.guest_bodies.specs.Follows.{Shows}
+use Rattle.acts_model.specs.Bodies.{Body, View, body_at, view}
 use Rattle.guest_bodies.specs.Fresh.{IsBefore, LaterIsFresh}
-use Rattle.guest_bodies.specs.Shown.{Guests, IsFresh, IsUnheldBy}
+use Rattle.guest_bodies.specs.Shown.{IsUnheldBy}
 
 unnamed : (event : ℕ) (o : Option ℕ) → IfSome o (λ made. made < event) → o ≡ Some event → ⊥
 unnamed event None before e = cc

@@ -1,10 +1,10 @@
 -- One process among none.
-use Rattle.std.proofs.Common.{◌≡◌, ℕ, ◌==◌, Bool, true, false, List, [], Option, Some, None, IsSome, IsNone, IfSome, is_some, option_map, ap, subst, sym, refl, ◌∙◌, arith}
+use Rattle.std.proofs.Common.{◌≡◌, ℕ, ◌==◌, Bool, true, false, [], Option, Some, None, IsSome, IsNone, IfSome, option_map, ap, subst, sym, refl, ◌∙◌, arith}
 use Rattle.std.proofs.lemmas.Bool.{eqb-true, eqb-false}
 use Rattle.parts_model.specs.Numbered.{nth}
 use Rattle.acts_model.specs.Acts.{Beginning, begun, child_view}
-use Rattle.acts_model.specs.Bodies.{Bodies, View, nobody, body_at, nth_body, seen, put, view}
-use Rattle.guest_bodies.specs.Follows.{Shows, Follows}
+use Rattle.acts_model.specs.Bodies.{View, nobody, body_at, nth_body, seen, put}
+use Rattle.guest_bodies.specs.Follows.{Follows}
 use Rattle.guest_bodies.specs.Shown.{Guests, Shown, IsFresh, IsUnheldBy, IsLive, seen_in}
 use Rattle.guest_bodies.proofs.Puts.{own_segment, refreshed, seen-other, seen-same}
 

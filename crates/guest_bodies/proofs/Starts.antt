@@ -1,5 +1,5 @@
 -- How a process starts from an image: one that lives, or process 1 among none.
-use Rattle.std.proofs.Common.{◌≡◌, ◌≢◌, ℕ, ◌<◌, ◌==◌, Bool, true, false, cond, List, [], length, set, Option, Some, None, IsSome, IsNone, IfSome, is_some, option_map, ap, ap₂, subst, sym, refl, ◌∙◌}
+use Rattle.std.proofs.Common.{◌≡◌, ℕ, ◌<◌, ◌==◌, Bool, true, false, cond, List, [], length, set, Option, Some, None, IsNone, IfSome, is_some, option_map, ap, ap₂, subst, sym, refl, ◌∙◌}
 use Rattle.std.proofs.lemmas.Bool.{eqb-true, eqb-false}
 use Rattle.arn_base.specs.declared.machine.Cpu.{Cpu}
 use Rattle.parts_model.specs.Image.{read_as_image}
@@ -8,7 +8,7 @@ use Rattle.parts_model.specs.Signals.{no_handlers, no_signals}
 use Rattle.acts_model.specs.Acts.{Beginning, Starts, child_view, done, done_by, started, unborn}
 use Rattle.acts_model.specs.Bodies.{Bodies, View, seen, put}
 use Rattle.acts_model.specs.Views.{cpu_at_start, read, window_at_start}
-use Rattle.guest_bodies.specs.Follows.{Shows, Follows, SetsWatch}
+use Rattle.guest_bodies.specs.Follows.{Follows, SetsWatch}
 use Rattle.guest_bodies.specs.Kept.{Segments, view_of, watch_of, shown_all, IsSound}
 use Rattle.guest_bodies.specs.Shown.{Guests, Shown, Watch, IsFresh, IsUnheldBy, fresh_watch, restarted, seen_in, watch_in}
 use Rattle.guest_bodies.specs.declared.guest.Guest.{Guest}

@@ -1,9 +1,9 @@
 -- What happens at one event takes no memory that another made.
-use Rattle.std.proofs.Common.{◌≡◌, ◌≢◌, ℕ, ◌==◌, Bool, true, false, cond, List, [], ◌∷◌, Option, Some, None, IfSome, option_map, ap, subst, sym, refl, ◌∙◌}
+use Rattle.std.proofs.Common.{◌≡◌, ◌≢◌, ℕ, ◌==◌, Bool, true, false, cond, List, [], ◌∷◌, Option, Some, None, IfSome, option_map, subst, sym, refl}
 use Rattle.std.proofs.lemmas.Option.{same_Some}
 use Rattle.arn_base.specs.Window.{Window, with_bytes}
 use Rattle.arn_base.specs.declared.machine.Cpu.{Cpu}
-use Rattle.acts_model.specs.Acts.{Act, Beginning, Returns, Receives, Gives, Starts, Forks, Founds, Shares, Leaves, Delivers, Exits, Faults, Dies, acted, begun, beginning_of, child_view, done, done_by, joined, restored}
+use Rattle.acts_model.specs.Acts.{Act, Returns, Receives, Gives, Starts, Forks, Founds, Shares, Leaves, Delivers, Exits, Faults, Dies, acted, beginning_of, child_view, done, done_by, joined, restored}
 use Rattle.acts_model.specs.Bodies.{Body, Bodies, View, become, body_at, put, remove, seen, view}
 use Rattle.acts_model.specs.Views.{reach, with_cpu, with_reach, written}
 use Rattle.guest_bodies.specs.Follows.{Shows}

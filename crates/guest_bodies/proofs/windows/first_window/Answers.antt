@@ -1,4 +1,4 @@
-use Rattle.std.proofs.Common.{◌≡◌, ◌-◌, ◌∙◌, List, ℕ, length, ap}
+use Rattle.std.proofs.Common.{◌-◌, ◌∙◌, List, ℕ, length, ap}
 use Rattle.arn_base.specs.Disk.{overwrite}
 use Rattle.parts_model.specs.declared.limits.TheConstants.{WINDOW_START, WINDOW_LEN}
 use Rattle.guest_bodies.proofs.Images.{first-window}

@@ -1,6 +1,6 @@
-use Rattle.std.proofs.Common.{◌≡◌, List, ℕ, [], Some, set, subst, sym}
+use Rattle.std.proofs.Common.{Some, set, subst, sym}
 use Rattle.acts_model.specs.Acts.{Starts, done, unborn}
-use Rattle.acts_model.specs.Bodies.{Bodies, put}
+use Rattle.acts_model.specs.Bodies.{put}
 use Rattle.guest_bodies.specs.Follows.{Follows, SetsWatch}
 use Rattle.guest_bodies.specs.Kept.{shown_all, IsSound}
 use Rattle.guest_bodies.specs.Shown.{fresh_watch}

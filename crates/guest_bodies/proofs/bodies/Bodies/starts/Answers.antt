@@ -1,7 +1,6 @@
 use Rattle.std.proofs.lemmas.Option.{same_Some}
-use Rattle.std.proofs.Common.{◌≡◌, List, ℕ, Option, Some, option_map, set, subst, sym, ap, ◌∙◌}
+use Rattle.std.proofs.Common.{Some, option_map, set, subst, sym, ap, ◌∙◌}
 use Rattle.acts_model.specs.Acts.{Starts, done}
-use Rattle.acts_model.specs.Bodies.{View}
 use Rattle.acts_model.specs.Views.{read}
 use Rattle.guest_bodies.specs.Follows.{Follows, SetsWatch}
 use Rattle.guest_bodies.specs.Kept.{view_of, shown_all, IsSound}
