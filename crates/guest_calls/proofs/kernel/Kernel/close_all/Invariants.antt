@@ -1,0 +1,7 @@
+use Rattle.std.proofs.Common.{◌≡◌, drop}
+use Rattle.arn_model.specs.Kernel.{all_dropped, descriptors_of}
+use Rattle.guest_calls.proofs.Closing.{IsClosing}
+use Rattle.guest_calls.proofs.kernel.Kernel.close_all.Given as goal
+
+abbrev pub invariant-loop-descriptor : goal.invariant-loop-descriptor
+invariant-loop-descriptor l = IsClosing l.pid l.descriptor l.fn.self l.self
