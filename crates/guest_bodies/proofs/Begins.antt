@@ -1,10 +1,10 @@
 -- A process is put where none was.
-use Rattle.std.proofs.Common.{◌≡◌, ◌≢◌, ℕ, ◌<◌, List, length, set, Option, Some, None, IsSome, IfSome, option_map, ap, subst, sym, refl, ◌∙◌}
+use Rattle.std.proofs.Common.{◌≡◌, ◌≢◌, ℕ, ◌<◌, List, length, set, Option, Some, None, IsSome, IfSome, option_map, ap, subst, sym, ◌∙◌}
 use Rattle.parts_model.specs.Numbered.{nth}
 use Rattle.acts_model.specs.Bodies.{put}
 use Rattle.guest_bodies.specs.Follows.{Follows, SetsWatch}
-use Rattle.guest_bodies.specs.Kept.{Segments, view_of, watch_of, shown_all, IsApart, IsSound}
-use Rattle.guest_bodies.specs.Shown.{Guests, Watch, IsFresh}
+use Rattle.guest_bodies.specs.Kept.{Segments, view_of, watch_of, shown_all, IsSound}
+use Rattle.guest_bodies.specs.Shown.{Guests, IsFresh}
 use Rattle.guest_bodies.specs.declared.guest.Guest.{Guest}
 use Rattle.guest_bodies.specs.declared.guest.Shared.{Shared}
 use Rattle.guest_bodies.proofs.Changes.{Changes, key_of, same-keeps, watch-shown, sound-put, follows-put}

@@ -1,18 +1,18 @@
 -- One process changes, and with it perhaps the bytes of the segment that it holds.
-use Rattle.std.proofs.Common.{◌≡◌, ◌≢◌, ℕ, ◌==◌, Bool, true, false, cond, List, [], ◌∷◌, map, set, Option, None, Some, IsSome, IfSome, is_some, option_map, unwrap_or, refl, sym, ap, ap₂, subst, ◌∙◌, ne_eqb}
+use Rattle.std.proofs.Common.{◌≡◌, ◌≢◌, ℕ, ◌==◌, Bool, true, false, cond, List, [], set, Option, None, Some, IsSome, IfSome, is_some, option_map, unwrap_or, refl, sym, ap, ap₂, subst, ◌∙◌, ne_eqb}
 use Rattle.std.proofs.lemmas.Bool.{eq-eqb, eqb-true, eqb-false}
 use Rattle.std.proofs.lemmas.List.{map-set}
 use Rattle.parts_model.specs.Numbered.{nth}
 use Rattle.acts_model.specs.Acts.{Act, acted, joined, done_by, done}
-use Rattle.acts_model.specs.Bodies.{Bodies, View, seen, put, become, remove}
+use Rattle.acts_model.specs.Bodies.{Bodies, View, seen, put, become}
 use Rattle.guest_bodies.specs.Follows.{Shows, Follows, KeepsWatches}
 use Rattle.guest_bodies.specs.Kept.{Segments, body_of, held_bytes, view_of, shown_of, watch_of, shown_all, with_held, IfHeld, IsWhole, SameNames, IsApart, IsSound}
 use Rattle.guest_bodies.specs.Shown.{Guests, Shown, Watch, seen_in, watch_in}
 use Rattle.guest_bodies.specs.declared.guest.Guest.{Guest}
 use Rattle.guest_bodies.specs.declared.guest.Shared.{Shared}
 use Rattle.guest_bodies.proofs.Numbers.{IsSome-within, nth-map, nth-set, nth-set_other, set-nth}
-use Rattle.guest_bodies.proofs.Places.{laid, laid_segment}
-use Rattle.guest_bodies.proofs.Puts.{refreshed, fresh_segment, own_segment, seen-other, seen-same, seen-removed}
+use Rattle.guest_bodies.proofs.Places.{laid_segment}
+use Rattle.guest_bodies.proofs.Puts.{refreshed, fresh_segment, own_segment, seen-other, seen-same}
 
 -- one process is this from now on, and every other is as before
 pub record Changes (p : ℕ) (x : Option Guest) (all new : List (Option Guest)) : Type 0 where

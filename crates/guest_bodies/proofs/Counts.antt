@@ -1,12 +1,11 @@
 -- An instruction leaves as many windows as there were.
-use Rattle.std.proofs.Common.{◌≡◌, ℕ, suc, ◌%◌, ◌==◌, List, [], ◌∷◌, length, Bool, true, false, cond, Option, None, Some, option_map, is_some, refl, sym, ap, subst, ◌∙◌}
+use Rattle.std.proofs.Common.{◌≡◌, ℕ, suc, ◌%◌, ◌==◌, List, [], ◌∷◌, length, Bool, true, false, cond, Option, None, Some, option_map, is_some, refl, ap, subst}
 use Rattle.arn_base.specs.Window.{Window, with_bytes, is_whole_in, window_with, number_at, bytes_at, bytes_of}
 use Rattle.arn_base.specs.declared.machine.Cpu.{Cpu}
-use Rattle.parts_model.specs.Memory.{windows}
 use Rattle.rv64_isa.specs.Decoded.{decoded}
 use Rattle.rv64_isa.specs.declared.instruction.Instr.{Instr}
 use Rattle.rv64_isa.specs.declared.instruction.Instr.TheVariants.{Lui, Auipc, Jal, Jalr, Branch, Load, Store, Imm, Op, Fence, Ecall, Ebreak}
-use Rattle.rv64_model.specs.Instruction.{Effect, Next, Call, End, writes, jumps, branches, loads, stores, executed, executed_if, fetched, instruction, jumped, advanced, without_bit_0}
+use Rattle.rv64_model.specs.Instruction.{Effect, Next, Call, End, jumps, branches, loads, stores, executed, executed_if, fetched, instruction, jumped, advanced, without_bit_0}
 use Rattle.rv64_model.specs.Operands.{address, store_len}
 use Rattle.rv64_model.specs.Registers.{register}
 use Rattle.rv64_model.specs.Values.{immediate, sum, is_taken, load_len, load_result}

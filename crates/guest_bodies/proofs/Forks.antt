@@ -1,12 +1,11 @@
 -- A process gets a result, and a child is put beside it.
-use Rattle.std.proofs.Common.{◌≡◌, ◌≢◌, ℕ, ◌<◌, ◌==◌, Bool, true, false, List, [], length, set, Option, Some, None, IsSome, IsNone, IfSome, is_some, option_map, ap, ap₂, subst, sym, refl, ◌∙◌, arith}
+use Rattle.std.proofs.Common.{◌≡◌, ◌≢◌, ℕ, ◌<◌, ◌==◌, Bool, true, false, List, [], length, set, Option, Some, None, IsSome, IsNone, IfSome, is_some, option_map, ap, subst, sym, refl, ◌∙◌, arith}
 use Rattle.std.proofs.lemmas.Bool.{eqb-true, eqb-false}
 use Rattle.std.proofs.Math.ListN.{length-set}
 use Rattle.parts_model.specs.Numbered.{nth}
-use Rattle.parts_model.specs.Signals.{none_pending}
 use Rattle.acts_model.specs.Acts.{Forks, Founds, done, done_by, begun, beginning_of, child_view}
 use Rattle.acts_model.specs.Bodies.{Bodies, View, seen, put}
-use Rattle.acts_model.specs.Views.{returned, with_result}
+use Rattle.acts_model.specs.Views.{returned}
 use Rattle.guest_bodies.specs.Follows.{Shows, Follows, SetsWatch}
 use Rattle.guest_bodies.specs.Kept.{Segments, body_of, view_of, shown_of, watch_of, shown_all, IfHeld, IsWhole, IsApart, IsSound}
 use Rattle.guest_bodies.specs.Shown.{Guests, Shown, Watch, IsFresh, IsUnheldBy, inherited, seen_in, watch_in}

@@ -1,10 +1,10 @@
 -- A process whose window is new.
-use Rattle.std.proofs.Common.{◌≡◌, ◌≢◌, ℕ, ◌==◌, Bool, true, false, List, set, Option, Some, None, IsSome, IfSome, option_map, ap, subst, sym, refl, ◌∙◌}
+use Rattle.std.proofs.Common.{◌≡◌, ◌≢◌, ℕ, ◌==◌, Bool, true, false, List, Option, Some, None, IsSome, IfSome, option_map, ap, subst, sym, refl, ◌∙◌}
 use Rattle.std.proofs.lemmas.Bool.{eqb-true, eqb-false}
 use Rattle.std.proofs.lemmas.Option.{same_Some}
 use Rattle.parts_model.specs.Numbered.{nth}
 use Rattle.acts_model.specs.Bodies.{View}
-use Rattle.guest_bodies.specs.Kept.{Segments, body_of, view_of, shown_all, IfHeld, IsWhole, SameNames, IsApart, IsSound}
+use Rattle.guest_bodies.specs.Kept.{Segments, body_of, view_of, shown_all, IsWhole, SameNames, IsApart, IsSound}
 use Rattle.guest_bodies.specs.Shown.{Guests, IsFresh, IsUnheldBy, seen_in}
 use Rattle.guest_bodies.specs.declared.guest.Guest.{Guest}
 use Rattle.guest_bodies.specs.declared.guest.Shared.{Shared}

@@ -1,5 +1,5 @@
 -- A segment that was lent to its process, and brought back.
-use Rattle.std.proofs.Common.{◌≡◌, ℕ, List, [], ◌∷◌, length, set, Bool, true, false, Option, None, Some, IsSome, is_some, option_map, unwrap_or, refl, sym, ap, ap₂, subst, ◌∙◌}
+use Rattle.std.proofs.Common.{◌≡◌, ℕ, List, [], ◌∷◌, length, set, Option, None, Some, IsSome, is_some, option_map, unwrap_or, refl, sym, ap, ◌∙◌}
 use Rattle.std.proofs.lemmas.List.{set-set}
 use Rattle.arn_base.specs.Window.{Window}
 use Rattle.parts_model.specs.Memory.{windows}

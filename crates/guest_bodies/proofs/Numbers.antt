@@ -1,6 +1,5 @@
 -- Things by number, after one of them changes.
-use Rattle.std.proofs.Common.{◌≡◌, ℕ, zero, suc, ◌+◌, ◌<◌, ◌≤◌, ◌==◌, Bool, true, false, cond, List, [], ◌∷◌, ◌++◌, length, map, get_or, set, Option, None, Some, IsSome, is_some, option_map, refl, sym, ap, ◌∙◌, arith, true≢false, ne_eqb}
-use Rattle.std.proofs.lemmas.Bool.{eq-eqb, eqb-true, eqb-false}
+use Rattle.std.proofs.Common.{◌≡◌, ℕ, zero, suc, ◌<◌, ◌≤◌, List, [], ◌∷◌, ◌++◌, length, map, get_or, set, Option, None, IsSome, option_map, refl, sym, ap, arith, true≢false}
 use Rattle.parts_model.specs.Numbered.{nth}
 
 module _ {A : Type 0} where

@@ -1,5 +1,5 @@
 -- Bodies and memories as places: what is put is found, and nothing else changes. No later file opens a list.
-use Rattle.std.proofs.Common.{◌≡◌, ℕ, zero, suc, List, [], ◌∷◌, refl, ap, ◌∙◌, sym, Option, Some, None, Bool, true, false, ◌==◌, ◌+◌, cond, arith, ne_eqb}
+use Rattle.std.proofs.Common.{◌≡◌, ℕ, zero, suc, List, [], ◌∷◌, refl, ap, ◌∙◌, sym, Option, Some, None, Bool, true, false, ◌==◌, cond, arith, ne_eqb}
 use Rattle.std.proofs.lemmas.Bool.{eq-eqb, eqb-true, eqb-false}
 use Rattle.acts_model.specs.Bodies.{Body, Memory, Bodies, View, nth_body, with_nth, found, with_found, body_at, with_body, memory_at, with_memory, with_segment, put, remove}
 

@@ -1,6 +1,6 @@
 -- What others see, and what the process itself sees, after it is put or removed: no memory is named beside views.
-use Rattle.std.proofs.Common.{◌≡◌, ℕ, List, [], refl, ap, ap₂, ◌∙◌, sym, subst, Option, Some, None, option_map, Bool, true, false, ◌==◌, cond, ne_eqb}
-use Rattle.std.proofs.lemmas.Bool.{eq-eqb, eqb-true, eqb-false}
+use Rattle.std.proofs.Common.{◌≡◌, ℕ, List, [], refl, ap, ap₂, ◌∙◌, sym, Option, Some, None, option_map, Bool, true, false, ◌==◌, cond, ne_eqb}
+use Rattle.std.proofs.lemmas.Bool.{eq-eqb}
 use Rattle.acts_model.specs.Bodies.{Body, Bodies, View, body_at, memory_at, view, seen, segment_bytes, put, remove}
 use Rattle.guest_bodies.proofs.Places.{laid, laid_segment, put-body, put-memory, remove-body, remove-memory}
 

@@ -1,17 +1,16 @@
 -- A process gets a fresh segment.
-use Rattle.std.proofs.Common.{◌≡◌, ◌≢◌, ℕ, ◌<◌, List, [], ◌∷◌, ◌++◌, length, set, Option, Some, None, IsSome, IfSome, is_some, option_map, unwrap_or, ap, ap₂, subst, sym, refl, ◌∙◌, arith}
+use Rattle.std.proofs.Common.{◌≡◌, ◌≢◌, ℕ, List, [], ◌∷◌, ◌++◌, length, set, Option, Some, None, IsSome, IfSome, is_some, option_map, unwrap_or, ap, ap₂, subst, sym, refl, ◌∙◌, arith}
 use Rattle.parts_model.specs.Memory.{zeros}
 use Rattle.parts_model.specs.declared.limits.TheConstants.{SEGMENT_LEN}
 use Rattle.parts_model.specs.Numbered.{nth}
 use Rattle.acts_model.specs.Acts.{Shares, done}
-use Rattle.acts_model.specs.Bodies.{View}
 use Rattle.acts_model.specs.Views.{returned}
 use Rattle.guest_bodies.specs.Follows.{Follows, KeepsWatches}
-use Rattle.guest_bodies.specs.Kept.{Segments, body_of, view_of, watch_of, shown_all, IsWhole, SameNames, IsApart, IsSound}
+use Rattle.guest_bodies.specs.Kept.{Segments, body_of, view_of, shown_all, IsWhole, SameNames, IsApart, IsSound}
 use Rattle.guest_bodies.specs.Shown.{Guests, IsUnheldBy}
 use Rattle.guest_bodies.specs.declared.guest.Guest.{Guest}
 use Rattle.guest_bodies.specs.declared.guest.Shared.{Shared}
-use Rattle.guest_bodies.proofs.Changes.{KeepsBeside, key_of, name_of, seen-shown, sound-put, follows-put, follows-done, watches-kept}
+use Rattle.guest_bodies.proofs.Changes.{KeepsBeside, name_of, seen-shown, sound-put, follows-put, follows-done, watches-kept}
 use Rattle.guest_bodies.proofs.Fresh.{IsNew}
 use Rattle.guest_bodies.proofs.InPlace.{Place}
 use Rattle.guest_bodies.proofs.Numbers.{IsSome-within, nth-push, nth-last}

@@ -1,9 +1,9 @@
 -- Bytes that are written over a private window.
-use Rattle.std.proofs.Common.{◌≡◌, ℕ, ◌+◌, ◌-◌, ◌≤◌, ◌∙◌, true, List, [], ◌∷◌, length, ap, arith}
+use Rattle.std.proofs.Common.{◌≡◌, ℕ, ◌+◌, ◌-◌, ◌≤◌, ◌∙◌, true, List, length, ap, arith}
 use Rattle.std.proofs.lemmas.Bool.{cond-true}
 use Rattle.std.proofs.lemmas.Bool.Decides.{nat_tests}
 use Rattle.arn_base.specs.Disk.{overwrite}
-use Rattle.arn_base.specs.Window.{Window, with_bytes, is_whole_in}
+use Rattle.arn_base.specs.Window.{with_bytes, is_whole_in}
 use Rattle.parts_model.specs.declared.limits.TheConstants.{WINDOW_START, WINDOW_LEN}
 use Rattle.parts_model.specs.Memory.{private_window}
 use Rattle.guest_bodies.proofs.Lent.{first_bytes}

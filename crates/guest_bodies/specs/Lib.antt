@@ -1,3 +1,4 @@
 pub mod Follows
+pub mod Fresh
 pub mod Kept
 pub mod Shown

@@ -1,10 +1,10 @@
 -- What is shown of live processes: what each sees, and how it takes signals. Processes that share a segment name it by the same event.
-use Rattle.std.specs.Prelude.{◌≡◌, ◌≢◌, ◌≤◌, ◌+◌, ◌*◌, ℕ, List, Bool, true, false, Option, Some, None, IfSome, IsSome, option_map}
+use Rattle.std.specs.Prelude.{◌≢◌, ◌≤◌, ◌+◌, ◌*◌, ℕ, List, Bool, Option, Some, IfSome, IsSome, option_map}
 use Rattle.arn_base.specs.declared.machine.Block.{Block}
 use Rattle.parts_model.specs.declared.limits.TheConstants.{BLOCK_LEN, WINDOW_LEN}
 use Rattle.parts_model.specs.Numbered.{nth}
 use Rattle.parts_model.specs.Signals.{Signals, no_handlers, none_pending}
-use Rattle.acts_model.specs.Bodies.{Body, Bodies, View, seen}
+use Rattle.acts_model.specs.Bodies.{Body, View}
 
 -- which signals have handlers, and which are pending
 pub record Watch : Type 0 where
@@ -18,6 +18,10 @@ fresh_watch = record { handlers = no_handlers; pending = none_pending }
 -- a child has the same handlers, and nothing pending
 abbrev pub inherited : Watch → Watch
 inherited w = record { handlers = w.handlers; pending = none_pending }
+
+-- who starts anew has no handlers; what is pending stays
+abbrev pub restarted : Watch → Watch
+restarted w = record { handlers = no_handlers; pending = w.pending }
 
 -- a live process
 pub record Shown : Type 0 where

@@ -1,19 +1,23 @@
 // The bodies of live processes.
-ghost use Rattle.std.specs.Prelude.{◌≡◌, ◌≢◌, ◌+◌, ◌↔◌, ℕ, [], true, false, Some, None, IfSome, IsNone, IsTrue, All, IfOk, OnOk, OnErr, is_some, option_map, option_copied};
-ghost use Rattle.acts_model.specs.Acts.{Act, Receives, Forks, Founds, Shares, Leaves, Delivers, begun, beginning_in, beginning_of, done, start_of};
+ghost use Rattle.std.specs.Prelude.{◌≡◌, ◌≢◌, ◌≤◌, ◌+◌, ◌↔◌, ℕ, [], true, false, Some, None, IfSome, IsNone, IsTrue, All, IfOk, OnOk, OnErr, is_some, option_map, option_copied};
+ghost use Rattle.acts_model.specs.Acts.{Act, Receives, Starts, Forks, Founds, Shares, Leaves, Delivers, begun, beginning_in, beginning_of, done, start_of, unborn};
+ghost use Rattle.acts_model.specs.Bodies.{put};
+ghost use Rattle.parts_model.specs.Image.{is_image};
 ghost use Rattle.parts_model.specs.Numbered.{nth};
 ghost use Rattle.parts_model.specs.Signals.{can_set, due_signal, handler_of, is_signal, with_handler, with_pending, without};
 ghost use Rattle.acts_model.specs.Views.{bytes_in};
 ghost use Rattle.rv64_core.specs.Outcome.{OnStop};
 ghost use Rattle.guest_bodies.specs.Follows.{Follows, KeepsWatches, Ran, Rewatches, SetsWatch, IsResult, IsEnd};
-ghost use Rattle.guest_bodies.specs.Shown.{IsFresh, IsInside, IsLive, fresh_watch, inherited, seen_in, signals_in, watch_in};
+ghost use Rattle.guest_bodies.specs.Shown.{IsFresh, IsInside, IsLive, fresh_watch, inherited, restarted, seen_in, signals_in, watch_in};
 
-use crate::guest::{Guest, Shared, begin};
+use crate::guest::{Guest, Shared, begin, boot};
 use crate::held;
+use crate::starting::First;
 use crate::table::{fork, make_room};
 use crate::windows::window_of;
 use arn_base::{Cpu, NoMemory, Start, Steps};
 use guest_mem::Segment;
+use parts_model::limits::MOST_BLOCK_BYTES;
 use rv64_core::Outcome;
 use std::alloc::Global;
 use std::marker::Model;
@@ -170,8 +174,8 @@ impl Bodies {
         self.guests[pid as usize] = None;
     }
 
-    /// A process makes a child in its own group, whose number it gets as the call's result. The child
-    /// shares its segment.
+    /// A process makes a child in its own group, whose number it gets as the call's result. The
+    /// child shares its segment.
     pub fn forks(&mut self, pid: u32, child: u32, event: u64) -> Result<(), NoMemory>
         requires live { IsLive self.old pid }
         requires dead { IsNone (nth self.old child) }
@@ -244,6 +248,55 @@ impl Bodies {
         let space = window_of(self.alloc, start.blocks.as_slice())?;
         make_room(&mut self.guests, child)?;
         self.guests[child as usize] = Some(begin(event, start, space));
+        Ok(())
+    }
+
+    /// A process starts anew from an image file. The bytes of a range of its addresses become its
+    /// argument block; where they don't lie whole in one window, it is empty.
+    pub fn starts(
+        &mut self,
+        pid: u32,
+        event: u64,
+        file: &[u8],
+        at: u64,
+        len: u64,
+    ) -> Result<(), NoMemory>
+        requires live { IsLive self.old pid }
+        requires fresh { IsFresh self.old event }
+        requires image { IsTrue (is_image file.now) }
+        requires few { len ≤ MOST_BLOCK_BYTES }
+        ensures follows { OnOk result
+            (Follows self.old (done pid event (Starts file.now at len)) self.new) }
+        ensures watches { OnOk result
+            (SetsWatch pid (option_map restarted (watch_in self.old pid)) self.old self.new) }
+        ensures err { OnErr result (self.new ≡ self.old) }
+    {
+        let first = match &self.guests[pid as usize] {
+            Some(guest) => {
+                let block = held::block(guest, &self.segments, at, len);
+                First::new(self.alloc, file, block)?
+            }
+            None => unreachable!(),
+        };
+        match &mut self.guests[pid as usize] {
+            Some(guest) => guest.starts(event, first),
+            None => unreachable!(),
+        }
+        Ok(())
+    }
+
+    /// Process 1 begins from an image file, among no process.
+    pub fn boots(&mut self, event: u64, file: &[u8]) -> Result<(), NoMemory>
+        requires none { (p : ℕ) → IsNone (nth self.old p) }
+        requires image { IsTrue (is_image file.now) }
+        ensures follows { OnOk result (Follows self.old
+            (λ b. done 1 event (Starts file.now 0 0) (put 1 (unborn event) b)) self.new) }
+        ensures watches { OnOk result (SetsWatch 1 (Some fresh_watch) self.old self.new) }
+        ensures err { OnErr result (self.new ≡ self.old) }
+    {
+        let first = First::new(self.alloc, file, &[])?;
+        make_room(&mut self.guests, 1)?;
+        self.guests[1] = Some(boot(event, first));
         Ok(())
     }
 

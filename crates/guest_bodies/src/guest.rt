@@ -3,11 +3,12 @@ ghost use Rattle.std.specs.Prelude.{◌≡◌, Some, None, IfOk, is_some, unwrap
 ghost use Rattle.acts_model.specs.Acts.{cut_off};
 ghost use Rattle.acts_model.specs.Views.{returned};
 ghost use Rattle.parts_model.specs.Blocks.{blocks_of};
-ghost use Rattle.parts_model.specs.Signals.{no_signals, none_pending};
+ghost use Rattle.parts_model.specs.Signals.{no_handlers, no_signals, none_pending};
 ghost use Rattle.rv64_model.specs.Registers.{with_register};
 
 use crate::reach::Reach;
 use crate::registers;
+use crate::starting::First;
 use arn_base::{Cpu, NoMemory, Start};
 use guest_mem::Space;
 use guest_signals::Signals;
@@ -75,10 +76,8 @@ impl Guest {
             space: self.memory.space.copy()?,
             segment: None,
         };
-        let mut cpu = self.cpu;
-        registers::set_result(&mut cpu, 0);
         Ok(Guest {
-            cpu,
+            cpu: registers::of_child(&self.cpu),
             signals: self.signals.child(),
             memory,
             made: event,
@@ -97,6 +96,26 @@ impl Guest {
         self.returns(0);
     }
 
+    /// A process starts anew. The event makes its private window.
+    pub fn starts(&mut self, event: u64, first: First)
+        ensures { self.new ≡ record {
+          cpu = first.cpu;
+          signals = record self.old.signals { handlers = no_handlers; slot = None };
+          memory = record { space = first.space; segment = None };
+          made = event;
+          segment = None;
+        } }
+    {
+        self.cpu = first.cpu;
+        self.signals.clear();
+        self.memory = Reach {
+            space: first.space,
+            segment: None,
+        };
+        self.made = event;
+        self.segment = None;
+    }
+
     /// How the child of a fork begins.
     pub fn start(&self) -> Result<Start, NoMemory>
         ensures { IfOk result (λ start. start ≡ record {
@@ -105,11 +124,11 @@ impl Guest {
           blocks = blocks_of self.now.memory.space;
         }) }
     {
-        let blocks = self.memory.space.blocks()?;
-        let mut cpu = self.cpu;
-        registers::set_result(&mut cpu, 0);
-        let slot = self.signals.slot().copied();
-        Ok(Start { cpu, slot, blocks })
+        Ok(Start {
+            cpu: registers::of_child(&self.cpu),
+            slot: self.signals.slot().copied(),
+            blocks: self.memory.space.blocks()?,
+        })
     }
 }
 
@@ -134,6 +153,29 @@ pub fn begin(event: u64, start: &Start, space: Space) -> Guest
     Guest {
         cpu: start.cpu,
         signals,
+        memory,
+        made: event,
+        segment: None,
+    }
+}
+
+/// Process 1 as it begins. The event makes its private window.
+pub fn boot(event: u64, first: First) -> Guest
+    ensures { result ≡ record {
+      cpu = first.cpu;
+      signals = no_signals;
+      memory = record { space = first.space; segment = None };
+      made = event;
+      segment = None;
+    } }
+{
+    let memory = Reach {
+        space: first.space,
+        segment: None,
+    };
+    Guest {
+        cpu: first.cpu,
+        signals: Signals::new(),
         memory,
         made: event,
         segment: None,

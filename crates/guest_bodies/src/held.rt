@@ -1,6 +1,6 @@
 // Access of a process to its memories: the private window, and the segment in the table.
-ghost use Rattle.std.specs.Prelude.{◌≡◌, ◌≢◌, ◌+◌, None, option_copied};
-ghost use Rattle.acts_model.specs.Views.{bytes_in, reach, stands_at, written};
+ghost use Rattle.std.specs.Prelude.{◌≡◌, ◌≢◌, ◌≤◌, ◌+◌, None, length, option_copied};
+ghost use Rattle.acts_model.specs.Views.{bytes_in, reach, read, stands_at, written};
 ghost use Rattle.guest_bodies.specs.Kept.{IfHeld, IfKey, held_bytes, lent, view_of, with_held, with_key};
 ghost use Rattle.rv64_core.specs.Outcome.{Tells, OnStop};
 
@@ -30,7 +30,8 @@ fn take_back(guest: &mut Guest, segments: &mut Vec<Option<Segment>>)
     ensures guest { guest.new ≡ record guest.old {
       memory = record guest.old.memory { segment = guest.new.memory.segment };
     } }
-    ensures segments { segments.new.items ≡ with_key guest.old.segment guest.old.memory.segment segments.old.items }
+    ensures segments { segments.new.items ≡
+        with_key guest.old.segment guest.old.memory.segment segments.old.items }
 {
     if let Some(shared) = guest.segment {
         segments[shared.key] = guest.memory.segment.take();
@@ -47,9 +48,10 @@ pub fn step<L: Ledger>(
     ensures tick { steps.new ≡ steps.old + 1 }
     ensures effect { Tells result (stands_at (view_of segments.old.items guest.old))
         guest.new.cpu (reach (view_of segments.new.items guest.new)) }
-    ensures guest { guest.new ≡ record guest.old { cpu = guest.new.cpu; memory = guest.new.memory } }
-    ensures segments { segments.new.items ≡
-        with_held guest.old.segment (held_bytes segments.new.items guest.old.segment) segments.old.items }
+    ensures guest { guest.new ≡
+        record guest.old { cpu = guest.new.cpu; memory = guest.new.memory } }
+    ensures segments { segments.new.items ≡ with_held guest.old.segment
+        (held_bytes segments.new.items guest.old.segment) segments.old.items }
     ensures stop { OnStop result
         (view_of segments.new.items guest.new ≡ view_of segments.old.items guest.old) }
     ensures table { OnStop result (segments.new.items ≡ segments.old.items) }
@@ -67,8 +69,8 @@ pub fn write(guest: &mut Guest, segments: &mut Vec<Option<Segment>>, at: u64, by
     ensures written { view_of segments.new.items guest.new ≡
         written at bytes.now (view_of segments.old.items guest.old) }
     ensures guest { guest.new ≡ record guest.old { memory = guest.new.memory } }
-    ensures segments { segments.new.items ≡
-        with_held guest.old.segment (held_bytes segments.new.items guest.old.segment) segments.old.items }
+    ensures segments { segments.new.items ≡ with_held guest.old.segment
+        (held_bytes segments.new.items guest.old.segment) segments.old.items }
 {
     lend(guest, segments);
     guest.memory.write(at, bytes);
@@ -91,5 +93,22 @@ pub fn bytes<'a>(
     match &segments[guest.segment?.key] {
         Some(segment) => segment.slice(at, len).ok(),
         None => unreachable!(),
+    }
+}
+
+/// The bytes of a range of addresses, none where they don't lie whole in one window.
+pub fn block<'a>(
+    guest: &'a Guest,
+    segments: &'a Vec<Option<Segment>>,
+    at: u64,
+    len: u64,
+) -> &'a [u8]
+    requires { IfHeld guest.now.segment segments.now.items }
+    ensures bytes { result.now ≡ read (view_of segments.now.items guest.now) at len }
+    ensures few { length result.now ≤ len }
+{
+    match bytes(guest, segments, at, len) {
+        Some(bytes) => bytes,
+        None => &[],
     }
 }

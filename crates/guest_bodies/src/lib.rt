@@ -7,9 +7,14 @@
 mod bodies;
 mod guest;
 mod held;
+mod law;
 mod reach;
 mod registers;
+mod starting;
 mod table;
+#[cfg(test)]
+mod tests;
 mod windows;
 
 pub use bodies::Bodies;
+pub use law::{later_is_fresh, others_stay_unheld};

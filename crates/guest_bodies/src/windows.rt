@@ -1,13 +1,15 @@
 // The private window of a process that begins.
 ghost use Rattle.std.specs.Prelude.{◌≡◌, ◌+◌, ◌≤◌, length, IfOk, All};
 ghost use Rattle.arn_base.specs.Disk.{overwrite};
+ghost use Rattle.acts_model.specs.Views.{window_at_start};
 ghost use Rattle.parts_model.specs.Blocks.{with_blocks};
 ghost use Rattle.parts_model.specs.Memory.{zeros};
 ghost use Rattle.guest_bodies.specs.Shown.{IsInside};
 
 use arn_base::{Block, NoMemory};
+use guest_image::Image;
 use guest_mem::Space;
-use parts_model::limits::{BLOCK_LEN, WINDOW_LEN, WINDOW_START};
+use parts_model::limits::{BLOCK_LEN, WINDOW_END, WINDOW_LEN, WINDOW_START};
 use std::alloc::Global;
 
 /// Lays bytes over those at an offset of a window.
@@ -36,5 +38,25 @@ pub fn window_of(alloc: Global, blocks: &[Block]) -> Result<Space, NoMemory>
             &block.bytes,
         );
     }
+    Ok(space)
+}
+
+/// The window of a process that starts: an image's body at its load address, and over it the
+/// argument block at the end.
+pub fn first_window(
+    alloc: Global,
+    image: Image,
+    body: &[u8],
+    block: &[u8],
+) -> Result<Space, NoMemory>
+    requires low { WINDOW_START ≤ image.load }
+    requires high { image.load + length body.now ≤ WINDOW_END }
+    requires block { length block.now ≤ WINDOW_LEN }
+    ensures { IfOk result (λ space. space ≡ window_at_start
+        (record { entry = image.entry; load = image.load; body = body.now }) block.now) }
+{
+    let mut space = Space::new(alloc)?;
+    lay(&mut space, image.load - WINDOW_START, body);
+    lay(&mut space, WINDOW_LEN - block.len() as u64, block);
     Ok(space)
 }

@@ -1,7 +1,6 @@
-use Rattle.std.proofs.Common.{◌≡◌, ℕ, List, Option, option_map, is_some, refl, sym, ap, ap₂, subst, ◌∙◌, length}
+use Rattle.std.proofs.Common.{◌≡◌, ℕ, List, Option, option_map, is_some, sym, ap, ap₂, subst, ◌∙◌, length}
 use Rattle.arn_base.specs.Window.{Window}
 use Rattle.arn_base.specs.declared.machine.Cpu.{Cpu}
-use Rattle.acts_model.specs.Bodies.{View, Body}
 use Rattle.acts_model.specs.Views.{reach, stands_at}
 use Rattle.parts_model.specs.Memory.{windows}
 use Rattle.rv64_core.specs.Outcome.{Tells}
@@ -10,7 +9,7 @@ use Rattle.guest_bodies.specs.Kept.{Segments, lent, with_key, with_held, held_by
 use Rattle.guest_bodies.specs.declared.guest.Guest.{Guest}
 use Rattle.guest_bodies.specs.declared.guest.Shared.{Shared}
 use Rattle.guest_bodies.proofs.Counts.{told-leaves, OnStop-map, OnStop-both}
-use Rattle.guest_bodies.proofs.Lent.{back, windows-some, windows-space, windows-segment, back-held, back-seen, back-same, lent-seen, first_bytes}
+use Rattle.guest_bodies.proofs.Lent.{back, windows-some, windows-segment, back-held, back-seen, back-same, lent-seen, first_bytes}
 use Rattle.guest_bodies.proofs.held.step.Goals as goal
 use Rattle.guest_bodies.proofs.held.step.Goals.{After-take_back}
 use Rattle.guest_bodies.proofs.held.step.Given.{Over}

@@ -1,4 +1,4 @@
-use Rattle.std.proofs.Common.{◌≡◌, Option, is_some, sym, ap, ap₂, ◌∙◌, length}
+use Rattle.std.proofs.Common.{◌≡◌, Option, sym, ap, ap₂, ◌∙◌, length}
 use Rattle.arn_base.specs.Window.{Window}
 use Rattle.guest_bodies.specs.Kept.{Segments, lent, with_key, with_held, held_bytes, windows_of}
 use Rattle.guest_bodies.specs.declared.guest.Guest.{Guest}

@@ -1,1 +1,0 @@
-use Rattle.guest_bodies.proofs.table.make_room.Goals as goal

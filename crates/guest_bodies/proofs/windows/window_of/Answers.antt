@@ -1,6 +1,4 @@
-use Rattle.std.proofs.Common.{◌≡◌, ◌≤◌, ◌∙◌, length, arith}
-use Rattle.parts_model.specs.Memory.{zeros}
-use Rattle.parts_model.specs.declared.limits.TheConstants.{WINDOW_LEN}
+use Rattle.std.proofs.Common.{◌≤◌, ◌∙◌, length, arith}
 use Rattle.guest_bodies.proofs.Laid.{one-more, none-left}
 use Rattle.guest_bodies.proofs.windows.window_of.Goals as goal
 

@@ -1,4 +1,4 @@
-use Rattle.std.proofs.Common.{◌≡◌, List, ℕ, [], Option, Some, None, set, subst, sym, ap, ◌∙◌}
+use Rattle.std.proofs.Common.{◌≡◌, List, ℕ, [], Some, None, set, subst, ap, ◌∙◌}
 use Rattle.arn_base.specs.declared.machine.Block.{Block}
 use Rattle.acts_model.specs.Acts.{beginning_in, child_view}
 use Rattle.acts_model.specs.Bodies.{View, put}

@@ -1,4 +1,4 @@
-use Rattle.std.proofs.Common.{ap, sym, refl, Some, ◌∙◌}
+use Rattle.std.proofs.Common.{ap, sym, refl, Some}
 use Rattle.guest_bodies.specs.Kept.{view_of, watch_of}
 use Rattle.guest_bodies.specs.declared.guest.Guest.{Guest}
 use Rattle.guest_bodies.proofs.InPlace.{place, in_place-sound, in_place-follows, in_place-watches}

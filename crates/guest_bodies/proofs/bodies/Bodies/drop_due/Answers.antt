@@ -2,7 +2,6 @@ use Rattle.std.proofs.Common.{Option, IfSome, ap, refl, sym, subst, set, Some}
 use Rattle.parts_model.specs.Signals.{Signals, due_signal, without}
 use Rattle.guest_bodies.specs.Follows.{Rewatches}
 use Rattle.guest_bodies.specs.Kept.{view_of, watch_of, shown_all}
-use Rattle.guest_bodies.specs.Shown.{Watch}
 use Rattle.guest_bodies.proofs.InPlace.{place, in_place-sound, in_place-rewatches, in_place-signals}
 use Rattle.guest_bodies.proofs.bodies.Bodies.drop_due.Goals as goal
 

@@ -1,4 +1,4 @@
-use Rattle.std.proofs.Common.{Option, Some, is_some, ap, refl, ◌∙◌}
+use Rattle.std.proofs.Common.{Option, is_some, ap, ◌∙◌}
 use Rattle.guest_bodies.specs.Kept.{view_of, watch_of}
 use Rattle.guest_bodies.specs.declared.guest.Guest.{Guest}
 use Rattle.guest_bodies.proofs.Changes.{live-there}

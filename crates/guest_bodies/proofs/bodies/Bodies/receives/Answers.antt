@@ -1,4 +1,4 @@
-use Rattle.std.proofs.Common.{◌≡◌, Some, ap, sym, refl, ◌∙◌}
+use Rattle.std.proofs.Common.{Some, ap, sym, refl, ◌∙◌}
 use Rattle.acts_model.specs.Acts.{Receives}
 use Rattle.acts_model.specs.Bodies.{View}
 use Rattle.acts_model.specs.Views.{returned, with_result}

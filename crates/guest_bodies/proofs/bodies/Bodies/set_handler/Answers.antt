@@ -1,7 +1,6 @@
-use Rattle.std.proofs.Common.{ap, refl, true}
+use Rattle.std.proofs.Common.{ap, refl}
 use Rattle.parts_model.specs.Signals.{Signals, with_handler}
 use Rattle.guest_bodies.specs.Kept.{view_of, watch_of}
-use Rattle.guest_bodies.specs.Shown.{Watch}
 use Rattle.guest_bodies.proofs.InPlace.{place, in_place-sound, in_place-rewatches}
 use Rattle.guest_bodies.proofs.bodies.Bodies.set_handler.Goals as goal
 

@@ -1,8 +1,8 @@
-use Rattle.std.proofs.Common.{◌≡◌, set, List, Option, Some, option_map, ap, sym, subst, ◌∙◌}
+use Rattle.std.proofs.Common.{◌≡◌, set, Some, option_map, ap, sym, subst, ◌∙◌}
 use Rattle.acts_model.specs.Bodies.{View, put}
 use Rattle.acts_model.specs.Views.{reach, with_cpu, with_reach}
 use Rattle.guest_bodies.specs.Follows.{Follows}
-use Rattle.guest_bodies.specs.Kept.{Segments, held_bytes, view_of, shown_all, watch_of}
+use Rattle.guest_bodies.specs.Kept.{held_bytes, view_of, shown_all, watch_of}
 use Rattle.guest_bodies.specs.Shown.{Guests, seen_in}
 use Rattle.guest_bodies.specs.declared.guest.Guest.{Guest}
 use Rattle.guest_bodies.proofs.Changes.{seen-shown, same-shown}

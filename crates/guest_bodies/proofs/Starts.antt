@@ -1,0 +1,144 @@
+-- How a process starts from an image: one that lives, or process 1 among none.
+use Rattle.std.proofs.Common.{◌≡◌, ℕ, ◌<◌, ◌==◌, Bool, true, false, cond, List, [], length, set, Option, Some, None, IsNone, IfSome, is_some, option_map, ap, ap₂, subst, sym, refl, ◌∙◌}
+use Rattle.std.proofs.lemmas.Bool.{eqb-true, eqb-false}
+use Rattle.arn_base.specs.declared.machine.Cpu.{Cpu}
+use Rattle.parts_model.specs.Image.{read_as_image}
+use Rattle.parts_model.specs.Numbered.{nth}
+use Rattle.parts_model.specs.Signals.{no_handlers, no_signals}
+use Rattle.acts_model.specs.Acts.{Beginning, Starts, child_view, done, done_by, started, unborn}
+use Rattle.acts_model.specs.Bodies.{Bodies, View, seen, put}
+use Rattle.acts_model.specs.Views.{cpu_at_start, read, window_at_start}
+use Rattle.guest_bodies.specs.Follows.{Follows, SetsWatch}
+use Rattle.guest_bodies.specs.Kept.{Segments, view_of, watch_of, shown_all, IsSound}
+use Rattle.guest_bodies.specs.Shown.{Guests, Shown, Watch, IsFresh, IsUnheldBy, fresh_watch, restarted, seen_in, watch_in}
+use Rattle.guest_bodies.specs.declared.guest.Guest.{Guest}
+use Rattle.guest_bodies.specs.declared.starting.First.{First}
+use Rattle.guest_bodies.proofs.Begins.{begins-sound, begins-follows, begins-watch}
+use Rattle.guest_bodies.proofs.Changes.{follows-done, seen-shown, watch-shown}
+use Rattle.guest_bodies.proofs.Forks.{IsGrown}
+use Rattle.guest_bodies.proofs.InPlace.{Place}
+use Rattle.guest_bodies.proofs.Numbers.{IsSome-within}
+use Rattle.guest_bodies.proofs.Places.{laid}
+use Rattle.guest_bodies.proofs.Puts.{fresh_segment, refreshed, seen-other, seen-same}
+
+abbrev pub starting : Guest → ℕ → First → Guest
+starting g event first =
+    record {
+      cpu = first.cpu;
+      signals = record g.signals { handlers = no_handlers; slot = None };
+      memory = record { space = first.space; segment = None };
+      made = event;
+      segment = None;
+    }
+
+abbrev pub booting : ℕ → First → Guest
+booting event first =
+    record { cpu = first.cpu; signals = no_signals; memory = record { space = first.space; segment = None }; made = event; segment = None }
+
+-- registers and window as an image and a block give them
+pub record IsFirst (file block : List ℕ) (first : First) : Type 0 where
+  pub cpu : first.cpu ≡ cpu_at_start (read_as_image file).entry (length block)
+  pub space : first.space ≡ window_at_start (read_as_image file) block
+
+started-is : (segs : Segments) (event : ℕ) (file block : List ℕ) (first : First) → IsFirst file block first → view_of segs (booting event first) ≡ started event (read_as_image file) block
+started-is segs event file block first is =
+    ap₂ (λ (c : Cpu) (w : List ℕ). record { body = record { cpu = c; slot = None; window = event; segment = None }; window = w; segment = [] }) is.cpu is.space
+
+same-grown : (all : List (Option Guest)) → IsGrown all all
+same-grown all = record { same = λ q. refl }
+
+-- a process that lives
+module _ {guests : Guests} {all : List (Option Guest)} {segs : Segments} {p : ℕ} {g : Guest} (event : ℕ) (first : First) (at : Place guests all segs p g (starting g event first)) (fresh : IsFresh guests event) where
+  room : p < length all
+  room = IsSome-within all p (ap (λ (o : Option Guest). is_some o) at.stands)
+
+  pub starts-sound : IsSound (set all p (Some (starting g event first))) segs
+  starts-sound = begins-sound guests all all segs p event (starting g event first) at.shown at.sound fresh (same-grown all) room refl refl
+
+  starts-seen : seen_in guests p ≡ Some (view_of segs g)
+  starts-seen = ap (λ (gs : Guests). seen_in gs p) (sym at.shown) ∙ (seen-shown all segs p ∙ ap (option_map (view_of segs)) at.stands)
+
+  pub starts-follows : (file block : List ℕ) (from len : ℕ) → IsFirst file block first → block ≡ read (view_of segs g) from len → Follows guests (done p event (Starts file from len)) (shown_all (set all p (Some (starting g event first))) segs)
+  starts-follows file block from len is bytes =
+      follows-done guests (shown_all (set all p (Some (starting g event first))) segs) p event (Starts file from len) (view_of segs g) (view_of segs (starting g event first)) starts-seen
+      (ap (λ (l : List ℕ). Some (started event (read_as_image file) l)) (sym bytes) ∙ ap (λ (v : View). Some v) (sym (started-is segs event file block first is)))
+      (λ b. refl)
+      (begins-follows guests all all segs p event (starting g event first) at.shown at.sound fresh (same-grown all) room refl refl)
+
+  pub starts-watch : SetsWatch p (option_map restarted (watch_in guests p)) guests (shown_all (set all p (Some (starting g event first))) segs)
+  starts-watch =
+      subst (λ (w : Option Watch). SetsWatch p w guests (shown_all (set all p (Some (starting g event first))) segs))
+      (sym (ap (option_map restarted) (ap (λ (gs : Guests). watch_in gs p) (sym at.shown) ∙ (watch-shown all segs p ∙ ap (option_map watch_of) at.stands))))
+      (begins-watch guests all all segs p event (starting g event first) at.shown at.sound fresh (same-grown all) room refl refl)
+
+-- where no process lives, every event is fresh
+pub none-fresh : (guests : Guests) (event : ℕ) → ((p : ℕ) → IsNone (nth guests p)) → IsFresh guests event
+none-fresh guests event none = record { unheld = λ p. by_shown (nth guests p) (none p) }
+  where
+    by_shown : (o : Option Shown) → IsNone o → IfSome (option_map (λ (s : Shown). s.view) o) (λ v. IsUnheldBy event v.body)
+    by_shown None is = tt
+    by_shown (Some s) is = cc
+
+-- a process that is put twice in the same window
+laid-twice : (event : ℕ) (b c : Beginning) (k : ℕ) (old : List ℕ) → laid (child_view event b None []) k (laid (child_view event c None []) k old) ≡ laid (child_view event b None []) k old
+laid-twice event b c k old = by_test (k == event)
+  where
+    by_test : (t : Bool) → cond t b.window (cond t c.window old) ≡ cond t b.window old
+    by_test true = refl
+    by_test false = refl
+
+refreshed-twice : (event : ℕ) (b c : Beginning) (v : View) → refreshed (child_view event b None []) (refreshed (child_view event c None []) v) ≡ refreshed (child_view event b None []) v
+refreshed-twice event b c v =
+    ap₂ (λ (w s : List ℕ). record { body = v.body; window = w; segment = s }) (laid-twice event b c v.body.window v.window) (by_segment v.body.segment)
+  where
+    by_segment : (o : Option ℕ) → fresh_segment (child_view event b None []) o (fresh_segment (child_view event c None []) o v.segment) ≡ fresh_segment (child_view event b None []) o v.segment
+    by_segment None = refl
+    by_segment (Some k) = laid-twice event b c k v.segment
+
+put-twice : (p event : ℕ) (b c : Beginning) (old : Bodies) (q : ℕ) → seen (put p (child_view event b None []) (put p (child_view event c None []) old)) q ≡ seen (put p (child_view event b None []) old) q
+put-twice p event b c old q = by_test (q == p) refl
+  where
+    twice : (o : Option View) → option_map (refreshed (child_view event b None [])) (option_map (refreshed (child_view event c None [])) o) ≡ option_map (refreshed (child_view event b None [])) o
+    twice None = refl
+    twice (Some v) = ap (λ (w : View). Some w) (refreshed-twice event b c v)
+
+    own : seen (put p (child_view event b None []) (put p (child_view event c None []) old)) p ≡ seen (put p (child_view event b None []) old) p
+    own = seen-same p (child_view event b None []) (put p (child_view event c None []) old) ∙ sym (seen-same p (child_view event b None []) old)
+
+    other : (q ≡ p → ⊥) → seen (put p (child_view event b None []) (put p (child_view event c None []) old)) q ≡ seen (put p (child_view event b None []) old) q
+    other ne =
+        seen-other p (child_view event b None []) (put p (child_view event c None []) old) q ne
+        ∙ (ap (option_map (refreshed (child_view event b None []))) (seen-other p (child_view event c None []) old q ne)
+        ∙ (twice (seen old q) ∙ sym (seen-other p (child_view event b None []) old q ne)))
+
+    by_test : (t : Bool) → (q == p) ≡ t → seen (put p (child_view event b None []) (put p (child_view event c None []) old)) q ≡ seen (put p (child_view event b None []) old) q
+    by_test true e = subst (λ (i : ℕ). seen (put p (child_view event b None []) (put p (child_view event c None []) old)) i ≡ seen (put p (child_view event b None []) old) i) (sym (eqb-true q p e)) own
+    by_test false e = other (eqb-false q p e)
+
+-- what process 1 sees before and behind its start
+abbrev before_birth : ℕ → Beginning
+before_birth event = record { cpu = (unborn event).body.cpu; slot = None; window = (unborn event).window }
+
+abbrev at_birth : List ℕ → Beginning
+at_birth file = record { cpu = cpu_at_start (read_as_image file).entry 0; slot = None; window = window_at_start (read_as_image file) [] }
+
+pub born : (event : ℕ) (file : List ℕ) (guests new : Guests) → Follows guests (put 1 (started event (read_as_image file) [])) new → Follows guests (λ b. done 1 event (Starts file 0 0) (put 1 (unborn event) b)) new
+born event file guests new follows =
+    record { shows = λ b h. record { same = λ q. (follows.shows b h).same q ∙ (sym (put-twice 1 event (at_birth file) (before_birth event) b q) ∙ ap (λ (c : Bodies). seen c q) (sym (done_is b))) } }
+  where
+    done_is : (b : Bodies) → done 1 event (Starts file 0 0) (put 1 (unborn event) b) ≡ put 1 (started event (read_as_image file) []) (put 1 (unborn event) b)
+    done_is b = ap (λ (o : Option View). done_by 1 event (Starts file 0 0) o (put 1 (unborn event) b)) (seen-same 1 (unborn event) b)
+
+-- process 1 among none
+module _ (guests : Guests) (all grown : List (Option Guest)) (segs : Segments) (event : ℕ) (first : First) (is : shown_all all segs ≡ guests) (sound : IsSound all segs) (none : (p : ℕ) → IsNone (nth guests p)) (grows : IsGrown all grown) (room : 1 < length grown) where
+  pub boots-sound : IsSound (set grown 1 (Some (booting event first))) segs
+  boots-sound = begins-sound guests all grown segs 1 event (booting event first) is sound (none-fresh guests event none) grows room refl refl
+
+  pub boots-follows : (file : List ℕ) → IsFirst file [] first → Follows guests (λ b. done 1 event (Starts file 0 0) (put 1 (unborn event) b)) (shown_all (set grown 1 (Some (booting event first))) segs)
+  boots-follows file from =
+      born event file guests (shown_all (set grown 1 (Some (booting event first))) segs)
+      (subst (λ (v : View). Follows guests (put 1 v) (shown_all (set grown 1 (Some (booting event first))) segs)) (started-is segs event file [] first from)
+      (begins-follows guests all grown segs 1 event (booting event first) is sound (none-fresh guests event none) grows room refl refl))
+
+  pub boots-watch : SetsWatch 1 (Some fresh_watch) guests (shown_all (set grown 1 (Some (booting event first))) segs)
+  boots-watch = begins-watch guests all grown segs 1 event (booting event first) is sound (none-fresh guests event none) grows room refl refl

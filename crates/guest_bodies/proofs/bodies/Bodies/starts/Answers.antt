@@ -1,0 +1,32 @@
+use Rattle.std.proofs.lemmas.Option.{same_Some}
+use Rattle.std.proofs.Common.{Some, option_map, set, subst, sym, ap, ◌∙◌}
+use Rattle.acts_model.specs.Acts.{Starts, done}
+use Rattle.acts_model.specs.Views.{read}
+use Rattle.guest_bodies.specs.Follows.{Follows, SetsWatch}
+use Rattle.guest_bodies.specs.Kept.{view_of, shown_all, IsSound}
+use Rattle.guest_bodies.specs.Shown.{restarted, watch_in}
+use Rattle.guest_bodies.specs.declared.guest.Guest.{Guest}
+use Rattle.guest_bodies.proofs.InPlace.{place}
+use Rattle.guest_bodies.proofs.Starts.{starting, starts-sound, starts-follows, starts-watch}
+use Rattle.guest_bodies.proofs.bodies.Bodies.starts.Goals as goal
+
+pub invariant_of-self : goal.invariant_of-self
+invariant_of-self c =
+    let at = place c.args.self.now c.self.inside.guests.items c.self.inside.segments.items c.args.pid c.index_mut.result.now c.in-Some-index_mut.guest (starting c.in-Some-index_mut.guest c.args.event c.in_ok-first-in-Some.first) c.self.view_is c.self.invariant c.requires.live c.index_mut.ensures.value c.in-Some-index_mut.is in
+    subst (λ (x : Guest). IsSound (set c.self.inside.guests.items c.args.pid (Some x)) c.self.inside.segments.items) (sym c.starts.ensures)
+    (starts-sound c.args.event c.in_ok-first-in-Some.first at c.requires.fresh)
+
+pub returns-clause-follows : goal.returns-clause-follows
+returns-clause-follows c =
+    let at = place c.args.self.now c.self.inside.guests.items c.self.inside.segments.items c.args.pid c.index_mut.result.now c.in-Some-index_mut.guest (starting c.in-Some-index_mut.guest c.args.event c.in_ok-first-in-Some.first) c.self.view_is c.self.invariant c.requires.live c.index_mut.ensures.value c.in-Some-index_mut.is in
+    let before = place c.args.self.now c.self.inside.guests.items c.self.inside.segments.items c.args.pid c.index.result.now c.in-Some.guest c.in-Some.guest c.self.view_is c.self.invariant c.requires.live c.index.ensures c.in-Some.is in
+    subst (λ (x : Guest). Follows c.args.self.now (done c.args.pid c.args.event (Starts c.args.file.now c.args.at c.args.len)) (shown_all (set c.self.inside.guests.items c.args.pid (Some x)) c.self.inside.segments.items)) (sym c.starts.ensures)
+    (starts-follows c.args.event c.in_ok-first-in-Some.first at c.requires.fresh c.args.file.now c.block-block.result.now c.args.at c.args.len
+    (record { cpu = c.in_ok-first-in-Some.ensures.cpu; space = c.in_ok-first-in-Some.ensures.space })
+    (c.block-block.ensures.bytes ∙ ap (λ (g : Guest). read (view_of c.self.inside.segments.items g) c.args.at c.args.len) (same_Some c.in-Some.guest c.in-Some-index_mut.guest (sym before.stands ∙ at.stands))))
+
+pub returns-clause-watches : goal.returns-clause-watches
+returns-clause-watches c =
+    let at = place c.args.self.now c.self.inside.guests.items c.self.inside.segments.items c.args.pid c.index_mut.result.now c.in-Some-index_mut.guest (starting c.in-Some-index_mut.guest c.args.event c.in_ok-first-in-Some.first) c.self.view_is c.self.invariant c.requires.live c.index_mut.ensures.value c.in-Some-index_mut.is in
+    subst (λ (x : Guest). SetsWatch c.args.pid (option_map restarted (watch_in c.args.self.now c.args.pid)) c.args.self.now (shown_all (set c.self.inside.guests.items c.args.pid (Some x)) c.self.inside.segments.items)) (sym c.starts.ensures)
+    (starts-watch c.args.event c.in_ok-first-in-Some.first at c.requires.fresh)
