@@ -1,3 +1,4 @@
+pub mod FromFile
 pub mod Requests
 pub mod Runs
 pub mod Closing

@@ -108,3 +108,6 @@ pub next-dropped : (ns : List (Option ℕ)) (i : ℕ) (k : Kernel) → i < lengt
 next-dropped [] i k within = absurd (omega arith)
 next-dropped (o ∷ ns) zero k within = first-dropped o ns k
 next-dropped (o ∷ ns) (suc i) k within = next-dropped ns i k (omega arith)
+
+pub none-fewer : (all : List (Option Opened)) (n : ℕ) → all ≡ [] → fewer n (nth all n) all ≡ []
+none-fewer all n is = ap (λ (l : List (Option Opened)). fewer n (nth l n) l) is

@@ -37,7 +37,7 @@ body-acted k pid act new follows keeps =
 
 pub body-sound : (k : Inside) (new : Guests) → IsKept k → KeepsWatches k.bodies new → IsSound new k.procs k.files k.descriptions k.booted
 body-sound k new kept keeps =
-    record { made = kept.made; alive = λ p. live-same k.bodies new p (keeps.kept p) ∙ kept.alive p; full = kept.full; before = kept.before; consoles = kept.consoles }
+    record { made = kept.made; alive = λ p. live-same k.bodies new p (keeps.kept p) ∙ kept.alive p; full = kept.full; before = kept.before; closed = kept.closed; consoles = kept.consoles }
 
 -- a process has ended
 module _ (k : Inside) (pid status : ℕ) (procs : Processes) (new : Guests) (is : procs ≡ table.ended k.procs pid (status_at k.events status)) (sets : SetsWatch pid None k.bodies new) where
@@ -64,6 +64,7 @@ module _ (k : Inside) (pid status : ℕ) (procs : Processes) (new : Guests) (is 
         alive = λ q. subst (λ (x : Processes). is_some (nth new q) ≡ is_some (live_process x q)) (sym is) (by_number q (q == pid) refl kept);
         full = λ q. subst (λ (x : Processes). IfSome (process x q) IsFull) (sym is) (full_number q (q == pid) refl kept);
         before = kept.before;
+        closed = kept.closed;
         consoles = kept.consoles;
       }
 
@@ -120,6 +121,7 @@ module _ (k : Inside) (pid signal handler : ℕ) (cut : Bool) (mid new : Guests)
         made = kept.made;
         full = kept.full;
         before = kept.before;
+        closed = kept.closed;
         consoles = kept.consoles;
         alive = λ q. live-watch new q ∙ (ap is_some (keeps.kept q) ∙ (alive-mid q (q == pid) refl ∙ (sym (live-watch k.bodies q) ∙ kept.alive q)));
       }

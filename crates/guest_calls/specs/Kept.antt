@@ -65,12 +65,13 @@ pub record AreFew (files : Files) : Type 0 where
   pub there : length files.all ≡ how_many files.all
   pub most : how_many files.all ≤ MOST_FILES
 
--- The processes that live are those with a body. No file is taken away before there is a process.
+-- The processes that live are those with a body. Before there is one, no file is taken away and nothing is open.
 pub record IsSound (guests : Guests) (processes : Processes) (files : Files) (descriptions : List (Option Opened)) (booted : Bool) : Type 0 where
   pub made : booted ≡ nat_lt 0 (length processes)
   pub alive : (p : ℕ) → is_some (nth guests p) ≡ is_some (live_process processes p)
   pub full : (p : ℕ) → IfSome (process processes p) IsFull
   pub before : booted ≡ false → AreFew files
+  pub closed : booted ≡ false → descriptions ≡ []
   pub consoles : AreConsoles descriptions
 
 abbrev pub IsKept : Inside → Type 0

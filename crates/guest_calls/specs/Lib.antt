@@ -7,3 +7,5 @@ pub mod Transfers
 pub mod Steps
 pub mod Fits
 pub mod Standing
+pub mod Starts
+pub mod Boots

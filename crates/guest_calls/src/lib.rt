@@ -4,6 +4,7 @@
 //! queue. What a call does to registers and memories is `guest_bodies`'s.
 #![tactic(auto)]
 
+mod booting;
 mod calls;
 mod console;
 mod descriptions;
@@ -15,4 +16,4 @@ mod running;
 mod transfers;
 
 pub use kernel::Kernel;
-pub use outcomes::{CallStop, Delivered, Done};
+pub use outcomes::{BootError, CallStop, Delivered, Done};

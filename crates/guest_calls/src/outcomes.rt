@@ -1,6 +1,7 @@
 // What calls and deliveries came to.
 ghost use Rattle.std.specs.Prelude.{◌≡◌};
 ghost use Rattle.guest_calls.specs.declared.outcomes.CallStop.TheVariants as stop;
+ghost use Rattle.guest_calls.specs.declared.outcomes.BootError.TheVariants as boot;
 
 use arn_base::{Extra, NoMemory};
 use thiserror::Error;
@@ -36,4 +37,23 @@ pub struct Delivered {
     pub signal: u8,
     pub cut: bool,
     pub handler: u64,
+}
+
+/// Why there was no boot.
+#[derive(Clone, Copy, Debug, PartialEq, Eq, Error)]
+pub enum BootError {
+    #[error("there is no file of this name")]
+    NoName,
+    #[error("the file is no image")]
+    NotImage,
+    #[error("out of memory")]
+    NoMemory,
+}
+
+impl From<NoMemory> for BootError {
+    ghost from_gives = { λ _ e. e ≡ boot.NoMemory };
+
+    fn from(_: NoMemory) -> BootError {
+        BootError::NoMemory
+    }
 }

@@ -3,7 +3,7 @@ use Rattle.parts_model.specs.declared.open.Description.{Description}
 use Rattle.arn_model.specs.Kernel.{Kernel, Opened, dropped}
 use Rattle.guest_calls.specs.Kept.{IsConsole, AreConsoles, state_of}
 use Rattle.guest_calls.specs.State.{State}
-use Rattle.guest_calls.proofs.Opens.{consoles-fewer, last-console, dropped-console}
+use Rattle.guest_calls.proofs.Opens.{consoles-fewer, last-console, dropped-console, none-fewer}
 use Rattle.guest_calls.proofs.kernel.Kernel.drop_description.Goals as goal
 
 pub close-requires : goal.close-requires
@@ -16,6 +16,7 @@ invariant_of-self c =
       alive = c.self.invariant.alive;
       full = c.self.invariant.full;
       before = c.self.invariant.before;
+      closed = λ early. c.drop_one.ensures.fewer ∙ none-fewer c.self.inside.descriptions c.args.number (c.self.invariant.closed early);
       consoles = subst (λ (all : List (Option Opened)). AreConsoles all) (sym c.drop_one.ensures.fewer) (consoles-fewer c.self.inside.descriptions c.args.number c.self.invariant.consoles);
     }
 
