@@ -1,10 +1,10 @@
 -- Descriptors of a process are closed one after the other.
-use Rattle.std.proofs.Common.{◌≡◌, ℕ, suc, ◌+◌, ◌<◌, length, drop, List, [], Option, Some, None, refl, sym, ap, ◌∙◌, subst, add-one, ap₂}
+use Rattle.std.proofs.Common.{◌≡◌, ℕ, suc, ◌+◌, ◌<◌, length, drop, List, [], Option, Some, None, refl, sym, ap, ◌∙◌, add-one, ap₂}
 use Rattle.std.proofs.Math.Seq.{drop-length}
 use Rattle.std.specs.Prelude.{option_and_then, option_map, unwrap_or}
 use Rattle.parts_model.specs.Numbered.{nth}
 use Rattle.parts_model.specs.Processes.{Process, Processes, process, descriptor}
-use Rattle.arn_model.specs.Kernel.{Kernel, all_dropped, description_of, descriptors_of, dropped}
+use Rattle.arn_model.specs.Kernel.{Kernel, all_dropped, description_of, descriptors_of}
 use Rattle.guest_bodies.specs.Shown.{Guests}
 use Rattle.guest_calls.specs.Opened.{dropped_if}
 use Rattle.guest_calls.specs.State.{State}

@@ -1,11 +1,10 @@
 -- The table of processes, after one of them ends.
-use Rattle.std.proofs.Common.{◌≡◌, ◌≢◌, ℕ, zero, suc, ◌+◌, ◌<◌, ◌==◌, Bool, true, false, cond, List, [], ◌∷◌, length, map, set, Option, None, Some, IfSome, is_some, refl, sym, ap, ◌∙◌, arith, subst}
+use Rattle.std.proofs.Common.{◌≡◌, ◌≢◌, ℕ, zero, suc, ◌+◌, ◌<◌, ◌==◌, Bool, true, false, cond, List, [], length, map, Option, None, Some, IfSome, is_some, refl, sym, ap, ◌∙◌, arith, subst}
 use Rattle.std.specs.Prelude.{option_and_then, option_map, unwrap_or, if◌then◌else◌}
 use Rattle.std.proofs.lemmas.List.{length-map, length-set}
 use Rattle.parts_model.specs.declared.limits.TheConstants.{MOST_DESCRIPTORS}
 use Rattle.parts_model.specs.declared.tagged.TaggedByte.{TaggedByte}
-use Rattle.parts_model.specs.Numbered.{nth}
-use Rattle.parts_model.specs.Processes.{Life, Live, Ended, Process, Processes, process, with_process, is_alive, is_live, live_process, is_number, if_awaited, orphan, with_end, ended}
+use Rattle.parts_model.specs.Processes.{Life, Live, Ended, Process, Processes, process, with_process, is_live, live_process, is_number, if_awaited, orphan, with_end, ended}
 use Rattle.guest_calls.specs.Kept.{IsFull}
 use Rattle.guest_calls.proofs.Numbers.{nth-set_other, nth-set_own, nth-then, nth-within}
 

@@ -1,12 +1,12 @@
 -- A boot from a file, by what was read of it.
 use Rattle.std.proofs.Common.{◌≡◌, ℕ, false, true, List, Option, None, Some, refl, sym, ap, ◌∙◌, subst}
-use Rattle.std.specs.Prelude.{option_map, IsTrue}
+use Rattle.std.specs.Prelude.{option_map}
 use Rattle.std.proofs.lemmas.Option.{same_Some}
 use Rattle.arn_base.specs.declared.records.Give.{Give}
 use Rattle.parts_model.specs.declared.tagged.TaggedByte.{TaggedByte}
 use Rattle.parts_model.specs.Files.{find_file, file_bytes}
 use Rattle.parts_model.specs.Image.{is_image}
-use Rattle.parts_model.specs.Tagged.{given, values}
+use Rattle.parts_model.specs.Tagged.{given}
 use Rattle.guest_calls.specs.Starts.{Begins, BootedFrom, HasNoImage}
 use Rattle.guest_calls.specs.State.{State}
 

@@ -1,5 +1,5 @@
 -- Things by number, after one of them changes.
-use Rattle.std.proofs.Common.{◌≡◌, ℕ, zero, suc, ◌+◌, ◌<◌, ◌≤◌, List, [], ◌∷◌, ◌++◌, length, map, set, get_or, Option, None, Some, IfSome, IsSome, is_some, true, option_map, refl, sym, ap, ◌∙◌, arith, subst, true≢false}
+use Rattle.std.proofs.Common.{◌≡◌, ℕ, zero, suc, ◌<◌, List, [], ◌∷◌, length, map, set, Option, None, is_some, true, refl, sym, ap, arith, true≢false}
 use Rattle.std.specs.Prelude.{option_and_then}
 use Rattle.parts_model.specs.Numbered.{nth}
 

@@ -1,8 +1,7 @@
 -- What the parts of a call do to the state and to what is kept.
-use Rattle.std.proofs.Common.{◌≡◌, ◌≢◌, ℕ, ◌+◌, ◌<◌, ◌==◌, Bool, true, false, List, length, Option, None, Some, IfSome, IsSome, is_some, option_map, refl, sym, ap, ap₂, ◌∙◌, subst, arith}
+use Rattle.std.proofs.Common.{◌≡◌, ℕ, ◌+◌, ◌<◌, ◌==◌, Bool, true, false, List, length, Option, None, Some, IfSome, is_some, option_map, refl, sym, ap, ap₂, ◌∙◌, subst}
 use Rattle.std.specs.Prelude.{nat_lt}
-use Rattle.std.proofs.lemmas.Bool.{eq-eqb, eqb-true, eqb-false}
-use Rattle.parts_model.specs.declared.tagged.TaggedByte.{TaggedByte}
+use Rattle.std.proofs.lemmas.Bool.{eqb-true, eqb-false}
 use Rattle.parts_model.specs.Numbered.{nth, with_nth_from_one}
 use Rattle.parts_model.specs.Processes as table
 use Rattle.parts_model.specs.Processes.{Processes, process, live_process}
@@ -11,12 +10,12 @@ use Rattle.parts_model.specs.Channel.{Channel, front, without_front}
 use Rattle.parts_model.specs.Tagged.{values}
 use Rattle.acts_model.specs.Acts.{Act, Delivers, Receives, done}
 use Rattle.acts_model.specs.Bodies.{Bodies}
-use Rattle.arn_model.specs.Kernel.{Kernel, Handling, all_dropped, descriptors_of, ended, status_at}
+use Rattle.arn_model.specs.Kernel.{Handling, all_dropped, descriptors_of, ended, status_at}
 use Rattle.arn_model.specs.Step.{without_signal}
 use Rattle.guest_bodies.specs.Follows.{Shows, Follows, KeepsWatches, Rewatches, SetsWatch}
-use Rattle.guest_bodies.specs.Shown.{Guests, Shown, Watch, IsLive, signals_in, signals_of, watch_in}
+use Rattle.guest_bodies.specs.Shown.{Guests, Shown, Watch, signals_in, signals_of, watch_in}
 use Rattle.guest_calls.specs.Acted.{Acted}
-use Rattle.guest_calls.specs.Kept.{IsFull, IsKept, IsSound, handling, handlings, state_of}
+use Rattle.guest_calls.specs.Kept.{IsFull, IsKept, IsSound, handlings, state_of}
 use Rattle.guest_calls.specs.State.{State}
 use Rattle.guest_calls.specs.declared.kernel.Kernel.TheInside.{Inside}
 use Rattle.guest_calls.proofs.Ends.{alive-other, alive-own, full-other, full-own, length-ended, live-there, there-numbered}

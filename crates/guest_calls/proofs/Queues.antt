@@ -1,5 +1,5 @@
 -- A queue of tagged bytes, and how long it is.
-use Rattle.std.proofs.Common.{◌≡◌, ℕ, suc, ◌+◌, ◌-◌, ◌<◌, ◌≤◌, ◌^◌, List, [], ◌∷◌, length, refl, ap, arith}
+use Rattle.std.proofs.Common.{◌≡◌, ℕ, suc, ◌+◌, ◌-◌, ◌≤◌, List, [], ◌∷◌, length, refl, ap, arith}
 use Rattle.parts_model.specs.Tagged.{held_from}
 use Rattle.guest_calls.specs.Queue.{IsQueue}
 

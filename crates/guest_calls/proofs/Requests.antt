@@ -1,12 +1,11 @@
 -- What the calls that are built come to.
-use Rattle.std.proofs.Common.{◌≡◌, ◌≢◌, ℕ, ◌==◌, Bool, true, false, cond, ◌||◌, Option, None, Some, IfSome, refl, sym, ap, ap₂, ◌∙◌, subst, ne_eqb, true≢false}
+use Rattle.std.proofs.Common.{◌≡◌, ◌≢◌, ℕ, ◌==◌, Bool, true, false, ◌||◌, None, Some, IfSome, refl, sym, ap, ap₂, ◌∙◌, subst, ne_eqb, true≢false}
 use Rattle.std.specs.Prelude.{Result, Err, IsErrOf, IsTrue, if◌then◌else◌}
 use Rattle.std.proofs.lemmas.Bool.{eqb-true, eqb-false}
 use Rattle.parts_model.specs.declared.refusals.TheConstants.{NO_SUCH_CALL}
 use Rattle.acts_model.specs.Bodies.{View, seen}
 use Rattle.acts_model.specs.Views.{call_number}
-use Rattle.arn_model.specs.Doing as doing
-use Rattle.arn_model.specs.Doing.{Request, Does, refused}
+use Rattle.arn_model.specs.Doing.{Request, refused}
 use Rattle.arn_model.specs.Kernel.{Machine}
 use Rattle.arn_model.specs.ProcessCalls.{exit_row}
 use Rattle.arn_model.specs.Row.{row, is_built, request, is_waiting, does}

@@ -1,26 +1,25 @@
 -- Instructions, due signals and deliveries.
-use Rattle.std.proofs.Common.{◌≡◌, ◌≢◌, ℕ, ◌+◌, ◌==◌, Bool, true, false, cond, List, length, Option, None, Some, IfSome, is_some, option_map, refl, sym, ap, ap₂, ◌∙◌, subst, ne_eqb}
+use Rattle.std.proofs.Common.{◌≡◌, ◌≢◌, ℕ, ◌+◌, Bool, true, cond, List, length, Option, None, Some, IfSome, is_some, option_map, refl, sym, ap, ap₂, ◌∙◌, subst, ne_eqb}
 use Rattle.std.specs.Prelude.{unwrap_or}
 use Rattle.std.proofs.lemmas.Option.{same_Some}
 use Rattle.arn_base.specs.declared.records.Record.TheVariants as entry
-use Rattle.parts_model.specs.Numbered.{nth, nth_from_one}
+use Rattle.parts_model.specs.Numbered.{nth}
 use Rattle.parts_model.specs.Signals as signals
 use Rattle.parts_model.specs.Signals.{due, handler_of}
-use Rattle.rv64_model.specs.Instruction.{Effect, Next, Call, End}
+use Rattle.rv64_model.specs.Instruction.{Effect}
 use Rattle.rv64_core.specs.Outcome.{Tells, OnStop}
 use Rattle.rv64_core.specs.declared.outcome.Outcome.{Outcome}
 use Rattle.rv64_core.specs.declared.outcome.Outcome.TheVariants as outcome
-use Rattle.acts_model.specs.Acts.{Delivers, Dies, done}
+use Rattle.acts_model.specs.Acts.{Delivers, Dies}
 use Rattle.acts_model.specs.Bodies.{Bodies, View}
 use Rattle.acts_model.specs.Views.{stands_at}
-use Rattle.arn_model.specs.Doing.{Doing}
 use Rattle.arn_model.specs.Kernel.{Handling, Machine, ended, handling_of, status_at}
-use Rattle.arn_model.specs.Step.{Step, due_in, due_signal, handler, waits, delivering, delivery_of, delivery_step, event_step, ending, only, without_signal}
-use Rattle.guest_bodies.specs.Follows.{Shows, Follows, KeepsWatches, Ran}
-use Rattle.guest_bodies.specs.Shown.{Guests, Shown, Watch, seen_in, signals_in, signals_of, watch_in}
+use Rattle.arn_model.specs.Step.{due_in, due_signal, handler, waits, delivering, delivery_of, delivery_step, event_step, ending, only, without_signal}
+use Rattle.guest_bodies.specs.Follows.{Shows, KeepsWatches, Ran}
+use Rattle.guest_bodies.specs.Shown.{Guests, Shown, seen_in, signals_in, signals_of, watch_in}
 use Rattle.guest_calls.specs.Acted.{Acted}
-use Rattle.guest_calls.specs.Kept.{IsKept, handling, handlings, state_of}
-use Rattle.guest_calls.specs.State.{State, StandsFor, OfProcess}
+use Rattle.guest_calls.specs.Kept.{IsKept, handling, state_of}
+use Rattle.guest_calls.specs.State.{State, OfProcess}
 use Rattle.guest_calls.specs.Steps.{DeliveredBy, Stepped}
 use Rattle.guest_calls.specs.declared.kernel.Kernel.TheInside.{Inside}
 use Rattle.guest_calls.proofs.Pieces.{live-numbered}
@@ -30,12 +29,14 @@ use Rattle.guest_calls.proofs.Watches.{handlings-same, handling-of}
 module _ (k : Inside) (pid : ℕ) (new : Guests) (keeps : KeepsWatches k.bodies new) (b : Bodies) (shows : Shows k.bodies b) where
   by_outcome : (result : Outcome) (ran : Ran result pid k.bodies new) (effect : Effect) → stands_at ran.before ≡ effect → Tells result effect ran.cpu ran.memory → OnStop result (new ≡ k.bodies) → result ≢ outcome.NoMemory → Stepped result (machine_with b (state_of k)) pid ran.before effect (state_of k) (state_of (record k { bodies = new }))
   by_outcome outcome.Next ran effect is tells stop some =
-      subst (λ (e : Effect). Stepped outcome.Next (machine_with b (state_of k)) pid ran.before e (state_of k) (state_of (record k { bodies = new }))) (sym tells.is_next)
-      (refl, record {
-        seen = λ p. (ran.follows.shows b shows).same p;
-        kernel = ap (λ (h : List (Option Handling)). record (state_of k).kernel { handling = h }) (handlings-same (length k.procs) k.bodies new keeps);
-        events = refl;
-      })
+      subst (λ (e : Effect). Stepped outcome.Next (machine_with b (state_of k)) pid ran.before e (state_of k) (state_of (record k { bodies = new }))) (sym tells.is_next) (
+        refl,
+        record {
+          seen = λ p. (ran.follows.shows b shows).same p;
+          kernel = ap (λ (h : List (Option Handling)). record (state_of k).kernel { handling = h }) (handlings-same (length k.procs) k.bodies new keeps);
+          events = refl;
+        },
+      )
   by_outcome outcome.Call ran effect is tells stop some =
       subst (λ (e : Effect). Stepped outcome.Call (machine_with b (state_of k)) pid ran.before e (state_of k) (state_of (record k { bodies = new }))) (sym tells) (refl, ap (λ (g : Guests). state_of (record k { bodies = g })) stop)
   by_outcome (outcome.End status) ran effect is tells stop some =
@@ -92,13 +93,15 @@ module _ (s new : State) (pid : ℕ) (v : View) (b : Bodies) (signal address : �
   -- a delivery to no handler ends the process
   pub delivered-dies : address ≡ 0 → Acted pid (Dies signal cut) (ended pid (status_at s.events (128 + signal)) s.kernel) s new → DeliveredBy (Some (record { signal = signal; cut = cut; handler = address })) pid (Some (event_step (machine_with b s) pid v (delivering (machine_with b s) pid signal address cut) (entry.Signal pid signal cut address))) s new
   delivered-dies is acted =
-      subst (λ (a : ℕ). DeliveredBy (Some (record { signal = signal; cut = cut; handler = a })) pid (Some (event_step (machine_with b s) pid v (delivering (machine_with b s) pid signal a cut) (entry.Signal pid signal cut a))) s new) (sym is)
-      (record { event = record { number = s.events; entry = entry.Signal pid signal cut 0 }; happened = refl; told = refl },
-       acted-stands s new pid v b (ending (machine_with b s) pid (Dies signal cut) (128 + signal)) shows acted refl)
+      subst (λ (a : ℕ). DeliveredBy (Some (record { signal = signal; cut = cut; handler = a })) pid (Some (event_step (machine_with b s) pid v (delivering (machine_with b s) pid signal a cut) (entry.Signal pid signal cut a))) s new) (sym is) (
+        record { event = record { number = s.events; entry = entry.Signal pid signal cut 0 }; happened = refl; told = refl },
+        acted-stands s new pid v b (ending (machine_with b s) pid (Dies signal cut) (128 + signal)) shows acted refl,
+      )
 
   -- one to a handler begins it
   pub delivered-enters : address ≢ 0 → Acted pid (Delivers signal address cut) (without_signal pid signal s.kernel) s new → DeliveredBy (Some (record { signal = signal; cut = cut; handler = address })) pid (Some (event_step (machine_with b s) pid v (delivering (machine_with b s) pid signal address cut) (entry.Signal pid signal cut address))) s new
   delivered-enters isnt acted =
-      subst (λ (t : Bool). DeliveredBy (Some (record { signal = signal; cut = cut; handler = address })) pid (Some (event_step (machine_with b s) pid v (cond t (ending (machine_with b s) pid (Dies signal cut) (128 + signal)) (only (cond t (Dies signal cut) (Delivers signal address cut)) (without_signal pid signal s.kernel))) (entry.Signal pid signal cut address))) s new) (sym (ne_eqb address 0 isnt))
-      (record { event = record { number = s.events; entry = entry.Signal pid signal cut address }; happened = refl; told = refl },
-       acted-stands s new pid v b (only (Delivers signal address cut) (without_signal pid signal s.kernel)) shows acted refl)
+      subst (λ (t : Bool). DeliveredBy (Some (record { signal = signal; cut = cut; handler = address })) pid (Some (event_step (machine_with b s) pid v (cond t (ending (machine_with b s) pid (Dies signal cut) (128 + signal)) (only (cond t (Dies signal cut) (Delivers signal address cut)) (without_signal pid signal s.kernel))) (entry.Signal pid signal cut address))) s new) (sym (ne_eqb address 0 isnt)) (
+        record { event = record { number = s.events; entry = entry.Signal pid signal cut address }; happened = refl; told = refl },
+        acted-stands s new pid v b (only (Delivers signal address cut) (without_signal pid signal s.kernel)) shows acted refl,
+      )

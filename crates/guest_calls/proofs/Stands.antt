@@ -1,6 +1,6 @@
 -- Machines for which a state stands.
-use Rattle.std.proofs.Common.{◌≡◌, ℕ, ◌+◌, Option, None, Some, IfSome, IsSome, is_some, option_map, refl, sym, ap, ap₂, ◌∙◌, subst}
-use Rattle.acts_model.specs.Acts.{Act, done}
+use Rattle.std.proofs.Common.{◌≡◌, ℕ, ◌+◌, Option, Some, IfSome, refl, sym, ap, ap₂, ◌∙◌, subst}
+use Rattle.acts_model.specs.Acts.{done}
 use Rattle.acts_model.specs.Bodies.{Bodies, View, seen}
 use Rattle.arn_model.specs.Doing.{Doing}
 use Rattle.arn_model.specs.Kernel.{Machine}

@@ -1,5 +1,5 @@
 -- The handling of processes, as the kernel keeps it, and how they take signals.
-use Rattle.std.proofs.Common.{◌≡◌, ◌≢◌, ℕ, zero, suc, ◌+◌, ◌<◌, ◌≤◌, List, [], ◌∷◌, set, Option, None, Some, is_some, option_map, refl, sym, ap, ap₂, ◌∙◌, arith, subst, add-zero}
+use Rattle.std.proofs.Common.{◌≡◌, ◌≢◌, ℕ, zero, suc, ◌+◌, ◌<◌, ◌≤◌, List, ◌∷◌, set, Option, None, Some, is_some, option_map, refl, sym, ap, ap₂, ◌∙◌, arith}
 use Rattle.parts_model.specs.Numbered.{nth, nth_from_one, with_nth_from_one}
 use Rattle.arn_model.specs.Kernel.{Handling}
 use Rattle.guest_bodies.specs.Follows.{KeepsWatches, Rewatches, SetsWatch}

@@ -1,11 +1,8 @@
 -- What the parts of a call do to the state.
-use Rattle.std.specs.Prelude.{◌≡◌, ◌+◌, ◌≤◌, ℕ, List, length, Result, Ok, Err, Option, Some}
-use Rattle.arn_base.specs.declared.records.Extra.{Extra}
-use Rattle.arn_base.specs.declared.records.Extra.TheVariants as extra
-use Rattle.parts_model.specs.declared.limits.TheConstants.{MOST_TRANSFER}
+use Rattle.std.specs.Prelude.{◌≡◌, ◌+◌, ℕ}
 use Rattle.acts_model.specs.Acts.{Act, done, result_of}
 use Rattle.acts_model.specs.Bodies.{View}
-use Rattle.arn_model.specs.Doing.{Doing, Request, Does, returns}
+use Rattle.arn_model.specs.Doing.{Doing, Request, Does}
 use Rattle.arn_model.specs.Kernel.{Kernel, Machine}
 use Rattle.arn_model.specs.Step.{call_step}
 use Rattle.guest_bodies.specs.Follows.{Follows}

@@ -1,5 +1,5 @@
 -- The boot of a kernel from a file.
-use Rattle.std.specs.Prelude.{◌≡◌, ◌+◌, ℕ, List, IsTrue, IsSome, IsNone, Option, Some, None, false}
+use Rattle.std.specs.Prelude.{◌≡◌, ◌+◌, ℕ, List, IsTrue, Some, false}
 use Rattle.arn_base.specs.declared.records.Give.{Give}
 use Rattle.parts_model.specs.declared.tagged.TaggedByte.{TaggedByte}
 use Rattle.parts_model.specs.Files.{find_file, file_bytes}

@@ -1,5 +1,5 @@
 -- The state of a kernel, and the machines that it stands for.
-use Rattle.std.specs.Prelude.{◌≡◌, ℕ, ◌+◌, ◌<◌, ◌^◌, [], Option, Some}
+use Rattle.std.specs.Prelude.{◌≡◌, ℕ, ◌+◌, ◌<◌, ◌^◌, [], Some}
 use Rattle.acts_model.specs.Bodies.{View, seen}
 use Rattle.arn_model.specs.Kernel.{Kernel, Machine, at_first}
 use Rattle.guest_bodies.specs.Shown.{Guests, seen_in}

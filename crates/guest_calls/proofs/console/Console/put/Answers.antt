@@ -1,4 +1,4 @@
-use Rattle.std.proofs.Common.{◌≡◌, ◌+◌, ◌-◌, ◌++◌, List, length, ap, sym, ◌∙◌, length-append, length-drop}
+use Rattle.std.proofs.Common.{◌≡◌, ◌+◌, ◌-◌, List, length, ap, sym, ◌∙◌, length-append, length-drop}
 use Rattle.parts_model.specs.Channel.{Channel}
 use Rattle.parts_model.specs.declared.tagged.TaggedByte.{TaggedByte}
 use Rattle.guest_calls.proofs.Queues.{length-held, longer-queue}

@@ -1,5 +1,5 @@
-use Rattle.std.proofs.Common.{sym, subst, refl, ap, ◌≡◌}
-use Rattle.std.specs.Prelude.{Ok, Err, IsErrOf, IsTrue, ◌↔◌}
+use Rattle.std.proofs.Common.{sym, subst, ap}
+use Rattle.std.specs.Prelude.{IsErrOf, IsTrue, ◌↔◌}
 use Rattle.arn_model.specs.Doing.{Request}
 use Rattle.std.proofs.lemmas.Result.{IfOk-weaker}
 use Rattle.arn_model.specs.Row.{is_waiting, request}
@@ -8,7 +8,7 @@ use Rattle.guest_calls.specs.State.{OfProcess}
 use Rattle.guest_calls.specs.declared.outcomes.Done.{Done}
 use Rattle.guest_calls.specs.declared.outcomes.CallStop.TheVariants as stop
 use Rattle.guest_calls.specs.Acted.{Carried}
-use Rattle.guest_calls.proofs.Requests.{called, request-exit, request-read, request-write, request-none, request-quiet, ended-ready}
+use Rattle.guest_calls.proofs.Requests.{called, request-exit, request-read, request-write, ended-ready}
 use Rattle.guest_calls.proofs.kernel.Kernel.carry_out.Goals as goal
 
 pub returns-in-1-clause-carried : goal.returns-in-1-clause-carried

@@ -1,5 +1,5 @@
-use Rattle.std.proofs.Common.{sym, arith, refl}
-use Rattle.guest_calls.proofs.Closing.{one-closed, all-closed}
+use Rattle.std.proofs.Common.{arith}
+use Rattle.guest_calls.proofs.Closing.{one-closed}
 use Rattle.guest_calls.proofs.kernel.Kernel.close_all.Goals as goal
 
 pub loop-descriptor-preserved : goal.loop-descriptor-preserved

@@ -1,5 +1,3 @@
-use Rattle.std.proofs.Common.{◌≡◌, drop}
-use Rattle.arn_model.specs.Kernel.{all_dropped, descriptors_of}
 use Rattle.guest_calls.proofs.Closing.{IsClosing}
 use Rattle.guest_calls.proofs.kernel.Kernel.close_all.Given as goal
 

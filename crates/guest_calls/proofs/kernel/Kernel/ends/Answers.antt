@@ -1,4 +1,4 @@
-use Rattle.std.proofs.Common.{subst, sym, ap, ◌∙◌, ◌≡◌}
+use Rattle.std.proofs.Common.{◌∙◌}
 use Rattle.guest_calls.proofs.Pieces.{ended-sound, ended-acted}
 use Rattle.guest_calls.proofs.kernel.Kernel.ends.Goals as goal
 

@@ -1,4 +1,4 @@
-use Rattle.std.proofs.Common.{subst, ◌+◌, ap, sym, is_some, true, ◌≡◌, Some, IfSome}
+use Rattle.std.proofs.Common.{subst, ◌+◌, sym, is_some, true, ◌≡◌, Some, IfSome}
 use Rattle.acts_model.specs.Acts.{Delivers}
 use Rattle.arn_model.specs.Step.{without_signal}
 use Rattle.parts_model.specs.Numbered.{nth}

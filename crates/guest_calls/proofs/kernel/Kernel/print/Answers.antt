@@ -1,4 +1,4 @@
-use Rattle.std.proofs.Common.{refl, subst, sym, ap, ◌∙◌, ℕ, List, length, Some, None, ◌≡◌}
+use Rattle.std.proofs.Common.{refl, sym, ap, ◌∙◌, ℕ, List, length, None, ◌≡◌}
 use Rattle.arn_base.specs.declared.records.Extra.TheVariants as extra
 use Rattle.acts_model.specs.Acts.{Gives}
 use Rattle.acts_model.specs.Bodies.{View}
