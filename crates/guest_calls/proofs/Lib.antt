@@ -1,0 +1,11 @@
+pub mod FromFile
+pub mod Requests
+pub mod Runs
+pub mod Closing
+pub mod Ends
+pub mod Numbers
+pub mod Opens
+pub mod Pieces
+pub mod Queues
+pub mod Stands
+pub mod Watches

@@ -1,0 +1,94 @@
+-- What the calls that are built come to.
+use Rattle.std.proofs.Common.{◌≡◌, ◌≢◌, ℕ, ◌==◌, Bool, true, false, ◌||◌, None, Some, IfSome, refl, sym, ap, ap₂, ◌∙◌, subst, ne_eqb, true≢false}
+use Rattle.std.specs.Prelude.{Result, Err, IsErrOf, IsTrue, if◌then◌else◌}
+use Rattle.std.proofs.lemmas.Bool.{eqb-true, eqb-false}
+use Rattle.parts_model.specs.declared.refusals.TheConstants.{NO_SUCH_CALL}
+use Rattle.acts_model.specs.Bodies.{View, seen}
+use Rattle.acts_model.specs.Views.{call_number}
+use Rattle.arn_model.specs.Doing.{Request, refused}
+use Rattle.arn_model.specs.Kernel.{Machine}
+use Rattle.arn_model.specs.ProcessCalls.{exit_row}
+use Rattle.arn_model.specs.Row.{row, is_built, request, is_waiting, does}
+use Rattle.arn_model.specs.TransferCalls.{read_row, write_row}
+use Rattle.guest_bodies.specs.Shown.{seen_in}
+use Rattle.guest_calls.specs.Acted.{Carried}
+use Rattle.guest_devices.specs.Answers as devices
+use Rattle.parts_model.specs.Replies.{Answered}
+use Rattle.guest_calls.specs.declared.outcomes.Done.{Done}
+use Rattle.guest_calls.specs.Steps.{Performed, RepliesTo}
+use Rattle.guest_calls.specs.State.{State, StandsFor}
+use Rattle.guest_calls.specs.Transfers.{IsReading, IsWriting}
+use Rattle.guest_calls.specs.declared.outcomes.CallStop.{CallStop}
+use Rattle.guest_calls.specs.declared.outcomes.CallStop.TheVariants as stop
+use Rattle.guest_calls.specs.declared.transfers.Reading.{Reading}
+use Rattle.guest_calls.specs.declared.transfers.Reading.TheVariants as reading
+use Rattle.guest_calls.specs.declared.transfers.Writing.{Writing}
+use Rattle.guest_calls.specs.declared.transfers.Writing.TheVariants as writing
+use Rattle.guest_calls.proofs.Stands.{at-seen}
+
+-- the number of the call of a process that a machine knows
+pub called : (s : State) (pid number n : ℕ) (m : Machine) (v : View) → StandsFor s m → seen m.bodies pid ≡ Some v → IfSome (seen_in s.guests pid) (λ w. number ≡ call_number w.body.cpu) → number ≡ n → call_number v.body.cpu ≡ n
+called s pid number n m v stands sees told is = sym (at-seen (seen_in s.guests pid) v (λ (w : View). number ≡ call_number w.body.cpu) (stands.seen pid ∙ sees) told) ∙ is
+
+module _ (m : Machine) (pid : ℕ) (v : View) where
+  pub request-exit : call_number v.body.cpu ≡ 1 → request m pid v ≡ exit_row m pid v
+  unfolding row
+  request-exit is = ap (λ n. if is_built n then row n m pid v else refused NO_SUCH_CALL m.kernel) is
+
+  pub request-read : call_number v.body.cpu ≡ 11 → request m pid v ≡ read_row m pid v
+  unfolding row
+  request-read is = ap (λ n. if is_built n then row n m pid v else refused NO_SUCH_CALL m.kernel) is
+
+  pub request-write : call_number v.body.cpu ≡ 12 → request m pid v ≡ write_row m pid v
+  unfolding row
+  request-write is = ap (λ n. if is_built n then row n m pid v else refused NO_SUCH_CALL m.kernel) is
+
+  unbuilt : (n : ℕ) → n ≢ 1 → n ≢ 11 → n ≢ 12 → is_built n ≡ false
+  unbuilt n a b c = ap₂ (λ (x y : Bool). x || y) (ne_eqb 1 n (λ e. a (sym e))) (ap₂ (λ (x y : Bool). x || y) (ne_eqb 11 n (λ e. b (sym e))) (ap (λ (x : Bool). x || false) (ne_eqb 12 n (λ e. c (sym e)))))
+
+  pub request-none : (n : ℕ) → call_number v.body.cpu ≡ n → n ≢ 1 → n ≢ 11 → n ≢ 12 → request m pid v ≡ refused NO_SUCH_CALL m.kernel
+  request-none n is a b c =
+      ap (λ x. if is_built x then row x m pid v else refused NO_SUCH_CALL m.kernel) is
+      ∙ ap (λ (t : Bool). if t then row n m pid v else refused NO_SUCH_CALL m.kernel) (unbuilt n a b c)
+
+  quiet-by : (n : ℕ) (is_exit : Bool) → (n == 1) ≡ is_exit → call_number v.body.cpu ≡ n → n ≢ 11 → n ≢ 12 → is_waiting (request m pid v) ≡ false
+  quiet-by n true e is b c = ap is_waiting (request-exit (is ∙ eqb-true n 1 e))
+  quiet-by n false e is b c = ap is_waiting (request-none n is (eqb-false n 1 e) b c)
+
+  -- no other call waits
+  pub request-quiet : (n : ℕ) → call_number v.body.cpu ≡ n → n ≢ 11 → n ≢ 12 → is_waiting (request m pid v) ≡ false
+  request-quiet n is b c = quiet-by n (n == 1) refl is b c
+
+  pub reading-waits : (r : Reading) → r ≡ reading.Waits → IsReading r m (read_row m pid v) → true ≡ is_waiting (read_row m pid v)
+  reading-waits r is comes = sym (ap is_waiting (subst (λ (x : Reading). IsReading x m (read_row m pid v)) is comes))
+
+  pub reading-ready : (r : Reading) → r ≢ reading.Waits → IsReading r m (read_row m pid v) → false ≡ is_waiting (read_row m pid v)
+  reading-ready reading.Waits ready comes = absurd (ready refl)
+  reading-ready (reading.Answers answer) ready comes = sym (ap is_waiting comes)
+  reading-ready (reading.Takes at count) ready comes = sym (ap is_waiting comes)
+
+  pub writing-waits : (r : Writing) → r ≡ writing.Waits → IsWriting r m v (write_row m pid v) → true ≡ is_waiting (write_row m pid v)
+  writing-waits r is comes = sym (ap is_waiting (subst (λ (x : Writing). IsWriting x m v (write_row m pid v)) is comes))
+
+  pub writing-ready : (r : Writing) → r ≢ writing.Waits → IsWriting r m v (write_row m pid v) → false ≡ is_waiting (write_row m pid v)
+  writing-ready writing.Waits ready comes = absurd (ready refl)
+  writing-ready (writing.Answers answer) ready comes = sym (ap is_waiting comes)
+  writing-ready (writing.Prints at count) ready comes = sym (ap is_waiting comes)
+
+-- a call that has ended didn't wait
+pub ended-ready : {T : Type 0} (r : Result T CallStop) (b : Bool) → (r ≡ Err stop.NotReady → ⊥) → b ≡ false → (IsErrOf r stop.NotReady → IsTrue b) × (IsTrue b → IsErrOf r stop.NotReady)
+ended-ready r true ended is = absurd (true≢false is)
+ended-ready r false ended is = (λ e. absurd (ended e), λ w. absurd (true≢false (sym w)))
+
+-- a call that asks no device has been carried out
+pub performed : {A : Type 0} (answers : A → devices.Asked → Answered → A → Type 0) (asked : A) (done : Done) (m : Machine) (pid : ℕ) (v : View) (new : State) → Carried (request m pid v) done m pid v new → Performed answers asked asked done m pid v new
+performed answers asked done m pid v new carried =
+    record {
+      reply = None;
+      replied = subst (λ (r : Request). RepliesTo answers v r None asked asked) (sym carried.is) (refl, refl);
+      doing = carried.doing;
+      does = ap (does m pid v None) carried.is;
+      result = carried.answers;
+      extra = carried.extra;
+      stands = carried.stands;
+    }

@@ -1,0 +1,10 @@
+use Rattle.std.proofs.Common.{◌∙◌}
+use Rattle.guest_calls.proofs.Pieces.{ended-sound, ended-acted}
+use Rattle.guest_calls.proofs.kernel.Kernel.ends.Goals as goal
+
+pub invariant_of-self : goal.invariant_of-self
+invariant_of-self c = ended-sound c.self.inside c.args.pid c.args.status c.end.new.self c.ends.new.self c.in-Ok.ensures.ok c.ends.ensures.watches c.self.invariant
+
+pub returns : goal.returns
+returns c act is =
+    ended-acted c.self.inside c.args.pid c.args.status c.end.new.self c.ends.new.self c.in-Ok.ensures.ok c.ends.ensures.watches c.args.self.now act (c.self.view_is ∙ c.close_all.ensures) (λ event. c.ends.ensures.follows event act is)

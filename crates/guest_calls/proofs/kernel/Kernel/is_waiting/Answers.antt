@@ -1,0 +1,29 @@
+use Rattle.std.proofs.Common.{sym, ap, refl, arith, ◌∙◌, ◌≡◌}
+use Rattle.arn_model.specs.Row.{is_waiting}
+use Rattle.guest_calls.proofs.Requests.{called, request-read, request-write, request-quiet, reading-waits, reading-ready, writing-waits, writing-ready}
+use Rattle.guest_calls.proofs.kernel.Kernel.is_waiting.Goals as goal
+
+pub returns-in-Waits : goal.returns-in-Waits
+returns-in-Waits c m v stands sees =
+    reading-waits m c.args.pid v c.reading.result c.in-Waits.is (c.reading.ensures.reading m v stands sees)
+    ∙ sym (ap is_waiting (request-read m c.args.pid v (called c.args.self.now c.args.pid c.call_number.result 11 m v stands sees c.call_number.ensures c.in-11.is)))
+
+pub returns-in_default-matches : goal.returns-in_default-matches
+returns-in_default-matches c m v stands sees =
+    reading-ready m c.args.pid v c.reading.result c.in_default-matches.not-Waits (c.reading.ensures.reading m v stands sees)
+    ∙ sym (ap is_waiting (request-read m c.args.pid v (called c.args.self.now c.args.pid c.call_number.result 11 m v stands sees c.call_number.ensures c.in-11.is)))
+
+pub returns-in-Waits-matches : goal.returns-in-Waits-matches
+returns-in-Waits-matches c m v stands sees =
+    writing-waits m c.args.pid v c.writing.result c.in-Waits-matches.is (c.writing.ensures.writing m v stands sees)
+    ∙ sym (ap is_waiting (request-write m c.args.pid v (called c.args.self.now c.args.pid c.call_number.result 12 m v stands sees c.call_number.ensures c.in-12.is)))
+
+pub returns-in_default-matches-2 : goal.returns-in_default-matches-2
+returns-in_default-matches-2 c m v stands sees =
+    writing-ready m c.args.pid v c.writing.result c.in_default-matches-2.not-Waits (c.writing.ensures.writing m v stands sees)
+    ∙ sym (ap is_waiting (request-write m c.args.pid v (called c.args.self.now c.args.pid c.call_number.result 12 m v stands sees c.call_number.ensures c.in-12.is)))
+
+pub returns-in_default : goal.returns-in_default
+returns-in_default c m v stands sees =
+    sym (request-quiet m c.args.pid v c.call_number.result (called c.args.self.now c.args.pid c.call_number.result c.call_number.result m v stands sees c.call_number.ensures refl)
+    (λ (e : c.call_number.result ≡ 11). omega arith) (λ (e : c.call_number.result ≡ 12). omega arith))

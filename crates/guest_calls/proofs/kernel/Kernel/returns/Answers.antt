@@ -1,0 +1,11 @@
+use Rattle.std.proofs.Common.{subst, ◌+◌}
+use Rattle.guest_calls.specs.Acted.{Acted}
+use Rattle.guest_calls.specs.Kept.{state_of}
+use Rattle.guest_calls.specs.State.{State}
+use Rattle.guest_calls.proofs.Pieces.{body-acted}
+use Rattle.guest_calls.proofs.kernel.Kernel.returns.Goals as goal
+
+pub returns : goal.returns
+returns c act is =
+    subst (λ (s : State). Acted c.args.pid act s.kernel s (state_of (record c.self.inside { bodies = c.returns.new.self; events = c.self.inside.events + 1 }))) c.self.view_is
+    (body-acted c.self.inside c.args.pid act c.returns.new.self (c.returns.ensures.follows c.self.inside.events act is) c.returns.ensures.watches)

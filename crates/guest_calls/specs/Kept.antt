@@ -1,0 +1,78 @@
+-- A kernel as it is kept, and what is shown of it.
+use Rattle.std.specs.Prelude.{◌≡◌, ◌≤◌, ◌+◌, ℕ, zero, suc, nat_lt, Bool, false, List, [], ◌∷◌, length, Option, IfSome, is_some, option_map}
+use Rattle.parts_model.specs.declared.limits.TheConstants.{MOST_DESCRIPTORS, MOST_FILES}
+use Rattle.parts_model.specs.declared.open.Description.{Description}
+use Rattle.parts_model.specs.declared.open.Description.TheVariants.{Console, File, Reader, Writer, Connection, Listener, Device}
+use Rattle.parts_model.specs.Files.{Files}
+use Rattle.parts_model.specs.Numbered.{nth, how_many}
+use Rattle.parts_model.specs.Processes.{Process, Processes, process, live_process}
+use Rattle.arn_model.specs.Kernel.{Handling, Opened}
+use Rattle.guest_bodies.specs.Shown.{Guests, Watch, watch_in}
+use Rattle.guest_calls.specs.State.{State}
+use Rattle.guest_calls.specs.declared.kernel.Kernel.TheInside.{Inside}
+
+-- how a process takes signals, as the kernel keeps it
+abbrev pub handling : Watch → Handling
+handling w = record { handlers = w.handlers; pending = w.pending }
+
+-- the handling of so many processes, from a number on
+abbrev pub handlings_from : ℕ → ℕ → Guests → List (Option Handling)
+handlings_from first zero guests = []
+handlings_from first (suc n) guests = option_map handling (watch_in guests first) ∷ handlings_from (first + 1) n guests
+
+-- by process, where so many were made
+abbrev pub handlings : ℕ → Guests → List (Option Handling)
+handlings made guests = handlings_from 1 made guests
+
+abbrev pub state_of : Inside → State
+state_of k =
+    record {
+      guests = k.bodies;
+      kernel =
+          record {
+            processes = k.procs;
+            handling = handlings (length k.procs) k.bodies;
+            console = k.console;
+            pipes = [];
+            files = k.files;
+            descriptions = k.descriptions;
+            ports = [];
+            unplugged = [];
+          };
+      events = k.events;
+    }
+
+-- what can be open as long as no call opens anything: the console
+abbrev pub IsConsole : Description → Type 0
+IsConsole Console = Unit {0}
+IsConsole (File file position) = ⊥
+IsConsole (Reader pipe) = ⊥
+IsConsole (Writer pipe) = ⊥
+IsConsole (Connection reads writes) = ⊥
+IsConsole (Listener port) = ⊥
+IsConsole (Device device) = ⊥
+
+abbrev pub AreConsoles : List (Option Opened) → Type 0
+AreConsoles [] = Unit {0}
+AreConsoles (o ∷ descriptions) = IfSome o (λ d. IsConsole d.what) × AreConsoles descriptions
+
+-- a process has all its descriptors, open or not
+abbrev pub IsFull : Process → Type 0
+IsFull p = length p.descriptors ≡ MOST_DESCRIPTORS
+
+-- all files that were made are there, and these are few
+pub record AreFew (files : Files) : Type 0 where
+  pub there : length files.all ≡ how_many files.all
+  pub most : how_many files.all ≤ MOST_FILES
+
+-- The processes that live are those with a body. Before there is one, no file is taken away and nothing is open.
+pub record IsSound (guests : Guests) (processes : Processes) (files : Files) (descriptions : List (Option Opened)) (booted : Bool) : Type 0 where
+  pub made : booted ≡ nat_lt 0 (length processes)
+  pub alive : (p : ℕ) → is_some (nth guests p) ≡ is_some (live_process processes p)
+  pub full : (p : ℕ) → IfSome (process processes p) IsFull
+  pub before : booted ≡ false → AreFew files
+  pub closed : booted ≡ false → descriptions ≡ []
+  pub consoles : AreConsoles descriptions
+
+abbrev pub IsKept : Inside → Type 0
+IsKept k = IsSound k.bodies k.procs k.files k.descriptions k.booted

@@ -1,0 +1,74 @@
+// The table of calls.
+ghost use Rattle.std.specs.Prelude.{◌≡◌, ◌+◌, ◌<◌, ◌^◌, ◌↔◌, IfOk, IfSome, IsErrOf, IsTrue, OnErr};
+ghost use Rattle.acts_model.specs.Views.{stands_at};
+ghost use Rattle.rv64_model.specs.Instruction.{Call};
+ghost use Rattle.arn_model.specs.Row.{is_waiting, request};
+ghost use Rattle.guest_bodies.specs.Shown.{IsLive, seen_in};
+ghost use Rattle.guest_calls.specs.Acted.{Carried};
+ghost use Rattle.guest_calls.specs.Fits.{IsShort};
+ghost use Rattle.guest_calls.specs.State.{IsNext, OfProcess};
+ghost use Rattle.guest_calls.specs.Steps.{Performed};
+
+use crate::kernel::Kernel;
+use crate::outcomes::{CallStop, Done};
+use crate::parts::error;
+use crate::transfers::{Reading, Writing};
+use guest_devices::Answers;
+use parts_model::calls::{EXIT, READ, WRITE};
+use parts_model::refusals::NO_SUCH_CALL;
+
+impl Kernel {
+    /// Whether the call at which a process stands isn't ready.
+    pub(crate) fn is_waiting(&self, pid: u32) -> bool
+        requires { IsLive self.now.guests pid }
+        ensures { OfProcess self.now pid (λ m v. result ≡ is_waiting (request m pid v)) }
+    {
+        match self.call_number(pid) {
+            READ => matches!(self.reading(pid), Reading::Waits),
+            WRITE => matches!(self.writing(pid), Writing::Waits),
+            _ => false,
+        }
+    }
+
+    // Carries out a call that asks no device.
+    fn carry_out(&mut self, pid: u32) -> Result<Done, CallStop>
+        requires live { IsLive self.old.guests pid }
+        requires room { self.old.events + 1 < 2 ^ 64 }
+        ensures carried { IfOk result (λ done. OfProcess self.old pid (λ m v.
+            Carried (request m pid v) done m pid v self.new)) }
+        ensures short { IfOk result (λ done. IsShort done.extra) }
+        ensures waits { OfProcess self.old pid (λ m v.
+            IsErrOf result CallStop.NotReady ↔ IsTrue (is_waiting (request m pid v))) }
+        ensures err { OnErr result (self.new ≡ self.old) }
+    {
+        match self.call_number(pid) {
+            EXIT => Ok(self.exit(pid)),
+            READ => self.read(pid),
+            WRITE => self.write(pid),
+            _ => Ok(self.answers(pid, error(NO_SUCH_CALL))),
+        }
+    }
+
+    /// Carries out the call at which a process stands. NotReady says that it isn't ready.
+    pub fn perform<A: Answers>(
+        &mut self,
+        pid: u32,
+        event: u64,
+        answers: &mut A,
+    ) -> Result<Done, CallStop>
+        requires live { IsLive self.old.guests pid }
+        requires next { IsNext self.old event }
+        requires at_call { IfSome (seen_in self.old.guests pid) (λ v. stands_at v ≡ Call) }
+
+        ensures performed { IfOk result (λ done. OfProcess self.old pid (λ m v.
+            Performed A.answers answers.old answers.new done m pid v self.new)) }
+        ensures short { IfOk result (λ done. IsShort done.extra) }
+
+        ensures waits { OfProcess self.old pid (λ m v.
+            IsErrOf result CallStop.NotReady ↔ IsTrue (is_waiting (request m pid v))) }
+        ensures err { OnErr result (self.new ≡ self.old) }
+        ensures unasked { OnErr result (answers.new ≡ answers.old) }
+    {
+        self.carry_out(pid)
+    }
+}

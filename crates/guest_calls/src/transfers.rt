@@ -1,0 +1,226 @@
+// The calls that move bytes: read and write.
+ghost use Rattle.std.specs.Prelude.{◌≡◌, ◌+◌, ◌<◌, ◌≤◌, ◌^◌, ◌↔◌, IfOk, IfSome, IsErrOf, IsSome, IsTrue, OnErr, length};
+ghost use Rattle.parts_model.specs.declared.limits.TheConstants.{MOST_TRANSFER};
+ghost use Rattle.acts_model.specs.Views.{bytes_in, read};
+ghost use Rattle.arn_model.specs.Doing.{Request};
+ghost use Rattle.arn_model.specs.Row.{is_waiting};
+ghost use Rattle.arn_model.specs.TransferCalls.{cut, if_moving, read_row, write_console, write_row};
+ghost use Rattle.guest_bodies.specs.Shown.{IsLive, seen_in};
+ghost use Rattle.guest_calls.specs.Acted.{Carried};
+ghost use Rattle.guest_calls.specs.Fits.{IsShort};
+ghost use Rattle.guest_calls.specs.State.{OfProcess};
+ghost use Rattle.guest_calls.specs.Transfers.{CanPrint, CanTake, IsReading, IsWriting, console_read, console_write, moved_by, taking};
+
+use crate::kernel::Kernel;
+use crate::outcomes::{CallStop, Done};
+use crate::parts::error;
+use arn_base::{Bytes, Extra, NoMemory};
+use guest_give::give_of;
+use parts_model::Description;
+use parts_model::limits::MOST_TRANSFER;
+use parts_model::refusals::{BAD_ADDRESS, BAD_DESCRIPTOR};
+
+/// What a read comes to.
+#[derive(Clone, Copy, Debug, PartialEq, Eq)]
+pub enum Reading {
+    /// It isn't ready.
+    Waits,
+    /// It ends with this result and moves no bytes.
+    Answers { answer: u64 },
+    /// It receives so many bytes of the console's queue at an address.
+    Takes { at: u64, count: usize },
+}
+
+/// What a write comes to.
+#[derive(Clone, Copy, Debug, PartialEq, Eq)]
+pub enum Writing {
+    /// It isn't ready.
+    Waits,
+    /// It ends with this result and moves no bytes.
+    Answers { answer: u64 },
+    /// It gives the console so many bytes from an address.
+    Prints { at: u64, count: u64 },
+}
+
+impl Kernel {
+    // How many bytes a transfer moves at most, or its result where it moves none.
+    fn moving(&self, pid: u32, at: u64, count: u64) -> Result<u64, u64>
+        requires { IsLive self.now.guests pid }
+        ensures most { IfOk result (λ most. (most ≡ cut count) × (most ≤ MOST_TRANSFER)) }
+        ensures some { IfOk result (λ most. 0 < most) }
+        ensures reach { IfOk result (λ most.
+            IfSome (seen_in self.now.guests pid) (λ v. IsSome (bytes_in v at most))) }
+        ensures moved { OfProcess self.now pid (λ m v. (goes_on : Request) →
+            if_moving m v at count goes_on ≡ moved_by result m goes_on) }
+    {
+        if count == 0 {
+            return Err(0);
+        }
+        let most = count.min(MOST_TRANSFER);
+        if self.bodies.bytes(pid, at, most).is_none() {
+            return Err(error(BAD_ADDRESS));
+        }
+        Ok(most)
+    }
+
+    // How many bytes wait at the console.
+    fn queued(&self) -> usize
+        ensures { result ≡ length self.now.kernel.console.queue }
+    {
+        self.console.len()
+    }
+
+    /// What the read at which a process stands comes to.
+    pub(crate) fn reading(&self, pid: u32) -> Reading
+        requires { IsLive self.now.guests pid }
+        ensures reading { OfProcess self.now pid (λ m v. IsReading result m (read_row m pid v)) }
+        ensures within { CanTake result (length self.now.kernel.console.queue) }
+    {
+        match self.opened(pid, self.argument(pid, 0)) {
+            Some(Description::Console) => self.reading_console(pid),
+            Some(_) => unreachable!(),
+            None => Reading::Answers {
+                answer: error(BAD_DESCRIPTOR),
+            },
+        }
+    }
+
+    // What a read from the console comes to.
+    fn reading_console(&self, pid: u32) -> Reading
+        requires { IsLive self.now.guests pid }
+        ensures reading { OfProcess self.now pid (λ m v. IsReading result m (console_read m v)) }
+        ensures within { CanTake result (length self.now.kernel.console.queue) }
+    {
+        let at = self.argument(pid, 1);
+        match self.moving(pid, at, self.argument(pid, 2)) {
+            Err(answer) => Reading::Answers { answer },
+            Ok(most) => match self.queued() {
+                0 => Reading::Waits,
+                queued => Reading::Takes {
+                    at,
+                    count: queued.min(most as usize),
+                },
+            },
+        }
+    }
+
+    /// The call `read(descriptor, address, count)`.
+    pub(crate) fn read(&mut self, pid: u32) -> Result<Done, CallStop>
+        requires live { IsLive self.old.guests pid }
+        requires room { self.old.events + 1 < 2 ^ 64 }
+        ensures carried { IfOk result (λ done. OfProcess self.old pid (λ m v.
+            Carried (read_row m pid v) done m pid v self.new)) }
+        ensures short { IfOk result (λ done. IsShort done.extra) }
+        ensures waits { OfProcess self.old pid (λ m v.
+            IsErrOf result CallStop.NotReady ↔ IsTrue (is_waiting (read_row m pid v))) }
+        ensures err { OnErr result (self.new ≡ self.old) }
+    {
+        match self.reading(pid) {
+            Reading::Waits => Err(CallStop::NotReady),
+            Reading::Answers { answer } => Ok(self.answers(pid, answer)),
+            Reading::Takes { at, count } => Ok(self.take(pid, at, count)?),
+        }
+    }
+
+    // A process receives the first bytes of the console's queue.
+    fn take(&mut self, pid: u32, at: u64, count: usize) -> Result<Done, NoMemory>
+        requires live { IsLive self.old.guests pid }
+        requires room { self.old.events + 1 < 2 ^ 64 }
+        requires queued { count ≤ length self.old.kernel.console.queue }
+        requires few { count ≤ MOST_TRANSFER }
+        ensures carried { IfOk result (λ done. OfProcess self.old pid (λ m v.
+            Carried (taking m at count) done m pid v self.new)) }
+        ensures short { IfOk result (λ done. IsShort done.extra) }
+        ensures err { OnErr result (self.new ≡ self.old) }
+    {
+        let give = give_of(self.alloc, self.console.front(count))?;
+        self.bodies
+            .receives(pid, at, give.bytes.as_slice(), count as u64);
+        self.console.take(count);
+        self.events += 1;
+        Ok(Done {
+            result: count as u64,
+            extra: Extra::Give(give),
+        })
+    }
+
+    /// What the write at which a process stands comes to.
+    pub(crate) fn writing(&self, pid: u32) -> Writing
+        requires { IsLive self.now.guests pid }
+        ensures writing { OfProcess self.now pid (λ m v. IsWriting result m v (write_row m pid v)) }
+        ensures within { IfSome (seen_in self.now.guests pid) (CanPrint result) }
+    {
+        match self.opened(pid, self.argument(pid, 0)) {
+            Some(Description::Console) => self.writing_console(pid),
+            Some(_) => unreachable!(),
+            None => Writing::Answers {
+                answer: error(BAD_DESCRIPTOR),
+            },
+        }
+    }
+
+    // What a write to the console comes to.
+    fn writing_console(&self, pid: u32) -> Writing
+        requires { IsLive self.now.guests pid }
+        ensures writing { OfProcess self.now pid (λ m v.
+            IsWriting result m v (console_write m v)) }
+        ensures within { IfSome (seen_in self.now.guests pid) (CanPrint result) }
+    {
+        let at = self.argument(pid, 1);
+        match self.moving(pid, at, self.argument(pid, 2)) {
+            Err(answer) => Writing::Answers { answer },
+            Ok(count) => Writing::Prints { at, count },
+        }
+    }
+
+    /// The call `write(descriptor, address, count)`.
+    pub(crate) fn write(&mut self, pid: u32) -> Result<Done, CallStop>
+        requires live { IsLive self.old.guests pid }
+        requires room { self.old.events + 1 < 2 ^ 64 }
+        ensures carried { IfOk result (λ done. OfProcess self.old pid (λ m v.
+            Carried (write_row m pid v) done m pid v self.new)) }
+        ensures short { IfOk result (λ done. IsShort done.extra) }
+        ensures waits { OfProcess self.old pid (λ m v.
+            IsErrOf result CallStop.NotReady ↔ IsTrue (is_waiting (write_row m pid v))) }
+        ensures err { OnErr result (self.new ≡ self.old) }
+    {
+        match self.writing(pid) {
+            Writing::Waits => Err(CallStop::NotReady),
+            Writing::Answers { answer } => Ok(self.answers(pid, answer)),
+            Writing::Prints { at, count } => Ok(self.print(pid, at, count)?),
+        }
+    }
+
+    // The bytes of a process, where they lie whole in one window.
+    fn copy_of(&self, pid: u32, at: u64, count: u64) -> Result<Bytes, NoMemory>
+        requires live { IsLive self.now.guests pid }
+        requires reach { IfSome (seen_in self.now.guests pid) (λ v. IsSome (bytes_in v at count)) }
+        ensures read { IfOk result (λ bytes.
+            IfSome (seen_in self.now.guests pid) (λ v. bytes ≡ read v at count)) }
+        ensures count { IfOk result (λ bytes. length bytes ≡ count) }
+    {
+        match self.bodies.bytes(pid, at, count) {
+            Some(bytes) => Bytes::from_slice(self.alloc, bytes),
+            None => unreachable!(),
+        }
+    }
+
+    // A process gives the console bytes from an address.
+    fn print(&mut self, pid: u32, at: u64, count: u64) -> Result<Done, NoMemory>
+        requires live { IsLive self.old.guests pid }
+        requires room { self.old.events + 1 < 2 ^ 64 }
+        requires reach { IfSome (seen_in self.old.guests pid) (λ v. IsSome (bytes_in v at count)) }
+        requires few { count ≤ MOST_TRANSFER }
+        ensures carried { IfOk result (λ done. OfProcess self.old pid (λ m v.
+            Carried (write_console m at (read v at count)) done m pid v self.new)) }
+        ensures short { IfOk result (λ done. IsShort done.extra) }
+        ensures err { OnErr result (self.new ≡ self.old) }
+    {
+        let bytes = self.copy_of(pid, at, count)?;
+        self.returns(pid, count);
+        Ok(Done {
+            result: count,
+            extra: Extra::Console { bytes },
+        })
+    }
+}
