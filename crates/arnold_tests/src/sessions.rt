@@ -1,7 +1,7 @@
 // A session over a text in memory.
 ghost use Rattle.std.specs.Prelude.{◌≡◌, ◌<◌, ◌↔◌, [], List, IfOk, map};
 ghost use Rattle.arn_base.specs.declared.records.Record.{Record};
-ghost use Rattle.arn_session.specs.Carrying.{HoldsLog};
+ghost use Rattle.session_effects.specs.Carrying.{HoldsLog};
 ghost use Rattle.arn_session.specs.Words.{AreAccepted, AreAcceptedTexts, texts};
 ghost use Rattle.arnold_tests.specs.Sessions.{Prints};
 
@@ -80,7 +80,7 @@ fn run_over<D: Disk, L: Ledger>(
     requires some { 0 < blank.parts }
 
     ensures done { IfOk result (λ ended. ended.status ≡ Status.Done → (history : List Record) →
-        HoldsLog D.image disk.old history →
+        HoldsLog D.Disk disk.old history →
         Prints history script.now.text.now ended.sink.held) }
     ensures usage { IfOk result (λ ended. (ended.status ≡ Status.Usage) ↔ ¬ AreAccepted words.now) }
     ensures silent { IfOk result (λ ended. ended.status ≡ Status.Usage → ended.sink.held ≡ []) }
@@ -112,7 +112,7 @@ pub fn run_on<D: Disk>(
     disk: &mut D,
 ) -> Result<Ended, NoMemory>
     ensures done { IfOk result (λ ended. ended.status ≡ Status.Done → (history : List Record) →
-        HoldsLog D.image disk.old history →
+        HoldsLog D.Disk disk.old history →
         Prints history script.now.text.now ended.sink.held) }
     ensures usage { IfOk result (λ ended. (ended.status ≡ Status.Usage) ↔
         ¬ AreAcceptedTexts (map (λ word. word.now) words.now)) }
