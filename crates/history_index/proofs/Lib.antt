@@ -3,3 +3,7 @@ pub mod Lives
 pub mod Refusals
 pub mod Lookups
 pub mod NextSlice
+pub mod NextEvent
+pub mod WithEvent
+pub mod Whole
+pub mod Extended

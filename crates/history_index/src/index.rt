@@ -1,5 +1,5 @@
 // The index.
-ghost use Rattle.std.specs.Prelude.{◌≡◌, ℕ, ◌+◌, ◌<◌, ◌≤◌, ◌^◌, false, List, length, slice_get, option_and_then, OnOk, OnErr, IfOk, IfErr};
+ghost use Rattle.std.specs.Prelude.{◌≡◌, ℕ, ◌+◌, ◌<◌, ◌≤◌, ◌^◌, false, List, length, take, slice_get, option_and_then, OnOk, OnErr, IfOk, IfErr};
 ghost use Rattle.arn_base.specs.declared.records.Record.{Record};
 ghost use Rattle.acts_model.specs.Records.{event_len};
 ghost use Rattle.history_model.specs.Events.{how_many, len_of};
@@ -7,9 +7,9 @@ ghost use Rattle.history_model.specs.Groups as groups;
 ghost use Rattle.history_model.specs.Moments as moments;
 ghost use Rattle.history_index.specs.After as after;
 ghost use Rattle.history_index.specs.Check.{refuses};
-ghost use Rattle.history_index.specs.Errors.{Refuses};
+ghost use Rattle.history_index.specs.Errors.{Leaves, Refuses, TellsBroken};
 ghost use Rattle.history_index.specs.Families.{run_in};
-ghost use Rattle.history_index.specs.Indexes.{Indexes};
+ghost use Rattle.history_index.specs.Indexes.{AreCountable, Indexes};
 ghost use Rattle.history_index.specs.Lookups as lookups;
 ghost use Rattle.history_index.specs.Tables.{no_tables};
 
@@ -206,6 +206,32 @@ impl Index {
         ensures { result ≡ self.now.total }
     {
         self.total
+    }
+
+    /// The index of records.
+    pub fn build(alloc: Global, entries: &[Record]) -> Result<Index, IndexError>
+        requires countable { AreCountable entries.now }
+        ensures ok { IfOk result (λ made. Indexes made entries.now) }
+        ensures broken { IfErr result (TellsBroken entries.now) }
+    {
+        let mut index = Index::empty(alloc)?;
+        index.extend(entries, 0)?;
+        Ok(index)
+    }
+
+    /// Takes the records from one on, where the index is that of those before it.
+    pub fn extend(&mut self, entries: &[Record], from: usize) -> Result<(), IndexError>
+        requires countable { AreCountable entries.now }
+        requires inside { from ≤ length entries.now }
+        requires indexed { Indexes self.old (take from entries.now) }
+        ensures ok { OnOk result (Indexes self.new entries.now) }
+        ensures broken { IfErr result (TellsBroken entries.now) }
+        ensures left { IfErr result (Leaves entries.now self.new) }
+    {
+        for place in from..entries.len() {
+            self.add(&entries[place])?;
+        }
+        Ok(())
     }
 
     /// The group of a process.
