@@ -6,6 +6,8 @@ use Rattle.arn_base.specs.declared.records.Give.{Give}
 use Rattle.arn_base.specs.declared.records.Origin.{Origin}
 use Rattle.arn_base.specs.declared.records.Record.{Record}
 use Rattle.arn_base.specs.declared.records.Record.TheVariants as entry
+use Rattle.arn_base.specs.declared.machine.Block.{Block}
+use Rattle.history_model.specs.Broken.{first_broken}
 use Rattle.history_model.specs.Events.{how_many, event_at, len_of, is_range}
 use Rattle.history_model.specs.Exchanges.{received, founded, Edge, ByBytes, ByFork, Back, Starting, Backward, Forth, Beginning, Forward}
 use Rattle.history_model.specs.Groups.{group_of, count_of, event_group}
@@ -320,3 +322,99 @@ may-bring = refl
 was-booted : is_booted names ∷ is_booted (entry.File (codes "a") [] ∷ []) ∷ [] ≡ true ∷ false ∷ []
 unfolding names from
 was-booted = refl
+
+-- records that can't stand where they do
+
+-- process 1 begins, and these come behind it
+begun : List Record → List Record
+begun more = entry.File (codes "p") (1 ∷ 2 ∷ []) ∷ entry.Boot (codes "p") (from (1 ∷ 2 ∷ []) 0 0 2) ∷ more
+
+-- the same behind a slice of it
+run_then : List Record → List Record
+run_then more = begun (entry.Slice 1 3 ∷ more)
+
+all-stand : first_broken told ≡ None
+unfolding told from child_start
+all-stand = refl
+
+-- inputs on the wrong side of the boot
+file-late : first_broken (begun (entry.File (codes "q") [] ∷ [])) ≡ Some 2
+unfolding begun from
+file-late = refl
+
+typed-early : first_broken (entry.Typed (97 ∷ []) ∷ []) ≡ Some 0
+typed-early = refl
+
+-- a slice of a process that was never made, and of one that has ended
+slice-unmade : first_broken (begun (entry.Slice 2 1 ∷ [])) ≡ Some 2
+unfolding begun from
+slice-unmade = refl
+
+slice-ended : first_broken (run_then (entry.Call 1 1 0 extra.Nothing ∷ entry.Slice 1 1 ∷ [])) ≡ Some 4
+unfolding run_then begun from
+slice-ended = refl
+
+-- a second call behind one slice; one delivery may come between, and two may not
+call-again : first_broken (run_then (entry.Call 1 5 1 extra.Nothing ∷ entry.Call 1 5 1 extra.Nothing ∷ [])) ≡ Some 4
+unfolding run_then begun from
+call-again = refl
+
+delivery-between : first_broken (run_then (entry.Signal 1 2 false 0x10040 ∷ entry.Call 1 5 1 extra.Nothing ∷ [])) ≡ None
+unfolding run_then begun from
+delivery-between = refl
+
+deliveries-between : first_broken (run_then (entry.Signal 1 2 false 0x10040 ∷ entry.Signal 1 3 false 0x10040 ∷ entry.Call 1 5 1 extra.Nothing ∷ [])) ≡ Some 5
+unfolding run_then begun from
+deliveries-between = refl
+
+-- an origin in the event itself, behind an event's bytes, of no bytes, and of too few
+origin-itself : first_broken (run_then (entry.Call 1 11 1 (extra.Give (from (97 ∷ []) 2 0 1)) ∷ [])) ≡ Some 3
+unfolding run_then begun from
+origin-itself = refl
+
+origin-outside : first_broken (run_then (entry.Call 1 11 1 (extra.Give (from (97 ∷ []) 0 2 1)) ∷ [])) ≡ Some 3
+unfolding run_then begun from
+origin-outside = refl
+
+origin-empty : first_broken (run_then (entry.Call 1 11 0 (extra.Give (from [] 0 0 0)) ∷ [])) ≡ Some 3
+unfolding run_then begun from
+origin-empty = refl
+
+origins-short : first_broken (run_then (entry.Call 1 11 2 (extra.Give (from (1 ∷ 2 ∷ []) 0 0 1)) ∷ [])) ≡ Some 3
+unfolding run_then begun from
+origins-short = refl
+
+-- a child that begins with blocks of these numbers
+forked : List ℕ → List Record
+forked numbers =
+    run_then (entry.Call 1 2 2 (extra.Start (record {
+      cpu = record { x = replicate 31 0; pc = 0x10004 };
+      slot = None;
+      blocks = map (λ n. record { number = n; bytes = replicate 256 1 }) numbers;
+    })) ∷ [])
+
+blocks-rise : first_broken (forked (0 ∷ 7 ∷ 1023 ∷ [])) ≡ None
+unfolding forked run_then begun from
+blocks-rise = refl
+
+blocks-again : first_broken (forked (7 ∷ 7 ∷ [])) ≡ Some 3
+unfolding forked run_then begun from
+blocks-again = refl
+
+blocks-past : first_broken (forked (1024 ∷ [])) ≡ Some 3
+unfolding forked run_then begun from
+blocks-past = refl
+
+-- a child whose number isn't the next; a fork that failed makes none
+child-skips : first_broken (run_then (entry.Call 1 2 3 extra.Nothing ∷ [])) ≡ Some 3
+unfolding run_then begun from
+child-skips = refl
+
+child-none : first_broken (run_then (entry.Call 1 2 minus_11 extra.Nothing ∷ [])) ≡ None
+unfolding run_then begun from minus_11
+child-none = refl
+
+-- how a child begins, with another call
+start-elsewhere : first_broken (run_then (entry.Call 1 3 0 child_start ∷ [])) ≡ Some 3
+unfolding run_then begun from child_start
+start-elsewhere = refl

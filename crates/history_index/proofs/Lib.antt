@@ -1,0 +1,9 @@
+pub mod Snoc
+pub mod Lives
+pub mod Refusals
+pub mod Lookups
+pub mod NextSlice
+pub mod NextEvent
+pub mod WithEvent
+pub mod Whole
+pub mod Extended

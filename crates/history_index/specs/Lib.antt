@@ -1,0 +1,10 @@
+pub mod Lookups
+pub mod Runs
+pub mod Families
+pub mod Tables
+pub mod Check
+pub mod After
+pub mod Indexes
+pub mod AtHand
+pub mod Bounds
+pub mod Errors

@@ -1,0 +1,24 @@
+// The events of a history.
+ghost use Rattle.std.specs.Prelude.{◌≡◌};
+ghost use Rattle.history_index.specs.Lookups.{moment_in};
+
+use arn_base::Record;
+
+/// An event: the number of its record, its moment, its process, and how many bytes it has.
+#[derive(Clone, Copy, Debug, PartialEq, Eq)]
+pub struct EventAt {
+    pub place: u64,
+    pub moment: u64,
+    pub pid: Option<u32>,
+    pub len: u32,
+}
+
+/// The moment of the next event, where the slice at hand begins and ends at these.
+pub fn moment_of(begins: u64, ends: u64, entry: &Record) -> u64
+    ensures { result ≡ moment_in begins ends entry.now }
+{
+    match entry {
+        Record::Signal { .. } => begins,
+        _ => ends,
+    }
+}
