@@ -40,7 +40,7 @@ fn close(what: &Description)
 
 impl Kernel {
     /// The number of the call at which a process stands.
-    pub(crate) fn call_number(&self, pid: u32) -> u64
+    pub fn call_number(&self, pid: u32) -> u64
         requires { IsLive self.now.guests pid }
         ensures { IfSome (seen_in self.now.guests pid) (λ v. result ≡ call_number v.body.cpu) }
     {

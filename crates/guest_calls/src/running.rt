@@ -1,5 +1,6 @@
 // What else happens to a process: instructions, deliveries and ends by fault.
-ghost use Rattle.std.specs.Prelude.{◌≡◌, ◌≢◌, ◌+◌, IfSome, Some, length};
+ghost use Rattle.std.specs.Prelude.{◌≡◌, ◌≢◌, ◌+◌, IfSome, IsTrue, Some, length};
+ghost use Rattle.parts_model.specs.Signals.{is_signal};
 ghost use Rattle.acts_model.specs.Views.{stands_at};
 ghost use Rattle.arn_model.specs.Step.{delivery_step, fault_step, waits};
 ghost use Rattle.arn_model.specs.Turn.{can_go_on};
@@ -65,8 +66,9 @@ impl Kernel {
     pub fn deliver(&mut self, pid: u32, event: u64) -> Option<Delivered>
         requires live { IsLive self.old.guests pid }
         requires next { IsNext self.old event }
-        ensures { OfProcess self.old pid (λ m v.
+        ensures delivered { OfProcess self.old pid (λ m v.
             DeliveredBy result pid (delivery_step m pid v) self.old self.new) }
+        ensures signal { IfSome result (λ d. IsTrue (is_signal d.signal)) }
     {
         let signal = match self.bodies.due(pid) {
             Some(signal) => signal,

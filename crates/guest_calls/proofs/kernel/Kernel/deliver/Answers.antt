@@ -10,13 +10,13 @@ use Rattle.guest_calls.proofs.Runs.{due-all, handler-all, delivery-is, delivered
 use Rattle.guest_calls.proofs.Stands.{machine_with, of_process, stands-with}
 use Rattle.guest_calls.proofs.kernel.Kernel.deliver.Goals as goal
 
-pub returns-in-None : goal.returns-in-None
-returns-in-None c m v stands sees =
+pub returns-in-None-clause-delivered : goal.returns-in-None-clause-delivered
+returns-in-None-clause-delivered c m v stands sees =
     subst (λ (d : Option ℕ). DeliveredBy None c.args.pid (delivery_of m c.args.pid v d) c.args.self.now c.args.self.now)
     (sym c.in-None.is ∙ due-all c.self.inside c.args.self.now c.args.pid c.self.view_is c.self.invariant c.requires.live c.due.result c.due.ensures.due m v stands sees) refl
 
-pub returns-then-handler-eq0 : goal.returns-then-handler-eq0
-returns-then-handler-eq0 c =
+pub returns-then-handler-eq0-clause-delivered : goal.returns-then-handler-eq0-clause-delivered
+returns-then-handler-eq0-clause-delivered c =
     let found : Delivered = record { signal = c.in-Some.signal; cut = c.waits-cut.result; handler = c.handler-handler.result } in
     of_process c.args.self.now c.args.pid (λ m v. DeliveredBy (Some found) c.args.pid (delivery_step m c.args.pid v) c.args.self.now c.ends.new.self)
     (λ b v shows sees.
@@ -30,8 +30,8 @@ returns-then-handler-eq0 c =
     (handler-all c.self.inside c.args.self.now c.args.pid c.self.view_is c.self.invariant c.requires.live c.in-Some.signal c.handler-handler.result c.handler-handler.ensures m v stands sees'))
     (delivered-dies c.args.self.now c.ends.new.self c.args.pid v b c.in-Some.signal c.handler-handler.result c.waits-cut.result shows c.if-handler-eq0.true (c.ends.ensures (Dies c.in-Some.signal c.waits-cut.result) tt)))
 
-pub returns-else-handler-eq0 : goal.returns-else-handler-eq0
-returns-else-handler-eq0 c =
+pub returns-else-handler-eq0-clause-delivered : goal.returns-else-handler-eq0-clause-delivered
+returns-else-handler-eq0-clause-delivered c =
     let found : Delivered = record { signal = c.in-Some.signal; cut = c.waits-cut.result; handler = c.handler-handler.result } in
     of_process c.args.self.now c.args.pid (λ m v. DeliveredBy (Some found) c.args.pid (delivery_step m c.args.pid v) c.args.self.now c.enters.new.self)
     (λ b v shows sees.

@@ -1,0 +1,65 @@
+-- Which processes of a list pass a test, one after the other.
+use Rattle.std.proofs.Common.{◌≡◌, ℕ, zero, suc, ◌+◌, ◌<◌, ◌≤◌, ◌++◌, Bool, true, false, cond, List, [], ◌∷◌, length, filter, get_or, take, drop, Option, None, Some, slice_get, refl, sym, ap, subst, ◌∙◌, arith, length-append, take-append-drop}
+use Rattle.std.proofs.Math.Seq.{take-length}
+use Rattle.std.proofs.lemmas.List.{drop_more, take_more}
+use Rattle.std.proofs.lemmas.List.Elements.{filter-append}
+use Rattle.std.proofs.lemmas.Option.{slice_get_past}
+use Rattle.arn_model.specs.Kernel.{Kernel, Machine}
+use Rattle.arn_model.specs.Turn.{is_runnable, live, runnable}
+use Rattle.parts_model.specs.Processes as table
+use Rattle.guest_calls.specs.State.{State, StandsFor}
+use Rattle.guest_machine.specs.Recorded.{OfEach}
+
+-- so many of the first i pass
+abbrev pub Passed : (ℕ → Bool) → List ℕ → ℕ → ℕ → Type 0
+Passed f xs i n = n ≡ length (filter f (take i xs))
+
+one-more : (f : ℕ → Bool) (xs : List ℕ) (i x : ℕ) (b : Bool) → i < length xs → x ≡ get_or xs i 0 → f x ≡ b → length (filter f (take (i + 1) xs)) ≡ length (filter f (take i xs)) + cond b 1 0
+one-more f xs i x b within is at =
+    let all : take (i + 1) xs ≡ take i xs ++ x ∷ [] = take_more xs i 0 within ∙ ap (λ (y : ℕ). take i xs ++ y ∷ []) (sym is) in
+    let split = ap (filter f) all ∙ filter-append f (take i xs) (x ∷ []) in
+    omega (arith, ap length split, length-append (filter f (take i xs)) (filter f (x ∷ [])), one f x b at)
+  where
+    by : (b : Bool) → length (cond b (x ∷ []) []) ≡ cond b 1 0
+    by true = refl
+    by false = refl
+
+    one : (f : ℕ → Bool) (x : ℕ) (b : Bool) → f x ≡ b → length (filter f (x ∷ [])) ≡ cond b 1 0
+    one f x true at = rw at refl
+    one f x false at = rw at refl
+
+-- the next one passes, or doesn't
+pub passes : (s : State) (xs : List ℕ) (i x n : ℕ) (able : Bool) → i < length xs → x ≡ get_or xs i 0 → OfEach s (λ m. able ≡ is_runnable m x) → able ≡ true → OfEach s (λ m. Passed (is_runnable m) xs i n) → OfEach s (λ m. Passed (is_runnable m) xs (i + 1) (n + 1))
+passes s xs i x n able within is tells does so_far m stands = omega (arith, so_far m stands, one-more (is_runnable m) xs i x true within is (sym (tells m stands) ∙ does))
+
+pub fails : (s : State) (xs : List ℕ) (i x n : ℕ) (able : Bool) → i < length xs → x ≡ get_or xs i 0 → OfEach s (λ m. able ≡ is_runnable m x) → able ≡ false → OfEach s (λ m. Passed (is_runnable m) xs i n) → OfEach s (λ m. Passed (is_runnable m) xs (i + 1) n)
+fails s xs i x n able within is tells no_ so_far m stands = omega (arith, so_far m stands, one-more (is_runnable m) xs i x false within is (sym (tells m stands) ∙ no_))
+
+-- the list is that of live processes
+same-live : (s : State) (m : Machine) (xs : List ℕ) → StandsFor s m → xs ≡ table.live s.kernel.processes → filter (is_runnable m) xs ≡ runnable m
+same-live s m xs stands is = ap (filter (is_runnable m)) (is ∙ ap (λ (k : Kernel). table.live k.processes) stands.kernel)
+
+pub all-passed : (s : State) (xs : List ℕ) (n : ℕ) → xs ≡ table.live s.kernel.processes → OfEach s (λ m. Passed (is_runnable m) xs (length xs) n) → OfEach s (λ m. n ≡ length (runnable m))
+all-passed s xs n is so_far m stands = so_far m stands ∙ ap (λ (ys : List ℕ). length (filter (is_runnable m) ys)) (take-length xs) ∙ ap length (same-live s m xs stands is)
+
+behind-front : (front : List ℕ) (x : ℕ) (back : List ℕ) → slice_get (front ++ x ∷ back) (length front) ≡ Some x
+behind-front [] x back = refl
+behind-front (y ∷ front) x back = behind-front front x back
+
+-- this one is found
+found-at : (f : ℕ → Bool) (xs : List ℕ) (i x n : ℕ) → i < length xs → x ≡ get_or xs i 0 → f x ≡ true → Passed f xs i n → slice_get (filter f xs) n ≡ Some x
+found-at f xs i x n within is does so_far =
+    let split : xs ≡ take i xs ++ x ∷ drop (i + 1) xs = sym (take-append-drop i xs) ∙ ap (λ (ys : List ℕ). take i xs ++ ys) (drop_more xs i 0 within ∙ ap (λ (y : ℕ). y ∷ drop (i + 1) xs) (sym is)) in
+    let passed : filter f xs ≡ filter f (take i xs) ++ x ∷ filter f (drop (i + 1) xs) = ap (filter f) split ∙ filter-append f (take i xs) (x ∷ drop (i + 1) xs) ∙ ap (λ (ys : List ℕ). filter f (take i xs) ++ ys) (one f x (drop (i + 1) xs) does) in
+    ap (λ (ys : List ℕ). slice_get ys n) passed ∙ ap (slice_get (filter f (take i xs) ++ x ∷ filter f (drop (i + 1) xs))) so_far ∙ behind-front (filter f (take i xs)) x (filter f (drop (i + 1) xs))
+  where
+    one : (f : ℕ → Bool) (x : ℕ) (ys : List ℕ) → f x ≡ true → filter f (x ∷ ys) ≡ x ∷ filter f ys
+    one f x ys at = rw at refl
+
+pub found : (s : State) (xs : List ℕ) (i x n place : ℕ) (able : Bool) → i < length xs → x ≡ get_or xs i 0 → OfEach s (λ m. able ≡ is_runnable m x) → able ≡ true → OfEach s (λ m. Passed (is_runnable m) xs i n) → xs ≡ table.live s.kernel.processes → n ≡ place → OfEach s (λ m. Some x ≡ slice_get (runnable m) place)
+found s xs i x n place able within is tells does so_far all at m stands =
+    sym (found-at (is_runnable m) xs i x n within is (sym (tells m stands) ∙ does) (so_far m stands)) ∙ ap (slice_get (filter (is_runnable m) xs)) at ∙ ap (λ (ys : List ℕ). slice_get ys place) (same-live s m xs stands all)
+
+-- none is
+pub not-found : (s : State) (xs : List ℕ) (n place : ℕ) → xs ≡ table.live s.kernel.processes → OfEach s (λ m. Passed (is_runnable m) xs (length xs) n) → n ≤ place → OfEach s (λ m. None ≡ slice_get (runnable m) place)
+not-found s xs n place is so_far few m stands = sym (slice_get_past (runnable m) place (omega (arith, all-passed s xs n is so_far m stands, few)))

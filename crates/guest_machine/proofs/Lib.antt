@@ -1,0 +1,19 @@
+pub mod Appends
+pub mod TurnParts
+pub mod TurnLemmas
+pub mod StepLemmas
+pub mod RunsLemmas
+mod DiffersExamples
+pub mod Compared
+pub mod SameRecord
+pub mod Bounds
+pub mod LawLemmas
+pub mod SmallQuestions
+pub mod ToldLemmas
+pub mod RealLemmas
+pub mod MachineLemmas
+pub mod Spelled
+pub mod SliceLemmas
+pub mod WholeTurns
+pub mod AbleLemmas
+pub mod PiecesLemmas

@@ -1,0 +1,33 @@
+use Rattle.std.proofs.Common.{rules, ◌≡◌, ◌≢◌, ◌<◌, None, Some}
+use Rattle.rv64_core.specs.declared.outcome.Outcome.TheVariants as outcome
+use Rattle.guest_bodies.specs.Shown.{IsLive}
+use Rattle.guest_machine.proofs.WholeTurns.{stops-call, stops-end, stops-no_memory, take-dead, take-part, take-whole}
+use Rattle.guest_machine.proofs.turn.take_turn.Goals as goal
+
+pub returns-then-not-is_live-clause-took : goal.returns-then-not-is_live-clause-took
+returns-then-not-is_live-clause-took g c m stands =
+    let dead : IsLive c.deliver-delivery.new.kernel.guests c.args.pid → ⊥ = λ live. search rules in
+    take-dead g.A.Answers.answers c.args.answers.now c.args.kernel.now c.deliver-delivery.new.kernel c.args.pid c.args.count c.deliver-delivery.result c.requires.live c.deliver-delivery.ensures.delivers dead m stands
+
+pub finish-requires-clause-at_call : goal.finish-requires-clause-at_call
+finish-requires-clause-at_call g c =
+    stops-call c.deliver-delivery.new.kernel c.run_plain-stood.new.kernel c.args.pid c.args.count c.run_plain-stood.result c.deliver-delivery.ensures.real c.run_plain-stood.ensures.ran
+
+pub finish-requires-clause-at_end : goal.finish-requires-clause-at_end
+finish-requires-clause-at_end g c status =
+    stops-end c.deliver-delivery.new.kernel c.run_plain-stood.new.kernel c.args.pid c.args.count c.run_plain-stood.result status c.deliver-delivery.ensures.real c.run_plain-stood.ensures.ran
+
+pub finish-requires-clause-memory : goal.finish-requires-clause-memory
+finish-requires-clause-memory g c =
+    stops-no_memory c.deliver-delivery.new.kernel c.run_plain-stood.new.kernel c.args.pid c.args.count c.run_plain-stood.result c.deliver-delivery.ensures.real c.run_plain-stood.ensures.ran
+
+pub returns-in-Ok-clause-took : goal.returns-in-Ok-clause-took
+returns-in-Ok-clause-took g c m stands =
+    take-whole g.A.Answers.answers c.args.answers.now c.finish.new.answers c.args.kernel.now c.deliver-delivery.new.kernel c.run_plain-stood.new.kernel c.finish.new.kernel c.args.pid c.args.count c.deliver-delivery.result c.in-Ok.last c.run_plain-stood.result c.counted.result
+    c.requires.live c.deliver-delivery.ensures.delivers c.run_plain-stood.ensures.ran c.in-Ok.ensures.finishes c.counted.ensures m stands
+
+pub returns-in-Err-clause-took : goal.returns-in-Err-clause-took
+returns-in-Err-clause-took g c m stands =
+    let within : c.run_plain-stood.result.ran < c.args.count = c.run_plain-stood.ensures.some c.in-Err.ensures.called in
+    take-part c.args.answers.now c.finish.new.answers c.args.kernel.now c.deliver-delivery.new.kernel c.run_plain-stood.new.kernel c.finish.new.kernel c.args.pid c.args.count c.deliver-delivery.result c.run_plain-stood.result
+    c.requires.live c.deliver-delivery.ensures.delivers c.run_plain-stood.ensures.ran c.in-Err.ensures.err c.in-Err.ensures.unasked within m stands

@@ -1,0 +1,38 @@
+-- Where records differ from those of the inputs that they name.
+use Rattle.std.specs.Prelude.{◌≡◌, ◌≢◌, ℕ, ◌+◌, Bool, true, false, List, [], take, count_by, Option, None, Some, slice_get}
+use Rattle.arn_base.specs.declared.records.Record.{Record}
+use Rattle.arn_base.specs.declared.records.Record.TheVariants as entry
+use Rattle.arn_model.specs.Run.{run, instructions_in}
+use Rattle.log_model.specs.Records.{named}
+use Rattle.result_log.specs.Spelling.{spelling}
+use Rattle.arn_base.specs.declared.records.Differs.{Differs}
+
+-- the spelling of a record, and no bytes where there is none
+abbrev pub spelling_if : Option Record → List ℕ
+spelling_if None = []
+spelling_if (Some entry) = spelling entry
+
+-- This is where two lists of records first differ: which record, which byte of its spelling, and this byte in both. There is none
+-- where a record or its spelling has ended.
+pub record IsFirstDifference (said found : List Record) (d : Differs) : Type 0 where
+  pub same_before : take d.place said ≡ take d.place found
+  pub differ : slice_get said d.place ≢ slice_get found d.place
+  pub same_bytes : take d.at (spelling_if (slice_get said d.place)) ≡ take d.at (spelling_if (slice_get found d.place))
+  pub said_byte : slice_get (spelling_if (slice_get said d.place)) d.at ≡ d.said
+  pub found_byte : slice_get (spelling_if (slice_get found d.place)) d.at ≡ d.found
+  pub bytes_differ : d.said ≢ d.found
+
+-- the record names a slice
+abbrev pub is_slice : Record → Bool
+is_slice (entry.File name bytes) = false
+is_slice (entry.Boot name give) = false
+is_slice (entry.Typed bytes) = false
+is_slice (entry.Unplug device) = false
+is_slice (entry.Slice pid ran) = true
+is_slice (entry.Signal pid signal cut handler) = false
+is_slice (entry.Call pid number result extra) = false
+is_slice (entry.End pid status) = false
+
+-- how many instructions the inputs that records name run, and how many slices they name
+abbrev pub rebuild_cost : List Record → ℕ
+rebuild_cost entries = instructions_in (run (named entries)) + count_by is_slice entries

@@ -1,0 +1,10 @@
+pub mod Refusals
+pub mod Recorded
+pub mod View
+pub mod Slices
+pub mod Turns
+pub mod Pieces
+pub mod Laws
+pub mod Again
+pub mod Differs
+pub mod Matching

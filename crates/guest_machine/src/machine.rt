@@ -1,0 +1,292 @@
+use crate::able::{can_go_on, run_state};
+use crate::errors::MachineError;
+use crate::pieces::{SLICE_RECORDS, file_record, keep_turn, typed_record};
+use crate::turn::take_turn;
+use arn_base::{Bytes, NoMemory, Record, Steps};
+use arn_model::RunState;
+use guest_calls::Kernel;
+use guest_devices::Answers;
+use parts_model::limits::MOST_SLICE;
+use std::alloc::Global;
+use std::marker::Model;
+use std::sync::ledger::Ledger;
+
+/// A machine, and how many instructions it has run.
+#[derive(Drop)]
+pub struct Machine {
+    alloc: Global,
+    kernel: Kernel,
+    instructions: u128,
+}
+
+// What a slice did: how many instructions ran, and how many bytes its records are spelled by.
+#[derive(Clone, Copy, Debug)]
+pub(crate) struct Taken {
+    pub ran: u32,
+    pub len: u64,
+}
+
+impl Model for Machine {
+    ghost use Rattle.guest_machine.specs.Recorded.{IsReal, Recorded};
+
+    ghost Value = { Recorded };
+
+    ghost use Rattle.guest_machine.specs.View.{recorded_of};
+
+    ghost view = { recorded_of };
+
+    ghost invariant = { λ m. IsReal m.kernel };
+}
+
+impl Machine {
+    ghost use Rattle.std.specs.Prelude.{◌≡◌, ◌≢◌, ◌+◌, ◌<◌, ◌≤◌, ◌^◌, ◌↔◌, ◌⊎◌, false, [], ◌∷◌, length, All, IfOk, IfErr, OnOk, OnErr, IsErrOf, IsNone, IsTrue, Err};
+    ghost use Rattle.parts_model.specs.Files.{find_file, is_name};
+    ghost use Rattle.parts_model.specs.declared.limits.TheConstants.{MOST_FILE_BYTES};
+    ghost use Rattle.arn_model.specs.Run.{is_free};
+    ghost use Rattle.arn_model.specs.Run as input;
+    ghost use Rattle.arn_model.specs.Turn.{is_possible, run_state as run_state_of};
+    ghost use Rattle.result_log.specs.Spelling.{HasSpelling};
+    ghost use Rattle.guest_bodies.specs.Shown.{IsLive};
+    ghost use Rattle.guest_calls.specs.Starts.{HasNoImage};
+    ghost use Rattle.guest_machine.specs.Pieces.{spelled_len};
+    ghost use Rattle.guest_machine.specs.Recorded.{HasRoom, OfEach, Runs, has_process, recorded_first};
+    ghost use Rattle.guest_machine.specs.Slices.{CanTake, IsCut, RanSlice};
+
+    /// The machine before anything has come from outside.
+    pub fn new(alloc: Global) -> Machine
+        ensures { result ≡ recorded_first }
+    {
+        Machine {
+            alloc,
+            kernel: Kernel::new(alloc),
+            instructions: 0,
+        }
+    }
+
+    /// Whether a process has been made.
+    pub fn is_booted(&self) -> bool
+        ensures { result ≡ has_process self.now.kernel }
+    {
+        self.kernel.is_booted()
+    }
+
+    /// How many events there have been.
+    pub fn events(&self) -> u64
+        ensures { result ≡ self.now.kernel.events }
+    {
+        self.kernel.events()
+    }
+
+    /// How many instructions have run.
+    pub fn instructions(&self) -> u128
+        ensures { result ≡ self.now.instructions }
+    {
+        self.instructions
+    }
+
+    /// How the machine stands before a slice.
+    pub fn run_state(&self) -> RunState
+        ensures { OfEach self.now.kernel (λ m. result ≡ run_state_of m) }
+    {
+        run_state(&self.kernel)
+    }
+
+    /// Adds a boot file. Answers the number of its event; its record goes behind `out`. Where memory
+    /// runs out, this may be said of a name that isn't free.
+    pub fn add_file(
+        &mut self,
+        name: &[u8],
+        bytes: &[u8],
+        out: &mut Vec<Record>,
+    ) -> Result<u64, MachineError>
+        requires name { IsTrue (is_name name.now) }
+        requires bytes { length bytes.now ≤ MOST_FILE_BYTES }
+        requires room { HasRoom self.old 1 0 }
+
+        ensures event { IfOk result (λ event. event ≡ self.old.kernel.events) }
+        ensures next { OnOk result (self.new.kernel.events ≡ self.old.kernel.events + 1) }
+        ensures free { OnOk result (IsTrue (is_free self.old.kernel.kernel.files name.now)) }
+        ensures runs { OnOk result (OfEach self.old.kernel (λ m.
+            Runs m (input.File name.now bytes.now ∷ []) self.old self.new out.old.items out.new.items)) }
+        ensures spelled { OnOk result
+            (All HasSpelling out.old.items → All HasSpelling out.new.items) }
+
+        ensures booted { IsErrOf result MachineError.Booted ↔ IsTrue (has_process self.old.kernel) }
+        ensures no_name { IsErrOf result MachineError.NoName →
+            is_free self.old.kernel.kernel.files name.now ≡ false }
+        ensures only { IfErr result (λ e. (e ≡ MachineError.Booted) ⊎
+            (e ≡ MachineError.NoName) ⊎ (e ≡ MachineError.NoMemory)) }
+        ensures err { OnErr result (self.new ≡ self.old) }
+        ensures unrecorded { OnErr result (out.new.items ≡ out.old.items) }
+    {
+        if self.is_booted() {
+            return Err(MachineError::Booted);
+        }
+        let entry = file_record(self.alloc, name, bytes)?;
+        out.reserve(1)?;
+        let event = self.kernel.events();
+        self.kernel.add_file(name, bytes, event)?;
+        out.push_reserved(entry);
+        Ok(event)
+    }
+
+    /// Boots process 1 from the image in a file. Answers the number of its event; its record goes
+    /// behind `out`. Where memory runs out, this may be said of a file that isn't there or no image.
+    pub fn boot(&mut self, name: &[u8], out: &mut Vec<Record>) -> Result<u64, MachineError>
+        requires name { IsTrue (is_name name.now) }
+        requires room { HasRoom self.old 1 0 }
+
+        ensures event { IfOk result (λ event. event ≡ self.old.kernel.events) }
+        ensures next { OnOk result (self.new.kernel.events ≡ self.old.kernel.events + 1) }
+        ensures runs { OnOk result (OfEach self.old.kernel (λ m.
+            Runs m (input.Boot name.now ∷ []) self.old self.new out.old.items out.new.items)) }
+        ensures spelled { OnOk result
+            (All HasSpelling out.old.items → All HasSpelling out.new.items) }
+
+        ensures booted { IsErrOf result MachineError.Booted ↔ IsTrue (has_process self.old.kernel) }
+        ensures no_name { IsErrOf result MachineError.NoName →
+            IsNone (find_file self.old.kernel.kernel.files name.now) }
+        ensures not_image { IsErrOf result MachineError.NotImage →
+            HasNoImage name.now self.old.kernel }
+        ensures only { IfErr result (λ e.
+            (e ≢ MachineError.NotBooted) × (e ≢ MachineError.NoDevice)) }
+        ensures err { OnErr result (self.new ≡ self.old) }
+        ensures unrecorded { OnErr result (out.new.items ≡ out.old.items) }
+    {
+        if self.is_booted() {
+            return Err(MachineError::Booted);
+        }
+        let held = Bytes::from_slice(self.alloc, name)?;
+        out.reserve(1)?;
+        let event = self.kernel.events();
+        let give = self.kernel.boot(name)?;
+        out.push_reserved(Record::Boot { name: held, give });
+        Ok(event)
+    }
+
+    /// Puts bytes behind the console's queue. Answers the number of its event; its record goes
+    /// behind `out`.
+    pub fn type_in(&mut self, bytes: &[u8], out: &mut Vec<Record>) -> Result<u64, MachineError>
+        requires bytes { length bytes.now < 2 ^ 32 }
+        requires room { HasRoom self.old 1 0 }
+
+        ensures event { IfOk result (λ event. event ≡ self.old.kernel.events) }
+        ensures next { OnOk result (self.new.kernel.events ≡ self.old.kernel.events + 1) }
+        ensures runs { OnOk result (OfEach self.old.kernel (λ m.
+            Runs m (input.Typed bytes.now ∷ []) self.old self.new out.old.items out.new.items)) }
+        ensures spelled { OnOk result
+            (All HasSpelling out.old.items → All HasSpelling out.new.items) }
+
+        ensures not_booted { IsErrOf result MachineError.NotBooted ↔
+            (has_process self.old.kernel ≡ false) }
+        ensures only { IfErr result (λ e.
+            (e ≡ MachineError.NotBooted) ⊎ (e ≡ MachineError.NoMemory)) }
+        ensures err { OnErr result (self.new ≡ self.old) }
+        ensures unrecorded { OnErr result (out.new.items ≡ out.old.items) }
+    {
+        if !self.is_booted() {
+            return Err(MachineError::NotBooted);
+        }
+        let entry = typed_record(self.alloc, bytes)?;
+        out.reserve(1)?;
+        let event = self.kernel.events();
+        self.kernel.type_in(bytes, event)?;
+        out.push_reserved(entry);
+        Ok(event)
+    }
+
+    /// Runs a slice of a process and answers how many instructions ran; its records go behind `out`.
+    /// Where memory runs out, what ran of it is recorded.
+    pub fn run_slice<A: Answers, L: Ledger>(
+        &mut self,
+        pid: u32,
+        count: u32,
+        answers: &mut A,
+        out: &mut Vec<Record>,
+        steps: &mut Steps<L>,
+    ) -> Result<u32, NoMemory>
+        requires possible { OfEach self.old.kernel (λ m. IsTrue (is_possible m pid count)) }
+        requires room { HasRoom self.old 2 count }
+
+        ensures ran { OnOk result (OfEach self.old.kernel (λ m.
+            RanSlice A.answers m pid count answers.old answers.new
+            self.old self.new out.old.items out.new.items)) }
+        ensures count { IfOk result (λ ran.
+            self.new.instructions ≡ self.old.instructions + ran) }
+        ensures within { IfOk result (λ ran. ran ≤ count) }
+        ensures events { self.new.kernel.events ≤ self.old.kernel.events + 2 }
+        ensures spelled { All HasSpelling out.old.items → All HasSpelling out.new.items }
+
+        ensures cut { OnErr result (OfEach self.old.kernel (λ m.
+            IsCut m pid count self.old self.new out.old.items out.new.items)) }
+        ensures unasked { OnErr result (answers.new ≡ answers.old) }
+        ensures steps { steps.new + self.old.instructions ≤
+            steps.old + self.new.instructions + 1 }
+        ensures at_most { steps.new ≤ steps.old + count }
+    {
+        let _ = &self.kernel;
+        match self.take_slice(pid, count, answers, out, steps) {
+            Ok(taken) => Ok(taken.ran),
+            Err(NoMemory) => Err(NoMemory),
+        }
+    }
+
+    // Whether a slice may be taken. One of no instruction that delivers no signal does nothing.
+    pub(crate) fn can_take(&self, pid: u32, count: u32) -> bool
+        ensures live { IsTrue result → IsLive self.now.kernel.guests pid }
+        ensures can { IsTrue result → OfEach self.now.kernel (λ m. CanTake m pid count) }
+        ensures impossible { result ≡ false →
+            OfEach self.now.kernel (λ m. is_possible m pid count ≡ false) }
+    {
+        if count == 0 {
+            self.kernel.is_live(pid)
+        } else {
+            u64::from(count) <= MOST_SLICE && can_go_on(&self.kernel, pid)
+        }
+    }
+
+    // Runs a slice as `run_slice` does, perhaps of nothing, and also tells how many bytes its records
+    // are spelled by.
+    pub(crate) fn take_slice<A: Answers, L: Ledger>(
+        &mut self,
+        pid: u32,
+        count: u32,
+        answers: &mut A,
+        out: &mut Vec<Record>,
+        steps: &mut Steps<L>,
+    ) -> Result<Taken, NoMemory>
+        requires live { IsLive self.old.kernel.guests pid }
+        requires can { OfEach self.old.kernel (λ m. CanTake m pid count) }
+        requires room { HasRoom self.old 2 count }
+
+        ensures ran { OnOk result (OfEach self.old.kernel (λ m.
+            RanSlice A.answers m pid count answers.old answers.new
+            self.old self.new out.old.items out.new.items)) }
+        ensures count { IfOk result (λ taken.
+            self.new.instructions ≡ self.old.instructions + taken.ran) }
+        ensures within { IfOk result (λ taken. taken.ran ≤ count) }
+        ensures len { IfOk result (λ taken.
+            spelled_len out.new.items ≡ spelled_len out.old.items + taken.len) }
+        ensures few { IfOk result (λ taken. taken.len < 2 ^ 39) }
+        ensures events { self.new.kernel.events ≤ self.old.kernel.events + 2 }
+        ensures spelled { All HasSpelling out.old.items → All HasSpelling out.new.items }
+
+        ensures cut { OnErr result (OfEach self.old.kernel (λ m.
+            IsCut m pid count self.old self.new out.old.items out.new.items)) }
+        ensures unasked { OnErr result (answers.new ≡ answers.old) }
+        ensures steps { steps.new + self.old.instructions ≤
+            steps.old + self.new.instructions + 1 }
+        ensures at_most { steps.new ≤ steps.old + count }
+    {
+        out.reserve(SLICE_RECORDS)?;
+        let turn = take_turn(&mut self.kernel, pid, count, answers, steps);
+        self.instructions += u128::from(turn.ran);
+        let ran = turn.ran;
+        let cut = turn.cut;
+        let len = keep_turn(out, pid, turn);
+        if cut {
+            return Err(NoMemory);
+        }
+        Ok(Taken { ran, len })
+    }
+}

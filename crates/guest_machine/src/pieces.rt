@@ -1,0 +1,79 @@
+// The records of inputs.
+ghost use Rattle.std.specs.Prelude.{◌≡◌, ◌+◌, ◌<◌, ◌≤◌, ◌^◌, ◌++◌, ◌↔◌, [], All, IfOk, IfSome, IsTrue, option_to_list, vec_len, vec_capacity};
+ghost use Rattle.arn_base.specs.declared.records.Record.TheVariants as kind;
+ghost use Rattle.result_log.specs.Spelling.{HasSpelling};
+ghost use Rattle.guest_machine.specs.Pieces.{slice_of, spelled_len as spelled_len_of};
+
+use crate::turn::Turn;
+use arn_base::{Bytes, NoMemory, Record};
+use result_log::spelled_len;
+use std::alloc::Global;
+
+/// The record of a boot file.
+pub fn file_record(alloc: Global, name: &[u8], bytes: &[u8]) -> Result<Record, NoMemory>
+    ensures { IfOk result (λ made. made ≡ kind.File name.now bytes.now) }
+{
+    Ok(Record::File {
+        name: Bytes::from_slice(alloc, name)?,
+        bytes: Bytes::from_slice(alloc, bytes)?,
+    })
+}
+
+/// The record of a typed piece.
+pub fn typed_record(alloc: Global, bytes: &[u8]) -> Result<Record, NoMemory>
+    ensures { IfOk result (λ made. made ≡ kind.Typed bytes.now) }
+{
+    Ok(Record::Typed {
+        bytes: Bytes::from_slice(alloc, bytes)?,
+    })
+}
+
+/// How many records a slice has at most: how many instructions ran, a delivery, and a call or an end.
+pub const SLICE_RECORDS: usize = 3;
+
+/// Puts the records of a turn behind others, if anything was done in it. Answers how many bytes they
+/// are spelled by.
+pub fn keep_turn(out: &mut Vec<Record>, pid: u32, turn: Turn) -> u64
+    requires room { vec_len out.old + SLICE_RECORDS ≤ vec_capacity out.old }
+    requires delivery { IfSome turn.delivery HasSpelling }
+    requires last { IfSome turn.last HasSpelling }
+    ensures items { out.new.items ≡ out.old.items ++
+        slice_of pid turn.ran (option_to_list turn.delivery ++ option_to_list turn.last) }
+    ensures spelled { All HasSpelling out.old.items → All HasSpelling out.new.items }
+    ensures len { spelled_len_of out.new.items ≡ spelled_len_of out.old.items + result }
+    ensures few { result < 2 ^ 39 }
+{
+    if is_nothing(&turn) {
+        return 0;
+    }
+    let slice = Record::Slice { pid, ran: turn.ran };
+    keep(out, Some(slice)) + keep(out, turn.delivery) + keep(out, turn.last)
+}
+
+// Whether nothing was done in a turn.
+fn is_nothing(turn: &Turn) -> bool
+    ensures { IsTrue result ↔ (slice_of 0 turn.now.ran
+        (option_to_list turn.now.delivery ++ option_to_list turn.now.last) ≡ []) }
+{
+    turn.ran == 0 && turn.delivery.is_none() && turn.last.is_none()
+}
+
+// Puts a record behind others, if there is one. Answers how many bytes it is spelled by.
+fn keep(out: &mut Vec<Record>, entry: Option<Record>) -> u64
+    requires room { vec_len out.old < vec_capacity out.old }
+    requires spelled { IfSome entry HasSpelling }
+    ensures items { out.new.items ≡ out.old.items ++ option_to_list entry }
+    ensures room { vec_capacity out.new ≡ vec_capacity out.old }
+    ensures spelled { All HasSpelling out.old.items → All HasSpelling out.new.items }
+    ensures len { spelled_len_of out.new.items ≡ spelled_len_of out.old.items + result }
+    ensures few { result < 2 ^ 37 }
+{
+    match entry {
+        Some(entry) => {
+            let len = spelled_len(&entry);
+            out.push_reserved(entry);
+            len
+        }
+        None => 0,
+    }
+}
