@@ -206,10 +206,12 @@ module _ (t : Tables) (entries : List Record) (i : Indexes t entries) where
       let number-is : not (result == greatest entries + 1) ≡ false = rw forks at p.2 in
       let next : result ≡ greatest entries + 1 = same-number result (greatest entries + 1) (is-not (result == greatest entries + 1) number-is) in
       let many : length t.families.lives ≡ result = omega (arith, i.families.as_many_lives, i.families.processes) in
-      let c = child-of t.families (group_of entries) pid result parent many found.1.0 (sym (i.families.groups pid) ∙ found.1.0) more in
-      (c.0, fork-makes t.families (group_of entries) (greatest entries) pid number result more c.0 forks next c.1.born c.1.groups
-          (either-inside (greatest entries) result parent c.0 next (parent-is.0, omega (arith, parent-is.1, i.families.processes)) c.1.own)
-          (omega (arith, inside.0, inside.1, i.families.processes)))
+      let c = child-of t.families (group_of entries) pid result parent many found.1.0 (sym (i.families.groups pid) ∙ found.1.0) more in (
+        c.0,
+        fork-makes t.families (group_of entries) (greatest entries) pid number result more c.0 forks next c.1.born c.1.groups
+            (either-inside (greatest entries) result parent c.0 next (parent-is.0, omega (arith, parent-is.1, i.families.processes)) c.1.own)
+            (omega (arith, inside.0, inside.1, i.families.processes)),
+      )
 
   -- what an event makes
   pub what-makes : (e : Record) → is_event e ≡ true → cant_follow entries e ≡ false → MakesNone t.families (group_of entries) (greatest entries) e ⊎ ((group : ℕ) × MakesNext t.families (group_of entries) (greatest entries) e group)

@@ -60,9 +60,9 @@ moments-snoc begins ends (x ∷ entries) e =
     let plain : ends + (ran_in x + 0) ≡ ends + ran_in x = omega arith in
     let same : ends + ran_in x + total entries ≡ ends + (ran_in x + total entries) = omega arith in
     let rest : moments_from b (ends + ran_in x) (entries ++ e ∷ []) ≡ moments_from b (ends + ran_in x) entries ++ if_kept (is_event e) (moment_in (begin_from b (ends + (ran_in x + 0)) entries) (ends + (ran_in x + total entries)) e) [] =
-        moments-snoc b (ends + ran_in x) entries e
-        ∙ ap (λ (k : ℕ). moments_from b (ends + ran_in x) entries ++ if_kept (is_event e) (moment_in (begin_from b (ends + ran_in x) entries) k e) []) same
-        ∙ ap (λ (k : ℕ). moments_from b (ends + ran_in x) entries ++ if_kept (is_event e) (moment_in (begin_from b k entries) (ends + (ran_in x + total entries)) e) []) (sym plain) in
+    moments-snoc b (ends + ran_in x) entries e
+    ∙ ap (λ (k : ℕ). moments_from b (ends + ran_in x) entries ++ if_kept (is_event e) (moment_in (begin_from b (ends + ran_in x) entries) k e) []) same
+    ∙ ap (λ (k : ℕ). moments_from b (ends + ran_in x) entries ++ if_kept (is_event e) (moment_in (begin_from b k entries) (ends + (ran_in x + total entries)) e) []) (sym plain) in
     ap (λ (xs : List ℕ). if_kept (is_event x) (moment_in begins ends x) xs) rest
     ∙ sym (if_kept-append (is_event x) (moment_in begins ends x) (moments_from b (ends + ran_in x) entries) (if_kept (is_event e) (moment_in (begin_from b (ends + (ran_in x + 0)) entries) (ends + (ran_in x + total entries)) e) []))
 
@@ -95,10 +95,10 @@ slices-snoc place moment event (x ∷ entries) e =
     let numbers : event + events_in x + how_many entries ≡ event + how_many (x ∷ entries) = omega (arith, many) in
     let front = slices_from (place + 1) (moment + ran_in x) (event + events_in x) entries in
     ap (λ (xs : List SliceAt). slice_in place moment event x xs)
-        (slices-snoc (place + 1) (moment + ran_in x) (event + events_in x) entries e
-        ∙ ap (λ (k : ℕ). front ++ slice_in k (moment + ran_in x + total entries) (event + events_in x + how_many entries) e []) places
-        ∙ ap (λ (k : ℕ). front ++ slice_in (place + suc (length entries)) k (event + events_in x + how_many entries) e []) moments
-        ∙ ap (λ (k : ℕ). front ++ slice_in (place + suc (length entries)) (moment + (ran_in x + total entries)) k e []) numbers)
+    (slices-snoc (place + 1) (moment + ran_in x) (event + events_in x) entries e
+    ∙ ap (λ (k : ℕ). front ++ slice_in k (moment + ran_in x + total entries) (event + events_in x + how_many entries) e []) places
+    ∙ ap (λ (k : ℕ). front ++ slice_in (place + suc (length entries)) k (event + events_in x + how_many entries) e []) moments
+    ∙ ap (λ (k : ℕ). front ++ slice_in (place + suc (length entries)) (moment + (ran_in x + total entries)) k e []) numbers)
     ∙ sym (slice_in-append place moment event x front (slice_in (place + suc (length entries)) (moment + (ran_in x + total entries)) (event + how_many (x ∷ entries)) e []))
 
 pub count-snoc : (g : ℕ) (groups : Groups) (entries : List Record) (e : Record) → count_from g groups (entries ++ e ∷ []) ≡ count_from g groups entries + ran_for g groups e

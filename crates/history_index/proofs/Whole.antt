@@ -58,9 +58,9 @@ module _ (t : Tables) (entries : List Record) (e : Record) (i : Indexes t entrie
   families-none : MakesNone t.families (group_of entries) (greatest entries) e → TellsFamilies (with_event t e).families (entries ++ e ∷ [])
   families-none m =
       rw m.born (with-lives t.families (ended_by (life_told e)) (entries ++ e ∷ [])
-          (stays-told t.families entries e (plain e is) i.families m.groups (greatest-snoc 0 entries e ∙ m.greatest))
-          (lives-ended t.families (life_told e) 0 m.life ∙ ap (lives_after (life_told e) 0) i.families.no_zero ∙ quiet-zero (life_told e) 0 m.life)
-          (λ q. lives-ended t.families (life_told e) q m.life ∙ ap (lives_after (life_told e) q) (i.families.lives q) ∙ sym (lives-snoc entries e q)))
+      (stays-told t.families entries e (plain e is) i.families m.groups (greatest-snoc 0 entries e ∙ m.greatest))
+      (lives-ended t.families (life_told e) 0 m.life ∙ ap (lives_after (life_told e) 0) i.families.no_zero ∙ quiet-zero (life_told e) 0 m.life)
+      (λ q. lives-ended t.families (life_told e) q m.life ∙ ap (lives_after (life_told e) q) (i.families.lives q) ∙ sym (lives-snoc entries e q)))
 
   families-next : (g : ℕ) → MakesNext t.families (group_of entries) (greatest entries) e g → TellsFamilies (with_event t e).families (entries ++ e ∷ [])
   families-next g m =
@@ -68,13 +68,13 @@ module _ (t : Tables) (entries : List Record) (e : Record) (i : Indexes t entrie
       let next : length f.lives ≡ greatest entries + 1 = omega (arith, i.families.as_many_lives, i.families.processes) in
       let apart : length f.lives ≢ 0 = λ h. absurd (omega arith) in
       rw (m.born, m.life) (with-lives (with_process f g) None (entries ++ e ∷ [])
-          (next-told f entries e g (plain e is) i.families m.groups (greatest-snoc 0 entries e ∙ m.greatest) m.founded)
-          (begun-other f.lives 0 apart ∙ i.families.no_zero)
-          (λ q.
-              push-lives f.lives q
-              ∙ ap (λ (k : ℕ). if k == q then true else lives_in f.lives q) next
-              ∙ ap (λ (b : Bool). if greatest entries + 1 == q then true else b) (i.families.lives q)
-              ∙ sym (lives-snoc entries e q ∙ ap (λ (l : LifeChange). lives_after l q (lives_at entries (total entries) q)) m.life)))
+      (next-told f entries e g (plain e is) i.families m.groups (greatest-snoc 0 entries e ∙ m.greatest) m.founded)
+      (begun-other f.lives 0 apart ∙ i.families.no_zero)
+      (λ q.
+      push-lives f.lives q
+      ∙ ap (λ (k : ℕ). if k == q then true else lives_in f.lives q) next
+      ∙ ap (λ (b : Bool). if greatest entries + 1 == q then true else b) (i.families.lives q)
+      ∙ sym (lives-snoc entries e q ∙ ap (λ (l : LifeChange). lives_after l q (lives_at entries (total entries) q)) m.life)))
 
   families-told : TellsFamilies (with_event t e).families (entries ++ e ∷ [])
   families-told = elim (what-makes t entries i e is stands) [ inl m ↦ families-none m | inr m ↦ families-next m.0 m.1 ]

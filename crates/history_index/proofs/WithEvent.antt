@@ -105,7 +105,7 @@ module _ (n : ℕ) (entries : List Record) (e : Record) (p : IsPlain e) (made : 
   slices-kept g =
       ap (λ (groups : Groups). filter (λ s. is_number g (groups s.pid)) (slices_from 0 0 0 (entries ++ e ∷ []))) (groups-snoc (λ q. None) entries e)
       ∙ ap (filter (λ s. is_number g (groups_told e (group_of entries) s.pid)))
-          (slices-snoc 0 0 0 entries e ∙ ap (λ (xs : List SliceAt). slices_from 0 0 0 entries ++ xs) (p.slice (0 + length entries) (0 + total entries) (0 + how_many entries)) ∙ append-nil (slices_from 0 0 0 entries))
+      (slices-snoc 0 0 0 entries e ∙ ap (λ (xs : List SliceAt). slices_from 0 0 0 entries ++ xs) (p.slice (0 + length entries) (0 + total entries) (0 + how_many entries)) ∙ append-nil (slices_from 0 0 0 entries))
       ∙ slices-agree n (group_of entries) (groups_told e (group_of entries)) same g 0 0 0 entries made
 
 -- the tables of processes and groups, but for who lives
@@ -123,12 +123,30 @@ pub record TellsGroups (f : Families) (entries : List Record) : Type 0 where
 -- with who lives
 pub with-lives : (f : Families) (ended : Option ℕ) (entries : List Record) → TellsGroups f entries → lives_in (with_end f ended).lives 0 ≡ false → ((q : ℕ) → lives_in (with_end f ended).lives q ≡ lives_at entries (total entries) q) → TellsFamilies (with_end f ended) entries
 with-lives f None entries g zero-lives told = record {
-  processes = g.processes; as_many_lives = g.as_many_lives; as_many_runs = g.as_many_runs; groups = g.groups; founded = g.founded;
-  no_zero = zero-lives; lives = told; counts = g.counts; slices = g.slices; founders = g.founders; made = g.made;
+  processes = g.processes;
+  as_many_lives = g.as_many_lives;
+  as_many_runs = g.as_many_runs;
+  groups = g.groups;
+  founded = g.founded;
+  no_zero = zero-lives;
+  lives = told;
+  counts = g.counts;
+  slices = g.slices;
+  founders = g.founders;
+  made = g.made;
 }
 with-lives f (Some pid) entries g zero-lives told = record {
-  processes = g.processes; as_many_lives = simp length-set g.as_many_lives; as_many_runs = g.as_many_runs; groups = g.groups; founded = g.founded;
-  no_zero = zero-lives; lives = told; counts = g.counts; slices = g.slices; founders = g.founders; made = g.made;
+  processes = g.processes;
+  as_many_lives = simp length-set g.as_many_lives;
+  as_many_runs = g.as_many_runs;
+  groups = g.groups;
+  founded = g.founded;
+  no_zero = zero-lives;
+  lives = told;
+  counts = g.counts;
+  slices = g.slices;
+  founders = g.founders;
+  made = g.made;
 }
 
 -- an event that makes no process
@@ -204,8 +222,8 @@ next-told f entries e g p t told more founded =
     let n = length f.groups in
     let processes = t.processes in
     let each : (pid : ℕ) → pid ≤ n → groups_told e (group_of entries) pid ≡ group_of entries pid = λ pid h.
-        ap (λ (groups : Groups). groups pid) told
-        ∙ elim (eqb_tells pid (greatest entries + 1)) [ inl k ↦ absurd (omega arith) | inr k ↦ rw k.0 refl ] in
+    ap (λ (groups : Groups). groups pid) told
+    ∙ elim (eqb_tells pid (greatest entries + 1)) [ inl k ↦ absurd (omega arith) | inr k ↦ rw k.0 refl ] in
     let longer : length (f.groups ++ g ∷ []) ≡ n + 1 = length-append f.groups (g ∷ []) in
     let after : Groups = changed (group_of entries) (greatest entries + 1) (Some g) in
     let next : length f.lives ≡ greatest entries + 1 = omega (arith, t.as_many_lives) in
@@ -225,12 +243,12 @@ next-told f entries e g p t told more founded =
           if-list (g == length f.lives) f.founders g
           ∙ ap (λ (xs : List ℕ). xs ++ (if g == length f.lives then g ∷ [] else [])) t.founders
           ∙ sym (
-              ap (λ (groups : Groups). filter (λ q. is_number q (groups q)) (range_with_len 1 (greatest (entries ++ e ∷ [])))) (groups-snoc (λ p. None) entries e)
-              ∙ ap (λ (k : ℕ). filter (λ q. is_number q (groups_told e (group_of entries) q)) (range_with_len 1 k)) more
-              ∙ ap (filter (λ q. is_number q (groups_told e (group_of entries) q))) (range-push 1 (greatest entries))
-              ∙ filter-append (λ q. is_number q (groups_told e (group_of entries) q)) (range_with_len 1 (greatest entries)) ((1 + greatest entries) ∷ [])
-              ∙ ap (λ (xs : List ℕ). xs ++ filter (λ q. is_number q (groups_told e (group_of entries) q)) ((1 + greatest entries) ∷ [])) (founders-agree n (group_of entries) (groups_told e (group_of entries)) each 1 (greatest entries) (omega arith))
-              ∙ ap (λ (xs : List ℕ). groups_in entries ++ xs) (last-founder f entries e g told next));
+          ap (λ (groups : Groups). filter (λ q. is_number q (groups q)) (range_with_len 1 (greatest (entries ++ e ∷ [])))) (groups-snoc (λ p. None) entries e)
+          ∙ ap (λ (k : ℕ). filter (λ q. is_number q (groups_told e (group_of entries) q)) (range_with_len 1 k)) more
+          ∙ ap (filter (λ q. is_number q (groups_told e (group_of entries) q))) (range-push 1 (greatest entries))
+          ∙ filter-append (λ q. is_number q (groups_told e (group_of entries) q)) (range_with_len 1 (greatest entries)) ((1 + greatest entries) ∷ [])
+          ∙ ap (λ (xs : List ℕ). xs ++ filter (λ q. is_number q (groups_told e (group_of entries) q)) ((1 + greatest entries) ∷ [])) (founders-agree n (group_of entries) (groups_told e (group_of entries)) each 1 (greatest entries) (omega arith))
+          ∙ ap (λ (xs : List ℕ). groups_in entries ++ xs) (last-founder f entries e g told next));
       made = rw longer (made-append n (n + 1) entries (e ∷ []) (omega arith) t.made (p.made (n + 1)));
     }
   where
@@ -239,6 +257,6 @@ next-told f entries e g p t told more founded =
     last-founder f entries e g told next =
         let same : 1 + greatest entries ≡ length f.lives = omega arith in
         let is : groups_told e (group_of entries) (length f.lives) ≡ Some g =
-            ap (λ (groups : Groups). groups (length f.lives)) told
-            ∙ elim (eqb_tells (length f.lives) (greatest entries + 1)) [ inl k ↦ rw k.0 refl | inr k ↦ absurd (k.1 next) ] in
+        ap (λ (groups : Groups). groups (length f.lives)) told
+        ∙ elim (eqb_tells (length f.lives) (greatest entries + 1)) [ inl k ↦ rw k.0 refl | inr k ↦ absurd (k.1 next) ] in
         rw same (rw is (elim (eqb_tells g (length f.lives)) [ inl k ↦ rw (k.0, k.1) refl | inr k ↦ rw k.0 refl ]))

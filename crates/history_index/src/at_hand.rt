@@ -30,7 +30,8 @@ impl AtHand {
     {
         match entry {
             Record::Slice { pid, .. } => AtHand::Slice(*pid),
-            Record::Signal { pid, handler, .. } if self == AtHand::Slice(*pid) && *handler != 0 => AtHand::Delivery(*pid),
+            Record::Signal { pid, handler, .. } if self == AtHand::Slice(*pid) && *handler != 0 =>
+                AtHand::Delivery(*pid),
             _ => AtHand::Nothing,
         }
     }

@@ -101,7 +101,8 @@ fn are_origins_of(events: &[EventAt], give: &Give) -> bool
 fn may_come(least: u64, block: &Block) -> bool
     ensures { result ≡ (nat_le least block.now.number && nat_le (BLOCK_LEN * (block.now.number + 1)) WINDOW_LEN) }
 {
-    least <= u64::from(block.number) && BLOCK_LEN as u64 * (u64::from(block.number) + 1) <= WINDOW_LEN
+    least <= u64::from(block.number)
+        && BLOCK_LEN as u64 * (u64::from(block.number) + 1) <= WINDOW_LEN
 }
 
 /// Whether blocks rise and lie in the window.

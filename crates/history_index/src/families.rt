@@ -6,9 +6,8 @@ ghost use Rattle.acts_model.specs.Records.{life_told};
 ghost use Rattle.history_index.specs.After as after;
 ghost use Rattle.history_index.specs.Runs.{no_run};
 
-use crate::SliceAt;
 use crate::runs::Run;
-use crate::told;
+use crate::{SliceAt, told};
 use arn_base::{Extra, NoMemory, Record};
 use parts_model::calls::FORK;
 use replay_groups::Groups;
@@ -32,7 +31,11 @@ impl Model for Families {
     ghost use Rattle.history_index.specs.Bounds.{AreAligned};
 
     ghost view = { λ s. record {
-        groups = s.groups.groups; lives = s.lives.items; runs = s.runs.items; founders = s.founders.items } };
+      groups = s.groups.groups;
+      lives = s.lives.items;
+      runs = s.runs.items;
+      founders = s.founders.items;
+    } };
 
     ghost invariant = { λ s. AreAligned s.groups.groups s.lives.items };
 }
@@ -131,8 +134,10 @@ impl Families {
     /// Adds a slice to the run of its process's group.
     pub fn add_slice(&mut self, slice: SliceAt) -> Result<(), NoMemory>
         requires few { (group : ℕ) → (families.run_in self.old.runs group).count + slice.ran < 2 ^ 64 }
-        ensures ok { OnOk result (self.new ≡ record self.old { runs =
-            families.runs_after self.old.runs (groups.group_at self.old.groups slice.pid) slice }) }
+        ensures ok { OnOk result (self.new ≡ record self.old {
+          runs =
+              families.runs_after self.old.runs (groups.group_at self.old.groups slice.pid) slice;
+        }) }
         ensures err { OnErr result (self.new ≡ self.old) }
     {
         match self.groups.of(slice.pid) {
@@ -196,9 +201,12 @@ impl Families {
     {
         match entry {
             Record::Boot { .. } => Some(self.next() as u32),
-            Record::Call { pid, number, result, extra } if *number == FORK && told::is_success(*result) => {
-                self.child_group(*pid, extra)
-            }
+            Record::Call {
+                pid,
+                number,
+                result,
+                extra,
+            } if *number == FORK && told::is_success(*result) => { self.child_group(*pid, extra) }
             _ => None,
         }
     }

@@ -14,11 +14,9 @@ ghost use Rattle.history_index.specs.Lookups as lookups;
 ghost use Rattle.history_index.specs.Tables.{no_tables};
 
 use crate::at_hand::AtHand;
-use crate::check;
 use crate::events::{self, EventAt};
 use crate::families::Families;
-use crate::told;
-use crate::{IndexError, SliceAt};
+use crate::{IndexError, SliceAt, check, told};
 use arn_base::{NoMemory, Record};
 use std::alloc::Global;
 use std::marker::Model;
@@ -44,8 +42,14 @@ impl Model for Index {
     ghost use Rattle.history_index.specs.Bounds.{AreBounded};
 
     ghost view = { λ s. record {
-        records = s.records; total = s.total; begins = s.begins; is_booted = s.is_booted;
-        at_hand = behind_of s.at_hand; families = s.families; events = s.events.items } };
+      records = s.records;
+      total = s.total;
+      begins = s.begins;
+      is_booted = s.is_booted;
+      at_hand = behind_of s.at_hand;
+      families = s.families;
+      events = s.events.items;
+    } };
 
     ghost invariant = { λ s. AreBounded s.records s.total s.families.lives };
 }

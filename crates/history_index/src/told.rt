@@ -46,9 +46,12 @@ pub fn event_len(entry: &Record) -> u64
         Record::Boot { give, .. } => give.bytes.len() as u64,
         Record::Unplug { .. } | Record::Slice { .. } => 0,
         Record::Signal { handler, .. } => (*handler == 0).into(),
-        Record::Call { number, result, extra, .. } => {
-            held_len(extra).unwrap_or(plain_len(*number, *result, extra))
-        }
+        Record::Call {
+            number,
+            result,
+            extra,
+            ..
+        } => { held_len(extra).unwrap_or(plain_len(*number, *result, extra)) }
         Record::End { .. } => 1,
     }
 }
@@ -62,7 +65,8 @@ fn held_len(extra: &Extra) -> Option<u64>
         | Extra::Console { bytes }
         | Extra::Reply { bytes, .. }
         | Extra::Sent { bytes, .. } => Some(bytes.len() as u64),
-        Extra::Nothing | Extra::Start(_) | Extra::Fault | Extra::Absent | Extra::Name { .. } => None,
+        Extra::Nothing | Extra::Start(_) | Extra::Fault | Extra::Absent | Extra::Name { .. } =>
+            None,
     }
 }
 
@@ -81,7 +85,10 @@ pub fn give_of(entry: &Record) -> Option<&Give>
 {
     match entry {
         Record::Boot { give, .. }
-        | Record::Call { extra: Extra::Give(give), .. } => Some(give),
+        | Record::Call {
+            extra: Extra::Give(give),
+            ..
+        } => Some(give),
         _ => None,
     }
 }
@@ -91,7 +98,10 @@ pub fn start_in(entry: &Record) -> Option<&Start>
     ensures { option_map (λ start. start.now) result ≡ broken.start_in entry.now }
 {
     match entry {
-        Record::Call { extra: Extra::Start(start), .. } => Some(start),
+        Record::Call {
+            extra: Extra::Start(start),
+            ..
+        } => Some(start),
         _ => None,
     }
 }
@@ -101,7 +111,9 @@ pub fn child_in(entry: &Record) -> Option<u64>
     ensures { result ≡ broken.child_in entry.now }
 {
     match entry {
-        Record::Call { number, result, .. } if *number == FORK && is_success(*result) => Some(*result),
+        Record::Call { number, result, .. } if *number == FORK && is_success(*result) => Some(
+            *result,
+        ),
         _ => None,
     }
 }
@@ -111,7 +123,12 @@ pub fn ended(entry: &Record) -> Option<u32>
     ensures { result ≡ ended_by (records.life_told entry.now) }
 {
     match entry {
-        Record::Signal { pid, handler: 0, .. } | Record::End { pid, .. } => Some(*pid),
+        Record::Signal {
+            pid,
+            handler: 0,
+            ..
+        }
+        | Record::End { pid, .. } => Some(*pid),
         Record::Call { pid, number, .. } if *number == EXIT => Some(*pid),
         _ => None,
     }
