@@ -17,3 +17,5 @@ pub mod SliceLemmas
 pub mod WholeTurns
 pub mod AbleLemmas
 pub mod PiecesLemmas
+pub mod Rebuilt
+pub mod AgainLemmas

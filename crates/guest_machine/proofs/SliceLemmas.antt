@@ -122,3 +122,11 @@ slice-cut answers asked asked' cut pid count t k i old new out out' same live ca
 
 pub real-of : (k : State) (i : ℕ) (r : Recorded) → record { kernel = k; instructions = i } ≡ r → IsReal k → IsReal r.kernel
 real-of k i r same real = subst (λ (x : Recorded). IsReal x.kernel) same real
+
+-- a slice of some instructions of a process that can go on
+able-possible : (able due : Bool) (count : ℕ) → able ≡ true → 0 < count → count ≤ MOST_SLICE → able && (nat_le count MOST_SLICE && (nat_lt 0 count || due)) ≡ true
+able-possible true due count is some few = grind (arith, nat_tests)
+able-possible false due count is some few = absurd cc
+
+pub possible-all : (s : State) (pid : ℕ) (able : Bool) → OfEach s (λ m. able ≡ is_runnable m pid) → able ≡ true → (count : ℕ) → 0 < count → count ≤ MOST_SLICE → OfEach s (λ m. is_possible m pid count ≡ true)
+possible-all s pid able tells is count some few m stands = able-possible (is_runnable m pid) (has_due m pid (seen m.bodies pid)) count (sym (tells m stands) ∙ is) some few

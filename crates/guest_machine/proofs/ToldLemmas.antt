@@ -43,34 +43,34 @@ answered-told here reads m pid v (Reads device at len) reply few = ap (device_re
 answered-told here reads m pid v (Writes device at len) reply few = write-told m device at len (read v at len) reply few
 
 -- answers by what a record tells
-abbrev pub Tells : Option Answered → {A : Type 0} → (A → Asked → Answered → A → Type 0) → Type 0
-Tells reply {A} answers = (old new : A) (question : Asked) (answer : Answered) → answers old question answer new → answer ≡ told_answer reply question
+abbrev pub Tells : {A : Type 0} → Option Answered → (A → Asked → Answered → A → Type 0) → A → Type 0
+Tells {A} reply answers old = (new : A) (question : Asked) (answer : Answered) → answers old question answer new → answer ≡ told_answer reply question
 
-does-told : CountsHere → CountsReads → {A : Type 0} (answers : A → Asked → Answered → A → Type 0) (reply : Option Answered) → Tells reply answers → (m : Machine) (pid : ℕ) (v : View) (r : Request) (got : Option Answered) (old new : A) → Small r → RepliesTo answers v r got old new → does m pid v got r ≡ does m pid v reply r
+does-told : CountsHere → CountsReads → {A : Type 0} (answers : A → Asked → Answered → A → Type 0) (reply : Option Answered) (old : A) → Tells reply answers old → (m : Machine) (pid : ℕ) (v : View) (r : Request) (got : Option Answered) (new : A) → Small r → RepliesTo answers v r got old new → does m pid v got r ≡ does m pid v reply r
 unfolding Small
-does-told here reads answers reply tells m pid v Waits got old new small replied = refl
-does-told here reads answers reply tells m pid v (Does d) got old new small replied = refl
-does-told here reads answers reply tells m pid v (Asks question) None old new small replied = absurd replied
-does-told here reads answers reply tells m pid v (Asks question) (Some answer) old new small replied =
-    ap (λ (x : Answered). Some (answered m pid v question (Some x))) (tells old new (asked_of v question) answer replied)
+does-told here reads answers reply old tells m pid v Waits got new small replied = refl
+does-told here reads answers reply old tells m pid v (Does d) got new small replied = refl
+does-told here reads answers reply old tells m pid v (Asks question) None new small replied = absurd replied
+does-told here reads answers reply old tells m pid v (Asks question) (Some answer) new small replied =
+    ap (λ (x : Answered). Some (answered m pid v question (Some x))) (tells new (asked_of v question) answer replied)
     ∙ ap (λ (d : Doing). Some d) (answered-told here reads m pid v question reply small)
 
-last_by-told : CountsHere → CountsReads → {A : Type 0} (answers : A → Asked → Answered → A → Type 0) (reply : Option Answered) → Tells reply answers → (m : Machine) (pid : ℕ) (v : View) (e : Effect) (got : Option Answered) (old new : A) → RepliesAt answers m pid v e got old new → last_by m pid v got e ≡ last_by m pid v reply e
-last_by-told here reads answers reply tells m pid v (Next instr cpu memory) got old new replied = refl
-last_by-told here reads answers reply tells m pid v Call got old new replied =
-    ap (option_map (call_step m pid v)) (does-told here reads answers reply tells m pid v (request m pid v) got old new (request-Small m pid v) replied)
-last_by-told here reads answers reply tells m pid v (End status) got old new replied = refl
+last_by-told : CountsHere → CountsReads → {A : Type 0} (answers : A → Asked → Answered → A → Type 0) (reply : Option Answered) (old : A) → Tells reply answers old → (m : Machine) (pid : ℕ) (v : View) (e : Effect) (got : Option Answered) (new : A) → RepliesAt answers m pid v e got old new → last_by m pid v got e ≡ last_by m pid v reply e
+last_by-told here reads answers reply old tells m pid v (Next instr cpu memory) got new replied = refl
+last_by-told here reads answers reply old tells m pid v Call got new replied =
+    ap (option_map (call_step m pid v)) (does-told here reads answers reply old tells m pid v (request m pid v) got new (request-Small m pid v) replied)
+last_by-told here reads answers reply old tells m pid v (End status) got new replied = refl
 
-last_in-told : CountsHere → CountsReads → {A : Type 0} (answers : A → Asked → Answered → A → Type 0) (reply : Option Answered) → Tells reply answers → (m : Machine) (pid : ℕ) (o : Option View) (got : Option Answered) (old new : A) → RepliesOf answers m pid o got old new → last_in m pid got o ≡ last_in m pid reply o
-last_in-told here reads answers reply tells m pid None got old new replied = refl
-last_in-told here reads answers reply tells m pid (Some v) got old new replied = last_by-told here reads answers reply tells m pid v (stands_at v) got old new replied
+last_in-told : CountsHere → CountsReads → {A : Type 0} (answers : A → Asked → Answered → A → Type 0) (reply : Option Answered) (old : A) → Tells reply answers old → (m : Machine) (pid : ℕ) (o : Option View) (got : Option Answered) (new : A) → RepliesOf answers m pid o got old new → last_in m pid got o ≡ last_in m pid reply o
+last_in-told here reads answers reply old tells m pid None got new replied = refl
+last_in-told here reads answers reply old tells m pid (Some v) got new replied = last_by-told here reads answers reply old tells m pid v (stands_at v) got new replied
 
-if-told : CountsHere → CountsReads → {A : Type 0} (answers : A → Asked → Answered → A → Type 0) (reply : Option Answered) → Tells reply answers → (m : Machine) (pid : ℕ) (b : Bool) (got : Option Answered) (old new : A) → RepliesIf b answers m pid got old new → cond b (last_in m pid got (seen m.bodies pid)) None ≡ cond b (last_in m pid reply (seen m.bodies pid)) None
-if-told here reads answers reply tells m pid true got old new replied = last_in-told here reads answers reply tells m pid (seen m.bodies pid) got old new replied
-if-told here reads answers reply tells m pid false got old new replied = refl
+if-told : CountsHere → CountsReads → {A : Type 0} (answers : A → Asked → Answered → A → Type 0) (reply : Option Answered) (old : A) → Tells reply answers old → (m : Machine) (pid : ℕ) (b : Bool) (got : Option Answered) (new : A) → RepliesIf b answers m pid got old new → cond b (last_in m pid got (seen m.bodies pid)) None ≡ cond b (last_in m pid reply (seen m.bodies pid)) None
+if-told here reads answers reply old tells m pid true got new replied = last_in-told here reads answers reply old tells m pid (seen m.bodies pid) got new replied
+if-told here reads answers reply old tells m pid false got new replied = refl
 
-pub turn-told : CountsHere → CountsReads → {A : Type 0} (answers : A → Asked → Answered → A → Type 0) (reply : Option Answered) → Tells reply answers → (m : Machine) (pid count : ℕ) (got : Option Answered) (old new : A) → RepliesIn answers count pid m got old new → turn count pid got m ≡ turn count pid reply m
-turn-told here reads answers reply tells m pid count got old new replied =
+pub turn-told : CountsHere → CountsReads → {A : Type 0} (answers : A → Asked → Answered → A → Type 0) (reply : Option Answered) (old : A) → Tells reply answers old → (m : Machine) (pid count : ℕ) (got : Option Answered) (new : A) → RepliesIn answers count pid m got old new → turn count pid got m ≡ turn count pid reply m
+turn-told here reads answers reply old tells m pid count got new replied =
     let m1 = delivered pid m in
     let plain = plains count pid m1 in
-    ap (λ (last : Option Step). record (turn count pid got m) { last = last }) (if-told here reads answers reply tells (after_steps m1 plain) pid (nat_lt (length plain) count) got old new replied)
+    ap (λ (last : Option Step). record (turn count pid got m) { last = last }) (if-told here reads answers reply old tells (after_steps m1 plain) pid (nat_lt (length plain) count) got new replied)

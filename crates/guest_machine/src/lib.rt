@@ -2,12 +2,14 @@
 #![tactic(auto)]
 
 mod able;
+mod again;
 mod differs;
 mod errors;
 mod law;
 mod machine;
 mod matching;
 mod pieces;
+mod rebuild;
 mod turn;
 
 pub use arn_base::Differs;

@@ -39,12 +39,12 @@ impl Model for Machine {
 }
 
 impl Machine {
-    ghost use Rattle.std.specs.Prelude.{◌≡◌, ◌≢◌, ◌+◌, ◌<◌, ◌≤◌, ◌^◌, ◌↔◌, ◌⊎◌, false, [], ◌∷◌, length, All, IfOk, IfErr, OnOk, OnErr, IsErrOf, IsNone, IsTrue, Err};
+    ghost use Rattle.std.specs.Prelude.{◌≡◌, ◌≢◌, ℕ, ◌+◌, ◌<◌, ◌≤◌, ◌^◌, ◌↔◌, ◌⊎◌, false, [], ◌∷◌, length, All, IfOk, IfErr, OnOk, OnErr, IsErrOf, IsNone, IsTrue, Err};
     ghost use Rattle.parts_model.specs.Files.{find_file, is_name};
     ghost use Rattle.parts_model.specs.declared.limits.TheConstants.{MOST_FILE_BYTES};
     ghost use Rattle.arn_model.specs.Run.{is_free};
     ghost use Rattle.arn_model.specs.Run as input;
-    ghost use Rattle.arn_model.specs.Turn.{is_possible, run_state as run_state_of};
+    ghost use Rattle.arn_model.specs.Turn.{is_possible, is_runnable, run_state as run_state_of};
     ghost use Rattle.result_log.specs.Spelling.{HasSpelling};
     ghost use Rattle.guest_bodies.specs.Shown.{IsLive};
     ghost use Rattle.guest_calls.specs.Starts.{HasNoImage};
@@ -89,6 +89,15 @@ impl Machine {
         ensures { OfEach self.now.kernel (λ m. result ≡ run_state_of m) }
     {
         run_state(&self.kernel)
+    }
+
+    /// Whether a process can go on. Then a slice of it is possible.
+    pub fn can_go_on(&self, pid: u32) -> bool
+        ensures runnable { OfEach self.now.kernel (λ m. result ≡ is_runnable m pid) }
+        ensures possible { IsTrue result → (count : ℕ) → 0 < count → count ≤ MOST_SLICE →
+            OfEach self.now.kernel (λ m. IsTrue (is_possible m pid count)) }
+    {
+        can_go_on(&self.kernel, pid)
     }
 
     /// Adds a boot file. Answers the number of its event; its record goes behind `out`. Where memory
@@ -235,6 +244,7 @@ impl Machine {
     pub(crate) fn can_take(&self, pid: u32, count: u32) -> bool
         ensures live { IsTrue result → IsLive self.now.kernel.guests pid }
         ensures can { IsTrue result → OfEach self.now.kernel (λ m. CanTake m pid count) }
+        ensures most { IsTrue result → count ≤ MOST_SLICE }
         ensures impossible { result ≡ false →
             OfEach self.now.kernel (λ m. is_possible m pid count ≡ false) }
     {
