@@ -1,5 +1,5 @@
 -- The records of one input: what they name, and what they are without the slice.
-use Rattle.std.proofs.Common.{◌≡◌, ℕ, ◌++◌, Bool, true, false, cond, List, [], ◌∷◌, Option, None, Some, filter, refl, sym, ap, ◌∙◌, append-nil}
+use Rattle.std.proofs.Common.{◌≡◌, ℕ, ◌<◌, ◌++◌, Bool, true, false, cond, List, [], ◌∷◌, Option, None, Some, filter, refl, sym, ap, ◌∙◌, append-nil, arith, length}
 use Rattle.std.proofs.lemmas.Bool.{cond-true, cond-false}
 use Rattle.arn_base.specs.declared.records.Record.{Record}
 use Rattle.arn_base.specs.declared.records.Record.TheVariants as entry
@@ -106,9 +106,15 @@ outer-again m i by_events (OneStep entry has names is none) =
     }
 
 -- steps of a slice, if there are any, are taken again by a slice of as many instructions, with the reply behind it
-Repeats : Machine → ℕ → List Step → Type 0
+pub Repeats : Machine → ℕ → List Step → Type 0
 Repeats m pid [] = Unit {0}
 Repeats m pid (s ∷ steps) = let all = s ∷ steps in input_steps m (Slice pid (instructions_in all) (reply_behind (event_records all))) ≡ all
+
+-- where there are some
+pub some-again : (m : Machine) (pid : ℕ) (steps : List Step) → 0 < length steps → Repeats m pid steps → input_steps m (Slice pid (instructions_in steps) (reply_behind (event_records steps))) ≡ steps
+unfolding Repeats
+some-again m pid [] some repeats = absurd (omega (arith, some))
+some-again m pid (s ∷ steps) some repeats = repeats
 
 slice-again : (m : Machine) (pid count : ℕ) (reply : Option Answered) (steps : List Step) → input_steps m (Slice pid count reply) ≡ steps → Repeats m pid steps → named (event_records steps) ≡ [] → NamesAgain m (Slice pid count reply)
 unfolding Repeats
@@ -127,7 +133,7 @@ slice-again m pid count reply (s ∷ steps) is repeats none =
           ∙ ap (slice_records pid) (sym is);
     }
 
-turn-repeats : (m : Machine) (pid count : ℕ) (reply : Option Answered) → ReplyIsTold count pid reply m → is_possible m pid count ≡ true → (steps : List Step) → steps_of (turn count pid reply m) ≡ steps → Repeats m pid steps
+pub turn-repeats : (m : Machine) (pid count : ℕ) (reply : Option Answered) → ReplyIsTold count pid reply m → is_possible m pid count ≡ true → (steps : List Step) → steps_of (turn count pid reply m) ≡ steps → Repeats m pid steps
 unfolding Repeats
 turn-repeats m pid count reply told possible [] is = tt
 turn-repeats m pid count reply told possible (s ∷ steps) is =

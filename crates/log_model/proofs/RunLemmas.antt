@@ -29,12 +29,12 @@ pub records-kept : (inputs : List Input) → filter is_event (records inputs) �
 records-kept inputs = records_from-kept at_first inputs
 
 -- a run's records begin with none of a call or a delivery
-records_from-begin : (m : Machine) (inputs : List Input) → reply_behind (records_from m inputs) ≡ None
+pub records_from-begin : (m : Machine) (inputs : List Input) → reply_behind (records_from m inputs) ≡ None
 records_from-begin m [] = refl
 records_from-begin m (i ∷ inputs) = input-begins m i (records_from (after_input m i) inputs) (records_from-begin (after_input m i) inputs)
 
 -- in front of such records, the others name what they name by themselves
-behind-append : (entries rest : List Record) → reply_behind rest ≡ None → reply_behind (entries ++ rest) ≡ reply_behind entries
+pub behind-append : (entries rest : List Record) → reply_behind rest ≡ None → reply_behind (entries ++ rest) ≡ reply_behind entries
 behind-append [] rest before = before
 behind-append (entry.Signal pid signal cut handler ∷ entries) rest before = behind-append entries rest before
 behind-append (entry.Call pid number result more ∷ entries) rest before = refl
@@ -45,7 +45,7 @@ behind-append (entry.Unplug device ∷ entries) rest before = refl
 behind-append (entry.Slice pid ran ∷ entries) rest before = refl
 behind-append (entry.End pid status ∷ entries) rest before = refl
 
-named-append : (entries rest : List Record) → reply_behind rest ≡ None → named (entries ++ rest) ≡ named entries ++ named rest
+pub named-append : (entries rest : List Record) → reply_behind rest ≡ None → named (entries ++ rest) ≡ named entries ++ named rest
 named-append [] rest before = refl
 named-append (entry.File name bytes ∷ entries) rest before = ap (λ (inputs : List Input). File name bytes ∷ inputs) (named-append entries rest before)
 named-append (entry.Boot name give ∷ entries) rest before = ap (λ (inputs : List Input). Boot name ∷ inputs) (named-append entries rest before)

@@ -1,5 +1,5 @@
 // What holds of the records of runs.
-ghost use Rattle.log_model.specs.Laws.{EventsRecorded, NamedRunsAgain, RecordsAppend, RecordsAreRun};
+ghost use Rattle.log_model.specs.Laws.{BehindAppend, EventsRecorded, NamedAppend, NamedRunsAgain, RecordsAppend, RecordsAreRun, RecordsBegin, SlicesAreNamed, SlicesTakeSteps};
 
 use arn_model::{replies_are_told, runs_append};
 
@@ -28,3 +28,22 @@ pub fn records_are_run()
     runs_append();
     replies_are_told();
 }
+
+/// A slice that may run takes a step.
+pub fn slices_take_steps()
+    ensures { SlicesTakeSteps }
+{}
+
+/// A slice that may run is named by its records.
+pub fn slices_are_named()
+    ensures { SlicesAreNamed }
+{
+    replies_are_told();
+}
+
+/// What records behind others name.
+pub fn named_append()
+    ensures named { NamedAppend }
+    ensures behind { BehindAppend }
+    ensures begin { RecordsBegin }
+{}

@@ -5,4 +5,7 @@
 
 mod law;
 
-pub use law::{events_recorded, named_runs_again, records_append, records_are_run};
+pub use law::{
+    events_recorded, named_append, named_runs_again, records_append, records_are_run,
+    slices_are_named, slices_take_steps,
+};
