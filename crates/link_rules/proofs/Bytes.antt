@@ -1,7 +1,7 @@
 -- What holds of each of eight bytes, and of masks of one byte.
-use Rattle.std.proofs.Common.{◌≡◌, ℕ, zero, suc, ◌+◌, ◌-◌, ◌/◌, ◌^◌, ◌<◌, min, Bool, false, List, [], ◌∷◌, ◌++◌, refl, arith}
+use Rattle.std.proofs.Common.{◌≡◌, ℕ, zero, suc, ◌+◌, ◌-◌, ◌/◌, ◌^◌, ◌<◌, min, Bool, false, [], ◌∷◌, refl, arith}
 use Rattle.rv64_isa.specs.declared.instruction.RegOp.TheVariants.{Add, Addw, Xor}
-use Rattle.rv64_model.specs.Carries.{Operand, Left, Right, Loaded, op_takes}
+use Rattle.rv64_model.specs.Carries.{Left, Right, Loaded, op_takes}
 use Rattle.link_rules.specs.declared.masks.Operands.{Operands}
 use Rattle.link_rules.specs.Listed.{address_bytes, listed}
 

@@ -1,5 +1,5 @@
 -- An operand is in masks exactly where it is in their list.
-use Rattle.std.proofs.Common.{◌≡◌, ℕ, zero, suc, ◌+◌, ◌<◌, ◌==◌, nat_lt, Bool, true, false, ◌&&◌, ◌⊎◌, ◌↔◌, IsTrue, List, [], ◌∷◌, ◌++◌, length, slice_index_or, Contains, refl, sym, ap, subst, ◌∙◌, inl, inr, arith, below_more}
+use Rattle.std.proofs.Common.{◌≡◌, ℕ, zero, suc, ◌+◌, ◌<◌, nat_lt, Bool, true, false, ◌&&◌, ◌↔◌, IsTrue, List, [], ◌∷◌, ◌++◌, slice_index_or, Contains, refl, sym, ap, subst, ◌∙◌, inl, inr, arith, below_more}
 use Rattle.std.proofs.lemmas.List.Elements.{Contains-append_left, Contains-append_right, Contains-push, Contains-push_cases, Contains-append_cases}
 use borrow.Author.Tests.{ltb-true, lt-ltb}
 use Rattle.rv64_model.specs.Carries.{Operand, Left, Right, Loaded, Address, first_bytes, taken_if, of_left}

@@ -1,5 +1,5 @@
 -- The parts of the tables are those of the definition.
-use Rattle.std.proofs.Common.{◌≡◌, ℕ, zero, suc, ◌<◌, ◌^◌, nat_lt, Bool, true, if◌then◌else◌, ℤ, List, [], ◌∷◌, refl, sym, ap, ◌∙◌}
+use Rattle.std.proofs.Common.{◌≡◌, ℕ, zero, suc, ◌<◌, ◌^◌, Bool, true, if◌then◌else◌, ℤ, [], ◌∷◌, refl, sym, ap, ◌∙◌}
 use borrow.Author.Tests.{lt-ltb}
 use Rattle.rv64_isa.specs.declared.instruction.Instr.TheVariants.{Load, Store, Imm, Op}
 use Rattle.rv64_isa.specs.declared.instruction.LoadOp.{LoadOp}
@@ -12,7 +12,6 @@ use Rattle.rv64_model.specs.declared.linkage.Linkage.TheVariants.{Copy, Data, In
 use Rattle.rv64_model.specs.Values.{reg_op}
 use Rattle.rv64_model.specs.Operands.{store_len}
 use Rattle.rv64_model.specs.Carries.{Operand, Left, Right, Loaded, operands, unless_x0, taken_if, of_left, imm_copies, imm_takes}
-use Rattle.link_rules.specs.declared.masks.Operands.{Operands}
 use Rattle.link_rules.specs.Listed.{listed, address_bytes, addressed, looks_up, loaded_by, stored_by, op_bytes, is_move, imm_bytes}
 use Rattle.link_rules.proofs.Bytes.{one_left, one_right, one_loaded, listed-one_left, listed-one_right, listed-one_loaded}
 

@@ -1,4 +1,4 @@
-use Rattle.std.proofs.Common.{◌≡◌, ◌-◌, ◌+◌, ◌^◌, inl, inr, sym, ap, ◌∙◌}
+use Rattle.std.proofs.Common.{◌-◌, ◌+◌, ◌^◌, inl, inr, sym, ap, ◌∙◌}
 use Rattle.rv64_model.specs.Carries.{op_takes}
 use Rattle.link_rules.specs.Listed.{listed}
 use Rattle.link_rules.proofs.Bytes.{both_of, listed-upward, listed-word_upward, listed-bytewise}
