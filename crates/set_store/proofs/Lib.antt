@@ -1,0 +1,6 @@
+mod Cache
+mod Growth
+mod Interned
+mod Items
+mod Rising
+mod Unions

@@ -1,0 +1,3 @@
+pub mod Memo
+pub mod Sets
+pub mod Sound
