@@ -1,12 +1,10 @@
 -- Records are added one after the other.
-use Rattle.std.proofs.Common.{◌≡◌, ℕ, zero, suc, ◌+◌, ◌<◌, ◌≤◌, ◌^◌, ◌==◌, Bool, true, false, if◌then◌else◌, List, [], ◌∷◌, ◌++◌, length, take, drop, get_or, Option, Some, None, IfSome, refl, ap, sym, subst, ◌∙◌, arith, append_assoc}
-use Rattle.std.specs.List.{All}
+use Rattle.std.proofs.Common.{◌≡◌, ℕ, zero, suc, ◌+◌, ◌<◌, ◌≤◌, ◌^◌, Bool, true, false, if◌then◌else◌, List, [], ◌∷◌, ◌++◌, length, take, drop, get_or, Some, None, refl, ap, sym, subst, ◌∙◌, arith}
 use Rattle.arn_base.specs.declared.records.Record.{Record}
 use Rattle.arn_base.specs.declared.records.Record.TheVariants as entry
-use Rattle.acts_model.specs.Records.{event_len}
-use Rattle.history_model.specs.Broken.{cant_follow, first_broken}
+use Rattle.history_model.specs.Broken.{first_broken}
 use Rattle.history_model.specs.Groups.{Groups, group_of, count_from, ran_for, is_number}
-use Rattle.history_model.specs.Moments.{lives_at, ran_in, total}
+use Rattle.history_model.specs.Moments.{ran_in, total}
 use Rattle.replay_groups.specs.Groups.{group_at}
 use Rattle.history_index.specs.declared.errors.IndexError.{IndexError}
 use Rattle.history_index.specs.declared.errors.IndexError.TheVariants as error

@@ -1,11 +1,10 @@
 -- Who lives behind all records.
-use Rattle.std.proofs.Common.{◌≡◌, ℕ, ◌+◌, ◌≤◌, nat_le, Bool, true, false, List, [], ◌∷◌, ◌++◌, refl, ap, sym, ◌∙◌, arith}
+use Rattle.std.proofs.Common.{◌≡◌, ℕ, ◌+◌, ◌≤◌, nat_le, Bool, false, List, [], ◌∷◌, ◌++◌, refl, ap, sym, ◌∙◌, arith}
 use Rattle.std.proofs.lemmas.Bool.{le-leb}
 use Rattle.arn_base.specs.declared.records.Record.{Record}
 use Rattle.arn_base.specs.declared.records.Record.TheVariants as entry
 use Rattle.acts_model.specs.Records.{life_told, lives_after}
-use Rattle.history_model.specs.Moments.{ran_in, total, Numbered, if_happened, events_from, lives_by, lives_at}
-use Rattle.history_index.proofs.Snoc.{total-snoc}
+use Rattle.history_model.specs.Moments.{total, Numbered, if_happened, events_from, lives_by, lives_at}
 
 -- whether a process lives behind all records
 live_from : List Record → ℕ → Bool → Bool

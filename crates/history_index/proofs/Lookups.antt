@@ -1,18 +1,17 @@
 -- What the tables tell.
-use Rattle.std.proofs.Common.{◌≡◌, ℕ, zero, suc, ◌+◌, ◌<◌, ◌==◌, if◌then◌else◌, List, [], ◌∷◌, length, map, filter, slice_get, Option, Some, None, option_map, option_and_then, refl, ap, sym, ◌∙◌, arith, add-zero}
+use Rattle.std.proofs.Common.{◌≡◌, ℕ, suc, ◌+◌, ◌<◌, List, [], ◌∷◌, length, filter, slice_get, Option, Some, None, option_map, option_and_then, refl, ap, sym, ◌∙◌, arith, add-zero}
 use Rattle.std.specs.List.{range_with_len}
 use Rattle.std.proofs.lemmas.List.{length-map}
 use Rattle.std.proofs.lemmas.Option.{slice_get-map}
 use Rattle.arn_base.specs.declared.records.Record.{Record}
 use Rattle.acts_model.specs.Records.{event_len, process_of}
-use Rattle.history_model.specs.Broken.{greatest}
 use Rattle.history_model.specs.Events.{events, how_many, event_at, len_of}
 use Rattle.history_model.specs.Groups.{Groups, group_of, is_number}
 use Rattle.replay_groups.specs.Groups.{group_at, members_from}
 use Rattle.replay_groups.specs.Groups as replay
 use Rattle.history_index.specs.declared.events.EventAt.{EventAt}
 use Rattle.history_index.specs.Indexes.{Indexes}
-use Rattle.history_index.specs.Lookups.{places_from, moments_from, event_place, event_moment, members_of}
+use Rattle.history_index.specs.Lookups.{event_place, event_moment, members_of}
 use Rattle.history_index.specs.Tables.{Tables}
 
 pub place-told : (t : Tables) (entries : List Record) (n : ℕ) → Indexes t entries → option_map (λ e. e.place) (slice_get t.events n) ≡ event_place entries n

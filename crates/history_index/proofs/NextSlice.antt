@@ -1,28 +1,27 @@
 -- An index with one more slice.
-use Rattle.std.proofs.Common.{◌≡◌, ◌≢◌, inl, inr, ℕ, zero, suc, ◌+◌, ◌<◌, ◌≤◌, ◌==◌, ◌||◌, ◌-◌, not, Bool, true, false, if◌then◌else◌, List, [], ◌∷◌, ◌++◌, length, map, filter, slice_get, get_or, set, Option, Some, None, IfSome, unwrap_or, refl, ap, sym, subst, ◌∙◌, arith, length-append, length-set, add-zero, zero-add, get_or-set_other, get_or-set_same}
+use Rattle.std.proofs.Common.{◌≡◌, ◌≢◌, inl, inr, ℕ, zero, suc, ◌+◌, ◌<◌, ◌≤◌, ◌==◌, ◌||◌, ◌-◌, not, Bool, true, false, if◌then◌else◌, List, [], ◌∷◌, ◌++◌, length, map, filter, slice_get, get_or, Option, Some, None, IfSome, refl, ap, sym, subst, ◌∙◌, arith, length-append, length-set, add-zero, zero-add, get_or-set_other, get_or-set_same}
 use Rattle.std.specs.List.{range_with_len}
 use Rattle.std.proofs.Math.Bool.{or-false}
 use Rattle.std.proofs.lemmas.Bool.{or_parts}
 use Rattle.std.proofs.lemmas.Bool.Decides.{eqb_tells}
 use Rattle.std.proofs.lemmas.List.{append-nil}
 use Rattle.std.proofs.lemmas.List.Folds.{list_any-append}
-use Rattle.std.proofs.lemmas.List.Elements.{filter-append, filter_agree}
-use Rattle.std.proofs.lemmas.Option.{slice_get_past, slice_get-get_or}
+use Rattle.std.proofs.lemmas.List.Elements.{filter-append}
+use Rattle.std.proofs.lemmas.Option.{slice_get-get_or}
 use Rattle.arn_base.specs.declared.records.Record.{Record}
 use Rattle.arn_base.specs.declared.records.Record.TheVariants as entry
 use Rattle.acts_model.specs.Records.{event_len, process_of}
-use Rattle.history_model.specs.Broken.{Behind, Nowhere, behind_from, broken_from, cant_follow, lacks_process, greatest}
+use Rattle.history_model.specs.Broken.{Nowhere, cant_follow, greatest}
 use Rattle.history_model.specs.Events.{events, how_many}
-use Rattle.history_model.specs.Groups.{Groups, groups_from, group_of, count_from, count_of, is_number, ran_for}
+use Rattle.history_model.specs.Groups.{Groups, group_of, count_from, count_of, is_number, ran_for}
 use Rattle.history_model.specs.Moments.{lives_at, total}
 use Rattle.history_model.specs.Names.{is_booted, is_boot}
 use Rattle.replay_groups.specs.Groups.{group_at}
 use Rattle.history_index.specs.declared.slices.SliceAt.{SliceAt}
-use Rattle.history_index.specs.declared.events.EventAt.{EventAt}
 use Rattle.history_index.specs.After.{with_next, slice_next}
-use Rattle.history_index.specs.Families.{Families, lives_in, run_in, runs_after}
-use Rattle.history_index.specs.Indexes.{Indexes, TellsFamilies, TellsEvents, AreMade, IsFounded, begin_from}
-use Rattle.history_index.specs.Lookups.{slice_in, slices_from, slices_of, groups_in, members_of, places_from, moments_from}
+use Rattle.history_index.specs.Families.{lives_in, run_in, runs_after}
+use Rattle.history_index.specs.Indexes.{Indexes, TellsFamilies, AreMade, IsFounded}
+use Rattle.history_index.specs.Lookups.{slice_in, slices_from, slices_of, places_from, moments_from}
 use Rattle.history_index.specs.Runs.{Run, no_run, with_slice}
 use Rattle.history_index.specs.Tables.{Tables}
 use Rattle.history_index.proofs.Snoc.{total-snoc, behind-snoc, greatest-snoc, groups-snoc, begin-snoc, events-snoc, places-snoc, moments-snoc, slices-snoc, count-snoc, stands-snoc}

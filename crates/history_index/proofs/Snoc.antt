@@ -1,16 +1,16 @@
 -- What one more record does to what records tell.
-use Rattle.std.proofs.Common.{◌≡◌, inl, inr, ℕ, zero, suc, ◌+◌, ◌≤◌, Bool, true, false, if◌then◌else◌, List, [], ◌∷◌, ◌++◌, length, map, filter, Option, Some, None, refl, ap, sym, ◌∙◌, arith, append_assoc, length-append, add-zero, add-one, zero-add}
-use Rattle.std.proofs.lemmas.List.{append-nil, map-append}
+use Rattle.std.proofs.Common.{◌≡◌, ℕ, suc, ◌+◌, Bool, true, false, if◌then◌else◌, List, [], ◌∷◌, ◌++◌, length, Option, Some, None, refl, ap, sym, ◌∙◌, arith, append_assoc, add-zero}
+use Rattle.std.proofs.lemmas.List.{append-nil}
 use Rattle.std.proofs.lemmas.List.Elements.{filter-append}
 use Rattle.arn_base.specs.declared.records.Record.{Record}
 use Rattle.arn_base.specs.declared.records.Record.TheVariants as entry
 use Rattle.acts_model.specs.Records.{is_event}
-use Rattle.history_model.specs.Broken.{Behind, behind_from, behind_record, behind, broken_from, first_broken, cant_follow, greatest_from, greatest_after, greatest}
+use Rattle.history_model.specs.Broken.{Behind, behind_from, behind_record, broken_from, first_broken, cant_follow, greatest_from, greatest_after}
 use Rattle.history_model.specs.Events.{events, how_many}
-use Rattle.history_model.specs.Groups.{Groups, groups_from, groups_told, group_of, count_from, ran_for, is_number}
+use Rattle.history_model.specs.Groups.{Groups, groups_from, groups_told, count_from, ran_for}
 use Rattle.history_model.specs.Moments.{ran_in, total}
 use Rattle.history_index.specs.declared.slices.SliceAt.{SliceAt}
-use Rattle.history_index.specs.Indexes.{begin_from, AreMade}
+use Rattle.history_index.specs.Indexes.{begin_from}
 use Rattle.history_index.specs.Lookups.{if_kept, places_from, moment_in, begin_after, moments_from, slice_in, slices_from, events_in}
 
 pub total-snoc : (entries : List Record) (e : Record) → total (entries ++ e ∷ []) ≡ total entries + ran_in e

@@ -1,5 +1,5 @@
 -- An index with one more record.
-use Rattle.std.proofs.Common.{◌≡◌, ◌≢◌, ◌⊎◌, inl, inr, ℕ, ◌+◌, ◌<◌, ◌≤◌, ◌==◌, ◌||◌, ◌&&◌, not, Bool, true, false, if◌then◌else◌, List, [], ◌∷◌, ◌++◌, length, map, Option, Some, None, refl, ap, sym, subst, ◌∙◌, arith, length-append, add-zero, zero-add}
+use Rattle.std.proofs.Common.{◌≡◌, ◌≢◌, inl, inr, ℕ, ◌+◌, ◌<◌, ◌≤◌, ◌==◌, ◌||◌, not, Bool, true, false, if◌then◌else◌, List, [], ◌∷◌, ◌++◌, length, map, Option, None, refl, ap, sym, ◌∙◌, arith, length-append, add-zero, zero-add}
 use Rattle.std.proofs.lemmas.Bool.{or_parts}
 use Rattle.std.proofs.lemmas.Bool.Decides.{eqb_tells}
 use Rattle.std.proofs.lemmas.List.{map-append}
@@ -7,25 +7,23 @@ use Rattle.std.proofs.lemmas.List.Folds.{list_any-append}
 use Rattle.std.proofs.Math.Bool.{or-false}
 use Rattle.arn_base.specs.declared.records.Record.{Record}
 use Rattle.arn_base.specs.declared.records.Record.TheVariants as entry
-use Rattle.parts_model.specs.declared.calls.TheConstants.{FORK}
-use Rattle.parts_model.specs.Replies.{is_success}
 use Rattle.acts_model.specs.Records.{is_event, event_len, process_of, life_told, lives_after, LifeChange, BeginsLife, EndsLife, NoLife}
-use Rattle.history_model.specs.Broken.{Behind, Nowhere, ASlice, ADelivery, behind_signal, behind_record, behind, cant_follow, greatest, greatest_after}
+use Rattle.history_model.specs.Broken.{Behind, Nowhere, ASlice, ADelivery, behind_record, cant_follow, greatest}
 use Rattle.history_model.specs.Events.{events}
 use Rattle.history_model.specs.Groups.{group_of}
 use Rattle.history_model.specs.Moments.{total, lives_at}
 use Rattle.history_model.specs.Names.{is_boot, is_booted}
 use Rattle.history_index.specs.declared.events.EventAt.{EventAt}
-use Rattle.history_index.specs.After.{with_event, event_of, with_born, with_end, ended_by, born_group, after}
-use Rattle.history_index.specs.Families.{Families, lives_in, with_process}
+use Rattle.history_index.specs.After.{with_event, event_of, ended_by, after}
+use Rattle.history_index.specs.Families.{lives_in, with_process}
 use Rattle.history_index.specs.Indexes.{Indexes, TellsFamilies, TellsEvents, IsMade, begin_from}
-use Rattle.history_index.specs.Lookups.{if_kept, moment_in, places_from, moments_from}
+use Rattle.history_index.specs.Lookups.{moment_in, places_from, moments_from}
 use Rattle.history_index.specs.Tables.{Tables}
 use Rattle.history_index.proofs.Snoc.{total-snoc, behind-snoc, greatest-snoc, begin-snoc, events-snoc, places-snoc, moments-snoc, stands-snoc}
 use Rattle.history_index.proofs.Lives.{lives-snoc}
 use Rattle.history_index.proofs.NextSlice.{next-slice}
 use Rattle.history_index.proofs.NextEvent.{IsQuiet, MakesNone, MakesNext, lives-ended, push-lives, begun-other, what-makes}
-use Rattle.history_index.proofs.WithEvent.{IsPlain, plain, with-lives, stays-told, next-told}
+use Rattle.history_index.proofs.WithEvent.{plain, with-lives, stays-told, next-told}
 
 made-if : (b : Bool) (pid m : ℕ) → (0 < pid) × (pid ≤ m) → IsMade m (if b then ADelivery pid else Nowhere)
 made-if true pid m made = made

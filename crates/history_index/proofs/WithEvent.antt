@@ -1,28 +1,24 @@
 -- What one more event leaves of the tables of processes and groups.
-use Rattle.std.proofs.Common.{◌≡◌, ◌≢◌, ◌⊎◌, inl, inr, ℕ, zero, suc, ◌+◌, ◌<◌, ◌≤◌, ◌==◌, ◌||◌, Bool, true, false, if◌then◌else◌, List, [], ◌∷◌, ◌++◌, length, map, filter, slice_get, get_or, set, Option, Some, None, IfSome, refl, ap, sym, subst, ◌∙◌, arith, length-append, length-set, add-zero, zero-add}
+use Rattle.std.proofs.Common.{◌≡◌, ◌≢◌, inl, inr, ℕ, zero, suc, ◌+◌, ◌≤◌, ◌==◌, Bool, true, false, if◌then◌else◌, List, [], ◌∷◌, ◌++◌, length, filter, slice_get, Option, Some, None, IfSome, refl, ap, sym, ◌∙◌, arith, length-append, length-set, add-zero}
 use Rattle.std.specs.List.{range_with_len}
-use Rattle.std.proofs.Math.Bool.{or-false}
-use Rattle.std.proofs.lemmas.Bool.{or_parts}
 use Rattle.std.proofs.lemmas.Bool.Decides.{eqb_tells}
-use Rattle.std.proofs.lemmas.List.{append-nil, map-append}
-use Rattle.std.proofs.lemmas.List.Folds.{list_any-append}
+use Rattle.std.proofs.lemmas.List.{append-nil}
 use Rattle.std.proofs.lemmas.List.Elements.{filter-append}
 use Rattle.arn_base.specs.declared.records.Record.{Record}
 use Rattle.arn_base.specs.declared.records.Record.TheVariants as entry
-use Rattle.acts_model.specs.Records.{is_event, life_told, lives_after, event_len, process_of}
-use Rattle.history_model.specs.Broken.{Behind, Nowhere, ASlice, ADelivery, behind_signal, behind_record, behind, cant_follow, greatest}
-use Rattle.history_model.specs.Events.{events, how_many}
+use Rattle.acts_model.specs.Records.{is_event}
+use Rattle.history_model.specs.Broken.{greatest}
+use Rattle.history_model.specs.Events.{how_many}
 use Rattle.history_model.specs.Groups.{Groups, groups_told, group_of, count_from, count_of, is_number, ran_for}
 use Rattle.history_model.specs.Moments.{ran_in, total, lives_at, changed}
-use Rattle.history_model.specs.Names.{is_boot, is_booted}
 use Rattle.replay_groups.specs.Groups.{group_at}
 use Rattle.history_index.specs.declared.slices.SliceAt.{SliceAt}
 use Rattle.history_index.specs.After.{with_end}
-use Rattle.history_index.specs.Families.{Families, lives_in, with_ended, run_in, with_process}
-use Rattle.history_index.specs.Indexes.{Indexes, TellsFamilies, AreMade, IsMade, IsFounded}
+use Rattle.history_index.specs.Families.{Families, lives_in, run_in, with_process}
+use Rattle.history_index.specs.Indexes.{TellsFamilies, AreMade, IsFounded}
 use Rattle.history_index.specs.Lookups.{begin_after, slice_in, slices_from, slices_of, groups_in}
 use Rattle.history_index.specs.Runs.{Run, no_run}
-use Rattle.history_index.proofs.Snoc.{groups-snoc, greatest-snoc, slices-snoc, count-snoc}
+use Rattle.history_index.proofs.Snoc.{groups-snoc, slices-snoc, count-snoc}
 
 -- an event is no slice
 pub record IsPlain (e : Record) : Type 0 where

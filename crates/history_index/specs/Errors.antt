@@ -1,5 +1,5 @@
 -- What an error says of records, and what it leaves.
-use Rattle.std.specs.Prelude.{◌≡◌, ℕ, Bool, true, List, length, take, Some}
+use Rattle.std.specs.Prelude.{◌≡◌, true, List, take, Some}
 use Rattle.arn_base.specs.declared.records.Record.{Record}
 use Rattle.history_model.specs.Broken.{first_broken}
 use Rattle.history_index.specs.declared.errors.IndexError.{IndexError}

@@ -1,12 +1,12 @@
 -- An index is that of a list of records.
-use Rattle.std.specs.Prelude.{◌≡◌, ℕ, ◌+◌, ◌<◌, ◌≤◌, ◌^◌, List, [], ◌∷◌, length, map, false, Option, Some, None, IfSome, slice_get}
+use Rattle.std.specs.Prelude.{◌≡◌, ℕ, ◌+◌, ◌<◌, ◌≤◌, ◌^◌, List, [], ◌∷◌, length, map, false, None, IfSome, slice_get}
 use Rattle.std.specs.List.{All}
 use Rattle.arn_base.specs.declared.records.Record.{Record}
 use Rattle.arn_base.specs.declared.records.Record.TheVariants as entry
 use Rattle.acts_model.specs.Records.{event_len, process_of}
 use Rattle.history_model.specs.Broken.{Behind, Nowhere, ASlice, ADelivery, behind, first_broken, greatest}
 use Rattle.history_model.specs.Events.{events}
-use Rattle.history_model.specs.Groups.{group_of, count_of, is_number}
+use Rattle.history_model.specs.Groups.{group_of, count_of}
 use Rattle.history_model.specs.Moments.{lives_at, total}
 use Rattle.history_model.specs.Names.{is_booted}
 use Rattle.replay_groups.specs.Groups.{group_at}

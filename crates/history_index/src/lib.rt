@@ -3,14 +3,18 @@
 
 mod at_hand;
 mod check;
+mod countable;
 mod errors;
 mod events;
 mod families;
 mod index;
 mod runs;
 mod slices;
+#[cfg(test)]
+mod tests;
 mod told;
 
+pub use countable::are_countable;
 pub use errors::IndexError;
 pub use index::Index;
 pub use slices::SliceAt;

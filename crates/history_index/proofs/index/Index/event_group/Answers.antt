@@ -1,4 +1,4 @@
-use Rattle.std.proofs.Common.{ap, sym, ◌∙◌, option_and_then}
+use Rattle.std.proofs.Common.{ap, ◌∙◌, option_and_then}
 use Rattle.history_model.specs.Groups.{group_of}
 use Rattle.history_index.proofs.Lookups.{pid-told}
 use Rattle.history_index.proofs.index.Index.event_group.Goals as goal
