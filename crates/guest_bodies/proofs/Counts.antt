@@ -86,3 +86,7 @@ OnStop-both outcome.Next f h k = tt
 OnStop-both outcome.Call f h k = f h k
 OnStop-both (outcome.End status) f h k = f h k
 OnStop-both outcome.NoMemory f h k = f h k
+
+-- an instruction that the next one follows
+pub next-leaves : (instr : Instr) (cpu cpu' : Cpu) (ws ws' : List Window) → instruction cpu ws ≡ Next instr cpu' ws' → length ws' ≡ length ws
+next-leaves instr cpu cpu' ws ws' is_next = subst (Leaves (length ws)) is_next (fetched-leaves (number_at ws cpu.pc 4) cpu ws)

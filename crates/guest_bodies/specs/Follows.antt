@@ -6,6 +6,8 @@ use Rattle.acts_model.specs.Acts.{Act, Returns, Receives, Gives, Starts, Forks, 
 use Rattle.acts_model.specs.Bodies.{Bodies, View, seen, put}
 use Rattle.acts_model.specs.Views.{stands_at, with_cpu, with_reach}
 use Rattle.rv64_core.specs.Outcome.{Tells}
+use Rattle.rv64_isa.specs.declared.instruction.Instr.{Instr}
+use Rattle.rv64_model.specs.Instruction.{Next}
 use Rattle.rv64_core.specs.declared.outcome.Outcome.{Outcome}
 use Rattle.guest_bodies.specs.Shown.{Guests, Watch, seen_in, watch_in}
 
@@ -69,4 +71,13 @@ pub record Ran (outcome : Outcome) (p : ℕ) (old new : Guests) : Type 0 where
   pub memory : List Window
   pub stood : seen_in old p ≡ Some before
   pub tells : Tells outcome (stands_at before) cpu memory
+  pub follows : Follows old (put p (with_reach memory (with_cpu cpu before))) new
+
+-- It takes this instruction, which the next one follows, and sees the registers and the windows after it.
+pub record Executed (instr : Instr) (p : ℕ) (old new : Guests) : Type 0 where
+  pub before : View
+  pub cpu : Cpu
+  pub memory : List Window
+  pub stood : seen_in old p ≡ Some before
+  pub is_next : stands_at before ≡ Next instr cpu memory
   pub follows : Follows old (put p (with_reach memory (with_cpu cpu before))) new

@@ -5,9 +5,10 @@ ghost use Rattle.acts_model.specs.Bodies.{put};
 ghost use Rattle.parts_model.specs.Image.{is_image};
 ghost use Rattle.parts_model.specs.Numbered.{nth};
 ghost use Rattle.parts_model.specs.Signals.{can_set, due_signal, handler_of, is_signal, with_handler, with_pending, without};
-ghost use Rattle.acts_model.specs.Views.{bytes_in};
+ghost use Rattle.acts_model.specs.Views.{bytes_in, stands_at};
 ghost use Rattle.rv64_core.specs.Outcome.{OnStop};
-ghost use Rattle.guest_bodies.specs.Follows.{Follows, KeepsWatches, Ran, Rewatches, SetsWatch, IsResult, IsEnd};
+ghost use Rattle.rv64_core.specs.Prospect.{Foretells, TakesEffect};
+ghost use Rattle.guest_bodies.specs.Follows.{Executed, Follows, KeepsWatches, Ran, Rewatches, SetsWatch, IsResult, IsEnd};
 ghost use Rattle.guest_bodies.specs.Shown.{IsFresh, IsInside, IsLive, fresh_watch, inherited, restarted, seen_in, signals_in, watch_in};
 
 use crate::guest::{Guest, Shared, begin, boot};
@@ -18,7 +19,8 @@ use crate::windows::window_of;
 use arn_base::{Cpu, NoMemory, Start, Steps};
 use guest_mem::Segment;
 use parts_model::limits::MOST_BLOCK_BYTES;
-use rv64_core::Outcome;
+use rv64_core::{Outcome, Prospect};
+use rv64_isa::Instr;
 use std::alloc::Global;
 use std::marker::Model;
 use std::sync::ledger::Ledger;
@@ -79,6 +81,33 @@ impl Bodies {
     {
         match &mut self.guests[pid as usize] {
             Some(guest) => held::step(guest, &mut self.segments, steps),
+            None => unreachable!(),
+        }
+    }
+
+    /// Says what the instruction at which a process stands would come to, and counts it whatever that
+    /// is. It is one call of `rv64_core::next_instr` on the process's registers and memories.
+    pub fn next_instr<L: Ledger>(&mut self, pid: u32, steps: &mut Steps<L>) -> Prospect
+        requires live { IsLive self.old pid }
+        ensures tick { steps.new ≡ steps.old + 1 }
+        ensures foretells { IfSome (seen_in self.old pid) (λ v. Foretells result (stands_at v)) }
+        ensures same { self.new ≡ self.old }
+    {
+        match &mut self.guests[pid as usize] {
+            Some(guest) => held::next_instr(guest, &mut self.segments, steps),
+            None => unreachable!(),
+        }
+    }
+
+    /// Executes the instruction that `next_instr` gave. It isn't counted.
+    pub fn execute(&mut self, pid: u32, instr: &Instr)
+        requires live { IsLive self.old pid }
+        requires next { IfSome (seen_in self.old pid) (λ v. TakesEffect instr.now (stands_at v)) }
+        ensures executed { Executed instr.now pid self.old self.new }
+        ensures watches { KeepsWatches self.old self.new }
+    {
+        match &mut self.guests[pid as usize] {
+            Some(guest) => held::execute(guest, &mut self.segments, instr),
             None => unreachable!(),
         }
     }
@@ -331,6 +360,17 @@ impl Bodies {
         match self.guests.get(pid as usize) {
             Some(guest) => guest.is_some(),
             None => false,
+        }
+    }
+
+    /// Whether a process has registers that a handler's return restores.
+    pub fn is_in_handler(&self, pid: u32) -> bool
+        requires live { IsLive self.now pid }
+        ensures { IfSome (seen_in self.now pid) (λ v. result ≡ is_some v.body.slot) }
+    {
+        match &self.guests[pid as usize] {
+            Some(guest) => guest.signals.slot().is_some(),
+            None => unreachable!(),
         }
     }
 

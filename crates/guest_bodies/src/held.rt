@@ -3,11 +3,14 @@ ghost use Rattle.std.specs.Prelude.{◌≡◌, ◌≢◌, ◌≤◌, ◌+◌, No
 ghost use Rattle.acts_model.specs.Views.{bytes_in, reach, read, stands_at, written};
 ghost use Rattle.guest_bodies.specs.Kept.{IfHeld, IfKey, held_bytes, lent, view_of, with_held, with_key};
 ghost use Rattle.rv64_core.specs.Outcome.{Tells, OnStop};
+ghost use Rattle.rv64_core.specs.Prospect.{Foretells, TakesEffect};
+ghost use Rattle.rv64_model.specs.Instruction.{Next};
 
 use crate::guest::Guest;
 use arn_base::Steps;
 use guest_mem::Segment;
-use rv64_core::Outcome;
+use rv64_core::{Outcome, Prospect};
+use rv64_isa::Instr;
 use std::sync::ledger::Ledger;
 
 /// Brings the segment that a process holds out of the table to it.
@@ -61,6 +64,43 @@ pub fn step<L: Ledger>(
     let outcome = rv64_core::step(&mut guest.cpu, &mut guest.memory, steps);
     take_back(guest, segments);
     outcome
+}
+
+/// Says what the instruction at which the process stands would come to, and counts it.
+pub fn next_instr<L: Ledger>(
+    guest: &mut Guest,
+    segments: &mut Vec<Option<Segment>>,
+    steps: &mut Steps<L>,
+) -> Prospect
+    requires { IfHeld guest.old.segment segments.old.items }
+    ensures tick { steps.new ≡ steps.old + 1 }
+    ensures effect { Foretells result (stands_at (view_of segments.old.items guest.old)) }
+    ensures guest { guest.new ≡ record guest.old { memory = guest.new.memory } }
+    ensures same { view_of segments.new.items guest.new ≡ view_of segments.old.items guest.old }
+    ensures table { segments.new.items ≡ segments.old.items }
+{
+    lend(guest, segments);
+    let prospect = rv64_core::next_instr(&guest.cpu, &guest.memory, steps);
+    take_back(guest, segments);
+    prospect
+}
+
+/// Executes the instruction that `next_instr` gave.
+pub fn execute(guest: &mut Guest, segments: &mut Vec<Option<Segment>>, instr: &Instr)
+    requires held { IfHeld guest.old.segment segments.old.items }
+    requires next { TakesEffect instr.now (stands_at (view_of segments.old.items guest.old)) }
+    ensures effect { stands_at (view_of segments.old.items guest.old) ≡
+        Next instr.now guest.new.cpu (reach (view_of segments.new.items guest.new)) }
+    ensures guest { guest.new ≡
+        record guest.old { cpu = guest.new.cpu; memory = guest.new.memory } }
+    ensures segments { segments.new.items ≡ with_held guest.old.segment
+        (held_bytes segments.new.items guest.old.segment) segments.old.items }
+{
+    lend(guest, segments);
+    let Ok(()) = rv64_core::execute(instr, &mut guest.cpu, &mut guest.memory) else {
+        unreachable!()
+    };
+    take_back(guest, segments);
 }
 
 /// A process receives bytes at an address, where they lie whole in one window.

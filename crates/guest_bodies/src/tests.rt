@@ -5,7 +5,7 @@ ghost use Rattle.guest_bodies.specs.Shown.{IsFresh, IsLive};
 
 use super::*;
 use arn_base::{Block, Blocks, Cpu, NoMemory, Start, Steps};
-use rv64_core::Outcome;
+use rv64_core::{Outcome, Prospect};
 use std::alloc::Global;
 use std::marker::Brand;
 use std::sync::ledger::{Blank, Ledger};
@@ -63,6 +63,29 @@ fn step_once(bodies: &mut Bodies) -> Outcome
     step_counted::<Brand>(bodies, Blank::new(1))
 }
 
+fn look_counted<L: Ledger>(bodies: &mut Bodies, blank: Blank) -> bool
+    requires live { IsLive bodies.old 1 }
+    requires name { blank.name ≡ L.name }
+    requires parts { blank.parts ≡ L.parts }
+    requires some { 0 < blank.parts }
+{
+    let mut steps = Steps::<L>::new(blank);
+    match bodies.next_instr(1, &mut steps) {
+        Prospect::Next(instr) => {
+            bodies.execute(1, &instr);
+            true
+        }
+        Prospect::Call | Prospect::End(_) => false,
+    }
+}
+
+// Executes the instruction at which process 1 stands, if the next one follows it.
+fn go_on(bodies: &mut Bodies) -> bool
+    requires { IsLive bodies.old 1 }
+{
+    look_counted::<Brand>(bodies, Blank::new(1))
+}
+
 // Whether these bytes stand at an address of a process.
 fn has(bodies: &Bodies, pid: u32, at: u64, expected: &[u8]) -> bool
     requires { IsLive bodies.now pid }
@@ -89,6 +112,19 @@ fn a_process_runs_to_its_call_and_receives(rt: HostRuntime) -> Result<(), Fail> 
     let start = bodies.start_of(1)?;
     assert_eq!(rt; start.cpu.pc, 0x1_000c);
     assert_eq!(rt; start.blocks.len(), 2);
+    Ok(())
+}
+
+#[test]
+fn a_look_ahead_gives_what_is_executed(rt: HostRuntime) -> Result<(), Fail> {
+    let mut bodies = begun(rt.alloc())?;
+    assert!(rt; go_on(&mut bodies));
+    assert!(rt; bodies.is_live(1));
+    assert_eq!(rt; bodies.cpu(1).x[4], 7);
+    assert!(rt; !go_on(&mut bodies));
+    assert!(rt; bodies.is_live(1));
+    assert_eq!(rt; bodies.cpu(1).pc, 0x1_0004);
+    assert!(rt; !bodies.is_in_handler(1));
     Ok(())
 }
 
