@@ -52,6 +52,13 @@ impl Files {
         self.present >= MOST_FILES
     }
 
+    /// How many files were made, those that are gone among them.
+    pub fn count_made(&self) -> usize
+        ensures { result ≡ length self.now.all }
+    {
+        self.all.len()
+    }
+
     /// The number of the file with this name.
     pub fn find(&self, path: &[u8]) -> Option<u32>
         ensures found { result ≡ find_file self.now path.now }

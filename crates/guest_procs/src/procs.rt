@@ -128,6 +128,13 @@ impl Procs {
         Ok(child)
     }
 
+    /// How many processes were made, those that are gone among them.
+    pub fn count_made(&self) -> usize
+        ensures { result ≡ length self.now }
+    {
+        self.lists.table.len()
+    }
+
     /// The numbers of the processes that live, in order.
     pub fn live(&self) -> &[u32]
         ensures { result.now ≡ live self.now }
