@@ -1,0 +1,4 @@
+pub mod Numbers
+pub mod Queues
+pub mod Sound
+pub mod Changed

@@ -1,0 +1,286 @@
+// Descriptions and files together.
+ghost use Rattle.std.specs.Prelude.{◌≡◌, ◌≢◌, ◌+◌, ◌≤◌, ◌<◌, ◌^◌, ◌↔◌, [], false, length, Err, IfErr, IfOk, IfSome, IsNone, IsSome, IsTrue, None, OnErr, OnOk, Some, option_map, unwrap_or};
+ghost use Rattle.parts_model.specs.declared.limits.TheConstants.{MOST_FILE_BYTES};
+ghost use Rattle.parts_model.specs.declared.open.Description.TheVariants.{File};
+ghost use Rattle.parts_model.specs.Files.{file_bytes, find_file, held, is_full, made, next_file, read_from, unnamed, written};
+ghost use Rattle.parts_model.specs.Numbered.{nth};
+ghost use Rattle.parts_model.specs.Tagged.{given, held_bytes};
+ghost use Rattle.arn_model.specs.Kernel.{also_held, dropped, with_description, with_new};
+ghost use Rattle.guest_files.specs.Table.{IsThere};
+ghost use Rattle.guest_resources.specs.Opened.{first_descriptions};
+ghost use Rattle.guest_resources.specs.Resources.{Changes, HoldsFile, IsIn, IsKnown, is_of, no_resources, settled_files};
+
+use crate::descriptions::Descriptions;
+use arn_base::{Give, NoMemory};
+use guest_files::{FileError, Files};
+use parts_model::Description;
+use parts_model::limits::MOST_FILE_BYTES;
+use std::alloc::Global;
+use std::marker::Model;
+
+/// How many files are made at most, those that are gone among them.
+const MOST_MADE: usize = 0x8000_0000;
+
+/// A file that was opened, and the number of the description.
+#[derive(Clone, Copy, Debug, PartialEq, Eq)]
+pub struct OpenFile {
+    pub file: u32,
+    pub description: u32,
+}
+
+/// What descriptors of processes stand for: descriptions, and files, which have names too.
+#[derive(Drop)]
+pub struct Resources {
+    files: Files,
+    descriptions: Descriptions,
+}
+
+impl Model for Resources {
+    ghost use Rattle.guest_resources.specs.Resources.{Resources as ResourcesModel, IsSound};
+
+    ghost Value = { ResourcesModel };
+
+    ghost view = { λ r. record { files = r.files; descriptions = r.descriptions } };
+
+    ghost invariant = { λ r. IsSound (record { files = r.files; descriptions = r.descriptions }) };
+}
+
+// What ends with the last descriptor of a description: a file has one holder fewer.
+fn close(files: &mut Files, what: &Description)
+    requires { HoldsFile files.old what.now }
+    ensures { files.new ≡ settled_files (Some what.now) files.old }
+{
+    match what {
+        Description::Console => {}
+        Description::File { file, position: _ } => files.release(*file),
+        _ => unreachable!(),
+    }
+}
+
+impl Resources {
+    pub fn new(alloc: Global) -> Resources
+        ensures { result ≡ no_resources }
+    {
+        Resources {
+            files: Files::new(alloc),
+            descriptions: Descriptions::new(alloc),
+        }
+    }
+
+    /// The file of a name.
+    pub fn find_file(&self, path: &[u8]) -> Option<u32>
+        ensures found { result ≡ find_file self.now.files path.now }
+        ensures there { IfSome result (IsThere self.now.files) }
+    {
+        self.files.find(path)
+    }
+
+    // The number of the next file.
+    fn next_number(&self) -> Result<u32, NoMemory>
+        ensures number { IfOk result (λ file. file ≡ next_file self.now.files) }
+        ensures few { OnOk result (length self.now.files.all < 2 ^ 31) }
+    {
+        let made = self.files.count_made();
+        if made >= MOST_MADE {
+            return Err(NoMemory);
+        }
+        Ok(made as u32)
+    }
+
+    /// Makes a file of the bytes of an event under a free name.
+    pub fn add_file(&mut self, path: &[u8], bytes: &[u8], event: u64) -> Result<(), FileError>
+        requires few { length self.old.files.all < 2 ^ 31 }
+        ensures made { OnOk result (self.new ≡ record self.old {
+          files = made self.old.files path.now (held_bytes event bytes.now);
+        }) }
+        ensures exists { (result ≡ Err FileError.Exists) ↔
+            IsSome (find_file self.old.files path.now) }
+        ensures too_many { (result ≡ Err FileError.TooMany) ↔
+            (IsNone (find_file self.old.files path.now) × IsTrue (is_full self.old.files)) }
+        ensures too_long { (result ≡ Err FileError.TooLong) ↔
+            (IsNone (find_file self.old.files path.now) × (is_full self.old.files ≡ false) ×
+            (MOST_FILE_BYTES < length bytes.now)) }
+        ensures answers { IfErr result (λ error. error ≢ FileError.NoFile) }
+        ensures err { OnErr result (self.new ≡ self.old) }
+    {
+        self.files.create_with(path, bytes, event)?;
+        Ok(())
+    }
+
+    /// Makes an empty file under a free name and opens it, for one descriptor.
+    pub fn make_file(&mut self, path: &[u8]) -> Result<OpenFile, FileError>
+        ensures opened { OnOk result (Changes self.old (λ k.
+            with_new (File (next_file k.files) 0) (record k {
+              files = held (made k.files path.now []) (next_file k.files);
+            })) self.new) }
+        ensures file { IfOk result (λ made. made.file ≡ next_file self.old.files) }
+        ensures number { IfOk result (λ made.
+            made.description ≡ length self.old.descriptions) }
+        ensures room { OnOk result (is_full self.old.files ≡ false) }
+        ensures too_many { result ≡ Err FileError.TooMany → IsTrue (is_full self.old.files) }
+        ensures err { OnErr result (self.new ≡ self.old) }
+    {
+        let file = self.next_number()?;
+        let first = Description::File { file, position: 0 };
+        let description = self.descriptions.add(first, 1)?;
+        match self.files.create(path) {
+            Ok(file) => {
+                self.files.hold(file);
+                Ok(OpenFile { file, description })
+            }
+            Err(error) => {
+                self.descriptions.remove_last();
+                Err(error)
+            }
+        }
+    }
+
+    /// What a description is, if it is there.
+    pub fn what_is(&self, number: u32) -> Option<Description>
+        ensures what { result ≡ option_map (λ o. o.what) (nth self.now.descriptions number) }
+        ensures known { IfSome result (IsKnown self.now.files) }
+    {
+        self.descriptions.find(number)
+    }
+
+    /// Has these open, where nothing was: the console, as process 1 has it.
+    pub fn begin(&mut self, first: Descriptions)
+        requires none { self.old.descriptions ≡ [] }
+        requires first { first ≡ first_descriptions }
+        ensures { self.new ≡ record self.old { descriptions = first_descriptions } }
+    {
+        self.descriptions = first;
+    }
+
+    /// Opens a file at its beginning, for one descriptor.
+    pub fn open_file(&mut self, file: u32) -> Result<OpenFile, NoMemory>
+        requires { IsThere self.old.files file }
+        ensures opened { OnOk result (Changes self.old
+            (λ k. with_new (File file 0) (record k { files = held k.files file })) self.new) }
+        ensures file { IfOk result (λ open_file. open_file.file ≡ file) }
+        ensures number { IfOk result (λ open_file.
+            open_file.description ≡ length self.old.descriptions) }
+        ensures err { OnErr result (self.new ≡ self.old) }
+    {
+        let description = self
+            .descriptions
+            .add(Description::File { file, position: 0 }, 1)?;
+        self.files.hold(file);
+        Ok(OpenFile { file, description })
+    }
+
+    /// Takes a name away, and answers the number of its file.
+    pub fn unlink(&mut self, path: &[u8]) -> Option<u32>
+        ensures found { result ≡ find_file self.old.files path.now }
+        ensures unnamed { IfSome result (λ file. self.new ≡ record self.old {
+          files = unnamed self.old.files path.now file;
+        }) }
+        ensures none { IsNone result → self.new ≡ self.old }
+    {
+        match self.files.unlink(path) {
+            Ok(file) => Some(file),
+            Err(_) => None,
+        }
+    }
+
+    /// One descriptor more stands for a description. NoMemory says that there are too many.
+    pub fn hold_one(&mut self, number: u32) -> Result<(), NoMemory>
+        ensures held { OnOk result (Changes self.old (also_held number) self.new) }
+        ensures err { OnErr result (self.new ≡ self.old) }
+    {
+        self.descriptions.hold_one(number)
+    }
+
+    /// One descriptor fewer stands for a description. Without any it is gone, and so may its file be.
+    pub fn drop_one(&mut self, number: u32)
+        ensures { Changes self.old (dropped number) self.new }
+    {
+        if let Some(what) = self.descriptions.drop_one(number) {
+            close(&mut self.files, &what);
+        }
+    }
+
+    /// How many bytes a file has.
+    pub fn file_length(&self, file: u32) -> u32
+        requires { IsThere self.now.files file }
+        ensures length { Some result ≡ option_map length (file_bytes self.now.files file) }
+        ensures end { IsIn (nth self.now.files.all file) result }
+        ensures most { result ≤ MOST_FILE_BYTES }
+    {
+        self.files.length(file)
+    }
+
+    /// The bytes of a file from a place on, at most `max`, with their origins as the longest runs.
+    pub fn read(&self, file: u32, at: u32, max: u32) -> Result<Give, NoMemory>
+        requires { IsIn (nth self.now.files.all file) at }
+        ensures given { IfOk result (λ give. give ≡
+            given (read_from (unwrap_or (file_bytes self.now.files file) []) at max)) }
+        ensures within { IfOk result (λ give.
+            IsIn (nth self.now.files.all file) (at + length give.bytes)) }
+        ensures end { IfOk result (λ give. at + length give.bytes ≤ MOST_FILE_BYTES) }
+        ensures few_bytes { IfOk result (λ give. length give.bytes ≤ max) }
+        ensures few_origins { IfOk result (λ give. length give.origins ≤ max) }
+    {
+        let _length = self.files.length(file);
+        self.files.read_at(file, at, max)
+    }
+
+    /// How many bytes a file takes behind a place in it.
+    pub fn room(&self, file: u32, at: u32) -> u32
+        requires { IsIn (nth self.now.files.all file) at }
+        ensures { result + at ≡ MOST_FILE_BYTES }
+    {
+        let length = self.files.length(file);
+        MOST_FILE_BYTES as u32 - length + (length - at)
+    }
+
+    /// All bytes of a file.
+    pub fn read_all(&self, file: u32) -> Result<Give, NoMemory>
+        requires { IsThere self.now.files file }
+        ensures given { IfOk result (λ give.
+            Some give ≡ option_map given (file_bytes self.now.files file)) }
+        ensures few_bytes { IfOk result (λ give. length give.bytes ≤ MOST_FILE_BYTES) }
+        ensures few_origins { IfOk result (λ give. length give.origins ≤ MOST_FILE_BYTES) }
+    {
+        self.files.read_at(file, 0, self.files.length(file))
+    }
+
+    /// The place of a description in its file moves.
+    pub fn move_to(&mut self, number: u32, file: u32, position: u32)
+        requires within { IsIn (nth self.old.files.all file) position }
+        requires is { IfSome (nth self.old.descriptions number) (λ o. IsTrue (is_of file o.what)) }
+        ensures { Changes self.old (with_description number (File file position)) self.new }
+    {
+        self.descriptions
+            .change(number, Description::File { file, position });
+    }
+
+    /// Writes bytes of an event to a file behind the place of a description, which moves on.
+    pub fn write(
+        &mut self,
+        number: u32,
+        file: u32,
+        at: u32,
+        bytes: &[u8],
+        event: u64,
+    ) -> Result<(), NoMemory>
+        requires within { IsIn (nth self.old.files.all file) at }
+        requires is { IfSome (nth self.old.descriptions number) (λ o. IsTrue (is_of file o.what)) }
+        requires fits { at + length bytes.now ≤ MOST_FILE_BYTES }
+        ensures written { OnOk result (Changes self.old (λ k.
+            with_description number (File file (at + length bytes.now)) (record k {
+              files = written k.files file at bytes.now event;
+            })) self.new) }
+        ensures err { OnErr result (self.new ≡ self.old) }
+    {
+        match self.files.write_at(file, at, bytes, event) {
+            Ok(count) => {
+                let position = at + count;
+                self.descriptions
+                    .change(number, Description::File { file, position });
+                Ok(())
+            }
+            Err(_) => Err(NoMemory),
+        }
+    }
+}
