@@ -1,5 +1,5 @@
 -- Descriptors of a process are closed one after the other.
-use Rattle.std.proofs.Common.{◌≡◌, ℕ, suc, ◌+◌, ◌<◌, length, drop, List, [], Option, Some, None, refl, sym, ap, ◌∙◌, add-one, ap₂}
+use Rattle.std.proofs.Common.{◌≡◌, ℕ, zero, suc, ◌+◌, ◌<◌, length, drop, List, [], ◌∷◌, Option, Some, None, refl, sym, ap, ◌∙◌, add-one, ap₂, arith}
 use Rattle.std.proofs.Math.Seq.{drop-length}
 use Rattle.std.specs.Prelude.{option_and_then, option_map, unwrap_or}
 use Rattle.parts_model.specs.Numbered.{nth}
@@ -8,7 +8,16 @@ use Rattle.arn_model.specs.Kernel.{Kernel, all_dropped, description_of, descript
 use Rattle.guest_bodies.specs.Shown.{Guests}
 use Rattle.guest_calls.specs.Opened.{dropped_if}
 use Rattle.guest_calls.specs.State.{State}
-use Rattle.guest_calls.proofs.Opens.{next-dropped}
+
+-- one after the other is dropped
+first-dropped : (o : Option ℕ) (ns : List (Option ℕ)) (k : Kernel) → all_dropped (o ∷ ns) k ≡ all_dropped ns (dropped_if o k)
+first-dropped None ns k = refl
+first-dropped (Some n) ns k = refl
+
+next-dropped : (ns : List (Option ℕ)) (i : ℕ) (k : Kernel) → i < length ns → all_dropped (drop i ns) k ≡ all_dropped (drop (suc i) ns) (dropped_if (nth ns i) k)
+next-dropped [] i k within = absurd (omega arith)
+next-dropped (o ∷ ns) zero k within = first-dropped o ns k
+next-dropped (o ∷ ns) (suc i) k within = next-dropped ns i k (omega arith)
 
 -- those of the first descriptors have been dropped
 pub record IsClosing (pid count : ℕ) (old new : State) : Type 0 where

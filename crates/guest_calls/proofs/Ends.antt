@@ -9,10 +9,10 @@ use Rattle.guest_calls.specs.Kept.{IsFull}
 use Rattle.guest_calls.proofs.Numbers.{nth-set_other, nth-set_own, nth-then, nth-within}
 
 -- the process, if it lives
-abbrev if_live : Option Process → Option Process
+abbrev pub if_live : Option Process → Option Process
 if_live x = option_and_then (λ p. if is_live p then Some p else None) x
 
-with_process-other : (all : Processes) (pid : ℕ) (x : Option Process) (q : ℕ) → q ≢ pid → process (with_process all pid x) q ≡ process all q
+pub with_process-other : (all : Processes) (pid : ℕ) (x : Option Process) (q : ℕ) → q ≢ pid → process (with_process all pid x) q ≡ process all q
 with_process-other all zero x q other = refl
 with_process-other all (suc i) x zero other = refl
 with_process-other all (suc i) x (suc j) other = nth-set_other all i x j (λ (e : j ≡ i). other (ap (λ (k : ℕ). suc k) e))

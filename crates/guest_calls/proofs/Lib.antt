@@ -4,8 +4,10 @@ pub mod Runs
 pub mod Closing
 pub mod Ends
 pub mod Numbers
-pub mod Opens
+pub mod Room
+pub mod Carries
+pub mod Filed
+pub mod Opening
 pub mod Pieces
-pub mod Queues
 pub mod Stands
 pub mod Watches

@@ -34,9 +34,9 @@ body-acted k pid act new follows keeps =
       events = refl;
     }
 
-pub body-sound : (k : Inside) (new : Guests) → IsKept k → KeepsWatches k.bodies new → IsSound new k.procs k.files k.descriptions k.booted
+pub body-sound : (k : Inside) (new : Guests) → IsKept k → KeepsWatches k.bodies new → IsSound new k.procs k.resources.files k.resources.descriptions k.booted
 body-sound k new kept keeps =
-    record { made = kept.made; alive = λ p. live-same k.bodies new p (keeps.kept p) ∙ kept.alive p; full = kept.full; before = kept.before; closed = kept.closed; consoles = kept.consoles }
+    record { made = kept.made; alive = λ p. live-same k.bodies new p (keeps.kept p) ∙ kept.alive p; full = kept.full; before = kept.before; closed = kept.closed }
 
 -- a process has ended
 module _ (k : Inside) (pid status : ℕ) (procs : Processes) (new : Guests) (is : procs ≡ table.ended k.procs pid (status_at k.events status)) (sets : SetsWatch pid None k.bodies new) where
@@ -56,7 +56,7 @@ module _ (k : Inside) (pid status : ℕ) (procs : Processes) (new : Guests) (is 
       subst (λ (i : ℕ). IfSome (process (table.ended k.procs pid (status_at k.events status)) i) IsFull) (sym (eqb-true q pid e)) (full-own k.procs pid (status_at k.events status))
   full_number q false e kept = full-other k.procs pid (status_at k.events status) q (eqb-false q pid e) (kept.full q)
 
-  pub ended-sound : IsKept k → IsSound new procs k.files k.descriptions k.booted
+  pub ended-sound : IsKept k → IsSound new procs k.resources.files k.resources.descriptions k.booted
   ended-sound kept =
       record {
         made = kept.made ∙ ap (nat_lt 0) (sym longer);
@@ -64,7 +64,6 @@ module _ (k : Inside) (pid status : ℕ) (procs : Processes) (new : Guests) (is 
         full = λ q. subst (λ (x : Processes). IfSome (process x q) IsFull) (sym is) (full_number q (q == pid) refl kept);
         before = kept.before;
         closed = kept.closed;
-        consoles = kept.consoles;
       }
 
   kernel-ended : record (state_of k).kernel { processes = procs; handling = handlings (length procs) new } ≡ record (state_of k).kernel { processes = table.ended k.procs pid (status_at k.events status); handling = with_nth_from_one (handlings (length k.procs) k.bodies) pid None }
@@ -114,14 +113,13 @@ module _ (k : Inside) (pid signal handler : ℕ) (cut : Bool) (mid new : Guests)
   alive-mid q true e = subst (λ (i : ℕ). is_some (watch_in mid i) ≡ is_some (watch_in k.bodies i)) (sym (eqb-true q pid e)) (ap is_some rewatched.own ∙ watched-same (watch_in k.bodies pid))
   alive-mid q false e = ap is_some (rewatched.kept q (eqb-false q pid e))
 
-  pub entered-sound : IsSound new k.procs k.files k.descriptions k.booted
+  pub entered-sound : IsSound new k.procs k.resources.files k.resources.descriptions k.booted
   entered-sound =
       record {
         made = kept.made;
         full = kept.full;
         before = kept.before;
         closed = kept.closed;
-        consoles = kept.consoles;
         alive = λ q. live-watch new q ∙ (ap is_some (keeps.kept q) ∙ (alive-mid q (q == pid) refl ∙ (sym (live-watch k.bodies q) ∙ kept.alive q)));
       }
 

@@ -1,15 +1,20 @@
 -- What the calls that are built come to.
-use Rattle.std.proofs.Common.{◌≡◌, ◌≢◌, ℕ, ◌==◌, Bool, true, false, ◌||◌, None, Some, IfSome, refl, sym, ap, ap₂, ◌∙◌, subst, ne_eqb, true≢false}
-use Rattle.std.specs.Prelude.{Result, Err, IsErrOf, IsTrue, if◌then◌else◌}
+use Rattle.std.proofs.Common.{◌≡◌, ◌≢◌, ℕ, ◌+◌, ◌==◌, Bool, true, false, cond, ◌||◌, List, [], ◌∷◌, length, take, None, Some, IfSome, refl, sym, ap, ap₂, ◌∙◌, subst, ne_eqb, true≢false}
+use Rattle.std.specs.Prelude.{Result, Err, IsErrAnd, IsErrOf, IsTrue, if◌then◌else◌, unwrap_or}
 use Rattle.std.proofs.lemmas.Bool.{eqb-true, eqb-false}
-use Rattle.parts_model.specs.declared.refusals.TheConstants.{NO_SUCH_CALL}
+use Rattle.parts_model.specs.declared.limits.TheConstants.{MOST_FILE_BYTES}
+use Rattle.parts_model.specs.declared.open.Description.TheVariants.{File}
+use Rattle.parts_model.specs.declared.refusals.TheConstants.{NO_ROOM, NO_SUCH_CALL}
+use Rattle.parts_model.specs.declared.tagged.TaggedByte.{TaggedByte}
+use Rattle.parts_model.specs.Files.{file_bytes, fitting, read_from}
 use Rattle.acts_model.specs.Bodies.{View, seen}
-use Rattle.acts_model.specs.Views.{call_number}
-use Rattle.arn_model.specs.Doing.{Request, refused}
-use Rattle.arn_model.specs.Kernel.{Machine}
+use Rattle.acts_model.specs.Moved.{KernelByte, FileByte}
+use Rattle.acts_model.specs.Views.{call_number, read}
+use Rattle.arn_model.specs.Doing.{Request, Does, refused}
+use Rattle.arn_model.specs.Kernel.{Kernel, Machine, with_description}
 use Rattle.arn_model.specs.ProcessCalls.{exit_row}
 use Rattle.arn_model.specs.Row.{row, is_built, request, is_waiting, does}
-use Rattle.arn_model.specs.TransferCalls.{read_row, write_row}
+use Rattle.arn_model.specs.TransferCalls.{put_into_file, read_row, received, write_row}
 use Rattle.guest_bodies.specs.Shown.{seen_in}
 use Rattle.guest_calls.specs.Acted.{Carried}
 use Rattle.guest_devices.specs.Answers as devices
@@ -20,6 +25,7 @@ use Rattle.guest_calls.specs.State.{State, StandsFor}
 use Rattle.guest_calls.specs.Transfers.{IsReading, IsWriting}
 use Rattle.guest_calls.specs.declared.outcomes.CallStop.{CallStop}
 use Rattle.guest_calls.specs.declared.outcomes.CallStop.TheVariants as stop
+use Rattle.guest_calls.specs.declared.transfers.Place.{Place}
 use Rattle.guest_calls.specs.declared.transfers.Reading.{Reading}
 use Rattle.guest_calls.specs.declared.transfers.Reading.TheVariants as reading
 use Rattle.guest_calls.specs.declared.transfers.Writing.{Writing}
@@ -29,6 +35,15 @@ use Rattle.guest_calls.proofs.Stands.{at-seen}
 -- the number of the call of a process that a machine knows
 pub called : (s : State) (pid number n : ℕ) (m : Machine) (v : View) → StandsFor s m → seen m.bodies pid ≡ Some v → IfSome (seen_in s.guests pid) (λ w. number ≡ call_number w.body.cpu) → number ≡ n → call_number v.body.cpu ≡ n
 called s pid number n m v stands sees told is = sym (at-seen (seen_in s.guests pid) v (λ (w : View). number ≡ call_number w.body.cpu) (stands.seen pid ∙ sees) told) ∙ is
+
+-- a transfer from or to a file never waits
+received-ready : (m : Machine) (at : ℕ) (first : KernelByte) (held : List TaggedByte) (k : Kernel) → is_waiting (received m at first held k) ≡ false
+received-ready m at first [] k = refl
+received-ready m at first (b ∷ held) k = refl
+
+put-ready : (m : Machine) (at : ℕ) (bytes : List ℕ) (place : Place) (b : Bool) → is_waiting (cond b (refused NO_ROOM m.kernel) (Does (put_into_file m place.number at place.file place.position (take (fitting place.position (length bytes)) bytes)))) ≡ false
+put-ready m at bytes place true = refl
+put-ready m at bytes place false = refl
 
 module _ (m : Machine) (pid : ℕ) (v : View) where
   pub request-exit : call_number v.body.cpu ≡ 1 → request m pid v ≡ exit_row m pid v
@@ -66,6 +81,11 @@ module _ (m : Machine) (pid : ℕ) (v : View) where
   reading-ready reading.Waits ready comes = absurd (ready refl)
   reading-ready (reading.Answers answer) ready comes = sym (ap is_waiting comes)
   reading-ready (reading.Takes at count) ready comes = sym (ap is_waiting comes)
+  reading-ready (reading.Reads at most place) ready comes =
+      sym (ap is_waiting comes ∙ received-ready m at (FileByte place.file place.position) (read_from (unwrap_or (file_bytes m.kernel.files place.file) []) place.position most) (with_description place.number (File place.file (place.position + length (read_from (unwrap_or (file_bytes m.kernel.files place.file) []) place.position most))) m.kernel))
+
+  pub reads-ready : (r : Reading) (at most : ℕ) (place : Place) → r ≡ reading.Reads at most place → IsReading r m (read_row m pid v) → is_waiting (read_row m pid v) ≡ false
+  reads-ready r at most place is comes = sym (reading-ready (reading.Reads at most place) (λ e. cc) (subst (λ (x : Reading). IsReading x m (read_row m pid v)) is comes))
 
   pub writing-waits : (r : Writing) → r ≡ writing.Waits → IsWriting r m v (write_row m pid v) → true ≡ is_waiting (write_row m pid v)
   writing-waits r is comes = sym (ap is_waiting (subst (λ (x : Writing). IsWriting x m v (write_row m pid v)) is comes))
@@ -74,11 +94,16 @@ module _ (m : Machine) (pid : ℕ) (v : View) where
   writing-ready writing.Waits ready comes = absurd (ready refl)
   writing-ready (writing.Answers answer) ready comes = sym (ap is_waiting comes)
   writing-ready (writing.Prints at count) ready comes = sym (ap is_waiting comes)
+  writing-ready (writing.Puts at count place) ready comes = sym (ap is_waiting comes ∙ put-ready m at (read v at count) place (place.position == MOST_FILE_BYTES))
 
 -- a call that has ended didn't wait
 pub ended-ready : {T : Type 0} (r : Result T CallStop) (b : Bool) → (r ≡ Err stop.NotReady → ⊥) → b ≡ false → (IsErrOf r stop.NotReady → IsTrue b) × (IsTrue b → IsErrOf r stop.NotReady)
 ended-ready r true ended is = absurd (true≢false is)
 ended-ready r false ended is = (λ e. absurd (ended e), λ w. absurd (true≢false (sym w)))
+
+-- another error than that
+pub errs-otherwise : {T : Type 0} (r : Result T CallStop) (P : CallStop → Type 0) → IsErrAnd r P → (P stop.NotReady → ⊥) → r ≡ Err stop.NotReady → ⊥
+errs-otherwise {T = T} r P errs isnt is = isnt (subst (λ (x : Result T CallStop). IsErrAnd x P) is errs)
 
 -- a call that asks no device has been carried out
 pub performed : {A : Type 0} (answers : A → devices.Asked → Answered → A → Type 0) (asked : A) (done : Done) (m : Machine) (pid : ℕ) (v : View) (new : State) → Carried (request m pid v) done m pid v new → Performed answers asked asked done m pid v new

@@ -6,7 +6,7 @@ use Rattle.arn_base.specs.declared.records.Record.TheVariants as entry
 use Rattle.parts_model.specs.Numbered.{nth}
 use Rattle.parts_model.specs.Signals as signals
 use Rattle.parts_model.specs.Signals.{due, handler_of}
-use Rattle.rv64_model.specs.Instruction.{Effect}
+use Rattle.rv64_model.specs.Instruction.{Effect, Call}
 use Rattle.rv64_core.specs.Outcome.{Tells, OnStop}
 use Rattle.rv64_core.specs.declared.outcome.Outcome.{Outcome}
 use Rattle.rv64_core.specs.declared.outcome.Outcome.TheVariants as outcome
@@ -47,6 +47,14 @@ module _ (k : Inside) (pid : ℕ) (new : Guests) (keeps : KeepsWatches k.bodies 
   ran-steps result ran stop some v sees =
       subst (λ (w : View). Stepped result (machine_with b (state_of k)) pid w (stands_at w) (state_of k) (state_of (record k { bodies = new }))) (same_Some ran.before v (sym ran.stood ∙ sees))
       (by_outcome result ran (stands_at ran.before) refl ran.tells stop some)
+
+-- who stood at a call stands there still
+pub stands-at-call : (result : Outcome) (pid : ℕ) (old new : Guests) → Ran result pid old new → OnStop result (new ≡ old) → result ≡ outcome.Call → IfSome (seen_in new pid) (λ v. stands_at v ≡ Call)
+stands-at-call outcome.Next pid old new ran stop is = cc
+stands-at-call outcome.Call pid old new ran stop is =
+    subst (λ (o : Option View). IfSome o (λ v. stands_at v ≡ Call)) (sym (ap (λ (g : Guests). seen_in g pid) stop ∙ ran.stood)) ran.tells
+stands-at-call (outcome.End status) pid old new ran stop is = cc
+stands-at-call outcome.NoMemory pid old new ran stop is = cc
 
 -- the due signal, and the handler of a signal, as the machine has them
 due-shown : (o : Option Shown) (v : View) (found : Option ℕ) → is_some o ≡ true → option_map (λ (s : Shown). s.view) o ≡ Some v → IfSome (option_map signals_of o) (λ s. found ≡ signals.due_signal s) → found ≡ due_in (option_map handling (option_map (λ (s : Shown). s.watch) o)) v

@@ -1,8 +1,6 @@
 -- A kernel as it is kept, and what is shown of it.
 use Rattle.std.specs.Prelude.{◌≡◌, ◌≤◌, ◌+◌, ℕ, zero, suc, nat_lt, Bool, false, List, [], ◌∷◌, length, Option, IfSome, is_some, option_map}
 use Rattle.parts_model.specs.declared.limits.TheConstants.{MOST_DESCRIPTORS, MOST_FILES}
-use Rattle.parts_model.specs.declared.open.Description.{Description}
-use Rattle.parts_model.specs.declared.open.Description.TheVariants.{Console, File, Reader, Writer, Connection, Listener, Device}
 use Rattle.parts_model.specs.Files.{Files}
 use Rattle.parts_model.specs.Numbered.{nth, how_many}
 use Rattle.parts_model.specs.Processes.{Process, Processes, process, live_process}
@@ -34,27 +32,13 @@ state_of k =
             handling = handlings (length k.procs) k.bodies;
             console = k.console;
             pipes = [];
-            files = k.files;
-            descriptions = k.descriptions;
+            files = k.resources.files;
+            descriptions = k.resources.descriptions;
             ports = [];
             unplugged = [];
           };
       events = k.events;
     }
-
--- what can be open as long as no call opens anything: the console
-abbrev pub IsConsole : Description → Type 0
-IsConsole Console = Unit {0}
-IsConsole (File file position) = ⊥
-IsConsole (Reader pipe) = ⊥
-IsConsole (Writer pipe) = ⊥
-IsConsole (Connection reads writes) = ⊥
-IsConsole (Listener port) = ⊥
-IsConsole (Device device) = ⊥
-
-abbrev pub AreConsoles : List (Option Opened) → Type 0
-AreConsoles [] = Unit {0}
-AreConsoles (o ∷ descriptions) = IfSome o (λ d. IsConsole d.what) × AreConsoles descriptions
 
 -- a process has all its descriptors, open or not
 abbrev pub IsFull : Process → Type 0
@@ -72,7 +56,6 @@ pub record IsSound (guests : Guests) (processes : Processes) (files : Files) (de
   pub full : (p : ℕ) → IfSome (process processes p) IsFull
   pub before : booted ≡ false → AreFew files
   pub closed : booted ≡ false → descriptions ≡ []
-  pub consoles : AreConsoles descriptions
 
 abbrev pub IsKept : Inside → Type 0
-IsKept k = IsSound k.bodies k.procs k.files k.descriptions k.booted
+IsKept k = IsSound k.bodies k.procs k.resources.files k.resources.descriptions k.booted

@@ -1,11 +1,10 @@
 pub mod State
 pub mod Opened
-pub mod Queue
 pub mod Kept
 pub mod Acted
+pub mod Files
 pub mod Transfers
 pub mod Steps
 pub mod Fits
 pub mod Standing
 pub mod Starts
-pub mod Boots

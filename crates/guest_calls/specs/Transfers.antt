@@ -1,13 +1,17 @@
 -- What a call that moves bytes comes to.
-use Rattle.std.specs.Prelude.{◌≡◌, ◌≤◌, ℕ, length, Result, Ok, Err, IsSome}
+use Rattle.std.specs.Prelude.{◌≡◌, ◌≤◌, ℕ, List, [], length, Result, Ok, Err, IfSome, IsSome, IsTrue, unwrap_or}
 use Rattle.parts_model.specs.declared.limits.TheConstants.{MOST_TRANSFER}
 use Rattle.parts_model.specs.Channel.{front, without_front}
+use Rattle.parts_model.specs.Files.{file_bytes, read_from}
+use Rattle.parts_model.specs.Numbered.{nth}
 use Rattle.acts_model.specs.Bodies.{View}
 use Rattle.acts_model.specs.Moved.{ConsoleByte}
 use Rattle.acts_model.specs.Views.{argument, bytes_in, read}
 use Rattle.arn_model.specs.Doing.{Request, Waits, Does, returns}
-use Rattle.arn_model.specs.Kernel.{Machine}
-use Rattle.arn_model.specs.TransferCalls.{cut, if_moving, read_console, receiving, write_console}
+use Rattle.arn_model.specs.Kernel.{Kernel, Machine, what_is}
+use Rattle.arn_model.specs.TransferCalls.{cut, if_moving, read_console, read_file, read_what, receiving, write_console, write_file, write_what}
+use Rattle.guest_resources.specs.Resources.{IsIn, is_of}
+use Rattle.guest_calls.specs.declared.transfers.Place.{Place}
 use Rattle.guest_calls.specs.declared.transfers.Reading.{Reading}
 use Rattle.guest_calls.specs.declared.transfers.Reading.TheVariants as reading
 use Rattle.guest_calls.specs.declared.transfers.Writing.{Writing}
@@ -24,29 +28,47 @@ taking m at count =
     let held = front m.kernel.console count in
     Does (receiving at (ConsoleByte m.kernel.console.taken) held (record m.kernel { console = without_front m.kernel.console (length held) }))
 
+-- a description's place is this, in a file that is there
+pub record IsOpenAt (k : Kernel) (place : Place) : Type 0 where
+  pub within : IsIn (nth k.files.all place.file) place.position
+  pub own : IfSome (nth k.descriptions place.number) (λ o. IsTrue (is_of place.file o.what))
+
+-- a read of so many bytes behind it, at most
+abbrev pub reading_at : Machine → ℕ → ℕ → Place → Request
+reading_at m at most place =
+    read_file m place.number at place.file place.position (read_from (unwrap_or (file_bytes m.kernel.files place.file) []) place.position most)
+
+-- a write of bytes behind it
+abbrev pub writing_at : Machine → ℕ → List ℕ → Place → Request
+writing_at m at bytes place = write_file m place.number at place.file place.position bytes
+
 -- what a read comes to
 abbrev pub IsReading : Reading → Machine → Request → Type 0
 IsReading (reading.Answers answer) m request = request ≡ returns answer m.kernel
 IsReading reading.Waits m request = request ≡ Waits
 IsReading (reading.Takes at count) m request = request ≡ taking m at count
+IsReading (reading.Reads at most place) m request = request ≡ reading_at m at most place
 
--- so many bytes wait in the console's queue, and no more are moved than may be
-abbrev pub CanTake : Reading → ℕ → Type 0
-CanTake (reading.Answers answer) queued = Unit {0}
-CanTake reading.Waits queued = Unit {0}
-CanTake (reading.Takes at count) queued = (count ≤ queued) × (count ≤ MOST_TRANSFER)
+-- so many bytes wait in the console's queue, the place is there, and no more are moved than may be
+abbrev pub CanTake : Reading → Kernel → Type 0
+CanTake (reading.Answers answer) k = Unit {0}
+CanTake reading.Waits k = Unit {0}
+CanTake (reading.Takes at count) k = (count ≤ length k.console.queue) × (count ≤ MOST_TRANSFER)
+CanTake (reading.Reads at most place) k = IsOpenAt k place × (most ≤ MOST_TRANSFER)
 
 -- what a write comes to
 abbrev pub IsWriting : Writing → Machine → View → Request → Type 0
 IsWriting (writing.Answers answer) m v request = request ≡ returns answer m.kernel
 IsWriting writing.Waits m v request = request ≡ Waits
 IsWriting (writing.Prints at count) m v request = request ≡ write_console m at (read v at count)
+IsWriting (writing.Puts at count place) m v request = request ≡ writing_at m at (read v at count) place
 
--- the bytes are there, and no more are moved than may be
-abbrev pub CanPrint : Writing → View → Type 0
-CanPrint (writing.Answers answer) v = Unit {0}
-CanPrint writing.Waits v = Unit {0}
-CanPrint (writing.Prints at count) v = IsSome (bytes_in v at count) × (count ≤ MOST_TRANSFER)
+-- the bytes and the place are there, and no more are moved than may be
+abbrev pub CanPrint : Writing → Kernel → View → Type 0
+CanPrint (writing.Answers answer) k v = Unit {0}
+CanPrint writing.Waits k v = Unit {0}
+CanPrint (writing.Prints at count) k v = IsSome (bytes_in v at count) × (count ≤ MOST_TRANSFER)
+CanPrint (writing.Puts at count place) k v = IsOpenAt k place × IsSome (bytes_in v at count) × (count ≤ MOST_TRANSFER)
 
 -- a read from the console
 abbrev pub console_read : Machine → View → Request
@@ -61,3 +83,25 @@ console_write m v =
     let count = argument v.body.cpu 2 in
     let at = argument v.body.cpu 1 in
     if_moving m v at count (write_console m at (read v at (cut count)))
+
+-- a read from a file
+abbrev pub file_read : Machine → View → Place → Request
+file_read m v place =
+    let count = argument v.body.cpu 2 in
+    let at = argument v.body.cpu 1 in
+    if_moving m v at count (reading_at m at (cut count) place)
+
+-- a write to one
+abbrev pub file_write : Machine → View → Place → Request
+file_write m v place =
+    let count = argument v.body.cpu 2 in
+    let at = argument v.body.cpu 1 in
+    if_moving m v at count (writing_at m at (read v at (cut count)) place)
+
+-- a read from a description of this number
+abbrev pub number_read : Machine → View → ℕ → Request
+number_read m v n = read_what m v n (argument v.body.cpu 1) (argument v.body.cpu 2) (what_is m.kernel n)
+
+-- a write to it
+abbrev pub number_write : Machine → View → ℕ → Request
+number_write m v n = write_what m v n (argument v.body.cpu 1) (argument v.body.cpu 2) (what_is m.kernel n)

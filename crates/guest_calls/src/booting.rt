@@ -5,20 +5,15 @@ ghost use Rattle.parts_model.specs.Files.{file_bytes, find_file};
 ghost use Rattle.parts_model.specs.Image.{is_image};
 ghost use Rattle.parts_model.specs.Tagged.{given};
 ghost use Rattle.guest_files.specs.Table.{IsThere};
-ghost use Rattle.guest_calls.specs.Boots.{first_descriptions, first_processes};
-ghost use Rattle.guest_calls.specs.Starts.{Begins, BootedFrom, HasNoImage};
+ghost use Rattle.guest_calls.specs.Starts.{Begins, BootedFrom, HasNoImage, first_processes};
 
-use crate::descriptions::Descriptions;
 use crate::kernel::Kernel;
 use crate::outcomes::BootError;
 use arn_base::{Give, NoMemory};
 use guest_image::parse;
 use guest_procs::{ProcError, Procs};
-use parts_model::Description;
+use guest_resources::Descriptions;
 use std::alloc::Global;
-
-/// How many descriptors process 1 has open.
-const FIRST_DESCRIPTORS: u32 = 3;
 
 // The table of process 1, whose descriptors stand for description 0.
 fn first_processes(alloc: Global) -> Result<Procs, ProcError>
@@ -30,15 +25,6 @@ fn first_processes(alloc: Global) -> Result<Procs, ProcError>
     procs.place(1, 0)?;
     procs.place(1, 0)?;
     Ok(procs)
-}
-
-// The console, as process 1 has it open.
-fn first_descriptions(alloc: Global) -> Result<Descriptions, NoMemory>
-    ensures { IfOk result (λ descriptions. descriptions ≡ first_descriptions) }
-{
-    let mut descriptions = Descriptions::new(alloc);
-    descriptions.open(Description::Console, FIRST_DESCRIPTORS)?;
-    Ok(descriptions)
 }
 
 // Whether bytes are an image.
@@ -57,7 +43,7 @@ impl Kernel {
         ensures few_bytes { IfOk result (λ give. length give.bytes ≤ MOST_FILE_BYTES) }
         ensures few_origins { IfOk result (λ give. length give.origins ≤ MOST_FILE_BYTES) }
     {
-        self.files.read_at(file, 0, self.files.length(file))
+        self.resources.read_all(file)
     }
 
     // The file of a name.
@@ -65,7 +51,7 @@ impl Kernel {
         ensures found { result ≡ find_file self.now.kernel.files name.now }
         ensures there { IfSome result (IsThere self.now.kernel.files) }
     {
-        self.files.find(name)
+        self.resources.find_file(name)
     }
 
     // Process 1 begins with an image.
@@ -76,14 +62,14 @@ impl Kernel {
         ensures begun { OnOk result (Begins image.now self.old self.new) }
         ensures err { OnErr result (self.new ≡ self.old) }
     {
-        let descriptions = first_descriptions(self.alloc)?;
+        let descriptions = Descriptions::first(self.alloc)?;
         let procs = match first_processes(self.alloc) {
             Ok(procs) => procs,
             Err(_) => return Err(NoMemory),
         };
         self.bodies.boots(self.events, image)?;
         self.procs = procs;
-        self.descriptions = descriptions;
+        self.resources.begin(descriptions);
         self.booted = true;
         self.events += 1;
         Ok(())

@@ -7,12 +7,11 @@ ghost use Rattle.arn_model.specs.Run.{file_step, typed_step};
 ghost use Rattle.guest_bodies.specs.Shown.{IsLive};
 ghost use Rattle.guest_calls.specs.State.{Becomes, IsNext, state_first};
 
-use crate::console::Console;
-use crate::descriptions::Descriptions;
 use arn_base::NoMemory;
 use guest_bodies::Bodies;
-use guest_files::{FileError, Files};
+use guest_files::FileError;
 use guest_procs::Procs;
+use guest_resources::{Console, Resources};
 use std::alloc::Global;
 use std::marker::Model;
 
@@ -23,8 +22,7 @@ pub struct Kernel {
     pub(crate) alloc: Global,
     pub(crate) bodies: Bodies,
     pub(crate) procs: Procs,
-    pub(crate) files: Files,
-    pub(crate) descriptions: Descriptions,
+    pub(crate) resources: Resources,
     pub(crate) console: Console,
     pub(crate) booted: bool,
     pub(crate) events: u64,
@@ -51,8 +49,7 @@ impl Kernel {
             alloc,
             bodies: Bodies::new(alloc),
             procs: Procs::new(alloc),
-            files: Files::new(alloc),
-            descriptions: Descriptions::new(alloc),
+            resources: Resources::new(alloc),
             console: Console::new(alloc),
             booted: false,
             events: 0,
@@ -106,7 +103,7 @@ impl Kernel {
         ensures answers { IfErr result (λ error. error ≢ FileError.NoFile) }
         ensures err { OnErr result (self.new ≡ self.old) }
     {
-        self.files.create_with(name, bytes, event)?;
+        self.resources.add_file(name, bytes, event)?;
         self.events += 1;
         Ok(())
     }

@@ -1,18 +1,19 @@
 //! The kernel: it decides what the calls of processes do, and does it.
 //!
-//! It knows processes by their numbers, what their descriptors stand for, files, and the console's
-//! queue. What a call does to registers and memories is `guest_bodies`'s.
+//! It knows processes by their numbers, what their descriptors stand for, and the console's queue. What a call does to registers and memories is `guest_bodies`'s.
 #![tactic(auto)]
 
 mod booting;
 mod calls;
-mod console;
-mod descriptions;
+mod descriptors;
+mod files;
 mod kernel;
 mod outcomes;
 mod parts;
 mod processes;
 mod running;
+#[cfg(test)]
+mod tests;
 mod transfers;
 
 pub use kernel::Kernel;

@@ -1,24 +1,19 @@
 // What the calls are made of.
-ghost use Rattle.std.specs.Prelude.{◌≡◌, ℕ, ◌+◌, ◌<◌, ◌^◌, IfSome, length};
-ghost use Rattle.parts_model.specs.declared.limits.TheConstants.{MOST_DESCRIPTORS};
+ghost use Rattle.std.specs.Prelude.{◌≡◌, ℕ, ◌+◌, ◌<◌, ◌^◌, IfSome};
 ghost use Rattle.parts_model.specs.Signals.{due_signal};
 ghost use Rattle.acts_model.specs.Acts.{Act, Delivers};
 ghost use Rattle.acts_model.specs.Views.{argument, call_number, error as error_of};
 ghost use Rattle.arn_model.specs.Doing.{returns};
-ghost use Rattle.arn_model.specs.Kernel.{all_dropped, description_of, descriptors_of, dropped, ended, opened, status_at, what_is};
+ghost use Rattle.arn_model.specs.Kernel.{ended, status_at};
 ghost use Rattle.arn_model.specs.Step.{without_signal};
 ghost use Rattle.guest_bodies.specs.Follows.{IsEnd, IsResult};
 ghost use Rattle.guest_bodies.specs.Shown.{IsLive, seen_in, signals_in};
 ghost use Rattle.guest_calls.specs.Acted.{Acted, Carried};
-ghost use Rattle.guest_calls.specs.Kept.{IsConsole};
-ghost use Rattle.guest_calls.specs.Opened.{dropped_if};
 ghost use Rattle.guest_calls.specs.State.{OfProcess};
 
 use crate::kernel::Kernel;
 use crate::outcomes::Done;
 use arn_base::Extra;
-use parts_model::Description;
-use parts_model::limits::MOST_DESCRIPTORS;
 
 /// An error as a call's result.
 pub(crate) fn error(number: u64) -> u64
@@ -26,16 +21,6 @@ pub(crate) fn error(number: u64) -> u64
     ensures { result ≡ error_of number }
 {
     0u64.wrapping_sub(number)
-}
-
-// What ends with the last descriptor of a description: with the console's, nothing.
-fn close(what: &Description)
-    requires { IsConsole what.now }
-{
-    match what {
-        Description::Console => {}
-        _ => unreachable!(),
-    }
 }
 
 impl Kernel {
@@ -54,31 +39,6 @@ impl Kernel {
         ensures { IfSome (seen_in self.now.guests pid) (λ v. result ≡ argument v.body.cpu place) }
     {
         self.bodies.cpu(pid).x[9 + place]
-    }
-
-    /// The description for which a descriptor of a process stands, if it is open.
-    pub(crate) fn description_of(&self, pid: u32, descriptor: u64) -> Option<u32>
-        requires { IsLive self.now.guests pid }
-        ensures { result ≡ description_of self.now.kernel pid descriptor }
-    {
-        self.procs.descriptor(pid, descriptor)
-    }
-
-    /// What a description is, if it is there.
-    fn what_is(&self, number: u32) -> Option<Description>
-        ensures what { result ≡ what_is self.now.kernel number }
-        ensures console { IfSome result IsConsole }
-    {
-        self.descriptions.find(number)
-    }
-
-    /// What a descriptor of a process stands for, if it is open.
-    pub(crate) fn opened(&self, pid: u32, descriptor: u64) -> Option<Description>
-        requires { IsLive self.now.guests pid }
-        ensures opened { result ≡ opened self.now.kernel pid descriptor }
-        ensures console { IfSome result IsConsole }
-    {
-        self.what_is(self.description_of(pid, descriptor)?)
     }
 
     /// A call of a process that moves no bytes to it ends with a result.
@@ -104,50 +64,6 @@ impl Kernel {
         Done {
             result: answer,
             extra: Extra::Nothing,
-        }
-    }
-
-    // One descriptor fewer stands for a description.
-    fn drop_description(&mut self, number: u32)
-        ensures dropped { self.new ≡ record self.old { kernel = dropped number self.old.kernel } }
-        ensures processes { self.new.kernel.processes ≡ self.old.kernel.processes }
-    {
-        if let Some(what) = self.descriptions.drop_one(number) {
-            close(&what);
-        }
-    }
-
-    // Each process has all its descriptors, open or not.
-    fn count_descriptors(&self, pid: u32)
-        requires { IsLive self.now.guests pid }
-        ensures { length (descriptors_of self.now.kernel pid) ≡ MOST_DESCRIPTORS }
-    {
-        let _ = &self.procs;
-    }
-
-    // What a descriptor of a process stands for has one descriptor fewer. The descriptor stays.
-    fn close_descriptor(&mut self, pid: u32, descriptor: u64)
-        requires { IsLive self.old.guests pid }
-        ensures closed { self.new ≡ record self.old {
-          kernel = dropped_if (description_of self.old.kernel pid descriptor) self.old.kernel;
-        } }
-        ensures processes { self.new.kernel.processes ≡ self.old.kernel.processes }
-    {
-        if let Some(number) = self.description_of(pid, descriptor) {
-            self.drop_description(number);
-        }
-    }
-
-    // All that a process has open is closed. Its descriptors stay.
-    fn close_all(&mut self, pid: u32)
-        requires { IsLive self.old.guests pid }
-        ensures { self.new ≡ record self.old {
-          kernel = all_dropped (descriptors_of self.old.kernel pid) self.old.kernel;
-        } }
-    {
-        self.count_descriptors(pid);
-        for descriptor in 0..MOST_DESCRIPTORS {
-            self.close_descriptor(pid, descriptor);
         }
     }
 

@@ -2,6 +2,7 @@
 ghost use Rattle.std.specs.Prelude.{◌≡◌, ◌≢◌, ◌+◌, IfSome, IsTrue, Some, length};
 ghost use Rattle.parts_model.specs.Signals.{is_signal};
 ghost use Rattle.acts_model.specs.Views.{stands_at};
+ghost use Rattle.rv64_model.specs.Instruction.{Call};
 ghost use Rattle.arn_model.specs.Step.{delivery_step, fault_step, waits};
 ghost use Rattle.arn_model.specs.Turn.{can_go_on};
 ghost use Rattle.guest_bodies.specs.Shown.{IsLive, seen_in};
@@ -56,6 +57,8 @@ impl Kernel {
         ensures tick { steps.new ≡ steps.old + 1 }
         ensures stepped { OfProcess self.old pid (λ m v.
             Stepped result m pid v (stands_at v) self.old self.new) }
+        ensures at_call { result ≡ Outcome.Call →
+            IfSome (seen_in self.new.guests pid) (λ v. stands_at v ≡ Call) }
         ensures memory { result ≢ Outcome.NoMemory }
         ensures alive { IsLive self.new.guests pid }
     {

@@ -1,5 +1,5 @@
 // The calls that move bytes: read and write.
-ghost use Rattle.std.specs.Prelude.{◌≡◌, ◌+◌, ◌<◌, ◌≤◌, ◌^◌, ◌↔◌, IfOk, IfSome, IsErrOf, IsSome, IsTrue, OnErr, length};
+ghost use Rattle.std.specs.Prelude.{◌≡◌, ◌+◌, ◌<◌, ◌≤◌, ◌^◌, ◌↔◌, IfOk, IfSome, IsErrOf, IsSome, IsTrue, OnErr, length, take};
 ghost use Rattle.parts_model.specs.declared.limits.TheConstants.{MOST_TRANSFER};
 ghost use Rattle.acts_model.specs.Views.{bytes_in, read};
 ghost use Rattle.arn_model.specs.Doing.{Request};
@@ -9,7 +9,7 @@ ghost use Rattle.guest_bodies.specs.Shown.{IsLive, seen_in};
 ghost use Rattle.guest_calls.specs.Acted.{Carried};
 ghost use Rattle.guest_calls.specs.Fits.{IsShort};
 ghost use Rattle.guest_calls.specs.State.{OfProcess};
-ghost use Rattle.guest_calls.specs.Transfers.{CanPrint, CanTake, IsReading, IsWriting, console_read, console_write, moved_by, taking};
+ghost use Rattle.guest_calls.specs.Transfers.{CanPrint, CanTake, IsOpenAt, IsReading, IsWriting, console_read, console_write, file_read, file_write, moved_by, number_read, number_write, reading_at, taking, writing_at};
 
 use crate::kernel::Kernel;
 use crate::outcomes::{CallStop, Done};
@@ -18,7 +18,15 @@ use arn_base::{Bytes, Extra, NoMemory};
 use guest_give::give_of;
 use parts_model::Description;
 use parts_model::limits::MOST_TRANSFER;
-use parts_model::refusals::{BAD_ADDRESS, BAD_DESCRIPTOR};
+use parts_model::refusals::{BAD_ADDRESS, BAD_DESCRIPTOR, NO_ROOM};
+
+/// A place in a file, and the description whose place it is.
+#[derive(Clone, Copy, Debug, PartialEq, Eq)]
+pub struct Place {
+    pub number: u32,
+    pub file: u32,
+    pub position: u32,
+}
 
 /// What a read comes to.
 #[derive(Clone, Copy, Debug, PartialEq, Eq)]
@@ -29,6 +37,8 @@ pub enum Reading {
     Answers { answer: u64 },
     /// It receives so many bytes of the console's queue at an address.
     Takes { at: u64, count: usize },
+    /// It receives at an address what stands behind a place in a file, at most so many bytes.
+    Reads { at: u64, most: u32, place: Place },
 }
 
 /// What a write comes to.
@@ -40,6 +50,8 @@ pub enum Writing {
     Answers { answer: u64 },
     /// It gives the console so many bytes from an address.
     Prints { at: u64, count: u64 },
+    /// It gives a file at a place so many bytes from an address, or as many of them as fit.
+    Puts { at: u64, count: u64, place: Place },
 }
 
 impl Kernel {
@@ -74,13 +86,54 @@ impl Kernel {
     pub(crate) fn reading(&self, pid: u32) -> Reading
         requires { IsLive self.now.guests pid }
         ensures reading { OfProcess self.now pid (λ m v. IsReading result m (read_row m pid v)) }
-        ensures within { CanTake result (length self.now.kernel.console.queue) }
+        ensures within { CanTake result self.now.kernel }
     {
-        match self.opened(pid, self.argument(pid, 0)) {
+        match self.description_of(pid, self.argument(pid, 0)) {
+            Some(number) => self.reading_of(pid, number),
+            None => Reading::Answers {
+                answer: error(BAD_DESCRIPTOR),
+            },
+        }
+    }
+
+    // What a read from a description comes to.
+    fn reading_of(&self, pid: u32, number: u32) -> Reading
+        requires { IsLive self.now.guests pid }
+        ensures reading { OfProcess self.now pid (λ m v.
+            IsReading result m (number_read m v number)) }
+        ensures within { CanTake result self.now.kernel }
+    {
+        match self.what_is(number) {
             Some(Description::Console) => self.reading_console(pid),
+            Some(Description::File { file, position }) => self.reading_file(
+                pid,
+                Place {
+                    number,
+                    file,
+                    position,
+                },
+            ),
             Some(_) => unreachable!(),
             None => Reading::Answers {
                 answer: error(BAD_DESCRIPTOR),
+            },
+        }
+    }
+
+    // What a read from a file comes to.
+    fn reading_file(&self, pid: u32, place: Place) -> Reading
+        requires live { IsLive self.now.guests pid }
+        requires place { IsOpenAt self.now.kernel place }
+        ensures reading { OfProcess self.now pid (λ m v. IsReading result m (file_read m v place)) }
+        ensures within { CanTake result self.now.kernel }
+    {
+        let at = self.argument(pid, 1);
+        match self.moving(pid, at, self.argument(pid, 2)) {
+            Err(answer) => Reading::Answers { answer },
+            Ok(most) => Reading::Reads {
+                at,
+                most: most as u32,
+                place,
             },
         }
     }
@@ -89,7 +142,7 @@ impl Kernel {
     fn reading_console(&self, pid: u32) -> Reading
         requires { IsLive self.now.guests pid }
         ensures reading { OfProcess self.now pid (λ m v. IsReading result m (console_read m v)) }
-        ensures within { CanTake result (length self.now.kernel.console.queue) }
+        ensures within { CanTake result self.now.kernel }
     {
         let at = self.argument(pid, 1);
         match self.moving(pid, at, self.argument(pid, 2)) {
@@ -119,6 +172,7 @@ impl Kernel {
             Reading::Waits => Err(CallStop::NotReady),
             Reading::Answers { answer } => Ok(self.answers(pid, answer)),
             Reading::Takes { at, count } => Ok(self.take(pid, at, count)?),
+            Reading::Reads { at, most, place } => Ok(self.take_from_file(pid, at, most, place)?),
         }
     }
 
@@ -144,18 +198,88 @@ impl Kernel {
         })
     }
 
+    // A process receives what stands behind a place in a file.
+    fn take_from_file(
+        &mut self,
+        pid: u32,
+        at: u64,
+        most: u32,
+        place: Place,
+    ) -> Result<Done, NoMemory>
+        requires live { IsLive self.old.guests pid }
+        requires room { self.old.events + 1 < 2 ^ 64 }
+        requires place { IsOpenAt self.old.kernel place }
+        requires few { most ≤ MOST_TRANSFER }
+        ensures carried { IfOk result (λ done. OfProcess self.old pid (λ m v.
+            Carried (reading_at m at most place) done m pid v self.new)) }
+        ensures short { IfOk result (λ done. IsShort done.extra) }
+        ensures err { OnErr result (self.new ≡ self.old) }
+    {
+        let give = self.resources.read(place.file, place.position, most)?;
+        let count = give.bytes.len();
+        if count == 0 {
+            return Ok(self.answers(pid, 0));
+        }
+        self.bodies
+            .receives(pid, at, give.bytes.as_slice(), count as u64);
+        self.resources
+            .move_to(place.number, place.file, place.position + count as u32);
+        self.events += 1;
+        Ok(Done {
+            result: count as u64,
+            extra: Extra::Give(give),
+        })
+    }
+
     /// What the write at which a process stands comes to.
     pub(crate) fn writing(&self, pid: u32) -> Writing
         requires { IsLive self.now.guests pid }
         ensures writing { OfProcess self.now pid (λ m v. IsWriting result m v (write_row m pid v)) }
-        ensures within { IfSome (seen_in self.now.guests pid) (CanPrint result) }
+        ensures within { IfSome (seen_in self.now.guests pid) (CanPrint result self.now.kernel) }
     {
-        match self.opened(pid, self.argument(pid, 0)) {
+        match self.description_of(pid, self.argument(pid, 0)) {
+            Some(number) => self.writing_to(pid, number),
+            None => Writing::Answers {
+                answer: error(BAD_DESCRIPTOR),
+            },
+        }
+    }
+
+    // What a write to a description comes to.
+    fn writing_to(&self, pid: u32, number: u32) -> Writing
+        requires { IsLive self.now.guests pid }
+        ensures writing { OfProcess self.now pid (λ m v.
+            IsWriting result m v (number_write m v number)) }
+        ensures within { IfSome (seen_in self.now.guests pid) (CanPrint result self.now.kernel) }
+    {
+        match self.what_is(number) {
             Some(Description::Console) => self.writing_console(pid),
+            Some(Description::File { file, position }) => self.writing_file(
+                pid,
+                Place {
+                    number,
+                    file,
+                    position,
+                },
+            ),
             Some(_) => unreachable!(),
             None => Writing::Answers {
                 answer: error(BAD_DESCRIPTOR),
             },
+        }
+    }
+
+    // What a write to a file comes to.
+    fn writing_file(&self, pid: u32, place: Place) -> Writing
+        requires live { IsLive self.now.guests pid }
+        requires place { IsOpenAt self.now.kernel place }
+        ensures writing { OfProcess self.now pid (λ m v. IsWriting result m v (file_write m v place)) }
+        ensures within { IfSome (seen_in self.now.guests pid) (CanPrint result self.now.kernel) }
+    {
+        let at = self.argument(pid, 1);
+        match self.moving(pid, at, self.argument(pid, 2)) {
+            Err(answer) => Writing::Answers { answer },
+            Ok(count) => Writing::Puts { at, count, place },
         }
     }
 
@@ -164,7 +288,7 @@ impl Kernel {
         requires { IsLive self.now.guests pid }
         ensures writing { OfProcess self.now pid (λ m v.
             IsWriting result m v (console_write m v)) }
-        ensures within { IfSome (seen_in self.now.guests pid) (CanPrint result) }
+        ensures within { IfSome (seen_in self.now.guests pid) (CanPrint result self.now.kernel) }
     {
         let at = self.argument(pid, 1);
         match self.moving(pid, at, self.argument(pid, 2)) {
@@ -188,11 +312,12 @@ impl Kernel {
             Writing::Waits => Err(CallStop::NotReady),
             Writing::Answers { answer } => Ok(self.answers(pid, answer)),
             Writing::Prints { at, count } => Ok(self.print(pid, at, count)?),
+            Writing::Puts { at, count, place } => Ok(self.put(pid, at, count, place)?),
         }
     }
 
-    // The bytes of a process, where they lie whole in one window.
-    fn copy_of(&self, pid: u32, at: u64, count: u64) -> Result<Bytes, NoMemory>
+    /// The bytes of a process, where they lie whole in one window.
+    pub(crate) fn copy_of(&self, pid: u32, at: u64, count: u64) -> Result<Bytes, NoMemory>
         requires live { IsLive self.now.guests pid }
         requires reach { IfSome (seen_in self.now.guests pid) (λ v. IsSome (bytes_in v at count)) }
         ensures read { IfOk result (λ bytes.
@@ -221,6 +346,58 @@ impl Kernel {
         Ok(Done {
             result: count,
             extra: Extra::Console { bytes },
+        })
+    }
+
+    // The first bytes of a range of a process.
+    fn first_of(&self, pid: u32, at: u64, count: u64, first: u64) -> Result<Bytes, NoMemory>
+        requires live { IsLive self.now.guests pid }
+        requires reach { IfSome (seen_in self.now.guests pid) (λ v. IsSome (bytes_in v at count)) }
+        requires few { first ≤ count }
+        ensures read { IfOk result (λ bytes.
+            IfSome (seen_in self.now.guests pid) (λ v. bytes ≡ take first (read v at count))) }
+        ensures count { IfOk result (λ bytes. length bytes ≡ first) }
+        ensures whole { IfSome (seen_in self.now.guests pid) (λ v. length (read v at count) ≡ count) }
+    {
+        match self.bodies.bytes(pid, at, count) {
+            Some(bytes) => Bytes::from_slice(self.alloc, &bytes[..first as usize]),
+            None => unreachable!(),
+        }
+    }
+
+    // A process gives a file at a place bytes from an address, as many as fit.
+    fn put(&mut self, pid: u32, at: u64, count: u64, place: Place) -> Result<Done, NoMemory>
+        requires live { IsLive self.old.guests pid }
+        requires room { self.old.events + 1 < 2 ^ 64 }
+        requires place { IsOpenAt self.old.kernel place }
+        requires reach { IfSome (seen_in self.old.guests pid) (λ v. IsSome (bytes_in v at count)) }
+        requires few { count ≤ MOST_TRANSFER }
+        ensures carried { IfOk result (λ done. OfProcess self.old pid (λ m v.
+            Carried (writing_at m at (read v at count) place) done m pid v self.new)) }
+        ensures short { IfOk result (λ done. IsShort done.extra) }
+        ensures err { OnErr result (self.new ≡ self.old) }
+    {
+        let room = self.resources.room(place.file, place.position) as u64;
+        if room == 0 {
+            return Ok(self.answers(pid, error(NO_ROOM)));
+        }
+        let fits = count.min(room);
+        let bytes = self.first_of(pid, at, count, fits)?;
+        self.resources.write(
+            place.number,
+            place.file,
+            place.position,
+            bytes.as_slice(),
+            self.events,
+        )?;
+        self.returns(pid, fits);
+        Ok(Done {
+            result: fits,
+            extra: Extra::Put {
+                file: place.file,
+                at: place.position,
+                bytes,
+            },
         })
     }
 }

@@ -3,7 +3,7 @@ use Rattle.acts_model.specs.Views.{stands_at}
 use Rattle.guest_calls.specs.Kept.{state_of}
 use Rattle.guest_calls.specs.State.{State, OfProcess}
 use Rattle.guest_calls.specs.Steps.{Stepped}
-use Rattle.guest_calls.proofs.Runs.{ran-steps}
+use Rattle.guest_calls.proofs.Runs.{ran-steps, stands-at-call}
 use Rattle.guest_calls.proofs.Stands.{of_process}
 use Rattle.guest_calls.proofs.kernel.Kernel.step.Goals as goal
 
@@ -13,3 +13,6 @@ returns-clause-stepped g c =
     subst (λ (s : State). OfProcess s c.args.pid (λ m v. Stepped c.step.result m c.args.pid v (stands_at v) s new)) c.self.view_is
     (of_process (state_of c.self.inside) c.args.pid (λ m v. Stepped c.step.result m c.args.pid v (stands_at v) (state_of c.self.inside) new)
     (λ b v shows sees. ran-steps c.self.inside c.args.pid c.step.new.self c.step.ensures.watches b shows c.step.result c.step.ensures.ran c.step.ensures.stop c.step.ensures.memory v sees))
+
+pub returns-clause-at_call : goal.returns-clause-at_call
+returns-clause-at_call g c = stands-at-call c.step.result c.args.pid c.self.inside.bodies c.step.new.self c.step.ensures.ran c.step.ensures.stop

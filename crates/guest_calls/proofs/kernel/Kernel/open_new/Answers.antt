@@ -1,0 +1,29 @@
+use Rattle.std.proofs.Common.{refl, sym, ap, ◌∙◌, ◌≡◌, subst, List, [], ℕ, is_some, false}
+use Rattle.parts_model.specs.declared.open.Description.TheVariants.{File}
+use Rattle.acts_model.specs.Acts.{Returns}
+use Rattle.parts_model.specs.Files.{find_file, held, made, next_file}
+use Rattle.arn_model.specs.FileCalls.{has_no_room, open_new}
+use Rattle.arn_model.specs.Kernel.{placed, with_new}
+use Rattle.guest_calls.specs.Acted.{Carried}
+use Rattle.guest_calls.specs.Kept.{state_of}
+use Rattle.guest_calls.specs.State.{State, OfProcess}
+use Rattle.guest_calls.proofs.Carries.{acted-across, carried-by}
+use Rattle.guest_calls.proofs.Opening.{new-is}
+use Rattle.guest_calls.proofs.Stands.{machine_with}
+use Rattle.guest_calls.proofs.kernel.Kernel.open_new.Goals as goal
+
+pub returns-in-Ok-clause-carried : goal.returns-in-Ok-clause-carried
+returns-in-Ok-clause-carried c =
+    let old : State = state_of c.self.inside in
+    let mid : State = state_of (record c.self.inside { resources = c.make_file.new.self }) in
+    let path : List ℕ = c.args.path in
+    let free : is_some (find_file old.kernel.files path) ≡ false =
+    ap (λ (p : List ℕ). is_some (find_file old.kernel.files p)) (sym c.as_slice.ensures) ∙ (ap is_some (sym c.find_file.ensures.found) ∙ (sym c.is_some.ensures ∙ c.if-is_some.false)) in
+    subst (λ (s : State). OfProcess s c.args.pid (λ m v. Carried (open_new m c.args.pid path) c.opened_as.result m c.args.pid v c.opened_as.new.self)) c.self.view_is
+    (carried-by c.args.pid c.opened_as.result.result c.opened_as.result.extra (placed c.args.pid c.in-Ok.opened.description mid.kernel) old c.opened_as.new.self (λ m v. open_new m c.args.pid path)
+    (acted-across c.args.pid (Returns c.opened_as.result.result) (placed c.args.pid c.in-Ok.opened.description mid.kernel) mid.kernel old mid c.opened_as.new.self refl c.opened_as.ensures.acted)
+    (λ b v sees. new-is (machine_with b old) c.args.pid c.in-Ok.opened.file c.in-Ok.opened.description c.opened_as.result.result path c.opened_as.result.extra mid.kernel free
+    (ap (λ (s : State). has_no_room s.kernel c.args.pid) c.self.view_is ∙ (sym c.has_no_room.ensures ∙ c.if-has_no_room.false))
+    c.in-Ok.ensures.room
+    (subst (λ (p : List ℕ). with_new (File (next_file old.kernel.files) 0) (record old.kernel { files = held (made old.kernel.files p []) (next_file old.kernel.files) }) ≡ mid.kernel) c.as_slice-2.ensures (c.in-Ok.ensures.opened.kernel old.kernel))
+    c.in-Ok.ensures.file c.in-Ok.ensures.number c.opened_as.ensures.result c.opened_as.ensures.extra))
