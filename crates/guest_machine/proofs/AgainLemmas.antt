@@ -1,13 +1,10 @@
 -- Inputs that records name, run again: refused ones do nothing, and devices answer as records say.
-use Rattle.std.proofs.Common.{◌≡◌, ◌≢◌, ◌⊎◌, inl, inr, ℕ, zero, suc, ◌+◌, ◌<◌, ◌≤◌, ◌&&◌, ◌++◌, not, Bool, true, false, cond, nat_lt, nat_le, List, [], ◌∷◌, length, Option, None, Some, IsNone, IsTrue, is_some, option_map, option_to_list, Result, Ok, Err, OnOk, refl, sym, ap, subst, ◌∙◌, arith, append-nil}
+use Rattle.std.proofs.Common.{◌≡◌, ◌≢◌, ◌⊎◌, inl, inr, ℕ, zero, suc, ◌+◌, ◌<◌, ◌≤◌, ◌&&◌, ◌++◌, not, Bool, true, false, cond, nat_lt, nat_le, List, [], ◌∷◌, length, Option, None, Some, IsNone, option_map, Result, Ok, Err, OnOk, refl, sym, ap, subst, ◌∙◌, arith, append-nil}
 use Rattle.std.proofs.lemmas.Bool.Decides.{nat_tests}
 use Rattle.arn_base.specs.declared.records.Record.{Record}
 use Rattle.parts_model.specs.declared.limits.TheConstants.{MOST_FILE_BYTES}
-use Rattle.parts_model.specs.declared.tagged.TaggedByte.{TaggedByte}
-use Rattle.parts_model.specs.Files.{Files, file_bytes, find_file, is_name}
-use Rattle.parts_model.specs.Image.{is_image}
+use Rattle.parts_model.specs.Files.{file_bytes, find_file, is_name}
 use Rattle.parts_model.specs.Replies.{Answered}
-use Rattle.parts_model.specs.Tagged.{values}
 use Rattle.acts_model.specs.Bodies.{View, seen}
 use Rattle.arn_model.specs.Kernel.{Kernel, Machine}
 use Rattle.arn_model.specs.Run.{Input, File, Boot, Typed, Unplug, Slice, boot_found, boot_from, boot_step, can_add, file_step, input_steps, instructions_in, is_booted, is_free, steps_from, typed_step}
@@ -17,7 +14,7 @@ use Rattle.arn_model.specs.Doing.{Request, Waits, Does, Asks}
 use Rattle.arn_model.specs.Row.{does, request}
 use Rattle.log_model.specs.Records.{input_records, slice_records}
 use Rattle.arn_model.specs.Step.{Step, call_step, last_by}
-use Rattle.arn_model.specs.Turn.{Turn, after_first, after_steps, delivery_in, is_possible, last_in, last_of, plain_in, plains, steps_of, steps_then, turn}
+use Rattle.arn_model.specs.Turn.{Turn, after_steps, is_possible, last_in, last_of, plain_in, plains, steps_of, steps_then, turn}
 use Rattle.guest_bodies.specs.Shown.{IsLive}
 use Rattle.guest_devices.specs.Answers.{Asked}
 use Rattle.guest_devices.specs.Told.{CountsHere, CountsReads}
@@ -31,7 +28,7 @@ use Rattle.guest_machine.proofs.RunsLemmas.{Runs-one}
 use Rattle.guest_machine.proofs.SliceLemmas.{can-turn}
 use Rattle.guest_machine.proofs.ToldLemmas.{Tells, turn-told}
 use Rattle.guest_machine.proofs.TurnLemmas.{sees}
-use Rattle.guest_machine.proofs.TurnParts.{last-counted, one_if_some, turn-instructions}
+use Rattle.guest_machine.proofs.TurnParts.{one_if_some, turn-instructions}
 
 -- an input that takes no step leaves all as it was
 records-idle : (i : Input) → input_records i [] ≡ []

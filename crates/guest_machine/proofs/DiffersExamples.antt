@@ -1,6 +1,5 @@
 -- Differences at literal records.
-use Rattle.std.proofs.Common.{◌≡◌, [], ◌∷◌, None, Some, refl}
-use Rattle.arn_base.specs.declared.records.Extra.TheVariants as extra
+use Rattle.std.proofs.Common.{[], ◌∷◌, None, Some, refl}
 use Rattle.arn_base.specs.declared.records.Record.TheVariants as entry
 use Rattle.guest_machine.specs.Differs.{IsFirstDifference}
 

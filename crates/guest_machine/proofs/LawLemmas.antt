@@ -3,7 +3,6 @@ use Rattle.std.proofs.Common.{◌≡◌, ℕ, ◌<◌, ◌≤◌, ◌^◌, ◌++
 use Rattle.arn_base.specs.declared.records.Record.{Record}
 use Rattle.arn_model.specs.Kernel.{Machine, at_first}
 use Rattle.arn_model.specs.Run.{Input, run, machine_after, steps_from, instructions_in}
-use Rattle.arn_model.specs.Step.{Step}
 use Rattle.arn_model.specs.Turn.{after_steps}
 use Rattle.log_model.specs.Laws.{NamedRunsAgain}
 use Rattle.log_model.specs.Records.{records, records_from, named}

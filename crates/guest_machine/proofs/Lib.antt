@@ -19,3 +19,7 @@ pub mod AbleLemmas
 pub mod PiecesLemmas
 pub mod Rebuilt
 pub mod AgainLemmas
+pub mod PickLemmas
+pub mod LegLemmas
+pub mod NamedLemmas
+pub mod LegExamples

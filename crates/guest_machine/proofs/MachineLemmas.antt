@@ -1,24 +1,20 @@
 -- What comes from outside: what it does, and when it is refused.
-use Rattle.std.proofs.Common.{◌≡◌, ◌≢◌, ℕ, ◌+◌, ◌<◌, ◌≤◌, ◌&&◌, ◌++◌, not, Bool, true, false, cond, nat_lt, nat_le, List, [], ◌∷◌, length, Option, None, Some, IsSome, IsNone, IsTrue, is_some, Result, Ok, Err, refl, sym, ap, subst, ◌∙◌, arith}
+use Rattle.std.proofs.Common.{◌≡◌, ℕ, ◌+◌, ◌≤◌, ◌&&◌, ◌++◌, not, Bool, true, false, cond, nat_lt, nat_le, List, [], ◌∷◌, length, Option, None, Some, IsSome, IsNone, is_some, refl, sym, ap, ◌∙◌, arith}
 use Rattle.std.proofs.lemmas.Bool.Decides.{nat_tests}
 use Rattle.arn_base.specs.declared.records.Record.{Record}
 use Rattle.arn_base.specs.declared.records.Record.TheVariants as entry
 use Rattle.arn_base.specs.declared.records.Give.{Give}
 use Rattle.parts_model.specs.declared.limits.TheConstants.{MOST_FILE_BYTES}
-use Rattle.parts_model.specs.declared.tagged.TaggedByte.{TaggedByte}
 use Rattle.parts_model.specs.Files.{Files, file_bytes, find_file, is_full, is_name}
-use Rattle.parts_model.specs.Image.{is_image}
 use Rattle.parts_model.specs.Processes.{Processes}
-use Rattle.parts_model.specs.Tagged.{given, values}
+use Rattle.parts_model.specs.Tagged.{given}
 use Rattle.arn_model.specs.Kernel.{Kernel, Machine}
 use Rattle.arn_model.specs.Run.{File, Boot, Typed, boot_found, boot_from, boot_step, can_add, file_step, input_steps, is_booted, is_free, typed_step}
 use Rattle.arn_model.specs.Step.{Step}
 use Rattle.result_log.specs.Spelling.{IsName}
-use Rattle.guest_files.specs.declared.errors.FileError.{FileError}
-use Rattle.guest_files.specs.declared.errors.FileError.TheVariants as file
 use Rattle.guest_calls.specs.Starts.{BootedFrom}
 use Rattle.guest_calls.specs.State.{Becomes, State, StandsFor}
-use Rattle.guest_machine.specs.Recorded.{IsReal, OfEach, Recorded, Runs, has_process}
+use Rattle.guest_machine.specs.Recorded.{IsReal, Recorded, Runs, has_process}
 use Rattle.guest_machine.proofs.RunsLemmas.{Runs-outside}
 
 none-made : (ps : Processes) → nat_lt 0 (length ps) ≡ false → ps ≡ []

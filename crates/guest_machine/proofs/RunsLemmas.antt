@@ -1,5 +1,5 @@
 -- What inputs make of a state and of what stands behind it, one after the other.
-use Rattle.std.proofs.Common.{◌≡◌, ℕ, ◌+◌, ◌++◌, ◌∙◌, List, [], ◌∷◌, refl, sym, ap, subst, arith, append_assoc, append-nil, All, Result, Ok, Err, OnErr}
+use Rattle.std.proofs.Common.{◌≡◌, ◌+◌, ◌++◌, ◌∙◌, List, [], ◌∷◌, sym, ap, subst, arith, append_assoc, append-nil, All, Result, Ok, Err, OnErr}
 use Rattle.std.proofs.lemmas.List.Elements.{All-append, All-cons, All-nil}
 use Rattle.arn_base.specs.declared.records.Record.{Record}
 use Rattle.result_log.specs.Spelling.{HasSpelling}

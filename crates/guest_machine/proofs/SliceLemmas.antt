@@ -1,6 +1,6 @@
 -- A slice is the turn of its process.
-use Rattle.std.proofs.Common.{◌≡◌, ◌⊎◌, inl, inr, ℕ, zero, suc, ◌+◌, ◌<◌, ◌≤◌, ◌&&◌, ◌||◌, ◌++◌, not, Bool, true, false, cond, nat_lt, nat_le, List, [], ◌∷◌, Option, None, Some, is_some, length, option_to_list, refl, sym, ap, subst, ◌∙◌, arith}
-use Rattle.std.proofs.lemmas.Bool.{cond-true, cond-false}
+use Rattle.std.proofs.Common.{◌≡◌, inl, inr, ℕ, zero, suc, ◌+◌, ◌<◌, ◌≤◌, ◌&&◌, ◌||◌, ◌++◌, Bool, true, false, cond, nat_lt, nat_le, List, [], ◌∷◌, Option, None, Some, IsSome, is_some, option_to_list, refl, sym, ap, subst, ◌∙◌, arith}
+use Rattle.std.proofs.lemmas.Bool.{cond-true}
 use Rattle.std.proofs.lemmas.Bool.Decides.{nat_tests}
 use Rattle.arn_base.specs.declared.records.Record.{Record}
 use Rattle.parts_model.specs.declared.limits.TheConstants.{MOST_SLICE}
@@ -8,9 +8,9 @@ use Rattle.parts_model.specs.Replies.{Answered}
 use Rattle.acts_model.specs.Bodies.{View, seen}
 use Rattle.arn_model.specs.Kernel.{Machine}
 use Rattle.arn_model.specs.Run.{Slice, input_steps, instructions_in}
-use Rattle.arn_model.specs.Step.{Step, due_signal}
+use Rattle.arn_model.specs.Step.{due_signal}
 use Rattle.arn_model.specs.Turn.{has_due, is_possible, is_runnable, can_go_on, steps_of, turn}
-use Rattle.log_model.specs.Records.{event_records, slice_records}
+use Rattle.log_model.specs.Records.{slice_records}
 use Rattle.guest_bodies.specs.Shown.{IsLive}
 use Rattle.guest_devices.specs.Answers.{Asked}
 use Rattle.guest_calls.specs.State.{State, StandsFor}
@@ -43,7 +43,7 @@ fewer-possible false due count k possible few some = possible
 
 pub can-turn : (m : Machine) (pid count k : ℕ) (v : View) (reply : Option Answered) → seen m.bodies pid ≡ Some v → CanTake m pid count → k ≤ count → input_steps m (Slice pid k reply) ≡ steps_of (turn k pid reply m)
 can-turn m pid count zero v reply is can few = zero-turn m pid v reply (due_signal m pid v) is refl
-can-turn m pid count (suc k) v reply is (inr none) few = absurd (omega (arith, none, few))
+can-turn m pid count (suc k) v reply is (inr none) few = absurd (omega (arith, none.0, few))
 can-turn m pid count (suc k) v reply is (inl possible) few =
     cond-true (is_possible m pid (suc k)) (steps_of (turn (suc k) pid reply m)) [] (fewer-possible (is_runnable m pid) (has_due m pid (seen m.bodies pid)) count (suc k) possible few (omega arith))
 
@@ -56,12 +56,27 @@ and-left : (a b : Bool) → a && b ≡ true → a ≡ true
 and-left true b both = refl
 and-left false b both = both
 
-pub possible-lives : (s : State) (pid count : ℕ) → IsReal s → OfEach s (λ m. is_possible m pid count ≡ true) → IsLive s.guests pid
-possible-lives s pid count real possible =
-    let m = real.machine in
-    let able = and-left (is_runnable m pid) (nat_le count MOST_SLICE && (nat_lt 0 count || has_due m pid (seen m.bodies pid))) (possible m real.stands) in
-    let v = able-lives m pid (seen m.bodies pid) able in
-    lives s m pid v.0 real.stands v.1
+-- the process of a slice that may be taken lives
+pub can-lives : (s : State) (pid count : ℕ) → IsReal s → OfEach s (λ m. CanTake m pid count) → IsLive s.guests pid
+can-lives s pid count real can = by (can real.machine real.stands)
+  where
+    some-view : (o : Option View) → IsSome o → (v : View) × (o ≡ Some v)
+    some-view None is = absurd cc
+    some-view (Some v) is = (v, refl)
+
+    by : CanTake real.machine pid count → IsLive s.guests pid
+    by (inl possible) =
+        let v = able-lives real.machine pid (seen real.machine.bodies pid) (and-left (is_runnable real.machine pid) (nat_le count MOST_SLICE && (nat_lt 0 count || has_due real.machine pid (seen real.machine.bodies pid))) possible) in
+        lives s real.machine pid v.0 real.stands v.1
+    by (inr none) =
+        let v = some-view (seen real.machine.bodies pid) none.1 in
+        lives s real.machine pid v.0 real.stands v.1
+
+-- one of no instruction of a live process may be taken
+pub zero-can : (s : State) (pid count : ℕ) → IsLive s.guests pid → count ≡ 0 → OfEach s (λ m. CanTake m pid count)
+zero-can s pid count live none m stands =
+    let v = sees s m pid stands live in
+    inr (none, subst (λ (o : Option View). IsSome o) (sym v.1) cc)
 
 -- from a turn to the slice
 Turned-Runs : (m : Machine) (pid k : ℕ) (reply : Option Answered) (t : Turn) (old new : Recorded) (out out' : List Record) → input_steps m (Slice pid k reply) ≡ steps_of (turn k pid reply m) → Turned m pid k reply t new.kernel → new.instructions ≡ old.instructions + t.ran

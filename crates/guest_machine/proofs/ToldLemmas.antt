@@ -1,12 +1,9 @@
 -- A turn by what a record tells of its call is the turn by the reply that the record names.
-use Rattle.std.proofs.Common.{◌≡◌, ℕ, ◌<◌, ◌≤◌, ◌-◌, ◌^◌, Bool, true, false, cond, min, nat_lt, List, [], ◌∷◌, length, take, Option, None, Some, option_map, refl, sym, ap, subst, ◌∙◌, arith}
+use Rattle.std.proofs.Common.{◌≡◌, ℕ, ◌≤◌, ◌-◌, ◌^◌, Bool, true, false, cond, min, nat_lt, List, length, take, Option, None, Some, option_map, refl, ap, ◌∙◌, arith}
 use Rattle.std.proofs.lemmas.List.{take_min}
-use Rattle.std.specs.Borrow.{Bor}
 use Rattle.arn_base.specs.declared.records.Extra.TheVariants as extra
-use Rattle.arn_base.specs.declared.records.Record.{Record}
 use Rattle.parts_model.specs.declared.limits.TheConstants.{MOST_TRANSFER}
-use Rattle.parts_model.specs.Replies.{Answered, GaveBytes, TookBytes, Failed, IsAbsent, IsHere, is_here, to_read, to_write}
-use Rattle.parts_model.specs.Replies as replies
+use Rattle.parts_model.specs.Replies.{Answered, GaveBytes, TookBytes, Failed, IsAbsent, IsHere, to_write}
 use Rattle.rv64_model.specs.Instruction.{Effect, Next, Call, End}
 use Rattle.acts_model.specs.Bodies.{View, seen}
 use Rattle.acts_model.specs.Views.{read, stands_at}
@@ -16,12 +13,11 @@ use Rattle.arn_model.specs.Kernel.{Machine}
 use Rattle.arn_model.specs.Row.{answered, does, request}
 use Rattle.arn_model.specs.Step.{Step, call_step, last_by}
 use Rattle.arn_model.specs.TransferCalls.{device_read, device_write, giving}
-use Rattle.arn_model.specs.Turn.{Turn, after_steps, last_in, last_of, plains, turn}
+use Rattle.arn_model.specs.Turn.{after_steps, last_in, plains, turn}
 use Rattle.guest_devices.specs.Answers.{Asked}
-use Rattle.guest_devices.specs.Answers as asked
 use Rattle.guest_devices.specs.Told.{CountsHere, CountsReads, as_written, told_answer}
 use Rattle.guest_calls.specs.Steps.{RepliesTo, asked_of}
-use Rattle.guest_machine.specs.Slices.{AsksNothing, RepliesAt, RepliesIf, RepliesIn, RepliesOf, delivered}
+use Rattle.guest_machine.specs.Slices.{RepliesAt, RepliesIf, RepliesIn, RepliesOf, delivered}
 use Rattle.guest_machine.proofs.SmallQuestions.{FewBytes, Small, request-Small}
 
 -- a count of taken bytes, cut by what one answer can count

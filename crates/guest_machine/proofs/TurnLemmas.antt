@@ -1,27 +1,24 @@
 -- A turn, put together from its parts.
-use Rattle.std.proofs.Common.{◌≡◌, ◌≢◌, ℕ, zero, suc, ◌+◌, ◌<◌, ◌≤◌, ◌++◌, Bool, true, false, cond, nat_lt, List, [], ◌∷◌, Option, None, Some, IsSome, option_map, length, option_to_list, refl, sym, ap, subst, ◌∙◌, arith, append-nil}
+use Rattle.std.proofs.Common.{◌≡◌, ℕ, zero, suc, ◌+◌, ◌<◌, ◌≤◌, ◌++◌, Bool, true, false, cond, nat_lt, List, [], ◌∷◌, Option, None, Some, IsSome, option_map, length, option_to_list, refl, sym, ap, subst, ◌∙◌, arith}
 use Rattle.std.proofs.lemmas.Bool.{cond-true, cond-false}
 use Rattle.std.proofs.lemmas.Bool.Decides.{nat_tests}
 use Rattle.arn_base.specs.declared.records.Record.{Record}
 use Rattle.rv64_core.specs.declared.outcome.Outcome.{Outcome}
 use Rattle.rv64_core.specs.declared.outcome.Outcome.TheVariants as outcome
-use Rattle.rv64_model.specs.Instruction.{Effect, Next, Call, End}
 use Rattle.parts_model.specs.Numbered.{nth}
 use Rattle.parts_model.specs.Replies.{Answered}
 use Rattle.acts_model.specs.Bodies.{View, seen}
-use Rattle.acts_model.specs.Views.{stands_at}
 use Rattle.arn_model.specs.Kernel.{Machine}
 use Rattle.arn_model.specs.Run.{instructions_in}
-use Rattle.arn_model.specs.Step.{Step, delivery_step, last_by, plain_by}
+use Rattle.arn_model.specs.Step.{Step}
 use Rattle.arn_model.specs.Turn.{after_first, after_steps, delivery_in, last_in, last_of, plain_in, plains, steps_of, steps_then, turn}
 use Rattle.log_model.specs.Records.{event_records}
 use Rattle.guest_bodies.specs.Shown.{Guests, IsLive, Shown, seen_in}
 use Rattle.guest_devices.specs.Answers.{Asked}
 use Rattle.guest_calls.specs.State.{State, StandsFor}
-use Rattle.guest_machine.specs.Slices.{AsksNothing, RepliesIf, RepliesIn, RepliesOf, delivered}
-use Rattle.guest_machine.specs.Turns.{Delivers, Finishes, Happens, RanPlain, StandsAt, StopsAt, TookPart, TookWhole, Turned}
+use Rattle.guest_machine.specs.Slices.{RepliesIf, RepliesOf, delivered}
+use Rattle.guest_machine.specs.Turns.{Finishes, Happens, StopsAt, TookPart, TookWhole, Turned}
 use Rattle.guest_machine.specs.declared.turn.Turn.{Turn}
-use Rattle.guest_machine.specs.declared.turn.Stood.{Stood}
 use Rattle.guest_machine.proofs.Appends.{after_steps-append, event_records-append}
 use Rattle.guest_machine.proofs.TurnParts.{delivery-instructions, last-counted, plains-instructions, plains-records}
 

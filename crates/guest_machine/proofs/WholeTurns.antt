@@ -1,15 +1,15 @@
 -- A turn of a state, from what its parts promise.
-use Rattle.std.proofs.Common.{◌≡◌, ◌≢◌, ℕ, ◌+◌, ◌<◌, Bool, true, false, Option, None, Some, IsSome, option_map, length, option_to_list, refl, sym, ap, subst, ◌∙◌}
+use Rattle.std.proofs.Common.{◌≡◌, ℕ, ◌+◌, ◌<◌, true, false, Option, None, Some, IsSome, option_map, length, option_to_list, refl, sym, subst, ◌∙◌}
 use Rattle.arn_base.specs.declared.records.Record.{Record}
 use Rattle.rv64_core.specs.declared.outcome.Outcome.{Outcome}
 use Rattle.rv64_core.specs.declared.outcome.Outcome.TheVariants as outcome
 use Rattle.rv64_model.specs.Instruction.{Effect, Call, End}
 use Rattle.parts_model.specs.Numbered.{nth}
 use Rattle.parts_model.specs.Replies.{Answered}
-use Rattle.acts_model.specs.Bodies.{View, seen}
+use Rattle.acts_model.specs.Bodies.{seen}
 use Rattle.arn_model.specs.Kernel.{Machine}
 use Rattle.arn_model.specs.Turn.{after_steps, plains}
-use Rattle.guest_bodies.specs.Shown.{IsLive, Shown, seen_in}
+use Rattle.guest_bodies.specs.Shown.{IsLive, Shown}
 use Rattle.guest_devices.specs.Answers.{Asked}
 use Rattle.guest_calls.specs.State.{OfProcess, State, StandsFor}
 use Rattle.guest_machine.specs.Recorded.{IsReal, OfEach}

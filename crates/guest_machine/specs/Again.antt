@@ -1,5 +1,5 @@
 -- The inputs that records name, one by one.
-use Rattle.std.specs.Prelude.{ℕ, List, [], ◌∷◌}
+use Rattle.std.specs.Prelude.{List, [], ◌∷◌}
 use Rattle.arn_base.specs.declared.records.Record.{Record}
 use Rattle.arn_base.specs.declared.records.Record.TheVariants as entry
 use Rattle.arn_model.specs.Run.{Input, File, Boot, Typed, Unplug, Slice}

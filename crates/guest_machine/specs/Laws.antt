@@ -2,7 +2,7 @@
 use Rattle.std.specs.Prelude.{◌≡◌, ◌<◌, ◌≤◌, ◌^◌, ℕ, List, ◌++◌, length}
 use Rattle.arn_base.specs.declared.records.Record.{Record}
 use Rattle.arn_model.specs.Run.{Input, machine_after}
-use Rattle.log_model.specs.Records.{records, records_from, named}
+use Rattle.log_model.specs.Records.{records, named}
 use Rattle.guest_machine.specs.Recorded.{Recorded, Runs, IsAfter, HasRoom}
 
 -- inputs that run after others lead to what both lead to

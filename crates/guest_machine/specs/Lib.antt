@@ -8,3 +8,5 @@ pub mod Laws
 pub mod Again
 pub mod Differs
 pub mod Matching
+pub mod Legs
+pub mod LegLaws

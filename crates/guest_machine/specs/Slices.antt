@@ -1,5 +1,5 @@
 -- A slice that ran, with what a device answered in it.
-use Rattle.std.specs.Prelude.{◌≡◌, ◌⊎◌, ◌<◌, ℕ, Bool, true, false, nat_lt, List, [], ◌∷◌, length, Option, None, Some}
+use Rattle.std.specs.Prelude.{◌≡◌, ◌⊎◌, ◌<◌, ℕ, Bool, true, false, nat_lt, List, [], ◌∷◌, length, Option, None, Some, IsSome}
 use Rattle.arn_base.specs.declared.records.Record.{Record}
 use Rattle.rv64_model.specs.Instruction.{Effect, Next, Call, End}
 use Rattle.parts_model.specs.Replies.{Answered}
@@ -49,9 +49,9 @@ pub record RanSlice {A : Type 0} (answers : A → Asked → Answered → A → T
   pub runs : Runs m (Slice pid count reply ∷ []) old new out out'
   pub replied : RepliesIn answers count pid m reply asked asked'
 
--- a slice that may be taken: one that is possible, or one of no instruction, which perhaps does nothing
+-- a slice that may be taken: one that is possible, or one of no instruction of a live process, which perhaps does nothing
 abbrev pub CanTake : Machine → ℕ → ℕ → Type 0
-CanTake m pid count = (is_possible m pid count ≡ true) ⊎ (count ≡ 0)
+CanTake m pid count = (is_possible m pid count ≡ true) ⊎ ((count ≡ 0) × IsSome (seen m.bodies pid))
 
 -- what was done of a slice before memory ran out: nothing, or a part that asks no device
 pub data IsPart (pid count : ℕ) : List Input → Type 0 where

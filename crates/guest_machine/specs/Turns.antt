@@ -1,5 +1,5 @@
 -- The parts of a turn, each as the definitions of turns say.
-use Rattle.std.specs.Prelude.{◌≡◌, ◌<◌, ◌++◌, ℕ, Bool, true, false, List, length, Option, None, Some, option_to_list}
+use Rattle.std.specs.Prelude.{◌≡◌, ◌<◌, ◌++◌, ℕ, Bool, true, false, length, Option, None, Some, option_to_list}
 use Rattle.arn_base.specs.declared.records.Record.{Record}
 use Rattle.rv64_core.specs.declared.outcome.Outcome.{Outcome}
 use Rattle.rv64_core.specs.declared.outcome.Outcome.TheVariants as outcome
@@ -14,7 +14,7 @@ use Rattle.arn_model.specs.Turn.{after_first, after_steps, last_in, plains, step
 use Rattle.log_model.specs.Records.{event_records}
 use Rattle.guest_devices.specs.Answers.{Asked}
 use Rattle.guest_calls.specs.State.{State, StandsFor}
-use Rattle.guest_machine.specs.Slices.{AsksNothing, RepliesIn, RepliesOf}
+use Rattle.guest_machine.specs.Slices.{RepliesIn, RepliesOf}
 use Rattle.guest_machine.specs.declared.turn.Stood.{Stood}
 use Rattle.guest_machine.specs.declared.turn.Turn.{Turn}
 

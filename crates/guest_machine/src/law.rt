@@ -1,7 +1,9 @@
 // What holds of runs and their records.
+ghost use Rattle.guest_machine.specs.LegLaws.{LegsAsNamed, PicksFollow, RepliesFollow};
 ghost use Rattle.guest_machine.specs.Laws.{NamedFollow, RecordsFollow, RecordsLeaveRoom, RunsFollow};
 
-use log_model::named_runs_again;
+use guest_devices::Answers;
+use log_model::{named_append, named_runs_again, slices_are_named};
 
 /// Runs follow one another.
 pub fn runs_follow()
@@ -24,3 +26,21 @@ pub fn named_follow()
 pub fn records_leave_room()
     ensures { RecordsLeaveRoom }
 {}
+
+/// Choices of slices follow one another.
+pub fn picks_follow()
+    ensures { PicksFollow }
+{}
+
+/// Replies to slices follow one another.
+pub fn replies_follow<A: Answers>()
+    ensures { RepliesFollow A.answers }
+{}
+
+/// Slices do what the slices do that their records name.
+pub fn legs_as_named()
+    ensures { LegsAsNamed }
+{
+    named_append();
+    slices_are_named();
+}

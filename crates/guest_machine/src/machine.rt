@@ -1,11 +1,13 @@
-use crate::able::{can_go_on, run_state};
+use crate::able::{can_go_on, pick_slice, run_state};
 use crate::errors::MachineError;
+use crate::leg::Pick;
 use crate::pieces::{SLICE_RECORDS, file_record, keep_turn, typed_record};
 use crate::turn::take_turn;
-use arn_base::{Bytes, NoMemory, Record, Steps};
+use arn_base::{Bytes, Chooser, NoMemory, Record, Steps};
 use arn_model::RunState;
 use guest_calls::Kernel;
 use guest_devices::Answers;
+use log_model::slices_take_steps;
 use parts_model::limits::MOST_SLICE;
 use std::alloc::Global;
 use std::marker::Model;
@@ -39,15 +41,16 @@ impl Model for Machine {
 }
 
 impl Machine {
-    ghost use Rattle.std.specs.Prelude.{◌≡◌, ◌≢◌, ℕ, ◌+◌, ◌<◌, ◌≤◌, ◌^◌, ◌↔◌, ◌⊎◌, false, [], ◌∷◌, length, All, IfOk, IfErr, OnOk, OnErr, IsErrOf, IsNone, IsTrue, Err};
+    ghost use Rattle.std.specs.Prelude.{◌≡◌, ◌≢◌, ℕ, ◌+◌, ◌<◌, ◌≤◌, ◌^◌, ◌↔◌, ◌⊎◌, false, [], ◌∷◌, length, All, IfOk, IfErr, IfSome, OnOk, OnErr, IsErrOf, IsNone, IsTrue, Err};
     ghost use Rattle.parts_model.specs.Files.{find_file, is_name};
     ghost use Rattle.parts_model.specs.declared.limits.TheConstants.{MOST_FILE_BYTES};
     ghost use Rattle.arn_model.specs.Run.{is_free};
     ghost use Rattle.arn_model.specs.Run as input;
-    ghost use Rattle.arn_model.specs.Turn.{is_possible, is_runnable, run_state as run_state_of};
+    ghost use Rattle.arn_model.specs.Turn.{is_possible, is_runnable, run_state as run_state_of, runnable};
     ghost use Rattle.result_log.specs.Spelling.{HasSpelling};
     ghost use Rattle.guest_bodies.specs.Shown.{IsLive};
     ghost use Rattle.guest_calls.specs.Starts.{HasNoImage};
+    ghost use Rattle.guest_machine.specs.Legs.{brought, ask};
     ghost use Rattle.guest_machine.specs.Pieces.{spelled_len};
     ghost use Rattle.guest_machine.specs.Recorded.{HasRoom, OfEach, Runs, has_process, recorded_first};
     ghost use Rattle.guest_machine.specs.Slices.{CanTake, IsCut, RanSlice};
@@ -233,7 +236,6 @@ impl Machine {
             steps.old + self.new.instructions + 1 }
         ensures at_most { steps.new ≤ steps.old + count }
     {
-        let _ = &self.kernel;
         match self.take_slice(pid, count, answers, out, steps) {
             Ok(taken) => Ok(taken.ran),
             Err(NoMemory) => Err(NoMemory),
@@ -255,6 +257,21 @@ impl Machine {
         }
     }
 
+    // The slice that a chooser picks, where so many instructions are left.
+    pub(crate) fn pick_slice<C: Chooser>(&self, left: u64, chooser: &mut C) -> Pick
+        requires able { OfEach self.now.kernel (λ m. RunState.CanGoOn ≡ run_state_of m) }
+        requires left { 0 < left }
+        ensures picked { OfEach self.now.kernel (λ m. IfSome (C.choices chooser.old 0) (λ choice.
+            result ≡ brought (ask m left) choice)) }
+        ensures later { (k : ℕ) → C.choices chooser.new k ≡ C.choices chooser.old (k + 1) }
+        ensures possible { OfEach self.now.kernel (λ m.
+            IsTrue (is_possible m result.pid result.count)) }
+        ensures some { 0 < result.count }
+        ensures within { result.count ≤ left }
+    {
+        pick_slice(&self.kernel, left, chooser)
+    }
+
     // Runs a slice as `run_slice` does, perhaps of nothing, and also tells how many bytes its records
     // are spelled by.
     pub(crate) fn take_slice<A: Answers, L: Ledger>(
@@ -265,7 +282,6 @@ impl Machine {
         out: &mut Vec<Record>,
         steps: &mut Steps<L>,
     ) -> Result<Taken, NoMemory>
-        requires live { IsLive self.old.kernel.guests pid }
         requires can { OfEach self.old.kernel (λ m. CanTake m pid count) }
         requires room { HasRoom self.old 2 count }
 
@@ -278,6 +294,9 @@ impl Machine {
         ensures len { IfOk result (λ taken.
             spelled_len out.new.items ≡ spelled_len out.old.items + taken.len) }
         ensures few { IfOk result (λ taken. taken.len < 2 ^ 39) }
+        ensures some { IfOk result (λ taken.
+            OfEach self.old.kernel (λ m. IsTrue (is_possible m pid count)) → 0 < count →
+            0 < taken.len) }
         ensures events { self.new.kernel.events ≤ self.old.kernel.events + 2 }
         ensures spelled { All HasSpelling out.old.items → All HasSpelling out.new.items }
 
@@ -288,6 +307,7 @@ impl Machine {
             steps.old + self.new.instructions + 1 }
         ensures at_most { steps.new ≤ steps.old + count }
     {
+        slices_take_steps();
         out.reserve(SLICE_RECORDS)?;
         let turn = take_turn(&mut self.kernel, pid, count, answers, steps);
         self.instructions += u128::from(turn.ran);

@@ -1,4 +1,4 @@
-use Rattle.std.proofs.Common.{rules, ◌≡◌, ◌<◌, ◌≤◌, ℕ, length, slice_index_or, refl, subst}
+use Rattle.std.proofs.Common.{rules, ◌≡◌, ◌<◌, ℕ, length, slice_index_or, refl, subst}
 use Rattle.arn_model.specs.Turn.{is_runnable}
 use Rattle.guest_machine.specs.Recorded.{OfEach}
 use Rattle.guest_machine.proofs.AbleLemmas.{Passed, found, not-found}

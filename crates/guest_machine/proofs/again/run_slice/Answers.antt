@@ -1,4 +1,4 @@
-use Rattle.std.proofs.Common.{◌≡◌, ◌≤◌, ◌∙◌, Option, ap, arith}
+use Rattle.std.proofs.Common.{◌≤◌, ◌∙◌, Option, ap, arith}
 use Rattle.parts_model.specs.Replies.{Answered}
 use Rattle.parts_model.specs.declared.limits.TheConstants.{MOST_SLICE}
 use Rattle.guest_devices.specs.Told.{told_answer}

@@ -1,4 +1,4 @@
-use Rattle.std.proofs.Common.{◌≡◌, [], ◌++◌, ◌∙◌, List, sym, ap, append-nil, option_to_list}
+use Rattle.std.proofs.Common.{◌++◌, ◌∙◌, List, sym, ap, append-nil, option_to_list}
 use Rattle.arn_base.specs.declared.records.Record.{Record}
 use Rattle.guest_machine.proofs.PiecesLemmas.{nothing-of}
 use Rattle.guest_machine.proofs.pieces.keep_turn.Goals as goal

@@ -2,7 +2,7 @@ use Rattle.std.proofs.Common.{rules, ◌≡◌, ◌≢◌, ◌<◌, ◌∙◌, a
 use Rattle.rv64_core.specs.declared.outcome.Outcome.TheVariants as outcome
 use Rattle.guest_calls.specs.State.{State}
 use Rattle.guest_machine.specs.Recorded.{IsReal}
-use Rattle.guest_machine.proofs.StepLemmas.{RunSoFar-all, RunSoFar-more, RunSoFar-same, RunSoFar-stops}
+use Rattle.guest_machine.proofs.StepLemmas.{RunSoFar-more, RunSoFar-same, RunSoFar-stops}
 use Rattle.guest_machine.proofs.turn.run_plain.Goals as goal
 
 pub returns-then-ne-clause-ran : goal.returns-then-ne-clause-ran

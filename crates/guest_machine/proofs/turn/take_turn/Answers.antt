@@ -1,5 +1,4 @@
-use Rattle.std.proofs.Common.{rules, ◌≡◌, ◌≢◌, ◌<◌, None, Some}
-use Rattle.rv64_core.specs.declared.outcome.Outcome.TheVariants as outcome
+use Rattle.std.proofs.Common.{rules, ◌<◌}
 use Rattle.guest_bodies.specs.Shown.{IsLive}
 use Rattle.guest_machine.proofs.WholeTurns.{stops-call, stops-end, stops-no_memory, take-dead, take-part, take-whole}
 use Rattle.guest_machine.proofs.turn.take_turn.Goals as goal

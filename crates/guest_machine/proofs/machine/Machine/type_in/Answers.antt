@@ -1,4 +1,4 @@
-use Rattle.std.proofs.Common.{◌≡◌, ◌+◌, ◌∙◌, ℕ, ap, refl}
+use Rattle.std.proofs.Common.{◌+◌, ◌∙◌, ap, refl}
 use Rattle.arn_model.specs.Run.{typed_step}
 use Rattle.guest_machine.specs.Recorded.{Recorded}
 use Rattle.guest_machine.proofs.MachineLemmas.{becomes-next, becomes-real}
