@@ -4,7 +4,7 @@ use Rattle.arn_base.specs.declared.records.Record.{Record}
 use Rattle.log_store.specs.Log.{IsLog}
 use Rattle.log_store.specs.Stops.{LeavesOnly}
 use Rattle.session_effects.specs.Effects.{Effect, committed, printed}
-use Rattle.session_effects.specs.Carrying.{IsAtRest, HoldsFirst, HoldsAll, HoldsMore, Keeps, CarriesOut, IsInText, IsAtCommit, IsInCommit, Stopped, StopsAt, RestsMore}
+use Rattle.session_effects.specs.Carrying.{IsAtRest, HoldsFirst, HoldsAll, HoldsMore, Keeps, CarriesOut, IsInText, IsAtCommit, IsInCommit, Stopped, StopsAt, StopsBetween, RestsMore}
 use Rattle.session_effects.specs.declared.halt.Halt.{Halt}
 use Rattle.session_effects.specs.declared.halt.Halt.TheVariants as halt
 use Rattle.session_effects.proofs.EffectLemmas.{printed-append, history-append}
@@ -161,6 +161,44 @@ module _ {D : Type 0} (is_run : List Record → Type 0) (d : Ghosts D) where
   StopsAt-then old mid new history there h0 h1 h2 why first rest is a b =
       subst (λ (x : List Effect). StopsAt is_run d old new history h0 h2 why x rest) (append-nil first)
       (StopsAt-behind old mid new history h0 h1 h2 why first [] rest a (subst (λ (x : List Record). StopsAt is_run d mid new x h1 h2 why [] rest) is b))
+
+  -- where effects stopped, with what was done of them
+  pub stops-of : (old new : D) (history : List Record) (h0 h1 : Option (List ℕ)) (why : Halt) (done undone : List Effect) → StopsBetween is_run d old new history h0 h1 why done undone → StopsAt is_run d old new history h0 h1 why [] (done ++ undone)
+  stops-of old new history h0 h1 why done undone s = record {
+    done = done;
+    undone = undone;
+    are_rest = refl;
+    part = s.part;
+    next = s.next;
+    stopped = s.stopped;
+    put = s.put;
+    keeps = s.keeps;
+    rests = s.rests;
+  }
+
+  halts-after : (old mid new : D) (history : List Record) (h0 h1 h2 : Option (List ℕ)) (why : Halt) (first done undone : List Effect) → CarriesOut is_run d old mid history h0 h1 first → StopsBetween is_run d mid new (history ++ committed first) h1 h2 why done undone → StopsBetween is_run d old new history h0 h2 why (first ++ done) undone
+  halts-after old mid new history h0 h1 h2 why first done undone a b = record {
+    part = b.part;
+    next = b.next;
+    stopped = b.stopped;
+    put = held-more h0 h1 h2 _ _ _ a.put b.put (sym (append_assoc (printed first) (printed done) b.part) ∙ ap (λ (x : List ℕ). x ++ b.part) (sym (printed-append first done)));
+    keeps = λ was. Keeps-append old mid new history first done b.next (a.keeps was) (b.keeps (a.rests was));
+    rests = λ none was. subst (IsAtRest d new) (history-append history first done) (b.rests none (a.rests was));
+  }
+
+  pub halts-behind : (old mid new : D) (history there : List Record) (h0 h1 h2 : Option (List ℕ)) (why : Halt) (first done undone : List Effect) → there ≡ history ++ committed first → CarriesOut is_run d old mid history h0 h1 first → StopsBetween is_run d mid new there h1 h2 why done undone → StopsBetween is_run d old new history h0 h2 why (first ++ done) undone
+  halts-behind old mid new history there h0 h1 h2 why first done undone is a b =
+      halts-after old mid new history h0 h1 h2 why first done undone a (subst (λ (x : List Record). StopsBetween is_run d mid new x h1 h2 why done undone) is b)
+
+  pub halts-before : (old new : D) (history : List Record) (h0 h1 : Option (List ℕ)) (why : Halt) (done undone more : List Effect) → StopsBetween is_run d old new history h0 h1 why done undone → StopsBetween is_run d old new history h0 h1 why done (undone ++ more)
+  halts-before old new history h0 h1 why done undone more s = record {
+    part = s.part;
+    next = s.next;
+    stopped = Stopped-before d new why undone more s.part s.next s.stopped;
+    put = s.put;
+    keeps = s.keeps;
+    rests = s.rests;
+  }
 
   -- a stop at any moment leaves the history and more
   moments_more : (old new : D) (history : List Record) (effects : List Effect) → LeavesOnly d.moment d.left_since old new (HoldsFirst is_run history effects) → LeavesOnly d.moment d.left_since old new (HoldsMore is_run history)

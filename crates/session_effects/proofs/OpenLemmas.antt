@@ -1,5 +1,5 @@
 -- The opening of a log, and effects behind it.
-use Rattle.std.proofs.Common.{◌≡◌, inl, ℕ, ◌≤◌, ◌++◌, List, [], length, Option, IfSome, is_some, refl, sym, subst, ◌∙◌, append-nil, arith}
+use Rattle.std.proofs.Common.{◌≡◌, inl, ℕ, ◌≤◌, ◌++◌, List, [], length, Option, IfSome, is_some, refl, sym, subst, append-nil, arith}
 use Rattle.arn_base.specs.declared.records.Record.{Record}
 use Rattle.arn_base.specs.Disk.{Only}
 use Rattle.log_store.specs.Log.{IsLog}

@@ -8,13 +8,13 @@ use Rattle.log_store.specs.Stores.{StoreState, IsLeftBy, IsBeforeOrAfter}
 use Rattle.log_store.specs.Stops.{LeavesOnly, NothingPending}
 use Rattle.log_store.specs.declared.size.TheConstants.{MOST_LOG}
 use Rattle.session_effects.specs.Effects.{Effect, Commits, Prints, committed, printed}
-use Rattle.session_effects.specs.Carrying.{IsAtRest, HoldsFirst, HoldsAll, Keeps, CarriesOut, IsInText, Stopped, StopsAt}
+use Rattle.session_effects.specs.Carrying.{IsAtRest, HoldsFirst, HoldsAll, Keeps, CarriesOut, IsInText, Stopped, StopsAt, StopsBetween}
 use Rattle.session_effects.specs.Printing.{PutsFront, StopsPut}
 use Rattle.session_effects.specs.declared.halt.Halt.{Halt}
 use Rattle.session_effects.specs.declared.halt.Halt.TheVariants as halt
 use Rattle.session_effects.proofs.EffectLemmas.{committed-one, printed-one}
 use Rattle.session_effects.proofs.Moments.{leaves-none, leaves-weaker}
-use Rattle.session_effects.proofs.CarryLemmas.{held-none}
+use Rattle.session_effects.proofs.CarryLemmas.{held-none, stops-of}
 use Rattle.arn_base.specs.declared.disk.Disk.{Ghosts}
 use Rattle.session_effects.proofs.DiskLaws.{OnlyNow, CountsNow, MayStay}
 
@@ -105,11 +105,8 @@ module _ {D : Type 0} (is_run : List Record → Type 0) (d : Ghosts D) where
   still_rests disk history was = subst (IsAtRest d disk) (sym (append-nil history)) was
 
   -- a beginning of a text was printed
-  stops_in : OnlyNow D d → (disk : D) (history : List Record) (h0 h1 : Option (List ℕ)) (why : Halt) (text : List ℕ) (p : PutsFront text h0 h1) → Stopped d disk why (Prints text ∷ []) p.put [] → StopsAt is_run d disk disk history h0 h1 why [] (Prints text ∷ [])
+  stops_in : OnlyNow D d → (disk : D) (history : List Record) (h0 h1 : Option (List ℕ)) (why : Halt) (text : List ℕ) (p : PutsFront text h0 h1) → Stopped d disk why (Prints text ∷ []) p.put [] → StopsBetween is_run d disk disk history h0 h1 why [] (Prints text ∷ [])
   stops_in only_now disk history h0 h1 why text p stopped = record {
-    done = [];
-    undone = Prints text ∷ [];
-    are_rest = refl;
     part = p.put;
     next = [];
     stopped = stopped;
@@ -121,21 +118,21 @@ module _ {D : Type 0} (is_run : List Record → Type 0) (d : Ghosts D) where
   in_text : (text put left : List ℕ) → text ≡ put ++ left → IsInText (Prints text ∷ []) put left
   in_text text put left is = record { more = []; is_text = ap (λ (x : List ℕ). Prints x ∷ []) is }
 
+  pub halts-text : OnlyNow D d → (disk : D) (history : List Record) (h0 h1 : Option (List ℕ)) (why : Halt) (text : List ℕ) → StopsPut why text h0 h1 → StopsBetween is_run d disk disk history h0 h1 why [] (Prints text ∷ [])
+  halts-text only_now disk history h0 h1 halt.Sink text p = stops_in only_now disk history h0 h1 halt.Sink text p.front (p.front.left, in_text text p.front.put p.front.left p.front.are_bytes, p.some_left, refl)
+  halts-text only_now disk history h0 h1 halt.NoMemory text p = stops_in only_now disk history h0 h1 halt.NoMemory text p (inr (p.left, in_text text p.put p.left p.are_bytes), inl refl)
+  halts-text only_now disk history h0 h1 halt.Source text p = absurd p
+  halts-text only_now disk history h0 h1 halt.Long text p = absurd p
+  halts-text only_now disk history h0 h1 halt.Disk text p = absurd p
+  halts-text only_now disk history h0 h1 (halt.Full log payload) text p = absurd p
+  halts-text only_now disk history h0 h1 (halt.Differs at) text p = absurd p
+
   pub StopsAt-text : OnlyNow D d → (disk : D) (history : List Record) (h0 h1 : Option (List ℕ)) (why : Halt) (text : List ℕ) → StopsPut why text h0 h1 → StopsAt is_run d disk disk history h0 h1 why [] (Prints text ∷ [])
-  StopsAt-text only_now disk history h0 h1 halt.Sink text p = stops_in only_now disk history h0 h1 halt.Sink text p.front (p.front.left, in_text text p.front.put p.front.left p.front.are_bytes, p.some_left, refl)
-  StopsAt-text only_now disk history h0 h1 halt.NoMemory text p = stops_in only_now disk history h0 h1 halt.NoMemory text p (inr (p.left, in_text text p.put p.left p.are_bytes), inl refl)
-  StopsAt-text only_now disk history h0 h1 halt.Source text p = absurd p
-  StopsAt-text only_now disk history h0 h1 halt.Long text p = absurd p
-  StopsAt-text only_now disk history h0 h1 halt.Disk text p = absurd p
-  StopsAt-text only_now disk history h0 h1 (halt.Full log payload) text p = absurd p
-  StopsAt-text only_now disk history h0 h1 (halt.Differs at) text p = absurd p
+  StopsAt-text only_now disk history h0 h1 why text p = stops-of is_run d disk disk history h0 h1 why [] (Prints text ∷ []) (halts-text only_now disk history h0 h1 why text p)
 
   -- nothing was carried out before memory ran out, or records turned out to be others
-  pub StopsAt-nothing : OnlyNow D d → (disk : D) (history : List Record) (held : Option (List ℕ)) (why : Halt) (effects : List Effect) → Stopped d disk why effects [] [] → StopsAt is_run d disk disk history held held why [] effects
-  StopsAt-nothing only_now disk history held why effects stopped = record {
-    done = [];
-    undone = effects;
-    are_rest = refl;
+  pub halts-nothing : OnlyNow D d → (disk : D) (history : List Record) (held : Option (List ℕ)) (why : Halt) (effects : List Effect) → Stopped d disk why effects [] [] → StopsBetween is_run d disk disk history held held why [] effects
+  halts-nothing only_now disk history held why effects stopped = record {
     part = [];
     next = [];
     stopped = stopped;
@@ -143,6 +140,9 @@ module _ {D : Type 0} (is_run : List Record → Type 0) (d : Ghosts D) where
     keeps = λ was. Keeps-none only_now disk history [] [] refl was;
     rests = λ none was. still_rests disk history was;
   }
+
+  pub StopsAt-nothing : OnlyNow D d → (disk : D) (history : List Record) (held : Option (List ℕ)) (why : Halt) (effects : List Effect) → Stopped d disk why effects [] [] → StopsAt is_run d disk disk history held held why [] effects
+  StopsAt-nothing only_now disk history held why effects stopped = stops-of is_run d disk disk history held held why [] effects (halts-nothing only_now disk history held why effects stopped)
 
   -- what a commit leaves
   commit-keeps : (old new : D) (history entries : List Record) (done next : List Effect) → done ++ next ≡ Commits entries ∷ [] → (is_run history → is_run (history ++ entries)) → (is_run history → is_run (history ++ committed done)) → ((bytes : List ℕ) → d.may_leave new bytes → HoldsAll history done next bytes) → LeavesOnly d.moment d.left_since old new (IsBeforeOrAfter history entries) → Keeps is_run d old new history done next
@@ -181,11 +181,8 @@ module _ {D : Type 0} (is_run : List Record → Type 0) (d : Ghosts D) where
       }
 
   -- a commit may be there or not
-  pub StopsAt-commit : CountsNow D d → (old new : D) (history entries : List Record) (held : Option (List ℕ)) (why : Halt) → (is_run history → is_run (history ++ entries)) → Stopped d new why (Commits entries ∷ []) [] (Commits entries ∷ []) → IfSome (d.image old) (λ bytes. Only bytes (d.may_leave old) → LeavesOnly d.moment d.left_since old new (IsBeforeOrAfter history entries)) → StopsAt is_run d old new history held held why [] (Commits entries ∷ [])
-  StopsAt-commit counts old new history entries held why run stopped any = record {
-    done = [];
-    undone = Commits entries ∷ [];
-    are_rest = refl;
+  pub halts-commit : CountsNow D d → (old new : D) (history entries : List Record) (held : Option (List ℕ)) (why : Halt) → (is_run history → is_run (history ++ entries)) → Stopped d new why (Commits entries ∷ []) [] (Commits entries ∷ []) → IfSome (d.image old) (λ bytes. Only bytes (d.may_leave old) → LeavesOnly d.moment d.left_since old new (IsBeforeOrAfter history entries)) → StopsBetween is_run d old new history held held why [] (Commits entries ∷ [])
+  halts-commit counts old new history entries held why run stopped any = record {
     part = [];
     next = Commits entries ∷ [];
     stopped = stopped;

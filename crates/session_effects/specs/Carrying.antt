@@ -103,6 +103,17 @@ pub record StopsAt {D : Type 0} (is_run : List Record → Type 0) (d : Ghosts D)
   pub keeps : IsAtRest d old history → Keeps is_run d old new history (first ++ done) next
   pub rests : next ≡ [] → IsAtRest d old history → IsAtRest d new (history ++ committed (first ++ done))
 
+-- The same, where these effects were carried out, and of those that come next some of the first at most.
+pub record StopsBetween {D : Type 0} (is_run : List Record → Type 0) (d : Ghosts D) (old new : D)
+    (history : List Record) (held holds : Option (List ℕ)) (why : Halt) (done undone : List Effect)
+    : Type 0 where
+  pub part : List ℕ
+  pub next : List Effect
+  pub stopped : Stopped d new why undone part next
+  pub put : holds ≡ option_map (λ before. before ++ (printed done ++ part)) held
+  pub keeps : IsAtRest d old history → Keeps is_run d old new history done next
+  pub rests : next ≡ [] → IsAtRest d old history → IsAtRest d new (history ++ committed done)
+
 -- A log of a history, and of more records behind it. Where the history was that of a run, it still is.
 pub record HoldsMore (is_run : List Record → Type 0) (history : List Record) (bytes : List ℕ) : Type 0 where
   pub more : List Record

@@ -3,12 +3,14 @@ use Rattle.std.specs.Prelude.{◌≡◌, ◌≢◌, ℕ, ◌++◌, List, [], ◌
 use Rattle.arn_base.specs.declared.records.Record.{Record}
 use Rattle.arn_base.specs.declared.disk.Disk.{Ghosts}
 use Rattle.arn_base.specs.Disk.{Only}
+use Rattle.arn_base.specs.Faults.{NeverFalls}
 use Rattle.log_store.specs.Log.{IsLog}
 use Rattle.log_store.specs.Stores.{StoreState, IsLeftBy, KeepsRecords}
-use Rattle.log_store.specs.Stops.{IsOnlyRead, LeavesOnly, NothingPending}
+use Rattle.log_store.specs.Stops.{GoesOn, IsOnlyRead, LeavesOnly, NothingPending}
 use Rattle.session_effects.specs.Effects.{Effect, Prints, committed}
-use Rattle.session_effects.specs.Carrying.{HoldsLog, HoldsMore, IsAtRest, Keeps, CarriesOut, Stopped, StopsAt, RestsMore}
+use Rattle.session_effects.specs.Carrying.{HoldsLog, HoldsMore, IsAtRest, Keeps, CarriesOut, Stopped, StopsAt, StopsBetween, RestsMore}
 use Rattle.session_effects.specs.Printing.{StopsPut}
+use Rattle.session_effects.specs.Standing.{IsCause}
 use Rattle.session_effects.specs.declared.halt.Halt.{Halt}
 use Rattle.session_effects.specs.declared.halt.Halt.TheVariants as halt
 
@@ -149,3 +151,52 @@ pub record EffectsFollow {D : Type 0} (is_run : List Record → Type 0) (d : Gho
   pub behind : BehindStops is_run d
   pub before : BeforeStops is_run d
   pub among : AmongStops is_run d
+
+module _ {D : Type 0} (is_run : List Record → Type 0) (d : Ghosts D) where
+  -- effects stop before the first of them
+  abbrev pub NothingHalts : Type 0
+  NothingHalts = (disk : D) (history : List Record) (held : Option (List ℕ)) (why : Halt)
+      (effects : List Effect) → Stopped d disk why effects [] [] →
+      StopsBetween is_run d disk disk history held held why [] effects
+
+  -- they stop in a text of which some was put
+  abbrev pub TextHalts : Type 0
+  TextHalts = (disk : D) (history : List Record) (h0 h1 : Option (List ℕ)) (why : Halt) (text : List ℕ) →
+      StopsPut why text h0 h1 → StopsBetween is_run d disk disk history h0 h1 why [] (Prints text ∷ [])
+
+  -- they stop behind others
+  abbrev pub BehindHalts : Type 0
+  BehindHalts = (old mid new : D) (history there : List Record) (h0 h1 h2 : Option (List ℕ)) (why : Halt)
+      (first done undone : List Effect) → there ≡ history ++ committed first →
+      CarriesOut is_run d old mid history h0 h1 first →
+      StopsBetween is_run d mid new there h1 h2 why done undone →
+      StopsBetween is_run d old new history h0 h2 why (first ++ done) undone
+
+  -- they stop before others
+  abbrev pub BeforeHalts : Type 0
+  BeforeHalts = (old new : D) (history : List Record) (h0 h1 : Option (List ℕ)) (why : Halt)
+      (done undone more : List Effect) → StopsBetween is_run d old new history h0 h1 why done undone →
+      StopsBetween is_run d old new history h0 h1 why done (undone ++ more)
+
+  -- all of them were stopped somewhere
+  abbrev pub AllHalts : Type 0
+  AllHalts = (old new : D) (history : List Record) (h0 h1 : Option (List ℕ)) (why : Halt)
+      (done undone : List Effect) → StopsBetween is_run d old new history h0 h1 why done undone →
+      StopsAt is_run d old new history h0 h1 why [] (done ++ undone)
+
+-- where effects stop, with what was done and what wasn't
+pub record HaltsFollow {D : Type 0} (is_run : List Record → Type 0) (d : Ghosts D) : Type 0 where
+  pub nothing : NothingHalts is_run d
+  pub text : TextHalts is_run d
+  pub behind : BehindHalts is_run d
+  pub before : BeforeHalts is_run d
+  pub all : AllHalts is_run d
+
+-- counts of faults over calls that follow one another, and what made a later one halt
+pub record CausesFollow {D : Type 0} (image : D → Option (List ℕ)) (faults : D → ℕ) : Type 0 where
+  pub still : (a : ℕ) → NeverFalls a a
+  pub falls : (a b c : ℕ) → NeverFalls a b → NeverFalls b c → NeverFalls a c
+  pub later : (old mid new : D) → GoesOn image faults old mid → GoesOn image faults mid new →
+      GoesOn image faults old new
+  pub cause : (why : Halt) (d0 d1 d2 s0 s1 s2 : ℕ) → NeverFalls d0 d1 → NeverFalls d1 d2 →
+      NeverFalls s0 s1 → NeverFalls s1 s2 → IsCause why d1 d2 s1 s2 → IsCause why d0 d2 s0 s2

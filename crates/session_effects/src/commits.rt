@@ -3,7 +3,7 @@ ghost use Rattle.std.specs.Prelude.{◌≡◌, ◌++◌, [], ◌∷◌, ℕ, Lis
 ghost use Rattle.log_store.specs.Stops.{GoesOn};
 ghost use Rattle.result_log.specs.Spelling.{HasSpelling};
 ghost use Rattle.session_effects.specs.Effects.{Commits, commit_of};
-ghost use Rattle.session_effects.specs.Carrying.{StopsAt};
+ghost use Rattle.session_effects.specs.Carrying.{StopsAt, StopsBetween};
 ghost use Rattle.session_effects.specs.Standing.{Carries, IsCause, IsOpen};
 
 use crate::halt::Halt;
@@ -25,6 +25,9 @@ pub fn commit<R: Runs, D: Disk>(
         (Commits entries.items ∷ [])) }
     ensures stops { IfErr result (λ halt. (held : Option (List ℕ)) →
         StopsAt R.is_run D.Disk disk.old disk.new store.old.entries held held halt []
+        (Commits entries.items ∷ [])) }
+    ensures undone { IfErr result (λ halt. (held : Option (List ℕ)) →
+        StopsBetween R.is_run D.Disk disk.old disk.new store.old.entries held held halt []
         (Commits entries.items ∷ [])) }
     ensures cause { IfErr result (λ halt. (faults : ℕ) →
         IsCause halt (D.faults disk.old) (D.faults disk.new) faults faults) }

@@ -1,5 +1,5 @@
 // What holds of effects as a whole.
-ghost use Rattle.session_effects.specs.Laws.{OpeningCarries, OpeningKeeps, OpeningLeaves, OpenedCarries, OpenedStops, OpenedLeaves, OpenedRests, ReadsNothing, HistoryIsStore, EffectsFollow, CarriedLeaves, StoppedLeaves, CarriedRests, StoppedRests};
+ghost use Rattle.session_effects.specs.Laws.{CausesFollow, OpeningCarries, OpeningKeeps, OpeningLeaves, OpenedCarries, OpenedStops, OpenedLeaves, OpenedRests, ReadsNothing, HistoryIsStore, EffectsFollow, HaltsFollow, CarriedLeaves, StoppedLeaves, CarriedRests, StoppedRests};
 
 use crate::runs::Runs;
 use arn_base::Disk;
@@ -15,6 +15,16 @@ pub fn effects_follow<R: Runs, D: Disk>()
     ensures stop_leaves { StoppedLeaves R.is_run D.Disk }
     ensures rests { CarriedRests R.is_run D.Disk }
     ensures stop_rests { StoppedRests R.is_run D.Disk }
+{}
+
+/// Where effects stop, with what was done and what wasn't.
+pub fn halts_follow<R: Runs, D: Disk>()
+    ensures { HaltsFollow R.is_run D.Disk }
+{}
+
+/// Counts of faults follow one another, and what made a later call halt made the whole halt.
+pub fn causes_follow<D: Disk>()
+    ensures { CausesFollow D.image D.faults }
 {}
 
 /// Effects follow the opening of a log, which is none.

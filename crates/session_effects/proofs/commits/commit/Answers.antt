@@ -1,14 +1,24 @@
-use Rattle.std.proofs.Common.{Err, ap}
-use Rattle.session_effects.proofs.CommitLemmas.{Carries-commit, StopsAt-error-result}
+use Rattle.std.proofs.Common.{[], ◌∷◌, Err, ap}
+use Rattle.session_effects.specs.Effects.{Commits}
+use Rattle.session_effects.proofs.CommitLemmas.{Carries-commit, halts-error-result, stops-result}
 use Rattle.session_effects.proofs.StepLemmas.{CarriesOut-commit}
 use Rattle.session_effects.proofs.commits.commit.Goals as goal
 
-pub returns-in_err-commit-clause-stops : goal.returns-in_err-commit-clause-stops
-returns-in_err-commit-clause-stops g c =
-    StopsAt-error-result g.R.Runs.is_run g.D.Disk g.met.D.Disk.counts_now g.met.D.Disk.only_now c.from_residual.result c.args.disk.now c.commit.new.disk c.args.store.now
+pub returns-in_err-commit-clause-undone : goal.returns-in_err-commit-clause-undone
+returns-in_err-commit-clause-undone g c =
+    halts-error-result g.R.Runs.is_run g.D.Disk g.met.D.Disk.counts_now g.met.D.Disk.only_now c.from_residual.result c.args.disk.now c.commit.new.disk c.args.store.now
     c.args.entries.items c.in_err-commit.field-0.0 c.from_residual.ensures.1 c.requires.run c.requires.open.left c.in_err-commit.ensures.any_moment
     (λ log payload is. let full = c.in_err-commit.ensures.full log payload (ap Err is) in record { is_len = full.0; is_payload = full.1; too_long = full.2 })
     (λ log payload is. let same = c.in_err-commit.ensures.full_unchanged log payload (ap Err is) in same.1)
+
+pub returns-in_err-commit-clause-stops : goal.returns-in_err-commit-clause-stops
+returns-in_err-commit-clause-stops g c =
+    stops-result g.R.Runs.is_run g.D.Disk c.from_residual.result c.args.disk.now c.commit.new.disk c.args.store.now.entries (Commits c.args.entries.items ∷ [])
+    (
+    halts-error-result g.R.Runs.is_run g.D.Disk g.met.D.Disk.counts_now g.met.D.Disk.only_now c.from_residual.result c.args.disk.now c.commit.new.disk c.args.store.now
+    c.args.entries.items c.in_err-commit.field-0.0 c.from_residual.ensures.1 c.requires.run c.requires.open.left c.in_err-commit.ensures.any_moment
+    (λ log payload is. let full = c.in_err-commit.ensures.full log payload (ap Err is) in record { is_len = full.0; is_payload = full.1; too_long = full.2 })
+    (λ log payload is. let same = c.in_err-commit.ensures.full_unchanged log payload (ap Err is) in same.1))
 
 pub returns-clause-carries : goal.returns-clause-carries
 returns-clause-carries g c held =
