@@ -1,0 +1,252 @@
+use Rattle.std.proofs.Common.{◌≡◌, ◌<◌, ◌^◌, ◌++◌, ◌∙◌, ℕ, List, [], ◌∷◌, length, map, inl, arith, refl, sym, ap, subst, append-nil}
+use Rattle.std.proofs.lemmas.Bool.{eqb-false, eqb-true}
+use Rattle.arn_base.specs.declared.records.Record.{Record}
+use Rattle.log_model.specs.Records.{IsRun, named}
+use Rattle.guest_machine.specs.Legs.{fresh, going_by, input_of, unanswered}
+use Rattle.session_effects.specs.Carrying.{CarriesOut, StopsBetween}
+use Rattle.session_effects.specs.Effects.{Effect, Commits, committed}
+use Rattle.session_effects.specs.Printing.{StopsPut}
+use Rattle.session_effects.specs.Standing.{Carries}
+use Rattle.session_effects.specs.declared.halt.Halt.TheVariants as halt
+use Rattle.session_runs.specs.Outputs.{outputs_text}
+use Rattle.session_runs.specs.Points.{around}
+use Rattle.session_runs.specs.Ready.{IsReady, machine_of}
+use Rattle.session_runs.specs.Runs.{leg_effects}
+use Rattle.session_runs.proofs.LegLemmas.{ready-recorded}
+use Rattle.session_runs.proofs.StopLemmas.{Stops-lost, Stops-memory, Stops-text, cut-executed}
+use Rattle.session_runs.proofs.TakenLemmas.{Advances-taken, Carries-leg, Carries-none, Taken, ends-taken, err-same, leg-text, more-taken, room-for, taken}
+use Rattle.session_runs.proofs.running.run_leg.Goals as goal
+
+pub run_leg-requires : goal.run_leg-requires
+run_leg-requires g c = record {
+  room = room-for c.history_laws.ensures.room c.args.machine.now c.args.store.now.entries _ c.args.left c.requires.ready c.count_records.ensures (omega arith) (omega (arith, c.requires.few));
+}
+
+pub returns-in_err-leg-clause-stops : goal.returns-in_err-leg-clause-stops
+returns-in_err-leg-clause-stops g c =
+    let history = c.args.store.now.entries in
+    let m = machine_of history in
+    let cut = c.in_err-leg.ensures.cut m c.requires.ready.is_after.leads in
+    let old = around (g.C.Chooser.choices c.args.chooser.now) c.args.answers.now c.args.steps.now in
+    let new = around (g.C.Chooser.choices c.run_leg.new.chooser) c.run_leg.new.answers c.run_leg.new.steps in
+    err-same c.from_residual.result halt.NoMemory _ c.from_residual.ensures.1
+    (λ budget.
+    Stops-memory IsRun g.D.Disk g.A.Answers.answers c.halts_follow.ensures budget m c.args.left cut.slices (c.history_laws.ensures.legs (named history) c.args.left [] cut.slices cut.took.in_range) cut.took.open_before c.args.disk.now history (g.K.Sink.holds c.args.sink.now) old new (unanswered cut.lost) cut.is_open cut.picked cut.took.in_range cut.in_range cut.took.replied
+    (cut-executed g.A.Answers.answers m c.args.left c.args.machine.now c.run_leg.new.self old.choices new.choices c.args.answers.now c.run_leg.new.answers c.new-entries.result.items c.run_leg.new.out.items old.steps new.steps cut))
+
+nothing : (xs : List Record) → length xs ≡ 0 → xs ≡ []
+nothing [] none = refl
+nothing (x ∷ xs) none = absurd (omega (arith, none))
+
+there-are : (xs : List Record) → (length xs ≡ 0 → ⊥) → 0 < length xs
+there-are [] some = absurd (some refl)
+there-are (x ∷ xs) some = omega arith
+
+-- a leg without records leaves the history as it is
+pub returns-then-is_empty-clause-ready : goal.returns-then-is_empty-clause-ready
+returns-then-is_empty-clause-ready g c =
+    let history = c.args.store.now.entries in
+    let m = machine_of history in
+    let laws = c.history_laws.ensures in
+    let leg = c.in_ok-leg.leg in
+    let entries = c.run_leg.new.out.items in
+    let is_leg = c.in_ok-leg.ensures.leg m c.requires.ready.is_after.leads in
+    let old = around (g.C.Chooser.choices c.args.chooser.now) c.args.answers.now c.args.steps.now in
+    let new = around (g.C.Chooser.choices c.run_leg.new.chooser) c.run_leg.new.answers c.run_leg.new.steps in
+    let t : Taken g.A.Answers.answers m c.args.left leg entries old new = taken g.A.Answers.answers laws.legs history c.args.left leg c.args.machine.now c.run_leg.new.self old.choices new.choices c.args.answers.now c.run_leg.new.answers c.new-entries.result.items entries old.steps new.steps is_leg c.new-entries.ensures.items in
+    let none : entries ≡ [] = nothing entries (sym c.run_leg.new.out.ok.0 ∙ eqb-true c.run_leg.new.out.len 0 (sym c.is_empty.ensures ∙ c.if-is_empty.true)) in
+    let same : history ≡ history ++ entries = sym (ap (λ (x : List Record). history ++ x) none ∙ append-nil history) in
+    subst (λ (x : List Record). IsReady c.run_leg.new.self x) (sym same) (ready-recorded laws.named laws.records laws.runs laws.are_run c.args.machine.now c.run_leg.new.self history (map input_of is_leg.slices) c.new-entries.result.items entries c.requires.ready is_leg.took.runs c.new-entries.ensures.items)
+
+pub returns-then-is_empty-clause-advances : goal.returns-then-is_empty-clause-advances
+returns-then-is_empty-clause-advances g c budget =
+    let history = c.args.store.now.entries in
+    let m = machine_of history in
+    let laws = c.history_laws.ensures in
+    let leg = c.in_ok-leg.leg in
+    let entries = c.run_leg.new.out.items in
+    let is_leg = c.in_ok-leg.ensures.leg m c.requires.ready.is_after.leads in
+    let old = around (g.C.Chooser.choices c.args.chooser.now) c.args.answers.now c.args.steps.now in
+    let new = around (g.C.Chooser.choices c.run_leg.new.chooser) c.run_leg.new.answers c.run_leg.new.steps in
+    let t : Taken g.A.Answers.answers m c.args.left leg entries old new = taken g.A.Answers.answers laws.legs history c.args.left leg c.args.machine.now c.run_leg.new.self old.choices new.choices c.args.answers.now c.run_leg.new.answers c.new-entries.result.items entries old.steps new.steps is_leg c.new-entries.ensures.items in
+    let none : entries ≡ [] = nothing entries (sym c.run_leg.new.out.ok.0 ∙ eqb-true c.run_leg.new.out.len 0 (sym c.is_empty.ensures ∙ c.if-is_empty.true)) in
+    let same : history ≡ history ++ entries = sym (ap (λ (x : List Record). history ++ x) none ∙ append-nil history) in
+    let holds = g.K.Sink.holds c.args.sink.now in
+    let carries : Carries IsRun g.D.Disk c.args.disk.now c.args.disk.now c.args.store.now c.args.store.now holds holds (leg_effects m.events entries) =
+    subst (λ (x : List Record). Carries IsRun g.D.Disk c.args.disk.now c.args.disk.now c.args.store.now c.args.store.now holds holds (leg_effects m.events x)) (sym none)
+    (Carries-none IsRun g.D.Disk c.effects_follow.ensures.follow c.args.disk.now c.args.store.now holds c.requires.open) in
+    Advances-taken g.A.Answers.answers laws.names laws.begin laws.append history history c.args.left leg entries old new t same budget _ carries
+
+pub returns-then-is_empty-clause-end : goal.returns-then-is_empty-clause-end
+returns-then-is_empty-clause-end g c =
+    let history = c.args.store.now.entries in
+    let m = machine_of history in
+    let laws = c.history_laws.ensures in
+    let leg = c.in_ok-leg.leg in
+    let entries = c.run_leg.new.out.items in
+    let is_leg = c.in_ok-leg.ensures.leg m c.requires.ready.is_after.leads in
+    let old = around (g.C.Chooser.choices c.args.chooser.now) c.args.answers.now c.args.steps.now in
+    let new = around (g.C.Chooser.choices c.run_leg.new.chooser) c.run_leg.new.answers c.run_leg.new.steps in
+    let t : Taken g.A.Answers.answers m c.args.left leg entries old new = taken g.A.Answers.answers laws.legs history c.args.left leg c.args.machine.now c.run_leg.new.self old.choices new.choices c.args.answers.now c.run_leg.new.answers c.new-entries.result.items entries old.steps new.steps is_leg c.new-entries.ensures.items in
+    let none : entries ≡ [] = nothing entries (sym c.run_leg.new.out.ok.0 ∙ eqb-true c.run_leg.new.out.len 0 (sym c.is_empty.ensures ∙ c.if-is_empty.true)) in
+    let same : history ≡ history ++ entries = sym (ap (λ (x : List Record). history ++ x) none ∙ append-nil history) in
+    ends-taken g.A.Answers.answers laws.names laws.begin laws.append history history c.args.left leg entries old new t same
+
+pub returns-then-is_empty-clause-more : goal.returns-then-is_empty-clause-more
+returns-then-is_empty-clause-more g c more =
+    let history = c.args.store.now.entries in
+    let m = machine_of history in
+    let laws = c.history_laws.ensures in
+    let leg = c.in_ok-leg.leg in
+    let entries = c.run_leg.new.out.items in
+    let is_leg = c.in_ok-leg.ensures.leg m c.requires.ready.is_after.leads in
+    let old = around (g.C.Chooser.choices c.args.chooser.now) c.args.answers.now c.args.steps.now in
+    let new = around (g.C.Chooser.choices c.run_leg.new.chooser) c.run_leg.new.answers c.run_leg.new.steps in
+    let t : Taken g.A.Answers.answers m c.args.left leg entries old new = taken g.A.Answers.answers laws.legs history c.args.left leg c.args.machine.now c.run_leg.new.self old.choices new.choices c.args.answers.now c.run_leg.new.answers c.new-entries.result.items entries old.steps new.steps is_leg c.new-entries.ensures.items in
+    let none : entries ≡ [] = nothing entries (sym c.run_leg.new.out.ok.0 ∙ eqb-true c.run_leg.new.out.len 0 (sym c.is_empty.ensures ∙ c.if-is_empty.true)) in
+    let same : history ≡ history ++ entries = sym (ap (λ (x : List Record). history ++ x) none ∙ append-nil history) in
+    more-taken g.A.Answers.answers laws.names laws.begin laws.append history history c.args.left leg entries old new t same more
+
+pub push_outputs-requires : goal.push_outputs-requires
+push_outputs-requires g c =
+    let room = room-for c.history_laws.ensures.room c.args.machine.now c.args.store.now.entries (2 ^ 63) 0 c.requires.ready c.count_records.ensures (omega arith) (omega arith) in
+    record { room = omega (arith, room.events, c.events-event.ensures, c.as_slice.type_inv.1) }
+
+pub returns-in_err-push_outputs-clause-stops : goal.returns-in_err-push_outputs-clause-stops
+returns-in_err-push_outputs-clause-stops g c =
+    let history = c.args.store.now.entries in
+    let m = machine_of history in
+    let laws = c.history_laws.ensures in
+    let leg = c.in_ok-leg.leg in
+    let entries = c.run_leg.new.out.items in
+    let is_leg = c.in_ok-leg.ensures.leg m c.requires.ready.is_after.leads in
+    let old = around (g.C.Chooser.choices c.args.chooser.now) c.args.answers.now c.args.steps.now in
+    let new = around (g.C.Chooser.choices c.run_leg.new.chooser) c.run_leg.new.answers c.run_leg.new.steps in
+    let t : Taken g.A.Answers.answers m c.args.left leg entries old new = taken g.A.Answers.answers laws.legs history c.args.left leg c.args.machine.now c.run_leg.new.self old.choices new.choices c.args.answers.now c.run_leg.new.answers c.new-entries.result.items entries old.steps new.steps is_leg c.new-entries.ensures.items in
+    let some : 0 < length entries = there-are entries (λ none. eqb-false c.run_leg.new.out.len 0 (sym c.is_empty.ensures ∙ c.if-is_empty.false) (c.run_leg.new.out.ok.0 ∙ none)) in
+    let some_taken : 0 < length (going_by (fresh m c.args.left) t.slices).entries = subst (λ (x : List Record). 0 < length x) t.are some in
+    let holds = g.K.Sink.holds c.args.sink.now in
+    err-same c.from_residual-in_err-push_outputs.result halt.NoMemory _ c.from_residual-in_err-push_outputs.ensures.1
+    (λ budget.
+    Stops-lost IsRun g.D.Disk g.A.Answers.answers c.halts_follow.ensures budget m c.args.left t.slices t.same t.opens c.args.disk.now c.args.disk.now history holds holds halt.NoMemory old new leg.end t.closed some_taken t.picked t.in_range t.replied t.executed
+    (λ more. c.halts_follow.ensures.nothing c.args.disk.now history holds halt.NoMemory _ (inl refl, inl refl)))
+
+pub commit-requires-clause-run : goal.commit-requires-clause-run
+commit-requires-clause-run g c =
+    let history = c.args.store.now.entries in
+    let m = machine_of history in
+    let laws = c.history_laws.ensures in
+    let leg = c.in_ok-leg.leg in
+    let entries = c.run_leg.new.out.items in
+    let is_leg = c.in_ok-leg.ensures.leg m c.requires.ready.is_after.leads in
+    let old = around (g.C.Chooser.choices c.args.chooser.now) c.args.answers.now c.args.steps.now in
+    let new = around (g.C.Chooser.choices c.run_leg.new.chooser) c.run_leg.new.answers c.run_leg.new.steps in
+    let t : Taken g.A.Answers.answers m c.args.left leg entries old new = taken g.A.Answers.answers laws.legs history c.args.left leg c.args.machine.now c.run_leg.new.self old.choices new.choices c.args.answers.now c.run_leg.new.answers c.new-entries.result.items entries old.steps new.steps is_leg c.new-entries.ensures.items in
+    λ was. (ready-recorded laws.named laws.records laws.runs laws.are_run c.args.machine.now c.run_leg.new.self history (map input_of is_leg.slices) c.new-entries.result.items entries c.requires.ready is_leg.took.runs c.new-entries.ensures.items).is_run
+
+pub returns-in_err-commit-clause-stops : goal.returns-in_err-commit-clause-stops
+returns-in_err-commit-clause-stops g c =
+    let history = c.args.store.now.entries in
+    let m = machine_of history in
+    let laws = c.history_laws.ensures in
+    let leg = c.in_ok-leg.leg in
+    let entries = c.run_leg.new.out.items in
+    let is_leg = c.in_ok-leg.ensures.leg m c.requires.ready.is_after.leads in
+    let old = around (g.C.Chooser.choices c.args.chooser.now) c.args.answers.now c.args.steps.now in
+    let new = around (g.C.Chooser.choices c.run_leg.new.chooser) c.run_leg.new.answers c.run_leg.new.steps in
+    let t : Taken g.A.Answers.answers m c.args.left leg entries old new = taken g.A.Answers.answers laws.legs history c.args.left leg c.args.machine.now c.run_leg.new.self old.choices new.choices c.args.answers.now c.run_leg.new.answers c.new-entries.result.items entries old.steps new.steps is_leg c.new-entries.ensures.items in
+    let some : 0 < length entries = there-are entries (λ none. eqb-false c.run_leg.new.out.len 0 (sym c.is_empty.ensures ∙ c.if-is_empty.false) (c.run_leg.new.out.ok.0 ∙ none)) in
+    let some_taken : 0 < length (going_by (fresh m c.args.left) t.slices).entries = subst (λ (x : List Record). 0 < length x) t.are some in
+    let holds = g.K.Sink.holds c.args.sink.now in
+    let why = c.in_err-commit.field-0.0 in
+    let stopped : (more : List Effect) → StopsBetween IsRun g.D.Disk c.args.disk.now c.commit.new.disk history holds holds why [] (Commits (going_by (fresh m c.args.left) t.slices).entries ∷ more) =
+    λ more. subst (λ (x : List Record). StopsBetween IsRun g.D.Disk c.args.disk.now c.commit.new.disk history holds holds why [] (Commits x ∷ more)) t.are
+    (c.halts_follow.ensures.before c.args.disk.now c.commit.new.disk history holds holds why [] (Commits entries ∷ []) more (c.in_err-commit.ensures.undone holds)) in
+    err-same c.from_residual-in_err-commit.result why _ c.from_residual-in_err-commit.ensures.1
+    (λ budget. Stops-lost IsRun g.D.Disk g.A.Answers.answers c.halts_follow.ensures budget m c.args.left t.slices t.same t.opens c.args.disk.now c.commit.new.disk history holds holds why old new leg.end t.closed some_taken t.picked t.in_range t.replied t.executed stopped)
+
+pub returns-in_err-put_all-clause-stops : goal.returns-in_err-put_all-clause-stops
+returns-in_err-put_all-clause-stops g c =
+    let history = c.args.store.now.entries in
+    let m = machine_of history in
+    let laws = c.history_laws.ensures in
+    let leg = c.in_ok-leg.leg in
+    let entries = c.run_leg.new.out.items in
+    let is_leg = c.in_ok-leg.ensures.leg m c.requires.ready.is_after.leads in
+    let old = around (g.C.Chooser.choices c.args.chooser.now) c.args.answers.now c.args.steps.now in
+    let new = around (g.C.Chooser.choices c.run_leg.new.chooser) c.run_leg.new.answers c.run_leg.new.steps in
+    let t : Taken g.A.Answers.answers m c.args.left leg entries old new = taken g.A.Answers.answers laws.legs history c.args.left leg c.args.machine.now c.run_leg.new.self old.choices new.choices c.args.answers.now c.run_leg.new.answers c.new-entries.result.items entries old.steps new.steps is_leg c.new-entries.ensures.items in
+    let some : 0 < length entries = there-are entries (λ none. eqb-false c.run_leg.new.out.len 0 (sym c.is_empty.ensures ∙ c.if-is_empty.false) (c.run_leg.new.out.ok.0 ∙ none)) in
+    let some_taken : 0 < length (going_by (fresh m c.args.left) t.slices).entries = subst (λ (x : List Record). 0 < length x) t.are some in
+    let holds = g.K.Sink.holds c.args.sink.now in
+    let why = c.in_err-put_all.field-0.0 in
+    let carried = c.in_ok-commit.ensures.carries holds in
+    let text = leg-text c.requires.ready.is_after.leads.events c.events-event.ensures c.as_slice.ensures.value c.clear.ensures.bytes c.in_ok-push_outputs.ensures in
+    err-same c.from_residual-in_err-put_all.result why _ c.from_residual-in_err-put_all.ensures.1
+    (λ budget.
+    Stops-text IsRun g.D.Disk g.A.Answers.answers c.halts_follow.ensures budget m c.args.left t.slices t.same t.opens laws.begin c.args.disk.now c.commit.new.disk history c.commit.new.store.entries holds (g.K.Sink.holds c.put_all.new.sink) why old new leg.end t.closed some_taken t.picked t.in_range t.replied t.executed
+    (subst (λ (x : List Record). c.commit.new.store.entries ≡ history ++ committed (Commits x ∷ [])) t.are carried.entries)
+    (subst (λ (x : List Record). CarriesOut IsRun g.D.Disk c.args.disk.now c.commit.new.disk history holds holds (Commits x ∷ [])) t.are carried.out)
+    (subst (λ (x : List ℕ). StopsPut why x holds (g.K.Sink.holds c.put_all.new.sink)) (c.as_bytes.ensures.value ∙ text ∙ ap (outputs_text m.events) t.are) c.in_err-put_all.ensures.stops))
+
+pub returns-clause-ready : goal.returns-clause-ready
+returns-clause-ready g c =
+    let history = c.args.store.now.entries in
+    let m = machine_of history in
+    let laws = c.history_laws.ensures in
+    let leg = c.in_ok-leg.leg in
+    let entries = c.run_leg.new.out.items in
+    let is_leg = c.in_ok-leg.ensures.leg m c.requires.ready.is_after.leads in
+    let old = around (g.C.Chooser.choices c.args.chooser.now) c.args.answers.now c.args.steps.now in
+    let new = around (g.C.Chooser.choices c.run_leg.new.chooser) c.run_leg.new.answers c.run_leg.new.steps in
+    let t : Taken g.A.Answers.answers m c.args.left leg entries old new = taken g.A.Answers.answers laws.legs history c.args.left leg c.args.machine.now c.run_leg.new.self old.choices new.choices c.args.answers.now c.run_leg.new.answers c.new-entries.result.items entries old.steps new.steps is_leg c.new-entries.ensures.items in
+    let all : c.commit.new.store.entries ≡ history ++ entries = (c.in_ok-commit.ensures.carries (g.K.Sink.holds c.args.sink.now)).entries ∙ ap (λ (x : List Record). history ++ x) (append-nil entries) in
+    subst (λ (x : List Record). IsReady c.run_leg.new.self x) (sym all) (ready-recorded laws.named laws.records laws.runs laws.are_run c.args.machine.now c.run_leg.new.self history (map input_of is_leg.slices) c.new-entries.result.items entries c.requires.ready is_leg.took.runs c.new-entries.ensures.items)
+
+pub returns-clause-advances : goal.returns-clause-advances
+returns-clause-advances g c budget =
+    let history = c.args.store.now.entries in
+    let m = machine_of history in
+    let laws = c.history_laws.ensures in
+    let leg = c.in_ok-leg.leg in
+    let entries = c.run_leg.new.out.items in
+    let is_leg = c.in_ok-leg.ensures.leg m c.requires.ready.is_after.leads in
+    let old = around (g.C.Chooser.choices c.args.chooser.now) c.args.answers.now c.args.steps.now in
+    let new = around (g.C.Chooser.choices c.run_leg.new.chooser) c.run_leg.new.answers c.run_leg.new.steps in
+    let t : Taken g.A.Answers.answers m c.args.left leg entries old new = taken g.A.Answers.answers laws.legs history c.args.left leg c.args.machine.now c.run_leg.new.self old.choices new.choices c.args.answers.now c.run_leg.new.answers c.new-entries.result.items entries old.steps new.steps is_leg c.new-entries.ensures.items in
+    let some : 0 < length entries = there-are entries (λ none. eqb-false c.run_leg.new.out.len 0 (sym c.is_empty.ensures ∙ c.if-is_empty.false) (c.run_leg.new.out.ok.0 ∙ none)) in
+    let some_taken : 0 < length (going_by (fresh m c.args.left) t.slices).entries = subst (λ (x : List Record). 0 < length x) t.are some in
+    let holds = g.K.Sink.holds c.args.sink.now in
+    let carried = c.in_ok-commit.ensures.carries holds in
+    let all : c.commit.new.store.entries ≡ history ++ entries = carried.entries ∙ ap (λ (x : List Record). history ++ x) (append-nil entries) in
+    let text = leg-text c.requires.ready.is_after.leads.events c.events-event.ensures c.as_slice.ensures.value c.clear.ensures.bytes c.in_ok-push_outputs.ensures in
+    Advances-taken g.A.Answers.answers laws.names laws.begin laws.append history c.commit.new.store.entries c.args.left leg entries old new t all budget _
+    (Carries-leg IsRun g.D.Disk c.effects_follow.ensures.follow c.args.disk.now c.commit.new.disk c.args.store.now c.commit.new.store holds (g.K.Sink.holds c.put_all.new.sink) m.events entries c.as_bytes.result.now some (c.as_bytes.ensures.value ∙ text) carried c.in_ok-put_all.ensures.ok)
+
+pub returns-clause-end : goal.returns-clause-end
+returns-clause-end g c =
+    let history = c.args.store.now.entries in
+    let m = machine_of history in
+    let laws = c.history_laws.ensures in
+    let leg = c.in_ok-leg.leg in
+    let entries = c.run_leg.new.out.items in
+    let is_leg = c.in_ok-leg.ensures.leg m c.requires.ready.is_after.leads in
+    let old = around (g.C.Chooser.choices c.args.chooser.now) c.args.answers.now c.args.steps.now in
+    let new = around (g.C.Chooser.choices c.run_leg.new.chooser) c.run_leg.new.answers c.run_leg.new.steps in
+    let t : Taken g.A.Answers.answers m c.args.left leg entries old new = taken g.A.Answers.answers laws.legs history c.args.left leg c.args.machine.now c.run_leg.new.self old.choices new.choices c.args.answers.now c.run_leg.new.answers c.new-entries.result.items entries old.steps new.steps is_leg c.new-entries.ensures.items in
+    let all : c.commit.new.store.entries ≡ history ++ entries = (c.in_ok-commit.ensures.carries (g.K.Sink.holds c.args.sink.now)).entries ∙ ap (λ (x : List Record). history ++ x) (append-nil entries) in
+    ends-taken g.A.Answers.answers laws.names laws.begin laws.append history c.commit.new.store.entries c.args.left leg entries old new t all
+
+pub returns-clause-more : goal.returns-clause-more
+returns-clause-more g c more =
+    let history = c.args.store.now.entries in
+    let m = machine_of history in
+    let laws = c.history_laws.ensures in
+    let leg = c.in_ok-leg.leg in
+    let entries = c.run_leg.new.out.items in
+    let is_leg = c.in_ok-leg.ensures.leg m c.requires.ready.is_after.leads in
+    let old = around (g.C.Chooser.choices c.args.chooser.now) c.args.answers.now c.args.steps.now in
+    let new = around (g.C.Chooser.choices c.run_leg.new.chooser) c.run_leg.new.answers c.run_leg.new.steps in
+    let t : Taken g.A.Answers.answers m c.args.left leg entries old new = taken g.A.Answers.answers laws.legs history c.args.left leg c.args.machine.now c.run_leg.new.self old.choices new.choices c.args.answers.now c.run_leg.new.answers c.new-entries.result.items entries old.steps new.steps is_leg c.new-entries.ensures.items in
+    let all : c.commit.new.store.entries ≡ history ++ entries = (c.in_ok-commit.ensures.carries (g.K.Sink.holds c.args.sink.now)).entries ∙ ap (λ (x : List Record). history ++ x) (append-nil entries) in
+    more-taken g.A.Answers.answers laws.names laws.begin laws.append history c.commit.new.store.entries c.args.left leg entries old new t all more

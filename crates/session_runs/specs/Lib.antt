@@ -1,0 +1,6 @@
+pub mod Outputs
+pub mod Turns
+pub mod Runs
+pub mod Points
+pub mod Ready
+pub mod Laws
