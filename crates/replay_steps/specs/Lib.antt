@@ -1,0 +1,5 @@
+pub mod Notices
+pub mod Standing
+pub mod Calls
+pub mod Kinds
+pub mod Plain

@@ -1,0 +1,286 @@
+// Where a record can't be what a process did.
+ghost use Rattle.std.specs.Prelude.{◌≡◌, ◌<◌, ℕ, length, option_map, option_copied};
+ghost use Rattle.acts_model.specs.Disagreement as disagreement;
+ghost use Rattle.acts_model.specs.Told as told;
+ghost use Rattle.acts_model.specs.Told.{call_act, exec_act, read_act, wait_act, write_act, is_pipe_write as is_pipe_write_of};
+ghost use Rattle.arn_base.specs.declared.records.Extra.{Extra};
+ghost use Rattle.acts_model.specs.Views.{argument as argument_of, call_number as call_number_of, bytes_in};
+ghost use Rattle.acts_model.specs.Acts.{Starts};
+ghost use Rattle.arn_base.specs.declared.records.Extra.TheVariants as extra;
+ghost use Rattle.guest_bodies.specs.Shown.{IsLive};
+ghost use Rattle.rv64_core.specs.Prospect.{Foretells};
+ghost use Rattle.rv64_model.specs.Instruction.{Effect};
+ghost use Rattle.replay_steps.specs.Calls.{OfSeen, wrong_as};
+ghost use Rattle.replay_steps.specs.Kinds.{kind_as};
+
+use crate::Disagrees;
+use crate::kinds::{CallKind, kind_of};
+use arn_base::{Cpu, Extra};
+use guest_bodies::Bodies;
+use guest_image::parse;
+use parts_model::limits::{MOST_BLOCK_BYTES, MOST_TRANSFER};
+use parts_model::refusals::BAD_ARGUMENT;
+use rv64_core::Prospect;
+
+/// What a record says, and what is found in its place.
+#[derive(Clone, Copy)]
+pub struct Finding {
+    pub said: u64,
+    pub found: u64,
+}
+
+impl Finding {
+    /// The disagreement of the record of an event.
+    pub fn at(self, event: u64) -> Disagrees
+        ensures { result ≡ record { event = event; said = self.said; found = self.found } }
+    {
+        Disagrees {
+            event,
+            said: self.said,
+            found: self.found,
+        }
+    }
+}
+
+// Nothing of this sort is found: 256 stands for no byte and no status.
+pub const NO_BYTE: u64 = 256;
+
+// It stands for no call.
+pub const NO_CALL: u64 = u64::MAX;
+
+fn found_if(test: bool, said: u64, found: u64) -> Option<Finding>
+    ensures { option_map wrong_as result ≡ disagreement.wrong_if test said found }
+{
+    test.then_some(Finding { said, found })
+}
+
+/// The number of the call at which a process stands.
+pub fn call_number(cpu: &Cpu) -> u64
+    ensures { result ≡ call_number_of cpu.now }
+{
+    cpu.x[16]
+}
+
+/// The argument of a call at a place from 0.
+pub fn argument(cpu: &Cpu, place: usize) -> u64
+    requires { place < 7 }
+    ensures { result ≡ argument_of cpu.now place }
+{
+    cpu.x[9 + place]
+}
+
+fn isnt_call(prospect: Prospect, number: u64) -> Option<Finding>
+    ensures { (effect : Effect) → Foretells prospect effect →
+        option_map wrong_as result ≡ disagreement.isnt_call effect number }
+{
+    found_if(prospect != Prospect::Call, number, NO_CALL)
+}
+
+fn is_other_call(cpu: &Cpu, number: u64) -> Option<Finding>
+    ensures { option_map wrong_as result ≡ disagreement.is_other_call cpu.now number }
+{
+    let found = call_number(cpu);
+    found_if(number != found, number, found)
+}
+
+fn first_difference(said: &[u8], found: &[u8]) -> Option<Finding>
+    ensures { option_map wrong_as result ≡ disagreement.first_difference said.now found.now }
+{
+    for (place, byte) in said.iter().enumerate() {
+        let other = found.get(place)?;
+        if byte != other {
+            return Some(Finding {
+                said: u64::from(*byte),
+                found: u64::from(*other),
+            });
+        }
+    }
+    None
+}
+
+fn differ_from(said: &[u8], found: Option<&[u8]>) -> Option<Finding>
+    ensures { option_map wrong_as result ≡
+        disagreement.differ_from said.now (option_copied found.entry) }
+{
+    match found {
+        Some(found) => first_difference(said, found),
+        None => {
+            let first = said.first()?;
+            Some(Finding {
+                said: u64::from(*first),
+                found: NO_BYTE,
+            })
+        }
+    }
+}
+
+fn is_outside(bodies: &Bodies, pid: u32, at: u64, len: u64) -> bool
+    requires live { IsLive bodies.now pid }
+    ensures { OfSeen bodies.now pid (λ v.
+        result ≡ disagreement.is_outside v at len) }
+{
+    len > 0 && bodies.bytes(pid, at, len).is_none()
+}
+
+fn unreached(bodies: &Bodies, pid: u32, at: u64, len: u64, said: u64) -> Option<Finding>
+    requires live { IsLive bodies.now pid }
+    ensures { OfSeen bodies.now pid (λ v. option_map wrong_as result ≡
+        disagreement.wrong_if (disagreement.is_outside v at len) said 0) }
+{
+    found_if(is_outside(bodies, pid, at, len), said, 0)
+}
+
+fn given_wrong(bodies: &Bodies, pid: u32, at: u64, bytes: &[u8]) -> Option<Finding>
+    requires live { IsLive bodies.now pid }
+    ensures { OfSeen bodies.now pid (λ v. option_map wrong_as result ≡
+        disagreement.differ_from bytes.now (bytes_in v at (length bytes.now))) }
+{
+    differ_from(bytes, bodies.bytes(pid, at, bytes.len() as u64))
+}
+
+fn isnt_block(bodies: &Bodies, pid: u32, at: u64, len: u64) -> bool
+    requires live { IsLive bodies.now pid }
+    ensures { OfSeen bodies.now pid (λ v.
+        result ≡ disagreement.isnt_block v at len) }
+{
+    len > MOST_BLOCK_BYTES || is_outside(bodies, pid, at, len)
+}
+
+/// What is wrong with an image file, or else with its argument block.
+pub fn start_wrong(bodies: &Bodies, pid: u32, file: &[u8], at: u64, len: u64) -> Option<Finding>
+    requires live { IsLive bodies.now pid }
+    ensures { OfSeen bodies.now pid (λ v. option_map wrong_as result ≡
+        disagreement.act_wrong v (Starts file.now at len) extra.Nothing) }
+{
+    if parse(file).is_err() {
+        return Some(Finding {
+            said: file.len() as u64,
+            found: 0,
+        });
+    }
+    found_if(isnt_block(bodies, pid, at, len), len, 0)
+}
+
+fn exec_wrong(bodies: &Bodies, pid: u32, extra: &Extra) -> Option<Finding>
+    requires live { IsLive bodies.now pid }
+    ensures { (answer : ℕ) → OfSeen bodies.now pid (λ v. option_map wrong_as result ≡
+        disagreement.act_wrong v (exec_act v.body.cpu answer extra.now) extra.now) }
+{
+    let Extra::Give(give) = extra else {
+        return None;
+    };
+    let cpu = bodies.cpu(pid);
+    let (at, len) = (argument(cpu, 2), argument(cpu, 3));
+    start_wrong(bodies, pid, give.bytes.as_slice(), at, len)
+}
+
+fn wait_wrong(bodies: &Bodies, pid: u32, extra: &Extra) -> Option<Finding>
+    requires live { IsLive bodies.now pid }
+    ensures { (answer : ℕ) → OfSeen bodies.now pid (λ v. option_map wrong_as result ≡
+        disagreement.act_wrong v (wait_act v.body.cpu answer extra.now) extra.now) }
+{
+    let Extra::Give(give) = extra else {
+        return None;
+    };
+    let len = give.bytes.len() as u64;
+    unreached(bodies, pid, argument(bodies.cpu(pid), 0), len, len)
+}
+
+fn read_wrong(bodies: &Bodies, pid: u32, extra: &Extra) -> Option<Finding>
+    requires live { IsLive bodies.now pid }
+    ensures { (answer : ℕ) → OfSeen bodies.now pid (λ v. option_map wrong_as result ≡
+        disagreement.act_wrong v (read_act v.body.cpu answer extra.now) extra.now) }
+{
+    let len = match extra {
+        Extra::Give(give) => give.bytes.len() as u64,
+        Extra::Reply { bytes, .. } => bytes.len() as u64,
+        _ => return None,
+    };
+    unreached(bodies, pid, argument(bodies.cpu(pid), 1), len, len)
+}
+
+fn is_pipe_write(answer: u64) -> bool
+    ensures { result ≡ is_pipe_write_of answer }
+{
+    answer >= 1 && answer <= MOST_TRANSFER
+}
+
+fn write_wrong(bodies: &Bodies, pid: u32, answer: u64, extra: &Extra) -> Option<Finding>
+    requires live { IsLive bodies.now pid }
+    ensures { OfSeen bodies.now pid (λ v. option_map wrong_as result ≡
+        disagreement.act_wrong v (write_act v.body.cpu answer extra.now) extra.now) }
+{
+    let at = argument(bodies.cpu(pid), 1);
+    match extra {
+        Extra::Put { bytes, .. } | Extra::Console { bytes } | Extra::Sent { bytes, .. } => {
+            given_wrong(bodies, pid, at, bytes.as_slice())
+        }
+        Extra::Nothing if is_pipe_write(answer) => unreached(bodies, pid, at, answer, answer),
+        _ => None,
+    }
+}
+
+fn leave_wrong(bodies: &Bodies, pid: u32, answer: u64) -> Option<Finding>
+    requires live { IsLive bodies.now pid }
+    ensures { (extra : Extra) → OfSeen bodies.now pid (λ v. option_map wrong_as result ≡
+        disagreement.act_wrong v (call_act told.Sigreturn v.body.cpu answer extra) extra) }
+{
+    let lacks_slot = answer == 0 && !bodies.is_in_handler(pid);
+    found_if(lacks_slot, 0, BAD_ARGUMENT.wrapping_neg())
+}
+
+// What the act of a call can't do.
+fn act_wrong(
+    bodies: &Bodies,
+    pid: u32,
+    kind: CallKind,
+    answer: u64,
+    extra: &Extra,
+) -> Option<Finding>
+    requires live { IsLive bodies.now pid }
+    ensures { OfSeen bodies.now pid (λ v. option_map wrong_as result ≡ disagreement.act_wrong
+        v (call_act (kind_as kind) v.body.cpu answer extra.now) extra.now) }
+{
+    match kind {
+        CallKind::Exec => exec_wrong(bodies, pid, extra),
+        CallKind::Wait => wait_wrong(bodies, pid, extra),
+        CallKind::Sigreturn => leave_wrong(bodies, pid, answer),
+        CallKind::Read => read_wrong(bodies, pid, extra),
+        CallKind::Write => write_wrong(bodies, pid, answer, extra),
+        CallKind::Exit | CallKind::Fork | CallKind::Shm | CallKind::Other => None,
+    }
+}
+
+/// What is wrong with a call's record: where the process stands, or what its act can't do.
+pub fn call_wrong(
+    bodies: &Bodies,
+    pid: u32,
+    prospect: Prospect,
+    number: u64,
+    answer: u64,
+    extra: &Extra,
+) -> Option<Finding>
+    requires live { IsLive bodies.now pid }
+    ensures { OfSeen bodies.now pid (λ v. (effect : Effect) → Foretells prospect effect →
+        option_map wrong_as result ≡
+        disagreement.call_wrong v effect number answer extra.now) }
+{
+    if let Some(finding) = isnt_call(prospect, number) {
+        return Some(finding);
+    }
+    if let Some(finding) = is_other_call(bodies.cpu(pid), number) {
+        return Some(finding);
+    }
+    act_wrong(bodies, pid, kind_of(number), answer, extra)
+}
+
+/// What is wrong with the status of an end by fault.
+pub fn end_wrong(prospect: Prospect, status: u8) -> Option<Finding>
+    ensures { (effect : Effect) → Foretells prospect effect →
+        option_map wrong_as result ≡ disagreement.status_wrong effect status }
+{
+    match prospect {
+        Prospect::End(found) => found_if(status != found, u64::from(status), u64::from(found)),
+        Prospect::Next(_) | Prospect::Call => found_if(true, u64::from(status), NO_BYTE),
+    }
+}

@@ -1,0 +1,10 @@
+pub mod Children
+pub mod Events
+pub mod Firsts
+pub mod Loops
+pub mod MembersNext
+pub mod Numbered
+pub mod Ready
+pub mod Slices
+pub mod Told
+pub mod Unbroken

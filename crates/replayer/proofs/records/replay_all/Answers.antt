@@ -1,0 +1,42 @@
+use Rattle.std.proofs.Common.{rules}
+use Rattle.replayer.proofs.Ready.{ready-can, ready-events, ready-fails, ready-first, ready-next, ready-settle-fails, ready-settles}
+use Rattle.replayer.proofs.records.replay_all.Goals as goal
+
+pub loop-entry-init : goal.loop-entry-init
+loop-entry-init g c = ready-first _ c.args.observer.now c.args.steps.now c.args.group c.args.until c.args.entries.now c.in_ok-replay.replay c.in_ok-replay.ensures
+
+pub take-requires-clause-events : goal.take-requires-clause-events
+take-requires-clause-events g c =
+    ready-events _ c.args.observer.now c.loop-entry.observer c.args.steps.now c.loop-entry.steps c.args.group c.args.until c.args.entries.now c.loop-entry.entry-index c.loop-entry.replay c.loop-entry.invariant
+    c.entry-item.result c.requires.stands c.requires.few c.loop-entry-test.true c.entry-item.is
+
+pub take-requires-clause-can : goal.take-requires-clause-can
+take-requires-clause-can g c =
+    ready-can _ c.args.observer.now c.loop-entry.observer c.args.steps.now c.loop-entry.steps c.args.group c.args.until c.args.entries.now c.loop-entry.entry-index c.loop-entry.replay c.loop-entry.invariant
+    c.entry-item.result c.requires.stands c.requires.few c.loop-entry-test.true c.entry-item.is
+
+pub loop-entry-preserved : goal.loop-entry-preserved
+loop-entry-preserved g c =
+    ready-next _ c.args.observer.now c.loop-entry.observer c.args.steps.now c.loop-entry.steps c.args.group c.args.until c.args.entries.now c.loop-entry.entry-index c.loop-entry.replay c.loop-entry.invariant
+    c.entry-item.result c.requires.stands c.requires.few c.loop-entry-test.true c.entry-item.is
+    c.take.new.self c.take.new.observer c.take.new.steps c.in_ok-take.ensures.numbered c.in_ok-take.ensures.counts c.in_ok-take.ensures.ok
+
+pub returns-in_err-take-clause-err : goal.returns-in_err-take-clause-err
+returns-in_err-take-clause-err g c =
+    let explains =
+    ready-fails _ c.args.observer.now c.loop-entry.observer c.args.steps.now c.loop-entry.steps c.args.group c.args.until c.args.entries.now c.loop-entry.entry-index c.loop-entry.replay c.loop-entry.invariant
+    c.entry-item.result c.requires.stands c.requires.few c.loop-entry-test.true c.entry-item.is
+    c.in_err-take.field-0.0 c.in_err-take.ensures.err in
+    search (rules, explains)
+
+pub returns-in_err-settle-clause-err : goal.returns-in_err-settle-clause-err
+returns-in_err-settle-clause-err g c =
+    let explains =
+    ready-settle-fails _ c.args.observer.now c.loop-entry.observer c.args.steps.now c.loop-entry.steps c.args.group c.args.until c.args.entries.now c.loop-entry.entry-index c.loop-entry.replay c.loop-entry.invariant
+    c.loop-entry-test.false c.in_err-settle.field-0.0 c.in_err-settle.ensures.err in
+    search (rules, explains)
+
+pub returns-clause-ok : goal.returns-clause-ok
+returns-clause-ok g c =
+    ready-settles _ c.args.observer.now c.loop-entry.observer c.args.steps.now c.loop-entry.steps c.args.group c.args.until c.args.entries.now c.loop-entry.entry-index c.loop-entry.replay c.loop-entry.invariant
+    c.loop-entry-test.false c.settle.new.self.bodies c.settle.new.observer c.settle.new.steps c.in_ok-settle.ensures.ok

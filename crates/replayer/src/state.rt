@@ -1,0 +1,75 @@
+// What a replay makes of a group.
+ghost use Rattle.std.specs.Prelude.{◌≡◌, IfErr, IfOk, None, OnErr, OnOk, Some, length, option_and_then, option_map};
+ghost use Rattle.acts_model.specs.Views.{bytes_in};
+ghost use Rattle.guest_bodies.specs.Shown.{seen_in};
+ghost use Rattle.history_index.specs.Indexes.{AreCountable, Indexes};
+ghost use Rattle.history_model.specs.Alone as alone;
+ghost use Rattle.replay_steps.specs.Notices.{Listener};
+ghost use Rattle.replay_steps.specs.Standing.{Explains};
+ghost use Rattle.replayer.specs.Replays.{Replays};
+
+use crate::ReplayError;
+use crate::records::{Replay, replay_all};
+use acts_model::Observer;
+use arn_base::{BadAddress, Cpu, Record, Steps};
+use history_index::Index;
+use std::alloc::Global;
+use std::marker::Model;
+use std::sync::ledger::Ledger;
+
+/// The processes of a group, as a replay left them.
+#[derive(Drop)]
+pub struct GroupState {
+    replay: Replay,
+}
+
+impl Model for GroupState {
+    ghost use Rattle.guest_bodies.specs.Shown.{Guests};
+
+    ghost Value = { Guests };
+
+    ghost view = { λ s. s.replay.bodies };
+}
+
+impl GroupState {
+    /// The registers of a member, if it lives.
+    pub fn cpu(&self, pid: u32) -> Option<&Cpu>
+        ensures { option_map (λ cpu. cpu.now) result ≡
+            option_map (λ v. v.body.cpu) (seen_in self.now pid) }
+    {
+        self.replay.cpu(pid)
+    }
+
+    /// Copies the bytes at an address of a member, where they lie whole in one of its windows.
+    pub fn read_into(&self, pid: u32, at: u64, buf: &mut [u8]) -> Result<(), BadAddress>
+        ensures ok { OnOk result (option_and_then (λ v. bytes_in v at (length buf.old))
+            (seen_in self.now pid) ≡ Some buf.new) }
+        ensures err { OnErr result (option_and_then (λ v. bytes_in v at (length buf.old))
+            (seen_in self.now pid) ≡ None) }
+        ensures same { OnErr result (buf.new ≡ buf.old) }
+    {
+        self.replay.read_into(pid, at, buf)
+    }
+}
+
+/// Replays a group up to a moment from records of which this is the index, and tells an observer what
+/// happens. It reads all records, and acts on those of the group alone.
+pub fn replay<O: Observer, L: Ledger>(
+    alloc: Global,
+    entries: &[Record],
+    _index: &Index,
+    group: u32,
+    until: u64,
+    observer: &mut O,
+    steps: &mut Steps<L>,
+) -> Result<GroupState, ReplayError>
+    requires countable { AreCountable entries.now }
+    requires indexed { Indexes _index.now entries.now }
+    ensures ok { IfOk result (λ state. Replays
+        (record { begins = O.begins; runs = O.runs; hears = O.hears }) observer.old steps.old
+        (alone.alone entries.now group until) state observer.new steps.new) }
+    ensures err { IfErr result (Explains (alone.alone entries.now group until)) }
+{
+    let replay = replay_all(alloc, entries, group, until, observer, steps)?;
+    Ok(GroupState { replay })
+}
