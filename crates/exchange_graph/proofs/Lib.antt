@@ -1,0 +1,7 @@
+pub mod Grown
+pub mod Marks
+pub mod Way
+pub mod Listed
+pub mod Edges
+pub mod Few
+pub mod Examples

@@ -1,0 +1,12 @@
+use Rattle.std.proofs.Common.{◌≡◌, ap}
+use Rattle.std.proofs.lemmas.Result.{IfOk-weaker}
+use Rattle.history_model.specs.Exchanges.{Back}
+use Rattle.exchange_graph.specs.Graphs.{Connections}
+use Rattle.exchange_graph.specs.Reach.{Reach, Lists}
+use Rattle.exchange_graph.proofs.Edges.{lists-back}
+use Rattle.exchange_graph.proofs.graph.Graph.back.Goals as goal
+
+pub returns : goal.returns
+returns c =
+    let are : c.self.inside.sources ≡ c.args.self.now.sources = ap (λ (x : Connections). x.sources) c.self.view_is in
+    record { ok = λ entries t. IfOk-weaker c.reach.result (λ groups. Lists groups (Reach c.self.inside.sources c.args.from.now)) (λ groups. Lists groups (Back entries c.args.from.now)) (λ groups l. lists-back c.args.self.now entries c.args.from.now t groups (rw are at l)) c.reach.ensures }

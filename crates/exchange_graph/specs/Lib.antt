@@ -1,0 +1,5 @@
+pub mod Rows
+pub mod Reach
+pub mod Search
+pub mod Links
+pub mod Graphs
