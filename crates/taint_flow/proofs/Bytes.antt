@@ -1,0 +1,180 @@
+-- How the set of several bytes grows.
+use Rattle.std.proofs.Common.{◌≡◌, ◌⊎◌, ℕ, zero, suc, ◌+◌, ◌<◌, ◌≤◌, Bool, true, false, ◌&&◌, ◌==◌, nat_lt, if◌then◌else◌, IsTrue, List, [], slice_index, Contains, Result, Ok, Err, IfOk, refl, sym, ap, subst, ◌∙◌, inl, inr, arith}
+use Rattle.std.specs.Int.{bit_at}
+use Rattle.std.proofs.lemmas.Bool.{ltb-true, ltb-false, lt-ltb}
+use Rattle.arn_base.specs.declared.errors.NoMemory.{NoMemory}
+use Rattle.rv64_model.specs.Carries.{Operand, Left, Right, Loaded, Address}
+use Rattle.set_store.specs.declared.item.Item.{Item}
+use Rattle.set_store.specs.Sets.{IsSet, IsUnionOf, StandAsBefore, members_of}
+use Rattle.link_rules.specs.declared.masks.Operands.{Operands}
+use Rattle.link_rules.specs.Masks.{has_byte, is_in}
+use Rattle.taint_flow.specs.Gathered.{AddsByte, AreNumbers, Gathers, IsAmong, IsTaken, TakesBytes, byte_count, first_start, number_of}
+
+pub before-trans : (old mid new : List (List Item)) → StandAsBefore old mid → StandAsBefore mid new → StandAsBefore old new
+before-trans old mid new a b = record { there = λ set h. b.there set (a.there set h); same = λ set h. b.same set (a.there set h) ∙ a.same set h }
+
+pub numbers-before : (old new : List (List Item)) (numbers : List ℕ) → StandAsBefore old new → AreNumbers old numbers → AreNumbers new numbers
+numbers-before old new numbers b n = record { len = n.len; set = λ byte h. b.there (slice_index numbers byte) (n.set byte h) }
+
+pub added : (r : Result ℕ NoMemory) (old new : List (List Item)) (start mask byte number : ℕ) → has_byte mask byte ≡ true → IfOk r (IsSet new) → IfOk r (λ set. set < first_start)
+    → IfOk r (λ set. IsUnionOf (members_of new set) (members_of old start) (members_of old number)) → IfOk r (AddsByte old new start mask byte number)
+added (Ok set) old new start mask byte number named there small union = record {
+  there = there;
+  small = small;
+  members = λ item. (
+    λ h. elim ((union item).0 h) [ inl a ↦ inl a | inr b ↦ inr (named, b) ],
+    λ h. elim h [ inl a ↦ (union item).1 (inl a) | inr b ↦ (union item).1 (inr b.1) ],
+  );
+}
+added (Err e) old new start mask byte number named there small union = there
+
+module _ (old mid new : List (List Item)) (numbers : List ℕ) (mask n start s s' : ℕ)
+    (takes : TakesBytes old mid numbers mask n start s) (before : StandAsBefore old mid) (is : IsSet old (slice_index numbers n))
+    (adds : AddsByte mid new s mask n (slice_index numbers n) s') where
+  forth : (item : Item) → Contains (members_of new s') item → Contains (members_of old start) item ⊎ IsAmong old numbers mask (n + 1) item
+  forth item h = elim ((adds.members item).0 h) [
+    | inl was ↦ elim ((takes.members item).0 was) [
+      | inl first ↦ inl first
+      | inr among ↦ inr (record { byte = among.byte; below = (let below : among.byte < n = among.below in omega arith); named = among.named; member = among.member })
+    ]
+    | inr new ↦ inr (record { byte = n; below = omega arith; named = new.0; member = subst (λ l. Contains l item) (before.same (slice_index numbers n) is) new.1 })
+  ]
+
+  last : (item : Item) (byte : ℕ) → byte ≡ n → IsTrue (has_byte mask byte) → Contains (members_of old (slice_index numbers byte)) item → Contains (members_of new s') item
+  last item byte e named member =
+      (adds.members item).1 (inr (
+        subst (λ k. IsTrue (has_byte mask k)) e named,
+        subst (λ l. Contains l item) (sym (before.same (slice_index numbers n) is)) (subst (λ k. Contains (members_of old (slice_index numbers k)) item) e member),
+      ))
+
+  pub back : (item : Item) → Contains (members_of old start) item ⊎ IsAmong old numbers mask (n + 1) item → Contains (members_of new s') item
+  back item (inl first) = (adds.members item).1 (inl ((takes.members item).1 (inl first)))
+  back item (inr among) = by (nat_lt among.byte n) refl where
+    by : (b : Bool) → nat_lt among.byte n ≡ b → Contains (members_of new s') item
+    by true e = (adds.members item).1 (inl ((takes.members item).1 (inr (record { byte = among.byte; below = ltb-true among.byte n e; named = among.named; member = among.member }))))
+    by false e = last item among.byte (let above : n ≤ among.byte = ltb-false among.byte n e in let below : among.byte < n + 1 = among.below in omega arith) among.named among.member
+
+  pub takes-more : TakesBytes old new numbers mask (n + 1) start s'
+  takes-more = record { there = adds.there; small = adds.small; members = λ item. (forth item, back item) }
+
+-- the same bytes, in sets that stand as before
+among-then : (old new : List (List Item)) (numbers : List ℕ) (mask : ℕ) (item : Item) → StandAsBefore old new → AreNumbers old numbers → IsAmong old numbers mask byte_count item → IsAmong new numbers mask byte_count item
+among-then old new numbers mask item b n a =
+    record { byte = a.byte; below = a.below; named = a.named; member = subst (λ l. Contains l item) (sym (b.same (slice_index numbers a.byte) (n.set a.byte a.below))) a.member }
+
+among-before : (old new : List (List Item)) (numbers : List ℕ) (mask : ℕ) (item : Item) → StandAsBefore old new → AreNumbers old numbers → IsAmong new numbers mask byte_count item → IsAmong old numbers mask byte_count item
+among-before old new numbers mask item b n a =
+    record { byte = a.byte; below = a.below; named = a.named; member = subst (λ l. Contains l item) (b.same (slice_index numbers a.byte) (n.set a.byte a.below)) a.member }
+
+-- all bytes, and none
+all-bytes : (i : ℕ) → i < 8 → has_byte 255 i ≡ true
+all-bytes zero h = refl
+all-bytes (suc zero) h = refl
+all-bytes (suc (suc zero)) h = refl
+all-bytes (suc (suc (suc zero))) h = refl
+all-bytes (suc (suc (suc (suc zero)))) h = refl
+all-bytes (suc (suc (suc (suc (suc zero))))) h = refl
+all-bytes (suc (suc (suc (suc (suc (suc zero)))))) h = refl
+all-bytes (suc (suc (suc (suc (suc (suc (suc zero))))))) h = refl
+all-bytes (suc (suc (suc (suc (suc (suc (suc (suc i)))))))) h = absurd (omega arith)
+
+no-byte : (i : ℕ) → i < 8 → has_byte 0 i ≡ true → ⊥
+no-byte zero h e = cc
+no-byte (suc zero) h e = cc
+no-byte (suc (suc zero)) h e = cc
+no-byte (suc (suc (suc zero))) h e = cc
+no-byte (suc (suc (suc (suc zero)))) h e = cc
+no-byte (suc (suc (suc (suc (suc zero))))) h e = cc
+no-byte (suc (suc (suc (suc (suc (suc zero)))))) h e = cc
+no-byte (suc (suc (suc (suc (suc (suc (suc zero))))))) h e = cc
+no-byte (suc (suc (suc (suc (suc (suc (suc (suc i)))))))) h e = absurd (omega arith)
+
+-- a mask has bytes below 8 alone
+pub below-eight : (mask i : ℕ) → IsTrue (has_byte mask i) → i < 8
+below-eight mask i h = by (nat_lt i 8) refl where
+  by : (b : Bool) → nat_lt i 8 ≡ b → i < 8
+  by true e = ltb-true i 8 e
+  by false e = let clash : false ≡ true = sym (ap (λ (t : Bool). t && (bit_at mask i == 1)) e) ∙ h in cc
+
+address-named : (masks : Operands) (i : ℕ) → i < 8 → has_byte (if masks.address then 255 else 0) i ≡ true → IsTrue (is_in masks (Address i))
+address-named masks i below h = by masks.address refl where
+  by : (b : Bool) → masks.address ≡ b → IsTrue (is_in masks (Address i))
+  by true e = ap (λ (t : Bool). t && nat_lt i 8) e ∙ lt-ltb i 8 below
+  by false e = absurd (no-byte i below (ap (λ (t : Bool). has_byte (if t then 255 else 0) i) (sym e) ∙ h))
+
+both-true : (a b : Bool) → (a && b) ≡ true → (a ≡ true) × (b ≡ true)
+both-true true true h = (refl, refl)
+both-true true false h = cc
+both-true false b h = cc
+
+pub address-has : (masks : Operands) (i : ℕ) → IsTrue (is_in masks (Address i)) → (i < 8) × (has_byte (if masks.address then 255 else 0) i ≡ true)
+address-has masks i h =
+    let parts = both-true masks.address (nat_lt i 8) h in
+    let below = ltb-true i 8 parts.1 in
+    (below, ap (λ (t : Bool). has_byte (if t then 255 else 0) i) parts.0 ∙ all-bytes i below)
+
+module _ (old a b c d : List (List Item)) (first second loaded : List ℕ) (masks : Operands) (none s1 s2 s3 s4 : ℕ)
+    (empty : members_of old none ≡ []) (in_first : AreNumbers old first) (in_second : AreNumbers old second) (in_loaded : AreNumbers old loaded)
+    (t1 : TakesBytes old a first masks.first byte_count none s1) (b1 : StandAsBefore old a)
+    (t2 : TakesBytes a b second masks.second byte_count s1 s2) (b2 : StandAsBefore a b)
+    (t3 : TakesBytes b c loaded masks.loaded byte_count s2 s3) (b3 : StandAsBefore b c)
+    (t4 : TakesBytes c d first (if masks.address then 255 else 0) byte_count s3 s4) where
+  to_b : StandAsBefore old b
+  to_b = before-trans old a b b1 b2
+
+  to_c : StandAsBefore old c
+  to_c = before-trans old b c to_b b3
+
+  from_first : (item : Item) → Contains (members_of a s1) item → IsTaken old (number_of first second loaded) masks item
+  from_first item h = elim ((t1.members item).0 h) [
+    | inl nothing ↦ (let found = subst (λ l. Contains l item) empty nothing in let below : found.0 < 0 = found.1 in absurd (omega arith))
+    | inr among ↦ record { operand = Left among.byte; named = among.named; member = among.member }
+  ]
+
+  from_second : (item : Item) → Contains (members_of b s2) item → IsTaken old (number_of first second loaded) masks item
+  from_second item h = elim ((t2.members item).0 h) [
+    | inl was ↦ from_first item was
+    | inr among ↦ (let taken = among-before old a second masks.second item b1 in_second among in record { operand = Right taken.byte; named = taken.named; member = taken.member })
+  ]
+
+  from_loaded : (item : Item) → Contains (members_of c s3) item → IsTaken old (number_of first second loaded) masks item
+  from_loaded item h = elim ((t3.members item).0 h) [
+    | inl was ↦ from_second item was
+    | inr among ↦ (let taken = among-before old b loaded masks.loaded item to_b in_loaded among in record { operand = Loaded taken.byte; named = taken.named; member = taken.member })
+  ]
+
+  from_all : (item : Item) → Contains (members_of d s4) item → IsTaken old (number_of first second loaded) masks item
+  from_all item h = elim ((t4.members item).0 h) [
+    | inl was ↦ from_loaded item was
+    | inr among ↦ (let taken = among-before old c first (if masks.address then 255 else 0) item to_c in_first among in record { operand = Address taken.byte; named = address-named masks taken.byte taken.below taken.named; member = taken.member })
+  ]
+
+  up_3 : (item : Item) → Contains (members_of c s3) item → Contains (members_of d s4) item
+  up_3 item h = (t4.members item).1 (inl h)
+
+  up_2 : (item : Item) → Contains (members_of b s2) item → Contains (members_of d s4) item
+  up_2 item h = up_3 item ((t3.members item).1 (inl h))
+
+  up_1 : (item : Item) → Contains (members_of a s1) item → Contains (members_of d s4) item
+  up_1 item h = up_2 item ((t2.members item).1 (inl h))
+
+  to_all : (item : Item) (operand : Operand) → IsTrue (is_in masks operand) → Contains (members_of old (number_of first second loaded operand)) item → Contains (members_of d s4) item
+  to_all item (Left i) named member = up_1 item ((t1.members item).1 (inr (record { byte = i; below = below-eight masks.first i named; named = named; member = member })))
+  to_all item (Right i) named member = up_2 item ((t2.members item).1 (inr (among-then old a second masks.second item b1 in_second (record { byte = i; below = below-eight masks.second i named; named = named; member = member }))))
+  to_all item (Loaded i) named member = up_3 item ((t3.members item).1 (inr (among-then old b loaded masks.loaded item to_b in_loaded (record { byte = i; below = below-eight masks.loaded i named; named = named; member = member }))))
+  to_all item (Address i) named member =
+      let has = address-has masks i named in
+      (t4.members item).1 (inr (among-then old c first (if masks.address then 255 else 0) item to_c in_first (record { byte = i; below = has.0; named = has.1; member = member })))
+
+  gathered : Gathers old d first second loaded masks s4
+  gathered = record { there = t4.there; small = t4.small; members = λ item. (from_all item, λ taken. to_all item taken.operand taken.named taken.member) }
+
+pub gathered-if : (r : Result ℕ NoMemory) (old a b c d : List (List Item)) (first second loaded : List ℕ) (masks : Operands) (none s1 s2 s3 address : ℕ)
+    → members_of old none ≡ [] → AreNumbers old first → AreNumbers old second → AreNumbers old loaded
+    → TakesBytes old a first masks.first byte_count none s1 → StandAsBefore old a
+    → TakesBytes a b second masks.second byte_count s1 s2 → StandAsBefore a b
+    → TakesBytes b c loaded masks.loaded byte_count s2 s3 → StandAsBefore b c
+    → address ≡ (if masks.address then 255 else 0) → IfOk r (TakesBytes c d first address byte_count s3) → IfOk r (Gathers old d first second loaded masks)
+gathered-if (Ok s4) old a b c d first second loaded masks none s1 s2 s3 address empty f s l t1 b1 t2 b2 t3 b3 e t4 =
+    gathered old a b c d first second loaded masks none s1 s2 s3 s4 empty f s l t1 b1 t2 b2 t3 b3 (subst (λ mask. TakesBytes c d first mask byte_count s3 s4) e t4)
+gathered-if (Err x) old a b c d first second loaded masks none s1 s2 s3 address empty f s l t1 b1 t2 b2 t3 b3 e t4 = t4

@@ -1,0 +1,4 @@
+pub mod Gathered
+pub mod Names
+pub mod Results
+pub mod Starts

@@ -1,0 +1,108 @@
+// The set of several bytes.
+ghost use Rattle.std.specs.Prelude.{◌≡◌, ◌<◌, if◌then◌else◌, IfOk};
+ghost use Rattle.set_store.specs.Sets.{IsSet, IsUnionOf, StandAsBefore, members_of};
+ghost use Rattle.link_rules.specs.Masks.{has_byte};
+ghost use Rattle.taint_flow.specs.Gathered.{AreNumbers, AddsByte, Gathers, TakesBytes, byte_count, first_start};
+
+use arn_base::NoMemory;
+use link_rules::Operands;
+use set_store::Sets;
+
+/// The first number that is no set's.
+pub const FIRST_START: u32 = 0x8000_0000;
+
+/// All bytes of a register.
+const ALL: u8 = 0b1111_1111;
+
+/// Whether a mask has a byte.
+fn has(mask: u8, byte: u8) -> bool
+    requires { byte < 8 }
+    ensures { result ≡ has_byte mask byte }
+{
+    (mask >> byte) & 1 == 1
+}
+
+/// The set of all members of two sets.
+fn unite(sets: &mut Sets, first: u32, second: u32) -> Result<u32, NoMemory>
+    requires first { IsSet sets.old first }
+    requires second { IsSet sets.old second }
+    ensures set { IfOk result (IsSet sets.new) }
+    ensures small { IfOk result (λ set. set < first_start) }
+    ensures members { IfOk result (λ set.
+        IsUnionOf (members_of sets.new set) (members_of sets.old first) (members_of sets.old second)) }
+    ensures before { StandAsBefore sets.old sets.new }
+{
+    let set = sets.union(first as usize, second as usize)?;
+    narrow(set)
+}
+
+/// The number of a set in 32 bits. There is no memory for so many sets that it isn't below the first start's.
+pub fn narrow(set: usize) -> Result<u32, NoMemory>
+    ensures { IfOk result (λ number. (number ≡ set) × (number < first_start)) }
+{
+    if set < FIRST_START as usize {
+        Ok(set as u32)
+    } else {
+        Err(NoMemory)
+    }
+}
+
+/// The set with the members of a byte's set besides, where a mask has the byte.
+fn with_byte(sets: &mut Sets, set: u32, mask: u8, byte: u8, number: u32) -> Result<u32, NoMemory>
+    requires byte { byte < 8 }
+    requires set { IsSet sets.old set }
+    requires small { set < first_start }
+    requires number { IsSet sets.old number }
+    ensures adds { IfOk result (AddsByte sets.old sets.new set mask byte number) }
+    ensures before { StandAsBefore sets.old sets.new }
+{
+    if has(mask, byte) {
+        unite(sets, set, number)
+    } else {
+        Ok(set)
+    }
+}
+
+/// The set with the members of all bytes' sets besides that a mask has.
+fn with_bytes(sets: &mut Sets, start: u32, mask: u8, numbers: &[u32]) -> Result<u32, NoMemory>
+    requires start { IsSet sets.old start }
+    requires small { start < first_start }
+    requires numbers { AreNumbers sets.old numbers.now }
+    ensures takes { IfOk result (TakesBytes sets.old sets.new numbers.now mask byte_count start) }
+    ensures before { StandAsBefore sets.old sets.new }
+{
+    let mut set = start;
+    for byte in 0..8 {
+        set = with_byte(sets, set, mask, byte, numbers[byte as usize])?;
+    }
+    Ok(set)
+}
+
+/// The bytes of rs1 that are taken as those of an address.
+fn address_bytes(masks: Operands) -> u8
+    ensures { result ≡ (if masks.address then 255 else 0) }
+{
+    if masks.address { ALL } else { 0 }
+}
+
+/// The set of the bytes that masks name, of two registers and of what is loaded.
+pub fn gather(
+    sets: &mut Sets,
+    masks: Operands,
+    first: &[u32],
+    second: &[u32],
+    loaded: &[u32],
+) -> Result<u32, NoMemory>
+    requires first { AreNumbers sets.old first.now }
+    requires second { AreNumbers sets.old second.now }
+    requires loaded { AreNumbers sets.old loaded.now }
+    ensures gathers { IfOk result (Gathers sets.old sets.new first.now second.now loaded.now masks) }
+    ensures before { StandAsBefore sets.old sets.new }
+{
+    let none = 0;
+    let _ = sets.empty();
+    let set = with_bytes(sets, none, masks.first, first)?;
+    let set = with_bytes(sets, set, masks.second, second)?;
+    let set = with_bytes(sets, set, masks.loaded, loaded)?;
+    with_bytes(sets, set, address_bytes(masks), first)
+}

@@ -1,0 +1,12 @@
+//! Which sets the bytes of an instruction's result have, by the sets of the bytes that it reads.
+#![tactic(auto)]
+
+mod gathering;
+mod names;
+mod starts;
+mod writing;
+
+pub use gathering::FIRST_START;
+pub use names::{accessed, loaded_len, rd, rs1, rs2, stored_len};
+pub use starts::resolve_all;
+pub use writing::results;

@@ -1,0 +1,36 @@
+// Bytes with which a group's first member began.
+ghost use Rattle.std.specs.Prelude.{◌≡◌, ◌<◌, length, slice_index, IfOk};
+ghost use Rattle.set_store.specs.Sets.{IsSet, StandAsBefore};
+ghost use Rattle.taint_flow.specs.Gathered.{AreNumbers, first_start};
+ghost use Rattle.taint_flow.specs.Starts.{AreResolved, AreRaw, IsRaw, IsResolved};
+
+use crate::gathering::{FIRST_START, narrow};
+use arn_base::NoMemory;
+use set_store::{Item, Sets};
+
+/// The set for which a number stands: its own, or that of the byte of the window, by address, with which the first
+/// member began at this event.
+fn resolve(sets: &mut Sets, begun: u64, number: u32) -> Result<u32, NoMemory>
+    requires { IsRaw sets.old number }
+    ensures resolved { IfOk result (IsResolved sets.old sets.new begun number) }
+    ensures before { StandAsBefore sets.old sets.new }
+{
+    if number < FIRST_START {
+        return Ok(number);
+    }
+    let at = u64::from(number - FIRST_START);
+    narrow(sets.single(Item { event: begun, at })?)
+}
+
+/// The same of several numbers.
+pub fn resolve_all(sets: &mut Sets, begun: u64, numbers: &[u32]) -> Result<[u32; 8], NoMemory>
+    requires { AreRaw sets.old numbers.now }
+    ensures resolved { IfOk result (AreResolved sets.old sets.new begun numbers.now) }
+    ensures before { StandAsBefore sets.old sets.new }
+{
+    let mut resolved = [0; 8];
+    for i in 0..8 {
+        resolved[i] = resolve(sets, begun, numbers[i])?;
+    }
+    Ok(resolved)
+}

@@ -1,0 +1,68 @@
+-- The numbers of a member's bytes by address.
+use Rattle.std.specs.Prelude.{◌≡◌, ◌≢◌, ℕ, ◌+◌, ◌-◌, ◌<◌, ◌≤◌, Bool, true, false, if◌then◌else◌, List, [], length, slice_index, slice_index_or, Option, Some, None, IfSome}
+use Rattle.parts_model.specs.declared.limits.TheConstants.{WINDOW_START, SEGMENT_START}
+use Rattle.acts_model.specs.Transfers.{is_private, is_shared}
+use Rattle.taint_pages.specs.Pages.{Puts}
+use Rattle.taint_members.specs.declared.member.Member.{Member}
+use Rattle.taint_members.specs.declared.member.Shared.{Shared}
+
+-- how far an address lies behind a start
+abbrev pub from_start : Bool → ℕ → ℕ → Option ℕ
+from_start inside start at = if inside then Some (at - start) else None
+
+-- the segments by key
+abbrev pub Segments : Type 0
+Segments = List (List ℕ)
+
+-- a segment that is held is in the table
+abbrev pub HoldsKey : Option Shared → Segments → Type 0
+HoldsKey segment segments = IfSome segment (λ (shared : Shared). shared.key < length segments)
+
+-- the numbers of the segment that is held
+abbrev pub held_numbers : Option Shared → Segments → List ℕ
+held_numbers None segments = []
+held_numbers (Some shared) segments = slice_index_or segments shared.key []
+
+-- the number of byte k from an address on, of a segment that may be held
+abbrev pub shared_number : Option Shared → Segments → ℕ → ℕ → ℕ
+shared_number segment segments at k =
+    if is_shared at then slice_index (held_numbers segment segments) (at - SEGMENT_START + k) else 0
+
+-- and of the memories of a member
+abbrev pub number_at : Member → Segments → ℕ → ℕ → ℕ
+number_at m segments at k =
+    if is_private at then slice_index m.window (at - WINDOW_START + k) else shared_number m.segment segments at k
+
+-- eight numbers, of which so many are these, and zeros behind them
+pub record AreFirst (count : ℕ) (number : ℕ → ℕ) (eight : List ℕ) : Type 0 where
+  pub len : length eight ≡ 8
+  pub bytes : (k : ℕ) → k < count → slice_index eight k ≡ number k
+  pub zeros : (k : ℕ) → count ≤ k → slice_index eight k ≡ 0
+
+abbrev pub AreReadShared : Option Shared → Segments → ℕ → ℕ → List ℕ → Type 0
+AreReadShared segment segments at count eight = AreFirst count (shared_number segment segments at) eight
+
+abbrev pub AreRead : Member → Segments → ℕ → ℕ → List ℕ → Type 0
+AreRead m segments at count eight = AreFirst count (number_at m segments at) eight
+
+-- the first, where the test holds, and else the other
+abbrev pub ByTest : Bool → Type 0 → Type 0 → Type 0
+ByTest true first other = first
+ByTest false first other = other
+
+-- the numbers of a window from an address on are others, where the address lies in it
+abbrev pub WritesWindow : ℕ → List ℕ → Member → Member → Type 0
+WritesWindow at numbers old new = ByTest (is_private at) (Puts (at - WINDOW_START) numbers old.window new.window) (new.window ≡ old.window)
+
+-- one segment has other numbers, and all others what they had
+pub record WritesKey (key at : ℕ) (numbers : List ℕ) (old new : Segments) : Type 0 where
+  pub one : Puts at numbers (slice_index_or old key []) (slice_index_or new key [])
+  pub others : (k : ℕ) → k ≢ key → slice_index_or new k [] ≡ slice_index_or old k []
+
+abbrev pub WritesHeld : ℕ → List ℕ → Option Shared → Segments → Segments → Type 0
+WritesHeld at numbers None old new = new ≡ old
+WritesHeld at numbers (Some shared) old new = WritesKey shared.key (at - SEGMENT_START) numbers old new
+
+-- those of the segment that is held are others, where the address lies in it
+abbrev pub WritesSegment : ℕ → List ℕ → Option Shared → Segments → Segments → Type 0
+WritesSegment at numbers segment old new = ByTest (is_shared at) (WritesHeld at numbers segment old new) (new ≡ old)

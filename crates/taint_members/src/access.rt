@@ -1,0 +1,99 @@
+// The numbers of a member's bytes by address.
+ghost use Rattle.std.specs.Prelude.{◌≡◌, ◌≤◌, ◌<◌, length, IfSome, OnOk};
+ghost use Rattle.acts_model.specs.Transfers.{is_private, is_shared};
+ghost use Rattle.parts_model.specs.declared.limits.TheConstants as limits;
+ghost use Rattle.taint_members.specs.Access.{AreRead, AreReadShared, HoldsKey, WritesSegment, WritesWindow, from_start};
+
+use crate::member::{Member, Shared};
+use arn_base::NoMemory;
+use parts_model::limits::{SEGMENT_END, SEGMENT_START, WINDOW_END, WINDOW_START};
+use taint_pages::Numbers;
+
+/// How far an address lies in the private window, if it does.
+fn window_offset(at: u64) -> Option<usize>
+    ensures offset { result ≡ from_start (is_private at) limits.WINDOW_START at }
+    ensures small { IfSome result (λ offset. offset < 262144) }
+{
+    if WINDOW_START <= at && at < WINDOW_END {
+        Some((at - WINDOW_START) as usize)
+    } else {
+        None
+    }
+}
+
+/// How far it lies in the shared one.
+fn segment_offset(at: u64) -> Option<usize>
+    ensures offset { result ≡ from_start (is_shared at) limits.SEGMENT_START at }
+    ensures small { IfSome result (λ offset. offset < 65536) }
+{
+    if SEGMENT_START <= at && at < SEGMENT_END {
+        Some((at - SEGMENT_START) as usize)
+    } else {
+        None
+    }
+}
+
+/// The numbers of so many bytes from an address on, at most eight, and zeros behind them. An address outside the
+/// member's memories has zeros.
+pub fn read(member: &Member, segments: &[Numbers], at: u64, len: usize) -> [u32; 8]
+    requires few { len ≤ 8 }
+    requires held { HoldsKey member.now.segment segments.now }
+    ensures { AreRead member.now segments.now at len result }
+{
+    match window_offset(at) {
+        Some(offset) => member.window.eight(offset, len),
+        None => read_segment(member.segment, segments, at, len),
+    }
+}
+
+/// The same of a segment that may be held.
+fn read_segment(segment: Option<Shared>, segments: &[Numbers], at: u64, len: usize) -> [u32; 8]
+    requires few { len ≤ 8 }
+    requires held { HoldsKey segment segments.now }
+    ensures { AreReadShared segment segments.now at len result }
+{
+    match (segment, segment_offset(at)) {
+        (Some(shared), Some(offset)) => segments[shared.key].eight(offset, len),
+        _ => [0; 8],
+    }
+}
+
+/// Sets the numbers of several bytes from an address on, as far as they lie in the same memory. At an address outside
+/// the member's memories nothing is set.
+pub fn write(
+    member: &mut Member,
+    segments: &mut [Numbers],
+    at: u64,
+    numbers: &[u32],
+) -> Result<(), NoMemory>
+    requires few { length numbers.now ≤ 65536 }
+    requires held { HoldsKey member.old.segment segments.old }
+    ensures window { OnOk result (WritesWindow at numbers.now member.old member.new) }
+    ensures segment { OnOk result
+        (WritesSegment at numbers.now member.old.segment segments.old segments.new) }
+    ensures others { member.new ≡ record member.old { window = member.new.window } }
+    ensures keys { length segments.new ≡ length segments.old }
+{
+    match window_offset(at) {
+        Some(offset) => member.window.put(offset, numbers),
+        None => write_segment(member.segment, segments, at, numbers),
+    }
+}
+
+/// The same in a segment that may be held.
+fn write_segment(
+    segment: Option<Shared>,
+    segments: &mut [Numbers],
+    at: u64,
+    numbers: &[u32],
+) -> Result<(), NoMemory>
+    requires few { length numbers.now ≤ 65536 }
+    requires held { HoldsKey segment segments.old }
+    ensures segment { OnOk result (WritesSegment at numbers.now segment segments.old segments.new) }
+    ensures keys { length segments.new ≡ length segments.old }
+{
+    match (segment, segment_offset(at)) {
+        (Some(shared), Some(offset)) => segments[shared.key].put(offset, numbers),
+        _ => Ok(()),
+    }
+}

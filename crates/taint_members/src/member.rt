@@ -1,0 +1,135 @@
+// A live member.
+ghost use Rattle.std.specs.Prelude.{◌≡◌, ◌*◌, Bool, None, Some, IfOk};
+ghost use Rattle.taint_pages.specs.declared.page.Unset.TheVariants.{Zero};
+ghost use Rattle.taint_pages.specs.Pages.{AreUnset, page_len};
+ghost use Rattle.taint_members.specs.Rows.{AreZero, ClearsResult, IsSaved, window_pages};
+
+use arn_base::NoMemory;
+use rv64_isa::Reg;
+use std::alloc::Global;
+use taint_pages::{Numbers, Row, Unset};
+
+/// How many pages a private window has.
+pub const WINDOW_PAGES: usize = 64;
+
+/// A segment that a member holds: the event that made it, and its key in the table.
+#[derive(Clone, Copy, Debug, PartialEq, Eq)]
+pub struct Shared {
+    pub made: u64,
+    pub key: usize,
+}
+
+/// The numbers of the sets of a member's bytes: of its registers, of what its slot keeps of them, and of its private
+/// window, with the event that made it; and the segment that it holds.
+#[derive(Debug, Drop)]
+pub struct Member {
+    pub registers: Row,
+    pub slot: Row,
+    pub window: Numbers,
+    pub made: u64,
+    pub segment: Option<Shared>,
+}
+
+/// The result of a call takes nothing.
+fn clear_result(registers: &mut Row)
+    ensures { ClearsResult registers.old registers.new }
+{
+    if let Some(result) = Reg::new(10) {
+        registers.put(result, &[0; 8]);
+    }
+}
+
+/// A window none of whose bytes has a set.
+fn empty_window(alloc: Global) -> Result<Numbers, NoMemory>
+    ensures { IfOk result (AreUnset Zero (page_len * window_pages)) }
+{
+    Numbers::new(alloc, WINDOW_PAGES, Unset::Zero)
+}
+
+impl Member {
+    /// A call returns. Its result takes nothing.
+    pub fn returns(&mut self)
+        ensures result { ClearsResult self.old.registers self.new.registers }
+        ensures others { self.new ≡ record self.old { registers = self.new.registers } }
+    {
+        clear_result(&mut self.registers);
+    }
+
+    /// A handler begins. The slot keeps the registers, of which x10 is the result of a call that was cut off; then
+    /// x10 is the signal's number, which takes nothing.
+    pub fn delivers(&mut self, cut: bool)
+        ensures saved { IsSaved cut self.old.registers self.new.slot }
+        ensures result { ClearsResult self.old.registers self.new.registers }
+        ensures others { self.new ≡ record self.old {
+          registers = self.new.registers;
+          slot = self.new.slot;
+        } }
+    {
+        self.slot = self.registers.copy();
+        if cut {
+            clear_result(&mut self.slot);
+        }
+        clear_result(&mut self.registers);
+    }
+
+    /// A handler ends. The slot gives the registers back, and keeps nothing.
+    pub fn leaves(&mut self)
+        ensures slot { AreZero self.new.slot }
+        ensures others { self.new ≡ record self.old {
+          registers = self.old.slot;
+          slot = self.new.slot;
+        } }
+    {
+        self.registers = self.slot.copy();
+        self.slot = Row::new();
+    }
+
+    /// The child of a fork: its registers, but the result, its slot and its window have what its parent's have. The
+    /// event makes its window.
+    pub fn child(&self, event: u64) -> Result<Member, NoMemory>
+        ensures result { IfOk result (λ child. ClearsResult self.now.registers child.registers) }
+        ensures others { IfOk result (λ child. child ≡ record self.now {
+          registers = child.registers;
+          made = event;
+        }) }
+    {
+        let mut registers = self.registers.copy();
+        clear_result(&mut registers);
+        Ok(Member {
+            registers,
+            slot: self.slot.copy(),
+            window: self.window.copy()?,
+            made: event,
+            segment: self.segment,
+        })
+    }
+
+    /// A process whose window an event makes, and none of whose bytes has a set.
+    pub fn fresh(alloc: Global, event: u64) -> Result<Member, NoMemory>
+        ensures registers { IfOk result (λ member. AreZero member.registers) }
+        ensures slot { IfOk result (λ member. AreZero member.slot) }
+        ensures window { IfOk result (λ member. AreUnset Zero (page_len * window_pages) member.window) }
+        ensures made { IfOk result (λ member. member.made ≡ event) }
+        ensures segment { IfOk result (λ member. member.segment ≡ None) }
+    {
+        Ok(Member {
+            registers: Row::new(),
+            slot: Row::new(),
+            window: empty_window(alloc)?,
+            made: event,
+            segment: None,
+        })
+    }
+
+    /// The member gets a fresh segment, in the place of one that it may hold.
+    pub fn shares(&mut self, shared: Shared)
+        ensures result { ClearsResult self.old.registers self.new.registers }
+        ensures others { self.new ≡ record self.old {
+          registers = self.new.registers;
+          segment = Some shared;
+        } }
+    {
+        self.segment = Some(shared);
+        self.returns();
+    }
+}

@@ -1,0 +1,28 @@
+-- Numbers of the bytes of registers.
+use Rattle.std.specs.Prelude.{◌≡◌, ℕ, ◌+◌, ◌*◌, ◌<◌, ◌==◌, ◌&&◌, if◌then◌else◌, List, length, slice_index}
+
+-- the number of byte i of register r
+abbrev pub byte_in : List ℕ → ℕ → ℕ → ℕ
+byte_in row r i = slice_index row (8 * r + i)
+
+-- there are 32 registers of 8 bytes
+abbrev pub row_len : ℕ
+row_len = 256
+
+-- the bytes of x0 have 0
+pub record IsRow (row : List ℕ) : Type 0 where
+  pub len : length row ≡ row_len
+  pub zero : (i : ℕ) → i < 8 → slice_index row i ≡ 0
+
+-- one byte of one register has another number
+abbrev pub SetsByte : ℕ → ℕ → ℕ → List ℕ → List ℕ → Type 0
+SetsByte reg byte number old new = (r i : ℕ) → i < 8 → byte_in new r i ≡ (if (r == reg) && (i == byte) then number else byte_in old r i)
+
+-- the numbers of the bytes of one register
+pub record AreBytes (row : List ℕ) (reg : ℕ) (numbers : List ℕ) : Type 0 where
+  pub len : length numbers ≡ 8
+  pub bytes : (i : ℕ) → i < 8 → slice_index numbers i ≡ byte_in row reg i
+
+-- all bytes of one register have other numbers
+abbrev pub PutsBytes : ℕ → List ℕ → List ℕ → List ℕ → Type 0
+PutsBytes reg numbers old new = (r i : ℕ) → i < 8 → byte_in new r i ≡ (if r == reg then slice_index numbers i else byte_in old r i)

@@ -1,0 +1,139 @@
+// The numbers of a memory's bytes.
+ghost use Rattle.std.specs.Prelude.{◌≡◌, ◌<◌, ◌≤◌, ◌+◌, ◌*◌, ◌^◌, nat_lt, length, slice_index, IfOk, OnOk, OnErr};
+ghost use Rattle.taint_pages.specs.Pages.{AreEight, AreUnset, FitsIn, Puts, Sets, SetsInside, page_len};
+
+use crate::page::{self, PAGE_LEN, Page, Unset};
+use arn_base::NoMemory;
+use std::alloc::Global;
+use std::marker::Model;
+
+/// The number of the set of each byte of a memory. A page whose bytes weren't set takes no memory.
+#[derive(Debug, Drop)]
+pub struct Numbers {
+    pages: Vec<Page>,
+    unset: Unset,
+}
+
+impl Model for Numbers {
+    ghost use Rattle.std.specs.Prelude.{ℕ, List};
+    ghost use Rattle.taint_pages.specs.Pages.{AreSound, contents, numbers_from};
+
+    ghost Value = { List ℕ };
+
+    ghost view = { λ n. numbers_from n.unset 0 (contents n.pages.items) };
+
+    ghost invariant = { λ n. AreSound n.unset (contents n.pages.items) };
+}
+
+impl Numbers {
+    /// The bytes of so many pages, none of which has been set.
+    pub fn new(alloc: Global, pages: usize, unset: Unset) -> Result<Numbers, NoMemory>
+        requires { FitsIn unset (page_len * pages) }
+        ensures { IfOk result (AreUnset unset (page_len * pages)) }
+    {
+        Ok(Numbers {
+            pages: page::absent(alloc, pages)?,
+            unset,
+        })
+    }
+
+    /// The number of a byte.
+    pub fn get(&self, at: usize) -> u32
+        requires { at < length self.now }
+        ensures { result ≡ slice_index self.now at }
+    {
+        let place = at / PAGE_LEN;
+        page::number_of(
+            self.unset,
+            place * PAGE_LEN,
+            &self.pages[place],
+            at % PAGE_LEN,
+        )
+    }
+
+    /// Whether there is such a byte.
+    fn has(&self, at: usize) -> bool
+        ensures { result ≡ nat_lt at (length self.now) }
+    {
+        at / PAGE_LEN < self.pages.len()
+    }
+
+    /// The number of a byte, 0 behind the last one.
+    pub fn find(&self, at: usize) -> u32
+        ensures { result ≡ slice_index self.now at }
+    {
+        if self.has(at) { self.get(at) } else { 0 }
+    }
+
+    /// Sets the number of a byte.
+    pub fn set(&mut self, at: usize, number: u32) -> Result<(), NoMemory>
+        requires { at < length self.old }
+        ensures ok { OnOk result (Sets at number self.old self.new) }
+        ensures err { OnErr result (self.new ≡ self.old) }
+    {
+        let alloc = *self.pages.allocator();
+        let place = at / PAGE_LEN;
+        let page = &mut self.pages[place];
+        page::set_number(
+            alloc,
+            self.unset,
+            place * PAGE_LEN,
+            page,
+            at % PAGE_LEN,
+            number,
+        )
+    }
+
+    /// The same numbers again.
+    pub fn copy(&self) -> Result<Numbers, NoMemory>
+        ensures { IfOk result (λ copy. copy ≡ self.now) }
+    {
+        let alloc = *self.pages.allocator();
+        let mut pages = Vec::new(alloc);
+        for page in &self.pages {
+            pages.push(page::copy_of(alloc, page)?)?;
+        }
+        Ok(Numbers {
+            pages,
+            unset: self.unset,
+        })
+    }
+
+    /// Sets the number of a byte, where there is such a byte.
+    fn replace(&mut self, at: usize, number: u32) -> Result<(), NoMemory>
+        ensures ok { OnOk result (SetsInside at number self.old self.new) }
+        ensures len { length self.new ≡ length self.old }
+    {
+        if self.has(at) {
+            self.set(at, number)
+        } else {
+            Ok(())
+        }
+    }
+
+    /// Sets the numbers of several bytes that follow each other. Those behind the last byte are left out.
+    pub fn put(&mut self, at: usize, numbers: &[u32]) -> Result<(), NoMemory>
+        requires small { at + length numbers.now < 2 ^ 32 }
+        ensures ok { OnOk result (Puts at numbers.now self.old self.new) }
+        ensures len { length self.new ≡ length self.old }
+    {
+        for (i, number) in numbers.iter().enumerate() {
+            self.replace(at + i, *number)?;
+        }
+        Ok(())
+    }
+
+    /// The numbers of so many bytes that follow each other, at most eight, and zeros behind them and behind the
+    /// last byte.
+    pub fn eight(&self, at: usize, len: usize) -> [u32; 8]
+        requires few { len ≤ 8 }
+        requires small { at < 2 ^ 32 }
+        ensures { AreEight self.now at len result }
+    {
+        let mut numbers = [0; 8];
+        for i in 0..len {
+            numbers[i] = self.find(at + i);
+        }
+        numbers
+    }
+}

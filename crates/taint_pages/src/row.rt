@@ -1,0 +1,87 @@
+// The numbers of the bytes of registers.
+ghost use Rattle.std.specs.Prelude.{◌≡◌, ◌<◌, ◌+◌, ◌*◌, ℕ, length};
+ghost use Rattle.taint_pages.specs.Rows.{AreBytes, PutsBytes, SetsByte, byte_in};
+
+use rv64_isa::Reg;
+use std::marker::Model;
+
+/// The number of the set of each byte of the registers. The bytes of x0 have 0.
+#[derive(Debug, Drop)]
+pub struct Row {
+    numbers: [u32; 256],
+}
+
+impl Model for Row {
+    ghost use Rattle.std.specs.Prelude.{ℕ, List};
+    ghost use Rattle.taint_pages.specs.Rows.{IsRow};
+
+    ghost Value = { List ℕ };
+
+    ghost view = { λ r. r.numbers };
+
+    ghost invariant = { λ r. IsRow r.numbers };
+}
+
+impl Row {
+    /// 0 for each byte.
+    pub fn new() -> Row
+        ensures { (r i : ℕ) → byte_in result r i ≡ 0 }
+    {
+        Row { numbers: [0; 256] }
+    }
+
+    /// The same numbers again.
+    pub fn copy(&self) -> Row
+        ensures { result ≡ self.now }
+    {
+        Row {
+            numbers: self.numbers,
+        }
+    }
+
+    /// The number of a byte of a register.
+    pub fn get(&self, reg: Reg, byte: u8) -> u32
+        requires { byte < 8 }
+        ensures number { result ≡ byte_in self.now reg byte }
+        ensures zero { reg ≡ 0 → result ≡ 0 }
+    {
+        self.numbers[place(reg, byte)]
+    }
+
+    /// Sets the number of a byte of a register that isn't x0.
+    pub fn set(&mut self, reg: Reg, byte: u8, number: u32)
+        requires above { 0 < reg }
+        requires byte { byte < 8 }
+        ensures { SetsByte reg byte number self.old self.new }
+    {
+        self.numbers[place(reg, byte)] = number;
+    }
+
+    /// The numbers of the eight bytes of a register.
+    pub fn bytes(&self, reg: Reg) -> &[u32]
+        ensures { AreBytes self.now reg result.now }
+    {
+        let start = place(reg, 0);
+        &self.numbers[start..start + 8]
+    }
+
+    /// Sets the numbers of all bytes of a register that isn't x0.
+    pub fn put(&mut self, reg: Reg, numbers: &[u32])
+        requires above { 0 < reg }
+        requires eight { length numbers.now ≡ 8 }
+        ensures { PutsBytes reg numbers.now self.old self.new }
+    {
+        for byte in 0..8 {
+            self.set(reg, byte, numbers[byte as usize]);
+        }
+    }
+}
+
+/// Where a byte of a register stands.
+fn place(reg: Reg, byte: u8) -> usize
+    requires { byte < 8 }
+    ensures place { result ≡ 8 * reg + byte }
+    ensures within { result < 256 }
+{
+    usize::from(reg.number()) * 8 + usize::from(byte)
+}

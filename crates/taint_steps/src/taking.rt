@@ -1,0 +1,71 @@
+// The sets of what an instruction writes.
+ghost use Rattle.std.specs.Prelude.{◌≡◌, ◌<◌, ℕ, IfOk};
+ghost use Rattle.rv64_model.specs.Operands as operands;
+ghost use Rattle.set_store.specs.Sets.{StandAsBefore};
+ghost use Rattle.taint_flow.specs.Names as names;
+ghost use Rattle.taint_members.specs.Access.{HoldsKey};
+ghost use Rattle.taint_pages.specs.Rows.{AreBytes};
+ghost use Rattle.taint_steps.specs.Taking.{AreRawIn, AreSetsIn, IsRead, IsRegister, Takes};
+
+use arn_base::{Cpu, NoMemory};
+use rv64_isa::{Instr, Reg};
+use rv64_model::Linkage;
+use set_store::Sets;
+use taint_flow::{accessed, loaded_len, resolve_all, results, rs1, rs2};
+use taint_members::{Member, read};
+use taint_pages::{Numbers, Row};
+
+/// The linkage under which bytes are followed, and the event by which the group began.
+#[derive(Clone, Copy, Debug)]
+pub struct Rules {
+    pub linkage: Linkage,
+    pub begun: u64,
+}
+
+/// The numbers of no bytes.
+static NO_BYTES: [u32; 8] = [0; 8];
+
+/// The numbers of the bytes of a register, zeros where none is named.
+fn bytes_of(row: &Row, reg: Option<Reg>) -> &[u32]
+    ensures { IsRegister row.now reg result.now }
+{
+    match reg {
+        Some(reg) => row.bytes(reg),
+        None => NO_BYTES.as_slice(),
+    }
+}
+
+/// The numbers of the bytes that an instruction loads, and zeros behind them.
+fn loaded(instr: &Instr, before: &Cpu, member: &Member, segments: &[Numbers]) -> [u32; 8]
+    requires held { HoldsKey member.now.segment segments.now }
+    ensures { IsRead (operands.accessed instr.now before.now) (names.loaded_len instr.now)
+        member.now segments.now result }
+{
+    match accessed(instr, before) {
+        Some(at) => read(member, segments, at, loaded_len(instr)),
+        None => [0; 8],
+    }
+}
+
+/// The sets of the bytes that an instruction writes to its register, or of those that it stores.
+pub fn taken(
+    sets: &mut Sets,
+    rules: Rules,
+    instr: &Instr,
+    before: &Cpu,
+    member: &Member,
+    segments: &[Numbers],
+) -> Result<[u32; 8], NoMemory>
+    requires held { HoldsKey member.now.segment segments.now }
+    requires registers { AreSetsIn sets.old member.now.registers }
+    requires memory { AreRawIn sets.old member.now segments.now }
+    ensures takes { IfOk result
+        (Takes sets.old sets.new rules instr.now before.now member.now segments.now) }
+    ensures before { StandAsBefore sets.old sets.new }
+{
+    let _ = sets.empty();
+    let loaded = resolve_all(sets, rules.begun, &loaded(instr, before, member, segments))?;
+    let first = bytes_of(&member.registers, rs1(instr));
+    let second = bytes_of(&member.registers, rs2(instr));
+    results(sets, rules.linkage, instr, first, second, &loaded)
+}
