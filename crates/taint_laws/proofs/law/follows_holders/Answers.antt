@@ -1,0 +1,5 @@
+use Rattle.taint_laws.proofs.Fold.{alone-followed}
+use Rattle.taint_laws.proofs.law.follows_holders.Goals as goal
+
+pub returns : goal.returns
+returns c = λ entries g moment own broken whole is. alone-followed entries g moment own broken whole is

@@ -1,0 +1,6 @@
+use Rattle.taint_tracker.specs.Kept.{shown}
+use Rattle.taint_laws.proofs.Told.{told-shows}
+use Rattle.taint_laws.proofs.law.told_keeps.Goals as goal
+
+pub returns : goal.returns
+returns c = told-shows shown

@@ -1,0 +1,6 @@
+use Rattle.taint_tracker.specs.Shown.{Tracking}
+use Rattle.taint_laws.proofs.Told.{told-shows}
+use Rattle.taint_laws.proofs.law.told_shows.Goals as goal
+
+pub returns : goal.returns
+returns c = told-shows (λ (x : Tracking). x)
