@@ -1,5 +1,5 @@
 -- What a call tells, from what its act, its record and its kernel say; and refusals.
-use Rattle.std.proofs.Common.{◌≡◌, ℕ, ◌≤◌, List, [], ◌∷◌, length, refl, ap, ◌∙◌, sym, Option, Some, None, unwrap_or, Bool, true, false, ◌==◌, ◌&&◌, not, cond, if◌then◌else◌, nat_le}
+use Rattle.std.proofs.Common.{◌+◌, ◌≡◌, ℕ, ◌≤◌, List, [], ◌∷◌, length, refl, ap, ◌∙◌, sym, Option, Some, None, unwrap_or, Bool, true, false, ◌==◌, ◌&&◌, not, cond, if◌then◌else◌, nat_le}
 use Rattle.std.proofs.lemmas.Bool.{eq-eqb, and_right, and_parts, not-true}
 use Rattle.arn_base.specs.declared.machine.Cpu.{Cpu}
 use Rattle.arn_base.specs.declared.records.Extra.{Extra}
@@ -49,6 +49,7 @@ pub record Done (m : Machine) (pid : ℕ) (v : View) (d : Doing) (entry : Record
   pub living : (q : ℕ) → lives d.kernel q ≡ lives_after (life_by pid d.act) q (lives m.kernel q)
   pub sound : IsSound d.kernel
   pub grows : length m.kernel.processes ≤ length d.kernel.processes
+  pub few : length d.kernel.processes ≤ length m.kernel.processes + 1
 
 -- a live process stands at the call of a number, in a machine whose kernel is sound
 pub record At (m : Machine) (pid : ℕ) (v : View) (n : ℕ) : Type 0 where
@@ -94,7 +95,7 @@ right-by v n result more act s e t w pid =
 
 pub done-call : (m : Machine) (pid : ℕ) (v : View) (n : ℕ) (d : Doing) (name : NameChange) (put : Option Written) → At m pid v n → (HasNumbers d.kernel → CallTells m pid v n d name put) → KernelTells m.kernel m.events d.bytes d.outgoing (life_by pid d.act) name put d.kernel → DoneCall m pid v n d
 done-call m pid v n d name put at call k =
-    record { told = λ few. told (call few); living = k.living; sound = k.sound at.sound; grows = k.grows }
+    record { told = λ few. told (call few); living = k.living; sound = k.sound at.sound; grows = k.grows; few = k.few }
   where
     told : CallTells m pid v n d name put → EventTells m pid v d (entry.Call pid n (result_of d.act) d.extra)
     told c =

@@ -48,7 +48,7 @@ lives_in o = is_some (option_and_then (λ p. if table.is_live p then Some p else
 -- a change that leaves life
 pub quiet-process : (k : Kernel) (pid : ℕ) (change : Process → Process) → ((p : Process) → (change p).life ≡ p.life) → Quiet k (record k { processes = table.with_change k.processes pid change })
 quiet-process k pid change same =
-    quiet-table k (table.with_change k.processes pid change) (record { bytes = bytes; lives = living; grows = let e = length-with_process k.processes pid (option_map change (process k.processes pid)) in omega arith })
+    quiet-table k (table.with_change k.processes pid change) (record { bytes = bytes; lives = living; grows = let e = length-with_process k.processes pid (option_map change (process k.processes pid)) in omega arith; few = let e = length-with_process k.processes pid (option_map change (process k.processes pid)) in omega arith })
   where
     status : (b : Bool) (o : Option Process) → status_in (cond b (option_map change o) o) ≡ status_in o
     status true None = refl

@@ -33,6 +33,7 @@ pub record KernelTells (k : Kernel) (event : ℕ) (bytes : List ℕ) (outgoing :
   pub kept : (file : ℕ) → FileKept event put file (file_bytes k.files file) (file_bytes new.files file)
   pub sound : IsSound k → IsSound new
   pub grows : length k.processes ≤ length new.processes
+  pub few : length new.processes ≤ length k.processes + 1
 
 pub kept-same : (event file : ℕ) (o p : Option (List TaggedByte)) → FileSame o p → FileKept event None file o p
 kept-same event file o None h = tt
@@ -54,6 +55,7 @@ quiet-tells k event bytes new q =
       kept = λ file. kept-same event file (file_bytes k.files file) (file_bytes new.files file) (q.files file);
       sound = q.sound;
       grows = q.grows;
+      few = let f = q.few in omega arith;
     }
 
 pub tells-then : (k : Kernel) (event : ℕ) (bytes : List ℕ) (outgoing : Option Range) (life : LifeChange) (name : NameChange) (put : Option Written) (mid new : Kernel) → KernelTells k event bytes outgoing life name put mid → Quiet mid new → KernelTells k event bytes outgoing life name put new
@@ -65,6 +67,7 @@ tells-then k event bytes outgoing life name put mid new t q =
       kept = λ file. kept-then event put file (file_bytes k.files file) (file_bytes mid.files file) (file_bytes new.files file) (t.kept file) (q.files file);
       sound = λ s. q.sound (t.sound s);
       grows = let a = t.grows in let b = q.grows in omega arith;
+      few = let a = t.few in let b = q.few in omega arith;
     }
 
 -- a quiet change first, and then one that leaves files
@@ -77,6 +80,7 @@ then-tells k event bytes outgoing life mid new q t same =
       kept = λ file. subst (λ (fs : Files). FileKept event None file (file_bytes k.files file) (file_bytes fs file)) (sym same) (kept-same event file (file_bytes k.files file) (file_bytes mid.files file) (q.files file));
       sound = λ s. t.sound (q.sound s);
       grows = let a = t.grows in let b = q.grows in omega arith;
+      few = let a = t.few in let b = q.few in omega arith;
     }
   where
     by_case : (b : KernelByte) (h : TaggedByte) → (outgoing_byte event bytes outgoing b ≡ Some h) ⊎ ((outgoing_byte event bytes outgoing b ≡ None) × (kernel_byte mid b ≡ Some h)) → (outgoing_byte event bytes outgoing b ≡ Some h) ⊎ ((outgoing_byte event bytes outgoing b ≡ None) × (kernel_byte k b ≡ Some h))
@@ -166,6 +170,7 @@ table-ended pid s event k =
       kept = λ file. kept-same event file (file_bytes k.files file) (file_bytes k.files file) (file-same (file_bytes k.files file) (file_bytes k.files file) refl);
       sound = λ h. record { fits = h.fits; named = h.named };
       grows = let e = length-mapped (option_and_then (table.orphan pid)) (table.with_process k.processes pid (option_and_then (table.with_end (status_at event s)) (process k.processes pid))) in let g = length-with_process k.processes pid (option_and_then (table.with_end (status_at event s)) (process k.processes pid)) in omega arith;
+      few = let e = length-mapped (option_and_then (table.orphan pid)) (table.with_process k.processes pid (option_and_then (table.with_end (status_at event s)) (process k.processes pid))) in let g = length-with_process k.processes pid (option_and_then (table.with_end (status_at event s)) (process k.processes pid)) in omega arith;
     }
   where
     by_test : (q : ℕ) (h : TaggedByte) (b : Bool) → (q == pid) ≡ b → status_in (option_and_then (table.orphan pid) (cond b (option_and_then (table.with_end (status_at event s)) (process k.processes q)) (process k.processes q))) ≡ Some h → (outgoing_byte event (s ∷ []) (Some (status_of pid)) (StatusByte q) ≡ Some h) ⊎ ((outgoing_byte event (s ∷ []) (Some (status_of pid)) (StatusByte q) ≡ None) × (table.status_of k.processes q ≡ Some h))
@@ -226,6 +231,7 @@ table-forked pid event k alive =
       kept = λ file. kept-same event file (file_bytes k.files file) (file_bytes k.files file) (file-same (file_bytes k.files file) (file_bytes k.files file) refl);
       sound = λ h. record { fits = h.fits; named = h.named };
       grows = let e = length_push k.processes child in omega arith;
+      few = let e = length_push k.processes child in omega arith;
     }
   where
     live : (q : ℕ) (b : Bool) → lives_in (cond b (option_map (table.child_of pid) (process k.processes pid)) (process k.processes q)) ≡ cond b true (lives k q)

@@ -110,6 +110,7 @@ made-tells k event path free =
       kept = λ file. subst (λ (o : Option files.File). FileKept event None file (file_bytes k.files file) (option_map (λ f. f.bytes) o)) (sym (nth-push k.files.all new file)) (kept file (file == length k.files.all) refl);
       sound = made-sound k path [];
       grows = omega arith;
+      few = omega arith;
     }
   where
     new : Option files.File
@@ -175,6 +176,7 @@ unnamed-tells k event path file =
       kept = λ f. kept-same event f (file_bytes k.files f) (file_bytes (unnamed k.files path file) f) (q.files f);
       sound = λ s. q.sound (sound s);
       grows = omega arith;
+      few = omega arith;
     }
   where
     same : (b : KernelByte) (h : TaggedByte) → kernel_byte (record k { files = record k.files { names = without_name k.files.names path } }) b ≡ Some h → kernel_byte k b ≡ Some h

@@ -163,6 +163,7 @@ reaped-quiet k child status e =
       bytes = λ q h x. less (q == child) (process k.processes q) h (ap status_in (sym (change q)) ∙ x);
       lives = λ q. ap lives_in (change q) ∙ by_test q (q == child) refl;
       grows = let g = length-with_process k.processes child None in omega arith;
+      few = let g = length-with_process k.processes child None in omega arith;
     })
   where
     change : (q : ℕ) → process (table.reaped k.processes child) q ≡ cond (q == child) None (process k.processes q)

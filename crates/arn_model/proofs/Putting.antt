@@ -189,6 +189,7 @@ piped-tells k event pipe p bytes there fits =
       kept = λ file. kept-same event file (file_bytes k.files file) (file_bytes k.files file) (file-same (file_bytes k.files file) (file_bytes k.files file) refl);
       sound = λ s. record { fits = s.fits; named = s.named };
       grows = omega arith;
+      few = omega arith;
     }
   where
     own : (o : Option Pipe) (n : ℕ) (h : TaggedByte) → o ≡ Some p → pipe_byte (option_map (λ q. with_put q bytes event) o) n ≡ Some h → (put_byte event bytes (within (channel_end p.channel) (length bytes) n) ≡ Some h) ⊎ ((within (channel_end p.channel) (length bytes) n ≡ None) × (pipe_byte o n ≡ Some h))
@@ -295,6 +296,7 @@ written-tells k event file at bytes fits inside =
         named = λ path q e. let l = s.named path q e in let g = length-set k.files.all file (option_map (rewritten at bytes event) (nth k.files.all file)) in omega arith;
       };
       grows = omega arith;
+      few = omega arith;
     }
   where
     put : Option Written

@@ -56,9 +56,10 @@ pub record Quiet (old new : Kernel) : Type 0 where
   pub files : (file : ℕ) → FileSame (file_bytes old.files file) (file_bytes new.files file)
   pub sound : IsSound old → IsSound new
   pub grows : length old.processes ≤ length new.processes
+  pub few : length new.processes ≤ length old.processes
 
 pub quiet-refl : (k : Kernel) → Quiet k k
-quiet-refl k = record { bytes = λ b h e. e; lives = λ q. refl; names = refl; files = λ file. file-same (file_bytes k.files file) (file_bytes k.files file) refl; sound = λ s. s; grows = omega arith }
+quiet-refl k = record { bytes = λ b h e. e; lives = λ q. refl; names = refl; files = λ file. file-same (file_bytes k.files file) (file_bytes k.files file) refl; sound = λ s. s; grows = omega arith; few = omega arith }
 
 pub quiet-trans : (k l m : Kernel) → Quiet k l → Quiet l m → Quiet k m
 quiet-trans k l m h g =
@@ -69,6 +70,7 @@ quiet-trans k l m h g =
       files = λ file. file-through (file_bytes k.files file) (file_bytes l.files file) (file_bytes m.files file) (h.files file) (g.files file);
       sound = λ s. g.sound (h.sound s);
       grows = let a = h.grows in let b = g.grows in omega arith;
+      few = let a = h.few in let b = g.few in omega arith;
     }
 
 -- files
@@ -117,7 +119,7 @@ files-sound k fs h s =
 
 pub quiet-files : (k : Kernel) (fs : Files) → FilesQuiet k.files fs → Quiet k (record k { files = fs })
 quiet-files k fs h =
-    record { bytes = files-bytes k fs h; lives = λ q. refl; names = h.names; files = h.files; sound = files-sound k fs h; grows = omega arith }
+    record { bytes = files-bytes k fs h; lives = λ q. refl; names = h.names; files = h.files; sound = files-sound k fs h; grows = omega arith; few = omega arith }
 
 -- pipes
 
@@ -126,7 +128,7 @@ pipe_byte p n = option_and_then (λ p. at_position p.channel n) p
 
 pub quiet-pipes : (k : Kernel) (ps : Pipes) → ((pipe n : ℕ) → Less (pipe_byte (nth ps pipe) n) (pipe_byte (nth k.pipes pipe) n)) → Quiet k (record k { pipes = ps })
 quiet-pipes k ps h =
-    record { bytes = bytes; lives = λ q. refl; names = refl; files = λ file. file-same (file_bytes k.files file) (file_bytes k.files file) refl; sound = λ s. record { fits = s.fits; named = s.named }; grows = omega arith }
+    record { bytes = bytes; lives = λ q. refl; names = refl; files = λ file. file-same (file_bytes k.files file) (file_bytes k.files file) refl; sound = λ s. record { fits = s.fits; named = s.named }; grows = omega arith; few = omega arith }
   where
     bytes : (b : KernelByte) → Less (kernel_byte (record k { pipes = ps }) b) (kernel_byte k b)
     bytes (ConsoleByte n) x e = e
@@ -171,10 +173,11 @@ pub record TableQuiet (old new : Processes) : Type 0 where
   pub bytes : (q : ℕ) → Less (table.status_of new q) (table.status_of old q)
   pub lives : (q : ℕ) → is_some (table.live_process new q) ≡ is_some (table.live_process old q)
   pub grows : length old ≤ length new
+  pub few : length new ≤ length old
 
 pub quiet-table : (k : Kernel) (ps : Processes) → TableQuiet k.processes ps → Quiet k (record k { processes = ps })
 quiet-table k ps h =
-    record { bytes = bytes; lives = h.lives; names = refl; files = λ file. file-same (file_bytes k.files file) (file_bytes k.files file) refl; sound = λ s. record { fits = s.fits; named = s.named }; grows = h.grows }
+    record { bytes = bytes; lives = h.lives; names = refl; files = λ file. file-same (file_bytes k.files file) (file_bytes k.files file) refl; sound = λ s. record { fits = s.fits; named = s.named }; grows = h.grows; few = h.few }
   where
     bytes : (b : KernelByte) → Less (kernel_byte (record k { processes = ps }) b) (kernel_byte k b)
     bytes (ConsoleByte n) x e = e
@@ -186,7 +189,7 @@ quiet-table k ps h =
 
 pub quiet-descriptions : (k : Kernel) (ds : List (Option Opened)) → (IsSound k → (n : ℕ) → IfSome (nth ds n) (λ o. FitsFiles k.files o.what)) → Quiet k (record k { descriptions = ds })
 quiet-descriptions k ds h =
-    record { bytes = bytes; lives = λ q. refl; names = refl; files = λ file. file-same (file_bytes k.files file) (file_bytes k.files file) refl; sound = λ s. record { fits = h s; named = s.named }; grows = omega arith }
+    record { bytes = bytes; lives = λ q. refl; names = refl; files = λ file. file-same (file_bytes k.files file) (file_bytes k.files file) refl; sound = λ s. record { fits = h s; named = s.named }; grows = omega arith; few = omega arith }
   where
     bytes : (b : KernelByte) → Less (kernel_byte (record k { descriptions = ds }) b) (kernel_byte k b)
     bytes (ConsoleByte n) x e = e
@@ -198,7 +201,7 @@ quiet-descriptions k ds h =
 
 pub quiet-handling : (k : Kernel) (hs : List (Option Handling)) → Quiet k (record k { handling = hs })
 quiet-handling k hs =
-    record { bytes = bytes; lives = λ q. refl; names = refl; files = λ file. file-same (file_bytes k.files file) (file_bytes k.files file) refl; sound = λ s. record { fits = s.fits; named = s.named }; grows = omega arith }
+    record { bytes = bytes; lives = λ q. refl; names = refl; files = λ file. file-same (file_bytes k.files file) (file_bytes k.files file) refl; sound = λ s. record { fits = s.fits; named = s.named }; grows = omega arith; few = omega arith }
   where
     bytes : (b : KernelByte) → Less (kernel_byte (record k { handling = hs }) b) (kernel_byte k b)
     bytes (ConsoleByte n) x e = e
@@ -208,7 +211,7 @@ quiet-handling k hs =
 
 pub quiet-ports : (k : Kernel) (ps : Ports) → Quiet k (record k { ports = ps })
 quiet-ports k ps =
-    record { bytes = bytes; lives = λ q. refl; names = refl; files = λ file. file-same (file_bytes k.files file) (file_bytes k.files file) refl; sound = λ s. record { fits = s.fits; named = s.named }; grows = omega arith }
+    record { bytes = bytes; lives = λ q. refl; names = refl; files = λ file. file-same (file_bytes k.files file) (file_bytes k.files file) refl; sound = λ s. record { fits = s.fits; named = s.named }; grows = omega arith; few = omega arith }
   where
     bytes : (b : KernelByte) → Less (kernel_byte (record k { ports = ps }) b) (kernel_byte k b)
     bytes (ConsoleByte n) x e = e
@@ -219,7 +222,7 @@ quiet-ports k ps =
 -- the console
 pub quiet-console : (k : Kernel) (c : Channel) → ((n : ℕ) → Less (at_position c n) (at_position k.console n)) → Quiet k (record k { console = c })
 quiet-console k c h =
-    record { bytes = bytes; lives = λ q. refl; names = refl; files = λ file. file-same (file_bytes k.files file) (file_bytes k.files file) refl; sound = λ s. record { fits = s.fits; named = s.named }; grows = omega arith }
+    record { bytes = bytes; lives = λ q. refl; names = refl; files = λ file. file-same (file_bytes k.files file) (file_bytes k.files file) refl; sound = λ s. record { fits = s.fits; named = s.named }; grows = omega arith; few = omega arith }
   where
     bytes : (b : KernelByte) → Less (kernel_byte (record k { console = c }) b) (kernel_byte k b)
     bytes (ConsoleByte n) x e = h n x e

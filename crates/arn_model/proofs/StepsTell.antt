@@ -79,6 +79,12 @@ booted-grows k =
     let e = length_push k.processes (Some (record { life = table.Live; parent = None; descriptors = table.none_open })) in
     omega arith
 
+booted-few : (k : Kernel) → length (kernel.booted k).processes ≤ length k.processes + 1
+booted-few k =
+    let g = (opened-quiet (first_made k)).few in
+    let e = length_push k.processes (Some (record { life = table.Live; parent = None; descriptors = table.none_open })) in
+    omega arith
+
 starts-fit : (event : ℕ) (file : List ℕ) (b : Bodies) (living : ℕ → Bool) → BodiesFit b living → BodiesFit (done 1 event (Starts file 0 0) b) living
 starts-fit event file b living h = by_seen (seen b 1) refl
   where
@@ -101,6 +107,7 @@ boot-good m path file held s first e f image =
             bodies = starts-fit m.events (values held) (put 1 (unborn m.events) m.bodies) living (fit-put m.bodies (lives m.kernel) living 1 (unborn m.events) s.bodies (booted-first m.kernel first) (λ q t. booted-others m.kernel q first t) born);
           };
       grows = booted-grows m.kernel;
+      few = let f = booted-few m.kernel in omega arith;
       tells = λ few. Boots path file held first e f image refl;
     }
 
@@ -126,6 +133,7 @@ file-good m path bytes s e =
     record {
       sound = record { kernel = made-sound m.kernel path (held_bytes m.events bytes) s.kernel; bodies = fit-same m.bodies (lives m.kernel) (lives (file_step m path bytes).after.kernel) s.bodies (λ q. refl) };
       grows = omega arith;
+      few = omega arith;
       tells = λ few. Adds path bytes e refl;
     }
 
@@ -138,6 +146,7 @@ typed-good m bytes s e =
             bodies = fit-same m.bodies (lives m.kernel) (lives (typed_step m bytes).after.kernel) s.bodies (λ q. refl);
           };
       grows = omega arith;
+      few = omega arith;
       tells = λ few. Types bytes e refl;
     }
 
@@ -150,6 +159,7 @@ unplug-good m device s e =
             bodies = fit-same m.bodies (lives m.kernel) (lives (unplug_step m device).after.kernel) s.bodies (λ q. refl);
           };
       grows = omega arith;
+      few = omega arith;
       tells = λ few. Unplugs device e refl;
     }
 
@@ -204,6 +214,10 @@ along-grows : (m : Machine) (steps : List Step) → Along StepGood m steps → l
 along-grows m [] h = omega arith
 along-grows m (s ∷ steps) h = let a = h.0.grows in let b = along-grows s.after steps h.1 in omega arith
 
+along-few : (m : Machine) (steps : List Step) → Along StepGood m steps → length (after_steps m steps).kernel.processes + m.events ≤ length m.kernel.processes + (after_steps m steps).events
+along-few m [] h = omega arith
+along-few m (s ∷ steps) h = let a = h.0.few in let b = along-few s.after steps h.1 in omega arith
+
 along-tells : (m : Machine) (steps : List Step) → Along StepGood m steps → HasNumbers (after_steps m steps).kernel → Along StepTells m steps
 along-tells m [] h few = tt
 along-tells m (s ∷ steps) h few = (h.0.tells (lt_of_le_of_lt (along-grows s.after steps h.1) few), along-tells s.after steps h.1 few)
@@ -232,4 +246,5 @@ runs-sound inputs =
       along = along-all-sound at_first (run inputs) at_first-sound good;
       last = sound-of (machine_from at_first inputs) (subst MachineSound (sym (machine_from-steps at_first inputs)) (along-sound at_first (run inputs) at_first-sound good));
       numbers = along-numbers at_first (run inputs) good;
+      few = subst (λ (m : Machine). length m.kernel.processes ≤ m.events) (sym (machine_from-steps at_first inputs)) (let f = along-few at_first (run inputs) good in omega arith);
     }

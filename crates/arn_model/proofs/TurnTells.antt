@@ -39,6 +39,7 @@ pub record MachineSound (m : Machine) : Type 0 where
 pub record StepGood (m : Machine) (s : Step) : Type 0 where
   pub sound : MachineSound s.after
   pub grows : length m.kernel.processes ≤ length s.after.kernel.processes
+  pub few : length s.after.kernel.processes + m.events ≤ length m.kernel.processes + s.after.events
   pub tells : HasNumbers s.after.kernel → StepTells m s
 
 pub event-good : (m : Machine) (pid : ℕ) (v : View) (d : Doing) (entry : Record) → MachineSound m → seen m.bodies pid ≡ Some v → Done m pid v d entry → StepGood m (event_step m pid v d entry)
@@ -53,6 +54,7 @@ event-good m pid v d entry s e done =
                 done.living;
           };
       grows = done.grows;
+      few = let f = done.few in omega arith;
       tells = λ few. Happens pid v d entry (done.told few) refl;
     }
 
@@ -63,6 +65,7 @@ plain-good m pid v instr cpu memory s e x =
     record {
       sound = record { kernel = s.kernel; bodies = fit-put m.bodies (lives m.kernel) (lives m.kernel) pid (after_instr cpu memory v) s.bodies there.0 (λ q g. refl) (advanced-small v instr cpu memory there.1 x) };
       grows = omega arith;
+      few = omega arith;
       tells = λ few. Runs pid v instr cpu memory e x refl;
     }
 
@@ -71,7 +74,7 @@ record EventSays (m : Machine) (pid : ℕ) (v : View) (d : Doing) (entry : Recor
   pub told : (k : KernelTells m.kernel m.events d.bytes d.outgoing (life_by pid d.act) NoName None d.kernel) → EventTells m pid v d entry
 
 done-event : (m : Machine) (pid : ℕ) (v : View) (d : Doing) (entry : Record) → MachineSound m → EventSays m pid v d entry → KernelTells m.kernel m.events d.bytes d.outgoing (life_by pid d.act) NoName None d.kernel → Done m pid v d entry
-done-event m pid v d entry s e k = record { told = λ few. e.told k; living = k.living; sound = k.sound s.kernel; grows = k.grows }
+done-event m pid v d entry s e k = record { told = λ few. e.told k; living = k.living; sound = k.sound s.kernel; grows = k.grows; few = k.few }
 
 -- an end by fault
 fault-done : (m : Machine) (pid : ℕ) (v : View) (status : ℕ) → MachineSound m → seen m.bodies pid ≡ Some v → stands_at v ≡ End status → Done m pid v (ending m pid (Faults status) status) (entry.End pid status)

@@ -17,11 +17,13 @@ StepsTell = (inputs : List Input) → HasNumbers (machine_after inputs).kernel �
 abbrev pub KeepsNumbers : Machine → Step → Type 0
 KeepsNumbers m s = length m.kernel.processes ≤ length s.after.kernel.processes
 
--- a run's machine is sound before each step and at the end, and no step gives a process's number again
+-- A run's machine is sound before each step and at the end, no step gives a process's number again, and no more processes were made than
+-- there were events.
 pub record RunIsSound (inputs : List Input) : Type 0 where
   pub along : Along (λ m s. IsSoundMachine m) at_first (run inputs)
   pub last : IsSoundMachine (machine_after inputs)
   pub numbers : Along KeepsNumbers at_first (run inputs)
+  pub few : length (machine_after inputs).kernel.processes ≤ (machine_after inputs).events
 
 abbrev pub EachRunIsSound : Type 0
 EachRunIsSound = (inputs : List Input) → RunIsSound inputs

@@ -11,3 +11,8 @@ pub mod Opening
 pub mod Pieces
 pub mod Stands
 pub mod Watches
+pub mod Built
+pub mod Children
+pub mod Past
+pub mod Restarts
+pub mod Begun

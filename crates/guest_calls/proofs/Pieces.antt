@@ -13,9 +13,9 @@ use Rattle.acts_model.specs.Bodies.{Bodies}
 use Rattle.arn_model.specs.Kernel.{Handling, all_dropped, descriptors_of, ended, status_at}
 use Rattle.arn_model.specs.Step.{without_signal}
 use Rattle.guest_bodies.specs.Follows.{Shows, Follows, KeepsWatches, Rewatches, SetsWatch}
-use Rattle.guest_bodies.specs.Shown.{Guests, Shown, Watch, signals_in, signals_of, watch_in}
+use Rattle.guest_bodies.specs.Shown.{Guests, Shown, Watch, seen_in, signals_in, signals_of, watch_in}
 use Rattle.guest_calls.specs.Acted.{Acted}
-use Rattle.guest_calls.specs.Kept.{IsFull, IsKept, IsSound, handlings, state_of}
+use Rattle.guest_calls.specs.Kept.{IsFull, IsKept, IsPast, IsSound, handlings, state_of}
 use Rattle.guest_calls.specs.State.{State}
 use Rattle.guest_calls.specs.declared.kernel.Kernel.TheInside.{Inside}
 use Rattle.guest_calls.proofs.Ends.{alive-other, alive-own, full-other, full-own, length-ended, live-there, there-numbered}
@@ -34,9 +34,9 @@ body-acted k pid act new follows keeps =
       events = refl;
     }
 
-pub body-sound : (k : Inside) (new : Guests) → IsKept k → KeepsWatches k.bodies new → IsSound new k.procs k.resources.files k.resources.descriptions k.booted
-body-sound k new kept keeps =
-    record { made = kept.made; alive = λ p. live-same k.bodies new p (keeps.kept p) ∙ kept.alive p; full = kept.full; before = kept.before; closed = kept.closed }
+pub body-sound : (k : Inside) (new : Guests) (events : ℕ) → IsKept k → KeepsWatches k.bodies new → IsPast new events → IsSound new k.procs k.resources.files k.resources.descriptions k.booted events
+body-sound k new events kept keeps past =
+    record { made = kept.made; alive = λ p. live-same k.bodies new p (keeps.kept p) ∙ kept.alive p; full = kept.full; before = kept.before; closed = kept.closed; past = past }
 
 -- a process has ended
 module _ (k : Inside) (pid status : ℕ) (procs : Processes) (new : Guests) (is : procs ≡ table.ended k.procs pid (status_at k.events status)) (sets : SetsWatch pid None k.bodies new) where
@@ -56,14 +56,15 @@ module _ (k : Inside) (pid status : ℕ) (procs : Processes) (new : Guests) (is 
       subst (λ (i : ℕ). IfSome (process (table.ended k.procs pid (status_at k.events status)) i) IsFull) (sym (eqb-true q pid e)) (full-own k.procs pid (status_at k.events status))
   full_number q false e kept = full-other k.procs pid (status_at k.events status) q (eqb-false q pid e) (kept.full q)
 
-  pub ended-sound : IsKept k → IsSound new procs k.resources.files k.resources.descriptions k.booted
-  ended-sound kept =
+  pub ended-sound : (events : ℕ) → IsKept k → IsPast new events → IsSound new procs k.resources.files k.resources.descriptions k.booted events
+  ended-sound events kept past =
       record {
         made = kept.made ∙ ap (nat_lt 0) (sym longer);
         alive = λ q. subst (λ (x : Processes). is_some (nth new q) ≡ is_some (live_process x q)) (sym is) (by_number q (q == pid) refl kept);
         full = λ q. subst (λ (x : Processes). IfSome (process x q) IsFull) (sym is) (full_number q (q == pid) refl kept);
         before = kept.before;
         closed = kept.closed;
+        past = past;
       }
 
   kernel-ended : record (state_of k).kernel { processes = procs; handling = handlings (length procs) new } ≡ record (state_of k).kernel { processes = table.ended k.procs pid (status_at k.events status); handling = with_nth_from_one (handlings (length k.procs) k.bodies) pid None }
@@ -113,13 +114,17 @@ module _ (k : Inside) (pid signal handler : ℕ) (cut : Bool) (mid new : Guests)
   alive-mid q true e = subst (λ (i : ℕ). is_some (watch_in mid i) ≡ is_some (watch_in k.bodies i)) (sym (eqb-true q pid e)) (ap is_some rewatched.own ∙ watched-same (watch_in k.bodies pid))
   alive-mid q false e = ap is_some (rewatched.kept q (eqb-false q pid e))
 
-  pub entered-sound : IsSound new k.procs k.resources.files k.resources.descriptions k.booted
-  entered-sound =
+  pub seen-mid : (q : ℕ) → seen_in mid q ≡ seen_in k.bodies q
+  seen-mid = rewatched.seen
+
+  pub entered-sound : (events : ℕ) → IsPast new events → IsSound new k.procs k.resources.files k.resources.descriptions k.booted events
+  entered-sound events past =
       record {
         made = kept.made;
         full = kept.full;
         before = kept.before;
         closed = kept.closed;
+        past = past;
         alive = λ q. live-watch new q ∙ (ap is_some (keeps.kept q) ∙ (alive-mid q (q == pid) refl ∙ (sym (live-watch k.bodies q) ∙ kept.alive q)));
       }
 

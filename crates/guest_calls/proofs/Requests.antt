@@ -23,6 +23,10 @@ use Rattle.guest_calls.specs.declared.outcomes.Done.{Done}
 use Rattle.guest_calls.specs.Steps.{Performed, RepliesTo}
 use Rattle.guest_calls.specs.State.{State, StandsFor}
 use Rattle.guest_calls.specs.Transfers.{IsReading, IsWriting}
+use Rattle.guest_calls.specs.Waits.{IsWait}
+use Rattle.guest_calls.specs.declared.waiting.Waiting.{Waiting}
+use Rattle.guest_calls.specs.declared.waiting.Waiting.TheVariants as waiting
+use Rattle.arn_model.specs.ProcessCalls.{wait_row}
 use Rattle.guest_calls.specs.declared.outcomes.CallStop.{CallStop}
 use Rattle.guest_calls.specs.declared.outcomes.CallStop.TheVariants as stop
 use Rattle.guest_calls.specs.declared.transfers.Place.{Place}
@@ -31,10 +35,6 @@ use Rattle.guest_calls.specs.declared.transfers.Reading.TheVariants as reading
 use Rattle.guest_calls.specs.declared.transfers.Writing.{Writing}
 use Rattle.guest_calls.specs.declared.transfers.Writing.TheVariants as writing
 use Rattle.guest_calls.proofs.Stands.{at-seen}
-
--- the number of the call of a process that a machine knows
-pub called : (s : State) (pid number n : ℕ) (m : Machine) (v : View) → StandsFor s m → seen m.bodies pid ≡ Some v → IfSome (seen_in s.guests pid) (λ w. number ≡ call_number w.body.cpu) → number ≡ n → call_number v.body.cpu ≡ n
-called s pid number n m v stands sees told is = sym (at-seen (seen_in s.guests pid) v (λ (w : View). number ≡ call_number w.body.cpu) (stands.seen pid ∙ sees) told) ∙ is
 
 -- a transfer from or to a file never waits
 received-ready : (m : Machine) (at : ℕ) (first : KernelByte) (held : List TaggedByte) (k : Kernel) → is_waiting (received m at first held k) ≡ false
@@ -46,34 +46,6 @@ put-ready m at bytes place true = refl
 put-ready m at bytes place false = refl
 
 module _ (m : Machine) (pid : ℕ) (v : View) where
-  pub request-exit : call_number v.body.cpu ≡ 1 → request m pid v ≡ exit_row m pid v
-  unfolding row
-  request-exit is = ap (λ n. if is_built n then row n m pid v else refused NO_SUCH_CALL m.kernel) is
-
-  pub request-read : call_number v.body.cpu ≡ 11 → request m pid v ≡ read_row m pid v
-  unfolding row
-  request-read is = ap (λ n. if is_built n then row n m pid v else refused NO_SUCH_CALL m.kernel) is
-
-  pub request-write : call_number v.body.cpu ≡ 12 → request m pid v ≡ write_row m pid v
-  unfolding row
-  request-write is = ap (λ n. if is_built n then row n m pid v else refused NO_SUCH_CALL m.kernel) is
-
-  unbuilt : (n : ℕ) → n ≢ 1 → n ≢ 11 → n ≢ 12 → is_built n ≡ false
-  unbuilt n a b c = ap₂ (λ (x y : Bool). x || y) (ne_eqb 1 n (λ e. a (sym e))) (ap₂ (λ (x y : Bool). x || y) (ne_eqb 11 n (λ e. b (sym e))) (ap (λ (x : Bool). x || false) (ne_eqb 12 n (λ e. c (sym e)))))
-
-  pub request-none : (n : ℕ) → call_number v.body.cpu ≡ n → n ≢ 1 → n ≢ 11 → n ≢ 12 → request m pid v ≡ refused NO_SUCH_CALL m.kernel
-  request-none n is a b c =
-      ap (λ x. if is_built x then row x m pid v else refused NO_SUCH_CALL m.kernel) is
-      ∙ ap (λ (t : Bool). if t then row n m pid v else refused NO_SUCH_CALL m.kernel) (unbuilt n a b c)
-
-  quiet-by : (n : ℕ) (is_exit : Bool) → (n == 1) ≡ is_exit → call_number v.body.cpu ≡ n → n ≢ 11 → n ≢ 12 → is_waiting (request m pid v) ≡ false
-  quiet-by n true e is b c = ap is_waiting (request-exit (is ∙ eqb-true n 1 e))
-  quiet-by n false e is b c = ap is_waiting (request-none n is (eqb-false n 1 e) b c)
-
-  -- no other call waits
-  pub request-quiet : (n : ℕ) → call_number v.body.cpu ≡ n → n ≢ 11 → n ≢ 12 → is_waiting (request m pid v) ≡ false
-  request-quiet n is b c = quiet-by n (n == 1) refl is b c
-
   pub reading-waits : (r : Reading) → r ≡ reading.Waits → IsReading r m (read_row m pid v) → true ≡ is_waiting (read_row m pid v)
   reading-waits r is comes = sym (ap is_waiting (subst (λ (x : Reading). IsReading x m (read_row m pid v)) is comes))
 
@@ -95,6 +67,14 @@ module _ (m : Machine) (pid : ℕ) (v : View) where
   writing-ready (writing.Answers answer) ready comes = sym (ap is_waiting comes)
   writing-ready (writing.Prints at count) ready comes = sym (ap is_waiting comes)
   writing-ready (writing.Puts at count place) ready comes = sym (ap is_waiting comes ∙ put-ready m at (read v at count) place (place.position == MOST_FILE_BYTES))
+
+  pub wait-waits : (r : Waiting) → r ≡ waiting.Waits → IsWait r m v (wait_row m pid v) → true ≡ is_waiting (wait_row m pid v)
+  wait-waits r is comes = sym (ap is_waiting (subst (λ (x : Waiting). IsWait x m v (wait_row m pid v)) is comes))
+
+  pub wait-ready : (r : Waiting) → r ≢ waiting.Waits → IsWait r m v (wait_row m pid v) → false ≡ is_waiting (wait_row m pid v)
+  wait-ready waiting.Waits ready comes = absurd (ready refl)
+  wait-ready (waiting.Answers answer) ready comes = sym (ap is_waiting comes)
+  wait-ready (waiting.Collects child) ready comes = sym (ap is_waiting comes)
 
 -- a call that has ended didn't wait
 pub ended-ready : {T : Type 0} (r : Result T CallStop) (b : Bool) → (r ≡ Err stop.NotReady → ⊥) → b ≡ false → (IsErrOf r stop.NotReady → IsTrue b) × (IsTrue b → IsErrOf r stop.NotReady)

@@ -7,11 +7,14 @@ use Rattle.parts_model.specs.Files.{Files}
 use Rattle.parts_model.specs.Numbered.{nth}
 use Rattle.parts_model.specs.Processes.{Process, Processes, process, with_change, live_process, is_alive, lowest_free, lowest_free_from, placed, placed_at, with_descriptor, free_descriptors}
 use Rattle.arn_model.specs.Kernel.{Opened}
-use Rattle.guest_calls.specs.Kept.{IsFull, IsKept, IsSound}
+use Rattle.guest_bodies.specs.Follows.{KeepsWatches}
+use Rattle.guest_bodies.specs.Shown.{Guests}
+use Rattle.guest_calls.specs.Kept.{IsFull, IsKept, IsPast, IsSound}
 use Rattle.guest_calls.specs.declared.kernel.Kernel.TheInside.{Inside}
 use Rattle.guest_calls.proofs.Ends.{if_live, with_process-other}
 use Rattle.guest_calls.proofs.Numbers.{nth-set_own}
 use Rattle.guest_calls.proofs.Pieces.{live-numbered}
+use Rattle.guest_calls.proofs.Watches.{live-same}
 
 -- where a process lives, one was made
 pub booted-live : (k : Inside) (pid : ℕ) → IsKept k → is_some (nth k.bodies pid) ≡ true → k.booted ≡ true
@@ -52,7 +55,7 @@ module _ (f : Process → Process) (lives : (p : Process) → (f p).life ≡ p.l
   length-at all zero = refl
   length-at all (suc i) = length-set all i (option_map f (process all (suc i)))
 
-  changed-sound : (k : Inside) (pid : ℕ) (files : Files) (ds : List (Option Opened)) → k.booted ≡ true → IsKept k → IsSound k.bodies (with_change k.procs pid f) files ds k.booted
+  changed-sound : (k : Inside) (pid : ℕ) (files : Files) (ds : List (Option Opened)) → k.booted ≡ true → IsKept k → IsSound k.bodies (with_change k.procs pid f) files ds k.booted k.events
   changed-sound k pid files ds booted kept =
       record {
         made = kept.made ∙ ap (nat_lt 0) (sym (length-at k.procs pid));
@@ -60,10 +63,11 @@ module _ (f : Process → Process) (lives : (p : Process) → (f p).life ≡ p.l
         full = λ q. full-at k.procs pid q (q == pid) refl kept.full;
         before = λ early. absurd (true≢false (sym booted ∙ early));
         closed = λ early. absurd (true≢false (sym booted ∙ early));
+        past = kept.past;
       }
 
 -- other resources
-pub resources-sound : (k : Inside) (files : Files) (ds : List (Option Opened)) → k.booted ≡ true → IsKept k → IsSound k.bodies k.procs files ds k.booted
+pub resources-sound : (k : Inside) (files : Files) (ds : List (Option Opened)) → k.booted ≡ true → IsKept k → IsSound k.bodies k.procs files ds k.booted k.events
 resources-sound k files ds booted kept =
     record {
       made = kept.made;
@@ -71,10 +75,11 @@ resources-sound k files ds booted kept =
       full = kept.full;
       before = λ early. absurd (true≢false (sym booted ∙ early));
       closed = λ early. absurd (true≢false (sym booted ∙ early));
+      past = kept.past;
     }
 
 -- a descriptor stands for something, or for nothing any more
-pub descriptor-sound : (k : Inside) (pid number : ℕ) (found : Option ℕ) (files : Files) (ds : List (Option Opened)) → k.booted ≡ true → IsKept k → IsSound k.bodies (with_change k.procs pid (with_descriptor number found)) files ds k.booted
+pub descriptor-sound : (k : Inside) (pid number : ℕ) (found : Option ℕ) (files : Files) (ds : List (Option Opened)) → k.booted ≡ true → IsKept k → IsSound k.bodies (with_change k.procs pid (with_descriptor number found)) files ds k.booted k.events
 descriptor-sound k pid number found files ds booted kept = changed-sound (with_descriptor number found) (λ p. refl) (λ p. length-set p.descriptors number found) k pid files ds booted kept
 
 placed-life : (o : Option ℕ) (d : ℕ) (p : Process) → (placed_at o d p).life ≡ p.life
@@ -85,7 +90,7 @@ placed-count : (o : Option ℕ) (d : ℕ) (p : Process) → length (placed_at o 
 placed-count None d p = refl
 placed-count (Some n) d p = length-set p.descriptors n (Some d)
 
-pub placed-sound : (k : Inside) (pid d : ℕ) (files : Files) (ds : List (Option Opened)) → k.booted ≡ true → IsKept k → IsSound k.bodies (with_change k.procs pid (placed d)) files ds k.booted
+pub placed-sound : (k : Inside) (pid d : ℕ) (files : Files) (ds : List (Option Opened)) → k.booted ≡ true → IsKept k → IsSound k.bodies (with_change k.procs pid (placed d)) files ds k.booted k.events
 placed-sound k pid d files ds booted kept = changed-sound (placed d) (λ p. placed-life (lowest_free p) d p) (λ p. placed-count (lowest_free p) d p) k pid files ds booted kept
 
 -- a process with room has a free descriptor
@@ -97,3 +102,15 @@ lowest-some n (Some d ∷ ds) some = lowest-some (n + 1) ds some
 pub room-some : (x : Option Process) → (unwrap_or (option_map free_descriptors x) 0 == 0) ≡ false → is_some (option_and_then lowest_free x) ≡ true
 room-some None some = absurd (true≢false some)
 room-some (Some p) some = lowest-some 0 p.descriptors some
+
+-- a process has done an act, and resources have changed
+pub acted-sound : (k : Inside) (new : Guests) (files : Files) (ds : List (Option Opened)) (events : ℕ) → k.booted ≡ true → IsKept k → KeepsWatches k.bodies new → IsPast new events → IsSound new k.procs files ds k.booted events
+acted-sound k new files ds events booted kept keeps past =
+    record {
+      made = kept.made;
+      alive = λ p. live-same k.bodies new p (keeps.kept p) ∙ kept.alive p;
+      full = kept.full;
+      before = λ early. absurd (true≢false (sym booted ∙ early));
+      closed = λ early. absurd (true≢false (sym booted ∙ early));
+      past = past;
+    }

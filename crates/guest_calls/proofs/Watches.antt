@@ -46,10 +46,14 @@ changed change then is None = refl
 changed change then is (Some w) = ap (λ (h : Handling). Some h) (is w)
 
 -- one takes signals otherwise
+pub handlings-rewatched : (made : ℕ) (old new : Guests) (pid : ℕ) (change : Watch → Watch) (then : Handling → Handling) → ((w : Watch) → handling (change w) ≡ then (handling w)) → 0 < pid → pid < made + 1 → watch_in new pid ≡ option_map change (watch_in old pid) → ((q : ℕ) → q ≢ pid → watch_in new q ≡ watch_in old q) → handlings made new ≡ with_nth_from_one (handlings made old) pid (option_map then (nth_from_one (handlings made old) pid))
+handlings-rewatched made old new pid change then is some within own kept =
+    handlings-with made old new pid (option_map then (nth_from_one (handlings made old) pid))
+    (ap (option_map handling) own ∙ (changed change then is (watch_in old pid) ∙ ap (option_map then) (sym (handling-of made old pid some within)))) kept
+
 pub handlings-changed : (made : ℕ) (old new : Guests) (pid : ℕ) (change : Watch → Watch) (then : Handling → Handling) → ((w : Watch) → handling (change w) ≡ then (handling w)) → 0 < pid → pid < made + 1 → Rewatches pid change old new → handlings made new ≡ with_nth_from_one (handlings made old) pid (option_map then (nth_from_one (handlings made old) pid))
 handlings-changed made old new pid change then is some within rewatches =
-    handlings-with made old new pid (option_map then (nth_from_one (handlings made old) pid))
-    (ap (option_map handling) rewatches.own ∙ (changed change then is (watch_in old pid) ∙ ap (option_map then) (sym (handling-of made old pid some within)))) rewatches.kept
+    handlings-rewatched made old new pid change then is some within rewatches.own rewatches.kept
 
 -- whether a process lives is seen by how it takes signals
 watched : (o : Option Shown) → is_some o ≡ is_some (option_map (λ (s : Shown). s.watch) o)

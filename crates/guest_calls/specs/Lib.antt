@@ -8,3 +8,4 @@ pub mod Steps
 pub mod Fits
 pub mod Standing
 pub mod Starts
+pub mod Waits

@@ -1,5 +1,6 @@
--- Whether a process stands at a call.
-use Rattle.std.specs.Prelude.{Bool, true, false, Option, None, Some}
+-- Whether a process stands at a call, and at which.
+use Rattle.std.specs.Prelude.{ℕ, ◌==◌, ◌||◌, Bool, true, false, Option, None, Some}
+use Rattle.parts_model.specs.declared.calls.TheConstants.{READ, WAIT, WRITE}
 use Rattle.rv64_isa.specs.declared.instruction.Instr.{Instr}
 use Rattle.rv64_isa.specs.declared.instruction.Instr.TheVariants.{Ecall}
 use Rattle.rv64_model.specs.Instruction.{Effect, Next, Call, End}
@@ -15,3 +16,7 @@ abbrev pub is_call_instr : Option Instr → Bool
 is_call_instr None = false
 is_call_instr (Some Ecall) = true
 is_call_instr (Some instr) = false
+
+-- calls of this number aren't always ready
+abbrev pub can_wait : ℕ → Bool
+can_wait n = n == READ || n == WRITE || n == WAIT

@@ -10,6 +10,7 @@ ghost use Rattle.guest_calls.specs.Starts.{Begins, BootedFrom, HasNoImage, first
 use crate::kernel::Kernel;
 use crate::outcomes::BootError;
 use arn_base::{Give, NoMemory};
+use guest_bodies::others_stay_unheld;
 use guest_image::parse;
 use guest_procs::{ProcError, Procs};
 use guest_resources::Descriptions;
@@ -28,7 +29,7 @@ fn first_processes(alloc: Global) -> Result<Procs, ProcError>
 }
 
 // Whether bytes are an image.
-fn is_image(bytes: &[u8]) -> bool
+pub(crate) fn is_image(bytes: &[u8]) -> bool
     ensures { result ≡ is_image bytes.now }
 {
     parse(bytes).is_ok()
@@ -36,7 +37,7 @@ fn is_image(bytes: &[u8]) -> bool
 
 impl Kernel {
     // All bytes of a file.
-    fn whole_file(&self, file: u32) -> Result<Give, NoMemory>
+    pub(crate) fn whole_file(&self, file: u32) -> Result<Give, NoMemory>
         requires { IsThere self.now.kernel.files file }
         ensures given { IfOk result (λ give.
             Some give ≡ option_map given (file_bytes self.now.kernel.files file)) }
@@ -47,7 +48,7 @@ impl Kernel {
     }
 
     // The file of a name.
-    fn find(&self, name: &[u8]) -> Option<u32>
+    pub(crate) fn find(&self, name: &[u8]) -> Option<u32>
         ensures found { result ≡ find_file self.now.kernel.files name.now }
         ensures there { IfSome result (IsThere self.now.kernel.files) }
     {
@@ -67,6 +68,7 @@ impl Kernel {
             Ok(procs) => procs,
             Err(_) => return Err(NoMemory),
         };
+        others_stay_unheld();
         self.bodies.boots(self.events, image)?;
         self.procs = procs;
         self.resources.begin(descriptions);

@@ -1,11 +1,12 @@
 // The table of calls.
-ghost use Rattle.std.specs.Prelude.{◌≡◌, ◌+◌, ◌<◌, ◌^◌, ◌↔◌, IfOk, IfSome, IsErrOf, IsTrue, OnErr};
-ghost use Rattle.acts_model.specs.Views.{stands_at};
+ghost use Rattle.std.specs.Prelude.{◌≡◌, ◌+◌, ◌<◌, ◌^◌, ◌↔◌, false, IfOk, IfSome, IsErrOf, IsTrue, OnErr};
+ghost use Rattle.acts_model.specs.Views.{call_number, stands_at};
 ghost use Rattle.rv64_model.specs.Instruction.{Call};
 ghost use Rattle.arn_model.specs.Row.{is_waiting, request};
 ghost use Rattle.guest_bodies.specs.Shown.{IsLive, seen_in};
 ghost use Rattle.guest_calls.specs.Acted.{Carried};
 ghost use Rattle.guest_calls.specs.Fits.{IsShort};
+ghost use Rattle.guest_calls.specs.Standing.{can_wait};
 ghost use Rattle.guest_calls.specs.State.{IsNext, OfProcess};
 ghost use Rattle.guest_calls.specs.Steps.{Performed};
 
@@ -13,8 +14,12 @@ use crate::kernel::Kernel;
 use crate::outcomes::{CallStop, Done};
 use crate::parts::error;
 use crate::transfers::{Reading, Writing};
+use crate::waiting::Waiting;
+use arn_base::NoMemory;
 use guest_devices::Answers;
-use parts_model::calls::{EXIT, READ, WRITE};
+use parts_model::calls::{
+    CLOSE, DUP, EXEC, EXIT, GETPID, OPEN, READ, SEEK, UNLINK, WAIT, WRITE, YIELD,
+};
 use parts_model::refusals::NO_SUCH_CALL;
 
 impl Kernel {
@@ -26,7 +31,34 @@ impl Kernel {
         match self.call_number(pid) {
             READ => matches!(self.reading(pid), Reading::Waits),
             WRITE => matches!(self.writing(pid), Writing::Waits),
+            WAIT => matches!(self.waiting(pid), Waiting::Waits),
             _ => false,
+        }
+    }
+
+    // Carries out a call that is always ready.
+    fn carry_out_ready(&mut self, pid: u32, number: u64) -> Result<Done, NoMemory>
+        requires live { IsLive self.old.guests pid }
+        requires room { self.old.events + 1 < 2 ^ 64 }
+        requires number { IfSome (seen_in self.old.guests pid) (λ v.
+            number ≡ call_number v.body.cpu) }
+        requires ready { can_wait number ≡ false }
+        ensures carried { IfOk result (λ done. OfProcess self.old pid (λ m v.
+            Carried (request m pid v) done m pid v self.new)) }
+        ensures short { IfOk result (λ done. IsShort done.extra) }
+        ensures err { OnErr result (self.new ≡ self.old) }
+    {
+        match number {
+            EXIT => Ok(self.exit(pid)),
+            EXEC => self.exec(pid),
+            GETPID => Ok(self.getpid(pid)),
+            OPEN => self.open(pid),
+            CLOSE => Ok(self.close(pid)),
+            SEEK => Ok(self.seek(pid)),
+            DUP => self.dup(pid),
+            UNLINK => self.unlink(pid),
+            YIELD => Ok(self.yields(pid)),
+            _ => Ok(self.answers(pid, error(NO_SUCH_CALL))),
         }
     }
 
@@ -42,10 +74,10 @@ impl Kernel {
         ensures err { OnErr result (self.new ≡ self.old) }
     {
         match self.call_number(pid) {
-            EXIT => Ok(self.exit(pid)),
             READ => self.read(pid),
             WRITE => self.write(pid),
-            _ => Ok(self.answers(pid, error(NO_SUCH_CALL))),
+            WAIT => self.wait(pid),
+            number => Ok(self.carry_out_ready(pid, number)?),
         }
     }
 

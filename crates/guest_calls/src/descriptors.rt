@@ -73,7 +73,7 @@ impl Kernel {
     }
 
     /// The call `close(descriptor)`.
-    pub fn close(&mut self, pid: u32) -> Done
+    pub(crate) fn close(&mut self, pid: u32) -> Done
         requires live { IsLive self.old.guests pid }
         requires room { self.old.events + 1 < 2 ^ 64 }
         ensures carried { OfProcess self.old pid (λ m v.
@@ -93,7 +93,7 @@ impl Kernel {
     }
 
     /// The call `dup(descriptor)`.
-    pub fn dup(&mut self, pid: u32) -> Result<Done, NoMemory>
+    pub(crate) fn dup(&mut self, pid: u32) -> Result<Done, NoMemory>
         requires live { IsLive self.old.guests pid }
         requires room { self.old.events + 1 < 2 ^ 64 }
         ensures carried { IfOk result (λ done. OfProcess self.old pid (λ m v.

@@ -39,7 +39,7 @@ fn isnt_path_len(len: u64) -> bool
 impl Kernel {
     // The result of a call that is refused for its path, its length or its range. `is_bad` says that
     // another argument is out of its range.
-    fn path_refusal(&self, pid: u32, at: u64, len: u64, is_bad: bool) -> Option<u64>
+    pub(crate) fn path_refusal(&self, pid: u32, at: u64, len: u64, is_bad: bool) -> Option<u64>
         requires { IsLive self.now.guests pid }
         ensures refused { OfProcess self.now pid (λ m v. (goes_on : Request) →
             unless_refused m.kernel (refuse BAD_ARGUMENT (isnt_path_len len || is_bad) ∷
@@ -48,6 +48,7 @@ impl Kernel {
         ensures reach { IsNone result →
             IfSome (seen_in self.now.guests pid) (λ v. IsSome (bytes_in v at len)) }
         ensures len { IsNone result → isnt_path_len len ≡ false }
+        ensures good { IsNone result → is_bad ≡ false }
     {
         if isnt_path_len(len) || is_bad {
             return Some(error(BAD_ARGUMENT));
@@ -59,7 +60,7 @@ impl Kernel {
     }
 
     // The path at an address of a process.
-    fn path(&self, pid: u32, at: u64, len: u64) -> Result<Bytes, NoMemory>
+    pub(crate) fn path(&self, pid: u32, at: u64, len: u64) -> Result<Bytes, NoMemory>
         requires live { IsLive self.now.guests pid }
         requires reach { IfSome (seen_in self.now.guests pid) (λ v. IsSome (bytes_in v at len)) }
         requires len { isnt_path_len len ≡ false }
@@ -71,7 +72,7 @@ impl Kernel {
     }
 
     /// The call `open(path, length, mode)`.
-    pub fn open(&mut self, pid: u32) -> Result<Done, NoMemory>
+    pub(crate) fn open(&mut self, pid: u32) -> Result<Done, NoMemory>
         requires live { IsLive self.old.guests pid }
         requires room { self.old.events + 1 < 2 ^ 64 }
         ensures carried { IfOk result (λ done. OfProcess self.old pid (λ m v.
@@ -159,7 +160,7 @@ impl Kernel {
     }
 
     /// The call `unlink(path, length)`.
-    pub fn unlink(&mut self, pid: u32) -> Result<Done, NoMemory>
+    pub(crate) fn unlink(&mut self, pid: u32) -> Result<Done, NoMemory>
         requires live { IsLive self.old.guests pid }
         requires room { self.old.events + 1 < 2 ^ 64 }
         ensures carried { IfOk result (λ done. OfProcess self.old pid (λ m v.
@@ -198,7 +199,7 @@ impl Kernel {
     }
 
     /// The call `seek(descriptor, position)`.
-    pub fn seek(&mut self, pid: u32) -> Done
+    pub(crate) fn seek(&mut self, pid: u32) -> Done
         requires live { IsLive self.old.guests pid }
         requires room { self.old.events + 1 < 2 ^ 64 }
         ensures carried { OfProcess self.old pid (λ m v.

@@ -6,6 +6,9 @@
 mod booting;
 mod calls;
 mod descriptors;
+mod executing;
+#[cfg(test)]
+mod file_tests;
 mod files;
 mod kernel;
 mod outcomes;
@@ -15,6 +18,7 @@ mod running;
 #[cfg(test)]
 mod tests;
 mod transfers;
+mod waiting;
 
 pub use kernel::Kernel;
 pub use outcomes::{BootError, CallStop, Delivered, Done};

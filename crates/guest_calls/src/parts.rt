@@ -1,7 +1,7 @@
 // What the calls are made of.
 ghost use Rattle.std.specs.Prelude.{◌≡◌, ℕ, ◌+◌, ◌<◌, ◌^◌, IfSome};
 ghost use Rattle.parts_model.specs.Signals.{due_signal};
-ghost use Rattle.acts_model.specs.Acts.{Act, Delivers};
+ghost use Rattle.acts_model.specs.Acts.{Act, Delivers, Receives};
 ghost use Rattle.acts_model.specs.Views.{argument, call_number, error as error_of};
 ghost use Rattle.arn_model.specs.Doing.{returns};
 ghost use Rattle.arn_model.specs.Kernel.{ended, status_at};
@@ -14,6 +14,7 @@ ghost use Rattle.guest_calls.specs.State.{OfProcess};
 use crate::kernel::Kernel;
 use crate::outcomes::Done;
 use arn_base::Extra;
+use guest_bodies::others_stay_unheld;
 
 /// An error as a call's result.
 pub(crate) fn error(number: u64) -> u64
@@ -48,7 +49,20 @@ impl Kernel {
         ensures { (act : Act) → IsResult act answer →
             Acted pid act self.old.kernel self.old self.new }
     {
+        others_stay_unheld();
         self.bodies.returns(pid, answer);
+        self.events += 1;
+    }
+
+    /// A call of a process ends with a result and with bytes for it at an address. Where they don't lie
+    /// whole in one window, it gets none.
+    pub(crate) fn receives(&mut self, pid: u32, at: u64, bytes: &[u8], answer: u64)
+        requires live { IsLive self.old.guests pid }
+        requires room { self.old.events + 1 < 2 ^ 64 }
+        ensures { Acted pid (Receives at bytes.now answer) self.old.kernel self.old self.new }
+    {
+        others_stay_unheld();
+        self.bodies.receives(pid, at, bytes, answer);
         self.events += 1;
     }
 
@@ -80,6 +94,7 @@ impl Kernel {
             Ok(()) => {}
             Err(_) => unreachable!(),
         }
+        others_stay_unheld();
         self.bodies.ends(pid);
         self.events += 1;
     }
@@ -92,6 +107,7 @@ impl Kernel {
         ensures { Acted pid (Delivers signal handler cut)
             (without_signal pid signal self.old.kernel) self.old self.new }
     {
+        others_stay_unheld();
         self.bodies.drop_due(pid);
         self.bodies.delivers(pid, signal, handler, cut);
         self.events += 1;

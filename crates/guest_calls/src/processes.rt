@@ -27,7 +27,7 @@ impl Kernel {
     }
 
     /// The call `getpid()`.
-    pub fn getpid(&mut self, pid: u32) -> Done
+    pub(crate) fn getpid(&mut self, pid: u32) -> Done
         requires live { IsLive self.old.guests pid }
         requires room { self.old.events + 1 < 2 ^ 64 }
         ensures carried { OfProcess self.old pid (λ m v.
@@ -38,7 +38,7 @@ impl Kernel {
     }
 
     /// The call `yield()`.
-    pub fn yields(&mut self, pid: u32) -> Done
+    pub(crate) fn yields(&mut self, pid: u32) -> Done
         requires live { IsLive self.old.guests pid }
         requires room { self.old.events + 1 < 2 ^ 64 }
         ensures carried { OfProcess self.old pid (λ m v.

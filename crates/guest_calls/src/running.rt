@@ -15,6 +15,7 @@ ghost use Rattle.guest_calls.specs.Steps.{DeliveredBy, Stepped};
 use crate::kernel::Kernel;
 use crate::outcomes::Delivered;
 use arn_base::Steps;
+use guest_bodies::others_stay_unheld;
 use rv64_core::Outcome;
 use rv64_isa::{Instr, decode};
 use std::sync::ledger::Ledger;
@@ -62,6 +63,7 @@ impl Kernel {
         ensures memory { result ≢ Outcome.NoMemory }
         ensures alive { IsLive self.new.guests pid }
     {
+        others_stay_unheld();
         self.bodies.step(pid, steps)
     }
 

@@ -73,9 +73,9 @@ const WRITES: [u8; 64] = [
 ];
 
 // Errors 9, 14 and 38.
-const NOT_OPEN: u64 = 0xffff_ffff_ffff_fff7;
+pub(crate) const NOT_OPEN: u64 = 0xffff_ffff_ffff_fff7;
 
-const NO_RANGE: u64 = 0xffff_ffff_ffff_fff2;
+pub(crate) const NO_RANGE: u64 = 0xffff_ffff_ffff_fff2;
 
 const NO_CALL: u64 = 0xffff_ffff_ffff_ffda;
 
@@ -108,7 +108,7 @@ fn boot(rt: &impl Abort, kernel: &mut Kernel, name: &[u8]) -> Result<Give, BootE
 }
 
 // A kernel whose process 1 stands at the start of a program.
-fn booted(rt: &impl Abort, alloc: Global, program: &[u8]) -> Result<Kernel, Fail> {
+pub(crate) fn booted(rt: &impl Abort, alloc: Global, program: &[u8]) -> Result<Kernel, Fail> {
     let mut kernel = Kernel::new(alloc);
     add_file(rt, &mut kernel, program)?;
     let give = boot(rt, &mut kernel, b"p")?;
@@ -148,7 +148,7 @@ fn reaches_call(kernel: &mut Kernel) -> bool
 }
 
 // The next call of process 1.
-fn call(rt: &impl Abort, kernel: &mut Kernel) -> Result<Done, CallStop> {
+pub(crate) fn call(rt: &impl Abort, kernel: &mut Kernel) -> Result<Done, CallStop> {
     assert!(rt; reaches_call(kernel));
     assert!(rt; kernel.is_live(1));
     let event = next(rt, kernel);
@@ -156,7 +156,7 @@ fn call(rt: &impl Abort, kernel: &mut Kernel) -> Result<Done, CallStop> {
 }
 
 // The next call of process 1 has this result.
-fn answers(rt: &impl Abort, kernel: &mut Kernel, answer: u64) -> Result<(), CallStop> {
+pub(crate) fn answers(rt: &impl Abort, kernel: &mut Kernel, answer: u64) -> Result<(), CallStop> {
     let done = call(rt, kernel)?;
     assert!(rt; done.result == answer);
     Ok(())

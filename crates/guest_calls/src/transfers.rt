@@ -15,6 +15,7 @@ use crate::kernel::Kernel;
 use crate::outcomes::{CallStop, Done};
 use crate::parts::error;
 use arn_base::{Bytes, Extra, NoMemory};
+use guest_bodies::others_stay_unheld;
 use guest_give::give_of;
 use parts_model::Description;
 use parts_model::limits::MOST_TRANSFER;
@@ -188,6 +189,7 @@ impl Kernel {
         ensures err { OnErr result (self.new ≡ self.old) }
     {
         let give = give_of(self.alloc, self.console.front(count))?;
+        others_stay_unheld();
         self.bodies
             .receives(pid, at, give.bytes.as_slice(), count as u64);
         self.console.take(count);
@@ -220,6 +222,7 @@ impl Kernel {
         if count == 0 {
             return Ok(self.answers(pid, 0));
         }
+        others_stay_unheld();
         self.bodies
             .receives(pid, at, give.bytes.as_slice(), count as u64);
         self.resources

@@ -15,5 +15,5 @@ unreachable-requires c =
 
 pub invariant_of-self : goal.invariant_of-self
 invariant_of-self c =
-    subst (λ (p : Processes). IsSound c.self.inside.bodies p c.self.inside.resources.files c.self.inside.resources.descriptions c.self.inside.booted) (sym c.in-Ok.ensures.ok)
+    subst (λ (p : Processes). IsSound c.self.inside.bodies p c.self.inside.resources.files c.self.inside.resources.descriptions c.self.inside.booted c.self.inside.events) (sym c.in-Ok.ensures.ok)
     (placed-sound c.self.inside c.args.pid c.args.description c.self.inside.resources.files c.self.inside.resources.descriptions (booted-live c.self.inside c.args.pid c.self.invariant (subst (λ (s : State). is_some (nth s.guests c.args.pid) ≡ true) (sym c.self.view_is) c.requires.live)) c.self.invariant)

@@ -1,10 +1,12 @@
-use Rattle.std.proofs.Common.{subst}
+use Rattle.std.proofs.Common.{subst, ◌+◌}
 use Rattle.acts_model.specs.Views.{stands_at}
 use Rattle.guest_calls.specs.Kept.{state_of}
 use Rattle.guest_calls.specs.State.{State, OfProcess}
 use Rattle.guest_calls.specs.Steps.{Stepped}
 use Rattle.guest_calls.proofs.Runs.{ran-steps, stands-at-call}
 use Rattle.guest_calls.proofs.Stands.{of_process}
+use Rattle.guest_calls.proofs.Past.{past-ran}
+use Rattle.guest_calls.proofs.Pieces.{body-sound}
 use Rattle.guest_calls.proofs.kernel.Kernel.step.Goals as goal
 
 pub returns-clause-stepped : goal.returns-clause-stepped
@@ -16,3 +18,8 @@ returns-clause-stepped g c =
 
 pub returns-clause-at_call : goal.returns-clause-at_call
 returns-clause-at_call g c = stands-at-call c.step.result c.args.pid c.self.inside.bodies c.step.new.self c.step.ensures.ran c.step.ensures.stop
+
+pub invariant_of-self : goal.invariant_of-self
+invariant_of-self g c =
+    body-sound c.self.inside c.step.new.self c.self.inside.events c.self.invariant c.step.ensures.watches
+    (past-ran c.others_stay_unheld.ensures c.self.inside.bodies c.self.inside.events c.self.invariant.past c.step.new.self c.args.pid c.step.result c.step.ensures.ran)

@@ -16,6 +16,8 @@ use Rattle.guest_calls.specs.State.{State}
 use Rattle.guest_calls.specs.Transfers.{taking}
 use Rattle.guest_calls.proofs.Pieces.{taken-acted}
 use Rattle.guest_calls.proofs.Stands.{of_process, acted-stands}
+use Rattle.guest_calls.proofs.Past.{past-acted}
+use Rattle.guest_calls.proofs.Pieces.{body-sound}
 use Rattle.guest_calls.proofs.kernel.Kernel.take.Goals as goal
 
 pub returns-clause-carried : goal.returns-clause-carried
@@ -40,3 +42,8 @@ returns-clause-carried c =
       extra = ap (λ (g : Give). extra.Give g) told;
       stands = acted-stands c.args.self.now new c.args.pid v b d shows acted refl;
     })
+
+pub invariant_of-self : goal.invariant_of-self
+invariant_of-self c =
+    body-sound c.self.inside c.receives.new.self (c.self.inside.events + 1) c.self.invariant c.receives.ensures.watches
+    (past-acted c.others_stay_unheld.ensures c.self.inside.bodies c.self.inside.events c.self.invariant.past c.receives.new.self c.args.pid (Receives c.args.at c.as_slice.result.now c.args.count) (c.receives.ensures.follows c.self.inside.events))

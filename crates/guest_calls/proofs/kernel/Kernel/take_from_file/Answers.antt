@@ -1,4 +1,4 @@
-use Rattle.std.proofs.Common.{subst, ◌∙◌, ◌+◌, List, ℕ}
+use Rattle.std.proofs.Common.{subst, sym, is_some, true, ◌≡◌, ◌∙◌, ◌+◌, List, ℕ}
 use Rattle.arn_base.specs.declared.records.Extra.TheVariants as extra
 use Rattle.acts_model.specs.Acts.{Receives, done}
 use Rattle.guest_bodies.specs.Follows.{Follows}
@@ -7,6 +7,9 @@ use Rattle.guest_calls.specs.Kept.{state_of}
 use Rattle.guest_calls.specs.State.{State, OfProcess}
 use Rattle.guest_calls.specs.Transfers.{reading_at}
 use Rattle.guest_calls.proofs.Filed.{filed-carried}
+use Rattle.parts_model.specs.Numbered.{nth}
+use Rattle.guest_calls.proofs.Past.{past-acted}
+use Rattle.guest_calls.proofs.Room.{acted-sound, booted-live}
 use Rattle.guest_calls.proofs.kernel.Kernel.take_from_file.Goals as goal
 
 pub returns-clause-carried : goal.returns-clause-carried
@@ -16,3 +19,9 @@ returns-clause-carried c =
     (λ e. c.if-count-eq0.false (c.len-count.ensures ∙ e)) c.move_to.ensures
     (subst (λ (x : List ℕ). Follows c.self.inside.bodies (done c.args.pid c.self.inside.events (Receives c.args.at x c.len-count.result)) c.receives.new.self) c.as_slice.ensures (c.receives.ensures.follows c.self.inside.events))
     c.receives.ensures.watches)
+
+pub invariant_of-self : goal.invariant_of-self
+invariant_of-self c =
+    let live : is_some (nth c.self.inside.bodies c.args.pid) ≡ true = subst (λ (s : State). is_some (nth s.guests c.args.pid) ≡ true) (sym c.self.view_is) c.requires.live in
+    acted-sound c.self.inside c.receives.new.self c.move_to.new.self.files c.move_to.new.self.descriptions (c.self.inside.events + 1) (booted-live c.self.inside c.args.pid c.self.invariant live) c.self.invariant c.receives.ensures.watches
+    (past-acted c.others_stay_unheld.ensures c.self.inside.bodies c.self.inside.events c.self.invariant.past c.receives.new.self c.args.pid (Receives c.args.at c.as_slice.result.now c.len-count.result) (c.receives.ensures.follows c.self.inside.events))

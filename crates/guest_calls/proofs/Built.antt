@@ -1,0 +1,291 @@
+-- What a call of a number comes to, and which calls are always ready.
+use Rattle.std.proofs.Common.{◌≡◌, ◌≢◌, ℕ, ◌==◌, Bool, true, false, cond, ◌||◌, ◌&&◌, List, [], ◌∷◌, Option, None, Some, IfOk, IfSome, refl, sym, ap, ap₂, ◌∙◌, subst, ne_eqb, true≢false}
+use Rattle.std.specs.Prelude.{Result, if◌then◌else◌, is_some, nat_lt, not}
+use Rattle.std.specs.List.{list_any}
+use Rattle.std.proofs.lemmas.Bool.{eqb-true, eqb-false}
+use Rattle.std.proofs.lemmas.Result.{IfOk-weaker}
+use Rattle.parts_model.specs.declared.open.Description.{Description}
+use Rattle.parts_model.specs.declared.open.Description.TheVariants as description
+use Rattle.parts_model.specs.declared.refusals.TheConstants.{BAD_ADDRESS, BAD_ARGUMENT, NAME_TAKEN, NO_DESCRIPTOR_ROOM, NO_ROOM, NO_SUCH_CALL, NOT_IMAGE}
+use Rattle.parts_model.specs.declared.limits.TheConstants.{MOST_BLOCK_BYTES}
+use Rattle.parts_model.specs.declared.tagged.TaggedByte.{TaggedByte}
+use Rattle.parts_model.specs.Image.{is_image}
+use Rattle.parts_model.specs.Tagged.{values}
+use Rattle.parts_model.specs.Files.{find_file, file_bytes, is_full, made, next_file}
+use Rattle.acts_model.specs.Bodies.{View, seen}
+use Rattle.acts_model.specs.Views.{argument, call_number, can_reach}
+use Rattle.rv64_model.specs.Instruction.{Effect, Next, Call, End}
+use Rattle.arn_model.specs.Doing.{Request, Does, Refusal, refuse, refused, returns, unless_refused}
+use Rattle.arn_model.specs.FileCalls.{close_opened, close_row, dup_opened, dup_row, file_len, has_no_room, open_found, open_new, open_row, opened_as, seek_in, seek_opened, seek_row, seek_what, unlink_found, unlink_row}
+use Rattle.arn_model.specs.Kernel.{Kernel, Machine, also_held, description_of, next_descriptor, placed, what_is, with_description}
+use Rattle.arn_model.specs.Paths.{isnt_path_len, path_of}
+use Rattle.arn_model.specs.ProcessCalls.{exec_bytes, exec_doing, exec_file, exec_row, exit_row, getpid_row, wait_row, yield_row}
+use Rattle.arn_model.specs.Row.{row, built_calls, is_built, request, is_waiting}
+use Rattle.arn_model.specs.Step.{waits_at}
+use Rattle.arn_model.specs.TransferCalls.{read_row, write_row}
+use Rattle.guest_bodies.specs.Shown.{seen_in}
+use Rattle.guest_calls.specs.Acted.{Carried}
+use Rattle.guest_calls.specs.Standing.{can_wait, is_call}
+use Rattle.guest_calls.specs.State.{State, StandsFor, OfProcess}
+use Rattle.guest_calls.specs.declared.outcomes.Done.{Done}
+use Rattle.guest_calls.proofs.Stands.{at-seen}
+
+-- P holds of each element
+abbrev pub Each : (ℕ → Type 0) → List ℕ → Type 0
+Each P [] = Unit {0}
+Each P (x ∷ xs) = P x × Each P xs
+
+-- a number of a list is one of which each fact of the list holds
+pub any-of : (P : ℕ → Type 0) (ns : List ℕ) → Each P ns → (n : ℕ) → list_any (λ b. b == n) ns ≡ true → P n
+any-of P [] all n is = cc
+any-of P (x ∷ xs) all n is = by (x == n) refl is (any-of P xs all.1 n)
+  where
+    by : (b : Bool) → (x == n) ≡ b → (b || list_any (λ y. y == n) xs) ≡ true → (list_any (λ y. y == n) xs ≡ true → P n) → P n
+    by true e h later = subst P (eqb-true x n e) all.0
+    by false e h later = later h
+
+pub not-any : (n : ℕ) (ns : List ℕ) → Each (λ b. b ≢ n) ns → list_any (λ b. b == n) ns ≡ false
+not-any n [] none = refl
+not-any n (x ∷ xs) none = ap₂ (λ (a b : Bool). a || b) (ne_eqb x n none.0) (not-any n xs none.1)
+
+-- the numbers of calls that are always ready
+pub ready-number : (n : ℕ) → n ≢ 11 → n ≢ 12 → n ≢ 4 → can_wait n ≡ false
+ready-number n a b c = ap₂ (λ (x y : Bool). x || y) (ap₂ (λ (x y : Bool). x || y) (ne_eqb n 11 a) (ne_eqb n 12 b)) (ne_eqb n 4 c)
+
+-- a choice of calls that are ready is ready
+if-ready : (b : Bool) (x y : Request) → is_waiting x ≡ false → is_waiting y ≡ false → is_waiting (cond b x y) ≡ false
+if-ready true x y isx isy = isx
+if-ready false x y isx isy = isy
+
+unless-ready : (k : Kernel) (refusals : List Refusal) (goes_on : Request) → is_waiting goes_on ≡ false → is_waiting (unless_refused k refusals goes_on) ≡ false
+unless-ready k [] goes_on is = is
+unless-ready k (r ∷ refusals) goes_on is = if-ready r.applies (refused r.number k) (unless_refused k refusals goes_on) refl (unless-ready k refusals goes_on is)
+
+module _ (m : Machine) (pid : ℕ) where
+  found-ready : (path : List ℕ) (file : Option ℕ) → is_waiting (open_found m pid path file) ≡ false
+  found-ready path None = refl
+  found-ready path (Some file) = unless-ready m.kernel (refuse NO_DESCRIPTOR_ROOM (has_no_room m.kernel pid) ∷ []) (opened_as m pid path file m.kernel) refl
+
+  unlink_found-ready : (path : List ℕ) (file : Option ℕ) → is_waiting (unlink_found m path file) ≡ false
+  unlink_found-ready path None = refl
+  unlink_found-ready path (Some file) = refl
+
+  seek_in-ready : (n position : ℕ) (what : Description) → is_waiting (seek_in m n position what) ≡ false
+  seek_in-ready n position (description.File file old) =
+      unless-ready m.kernel (refuse BAD_ARGUMENT (nat_lt (file_len m.kernel file) position) ∷ []) (returns position (with_description n (description.File file position) m.kernel)) refl
+  seek_in-ready n position description.Console = refl
+  seek_in-ready n position (description.Reader pipe) = refl
+  seek_in-ready n position (description.Writer pipe) = refl
+  seek_in-ready n position (description.Connection reads writes) = refl
+  seek_in-ready n position (description.Listener port) = refl
+  seek_in-ready n position (description.Device device) = refl
+
+  seek_what-ready : (n position : ℕ) (what : Option Description) → is_waiting (seek_what m n position what) ≡ false
+  seek_what-ready n position None = refl
+  seek_what-ready n position (Some what) = seek_in-ready n position what
+
+  seek-ready : (position : ℕ) (found : Option ℕ) → is_waiting (seek_opened m position found) ≡ false
+  seek-ready position None = refl
+  seek-ready position (Some n) = seek_what-ready n position (what_is m.kernel n)
+
+  close-ready : (fd : ℕ) (found : Option ℕ) → is_waiting (close_opened m pid fd found) ≡ false
+  close-ready fd None = refl
+  close-ready fd (Some n) = refl
+
+  dup-ready : (found : Option ℕ) → is_waiting (dup_opened m pid found) ≡ false
+  dup-ready None = refl
+  dup-ready (Some n) = unless-ready m.kernel (refuse NO_DESCRIPTOR_ROOM (has_no_room m.kernel pid) ∷ []) (returns (next_descriptor m.kernel pid) (placed pid n (also_held n m.kernel))) refl
+
+  new-ready : (path : List ℕ) → is_waiting (open_new m pid path) ≡ false
+  new-ready path =
+      unless-ready m.kernel (refuse NAME_TAKEN (is_some (find_file m.kernel.files path)) ∷ refuse NO_DESCRIPTOR_ROOM (has_no_room m.kernel pid) ∷ refuse NO_ROOM (is_full m.kernel.files) ∷ [])
+      (opened_as m pid path (next_file m.kernel.files) (record m.kernel { files = made m.kernel.files path [] })) refl
+
+  -- a call with a path
+  path-ready : (v : View) (at len : ℕ) (bad : Bool) (goes_on : Request) → is_waiting goes_on ≡ false → is_waiting (unless_refused m.kernel (refuse BAD_ARGUMENT bad ∷ refuse BAD_ADDRESS (not (can_reach v at len)) ∷ []) goes_on) ≡ false
+  path-ready v at len bad goes_on is = unless-ready m.kernel (refuse BAD_ARGUMENT bad ∷ refuse BAD_ADDRESS (not (can_reach v at len)) ∷ []) goes_on is
+
+  exec_bytes-ready : (v : View) (file : ℕ) (held : Option (List TaggedByte)) → is_waiting (exec_bytes m pid v file held) ≡ false
+  exec_bytes-ready v file None = refl
+  exec_bytes-ready v file (Some held) = if-ready (is_image (values held)) (Does (exec_doing m pid v file held)) (refused NOT_IMAGE m.kernel) refl refl
+
+  exec_file-ready : (v : View) (file : Option ℕ) → is_waiting (exec_file m pid v file) ≡ false
+  exec_file-ready v None = refl
+  exec_file-ready v (Some file) = exec_bytes-ready v file (file_bytes m.kernel.files file)
+
+module _ (m : Machine) (pid : ℕ) (v : View) where
+  exec-ready : is_waiting (exec_row m pid v) ≡ false
+  exec-ready =
+      let at : ℕ = argument v.body.cpu 0 in
+      let len : ℕ = argument v.body.cpu 1 in
+      let block : ℕ = argument v.body.cpu 2 in
+      let block_len : ℕ = argument v.body.cpu 3 in
+      unless-ready m.kernel
+      (refuse BAD_ARGUMENT (isnt_path_len len || nat_lt MOST_BLOCK_BYTES block_len) ∷ refuse BAD_ADDRESS (not (can_reach v at len)) ∷ refuse BAD_ADDRESS (nat_lt 0 block_len && not (can_reach v block block_len)) ∷ [])
+      (exec_file m pid v (find_file m.kernel.files (path_of v at len))) (exec_file-ready m pid v (find_file m.kernel.files (path_of v at len)))
+
+  open-ready : is_waiting (open_row m pid v) ≡ false
+  open-ready =
+      let at : ℕ = argument v.body.cpu 0 in
+      let len : ℕ = argument v.body.cpu 1 in
+      let mode : ℕ = argument v.body.cpu 2 in
+      let path : List ℕ = path_of v at len in
+      path-ready m pid v at len (isnt_path_len len || nat_lt 1 mode) (cond (mode == 0) (open_found m pid path (find_file m.kernel.files path)) (open_new m pid path))
+      (if-ready (mode == 0) (open_found m pid path (find_file m.kernel.files path)) (open_new m pid path)
+      (found-ready m pid path (find_file m.kernel.files path)) (new-ready m pid path))
+
+  unlink-ready : is_waiting (unlink_row m pid v) ≡ false
+  unlink-ready =
+      let at : ℕ = argument v.body.cpu 0 in
+      let len : ℕ = argument v.body.cpu 1 in
+      let path : List ℕ = path_of v at len in
+      path-ready m pid v at len (isnt_path_len len) (unlink_found m path (find_file m.kernel.files path)) (unlink_found-ready m pid path (find_file m.kernel.files path))
+
+  pub row-exit : row 1 m pid v ≡ exit_row m pid v
+  unfolding row
+  row-exit = refl
+
+  pub row-exec : row 3 m pid v ≡ exec_row m pid v
+  unfolding row
+  row-exec = refl
+
+  pub row-wait : row 4 m pid v ≡ wait_row m pid v
+  unfolding row
+  row-wait = refl
+
+  pub row-getpid : row 5 m pid v ≡ getpid_row m pid v
+  unfolding row
+  row-getpid = refl
+
+  pub row-open : row 9 m pid v ≡ open_row m pid v
+  unfolding row
+  row-open = refl
+
+  pub row-close : row 10 m pid v ≡ close_row m pid v
+  unfolding row
+  row-close = refl
+
+  pub row-read : row 11 m pid v ≡ read_row m pid v
+  unfolding row
+  row-read = refl
+
+  pub row-write : row 12 m pid v ≡ write_row m pid v
+  unfolding row
+  row-write = refl
+
+  pub row-seek : row 13 m pid v ≡ seek_row m pid v
+  unfolding row
+  row-seek = refl
+
+  pub row-dup : row 14 m pid v ≡ dup_row m pid v
+  unfolding row
+  row-dup = refl
+
+  pub row-unlink : row 16 m pid v ≡ unlink_row m pid v
+  unfolding row
+  row-unlink = refl
+
+  pub row-yield : row 22 m pid v ≡ yield_row m pid v
+  unfolding row
+  row-yield = refl
+
+  -- the calls of this number, if they are always ready
+  abbrev IsReady : ℕ → Type 0
+  IsReady n = can_wait n ≡ false → is_waiting (row n m pid v) ≡ false
+
+  -- each of those that are built
+  each-ready : Each IsReady built_calls
+  each-ready = (
+    λ ready. ap is_waiting row-exit,
+    (
+      λ ready. ap is_waiting row-exec ∙ exec-ready,
+      (
+        λ ready. absurd (true≢false ready),
+        (
+          λ ready. ap is_waiting row-getpid,
+          (
+            λ ready. ap is_waiting row-open ∙ open-ready,
+            (
+              λ ready. ap is_waiting row-close ∙ close-ready m pid (argument v.body.cpu 0) (description_of m.kernel pid (argument v.body.cpu 0)),
+              (
+                λ ready. absurd (true≢false ready),
+                (
+                  λ ready. absurd (true≢false ready),
+                  (
+                    λ ready. ap is_waiting row-seek ∙ seek-ready m pid (argument v.body.cpu 1) (description_of m.kernel pid (argument v.body.cpu 0)),
+                    (
+                      λ ready. ap is_waiting row-dup ∙ dup-ready m pid (description_of m.kernel pid (argument v.body.cpu 0)),
+                      (
+                        λ ready. ap is_waiting row-unlink ∙ unlink-ready,
+                        (
+                          λ ready. ap is_waiting row-yield,
+                          tt,
+                        ),
+                      ),
+                    ),
+                  ),
+                ),
+              ),
+            ),
+          ),
+        ),
+      ),
+    ),
+  )
+
+  -- a call that is built comes to its row
+  pub request-built : (n : ℕ) (comes : Request) → call_number v.body.cpu ≡ n → is_built n ≡ true → row n m pid v ≡ comes → request m pid v ≡ comes
+  request-built n comes is built same =
+      ap (λ x. if is_built x then row x m pid v else refused NO_SUCH_CALL m.kernel) is
+      ∙ (ap (λ (t : Bool). if t then row n m pid v else refused NO_SUCH_CALL m.kernel) built ∙ same)
+
+  -- another is refused
+  pub request-none : (n : ℕ) → call_number v.body.cpu ≡ n → is_built n ≡ false → request m pid v ≡ refused NO_SUCH_CALL m.kernel
+  request-none n is unbuilt =
+      ap (λ x. if is_built x then row x m pid v else refused NO_SUCH_CALL m.kernel) is
+      ∙ ap (λ (t : Bool). if t then row n m pid v else refused NO_SUCH_CALL m.kernel) unbuilt
+
+  pub request-read : call_number v.body.cpu ≡ 11 → request m pid v ≡ read_row m pid v
+  request-read is = request-built 11 (read_row m pid v) is refl row-read
+
+  pub request-wait : call_number v.body.cpu ≡ 4 → request m pid v ≡ wait_row m pid v
+  request-wait is = request-built 4 (wait_row m pid v) is refl row-wait
+
+  pub request-write : call_number v.body.cpu ≡ 12 → request m pid v ≡ write_row m pid v
+  request-write is = request-built 12 (write_row m pid v) is refl row-write
+
+  ready-by : (n : ℕ) (built : Bool) → is_built n ≡ built → call_number v.body.cpu ≡ n → can_wait n ≡ false → is_waiting (request m pid v) ≡ false
+  ready-by n true built is ready = ap is_waiting (request-built n (row n m pid v) is built refl) ∙ any-of IsReady built_calls each-ready n built ready
+  ready-by n false built is ready = ap is_waiting (request-none n is built)
+
+  -- a call that is always ready is so now
+  pub request-ready : (n : ℕ) → call_number v.body.cpu ≡ n → can_wait n ≡ false → is_waiting (request m pid v) ≡ false
+  request-ready n is ready = ready-by n (is_built n) refl is ready
+
+-- the number of the call of a process that a machine knows
+pub called : (s : State) (pid number n : ℕ) (m : Machine) (v : View) → StandsFor s m → seen m.bodies pid ≡ Some v → IfSome (seen_in s.guests pid) (λ w. number ≡ call_number w.body.cpu) → number ≡ n → call_number v.body.cpu ≡ n
+called s pid number n m v stands sees told is = sym (at-seen (seen_in s.guests pid) v (λ (w : View). number ≡ call_number w.body.cpu) (stands.seen pid ∙ sees) told) ∙ is
+
+-- what carries out a row carries out the call of its number
+module _ (s new : State) (pid number n : ℕ) (one : Machine → View → Request) (told : IfSome (seen_in s.guests pid) (λ w. number ≡ call_number w.body.cpu)) (is : number ≡ n) (built : is_built n ≡ true) (same : (m : Machine) (v : View) → row n m pid v ≡ one m v) where
+  pub carried-call : (d : Done) → OfProcess s pid (λ m v. Carried (one m v) d m pid v new) → OfProcess s pid (λ m v. Carried (request m pid v) d m pid v new)
+  carried-call d carried m v stands sees =
+      subst (λ (r : Request). Carried r d m pid v new)
+      (sym (request-built m pid v n (one m v) (called s pid number n m v stands sees told is) built (same m v))) (carried m v stands sees)
+
+  pub carried-calls : {E : Type 0} (r : Result Done E) → IfOk r (λ (d : Done). OfProcess s pid (λ m v. Carried (one m v) d m pid v new)) → IfOk r (λ (d : Done). OfProcess s pid (λ m v. Carried (request m pid v) d m pid v new))
+  carried-calls r carried =
+      IfOk-weaker r (λ (d : Done). OfProcess s pid (λ m v. Carried (one m v) d m pid v new)) (λ (d : Done). OfProcess s pid (λ m v. Carried (request m pid v) d m pid v new))
+      carried-call carried
+
+-- a call that isn't built is refused
+pub carried-none : (s new : State) (pid number : ℕ) (d : Done) → IfSome (seen_in s.guests pid) (λ w. number ≡ call_number w.body.cpu) → is_built number ≡ false → OfProcess s pid (λ m v. Carried (refused NO_SUCH_CALL m.kernel) d m pid v new) → OfProcess s pid (λ m v. Carried (request m pid v) d m pid v new)
+carried-none s new pid number d told unbuilt carried m v stands sees =
+    subst (λ (r : Request). Carried r d m pid v new)
+    (sym (request-none m pid v number (called s pid number number m v stands sees told refl) unbuilt)) (carried m v stands sees)
+
+-- a process at a call waits where the call does
+pub waits-at-call : (m : Machine) (pid : ℕ) (v : View) (e : Effect) (b : Bool) → is_call e ≡ true → b ≡ is_waiting (request m pid v) → b ≡ waits_at m pid v e
+waits-at-call m pid v (Next instr cpu memory) b at is = absurd (true≢false (sym at))
+waits-at-call m pid v Call b at is = is
+waits-at-call m pid v (End status) b at is = absurd (true≢false (sym at))

@@ -1,0 +1,41 @@
+use Rattle.std.proofs.Common.{refl, ◌≡◌}
+use Rattle.arn_model.specs.FileCalls.{close_row, dup_row, open_row, seek_row, unlink_row}
+use Rattle.arn_model.specs.ProcessCalls.{exec_row, exit_row, getpid_row, yield_row}
+use Rattle.guest_calls.proofs.Built.{carried-call, carried-calls, carried-none, not-any, row-close, row-dup, row-exec, row-exit, row-getpid, row-open, row-seek, row-unlink, row-yield}
+use Rattle.guest_calls.proofs.kernel.Kernel.carry_out_ready.Goals as goal
+
+pub returns-in-1-clause-carried : goal.returns-in-1-clause-carried
+returns-in-1-clause-carried c =
+    carried-call c.args.self.now c.exit.new.self c.args.pid c.args.number 1 (λ m v. exit_row m c.args.pid v) c.requires.number c.in-1.is refl (λ m v. row-exit m c.args.pid v) c.exit.result c.exit.ensures.carried
+
+pub returns-in-5-clause-carried : goal.returns-in-5-clause-carried
+returns-in-5-clause-carried c =
+    carried-call c.args.self.now c.getpid.new.self c.args.pid c.args.number 5 (λ m v. getpid_row m c.args.pid v) c.requires.number c.in-5.is refl (λ m v. row-getpid m c.args.pid v) c.getpid.result c.getpid.ensures.carried
+
+pub returns-in-9-clause-carried : goal.returns-in-9-clause-carried
+returns-in-9-clause-carried c =
+    carried-calls c.args.self.now c.open.new.self c.args.pid c.args.number 9 (λ m v. open_row m c.args.pid v) c.requires.number c.in-9.is refl (λ m v. row-open m c.args.pid v) c.open.result c.open.ensures.carried
+
+pub returns-in-10-clause-carried : goal.returns-in-10-clause-carried
+returns-in-10-clause-carried c =
+    carried-call c.args.self.now c.close.new.self c.args.pid c.args.number 10 (λ m v. close_row m c.args.pid v) c.requires.number c.in-10.is refl (λ m v. row-close m c.args.pid v) c.close.result c.close.ensures.carried
+
+pub returns-in-13-clause-carried : goal.returns-in-13-clause-carried
+returns-in-13-clause-carried c =
+    carried-call c.args.self.now c.seek.new.self c.args.pid c.args.number 13 (λ m v. seek_row m c.args.pid v) c.requires.number c.in-13.is refl (λ m v. row-seek m c.args.pid v) c.seek.result c.seek.ensures.carried
+
+pub returns-in-14-clause-carried : goal.returns-in-14-clause-carried
+returns-in-14-clause-carried c =
+    carried-calls c.args.self.now c.dup.new.self c.args.pid c.args.number 14 (λ m v. dup_row m c.args.pid v) c.requires.number c.in-14.is refl (λ m v. row-dup m c.args.pid v) c.dup.result c.dup.ensures.carried
+
+pub returns-in-16-clause-carried : goal.returns-in-16-clause-carried
+returns-in-16-clause-carried c =
+    carried-calls c.args.self.now c.unlink.new.self c.args.pid c.args.number 16 (λ m v. unlink_row m c.args.pid v) c.requires.number c.in-16.is refl (λ m v. row-unlink m c.args.pid v) c.unlink.result c.unlink.ensures.carried
+
+pub returns-in-22-clause-carried : goal.returns-in-22-clause-carried
+returns-in-22-clause-carried c =
+    carried-call c.args.self.now c.yields.new.self c.args.pid c.args.number 22 (λ m v. yield_row m c.args.pid v) c.requires.number c.in-22.is refl (λ m v. row-yield m c.args.pid v) c.yields.result c.yields.ensures.carried
+
+pub returns-in-3-clause-carried : goal.returns-in-3-clause-carried
+returns-in-3-clause-carried c =
+    carried-calls c.args.self.now c.exec.new.self c.args.pid c.args.number 3 (λ m v. exec_row m c.args.pid v) c.requires.number c.in-3.is refl (λ m v. row-exec m c.args.pid v) c.exec.result c.exec.ensures.carried
