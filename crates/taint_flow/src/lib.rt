@@ -6,7 +6,7 @@ mod names;
 mod starts;
 mod writing;
 
-pub use gathering::FIRST_START;
+pub use gathering::{FIRST_START, narrow};
 pub use names::{accessed, loaded_len, rd, rs1, rs2, stored_len};
-pub use starts::resolve_all;
+pub use starts::{resolve, resolve_all};
 pub use writing::results;

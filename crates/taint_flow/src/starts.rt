@@ -10,9 +10,10 @@ use set_store::{Item, Sets};
 
 /// The set for which a number stands: its own, or that of the byte of the window, by address, with which the first
 /// member began at this event.
-fn resolve(sets: &mut Sets, begun: u64, number: u32) -> Result<u32, NoMemory>
+pub fn resolve(sets: &mut Sets, begun: u64, number: u32) -> Result<u32, NoMemory>
     requires { IsRaw sets.old number }
     ensures resolved { IfOk result (IsResolved sets.old sets.new begun number) }
+    ensures small { IfOk result (λ set. set < first_start) }
     ensures before { StandAsBefore sets.old sets.new }
 {
     if number < FIRST_START {

@@ -144,7 +144,11 @@ kind-fork n e = by_tests (n == number.EXIT) (n == number.FORK) e
     by_tests false false k = absurd (no-fork (n == number.EXEC) (n == number.WAIT) (n == number.SIGRETURN) (n == number.READ) (n == number.WRITE) (n == number.SHM) k)
 
 fork-child : (n : ℕ) (s : Bool) (cpu : Cpu) (result : ℕ) (more : Extra) → is_success result ≡ s → (s ≡ true → result ≡ n + 1) → IsChild n (if s then max n result else n) (call_act Fork cpu result more)
-fork-child n s cpu result (extra.Start start) e f = if-child n (if s then max n result else n) (is_success result) (Founds result) (Returns result) tt tt
+fork-child n s cpu result (extra.Start start) e f = subst (λ (t : Bool). IsChild n (if s then max n result else n) (if t then Founds result else Returns result)) (sym e) (by_test s f)
+  where
+    by_test : (s : Bool) → (s ≡ true → result ≡ n + 1) → IsChild n (if s then max n result else n) (if s then Founds result else Returns result)
+    by_test true g = let is = g refl in (omega arith, omega arith)
+    by_test false g = tt
 fork-child n s cpu result more e f = subst (λ (t : Bool). IsChild n (if s then max n result else n) (if t then Forks result else Returns result)) (sym e) (by_test s f)
   where
     by_test : (s : Bool) → (s ≡ true → result ≡ n + 1) → IsChild n (if s then max n result else n) (if s then Forks result else Returns result)

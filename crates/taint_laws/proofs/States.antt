@@ -7,7 +7,7 @@ use Rattle.arn_base.specs.declared.records.Record.TheVariants as entry
 use Rattle.arn_base.specs.declared.records.Start.{Start}
 use Rattle.rv64_model.specs.Instruction.{Effect, Next, Call, End}
 use Rattle.parts_model.specs.declared.limits.TheConstants.{MOST_BLOCK_BYTES, WINDOW_LEN}
-use Rattle.acts_model.specs.Acts.{Act, Gives, Starts, Forks, Shares, Exits, beginning_in, begun, done, done_by, unborn}
+use Rattle.acts_model.specs.Acts.{Act, Gives, Starts, Forks, Founds, Shares, Exits, beginning_in, begun, done, done_by, unborn}
 use Rattle.acts_model.specs.Bodies.{Body, Bodies, View, body_at, put, seen, view}
 use Rattle.acts_model.specs.Disagreement.{is_outside}
 use Rattle.acts_model.specs.Moved.{Event, Inside}
@@ -185,6 +185,7 @@ heard-later tr event heard e ne = ap (λ (t : Bool). cond t (Some (record { len 
 -- the child that joins the group is above all, and is counted from then on
 abbrev pub IsChild : ℕ → ℕ → Act → Type 0
 IsChild most most' (Forks child) = (most < child) × (child ≤ most')
+IsChild most most' (Founds child) = (most < child) × (child ≤ most')
 IsChild most most' act = Unit {0}
 
 child-counted : (most most' : ℕ) (act : Act) → IsChild most most' act → ChildCounted most' act
@@ -201,6 +202,8 @@ act-possible event most most' pid own v (Gives at len result) s h a c = inside-w
 act-possible event most most' pid own v (Starts file block len) s h a c =
     (λ p ne. unheld-all event most event own (omega arith) s p, inside-whole (holds_of v.body) v block len h (or_parts (nat_lt MOST_BLOCK_BYTES len) (is_outside v block len) a).1)
 act-possible event most most' pid own v (Forks child) s h a c =
+    (unheld-all event most event own (omega arith) s, ap (λ (o : Option Body). is_some (option_map holds_of o)) (s.sound.few child c.0))
+act-possible event most most' pid own v (Founds child) s h a c =
     (unheld-all event most event own (omega arith) s, ap (λ (o : Option Body). is_some (option_map holds_of o)) (s.sound.few child c.0))
 act-possible event most most' pid own v Shares s h a c = unheld-all event most event own (omega arith) s
 act-possible event most most' pid own v act s h a c = tt

@@ -17,7 +17,7 @@ use Rattle.acts_model.specs.Transfers.{Holds, Transfer, Forks}
 use Rattle.lineage_model.specs.Tracking.{EventByte, Tracked, alone_after, alone_from, untracked}
 use Rattle.replay_steps.specs.Notices as notice
 use Rattle.replay_steps.specs.Notices.{Notice, Listener, Says, Told, notices, booted, joined}
-use Rattle.taint_tracker.specs.Goes.{ArePossible, GoesBy, GoesIf, Hearings, IsOwn, IsPossible, IsUnheldBy, begin_inside, heard_after, hearings_of}
+use Rattle.taint_tracker.specs.Goes.{AreApart, ArePossible, GoesBy, GoesIf, Hearings, IsOwn, IsPossible, IsUnheldBy, StayApart, begin_inside, heard_after, hearings_of}
 use Rattle.taint_tracker.specs.Shown.{Shows, Tracking}
 use Rattle.taint_tracker.specs.Steps.{Holders, event_by, event_inside, event_of, event_step, fresh_holds, holders_after, holders_of, instr_inside, instr_step, with_holder}
 use Rattle.taint_laws.specs.Follows.{AreNew, AreSteps, IsNew, IsStep, none_heard, none_holds, Steps, Hears, Starts as StartsGroup, with_booted}
@@ -46,11 +46,11 @@ record GoesTo (i : Inside) (x z : Tracking) (t : Tracked EventByte) : Type 0 whe
   heard : (event : ℕ) → hearings_of z event ≡ heard_after i (hearings_of x) event
   shows : Shows z (alone_after (operands x.linkage) i t)
 
-by-step : (i : Inside) (x z : Tracking) (t : Tracked EventByte) → GoesBy i x z → IsPossible (holders_of x) (hearings_of x) i.transfer → Shows x t → GoesTo i x z t
-by-step i x z t goes possible shows = record { linkage = goes.linkage; holders = goes.holders; heard = goes.heard; shows = goes.shows possible t shows }
+by-step : (i : Inside) (x z : Tracking) (t : Tracked EventByte) → GoesBy i x z → AreApart (holders_of x) → IsPossible (holders_of x) (hearings_of x) i.transfer → Shows x t → GoesTo i x z t
+by-step i x z t goes apart possible shows = record { linkage = goes.linkage; holders = goes.holders; heard = goes.heard; shows = goes.shows apart possible t shows }
 
 abbrev Going : Tracking → Tracking → Tracked EventByte → Inside → Type 0
-Going x z t i = IsPossible (holders_of x) (hearings_of x) i.transfer → IsNew (hearings_of x) i.event → Told plainly (notices i) x z → Shows x t → GoesTo i x z t
+Going x z t i = AreApart (holders_of x) → IsPossible (holders_of x) (hearings_of x) i.transfer → IsNew (hearings_of x) i.event → Told plainly (notices i) x z → Shows x t → GoesTo i x z t
 
 -- an instruction
 instr-inside : (pid : ℕ) (instr : Instr) (before : Cpu) (i : Inside) (o : Option Holds) → option_map (instr_inside pid instr before) o ≡ Some i → (holds : Holds) × (i ≡ instr_inside pid instr before holds)
@@ -58,16 +58,16 @@ instr-inside pid instr before i None e = absurd (cc)
 instr-inside pid instr before i (Some holds) e = (holds, sym (some-inj (instr_inside pid instr before holds) i e))
 
 instr-going : (x z : Tracking) (t : Tracked EventByte) (pid : ℕ) (instr : Instr) (before : Cpu) (holds : Holds) → instr_step (holders_of x) pid instr before ≡ Some (instr_inside pid instr before holds) → Going x z t (instr_inside pid instr before holds)
-instr-going x z t pid instr before holds e possible new told shows =
+instr-going x z t pid instr before holds e apart possible new told shows =
     let i = instr_inside pid instr before holds in
     let goes : GoesBy i x told.0 = subst (λ o. GoesIf o x told.0) e told.1 in
-    by-step i x z t (subst (λ y. GoesBy i x y) told.2 goes) possible shows
+    by-step i x z t (subst (λ y. GoesBy i x y) told.2 goes) apart possible shows
 
 -- the group's first process
 begin-going : (x z : Tracking) (t : Tracked EventByte) (pid event : ℕ) (e : Record) (before : Cpu) → Going x z t (begin_inside pid event e before)
-begin-going x z t pid event e before possible new told shows =
+begin-going x z t pid event e before apart possible new told shows =
     let i = begin_inside pid event e before in
-    by-step i x z t (subst (λ y. GoesBy i x y) told.2 (told.1 e before)) possible shows
+    by-step i x z t (subst (λ y. GoesBy i x y) told.2 (told.1 e before)) apart possible shows
 
 -- an event
 record IsOfAct (event : ℕ) (e : Record) (i : Inside) : Type 0 where
@@ -110,11 +110,11 @@ event-notices h event e i s = let of = of-act h event e i s in subst (EventNotic
 
 -- but a boot
 event-going : (x z : Tracking) (t : Tracked EventByte) (event : ℕ) (e : Record) (i : Inside) → booted event e ≡ [] → event_step (holders_of x) event e i.before ≡ Some i → Going x z t i
-event-going x z t event e i plain s possible new told shows =
+event-going x z t event e i plain s apart possible new told shows =
     let list = event-notices (holders_of x) event e i s ∙ ap (λ (front : List Notice). front ++ notice.Happens event e i.before ∷ joined event i.transfer) plain in
     let heard = subst (λ ns. Told plainly ns x z) list told in
     let goes : GoesBy i x heard.0 = subst (λ o. GoesIf o x heard.0) s heard.1 in
-    by-step i x z t (subst (λ y. GoesBy i x y) (sym (joined-same event i.transfer heard.0 z heard.2)) goes) possible shows
+    by-step i x z t (subst (λ y. GoesBy i x y) (sym (joined-same event i.transfer heard.0 z heard.2)) goes) apart possible shows
 
 pub with-same : (h : Holders) (pid p : ℕ) (o : Option Holds) → with_holder pid o (with_holder pid o h) p ≡ with_holder pid o h p
 with-same h pid p o = by_test (p == pid)
@@ -130,8 +130,8 @@ own-still h pid made o own p ne = subst (λ b. IfSome (cond b o (h p)) (IsUnheld
 abbrev boot_inside : ℕ → List ℕ → Give → Cpu → Inside
 boot_inside event name give before = start_inside (read_as_image give.bytes).load (length give.bytes) event (entry.Boot name give) before
 
-boot-going : (x z : Tracking) (t : Tracked EventByte) (event : ℕ) (name : List ℕ) (give : Give) (before : Cpu) → Going x z t (boot_inside event name give before)
-boot-going x z t event name give before possible new told shows =
+boot-going : (stay : StayApart) (x z : Tracking) (t : Tracked EventByte) (event : ℕ) (name : List ℕ) (give : Give) (before : Cpu) → Going x z t (boot_inside event name give before)
+boot-going stay x z t event name give before apart possible new told shows =
     let e : Record = entry.Boot name give in
     let i = boot_inside event name give before in
     let w = told.0 in
@@ -141,9 +141,10 @@ boot-going x z t event name give before possible new told shows =
     let u = told.2.0 in
     let second : GoesBy i w u = subst (λ (h : Holders). GoesIf (event_step h event e before) w u) begun told.2.1 in
     let same : z ≡ u = sym told.2.2 in
-    let shown = first.shows (possible.0, new) t shows in
+    let shown = first.shows apart (possible.0, new) t shows in
+    let apart_then = subst AreApart (sym begun) (stay (holders_of x) (hearings_of x) (begin_inside 1 event e before).transfer apart (possible.0, new)) in
     let possible_then = subst (λ (h : Holders). IsPossible h (hearings_of w) i.transfer) (sym begun) (own-still (holders_of x) 1 event (Some (fresh_holds event)) possible.0, tt) in
-    let ends = second.shows possible_then (alone_after (operands x.linkage) (begin_inside 1 event e before) t) shown in
+    let ends = second.shows apart_then possible_then (alone_after (operands x.linkage) (begin_inside 1 event e before) t) shown in
     let linked = subst (λ (k : Linkage). Shows u (alone_after (operands k) i (alone_after (operands x.linkage) (begin_inside 1 event e before) t))) first.linkage ends in
     let again = subst (λ s. Shows u s) (begin-again (operands x.linkage) (read_as_image give.bytes).load (length give.bytes) event e before t) linked in
     let goes : GoesTo i x u t = record {
@@ -154,37 +155,43 @@ boot-going x z t event name give before possible new told shows =
     } in
     subst (λ y. GoesTo i x y t) (sym same) goes
 
-hears-going : (x z : Tracking) (t : Tracked EventByte) (event : ℕ) (e : Record) (i : Inside) → event_step (with_booted event e (holders_of x)) event e i.before ≡ Some i → Going x z t i
-hears-going x z t event (entry.Boot name give) i s = subst (Going x z t) (some-inj (boot_inside event name give i.before) i s) (boot-going x z t event name give i.before)
-hears-going x z t event (entry.File name bytes) i s = event-going x z t event (entry.File name bytes) i refl s
-hears-going x z t event (entry.Typed bytes) i s = event-going x z t event (entry.Typed bytes) i refl s
-hears-going x z t event (entry.Unplug device) i s = event-going x z t event (entry.Unplug device) i refl s
-hears-going x z t event (entry.Slice pid ran) i s = event-going x z t event (entry.Slice pid ran) i refl s
-hears-going x z t event (entry.Signal pid signal cut handler) i s = event-going x z t event (entry.Signal pid signal cut handler) i refl s
-hears-going x z t event (entry.Call pid number result more) i s = event-going x z t event (entry.Call pid number result more) i refl s
-hears-going x z t event (entry.End pid status) i s = event-going x z t event (entry.End pid status) i refl s
+hears-going : (stay : StayApart) (x z : Tracking) (t : Tracked EventByte) (event : ℕ) (e : Record) (i : Inside) → event_step (with_booted event e (holders_of x)) event e i.before ≡ Some i → Going x z t i
+hears-going stay x z t event (entry.Boot name give) i s = subst (Going x z t) (some-inj (boot_inside event name give i.before) i s) (boot-going stay x z t event name give i.before)
+hears-going stay x z t event (entry.File name bytes) i s = event-going x z t event (entry.File name bytes) i refl s
+hears-going stay x z t event (entry.Typed bytes) i s = event-going x z t event (entry.Typed bytes) i refl s
+hears-going stay x z t event (entry.Unplug device) i s = event-going x z t event (entry.Unplug device) i refl s
+hears-going stay x z t event (entry.Slice pid ran) i s = event-going x z t event (entry.Slice pid ran) i refl s
+hears-going stay x z t event (entry.Signal pid signal cut handler) i s = event-going x z t event (entry.Signal pid signal cut handler) i refl s
+hears-going stay x z t event (entry.Call pid number result more) i s = event-going x z t event (entry.Call pid number result more) i refl s
+hears-going stay x z t event (entry.End pid status) i s = event-going x z t event (entry.End pid status) i refl s
 
-step-going : (x z : Tracking) (t : Tracked EventByte) (i : Inside) → IsStep (holders_of x) i → Going x z t i
-step-going x z t i (Steps pid instr e) =
+step-going : (stay : StayApart) (x z : Tracking) (t : Tracked EventByte) (i : Inside) → IsStep (holders_of x) i → Going x z t i
+step-going stay x z t i (Steps pid instr e) =
     let of = instr-inside pid instr i.before i (holders_of x pid) e in
     subst (Going x z t) (sym of.1) (instr-going x z t pid instr i.before of.0 (e ∙ ap (λ (j : Inside). Some j) of.1))
-step-going x z t i (Hears event e s) = hears-going x z t event e i s
-step-going x z t i (StartsGroup pid event e is) = subst (Going x z t) (sym is) (begin-going x z t pid event e i.before)
+step-going stay x z t i (Hears event e s) = hears-going stay x z t event e i s
+step-going stay x z t i (StartsGroup pid event e is) = subst (Going x z t) (sym is) (begin-going x z t pid event e i.before)
 
-told-from : (list : List Inside) (linkage : Linkage) (h : Holders) (heard : Hearings) (x y : Tracking) (t : Tracked EventByte)
-    → x.linkage ≡ linkage → holders_of x ≡ h → hearings_of x ≡ heard → AreSteps h list → ArePossible h heard list → AreNew heard list
+told-from : (stay : StayApart) (list : List Inside) (linkage : Linkage) (h : Holders) (heard : Hearings) (x y : Tracking) (t : Tracked EventByte)
+    → x.linkage ≡ linkage → holders_of x ≡ h → hearings_of x ≡ heard → AreApart h → AreSteps h list → ArePossible h heard list → AreNew heard list
     → Told plainly (flat_map notices list) x y → Shows x t → Shows y (alone_from (operands linkage) list t)
-told-from [] linkage h heard x y t l hs es steps possible new told shows = subst (λ z. Shows z t) told shows
-told-from (i ∷ list) linkage h heard x y t l hs es steps possible new told shows =
+told-from stay [] linkage h heard x y t l hs es apart steps possible new told shows = subst (λ z. Shows z t) told shows
+told-from stay (i ∷ list) linkage h heard x y t l hs es apart steps possible new told shows =
     let parts = told-append (notices i) (flat_map notices list) x y told in
     let z = parts.0 in
     let possible_here = subst (λ k. IsPossible k (hearings_of x) i.transfer) (sym hs) (subst (λ k. IsPossible h k i.transfer) (sym es) possible.0) in
-    let goes = step-going x z t i (subst (λ k. IsStep k i) (sym hs) steps.0) possible_here (subst (λ k. IsNew k i.event) (sym es) new.0) parts.1 shows in
-    told-from list linkage (holders_after i.transfer h) (heard_after i heard) z y (alone_after (operands linkage) i t)
+    let goes = step-going stay x z t i (subst (λ k. IsStep k i) (sym hs) steps.0) (subst AreApart (sym hs) apart) possible_here (subst (λ k. IsNew k i.event) (sym es) new.0) parts.1 shows in
+    told-from stay list linkage (holders_after i.transfer h) (heard_after i heard) z y (alone_after (operands linkage) i t)
     (goes.linkage ∙ l)
     ((λ k. λ pid. goes.holders pid k) ∙ ap (λ (k : Holders). holders_after i.transfer k) hs)
     ((λ k. λ event. goes.heard event k) ∙ ap (λ (k : Hearings). heard_after i k) es)
-    steps.1 possible.1 new.1 parts.2 (subst (λ k. Shows z (alone_after (operands k) i t)) l goes.shows)
+    (stay h heard i.transfer apart possible.0) steps.1 possible.1 new.1 parts.2 (subst (λ k. Shows z (alone_after (operands k) i t)) l goes.shows)
+
+none-apart : AreApart none_holds
+none-apart = record { windows = λ p q a b e f same. none-holds a e; kinds = λ p q a b e f same. none-holds a e }
+  where
+    none-holds : {A : Type 0} (a : Holds) → None ≡ Some a → A
+    none-holds a e = absurd (cc)
 
 -- told of what it keeps, so is it of what that shows
 module _ {A : Type 0} (shown : A → Tracking) where
@@ -197,7 +204,7 @@ module _ {A : Type 0} (shown : A → Tracking) where
   told-shown [] x y h = ap shown h
   told-shown (n ∷ ns) x y h = (shown h.0, says-shown n x h.0 h.1, told-shown ns h.0 y h.2)
 
-  pub told-shows : ToldShows shown
-  told-shows linkage list x y steps possible new from told =
-      told-from list linkage none_holds none_heard (shown x) (shown y) untracked (ap (λ (z : Tracking). z.linkage) from) (ap holders_of from) (ap hearings_of from) steps possible new
+  pub told-shows : StayApart → ToldShows shown
+  told-shows stay linkage list x y steps possible new from told =
+      told-from stay list linkage none_holds none_heard (shown x) (shown y) untracked (ap (λ (z : Tracking). z.linkage) from) (ap holders_of from) (ap hearings_of from) none-apart steps possible new
       (told-shown (flat_map notices list) x y told) (subst (λ z. Shows z untracked) (sym from) (record { members = λ pid. tt; heard = λ event. tt }))

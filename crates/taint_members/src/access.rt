@@ -1,8 +1,8 @@
 // The numbers of a member's bytes by address.
-ghost use Rattle.std.specs.Prelude.{◌≡◌, ◌≤◌, ◌<◌, length, IfSome, OnOk};
+ghost use Rattle.std.specs.Prelude.{◌≡◌, ◌≤◌, ◌<◌, ◌^◌, length, IfSome, OnOk};
 ghost use Rattle.acts_model.specs.Transfers.{is_private, is_shared};
 ghost use Rattle.parts_model.specs.declared.limits.TheConstants as limits;
-ghost use Rattle.taint_members.specs.Access.{AreRead, AreReadShared, HoldsKey, WritesSegment, WritesWindow, from_start};
+ghost use Rattle.taint_members.specs.Access.{AreRead, AreReadShared, HoldsKey, WritesSegment, WritesWindow, from_start, number_at, shared_number};
 
 use crate::member::{Member, Shared};
 use arn_base::NoMemory;
@@ -30,6 +30,31 @@ fn segment_offset(at: u64) -> Option<usize>
         Some((at - SEGMENT_START) as usize)
     } else {
         None
+    }
+}
+
+/// The number of byte `k` from an address on, in the memory in which the address lies, and 0 behind its end. An address
+/// outside the member's memories has 0.
+pub fn number(member: &Member, segments: &[Numbers], at: u64, k: usize) -> u32
+    requires small { k < 2 ^ 32 }
+    requires held { HoldsKey member.now.segment segments.now }
+    ensures { result ≡ number_at member.now segments.now at k }
+{
+    match window_offset(at) {
+        Some(offset) => member.window.find(offset + k),
+        None => number_shared(member.segment, segments, at, k),
+    }
+}
+
+/// The same of a segment that may be held.
+fn number_shared(segment: Option<Shared>, segments: &[Numbers], at: u64, k: usize) -> u32
+    requires small { k < 2 ^ 32 }
+    requires held { HoldsKey segment segments.now }
+    ensures { result ≡ shared_number segment segments.now at k }
+{
+    match (segment, segment_offset(at)) {
+        (Some(shared), Some(offset)) => segments[shared.key].find(offset + k),
+        _ => 0,
     }
 }
 
@@ -66,7 +91,7 @@ pub fn write(
     at: u64,
     numbers: &[u32],
 ) -> Result<(), NoMemory>
-    requires few { length numbers.now ≤ 65536 }
+    requires few { length numbers.now < 2 ^ 31 }
     requires held { HoldsKey member.old.segment segments.old }
     ensures window { OnOk result (WritesWindow at numbers.now member.old member.new) }
     ensures segment { OnOk result
@@ -87,7 +112,7 @@ fn write_segment(
     at: u64,
     numbers: &[u32],
 ) -> Result<(), NoMemory>
-    requires few { length numbers.now ≤ 65536 }
+    requires few { length numbers.now < 2 ^ 31 }
     requires held { HoldsKey segment segments.old }
     ensures segment { OnOk result (WritesSegment at numbers.now segment segments.old segments.new) }
     ensures keys { length segments.new ≡ length segments.old }

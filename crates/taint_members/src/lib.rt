@@ -5,5 +5,5 @@
 mod access;
 mod member;
 
-pub use access::{read, write};
+pub use access::{number, read, write};
 pub use member::{Member, Shared};

@@ -1,5 +1,5 @@
 // The sets of what an instruction writes.
-ghost use Rattle.std.specs.Prelude.{◌≡◌, ◌<◌, ℕ, IfOk};
+ghost use Rattle.std.specs.Prelude.{◌≡◌, ◌<◌, ℕ, IfOk, unwrap_or};
 ghost use Rattle.rv64_model.specs.Operands as operands;
 ghost use Rattle.set_store.specs.Sets.{StandAsBefore};
 ghost use Rattle.taint_flow.specs.Names as names;
@@ -25,13 +25,13 @@ pub struct Rules {
 /// The numbers of no bytes.
 static NO_BYTES: [u32; 8] = [0; 8];
 
-/// The numbers of the bytes of a register, zeros where none is named.
+/// The numbers of the bytes of a register, zeros for x0 and where none is named.
 fn bytes_of(row: &Row, reg: Option<Reg>) -> &[u32]
-    ensures { IsRegister row.now reg result.now }
+    ensures { IsRegister row.now (unwrap_or reg 0) result.now }
 {
     match reg {
-        Some(reg) => row.bytes(reg),
-        None => NO_BYTES.as_slice(),
+        Some(reg) if reg.number() > 0 => row.bytes(reg),
+        _ => NO_BYTES.as_slice(),
     }
 }
 

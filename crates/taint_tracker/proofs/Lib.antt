@@ -1,1 +1,23 @@
 mod Worked
+pub mod Results
+pub mod Reach
+pub mod Taken
+pub mod Written
+pub mod Runs
+pub mod Keeps
+pub mod Tables
+pub mod Flows
+pub mod Goings
+pub mod Calls
+pub mod Ends
+pub mod Reading
+pub mod Segments
+pub mod Forking
+pub mod Receiving
+pub mod Received
+pub mod StartingShown
+pub mod BeginningShown
+pub mod Keeping
+pub mod Lying
+pub mod LensShown
+pub mod HeldShown

@@ -52,6 +52,11 @@ heard_after inside heard e = heard_by inside.event where
   heard_by None = heard e
   heard_by (Some event) = heard_at inside.transfer event heard e
 
+-- No two live members have one window, and no window is a segment.
+pub record AreApart (h : Holders) : Type 0 where
+  pub windows : (p q : ℕ) (a b : Holds) → h p ≡ Some a → h q ≡ Some b → a.window ≡ b.window → p ≡ q
+  pub kinds : (p q : ℕ) (a b : Holds) → h p ≡ Some a → h q ≡ Some b → b.segment ≢ Some a.window
+
 -- What a machine's steps keep: a memory that is made is new, so is a child and the event by which a group begins, and what is read lies
 -- whole in a window.
 abbrev pub IsPossible : Holders → Hearings → Transfer → Type 0
@@ -62,7 +67,7 @@ IsPossible h heard (Returns pid) = Unit {0}
 IsPossible h heard (Receives pid place len) = Unit {0}
 IsPossible h heard (Gives pid place len) = IsWhole place len
 IsPossible h heard (Forks pid child from into) = IsUnheld h into × IsNone (h child)
-IsPossible h heard (Founds pid child from into) = Unit {0}
+IsPossible h heard (Founds pid child from into) = IsUnheld h into × IsNone (h child)
 IsPossible h heard (Begins pid made) = IsOwn h pid made × IsNone (heard made)
 IsPossible h heard (Shares pid made) = IsUnheld h made
 IsPossible h heard (Delivers pid cut) = Unit {0}
@@ -71,13 +76,13 @@ IsPossible h heard (Exits pid) = Unit {0}
 IsPossible h heard (Faults pid) = Unit {0}
 IsPossible h heard (Dies pid) = Unit {0}
 
--- It goes on by a step: what members hold and which events were heard follows the step; and where the step is possible, what was shown
--- goes on as tracking by lists does.
+-- It goes on by a step: what members hold and which events were heard follows the step; and where the step is possible and the memories of
+-- members lie apart, what was shown goes on as tracking by lists does.
 pub record GoesBy (inside : Inside) (x y : Tracking) : Type 0 where
   pub linkage : y.linkage ≡ x.linkage
   pub holders : (pid : ℕ) → holders_of y pid ≡ holders_after inside.transfer (holders_of x) pid
   pub heard : (event : ℕ) → hearings_of y event ≡ heard_after inside (hearings_of x) event
-  pub shows : IsPossible (holders_of x) (hearings_of x) inside.transfer → (t : Tracked EventByte) → Shows x t → Shows y (alone_after (operands x.linkage) inside t)
+  pub shows : AreApart (holders_of x) → IsPossible (holders_of x) (hearings_of x) inside.transfer → (t : Tracked EventByte) → Shows x t → Shows y (alone_after (operands x.linkage) inside t)
 
 -- nothing is changed where there is no step
 abbrev pub GoesIf : Option Inside → Tracking → Tracking → Type 0
@@ -120,3 +125,7 @@ abbrev pub TracksAlone : Type 0
 TracksAlone =
     (linkage : Linkage) (list : List Inside) (y : Tracking) → ArePossible (λ pid. None) (λ event. None) list → GoesOn list (nothing_tracked linkage) y
     → Shows y (alone (operands linkage) list)
+
+-- memories that lie apart still do after a step that is possible
+abbrev pub StayApart : Type 0
+StayApart = (h : Holders) (heard : Hearings) (transfer : Transfer) → AreApart h → IsPossible h heard transfer → AreApart (holders_after transfer h)

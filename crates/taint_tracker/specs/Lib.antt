@@ -4,3 +4,10 @@ pub mod Goes
 pub mod Asked
 pub mod Kept
 pub mod Result
+pub mod Sound
+pub mod RunsShow
+pub mod Tables
+pub mod Events
+pub mod EventsShow
+pub mod Lens
+pub mod Held

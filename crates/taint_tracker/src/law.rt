@@ -1,6 +1,11 @@
 // What following a group says of it.
-ghost use Rattle.taint_tracker.specs.Goes.{TracksAlone};
+ghost use Rattle.taint_tracker.specs.EventsShow.{BeginsShow, DeliversShow, DiesShow, ExitsShow, FaultsShow, ForksShow, FoundsShow, GivesShow, LeavesShow, ReceivesShow, ReturnsShow, SharesShow, StartsShow};
+ghost use Rattle.taint_tracker.specs.Goes.{StayApart, TracksAlone};
+ghost use Rattle.taint_tracker.specs.Held.{OthersKept, ReceivesKept};
+ghost use Rattle.taint_tracker.specs.Lens.{ActsHaveLen};
 ghost use Rattle.taint_tracker.specs.Result.{ResultsShow};
+ghost use Rattle.taint_tracker.specs.RunsShow.{RunsKeep, RunsShow};
+ghost use Rattle.taint_tracker.specs.Tables.{TablesReady, TablesRun};
 
 /// Each step followed as it should be, all are.
 pub fn tracks_alone()
@@ -10,4 +15,121 @@ pub fn tracks_alone()
 /// Sets made of the operands' sets show what an instruction's result takes.
 pub fn results_show()
     ensures { ResultsShow }
+{}
+
+/// Where what is kept of a member follows an instruction, what is shown goes on by it.
+pub fn runs_show()
+    ensures { RunsShow }
+{}
+
+/// Where what is kept of a member follows an instruction, what is kept stays sound.
+pub fn runs_keep()
+    ensures { RunsKeep }
+{}
+
+/// Where tables keep what is sound, any member can run an instruction.
+pub fn tables_ready()
+    ensures { TablesReady }
+{}
+
+/// What tables show goes on by the instruction of a member that ran it, and they stay sound.
+pub fn tables_run()
+    ensures { TablesRun }
+{}
+
+/// Where what is kept follows a call that moves no bytes, what is shown goes on by it, and what is
+/// kept stays sound.
+pub fn returns_show()
+    ensures { ReturnsShow }
+{}
+
+/// Where what is kept follows a delivery to a handler, what is shown goes on by it, and what is
+/// kept stays sound.
+pub fn delivers_show()
+    ensures { DeliversShow }
+{}
+
+/// Where what is kept follows the return from a handler, what is shown goes on by it, and what is
+/// kept stays sound.
+pub fn leaves_show()
+    ensures { LeavesShow }
+{}
+
+/// Where what is kept follows an exit, what is shown goes on by it, and what is kept stays sound.
+pub fn exits_show()
+    ensures { ExitsShow }
+{}
+
+/// Where what is kept follows an end by a fault, what is shown goes on by it, and what is kept
+/// stays sound.
+pub fn faults_show()
+    ensures { FaultsShow }
+{}
+
+/// Where what is kept follows an end by a signal, what is shown goes on by it, and what is kept
+/// stays sound.
+pub fn dies_show()
+    ensures { DiesShow }
+{}
+
+/// Where what is kept follows bytes that a member gives, what is shown goes on by them, and what is
+/// kept stays sound.
+pub fn gives_show()
+    ensures { GivesShow }
+{}
+
+/// Where what is kept follows a fresh segment, what is shown goes on by it, and what is kept stays
+/// sound.
+pub fn shares_show()
+    ensures { SharesShow }
+{}
+
+/// Where what is kept follows a child that joins the group, what is shown goes on by it, and what
+/// is kept stays sound.
+pub fn forks_show()
+    ensures { ForksShow }
+{}
+
+/// Where what is kept follows a child that starts a group, what is shown goes on by it, and what is
+/// kept stays sound.
+pub fn founds_show()
+    ensures { FoundsShow }
+{}
+
+/// Where what is kept follows bytes that a member receives, what is shown goes on by them, and what
+/// is kept stays sound.
+pub fn receives_show()
+    ensures { ReceivesShow }
+{}
+
+/// Where what is kept follows an image from which a member starts, what is shown goes on by it, and
+/// what is kept stays sound.
+pub fn starts_show()
+    ensures { StartsShow }
+{}
+
+/// Where what is kept follows a member that begins without a parent, what is shown goes on by it,
+/// and what is kept stays sound.
+pub fn begins_show()
+    ensures { BeginsShow }
+{}
+
+/// Memories that lie apart still do after a step that is possible.
+pub fn stays_apart()
+    ensures { StayApart }
+{}
+
+/// An act that moves bytes moves as many as its event has.
+pub fn acts_have_len()
+    ensures { ActsHaveLen }
+{}
+
+/// What is written of a member for bytes that it receives is what is kept of it.
+pub fn receives_kept()
+    ensures { ReceivesKept }
+{}
+
+/// What is written for bytes that a member receives is what is kept of the other members.
+pub fn others_kept()
+    ensures { OthersKept }
 {}

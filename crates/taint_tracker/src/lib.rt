@@ -5,5 +5,10 @@
 mod law;
 mod point;
 
-pub use law::{results_show, tracks_alone};
+pub use law::{
+    acts_have_len, begins_show, delivers_show, dies_show, exits_show, faults_show, forks_show,
+    founds_show, gives_show, leaves_show, others_kept, receives_kept, receives_show, results_show,
+    returns_show, runs_keep, runs_show, shares_show, starts_show, stays_apart, tables_ready,
+    tables_run, tracks_alone,
+};
 pub use point::Point;

@@ -1,0 +1,142 @@
+// Bytes that come to a member.
+ghost use Rattle.std.specs.Prelude.{◌≡◌, ◌<◌, ◌≤◌, ℕ, length, None, IfOk, IfSome, OnOk};
+ghost use Rattle.parts_model.specs.declared.limits.TheConstants as limits;
+ghost use Rattle.acts_model.specs.Moved as moved;
+ghost use Rattle.taint_events.specs.Starting as spec;
+ghost use Rattle.taint_events.specs.Starting.{IsStarted, window_len};
+ghost use Rattle.taint_members.specs.Access.{HoldsKey, WritesSegment, WritesWindow, number_at};
+ghost use Rattle.taint_members.specs.Rows.{AreZero, ClearsResult};
+
+use arn_base::NoMemory;
+use parts_model::limits::{WINDOW_END, WINDOW_LEN, WINDOW_START};
+use std::alloc::Global;
+use taint_flow::narrow;
+use taint_members::{Member, number, write};
+use taint_pages::Numbers;
+
+/// How many bytes stand before an image's body.
+const HEADER_LEN: usize = 24;
+
+/// A member receives bytes of these sets from an address on, as far as they lie in the same memory. The call's result
+/// takes nothing. 2^31 bytes or more count as want of memory.
+pub fn receives(
+    member: &mut Member,
+    segments: &mut [Numbers],
+    at: u64,
+    numbers: &[u32],
+) -> Result<(), NoMemory>
+    requires held { HoldsKey member.old.segment segments.old }
+    ensures window { OnOk result (WritesWindow at numbers.now member.old member.new) }
+    ensures segment { OnOk result
+        (WritesSegment at numbers.now member.old.segment segments.old segments.new) }
+    ensures result { OnOk result (ClearsResult member.old.registers member.new.registers) }
+    ensures others { member.new ≡ record member.old {
+      registers = member.new.registers;
+      window = member.new.window;
+    } }
+    ensures keys { length segments.new ≡ length segments.old }
+{
+    narrow(numbers.len())?;
+    write(member, segments, at, numbers)?;
+    member.returns();
+    Ok(())
+}
+
+/// Which of so many addresses from the first on an address is.
+fn within(first: u64, len: u64, at: u64) -> Option<usize>
+    ensures place { result ≡ moved.within first len at }
+    ensures small { IfSome result (λ place. place ≤ at) }
+{
+    if first <= at && at - first < len {
+        Some((at - first) as usize)
+    } else {
+        None
+    }
+}
+
+/// The number of the byte of an image's body that stands at an address, 0 where none does.
+fn body_number(load: u64, numbers: &[u32], at: u64) -> u32
+    ensures { result ≡ spec.body_number load numbers.now at }
+{
+    match within(load, numbers.len().saturating_sub(HEADER_LEN) as u64, at) {
+        Some(place) => numbers[HEADER_LEN + place],
+        None => 0,
+    }
+}
+
+/// The number of an address of a window in which an image was started, whose argument block stands at the end.
+fn started_number(
+    old: &Member,
+    segments: &[Numbers],
+    load: u64,
+    numbers: &[u32],
+    block: u64,
+    block_len: u64,
+    at: u64,
+) -> u32
+    requires below { at < limits.WINDOW_END }
+    requires held { HoldsKey old.now.segment segments.now }
+    ensures { result ≡
+        spec.started_number load numbers.now (number_at old.now segments.now block) block_len at }
+{
+    match within(WINDOW_END.saturating_sub(block_len), block_len, at) {
+        Some(place) => number(old, segments, block, place),
+        None => body_number(load, numbers, at),
+    }
+}
+
+/// The numbers of a window in which an image was started.
+fn start_window(
+    window: &mut Numbers,
+    old: &Member,
+    segments: &[Numbers],
+    load: u64,
+    numbers: &[u32],
+    block: u64,
+    block_len: u64,
+) -> Result<(), NoMemory>
+    requires len { length window.old ≡ window_len }
+    requires held { HoldsKey old.now.segment segments.now }
+    ensures { OnOk result
+        (IsStarted load numbers.now (number_at old.now segments.now block) block_len window.new) }
+{
+    for place in 0..WINDOW_LEN {
+        let at = WINDOW_START + place;
+        let number = started_number(old, segments, load, numbers, block, block_len, at);
+        window.set(place as usize, number)?;
+    }
+    Ok(())
+}
+
+/// A process that starts from an image, whose bytes have these sets, with an argument block from its old memory. The
+/// event makes its window.
+pub fn started(
+    alloc: Global,
+    event: u64,
+    old: &Member,
+    segments: &[Numbers],
+    load: u64,
+    numbers: &[u32],
+    block: u64,
+    block_len: u64,
+) -> Result<Member, NoMemory>
+    requires held { HoldsKey old.now.segment segments.now }
+    ensures registers { IfOk result (λ member. AreZero member.registers) }
+    ensures slot { IfOk result (λ member. AreZero member.slot) }
+    ensures window { IfOk result (λ member. IsStarted load numbers.now
+        (number_at old.now segments.now block) block_len member.window) }
+    ensures made { IfOk result (λ member. member.made ≡ event) }
+    ensures segment { IfOk result (λ member. member.segment ≡ None) }
+{
+    let mut member = Member::fresh(alloc, event)?;
+    start_window(
+        &mut member.window,
+        old,
+        segments,
+        load,
+        numbers,
+        block,
+        block_len,
+    )?;
+    Ok(member)
+}

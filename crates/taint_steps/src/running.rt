@@ -1,0 +1,74 @@
+// An instruction of a member.
+ghost use Rattle.std.specs.Prelude.{◌≡◌, take, length, unwrap_or, OnOk};
+ghost use Rattle.rv64_model.specs.Operands as operands;
+ghost use Rattle.set_store.specs.Sets.{StandAsBefore};
+ghost use Rattle.taint_members.specs.Access.{HoldsKey};
+ghost use Rattle.taint_steps.specs.Running.{Runs, StoresSegment, StoresWindow, WritesRegister};
+ghost use Rattle.taint_steps.specs.Taking.{AreRawIn, AreSetsIn};
+
+use crate::taking::{Rules, taken};
+use arn_base::{Cpu, NoMemory};
+use rv64_isa::{Instr, Reg};
+use set_store::Sets;
+use taint_flow::{accessed, rd, stored_len};
+use taint_members::{Member, write};
+use taint_pages::{Numbers, Row};
+
+/// Sets the numbers of the register that is written, if there is one that isn't x0.
+fn write_register(row: &mut Row, rd: Option<Reg>, numbers: &[u32])
+    requires eight { length numbers.now ≡ 8 }
+    ensures { WritesRegister (unwrap_or rd 0) numbers.now row.old row.new }
+{
+    let Some(reg) = rd else {
+        return;
+    };
+    if reg.number() > 0 {
+        row.put(reg, numbers);
+    }
+}
+
+/// Sets the numbers of the bytes that are stored, if there are any.
+fn store(
+    instr: &Instr,
+    before: &Cpu,
+    member: &mut Member,
+    segments: &mut [Numbers],
+    numbers: &[u32],
+) -> Result<(), NoMemory>
+    requires eight { length numbers.now ≡ 8 }
+    requires held { HoldsKey member.old.segment segments.old }
+    ensures window { OnOk result (StoresWindow (operands.accessed instr.now before.now)
+        (take (operands.stored_len instr.now) numbers.now) member.old member.new) }
+    ensures segment { OnOk result (StoresSegment (operands.accessed instr.now before.now)
+        (take (operands.stored_len instr.now) numbers.now) member.old.segment segments.old segments.new) }
+    ensures others { member.new ≡ record member.old { window = member.new.window } }
+    ensures keys { length segments.new ≡ length segments.old }
+{
+    match accessed(instr, before) {
+        Some(at) => write(member, segments, at, &numbers[..stored_len(instr)]),
+        None => Ok(()),
+    }
+}
+
+/// A member runs an instruction that the next one follows: its register, or the bytes that it stores, have the sets
+/// of what it takes.
+pub fn run(
+    sets: &mut Sets,
+    rules: Rules,
+    instr: &Instr,
+    before: &Cpu,
+    member: &mut Member,
+    segments: &mut [Numbers],
+) -> Result<(), NoMemory>
+    requires held { HoldsKey member.old.segment segments.old }
+    requires registers { AreSetsIn sets.old member.old.registers }
+    requires memory { AreRawIn sets.old member.old segments.old }
+    ensures runs { OnOk result (Runs rules instr.now before.now member.old member.new
+        segments.old segments.new sets.old sets.new) }
+    ensures before { StandAsBefore sets.old sets.new }
+    ensures keys { length segments.new ≡ length segments.old }
+{
+    let numbers = taken(sets, rules, instr, before, member, segments)?;
+    write_register(&mut member.registers, rd(instr), &numbers);
+    store(instr, before, member, segments, &numbers)
+}

@@ -1,0 +1,61 @@
+// An instruction of a member by its number.
+ghost use Rattle.std.specs.Prelude.{◌≡◌, length, IfSome, OnOk};
+ghost use Rattle.parts_model.specs.Numbered.{nth};
+ghost use Rattle.set_store.specs.Sets.{StandAsBefore};
+ghost use Rattle.taint_steps.specs.Table.{IsReady, RunsEntry, RunsMember};
+
+use crate::running::run;
+use crate::taking::Rules;
+use arn_base::{Cpu, NoMemory};
+use rv64_isa::Instr;
+use set_store::Sets;
+use taint_members::Member;
+use taint_pages::Numbers;
+
+/// A member runs an instruction that the next one follows, if there is one.
+fn run_entry(
+    sets: &mut Sets,
+    rules: Rules,
+    instr: &Instr,
+    before: &Cpu,
+    entry: &mut Option<Member>,
+    segments: &mut [Numbers],
+) -> Result<(), NoMemory>
+    requires { IfSome entry.old (IsReady sets.old segments.old) }
+    ensures runs { OnOk result (RunsEntry entry.old entry.new rules instr.now before.now
+        segments.old segments.new sets.old sets.new) }
+    ensures before { StandAsBefore sets.old sets.new }
+    ensures keys { length segments.new ≡ length segments.old }
+{
+    match entry {
+        Some(member) => run(sets, rules, instr, before, member, segments),
+        None => Ok(()),
+    }
+}
+
+/// The member of a number runs an instruction that the next one follows. Where there is no such member nothing is
+/// changed.
+pub fn run_member(
+    sets: &mut Sets,
+    rules: Rules,
+    instr: &Instr,
+    before: &Cpu,
+    pid: u32,
+    members: &mut [Option<Member>],
+    segments: &mut [Numbers],
+) -> Result<(), NoMemory>
+    requires { IfSome (nth members.old pid) (IsReady sets.old segments.old) }
+    ensures runs { OnOk result (RunsMember (nth members.old pid) pid rules instr.now before.now
+        record { members = members.old; segments = segments.old; sets = sets.old }
+        record { members = members.new; segments = segments.new; sets = sets.new }) }
+    ensures before { StandAsBefore sets.old sets.new }
+    ensures members { length members.new ≡ length members.old }
+    ensures keys { length segments.new ≡ length segments.old }
+{
+    let place = pid as usize;
+    if place < members.len() {
+        run_entry(sets, rules, instr, before, &mut members[place], segments)
+    } else {
+        Ok(())
+    }
+}
