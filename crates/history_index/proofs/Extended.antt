@@ -1,4 +1,6 @@
 -- Records are added one after the other.
+use Rattle.history_index.specs.Lookups.{founding_event}
+use Rattle.parts_model.specs.Numbered.{nth}
 use Rattle.std.proofs.Common.{◌≡◌, ℕ, zero, suc, ◌+◌, ◌<◌, ◌≤◌, ◌^◌, Bool, true, false, if◌then◌else◌, List, [], ◌∷◌, ◌++◌, length, take, drop, get_or, Some, None, refl, ap, sym, subst, ◌∙◌, arith}
 use Rattle.arn_base.specs.declared.records.Record.{Record}
 use Rattle.arn_base.specs.declared.records.Record.TheVariants as entry
@@ -42,6 +44,7 @@ none = record {
     processes = refl;
     as_many_lives = refl;
     as_many_runs = refl;
+    as_many_foundings = refl;
     groups = no-groups;
     founded = λ i. tt;
     no_zero = refl;
@@ -49,11 +52,16 @@ none = record {
     counts = λ g. ap (λ (r : Run). r.count) (no-runs g);
     slices = λ g. ap (λ (r : Run). r.slices) (no-runs g);
     founders = refl;
+    foundings = no-foundings;
     made = tt;
   };
   events = record { places = refl; moments = refl; pids = refl; lens = refl };
 }
   where
+    no-foundings : (group : ℕ) → nth {A = ℕ} (None ∷ []) group ≡ founding_event [] group
+    no-foundings zero = refl
+    no-foundings (suc group) = refl
+
     no-groups : (pid : ℕ) → group_at [] pid ≡ None
     no-groups zero = refl
     no-groups (suc pid) = refl

@@ -7,3 +7,4 @@ pub mod NextEvent
 pub mod WithEvent
 pub mod Whole
 pub mod Extended
+pub mod Foundings

@@ -11,13 +11,14 @@ use Rattle.parts_model.specs.declared.calls.TheConstants.{FORK, EXIT}
 use Rattle.parts_model.specs.Replies.{is_success}
 use Rattle.acts_model.specs.Records.{is_event, give_of, LifeChange, BeginsLife, EndsLife, NoLife, life_told, lives_after}
 use Rattle.history_model.specs.Broken.{Behind, Nowhere, ASlice, ADelivery, behind, is_behind, lacks_slice, are_origins, has_blocks_wrong, start_in, misnumbers, child_in, misplaces_start, cant_follow, greatest, greatest_after}
-use Rattle.history_model.specs.Groups.{Groups, groups_told, group_forked, group_of}
+use Rattle.history_model.specs.Groups.{Groups, groups_told, group_forked, group_of, is_number}
 use Rattle.history_model.specs.Names.{is_boot, is_booted}
 use Rattle.history_model.specs.Moments.{changed}
 use Rattle.replay_groups.specs.Groups.{group_at}
 use Rattle.history_index.specs.After.{born_group, child_group, ended_by, with_end}
 use Rattle.history_index.specs.Families.{Families, lives_in, with_ended}
 use Rattle.history_index.specs.Indexes.{Indexes, IsMade, IsFounded}
+use Rattle.history_index.specs.Lookups.{founds}
 use Rattle.history_index.specs.Tables.{Tables}
 use Rattle.history_index.proofs.NextSlice.{group-some}
 
@@ -33,6 +34,7 @@ pub record MakesNone (f : Families) (told : Groups) (n : ℕ) (e : Record) : Typ
   pub groups : groups_told e told ≡ told
   pub greatest : greatest_after e n ≡ n
   pub life : IsQuiet (life_told e)
+  pub founds : (h : ℕ) → founds h e ≡ false
 
 -- an event that makes the next one, of a group
 pub record MakesNext (f : Families) (told : Groups) (n : ℕ) (e : Record) (group : ℕ) : Type 0 where
@@ -41,6 +43,7 @@ pub record MakesNext (f : Families) (told : Groups) (n : ℕ) (e : Record) (grou
   pub greatest : greatest_after e n ≡ n + 1
   pub life : life_told e ≡ BeginsLife (n + 1)
   pub booted : is_boot e ≡ false → 0 < n
+  pub founds : (h : ℕ) → founds h e ≡ ((h == n + 1) && (group == n + 1))
   pub founded : IsFounded (n + 1) group
 
 quiet-if : (b : Bool) (pid : ℕ) → IsQuiet (if b then EndsLife pid else NoLife)
@@ -129,22 +132,44 @@ record ChildOf (f : Families) (told : Groups) (pid child parent : ℕ) (more : E
   born : child_group f pid more ≡ Some group
   groups : group_forked pid child more told ≡ changed told child (Some group)
   own : (group ≡ child) ⊎ (group ≡ parent)
+  first : (h : ℕ) → is_number h (group_forked pid child more (λ p. None) h) ≡ ((h == child) && (group == child))
 
-module _ (f : Families) (told : Groups) (pid child parent : ℕ) (next : length f.lives ≡ child) (at : group_at f.groups pid ≡ Some parent) (is : told pid ≡ Some parent) where
+-- of a process alone: it has the group that it begins, or none
+number-first : (h child : ℕ) → is_number h (changed {A = Option ℕ} (λ p. None) child (Some child) h) ≡ ((h == child) && (child == child))
+number-first h child =
+    elim (eqb_tells h child) [
+      | inl k ↦ rw k.0 (ap (λ (n : ℕ). child == n) k.1)
+      | inr k ↦ rw k.0 refl
+    ]
+
+none-either : (b : Bool) (h : ℕ) → is_number h (if b then None else None) ≡ false
+none-either true h = refl
+none-either false h = refl
+
+and-false : (b : Bool) → (b && false) ≡ false
+and-false true = refl
+and-false false = refl
+
+number-joins : (h child parent : ℕ) → parent ≢ child → is_number h (changed {A = Option ℕ} (λ p. None) child None h) ≡ ((h == child) && (parent == child))
+number-joins h child parent apart =
+    none-either (h == child) h
+    ∙ elim (eqb_tells parent child) [ inl k ↦ absurd (apart k.1) | inr k ↦ rw k.0 (sym (and-false (h == child))) ]
+
+module _ (f : Families) (told : Groups) (pid child parent : ℕ) (apart : parent ≢ child) (next : length f.lives ≡ child) (at : group_at f.groups pid ≡ Some parent) (is : told pid ≡ Some parent) where
   joins : changed told child (told pid) ≡ changed told child (Some parent)
   joins = ap (changed told child) is
 
   child-of : (more : Extra) → (group : ℕ) × ChildOf f told pid child parent more group
-  child-of (extra.Start start) = (child, record { born = ap Some next; groups = refl; own = inl refl })
-  child-of extra.Nothing = (parent, record { born = at; groups = joins; own = inr refl })
-  child-of (extra.Give give) = (parent, record { born = at; groups = joins; own = inr refl })
-  child-of (extra.Put file place bytes) = (parent, record { born = at; groups = joins; own = inr refl })
-  child-of (extra.Console bytes) = (parent, record { born = at; groups = joins; own = inr refl })
-  child-of (extra.Reply device bytes) = (parent, record { born = at; groups = joins; own = inr refl })
-  child-of extra.Fault = (parent, record { born = at; groups = joins; own = inr refl })
-  child-of extra.Absent = (parent, record { born = at; groups = joins; own = inr refl })
-  child-of (extra.Name file path) = (parent, record { born = at; groups = joins; own = inr refl })
-  child-of (extra.Sent device bytes) = (parent, record { born = at; groups = joins; own = inr refl })
+  child-of (extra.Start start) = (child, record { born = ap Some next; groups = refl; own = inl refl; first = λ h. number-first h child })
+  child-of extra.Nothing = (parent, record { born = at; groups = joins; own = inr refl; first = λ h. number-joins h child parent apart })
+  child-of (extra.Give give) = (parent, record { born = at; groups = joins; own = inr refl; first = λ h. number-joins h child parent apart })
+  child-of (extra.Put file place bytes) = (parent, record { born = at; groups = joins; own = inr refl; first = λ h. number-joins h child parent apart })
+  child-of (extra.Console bytes) = (parent, record { born = at; groups = joins; own = inr refl; first = λ h. number-joins h child parent apart })
+  child-of (extra.Reply device bytes) = (parent, record { born = at; groups = joins; own = inr refl; first = λ h. number-joins h child parent apart })
+  child-of extra.Fault = (parent, record { born = at; groups = joins; own = inr refl; first = λ h. number-joins h child parent apart })
+  child-of extra.Absent = (parent, record { born = at; groups = joins; own = inr refl; first = λ h. number-joins h child parent apart })
+  child-of (extra.Name file path) = (parent, record { born = at; groups = joins; own = inr refl; first = λ h. number-joins h child parent apart })
+  child-of (extra.Sent device bytes) = (parent, record { born = at; groups = joins; own = inr refl; first = λ h. number-joins h child parent apart })
 
 either-inside : (n child parent group : ℕ) → child ≡ n + 1 → (0 < parent) × (parent ≤ n) → (group ≡ child) ⊎ (group ≡ parent) → IsFounded (n + 1) group
 either-inside n child parent group is parent-is own =
@@ -166,16 +191,18 @@ fork-fails f told n pid number result more fails = record {
   groups = rw fails refl;
   greatest = rw fails refl;
   life = quiet-call ((number == FORK) && is_success result) number pid result fails;
+  founds = λ h. rw fails refl;
 }
 
-fork-makes : (f : Families) (told : Groups) (n pid number result : ℕ) (more : Extra) (group : ℕ) → ((number == FORK) && is_success result) ≡ true → result ≡ n + 1 → child_group f pid more ≡ Some group → group_forked pid result more told ≡ changed told result (Some group) → IsFounded (n + 1) group → 0 < n → MakesNext f told n (entry.Call pid number result more) group
-fork-makes f told n pid number result more group forks next born groups founded some = record {
+fork-makes : (f : Families) (told : Groups) (n pid number result : ℕ) (more : Extra) (group : ℕ) → ((number == FORK) && is_success result) ≡ true → result ≡ n + 1 → child_group f pid more ≡ Some group → group_forked pid result more told ≡ changed told result (Some group) → IsFounded (n + 1) group → 0 < n → ((h : ℕ) → is_number h (group_forked pid result more (λ p. None) h) ≡ ((h == result) && (group == result))) → MakesNext f told n (entry.Call pid number result more) group
+fork-makes f told n pid number result more group forks next born groups founded some first = record {
   born = rw forks born;
   groups = rw forks (groups ∙ ap (λ (k : ℕ). changed told k (Some group)) next);
   greatest = rw forks (omega arith);
   life = fork-life number pid result more forks ∙ ap BeginsLife next;
   founded = founded;
   booted = λ never. some;
+  founds = λ h. rw forks (first h ∙ ap (λ (k : ℕ). (h == k) && (group == k)) next);
 }
 
 module _ (t : Tables) (entries : List Record) (i : Indexes t entries) where
@@ -192,6 +219,7 @@ module _ (t : Tables) (entries : List Record) (i : Indexes t entries) where
         life = rw none refl;
         founded = rw none (omega arith, omega arith);
         booted = λ never. absurd (true-false never);
+        founds = λ h. rw none (number-first h 1);
       }
 
   makes-fork : (pid number result : ℕ) (more : Extra) → cant_follow entries (entry.Call pid number result more) ≡ false → ((number == FORK) && is_success result) ≡ true → (group : ℕ) × MakesNext t.families (group_of entries) (greatest entries) (entry.Call pid number result more) group
@@ -206,24 +234,26 @@ module _ (t : Tables) (entries : List Record) (i : Indexes t entries) where
       let number-is : not (result == greatest entries + 1) ≡ false = rw forks at p.2 in
       let next : result ≡ greatest entries + 1 = same-number result (greatest entries + 1) (is-not (result == greatest entries + 1) number-is) in
       let many : length t.families.lives ≡ result = omega (arith, i.families.as_many_lives, i.families.processes) in
-      let c = child-of t.families (group_of entries) pid result parent many found.1.0 (sym (i.families.groups pid) ∙ found.1.0) more in (
+      let apart : parent ≢ result = λ same. absurd (omega (arith, parent-is.1, i.families.processes)) in
+      let c = child-of t.families (group_of entries) pid result parent apart many found.1.0 (sym (i.families.groups pid) ∙ found.1.0) more in (
         c.0,
         fork-makes t.families (group_of entries) (greatest entries) pid number result more c.0 forks next c.1.born c.1.groups
             (either-inside (greatest entries) result parent c.0 next (parent-is.0, omega (arith, parent-is.1, i.families.processes)) c.1.own)
-            (omega (arith, inside.0, inside.1, i.families.processes)),
+            (omega (arith, inside.0, inside.1, i.families.processes))
+            c.1.first,
       )
 
   -- what an event makes
   pub what-makes : (e : Record) → is_event e ≡ true → cant_follow entries e ≡ false → MakesNone t.families (group_of entries) (greatest entries) e ⊎ ((group : ℕ) × MakesNext t.families (group_of entries) (greatest entries) e group)
-  what-makes (entry.File name bytes) is stands = inl (record { born = refl; groups = refl; greatest = refl; life = tt })
+  what-makes (entry.File name bytes) is stands = inl (record { born = refl; groups = refl; greatest = refl; life = tt; founds = λ h. refl })
   what-makes (entry.Boot name give) is stands = inr (1, makes-boot name give stands)
-  what-makes (entry.Typed bytes) is stands = inl (record { born = refl; groups = refl; greatest = refl; life = tt })
-  what-makes (entry.Unplug device) is stands = inl (record { born = refl; groups = refl; greatest = refl; life = tt })
+  what-makes (entry.Typed bytes) is stands = inl (record { born = refl; groups = refl; greatest = refl; life = tt; founds = λ h. refl })
+  what-makes (entry.Unplug device) is stands = inl (record { born = refl; groups = refl; greatest = refl; life = tt; founds = λ h. refl })
   what-makes (entry.Slice pid ran) is stands = cc
-  what-makes (entry.Signal pid signal cut handler) is stands = inl (record { born = refl; groups = refl; greatest = refl; life = quiet-if (handler == 0) pid })
+  what-makes (entry.Signal pid signal cut handler) is stands = inl (record { born = refl; groups = refl; greatest = refl; life = quiet-if (handler == 0) pid; founds = λ h. refl })
   what-makes (entry.Call pid number result more) is stands =
       elim (not-test ((number == FORK) && is_success result)) [
         | inl forks ↦ inr (makes-fork pid number result more stands forks)
         | inr fails ↦ inl (fork-fails t.families (group_of entries) (greatest entries) pid number result more fails)
       ]
-  what-makes (entry.End pid status) is stands = inl (record { born = refl; groups = refl; greatest = refl; life = tt })
+  what-makes (entry.End pid status) is stands = inl (record { born = refl; groups = refl; greatest = refl; life = tt; founds = λ h. refl })

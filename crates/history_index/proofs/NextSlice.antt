@@ -1,5 +1,5 @@
 -- An index with one more slice.
-use Rattle.std.proofs.Common.{◌≡◌, ◌≢◌, inl, inr, ℕ, zero, suc, ◌+◌, ◌<◌, ◌≤◌, ◌==◌, ◌||◌, ◌-◌, not, Bool, true, false, if◌then◌else◌, List, [], ◌∷◌, ◌++◌, length, map, filter, slice_get, get_or, Option, Some, None, IfSome, refl, ap, sym, subst, ◌∙◌, arith, length-append, length-set, add-zero, zero-add, get_or-set_other, get_or-set_same}
+use Rattle.std.proofs.Common.{◌≡◌, ◌≢◌, inl, inr, ℕ, zero, suc, ◌+◌, ◌<◌, ◌≤◌, ◌==◌, ◌||◌, ◌-◌, not, Bool, true, false, if◌then◌else◌, List, [], ◌∷◌, ◌++◌, length, map, filter, slice_get, get_or, Option, Some, None, IfSome, refl, ap, sym, subst, ◌∙◌, arith, length-append, length-set, add-zero, zero-add, get_or-set_other, get_or-set_same, position}
 use Rattle.std.specs.List.{range_with_len}
 use Rattle.std.proofs.Math.Bool.{or-false}
 use Rattle.std.proofs.lemmas.Bool.{or_parts}
@@ -21,7 +21,7 @@ use Rattle.history_index.specs.declared.slices.SliceAt.{SliceAt}
 use Rattle.history_index.specs.After.{with_next, slice_next}
 use Rattle.history_index.specs.Families.{lives_in, run_in, runs_after}
 use Rattle.history_index.specs.Indexes.{Indexes, TellsFamilies, AreMade, IsFounded}
-use Rattle.history_index.specs.Lookups.{slice_in, slices_from, slices_of, places_from, moments_from}
+use Rattle.history_index.specs.Lookups.{slice_in, slices_from, slices_of, places_from, moments_from, founds}
 use Rattle.history_index.specs.Runs.{Run, no_run, with_slice}
 use Rattle.history_index.specs.Tables.{Tables}
 use Rattle.history_index.proofs.Snoc.{total-snoc, behind-snoc, greatest-snoc, groups-snoc, begin-snoc, events-snoc, places-snoc, moments-snoc, slices-snoc, count-snoc, stands-snoc}
@@ -117,6 +117,9 @@ module _ (t : Tables) (entries : List Record) (pid ran : ℕ) (i : Indexes t ent
       ∙ ap (filter (λ s. is_number g (group_of entries s.pid))) (slices-snoc 0 0 0 entries (entry.Slice pid ran) ∙ ap (λ (xs : List SliceAt). slices_from 0 0 0 entries ++ xs) (sym same-slice))
       ∙ filter-append (λ s. is_number g (group_of entries s.pid)) (slices_from 0 0 0 entries) (slice_next t pid ran ∷ [])
 
+  no-event : events (entries ++ entry.Slice pid ran ∷ []) ≡ events entries
+  no-event = events-snoc entries (entry.Slice pid ran) ∙ append-nil (events entries)
+
   families-told : TellsFamilies (with_next t pid ran).families (entries ++ entry.Slice pid ran ∷ [])
   families-told =
       let f = i.families in
@@ -130,6 +133,7 @@ module _ (t : Tables) (entries : List Record) (pid ran : ℕ) (i : Indexes t ent
         processes = f.processes ∙ sym (greatest-snoc 0 entries (entry.Slice pid ran));
         as_many_lives = f.as_many_lives;
         as_many_runs = simp length-set f.as_many_runs;
+        as_many_foundings = f.as_many_foundings;
         groups = λ q. f.groups q ∙ ap (λ (groups : Groups). groups q) (sym (groups-snoc (λ p. None) entries (entry.Slice pid ran)));
         founded = f.founded;
         no_zero = f.no_zero;
@@ -147,11 +151,9 @@ module _ (t : Tables) (entries : List Record) (pid ran : ℕ) (i : Indexes t ent
         founders = f.founders ∙ sym (
             ap (λ (groups : Groups). filter (λ q. is_number q (groups q)) (range_with_len 1 (greatest (entries ++ entry.Slice pid ran ∷ [])))) (groups-snoc (λ p. None) entries (entry.Slice pid ran))
             ∙ ap (λ (n : ℕ). filter (λ q. is_number q (group_of entries q)) (range_with_len 1 n)) (greatest-snoc 0 entries (entry.Slice pid ran)));
+        foundings = λ h. f.foundings h ∙ ap (position (founds h)) (sym no-event);
         made = made-snoc (length t.families.groups) pid ran entries f.made within;
       })
-
-  no-event : events (entries ++ entry.Slice pid ran ∷ []) ≡ events entries
-  no-event = events-snoc entries (entry.Slice pid ran) ∙ append-nil (events entries)
 
   pub next-slice : Indexes (with_next t pid ran) (entries ++ entry.Slice pid ran ∷ [])
   next-slice = record {

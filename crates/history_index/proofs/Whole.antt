@@ -9,7 +9,7 @@ use Rattle.arn_base.specs.declared.records.Record.{Record}
 use Rattle.arn_base.specs.declared.records.Record.TheVariants as entry
 use Rattle.acts_model.specs.Records.{is_event, event_len, process_of, life_told, lives_after, LifeChange, BeginsLife, EndsLife, NoLife}
 use Rattle.history_model.specs.Broken.{Behind, Nowhere, ASlice, ADelivery, behind_record, cant_follow, greatest}
-use Rattle.history_model.specs.Events.{events}
+use Rattle.history_model.specs.Events.{events, how_many}
 use Rattle.history_model.specs.Groups.{group_of}
 use Rattle.history_model.specs.Moments.{total, lives_at}
 use Rattle.history_model.specs.Names.{is_boot, is_booted}
@@ -21,6 +21,7 @@ use Rattle.history_index.specs.Lookups.{moment_in, places_from, moments_from}
 use Rattle.history_index.specs.Tables.{Tables}
 use Rattle.history_index.proofs.Snoc.{total-snoc, behind-snoc, greatest-snoc, begin-snoc, events-snoc, places-snoc, moments-snoc, stands-snoc}
 use Rattle.history_index.proofs.Lives.{lives-snoc}
+use Rattle.history_index.proofs.Lookups as lookups
 use Rattle.history_index.proofs.NextSlice.{next-slice}
 use Rattle.history_index.proofs.NextEvent.{IsQuiet, MakesNone, MakesNext, lives-ended, push-lives, begun-other, what-makes}
 use Rattle.history_index.proofs.WithEvent.{plain, with-lives, stays-told, next-told}
@@ -53,10 +54,16 @@ quiet-zero (EndsLife p) q quiet = if-false (p == q)
 quiet-zero NoLife q quiet = refl
 
 module _ (t : Tables) (entries : List Record) (e : Record) (i : Indexes t entries) (is : is_event e ≡ true) (stands : cant_follow entries e ≡ false) where
+  kept-event : events (entries ++ e ∷ []) ≡ events entries ++ e ∷ []
+  kept-event = events-snoc entries e ∙ rw is refl
+
+  many-events : length t.events ≡ how_many entries
+  many-events = lookups.events-told t entries i
+
   families-none : MakesNone t.families (group_of entries) (greatest entries) e → TellsFamilies (with_event t e).families (entries ++ e ∷ [])
   families-none m =
       rw m.born (with-lives t.families (ended_by (life_told e)) (entries ++ e ∷ [])
-      (stays-told t.families entries e (plain e is) i.families m.groups (greatest-snoc 0 entries e ∙ m.greatest))
+      (stays-told t.families entries e (plain e is) i.families kept-event m.founds m.groups (greatest-snoc 0 entries e ∙ m.greatest))
       (lives-ended t.families (life_told e) 0 m.life ∙ ap (lives_after (life_told e) 0) i.families.no_zero ∙ quiet-zero (life_told e) 0 m.life)
       (λ q. lives-ended t.families (life_told e) q m.life ∙ ap (lives_after (life_told e) q) (i.families.lives q) ∙ sym (lives-snoc entries e q)))
 
@@ -65,8 +72,8 @@ module _ (t : Tables) (entries : List Record) (e : Record) (i : Indexes t entrie
       let f = t.families in
       let next : length f.lives ≡ greatest entries + 1 = omega (arith, i.families.as_many_lives, i.families.processes) in
       let apart : length f.lives ≢ 0 = λ h. absurd (omega arith) in
-      rw (m.born, m.life) (with-lives (with_process f g) None (entries ++ e ∷ [])
-      (next-told f entries e g (plain e is) i.families m.groups (greatest-snoc 0 entries e ∙ m.greatest) m.founded)
+      rw (m.born, m.life) (with-lives (with_process f (length t.events) g) None (entries ++ e ∷ [])
+      (next-told f (length t.events) entries e g (plain e is) i.families many-events kept-event m.founds m.groups (greatest-snoc 0 entries e ∙ m.greatest) m.founded)
       (begun-other f.lives 0 apart ∙ i.families.no_zero)
       (λ q.
       push-lives f.lives q
@@ -92,9 +99,6 @@ module _ (t : Tables) (entries : List Record) (e : Record) (i : Indexes t entrie
         | inl m ↦ omega (arith, none, many, snoc, m.greatest, i.families.processes)
         | inr m ↦ absurd (omega (arith, none, i.families.processes, m.1.booted both.1))
       ]
-
-  kept-event : events (entries ++ e ∷ []) ≡ events entries ++ e ∷ []
-  kept-event = events-snoc entries e ∙ rw is refl
 
   events-told : TellsEvents (with_event t e) (entries ++ e ∷ [])
   events-told = record {

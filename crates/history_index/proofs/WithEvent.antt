@@ -1,14 +1,15 @@
 -- What one more event leaves of the tables of processes and groups.
-use Rattle.std.proofs.Common.{◌≡◌, ◌≢◌, inl, inr, ℕ, zero, suc, ◌+◌, ◌≤◌, ◌==◌, Bool, true, false, if◌then◌else◌, List, [], ◌∷◌, ◌++◌, length, filter, slice_get, Option, Some, None, IfSome, refl, ap, sym, ◌∙◌, arith, length-append, length-set, add-zero}
+use Rattle.std.proofs.Common.{◌≡◌, ◌≢◌, inl, inr, ℕ, zero, suc, ◌+◌, ◌≤◌, ◌==◌, ◌&&◌, Bool, true, false, if◌then◌else◌, List, [], ◌∷◌, ◌++◌, length, filter, slice_get, Option, Some, None, IfSome, refl, ap, sym, ◌∙◌, arith, length-append, length-set, add-zero}
 use Rattle.std.specs.List.{range_with_len}
 use Rattle.std.proofs.lemmas.Bool.Decides.{eqb_tells}
 use Rattle.std.proofs.lemmas.List.{append-nil}
 use Rattle.std.proofs.lemmas.List.Elements.{filter-append}
 use Rattle.arn_base.specs.declared.records.Record.{Record}
 use Rattle.arn_base.specs.declared.records.Record.TheVariants as entry
+use Rattle.parts_model.specs.Numbered.{nth}
 use Rattle.acts_model.specs.Records.{is_event}
 use Rattle.history_model.specs.Broken.{greatest}
-use Rattle.history_model.specs.Events.{how_many}
+use Rattle.history_model.specs.Events.{events, how_many}
 use Rattle.history_model.specs.Groups.{Groups, groups_told, group_of, count_from, count_of, is_number, ran_for}
 use Rattle.history_model.specs.Moments.{ran_in, total, lives_at, changed}
 use Rattle.replay_groups.specs.Groups.{group_at}
@@ -16,8 +17,9 @@ use Rattle.history_index.specs.declared.slices.SliceAt.{SliceAt}
 use Rattle.history_index.specs.After.{with_end}
 use Rattle.history_index.specs.Families.{Families, lives_in, run_in, with_process}
 use Rattle.history_index.specs.Indexes.{TellsFamilies, AreMade, IsFounded}
-use Rattle.history_index.specs.Lookups.{begin_after, slice_in, slices_from, slices_of, groups_in}
+use Rattle.history_index.specs.Lookups.{begin_after, slice_in, slices_from, slices_of, groups_in, founds, founding_event}
 use Rattle.history_index.specs.Runs.{Run, no_run}
+use Rattle.history_index.proofs.Foundings.{founding-push, founding-stays}
 use Rattle.history_index.proofs.Snoc.{groups-snoc, slices-snoc, count-snoc}
 
 -- an event is no slice
@@ -109,11 +111,13 @@ pub record TellsGroups (f : Families) (entries : List Record) : Type 0 where
   pub processes : length f.groups ≡ greatest entries
   pub as_many_lives : length f.lives ≡ length f.groups + 1
   pub as_many_runs : length f.runs ≡ length f.groups + 1
+  pub as_many_foundings : length f.foundings ≡ length f.groups + 1
   pub groups : (pid : ℕ) → group_at f.groups pid ≡ group_of entries pid
   pub founded : (i : ℕ) → IfSome (slice_get f.groups i) (IsFounded (length f.groups))
   pub counts : (group : ℕ) → (run_in f.runs group).count ≡ count_of entries group
   pub slices : (group : ℕ) → (run_in f.runs group).slices ≡ slices_of entries group
   pub founders : f.founders ≡ groups_in entries
+  pub foundings : (group : ℕ) → nth f.foundings group ≡ founding_event entries group
   pub made : AreMade (length f.groups) entries
 
 -- with who lives
@@ -122,6 +126,8 @@ with-lives f None entries g zero-lives told = record {
   processes = g.processes;
   as_many_lives = g.as_many_lives;
   as_many_runs = g.as_many_runs;
+  as_many_foundings = g.as_many_foundings;
+  foundings = g.foundings;
   groups = g.groups;
   founded = g.founded;
   no_zero = zero-lives;
@@ -135,6 +141,8 @@ with-lives f (Some pid) entries g zero-lives told = record {
   processes = g.processes;
   as_many_lives = simp length-set g.as_many_lives;
   as_many_runs = g.as_many_runs;
+  as_many_foundings = g.as_many_foundings;
+  foundings = g.foundings;
   groups = g.groups;
   founded = g.founded;
   no_zero = zero-lives;
@@ -146,13 +154,15 @@ with-lives f (Some pid) entries g zero-lives told = record {
 }
 
 -- an event that makes no process
-pub stays-told : (f : Families) (entries : List Record) (e : Record) → IsPlain e → TellsFamilies f entries → groups_told e (group_of entries) ≡ group_of entries → greatest (entries ++ e ∷ []) ≡ greatest entries → TellsGroups f (entries ++ e ∷ [])
-stays-told f entries e p t same stays =
+pub stays-told : (f : Families) (entries : List Record) (e : Record) → IsPlain e → TellsFamilies f entries → events (entries ++ e ∷ []) ≡ events entries ++ e ∷ [] → ((h : ℕ) → founds h e ≡ false) → groups_told e (group_of entries) ≡ group_of entries → greatest (entries ++ e ∷ []) ≡ greatest entries → TellsGroups f (entries ++ e ∷ [])
+stays-told f entries e p t kept none same stays =
     let each : (pid : ℕ) → pid ≤ length f.groups → groups_told e (group_of entries) pid ≡ group_of entries pid = λ pid h. ap (λ (groups : Groups). groups pid) same in
     record {
       processes = t.processes ∙ sym stays;
       as_many_lives = t.as_many_lives;
       as_many_runs = t.as_many_runs;
+      as_many_foundings = t.as_many_foundings;
+      foundings = λ h. t.foundings h ∙ sym (founding-stays entries e h kept (none h));
       groups = λ q. t.groups q ∙ sym (ap (λ (groups : Groups). groups q) (groups-snoc (λ p. None) entries e ∙ same));
       founded = t.founded;
       counts = λ g. t.counts g ∙ sym (counts-kept (length f.groups) entries e p t.made each g);
@@ -213,8 +223,8 @@ if-list true xs x = refl
 if-list false xs x = sym (append-nil xs)
 
 -- an event that makes the next process, of a group
-pub next-told : (f : Families) (entries : List Record) (e : Record) (g : ℕ) → IsPlain e → TellsFamilies f entries → groups_told e (group_of entries) ≡ changed (group_of entries) (greatest entries + 1) (Some g) → greatest (entries ++ e ∷ []) ≡ greatest entries + 1 → IsFounded (greatest entries + 1) g → TellsGroups (with_process f g) (entries ++ e ∷ [])
-next-told f entries e g p t told more founded =
+pub next-told : (f : Families) (event : ℕ) (entries : List Record) (e : Record) (g : ℕ) → IsPlain e → TellsFamilies f entries → event ≡ how_many entries → events (entries ++ e ∷ []) ≡ events entries ++ e ∷ [] → ((h : ℕ) → founds h e ≡ ((h == greatest entries + 1) && (g == greatest entries + 1))) → groups_told e (group_of entries) ≡ changed (group_of entries) (greatest entries + 1) (Some g) → greatest (entries ++ e ∷ []) ≡ greatest entries + 1 → IsFounded (greatest entries + 1) g → TellsGroups (with_process f event g) (entries ++ e ∷ [])
+next-told f event entries e g p t number kept first told more founded =
     let n = length f.groups in
     let processes = t.processes in
     let each : (pid : ℕ) → pid ≤ n → groups_told e (group_of entries) pid ≡ group_of entries pid = λ pid h.
@@ -227,6 +237,10 @@ next-told f entries e g p t told more founded =
       processes = longer ∙ ap (λ (k : ℕ). k + 1) processes ∙ sym more;
       as_many_lives = length-append f.lives (true ∷ []) ∙ ap (λ (k : ℕ). k + 1) (t.as_many_lives ∙ sym longer);
       as_many_runs = length-append f.runs (no_run ∷ []) ∙ ap (λ (k : ℕ). k + 1) (t.as_many_runs ∙ sym longer);
+      as_many_foundings = length-append f.foundings ((if g == length f.lives then Some event else None) ∷ []) ∙ ap (λ (k : ℕ). k + 1) (t.as_many_foundings ∙ sym longer);
+      foundings = λ h.
+          founding-push f.foundings (length f.lives) event g h entries e (t.as_many_foundings ∙ sym t.as_many_lives) number kept t.foundings
+          (first h ∙ ap (λ (k : ℕ). (h == k) && (g == k)) (sym next));
       groups = λ q.
           group-push f.groups g q
           ∙ ap (λ (k : ℕ). if q == k + 1 then Some g else group_at f.groups q) processes

@@ -27,10 +27,10 @@ born_group f (entry.Boot name give) = Some (length f.lives)
 born_group f (entry.Call pid number result more) = if (number == FORK) && is_success result then child_group f pid more else None
 born_group f other = None
 
--- a process is made, or none
-abbrev pub with_born : Families → Option ℕ → Families
-with_born f None = f
-with_born f (Some group) = with_process f group
+-- a process is made by an event, or none
+abbrev pub with_born : Families → ℕ → Option ℕ → Families
+with_born f event None = f
+with_born f event (Some group) = with_process f event group
 
 -- the process that ends, if one does
 abbrev pub ended_by : LifeChange → Option ℕ
@@ -56,7 +56,7 @@ with_event t e =
       begins = t.begins;
       is_booted = t.is_booted || is_boot e;
       at_hand = behind_record t.at_hand e;
-      families = with_end (with_born t.families (born_group t.families e)) (ended_by (life_told e));
+      families = with_end (with_born t.families (length t.events) (born_group t.families e)) (ended_by (life_told e));
       events = t.events ++ event_of t e ∷ [];
     }
 

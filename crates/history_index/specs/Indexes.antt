@@ -3,6 +3,7 @@ use Rattle.std.specs.Prelude.{◌≡◌, ℕ, ◌+◌, ◌<◌, ◌≤◌, ◌^�
 use Rattle.std.specs.List.{All}
 use Rattle.arn_base.specs.declared.records.Record.{Record}
 use Rattle.arn_base.specs.declared.records.Record.TheVariants as entry
+use Rattle.parts_model.specs.Numbered.{nth}
 use Rattle.acts_model.specs.Records.{event_len, process_of}
 use Rattle.history_model.specs.Broken.{Behind, Nowhere, ASlice, ADelivery, behind, first_broken, greatest}
 use Rattle.history_model.specs.Events.{events}
@@ -11,7 +12,7 @@ use Rattle.history_model.specs.Moments.{lives_at, total}
 use Rattle.history_model.specs.Names.{is_booted}
 use Rattle.replay_groups.specs.Groups.{group_at}
 use Rattle.history_index.specs.Families.{Families, lives_in, run_in}
-use Rattle.history_index.specs.Lookups.{begin_after, places_from, moments_from, slices_of, groups_in}
+use Rattle.history_index.specs.Lookups.{begin_after, places_from, moments_from, slices_of, groups_in, founding_event}
 use Rattle.history_index.specs.Tables.{Tables}
 
 -- so few records, with so few bytes each, that numbers of 32 bits count them
@@ -45,6 +46,7 @@ pub record TellsFamilies (f : Families) (entries : List Record) : Type 0 where
   pub processes : length f.groups ≡ greatest entries
   pub as_many_lives : length f.lives ≡ length f.groups + 1
   pub as_many_runs : length f.runs ≡ length f.groups + 1
+  pub as_many_foundings : length f.foundings ≡ length f.groups + 1
   pub groups : (pid : ℕ) → group_at f.groups pid ≡ group_of entries pid
   pub founded : (i : ℕ) → IfSome (slice_get f.groups i) (IsFounded (length f.groups))
   pub no_zero : lives_in f.lives 0 ≡ false
@@ -52,6 +54,7 @@ pub record TellsFamilies (f : Families) (entries : List Record) : Type 0 where
   pub counts : (group : ℕ) → (run_in f.runs group).count ≡ count_of entries group
   pub slices : (group : ℕ) → (run_in f.runs group).slices ≡ slices_of entries group
   pub founders : f.founders ≡ groups_in entries
+  pub foundings : (group : ℕ) → nth f.foundings group ≡ founding_event entries group
   pub made : AreMade (length f.groups) entries
 
 -- what is kept of events

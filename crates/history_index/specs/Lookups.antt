@@ -1,11 +1,12 @@
 -- Where events and slices stand among the records of a history, and which processes and groups there are.
-use Rattle.std.specs.Prelude.{ℕ, ◌+◌, Bool, if◌then◌else◌, List, [], ◌∷◌, filter, Option, slice_get}
+use Rattle.std.specs.Prelude.{ℕ, ◌+◌, Bool, if◌then◌else◌, List, [], ◌∷◌, filter, Option, None, position, slice_get}
 use Rattle.std.specs.List.{range_with_len}
 use Rattle.arn_base.specs.declared.records.Record.{Record}
 use Rattle.arn_base.specs.declared.records.Record.TheVariants as entry
 use Rattle.acts_model.specs.Records.{is_event}
 use Rattle.history_model.specs.Broken.{greatest}
-use Rattle.history_model.specs.Groups.{group_of, is_number}
+use Rattle.history_model.specs.Events.{events}
+use Rattle.history_model.specs.Groups.{group_of, groups_told, is_number}
 use Rattle.history_model.specs.Moments.{ran_in}
 use Rattle.history_index.specs.declared.slices.SliceAt.{SliceAt}
 
@@ -73,3 +74,11 @@ members_of entries group = filter (λ pid. is_number group (group_of entries pid
 -- the groups, in order of number: each has the number of the process that started it
 abbrev pub groups_in : List Record → List ℕ
 groups_in entries = filter (λ pid. is_number pid (group_of entries pid)) (processes_in entries)
+
+-- whether a record by itself makes the first process of a group
+abbrev pub founds : ℕ → Record → Bool
+founds group e = is_number group (groups_told e (λ pid. None) group)
+
+-- the event by which a group begins: the boot, or a fork of which it has the child's number
+abbrev pub founding_event : List Record → ℕ → Option ℕ
+founding_event entries group = position (founds group) (events entries)

@@ -2,6 +2,7 @@
 ghost use Rattle.std.specs.Prelude.{◌≡◌, ◌≢◌, ◌+◌, ◌<◌, ◌≤◌, ◌^◌, ℕ, length, Some, OnOk, OnErr, IfOk, IfSome, IfNone};
 ghost use Rattle.replay_groups.specs.Groups as groups;
 ghost use Rattle.history_index.specs.Families as families;
+ghost use Rattle.parts_model.specs.Numbered.{nth};
 ghost use Rattle.acts_model.specs.Records.{life_told};
 ghost use Rattle.history_index.specs.After as after;
 ghost use Rattle.history_index.specs.Runs.{no_run};
@@ -21,6 +22,7 @@ pub struct Families {
     founders: Vec<u32>,
     lives: Vec<bool>,
     runs: Vec<Run>,
+    foundings: Vec<Option<u64>>,
 }
 
 impl Model for Families {
@@ -34,6 +36,7 @@ impl Model for Families {
       groups = s.groups.groups;
       lives = s.lives.items;
       runs = s.runs.items;
+      foundings = s.foundings.items;
       founders = s.founders.items;
     } };
 
@@ -71,11 +74,14 @@ impl Families {
         lives.push(false)?;
         let mut runs = Vec::new(alloc);
         runs.push(Run::new(alloc))?;
+        let mut foundings = Vec::new(alloc);
+        foundings.push(None)?;
         Ok(Families {
             groups: Groups::new(alloc),
             founders: Vec::new(alloc),
             lives,
             runs,
+            foundings,
         })
     }
 
@@ -96,6 +102,16 @@ impl Families {
         ensures { result.now ≡ self.now.founders }
     {
         self.founders.as_slice()
+    }
+
+    /// The event by which a group begins.
+    pub fn founding(&self, group: u32) -> Option<u64>
+        ensures { result ≡ nth self.now.foundings group }
+    {
+        match self.foundings.get(group as usize) {
+            Some(founding) => *founding,
+            None => None,
+        }
     }
 
     /// The number of the next process.
@@ -155,11 +171,12 @@ impl Families {
             self.lives[pid as usize] = false;
         }
     }
-    /// Adds a process, which starts the group where that has its number.
-    fn add(&mut self, pid: u32, group: u32) -> Result<(), NoMemory>
+
+    /// Adds a process that an event makes, which starts the group where that has its number.
+    fn add(&mut self, event: u64, pid: u32, group: u32) -> Result<(), NoMemory>
         requires next { pid ≡ length self.old.lives }
         requires started { group ≢ pid → groups.IsStarted self.old.groups group }
-        ensures ok { OnOk result (self.new ≡ families.with_process self.old group) }
+        ensures ok { OnOk result (self.new ≡ families.with_process self.old event group) }
         ensures err { OnErr result (self.new ≡ self.old) }
         ensures grows { length self.new.lives ≤ length self.old.lives + 1 }
     {
@@ -167,6 +184,7 @@ impl Families {
         self.founders.reserve(1)?;
         self.lives.reserve(1)?;
         self.runs.reserve(1)?;
+        self.foundings.reserve(1)?;
         let run = Run::new(*self.runs.allocator());
         if group == pid {
             self.groups.start(pid)?;
@@ -176,6 +194,8 @@ impl Families {
         }
         self.lives.push(true)?;
         self.runs.push(run)?;
+        self.foundings
+            .push(if group == pid { Some(event) } else { None })?;
         Ok(())
     }
 
@@ -211,28 +231,29 @@ impl Families {
         }
     }
 
-    /// Makes the process that a record makes.
-    fn bear(&mut self, entry: &Record) -> Result<(), NoMemory>
+    /// Makes the process that the record of an event makes.
+    fn bear(&mut self, event: u64, entry: &Record) -> Result<(), NoMemory>
         requires few { length self.old.lives < 2 ^ 32 }
-        ensures ok { OnOk result (self.new ≡ after.with_born self.old (after.born_group self.old entry.now)) }
+        ensures ok { OnOk result (self.new ≡ after.with_born self.old event
+            (after.born_group self.old entry.now)) }
         ensures err { OnErr result (self.new ≡ self.old) }
         ensures grows { length self.new.lives ≤ length self.old.lives + 1 }
     {
         match self.born(entry) {
-            Some(group) => self.add(self.next() as u32, group),
+            Some(group) => self.add(event, self.next() as u32, group),
             None => Ok(()),
         }
     }
 
     /// Takes what an event does to processes and groups.
-    pub fn tell(&mut self, entry: &Record) -> Result<(), NoMemory>
+    pub fn tell(&mut self, event: u64, entry: &Record) -> Result<(), NoMemory>
         requires few { length self.old.lives < 2 ^ 32 }
-        ensures ok { OnOk result (self.new ≡ after.with_end (after.with_born self.old
+        ensures ok { OnOk result (self.new ≡ after.with_end (after.with_born self.old event
             (after.born_group self.old entry.now)) (after.ended_by (life_told entry.now))) }
         ensures err { OnErr result (self.new ≡ self.old) }
         ensures grows { length self.new.lives ≤ length self.old.lives + 1 }
     {
-        self.bear(entry)?;
+        self.bear(event, entry)?;
         if let Some(pid) = told::ended(entry) {
             self.end(pid);
         }

@@ -105,7 +105,7 @@ impl Index {
     {
         let event = self.event_of(entry);
         self.events.reserve(1)?;
-        self.families.tell(entry)?;
+        self.families.tell(self.events.len() as u64, entry)?;
         self.events.push(event)?;
         self.is_booted = self.is_booted || told::is_boot(entry);
         self.at_hand = self.at_hand.after(entry);
@@ -250,6 +250,14 @@ impl Index {
         ensures { (entries : List Record) → Indexes self.now entries → result.now ≡ lookups.groups_in entries }
     {
         self.families().founders()
+    }
+
+    /// The event by which a group begins: the boot, or the fork of its first process.
+    pub fn founding_event(&self, group: u32) -> Option<u64>
+        ensures { (entries : List Record) → Indexes self.now entries
+            → result ≡ lookups.founding_event entries group }
+    {
+        self.families().founding(group)
     }
 
     /// The processes of a group, in order of number.

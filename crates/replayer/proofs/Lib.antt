@@ -1,10 +1,16 @@
+pub mod BySlices
 pub mod Children
 pub mod Events
+pub mod FirstOf
 pub mod Firsts
+pub mod Living
 pub mod Loops
 pub mod MembersNext
 pub mod Numbered
+pub mod Own
+pub mod Passing
 pub mod Ready
 pub mod Slices
+pub mod Sound
 pub mod Told
 pub mod Unbroken

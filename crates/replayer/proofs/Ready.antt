@@ -19,7 +19,7 @@ use Rattle.replayer.specs.Replays.{Replays}
 use Rattle.replayer.specs.declared.records.Replay.{Replay}
 use Rattle.replayer.proofs.Firsts.{first-moves, first-numbered}
 use Rattle.replayer.proofs.Loops.{further, greatest-snoc, later-explains, replayed-snoc}
-use Rattle.replayer.proofs.Unbroken.{can-take}
+use Rattle.replayer.proofs.Unbroken.{can-take, greatest-few}
 
 -- it has taken so many records
 pub record Ready {A : Type 0} (l : Listener A) (x : A) (n : ℕ) (g moment_until : ℕ) (entries : List Record) (i : ℕ) (r : Replay) (y : A) (m : ℕ) : Type 0 where
@@ -140,3 +140,11 @@ module _ {A : Type 0} (l : Listener A) (x y : A) (n m g until : ℕ) (entries : 
         let t : alone.Standing = replayed g until at_first (take i entries) in
         let reaches = ready.moves.reaches in
         subst (λ (s : alone.Standing). Explains (alone.settled s) err) whole (fails t reaches.own' ready.moves.mirrors reaches.makes reaches.stands)
+
+    -- each process has a number of 32 bits
+    pub ready-few : first_broken entries ≡ None → length entries < 2 ^ 32 → length r.members.items ≤ 2 ^ 32
+    ready-few stands few =
+        let all : greatest (take i entries) ≡ greatest (take (length entries) entries) = ap greatest (take_all i entries past ∙ sym (take_all (length entries) entries (omega arith))) in
+        let fewer : greatest (take (length entries) entries) ≤ 0 + length entries = greatest-few [] entries (length entries) 0 stands (omega arith) in
+        let next = ready.next in
+        omega (arith, next, all, fewer, few)

@@ -40,16 +40,16 @@ can-follow before (x ∷ after) (suc i) e none lt is =
     ∙ can-follow (before ++ x ∷ []) after i e first.1 (omega arith) is
 
 -- the tests of a record that can follow
-record Follows (before : List Record) (e : Record) : Type 0 where
-  comes : broken.comes_wrong before e ≡ false
-  process : broken.lacks_process before e ≡ false
-  slice : broken.lacks_slice before e ≡ false
-  origins : not (broken.are_origins before (give_of e)) ≡ false
-  blocks : has_blocks_wrong (start_in e) ≡ false
-  numbers : misnumbers before (child_in e) ≡ false
-  start : broken.misplaces_start e ≡ false
+pub record Follows (before : List Record) (e : Record) : Type 0 where
+  pub comes : broken.comes_wrong before e ≡ false
+  pub process : broken.lacks_process before e ≡ false
+  pub slice : broken.lacks_slice before e ≡ false
+  pub origins : not (broken.are_origins before (give_of e)) ≡ false
+  pub blocks : has_blocks_wrong (start_in e) ≡ false
+  pub numbers : misnumbers before (child_in e) ≡ false
+  pub start : broken.misplaces_start e ≡ false
 
-tests : (before : List Record) (e : Record) → cant_follow before e ≡ false → Follows before e
+pub tests : (before : List Record) (e : Record) → cant_follow before e ≡ false → Follows before e
 tests before e can =
     let a = or_parts _ _ can in
     let b = or_parts _ _ a.1 in
@@ -166,7 +166,7 @@ after-few before (entry.Slice pid ran) n is f = omega arith
 after-few before (entry.Signal pid signal cut handler) n is f = omega arith
 after-few before (entry.End pid status) n is f = omega arith
 
-greatest-few : (before after : List Record) (i m : ℕ) → broken_from before after ≡ None → greatest before ≤ m → greatest (before ++ take i after) ≤ m + i
+pub greatest-few : (before after : List Record) (i m : ℕ) → broken_from before after ≡ None → greatest before ≤ m → greatest (before ++ take i after) ≤ m + i
 greatest-few before [] i m none few = let is = ap greatest (ap (λ (es : List Record). before ++ es) (take-nil i) ∙ append-nil before) in omega (arith, is, few)
 greatest-few before (x ∷ after) zero m none few = let is = ap greatest (append-nil before) in omega (arith, is, few)
 greatest-few before (x ∷ after) (suc i) m none few =
@@ -213,3 +213,10 @@ can-take entries i next e none few lt is numbered =
       few = omega (arith, numbered, fewer, few, lt);
       start = start-inside (start_in e) f.blocks;
     }
+
+-- the boot comes before any process, and each child is the next
+pub boot-none : (entries : List Record) (i : ℕ) (e : Record) → first_broken entries ≡ None → Follows (take i entries) e → is_boot e ≡ true → greatest (take i entries) ≡ 0
+boot-none entries i e none f boot = files-greatest (take i entries) 0 (unbooted-files [] entries i tt none (boot-first (take i entries) e f boot))
+
+pub child-next : (before : List Record) (e : Record) → Follows before e → IfSome (child_in e) (λ (c : ℕ). c ≡ greatest before + 1)
+child-next before e f = number-is (greatest before) (child_in e) before refl f.numbers

@@ -2,11 +2,13 @@
 //! groups.
 #![tactic(auto)]
 
+mod law;
 mod members;
 mod records;
 mod state;
 #[cfg(test)]
 mod tests;
 
+pub use law::{alone_by_slices, others_are_counted, settles_early};
 pub use replay_steps::{Disagrees, QueryError, ReplayError};
 pub use state::{GroupState, replay};

@@ -16,6 +16,7 @@ ghost use Rattle.history_model.specs.Alone.{Own, Makes};
 ghost use Rattle.history_model.specs.Names.{is_boot};
 ghost use Rattle.replay_steps.specs.Notices.{Listener};
 ghost use Rattle.replay_steps.specs.Standing.{Explains, GainsOnly, IsStanding, Reaches, Stands};
+ghost use Rattle.replayer.specs.Lives.{live_in};
 ghost use Rattle.replayer.specs.Members.{is_in, members_after};
 ghost use Rattle.replayer.specs.Mirrors.{CanTake, Counts, IsFirst, IsNumbered, Mirrors, Moves, born, last_made};
 ghost use Rattle.replayer.specs.Replays.{Replays};
@@ -116,6 +117,21 @@ impl Replay {
             }
             None => Err(BadAddress),
         }
+    }
+
+    /// The numbers of the live processes, rising.
+    pub fn live(&self, alloc: Global) -> Result<Vec<u32>, NoMemory>
+        requires numbered { IsNumbered self.now }
+        requires few { length self.now.members.items ≤ 2 ^ 32 }
+        ensures { IfOk result (λ live. live.items ≡ live_in self.now.bodies) }
+    {
+        let mut live = Vec::new(alloc);
+        for pid in 0..self.members.len() {
+            if self.bodies.is_live(pid as u32) {
+                live.push(pid as u32)?;
+            }
+        }
+        Ok(live)
     }
 
     // The slice at hand.
@@ -467,6 +483,8 @@ pub fn replay_all<O: Observer, L: Ledger>(
     ensures ok { IfOk result (λ made. Replays (record { begins = O.begins; runs = O.runs; hears = O.hears })
         observer.old steps.old (alone.alone entries.now group until)
         made.bodies observer.new steps.new) }
+    ensures numbered { IfOk result IsNumbered }
+    ensures few { IfOk result (λ made. length made.members.items ≤ 2 ^ 32) }
     ensures err { IfErr result (Explains (alone.alone entries.now group until)) }
 {
     let mut replay = Replay::new(alloc, group, until)?;

@@ -6,6 +6,7 @@ ghost use Rattle.history_index.specs.Indexes.{AreCountable, Indexes};
 ghost use Rattle.history_model.specs.Alone as alone;
 ghost use Rattle.replay_steps.specs.Notices.{Listener};
 ghost use Rattle.replay_steps.specs.Standing.{Explains};
+ghost use Rattle.replayer.specs.Lives.{live_in};
 ghost use Rattle.replayer.specs.Replays.{Replays};
 
 use crate::ReplayError;
@@ -21,6 +22,7 @@ use std::sync::ledger::Ledger;
 #[derive(Drop)]
 pub struct GroupState {
     replay: Replay,
+    live: Vec<u32>,
 }
 
 impl Model for GroupState {
@@ -28,10 +30,22 @@ impl Model for GroupState {
 
     ghost Value = { Guests };
 
+    ghost use Rattle.std.specs.Prelude.{◌≡◌};
+    ghost use Rattle.replayer.specs.Lives.{live_in};
+
     ghost view = { λ s. s.replay.bodies };
+
+    ghost invariant = { λ s. s.live.items ≡ live_in s.replay.bodies };
 }
 
 impl GroupState {
+    /// The numbers of the members that live, rising.
+    pub fn live(&self) -> &[u32]
+        ensures { result.now ≡ live_in self.now }
+    {
+        self.live.as_slice()
+    }
+
     /// The registers of a member, if it lives.
     pub fn cpu(&self, pid: u32) -> Option<&Cpu>
         ensures { option_map (λ cpu. cpu.now) result ≡
@@ -71,5 +85,6 @@ pub fn replay<O: Observer, L: Ledger>(
     ensures err { IfErr result (Explains (alone.alone entries.now group until)) }
 {
     let replay = replay_all(alloc, entries, group, until, observer, steps)?;
-    Ok(GroupState { replay })
+    let live = replay.live(alloc)?;
+    Ok(GroupState { replay, live })
 }

@@ -1,5 +1,6 @@
-use Rattle.std.proofs.Common.{rules}
-use Rattle.replayer.proofs.Ready.{ready-can, ready-events, ready-fails, ready-first, ready-next, ready-settle-fails, ready-settles}
+use Rattle.std.proofs.Common.{◌≡◌, length, ap, arith, rules}
+use Rattle.replayer.specs.declared.records.Replay.{Replay}
+use Rattle.replayer.proofs.Ready.{ready-can, ready-events, ready-fails, ready-few, ready-first, ready-next, ready-settle-fails, ready-settles}
 use Rattle.replayer.proofs.records.replay_all.Goals as goal
 
 pub loop-entry-init : goal.loop-entry-init
@@ -40,3 +41,11 @@ pub returns-clause-ok : goal.returns-clause-ok
 returns-clause-ok g c =
     ready-settles _ c.args.observer.now c.loop-entry.observer c.args.steps.now c.loop-entry.steps c.args.group c.args.until c.args.entries.now c.loop-entry.entry-index c.loop-entry.replay c.loop-entry.invariant
     c.loop-entry-test.false c.settle.new.self.bodies c.settle.new.observer c.settle.new.steps c.in_ok-settle.ensures.ok
+
+pub returns-clause-few : goal.returns-clause-few
+returns-clause-few g c =
+    let few =
+    ready-few _ c.args.observer.now c.loop-entry.observer c.args.steps.now c.loop-entry.steps c.args.group c.args.until c.args.entries.now c.loop-entry.entry-index c.loop-entry.replay c.loop-entry.invariant
+    c.loop-entry-test.false c.requires.stands c.requires.few in
+    let same : length c.settle.new.self.members.items ≡ length c.loop-entry.replay.members.items = ap (λ (r : Replay). length r.members.items) c.in_ok-settle.ensures.same in
+    omega (arith, few, same)
