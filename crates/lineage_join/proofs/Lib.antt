@@ -1,0 +1,11 @@
+pub mod Earlier
+pub mod Unfolds
+pub mod Rises
+pub mod Ranked
+pub mod Keys
+pub mod Records
+pub mod Hits
+pub mod Members
+pub mod Stands
+pub mod Follow
+pub mod Steps

@@ -1,0 +1,91 @@
+-- What one step does to the pairs that come.
+use Rattle.std.proofs.Common.{◌≡◌, ◌⊎◌, ◌↔◌, ℕ, ◌+◌, ◌-◌, ◌/◌, ◌%◌, nat_lt, Bool, true, false, cond, List, [], ◌∷◌, flat_map, Contains, Option, Some, None, refl, sym, ap, subst, ◌∙◌, inl, inr}
+use Rattle.arn_base.specs.declared.records.Pair.{Pair}
+use Rattle.arn_base.specs.declared.records.Record.{Record}
+use Rattle.acts_model.specs.Records.{event_len}
+use Rattle.history_model.specs.Broken.{first_broken}
+use Rattle.history_model.specs.Events.{event_at}
+use Rattle.lineage_model.specs.Flow.{At, Byte, StartRegister, StartSlot, StartMemory}
+use Rattle.lineage_model.specs.Joined.{Reaching, is_source, origin_of, from_origin, from_item, from_event, source_byte}
+use Rattle.lineage_model.specs.Tracking.{EventByte}
+use Rattle.lineage_join.specs.declared.wait.Kind.{Kind}
+use Rattle.lineage_join.specs.declared.wait.Kind.TheVariants as kind
+use Rattle.lineage_join.specs.declared.wait.Wait.{Wait}
+use Rattle.lineage_join.specs.Fits.{AllFit}
+use Rattle.lineage_join.specs.Laws.{reaches}
+use Rattle.lineage_join.specs.Places.{start_at}
+use Rattle.lineage_join.specs.Rising.{source_of}
+use Rattle.lineage_join.specs.Waits.{from_taken, from_kind, from_wait, own_bytes, LeadsTo, Leads, HasPairs, IsFollowed, IsStepped}
+use Rattle.lineage_join.proofs.Rises.{none_in}
+use Rattle.lineage_join.proofs.Stands.{choose}
+use Rattle.lineage_join.proofs.Unfolds.{goes}
+
+-- a byte with which a child begins is none from outside
+start-none : (event len n : ℕ) (a b : Bool) (r i s j : ℕ) → source_byte event len (cond a (StartRegister r i) (cond b (StartSlot s j) (StartMemory n))) ≡ []
+start-none event len n true b r i s j = refl
+start-none event len n false true r i s j = refl
+start-none event len n false false r i s j = refl
+
+module _ (entries : List Record) (items : ℕ → At → List EventByte) (stands : first_broken entries ≡ None) (fit : AllFit entries items) where
+  abbrev all : Reaching
+  all = reaches entries items
+
+  abbrev from : Wait → List EventByte
+  from = from_wait (event_at entries) all
+
+  -- by the record, or its want
+  shown : (event : ℕ) (at : At) (o : Option Record) → event_at entries event ≡ o → all event at ≡ from_event (event_at entries) all event at (items event at) o
+  shown event at o is = goes entries items stands fit event at ∙ ap (from_event (event_at entries) all event at (items event at)) is
+
+  nothing : (event at : ℕ) (k : Kind) → event_at entries event ≡ None → from_kind (event_at entries) all event at k ≡ []
+  nothing event at kind.Received is = ap (from_taken all event at) is
+  nothing event at kind.Byte is = shown event (Byte at) None is
+  nothing event at kind.Start is = shown event (start_at at) None is
+
+  outside : (event at : ℕ) (place : At) (e : Record) → event_at entries event ≡ Some e → is_source e ≡ true → all event place ≡ source_byte event (event_len e) place
+  outside event at place e is source = shown event place (Some e) is ∙ choose (is_source e) (source_byte event (event_len e) place) (flat_map (from_item (event_at entries) all) (items event place)) source
+
+  own : (event at : ℕ) (k : Kind) (e : Record) → event_at entries event ≡ Some e → is_source e ≡ true → from_kind (event_at entries) all event at k ≡ own_bytes event (event_len e) at k
+  own event at kind.Received e is source = ap (from_taken all event at) is ∙ choose (is_source e) (source_byte event (event_len e) (Byte at)) (from_origin all (origin_of e at)) source
+  own event at kind.Byte e is source = outside event at (Byte at) e is source
+  own event at kind.Start e is source = outside event at (start_at at) e is source ∙ start-none event (event_len e) at (nat_lt at 248) (nat_lt at 496) (at / 8 + 1) (at % 8) ((at - 248) / 8 + 1) ((at - 248) % 8)
+
+  pub none-stepped : (ws : List Wait) (ps : List Pair) (w : Wait) → event_at entries w.event ≡ None → IsStepped from ws ps w ws ps
+  none-stepped ws ps w is =
+      record {
+        comes = λ p. (λ c. inl c, λ s. elim s [ inl c ↦ c | inr l ↦ absurd (none_in (source_of p) (subst (λ (x : List EventByte). Contains x (source_of p)) (nothing w.event w.at w.kind is) l.1)) ]);
+        falls = λ v c. inl c;
+      }
+
+  pub source-stepped : (ws : List Wait) (ps qs : List Pair) (w : Wait) (e : Record) → event_at entries w.event ≡ Some e → is_source e ≡ true → HasPairs ps w.byte (own_bytes w.event (event_len e) w.at w.kind) qs → IsStepped from ws ps w ws qs
+  source-stepped ws ps qs w e is source has =
+      let same : from w ≡ own_bytes w.event (event_len e) w.at w.kind = own w.event w.at w.kind e is source in
+      record {
+        comes = λ p. (
+          λ c. elim c [
+            | inl d ↦ elim ((has p).0 d) [ inl x ↦ inl (inl x) | inr x ↦ inr (x.0, subst (λ (y : List EventByte). Contains y (source_of p)) (sym same) x.1) ]
+            | inr l ↦ inl (inr l)
+          ],
+          λ s. elim s [
+            | inl c ↦ elim c [ inl d ↦ inl ((has p).1 (inl d)) | inr l ↦ inr l ]
+            | inr l ↦ inl ((has p).1 (inr (l.0, subst (λ (y : List EventByte). Contains y (source_of p)) same l.1)))
+          ],
+        );
+        falls = λ v c. inl c;
+      }
+
+  pub follow-stepped : (ws vs : List Wait) (ps : List Pair) (w : Wait) → IsFollowed from ws w vs → IsStepped from ws ps w vs ps
+  follow-stepped ws vs ps w h =
+      record {
+        comes = λ p. let leads = h.leads p in (
+          λ c. elim c [
+            | inl d ↦ inl (inl d)
+            | inr l ↦ elim (leads.0 l) [ inl x ↦ inl (inr x) | inr x ↦ inr x ]
+          ],
+          λ s. elim s [
+            | inl c ↦ elim c [ inl d ↦ inl d | inr l ↦ inr (leads.1 (inl l)) ]
+            | inr l ↦ inr (leads.1 (inr l))
+          ],
+        );
+        falls = h.falls;
+      }

@@ -1,0 +1,26 @@
+-- What is joined goes by items, and is told by its members and their order.
+use Rattle.std.specs.Prelude.{◌≡◌, ℕ, List, None}
+use Rattle.arn_base.specs.declared.records.Pair.{Pair}
+use Rattle.arn_base.specs.declared.records.Record.{Record}
+use Rattle.history_model.specs.Broken.{first_broken}
+use Rattle.history_model.specs.Events.{event_at, how_many}
+use Rattle.lineage_model.specs.Flow.{At}
+use Rattle.lineage_model.specs.Joined.{Reaching, from_event, reached}
+use Rattle.lineage_model.specs.Tracking.{EventByte}
+use Rattle.lineage_model.specs.Pairs.{pairs_from}
+use Rattle.lineage_join.specs.Fits.{AllFit}
+use Rattle.lineage_join.specs.Rising.{IsRising, ArePairs}
+
+-- what reaches a byte of an event of a history, where bytes of events have these items in their groups
+abbrev pub reaches : List Record → (ℕ → At → List EventByte) → Reaching
+reaches entries items = reached (event_at entries) items (how_many entries)
+
+-- it is what the event's items stand for
+abbrev pub GoesByItems : Type 0
+GoesByItems =
+    (entries : List Record) (items : ℕ → At → List EventByte) → first_broken entries ≡ None → AllFit entries items → (event : ℕ) (at : At)
+    → reaches entries items event at ≡ from_event (event_at entries) (reaches entries items) event at (items event at) (event_at entries event)
+
+-- a rising list of exactly these pairs is the one that answers
+abbrev pub PairsAreOne : Type 0
+PairsAreOne = (sources : ℕ → List EventByte) (len : ℕ) (pairs : List Pair) → IsRising pairs → ArePairs sources len pairs → pairs ≡ pairs_from sources 0 len
