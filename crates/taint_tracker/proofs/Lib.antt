@@ -21,3 +21,7 @@ pub mod Keeping
 pub mod Lying
 pub mod LensShown
 pub mod HeldShown
+pub mod Groups
+pub mod Changing
+pub mod TablesReceiving
+pub mod TablesForking

@@ -11,3 +11,7 @@ pub mod Events
 pub mod EventsShow
 pub mod Lens
 pub mod Held
+pub mod Groups
+pub mod Changes
+pub mod TablesReceive
+pub mod TablesFork

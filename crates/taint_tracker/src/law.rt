@@ -1,4 +1,5 @@
 // What following a group says of it.
+ghost use Rattle.taint_tracker.specs.Changes.{TablesAdd, TablesChange};
 ghost use Rattle.taint_tracker.specs.EventsShow.{BeginsShow, DeliversShow, DiesShow, ExitsShow, FaultsShow, ForksShow, FoundsShow, GivesShow, LeavesShow, ReceivesShow, ReturnsShow, SharesShow, StartsShow};
 ghost use Rattle.taint_tracker.specs.Goes.{StayApart, TracksAlone};
 ghost use Rattle.taint_tracker.specs.Held.{OthersKept, ReceivesKept};
@@ -6,6 +7,8 @@ ghost use Rattle.taint_tracker.specs.Lens.{ActsHaveLen};
 ghost use Rattle.taint_tracker.specs.Result.{ResultsShow};
 ghost use Rattle.taint_tracker.specs.RunsShow.{RunsKeep, RunsShow};
 ghost use Rattle.taint_tracker.specs.Tables.{TablesReady, TablesRun};
+ghost use Rattle.taint_tracker.specs.TablesFork.{TablesFork};
+ghost use Rattle.taint_tracker.specs.TablesReceive.{TablesReceive};
 
 /// Each step followed as it should be, all are.
 pub fn tracks_alone()
@@ -35,6 +38,30 @@ pub fn tables_ready()
 /// What tables show goes on by the instruction of a member that ran it, and they stay sound.
 pub fn tables_run()
     ensures { TablesRun }
+{}
+
+/// Where a member of sound tables changes, so does what is kept, and each segment stays in its table
+/// once.
+pub fn tables_change()
+    ensures { TablesChange }
+{}
+
+/// Where a member is added to sound tables, it begins in what is kept, and each segment stays in its
+/// table once.
+pub fn tables_add()
+    ensures { TablesAdd }
+{}
+
+/// Where a member of sound tables receives bytes, it does so in what is kept, and each segment stays
+/// in its table once.
+pub fn tables_receive()
+    ensures { TablesReceive }
+{}
+
+/// Where a member of sound tables makes a child in the group, it does so in what is kept, and each
+/// segment stays in its table once.
+pub fn tables_fork()
+    ensures { TablesFork }
 {}
 
 /// Where what is kept follows a call that moves no bytes, what is shown goes on by it, and what is

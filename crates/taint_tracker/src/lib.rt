@@ -2,13 +2,16 @@
 //! slots and memories of its members, and of its events.
 #![tactic(auto)]
 
+mod group;
 mod law;
 mod point;
+mod tracker;
 
 pub use law::{
     acts_have_len, begins_show, delivers_show, dies_show, exits_show, faults_show, forks_show,
     founds_show, gives_show, leaves_show, others_kept, receives_kept, receives_show, results_show,
-    returns_show, runs_keep, runs_show, shares_show, starts_show, stays_apart, tables_ready,
-    tables_run, tracks_alone,
+    returns_show, runs_keep, runs_show, shares_show, starts_show, stays_apart, tables_add,
+    tables_change, tables_fork, tables_ready, tables_receive, tables_run, tracks_alone,
 };
 pub use point::Point;
+pub use tracker::Tracker;

@@ -1,0 +1,127 @@
+// What is kept of a group.
+ghost use Rattle.std.specs.Prelude.{◌≡◌, length, IfOk, OnOk};
+ghost use Rattle.acts_model.specs.Transfers.{Returns};
+ghost use Rattle.taint_tracker.specs.Goes.{TakesInstr, nothing_tracked};
+ghost use Rattle.taint_tracker.specs.Groups.{HearsOne, IsSoundGroup, ReturnsEntry, ReturnsIn, StepsBy, kept_of};
+ghost use Rattle.taint_tracker.specs.Kept.{shown};
+
+use crate::law::{returns_show, tables_change, tables_ready, tables_run};
+use arn_base::{Cpu, NoMemory};
+use rv64_isa::Instr;
+use rv64_model::Linkage;
+use set_store::Sets;
+use std::alloc::Global;
+use taint_events::empty;
+use taint_members::Member;
+use taint_pages::{Numbers, Row};
+use taint_steps::{Rules, run_member};
+
+/// How many unions are remembered at most.
+const MEMO: u32 = 65_536;
+
+/// The bytes with which a child began that started a group.
+#[derive(Debug, Drop)]
+pub struct ChildStart {
+    pub registers: Row,
+    pub slot: Row,
+    pub window: Numbers,
+}
+
+/// An event of a member: the sets of its bytes.
+#[derive(Debug, Drop)]
+pub struct HeardEvent {
+    pub event: u64,
+    pub numbers: Vec<u32>,
+    pub start: Option<ChildStart>,
+}
+
+/// What is kept of a group: of its members by number, of segments by key, and of its events in order.
+#[derive(Drop)]
+pub struct Group {
+    pub rules: Rules,
+    pub sets: Sets,
+    pub members: Vec<Option<Member>>,
+    pub segments: Vec<Numbers>,
+    pub heard: Vec<HeardEvent>,
+}
+
+/// A call returns to a member that may be there.
+fn return_entry(entry: &mut Option<Member>)
+    ensures { ReturnsEntry entry.old entry.new }
+{
+    if let Some(member) = entry {
+        member.returns();
+    }
+}
+
+/// A call returns to the member of a number, if there is one.
+fn return_member(members: &mut [Option<Member>], pid: u32)
+    ensures returns { ReturnsIn pid members.old members.new }
+    ensures count { length members.new ≡ length members.old }
+{
+    let place = pid as usize;
+    if place < members.len() {
+        return_entry(&mut members[place]);
+    }
+}
+
+/// An event is heard.
+fn hear(heard: &mut Vec<HeardEvent>, event: u64, numbers: Vec<u32>) -> Result<(), NoMemory>
+    ensures { OnOk result (HearsOne event numbers.items heard.old.items heard.new.items) }
+{
+    heard.push(HeardEvent {
+        event,
+        numbers,
+        start: None,
+    })?;
+    Ok(())
+}
+
+impl Group {
+    /// Nothing is kept.
+    pub fn new(alloc: Global, linkage: Linkage) -> Result<Group, NoMemory>
+        ensures sound { IfOk result IsSoundGroup }
+        ensures nothing { IfOk result (λ group. shown (kept_of group) ≡ nothing_tracked linkage) }
+    {
+        Ok(Group {
+            rules: Rules { linkage, begun: 0 },
+            sets: Sets::new(alloc, MEMO)?,
+            members: Vec::new(alloc),
+            segments: Vec::new(alloc),
+            heard: Vec::new(alloc),
+        })
+    }
+
+    /// A member runs an instruction that the next one follows. After an error nothing is known of what is kept.
+    pub fn instruction(&mut self, pid: u32, instr: &Instr, before: &Cpu) -> Result<(), NoMemory>
+        requires sound { IsSoundGroup self.old }
+        ensures takes { OnOk result
+            (TakesInstr (shown (kept_of self.old)) pid instr.now before.now (shown (kept_of self.new))) }
+        ensures sound { OnOk result (IsSoundGroup self.new) }
+    {
+        tables_ready();
+        tables_run();
+        run_member(
+            &mut self.sets,
+            self.rules,
+            instr,
+            before,
+            pid,
+            self.members.as_mut_slice(),
+            self.segments.as_mut_slice(),
+        )
+    }
+
+    /// A call of a live member returns that moves no bytes. After an error nothing is known of what is
+    /// kept.
+    pub fn returns(&mut self, pid: u32, event: u64, len: usize) -> Result<(), NoMemory>
+        requires sound { IsSoundGroup self.old }
+        ensures { OnOk result (StepsBy (Returns pid) pid event len self.old self.new) }
+    {
+        tables_change();
+        returns_show();
+        let numbers = empty(*self.heard.allocator(), len)?;
+        return_member(self.members.as_mut_slice(), pid);
+        hear(&mut self.heard, event, numbers)
+    }
+}
