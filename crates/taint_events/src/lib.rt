@@ -1,6 +1,6 @@
 //! The sets of the bytes of events, and what events do to the sets of a member's bytes where these take others than
 //! the member's own: bytes that it receives, and those with which it starts.
-#![tactic(auto, using(crate::proofs::Growing::growing))]
+#![tactic(auto)]
 
 mod beginning;
 mod bytes;
