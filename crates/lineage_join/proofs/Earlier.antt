@@ -1,5 +1,5 @@
 -- Stored origins are of earlier events, where no record is broken.
-use Rattle.std.proofs.Common.{◌≡◌, ℕ, zero, suc, ◌+◌, ◌-◌, ◌<◌, ◌≤◌, ◌==◌, ◌||◌, ◌&&◌, Bool, true, false, not, if◌then◌else◌, List, [], ◌∷◌, ◌++◌, length, filter, Option, Some, None, refl, ap, sym, ◌∙◌, arith, length-append, nat_lt, subst, slice_get, cond, option_map, option_and_then}
+use Rattle.std.proofs.Common.{◌≡◌, ℕ, zero, suc, ◌+◌, ◌-◌, ◌<◌, ◌==◌, ◌||◌, ◌&&◌, Bool, true, false, not, if◌then◌else◌, List, [], ◌∷◌, ◌++◌, length, filter, Option, Some, None, refl, ap, sym, ◌∙◌, arith, length-append, nat_lt, subst, slice_get, cond, option_map, option_and_then}
 use Rattle.std.specs.List.{list_all}
 use Rattle.std.proofs.lemmas.Bool.{true≢false}
 use Rattle.std.proofs.lemmas.Option.{none-some, same_Some, slice_get_within}
@@ -10,7 +10,7 @@ use Rattle.arn_base.specs.declared.records.Record.{Record}
 use Rattle.arn_base.specs.declared.records.Src.{Src}
 use Rattle.acts_model.specs.Records.{event_len, give_of, is_event}
 use Rattle.history_model.specs.Broken.{child_in, misnumbers, cant_follow, comes_wrong, lacks_process, lacks_slice, lies_in_event, is_origin, origins_len, are_origins, has_blocks_wrong, start_in, misplaces_start, broken_from, first_broken}
-use Rattle.history_model.specs.Events.{events, event_at, len_of}
+use Rattle.history_model.specs.Events.{events, event_at}
 use Rattle.lineage_model.specs.Joined.{origin_at, origin_of}
 
 -- stored origins are of events below n

@@ -1,5 +1,5 @@
 -- What waits leads to what its byte is reached by, and so does what is put in its place.
-use Rattle.std.proofs.Common.{◌≡◌, ◌⊎◌, ◌↔◌, ℕ, ◌+◌, ◌*◌, ◌<◌, ◌≤◌, Bool, true, false, List, [], ◌∷◌, map, flat_map, Contains, Option, Some, None, option_and_then, refl, sym, ap, subst, ◌∙◌, inl, inr, arith}
+use Rattle.std.proofs.Common.{◌≡◌, ◌⊎◌, ◌↔◌, ℕ, ◌+◌, ◌*◌, ◌<◌, ◌≤◌, false, List, [], map, flat_map, Contains, Option, Some, None, option_and_then, refl, sym, ap, subst, ◌∙◌, inl, inr, arith}
 use Rattle.std.proofs.lemmas.List.Elements.{All-contains}
 use Rattle.arn_base.specs.declared.records.Pair.{Pair}
 use Rattle.arn_base.specs.declared.records.Record.{Record}
@@ -13,7 +13,6 @@ use Rattle.lineage_model.specs.Joined.{Reaching, is_source, origin_of, from_orig
 use Rattle.lineage_model.specs.Tracking.{EventByte}
 use Rattle.set_store.specs.declared.item.Item.{Item}
 use Rattle.taint_tracker.specs.Shown.{AreItems, item_of}
-use Rattle.lineage_join.specs.declared.wait.Kind.{Kind}
 use Rattle.lineage_join.specs.declared.wait.Kind.TheVariants as kind
 use Rattle.lineage_join.specs.declared.wait.Wait.{Wait}
 use Rattle.lineage_join.specs.Fits.{IsThere, Precedes, Fits, AllFit}

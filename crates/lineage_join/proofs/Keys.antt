@@ -1,5 +1,5 @@
 -- How what waits is ordered.
-use Rattle.std.proofs.Common.{◌≡◌, ◌⊎◌, ◌↔◌, ℕ, ◌+◌, ◌*◌, ◌^◌, ◌<◌, ◌≤◌, ◌==◌, nat_lt, cond, Bool, true, false, List, [], ◌∷◌, ◌++◌, Contains, refl, sym, ap, subst, ◌∙◌, inl, inr, arith, max}
+use Rattle.std.proofs.Common.{◌≡◌, ◌⊎◌, ◌↔◌, ℕ, ◌+◌, ◌*◌, ◌^◌, ◌<◌, ◌≤◌, List, [], ◌∷◌, ◌++◌, Contains, refl, sym, ap, subst, ◌∙◌, inl, inr, arith}
 use Rattle.std.specs.Prelude.{All}
 use Rattle.std.specs.BTreeSet.{insert_key}
 use Rattle.std.specs.Ordering.{nat_cmp, ordering_then, match_ordering}
@@ -14,7 +14,7 @@ use Rattle.lineage_join.specs.contracts.wait.WaitOrd.TheImpl as wait_order
 use Rattle.lineage_join.specs.declared.wait.Kind.{Kind}
 use Rattle.lineage_join.specs.declared.wait.Kind.TheVariants as kind
 use Rattle.lineage_join.specs.declared.wait.Wait.{Wait}
-use Rattle.lineage_join.specs.Waits.{HasAlso, IsNumbered, IsTaken, rank, level, code, room}
+use Rattle.lineage_join.specs.Waits.{HasAlso, IsNumbered, IsTaken, rank, code, room}
 use Rattle.lineage_join.proofs.Rises.{none_in, front, behind, cases}
 
 abbrev pub wait_cmp : Wait → Wait → Ordering

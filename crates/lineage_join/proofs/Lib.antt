@@ -9,3 +9,7 @@ pub mod Members
 pub mod Stands
 pub mod Follow
 pub mod Steps
+pub mod Turns
+pub mod Alike
+pub mod Named
+pub mod Same

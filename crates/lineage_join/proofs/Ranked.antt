@@ -1,5 +1,5 @@
 -- The pairs that answer rise, and their members are those of the sources.
-use Rattle.std.proofs.Common.{◌≡◌, ◌⊎◌, ◌↔◌, ℕ, zero, suc, ◌+◌, ◌<◌, ◌≤◌, ◌==◌, ◌||◌, ◌&&◌, nat_lt, Bool, true, false, cond, true≢false, List, [], ◌∷◌, ◌++◌, length, Contains, refl, sym, ap, subst, ◌∙◌, inl, inr, arith}
+use Rattle.std.proofs.Common.{◌≡◌, ◌⊎◌, ◌↔◌, ℕ, zero, suc, ◌+◌, ◌<◌, ◌≤◌, ◌==◌, ◌||◌, ◌&&◌, nat_lt, Bool, true, false, cond, true≢false, List, [], ◌∷◌, ◌++◌, Contains, refl, sym, ap, subst, ◌∙◌, inl, inr, arith}
 use Rattle.std.specs.List.{AllByRecursion}
 use Rattle.std.specs.List.Sorted.{IsStrictlySortedBy}
 use Rattle.std.specs.Ordering.{nat_cmp, ordering_then, ordering_reverse}
@@ -13,8 +13,8 @@ use Rattle.lineage_model.specs.Flow.{At, Byte, StartRegister, StartSlot, StartMe
 use Rattle.lineage_model.specs.Pairs.{pair_at, comes_first, has_same_source, ranked, all_ranked, byte_pairs, pairs_from}
 use Rattle.lineage_model.specs.Tracking.{EventByte}
 use Rattle.lineage_join.specs.Laws.{PairsAreOne}
-use Rattle.lineage_join.specs.Rising.{pair_cmp, IsRising, source_of, ArePairs}
-use Rattle.lineage_join.proofs.Rises.{pair_cmp-total, none_in, front, behind, cases, each, weaker, same_list, append-rises}
+use Rattle.lineage_join.specs.Rising.{pair_cmp, IsRising, source_of}
+use Rattle.lineage_join.proofs.Rises.{pair_cmp-total, none_in, front, behind, cases, weaker, same_list, append-rises}
 
 cmp-same : (n m : ℕ) → n ≡ m → nat_cmp n m ≡ Equal
 cmp-same n m h = grind (arith, nat_tests)

@@ -1,8 +1,7 @@
 -- What an item stands for, by its number and its event's record.
-use Rattle.std.proofs.Common.{◌≡◌, ◌⊎◌, ◌↔◌, ℕ, zero, suc, ◌+◌, ◌-◌, ◌*◌, ◌/◌, ◌%◌, ◌<◌, ◌≤◌, ◌==◌, ◌&&◌, nat_lt, nat_le, Bool, true, false, cond, List, [], ◌∷◌, Option, Some, None, IsSome, IsTrue, option_and_then, refl, sym, ap, ap₂, subst, ◌∙◌, inl, inr, arith, true≢false}
+use Rattle.std.proofs.Common.{◌≡◌, ℕ, ◌+◌, ◌-◌, ◌*◌, ◌/◌, ◌%◌, ◌<◌, ◌≤◌, ◌==◌, ◌&&◌, nat_lt, nat_le, Bool, true, false, cond, List, [], ◌∷◌, Option, Some, None, IsSome, IsTrue, option_and_then, refl, sym, ap, ap₂, subst, ◌∙◌, arith, true≢false}
 use Rattle.std.proofs.lemmas.Bool.{eqb-true}
 use Rattle.std.proofs.lemmas.Bool.Decides.{nat_tests}
-use Rattle.arn_base.specs.declared.records.Extra.{Extra}
 use Rattle.arn_base.specs.declared.records.Extra.TheVariants as extra
 use Rattle.arn_base.specs.declared.records.Record.{Record}
 use Rattle.arn_base.specs.declared.records.Record.TheVariants as entry
@@ -13,10 +12,9 @@ use Rattle.acts_model.specs.Records.{event_len, plain_len}
 use Rattle.acts_model.specs.Transfers.{is_private}
 use Rattle.history_model.specs.Exchanges.{founded}
 use Rattle.lineage_model.specs.Flow.{At, Byte, StartRegister, StartSlot, StartMemory}
-use Rattle.lineage_model.specs.Joined.{Reaching, is_source, origin_of, from_origin, from_received, from_item_at, source_byte}
+use Rattle.lineage_model.specs.Joined.{Reaching, is_source, origin_of, from_origin, from_received, from_item_at}
 use Rattle.lineage_model.specs.Tracking.{EventByte}
 use Rattle.taint_tracker.specs.Shown.{IsRegisterByte, byte_of_register, register_bytes, place_of}
-use Rattle.lineage_join.specs.declared.wait.Kind.{Kind}
 use Rattle.lineage_join.specs.declared.wait.Kind.TheVariants as kind
 use Rattle.lineage_join.specs.Fits.{IsThere}
 use Rattle.lineage_join.specs.Places.{start_at}
@@ -99,7 +97,7 @@ memory-at n h =
     pass (nat_lt n 248) (StartRegister (n / 8 + 1) (n % 8)) (behind-registers n) (isnt-below n 248 (omega arith))
     ∙ pass (nat_lt n 496) (StartSlot ((n - 248) / 8 + 1) ((n - 248) % 8)) (StartMemory n) (isnt-below n 496 (omega arith))
 
-starts : (x : Option ℕ) → IsSome x → kind_by x ≡ kind.Start
+pub starts : (x : Option ℕ) → IsSome x → kind_by x ≡ kind.Start
 starts None h = absurd (true≢false (sym h))
 starts (Some child) h = refl
 

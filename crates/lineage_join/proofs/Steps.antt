@@ -1,5 +1,5 @@
 -- What one step does to the pairs that come.
-use Rattle.std.proofs.Common.{◌≡◌, ◌⊎◌, ◌↔◌, ℕ, ◌+◌, ◌-◌, ◌/◌, ◌%◌, nat_lt, Bool, true, false, cond, List, [], ◌∷◌, flat_map, Contains, Option, Some, None, refl, sym, ap, subst, ◌∙◌, inl, inr}
+use Rattle.std.proofs.Common.{◌≡◌, ℕ, ◌+◌, ◌-◌, ◌/◌, ◌%◌, nat_lt, Bool, true, false, cond, List, [], flat_map, Contains, Option, Some, None, refl, sym, ap, subst, ◌∙◌, inl, inr}
 use Rattle.arn_base.specs.declared.records.Pair.{Pair}
 use Rattle.arn_base.specs.declared.records.Record.{Record}
 use Rattle.acts_model.specs.Records.{event_len}
@@ -15,7 +15,7 @@ use Rattle.lineage_join.specs.Fits.{AllFit}
 use Rattle.lineage_join.specs.Laws.{reaches}
 use Rattle.lineage_join.specs.Places.{start_at}
 use Rattle.lineage_join.specs.Rising.{source_of}
-use Rattle.lineage_join.specs.Waits.{from_taken, from_kind, from_wait, own_bytes, LeadsTo, Leads, HasPairs, IsFollowed, IsStepped}
+use Rattle.lineage_join.specs.Waits.{from_taken, from_kind, from_wait, own_bytes, HasPairs, IsFollowed, IsStepped}
 use Rattle.lineage_join.proofs.Rises.{none_in}
 use Rattle.lineage_join.proofs.Stands.{choose}
 use Rattle.lineage_join.proofs.Unfolds.{goes}

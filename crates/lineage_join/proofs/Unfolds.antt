@@ -1,8 +1,8 @@
 -- What reaches a byte is the same however far one looks, if far enough.
-use Rattle.std.proofs.Common.{◌≡◌, ◌⊎◌, inl, inr, ℕ, zero, suc, ◌+◌, ◌<◌, ◌≤◌, Bool, true, false, List, [], ◌∷◌, ◌++◌, flat_map, Option, Some, None, refl, ap, ap₂, sym, ◌∙◌, arith, cond, slice_get, length}
+use Rattle.std.proofs.Common.{◌≡◌, ◌⊎◌, inl, inr, ℕ, zero, suc, ◌<◌, ◌≤◌, Bool, true, false, List, [], ◌∷◌, ◌++◌, flat_map, Option, Some, None, refl, ap, ap₂, sym, ◌∙◌, arith, cond}
 use Rattle.std.specs.Prelude.{All}
 use Rattle.std.proofs.lemmas.List.Elements.{All-head, All-tail}
-use Rattle.std.proofs.lemmas.Option.{slice_get_within, slice_get_past}
+use Rattle.std.proofs.lemmas.Option.{slice_get_past}
 use Rattle.arn_base.specs.declared.records.Record.{Record}
 use Rattle.arn_base.specs.declared.records.Src.{Src}
 use Rattle.acts_model.specs.Records.{event_len}
@@ -12,7 +12,7 @@ use Rattle.lineage_model.specs.Flow.{At, Byte, StartRegister, StartSlot, StartMe
 use Rattle.lineage_model.specs.Joined.{Reaching, is_source, origin_of, from_origin, from_received, from_item_at, from_item, source_byte, from_event, reached}
 use Rattle.lineage_model.specs.Tracking.{EventByte}
 use Rattle.lineage_join.specs.Fits.{Precedes, Fits, AllFit}
-use Rattle.lineage_join.specs.Laws.{reaches, GoesByItems}
+use Rattle.lineage_join.specs.Laws.{GoesByItems}
 use Rattle.lineage_join.proofs.Earlier.{AreEarlier, earlier}
 
 pub flat_map-fit : {A : Type 0} (P : A → Type 0) (f g : A → List EventByte) → ((x : A) → P x → f x ≡ g x) → (xs : List A) → All P xs → flat_map f xs ≡ flat_map g xs

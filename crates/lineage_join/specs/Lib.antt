@@ -5,3 +5,5 @@ pub mod Places
 pub mod Waits
 pub mod Hits
 pub mod Asked
+pub mod Alike
+pub mod Named

@@ -1,5 +1,5 @@
 -- What is still to be followed, and which pairs it leads to.
-use Rattle.std.specs.Prelude.{◌≡◌, ◌⊎◌, ◌↔◌, ℕ, ◌+◌, ◌*◌, ◌<◌, ◌^◌, max, List, [], ◌∷◌, map, Contains, Option, Some, None, if◌then◌else◌, is_some, option_and_then}
+use Rattle.std.specs.Prelude.{◌≡◌, ◌⊎◌, ◌↔◌, ℕ, ◌+◌, ◌*◌, ◌<◌, ◌^◌, max, List, [], ◌∷◌, Contains, Option, Some, None, if◌then◌else◌, option_and_then}
 use Rattle.arn_base.specs.declared.records.Pair.{Pair}
 use Rattle.arn_base.specs.declared.records.Record.{Record}
 use Rattle.arn_base.specs.declared.records.Src.{Src}
@@ -9,6 +9,10 @@ use Rattle.lineage_model.specs.Flow.{Byte}
 use Rattle.lineage_model.specs.Joined.{Reaching, is_source, source_byte, from_origin, origin_of}
 use Rattle.lineage_model.specs.Tracking.{EventByte}
 use Rattle.set_store.specs.declared.item.Item.{Item}
+use Rattle.lineage_join.specs.declared.demand.Demand.{Demand}
+use Rattle.lineage_join.specs.declared.demand.Demand.TheVariants as demand
+use Rattle.lineage_join.specs.declared.demand.Place.{Place}
+use Rattle.lineage_join.specs.declared.demand.Place.TheVariants as place
 use Rattle.lineage_join.specs.declared.wait.Kind.{Kind}
 use Rattle.lineage_join.specs.declared.wait.Kind.TheVariants as kind
 use Rattle.lineage_join.specs.declared.wait.Wait.{Wait}
@@ -110,3 +114,20 @@ Comes from waiting found pair = Contains found pair ⊎ Leads from waiting pair
 pub record IsStepped (from : Wait → List EventByte) (waiting : List Wait) (found : List Pair) (wait : Wait) (then_waiting : List Wait) (then_found : List Pair) : Type 0 where
   pub comes : (pair : Pair) → Comes from then_waiting then_found pair ↔ (Comes from waiting found pair ⊎ LeadsTo from wait pair)
   pub falls : (other : Wait) → Contains then_waiting other → Contains waiting other ⊎ (level other < level wait)
+
+-- exactly the pairs are found that had come
+abbrev pub AreFound : (Wait → List EventByte) → List Wait → List Pair → List Pair → Type 0
+AreFound from waiting found new = (pair : Pair) → Contains new pair ↔ Comes from waiting found pair
+
+-- what waits for what is asked for
+abbrev pub kind_of : Place → Kind
+kind_of (place.Byte k) = kind.Byte
+kind_of (place.Start n) = kind.Start
+
+abbrev pub number_of : Place → ℕ
+number_of (place.Byte k) = k
+number_of (place.Start n) = n
+
+abbrev pub demanded : (ℕ → Option Record) → Demand → Wait
+demanded event_at (demand.Event event place byte) = record { event = event; kind = kind_of place; at = number_of place; byte = byte }
+demanded event_at (demand.Item item byte) = wait_of event_at byte item

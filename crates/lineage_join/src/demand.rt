@@ -1,4 +1,5 @@
 // What is asked of a join.
+use set_store::Item;
 
 /// Which byte of an event.
 #[derive(Clone, Copy, Debug, PartialEq, Eq)]
@@ -10,10 +11,11 @@ pub enum Place {
     Start(u64),
 }
 
-/// A byte of an event which byte `byte` of the target takes.
+/// What byte `byte` of the target takes.
 #[derive(Clone, Copy, Debug, PartialEq, Eq)]
-pub struct Demand {
-    pub event: u64,
-    pub place: Place,
-    pub byte: u32,
+pub enum Demand {
+    /// A byte of an event, as the event shows it.
+    Event { event: u64, place: Place, byte: u32 },
+    /// An item: a byte that a group received, or one with which it began.
+    Item { item: Item, byte: u32 },
 }

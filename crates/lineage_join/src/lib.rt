@@ -4,12 +4,17 @@
 
 mod demand;
 mod found;
-mod join;
 mod law;
 mod locals;
+mod pairs;
+mod step;
 mod told;
 mod wait;
 
 pub use demand::{Demand, Place};
-pub use law::{goes_by_items, pairs_are_one};
+pub use law::{
+    fitting_are_named, goes_by_items, items_name, numbers_stand, pairs_are_one, reach_alike,
+    reach_same,
+};
 pub use locals::Locals;
+pub use pairs::join;

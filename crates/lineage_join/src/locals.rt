@@ -1,9 +1,10 @@
 // The answers of single groups.
+ghost use Rattle.taint_tracker.specs.Items.{listed};
 ghost use Rattle.taint_tracker.specs.Shown.{AreItems};
 ghost use Rattle.lineage_join.specs.Places.{at_of};
 
 use crate::demand::Place;
-use set_store::Item;
+use taint_tracker::Items;
 
 /// Which items reach a byte of an event in the event's own group.
 pub trait Locals {
@@ -14,6 +15,6 @@ pub trait Locals {
     ghost items: { Self → ℕ → At → List EventByte };
 
     /// The items of a byte of an event. There are none where the event's group wasn't followed.
-    fn items(&self, event: u64, place: Place) -> &[Item]
-        ensures { AreItems result.now (items self.now event (at_of place)) };
+    fn items(&self, event: u64, place: Place) -> Items<'_>
+        ensures { AreItems (listed result) (items self.now event (at_of place)) };
 }

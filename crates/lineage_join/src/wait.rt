@@ -72,6 +72,7 @@ impl Waiting {
     pub fn next(&mut self) -> Option<Wait>
         ensures none { IfNone result (self.old ≡ []) }
         ensures some { IfSome result (λ wait. IsTaken self.old wait self.new) }
+        ensures numbered { All IsNumbered self.new }
     {
         self.set.pop_last()
     }

@@ -20,3 +20,4 @@ pub mod TellsSegments
 pub mod TellsNames
 pub mod TellsBrought
 pub mod TellsRuns
+pub mod TellsEvents

@@ -1,16 +1,17 @@
 -- What holds of the records of runs, and of groups alone.
-use Rattle.std.specs.Prelude.{◌≡◌, ℕ, false, if◌then◌else◌, List, Option, Some, None, IfSome, option_map, option_and_then}
+use Rattle.std.specs.Prelude.{◌≡◌, ℕ, false, if◌then◌else◌, List, length, map, Option, Some, None, IfSome, option_map, option_and_then}
+use Rattle.std.specs.List.{range_with_len}
 use Rattle.acts_model.specs.Bodies.{Bodies, body_at, seen}
 use Rattle.arn_model.specs.Kernel.{Machine}
 use Rattle.arn_model.specs.Run as run
-use Rattle.arn_model.specs.Run.{Input, machine_after, state_at, instructions_in, is_free}
+use Rattle.arn_model.specs.Run.{Input, machine_after, state_at, instructions_in, is_free, within, events_of}
 use Rattle.arn_model.specs.Tells.{HasNumbers, lives}
 use Rattle.parts_model.specs.Files.{Files, find_file, file_bytes}
 use Rattle.parts_model.specs.Tagged.{values}
 use Rattle.history_model.specs.Alone.{Own, Makes, alone}
 use Rattle.history_model.specs.Events.{how_many}
 use Rattle.history_model.specs.Groups.{Groups, group_of, is_number}
-use Rattle.history_model.specs.Moments.{total, lives_at, segment_at}
+use Rattle.history_model.specs.Moments.{total, events_until, lives_at, segment_at}
 use Rattle.history_model.specs.Names as names
 use Rattle.log_model.specs.Records.{records}
 use Rattle.replay_laws.specs.Heard.{heard_at}
@@ -56,6 +57,12 @@ pub record TellsRun (inputs : List Input) : Type 0 where
 
 abbrev pub RecordsTellMoments : Type 0
 RecordsTellMoments = (inputs : List Input) (moment pid : ℕ) → HasNumbers (machine_after inputs).kernel → TellsMoment inputs moment pid
+
+-- the events that have happened at a moment, as the records tell, are the first ones: as many as the run has had up to it
+abbrev pub RecordsTellEvents : Type 0
+RecordsTellEvents =
+    (inputs : List Input) (moment : ℕ)
+    → map (λ e. e.number) (events_until moment (records inputs)) ≡ range_with_len 0 (length (events_of (within moment (run.run inputs))))
 
 abbrev pub RecordsTellRuns : Type 0
 RecordsTellRuns = (inputs : List Input) → HasNumbers (machine_after inputs).kernel → TellsRun inputs

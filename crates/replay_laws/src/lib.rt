@@ -7,4 +7,4 @@ mod law;
 mod tells;
 
 pub use law::groups_pass_through;
-pub use tells::{records_tell_moments, records_tell_runs};
+pub use tells::{records_tell_events, records_tell_moments, records_tell_runs};

@@ -1,5 +1,5 @@
 // What the records of a run tell of it.
-ghost use Rattle.replay_laws.specs.Laws.{RecordsTellMoments, RecordsTellRuns};
+ghost use Rattle.replay_laws.specs.Laws.{RecordsTellEvents, RecordsTellMoments, RecordsTellRuns};
 
 use arn_model::{runs_append, runs_sound, steps_tell};
 use log_model::events_recorded;
@@ -23,3 +23,9 @@ pub fn records_tell_moments()
     steps_tell();
     runs_sound();
 }
+
+/// Which events the records of a run tell to have happened at a moment: as many of the first ones as the
+/// run has had up to it.
+pub fn records_tell_events()
+    ensures { RecordsTellEvents }
+{}

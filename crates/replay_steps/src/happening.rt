@@ -1,5 +1,5 @@
 // Events of a group's processes, as their records tell.
-ghost use Rattle.std.specs.Prelude.{◌≡◌, ◌+◌, ℕ, IfErr, IfSome, IsTrue, None, OnOk, option_and_then, option_map};
+ghost use Rattle.std.specs.Prelude.{◌≡◌, ◌+◌, ◌≤◌, ℕ, IfErr, IfSome, IsTrue, None, OnOk, option_and_then, option_map};
 ghost use Rattle.arn_base.specs.declared.machine.Cpu.{Cpu};
 ghost use Rattle.acts_model.specs.Acts.{Act, done};
 ghost use Rattle.acts_model.specs.Disagreement.{wrong_with};
@@ -146,6 +146,7 @@ pub fn happen<O: Observer, L: Ledger>(
         IfErr result (Explains (alone.happens pid event entry.now own)) }
     ensures lives { (cpu : Cpu) → OnOk result (GainsOnly
         (option_and_then child_joined (act_of cpu entry.now)) bodies.old bodies.new) }
+    ensures bounded { steps.new ≤ steps.old + if_ticked (is_call_or_end entry.now) }
 {
     others_stay_unheld();
     if !bodies.is_live(pid) {

@@ -1,5 +1,5 @@
 // Instructions that the next one follows.
-ghost use Rattle.std.specs.Prelude.{◌≡◌, ℕ, IfErr, IfOk, OnOk};
+ghost use Rattle.std.specs.Prelude.{◌≡◌, ◌+◌, ◌≤◌, ℕ, IfErr, IfOk, OnOk};
 ghost use Rattle.history_model.specs.Alone as alone;
 ghost use Rattle.history_model.specs.Alone.{Own};
 ghost use Rattle.replay_steps.specs.Notices.{Listener};
@@ -45,6 +45,7 @@ fn run_one<O: Observer, L: Ledger>(
     ensures ran { (own : Own) → (event : ℕ) → Stands bodies.old event own →
         IfOk result (Ran (record { begins = O.begins; runs = O.runs; hears = O.hears })
         observer.old steps.old own pid bodies.new event observer.new steps.new) }
+    ensures bounded { steps.new ≤ steps.old + 1 }
 {
     if !bodies.is_live(pid) {
         return Ok(false);
@@ -73,6 +74,7 @@ pub fn run<O: Observer, L: Ledger>(
         bodies.new event observer.new steps.new) }
     ensures err { (own : Own) → (event : ℕ) → Stands bodies.old event own →
         IfErr result (Explains (alone.plains (slice_of slice.now) 0 count own)) }
+    ensures bounded { steps.new ≤ steps.old + count }
 {
     for done in 0..count {
         if !run_one(bodies, slice.pid, observer, steps)? {

@@ -1,5 +1,5 @@
 // The end of a slice.
-ghost use Rattle.std.specs.Prelude.{◌≡◌, ◌+◌, ℕ, IfErr, IfSome, IsTrue, OnOk, option_and_then};
+ghost use Rattle.std.specs.Prelude.{◌≡◌, ◌+◌, ◌≤◌, ℕ, IfErr, IfSome, IsTrue, OnOk, option_and_then};
 ghost use Rattle.arn_base.specs.declared.machine.Cpu.{Cpu};
 ghost use Rattle.acts_model.specs.Moved.{is_call_or_end};
 ghost use Rattle.acts_model.specs.Told.{act_of};
@@ -59,6 +59,7 @@ pub fn end_slice<O: Observer, L: Ledger>(
         IfErr result (Explains (alone.ends_slice (slice_of slice.now) owed entry.now own)) }
     ensures lives { (cpu : Cpu) → OnOk result (GainsOnly
         (option_and_then child_joined (act_of cpu entry.now)) bodies.old bodies.new) }
+    ensures bounded { steps.new ≤ steps.old + owed }
 {
     if owed == 0 {
         return Err(ReplayError::Disagrees(no_instruction(entry).at(slice.event)));

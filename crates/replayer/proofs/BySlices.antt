@@ -168,7 +168,7 @@ part-event g until u (entry.Signal pid signal cut handler) rest is = refl
 part-event g until u (entry.Call pid number r more) rest is = refl
 part-event g until u (entry.End pid status) rest is = refl
 
-keeps-ended : (g until : ℕ) (t : Standing) (e : Record) → is_event e ≡ true → t.is_ended ≡ nat_le t.moment until → (alone.after_record g until t e).is_ended ≡ nat_le (alone.after_record g until t e).moment until
+pub keeps-ended : (g until : ℕ) (t : Standing) (e : Record) → is_event e ≡ true → t.is_ended ≡ nat_le t.moment until → (alone.after_record g until t e).is_ended ≡ nat_le (alone.after_record g until t e).moment until
 keeps-ended g until t (entry.Slice pid ran) is ended = refl
 keeps-ended g until t (entry.File name bytes) is ended = ended
 keeps-ended g until t (entry.Boot name give) is ended = ended

@@ -1,6 +1,11 @@
+pub mod Alive
+pub mod Bodies
+pub mod Bounds
+pub mod ByCalls
 pub mod BySlices
 pub mod Children
 pub mod Events
+pub mod Exact
 pub mod FirstOf
 pub mod Firsts
 pub mod Living

@@ -62,7 +62,7 @@ after-fails g until t (entry.Signal pid signal cut handler) d fails = made-if-fa
 after-fails g until t (entry.Call pid number result more) d fails = made-if-fails _ _ _ d (made-if-fails _ t.made _ d fails)
 after-fails g until t (entry.End pid status) d fails = made-if-fails _ _ _ d (made-if-fails _ t.made _ d fails)
 
-stays-failed : (g until : ℕ) (t : alone.Standing) (entries : List Record) (d : alone.Disagrees) → t.made ≡ Fails d → alone.settled (replayed g until t entries) ≡ Fails d
+pub stays-failed : (g until : ℕ) (t : alone.Standing) (entries : List Record) (d : alone.Disagrees) → t.made ≡ Fails d → alone.settled (replayed g until t entries) ≡ Fails d
 stays-failed g until t [] d fails = ap (λ (m : Made). and_then m (alone.plains (alone.slice_of t) 0 t.owed)) fails
 stays-failed g until t (e ∷ entries) d fails = stays-failed g until (alone.after_record g until t e) entries d (after-fails g until t e d fails)
 

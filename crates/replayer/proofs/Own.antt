@@ -31,7 +31,7 @@ changed-other : {A : Type 0} (f : ℕ → A) (k : ℕ) (x : A) (i : ℕ) → i �
 changed-other f k x i apart = elim (eqb_tells i k) [ inl e ↦ absurd (apart e.1) | inr e ↦ ap (λ (b : Bool). if b then x else f i) e.0 ]
 
 -- who was made keeps its group
-forked-kept : (more : Extra) (pid child : ℕ) (groups : Groups) (p : ℕ) → p ≢ child → group_forked pid child more groups p ≡ groups p
+pub forked-kept : (more : Extra) (pid child : ℕ) (groups : Groups) (p : ℕ) → p ≢ child → group_forked pid child more groups p ≡ groups p
 forked-kept (extra.Start start) pid child groups p apart = changed-other groups child (Some child) p apart
 forked-kept extra.Nothing pid child groups p apart = changed-other groups child (groups pid) p apart
 forked-kept (extra.Give give) pid child groups p apart = changed-other groups child (groups pid) p apart

@@ -146,7 +146,7 @@ many-cons (entry.Signal pid signal cut handler) entries = omega arith
 many-cons (entry.Call pid number r more) entries = omega arith
 many-cons (entry.End pid status) entries = omega arith
 
-counts-all : (g until : ℕ) (t : Standing) (entries : List Record) → Counts t (groups_from entries t.groups) (how_many entries) (total entries) (replayed g until t entries)
+pub counts-all : (g until : ℕ) (t : Standing) (entries : List Record) → Counts t (groups_from entries t.groups) (how_many entries) (total entries) (replayed g until t entries)
 counts-all g until t [] = record { groups = refl; events = omega arith; moment = omega arith }
 counts-all g until t (e ∷ entries) =
     let one = counts-one g until t e in

@@ -139,24 +139,24 @@ behind-snoc b [] i e lt is = absurd (omega arith)
 behind-snoc b (x ∷ entries) zero e lt is = ap (behind_record b) (sym is)
 behind-snoc b (x ∷ entries) (suc i) e lt is = behind-snoc (behind_record b x) entries i e (omega arith) is
 
-drop-more : (entries : List Record) (i : ℕ) (e : Record) → i < length entries → e ≡ get_or entries i e → drop i entries ≡ e ∷ drop (suc i) entries
+pub drop-more : (entries : List Record) (i : ℕ) (e : Record) → i < length entries → e ≡ get_or entries i e → drop i entries ≡ e ∷ drop (suc i) entries
 drop-more [] i e lt is = absurd (omega arith)
 drop-more (x ∷ entries) zero e lt is = ap (λ (r : Record). r ∷ entries) (sym is)
 drop-more (x ∷ entries) (suc i) e lt is = drop-more entries i e (omega arith) is
 
-drop-past : (entries : List Record) (i : ℕ) → length entries ≤ i → drop i entries ≡ []
+pub drop-past : (entries : List Record) (i : ℕ) → length entries ≤ i → drop i entries ≡ []
 drop-past [] zero le = refl
 drop-past [] (suc i) le = refl
 drop-past (x ∷ entries) zero le = absurd (omega arith)
 drop-past (x ∷ entries) (suc i) le = drop-past entries i (omega arith)
 
-there : (entries : List Record) (i : ℕ) → i < length entries → (e : Record) × (e ≡ get_or entries i e)
+pub there : (entries : List Record) (i : ℕ) → i < length entries → (e : Record) × (e ≡ get_or entries i e)
 there [] i lt = absurd (omega arith)
 there (x ∷ entries) zero lt = (x, refl)
 there (x ∷ entries) (suc i) lt = there entries i (omega arith)
 
 module _ (entries : List Record) (stands : first_broken entries ≡ None) where
-  fits : (i : ℕ) (e : Record) → i < length entries → e ≡ get_or entries i e → Fits (behind (take i entries)) (greatest (take i entries)) e
+  pub fits : (i : ℕ) (e : Record) → i < length entries → e ≡ get_or entries i e → Fits (behind (take i entries)) (greatest (take i entries)) e
   fits i e lt is =
       let f : Follows (take i entries) e = tests (take i entries) e (can-follow [] entries i e stands lt is) in
       record {
@@ -166,7 +166,7 @@ module _ (entries : List Record) (stands : first_broken entries ≡ None) where
         made = runner-made (take i entries) e f;
       }
 
-  sound-from : (left i : ℕ) → left + i ≡ length entries → Sound (behind (take i entries)) (greatest (take i entries)) (drop i entries)
+  pub sound-from : (left i : ℕ) → left + i ≡ length entries → Sound (behind (take i entries)) (greatest (take i entries)) (drop i entries)
   sound-from zero i is = subst (Sound (behind (take i entries)) (greatest (take i entries))) (sym (drop-past entries i (omega arith))) tt
   sound-from (suc left) i is =
       let lt : i < length entries = omega arith in

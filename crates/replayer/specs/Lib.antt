@@ -1,3 +1,4 @@
+pub mod Bounds
 pub mod BySlices
 pub mod Lives
 pub mod Members

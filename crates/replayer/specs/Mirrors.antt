@@ -1,5 +1,5 @@
 -- Where a replay stands, beside the definition.
-use Rattle.std.specs.Prelude.{◌≡◌, ◌<◌, ◌≤◌, ◌+◌, ◌^◌, ◌&&◌, ℕ, Bool, true, false, [], ◌∷◌, length, Option, Some, IfSome}
+use Rattle.std.specs.Prelude.{◌≡◌, ◌<◌, ◌≤◌, ◌+◌, ◌-◌, ◌^◌, ◌&&◌, min, if◌then◌else◌, ℕ, Bool, true, false, [], ◌∷◌, length, Option, Some, IfSome}
 use Rattle.std.specs.List.{All}
 use Rattle.arn_base.specs.declared.records.Record.{Record}
 use Rattle.arn_base.specs.declared.records.Record.TheVariants as entry
@@ -61,6 +61,11 @@ pub record Counts (old : Replay) (e : Record) (new : Replay) : Type 0 where
   pub members : new.members.items ≡ members_after old.group old.members.items e
   pub events : new.events ≤ old.events + 1
   pub moment : new.moment ≤ old.moment + 2 ^ 32
+
+-- how many instructions it owes for a record more
+abbrev pub owed_for : Replay → Record → ℕ
+owed_for r (entry.Slice pid ran) = if is_in r.members.items pid then min ran (r.until - r.moment) else 0
+owed_for r e = 0
 
 -- before any record: no process has the number 0
 pub record IsFirst (g moment_until : ℕ) (r : Replay) : Type 0 where

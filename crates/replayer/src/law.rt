@@ -1,4 +1,5 @@
-// What records of other groups are to a replay.
+// What records are to a replay: those of other groups, and those of its own.
+ghost use Rattle.replayer.specs.Bounds.{RunsBefore};
 ghost use Rattle.replayer.specs.BySlices.{AloneBySlices};
 ghost use Rattle.replayer.specs.Others.{OthersAreCounted, SettlesEarly};
 
@@ -16,4 +17,9 @@ pub fn settles_early()
 /// A group alone is made of the event that begins it, and of its slices with what stands behind each.
 pub fn alone_by_slices()
     ensures { AloneBySlices }
+{}
+
+/// A group alone has run as many instructions as its records count before the moment.
+pub fn runs_before()
+    ensures { RunsBefore }
 {}

@@ -9,6 +9,6 @@ mod state;
 #[cfg(test)]
 mod tests;
 
-pub use law::{alone_by_slices, others_are_counted, settles_early};
+pub use law::{alone_by_slices, others_are_counted, runs_before, settles_early};
 pub use replay_steps::{Disagrees, QueryError, ReplayError};
 pub use state::{GroupState, replay};

@@ -10,7 +10,7 @@ ghost use Rattle.acts_model.specs.Told.{act_of};
 ghost use Rattle.parts_model.specs.Numbered.{nth};
 ghost use Rattle.history_model.specs.Broken.{child_in, first_broken};
 ghost use Rattle.history_model.specs.Groups.{is_number};
-ghost use Rattle.replay_steps.specs.Calls.{ChildIsFree, child_joined, is_own};
+ghost use Rattle.replay_steps.specs.Calls.{ChildIsFree, child_joined, if_ticked, is_own};
 ghost use Rattle.history_model.specs.Alone as alone;
 ghost use Rattle.history_model.specs.Alone.{Own, Makes};
 ghost use Rattle.history_model.specs.Names.{is_boot};
@@ -18,7 +18,8 @@ ghost use Rattle.replay_steps.specs.Notices.{Listener};
 ghost use Rattle.replay_steps.specs.Standing.{Explains, GainsOnly, IsStanding, Reaches, Stands};
 ghost use Rattle.replayer.specs.Lives.{live_in};
 ghost use Rattle.replayer.specs.Members.{is_in, members_after};
-ghost use Rattle.replayer.specs.Mirrors.{CanTake, Counts, IsFirst, IsNumbered, Mirrors, Moves, born, last_made};
+ghost use Rattle.replayer.specs.Mirrors.{CanTake, Counts, IsFirst, IsNumbered, Mirrors, Moves, born, last_made, owed_for};
+ghost use Rattle.replayer.specs.Bounds.{ran_before};
 ghost use Rattle.replayer.specs.Replays.{Replays};
 
 use crate::{ReplayError, members};
@@ -167,6 +168,7 @@ impl Replay {
         ensures err { (t : alone.Standing) → (own : Own) → Mirrors self.old t →
             t.made ≡ Makes own → Stands self.old.bodies t.events own →
             IfErr result (Explains (alone.settled t)) }
+        ensures bounded { steps.new ≤ steps.old + self.old.owed }
     {
         let turn = self.turn();
         replay_steps::run(&mut self.bodies, &turn, self.owed, observer, steps)
@@ -178,6 +180,7 @@ impl Replay {
         ensures mirrors { (t : alone.Standing) → Mirrors self.old t → (made : alone.Made) →
             Mirrors self.new (record (alone.after_slice self.old.group self.old.until pid ran t) { made = made }) }
         ensures moment { self.new.moment ≡ self.old.moment + ran }
+        ensures owed { self.new.owed ≡ owed_for self.old (kind.Slice pid ran) }
         ensures kept { self.new ≡ record self.new {
           group = self.old.group;
           until = self.old.until;
@@ -218,6 +221,8 @@ impl Replay {
         ensures err { (t : alone.Standing) → (own : Own) → Mirrors self.old t →
             t.made ≡ Makes own → Stands self.old.bodies t.events own →
             IfErr result (Explains (alone.settled t)) }
+        ensures bounded { steps.new ≤ steps.old + self.old.owed }
+        ensures owed { OnOk result (self.new.owed ≡ owed_for self.old (kind.Slice pid ran)) }
     {
         self.settle(observer, steps)?;
         self.open(pid, ran);
@@ -246,6 +251,7 @@ impl Replay {
         ensures err { (t : alone.Standing) → (own : Own) → Mirrors self.old t →
             t.made ≡ Makes own → Stands self.old.bodies t.events own →
             IfErr result (Explains (alone.after_signal self.old.group pid entry.now t).made) }
+        ensures bounded { steps.new ≤ steps.old + if_ticked (is_call_or_end entry.now) }
     {
         if !(self.is_begun && self.is_member(pid)) {
             return Ok(());
@@ -306,6 +312,7 @@ impl Replay {
             t.made ≡ Makes own → Stands self.old.bodies t.events own →
             IfErr result (Explains
             (last_made true (is_number self.old.group (t.groups pid)) self.old.group entry.now t)) }
+        ensures bounded { steps.new ≤ steps.old + self.old.owed }
     {
         if let Some(start) = members::start_of(self.group, entry) {
             let (group, event) = (self.group, self.events);
@@ -345,6 +352,8 @@ impl Replay {
         ensures err { (t : alone.Standing) → (own : Own) → Mirrors self.old t →
             t.made ≡ Makes own → Stands self.old.bodies t.events own →
             IfErr result (Explains (alone.after_last self.old.group pid entry.now t).made) }
+        ensures bounded { steps.new ≤ steps.old + self.old.owed }
+        ensures paid { OnOk result (steps.new + self.new.owed ≤ steps.old + self.old.owed) }
     {
         if !self.is_ended {
             return Ok(());
@@ -396,6 +405,8 @@ impl Replay {
         ensures err { (t : alone.Standing) → (own : Own) → Mirrors self.old t →
             t.made ≡ Makes own → Stands self.old.bodies t.events own → IfErr result (Explains
             (alone.after_record self.old.group self.old.until t entry.now).made) }
+        ensures bounded { steps.new ≤ steps.old + self.old.owed }
+        ensures paid { OnOk result (steps.new + self.new.owed ≤ steps.old + self.old.owed) }
     {
         match entry {
             Record::Boot { .. } => self.boot(entry, observer),
@@ -432,6 +443,8 @@ impl Replay {
         ensures err { (t : alone.Standing) → (own : Own) → Mirrors self.old t →
             t.made ≡ Makes own → Stands self.old.bodies t.events own → IfErr result (Explains
             (alone.after_record self.old.group self.old.until t entry.now).made) }
+        ensures bounded { steps.new ≤ steps.old + self.old.owed }
+        ensures paid { OnOk result (steps.new + self.new.owed ≤ steps.old + self.old.owed) }
     {
         self.happen(entry, observer, steps)?;
         self.count(entry)?;
@@ -461,6 +474,9 @@ impl Replay {
         ensures err { (t : alone.Standing) → (own : Own) → Mirrors self.old t →
             t.made ≡ Makes own → Stands self.old.bodies t.events own → IfErr result (Explains
             (alone.after_record self.old.group self.old.until t entry.now).made) }
+        ensures bounded { steps.new ≤ steps.old + self.old.owed }
+        ensures paid { OnOk result (steps.new + self.new.owed ≤
+            steps.old + self.old.owed + owed_for self.old entry.now) }
     {
         match entry {
             Record::Slice { pid, ran } => self.slice(*pid, *ran, observer, steps),
@@ -486,6 +502,7 @@ pub fn replay_all<O: Observer, L: Ledger>(
     ensures numbered { IfOk result IsNumbered }
     ensures few { IfOk result (λ made. length made.members.items ≤ 2 ^ 32) }
     ensures err { IfErr result (Explains (alone.alone entries.now group until)) }
+    ensures bounded { steps.new ≤ steps.old + ran_before entries.now group until }
 {
     let mut replay = Replay::new(alloc, group, until)?;
     for entry in entries {

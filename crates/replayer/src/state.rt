@@ -1,11 +1,12 @@
 // What a replay makes of a group.
-ghost use Rattle.std.specs.Prelude.{◌≡◌, IfErr, IfOk, None, OnErr, OnOk, Some, length, option_and_then, option_map};
+ghost use Rattle.std.specs.Prelude.{◌≡◌, ◌+◌, ◌≤◌, IfErr, IfOk, None, OnErr, OnOk, Some, length, option_and_then, option_map};
 ghost use Rattle.acts_model.specs.Views.{bytes_in};
 ghost use Rattle.guest_bodies.specs.Shown.{seen_in};
 ghost use Rattle.history_index.specs.Indexes.{AreCountable, Indexes};
 ghost use Rattle.history_model.specs.Alone as alone;
 ghost use Rattle.replay_steps.specs.Notices.{Listener};
 ghost use Rattle.replay_steps.specs.Standing.{Explains};
+ghost use Rattle.replayer.specs.Bounds.{ran_before};
 ghost use Rattle.replayer.specs.Lives.{live_in};
 ghost use Rattle.replayer.specs.Replays.{Replays};
 
@@ -83,6 +84,7 @@ pub fn replay<O: Observer, L: Ledger>(
         (record { begins = O.begins; runs = O.runs; hears = O.hears }) observer.old steps.old
         (alone.alone entries.now group until) state observer.new steps.new) }
     ensures err { IfErr result (Explains (alone.alone entries.now group until)) }
+    ensures bounded { steps.new ≤ steps.old + ran_before entries.now group until }
 {
     let replay = replay_all(alloc, entries, group, until, observer, steps)?;
     let live = replay.live(alloc)?;

@@ -1,5 +1,5 @@
 -- Tables in which one member changes or begins.
-use Rattle.std.proofs.Common.{◌≡◌, ◌≢◌, ◌⊎◌, inl, inr, ℕ, zero, suc, ◌==◌, cond, Bool, true, false, List, [], ◌∷◌, map, length, slice_set, Option, Some, None, IfSome, option_map, refl, sym, subst, ap, ◌∙◌, ne_eqb, arith}
+use Rattle.std.proofs.Common.{◌≡◌, ◌≢◌, ◌⊎◌, inl, inr, ℕ, zero, suc, ◌==◌, cond, Bool, true, false, List, [], ◌∷◌, map, slice_set, Option, Some, None, IfSome, option_map, refl, sym, subst, ap, ◌∙◌, ne_eqb}
 use Rattle.std.proofs.lemmas.Bool.{eqb-true, eqb-false}
 use Rattle.parts_model.specs.Numbered.{nth}
 use Rattle.taint_members.specs.Access.{HoldsKey, Segments}
@@ -7,11 +7,11 @@ use Rattle.taint_members.specs.declared.member.Member.{Member}
 use Rattle.taint_members.specs.declared.member.Shared.{Shared}
 use Rattle.taint_steps.specs.Table.{Tables}
 use Rattle.taint_steps.specs.declared.taking.Rules.{Rules}
-use Rattle.taint_tracker.specs.Changes.{Adds, Changes, HoldsSame, StaysBegun, TablesAdd, TablesBecome, TablesChange, TablesStart}
+use Rattle.taint_tracker.specs.Changes.{HoldsSame, StaysBegun, TablesAdd, TablesChange}
 use Rattle.taint_tracker.specs.Events.{Hears, IsNothing}
 use Rattle.taint_tracker.specs.Kept.{KeptHeard, heard_among}
 use Rattle.taint_tracker.specs.RunsShow.{kept_member}
-use Rattle.taint_tracker.specs.Tables.{AreKeyed, AreSoundTables, HaveOneKey, kept_in}
+use Rattle.taint_tracker.specs.Tables.{AreKeyed, HaveOneKey, kept_in}
 use Rattle.taint_tracker.proofs.Goings.{self-test}
 use Rattle.taint_tracker.proofs.Tables.{nth-map, nth-other}
 

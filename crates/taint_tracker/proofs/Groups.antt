@@ -9,15 +9,14 @@ use Rattle.set_store.specs.Sets.{StandAsBefore}
 use Rattle.taint_members.specs.declared.member.Member.{Member}
 use Rattle.taint_steps.specs.Table.{RunsMember, Tables}
 use Rattle.taint_steps.specs.declared.taking.Rules.{Rules}
-use Rattle.taint_members.specs.Rows.{ClearsResult}
 use Rattle.arn_base.specs.declared.records.Record.{Record}
 use Rattle.acts_model.specs.Records.{event_len}
 use Rattle.acts_model.specs.Transfers.{Returns}
 use Rattle.taint_events.specs.Bytes.{AreEmpty}
 use Rattle.taint_tracker.specs.Changes.{TablesChange}
-use Rattle.taint_tracker.specs.Events.{ReturnsTo, event_by_member, plain_heard}
+use Rattle.taint_tracker.specs.Events.{event_by_member, plain_heard}
 use Rattle.taint_tracker.specs.EventsShow.{Follows, ReturnsShow}
-use Rattle.taint_tracker.specs.Groups.{ReturnsAs, ReturnsEntry, ReturnsIn, ReturnsOne, kept_heard, latest_first}
+use Rattle.taint_tracker.specs.Groups.{ReturnsEntry, ReturnsIn, ReturnsOne, kept_heard, latest_first}
 use Rattle.taint_tracker.specs.Kept.{KeptHeard}
 use Rattle.taint_tracker.specs.RunsShow.{kept_member}
 use Rattle.taint_tracker.specs.declared.group.HeardEvent.{HeardEvent}

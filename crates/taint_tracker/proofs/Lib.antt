@@ -9,7 +9,7 @@ pub mod Tables
 pub mod Flows
 pub mod Goings
 pub mod Calls
-pub mod Ends
+pub mod EndsShown
 pub mod Reading
 pub mod Segments
 pub mod Forking
@@ -25,3 +25,8 @@ pub mod Groups
 pub mod Changing
 pub mod TablesReceiving
 pub mod TablesForking
+pub mod Turning
+pub mod Joining
+pub mod Sharing
+pub mod Happening
+pub mod Placing

@@ -1,5 +1,5 @@
 -- Tables in which a member receives bytes.
-use Rattle.std.proofs.Common.{◌≡◌, ◌≢◌, ◌⊎◌, inl, ℕ, ◌<◌, List, ◌∷◌, map, length, Option, Some, None, IfSome, option_map, refl, sym, subst, ap, ◌∙◌, arith}
+use Rattle.std.proofs.Common.{◌≡◌, ◌≢◌, inl, ℕ, ◌<◌, length, Option, Some, None, IfSome, option_map, refl, sym, subst, ap, ◌∙◌}
 use Rattle.parts_model.specs.Numbered.{nth}
 use Rattle.taint_members.specs.Access.{HoldsKey, Segments}
 use Rattle.taint_members.specs.declared.member.Member.{Member}
@@ -10,7 +10,7 @@ use Rattle.taint_tracker.specs.Events.{shares_with}
 use Rattle.taint_tracker.specs.Held.{kept_member}
 use Rattle.taint_tracker.specs.Held as held_by_key
 use Rattle.taint_tracker.specs.Kept.{KeptMember}
-use Rattle.taint_tracker.specs.Tables.{AreKeyed, HaveOneKey, kept_in}
+use Rattle.taint_tracker.specs.Tables.{AreKeyed, HaveOneKey}
 use Rattle.taint_tracker.specs.TablesReceive.{TablesReceive}
 use Rattle.taint_tracker.proofs.Changing.{hears-next, keyed-still, nth-put, same-but}
 use Rattle.taint_tracker.proofs.HeldShown.{others-kept, receives-kept}

@@ -1,5 +1,5 @@
 -- What is kept of a group, as its tables have it.
-use Rattle.std.specs.Prelude.{◌≡◌, ℕ, List, [], ◌∷◌, slice_set, Option, Some, IfSome, option_map}
+use Rattle.std.specs.Prelude.{◌≡◌, ℕ, List, [], ◌∷◌, slice_set, Option, Some, IfSome}
 use Rattle.arn_base.specs.declared.machine.Cpu.{Cpu}
 use Rattle.arn_base.specs.declared.records.Record.{Record}
 use Rattle.parts_model.specs.Numbered.{nth}
@@ -11,28 +11,15 @@ use Rattle.taint_members.specs.Rows.{ClearsResult}
 use Rattle.taint_steps.specs.Table.{Tables}
 use Rattle.taint_tracker.specs.declared.group.Group.{Group}
 use Rattle.taint_tracker.specs.declared.group.HeardEvent.{HeardEvent}
-use Rattle.taint_tracker.specs.declared.group.ChildStart.{ChildStart}
+pub use Rattle.taint_tracker.specs.Heard.{kept_start, kept_heard, latest_first}
 use Rattle.taint_tracker.specs.Events.{event_by_member, plain_heard}
 use Rattle.taint_tracker.specs.EventsShow.{Follows}
-use Rattle.taint_tracker.specs.Kept.{Kept, KeptHeard, KeptStart}
+use Rattle.taint_tracker.specs.Kept.{Kept, KeptHeard}
 use Rattle.taint_tracker.specs.Tables.{AreKeyed, AreSoundTables, kept_in}
-
--- the bytes with which a child began that started a group
-abbrev pub kept_start : ChildStart → KeptStart
-kept_start start = record { registers = start.registers; slot = start.slot; window = start.window }
-
--- an event that was heard
-abbrev pub kept_heard : HeardEvent → KeptHeard
-kept_heard heard = record { event = heard.event; numbers = heard.numbers.items; start = option_map kept_start heard.start }
-
--- events, the latest first, before others
-abbrev pub latest_first : List HeardEvent → List KeptHeard → List KeptHeard
-latest_first [] others = others
-latest_first (heard ∷ more) others = latest_first more (kept_heard heard ∷ others)
 
 -- the events of a group, the latest first
 abbrev pub heard_of : Group → List KeptHeard
-heard_of g = latest_first g.heard.items []
+heard_of g = latest_first g.heard []
 
 abbrev pub tables_of : Group → Tables
 tables_of g = record { members = g.members.items; segments = g.segments.items; sets = g.sets }

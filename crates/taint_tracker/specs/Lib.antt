@@ -15,3 +15,10 @@ pub mod Groups
 pub mod Changes
 pub mod TablesReceive
 pub mod TablesFork
+pub mod Moves
+pub mod Turns
+pub mod Deeds
+pub mod Items
+pub mod Numbered
+pub mod Followed
+pub mod Heard

@@ -1,5 +1,5 @@
 -- How tables of a group change where a member makes a child in the group.
-use Rattle.std.specs.Prelude.{◌≡◌, ◌≢◌, ℕ, List, ◌∷◌, Option, Some}
+use Rattle.std.specs.Prelude.{◌≡◌, ◌≢◌, ℕ, List, ◌∷◌, Some}
 use Rattle.parts_model.specs.Numbered.{nth}
 use Rattle.set_store.specs.Sets.{StandAsBefore}
 use Rattle.taint_members.specs.declared.member.Member.{Member}

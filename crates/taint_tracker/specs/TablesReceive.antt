@@ -1,5 +1,5 @@
 -- How tables of a group change where a member receives bytes.
-use Rattle.std.specs.Prelude.{◌≡◌, ℕ, List, ◌∷◌, length, slice_set, Option, Some}
+use Rattle.std.specs.Prelude.{◌≡◌, ℕ, List, ◌∷◌, length, slice_set, Some}
 use Rattle.parts_model.specs.Numbered.{nth}
 use Rattle.set_store.specs.Sets.{StandAsBefore}
 use Rattle.taint_members.specs.declared.member.Member.{Member}

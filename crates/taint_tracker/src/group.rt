@@ -5,6 +5,7 @@ ghost use Rattle.taint_tracker.specs.Goes.{TakesInstr, nothing_tracked};
 ghost use Rattle.taint_tracker.specs.Groups.{HearsOne, IsSoundGroup, ReturnsEntry, ReturnsIn, StepsBy, kept_of};
 ghost use Rattle.taint_tracker.specs.Kept.{shown};
 
+use crate::events::Events;
 use crate::law::{returns_show, tables_change, tables_ready, tables_run};
 use arn_base::{Cpu, NoMemory};
 use rv64_isa::Instr;
@@ -42,7 +43,7 @@ pub struct Group {
     pub sets: Sets,
     pub members: Vec<Option<Member>>,
     pub segments: Vec<Numbers>,
-    pub heard: Vec<HeardEvent>,
+    pub heard: Events,
 }
 
 /// A call returns to a member that may be there.
@@ -55,7 +56,7 @@ fn return_entry(entry: &mut Option<Member>)
 }
 
 /// A call returns to the member of a number, if there is one.
-fn return_member(members: &mut [Option<Member>], pid: u32)
+pub fn return_member(members: &mut [Option<Member>], pid: u32)
     ensures returns { ReturnsIn pid members.old members.new }
     ensures count { length members.new ≡ length members.old }
 {
@@ -66,8 +67,8 @@ fn return_member(members: &mut [Option<Member>], pid: u32)
 }
 
 /// An event is heard.
-fn hear(heard: &mut Vec<HeardEvent>, event: u64, numbers: Vec<u32>) -> Result<(), NoMemory>
-    ensures { OnOk result (HearsOne event numbers.items heard.old.items heard.new.items) }
+pub fn hear(heard: &mut Events, event: u64, numbers: Vec<u32>) -> Result<(), NoMemory>
+    ensures { OnOk result (HearsOne event numbers.items heard.old heard.new) }
 {
     heard.push(HeardEvent {
         event,
@@ -88,7 +89,7 @@ impl Group {
             sets: Sets::new(alloc, MEMO)?,
             members: Vec::new(alloc),
             segments: Vec::new(alloc),
-            heard: Vec::new(alloc),
+            heard: Events::new(alloc),
         })
     }
 
@@ -120,7 +121,7 @@ impl Group {
     {
         tables_change();
         returns_show();
-        let numbers = empty(*self.heard.allocator(), len)?;
+        let numbers = empty(*self.members.allocator(), len)?;
         return_member(self.members.as_mut_slice(), pid);
         hear(&mut self.heard, event, numbers)
     }

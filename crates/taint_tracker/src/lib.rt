@@ -2,11 +2,28 @@
 //! slots and memories of its members, and of its events.
 #![tactic(auto)]
 
+mod answers;
+mod begin;
+mod deeds;
+mod ends;
+mod events;
+mod forks;
+mod founds;
+mod gives;
 mod group;
+mod happens;
+mod items;
 mod law;
+mod places;
 mod point;
+mod receives;
+mod shares;
+mod starts;
+mod told;
 mod tracker;
+mod turns;
 
+pub use items::Items;
 pub use law::{
     acts_have_len, begins_show, delivers_show, dies_show, exits_show, faults_show, forks_show,
     founds_show, gives_show, leaves_show, others_kept, receives_kept, receives_show, results_show,

@@ -1,10 +1,16 @@
 // Who follows a group.
-ghost use Rattle.std.specs.Prelude.{◌≡◌, false, OnOk, IfOk};
-ghost use Rattle.taint_tracker.specs.Goes.{TakesInstr, nothing_tracked};
+ghost use Rattle.std.specs.Prelude.{◌≡◌, IfOk, OnErr, OnOk, option_map};
+ghost use Rattle.taint_tracker.specs.Asked.{answer};
+ghost use Rattle.taint_tracker.specs.Followed.{HasNoByte};
+ghost use Rattle.taint_tracker.specs.Goes.{TakesBegin, TakesEvent, TakesInstr, nothing_tracked};
+ghost use Rattle.taint_tracker.specs.Items.{listed};
 ghost use Rattle.taint_tracker.specs.Kept.{shown};
 
 use crate::group::Group;
-use arn_base::{Cpu, NoMemory};
+use crate::items::Items;
+use crate::point::Point;
+use acts_model::Observer;
+use arn_base::{Cpu, NoMemory, Record};
 use rv64_isa::Instr;
 use rv64_model::Linkage;
 use std::alloc::Global;
@@ -19,12 +25,13 @@ pub struct Tracker {
 
 impl Model for Tracker {
     ghost use Rattle.std.specs.Prelude.{◌≡◌, false};
-    ghost use Rattle.taint_tracker.specs.Groups.{IsSoundGroup, kept_of};
+    ghost use Rattle.taint_tracker.specs.Followed.{kept_unless};
+    ghost use Rattle.taint_tracker.specs.Groups.{IsSoundGroup};
     ghost use Rattle.taint_tracker.specs.Kept.{Kept};
 
     ghost Value = { Kept };
 
-    ghost view = { λ t. kept_of t.group };
+    ghost view = { λ t. kept_unless t.lost t.group };
 
     ghost invariant = { λ t. t.lost ≡ false → IsSoundGroup t.group };
 }
@@ -38,15 +45,71 @@ impl Tracker {
         Ok(Tracker { group, lost: false })
     }
 
-    /// A member runs an instruction that the next one follows.
-    fn run(&mut self, pid: u32, instr: &Instr, before: &Cpu) -> Result<(), NoMemory>
-        ensures { OnOk result (TakesInstr (shown self.old) pid instr.now before.now (shown self.new)) }
+    /// The items of a byte of the group so far. None where the group has no such byte, and of each byte
+    /// once a step failed.
+    pub fn local(&self, point: Point) -> Option<Items<'_>>
+        ensures { option_map listed result ≡ answer (shown self.now) point }
+    {
+        if self.lost {
+            None
+        } else {
+            self.group.local(point)
+        }
+    }
+}
+
+impl Observer for Tracker {
+    ghost use Rattle.taint_tracker.specs.Goes.{TakesBegin, TakesEvent, TakesInstr};
+    ghost use Rattle.taint_tracker.specs.Kept.{shown};
+
+    ghost begins = { λ x pid event parent y. TakesBegin (shown x) pid event parent (shown y) };
+
+    ghost runs = { λ x pid instr before y. TakesInstr (shown x) pid instr before (shown y) };
+
+    ghost hears = { λ x event entry before y. TakesEvent (shown x) event entry before (shown y) };
+
+    fn begin(&mut self, pid: u32, event: u64, parent: Option<u32>) -> Result<(), NoMemory>
+        ensures takes { OnOk result
+            (TakesBegin (shown self.old) pid event parent (shown self.new)) }
+        ensures lost { OnErr result (HasNoByte (shown self.new)) }
+    {
+        if self.lost {
+            return Err(NoMemory);
+        }
+        // A child began with the fork itself.
+        if parent.is_some() {
+            return Ok(());
+        }
+        self.lost = true;
+        self.group.begin(pid, event)?;
+        self.lost = false;
+        Ok(())
+    }
+
+    fn instruction(&mut self, pid: u32, instr: &Instr, before: &Cpu) -> Result<(), NoMemory>
+        ensures takes { OnOk result
+            (TakesInstr (shown self.old) pid instr.now before.now (shown self.new)) }
+        ensures lost { OnErr result (HasNoByte (shown self.new)) }
     {
         if self.lost {
             return Err(NoMemory);
         }
         self.lost = true;
         self.group.instruction(pid, instr, before)?;
+        self.lost = false;
+        Ok(())
+    }
+
+    fn happened(&mut self, event: u64, entry: &Record, before: &Cpu) -> Result<(), NoMemory>
+        ensures takes { OnOk result
+            (TakesEvent (shown self.old) event entry.now before.now (shown self.new)) }
+        ensures lost { OnErr result (HasNoByte (shown self.new)) }
+    {
+        if self.lost {
+            return Err(NoMemory);
+        }
+        self.lost = true;
+        self.group.happened(event, entry, before)?;
         self.lost = false;
         Ok(())
     }

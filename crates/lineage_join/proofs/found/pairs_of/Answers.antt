@@ -1,5 +1,4 @@
-use Rattle.std.proofs.Common.{rules, ◌≡◌, subst, sym, map, List}
-use Rattle.arn_base.specs.declared.records.Pair.{Pair}
+use Rattle.std.proofs.Common.{rules, ◌≡◌, subst, sym, map}
 use Rattle.lineage_join.specs.Hits.{pair_of}
 use Rattle.lineage_join.specs.Rising.{IsRising}
 use Rattle.lineage_join.proofs.Hits.{rises}

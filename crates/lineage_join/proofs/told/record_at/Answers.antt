@@ -1,4 +1,4 @@
-use Rattle.std.proofs.Common.{◌≡◌, ◌∙◌, sym}
+use Rattle.std.proofs.Common.{◌∙◌, sym}
 use Rattle.lineage_join.proofs.Records.{found}
 use Rattle.lineage_join.proofs.told.record_at.Goals as goal
 

@@ -1,4 +1,4 @@
-use Rattle.std.proofs.Common.{ap, sym, ◌∙◌}
+use Rattle.std.proofs.Common.{ap, sym, ◌∙◌, arith}
 use Rattle.history_model.specs.Alone as alone
 use Rattle.replay_steps.specs.Plain.{slice_of}
 use Rattle.replay_steps.specs.Standing.{disagreement}
@@ -18,6 +18,7 @@ pub loop-done-preserved : goal.loop-done-preserved
 loop-done-preserved g c =
     record {
       lives = keeps-both c.args.bodies.now c.loop-done.bodies c.run_one.new.bodies c.loop-done.invariant.lives c.in_ok-run_one.ensures.lives;
+      bounded = let before = c.loop-done.invariant.bounded in let one = c.in_ok-run_one.ensures.bounded in omega (arith, before, one);
       halfway = λ own event stands.
           let half = c.loop-done.invariant.halfway own event stands in
           halfway-next _ c.args.observer.now c.args.steps.now own (slice_of c.args.slice.now) c.args.count c.loop-done.done event c.loop-done.bodies c.run_one.new.bodies c.loop-done.observer c.run_one.new.observer c.loop-done.steps c.run_one.new.steps c.loop-done-test.true half

@@ -1,4 +1,4 @@
-use Rattle.taint_tracker.proofs.Ends.{dies-show}
+use Rattle.taint_tracker.proofs.EndsShown.{dies-show}
 use Rattle.taint_tracker.proofs.law.dies_show.Goals as goal
 
 pub returns : goal.returns

@@ -1,4 +1,4 @@
-use Rattle.taint_tracker.proofs.Ends.{exits-show}
+use Rattle.taint_tracker.proofs.EndsShown.{exits-show}
 use Rattle.taint_tracker.proofs.law.exits_show.Goals as goal
 
 pub returns : goal.returns

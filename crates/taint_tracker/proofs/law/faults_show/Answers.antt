@@ -1,4 +1,4 @@
-use Rattle.taint_tracker.proofs.Ends.{faults-show}
+use Rattle.taint_tracker.proofs.EndsShown.{faults-show}
 use Rattle.taint_tracker.proofs.law.faults_show.Goals as goal
 
 pub returns : goal.returns

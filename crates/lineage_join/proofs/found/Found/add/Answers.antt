@@ -1,4 +1,4 @@
-use Rattle.std.proofs.Common.{◌≡◌, List, subst, map}
+use Rattle.std.proofs.Common.{List, subst, map}
 use Rattle.arn_base.specs.declared.records.Pair.{Pair}
 use Rattle.lineage_join.specs.declared.found.Hit.{Hit}
 use Rattle.lineage_join.specs.Hits.{pair_of}

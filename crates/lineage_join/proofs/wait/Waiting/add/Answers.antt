@@ -1,6 +1,6 @@
 use Rattle.std.proofs.Common.{◌≡◌, List, subst, arith}
 use Rattle.lineage_join.specs.declared.wait.Wait.{Wait}
-use Rattle.lineage_join.specs.Waits.{HasAlso, IsNumbered}
+use Rattle.lineage_join.specs.Waits.{HasAlso}
 use Rattle.lineage_join.proofs.Keys.{wait_cmp, ties, inserted, numbered-after}
 use Rattle.lineage_join.proofs.wait.Waiting.add.Goals as goal
 

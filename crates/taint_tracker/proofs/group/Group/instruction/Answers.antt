@@ -1,5 +1,4 @@
-use Rattle.std.proofs.Common.{◌≡◌, List, length, Option, sym, subst, arith}
-use Rattle.taint_members.specs.declared.member.Member.{Member}
+use Rattle.std.proofs.Common.{sym, subst, arith}
 use Rattle.taint_tracker.specs.Groups.{heard_of}
 use Rattle.taint_tracker.specs.Tables.{AreSoundTables}
 use Rattle.taint_tracker.proofs.Groups.{ok-map, runs-at, slice-back, tables-same}

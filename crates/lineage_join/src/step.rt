@@ -1,0 +1,161 @@
+// One step of the join of groups' answers.
+ghost use Rattle.std.specs.Prelude.{◌≡◌, false, All, map, Some, OnOk};
+ghost use Rattle.history_index.specs.Indexes.{Indexes};
+ghost use Rattle.history_model.specs.Events.{event_at};
+ghost use Rattle.lineage_model.specs.Flow.{Byte};
+ghost use Rattle.lineage_model.specs.Joined.{is_source, origin_of, source_byte};
+ghost use Rattle.lineage_join.specs.Fits.{AllFit};
+ghost use Rattle.lineage_join.specs.Laws.{reaches};
+ghost use Rattle.lineage_join.specs.Waits.{HasAlso, HasBoth, HasPairs, IsFollowed, IsNumbered, IsStepped, from_wait, origin_waits, own_bytes, wait_of};
+
+use crate::demand::Place;
+use crate::found::Found;
+use crate::locals::Locals;
+use crate::told;
+use crate::wait::{Kind, Wait, Waiting};
+use arn_base::{NoMemory, Record};
+use history_index::Index;
+use set_store::Item;
+
+/// Adds a source byte of an event, if the event has it.
+fn keep(found: &mut Found, event: u64, len: u32, at: u64, byte: u32) -> Result<(), NoMemory>
+    ensures { OnOk result (HasPairs found.old byte (source_byte event len (Byte at)) found.new) }
+{
+    if at < u64::from(len) {
+        found.add(event, at as u32, byte)?;
+    }
+    Ok(())
+}
+
+/// Lets an item wait.
+pub fn add_item(
+    entries: &[Record],
+    index: &Index,
+    item: Item,
+    byte: u32,
+    waiting: &mut Waiting,
+) -> Result<(), NoMemory>
+    requires { Indexes index.now entries.now }
+    ensures ok { OnOk result (HasAlso waiting.old (wait_of (event_at entries.now) byte item) waiting.new) }
+    ensures numbered { All IsNumbered waiting.new }
+{
+    let kind = told::kind_of(entries, index, item.event);
+    waiting.add(item.event, kind, item.at, byte)
+}
+
+/// Lets the items of a byte wait.
+fn add_items(
+    entries: &[Record],
+    index: &Index,
+    items: &[Item],
+    byte: u32,
+    waiting: &mut Waiting,
+) -> Result<(), NoMemory>
+    requires indexed { Indexes index.now entries.now }
+    requires numbered { All IsNumbered waiting.old }
+    ensures ok { OnOk result (HasBoth waiting.old (map (wait_of (event_at entries.now) byte) items.now) waiting.new) }
+    ensures numbered { OnOk result (All IsNumbered waiting.new) }
+{
+    for item in items {
+        add_item(entries, index, *item, byte, waiting)?;
+    }
+    Ok(())
+}
+
+/// Lets the byte wait of which a received byte is a copy.
+fn add_origin(entry: &Record, at: u64, byte: u32, waiting: &mut Waiting) -> Result<(), NoMemory>
+    requires numbered { All IsNumbered waiting.old }
+    ensures ok { OnOk result (HasBoth waiting.old (origin_waits byte (origin_of entry.now at)) waiting.new) }
+    ensures numbered { OnOk result (All IsNumbered waiting.new) }
+{
+    if let Some(origin) = told::origin_of(entry, at) {
+        waiting.add(origin.event, Kind::Byte, origin.at, byte)?;
+    }
+    Ok(())
+}
+
+/// Adds the source byte that waits, if there is one.
+fn keep_source(found: &mut Found, wait: Wait, len: u32) -> Result<(), NoMemory>
+    ensures { OnOk result (HasPairs found.old wait.byte (own_bytes wait.event len wait.at wait.kind) found.new) }
+{
+    match wait.kind {
+        Kind::Start => Ok(()),
+        Kind::Received => keep(found, wait.event, len, wait.at, wait.byte),
+        Kind::Byte => keep(found, wait.event, len, wait.at, wait.byte),
+    }
+}
+
+/// Lets that wait for which what waits stands, where its event's bytes didn't come from outside.
+fn follow<P: Locals>(
+    entries: &[Record],
+    index: &Index,
+    locals: &P,
+    entry: &Record,
+    wait: Wait,
+    waiting: &mut Waiting,
+) -> Result<(), NoMemory>
+    requires indexed { Indexes index.now entries.now }
+    requires fit { AllFit entries.now (P.items locals.now) }
+    requires there { event_at entries.now wait.event ≡ Some entry.now }
+    requires plain { is_source entry.now ≡ false }
+    requires numbered { All IsNumbered waiting.old }
+    ensures ok { OnOk result (IsFollowed (from_wait (event_at entries.now) (reaches entries.now (P.items locals.now))) waiting.old wait waiting.new) }
+    ensures numbered { OnOk result (All IsNumbered waiting.new) }
+{
+    match wait.kind {
+        Kind::Received => add_origin(entry, wait.at, wait.byte, waiting),
+        Kind::Byte => {
+            let items = locals.items(wait.event, Place::Byte(wait.at));
+            add_items(entries, index, items.as_slice(), wait.byte, waiting)
+        }
+        Kind::Start => {
+            let items = locals.items(wait.event, Place::Start(wait.at));
+            add_items(entries, index, items.as_slice(), wait.byte, waiting)
+        }
+    }
+}
+
+/// Follows what waits at an event.
+fn step_at<P: Locals>(
+    entries: &[Record],
+    index: &Index,
+    locals: &P,
+    entry: &Record,
+    wait: Wait,
+    waiting: &mut Waiting,
+    found: &mut Found,
+) -> Result<(), NoMemory>
+    requires indexed { Indexes index.now entries.now }
+    requires fit { AllFit entries.now (P.items locals.now) }
+    requires there { event_at entries.now wait.event ≡ Some entry.now }
+    requires numbered { All IsNumbered waiting.old }
+    ensures ok { OnOk result (IsStepped (from_wait (event_at entries.now) (reaches entries.now (P.items locals.now))) waiting.old found.old wait waiting.new found.new) }
+    ensures numbered { OnOk result (All IsNumbered waiting.new) }
+{
+    if told::is_source(entry) {
+        let len = told::len_at(entries, index, entry, wait.event);
+        return keep_source(found, wait, len);
+    }
+    follow(entries, index, locals, entry, wait, waiting)
+}
+
+/// Follows what waits.
+pub fn step<P: Locals>(
+    entries: &[Record],
+    index: &Index,
+    locals: &P,
+    wait: Wait,
+    waiting: &mut Waiting,
+    found: &mut Found,
+) -> Result<(), NoMemory>
+    requires indexed { Indexes index.now entries.now }
+    requires fit { AllFit entries.now (P.items locals.now) }
+    requires numbered { All IsNumbered waiting.old }
+    ensures ok { OnOk result (IsStepped (from_wait (event_at entries.now) (reaches entries.now (P.items locals.now))) waiting.old found.old wait waiting.new found.new) }
+    ensures numbered { OnOk result (All IsNumbered waiting.new) }
+{
+    match told::record_at(entries, index, wait.event) {
+        None => Ok(()),
+        Some(entry) => step_at(entries, index, locals, entry, wait, waiting, found),
+    }
+}

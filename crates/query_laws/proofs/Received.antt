@@ -1,0 +1,174 @@
+-- The items of a group alone are bytes that its events received, or with which it began.
+use Rattle.std.proofs.Common.{◌≡◌, inl, inr, ℕ, zero, suc, ◌≤◌, List, [], ◌∷◌, Option, Some, None, IfSome, option_map, refl, ap, ap₂, sym, subst, ◌∙◌}
+use Rattle.std.specs.Prelude.{All}
+use Rattle.std.specs.List.{AllByRecursion}
+use Rattle.std.proofs.lemmas.List.Elements.{All-nil, All-cons}
+use Rattle.arn_base.specs.declared.records.Record.{Record}
+use Rattle.rv64_isa.specs.declared.instruction.Instr.{Instr}
+use Rattle.rv64_model.specs.Carries.{Operand, Left, Right, Loaded, Address, Table}
+use Rattle.rv64_model.specs.Operands.{rs1_of, rs2_of}
+use Rattle.acts_model.specs.Bodies.{Body, body_at}
+use Rattle.acts_model.specs.Moved.{Event, Inside}
+use Rattle.acts_model.specs.Transfers.{Transfer, Arrives, Starts, Runs, Returns, Receives, Gives, Forks, Founds, Begins, Shares, Delivers, Leaves, Exits, Faults, Dies, holds_of}
+use Rattle.history_model.specs.Alone as history
+use Rattle.history_model.specs.Alone.{Own, Made, Makes, Fails}
+use Rattle.history_model.specs.Broken.{first_broken}
+use Rattle.lineage_model.specs.Flow.{Location, Register, Slot, Memory, At, Byte, StartRegister, StartSlot, StartMemory}
+use Rattle.lineage_model.specs.Tracking.{EventByte, untracked}
+use Rattle.query_model.specs.Sources.{tracked_of}
+use Rattle.taint_laws.specs.Follows.{HasWholeBlocks, holders_from, none_heard, none_holds}
+use Rattle.taint_laws.specs.Laws.{FollowsHolders}
+use Rattle.taint_tracker.specs.Lens.{ActsHaveLen}
+use Rattle.query_laws.specs.OwnEvents.{AreOwnEvents, EventsAreOwn, IsInBody, IsOwnEvent, MembersReceived, next_number}
+use Rattle.query_laws.specs.Received.{IsItem, IsReceivedBy, ItemsAreReceived}
+use Rattle.query_laws.proofs.Alone.{Ends, alone-heard}
+use Rattle.query_laws.proofs.Decoded.{FitsRun}
+use Rattle.query_laws.proofs.Heard.{AreHeard, IsHeard, IsLater, IsOf, State, last, next}
+use Rattle.query_laws.proofs.Items.{IsBefore, IsShown, Keeps, all-keep}
+use Rattle.query_laws.proofs.Scopes.{Scope, IsScope, InScope, IsHeldBy}
+use Rattle.query_laws.proofs.Taking.{Allows, FromRegister, OperandIn, step-takes}
+use Rattle.query_laws.proofs.Telling.{tells-record}
+
+-- all bytes are followed
+module _ (table : Table) where
+  abbrev whole : Scope
+  whole = record { register = λ r i. Unit {0}; window = λ at. Unit {0}; segment = λ at. Unit {0}; result = λ i. Unit {0} }
+
+  is-whole : IsScope whole
+  is-whole = record { results = λ r i is. tt; stores = λ instr i low. tt; status = tt }
+
+  abbrev AnyInstr : Instr → Type 0
+  AnyInstr instr = Unit {0}
+
+  abbrev AnyByte : Instr → ℕ → Type 0
+  AnyByte instr k = Unit {0}
+
+  from-any : (r i : ℕ) → FromRegister whole r i
+  from-any zero i = tt
+  from-any (suc r) i = tt
+
+  any-operands : (instr : Instr) (operands : List Operand) → AllByRecursion (OperandIn whole AnyByte instr) operands
+  any-operands instr [] = tt
+  any-operands instr (Left i ∷ operands) = (from-any (rs1_of instr) i, any-operands instr operands)
+  any-operands instr (Right i ∷ operands) = (from-any (rs2_of instr) i, any-operands instr operands)
+  any-operands instr (Address i ∷ operands) = (from-any (rs1_of instr) i, any-operands instr operands)
+  any-operands instr (Loaded k ∷ operands) = (tt, any-operands instr operands)
+
+  allows-all : Allows table whole AnyInstr AnyByte
+  allows-all = record {
+    operands = λ instr fit i is. any-operands instr (table instr i);
+    loads = λ instr hs at made memory is-there k is. record { private = λ p. tt; shared = λ p. tt };
+    ranges = λ hs at len made memory is-there k low. record { private = λ p. tt; shared = λ p. tt };
+  }
+
+  fits-any : (d : Transfer) → FitsRun AnyInstr d
+  fits-any (Arrives len) = tt
+  fits-any (Starts pid made load len block block_len) = tt
+  fits-any (Runs pid instr place) = tt
+  fits-any (Returns pid) = tt
+  fits-any (Receives pid place len) = tt
+  fits-any (Gives pid place len) = tt
+  fits-any (Forks pid child from into) = tt
+  fits-any (Founds pid child from into) = tt
+  fits-any (Begins pid made) = tt
+  fits-any (Shares pid made) = tt
+  fits-any (Delivers pid cut) = tt
+  fits-any (Leaves pid) = tt
+  fits-any (Exits pid) = tt
+  fits-any (Faults pid) = tt
+  fits-any (Dies pid) = tt
+
+  any-runs : (list : List Inside) → AllByRecursion (λ i. FitsRun AnyInstr i.transfer) list
+  any-runs [] = tt
+  any-runs (i ∷ list) = (fits-any i.transfer, any-runs list)
+
+  any-scope : (at : At) → InScope whole at
+  any-scope (Byte k) = tt
+  any-scope (StartRegister r i) = tt
+  any-scope (StartSlot r i) = tt
+  any-scope (StartMemory at) = tt
+
+  module _ (entries : List Record) (g : ℕ) where
+    as-items : (event : ℕ) (items : List EventByte) → AllByRecursion (IsShown table whole is-whole entries g event) items → All (IsItem entries g event) items
+    as-items event [] are = All-nil (IsItem entries g event)
+    as-items event (item ∷ items) are =
+        All-cons (IsItem entries g event) item items (record { received = are.0.0.0; precedes = are.0.1 }) (as-items event items are.1)
+
+    module _ (follows : FollowsHolders) (lens : ActsHaveLen) (moment : ℕ) (stands : first_broken entries ≡ None) (blocks : All HasWholeBlocks entries) where
+      own-keeps : (own : Own) → history.alone entries g moment ≡ Makes own → Keeps table whole is-whole entries g (last 0 own.inside) (holders_from own.inside none_holds) (tracked_of table (Makes own))
+      own-keeps own is =
+          let f = follows entries g moment own stands blocks is in
+          let heard = subst (λ (made : Made). Ends (λ (o : Own). (m : ℕ) × State entries g m o.inside) made) is (alone-heard entries g moment stands) in
+          all-keep table whole is-whole entries g (λ i. FitsRun AnyInstr i.transfer) (tells-record lens)
+          (λ h hearings i fits step possible. step-takes table whole AnyInstr AnyByte allows-all h hearings i step fits possible)
+          0 none_holds none_heard own.inside untracked f.steps f.possible heard.1.heard (any-runs own.inside)
+          (record { locations = λ l held. tt; points = λ e a is. tt })
+
+      own-items : (own : Own) → history.alone entries g moment ≡ Makes own → (event : ℕ) (at : At) → All (IsItem entries g event) ((tracked_of table (Makes own)).points event at)
+      own-items own is event at = as-items event ((tracked_of table (Makes own)).points event at) ((own-keeps own is).points event at (any-scope at))
+
+      -- a byte that a member holds
+      in-body : (pid : ℕ) (x : Body) (location : Location) → IsInBody pid x location → IsHeldBy whole (holds_of x) pid location
+      in-body pid x (Register p r i) is = (is, tt)
+      in-body pid x (Slot p r i) is = (is, tt)
+      in-body pid x (Memory made at) (inl window) = inl (window, tt)
+      in-body pid x (Memory made at) (inr segment) = inr (segment, tt)
+
+      before-received : (n : ℕ) (items : List EventByte) → AllByRecursion (IsBefore table whole is-whole entries g n) items → All (λ item. IsReceivedBy entries g item.event item.at) items
+      before-received n [] are = All-nil (λ item. IsReceivedBy entries g item.event item.at)
+      before-received n (item ∷ items) are = All-cons (λ item. IsReceivedBy entries g item.event item.at) item items are.0.0.0 (before-received n items are.1)
+
+      member-items : (own : Own) → history.alone entries g moment ≡ Makes own → (pid : ℕ) (x : Body) (location : Location) → body_at own.bodies pid ≡ Some x → IsInBody pid x location
+          → All (λ item. IsReceivedBy entries g item.event item.at) ((tracked_of table (Makes own)).locations location)
+      member-items own is pid x location lives in-it =
+          let f = follows entries g moment own stands blocks is in
+          let holds = sym (f.holds pid) ∙ ap (option_map holds_of) lives in
+          before-received (last 0 own.inside) ((tracked_of table (Makes own)).locations location) ((own-keeps own is).locations location (pid, holds_of x, holds, in-body pid x location in-it))
+
+      made-items : (made : Made) → history.alone entries g moment ≡ made → (event : ℕ) (at : At) → All (IsItem entries g event) ((tracked_of table made).points event at)
+      made-items (Makes own) is event at = own-items own is event at
+      made-items (Fails disagrees) is event at = All-nil (IsItem entries g event)
+
+pub received-items : FollowsHolders → ActsHaveLen → ItemsAreReceived
+received-items follows lens table entries g moment stands blocks event at =
+    made-items table entries g follows lens moment stands blocks (history.alone entries g moment) refl event at
+
+pub members-received : FollowsHolders → ActsHaveLen → MembersReceived
+members-received follows lens table entries g moment own stands blocks is pid x location lives in-it =
+    member-items table entries g follows lens moment stands blocks own is pid x location lives in-it
+
+-- its events
+own-event : (entries : List Record) (g : ℕ) (event : Event) (d : Transfer) → IsOf entries g event d → IsOwnEvent entries g event d
+own-event entries g event (Arrives len) of = record { there = of.there; by = inl of.by }
+own-event entries g event (Starts pid made load len block block_len) of = record { there = of.there; by = inl of.by }
+own-event entries g event (Runs pid instr place) of = record { there = of.there; by = inl of.by }
+own-event entries g event (Returns pid) of = record { there = of.there; by = inl of.by }
+own-event entries g event (Receives pid place len) of = record { there = of.there; by = inl of.by }
+own-event entries g event (Gives pid place len) of = record { there = of.there; by = inl of.by }
+own-event entries g event (Forks pid child from into) of = record { there = of.there; by = inl of.by }
+own-event entries g event (Founds pid child from into) of = record { there = of.there; by = inl of.by }
+own-event entries g event (Begins pid made) of = record { there = of.there; by = inr (ap₂ (λ (p m : ℕ). Begins p m) of.by.1 of.by.2, of.by.0) }
+own-event entries g event (Shares pid made) of = record { there = of.there; by = inl of.by }
+own-event entries g event (Delivers pid cut) of = record { there = of.there; by = inl of.by }
+own-event entries g event (Leaves pid) of = record { there = of.there; by = inl of.by }
+own-event entries g event (Exits pid) of = record { there = of.there; by = inl of.by }
+own-event entries g event (Faults pid) of = record { there = of.there; by = inl of.by }
+own-event entries g event (Dies pid) of = record { there = of.there; by = inl of.by }
+
+one-own : (entries : List Record) (g n : ℕ) (o : Option Event) (d : Transfer) → IsLater n o → IsHeard entries g o d → IfSome o (λ event. (n ≤ event.number) × IsOwnEvent entries g event d)
+one-own entries g n None d later is = tt
+one-own entries g n (Some event) d later is = (later, own-event entries g event d is)
+
+same-next : (n : ℕ) (o : Option Event) → next n o ≡ next_number n o
+same-next n None = refl
+same-next n (Some event) = refl
+
+all-own : (entries : List Record) (g n : ℕ) (list : List Inside) → AreHeard entries g n list → AreOwnEvents entries g n list
+all-own entries g n [] are = tt
+all-own entries g n (i ∷ list) are =
+    (one-own entries g n i.event i.transfer are.0 are.1, subst (λ (m : ℕ). AreOwnEvents entries g m list) (same-next n i.event) (all-own entries g (next n i.event) list are.2))
+
+pub own-events : EventsAreOwn
+own-events entries g moment own stands is =
+    let heard = subst (λ (made : Made). Ends (λ (o : Own). (m : ℕ) × State entries g m o.inside) made) is (alone-heard entries g moment stands) in
+    all-own entries g 0 own.inside heard.1.heard

@@ -1,0 +1,517 @@
+-- Bytes that live members hold, and what each step takes of them.
+use Rattle.std.proofs.Common.{◌≡◌, ◌⊎◌, inl, inr, ℕ, zero, suc, ◌+◌, ◌-◌, ◌<◌, ◌==◌, ◌&&◌, nat_le, nat_lt, Bool, true, false, if◌then◌else◌, List, [], ◌∷◌, map, flat_map, Option, Some, None, IfSome, IsNone, option_map, unwrap_or, refl, ap, sym, subst, ◌∙◌, arith}
+use Rattle.std.specs.List.{AllByRecursion}
+use Rattle.std.proofs.lemmas.Bool.{true≢false, and_parts, leb-true, ltb-true}
+use Rattle.std.proofs.lemmas.Bool.Decides.{eqb_tells}
+use Rattle.std.proofs.lemmas.Option.{none-some, same_Some}
+use Rattle.rv64_isa.specs.declared.instruction.Instr.{Instr}
+use Rattle.rv64_model.specs.Carries.{Table}
+use Rattle.rv64_model.specs.Operands.{rd_of, stored_len}
+use Rattle.parts_model.specs.Image.{header_len}
+use Rattle.acts_model.specs.Moved.{within}
+use Rattle.acts_model.specs.Transfers.{Holds, Place, Transfer, Arrives, Starts, Runs, Returns, Receives, Gives, Forks, Founds, Begins, Shares, Delivers, Leaves, Exits, Faults, Dies}
+use Rattle.acts_model.specs.Views.{block_at}
+use Rattle.lineage_model.specs.Flow.{Location, Register, Slot, Memory, At, Byte, StartRegister, StartSlot, StartMemory, Dependence, Prior, Received, body_byte, block_byte, bytes_at, flow, offset, operand_bytes, or_else, received_byte, result_bytes, result_only, shown, shown_byte, started_byte, unless_result, when, if_below, saved}
+use Rattle.taint_tracker.specs.Goes.{IsOwn, IsUnheld, IsUnheldBy}
+use Rattle.taint_tracker.specs.Steps.{Holders, child_holds, fresh_holds, holders_after, shared_holds, with_holder}
+
+-- which bytes of registers, windows and segments are followed, and which bytes of results
+pub record Scope : Type 1 where
+  pub register : ℕ → ℕ → Type 0
+  pub window : ℕ → Type 0
+  pub segment : ℕ → Type 0
+  pub result : ℕ → Type 0
+
+-- what results come to is followed, and so is the status of an exit
+pub record IsScope (s : Scope) : Type 0 where
+  pub results : (r i : ℕ) → s.register r i → s.result i
+  pub stores : (instr : Instr) (i : ℕ) → i < stored_len instr → s.result i
+  pub status : s.register 10 0
+
+-- a byte that a process holds
+abbrev pub IsHeldBy : Scope → Holds → ℕ → Location → Type 0
+IsHeldBy s hs pid (Register p r i) = (p ≡ pid) × s.register r i
+IsHeldBy s hs pid (Slot p r i) = (p ≡ pid) × s.register r i
+IsHeldBy s hs pid (Memory made at) = ((hs.window ≡ made) × s.window at) ⊎ ((hs.segment ≡ Some made) × s.segment at)
+
+-- or some live member
+abbrev pub IsHeld : Scope → Holders → Location → Type 0
+IsHeld s h l = (p : ℕ) × (hs : Holds) × (h p ≡ Some hs) × IsHeldBy s hs p l
+
+-- what a byte takes is held, or may be received
+abbrev pub IsSource : Scope → Holders → (At → Type 0) → Dependence → Type 0
+IsSource s h Q (Prior l) = IsHeld s h l
+IsSource s h Q (Received at) = Q at
+
+abbrev pub AreSources : Scope → Holders → (At → Type 0) → List Dependence → Type 0
+AreSources s h Q ds = AllByRecursion (IsSource s h Q) ds
+
+-- what a step receives
+abbrev pub IsGot : Scope → Transfer → At → Type 0
+IsGot s (Starts pid made load len block block_len) (Byte k) = k < len
+IsGot s (Receives pid place len) (Byte k) = k < len
+IsGot s (Begins pid made) (StartRegister r i) = s.register r i
+IsGot s (Begins pid made) (StartSlot r i) = s.register r i
+IsGot s (Begins pid made) (StartMemory at) = s.window at
+IsGot s transfer at = ⊥
+
+-- a byte of an event that is followed
+abbrev pub InScope : Scope → At → Type 0
+InScope s (Byte k) = Unit {0}
+InScope s (StartRegister r i) = s.register r i
+InScope s (StartSlot r i) = s.register r i
+InScope s (StartMemory at) = s.window at
+
+-- a byte that the step shows where it receives it
+abbrev pub IsByte : At → Type 0
+IsByte (Byte k) = Unit {0}
+IsByte (StartRegister r i) = ⊥
+IsByte (StartSlot r i) = ⊥
+IsByte (StartMemory at) = ⊥
+
+abbrev pub IsShownGot : Scope → Transfer → At → Type 0
+IsShownGot s d at = IsGot s d at × IsByte at
+
+-- all bytes of a range are held
+abbrev pub RangeIsHeld : Scope → Holders → Option Place → ℕ → Type 0
+RangeIsHeld s h place len = (k : ℕ) → k < len → AllByRecursion (IsHeld s h) (bytes_at place k)
+
+-- what a step is of what members hold
+abbrev pub IsTaking : Table → Scope → Holders → Transfer → Type 0
+IsTaking table s h (Arrives len) = ⊥
+IsTaking table s h (Runs pid instr place) = (i : ℕ) → s.result i → AllByRecursion (IsHeld s h) (flat_map (operand_bytes pid instr place) (table instr i))
+IsTaking table s h (Starts pid made load len block block_len) = RangeIsHeld s h block block_len
+IsTaking table s h (Gives pid place len) = RangeIsHeld s h place len
+IsTaking table s h (Forks pid child from into) = (hs : Holds) × (h pid ≡ Some hs) × (hs.window ≡ from) × IsUnheld h into
+IsTaking table s h (Founds pid child from into) = (hs : Holds) × (h pid ≡ Some hs) × (hs.window ≡ from) × IsUnheld h into × IsNone (h child)
+IsTaking table s h (Begins pid made) = IsOwn h pid made
+IsTaking table s h (Shares pid made) = (hs : Holds) × (h pid ≡ Some hs)
+IsTaking table s h (Exits pid) = (hs : Holds) × (h pid ≡ Some hs)
+IsTaking table s h other = Unit {0}
+
+priors : (s : Scope) (h : Holders) (Q : At → Type 0) (ls : List Location) → AllByRecursion (IsHeld s h) ls → AreSources s h Q (map Prior ls)
+priors s h Q [] a = tt
+priors s h Q (l ∷ ls) a = (a.0, priors s h Q ls a.1)
+
+-- a byte that isn't written
+abbrev Or-self : Location → Option (List Dependence) → List Dependence
+Or-self l o = unwrap_or o (Prior l ∷ [])
+
+within-below : (a n b k : ℕ) → within a n b ≡ Some k → k < n
+within-below a n b k is = by-test (nat_le a b && nat_lt b (a + n)) refl is
+  where
+    by-test : (t : Bool) → (nat_le a b && nat_lt b (a + n)) ≡ t → (if t then Some (b - a) else None) ≡ Some k → k < n
+    by-test true t h =
+        let parts = and_parts (nat_le a b) (nat_lt b (a + n)) t in
+        let low = leb-true a b parts.0 in let high = ltb-true b (a + n) parts.1 in let e = same_Some (b - a) k h in omega (arith, low, high, e)
+    by-test false t h = absurd (none-some k h)
+
+offset-below : (place : Option Place) (n made at k : ℕ) → offset place n made at ≡ Some k → k < n
+offset-below None n made at k is = absurd (none-some k is)
+offset-below (Some place) n made at k is = by-test (place.made == made) is
+  where
+    by-test : (t : Bool) → (if t then within place.at n at else None) ≡ Some k → k < n
+    by-test true h = within-below place.at n at k h
+    by-test false h = absurd (none-some k h)
+
+module _ (table : Table) (s : Scope) (is-scope : IsScope s) (h : Holders) where
+  module _ (Q : At → Type 0) where
+    -- one byte that stays
+    self : (p : ℕ) (hs : Holds) (l : Location) → h p ≡ Some hs → IsHeldBy s hs p l → AreSources s h Q (Prior l ∷ [])
+    self p hs l lives held = ((p, hs, lives, held), tt)
+
+    either : (b : Bool) (l : Location) (ds : List Dependence) → (b ≡ true → AreSources s h Q ds) → (b ≡ false → AreSources s h Q (Prior l ∷ [])) → AreSources s h Q (Or-self l (when b ds))
+    either true l ds hit miss = hit refl
+    either false l ds hit miss = miss refl
+
+    unless-result : (r : ℕ) (d : Dependence) → IsSource s h Q d → AreSources s h Q (unless_result r (d ∷ []))
+    unless-result r d is = by-test (r == 10)
+      where
+        by-test : (b : Bool) → AreSources s h Q (if b then [] else d ∷ [])
+        by-test true = tt
+        by-test false = (is, tt)
+
+  same-number : (a b : ℕ) → a ≡ b → (a == b) ≡ true
+  same-number a b e = elim (eqb_tells a b) [ inl is ↦ is.0 | inr apart ↦ absurd (apart.1 e) ]
+
+  other-number : (a b : ℕ) → (a ≡ b → ⊥) → (a == b) ≡ false
+  other-number a b e = elim (eqb_tells a b) [ inl is ↦ absurd (e is.1) | inr apart ↦ apart.0 ]
+
+  -- what a live member holds after each step comes of what members held before it
+  abbrev FlowIsHeld : Transfer → Type 0
+  FlowIsHeld d = (p : ℕ) (hs : Holds) (l : Location) → holders_after d h p ≡ Some hs → IsHeldBy s hs p l → AreSources s h (IsGot s d) (flow table d l)
+
+  quiet : (d : Transfer) → ((l : Location) → flow table d l ≡ Prior l ∷ []) → ((p : ℕ) (hs : Holds) → holders_after d h p ≡ Some hs → h p ≡ Some hs) → FlowIsHeld d
+  quiet d keeps was p hs l lives held = subst (λ (ds : List Dependence). AreSources s h (IsGot s d) ds) (sym (keeps l)) (self (IsGot s d) p hs l (was p hs lives) held)
+
+  gone : (pid p : ℕ) (hs : Holds) → with_holder pid None h p ≡ Some hs → h p ≡ Some hs
+  gone pid p hs is = by-test (p == pid) is
+    where
+      by-test : (b : Bool) → (if b then None else h p) ≡ Some hs → h p ≡ Some hs
+      by-test true e = absurd (none-some hs e)
+      by-test false e = e
+
+  -- a call's result
+  result-held : (Q : At → Type 0) (pid p : ℕ) (hs : Holds) (l : Location) → h p ≡ Some hs → IsHeldBy s hs p l → AreSources s h Q (Or-self l (result_only pid l))
+  result-held Q pid p hs (Register q r i) lives held = either Q ((q == pid) && (r == 10)) (Register q r i) [] (λ hit. tt) (λ miss. self Q p hs (Register q r i) lives held)
+  result-held Q pid p hs (Slot q r i) lives held = self Q p hs (Slot q r i) lives held
+  result-held Q pid p hs (Memory made at) lives held = self Q p hs (Memory made at) lives held
+
+  returns-held : (pid : ℕ) → FlowIsHeld (Returns pid)
+  returns-held pid p hs l lives held = result-held (IsGot s (Returns pid)) pid p hs l lives held
+
+  gives-held : (pid : ℕ) (place : Option Place) (len : ℕ) → FlowIsHeld (Gives pid place len)
+  gives-held pid place len p hs l lives held = result-held (IsGot s (Gives pid place len)) pid p hs l lives held
+
+  receives-held : (pid : ℕ) (place : Option Place) (len : ℕ) → FlowIsHeld (Receives pid place len)
+  receives-held pid place len p hs (Register q r i) lives held =
+      subst (λ (o : Option (List Dependence)). AreSources s h (IsGot s (Receives pid place len)) (Or-self (Register q r i) o)) (or-none (result_only pid (Register q r i))) (result-held (IsGot s (Receives pid place len)) pid p hs (Register q r i) lives held)
+    where
+      or-none : (o : Option (List Dependence)) → o ≡ or_else o None
+      or-none None = refl
+      or-none (Some ds) = refl
+  receives-held pid place len p hs (Slot q r i) lives held = self (IsGot s (Receives pid place len)) p hs (Slot q r i) lives held
+  receives-held pid place len p hs (Memory made at) lives held = by-offset (offset place len made at) refl
+    where
+      by-offset : (o : Option ℕ) → offset place len made at ≡ o → AreSources s h (IsGot s (Receives pid place len)) (Or-self (Memory made at) (option_map received_byte o))
+      by-offset None e = self (IsGot s (Receives pid place len)) p hs (Memory made at) lives held
+      by-offset (Some k) e = (offset-below place len made at k e, tt)
+
+  runs-held : (pid : ℕ) (instr : Instr) (place : Option Place) → IsTaking table s h (Runs pid instr place) → FlowIsHeld (Runs pid instr place)
+  runs-held pid instr place takes p hs (Register q zero i) lives held = self (IsGot s (Runs pid instr place)) p hs (Register q zero i) lives held
+  runs-held pid instr place takes p hs (Register q (suc r) i) lives held =
+      let Q = IsGot s (Runs pid instr place) in
+      either Q ((q == pid) && (suc r == rd_of instr)) (Register q (suc r) i) (result_bytes table pid instr place i)
+      (λ hit. priors s h Q (flat_map (operand_bytes pid instr place) (table instr i)) (takes i (is-scope.results (suc r) i held.1)))
+      (λ miss. self Q p hs (Register q (suc r) i) lives held)
+  runs-held pid instr place takes p hs (Slot q r i) lives held = self (IsGot s (Runs pid instr place)) p hs (Slot q r i) lives held
+  runs-held pid instr place takes p hs (Memory made at) lives held = by-offset (offset place (stored_len instr) made at) refl
+    where
+      by-offset : (o : Option ℕ) → offset place (stored_len instr) made at ≡ o → AreSources s h (IsGot s (Runs pid instr place)) (Or-self (Memory made at) (option_map (result_bytes table pid instr place) o))
+      by-offset None e = self (IsGot s (Runs pid instr place)) p hs (Memory made at) lives held
+      by-offset (Some k) e =
+          priors s h (IsGot s (Runs pid instr place)) (flat_map (operand_bytes pid instr place) (table instr k)) (takes k (is-scope.stores instr k (offset-below place (stored_len instr) made at k e)))
+
+  -- an image
+  started-held : (pid made load len : ℕ) (block : Option Place) (block_len at : ℕ) → RangeIsHeld s h block block_len → AreSources s h (IsGot s (Starts pid made load len block block_len)) (started_byte load len block block_len at)
+  started-held pid made load len block block_len at takes = by-block (within (block_at block_len) block_len at) refl
+    where
+      by-body : (o : Option ℕ) → within load (len - header_len) at ≡ o → AreSources s h (IsGot s (Starts pid made load len block block_len)) (unwrap_or (option_map (λ k. received_byte (header_len + k)) o) [])
+      by-body None e = tt
+      by-body (Some k) e = ((let low = within-below load (len - header_len) at k e in omega (arith, low)), tt)
+
+      by-block : (o : Option ℕ) → within (block_at block_len) block_len at ≡ o → AreSources s h (IsGot s (Starts pid made load len block block_len)) (unwrap_or (option_map (block_byte block) o) (body_byte load len at))
+      by-block None e = by-body (within load (len - header_len) at) refl
+      by-block (Some k) e = priors s h (IsGot s (Starts pid made load len block block_len)) (bytes_at block k) (takes k (within-below (block_at block_len) block_len at k e))
+
+  -- a process that changes, and the others
+  changes : (pid p : ℕ) (o : Option Holds) (hs : Holds) → with_holder pid o h p ≡ Some hs → ((p ≡ pid) × (o ≡ Some hs)) ⊎ ((p ≡ pid → ⊥) × (h p ≡ Some hs))
+  changes pid p o hs is =
+      elim (eqb_tells p pid) [
+        | inl same ↦ inl (same.1, rw same.0 at is)
+        | inr apart ↦ inr (apart.1, rw apart.0 at is)
+      ]
+
+  starts-held : (pid made load len : ℕ) (block : Option Place) (block_len : ℕ) → RangeIsHeld s h block block_len → FlowIsHeld (Starts pid made load len block block_len)
+  starts-held pid made load len block block_len takes p hs l lives held = by-holder (changes pid p (Some (fresh_holds made)) hs lives) l held
+    where
+      by-holder : ((p ≡ pid) × (Some (fresh_holds made) ≡ Some hs)) ⊎ ((p ≡ pid → ⊥) × (h p ≡ Some hs)) → (l : Location) → IsHeldBy s hs p l → AreSources s h (IsGot s (Starts pid made load len block block_len)) (flow table (Starts pid made load len block block_len) l)
+      by-holder (inl own) (Register q r i) held =
+          either (IsGot s (Starts pid made load len block block_len)) (q == pid) (Register q r i) [] (λ hit. tt) (λ miss. absurd (true≢false (sym (same-number q pid (held.0 ∙ own.0)) ∙ miss)))
+      by-holder (inl own) (Slot q r i) held =
+          either (IsGot s (Starts pid made load len block block_len)) (q == pid) (Slot q r i) [] (λ hit. tt) (λ miss. absurd (true≢false (sym (same-number q pid (held.0 ∙ own.0)) ∙ miss)))
+      by-holder (inl own) (Memory m at) (inl window) =
+          let e = same_Some (fresh_holds made) hs own.1 in
+          either (IsGot s (Starts pid made load len block block_len)) (m == made) (Memory m at) (started_byte load len block block_len at)
+          (λ hit. started-held pid made load len block block_len at takes)
+          (λ miss. absurd (true≢false (sym (same-number m made (sym window.0 ∙ sym (ap (λ (x : Holds). x.window) e))) ∙ miss)))
+      by-holder (inl own) (Memory m at) (inr segment) =
+          absurd (none-some m (ap (λ (x : Holds). x.segment) (same_Some (fresh_holds made) hs own.1) ∙ segment.0))
+      by-holder (inr other) (Register q r i) held =
+          either (IsGot s (Starts pid made load len block block_len)) (q == pid) (Register q r i) [] (λ hit. tt) (λ miss. self (IsGot s (Starts pid made load len block block_len)) p hs (Register q r i) other.1 held)
+      by-holder (inr other) (Slot q r i) held =
+          either (IsGot s (Starts pid made load len block block_len)) (q == pid) (Slot q r i) [] (λ hit. tt) (λ miss. self (IsGot s (Starts pid made load len block block_len)) p hs (Slot q r i) other.1 held)
+      by-holder (inr other) (Memory m at) held =
+          either (IsGot s (Starts pid made load len block block_len)) (m == made) (Memory m at) (started_byte load len block block_len at)
+          (λ hit. started-held pid made load len block block_len at takes)
+          (λ miss. self (IsGot s (Starts pid made load len block block_len)) p hs (Memory m at) other.1 held)
+
+  -- a member holds no memory that is new
+  unheld : (p made : ℕ) (hs : Holds) → h p ≡ Some hs → IfSome (h p) (IsUnheldBy made) → IsUnheldBy made hs
+  unheld p made hs lives is = subst (λ (o : Option Holds). IfSome o (IsUnheldBy made)) lives is
+
+  not-new : (p made m at : ℕ) (hs : Holds) → IsUnheldBy made hs → IsHeldBy s hs p (Memory m at) → (m == made) ≡ false
+  not-new p made m at hs u (inl window) = other-number m made (λ e. u.window (window.0 ∙ e))
+  not-new p made m at hs u (inr segment) = other-number m made (λ e. u.segment (segment.0 ∙ ap (λ (n : ℕ). Some n) e))
+
+  by-number : (Q : At → Type 0) (b : Bool) (l : Location) (ds : List Dependence) → b ≡ true → AreSources s h Q ds → AreSources s h Q (Or-self l (when b ds))
+  by-number Q b l ds is a = either Q b l ds (λ hit. a) (λ miss. absurd (true≢false (sym is ∙ miss)))
+
+  -- what follows a result that isn't this register's
+  behind-result : (Q : At → Type 0) (b : Bool) (l : Location) (o : Option (List Dependence)) → AreSources s h Q (Or-self l o) → AreSources s h Q (Or-self l (or_else (when b []) o))
+  behind-result Q true l o a = tt
+  behind-result Q false l o a = a
+
+  -- a child in the group
+  abbrev ForkHeld : ℕ → ℕ → ℕ → ℕ → ℕ → Holds → Location → Type 0
+  ForkHeld pid child from into p hs l = AreSources s h (IsGot s (Forks pid child from into)) (flow table (Forks pid child from into) l)
+
+  child-is : (into : ℕ) (o : Option Holds) (parent hs : Holds) → o ≡ Some parent → child_holds into o ≡ Some hs → hs ≡ record { window = into; segment = parent.segment }
+  child-is into None parent hs is e = absurd (none-some parent is)
+  child-is into (Some x) parent hs is e = sym (same_Some (record { window = into; segment = x.segment }) hs e) ∙ ap (λ (y : Holds). record { window = into; segment = y.segment }) (same_Some x parent is)
+
+  fork-child : (pid child from into p : ℕ) (parent : Holds) (l : Location) → h pid ≡ Some parent → parent.window ≡ from → IsUnheldBy into parent → p ≡ child
+      → IsHeldBy s (record { window = into; segment = parent.segment }) p l → AreSources s h (IsGot s (Forks pid child from into)) (flow table (Forks pid child from into) l)
+  fork-child pid child from into p parent (Register q r i) lives window u is held =
+      let Q = IsGot s (Forks pid child from into) in
+      behind-result Q ((q == pid) && (r == 10)) (Register q r i) (when (q == child) (unless_result r (Prior (Register pid r i) ∷ [])))
+      (by-number Q (q == child) (Register q r i) (unless_result r (Prior (Register pid r i) ∷ [])) (same-number q child (held.0 ∙ is))
+      (unless-result Q r (Prior (Register pid r i)) (pid, parent, lives, (refl, held.1))))
+  fork-child pid child from into p parent (Slot q r i) lives window u is held =
+      let Q = IsGot s (Forks pid child from into) in
+      by-number Q (q == child) (Slot q r i) (Prior (Slot pid r i) ∷ []) (same-number q child (held.0 ∙ is)) (self Q pid parent (Slot pid r i) lives (refl, held.1))
+  fork-child pid child from into p parent (Memory m at) lives window u is (inl own) =
+      let Q = IsGot s (Forks pid child from into) in
+      by-number Q (m == into) (Memory m at) (Prior (Memory from at) ∷ []) (same-number m into (sym own.0)) (self Q pid parent (Memory from at) lives (inl (window, own.1)))
+  fork-child pid child from into p parent (Memory m at) lives window u is (inr shared) =
+      let Q = IsGot s (Forks pid child from into) in
+      either Q (m == into) (Memory m at) (Prior (Memory from at) ∷ [])
+      (λ hit. absurd (true≢false (sym hit ∙ not-new pid into m at parent u (inr shared))))
+      (λ miss. self Q pid parent (Memory m at) lives (inr shared))
+
+  fork-other : (pid child from into p : ℕ) (hs : Holds) (l : Location) → h p ≡ Some hs → IsUnheldBy into hs → (p ≡ child → ⊥) → IsHeldBy s hs p l
+      → AreSources s h (IsGot s (Forks pid child from into)) (flow table (Forks pid child from into) l)
+  fork-other pid child from into p hs (Register q r i) lives u other held =
+      let Q = IsGot s (Forks pid child from into) in
+      behind-result Q ((q == pid) && (r == 10)) (Register q r i) (when (q == child) (unless_result r (Prior (Register pid r i) ∷ [])))
+      (either Q (q == child) (Register q r i) (unless_result r (Prior (Register pid r i) ∷ []))
+      (λ hit. absurd (true≢false (sym hit ∙ other-number q child (λ e. other (sym held.0 ∙ e)))))
+      (λ miss. self Q p hs (Register q r i) lives held))
+  fork-other pid child from into p hs (Slot q r i) lives u other held =
+      let Q = IsGot s (Forks pid child from into) in
+      either Q (q == child) (Slot q r i) (Prior (Slot pid r i) ∷ [])
+      (λ hit. absurd (true≢false (sym hit ∙ other-number q child (λ e. other (sym held.0 ∙ e)))))
+      (λ miss. self Q p hs (Slot q r i) lives held)
+  fork-other pid child from into p hs (Memory m at) lives u other held =
+      let Q = IsGot s (Forks pid child from into) in
+      either Q (m == into) (Memory m at) (Prior (Memory from at) ∷ [])
+      (λ hit. absurd (true≢false (sym hit ∙ not-new p into m at hs u held)))
+      (λ miss. self Q p hs (Memory m at) lives held)
+
+  forks-held : (pid child from into : ℕ) → IsTaking table s h (Forks pid child from into) → FlowIsHeld (Forks pid child from into)
+  forks-held pid child from into takes p hs l lives held =
+      elim (changes child p (child_holds into (h pid)) hs lives) [
+        | inl own ↦ fork-child pid child from into p takes.0 l takes.1 takes.2 (unheld pid into takes.0 takes.1 (takes.3 pid)) own.0
+            (subst (λ (x : Holds). IsHeldBy s x p l) (child-is into (h pid) takes.0 hs takes.1 own.1) held)
+        | inr other ↦ fork-other pid child from into p hs l other.1 (unheld p into hs other.1 (takes.3 p)) other.0 held
+      ]
+
+  -- a child that starts a group isn't a member
+  alive-isnt : (child p : ℕ) (hs : Holds) → h p ≡ Some hs → IsNone (h child) → p ≡ child → ⊥
+  alive-isnt child p hs lives none e = not-some (h child) none (ap h (sym e) ∙ lives)
+    where
+      not-some : (o : Option Holds) → IsNone o → o ≡ Some hs → ⊥
+      not-some None n k = none-some hs k
+      not-some (Some x) n k = true≢false n
+
+  founds-held : (pid child from into : ℕ) → IsTaking table s h (Founds pid child from into) → FlowIsHeld (Founds pid child from into)
+  founds-held pid child from into takes p hs (Register q r i) lives held =
+      let Q = IsGot s (Founds pid child from into) in
+      behind-result Q ((q == pid) && (r == 10)) (Register q r i) (when (q == child) (unless_result r (Received (StartRegister r i) ∷ [])))
+      (either Q (q == child) (Register q r i) (unless_result r (Received (StartRegister r i) ∷ []))
+      (λ hit. absurd (true≢false (sym hit ∙ other-number q child (λ e. alive-isnt child p hs lives takes.4 (sym held.0 ∙ e)))))
+      (λ miss. self Q p hs (Register q r i) lives held))
+  founds-held pid child from into takes p hs (Slot q r i) lives held =
+      let Q = IsGot s (Founds pid child from into) in
+      either Q (q == child) (Slot q r i) (Received (StartSlot r i) ∷ [])
+      (λ hit. absurd (true≢false (sym hit ∙ other-number q child (λ e. alive-isnt child p hs lives takes.4 (sym held.0 ∙ e)))))
+      (λ miss. self Q p hs (Slot q r i) lives held)
+  founds-held pid child from into takes p hs (Memory m at) lives held =
+      let Q = IsGot s (Founds pid child from into) in
+      either Q (m == into) (Memory m at) (Received (StartMemory at) ∷ [])
+      (λ hit. absurd (true≢false (sym hit ∙ not-new p into m at hs (unheld p into hs lives (takes.3 p)) held)))
+      (λ miss. self Q p hs (Memory m at) lives held)
+
+  -- the group's first process
+  begins-held : (pid made : ℕ) → IsOwn h pid made → FlowIsHeld (Begins pid made)
+  begins-held pid made takes p hs l lives held = by-holder (changes pid p (Some (fresh_holds made)) hs lives) l held
+    where
+      by-holder : ((p ≡ pid) × (Some (fresh_holds made) ≡ Some hs)) ⊎ ((p ≡ pid → ⊥) × (h p ≡ Some hs)) → (l : Location) → IsHeldBy s hs p l → AreSources s h (IsGot s (Begins pid made)) (flow table (Begins pid made) l)
+      by-holder (inl own) (Register q r i) held =
+          by-number (IsGot s (Begins pid made)) (q == pid) (Register q r i) (unless_result r (Received (StartRegister r i) ∷ [])) (same-number q pid (held.0 ∙ own.0))
+          (unless-result (IsGot s (Begins pid made)) r (Received (StartRegister r i)) held.1)
+      by-holder (inl own) (Slot q r i) held =
+          by-number (IsGot s (Begins pid made)) (q == pid) (Slot q r i) (Received (StartSlot r i) ∷ []) (same-number q pid (held.0 ∙ own.0)) (held.1, tt)
+      by-holder (inl own) (Memory m at) (inl window) =
+          by-number (IsGot s (Begins pid made)) (m == made) (Memory m at) (Received (StartMemory at) ∷ [])
+          (same-number m made (sym window.0 ∙ sym (ap (λ (x : Holds). x.window) (same_Some (fresh_holds made) hs own.1)))) (window.1, tt)
+      by-holder (inl own) (Memory m at) (inr segment) =
+          absurd (none-some m (ap (λ (x : Holds). x.segment) (same_Some (fresh_holds made) hs own.1) ∙ segment.0))
+      by-holder (inr other) (Register q r i) held =
+          either (IsGot s (Begins pid made)) (q == pid) (Register q r i) (unless_result r (Received (StartRegister r i) ∷ []))
+          (λ hit. absurd (true≢false (sym hit ∙ other-number q pid (λ e. other.0 (sym held.0 ∙ e)))))
+          (λ miss. self (IsGot s (Begins pid made)) p hs (Register q r i) other.1 held)
+      by-holder (inr other) (Slot q r i) held =
+          either (IsGot s (Begins pid made)) (q == pid) (Slot q r i) (Received (StartSlot r i) ∷ [])
+          (λ hit. absurd (true≢false (sym hit ∙ other-number q pid (λ e. other.0 (sym held.0 ∙ e)))))
+          (λ miss. self (IsGot s (Begins pid made)) p hs (Slot q r i) other.1 held)
+      by-holder (inr other) (Memory m at) held =
+          either (IsGot s (Begins pid made)) (m == made) (Memory m at) (Received (StartMemory at) ∷ [])
+          (λ hit. absurd (true≢false (sym hit ∙ not-new p made m at hs (unheld p made hs other.1 (takes p other.0)) held)))
+          (λ miss. self (IsGot s (Begins pid made)) p hs (Memory m at) other.1 held)
+
+  -- a fresh segment
+  shared-is : (made : ℕ) (o : Option Holds) (own hs : Holds) → o ≡ Some own → shared_holds made o ≡ Some hs → hs ≡ record { window = own.window; segment = Some made }
+  shared-is made None own hs is e = absurd (none-some own is)
+  shared-is made (Some x) own hs is e = sym (same_Some (record { window = x.window; segment = Some made }) hs e) ∙ ap (λ (y : Holds). record { window = y.window; segment = Some made }) (same_Some x own is)
+
+  shares-own : (pid made p : ℕ) (own : Holds) (l : Location) → h pid ≡ Some own → p ≡ pid → IsHeldBy s (record { window = own.window; segment = Some made }) p l
+      → AreSources s h (IsGot s (Shares pid made)) (flow table (Shares pid made) l)
+  shares-own pid made p own (Register q r i) lives is held =
+      let Q = IsGot s (Shares pid made) in
+      behind-result Q ((q == pid) && (r == 10)) (Register q r i) None (self Q pid own (Register q r i) lives (held.0 ∙ is, held.1))
+  shares-own pid made p own (Slot q r i) lives is held = self (IsGot s (Shares pid made)) pid own (Slot q r i) lives (held.0 ∙ is, held.1)
+  shares-own pid made p own (Memory m at) lives is (inl window) =
+      let Q = IsGot s (Shares pid made) in
+      either Q (m == made) (Memory m at) [] (λ hit. tt) (λ miss. self Q pid own (Memory m at) lives (inl window))
+  shares-own pid made p own (Memory m at) lives is (inr segment) =
+      by-number (IsGot s (Shares pid made)) (m == made) (Memory m at) [] (same-number m made (sym (same_Some made m segment.0))) tt
+
+  shares-held : (pid made : ℕ) → IsTaking table s h (Shares pid made) → FlowIsHeld (Shares pid made)
+  shares-held pid made takes p hs l lives held =
+      elim (changes pid p (shared_holds made (h pid)) hs lives) [
+        | inl own ↦ shares-own pid made p takes.0 l takes.1 own.0 (subst (λ (x : Holds). IsHeldBy s x p l) (shared-is made (h pid) takes.0 hs takes.1 own.1) held)
+        | inr other ↦ others l held other.1
+      ]
+    where
+      others : (l : Location) → IsHeldBy s hs p l → h p ≡ Some hs → AreSources s h (IsGot s (Shares pid made)) (flow table (Shares pid made) l)
+      others (Register q r i) held lives =
+          behind-result (IsGot s (Shares pid made)) ((q == pid) && (r == 10)) (Register q r i) None (self (IsGot s (Shares pid made)) p hs (Register q r i) lives held)
+      others (Slot q r i) held lives = self (IsGot s (Shares pid made)) p hs (Slot q r i) lives held
+      others (Memory m at) held lives =
+          either (IsGot s (Shares pid made)) (m == made) (Memory m at) [] (λ hit. tt) (λ miss. self (IsGot s (Shares pid made)) p hs (Memory m at) lives held)
+
+  -- signals
+  delivers-held : (pid : ℕ) (cut : Bool) → FlowIsHeld (Delivers pid cut)
+  delivers-held pid cut p hs (Register q r i) lives held =
+      let Q = IsGot s (Delivers pid cut) in
+      behind-result Q ((q == pid) && (r == 10)) (Register q r i) None (self Q p hs (Register q r i) lives held)
+  delivers-held pid cut p hs (Slot q r i) lives held =
+      either (IsGot s (Delivers pid cut)) (q == pid) (Slot q r i) (saved pid cut r i) (λ hit. by-cut (cut && (r == 10)) (elim (eqb_tells q pid) [ inl is ↦ is.1 | inr apart ↦ absurd (true≢false (sym hit ∙ apart.0)) ])) (λ miss. self (IsGot s (Delivers pid cut)) p hs (Slot q r i) lives held)
+    where
+      by-cut : (b : Bool) → q ≡ pid → AreSources s h (IsGot s (Delivers pid cut)) (if b then [] else Prior (Register pid r i) ∷ [])
+      by-cut true is = tt
+      by-cut false is = self (IsGot s (Delivers pid cut)) p hs (Register pid r i) lives (sym is ∙ held.0, held.1)
+  delivers-held pid cut p hs (Memory m at) lives held = self (IsGot s (Delivers pid cut)) p hs (Memory m at) lives held
+
+  leaves-held : (pid : ℕ) → FlowIsHeld (Leaves pid)
+  leaves-held pid p hs (Register q r i) lives held =
+      either (IsGot s (Leaves pid)) (q == pid) (Register q r i) (Prior (Slot pid r i) ∷ [])
+      (λ hit. self (IsGot s (Leaves pid)) p hs (Slot pid r i) lives (elim (eqb_tells q pid) [ inl is ↦ (sym is.1 ∙ held.0, held.1) | inr apart ↦ absurd (true≢false (sym hit ∙ apart.0)) ]))
+      (λ miss. self (IsGot s (Leaves pid)) p hs (Register q r i) lives held)
+  leaves-held pid p hs (Slot q r i) lives held =
+      either (IsGot s (Leaves pid)) (q == pid) (Slot q r i) [] (λ hit. tt) (λ miss. self (IsGot s (Leaves pid)) p hs (Slot q r i) lives held)
+  leaves-held pid p hs (Memory m at) lives held = self (IsGot s (Leaves pid)) p hs (Memory m at) lives held
+
+  pub flow-held : (d : Transfer) → IsTaking table s h d → FlowIsHeld d
+  flow-held (Arrives len) takes = absurd takes
+  flow-held (Starts pid made load len block block_len) takes = starts-held pid made load len block block_len takes
+  flow-held (Runs pid instr place) takes = runs-held pid instr place takes
+  flow-held (Returns pid) takes = returns-held pid
+  flow-held (Receives pid place len) takes = receives-held pid place len
+  flow-held (Gives pid place len) takes = gives-held pid place len
+  flow-held (Forks pid child from into) takes = forks-held pid child from into takes
+  flow-held (Founds pid child from into) takes = founds-held pid child from into takes
+  flow-held (Begins pid made) takes = begins-held pid made takes
+  flow-held (Shares pid made) takes = shares-held pid made takes
+  flow-held (Delivers pid cut) takes = delivers-held pid cut
+  flow-held (Leaves pid) takes = leaves-held pid
+  flow-held (Exits pid) takes = quiet (Exits pid) (λ l. refl) (gone pid)
+  flow-held (Faults pid) takes = quiet (Faults pid) (λ l. refl) (gone pid)
+  flow-held (Dies pid) takes = quiet (Dies pid) (λ l. refl) (gone pid)
+
+  -- what a byte of the step's event takes
+  below-held : (Q : At → Type 0) (k n : ℕ) (ds : List Dependence) → (k < n → AreSources s h Q ds) → AreSources s h Q (if_below k n ds)
+  below-held Q k n ds a = by-test (nat_lt k n) refl
+    where
+      by-test : (b : Bool) → nat_lt k n ≡ b → AreSources s h Q (if b then ds else [])
+      by-test true t = a (ltb-true k n t)
+      by-test false t = tt
+
+  byte-held : (d : Transfer) (k : ℕ) → IsTaking table s h d → AreSources s h (IsShownGot s d) (shown_byte d k)
+  byte-held (Arrives len) k takes = absurd takes
+  byte-held (Starts pid made load len block block_len) k takes =
+      below-held (IsShownGot s (Starts pid made load len block block_len)) k len (received_byte k) (λ low. ((low, tt), tt))
+  byte-held (Runs pid instr place) k takes = tt
+  byte-held (Returns pid) k takes = tt
+  byte-held (Receives pid place len) k takes = below-held (IsShownGot s (Receives pid place len)) k len (received_byte k) (λ low. ((low, tt), tt))
+  byte-held (Gives pid place len) k takes =
+      below-held (IsShownGot s (Gives pid place len)) k len (map Prior (bytes_at place k)) (λ low. priors s h (IsShownGot s (Gives pid place len)) (bytes_at place k) (takes k low))
+  byte-held (Forks pid child from into) k takes = tt
+  byte-held (Founds pid child from into) k takes = tt
+  byte-held (Begins pid made) k takes = tt
+  byte-held (Shares pid made) k takes = tt
+  byte-held (Delivers pid cut) k takes = tt
+  byte-held (Leaves pid) k takes = tt
+  byte-held (Exits pid) k takes =
+      below-held (IsShownGot s (Exits pid)) k 1 (Prior (Register pid 10 0) ∷ []) (λ low. self (IsShownGot s (Exits pid)) pid takes.0 (Register pid 10 0) takes.1 (refl, is-scope.status))
+  byte-held (Faults pid) k takes = tt
+  byte-held (Dies pid) k takes = tt
+
+  register-held : (d : Transfer) (r i : ℕ) → IsTaking table s h d → s.register r i → AreSources s h (IsShownGot s d) (shown d (StartRegister r i))
+  register-held (Founds pid child from into) r i takes is =
+      unless-result (IsShownGot s (Founds pid child from into)) r (Prior (Register pid r i)) (pid, takes.0, takes.1, (refl, is))
+  register-held (Arrives len) r i takes is = tt
+  register-held (Starts pid made load len block block_len) r i takes is = tt
+  register-held (Runs pid instr place) r i takes is = tt
+  register-held (Returns pid) r i takes is = tt
+  register-held (Receives pid place len) r i takes is = tt
+  register-held (Gives pid place len) r i takes is = tt
+  register-held (Forks pid child from into) r i takes is = tt
+  register-held (Begins pid made) r i takes is = tt
+  register-held (Shares pid made) r i takes is = tt
+  register-held (Delivers pid cut) r i takes is = tt
+  register-held (Leaves pid) r i takes is = tt
+  register-held (Exits pid) r i takes is = tt
+  register-held (Faults pid) r i takes is = tt
+  register-held (Dies pid) r i takes is = tt
+
+  slot-held : (d : Transfer) (r i : ℕ) → IsTaking table s h d → s.register r i → AreSources s h (IsShownGot s d) (shown d (StartSlot r i))
+  slot-held (Founds pid child from into) r i takes is = self (IsShownGot s (Founds pid child from into)) pid takes.0 (Slot pid r i) takes.1 (refl, is)
+  slot-held (Arrives len) r i takes is = tt
+  slot-held (Starts pid made load len block block_len) r i takes is = tt
+  slot-held (Runs pid instr place) r i takes is = tt
+  slot-held (Returns pid) r i takes is = tt
+  slot-held (Receives pid place len) r i takes is = tt
+  slot-held (Gives pid place len) r i takes is = tt
+  slot-held (Forks pid child from into) r i takes is = tt
+  slot-held (Begins pid made) r i takes is = tt
+  slot-held (Shares pid made) r i takes is = tt
+  slot-held (Delivers pid cut) r i takes is = tt
+  slot-held (Leaves pid) r i takes is = tt
+  slot-held (Exits pid) r i takes is = tt
+  slot-held (Faults pid) r i takes is = tt
+  slot-held (Dies pid) r i takes is = tt
+
+  memory-held : (d : Transfer) (at : ℕ) → IsTaking table s h d → s.window at → AreSources s h (IsShownGot s d) (shown d (StartMemory at))
+  memory-held (Founds pid child from into) at takes is = self (IsShownGot s (Founds pid child from into)) pid takes.0 (Memory from at) takes.1 (inl (takes.2, is))
+  memory-held (Arrives len) at takes is = tt
+  memory-held (Starts pid made load len block block_len) at takes is = tt
+  memory-held (Runs pid instr place) at takes is = tt
+  memory-held (Returns pid) at takes is = tt
+  memory-held (Receives pid place len) at takes is = tt
+  memory-held (Gives pid place len) at takes is = tt
+  memory-held (Forks pid child from into) at takes is = tt
+  memory-held (Begins pid made) at takes is = tt
+  memory-held (Shares pid made) at takes is = tt
+  memory-held (Delivers pid cut) at takes is = tt
+  memory-held (Leaves pid) at takes is = tt
+  memory-held (Exits pid) at takes is = tt
+  memory-held (Faults pid) at takes is = tt
+  memory-held (Dies pid) at takes is = tt
+
+  pub shown-held : (d : Transfer) (at : At) → IsTaking table s h d → InScope s at → AreSources s h (IsShownGot s d) (shown d at)
+  shown-held d (Byte k) takes is = byte-held d k takes
+  shown-held d (StartRegister r i) takes is = register-held d r i takes is
+  shown-held d (StartSlot r i) takes is = slot-held d r i takes is
+  shown-held d (StartMemory at) takes is = memory-held d at takes is

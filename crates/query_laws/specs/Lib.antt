@@ -1,0 +1,5 @@
+pub mod Laws
+pub mod OfRuns
+pub mod Received
+pub mod Fitting
+pub mod OwnEvents

@@ -1,0 +1,14 @@
+//! That what a lineage query answers is what it should. The groups that it asks are those that are connected
+//! with an event's, and their items are all that it needs; these items are bytes that events of a group
+//! received, or with which the group began; and of the records of a run it says what tracking every
+//! instruction of the whole machine says.
+//!
+//! What holds is stated by functions that do nothing.
+#![tactic(auto)]
+
+mod law;
+
+pub use law::{
+    events_are_own, groups_are_connected, groups_are_one, items_are_received, items_fit,
+    members_received, queries_are_of_runs, reaching_is_connected, reaching_is_of_bytes,
+};

@@ -1,0 +1,193 @@
+-- Who has a body in a group alone: what instructions and acts leave, and how many instructions they are.
+use Rattle.std.proofs.Common.{◌≡◌, ◌≢◌, ℕ, zero, suc, ◌+◌, Bool, true, false, List, [], ◌∷◌, cond, count_by, Option, Some, None, is_some, option_map, refl, ap, sym, subst, ◌∙◌, arith}
+use Rattle.std.proofs.lemmas.List.Sums.{sum_by-append}
+use Rattle.arn_base.specs.declared.records.Record.{Record}
+use Rattle.rv64_model.specs.Instruction.{Effect, Next, Call, End}
+use Rattle.acts_model.specs.Acts as act
+use Rattle.acts_model.specs.Acts.{Act, done, done_by}
+use Rattle.acts_model.specs.Bodies.{Bodies, Body, View, body_at, nth_body, put, remove, seen, view, with_body, with_memory, with_nth, with_segment}
+use Rattle.acts_model.specs.Disagreement.{Wrong, wrong_with}
+use Rattle.acts_model.specs.Moved.{Inside, is_call_or_end}
+use Rattle.acts_model.specs.Told.{act_of}
+use Rattle.acts_model.specs.Transfers.{holds_of, instr_transfer, transfer}
+use Rattle.acts_model.specs.Views.{after_instr, stands_at}
+use Rattle.history_model.specs.Alone as alone
+use Rattle.history_model.specs.Alone.{Own, Made, Makes, Fails, noted}
+use Rattle.replay_steps.specs.Standing.{is_counted}
+
+-- a process has a body
+abbrev pub HasBody : Bodies → ℕ → Type 0
+HasBody b p = is_some (body_at b p) ≡ true
+
+no-way : {A : Type 0} → false ≡ true → A
+no-way e = absurd (let no : false ≡ true = e in cc)
+
+nth-keeps : (p : ℕ) (x : Body) (xs : List (Option Body)) (q : ℕ) → is_some (nth_body xs q) ≡ true → is_some (nth_body (with_nth p (Some x) xs) q) ≡ true
+unfolding nth_body with_nth
+nth-keeps zero x [] q is = no-way is
+nth-keeps zero x (y ∷ ys) zero is = refl
+nth-keeps zero x (y ∷ ys) (suc q) is = is
+nth-keeps (suc p) x [] q is = no-way is
+nth-keeps (suc p) x (y ∷ ys) zero is = is
+nth-keeps (suc p) x (y ∷ ys) (suc q) is = nth-keeps p x ys q is
+
+nth-own : (p : ℕ) (x : Body) (xs : List (Option Body)) → is_some (nth_body (with_nth p (Some x) xs) p) ≡ true
+unfolding nth_body with_nth
+nth-own zero x [] = refl
+nth-own zero x (y ∷ ys) = refl
+nth-own (suc p) x [] = nth-own p x []
+nth-own (suc p) x (y ∷ ys) = nth-own p x ys
+
+nth-removed : (p : ℕ) (xs : List (Option Body)) (q : ℕ) → q ≢ p → is_some (nth_body xs q) ≡ true → is_some (nth_body (with_nth p None xs) q) ≡ true
+unfolding nth_body with_nth
+nth-removed zero [] q other is = no-way is
+nth-removed zero (y ∷ ys) zero other is = absurd (other refl)
+nth-removed zero (y ∷ ys) (suc q) other is = is
+nth-removed (suc p) [] q other is = no-way is
+nth-removed (suc p) (y ∷ ys) zero other is = is
+nth-removed (suc p) (y ∷ ys) (suc q) other is = nth-removed p ys q (λ same. other (ap suc same)) is
+
+segment-bodies : (o : Option ℕ) (bytes : List ℕ) (b : Bodies) → (with_segment o bytes b).bodies ≡ b.bodies
+unfolding with_memory
+segment-bodies None bytes b = refl
+segment-bodies (Some k) bytes b = refl
+
+-- who has one keeps it as one is put
+pub put-keeps : (p : ℕ) (v : View) (b : Bodies) (q : ℕ) → HasBody b q → HasBody (put p v b) q
+unfolding put body_at with_body with_memory
+put-keeps p v b q has =
+    nth-keeps p v.body (with_segment v.body.segment v.segment b).bodies q
+    (subst (λ (xs : List (Option Body)). is_some (nth_body xs q) ≡ true) (sym (segment-bodies v.body.segment v.segment b)) has)
+
+pub put-own : (p : ℕ) (v : View) (b : Bodies) → HasBody (put p v b) p
+unfolding put body_at with_body with_memory
+put-own p v b = nth-own p v.body (with_segment v.body.segment v.segment b).bodies
+
+removed-keeps : (p : ℕ) (b : Bodies) (q : ℕ) → q ≢ p → HasBody b q → HasBody (remove p b) q
+unfolding remove body_at with_body
+removed-keeps p b q other has = nth-removed p b.bodies q other has
+
+-- and sees something
+pub has-seen : (b : Bodies) (p : ℕ) → HasBody b p → (v : View) × (seen b p ≡ Some v)
+has-seen b p has = by (body_at b p) refl has
+  where
+    by : (o : Option Body) → body_at b p ≡ o → is_some o ≡ true → (v : View) × (seen b p ≡ Some v)
+    by None at is = no-way is
+    by (Some x) at is = (view b x, ap (option_map (view b)) at)
+
+-- whether an act ends its process
+abbrev pub ends : Act → Bool
+ends act.Exits = true
+ends (act.Faults status) = true
+ends (act.Dies signal cut) = true
+ends other = false
+
+module _ (pid event : ℕ) (v : View) (b : Bodies) where
+  -- who has a body keeps it at an act, but for the process that the act ends
+  pub done-keeps : (a : Act) (q : ℕ) → (q ≡ pid → ends a ≡ false) → HasBody b q → HasBody (done_by pid event a (Some v) b) q
+  done-keeps (act.Returns result) q lives has = put-keeps pid _ b q has
+  done-keeps (act.Receives at bytes result) q lives has = put-keeps pid _ b q has
+  done-keeps (act.Gives at len result) q lives has = put-keeps pid _ b q has
+  done-keeps (act.Starts file block block_len) q lives has = put-keeps pid _ b q has
+  done-keeps (act.Forks child) q lives has = put-keeps child _ _ q (put-keeps pid _ b q has)
+  done-keeps (act.Founds child) q lives has = put-keeps pid _ b q has
+  done-keeps act.Shares q lives has = put-keeps pid _ b q has
+  done-keeps act.Leaves q lives has = put-keeps pid _ b q has
+  done-keeps (act.Delivers signal handler cut) q lives has = put-keeps pid _ b q has
+  done-keeps act.Exits q lives has = removed-keeps pid b q (λ same. no-way (sym (lives same))) has
+  done-keeps (act.Faults status) q lives has = removed-keeps pid b q (λ same. no-way (sym (lives same))) has
+  done-keeps (act.Dies signal cut) q lives has = removed-keeps pid b q (λ same. no-way (sym (lives same))) has
+
+  -- and so does the child that joins
+  pub done-child : (child : ℕ) → HasBody (done_by pid event (act.Forks child) (Some v) b) child
+  done-child child = put-own child _ _
+
+makes-same : (own own' : Own) → Makes own ≡ Makes own' → own ≡ own'
+makes-same own own' is = cc
+
+pub same-made : (made : Made) (own own' : Own) → made ≡ Makes own → made ≡ Makes own' → own' ≡ own
+same-made made own own' a b = makes-same own' own (sym b ∙ a)
+
+pub fails-not : {A : Type 0} (d : alone.Disagrees) (own : Own) → Fails d ≡ Makes own → A
+fails-not d own is = absurd (let no : Fails d ≡ Makes own = is in cc)
+
+-- one thing more happened inside: an instruction, or none
+pub count-noted : (i : Inside) (bodies : Bodies) (own : Own) (c : Bool) → is_counted i ≡ c → count_by is_counted (noted i bodies own).inside ≡ count_by is_counted own.inside + cond c 1 0
+count-noted i bodies own c is =
+    let parts = sum_by-append (λ (i : Inside). cond (is_counted i) 1 0) own.inside (i ∷ []) in
+    let one : cond {A = ℕ} (is_counted i) 1 0 ≡ cond {A = ℕ} c 1 0 = ap (λ (b : Bool). cond {A = ℕ} b 1 0) is in
+    omega (arith, parts, one)
+
+some-same : (own own' : Own) → Some own ≡ Some own' → own ≡ own'
+some-same own own' is = cc
+
+-- instructions that the next ones follow
+pub record Went (n : ℕ) (own own' : Own) : Type 0 where
+  pub counted : count_by is_counted own'.inside ≡ count_by is_counted own.inside + n
+  pub keeps : (q : ℕ) → HasBody own.bodies q → HasBody own'.bodies q
+
+module _ (pid : ℕ) (own : Own) where
+  plain-by : (v : View) (e : Effect) (own' : Own) → alone.plain_by pid own v e ≡ Some own' → Went 1 own own'
+  plain-by v (Next instr cpu memory) own' is =
+      let i : Inside = record { actor = Some pid; before = v.body.cpu; transfer = instr_transfer pid v.body.cpu (holds_of v.body) instr; event = None } in
+      let bodies : Bodies = put pid (after_instr cpu memory v) own.bodies in
+      let same : own' ≡ noted i bodies own = some-same own' (noted i bodies own) (sym is) in
+      subst (Went 1 own) (sym same) (record { counted = count-noted i bodies own true refl; keeps = λ (q : ℕ) (has : HasBody own.bodies q). put-keeps pid _ own.bodies q has })
+  plain-by v Call own' is = absurd (let no : None ≡ Some own' = is in cc)
+  plain-by v (End status) own' is = absurd (let no : None ≡ Some own' = is in cc)
+
+  plain-in : (o : Option View) (own' : Own) → alone.plain_in pid own o ≡ Some own' → Went 1 own own'
+  plain-in None own' is = absurd (let no : None ≡ Some own' = is in cc)
+  plain-in (Some v) own' is = plain-by v (stands_at v) own' is
+
+plain-or : (slice : alone.Slice) (done : ℕ) (o : Option Own) (next : Own → Made) (own' : Own) → alone.plain_or slice done o next ≡ Makes own' → (mid : Own) × (o ≡ Some mid) × (next mid ≡ Makes own')
+plain-or slice done None next own' is = fails-not _ own' is
+plain-or slice done (Some mid) next own' is = (mid, refl, is)
+
+pub plains-went : (slice : alone.Slice) (left done : ℕ) (own own' : Own) → alone.plains slice done left own ≡ Makes own' → Went left own own'
+plains-went slice zero done own own' is =
+    subst (Went 0 own) (makes-same own own' is) (record { counted = omega arith; keeps = λ (q : ℕ) (has : HasBody own.bodies q). has })
+plains-went slice (suc left) done own own' is =
+    let first = plain-or slice done (alone.plain_in slice.pid own (seen own.bodies slice.pid)) (alone.plains slice (suc done) left) own' is in
+    let one = plain-in slice.pid own (seen own.bodies slice.pid) first.0 first.1 in
+    let rest = plains-went slice left (suc done) first.0 own' first.2 in
+    let a = one.counted in
+    let b = rest.counted in
+    record { counted = omega (arith, a, b); keeps = λ (q : ℕ) (has : HasBody own.bodies q). rest.keeps q (one.keeps q has) }
+
+-- what happens inside at an act
+abbrev pub act_inside : ℕ → ℕ → Record → View → Act → Inside
+act_inside pid event e v a =
+    record { actor = Some pid; before = v.body.cpu; transfer = transfer pid event (holds_of v.body) a; event = Some (record { number = event; entry = e }) }
+
+act-counted : (pid event : ℕ) (e : Record) (v : View) (a : Act) → is_counted (act_inside pid event e v a) ≡ is_call_or_end e
+act-counted pid event e v (act.Returns result) = refl
+act-counted pid event e v (act.Receives at bytes result) = refl
+act-counted pid event e v (act.Gives at len result) = refl
+act-counted pid event e v (act.Starts file block block_len) = refl
+act-counted pid event e v (act.Forks child) = refl
+act-counted pid event e v (act.Founds child) = refl
+act-counted pid event e v act.Shares = refl
+act-counted pid event e v act.Leaves = refl
+act-counted pid event e v (act.Delivers signal handler cut) = refl
+act-counted pid event e v act.Exits = refl
+act-counted pid event e v (act.Faults status) = refl
+act-counted pid event e v (act.Dies signal cut) = refl
+
+-- the act was done that a record tells
+pub record Acted (pid event : ℕ) (e : Record) (w : View) (a : Act) (own own' : Own) : Type 0 where
+  pub counted : count_by is_counted own'.inside ≡ count_by is_counted own.inside + cond (is_call_or_end e) 1 0
+  pub bodies : own'.bodies ≡ done_by pid event a (Some w) own.bodies
+
+pub acted : (pid event : ℕ) (e : Record) (v w : View) (a : Act) (own own' : Own) → seen own.bodies pid ≡ Some w → act_of v.body.cpu e ≡ Some a → alone.record_done pid event e v own ≡ Makes own' → Acted pid event e w a own own'
+acted pid event e v w a own own' stood tells made = by (wrong_with v (stands_at v) e) made
+  where
+    by : (wrong : Option Wrong) → alone.unless_wrong event wrong (alone.act_done pid event e v (act_of v.body.cpu e) own) ≡ Makes own' → Acted pid event e w a own own'
+    by (Some wrong) is = fails-not _ own' is
+    by None is =
+        let same : own' ≡ noted (act_inside pid event e v a) (done pid event a own.bodies) own =
+        same-made _ _ own' (ap (λ (o : Option Act). alone.act_done pid event e v o own) tells) is in
+        record {
+          counted = ap (λ (o : Own). count_by is_counted o.inside) same ∙ count-noted (act_inside pid event e v a) (done pid event a own.bodies) own (is_call_or_end e) (act-counted pid event e v a);
+          bodies = ap (λ (o : Own). o.bodies) same ∙ ap (λ (o : Option View). done_by pid event a o own.bodies) stood;
+        }

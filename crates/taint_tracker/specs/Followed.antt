@@ -1,0 +1,21 @@
+-- What a tracker shows, which has nothing to tell once a step failed.
+use Rattle.std.specs.Prelude.{◌≡◌, Bool, if◌then◌else◌, [], None}
+use Rattle.rv64_model.specs.declared.linkage.Linkage.{Linkage}
+use Rattle.taint_tracker.specs.declared.group.Group.{Group}
+use Rattle.taint_tracker.specs.declared.point.Point.{Point}
+use Rattle.taint_tracker.specs.Asked.{answer}
+use Rattle.taint_tracker.specs.Groups.{kept_of}
+use Rattle.taint_tracker.specs.Kept.{Kept}
+use Rattle.taint_tracker.specs.Shown.{Tracking}
+
+-- no member, no event
+abbrev pub nothing_kept : Linkage → Kept
+nothing_kept linkage = record { linkage = linkage; begun = 0; sets = []; members = []; heard = [] }
+
+-- what is kept of a group, if it isn't lost
+abbrev pub kept_unless : Bool → Group → Kept
+kept_unless lost g = if lost then nothing_kept g.rules.linkage else kept_of g
+
+-- there is no byte of which one may ask
+abbrev pub HasNoByte : Tracking → Type 0
+HasNoByte x = (point : Point) → answer x point ≡ None

@@ -1,0 +1,216 @@
+// The items of bytes of which one may ask.
+ghost use Rattle.std.specs.Prelude.{◌≡◌, ◌<◌, ◌+◌, ◌-◌, ◌/◌, ◌%◌, ◌==◌, ◌&&◌, nat_lt, slice_get, slice_index, if◌then◌else◌, [], Option, Some, None, option_map, option_and_then};
+ghost use Rattle.acts_model.specs.Transfers.{is_private, is_shared};
+ghost use Rattle.parts_model.specs.declared.limits.TheConstants as limits;
+ghost use Rattle.parts_model.specs.Numbered.{nth};
+ghost use Rattle.taint_flow.specs.Starts.{IsRaw, items_of};
+ghost use Rattle.taint_members.specs.Access.{HoldsKey, held_numbers};
+ghost use Rattle.taint_members.specs.declared.member.Shared.{Shared};
+ghost use Rattle.taint_pages.specs.Rows.{byte_in};
+ghost use Rattle.taint_tracker.specs.Asked.{answer, where_true};
+ghost use Rattle.taint_tracker.specs.Groups.{IsSoundGroup, heard_of, kept_heard, kept_of, kept_start, latest_first};
+ghost use Rattle.taint_tracker.specs.Held.{kept_member};
+ghost use Rattle.taint_tracker.specs.Items.{listed};
+ghost use Rattle.taint_tracker.specs.Kept.{heard_among, shown};
+ghost use Rattle.taint_tracker.specs.Numbered as numbers;
+
+use crate::group::{ChildStart, Group, HeardEvent};
+use crate::items::Items;
+use crate::point::Point;
+use parts_model::limits::{SEGMENT_END, SEGMENT_START, WINDOW_END, WINDOW_START};
+use rv64_isa::Reg;
+use set_store::{Item, Sets};
+use taint_flow::FIRST_START;
+use taint_members::{Member, Shared};
+use taint_pages::{Numbers, Row};
+
+/// How many bytes 31 registers have.
+const REGISTER_BYTES: u64 = 248;
+
+/// The items for which a number stands.
+fn lent(sets: &Sets, begun: u64, number: u32) -> Items<'_>
+    requires raw { IsRaw sets.now number }
+    ensures { listed result ≡ items_of sets.now begun number }
+{
+    if number < FIRST_START {
+        Items::Set(sets.members(number as usize))
+    } else {
+        Items::One(Item {
+            event: begun,
+            at: u64::from(number - FIRST_START),
+        })
+    }
+}
+
+/// The number of a byte of an event.
+fn event_number(heard: &HeardEvent, at: u32) -> Option<u32>
+    ensures { result ≡ numbers.event_number at (kept_heard heard.now) }
+{
+    let place = at as usize;
+    if place < heard.numbers.len() {
+        Some(heard.numbers[place])
+    } else {
+        None
+    }
+}
+
+/// The number of a byte of registers, by its place from the first of x1 on.
+fn row_number(row: &Row, at: u64) -> u32
+    requires { at < 248 }
+    ensures { result ≡ byte_in row.now (at / 8 + 1) (at % 8) }
+{
+    match Reg::new((at / 8) as u8 + 1) {
+        Some(reg) => row.get(reg, (at % 8) as u8),
+        None => unreachable!(),
+    }
+}
+
+/// The number of a byte of a private window.
+fn window_number(window: &Numbers, at: u64) -> Option<u32>
+    ensures { result ≡
+        where_true (is_private at) (slice_index window.now (at - limits.WINDOW_START)) }
+{
+    if WINDOW_START <= at && at < WINDOW_END {
+        Some(window.find((at - WINDOW_START) as usize))
+    } else {
+        None
+    }
+}
+
+/// The number of a byte with which a child began.
+fn start_number(start: &ChildStart, at: u64) -> Option<u32>
+    ensures { result ≡ numbers.start_number at (kept_start start.now) }
+{
+    if at < REGISTER_BYTES {
+        Some(row_number(&start.registers, at))
+    } else if at < 2 * REGISTER_BYTES {
+        Some(row_number(&start.slot, at - REGISTER_BYTES))
+    } else {
+        window_number(&start.window, at)
+    }
+}
+
+/// The number of a byte with which the child of a fork began, if the fork started a group.
+fn fork_number(heard: &HeardEvent, at: u64) -> Option<u32>
+    ensures { result ≡ numbers.fork_number at (kept_heard heard.now) }
+{
+    match &heard.start {
+        Some(start) => start_number(start, at),
+        None => None,
+    }
+}
+
+/// The number of a byte of a segment that may be held.
+fn segment_number(segment: Option<Shared>, segments: &[Numbers], at: u64) -> Option<u32>
+    requires held { HoldsKey segment segments.now }
+    ensures { result ≡ if is_shared at
+        then option_map (λ (shared : Shared).
+        slice_index (held_numbers segment segments.now) (at - limits.SEGMENT_START)) segment
+        else None }
+{
+    match segment {
+        Some(shared) if SEGMENT_START <= at && at < SEGMENT_END => Some(segments[shared.key].find(
+            (at - SEGMENT_START) as usize,
+        )),
+        _ => None,
+    }
+}
+
+/// The number of a byte of a member's window.
+fn memory_number(member: &Member, segments: &[Numbers], at: u64) -> Option<u32>
+    requires held { HoldsKey member.now.segment segments.now }
+    ensures { result ≡ numbers.memory_number at (kept_member segments.now member.now) }
+{
+    match window_number(&member.window, at) {
+        Some(number) => Some(number),
+        None => segment_number(member.segment, segments, at),
+    }
+}
+
+/// The number of a byte of a register.
+fn register_number(row: &Row, reg: u8, byte: u8) -> Option<u32>
+    ensures { result ≡ where_true (nat_lt reg 32 && nat_lt byte 8)
+        (if reg == 0 then 0 else byte_in row.now reg byte) }
+{
+    match Reg::new(reg) {
+        Some(reg) if byte < 8 => Some(row.get(reg, byte)),
+        _ => None,
+    }
+}
+
+impl Group {
+    /// The member of a number.
+    fn member(&self, pid: u32) -> Option<&Member>
+        ensures { option_map (λ member. member.now) result ≡ nth self.now.members.items pid }
+    {
+        match self.members.get(pid as usize) {
+            Some(Some(member)) => Some(member),
+            _ => None,
+        }
+    }
+
+    fn event_byte(&self, event: u64, at: u32) -> Option<u32>
+        ensures { result ≡ option_and_then (numbers.event_number at)
+            (heard_among (heard_of self.now) event) }
+    {
+        match self.heard.find(event) {
+            Some(heard) => event_number(heard, at),
+            None => None,
+        }
+    }
+
+    fn start_byte(&self, event: u64, at: u64) -> Option<u32>
+        ensures { result ≡ option_and_then (numbers.fork_number at)
+            (heard_among (heard_of self.now) event) }
+    {
+        match self.heard.find(event) {
+            Some(heard) => fork_number(heard, at),
+            None => None,
+        }
+    }
+
+    fn memory_byte(&self, pid: u32, at: u64) -> Option<u32>
+        requires sound { IsSoundGroup self.now }
+        ensures { result ≡ option_and_then (numbers.memory_number at)
+            (option_map (kept_member self.now.segments.items) (nth self.now.members.items pid)) }
+    {
+        match self.member(pid) {
+            Some(member) => memory_number(member, self.segments.as_slice(), at),
+            None => None,
+        }
+    }
+
+    fn register_byte(&self, pid: u32, reg: u8, byte: u8) -> Option<u32>
+        ensures { result ≡ option_and_then (numbers.register_number reg byte)
+            (option_map (kept_member self.now.segments.items) (nth self.now.members.items pid)) }
+    {
+        match self.member(pid) {
+            Some(member) => register_number(&member.registers, reg, byte),
+            None => None,
+        }
+    }
+
+    /// The number of a byte, if the group has such a byte.
+    fn number(&self, point: Point) -> Option<u32>
+        requires sound { IsSoundGroup self.now }
+        ensures { result ≡ numbers.point_number (kept_of self.now) point }
+    {
+        match point {
+            Point::Event { event, at } => self.event_byte(event, at),
+            Point::Start { event, at } => self.start_byte(event, at),
+            Point::Mem { pid, at } => self.memory_byte(pid, at),
+            Point::Reg { pid, reg, byte } => self.register_byte(pid, reg, byte),
+        }
+    }
+
+    /// The items of a byte, none where the group has no such byte.
+    pub fn local(&self, point: Point) -> Option<Items<'_>>
+        requires sound { IsSoundGroup self.now }
+        ensures { option_map listed result ≡ answer (shown (kept_of self.now)) point }
+    {
+        match self.number(point) {
+            Some(number) => Some(lent(&self.sets, self.rules.begun, number)),
+            None => None,
+        }
+    }
+}

@@ -1,0 +1,25 @@
+// The items of a byte.
+ghost use Rattle.std.specs.Prelude.{◌≡◌};
+ghost use Rattle.taint_tracker.specs.Items.{listed};
+
+use set_store::Item;
+
+/// The items of a byte of an event, as they are kept.
+#[derive(Clone, Copy, Debug)]
+pub enum Items<'a> {
+    /// One alone, which has no set.
+    One(Item),
+    /// Those of a set.
+    Set(&'a [Item]),
+}
+
+impl<'a> Items<'a> {
+    pub fn as_slice(&self) -> &[Item]
+        ensures { result.now ≡ listed self.now }
+    {
+        match self {
+            Items::One(item) => std::slice::from_ref(item),
+            Items::Set(items) => items,
+        }
+    }
+}

@@ -1,0 +1,109 @@
+// Members that start from an image.
+ghost use Rattle.std.specs.Prelude.{◌≡◌, length, IfSome, OnOk};
+ghost use Rattle.acts_model.specs.Transfers.{Holds, Starts, place_of};
+ghost use Rattle.parts_model.specs.Numbered.{nth};
+ghost use Rattle.taint_members.specs.Access.{HoldsKey};
+ghost use Rattle.taint_members.specs.declared.member.Member.{Member};
+ghost use Rattle.taint_tracker.specs.Groups.{IsSoundGroup};
+ghost use Rattle.taint_tracker.specs.Turns.{ChangesEntry, ChangesIn, LivesAs, StartsAs, StepsFrom};
+
+use crate::group::{Group, hear};
+use crate::law::{starts_show, tables_change};
+use arn_base::NoMemory;
+use std::alloc::Global;
+use taint_events::{received, started};
+use taint_members::Member;
+use taint_pages::Numbers;
+
+/// Where the body of an image lies, and the argument block, by its address in the old memory.
+#[derive(Clone, Copy, Debug)]
+pub struct Layout {
+    pub load: u64,
+    pub block: u64,
+    pub block_len: u64,
+}
+
+/// A member that may be there starts from an image.
+fn start_entry(
+    alloc: Global,
+    entry: &mut Option<Member>,
+    segments: &[Numbers],
+    event: u64,
+    numbers: &[u32],
+    layout: Layout,
+) -> Result<(), NoMemory>
+    requires held { IfSome entry.old (λ (old : Member). HoldsKey old.segment segments.now) }
+    ensures { OnOk result (ChangesEntry
+        (LivesAs (StartsAs segments.now event layout.load numbers.now layout.block layout.block_len))
+        entry.old entry.new) }
+{
+    if let Some(member) = entry {
+        *member = started(
+            alloc,
+            event,
+            member,
+            segments,
+            layout.load,
+            numbers,
+            layout.block,
+            layout.block_len,
+        )?;
+    }
+    Ok(())
+}
+
+/// The member of a number starts from an image, if there is one.
+fn start_member(
+    alloc: Global,
+    members: &mut [Option<Member>],
+    segments: &[Numbers],
+    pid: u32,
+    event: u64,
+    numbers: &[u32],
+    layout: Layout,
+) -> Result<(), NoMemory>
+    requires held { IfSome (nth members.old pid) (λ (old : Member). HoldsKey old.segment segments.now) }
+    ensures starts { OnOk result (ChangesIn
+        (LivesAs (StartsAs segments.now event layout.load numbers.now layout.block layout.block_len))
+        pid members.old members.new) }
+    ensures count { length members.new ≡ length members.old }
+{
+    let place = pid as usize;
+    if place < members.len() {
+        start_entry(alloc, &mut members[place], segments, event, numbers, layout)
+    } else {
+        Ok(())
+    }
+}
+
+impl Group {
+    /// A live member starts anew from an image whose file has so many bytes. After an error nothing is known
+    /// of what is kept.
+    pub fn starts(
+        &mut self,
+        pid: u32,
+        event: u64,
+        len: usize,
+        layout: Layout,
+    ) -> Result<(), NoMemory>
+        requires sound { IsSoundGroup self.old }
+        ensures { OnOk result (StepsFrom
+            (λ (holds : Holds). Starts pid event layout.load len (place_of holds layout.block layout.block_len) layout.block_len)
+            pid event len self.old self.new) }
+    {
+        tables_change();
+        starts_show();
+        let alloc = *self.members.allocator();
+        let numbers = received(alloc, &mut self.sets, event, len)?;
+        start_member(
+            alloc,
+            self.members.as_mut_slice(),
+            self.segments.as_slice(),
+            pid,
+            event,
+            numbers.as_slice(),
+            layout,
+        )?;
+        hear(&mut self.heard, event, numbers)
+    }
+}
