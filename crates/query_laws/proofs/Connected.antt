@@ -19,7 +19,7 @@ use Rattle.lineage_model.specs.Joined.{Reaching, is_source, origin_at, origin_of
 use Rattle.lineage_model.specs.Tracking.{EventByte}
 use Rattle.query_model.specs.Linked.{groups_back}
 use Rattle.query_model.specs.Sources.{items_in, items_at, tracked_at}
-use Rattle.query_laws.specs.Received.{IsTaken, IsReceivedBy, IsItem, ItemsAreReceived, IsAsked, ReachingIsConnected}
+use Rattle.query_laws.specs.Received.{HasTaken, IsReceivedBy, IsItem, ItemsAreReceived, IsConnected, ReachingIsConnected}
 use Rattle.query_laws.proofs.Asked.{connected}
 use Rattle.query_laws.proofs.Origins.{origin-piece}
 
@@ -42,7 +42,7 @@ module _ (entries : List Record) (from : List ℕ) (stands : first_broken entrie
 module _ (entries : List Record) (from : List ℕ) (stands : first_broken entries ≡ None) (groups : All (Contains (groups_in entries)) from) (There : ℕ → At → Type 0)
     (origin-there : (event k : ℕ) (e : Record) → event_at entries event ≡ Some e → (src : Src) → origin_of e k ≡ Some src → There src.event (Byte src.at)) where
   abbrev Asks : ℕ → At → Type 0
-  Asks event at = IsAsked entries from event × There event at
+  Asks event at = IsConnected entries from event × There event at
 
   abbrev AreSame : Reaching → Reaching → Type 0
   AreSame p q = (event : ℕ) (at : At) → Asks event at → p event at ≡ q event at
@@ -51,7 +51,7 @@ module _ (entries : List Record) (from : List ℕ) (stands : first_broken entrie
   IsItemThere g event item = IsItem entries g event item × There item.event item.at
 
   module _ (p q : Reaching) (same : AreSame p q) (g : ℕ) (asked : Contains (groups_back entries from) g) where
-    origin-asked : (event k : ℕ) (e : Record) → event_at entries event ≡ Some e → event_group entries event ≡ Some g → received e ≡ give_of e → (src : Src) → origin_of e k ≡ Some src → IsAsked entries from src.event
+    origin-asked : (event k : ℕ) (e : Record) → event_at entries event ≡ Some e → event_group entries event ≡ Some g → received e ≡ give_of e → (src : Src) → origin_of e k ≡ Some src → IsConnected entries from src.event
     origin-asked event k e at of takes src is =
         if-some (Contains (groups_back entries from)) (event_group entries src.event) (λ h group.
         option_and_then_some (λ (give : Give). origin_at give.origins k) (give_of e) src is (λ give gives found.
@@ -68,11 +68,11 @@ module _ (entries : List Record) (from : List ℕ) (stands : first_broken entrie
     taken-same event k e at of (inl source) false is = absurd (true≢false (sym source ∙ is))
     taken-same event k e at of (inr takes) false is = origin-same event k e at of takes (origin_of e k) refl
 
-    received-same : (event k : ℕ) (o : Option Record) → event_at entries event ≡ o → event_group entries event ≡ Some g → IsTaken k o → from_received p event k o ≡ from_received q event k o
+    received-same : (event k : ℕ) (o : Option Record) → event_at entries event ≡ o → event_group entries event ≡ Some g → HasTaken k o → from_received p event k o ≡ from_received q event k o
     received-same event k None at of takes = refl
     received-same event k (Some e) at of takes = taken-same event k e at of takes.received (is_source e) refl
 
-    fork-asked : (event : ℕ) → option_and_then founded (event_at entries event) ≡ Some g → IsAsked entries from event
+    fork-asked : (event : ℕ) → option_and_then founded (event_at entries event) ≡ Some g → IsConnected entries from event
     fork-asked event is = if-some (Contains (groups_back entries from)) (event_group entries event) (λ h group. linked-asked entries from stands groups h g asked (ByFork event group is))
 
     item-same : (event : ℕ) (at : At) → IsReceivedBy entries g event at → There event at → from_item_at (event_at entries) p event at ≡ from_item_at (event_at entries) q event at

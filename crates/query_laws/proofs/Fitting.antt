@@ -27,7 +27,7 @@ use Rattle.taint_tracker.specs.Lens.{ActsHaveLen}
 use Rattle.taint_tracker.specs.Shown.{IsRegisterByte}
 use Rattle.taint_tracker.specs.Steps.{IsWhole}
 use Rattle.query_laws.specs.Fitting.{ItemsFit, ReachingIsOfBytes}
-use Rattle.query_laws.specs.Received.{IsItem, IsReceivedBy, IsTaken}
+use Rattle.query_laws.specs.Received.{IsItem, IsReceivedBy, HasTaken}
 use Rattle.query_laws.proofs.Alone.{Ends, alone-heard}
 use Rattle.query_laws.proofs.Connected.{reached-same}
 use Rattle.query_laws.proofs.Decoded.{FitsRun, ReadsRegisters}
@@ -83,7 +83,7 @@ module _ (linkage : Linkage) where
     there-by None at h is = absurd (none-some g is)
     there-by (Some e) at h is = h is e refl
 
-    taken-there : (k : ℕ) (o : Option Record) → IsTaken k o → IsThere o (Byte k)
+    taken-there : (k : ℕ) (o : Option Record) → HasTaken k o → IsThere o (Byte k)
     taken-there k None takes = takes
     taken-there k (Some e) takes = takes.inside
 

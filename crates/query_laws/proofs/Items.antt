@@ -14,7 +14,7 @@ use Rattle.lineage_model.specs.Tracking.{EventByte, Tracked, alone_after, alone_
 use Rattle.taint_laws.specs.Follows.{AreSteps, IsStep, holders_from}
 use Rattle.taint_tracker.specs.Goes.{ArePossible, Hearings, IsPossible, heard_after}
 use Rattle.taint_tracker.specs.Steps.{Holders, holders_after}
-use Rattle.query_laws.specs.Received.{TakesByte, IsTaken, IsReceivedBy}
+use Rattle.query_laws.specs.Received.{TakesByte, HasTaken, IsReceivedBy}
 use Rattle.query_laws.proofs.Heard.{AreHeard, IsHeard, IsLater, IsOf, last, next}
 use Rattle.query_laws.proofs.Scopes.{Scope, IsScope, IsHeld, AreSources, IsGot, IsByte, IsShownGot, InScope, IsTaking, flow-held, shown-held}
 
@@ -77,8 +77,8 @@ module _ (table : Table) (s : Scope) (is-scope : IsScope s) (entries : List Reco
     pub points : (e : ℕ) (at : At) → InScope s at → AllByRecursion (IsShown e) (t.points e at)
 
   -- a received byte
-  taken-by : (event : Event) (k : ℕ) → event_at entries event.number ≡ Some event.entry → TakesByte k event.entry → IsTaken k (event_at entries event.number)
-  taken-by event k there takes = subst (λ (o : Option Record). IsTaken k o) (sym there) takes
+  taken-by : (event : Event) (k : ℕ) → event_at entries event.number ≡ Some event.entry → TakesByte k event.entry → HasTaken k (event_at entries event.number)
+  taken-by event k there takes = subst (λ (o : Option Record). HasTaken k o) (sym there) takes
 
   founded-by : (event : Event) → event_at entries event.number ≡ Some event.entry → founded event.entry ≡ Some g → option_and_then founded (event_at entries event.number) ≡ Some g
   founded-by event there founds = ap (option_and_then founded) there ∙ founds

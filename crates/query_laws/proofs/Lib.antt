@@ -20,3 +20,4 @@ pub mod Taking
 pub mod Received
 pub mod Operands
 pub mod Fitting
+pub mod Joined

@@ -12,7 +12,7 @@ use Rattle.lineage_model.specs.Joined.{reached}
 use Rattle.lineage_model.specs.Tracking.{EventByte}
 use Rattle.query_model.specs.Sources.{items_at, reaching}
 use Rattle.taint_laws.specs.Follows.{HasWholeBlocks}
-use Rattle.query_laws.specs.Received.{IsAsked}
+use Rattle.query_laws.specs.Received.{IsConnected}
 
 -- these items are those of groups alone, each at a byte that its event has, or none
 abbrev pub AreOfBytes : Table → List Record → ℕ → (ℕ → At → List EventByte) → Type 0
@@ -30,6 +30,6 @@ abbrev pub ReachingIsOfBytes : Type 0
 ReachingIsOfBytes =
     (linkage : Linkage) (entries : List Record) (from : List ℕ) (moment : ℕ) (items : ℕ → At → List EventByte)
     → first_broken entries ≡ None → All HasWholeBlocks entries → All (Contains (groups_in entries)) from
-    → ((event : ℕ) (at : At) → IsAsked entries from event → IsThere (event_at entries event) at → items event at ≡ items_at (operands linkage) entries moment event at)
-    → (event : ℕ) (at : At) → IsAsked entries from event → IsThere (event_at entries event) at
+    → ((event : ℕ) (at : At) → IsConnected entries from event → IsThere (event_at entries event) at → items event at ≡ items_at (operands linkage) entries moment event at)
+    → (event : ℕ) (at : At) → IsConnected entries from event → IsThere (event_at entries event) at
     → reached (event_at entries) items (how_many entries) event at ≡ reaching (operands linkage) entries moment event at

@@ -3,3 +3,4 @@ pub mod OfRuns
 pub mod Received
 pub mod Fitting
 pub mod OwnEvents
+pub mod Joined

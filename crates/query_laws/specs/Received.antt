@@ -22,13 +22,13 @@ pub record TakesByte (k : ℕ) (e : Record) : Type 0 where
   pub received : (is_source e ≡ true) ⊎ (received e ≡ give_of e)
 
 -- there is an event that took it
-abbrev pub IsTaken : ℕ → Option Record → Type 0
-IsTaken k None = ⊥
-IsTaken k (Some e) = TakesByte k e
+abbrev pub HasTaken : ℕ → Option Record → Type 0
+HasTaken k None = ⊥
+HasTaken k (Some e) = TakesByte k e
 
 -- a byte that an event of a group received, or a byte of the fork by which the group began
 abbrev pub IsReceivedBy : List Record → ℕ → ℕ → At → Type 0
-IsReceivedBy entries g event (Byte k) = (event_group entries event ≡ Some g) × IsTaken k (event_at entries event)
+IsReceivedBy entries g event (Byte k) = (event_group entries event ≡ Some g) × HasTaken k (event_at entries event)
 IsReceivedBy entries g event (StartRegister r i) = option_and_then founded (event_at entries event) ≡ Some g
 IsReceivedBy entries g event (StartSlot r i) = option_and_then founded (event_at entries event) ≡ Some g
 IsReceivedBy entries g event (StartMemory at) = option_and_then founded (event_at entries event) ≡ Some g
@@ -45,14 +45,14 @@ ItemsAreReceived =
     → All (IsItem entries g event) ((tracked_at table entries moment g).points event at)
 
 -- the event has no group, or is of one of the connected ones
-abbrev pub IsAsked : List Record → List ℕ → ℕ → Type 0
-IsAsked entries from event = IfSome (event_group entries event) (Contains (groups_back entries from))
+abbrev pub IsConnected : List Record → List ℕ → ℕ → Type 0
+IsConnected entries from event = IfSome (event_group entries event) (Contains (groups_back entries from))
 
 -- The items of connected groups alone tell what reaches the bytes of their events.
 abbrev pub ReachingIsConnected : Type 0
 ReachingIsConnected =
     (table : Table) (entries : List Record) (from : List ℕ) (moment : ℕ) (items : ℕ → At → List EventByte)
     → first_broken entries ≡ None → All HasWholeBlocks entries → All (Contains (groups_in entries)) from
-    → ((event : ℕ) (at : At) → IsAsked entries from event → items event at ≡ items_at table entries moment event at)
-    → (event : ℕ) (at : At) → IsAsked entries from event
+    → ((event : ℕ) (at : At) → IsConnected entries from event → items event at ≡ items_at table entries moment event at)
+    → (event : ℕ) (at : At) → IsConnected entries from event
     → reached (event_at entries) items (how_many entries) event at ≡ reaching table entries moment event at

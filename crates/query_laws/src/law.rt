@@ -1,5 +1,6 @@
 // What holds of a lineage query's answers.
 ghost use Rattle.query_laws.specs.Fitting.{ItemsFit, ReachingIsOfBytes};
+ghost use Rattle.query_laws.specs.Joined.{ItemsAreCut, PairsAreJoined};
 ghost use Rattle.query_laws.specs.Laws.{GroupsAreConnected, GroupsAreOne};
 ghost use Rattle.query_laws.specs.OfRuns.{QueriesAreOfRuns};
 ghost use Rattle.query_laws.specs.OwnEvents.{EventsAreOwn, MembersReceived};
@@ -68,6 +69,18 @@ pub fn reaching_is_of_bytes()
 {
     follows_holders();
     acts_have_len();
+}
+
+/// Items of groups alone, cut to the bytes that events have, are there what they are.
+pub fn items_are_cut()
+    ensures { ItemsAreCut }
+{}
+
+/// The pairs of bytes of an event are what items of the groups that are asked are joined to.
+pub fn pairs_are_joined()
+    ensures { PairsAreJoined }
+{
+    reaching_is_of_bytes();
 }
 
 /// On the records of a run no group disagrees, and what reaches a byte of an event is what the tracking
