@@ -16,6 +16,10 @@ nothing_kept linkage = record { linkage = linkage; begun = 0; sets = []; members
 abbrev pub kept_unless : Bool → Group → Kept
 kept_unless lost g = if lost then nothing_kept g.rules.linkage else kept_of g
 
+-- a step failed
+abbrev pub IsLost : Kept → Type 0
+IsLost kept = kept ≡ nothing_kept kept.linkage
+
 -- there is no byte of which one may ask
 abbrev pub HasNoByte : Tracking → Type 0
 HasNoByte x = (point : Point) → answer x point ≡ None

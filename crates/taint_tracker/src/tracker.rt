@@ -1,7 +1,7 @@
 // Who follows a group.
-ghost use Rattle.std.specs.Prelude.{◌≡◌, IfOk, OnErr, OnOk, option_map};
+ghost use Rattle.std.specs.Prelude.{◌≡◌, IfOk, IsErr, OnErr, OnOk, option_map};
 ghost use Rattle.taint_tracker.specs.Asked.{answer};
-ghost use Rattle.taint_tracker.specs.Followed.{HasNoByte};
+ghost use Rattle.taint_tracker.specs.Followed.{HasNoByte, IsLost};
 ghost use Rattle.taint_tracker.specs.Goes.{TakesBegin, TakesEvent, TakesInstr, nothing_tracked};
 ghost use Rattle.taint_tracker.specs.Items.{listed};
 ghost use Rattle.taint_tracker.specs.Kept.{shown};
@@ -71,7 +71,9 @@ impl Observer for Tracker {
     fn begin(&mut self, pid: u32, event: u64, parent: Option<u32>) -> Result<(), NoMemory>
         ensures takes { OnOk result
             (TakesBegin (shown self.old) pid event parent (shown self.new)) }
-        ensures lost { OnErr result (HasNoByte (shown self.new)) }
+        ensures fails { IsLost self.old → IsErr result }
+        ensures lost { OnErr result (IsLost self.new) }
+        ensures nothing { OnErr result (HasNoByte (shown self.new)) }
     {
         if self.lost {
             return Err(NoMemory);
@@ -89,7 +91,9 @@ impl Observer for Tracker {
     fn instruction(&mut self, pid: u32, instr: &Instr, before: &Cpu) -> Result<(), NoMemory>
         ensures takes { OnOk result
             (TakesInstr (shown self.old) pid instr.now before.now (shown self.new)) }
-        ensures lost { OnErr result (HasNoByte (shown self.new)) }
+        ensures fails { IsLost self.old → IsErr result }
+        ensures lost { OnErr result (IsLost self.new) }
+        ensures nothing { OnErr result (HasNoByte (shown self.new)) }
     {
         if self.lost {
             return Err(NoMemory);
@@ -103,7 +107,9 @@ impl Observer for Tracker {
     fn happened(&mut self, event: u64, entry: &Record, before: &Cpu) -> Result<(), NoMemory>
         ensures takes { OnOk result
             (TakesEvent (shown self.old) event entry.now before.now (shown self.new)) }
-        ensures lost { OnErr result (HasNoByte (shown self.new)) }
+        ensures fails { IsLost self.old → IsErr result }
+        ensures lost { OnErr result (IsLost self.new) }
+        ensures nothing { OnErr result (HasNoByte (shown self.new)) }
     {
         if self.lost {
             return Err(NoMemory);
