@@ -6,11 +6,10 @@ use Rattle.std.proofs.lemmas.Bool.{and_parts, leb-true}
 use Rattle.std.proofs.lemmas.Bool.Decides.{nat_tests}
 use Rattle.parts_model.specs.declared.limits.TheConstants.{MOST_FILE_BYTES, WINDOW_END, WINDOW_START}
 use Rattle.parts_model.specs.Image.{can_enter, fits_window, header_len, image_name, is_image, read_as_image}
-use Rattle.rv64_model.specs.declared.linkage.Linkage.{Linkage}
-use Rattle.rv64_model.specs.declared.linkage.Linkage.TheVariants.{Copy, Data, Index}
-use Rattle.solo_model.specs.Run.{is_name}
+use Rattle.parts_model.specs.Files.{is_name}
 use Rattle.arn_lines.specs.declared.line.Line.{Line}
 use Rattle.arn_lines.specs.declared.line.Line.TheVariants as line
+use Rattle.arn_lines.specs.declared.line.Question.TheVariants as question
 use Rattle.arn_lines.specs.declared.line.Reading.{Reading}
 use Rattle.arn_lines.specs.declared.line.Reading.TheVariants.{PassedOver, TooLong, Unreadable, Says}
 use Rattle.arn_lines.specs.Words.{IsHex, IsBytes, IsName, is_name_byte}
@@ -42,12 +41,6 @@ name-is_name text is =
     let high = (and_parts (nat_le (length text) 64) (list_all is_name_byte text) parts.1).0 in
     grind (arith, nat_tests)
 
--- a line names `copy` alone
-IsLinkage-copy : (word : List ℕ) (linkage : Linkage) → IsLinkage word linkage → linkage ≡ Copy
-IsLinkage-copy word Copy is = refl
-IsLinkage-copy word Data is = absurd is
-IsLinkage-copy word Index is = absurd is
-
 line-fits : (text : List ℕ) (l : Line) → length text ≤ 1048576 → IsLine text l → LineFits l
 line-fits text (line.File name bytes) short is =
     let size = length-bytes is.hex bytes is.is_bytes in
@@ -59,7 +52,7 @@ line-fits text (line.Type bytes) short is =
     let whole = ap length is.is_text in
     omega (arith, size, whole, short, length-append (codes "type ") is.hex)
 line-fits text (line.Run count) short is = is.at_most
-line-fits text (line.Back linkage event from len) short is = IsLinkage-copy is.linkage_text linkage is.is_linkage
+line-fits text (line.Asks asked) short is = tt
 
 -- what a line of a session says fits the machine
 pub Reads-fits : (text : List ℕ) (reading : Reading) → Reads text reading → Fits (line_command reading)

@@ -1,8 +1,7 @@
 -- How much a command holds.
 use Rattle.std.specs.Prelude.{◌≡◌, ◌<◌, ◌≤◌, ◌^◌, length, IsTrue}
-use Rattle.rv64_model.specs.declared.linkage.Linkage.TheVariants.{Copy}
 use Rattle.parts_model.specs.declared.limits.TheConstants.{MOST_FILE_BYTES}
-use Rattle.solo_model.specs.Run.{is_name}
+use Rattle.parts_model.specs.Files.{is_name}
 use Rattle.arn_lines.specs.declared.line.Line.{Line}
 use Rattle.arn_lines.specs.declared.line.Line.TheVariants as line
 use Rattle.arn_lines.specs.declared.line.TheConstants.{MOST_RUN}
@@ -15,7 +14,7 @@ LineFits (line.File name bytes) = IsTrue (is_name name) × (length bytes ≤ MOS
 LineFits (line.Boot name) = IsTrue (is_name name)
 LineFits (line.Type bytes) = length bytes < 2 ^ 32
 LineFits (line.Run count) = count ≤ MOST_RUN
-LineFits (line.Back linkage event from len) = linkage ≡ Copy
+LineFits (line.Asks asked) = Unit {0}
 
 -- what a command holds
 abbrev pub Fits : Command → Type 0

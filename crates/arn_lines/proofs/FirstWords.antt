@@ -73,8 +73,8 @@ clear_from_test (c ∷ word) test =
 
 pub no_space-IsLinkage : (word : List ℕ) (linkage : Linkage) → IsLinkage word linkage → All IsNoSpace word
 no_space-IsLinkage word Copy is = subst (All IsNoSpace) (sym is) (clear_from_test (codes "copy") refl)
-no_space-IsLinkage word Data is = absurd is
-no_space-IsLinkage word Index is = absurd is
+no_space-IsLinkage word Data is = subst (All IsNoSpace) (sym is) (clear_from_test (codes "data") refl)
+no_space-IsLinkage word Index is = subst (All IsNoSpace) (sym is) (clear_from_test (codes "index") refl)
 
 no_space-digits : (digits : List ℕ) (before n : ℕ) → IsHexNumberFrom before digits n → All IsNoSpace digits
 no_space-digits [] before n h = All-nil IsNoSpace

@@ -6,6 +6,7 @@ use Rattle.std.proofs.lemmas.Bool.{false≢true, leb-false}
 use Rattle.arn_lines.specs.declared.line.TheConstants.{MOST_RUN}
 use Rattle.arn_lines.specs.declared.line.Line.{Line}
 use Rattle.arn_lines.specs.declared.line.Line.TheVariants as line
+use Rattle.arn_lines.specs.declared.line.Question.TheVariants as question
 use Rattle.rv64_model.specs.declared.linkage.Linkage.{Linkage}
 use Rattle.arn_lines.specs.Grammar.{IsBack, IsBoot, IsFile, IsLine, IsRun, IsLinkage, IsType, space}
 use Rattle.arn_lines.specs.Pieces.{AreThreeNumbers, IsFirstWord, SaysNothing}
@@ -14,7 +15,7 @@ use Rattle.arn_lines.proofs.FirstWords.{IsFirstWord-same, no_space-IsLinkage, no
 use Rattle.arn_lines.proofs.Numbers.{IsNumber-same}
 
 -- two texts that differ at some place
-apart : (xs ys : List ℕ) (i : ℕ) → (get_or xs i 0 == get_or ys i 0) ≡ false → xs ≢ ys
+pub apart : (xs ys : List ℕ) (i : ℕ) → (get_or xs i 0 == get_or ys i 0) ≡ false → xs ≢ ys
 apart xs ys i differ e =
     let same = eq-eqb (get_or xs i 0) (get_or ys i 0) (ap (λ zs. get_or zs i 0) e) in
     false≢true (sym differ ∙ same)
@@ -25,7 +26,7 @@ only_file_line text (line.File name bytes) h = (name, bytes, refl, h)
 only_file_line text (line.Boot name) h = absurd (apart _ _ 0 refl h.is_text)
 only_file_line text (line.Type bytes) h = absurd (apart _ _ 0 refl h.is_text)
 only_file_line text (line.Run count) h = absurd (apart _ _ 0 refl h.is_text)
-only_file_line text (line.Back linkage event from len) h = absurd (apart _ _ 0 refl h.is_text)
+only_file_line text (line.Asks (question.Back linkage event from len)) h = absurd (apart _ _ 0 refl h.is_text)
 
 pub only_boot_line : (text : List ℕ) (l : Line) → IsLine (codes "boot " ++ text) l
     → (name : List ℕ) × (l ≡ line.Boot name) × IsBoot (codes "boot " ++ text) name
@@ -33,7 +34,7 @@ only_boot_line text (line.File name bytes) h = absurd (apart _ _ 0 refl h.is_tex
 only_boot_line text (line.Boot name) h = (name, refl, h)
 only_boot_line text (line.Type bytes) h = absurd (apart _ _ 0 refl h.is_text)
 only_boot_line text (line.Run count) h = absurd (apart _ _ 0 refl h.is_text)
-only_boot_line text (line.Back linkage event from len) h = absurd (apart _ _ 1 refl h.is_text)
+only_boot_line text (line.Asks (question.Back linkage event from len)) h = absurd (apart _ _ 1 refl h.is_text)
 
 pub only_type_line : (text : List ℕ) (l : Line) → IsLine (codes "type " ++ text) l
     → (bytes : List ℕ) × (l ≡ line.Type bytes) × IsType (codes "type " ++ text) bytes
@@ -41,7 +42,7 @@ only_type_line text (line.File name bytes) h = absurd (apart _ _ 0 refl h.is_tex
 only_type_line text (line.Boot name) h = absurd (apart _ _ 0 refl h.is_text)
 only_type_line text (line.Type bytes) h = (bytes, refl, h)
 only_type_line text (line.Run count) h = absurd (apart _ _ 0 refl h.is_text)
-only_type_line text (line.Back linkage event from len) h = absurd (apart _ _ 0 refl h.is_text)
+only_type_line text (line.Asks (question.Back linkage event from len)) h = absurd (apart _ _ 0 refl h.is_text)
 
 pub only_run_line : (text : List ℕ) (l : Line) → IsLine (codes "run " ++ text) l
     → (count : ℕ) × (l ≡ line.Run count) × IsRun (codes "run " ++ text) count
@@ -49,15 +50,15 @@ only_run_line text (line.File name bytes) h = absurd (apart _ _ 0 refl h.is_text
 only_run_line text (line.Boot name) h = absurd (apart _ _ 0 refl h.is_text)
 only_run_line text (line.Type bytes) h = absurd (apart _ _ 0 refl h.is_text)
 only_run_line text (line.Run count) h = (count, refl, h)
-only_run_line text (line.Back linkage event from len) h = absurd (apart _ _ 0 refl h.is_text)
+only_run_line text (line.Asks (question.Back linkage event from len)) h = absurd (apart _ _ 0 refl h.is_text)
 
 pub only_back_line : (text : List ℕ) (l : Line) → IsLine (codes "back " ++ text) l
-    → (linkage : Linkage) × (event : ℕ) × (from : ℕ) × (len : ℕ) × (l ≡ line.Back linkage event from len) × IsBack (codes "back " ++ text) linkage event from len
+    → (linkage : Linkage) × (event : ℕ) × (from : ℕ) × (len : ℕ) × (l ≡ line.Asks (question.Back linkage event from len)) × IsBack (codes "back " ++ text) linkage event from len
 only_back_line text (line.File name bytes) h = absurd (apart _ _ 0 refl h.is_text)
 only_back_line text (line.Boot name) h = absurd (apart _ _ 1 refl h.is_text)
 only_back_line text (line.Type bytes) h = absurd (apart _ _ 0 refl h.is_text)
 only_back_line text (line.Run count) h = absurd (apart _ _ 0 refl h.is_text)
-only_back_line text (line.Back linkage event from len) h = (linkage, event, from, len, refl, h)
+only_back_line text (line.Asks (question.Back linkage event from len)) h = (linkage, event, from, len, refl, h)
 
 pub no_file_line : (text : List ℕ) → ((name bytes : List ℕ) → ¬ IsFile (codes "file " ++ text) name bytes)
     → SaysNothing (codes "file " ++ text)

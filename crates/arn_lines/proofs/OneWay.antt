@@ -5,6 +5,7 @@ use Rattle.rv64_model.specs.declared.linkage.Linkage.{Linkage}
 use Rattle.rv64_model.specs.declared.linkage.Linkage.TheVariants.{Copy, Data, Index}
 use Rattle.arn_lines.specs.declared.line.Line.{Line}
 use Rattle.arn_lines.specs.declared.line.Line.TheVariants as line
+use Rattle.arn_lines.specs.declared.line.Question.TheVariants as question
 use Rattle.arn_lines.specs.declared.line.Reading.{Reading}
 use Rattle.arn_lines.specs.declared.line.Reading.TheVariants.{PassedOver, TooLong, Unreadable, Says}
 use Rattle.arn_lines.specs.Grammar.{IsBack, IsBoot, IsFile, IsLine, IsLinkage, IsPassedOver, IsRun, IsType, Reads, space}
@@ -12,7 +13,7 @@ use Rattle.arn_lines.specs.Pieces.{AreThreeNumbers, IsFirstWord}
 use Rattle.arn_lines.specs.Words.{IsBytes, IsHex}
 use Rattle.arn_lines.proofs.FirstWords.{AreThreeNumbers-parts, IsFirstWord-same, no_space-IsLinkage, no_space-IsName, no_space-IsNumber}
 use Rattle.arn_lines.proofs.HexBytes.{IsHex-same}
-use Rattle.arn_lines.proofs.Keywords.{IsBack-parts, only_back_line, only_boot_line, only_file_line, only_run_line, only_type_line}
+use Rattle.arn_lines.proofs.Keywords.{IsBack-parts, apart, only_back_line, only_boot_line, only_file_line, only_run_line, only_type_line}
 use Rattle.arn_lines.proofs.Numbers.{IsNumber-same}
 
 -- `-` is no hex text
@@ -73,10 +74,14 @@ AreThreeNumbers-same text a b c d e f three too =
 
 IsLinkage-same : (word : List ℕ) (a b : Linkage) → IsLinkage word a → IsLinkage word b → a ≡ b
 IsLinkage-same word Copy Copy is too = refl
-IsLinkage-same word Copy Data is too = absurd too
-IsLinkage-same word Copy Index is too = absurd too
-IsLinkage-same word Data b is too = absurd is
-IsLinkage-same word Index b is too = absurd is
+IsLinkage-same word Copy Data is too = absurd (apart (codes "copy") (codes "data") 0 refl (sym is ∙ too))
+IsLinkage-same word Copy Index is too = absurd (apart (codes "copy") (codes "index") 0 refl (sym is ∙ too))
+IsLinkage-same word Data Copy is too = absurd (apart (codes "data") (codes "copy") 0 refl (sym is ∙ too))
+IsLinkage-same word Data Data is too = refl
+IsLinkage-same word Data Index is too = absurd (apart (codes "data") (codes "index") 0 refl (sym is ∙ too))
+IsLinkage-same word Index Copy is too = absurd (apart (codes "index") (codes "copy") 0 refl (sym is ∙ too))
+IsLinkage-same word Index Data is too = absurd (apart (codes "index") (codes "data") 0 refl (sym is ∙ too))
+IsLinkage-same word Index Index is too = refl
 
 -- what stands behind the keyword of a `back` line
 IsBack-behind : (text : List ℕ) (linkage : Linkage) (event from len : ℕ) (back : IsBack text linkage event from len)
@@ -136,13 +141,13 @@ IsLine-same text (line.Run count) b h k =
     let run = only_run_line h.number b (subst (λ xs. IsLine xs b) h.is_text k) in
     let same = IsRun-same text count run.0 h (subst (λ xs. IsRun xs run.0) (sym h.is_text) run.2) in
     ap line.Run same ∙ sym run.1
-IsLine-same text (line.Back l c d e) b h k =
+IsLine-same text (line.Asks (question.Back l c d e)) b h k =
     let behind = IsBack-behind text l c d e h in
     let rest = h.linkage_text ++ space ++ (codes "event " ++ behind.0) in
     let back = only_back_line rest b (subst (λ xs. IsLine xs b) behind.1 k) in
     let again : IsBack text back.0 back.1 back.2 back.3 = subst (λ xs. IsBack xs back.0 back.1 back.2 back.3) (sym behind.1) back.5 in
     let same = IsBack-same text l back.0 c d e back.1 back.2 back.3 h again in
-    let equal : line.Back l c d e ≡ line.Back back.0 back.1 back.2 back.3 = cc (same.0, same.1, same.2, same.3) in
+    let equal : line.Asks (question.Back l c d e) ≡ line.Asks (question.Back back.0 back.1 back.2 back.3) = cc (same.0, same.1, same.2, same.3) in
     equal ∙ sym back.4
 
 -- a byte that is no `#`, by a test that computes
@@ -155,7 +160,7 @@ IsLine-begins text (line.File name bytes) h over = no_hash 102 refl (subst IsPas
 IsLine-begins text (line.Boot name) h over = no_hash 98 refl (subst IsPassedOver h.is_text over)
 IsLine-begins text (line.Type bytes) h over = no_hash 116 refl (subst IsPassedOver h.is_text over)
 IsLine-begins text (line.Run count) h over = no_hash 114 refl (subst IsPassedOver h.is_text over)
-IsLine-begins text (line.Back linkage event from len) h over = no_hash 98 refl (subst IsPassedOver h.is_text over)
+IsLine-begins text (line.Asks (question.Back linkage event from len)) h over = no_hash 98 refl (subst IsPassedOver h.is_text over)
 
 pub Reads-same : (text : List ℕ) (a b : Reading) → Reads text a → Reads text b → a ≡ b
 Reads-same text PassedOver PassedOver h k = refl

@@ -4,6 +4,8 @@ use Rattle.rv64_model.specs.declared.linkage.Linkage.{Linkage}
 use Rattle.rv64_model.specs.declared.linkage.Linkage.TheVariants.{Copy, Data, Index}
 use Rattle.arn_lines.specs.declared.line.Line.{Line}
 use Rattle.arn_lines.specs.declared.line.Line.TheVariants as line
+use Rattle.arn_lines.specs.declared.line.Question.{Question}
+use Rattle.arn_lines.specs.declared.line.Question.TheVariants as question
 use Rattle.arn_lines.specs.declared.line.Reading.{Reading}
 use Rattle.arn_lines.specs.declared.line.Reading.TheVariants.{PassedOver, TooLong, Unreadable, Says}
 use Rattle.arn_lines.specs.declared.line.TheConstants.{MOST_LINE, MOST_RUN}
@@ -13,11 +15,11 @@ use Rattle.arn_lines.specs.Words.{is_name, IsName, IsBytes, IsNumber}
 abbrev pub space : List ℕ
 space = codes " "
 
--- the word names the linkage. Lines name `copy` alone
+-- the word names the linkage
 abbrev pub IsLinkage : List ℕ → Linkage → Type 0
 IsLinkage word Copy = word ≡ codes "copy"
-IsLinkage word Data = ⊥
-IsLinkage word Index = ⊥
+IsLinkage word Data = word ≡ codes "data"
+IsLinkage word Index = word ≡ codes "index"
 
 -- `file NAME HEX`
 pub record IsFile (text name bytes : List ℕ) : Type 0 where
@@ -60,13 +62,17 @@ pub record IsBack (text : List ℕ) (linkage : Linkage) (event from len : ℕ) :
 abbrev pub block_name : List ℕ → Option (List ℕ)
 block_name text = if bytes_eq (take 4 text) (codes "asm ") && is_name (drop 4 text) then Some (drop 4 text) else None
 
+-- a line that asks a question about the history
+abbrev pub IsQuestion : List ℕ → Question → Type 0
+IsQuestion text (question.Back linkage event from len) = IsBack text linkage event from len
+
 -- the grammar of the lines that stand by themselves: the text says this line
 abbrev pub IsLine : List ℕ → Line → Type 0
 IsLine text (line.File name bytes) = IsFile text name bytes
 IsLine text (line.Boot name) = IsBoot text name
 IsLine text (line.Type bytes) = IsType text bytes
 IsLine text (line.Run count) = IsRun text count
-IsLine text (line.Back linkage event from len) = IsBack text linkage event from len
+IsLine text (line.Asks asked) = IsQuestion text asked
 
 -- a line that is passed over: an empty one, and one that begins with `#`, whatever its length
 abbrev pub IsPassedOver : List ℕ → Type 0

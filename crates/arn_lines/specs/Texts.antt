@@ -55,3 +55,8 @@ groups_text (g ∷ groups) = flat_map (λ h. codes " " ++ decimal h) (g ∷ grou
 abbrev pub back_text : ℕ → ℕ → List ℕ → List ℕ
 back_text pairs instructions groups =
     codes "back pairs " ++ decimal pairs ++ codes " instructions " ++ decimal instructions ++ codes " groups" ++ groups_text groups ++ line_end
+
+-- `damaged E SAID FOUND`
+abbrev pub damaged_text : ℕ → ℕ → ℕ → List ℕ
+damaged_text event said found =
+    codes "damaged " ++ decimal event ++ codes " " ++ decimal said ++ codes " " ++ decimal found ++ line_end

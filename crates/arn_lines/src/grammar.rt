@@ -5,7 +5,7 @@ ghost use Rattle.arn_lines.specs.Grammar.{IsLine, IsLinkage, IsPassedOver, Reads
 ghost use Rattle.arn_lines.specs.Pieces.{AreThreeNumbers, SaysNothing};
 
 use crate::words::{after, bytes, is_name, name, number, split_word};
-use crate::{Line, MOST_LINE, MOST_RUN, Reading};
+use crate::{Line, MOST_LINE, MOST_RUN, Question, Reading};
 use arn_base::NoMemory;
 use rv64_model::Linkage;
 use std::alloc::Global;
@@ -61,6 +61,8 @@ fn linkage(word: &[u8]) -> Option<Linkage>
 {
     match word {
         b"copy" => Some(Linkage::Copy),
+        b"data" => Some(Linkage::Data),
+        b"index" => Some(Linkage::Index),
         _ => None,
     }
 }
@@ -81,12 +83,13 @@ fn back_line(text: &[u8]) -> Option<Line>
     let (word, rest) = split_word(text)?;
     let linkage = linkage(word)?;
     let (event, from, len) = three_numbers(after(rest, b"event ")?)?;
-    Some(Line::Back {
+    let question = Question::Back {
         linkage,
         event,
         from,
         len,
-    })
+    };
+    Some(Line::Asks { question })
 }
 
 // The line that the text says, whatever its length.

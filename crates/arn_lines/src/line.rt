@@ -7,26 +7,9 @@ pub const MOST_LINE: usize = 1_048_576;
 /// How many instructions a line may ask for.
 pub const MOST_RUN: u64 = 1_000_000_000;
 
-/// What a line asks for.
+/// A question about the history. It changes nothing.
 #[derive(Debug, Drop)]
-pub enum Line {
-    /// A boot file, before boot.
-    File {
-        name: Bytes,
-        bytes: Bytes,
-    },
-    /// The start of the machine from the image in a file.
-    Boot {
-        name: Bytes,
-    },
-    /// Bytes for the console's queue.
-    Type {
-        bytes: Bytes,
-    },
-    /// Up to so many instructions.
-    Run {
-        count: u64,
-    },
+pub enum Question {
     /// The source bytes of `len` bytes of an event, from byte `from` on.
     Back {
         linkage: Linkage,
@@ -34,6 +17,21 @@ pub enum Line {
         from: u64,
         len: u64,
     },
+}
+
+/// What a line asks for.
+#[derive(Debug, Drop)]
+pub enum Line {
+    /// A boot file, before boot.
+    File { name: Bytes, bytes: Bytes },
+    /// The start of the machine from the image in a file.
+    Boot { name: Bytes },
+    /// Bytes for the console's queue.
+    Type { bytes: Bytes },
+    /// Up to so many instructions.
+    Run { count: u64 },
+    /// A question about the history.
+    Asks { question: Question },
 }
 
 /// What a line of the text is that stands by itself.

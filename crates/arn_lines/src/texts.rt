@@ -2,7 +2,7 @@
 ghost use Rattle.std.specs.Prelude.{◌≡◌, ◌<◌, List, [], ◌∷◌, ◌++◌, OnOk, OnErr, IfOk, codes, decimal, slice_index};
 ghost use Rattle.std.specs.String.{string_bytes};
 ghost use Rattle.arn_lines.specs.Pieces.{LeavesFront};
-ghost use Rattle.arn_lines.specs.Texts.{back_text, bytes_text, end_word, event_text, groups_text, out_text, pair_text, ran_text, refusal_text};
+ghost use Rattle.arn_lines.specs.Texts.{back_text, bytes_text, damaged_text, end_word, event_text, groups_text, out_text, pair_text, ran_text, refusal_text};
 ghost use Rattle.arn_lines.specs.declared.answer.Refusal.TheVariants.{NoAsm};
 ghost use Rattle.hex.specs.Hex.{encode_lower, lower_digits};
 
@@ -173,5 +173,16 @@ pub fn push_back(
     let mut line = back_head(*text.allocator(), pairs, instructions)?;
     push_groups(&mut line, groups)?;
     line.push_str("\n")?;
+    Ok(text.push_str(line.as_str())?)
+}
+
+/// Appends `damaged E SAID FOUND`: the records don't agree at event E, where one says a value and a replay
+/// found another.
+pub fn push_damaged(text: &mut String, event: u64, said: u64, found: u64) -> Result<(), NoMemory>
+    ensures ok { OnOk result
+        (string_bytes text.new ≡ string_bytes text.old ++ damaged_text event said found) }
+    ensures err { OnErr result (string_bytes text.new ≡ string_bytes text.old) }
+{
+    let line = format!(in *text.allocator(); "damaged {event} {said} {found}\n")?;
     Ok(text.push_str(line.as_str())?)
 }

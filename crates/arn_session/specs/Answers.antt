@@ -13,6 +13,7 @@ use Rattle.solo_log.specs.Records.{records_from, named}
 use Rattle.history_facts.specs.Facts.{is_booted_by, file_by, is_free_by, event_by, is_range_by, has_other_calls_by}
 use Rattle.arn_lines.specs.declared.line.Line.{Line}
 use Rattle.arn_lines.specs.declared.line.Line.TheVariants as line
+use Rattle.arn_lines.specs.declared.line.Question.TheVariants as question
 use Rattle.arn_lines.specs.declared.answer.Refusal.{Refusal}
 use Rattle.arn_lines.specs.declared.answer.Refusal.TheVariants.{NoLong, NoLine, NoBoot, NoBooted, NoAsm, NoName, NoImage, NoPoint}
 use Rattle.arn_lines.specs.Texts.{event_text, refusal_text, pair_text, back_text}
@@ -37,7 +38,7 @@ refusal_of history (line.File name bytes) = if is_booted_by history then Some No
 refusal_of history (line.Boot name) = if is_booted_by history then Some NoBooted else file_refusal (file_by history name)
 refusal_of history (line.Type bytes) = refused_if (not (is_booted_by history)) NoBoot
 refusal_of history (line.Run count) = refused_if (not (is_booted_by history)) NoBoot
-refusal_of history (line.Back linkage event from len) =
+refusal_of history (line.Asks (question.Back linkage event from len)) =
     if has_other_calls_by history then Some NoLine else refused_if (not (is_range_by (event_by history event) from len)) NoPoint
 
 -- why a block is refused whose program has a fault on this line
@@ -68,7 +69,7 @@ line_effects history (line.File name bytes) = event_effects (machine_of history)
 line_effects history (line.Boot name) = event_effects (machine_of history) (input.Boot name)
 line_effects history (line.Type bytes) = event_effects (machine_of history) (input.Typed bytes)
 line_effects history (line.Run count) = run_effects (machine_of history) count
-line_effects history (line.Back linkage event from len) = Prints (query_text (named history) linkage event from len) ∷ []
+line_effects history (line.Asks (question.Back linkage event from len)) = Prints (query_text (named history) linkage event from len) ∷ []
 
 -- a refusal is printed, and changes nothing
 abbrev pub effects_unless : Option Refusal → List Record → Line → List Effect

@@ -8,6 +8,7 @@ use Rattle.solo_log.specs.Records.{named}
 use Rattle.solo_machine.specs.Differs.{rebuild_cost}
 use Rattle.arn_lines.specs.declared.line.Line.{Line}
 use Rattle.arn_lines.specs.declared.line.Line.TheVariants as line
+use Rattle.arn_lines.specs.declared.line.Question.TheVariants as question
 use Rattle.arn_commands.specs.declared.command.Command.{Command}
 use Rattle.arn_commands.specs.declared.command.Command.TheVariants.{PassedOver, TooLong, Unreadable, Says, Faulty}
 use Rattle.arn_session.specs.Running.{ran_by, legs_of, slices_of}
@@ -23,7 +24,7 @@ line_cost history (line.File name bytes) = 0
 line_cost history (line.Boot name) = 0
 line_cost history (line.Type bytes) = 0
 line_cost history (line.Run count) = slices_cost (machine_of history) (slices_of (legs_of (machine_of history) count))
-line_cost history (line.Back linkage event from len) = instructions_in (run (named history))
+line_cost history (line.Asks (question.Back linkage event from len)) = instructions_in (run (named history))
 
 abbrev pub command_cost : List Record → Command → ℕ
 command_cost history PassedOver = 0

@@ -3,6 +3,7 @@ ghost use Rattle.std.specs.Prelude.{◌≡◌, ◌≤◌, ◌<◌, ◌+◌, ◌^
 ghost use Rattle.arn_base.specs.Faults.{NeverFalls};
 ghost use Rattle.rv64_model.specs.declared.linkage.Linkage.TheVariants.{Copy};
 ghost use Rattle.arn_lines.specs.declared.line.Line.TheVariants as line;
+ghost use Rattle.arn_lines.specs.declared.line.Question.TheVariants as question;
 ghost use Rattle.arn_lines.specs.Texts.{pair_text};
 ghost use Rattle.solo_model.specs.Run.{run, instructions_in};
 ghost use Rattle.solo_log.specs.Records.{named};
@@ -35,7 +36,7 @@ pub fn back<K: Sink, L: Ledger>(
 ) -> Result<(), Halt>
     requires ready { IsReady machine.now entries.now }
     requires spelled { All HasSpelling entries.now }
-    requires accepted { refusal_of entries.now (line.Back Copy event from len) ≡ None }
+    requires accepted { refusal_of entries.now (line.Asks (question.Back Copy event from len)) ≡ None }
     ensures ok { OnOk result (K.holds sink.new ≡ option_map (λ held.
         held ++ query_text (named entries.now) Copy event from len) (K.holds sink.old)) }
     ensures stops { IfErr result (λ halt.
@@ -64,7 +65,7 @@ fn push_answer<L: Ledger>(
 ) -> Result<(), NoMemory>
     requires ready { IsReady machine.now entries.now }
     requires spelled { All HasSpelling entries.now }
-    requires accepted { refusal_of entries.now (line.Back Copy event from len) ≡ None }
+    requires accepted { refusal_of entries.now (line.Asks (question.Back Copy event from len)) ≡ None }
     ensures text { OnOk result (string_bytes text.new ≡ string_bytes text.old ++
         query_text (named entries.now) Copy event from len) }
     ensures steps { steps.new ≤ steps.old + instructions_in (run (named entries.now)) }

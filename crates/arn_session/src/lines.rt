@@ -24,7 +24,7 @@ use crate::running::run;
 use crate::runs::SoloRuns;
 use arn_base::{Disk, Sink, Steps};
 use arn_commands::Command;
-use arn_lines::{Line, Refusal};
+use arn_lines::{Line, Question, Refusal};
 use log_store::Store;
 use session_effects::{Halt, effects_follow};
 use solo_machine::Machine;
@@ -187,11 +187,13 @@ fn carry_out<D: Disk, K: Sink, L: Ledger>(
         Line::Boot { name } => boot(alloc, store, machine, name, disk, text, sink),
         Line::Type { bytes } => type_in(alloc, store, machine, bytes, disk, text, sink),
         Line::Run { count } => run(alloc, store, machine, count, disk, text, sink, steps),
-        Line::Back {
-            event,
-            from,
-            len,
-            ..
+        Line::Asks {
+            question: Question::Back {
+                event,
+                from,
+                len,
+                ..
+            },
         } => {
             let entries = store.entries();
             back(alloc, entries, machine, event, from, len, text, sink, steps)

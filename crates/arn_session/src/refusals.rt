@@ -4,7 +4,7 @@ ghost use Rattle.arn_session.specs.Answers.{refusal_of as refusal_by, fault_refu
 ghost use Rattle.history_facts.specs.Facts.{file_by};
 
 use arn_base::Record;
-use arn_lines::{Line, Refusal};
+use arn_lines::{Line, Question, Refusal};
 use guest_image::parse;
 use history_facts::{find_file, has_other_calls, has_range, is_booted, is_free};
 
@@ -27,11 +27,13 @@ pub fn refusal_of(entries: &[Record], line: &Line) -> Option<Refusal>
             file_refusal(find_file(entries, name.as_slice()))
         }
         Line::Type { .. } | Line::Run { .. } => refused_if(!is_booted(entries), Refusal::NoBoot),
-        Line::Back {
-            event,
-            from,
-            len,
-            ..
+        Line::Asks {
+            question: Question::Back {
+                event,
+                from,
+                len,
+                ..
+            },
         } => {
             if has_other_calls(entries) {
                 return Some(Refusal::NoLine);

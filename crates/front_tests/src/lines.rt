@@ -1,7 +1,7 @@
 use arn_base::Pair;
 use arn_lines::{
-    Line, MOST_LINE, Reading, Refusal, RunEnd, block_name, push_back, push_event, push_out,
-    push_pair, push_ran, push_refusal, read_line,
+    Line, MOST_LINE, Question, Reading, Refusal, RunEnd, block_name, push_back, push_event,
+    push_out, push_pair, push_ran, push_refusal, read_line,
 };
 use rv64_model::Linkage;
 use std::alloc::{AllocError, Global};
@@ -25,7 +25,13 @@ fn shown_line(alloc: Global, line: &Line) -> Result<String, AllocError> {
         Line::Boot { name } => format!(in alloc; "boot {:?}", name.as_slice()),
         Line::Type { bytes } => format!(in alloc; "type {:?}", bytes.as_slice()),
         Line::Run { count } => format!(in alloc; "run {count}"),
-        Line::Back {
+        Line::Asks { question } => shown_question(alloc, question),
+    }
+}
+
+fn shown_question(alloc: Global, question: &Question) -> Result<String, AllocError> {
+    match question {
+        Question::Back {
             linkage,
             event,
             from,
@@ -88,7 +94,9 @@ fn lines_are_read(rt: HostRuntime) -> Result<(), Fail> {
         ("run +5", "unreadable"),
         ("run -5", "unreadable"),
         ("back copy event 4 0 3", "back copy 4 0 3"),
-        ("back data event 4 0 3", "unreadable"),
+        ("back data event 4 0 3", "back data 4 0 3"),
+        ("back index event 4 0 3", "back index 4 0 3"),
+        ("back all event 4 0 3", "unreadable"),
         ("back copy mem 4 0 3", "unreadable"),
         ("back copy event 4 0", "unreadable"),
         ("back copy event 4 0 3 1", "unreadable"),

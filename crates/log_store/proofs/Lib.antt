@@ -9,6 +9,7 @@ pub mod OneWay
 pub mod ReadRecords
 pub mod Reopening
 pub mod Shut
+pub mod Sizes
 pub mod Spellings
 pub mod Told
 pub mod Walks

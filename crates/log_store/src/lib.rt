@@ -16,4 +16,4 @@ mod store;
 pub use errors::{CommitError, OpenError};
 pub use law::logs_read_one_way;
 pub use size::{MOST_LOG, frame_end};
-pub use store::Store;
+pub use store::{Store, store_is_short};

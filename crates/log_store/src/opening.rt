@@ -5,7 +5,7 @@ ghost use Rattle.arn_base.specs.Faults.{Rose};
 ghost use Rattle.result_log.specs.Spelling.{HasSpelling};
 ghost use Rattle.log_store.specs.Causes.{IsCauseOf, BlamesBytes};
 ghost use Rattle.log_store.specs.Stores.{KeepsRecords};
-ghost use Rattle.log_store.specs.Log.{IsLog, IsClosedLog};
+ghost use Rattle.log_store.specs.Log.{IsLog, IsClosedLog, spellings};
 ghost use Rattle.log_store.specs.Pieces.{IsLeft};
 ghost use Rattle.log_store.specs.Refused.{IsNoLog};
 ghost use Rattle.log_store.specs.Stops.{NothingPending, LeavesOnly, GoesOn};
@@ -34,6 +34,8 @@ pub fn open_bytes<D: Disk>(alloc: Global, disk: &mut D, bytes: &[u8]) -> Result<
 
     ensures recovered { IfOk result (λ opened. IsLog bytes.now opened.entries.items) }
     ensures spelled { IfOk result (λ opened. All HasSpelling opened.entries.items) }
+    ensures sized { IfOk result (λ opened.
+        length (spellings opened.entries.items) ≤ opened.log_len) }
     ensures left { IfOk result (λ opened.
         IfSome (D.image disk.new) (IsLeft opened.entries.items opened.log_len)) }
     ensures len { IfOk result (λ opened. (9 ≤ opened.log_len) × (opened.log_len ≤ MOST_LOG)) }
@@ -63,6 +65,8 @@ fn open_fresh<D: Disk>(alloc: Global, disk: &mut D, bytes: &[u8]) -> Result<Open
 
     ensures recovered { IfOk result (λ opened. IsLog bytes.now opened.entries.items) }
     ensures spelled { IfOk result (λ opened. All HasSpelling opened.entries.items) }
+    ensures sized { IfOk result (λ opened.
+        length (spellings opened.entries.items) ≤ opened.log_len) }
     ensures left { IfOk result (λ opened.
         IfSome (D.image disk.new) (IsLeft opened.entries.items opened.log_len)) }
     ensures len { IfOk result (λ opened. opened.log_len ≡ 9) }
@@ -94,6 +98,8 @@ fn open_named<D: Disk>(alloc: Global, disk: &mut D, bytes: &[u8]) -> Result<Open
 
     ensures recovered { IfOk result (λ opened. IsLog bytes.now opened.entries.items) }
     ensures spelled { IfOk result (λ opened. All HasSpelling opened.entries.items) }
+    ensures sized { IfOk result (λ opened.
+        length (spellings opened.entries.items) ≤ opened.log_len) }
     ensures left { IfOk result (λ opened.
         IfSome (D.image disk.new) (IsLeft opened.entries.items opened.log_len)) }
     ensures len { IfOk result (λ opened. (9 ≤ opened.log_len) × (opened.log_len ≤ MOST_LOG)) }

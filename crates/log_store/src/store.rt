@@ -30,7 +30,8 @@ pub struct Store {
 }
 
 impl Model for Store {
-    ghost use Rattle.std.specs.Prelude.{◌≤◌};
+    ghost use Rattle.std.specs.Prelude.{◌≤◌, length};
+    ghost use Rattle.log_store.specs.Log.{spellings};
     ghost use Rattle.log_store.specs.Stores.{StoreState};
     ghost use Rattle.log_store.specs.declared.size.TheConstants.{MOST_LOG};
 
@@ -42,7 +43,8 @@ impl Model for Store {
       usable = s.usable;
     } };
 
-    ghost invariant = { λ s. (9 ≤ s.log_len) × (s.log_len ≤ MOST_LOG) };
+    ghost invariant = { λ s. (9 ≤ s.log_len) × (s.log_len ≤ MOST_LOG) ×
+        (length (spellings s.entries.items) ≤ s.log_len) };
 }
 
 impl Store {
@@ -183,4 +185,11 @@ impl Store {
             }
         }
     }
+}
+
+/// What a store's records are spelled by is no longer than a log may be.
+pub fn store_is_short(store: &Store)
+    ensures { length (spellings store.now.entries) ≤ MOST_LOG }
+{
+    let _len = store.log_len;
 }

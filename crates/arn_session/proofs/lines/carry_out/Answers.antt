@@ -4,17 +4,18 @@ use Rattle.rv64_model.specs.declared.linkage.Linkage.TheVariants.{Copy}
 use Rattle.solo_log.specs.Records.{named}
 use Rattle.arn_lines.specs.declared.line.Line.{Line}
 use Rattle.arn_lines.specs.declared.line.Line.TheVariants as line
+use Rattle.arn_lines.specs.declared.line.Question.TheVariants as question
 use Rattle.arn_commands.specs.Sizes.{LineFits}
 use Rattle.arn_session.specs.Answers.{query_text, line_effects}
 use Rattle.arn_session.proofs.LineAnswers.{Carries-only, StopsAt-only}
 use Rattle.arn_session.proofs.lines.carry_out.Goals as goal
 
 -- a line that fits names `copy`
-copy-Back : (l : Line) (linkage : Linkage) (event from len : ℕ) → l ≡ line.Back linkage event from len → LineFits l
-    → l ≡ line.Back Copy event from len
+copy-Back : (l : Line) (linkage : Linkage) (event from len : ℕ) → l ≡ line.Asks (question.Back linkage event from len) → LineFits l
+    → l ≡ line.Asks (question.Back Copy event from len)
 copy-Back l linkage event from len is fits =
     let copy : linkage ≡ Copy = subst LineFits is fits in
-    is ∙ ap (λ (k : Linkage). line.Back k event from len) copy
+    is ∙ ap (λ (k : Linkage). line.Asks (question.Back k event from len)) copy
 
 pub returns-in-Back-clause-carries : goal.returns-in-Back-clause-carries
 returns-in-Back-clause-carries g c =

@@ -1,10 +1,11 @@
-use Rattle.std.proofs.Common.{◌≡◌, ◌++◌, ◌∷◌, [], ◌-◌, ◌+◌, length, take, refl}
+use Rattle.std.proofs.Common.{◌≡◌, ◌++◌, ◌∷◌, [], ◌-◌, ◌+◌, length, take, refl, arith}
 use Rattle.std.proofs.lemmas.Option.{IfSome_then}
 use Rattle.std.proofs.lemmas.Result.{err_from_is_err_and}
 use Rattle.log_store.specs.Stores.{KeepsRecords}
 use Rattle.log_store.specs.Pieces.{IsLeft, IsSameFront}
 use Rattle.log_store.proofs.OneWay.{closed_end}
 use Rattle.log_store.proofs.Reopening.{bad_cause, found_ends, found_left, found_some, kept_found, kept_same, told_unmoved}
+use Rattle.log_store.proofs.Sizes.{found-sized}
 use Rattle.log_store.proofs.Spellings.{found_spelled}
 use Rattle.log_store.proofs.Told.{told_after, told_weaker}
 use Rattle.log_store.proofs.opening.open_named.Goals as goal
@@ -71,3 +72,7 @@ returns-clause-closed g c records log =
 pub returns-clause-spelled : goal.returns-clause-spelled
 returns-clause-spelled g c =
     found_spelled c.args.bytes.now c.in_ok-found.found.entries.items c.in_ok-found.found.end.now c.in_ok-found.ensures.ok
+
+pub returns-clause-sized : goal.returns-clause-sized
+returns-clause-sized g c =
+    omega (arith, found-sized c.args.bytes.now c.in_ok-found.found.entries.items c.in_ok-found.found.end.now c.in_ok-found.ensures.ok)

@@ -1,0 +1,9 @@
+mod TurnLemmas
+mod LineLemmas
+mod ReadyLemmas
+mod TellLemmas
+mod PartLemmas
+mod AnswerLemmas
+mod ChangeLemmas
+mod EventLemmas
+mod Examples

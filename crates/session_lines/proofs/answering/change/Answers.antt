@@ -1,0 +1,90 @@
+use Rattle.std.proofs.Common.{◌≡◌, ◌∙◌, List, length, Some, None, OnOk, IfErr, ap, is_some, refl, subst, sym, arith}
+use Rattle.arn_base.specs.declared.records.Record.{Record}
+use Rattle.arn_commands.specs.declared.command.Command.TheVariants.{Says}
+use Rattle.session_effects.specs.Effects.{committed}
+use Rattle.session_effects.specs.declared.halt.Halt.TheVariants as halt
+use Rattle.session_runs.specs.Points.{around}
+use Rattle.session_lines.specs.Answering.{standpoint}
+use Rattle.session_lines.specs.Lines.{line_turn, turn}
+use Rattle.session_lines.proofs.AnswerLemmas.{blames-not-made, cause-blames, halted-not-made, line-cause, not-made-cause}
+use Rattle.session_lines.proofs.ChangeLemmas.{advances-changed, err-same, few-known, halted-changed, halted-unheard, heard-before}
+use Rattle.session_lines.proofs.LineLemmas.{cost-change, needs-change, still-line, turn-line}
+use Rattle.session_lines.proofs.TurnLemmas.{IsStill}
+use Rattle.session_lines.proofs.answering.change.Goals as goal
+
+pub returns-in_err-machine-clause-halted : goal.returns-in_err-machine-clause-halted
+returns-in_err-machine-clause-halted g c =
+    let why = c.in_err-machine.field-0.0 in
+    let still : IsStill (turn g.Q.Questions.told c.args.kept.now.store.entries (Says c.args.line)) = subst IsStill (sym (turn-line g.Q.Questions.told c.args.kept.now.store.entries c.args.line c.requires.accepted)) (still-line g.Q.Questions.told c.args.kept.now.store.entries c.args.line) in
+    err-same c.from_residual.result why _ c.from_residual.ensures.1
+    (halted-not-made g.D.Disk g.A.Answers.answers g.Q.Questions.told (is_some c.args.kept.now.machine) (Says c.args.line) (g.C.Chooser.choices c.args.chooser.now) c.args.answers.now c.halts_follow.ensures why c.args.disk.now c.args.kept.now.store c.take_machine.new.kept.store (g.K.Sink.holds c.args.sink.now) c.args.steps.now c.take_machine.new.steps c.in_err-machine.ensures.not_made c.take_machine.ensures.store still c.take_machine.ensures.steps
+    (omega (arith, c.take_machine.ensures.steps, cost-change g.Q.Questions.told (is_some c.args.kept.now.machine) c.args.kept.now.store.entries c.args.line c.requires.change c.requires.accepted)))
+
+pub returns-in_err-machine-clause-blames : goal.returns-in_err-machine-clause-blames
+returns-in_err-machine-clause-blames g c =
+    let why = c.in_err-machine.field-0.0 in
+    err-same c.from_residual.result why _ c.from_residual.ensures.1
+    (blames-not-made (is_some c.args.kept.now.machine) (Says c.args.line) (g.C.Chooser.choices c.args.chooser.now) c.args.answers.now why c.args.disk.now c.args.kept.now.store c.take_machine.new.kept.store (g.K.Sink.holds c.args.sink.now) c.args.steps.now c.take_machine.new.steps c.in_err-machine.ensures.not_made c.take_machine.ensures.store c.in_err-machine.ensures.blames (ap is_some c.in_err-machine.ensures.absent)
+    (needs-change c.args.kept.now.store.entries c.args.line c.requires.change c.requires.accepted) c.take_machine.ensures.steps)
+
+pub returns-in_err-machine-clause-cause : goal.returns-in_err-machine-clause-cause
+returns-in_err-machine-clause-cause g c =
+    let why = c.in_err-machine.field-0.0 in
+    err-same c.from_residual.result why _ c.from_residual.ensures.1 (not-made-cause why (g.D.Disk.faults c.args.disk.now) (g.D.Disk.faults c.args.disk.now) (g.K.Sink.faults c.args.sink.now) (g.K.Sink.faults c.args.sink.now) c.in_err-machine.ensures.not_made)
+
+pub returns-in_err-carry_out-clause-halted : goal.returns-in_err-carry_out-clause-halted
+returns-in_err-carry_out-clause-halted g c =
+    let why = c.in_err-carry_out.field-0.0 in
+    let n = c.carry_out.new in
+    err-same c.from_residual-in_err-carry_out.result why _ c.from_residual-in_err-carry_out.ensures.1
+    (halted-changed g.D.Disk g.A.Answers.answers g.Q.Questions.told (is_some c.args.kept.now.machine) c.args.line c.args.kept.now.store c.requires.change c.requires.accepted c.halts_follow.ensures c.points_follow.ensures (g.C.Chooser.choices c.args.chooser.now) c.args.answers.now c.args.steps.now c.take_machine.new.steps c.take_machine.ensures.steps
+    c.args.disk.now n.disk c.take_machine.new.kept.store n.store (g.K.Sink.holds c.args.sink.now) (g.K.Sink.holds n.sink) why (around (g.C.Chooser.choices n.chooser) n.answers n.steps) c.take_machine.ensures.store c.in_ok-machine.ensures.ready.is_run
+    (c.in_err-carry_out.ensures.stops g.Q.Questions.told))
+
+pub returns-in_err-carry_out-clause-blames : goal.returns-in_err-carry_out-clause-blames
+returns-in_err-carry_out-clause-blames g c =
+    let why = c.in_err-carry_out.field-0.0 in
+    err-same c.from_residual-in_err-carry_out.result why _ c.from_residual-in_err-carry_out.ensures.1
+    (cause-blames (is_some c.args.kept.now.machine) (Says c.args.line) why _ _ _ _ (standpoint c.args.disk.now c.args.kept.now.store (g.K.Sink.holds c.args.sink.now) (around (g.C.Chooser.choices c.args.chooser.now) c.args.answers.now c.args.steps.now)) (standpoint c.carry_out.new.disk c.carry_out.new.store (g.K.Sink.holds c.carry_out.new.sink) (around (g.C.Chooser.choices c.carry_out.new.chooser) c.carry_out.new.answers c.carry_out.new.steps)) c.in_err-carry_out.ensures.cause)
+
+pub returns-in_err-carry_out-clause-cause : goal.returns-in_err-carry_out-clause-cause
+returns-in_err-carry_out-clause-cause g c =
+    let why = c.in_err-carry_out.field-0.0 in
+    err-same c.from_residual-in_err-carry_out.result why _ c.from_residual-in_err-carry_out.ensures.1 (line-cause why _ _ _ _ c.in_err-carry_out.ensures.cause)
+
+pub returns-in_err-extend-clause-halted : goal.returns-in_err-extend-clause-halted
+returns-in_err-extend-clause-halted g c =
+    let n = c.carry_out.new in
+    err-same c.from_residual-in_err-extend.result halt.NoMemory _ c.from_residual-in_err-extend.ensures.1
+    (halted-unheard g.D.Disk g.A.Answers.answers g.Q.Questions.told (is_some c.args.kept.now.machine) c.args.line c.args.kept.now.store c.requires.change c.requires.accepted c.halts_follow.ensures c.points_follow.ensures (g.C.Chooser.choices c.args.chooser.now) c.args.answers.now c.args.steps.now c.take_machine.new.steps c.take_machine.ensures.steps
+    c.args.disk.now n.disk c.take_machine.new.kept.store n.store (g.K.Sink.holds c.args.sink.now) (g.K.Sink.holds n.sink) (g.C.Chooser.choices n.chooser) n.answers n.steps c.take_machine.ensures.store c.in_ok-machine.ensures.ready.is_run
+    (c.in_ok-carry_out.ensures.advances g.Q.Questions.told))
+
+pub returns-in_err-extend-clause-blames : goal.returns-in_err-extend-clause-blames
+returns-in_err-extend-clause-blames g c = err-same c.from_residual-in_err-extend.result halt.NoMemory _ c.from_residual-in_err-extend.ensures.1 tt
+
+pub returns-in_err-extend-clause-cause : goal.returns-in_err-extend-clause-cause
+returns-in_err-extend-clause-cause g c = err-same c.from_residual-in_err-extend.result halt.NoMemory _ c.from_residual-in_err-extend.ensures.1 tt
+
+pub returns-clause-advances : goal.returns-clause-advances
+returns-clause-advances g c =
+    let n = c.carry_out.new in
+    advances-changed g.D.Disk g.A.Answers.answers g.Q.Questions.told (is_some c.args.kept.now.machine) c.args.line c.args.kept.now.store c.requires.change c.requires.accepted c.halts_follow.ensures c.points_follow.ensures (g.C.Chooser.choices c.args.chooser.now) c.args.answers.now c.args.steps.now c.take_machine.new.steps c.take_machine.ensures.steps
+    c.args.disk.now n.disk c.take_machine.new.kept.store n.store (g.K.Sink.holds c.args.sink.now) (g.K.Sink.holds n.sink) (around (g.C.Chooser.choices n.chooser) n.answers n.steps) c.take_machine.ensures.store
+    (c.in_ok-carry_out.ensures.advances g.Q.Questions.told)
+
+pub extend-requires-clause-inside : goal.extend-requires-clause-inside
+extend-requires-clause-inside g c =
+    let p = c.in_ok-carry_out.ensures.advances g.Q.Questions.told in
+    omega (
+      arith,
+      few-known c.take_machine.new.kept.store.entries c.carry_out.new.store.entries (committed p.effects) p.carries.entries,
+      ap (λ (x : List Record). length x) c.entries-known.ensures,
+      ap (λ (x : List Record). length x) c.entries.ensures,
+    )
+
+pub extend-requires-clause-known : goal.extend-requires-clause-known
+extend-requires-clause-known g c =
+    let p = c.in_ok-carry_out.ensures.advances g.Q.Questions.told in
+    heard-before _ g.Q.Questions.knows c.args.kept.now.questions c.take_machine.new.kept.questions c.args.kept.now.store c.take_machine.new.kept.store c.carry_out.new.store c.entries-known.result.now c.entries.result.now (committed p.effects) (length c.entries-known.result.now)
+    c.requires.sound.questions c.take_machine.ensures.questions c.take_machine.ensures.store c.entries-known.ensures refl c.entries.ensures p.carries.entries

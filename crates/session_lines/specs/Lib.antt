@@ -1,0 +1,7 @@
+pub mod Questions
+pub mod Refusals
+pub mod Lines
+pub mod Cost
+pub mod Kept
+pub mod Answering
+pub mod Halts

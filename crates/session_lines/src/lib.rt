@@ -1,0 +1,16 @@
+//! What one command of a session does: a change of the history, which is committed before its answer is
+//! printed, or an answer from the records.
+#![tactic(auto)]
+
+mod answering;
+mod events;
+mod kept;
+mod names;
+mod printing;
+mod questions;
+mod ready;
+mod refusals;
+
+pub use answering::answer;
+pub use kept::Kept;
+pub use questions::Questions;

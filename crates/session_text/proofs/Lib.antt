@@ -1,0 +1,7 @@
+mod UseLemmas
+mod ResultLemmas
+mod HaltLemmas
+mod PointLemmas
+mod TranscriptLemmas
+mod Progress
+mod CutLemmas

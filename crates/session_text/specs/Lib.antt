@@ -1,0 +1,4 @@
+pub mod Transcript
+pub mod Answers
+pub mod CutOff
+pub mod Halts

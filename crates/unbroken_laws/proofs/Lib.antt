@@ -1,0 +1,10 @@
+pub mod Counts
+pub mod Rows
+pub mod Counted
+pub mod Inputs
+pub mod Lies
+pub mod Steps
+pub mod Stands
+pub mod Turns
+pub mod Outside
+pub mod Runs
