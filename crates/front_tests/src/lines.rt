@@ -1,7 +1,7 @@
 use arn_base::Pair;
 use arn_lines::{
-    Line, MOST_LINE, Question, Reading, Refusal, RunEnd, block_name, push_back, push_event,
-    push_out, push_pair, push_ran, push_refusal, read_line,
+    Line, MOST_LINE, Question, Reading, Refusal, RunEnd, block_name, push_back, push_damaged,
+    push_event, push_out, push_pair, push_ran, push_refusal, read_line,
 };
 use rv64_model::Linkage;
 use std::alloc::{AllocError, Global};
@@ -247,6 +247,7 @@ fn answers_are_written(rt: HostRuntime) -> Result<(), Fail> {
     push_back(&mut text, 3, 11, &[1])?;
     push_back(&mut text, 0, 0, &[])?;
     push_back(&mut text, 3, u128::MAX, &[1, 3, 4294967295])?;
+    push_damaged(&mut text, 10, 22, 12)?;
     let wanted = "event 0
 out 4 1 616263
 out 5 2 -
@@ -258,6 +259,7 @@ pair 2 94 1
 back pairs 3 instructions 11 groups 1
 back pairs 0 instructions 0 groups -
 back pairs 3 instructions 340282366920938463463374607431768211455 groups 1 3 4294967295
+damaged 10 22 12
 ";
     assert_eq!(rt; text.as_str(), wanted);
     Ok(())
