@@ -1,26 +1,23 @@
 -- Answers to commands, and where they halt.
-use Rattle.std.proofs.Common.{◌≡◌, ◌⊎◌, inl, inr, ℕ, ◌+◌, ◌≤◌, ◌++◌, Bool, true, false, List, [], ◌∷◌, Option, Some, None, option_map, is_some, Result, Ok, Err, IfErr, OnOk, refl, sym, ap, ◌∙◌, subst, take, length, arith}
+use Rattle.std.proofs.Common.{◌≡◌, inl, inr, ℕ, ◌+◌, ◌≤◌, ◌++◌, Bool, true, false, List, [], Option, option_map, Result, Ok, Err, IfErr, OnOk, refl, sym, ◌∙◌, subst}
 use Rattle.std.proofs.lemmas.Bool.{false≢true}
 use Rattle.std.specs.Prelude.{◌||◌}
 use Rattle.arn_base.specs.declared.boxes.Choice.{Choice}
 use Rattle.arn_base.specs.declared.disk.Disk.{Ghosts}
-use Rattle.arn_base.specs.declared.records.Differs.{Differs}
-use Rattle.arn_base.specs.declared.records.Record.{Record}
 use Rattle.parts_model.specs.Replies.{Answered}
 use Rattle.log_model.specs.Records.{IsRun}
 use Rattle.log_store.specs.Stores.{StoreState}
 use Rattle.guest_devices.specs.Answers.{Asked}
 use Rattle.arn_commands.specs.declared.command.Command.{Command}
 use Rattle.session_effects.specs.Carrying.{StopsBetween}
-use Rattle.session_effects.specs.Effects.{Effect}
 use Rattle.session_effects.specs.Laws.{EffectsFollow, HaltsFollow}
 use Rattle.session_effects.specs.Printing.{StopsPut}
-use Rattle.session_effects.specs.Standing.{Carries, IsCause, IsOpen}
+use Rattle.session_effects.specs.Standing.{IsCause, IsOpen}
 use Rattle.session_effects.specs.declared.halt.Halt.{Halt}
 use Rattle.session_effects.specs.declared.halt.Halt.TheVariants as halt
-use Rattle.session_runs.specs.Points.{Advances, Stops, Surroundings, around}
-use Rattle.session_runs.specs.Turns.{Point, finished}
-use Rattle.session_lines.specs.Answering.{BlamesRecords, BlamesRightly, FindsNoRun, IsAnswered, IsHalted, IsLineCause, IsNoRun, IsNotBegun, IsNotMade, IsUntouched, Standpoint, standpoint}
+use Rattle.session_runs.specs.Points.{around}
+use Rattle.session_runs.specs.Turns.{finished}
+use Rattle.session_lines.specs.Answering.{BlamesRecords, BlamesRightly, IsAnswered, IsHalted, IsLineCause, IsNotBegun, IsNotMade, Standpoint, standpoint}
 use Rattle.session_lines.specs.Cost.{cost, machine_cost}
 use Rattle.session_lines.specs.Lines.{needs_machine, prints, turn}
 use Rattle.session_lines.specs.Questions.{Told}

@@ -1,5 +1,5 @@
 -- Points from which a session goes on where instructions were executed before it.
-use Rattle.std.proofs.Common.{◌≡◌, inl, ℕ, ◌+◌, ◌≤◌, ◌++◌, Bool, true, List, [], Option, None, IfSome, Result, Ok, Err, OnOk, IfErr, IsErrAnd, refl, sym, ap, ◌∙◌, subst, take, length, length-append, arith, Some, ◌||◌}
+use Rattle.std.proofs.Common.{◌≡◌, inl, ℕ, ◌+◌, ◌≤◌, ◌++◌, Bool, true, List, [], Option, None, IfSome, Result, Ok, Err, OnOk, IfErr, IsErrAnd, refl, sym, ap, ◌∙◌, subst, take, length, length-append, arith, ◌||◌}
 use Rattle.std.specs.Prelude.{IsSome, is_some}
 use Rattle.std.proofs.Math.Seq.{take-append_seam}
 use Rattle.arn_base.specs.declared.boxes.Choice.{Choice}
@@ -14,7 +14,7 @@ use Rattle.arn_commands.specs.declared.command.Command.TheVariants.{Says}
 use Rattle.arn_lines.specs.declared.line.Line.{Line}
 use Rattle.arn_lines.specs.declared.line.Line.TheVariants as line
 use Rattle.arn_lines.specs.declared.line.Question.{Question}
-use Rattle.session_effects.specs.Effects.{Effect, committed}
+use Rattle.session_effects.specs.Effects.{Effect}
 use Rattle.session_effects.specs.Laws.{HaltsFollow}
 use Rattle.session_effects.specs.Standing.{Carries}
 use Rattle.session_effects.specs.declared.halt.Halt.{Halt}

@@ -8,7 +8,7 @@ use Rattle.arn_lines.specs.declared.answer.Refusal.TheVariants.{NoBoot, NoBooted
 use Rattle.arn_lines.specs.declared.line.Line.TheVariants as line
 use Rattle.arn_lines.specs.declared.line.Question.{Question}
 use Rattle.arn_lines.specs.Texts.{refusal_text}
-use Rattle.arn_commands.specs.declared.command.Command.TheVariants.{PassedOver, TooLong, Says, Faulty}
+use Rattle.arn_commands.specs.declared.command.Command.TheVariants.{PassedOver, TooLong, Says}
 use Rattle.session_effects.specs.Effects.{Prints}
 use Rattle.session_effects.specs.declared.halt.Halt.TheVariants as halt
 use Rattle.session_runs.specs.Points.{around}

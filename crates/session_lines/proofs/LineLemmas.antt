@@ -1,5 +1,5 @@
 -- What commands do that are refused, that print, or that become an event.
-use Rattle.std.proofs.Common.{◌≡◌, ◌⊎◌, ◌≤◌, inl, inr, ℕ, ◌+◌, ◌++◌, Bool, true, false, List, [], ◌∷◌, Option, Some, None, refl, sym, ap, ◌∙◌, append-nil, arith}
+use Rattle.std.proofs.Common.{◌≡◌, ◌⊎◌, ◌≤◌, inl, inr, ℕ, ◌++◌, Bool, true, false, List, [], ◌∷◌, Option, Some, None, refl, ap, ◌∙◌, append-nil, arith}
 use Rattle.std.specs.Prelude.{◌&&◌, if◌then◌else◌, is_none}
 use Rattle.arn_base.specs.declared.records.Record.{Record}
 use Rattle.parts_model.specs.Files.{find_file, file_bytes}
@@ -14,10 +14,10 @@ use Rattle.arn_lines.specs.declared.answer.RunEnd.{RunEnd}
 use Rattle.arn_lines.specs.declared.line.Line.{Line}
 use Rattle.arn_lines.specs.declared.line.Line.TheVariants as line
 use Rattle.arn_lines.specs.declared.line.Question.{Question}
-use Rattle.arn_lines.specs.Texts.{event_text, ran_text, refusal_text}
+use Rattle.arn_lines.specs.Texts.{event_text, refusal_text}
 use Rattle.arn_commands.specs.declared.command.Command.TheVariants.{Says}
 use Rattle.session_effects.specs.Carrying.{IsAtCommit}
-use Rattle.session_effects.specs.Effects.{Effect, Prints, committed}
+use Rattle.session_effects.specs.Effects.{Prints, committed}
 use Rattle.session_runs.specs.Points.{slices_in}
 use Rattle.session_runs.specs.Ready.{machine_of}
 use Rattle.session_runs.specs.Runs.{begun, ended, ends, run, unless_ended}

@@ -1,13 +1,12 @@
 -- Lines that become an event: a commit, and then the event's number.
 use Rattle.std.proofs.Common.{◌≡◌, ℕ, ◌++◌, List, [], ◌∷◌, Option, option_map, Result, Ok, Err, IfErr, OnOk, IsErrAnd, inl, refl, sym, ap, subst, ◌∙◌, append-nil}
-use Rattle.std.proofs.lemmas.Grind.{flat_map-append}
 use Rattle.arn_base.specs.declared.disk.Disk.{Ghosts}
 use Rattle.arn_base.specs.declared.records.Record.{Record}
 use Rattle.log_model.specs.Records.{IsRun}
 use Rattle.log_store.specs.Stores.{StoreState}
 use Rattle.guest_machine.specs.Recorded.{Recorded}
 use Rattle.session_effects.specs.Carrying.{StopsBetween}
-use Rattle.session_effects.specs.Effects.{Effect, Commits, Prints, committed}
+use Rattle.session_effects.specs.Effects.{Effect, Commits, Prints}
 use Rattle.session_effects.specs.Laws.{EffectsFollow, HaltsFollow}
 use Rattle.session_effects.specs.Printing.{StopsPut}
 use Rattle.session_effects.specs.Standing.{Carries}

@@ -7,7 +7,7 @@ use Rattle.log_model.specs.Records.{records, records_from, named, IsRun}
 use Rattle.arn_lines.specs.Texts.{event_text}
 use Rattle.guest_machine.specs.Laws.{NamedFollow, RecordsFollow, RunsFollow, RecordsLeaveRoom}
 use Rattle.guest_machine.specs.Recorded.{Recorded, Runs, IsAfter, HasRoom, OfEach}
-use Rattle.session_effects.specs.Effects.{Effect, Commits, Prints}
+use Rattle.session_effects.specs.Effects.{Commits, Prints}
 use Rattle.session_runs.specs.Ready.{IsReady, machine_of}
 use Rattle.session_lines.specs.Lines.{event_effects}
 

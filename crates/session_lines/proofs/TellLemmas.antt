@@ -1,10 +1,10 @@
 -- What the records of a history tell of its machine, and what a line says that isn't refused.
-use Rattle.std.proofs.Common.{◌≡◌, ◌≢◌, ◌⊎◌, inl, inr, ◌<◌, ◌^◌, ℕ, Bool, true, false, List, Option, Some, None, Result, Ok, Err, IfErr, length, refl, sym, ap, ◌∙◌, subst, arith}
+use Rattle.std.proofs.Common.{◌≡◌, ◌≢◌, ◌⊎◌, inl, inr, ◌<◌, ◌^◌, ℕ, Bool, true, false, List, Option, Some, None, Result, Err, IfErr, length, refl, sym, ap, ◌∙◌, subst, arith}
 use Rattle.std.proofs.lemmas.Bool.{false≢true}
-use Rattle.std.specs.Prelude.{◌↔◌, IsErrOf, IsNone, IsTrue, if◌then◌else◌, is_none, nat_lt, not, option_and_then, option_map}
+use Rattle.std.specs.Prelude.{IsNone, IsTrue, if◌then◌else◌, is_none, nat_lt, not, option_and_then, option_map}
 use Rattle.arn_base.specs.declared.records.Record.{Record}
 use Rattle.parts_model.specs.Files.{Files, find_file, file_bytes}
-use Rattle.parts_model.specs.Image.{Image, image_of, is_image, read_as_image}
+use Rattle.parts_model.specs.Image.{Image, is_image, read_as_image}
 use Rattle.parts_model.specs.Tagged.{values}
 use Rattle.parts_model.specs.declared.tagged.TaggedByte.{TaggedByte}
 use Rattle.arn_model.specs.Kernel.{Kernel}
@@ -15,7 +15,6 @@ use Rattle.arn_model.specs.Tells.{HasNumbers}
 use Rattle.history_model.specs.Names as names
 use Rattle.log_model.specs.Records.{named}
 use Rattle.replay_laws.specs.Laws.{RecordsTellRuns, TellsRun, named_bytes}
-use Rattle.arn_lines.specs.declared.answer.Refusal.{Refusal}
 use Rattle.arn_lines.specs.declared.answer.Refusal.TheVariants.{NoBoot, NoBooted, NoImage, NoName}
 use Rattle.arn_lines.specs.declared.line.Line.TheVariants as line
 use Rattle.guest_machine.specs.Laws.{RecordsLeaveRoom}

@@ -14,7 +14,6 @@ use Rattle.session_effects.specs.Laws.{EffectsFollow, HaltsFollow}
 use Rattle.session_effects.specs.Printing.{StopsPut}
 use Rattle.session_effects.specs.Standing.{Carries, IsOpen}
 use Rattle.session_effects.specs.declared.halt.Halt.{Halt}
-use Rattle.session_effects.specs.declared.halt.Halt.TheVariants as halt
 use Rattle.session_runs.specs.Points.{Advances, IsSpent, Stops, around, slices_in}
 use Rattle.session_runs.specs.Turns.{Turn, Point, behind, finished}
 use Rattle.session_lines.specs.Lines.{does, prints}

@@ -1,5 +1,5 @@
 -- What is kept beside the log of a history.
-use Rattle.std.specs.Prelude.{◌≡◌, List, IfSome, is_some, Bool, Option}
+use Rattle.std.specs.Prelude.{List, IfSome, Option}
 use Rattle.arn_base.specs.declared.records.Record.{Record}
 use Rattle.guest_machine.specs.Recorded.{Recorded}
 use Rattle.session_runs.specs.Ready.{IsReady}

@@ -30,15 +30,15 @@ use Rattle.taint_laws.proofs.Whole.{ActsWell, record-well}
 
 -- what goes on
 
-and_then-ends : (P Q : Own → Type 0) (made : Made) (goes_on : Own → Made) → Ends P made → ((own : Own) → P own → Ends Q (goes_on own)) → Ends Q (and_then made goes_on)
+pub and_then-ends : (P Q : Own → Type 0) (made : Made) (goes_on : Own → Made) → Ends P made → ((own : Own) → P own → Ends Q (goes_on own)) → Ends Q (and_then made goes_on)
 and_then-ends P Q (Makes own) goes_on h k = k own h
 and_then-ends P Q (Fails disagrees) goes_on h k = tt
 
-ends-ends : (P Q : Own → Type 0) (made : Made) → Ends P made → ((own : Own) → P own → Q own) → Ends Q made
+pub ends-ends : (P Q : Own → Type 0) (made : Made) → Ends P made → ((own : Own) → P own → Q own) → Ends Q made
 ends-ends P Q (Makes own) h k = k own h
 ends-ends P Q (Fails disagrees) h k = tt
 
-made_if-ends : (P Q : Own → Type 0) (b : Bool) (made : Made) (goes_on : Own → Made) → Ends P made → ((own : Own) → P own → Q own) → ((own : Own) → P own → Ends Q (goes_on own)) → Ends Q (made_if b made goes_on)
+pub made_if-ends : (P Q : Own → Type 0) (b : Bool) (made : Made) (goes_on : Own → Made) → Ends P made → ((own : Own) → P own → Q own) → ((own : Own) → P own → Ends Q (goes_on own)) → Ends Q (made_if b made goes_on)
 made_if-ends P Q true made goes_on h k l = and_then-ends P Q made goes_on h l
 made_if-ends P Q false made goes_on h k l = ends-ends P Q made h k
 
@@ -76,7 +76,7 @@ happens-ends event most most' pid e own more process plain child s = by_view (se
     by_view None sees = later
     by_view (Some v) sees = by_wrong v sees (wrong_with v (stands_at v) e) refl
 
-no_instruction-ends : (P : Own → Type 0) (event : ℕ) (e : Record) (made : Made) → Ends P made → Ends P (no_instruction event e made)
+pub no_instruction-ends : (P : Own → Type 0) (event : ℕ) (e : Record) (made : Made) → Ends P made → Ends P (no_instruction event e made)
 no_instruction-ends P event (entry.Call pid number result more) made h = tt
 no_instruction-ends P event (entry.End pid status) made h = tt
 no_instruction-ends P event (entry.Boot name give) made h = h

@@ -9,3 +9,5 @@ pub mod States
 pub mod Records
 pub mod Fold
 mod Worked
+pub mod Unheard
+pub mod Hears

@@ -1,17 +1,21 @@
 -- What holds of groups alone, for who follows their members.
-use Rattle.std.specs.Prelude.{◌≡◌, ℕ, List, None, flat_map}
+use Rattle.std.specs.Prelude.{◌≡◌, ℕ, true, false, IfSome, IsSome, List, [], Option, None, Some, flat_map}
 use Rattle.std.specs.List.{All}
 use Rattle.arn_base.specs.declared.records.Record.{Record}
 use Rattle.rv64_model.specs.declared.linkage.Linkage.{Linkage}
-use Rattle.rv64_model.specs.Carries.{operands}
+use Rattle.rv64_model.specs.Carries.{Table, operands}
 use Rattle.acts_model.specs.Moved.{Inside}
 use Rattle.history_model.specs.Alone.{Own, Makes, alone}
+use Rattle.acts_model.specs.Records.{event_len}
 use Rattle.history_model.specs.Broken.{first_broken}
+use Rattle.history_model.specs.Events.{event_at}
+use Rattle.history_model.specs.Exchanges.{founded}
+use Rattle.lineage_model.specs.Flow.{At, Byte}
 use Rattle.lineage_model.specs.Tracking as tracking
 use Rattle.replay_steps.specs.Notices.{Listener, Told, notices}
-use Rattle.taint_tracker.specs.Goes.{ArePossible, TakesBegin, TakesInstr, TakesEvent, nothing_tracked}
+use Rattle.taint_tracker.specs.Goes.{ArePossible, Hearing, TakesBegin, TakesInstr, TakesEvent, hearings_of, nothing_tracked}
 use Rattle.taint_tracker.specs.Shown.{Shows, Tracking}
-use Rattle.taint_laws.specs.Follows.{AreNew, AreSteps, HasWholeBlocks, holders_from, holders_in, none_heard, none_holds}
+use Rattle.taint_laws.specs.Follows.{AreNew, AreSteps, HasWholeBlocks, heard_from, holders_from, holders_in, none_heard, none_holds}
 
 -- the steps are those of members, are possible, are events that weren't heard before, and come to what the bodies hold
 pub record Followed (own : Own) : Type 0 where
@@ -38,3 +42,34 @@ abbrev pub ToldShows : {A : Type 0} → (A → Tracking) → Type 0
 ToldShows {A} shown =
     (linkage : Linkage) (list : List Inside) (x y : A) → AreSteps none_holds list → ArePossible none_holds none_heard list → AreNew none_heard list
     → shown x ≡ nothing_tracked linkage → Told (following shown) (flat_map notices list) x y → Shows (shown y) (tracking.alone (operands linkage) list)
+
+-- and it has heard the events of these steps
+abbrev pub ToldHears : {A : Type 0} → (A → Tracking) → Type 0
+ToldHears {A} shown =
+    (linkage : Linkage) (list : List Inside) (x y : A) → AreSteps none_holds list → ArePossible none_holds none_heard list → AreNew none_heard list
+    → shown x ≡ nothing_tracked linkage → Told (following shown) (flat_map notices list) x y → (event : ℕ) → hearings_of (shown y) event ≡ heard_from list none_heard event
+
+-- an event that wasn't heard shows nothing, and one that started no group shows no byte with which a child begins
+abbrev pub ShowsNothing : Option Hearing → At → Type 0
+ShowsNothing None at = Unit {0}
+ShowsNothing (Some hearing) (Byte k) = ⊥
+ShowsNothing (Some hearing) at = hearing.founds ≡ false
+
+abbrev pub UnheardHaveNone : Type 0
+UnheardHaveNone =
+    (table : Table) (list : List Inside) (event : ℕ) (at : At) → ShowsNothing (heard_from list none_heard event) at → (tracking.alone table list).points event at ≡ []
+
+-- what was heard is an event of the history: it has as many bytes, and a fork that started a group did so
+pub record IsHearingOf (e : Record) (hearing : Hearing) : Type 0 where
+  pub len : hearing.len ≡ event_len e
+  pub founds : hearing.founds ≡ true → IsSome (founded e)
+
+abbrev pub IsHeard : Option Record → Hearing → Type 0
+IsHeard None hearing = ⊥
+IsHeard (Some e) hearing = IsHearingOf e hearing
+
+-- so are all events that a group hears
+abbrev pub HearsEvents : Type 0
+HearsEvents =
+    (entries : List Record) (g moment : ℕ) (own : Own) → alone entries g moment ≡ Makes own → (event : ℕ)
+    → IfSome (heard_from own.inside none_heard event) (IsHeard (event_at entries event))

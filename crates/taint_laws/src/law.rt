@@ -1,7 +1,7 @@
 // What holds of groups alone, for who follows their members.
 ghost use Rattle.taint_tracker.specs.Kept.{shown};
 ghost use Rattle.taint_tracker.specs.Shown.{Tracking};
-ghost use Rattle.taint_laws.specs.Laws.{FollowsHolders, ToldShows};
+ghost use Rattle.taint_laws.specs.Laws.{FollowsHolders, HearsEvents, ToldHears, ToldShows, UnheardHaveNone};
 
 use taint_tracker::stays_apart;
 
@@ -23,3 +23,22 @@ pub fn told_keeps()
 {
     stays_apart();
 }
+
+/// Who was told of all that happened inside a group, and keeps it, has heard its events.
+pub fn told_hears()
+    ensures { ToldHears shown }
+{
+    stays_apart();
+}
+
+/// An event that isn't one of a group's shows nothing there, and one that started no group shows no byte
+/// with which a child begins.
+pub fn unheard_have_none()
+    ensures { UnheardHaveNone }
+{}
+
+/// What a group hears are events of the history: each has as many bytes as its record has, and is a fork
+/// that started a group only where its record is one.
+pub fn hears_events()
+    ensures { HearsEvents }
+{}

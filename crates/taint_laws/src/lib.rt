@@ -8,4 +8,6 @@ mod blocks;
 mod law;
 
 pub use blocks::blocks_are_whole;
-pub use law::{follows_holders, told_keeps, told_shows};
+pub use law::{
+    follows_holders, hears_events, told_hears, told_keeps, told_shows, unheard_have_none,
+};

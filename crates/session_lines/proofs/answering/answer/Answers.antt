@@ -1,11 +1,10 @@
-use Rattle.std.proofs.Common.{◌≡◌, ◌∙◌, [], ◌∷◌, OnOk, IfErr, ap, is_some, refl, subst, sym, arith}
+use Rattle.std.proofs.Common.{◌≡◌, ◌∙◌, OnOk, IfErr, ap, is_some, refl, subst, sym, arith}
 use Rattle.std.specs.Prelude.{◌||◌}
 use Rattle.arn_lines.specs.Texts.{refusal_text}
 use Rattle.arn_lines.specs.declared.answer.Refusal.{Refusal}
 use Rattle.arn_lines.specs.declared.answer.Refusal.TheVariants.{NoLong, NoLine}
 use Rattle.arn_commands.specs.declared.command.Command.{Command}
 use Rattle.session_runs.specs.Points.{around}
-use Rattle.session_runs.specs.Turns.{Point}
 use Rattle.session_lines.specs.Answering.{BlamesRightly, IsAnswered, IsHalted, standpoint}
 use Rattle.session_lines.specs.Lines.{needs_machine, prints, turn}
 use Rattle.session_lines.specs.Refusals.{fault_refusal}

@@ -1,4 +1,4 @@
-use Rattle.std.proofs.Common.{◌≡◌, ◌∙◌, Some, None, OnOk, IfErr, ap, is_some, refl, subst, sym, arith}
+use Rattle.std.proofs.Common.{◌≡◌, ◌∙◌, Some, None, ap, is_some, refl, sym, arith}
 use Rattle.std.proofs.lemmas.Result.{on_ok_weaker}
 use Rattle.arn_lines.specs.Texts.{refusal_text}
 use Rattle.arn_lines.specs.declared.line.Line.{Line}
@@ -7,7 +7,7 @@ use Rattle.session_runs.specs.Points.{around}
 use Rattle.session_lines.specs.Answering.{standpoint}
 use Rattle.session_lines.specs.Lines.{needs_machine, turn}
 use Rattle.session_lines.specs.Refusals.{refusal_of}
-use Rattle.session_lines.proofs.AnswerLemmas.{OnOk-always, answered-text, blames-text, halted-text, line-causes, or-false, or-true}
+use Rattle.session_lines.proofs.AnswerLemmas.{OnOk-always, answered-text, blames-text, halted-text, line-causes, or-false}
 use Rattle.session_lines.proofs.ChangeLemmas.{answered-change, ask-cheap, is-change, some-there, sound-asked}
 use Rattle.session_lines.proofs.LineLemmas.{needs-change, needs-refused, turn-refused}
 use Rattle.session_lines.proofs.answering.answer_line.Goals as goal

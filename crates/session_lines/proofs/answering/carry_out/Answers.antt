@@ -1,4 +1,4 @@
-use Rattle.std.proofs.Common.{◌≡◌, ◌∙◌, ap, OnOk, IfErr, subst, sym}
+use Rattle.std.proofs.Common.{◌≡◌, ◌∙◌, ap}
 use Rattle.arn_lines.specs.declared.line.Line.{Line}
 use Rattle.arn_model.specs.Run as input
 use Rattle.arn_model.specs.Run.{Input}

@@ -1,11 +1,11 @@
-use Rattle.std.proofs.Common.{◌≡◌, ◌∙◌, List, length, Some, None, OnOk, IfErr, ap, is_some, refl, subst, sym, arith}
+use Rattle.std.proofs.Common.{List, length, ap, is_some, refl, subst, sym, arith}
 use Rattle.arn_base.specs.declared.records.Record.{Record}
 use Rattle.arn_commands.specs.declared.command.Command.TheVariants.{Says}
 use Rattle.session_effects.specs.Effects.{committed}
 use Rattle.session_effects.specs.declared.halt.Halt.TheVariants as halt
 use Rattle.session_runs.specs.Points.{around}
 use Rattle.session_lines.specs.Answering.{standpoint}
-use Rattle.session_lines.specs.Lines.{line_turn, turn}
+use Rattle.session_lines.specs.Lines.{turn}
 use Rattle.session_lines.proofs.AnswerLemmas.{blames-not-made, cause-blames, halted-not-made, line-cause, not-made-cause}
 use Rattle.session_lines.proofs.ChangeLemmas.{advances-changed, err-same, few-known, halted-changed, halted-unheard, heard-before}
 use Rattle.session_lines.proofs.LineLemmas.{cost-change, needs-change, still-line, turn-line}

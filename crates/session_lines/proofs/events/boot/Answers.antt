@@ -1,11 +1,11 @@
-use Rattle.std.proofs.Common.{[], ◌∷◌, ◌≡◌, ◌++◌, IfErr, List, OnOk, arith, subst}
+use Rattle.std.proofs.Common.{[], ◌∷◌, IfErr, List, OnOk, arith, subst}
 use Rattle.log_model.specs.Records.{IsRun}
 use Rattle.arn_lines.specs.Texts.{event_text}
 use Rattle.arn_model.specs.Run as input
 use Rattle.session_effects.specs.Carrying.{StopsBetween}
-use Rattle.session_effects.specs.Effects.{Effect, Commits, Prints}
+use Rattle.session_effects.specs.Effects.{Effect}
 use Rattle.session_effects.specs.Standing.{Carries}
-use Rattle.session_runs.specs.Ready.{IsReady, machine_of}
+use Rattle.session_runs.specs.Ready.{machine_of}
 use Rattle.session_lines.specs.Answering.{HaltsIn}
 use Rattle.session_lines.specs.Lines.{event_effects}
 use Rattle.session_lines.proofs.PartLemmas.{Halts-before, ready-carried}

@@ -1,0 +1,34 @@
+-- What is joined answers of bytes of an event.
+use Rattle.std.proofs.Common.{◌≡◌, ℕ, ◌+◌, ◌<◌, List, All, None, true, subst}
+use Rattle.arn_base.specs.declared.records.Pair.{Pair}
+use Rattle.arn_base.specs.declared.records.Record.{Record}
+use Rattle.rv64_model.specs.Carries.{operands}
+use Rattle.rv64_model.specs.declared.linkage.Linkage.{Linkage}
+use Rattle.history_model.specs.Broken.{first_broken}
+use Rattle.history_model.specs.Events.{event_at, is_range}
+use Rattle.lineage_join.specs.Asked.{AreAsked}
+use Rattle.lineage_join.specs.Laws.{PairsAreOne, reaches}
+use Rattle.lineage_join.specs.Rising.{IsRising}
+use Rattle.lineage_join.specs.declared.demand.Demand.{Demand}
+use Rattle.lineage_model.specs.Flow.{Byte}
+use Rattle.query_model.specs.Answers.{event_groups, event_pairs, moment_of}
+use Rattle.query_model.specs.Sources.{reaching}
+use Rattle.taint_laws.specs.Follows.{HasWholeBlocks}
+use Rattle.query_engine.specs.Demands.{byte_demands}
+use Rattle.query_engine.specs.Following.{Following, HasFollowed, IsOf, items_followed}
+use Rattle.query_engine.specs.Laws.{Laws}
+use Rattle.query_engine.proofs.Fit.{in-range}
+use Rattle.query_engine.proofs.Pairs.{pairs-are}
+use Rattle.query_engine.proofs.Reaching.{reaching-same}
+
+module _ (laws : Laws) (one : PairsAreOne) (entries : List Record) (unbroken : first_broken entries ≡ None) (whole : All HasWholeBlocks entries) (linkage : Linkage) (event from len : ℕ) (range : is_range (event_at entries event) from len ≡ true)
+    (f : Following) (of : IsOf entries linkage (moment_of entries event) f) (has : HasFollowed f (event_groups entries event)) where
+  reaches-same : (k : ℕ) → k < len → reaches entries (items_followed f) event (Byte (from + k)) ≡ reaching (operands linkage) entries (moment_of entries event) event (Byte (from + k))
+  reaches-same k h =
+      reaching-same entries linkage (moment_of entries event) f of laws unbroken whole event (from + k) has (in-range (event_at entries event) from len k range h)
+
+  pub answered : (demands : List Demand) → demands ≡ byte_demands event from len → (pairs : List Pair) → AreAsked (event_at entries) (reaches entries (items_followed f)) demands pairs → IsRising pairs
+      → pairs ≡ event_pairs (operands linkage) entries event from len
+  answered demands are pairs all rising =
+      pairs-are (event_at entries) (reaches entries (items_followed f)) event from len (λ k. reaching (operands linkage) entries (moment_of entries event) event (Byte (from + k))) reaches-same one pairs rising
+      (subst (λ (list : List Demand). AreAsked (event_at entries) (reaches entries (items_followed f)) list pairs) are all)

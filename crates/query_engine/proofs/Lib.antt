@@ -1,0 +1,12 @@
+pub mod Follows
+pub mod Locals
+pub mod Added
+pub mod Several
+pub mod Counts
+pub mod Checks
+pub mod Known
+pub mod Groups
+pub mod Fit
+pub mod Reaching
+pub mod Pairs
+pub mod Answered

@@ -1,0 +1,53 @@
+-- What is answered of a target.
+use Rattle.std.specs.Prelude.{◌≡◌, ℕ, true, false, List, sum_by, None}
+use Rattle.arn_base.specs.declared.records.Record.{Record}
+use Rattle.rv64_model.specs.Carries.{operands}
+use Rattle.rv64_model.specs.declared.linkage.Linkage.{Linkage}
+use Rattle.history_model.specs.Events.{event_at, is_range}
+use Rattle.query_model.specs.Answers.{count_in, event_disagreement, event_groups, event_pairs, moment_of}
+use Rattle.replayer.specs.Bounds.{ran_before}
+use Rattle.replay_steps.specs.declared.errors.QueryError.{QueryError}
+use Rattle.replay_steps.specs.declared.errors.QueryError.TheVariants as error
+use Rattle.query_engine.specs.Follows.{Explains}
+use Rattle.query_engine.specs.declared.engine.Answer.{Answer}
+use Rattle.query_engine.specs.declared.engine.Target.{Target}
+use Rattle.query_engine.specs.declared.engine.Target.TheVariants as target
+
+-- how many instructions these groups ran before a moment
+abbrev pub ran_in : List Record → ℕ → List ℕ → ℕ
+ran_in entries until groups = sum_by (λ g. ran_before entries g until) groups
+
+-- those that are asked about an event, before it
+abbrev pub ran_for : List Record → ℕ → ℕ
+ran_for entries event = ran_in entries (moment_of entries event) (event_groups entries event)
+
+-- the bytes are there, no group that is asked disagrees, and these pairs, groups and counts are the answer
+pub record AnswersEvent (linkage : Linkage) (entries : List Record) (event from len : ℕ) (answer : Answer) : Type 0 where
+  pub range : is_range (event_at entries event) from len ≡ true
+  pub agree : event_disagreement entries event ≡ None
+  pub pairs : answer.pairs ≡ event_pairs (operands linkage) entries event from len
+  pub groups : answer.groups ≡ event_groups entries event
+  pub replayed : answer.replayed ≡ event_groups entries event
+  pub instructions : answer.instructions ≡ count_in entries (event_groups entries event)
+
+-- there are no such bytes; or a group that is asked disagrees, or memory ran out
+abbrev pub FailsEvent : List Record → ℕ → ℕ → ℕ → QueryError → Type 0
+FailsEvent entries event from len error.NoPoint = is_range (event_at entries event) from len ≡ false
+FailsEvent entries event from len (error.Disagrees d) =
+    (is_range (event_at entries event) from len ≡ true) × Explains (event_disagreement entries event) (error.Disagrees d)
+FailsEvent entries event from len error.NoMemory = is_range (event_at entries event) from len ≡ true
+
+abbrev pub Answers : Linkage → List Record → Target → Answer → Type 0
+Answers linkage entries (target.Event event from len) answer = AnswersEvent linkage entries event from len answer
+
+abbrev pub Fails : List Record → Target → QueryError → Type 0
+Fails entries (target.Event event from len) why = FailsEvent entries event from len why
+
+-- how many instructions a query runs, and at most so many where it fails
+abbrev pub ran_about : List Record → Target → ℕ
+ran_about entries (target.Event event from len) = ran_for entries event
+
+-- what isn't there runs nothing
+abbrev pub RunsNothing : QueryError → ℕ → ℕ → Type 0
+RunsNothing error.NoPoint before after = after ≡ before
+RunsNothing other before after = Unit {0}

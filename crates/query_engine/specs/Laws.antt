@@ -1,0 +1,12 @@
+-- What a query rests on.
+use Rattle.query_laws.specs.Fitting.{ItemsFit, ReachingIsOfBytes}
+use Rattle.query_laws.specs.Laws.{GroupsAreConnected, GroupsAreOne}
+use Rattle.replayer.specs.Bounds.{RunsBefore}
+
+-- the groups that are asked are those that are connected, their items can be joined and tell all, and a replay runs what it should
+pub record Laws : Type 0 where
+  pub connected : GroupsAreConnected
+  pub one : GroupsAreOne
+  pub fit : ItemsFit
+  pub reaching : ReachingIsOfBytes
+  pub runs : RunsBefore

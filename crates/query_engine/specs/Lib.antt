@@ -1,0 +1,5 @@
+pub mod Laws
+pub mod Follows
+pub mod Following
+pub mod Demands
+pub mod Asked

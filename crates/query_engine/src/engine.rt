@@ -1,0 +1,225 @@
+// Queries.
+ghost use Rattle.std.specs.Prelude.{◌≡◌, ◌≤◌, ◌+◌, IfErr, IfOk, IsOk, List, OnOk, true};
+ghost use Rattle.arn_base.specs.declared.records.Record.{Record};
+ghost use Rattle.rv64_model.specs.Carries.{operands};
+ghost use Rattle.exchange_graph.specs.Reach.{Rises};
+ghost use Rattle.history_index.specs.Indexes.{AreCountable, Indexes};
+ghost use Rattle.history_model.specs.Events.{event_at, is_range};
+ghost use Rattle.query_engine.specs.Asked.{Answers, AnswersEvent, Fails, FailsEvent, RunsNothing, ran_about, ran_for};
+ghost use Rattle.query_engine.specs.Demands.{byte_demands};
+ghost use Rattle.query_engine.specs.Following.{HasFollowed, IsOf};
+ghost use Rattle.query_model.specs.Answers.{count_in, event_groups, event_pairs, moment_of};
+
+use crate::follow_all::follow_all;
+use crate::followed::Followed;
+use crate::law::laws;
+use arn_base::{NoMemory, Numbers, Pairs, Record, Steps};
+use exchange_graph::Graph;
+use history_index::Index;
+use lineage_join::{Demand, Place, join, pairs_are_one};
+use parts_model::limits::MOST_ASKED;
+use replayer::QueryError;
+use rv64_model::Linkage;
+use std::alloc::Global;
+use std::sync::ledger::Ledger;
+use taint_laws::blocks_are_whole;
+
+/// Of which bytes is asked where they come from.
+#[derive(Clone, Copy, Debug, PartialEq, Eq)]
+pub enum Target {
+    /// Bytes of an event.
+    Event { event: u64, from: u32, len: u32 },
+}
+
+/// What a query answers: source bytes beside bytes of the target, rising; the groups that are asked, and how
+/// many instructions these counted in all; and which groups were replayed for it.
+#[derive(Debug, Drop)]
+pub struct Answer {
+    pub pairs: Pairs,
+    pub groups: Numbers,
+    pub instructions: u64,
+    pub replayed: Numbers,
+}
+
+/// Answers queries.
+#[derive(Debug, Drop)]
+pub struct Engine {
+    alloc: Global,
+}
+
+/// Whether an event is there and has these bytes, and they aren't too many to be asked for.
+fn has_range(index: &Index, event: u64, from: u32, len: u32) -> bool
+    ensures { (entries : List Record) → Indexes index.now entries → result ≡ is_range (event_at entries event) from len }
+{
+    match index.event_len(event) {
+        Some(bytes) => {
+            u64::from(from) + u64::from(len) <= u64::from(bytes) && u64::from(len) <= MOST_ASKED
+        }
+        None => false,
+    }
+}
+
+/// The groups that are asked about an event.
+fn groups_about(
+    alloc: Global,
+    entries: &[Record],
+    index: &Index,
+    event: u64,
+) -> Result<Numbers, NoMemory>
+    requires countable { AreCountable entries.now }
+    requires indexed { Indexes index.now entries.now }
+    ensures ok { IfOk result (λ groups. groups ≡ event_groups entries.now event) }
+    ensures rises { IfOk result Rises }
+{
+    laws();
+    let graph = Graph::build(alloc, entries, index)?;
+    match index.event_group(event) {
+        Some(group) => graph.back(&[group]),
+        None => graph.back(&[]),
+    }
+}
+
+/// The moment up to which groups are followed for an event.
+fn moment_about(index: &Index, event: u64) -> u64
+    ensures { (entries : List Record) → Indexes index.now entries → result ≡ moment_of entries event }
+{
+    index.event_moment(event).unwrap_or(0)
+}
+
+/// How many instructions groups counted.
+fn count_all(_entries: &[Record], index: &Index, groups: &[u32]) -> u64
+    requires indexed { Indexes index.now _entries.now }
+    requires rises { Rises groups.now }
+    ensures { result ≡ count_in _entries.now groups.now }
+{
+    let _total = index.total();
+    let mut sum = 0;
+    for group in groups {
+        sum += index.count(*group);
+    }
+    sum
+}
+
+/// What is asked of bytes of an event.
+fn demands(alloc: Global, event: u64, from: u32, len: u32) -> Result<Vec<Demand>, NoMemory>
+    ensures { IfOk result (λ demands. demands.items ≡ byte_demands event from len) }
+{
+    let mut demands = Vec::new(alloc);
+    for byte in 0..len {
+        demands.push(Demand::Event {
+            event,
+            place: Place::Byte(u64::from(from) + u64::from(byte)),
+            byte,
+        })?;
+    }
+    Ok(demands)
+}
+
+/// The pairs that answer of bytes of an event.
+fn pairs(
+    alloc: Global,
+    entries: &[Record],
+    index: &Index,
+    linkage: Linkage,
+    followed: &Followed<'_>,
+    event: u64,
+    from: u32,
+    len: u32,
+) -> Result<Pairs, NoMemory>
+    requires indexed { Indexes index.now entries.now }
+    requires range { is_range (event_at entries.now event) from len ≡ true }
+    requires of { IsOf entries.now linkage (moment_of entries.now event) followed.now }
+    requires has { HasFollowed followed.now (event_groups entries.now event) }
+    ensures { IfOk result (λ pairs. pairs ≡ event_pairs (operands linkage) entries.now event from len) }
+{
+    laws();
+    blocks_are_whole(entries);
+    pairs_are_one();
+    let demands = demands(alloc, event, from, len)?;
+    join(alloc, entries, index, followed, demands.as_slice())
+}
+
+/// The same numbers once more.
+fn copy_of(alloc: Global, numbers: &[u32]) -> Result<Numbers, NoMemory>
+    ensures { IfOk result (λ copy. copy ≡ numbers.now) }
+{
+    let mut copy = Numbers::new(alloc);
+    copy.extend_from_slice(numbers)?;
+    Ok(copy)
+}
+
+/// Where bytes of an event come from that it has.
+fn event_back<L: Ledger>(
+    alloc: Global,
+    entries: &[Record],
+    index: &Index,
+    linkage: Linkage,
+    event: u64,
+    from: u32,
+    len: u32,
+    steps: &mut Steps<L>,
+) -> Result<Answer, QueryError>
+    requires countable { AreCountable entries.now }
+    requires indexed { Indexes index.now entries.now }
+    requires range { is_range (event_at entries.now event) from len ≡ true }
+    ensures ok { IfOk result (AnswersEvent linkage entries.now event from len) }
+    ensures err { IfErr result (FailsEvent entries.now event from len) }
+    ensures counted { OnOk result (steps.new ≡ steps.old + ran_for entries.now event) }
+    ensures bounded { steps.new ≤ steps.old + ran_for entries.now event }
+{
+    let groups = groups_about(alloc, entries, index, event)?;
+    let until = moment_about(index, event);
+    let followed = follow_all(
+        alloc,
+        entries,
+        index,
+        linkage,
+        groups.as_slice(),
+        until,
+        steps,
+    )?;
+    let pairs = pairs(alloc, entries, index, linkage, &followed, event, from, len)?;
+    let replayed = copy_of(alloc, groups.as_slice())?;
+    let instructions = count_all(entries, index, groups.as_slice());
+    Ok(Answer {
+        pairs,
+        groups,
+        instructions,
+        replayed,
+    })
+}
+
+impl Engine {
+    /// An engine that keeps nothing between queries.
+    pub fn new(alloc: Global, keep: u32) -> Result<Engine, NoMemory>
+        ensures { IsOk result }
+    {
+        let _keep = keep;
+        Ok(Engine { alloc })
+    }
+
+    /// Which source bytes reach bytes of a target. It replays the groups from which the target's own can
+    /// have received bytes, each up to the target's moment, and no more.
+    pub fn back<L: Ledger>(
+        &mut self,
+        entries: &[Record],
+        index: &Index,
+        linkage: Linkage,
+        target: &Target,
+        steps: &mut Steps<L>,
+    ) -> Result<Answer, QueryError>
+        requires countable { AreCountable entries.now }
+        requires indexed { Indexes index.now entries.now }
+        ensures ok { IfOk result (Answers linkage entries.now target.now) }
+        ensures err { IfErr result (Fails entries.now target.now) }
+        ensures counted { OnOk result (steps.new ≡ steps.old + ran_about entries.now target.now) }
+        ensures unasked { IfErr result (λ error. RunsNothing error steps.old steps.new) }
+        ensures bounded { steps.new ≤ steps.old + ran_about entries.now target.now }
+    {
+        let Target::Event { event, from, len } = *target;
+        if !has_range(index, event, from, len) {
+            return Err(QueryError::NoPoint);
+        }
+        event_back(self.alloc, entries, index, linkage, event, from, len, steps)
+    }
+}

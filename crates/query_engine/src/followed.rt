@@ -1,0 +1,109 @@
+// What was followed of groups.
+ghost use Rattle.std.specs.Prelude.{◌≡◌, [], OnOk, option_map, unwrap_or};
+ghost use Rattle.history_index.specs.Indexes.{AreCountable, Indexes};
+ghost use Rattle.lineage_join.specs.Places.{at_of};
+ghost use Rattle.query_engine.specs.Follows.{Follows};
+ghost use Rattle.query_engine.specs.Following.{Adds, IsOf, items_followed};
+ghost use Rattle.query_engine.specs.Following as following;
+ghost use Rattle.taint_tracker.specs.Items.{listed};
+ghost use Rattle.taint_tracker.specs.Shown.{AreItems};
+
+use arn_base::{NoMemory, Record};
+use history_index::Index;
+use lineage_join::{Locals, Place};
+use rv64_model::Linkage;
+use std::alloc::Global;
+use std::collections::BTreeMap;
+use std::marker::Model;
+use taint_laws::{hears_events, unheard_have_none};
+use taint_tracker::{Items, Point, Tracker};
+
+/// Groups that were followed up to a moment, by number.
+#[derive(Drop)]
+pub struct Followed<'a> {
+    entries: &'a [Record],
+    index: &'a Index,
+    linkage: Linkage,
+    until: u64,
+    trackers: BTreeMap<u32, Tracker>,
+}
+
+impl<'a> Model for Followed<'a> {
+    ghost use Rattle.query_engine.specs.Following.{Following};
+
+    ghost Value = { Following };
+
+    ghost use Rattle.query_engine.specs.Following.{IsIndexed};
+
+    ghost view = { λ s. record { entries = s.entries.now; linkage = s.linkage; until = s.until; trackers = s.trackers.entries } };
+
+    ghost invariant = { λ s. IsIndexed s.index.now (record { entries = s.entries.now; linkage = s.linkage; until = s.until; trackers = s.trackers.entries }) };
+}
+
+/// What to ask a tracker of a byte of an event of so many bytes.
+fn point_of(len: u32, event: u64, place: Place) -> Option<Point>
+    ensures { result ≡ following.point_of len event place }
+{
+    match place {
+        Place::Byte(at) if at < u64::from(len) => Some(Point::Event {
+            event,
+            at: at as u32,
+        }),
+        Place::Byte(_) => None,
+        Place::Start(at) => Some(Point::Start { event, at }),
+    }
+}
+
+impl<'a> Followed<'a> {
+    /// Of no group.
+    pub fn new(
+        alloc: Global,
+        entries: &'a [Record],
+        index: &'a Index,
+        linkage: Linkage,
+        until: u64,
+    ) -> Followed<'a>
+        requires countable { AreCountable entries.now }
+        requires indexed { Indexes index.now entries.now }
+        ensures { IsOf entries.now linkage until result }
+    {
+        Followed {
+            entries,
+            index,
+            linkage,
+            until,
+            trackers: BTreeMap::new(alloc),
+        }
+    }
+
+    /// Keeps what followed a group.
+    pub fn add(&mut self, group: u32, tracker: Tracker) -> Result<(), NoMemory>
+        requires { Follows self.old.linkage self.old.entries self.old.until group tracker }
+        ensures { OnOk result (Adds group self.old self.new) }
+    {
+        self.trackers.insert(group, tracker)?;
+        Ok(())
+    }
+
+    /// The items of a byte of an event, where its group was followed.
+    fn local(&self, event: u64, place: Place) -> Option<Items<'_>>
+        ensures { AreItems (unwrap_or (option_map listed result) []) (items_followed self.now event (at_of place)) }
+    {
+        hears_events();
+        unheard_have_none();
+        let group = self.index.event_group(event)?;
+        let tracker = self.trackers.get(&group)?;
+        let len = self.index.event_len(event)?;
+        tracker.local(point_of(len, event, place)?)
+    }
+}
+
+impl<'a> Locals for Followed<'a> {
+    ghost use Rattle.query_engine.specs.Following.{items_followed};
+
+    ghost items = { items_followed };
+
+    fn items(&self, event: u64, place: Place) -> Items<'_> {
+        self.local(event, place).unwrap_or(Items::Set(&[]))
+    }
+}

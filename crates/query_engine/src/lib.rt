@@ -1,0 +1,12 @@
+//! Answers lineage queries on records of a run: it replays the groups that are connected with what is asked,
+//! follows where bytes come from in each, and joins what they tell.
+#![tactic(auto)]
+
+mod engine;
+mod follow;
+mod follow_all;
+mod followed;
+mod law;
+
+pub use engine::{Answer, Engine, Target};
+pub use replayer::{Disagrees, QueryError};

@@ -1,0 +1,269 @@
+-- The events of a group alone are those of its records.
+use Rattle.std.proofs.Common.{◌≡◌, ℕ, zero, suc, ◌+◌, ◌==◌, ◌&&◌, Bool, true, false, if◌then◌else◌, List, [], ◌∷◌, ◌++◌, slice_get, Option, Some, None, IfSome, IsSome, refl, sym, ap, subst, ◌∙◌, arith, eqb-true, zero-add}
+use Rattle.std.proofs.lemmas.Bool.{and_from}
+use Rattle.arn_base.specs.declared.machine.Cpu.{Cpu}
+use Rattle.arn_base.specs.declared.records.Extra.{Extra}
+use Rattle.arn_base.specs.declared.records.Extra.TheVariants as extra
+use Rattle.arn_base.specs.declared.records.Record.{Record}
+use Rattle.arn_base.specs.declared.records.Record.TheVariants as entry
+use Rattle.rv64_model.specs.Instruction.{Effect, Next, Call, End}
+use Rattle.parts_model.specs.declared.calls.TheConstants as number
+use Rattle.parts_model.specs.Replies.{is_success}
+use Rattle.acts_model.specs.Acts.{Act, Returns, Gives, Starts, Forks, Founds, Shares, Leaves, Delivers, Faults, Dies, unborn}
+use Rattle.acts_model.specs.Bodies.{View, put, seen}
+use Rattle.acts_model.specs.Disagreement.{Wrong, wrong_with}
+use Rattle.acts_model.specs.Moved.{Event, Inside}
+use Rattle.acts_model.specs.Records.{event_len}
+use Rattle.acts_model.specs.Told.{Kind, Exit, Fork, Exec, Wait, Sigreturn, Read, Write, Shm, Other, act_of, call_act, is_pipe_write, kind_of}
+use Rattle.acts_model.specs.Transfers as moves
+use Rattle.acts_model.specs.Transfers.{Holds, Transfer, holds_of, transfer}
+use Rattle.acts_model.specs.Views.{stands_at}
+use Rattle.history_model.specs.Alone as alone
+use Rattle.history_model.specs.Alone.{Own, Made, Makes, Fails, Slice, Standing, act_done, after_record, and_then, at_first, begins_by, boots, ends_slice, happens, no_instruction, plain_by, plain_in, plain_or, plains, record_done, record_seen, replayed, settled, slice_of, unless_wrong}
+use Rattle.history_model.specs.Events.{events}
+use Rattle.history_model.specs.Exchanges.{call_founded, founded}
+use Rattle.history_model.specs.Groups.{is_number}
+use Rattle.taint_tracker.specs.Goes.{Hearing, Hearings, heard_after}
+use Rattle.taint_tracker.specs.Steps.{founds}
+use Rattle.taint_laws.specs.Follows.{heard_from, none_heard}
+use Rattle.taint_laws.specs.Laws.{HearsEvents, IsHeard}
+use Rattle.taint_laws.proofs.Fold.{and_then-ends, made_if-ends, no_instruction-ends}
+use Rattle.taint_laws.proofs.Records.{Ends, begins-ends}
+
+-- an act that starts a group is that of a fork whose record says so
+
+kind-fork : (n : ℕ) → kind_of n ≡ Fork → (n == number.FORK) ≡ true
+kind-fork n e = by_tests (n == number.EXIT) (n == number.FORK) (n == number.EXEC) (n == number.WAIT) (n == number.SIGRETURN) (n == number.READ) (n == number.WRITE) (n == number.SHM) e
+  where
+    by_tests : (a c d f g h b s : Bool)
+        → (if a then Exit else if c then Fork else if d then Exec else if f then Wait else if g then Sigreturn else if h then Read else if b then Write
+        else if s then Shm else Other) ≡ Fork → c ≡ true
+    by_tests true c d f g h b s k = absurd (cc)
+    by_tests false true d f g h b s k = refl
+    by_tests false false true f g h b s k = absurd (cc)
+    by_tests false false false true g h b s k = absurd (cc)
+    by_tests false false false false true h b s k = absurd (cc)
+    by_tests false false false false false true b s k = absurd (cc)
+    by_tests false false false false false false true s k = absurd (cc)
+    by_tests false false false false false false false true k = absurd (cc)
+    by_tests false false false false false false false false k = absurd (cc)
+
+module _ (pid event : ℕ) (holds : Holds) where
+  abbrev Founding : Act → Type 0
+  Founding a = founds (transfer pid event holds a) ≡ true
+
+  neither : (b : Bool) (x y : Act) → founds (transfer pid event holds x) ≡ false → founds (transfer pid event holds y) ≡ false → Founding (if b then x else y) → ⊥
+  neither true x y h k f = let clash : true ≡ false = sym f ∙ h in cc
+  neither false x y h k f = let clash : true ≡ false = sym f ∙ k in cc
+
+  fork-founded : (n result : ℕ) (more : Extra) → (n == number.FORK) ≡ true → (b : Bool) → is_success result ≡ b → (start : Extra) → Founding (if b then Founds result else Returns result) → IsSome (if (n == number.FORK) && is_success result then Some result else None)
+  fork-founded n result more is true s start f = subst (λ (b : Bool). IsSome (if b then Some result else None)) (sym (and_from (n == number.FORK) (is_success result) is s)) refl
+  fork-founded n result more is false s start f = absurd (cc)
+
+  fork-one : (n : ℕ) (cpu : Cpu) (result : ℕ) (more : Extra) → (n == number.FORK) ≡ true → Founding (call_act Fork cpu result more) → IsSome (call_founded n result more)
+  fork-one n cpu result (extra.Start start) is f = fork-founded n result (extra.Start start) is (is_success result) refl (extra.Start start) f
+  fork-one n cpu result more is f = absurd (neither (is_success result) (Forks result) (Returns result) refl refl f)
+
+  exec-none : (cpu : Cpu) (result : ℕ) (more : Extra) → Founding (call_act Exec cpu result more) → ⊥
+  exec-none cpu result (extra.Give give) f = cc
+  exec-none cpu result more f = cc
+
+  wait-none : (cpu : Cpu) (result : ℕ) (more : Extra) → Founding (call_act Wait cpu result more) → ⊥
+  wait-none cpu result (extra.Give give) f = cc
+  wait-none cpu result more f = cc
+
+  read-none : (cpu : Cpu) (result : ℕ) (more : Extra) → Founding (call_act Read cpu result more) → ⊥
+  read-none cpu result (extra.Give give) f = cc
+  read-none cpu result (extra.Reply device bytes) f = cc
+  read-none cpu result more f = cc
+
+  write-none : (cpu : Cpu) (result : ℕ) (more : Extra) → Founding (call_act Write cpu result more) → ⊥
+  write-none cpu result (extra.Put file at bytes) f = cc
+  write-none cpu result (extra.Console bytes) f = cc
+  write-none cpu result (extra.Sent device bytes) f = cc
+  write-none cpu result extra.Nothing f = neither (is_pipe_write result) (Gives _ result result) (Returns result) refl refl f
+  write-none cpu result more f = cc
+
+  call-one : (n : ℕ) (kind : Kind) (cpu : Cpu) (result : ℕ) (more : Extra) → (kind ≡ Fork → (n == number.FORK) ≡ true) → Founding (call_act kind cpu result more) → IsSome (call_founded n result more)
+  call-one n Fork cpu result more is f = fork-one n cpu result more (is refl) f
+  call-one n Exit cpu result more is f = absurd (cc)
+  call-one n Exec cpu result more is f = absurd (exec-none cpu result more f)
+  call-one n Wait cpu result more is f = absurd (wait-none cpu result more f)
+  call-one n Sigreturn cpu result more is f = absurd (neither (result == 0) Leaves (Returns result) refl refl f)
+  call-one n Read cpu result more is f = absurd (read-none cpu result more f)
+  call-one n Write cpu result more is f = absurd (write-none cpu result more f)
+  call-one n Shm cpu result more is f = absurd (neither (result == 0) Shares (Returns result) refl refl f)
+  call-one n Other cpu result more is f = absurd (cc)
+
+  founding-founded : (cpu : Cpu) (e : Record) (a : Act) → act_of cpu e ≡ Some a → Founding a → IsSome (founded e)
+  founding-founded cpu (entry.Call child n result more) a is f = call-one n (kind_of n) cpu result more (kind-fork n) (subst Founding (some-act a (call_act (kind_of n) cpu result more) is) f)
+    where
+      some-act : (x y : Act) → Some y ≡ Some x → x ≡ y
+      some-act x y e = cc
+  founding-founded cpu (entry.Boot name give) a is f = absurd (let same : a ≡ Starts give.bytes 0 0 = cc in let clash : true ≡ false = sym f ∙ ap (λ (x : Act). founds (transfer pid event holds x)) same in cc)
+  founding-founded cpu (entry.Signal child signal cut handler) a is f = absurd (neither (handler == 0) (Dies signal cut) (Delivers signal handler cut) refl refl (subst Founding (some-signal a (if handler == 0 then Dies signal cut else Delivers signal handler cut) is) f))
+    where
+      some-signal : (x y : Act) → Some y ≡ Some x → x ≡ y
+      some-signal x y e = cc
+  founding-founded cpu (entry.End child status) a is f = absurd (let same : a ≡ Faults status = cc in let clash : true ≡ false = sym f ∙ ap (λ (x : Act). founds (transfer pid event holds x)) same in cc)
+  founding-founded cpu (entry.File name bytes) a is f = absurd (cc)
+  founding-founded cpu (entry.Typed bytes) a is f = absurd (cc)
+  founding-founded cpu (entry.Unplug device) a is f = absurd (cc)
+  founding-founded cpu (entry.Slice child ran) a is f = absurd (cc)
+
+-- what happened inside is events of a history
+module _ (all : List Record) where
+  record IsOf (t : Transfer) (event : Event) : Type 0 where
+    there : slice_get all event.number ≡ Some event.entry
+    founding : founds t ≡ true → IsSome (founded event.entry)
+
+  abbrev AreOf : List Inside → Type 0
+  AreOf [] = Unit {0}
+  AreOf (i ∷ list) = IfSome i.event (IsOf i.transfer) × AreOf list
+
+  abbrev Keeps : Own → Type 0
+  Keeps own = AreOf own.inside
+
+  push : (list : List Inside) (i : Inside) → AreOf list → IfSome i.event (IsOf i.transfer) → AreOf (list ++ i ∷ [])
+  push [] i h k = (k, tt)
+  push (j ∷ list) i h k = (h.0, push list i h.1 k)
+
+  plain-by : (pid : ℕ) (own : Own) (v : View) (effect : Effect) → Keeps own → IfSome (plain_by pid own v effect) Keeps
+  plain-by pid own v (Next instr cpu memory) h = push own.inside _ h tt
+  plain-by pid own v Call h = tt
+  plain-by pid own v (End status) h = tt
+
+  plain-keeps : (pid : ℕ) (own : Own) (o : Option View) → Keeps own → IfSome (plain_in pid own o) Keeps
+  plain-keeps pid own None h = tt
+  plain-keeps pid own (Some v) h = plain-by pid own v (stands_at v) h
+
+  plains-keep : (slice : Slice) (ran left : ℕ) (own : Own) → Keeps own → Ends Keeps (plains slice ran left own)
+  plains-keep slice ran zero own h = h
+  plains-keep slice ran (suc left) own h = by_plain (plain_in slice.pid own (seen own.bodies slice.pid)) (plain-keeps slice.pid own (seen own.bodies slice.pid) h) (plains-keep slice (suc ran) left)
+    where
+      by_plain : (o : Option Own) → IfSome o Keeps → ((own : Own) → Keeps own → Ends Keeps (plains slice (suc ran) left own)) → Ends Keeps (plain_or slice ran o (plains slice (suc ran) left))
+      by_plain None k ih = tt
+      by_plain (Some next) k ih = ih next k
+
+  settled-keeps : (t : Standing) → Ends Keeps t.made → Ends Keeps (settled t)
+  settled-keeps t h = and_then-ends Keeps Keeps t.made (plains (slice_of t) 0 t.owed) h (plains-keep (slice_of t) 0 t.owed)
+
+  module _ (event : ℕ) (e : Record) (there : slice_get all event ≡ Some e) where
+    act-keeps : (pid : ℕ) (v : View) (o : Option Act) (own : Own) → act_of v.body.cpu e ≡ o → Keeps own → Ends Keeps (act_done pid event e v o own)
+    act-keeps pid v None own is h = h
+    act-keeps pid v (Some a) own is h = push own.inside _ h (record { there = there; founding = founding-founded pid event (holds_of v.body) v.body.cpu e a is })
+
+    done-keeps : (pid : ℕ) (v : View) (own : Own) → Keeps own → Ends Keeps (record_done pid event e v own)
+    done-keeps pid v own h = by_wrong (wrong_with v (stands_at v) e)
+      where
+        by_wrong : (w : Option Wrong) → Ends Keeps (unless_wrong event w (act_done pid event e v (act_of v.body.cpu e) own))
+        by_wrong None = act-keeps pid v (act_of v.body.cpu e) own refl h
+        by_wrong (Some wrong) = tt
+
+    seen-keeps : (pid : ℕ) (o : Option View) (own : Own) → Keeps own → Ends Keeps (record_seen pid event e o own)
+    seen-keeps pid None own h = h
+    seen-keeps pid (Some v) own h = done-keeps pid v own h
+
+    happens-keeps : (pid : ℕ) (own : Own) → Keeps own → Ends Keeps (happens pid event e own)
+    happens-keeps pid own h = seen-keeps pid (seen own.bodies pid) own h
+
+    boots-keeps : (own : Own) → Keeps own → Ends Keeps (boots event e own)
+    boots-keeps own h = done-keeps 1 (unborn event) (record own { bodies = put 1 (unborn event) own.bodies }) h
+
+    begins-keeps : (g : ℕ) (own : Own) → Keeps own → Ends Keeps (begins_by g event e own)
+    begins-keeps g own h = begins-ends Keeps g event e own h (λ start starts child. push own.inside _ h (record { there = there; founding = λ f. absurd (cc) }))
+
+  ends-keeps : (slice : Slice) (owed : ℕ) (e : Record) (own : Own) → slice_get all slice.event ≡ Some e → Keeps own → Ends Keeps (ends_slice slice owed e own)
+  ends-keeps slice zero e own there h = no_instruction-ends Keeps slice.event e (Makes own) h
+  ends-keeps slice (suc left) e own there h =
+      and_then-ends Keeps Keeps (plains slice 0 left own) (happens slice.pid slice.event e) (plains-keep slice 0 left own h) (λ o k. happens-keeps slice.event e there slice.pid o k)
+
+  last-keeps : (g pid : ℕ) (e : Record) (t : Standing) → slice_get all t.events ≡ Some e → Ends Keeps t.made → Ends Keeps (alone.after_last g pid e t).made
+  last-keeps g pid e t there h =
+      made_if-ends Keeps Keeps t.is_ended (alone.made_if (t.is_ended && is_number g (t.groups pid)) t.made (ends_slice (slice_of t) t.owed e)) (begins_by g t.events e)
+      (made_if-ends Keeps Keeps (t.is_ended && is_number g (t.groups pid)) t.made (ends_slice (slice_of t) t.owed e) h (λ own k. k) (λ own k. ends-keeps (slice_of t) t.owed e own there k))
+      (λ own k. k) (λ own k. begins-keeps t.events e there g own k)
+
+  -- the events that are left stand behind those so far
+  abbrev Stands : Standing → List Record → Type 0
+  Stands t rest = (k : ℕ) → slice_get all (t.events + k) ≡ slice_get (events rest) k
+
+  at-hand : (n : ℕ) (e : Record) (rest : List Record) → ((k : ℕ) → slice_get all (n + k) ≡ slice_get (e ∷ rest) k) → slice_get all n ≡ Some e
+  at-hand n e rest h = ap (slice_get all) (sum-zero n) ∙ h 0
+    where
+      sum-zero : (m : ℕ) → m ≡ m + 0
+      sum-zero m = omega arith
+
+  one-more : (n : ℕ) (e : Record) (rest : List Record) → ((k : ℕ) → slice_get all (n + k) ≡ slice_get (e ∷ rest) k) → (k : ℕ) → slice_get all ((n + 1) + k) ≡ slice_get rest k
+  one-more n e rest h k = ap (slice_get all) (later n k) ∙ h (suc k)
+    where
+      later : (m i : ℕ) → (m + 1) + i ≡ m + suc i
+      later m i = omega arith
+
+  next-stands : (g until : ℕ) (e : Record) (rest : List Record) (t : Standing) → Stands t (e ∷ rest) → Stands (after_record g until t e) rest
+  next-stands g until (entry.Slice pid ran) rest t s = s
+  next-stands g until (entry.File name bytes) rest t s = one-more t.events (entry.File name bytes) (events rest) s
+  next-stands g until (entry.Boot name give) rest t s = one-more t.events (entry.Boot name give) (events rest) s
+  next-stands g until (entry.Typed bytes) rest t s = one-more t.events (entry.Typed bytes) (events rest) s
+  next-stands g until (entry.Unplug device) rest t s = one-more t.events (entry.Unplug device) (events rest) s
+  next-stands g until (entry.Signal pid signal cut handler) rest t s = one-more t.events (entry.Signal pid signal cut handler) (events rest) s
+  next-stands g until (entry.Call pid n result more) rest t s = one-more t.events (entry.Call pid n result more) (events rest) s
+  next-stands g until (entry.End pid status) rest t s = one-more t.events (entry.End pid status) (events rest) s
+
+  next-keeps : (g until : ℕ) (e : Record) (rest : List Record) (t : Standing) → Stands t (e ∷ rest) → Ends Keeps t.made → Ends Keeps (after_record g until t e).made
+  next-keeps g until (entry.Slice pid ran) rest t s h = settled-keeps t h
+  next-keeps g until (entry.File name bytes) rest t s h = h
+  next-keeps g until (entry.Boot name give) rest t s h =
+      made_if-ends Keeps Keeps (t.is_ended && (g == 1)) t.made (boots t.events (entry.Boot name give)) h (λ own k. k)
+      (λ own k. boots-keeps t.events (entry.Boot name give) (at-hand t.events (entry.Boot name give) (events rest) s) own k)
+  next-keeps g until (entry.Typed bytes) rest t s h = h
+  next-keeps g until (entry.Unplug device) rest t s h = h
+  next-keeps g until (entry.Signal pid signal cut handler) rest t s h =
+      made_if-ends Keeps Keeps (t.is_begun && is_number g (t.groups pid)) t.made (happens pid t.events (entry.Signal pid signal cut handler)) h (λ own k. k)
+      (λ own k. happens-keeps t.events (entry.Signal pid signal cut handler) (at-hand t.events (entry.Signal pid signal cut handler) (events rest) s) pid own k)
+  next-keeps g until (entry.Call pid n result more) rest t s h = last-keeps g pid (entry.Call pid n result more) t (at-hand t.events (entry.Call pid n result more) (events rest) s) h
+  next-keeps g until (entry.End pid status) rest t s h = last-keeps g pid (entry.End pid status) t (at-hand t.events (entry.End pid status) (events rest) s) h
+
+  all-keep : (g until : ℕ) (rest : List Record) (t : Standing) → Stands t rest → Ends Keeps t.made → Ends Keeps (settled (replayed g until t rest))
+  all-keep g until [] t s h = settled-keeps t h
+  all-keep g until (e ∷ rest) t s h = all-keep g until rest (after_record g until t e) (next-stands g until e rest t s) (next-keeps g until e rest t s h)
+
+  -- what was heard of them
+  abbrev AreHeard : Hearings → Type 0
+  AreHeard heard = (event : ℕ) → IfSome (heard event) (IsHeard (slice_get all event))
+
+  by-number : (t : Transfer) (event : Event) (n : ℕ) (o : Option Hearing) → IsOf t event → IfSome o (IsHeard (slice_get all n)) → (b : Bool) → (n == event.number) ≡ b
+      → IfSome (if b then Some (record { len = event_len event.entry; founds = founds t }) else o) (IsHeard (slice_get all n))
+  by-number t event n o is h true e =
+      subst (λ (r : Option Record). IsHeard r (record { len = event_len event.entry; founds = founds t })) (sym (ap (slice_get all) (eqb-true n event.number e) ∙ is.there)) (record { len = refl; founds = is.founding })
+  by-number t event n o is h false e = h
+
+  step-heard : (i : Inside) (heard : Hearings) → AreHeard heard → IfSome i.event (IsOf i.transfer) → AreHeard (heard_after i heard)
+  step-heard i heard h is n = by_event i.event i.transfer is
+    where
+      by_event : (o : Option Event) (t : Transfer) → IfSome o (IsOf t) → IfSome (heard_after (record i { event = o; transfer = t }) heard n) (IsHeard (slice_get all n))
+      by_event None t k = h n
+      by_event (Some event) (moves.Begins pid made) k = h n
+      by_event (Some event) (moves.Arrives len) k = by-number (moves.Arrives len) event n (heard n) k (h n) (n == event.number) refl
+      by_event (Some event) (moves.Starts pid made load len block block_len) k = by-number (moves.Starts pid made load len block block_len) event n (heard n) k (h n) (n == event.number) refl
+      by_event (Some event) (moves.Runs pid instr place) k = by-number (moves.Runs pid instr place) event n (heard n) k (h n) (n == event.number) refl
+      by_event (Some event) (moves.Returns pid) k = by-number (moves.Returns pid) event n (heard n) k (h n) (n == event.number) refl
+      by_event (Some event) (moves.Receives pid place len) k = by-number (moves.Receives pid place len) event n (heard n) k (h n) (n == event.number) refl
+      by_event (Some event) (moves.Gives pid place len) k = by-number (moves.Gives pid place len) event n (heard n) k (h n) (n == event.number) refl
+      by_event (Some event) (moves.Forks pid child from into) k = by-number (moves.Forks pid child from into) event n (heard n) k (h n) (n == event.number) refl
+      by_event (Some event) (moves.Founds pid child from into) k = by-number (moves.Founds pid child from into) event n (heard n) k (h n) (n == event.number) refl
+      by_event (Some event) (moves.Shares pid made) k = by-number (moves.Shares pid made) event n (heard n) k (h n) (n == event.number) refl
+      by_event (Some event) (moves.Delivers pid cut) k = by-number (moves.Delivers pid cut) event n (heard n) k (h n) (n == event.number) refl
+      by_event (Some event) (moves.Leaves pid) k = by-number (moves.Leaves pid) event n (heard n) k (h n) (n == event.number) refl
+      by_event (Some event) (moves.Exits pid) k = by-number (moves.Exits pid) event n (heard n) k (h n) (n == event.number) refl
+      by_event (Some event) (moves.Faults pid) k = by-number (moves.Faults pid) event n (heard n) k (h n) (n == event.number) refl
+      by_event (Some event) (moves.Dies pid) k = by-number (moves.Dies pid) event n (heard n) k (h n) (n == event.number) refl
+
+  heard-of : (list : List Inside) (heard : Hearings) → AreOf list → AreHeard heard → AreHeard (heard_from list heard)
+  heard-of [] heard of h = h
+  heard-of (i ∷ list) heard of h = heard-of list (heard_after i heard) of.1 (step-heard i heard h of.0)
+
+pub hears-events : HearsEvents
+hears-events entries g until own is event =
+    let keeps = all-keep (events entries) g until entries at_first (λ k. ap (slice_get (events entries)) (zero-add k)) tt in
+    heard-of (events entries) own.inside none_heard (subst (Ends (λ (o : Own). AreOf (events entries) o.inside)) is keeps) (λ n. tt) event
