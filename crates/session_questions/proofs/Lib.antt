@@ -1,0 +1,6 @@
+mod Spelled
+mod Counted
+mod Ranges
+mod Printed
+mod OfRuns
+mod Examples

@@ -1,0 +1,10 @@
+//! Answers questions about a history from its records alone.
+#![tactic(auto)]
+
+mod asking;
+mod of_runs;
+mod short;
+
+pub use asking::Asking;
+pub use of_runs::answers_are_of_runs;
+pub use short::{short_logs_are_countable, short_runs_have_numbers, short_runs_stand};
