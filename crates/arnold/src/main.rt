@@ -7,7 +7,8 @@ ghost use Rattle.std.specs.IoError.{error_kind};
 ghost use Rattle.arn_session.specs.Words.{AreAccepted};
 
 use arn_base::{Chooser, Device, Disk, StdSink, StdSource, Steps};
-use arn_session::{FirstChooser, Status, WordsError, arnold, read_words};
+use arn_session::{Status, WordsError, arnold, read_words};
+use guest_devices::RoundChooser;
 use log_disk::FileDisk;
 use std::alloc::Global;
 use std::env::{self, Env};
@@ -59,7 +60,7 @@ fn session<L: Ledger, F: Files + Clone + Drop, R: Read + Drop, W: Write + Drop>(
         Err(WordsError::Usage) => return Status::Usage,
         Err(WordsError::NoMemory) => return Status::NoMemory,
     };
-    let Ok(first) = Box::new(alloc, FirstChooser::new()) else {
+    let Ok(first) = Box::new(alloc, RoundChooser::new(1_000)) else {
         return Status::NoMemory;
     };
     let mut chooser: Box<dyn Chooser> = first;

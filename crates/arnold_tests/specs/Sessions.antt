@@ -4,10 +4,13 @@ use Rattle.arn_base.specs.declared.records.Record.{Record}
 use Rattle.arn_commands.specs.declared.command.Command.{Command}
 use Rattle.arn_commands.specs.Parts.{text_parts}
 use Rattle.arn_commands.specs.Commands.{EachAsks}
-use Rattle.arn_session.specs.Transcript.{transcript}
+use Rattle.guest_machine.specs.Legs.{Picked}
+use Rattle.session_questions.specs.Texts.{told}
+use Rattle.session_text.specs.Transcript.{text_of}
 
--- every part of the text was answered on this history, and nothing else was printed
+-- every part of the text was answered on this history, with slices that were picked, and nothing else was printed
 pub record Prints (history : List Record) (text printed : List ℕ) : Type 0 where
   pub commands : List Command
   pub each_asks : EachAsks (text_parts text) commands
-  pub all : printed ≡ transcript history commands
+  pub slices : List Picked
+  pub all : printed ≡ text_of told history commands slices

@@ -6,7 +6,8 @@ ghost use Rattle.arn_session.specs.Words.{AreAccepted, AreAcceptedTexts, texts};
 ghost use Rattle.arnold_tests.specs.Sessions.{Prints};
 
 use arn_base::{Bytes, Chooser, Device, Disk, NoMemory, Numbers, SliceSource, Steps, VecSink};
-use arn_session::{FirstChooser, Status, arnold};
+use arn_session::{Status, arnold};
+use guest_devices::RoundChooser;
 use log_disk::MemDisk;
 use std::alloc::Global;
 use std::marker::Brand;
@@ -89,7 +90,7 @@ fn run_over<D: Disk, L: Ledger>(
     let fails = numbers(alloc, script.source_fails)?;
     let mut source = SliceSource::in_pieces(bytes, fails, script.piece);
     let mut sink = VecSink::new(alloc, numbers(alloc, script.sink_fails)?);
-    let mut chooser: Box<dyn Chooser> = Box::new(alloc, FirstChooser::new())?;
+    let mut chooser: Box<dyn Chooser> = Box::new(alloc, RoundChooser::new(1_000))?;
     let mut devices: Vec<Option<Box<dyn Device>>> = Vec::new(alloc);
     let status = arnold(
         alloc,

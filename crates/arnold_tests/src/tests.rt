@@ -1,9 +1,8 @@
 use super::*;
-use arn_base::{Bytes, Disk, NoMemory, Numbers};
+use arn_base::{Bytes, Differs, Disk, NoMemory, Numbers};
 use arn_session::{Damage, Status};
 use log_disk::{FileDisk, FuseDisk, MemDisk};
 use log_store::{OpenError, Store};
-use solo_machine::Differs;
 use std::alloc::Global;
 use std::fs;
 use std::process::Abort;
@@ -110,7 +109,7 @@ const ILLEGAL: &str = "\
     boot p\n\
     run 9";
 
-/// A program that makes call 5, which there isn't: queries aren't answered behind it.
+/// A program that asks for its number, and goes on to a word that is no instruction.
 const OTHER_CALL: &str = "\
     file p 41524e494d4730310000010000000000000001000000000093085000730000\
     00\n\
@@ -153,7 +152,8 @@ const INCREMENT: &str = "\
     boot p\n\
     type 616263\n\
     run 100\n\
-    back copy event 4 0 3\n";
+    back copy event 4 0 3\n\
+    back data event 4 0 3\n";
 
 /// Reads a number, and writes the byte of a table that stands in this place.
 const LOOK_UP: &str = "\
@@ -167,7 +167,9 @@ const LOOK_UP: &str = "\
     boot p\n\
     type 02\n\
     run 100\n\
-    back copy event 4 0 1\n";
+    back copy event 4 0 1\n\
+    back data event 4 0 1\n\
+    back index event 4 0 1\n";
 
 /// Reads a byte, and writes it with its sign as eight bytes.
 const EXTEND: &str = "\
@@ -180,24 +182,70 @@ const EXTEND: &str = "\
     boot p\n\
     type 80\n\
     run 100\n\
-    back copy event 4 0 8\n";
+    back copy event 4 0 8\n\
+    back data event 4 0 8\n";
+
+/// Reads two bytes of a file, and writes them to the console.
+const FROM_FILE: &str = "\
+    file f 4142\n\
+    asm p\n\
+    la a0, path; li a1, 1; li a2, 0; li a7, 9; ecall\n\
+    li a7, 11; li a0, 3; addi a1, sp, -16; li a2, 2; ecall\n\
+    li a7, 12; li a0, 1; ecall; li a7, 1; li a0, 0; ecall\n\
+    path:\n\
+    .byte 102\n\
+    end\n\
+    boot p\n\
+    run 100\n\
+    back copy event 5 0 2\n";
+
+/// Starts the program of `TYPED` from a file.
+const STARTS_ANEW: &str = "\
+    file q 41524e494d473031000001000000000000000100000000009308b00013050000930501ff1306300073000000\
+    9308c0001305100073000000930810001305000073000000\n\
+    asm p\n\
+    li a7, 3; la a0, path; li a1, 1; li a2, 0; li a3, 0; ecall\n\
+    path:\n\
+    .byte 113\n\
+    end\n\
+    boot p\n\
+    type 616263\n\
+    run 100\n\
+    back copy event 4 0 2\n\
+    back copy event 6 0 3\n";
 
 /// Sessions with blocks, and what is printed for them.
 const BLOCKS: &[(&str, &str)] = &[
     (
         INCREMENT,
         "event 0\nevent 1\nevent 2\nout 4 1 626364\nran 20 done\n\
-        back pairs 0 instructions 20 groups 1\n",
+        back pairs 0 instructions 20 groups 1\n\
+        pair 2 0 0\npair 2 1 1\npair 2 2 2\nback pairs 3 instructions 20 groups 1\n",
     ),
     (
         LOOK_UP,
         "event 0\nevent 1\nevent 2\nout 4 1 1e\nran 17 done\n\
-        pair 0 94 0\nback pairs 1 instructions 17 groups 1\n",
+        pair 0 94 0\nback pairs 1 instructions 17 groups 1\n\
+        pair 0 94 0\nback pairs 1 instructions 17 groups 1\n\
+        pair 0 94 0\npair 2 0 0\nback pairs 2 instructions 17 groups 1\n",
     ),
     (
         EXTEND,
         "event 0\nevent 1\nevent 2\nout 4 1 80ffffffffffffff\nran 15 done\n\
-        pair 2 0 0\nback pairs 1 instructions 15 groups 1\n",
+        pair 2 0 0\nback pairs 1 instructions 15 groups 1\n\
+        pair 2 0 0\npair 2 0 1\npair 2 0 2\npair 2 0 3\npair 2 0 4\npair 2 0 5\npair 2 0 6\n\
+        pair 2 0 7\nback pairs 8 instructions 15 groups 1\n",
+    ),
+    (
+        FROM_FILE,
+        "event 0\nevent 1\nevent 2\nout 5 1 4142\nran 17 done\n\
+        pair 0 0 0\npair 0 1 1\nback pairs 2 instructions 17 groups 1\n",
+    ),
+    (
+        STARTS_ANEW,
+        "event 0\nevent 1\nevent 2\nevent 3\nout 6 1 616263\nran 18 done\n\
+        pair 0 0 0\npair 0 1 1\nback pairs 2 instructions 18 groups 1\n\
+        pair 3 0 0\npair 3 1 1\npair 3 2 2\nback pairs 3 instructions 18 groups 1\n",
     ),
     (
         "run 5\nboot p\nfile p 00\nboot p\nfile p 00\nasm q\n bogus\nend\nhello\n",
@@ -289,7 +337,7 @@ fn prints_the_answer_to_each_line(rt: HostRuntime) -> Result<(), Fail> {
         (
             OTHER_CALL,
             "event 0\nevent 1\npair 0 0 0\nback pairs 1 instructions 0 groups -\nran 3 done\n\
-            no line\nno line\n",
+            pair 0 0 0\nback pairs 1 instructions 0 groups -\nno point\n",
         ),
     ] {
         assert_prints(&rt, text, want)?;

@@ -1,4 +1,0 @@
-use Rattle.guest_solo.proofs.calls.read.Goals as goal
-
-pub returns-in-Err-clause-request : goal.returns-in-Err-clause-request
-returns-in-Err-clause-request c = λ m bytes same. c.in-Err.ensures.none m _

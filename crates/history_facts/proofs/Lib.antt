@@ -1,4 +1,0 @@
-pub mod StepForms
-pub mod EventForms
-pub mod FileForms
-pub mod Examples

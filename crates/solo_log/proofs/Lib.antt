@@ -1,3 +1,0 @@
-pub mod SliceForms
-pub mod RecordForms
-pub mod Examples

@@ -1,8 +1,0 @@
-//! The records by which a run is kept, and the inputs that records name.
-//!
-//! The definitions stand in `specs/`. What holds of them is stated by functions that do nothing.
-#![tactic(auto)]
-
-mod law;
-
-pub use law::{named_runs_again, records_append, records_are_run};

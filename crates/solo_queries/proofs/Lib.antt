@@ -1,9 +1,0 @@
-pub mod StepForms
-pub mod Fewness
-pub mod InputForms
-pub mod SourceForms
-pub mod FollowForms
-pub mod TrackedForms
-pub mod Loops
-pub mod Entries
-pub mod Answered
