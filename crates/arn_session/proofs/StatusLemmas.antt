@@ -1,14 +1,9 @@
 -- Which halt or which refusal a status is of.
-use Rattle.std.proofs.Common.{◌≡◌, ◌≢◌, Option, None, Some, refl, sym, ap, ◌∙◌}
-use Rattle.arn_commands.specs.declared.error.ReadError.{ReadError}
-use Rattle.arn_commands.specs.declared.error.ReadError.TheVariants as read
-use Rattle.arn_base.specs.declared.records.Differs.{Differs}
+use Rattle.std.proofs.Common.{◌≡◌, ◌≢◌, ℕ, Option, None, Some, refl, sym, ap, ◌∙◌}
 use Rattle.log_store.specs.Causes.{BlamesBytes}
 use Rattle.log_store.specs.declared.errors.OpenError.{OpenError}
 use Rattle.log_store.specs.declared.errors.OpenError.TheVariants as opening
-use Rattle.arn_session.specs.Answering.{Standpoint}
-use Rattle.arn_session.specs.Ready.{BlamesRecords}
-use Rattle.arn_session.specs.Status.{status_of, open_status_of, read_halt_of}
+use Rattle.arn_session.specs.Status.{status_of, open_status_of}
 use Rattle.arn_session.specs.declared.status.Status.{Status}
 use Rattle.arn_session.specs.declared.status.Status.TheVariants as status
 use Rattle.arn_session.specs.declared.status.Damage.TheVariants as damage
@@ -23,6 +18,7 @@ halt_for status.Disk = Some halt.Disk
 halt_for (status.Damaged (damage.TooLong len)) = None
 halt_for (status.Damaged (damage.NotLog at)) = None
 halt_for (status.Damaged (damage.Malformed at)) = None
+halt_for (status.Damaged (damage.Broken place)) = None
 halt_for (status.Damaged (damage.Differs d)) = Some (halt.Differs d)
 halt_for status.NoMemory = Some halt.NoMemory
 halt_for status.Source = Some halt.Source
@@ -67,6 +63,7 @@ error_for status.Disk = Some opening.Disk
 error_for (status.Damaged (damage.TooLong len)) = Some (opening.TooLong len)
 error_for (status.Damaged (damage.NotLog at)) = Some (opening.NotLog at)
 error_for (status.Damaged (damage.Malformed at)) = Some (opening.Malformed at)
+error_for (status.Damaged (damage.Broken place)) = None
 error_for (status.Damaged (damage.Differs d)) = None
 error_for status.NoMemory = Some opening.NoMemory
 error_for status.Source = None
@@ -95,30 +92,6 @@ no-error error s is none =
 pub same-error : (a b : OpenError) → open_status_of a ≡ open_status_of b → a ≡ b
 same-error a b is = error-is a (open_status_of b) b (sym is) (error_for-status b)
 
--- which error of the reading a halt is of
-pub source-was : (error : ReadError) → read_halt_of error ≡ halt.Source → error ≡ read.Source
-source-was read.Source is = refl
-source-was read.Long is = cc is
-source-was read.NoMemory is = cc is
-
-pub long-was : (error : ReadError) → read_halt_of error ≡ halt.Long → error ≡ read.Long
-long-was read.Source is = cc is
-long-was read.Long is = refl
-long-was read.NoMemory is = cc is
-
--- an error of the reading blames no records
-pub read-blames : (error : ReadError) (at : Standpoint) → BlamesRecords (read_halt_of error) at
-read-blames read.Source at = tt
-read-blames read.Long at = tt
-read-blames read.NoMemory at = tt
-
-pub read-finds-none : (error : ReadError) (d : Differs) → read_halt_of error ≡ halt.Differs d → ⊥
-read-finds-none read.Source d is = cc is
-read-finds-none read.Long d is = cc is
-read-finds-none read.NoMemory d is = cc is
-
--- where the reading ended neither at the source nor at the bound, memory ran out
-pub memory-was : (P : Halt → Type 0) (error : ReadError) → P halt.NoMemory → read_halt_of error ≢ halt.Source → read_halt_of error ≢ halt.Long → P (read_halt_of error)
-memory-was P read.Source p not_source not_long = absurd (not_source refl)
-memory-was P read.Long p not_source not_long = absurd (not_long refl)
-memory-was P read.NoMemory p not_source not_long = p
+-- two places at which records can't stand are one
+pub broken-is : (a b : ℕ) → status.Damaged (damage.Broken a) ≡ status.Damaged (damage.Broken b) → a ≡ b
+broken-is a b is = cc is

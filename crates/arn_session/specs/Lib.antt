@@ -1,14 +1,4 @@
 pub mod Status
-pub mod Running
-pub mod Answers
-pub mod Cost
-pub mod Transcript
 pub mod Words
-pub mod Answering
-pub mod CutOff
-pub mod Kept
-pub mod Standing
-pub mod Ready
 pub mod Opening
-pub mod Legs
-pub mod StandIns
+pub mod Begun

@@ -9,34 +9,37 @@ use Rattle.arn_session.specs.declared.status.Status.{Status}
 use Rattle.arn_session.specs.declared.status.Status.TheVariants as status
 use Rattle.arn_session.specs.declared.status.Damage.TheVariants as damage
 
--- nothing was taken of the source and nothing put into the sink, and no instruction was executed
-pub record NeverBegan {S K : Type 0} (source source' : S) (sink sink' : K) (steps steps' : ℕ) : Type 0 where
+-- nothing was taken of the source and nothing put into the sink, no choice was asked for and no device, and no instruction was executed
+pub record NeverBegan {S K C V : Type 0} (source source' : S) (sink sink' : K) (chooser chooser' : C) (devices devices' : V) (steps steps' : ℕ) : Type 0 where
   pub untaken : source' ≡ source
   pub unput : sink' ≡ sink
+  pub unchosen : chooser' ≡ chooser
+  pub unasked : devices' ≡ devices
   pub idle : steps' ≡ steps
+
+-- the same, and of a disk at rest a stop at any moment leaves the history
+pub record FailsToOpen {S K C V D : Type 0} (is_run : List Record → Type 0) (d : Ghosts D) (old new : D)
+    (history : List Record) (source source' : S) (sink sink' : K) (chooser chooser' : C) (devices devices' : V) (steps steps' : ℕ) : Type 0 where
+  pub never : NeverBegan source source' sink sink' chooser chooser' devices devices' steps steps'
+  pub keeps : IsAtRest d old history → Keeps is_run d old new history [] []
 
 -- the session opened its log: it ended neither by its words nor by the bytes of its log, nor perhaps by its disk or by want of
 -- memory before that
-abbrev pub HasBegun : Status → Type 0
-HasBegun status.Done = Unit {0}
-HasBegun status.Usage = ⊥
-HasBegun status.Disk = ⊥
-HasBegun (status.Damaged (damage.TooLong len)) = ⊥
-HasBegun (status.Damaged (damage.NotLog at)) = ⊥
-HasBegun (status.Damaged (damage.Malformed at)) = ⊥
-HasBegun (status.Damaged (damage.Differs d)) = Unit {0}
-HasBegun status.NoMemory = ⊥
-HasBegun status.Source = Unit {0}
-HasBegun status.Sink = Unit {0}
-HasBegun (status.Full log payload) = Unit {0}
-HasBegun status.Long = Unit {0}
+abbrev pub HasOpened : Status → Type 0
+HasOpened status.Done = Unit {0}
+HasOpened status.Usage = ⊥
+HasOpened status.Disk = ⊥
+HasOpened (status.Damaged (damage.TooLong len)) = ⊥
+HasOpened (status.Damaged (damage.NotLog at)) = ⊥
+HasOpened (status.Damaged (damage.Malformed at)) = ⊥
+HasOpened (status.Damaged (damage.Broken place)) = Unit {0}
+HasOpened (status.Damaged (damage.Differs d)) = Unit {0}
+HasOpened status.NoMemory = ⊥
+HasOpened status.Source = Unit {0}
+HasOpened status.Sink = Unit {0}
+HasOpened (status.Full log payload) = Unit {0}
+HasOpened status.Long = Unit {0}
 
--- the same, and of a disk at rest a stop at any moment leaves the history
-pub record FailsToOpen {S K D : Type 0} (is_run : List Record → Type 0) (d : Ghosts D) (old new : D)
-    (history : List Record) (source source' : S) (sink sink' : K) (steps steps' : ℕ) : Type 0 where
-  pub never : NeverBegan source source' sink sink' steps steps'
-  pub keeps : IsAtRest d old history → Keeps is_run d old new history [] []
-
--- a session that began has a log that isn't too long
+-- a session that opened its log has one that isn't too long
 abbrev pub IsOpened : Status → List ℕ → Type 0
-IsOpened status bytes = HasBegun status → (history : List Record) × IsLog bytes history × (length bytes ≤ MOST_LOG)
+IsOpened status bytes = HasOpened status → (history : List Record) × IsLog bytes history × (length bytes ≤ MOST_LOG)

@@ -1,11 +1,7 @@
 -- How a session ends.
 use Rattle.std.specs.Prelude.{ℕ}
-use Rattle.arn_commands.specs.declared.error.ReadError.{ReadError}
-use Rattle.arn_commands.specs.declared.error.ReadError.TheVariants as read
 use Rattle.log_store.specs.declared.errors.OpenError.{OpenError}
 use Rattle.log_store.specs.declared.errors.OpenError.TheVariants as opening
-use Rattle.solo_machine.specs.declared.differs.RebuildError.{RebuildError}
-use Rattle.solo_machine.specs.declared.differs.RebuildError.TheVariants as rebuild
 use Rattle.arn_session.specs.declared.status.Status.{Status}
 use Rattle.arn_session.specs.declared.status.Status.TheVariants as status
 use Rattle.arn_session.specs.declared.status.Damage.TheVariants as damage
@@ -41,14 +37,3 @@ open_status_of (opening.NotLog at) = status.Damaged (damage.NotLog at)
 open_status_of (opening.Malformed at) = status.Damaged (damage.Malformed at)
 open_status_of opening.Disk = status.Disk
 open_status_of opening.NoMemory = status.NoMemory
-
--- what ends a session whose next command isn't read
-abbrev pub read_halt_of : ReadError → Halt
-read_halt_of read.Source = halt.Source
-read_halt_of read.Long = halt.Long
-read_halt_of read.NoMemory = halt.NoMemory
-
--- what ends a session whose machine can't be made again
-abbrev pub rebuild_halt_of : RebuildError → Halt
-rebuild_halt_of (rebuild.Differs d) = halt.Differs d
-rebuild_halt_of rebuild.NoMemory = halt.NoMemory

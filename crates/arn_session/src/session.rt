@@ -1,121 +1,193 @@
 // The top call: reads a source to its end, and answers each command of its text to a sink.
 ghost use Rattle.std.specs.Prelude.{◌≡◌, ◌≢◌, ◌⊎◌, ◌↔◌, ◌<◌, ◌≤◌, ◌^◌, [], ℕ, List, length, drop, OnOk, IfErr, IsErrOf, IfSome, Some};
-ghost use Rattle.arn_base.specs.declared.records.Record.{Record};
-ghost use Rattle.arn_base.specs.Faults.{Rose, NeverFalls};
+ghost use Rattle.arn_base.specs.Faults.{Rose};
 ghost use Rattle.arn_base.specs.declared.records.Differs.{Differs};
+ghost use Rattle.arn_base.specs.declared.records.Record.{Record};
+ghost use Rattle.arn_commands.specs.Parts.{text_parts, whole_parts};
+ghost use Rattle.arn_session.specs.Begun.{BeginsOn, FindsOn, slots_answer, standing};
+ghost use Rattle.arn_session.specs.Opening.{FailsToOpen, IsOpened, NeverBegan};
+ghost use Rattle.arn_session.specs.Status.{open_status_of};
+ghost use Rattle.arn_session.specs.Words.{AreAccepted};
+ghost use Rattle.history_model.specs.Broken.{first_broken};
+ghost use Rattle.log_model.specs.Records.{IsRun};
 ghost use Rattle.log_store.specs.Causes.{IsCauseOf, BlamesBytes};
-ghost use Rattle.log_store.specs.Stops.{GoesOn, IsOnlyRead, LeavesOnly};
 ghost use Rattle.log_store.specs.Refused.{IsNoLog};
+ghost use Rattle.log_store.specs.Stops.{GoesOn, IsOnlyRead, LeavesOnly};
 ghost use Rattle.log_store.specs.declared.errors.OpenError.{OpenError};
 ghost use Rattle.log_store.specs.declared.size.TheConstants.{MOST_LOG};
-ghost use Rattle.arn_commands.specs.Parts.{text_parts, whole_parts};
-ghost use Rattle.arn_session.specs.Answering.{standpoint_first, TookFewer, TookAtMost};
-ghost use Rattle.session_effects.specs.Carrying.{CarriesOut, StopsAt, HoldsLog, HoldsMore, IsAtRest, RestsMore};
-ghost use Rattle.arn_session.specs.CutOff.{BeginsText, FindsOut};
-ghost use Rattle.arn_session.specs.Kept.{IsSound, standpoint_of};
-ghost use Rattle.arn_session.specs.Opening.{FailsToOpen, IsOpened, NeverBegan};
-ghost use Rattle.arn_session.specs.Ready.{BlamesRecords, IsNoRun};
+ghost use Rattle.session_effects.specs.Carrying.{CarriesOut, HoldsLog, HoldsMore, IsAtRest, Keeps, RestsMore};
 ghost use Rattle.session_effects.specs.Standing.{IsOpen};
-ghost use Rattle.arn_session.specs.Standing.{IsLineCause};
-ghost use Rattle.arn_session.specs.Status.{open_status_of};
-ghost use Rattle.arn_session.specs.Transcript.{Answers, AnswersTaken};
-ghost use Rattle.arn_session.specs.Words.{AreAccepted};
-ghost use Rattle.solo_log.specs.Records.{IsRun};
+ghost use Rattle.session_lines.specs.Answering.{IsNoRun};
+ghost use Rattle.session_questions.specs.OfRuns.{AnswersAreOfRuns};
+ghost use Rattle.session_questions.specs.Texts.{told};
+ghost use Rattle.session_runs.specs.Points.{around};
+ghost use Rattle.session_text.specs.Answers.{Answers, AnswersTaken, TookAtMost, TookFewer};
 
-use crate::kept::Kept;
-use crate::lines::answer;
-use crate::runs::SoloRuns;
-use crate::status::{Damage, Status, read_halt};
+use crate::status::{Damage, Status};
 use crate::words::are_accepted;
 use arn_base::{Chooser, Device, Disk, Sink, Source, Steps};
-use arn_commands::{Commands, Next};
-use log_store::{Store, logs_read_one_way};
-use session_effects::{Halt, effects_follow, openings_follow};
+use guest_devices::Slots;
+use history_index::IndexError;
+use log_store::{Store, logs_read_one_way, store_is_short};
+use session_effects::{Halt, effects_follow, halts_follow, openings_follow};
+use session_lines::Questions;
+use session_questions::{Asking, answers_are_of_runs};
+use session_runs::MachineRuns;
+use session_text::session;
 use std::alloc::Global;
 use std::sync::ledger::Ledger;
 
-/// Reads the source to its end, and does what each command of its text asks for on the history of a log.
-fn session<S: Source, K: Sink, D: Disk, L: Ledger>(
+// Answers a text with devices in slots, and keeps those slots.
+fn answer_in_slots<
+    Q: Questions + Drop,
+    C: Chooser,
+    V: Device,
+    S: Source,
+    K: Sink,
+    D: Disk,
+    L: Ledger,
+>(
     alloc: Global,
     store: Store,
+    questions: Q,
+    chooser: &mut C,
+    slots: &mut Slots<'_, V>,
     source: &mut S,
     sink: &mut K,
     disk: &mut D,
     steps: &mut Steps<L>,
 ) -> Result<(), Halt>
     requires open { IsOpen D.Disk store disk.old }
-
+    requires known { Q.knows questions store.entries }
     ensures read { OnOk result
         (IfSome (S.left source.old) (λ text. S.left source.new ≡ Some [])) }
     ensures answered { OnOk result (IfSome (S.left source.old) (λ text.
-        Answers store.entries (text_parts text)
+        Answers (slots_answer V.Device) Q.told store.entries (text_parts text)
+        (around (C.choices chooser.old) slots.old.devices.now.items steps.old)
+        (around (C.choices chooser.new) slots.new.devices.now.items steps.new)
         (CarriesOut IsRun D.Disk disk.old disk.new
-        store.entries (K.holds sink.old) (K.holds sink.new)) steps.old steps.new)) }
+        store.entries (K.holds sink.old) (K.holds sink.new)))) }
     ensures short { OnOk result
         (IfSome (S.left source.old) (λ text. length text < 2 ^ 40)) }
-
     ensures stops { IfErr result (λ halt. halt ≢ Halt.Source → halt ≢ Halt.Long →
-        IfSome (S.left source.old) (λ text. BeginsText store.entries text (S.left source.new)
-        (StopsAt IsRun D.Disk disk.old disk.new
-        store.entries (K.holds sink.old) (K.holds sink.new) halt) steps.old steps.new)) }
-    ensures blames { IfErr result (λ halt. BlamesRecords halt (standpoint_first store.entries)) }
+        IfSome (S.left source.old) (λ text.
+        BeginsOn D.Disk (slots_answer V.Device) Q.told store.entries
+        (standing disk.old (K.holds sink.old) (around (C.choices chooser.old) slots.old.devices.now.items steps.old))
+        (standing disk.new (K.holds sink.new) (around (C.choices chooser.new) slots.new.devices.now.items steps.new))
+        halt text (S.left source.new))) }
+    ensures blames { (d : Differs) → IsErrOf result (Halt.Differs d) → IsNoRun store.entries d }
     ensures finds { (d : Differs) → IsErrOf result (Halt.Differs d) →
-        IfSome (S.left source.old) (λ text. FindsOut store.entries text (S.left source.new)
-        (CarriesOut IsRun D.Disk disk.old disk.new
-        store.entries (K.holds sink.old) (K.holds sink.new)) steps.old steps.new) }
-
+        IfSome (S.left source.old) (λ text.
+        FindsOn D.Disk (slots_answer V.Device) Q.told store.entries
+        (standing disk.old (K.holds sink.old) (around (C.choices chooser.old) slots.old.devices.now.items steps.old))
+        (standing disk.new (K.holds sink.new) (around (C.choices chooser.new) slots.new.devices.now.items steps.new))
+        text (S.left source.new)) }
     ensures early { IsErrOf result Halt.Source →
         TookFewer (2 ^ 40) (S.left source.old) (S.left source.new) }
     ensures long { IsErrOf result Halt.Long → IfSome (S.left source.old) (λ text.
         (2 ^ 40 ≤ length text) × (S.left source.new ≡ Some (drop (2 ^ 40) text))) }
     ensures taken { IsErrOf result Halt.Source ⊎ IsErrOf result Halt.Long →
-        AnswersTaken store.entries (S.left source.old) (S.left source.new) whole_parts
+        AnswersTaken (slots_answer V.Device) Q.told store.entries
+        (S.left source.old) (S.left source.new) whole_parts
+        (around (C.choices chooser.old) slots.old.devices.now.items steps.old)
+        (around (C.choices chooser.new) slots.new.devices.now.items steps.new)
         (CarriesOut IsRun D.Disk disk.old disk.new
-        store.entries (K.holds sink.old) (K.holds sink.new)) steps.old steps.new }
+        store.entries (K.holds sink.old) (K.holds sink.new)) }
     ensures at_most { TookAtMost (2 ^ 40) (S.left source.old) (S.left source.new) }
-
     ensures any_moment { IsAtRest D.Disk disk.old store.entries →
         LeavesOnly D.moment D.left_since disk.old disk.new (HoldsMore IsRun store.entries) }
-
     ensures rests { OnOk result (IsAtRest D.Disk disk.old store.entries →
         RestsMore D.Disk disk.new store.entries) }
     ensures still_rests { IfErr result (λ halt. halt ≢ Halt.Disk → halt ≢ Halt.NoMemory →
         IsAtRest D.Disk disk.old store.entries →
         RestsMore D.Disk disk.new store.entries) }
+    ensures source { IsErrOf result Halt.Source →
+        Rose (S.faults source.old) (S.faults source.new) }
+    ensures sink { IsErrOf result Halt.Sink → Rose (K.faults sink.old) (K.faults sink.new) }
+    ensures disk { IsErrOf result Halt.Disk → Rose (D.faults disk.old) (D.faults disk.new) }
+    ensures later { GoesOn D.image D.faults disk.old disk.new }
+    ensures same_slots { IfSome (S.left source.old) (λ text.
+        slots.new.devices.ghost_name ≡ slots.old.devices.ghost_name) }
+    ensures same_taken { IsErrOf result Halt.Source ⊎ IsErrOf result Halt.Long →
+        slots.new.devices.ghost_name ≡ slots.old.devices.ghost_name }
+{
+    session(
+        alloc, store, questions, chooser, slots, source, sink, disk, steps,
+    )
+}
 
+// Answers a text on the history of a log, with devices that are lent.
+fn answer_text<Q: Questions + Drop, C: Chooser, V: Device, S: Source, K: Sink, D: Disk, L: Ledger>(
+    alloc: Global,
+    store: Store,
+    questions: Q,
+    chooser: &mut C,
+    devices: &mut Vec<Option<V>>,
+    source: &mut S,
+    sink: &mut K,
+    disk: &mut D,
+    steps: &mut Steps<L>,
+) -> Result<(), Halt>
+    requires open { IsOpen D.Disk store disk.old }
+    requires known { Q.knows questions store.entries }
+    ensures read { OnOk result
+        (IfSome (S.left source.old) (λ text. S.left source.new ≡ Some [])) }
+    ensures answered { OnOk result (IfSome (S.left source.old) (λ text.
+        Answers (slots_answer V.Device) Q.told store.entries (text_parts text)
+        (around (C.choices chooser.old) devices.old.items steps.old)
+        (around (C.choices chooser.new) devices.new.items steps.new)
+        (CarriesOut IsRun D.Disk disk.old disk.new
+        store.entries (K.holds sink.old) (K.holds sink.new)))) }
+    ensures short { OnOk result
+        (IfSome (S.left source.old) (λ text. length text < 2 ^ 40)) }
+    ensures stops { IfErr result (λ halt. halt ≢ Halt.Source → halt ≢ Halt.Long →
+        IfSome (S.left source.old) (λ text.
+        BeginsOn D.Disk (slots_answer V.Device) Q.told store.entries
+        (standing disk.old (K.holds sink.old) (around (C.choices chooser.old) devices.old.items steps.old))
+        (standing disk.new (K.holds sink.new) (around (C.choices chooser.new) devices.new.items steps.new))
+        halt text (S.left source.new))) }
+    ensures blames { (d : Differs) → IsErrOf result (Halt.Differs d) → IsNoRun store.entries d }
+    ensures finds { (d : Differs) → IsErrOf result (Halt.Differs d) →
+        IfSome (S.left source.old) (λ text.
+        FindsOn D.Disk (slots_answer V.Device) Q.told store.entries
+        (standing disk.old (K.holds sink.old) (around (C.choices chooser.old) devices.old.items steps.old))
+        (standing disk.new (K.holds sink.new) (around (C.choices chooser.new) devices.new.items steps.new))
+        text (S.left source.new)) }
+    ensures early { IsErrOf result Halt.Source →
+        TookFewer (2 ^ 40) (S.left source.old) (S.left source.new) }
+    ensures long { IsErrOf result Halt.Long → IfSome (S.left source.old) (λ text.
+        (2 ^ 40 ≤ length text) × (S.left source.new ≡ Some (drop (2 ^ 40) text))) }
+    ensures taken { IsErrOf result Halt.Source ⊎ IsErrOf result Halt.Long →
+        AnswersTaken (slots_answer V.Device) Q.told store.entries
+        (S.left source.old) (S.left source.new) whole_parts
+        (around (C.choices chooser.old) devices.old.items steps.old)
+        (around (C.choices chooser.new) devices.new.items steps.new)
+        (CarriesOut IsRun D.Disk disk.old disk.new
+        store.entries (K.holds sink.old) (K.holds sink.new)) }
+    ensures at_most { TookAtMost (2 ^ 40) (S.left source.old) (S.left source.new) }
+    ensures any_moment { IsAtRest D.Disk disk.old store.entries →
+        LeavesOnly D.moment D.left_since disk.old disk.new (HoldsMore IsRun store.entries) }
+    ensures rests { OnOk result (IsAtRest D.Disk disk.old store.entries →
+        RestsMore D.Disk disk.new store.entries) }
+    ensures still_rests { IfErr result (λ halt. halt ≢ Halt.Disk → halt ≢ Halt.NoMemory →
+        IsAtRest D.Disk disk.old store.entries →
+        RestsMore D.Disk disk.new store.entries) }
     ensures source { IsErrOf result Halt.Source →
         Rose (S.faults source.old) (S.faults source.new) }
     ensures sink { IsErrOf result Halt.Sink → Rose (K.faults sink.old) (K.faults sink.new) }
     ensures disk { IsErrOf result Halt.Disk → Rose (D.faults disk.old) (D.faults disk.new) }
     ensures later { GoesOn D.image D.faults disk.old disk.new }
 {
-    effects_follow::<SoloRuns, D>();
-    let mut commands = Commands::new(alloc)?;
-    let mut kept = Kept {
-        alloc,
-        store,
-        machine: None,
-    };
-    let mut text = String::new(alloc);
-    loop {
-        let next = match commands.next(source) {
-            Ok(next) => next,
-            Err(error) => return Err(read_halt(error)),
-        };
-        match next {
-            Next::More { command } => answer(&mut kept, command, disk, &mut text, sink, steps)?,
-            Next::Last { command } => {
-                return answer(&mut kept, command, disk, &mut text, sink, steps);
-            }
-            Next::End => return Ok(()),
-        }
-    }
+    let mut slots = Slots { devices };
+    answer_in_slots(
+        alloc, store, questions, chooser, &mut slots, source, sink, disk, steps,
+    )
 }
 
 /// Does all that the program does: opens the log, reads the source command by command, commits what
 /// each adds to the history, and answers it to the sink.
 ///
-/// A session takes at most 2^40 bytes of the source. It needs no chooser and no devices as yet.
+/// A session takes at most 2^40 bytes of the source.
 pub fn arnold<S: Source, K: Sink, D: Disk, L: Ledger>(
     alloc: Global,
     words: &[String],
@@ -128,8 +200,8 @@ pub fn arnold<S: Source, K: Sink, D: Disk, L: Ledger>(
 ) -> Status
     // The words aren't accepted: nothing is read or written.
     ensures usage { (result ≡ Status.Usage) ↔ ¬ AreAccepted words.now }
-    ensures unread { result ≡ Status.Usage →
-        NeverBegan source.old source.new sink.old sink.new steps.old steps.new }
+    ensures unread { result ≡ Status.Usage → NeverBegan source.old source.new sink.old sink.new
+        chooser.old chooser.new devices.old devices.new steps.old steps.new }
     ensures undisturbed { result ≡ Status.Usage → disk.new ≡ disk.old }
 
     // A told source was read to its end, and every line and block of it was answered.
@@ -137,9 +209,11 @@ pub fn arnold<S: Source, K: Sink, D: Disk, L: Ledger>(
         IfSome (S.left source.old) (λ text. S.left source.new ≡ Some []) }
     ensures answered { result ≡ Status.Done → (history : List Record) →
         HoldsLog D.Disk disk.old history → IfSome (S.left source.old) (λ text.
-        Answers history (text_parts text)
+        Answers (slots_answer ⟦<Box<dyn Device> as Device>⟧) told history (text_parts text)
+        (around (⟦<Box<dyn Chooser> as Chooser>⟧.choices chooser.old) devices.old.items steps.old)
+        (around (⟦<Box<dyn Chooser> as Chooser>⟧.choices chooser.new) devices.new.items steps.new)
         (CarriesOut IsRun D.Disk disk.old disk.new
-        history (K.holds sink.old) (K.holds sink.new)) steps.old steps.new) }
+        history (K.holds sink.old) (K.holds sink.new))) }
     ensures short { result ≡ Status.Done →
         IfSome (S.left source.old) (λ text. length text < 2 ^ 40) }
 
@@ -153,56 +227,86 @@ pub fn arnold<S: Source, K: Sink, D: Disk, L: Ledger>(
     // The sink failed before all that was to be printed had been put.
     ensures cut { result ≡ Status.Sink → (history : List Record) →
         HoldsLog D.Disk disk.old history → IfSome (S.left source.old) (λ text.
-        BeginsText history text (S.left source.new)
-        (StopsAt IsRun D.Disk disk.old disk.new
-        history (K.holds sink.old) (K.holds sink.new) Halt.Sink) steps.old steps.new) }
+        BeginsOn D.Disk (slots_answer ⟦<Box<dyn Device> as Device>⟧) told history
+        (standing disk.old (K.holds sink.old)
+        (around (⟦<Box<dyn Chooser> as Chooser>⟧.choices chooser.old) devices.old.items steps.old))
+        (standing disk.new (K.holds sink.new)
+        (around (⟦<Box<dyn Chooser> as Chooser>⟧.choices chooser.new) devices.new.items steps.new))
+        Halt.Sink text (S.left source.new)) }
 
     // The disk failed in the opening, or in a commit: what comes before that commit was printed.
     ensures stopped { result ≡ Status.Disk → (history : List Record) →
         HoldsLog D.Disk disk.old history →
-        FailsToOpen IsRun D.Disk disk.old disk.new history
-        source.old source.new sink.old sink.new steps.old steps.new ⊎
-        IfSome (S.left source.old) (λ text. BeginsText history text (S.left source.new)
-        (StopsAt IsRun D.Disk disk.old disk.new
-        history (K.holds sink.old) (K.holds sink.new) Halt.Disk) steps.old steps.new) }
+        FailsToOpen IsRun D.Disk disk.old disk.new history source.old source.new sink.old sink.new
+        chooser.old chooser.new devices.old devices.new steps.old steps.new ⊎
+        IfSome (S.left source.old) (λ text.
+        BeginsOn D.Disk (slots_answer ⟦<Box<dyn Device> as Device>⟧) told history
+        (standing disk.old (K.holds sink.old)
+        (around (⟦<Box<dyn Chooser> as Chooser>⟧.choices chooser.old) devices.old.items steps.old))
+        (standing disk.new (K.holds sink.new)
+        (around (⟦<Box<dyn Chooser> as Chooser>⟧.choices chooser.new) devices.new.items steps.new))
+        Halt.Disk text (S.left source.new)) }
 
     // A commit doesn't fit into the log: what comes before it was printed, and no more.
     ensures full { (log payload : ℕ) → result ≡ Status.Full log payload →
         (history : List Record) → HoldsLog D.Disk disk.old history →
-        IfSome (S.left source.old) (λ text. BeginsText history text (S.left source.new)
-        (StopsAt IsRun D.Disk disk.old disk.new
-        history (K.holds sink.old) (K.holds sink.new) (Halt.Full log payload))
-        steps.old steps.new) }
+        IfSome (S.left source.old) (λ text.
+        BeginsOn D.Disk (slots_answer ⟦<Box<dyn Device> as Device>⟧) told history
+        (standing disk.old (K.holds sink.old)
+        (around (⟦<Box<dyn Chooser> as Chooser>⟧.choices chooser.old) devices.old.items steps.old))
+        (standing disk.new (K.holds sink.new)
+        (around (⟦<Box<dyn Chooser> as Chooser>⟧.choices chooser.new) devices.new.items steps.new))
+        (Halt.Full log payload) text (S.left source.new)) }
 
     // Memory ran out, perhaps in the opening. The first lines and blocks were answered, and the answer
     // to one more may have begun.
     ensures begun { result ≡ Status.NoMemory → (history : List Record) →
         HoldsLog D.Disk disk.old history →
-        FailsToOpen IsRun D.Disk disk.old disk.new history
-        source.old source.new sink.old sink.new steps.old steps.new ⊎
-        IfSome (S.left source.old) (λ text. BeginsText history text (S.left source.new)
-        (StopsAt IsRun D.Disk disk.old disk.new
-        history (K.holds sink.old) (K.holds sink.new) Halt.NoMemory) steps.old steps.new) }
+        FailsToOpen IsRun D.Disk disk.old disk.new history source.old source.new sink.old sink.new
+        chooser.old chooser.new devices.old devices.new steps.old steps.new ⊎
+        IfSome (S.left source.old) (λ text.
+        BeginsOn D.Disk (slots_answer ⟦<Box<dyn Device> as Device>⟧) told history
+        (standing disk.old (K.holds sink.old)
+        (around (⟦<Box<dyn Chooser> as Chooser>⟧.choices chooser.old) devices.old.items steps.old))
+        (standing disk.new (K.holds sink.new)
+        (around (⟦<Box<dyn Chooser> as Chooser>⟧.choices chooser.new) devices.new.items steps.new))
+        Halt.NoMemory text (S.left source.new)) }
 
     // The bytes of the disk are no log, or too long.
     ensures refused { (error : OpenError) → BlamesBytes error →
         result ≡ open_status_of error →
         (IfSome (D.image disk.old) (λ bytes. IsCauseOf bytes error)) ×
-        NeverBegan source.old source.new sink.old sink.new steps.old steps.new ×
+        NeverBegan source.old source.new sink.old sink.new
+        chooser.old chooser.new devices.old devices.new steps.old steps.new ×
         IsOnlyRead D.image D.may_leave D.moment D.left_since disk.old disk.new }
     ensures untouched { IfSome (D.image disk.old) (λ bytes.
         IsNoLog bytes ⊎ (MOST_LOG < length bytes) →
-        NeverBegan source.old source.new sink.old sink.new steps.old steps.new ×
+        NeverBegan source.old source.new sink.old sink.new
+        chooser.old chooser.new devices.old devices.new steps.old steps.new ×
         IsOnlyRead D.image D.may_leave D.moment D.left_since disk.old disk.new) }
     ensures opened { IfSome (D.image disk.old) (IsOpened result) }
+
+    // A record of the log can't stand where it does: the source isn't read.
+    ensures broken { (place : ℕ) → result ≡ Status.Damaged (Damage.Broken place) →
+        (history : List Record) → HoldsLog D.Disk disk.old history →
+        first_broken history ≡ Some place }
+    ensures unbegun { (place : ℕ) → result ≡ Status.Damaged (Damage.Broken place) →
+        NeverBegan source.old source.new sink.old sink.new
+        chooser.old chooser.new devices.old devices.new steps.old steps.new }
+    ensures keeps { (place : ℕ) → result ≡ Status.Damaged (Damage.Broken place) →
+        (history : List Record) → IsAtRest D.Disk disk.old history →
+        Keeps IsRun D.Disk disk.old disk.new history [] [] }
 
     // The records of the log aren't those of a run, and a line needed the machine.
     ensures differs { (d : Differs) → result ≡ Status.Damaged (Damage.Differs d) →
         (history : List Record) → HoldsLog D.Disk disk.old history →
         IsNoRun history d × IfSome (S.left source.old) (λ text.
-        FindsOut history text (S.left source.new)
-        (CarriesOut IsRun D.Disk disk.old disk.new
-        history (K.holds sink.old) (K.holds sink.new)) steps.old steps.new) }
+        FindsOn D.Disk (slots_answer ⟦<Box<dyn Device> as Device>⟧) told history
+        (standing disk.old (K.holds sink.old)
+        (around (⟦<Box<dyn Chooser> as Chooser>⟧.choices chooser.old) devices.old.items steps.old))
+        (standing disk.new (K.holds sink.new)
+        (around (⟦<Box<dyn Chooser> as Chooser>⟧.choices chooser.new) devices.new.items steps.new))
+        text (S.left source.new)) }
 
     // As many bytes were taken as a session takes at most.
     ensures long { result ≡ Status.Long → IfSome (S.left source.old) (λ text.
@@ -212,9 +316,12 @@ pub fn arnold<S: Source, K: Sink, D: Disk, L: Ledger>(
     // wasn't taken so.
     ensures taken { (result ≡ Status.Source) ⊎ (result ≡ Status.Long) →
         (history : List Record) → HoldsLog D.Disk disk.old history →
-        AnswersTaken history (S.left source.old) (S.left source.new) whole_parts
+        AnswersTaken (slots_answer ⟦<Box<dyn Device> as Device>⟧) told history
+        (S.left source.old) (S.left source.new) whole_parts
+        (around (⟦<Box<dyn Chooser> as Chooser>⟧.choices chooser.old) devices.old.items steps.old)
+        (around (⟦<Box<dyn Chooser> as Chooser>⟧.choices chooser.new) devices.new.items steps.new)
         (CarriesOut IsRun D.Disk disk.old disk.new
-        history (K.holds sink.old) (K.holds sink.new)) steps.old steps.new }
+        history (K.holds sink.old) (K.holds sink.new)) }
 
     // However the call ends, a stop at any moment since it began leaves a log of the history and
     // of more records behind it: of a run, if it was one. Which records these are, the clauses
@@ -229,11 +336,15 @@ pub fn arnold<S: Source, K: Sink, D: Disk, L: Ledger>(
         RestsMore D.Disk disk.new history }
 
     ensures at_most { TookAtMost (2 ^ 40) (S.left source.old) (S.left source.new) }
-    ensures chooser { chooser.new ≡ chooser.old }
-    ensures devices { devices.new ≡ devices.old }
+
+    // On the records of a run the text for a question is what the tracking of every step of the
+    // whole machine relates.
+    ensures lineage { AnswersAreOfRuns }
 {
-    effects_follow::<SoloRuns, D>();
-    openings_follow::<SoloRuns, D>();
+    answers_are_of_runs();
+    effects_follow::<MachineRuns, D>();
+    halts_follow::<MachineRuns, D>();
+    openings_follow::<MachineRuns, D>();
     if !are_accepted(words) {
         return Status::Usage;
     }
@@ -242,7 +353,15 @@ pub fn arnold<S: Source, K: Sink, D: Disk, L: Ledger>(
         Ok(store) => store,
         Err(error) => return Status::from(error),
     };
-    match session(alloc, store, source, sink, disk, steps) {
+    store_is_short(&store);
+    let questions = match Asking::new(alloc, store.entries()) {
+        Ok(questions) => questions,
+        Err(IndexError::Broken { place }) => return Status::Damaged(Damage::Broken { place }),
+        Err(IndexError::NoMemory) => return Status::NoMemory,
+    };
+    match answer_text(
+        alloc, store, questions, chooser, devices, source, sink, disk, steps,
+    ) {
         Ok(()) => Status::Done,
         Err(halt) => Status::from(halt),
     }

@@ -1,11 +1,10 @@
 // How a session ends.
 ghost use Rattle.std.specs.Prelude.{◌≡◌};
-ghost use Rattle.arn_session.specs.Status.{code_of, status_of, read_halt_of, rebuild_halt_of};
+ghost use Rattle.arn_session.specs.Status.{code_of};
 
-use arn_commands::ReadError;
+use arn_base::Differs;
 use log_store::OpenError;
 use session_effects::Halt;
-use solo_machine::{Differs, RebuildError};
 use std::fmt;
 
 /// How a session ends.
@@ -39,6 +38,8 @@ pub enum Damage {
     NotLog { at: u64 },
     /// At this place stands the gate of a frame that isn't whole, or no record where one is due.
     Malformed { at: u64 },
+    /// The record at this place, counted from 0, can't stand behind those before it.
+    Broken { place: u64 },
     /// Its records aren't those of the inputs that they name.
     Differs(Differs),
 }
@@ -86,6 +87,7 @@ impl fmt::Display for Damage {
             Damage::TooLong { len } => write!(f, "the log has {len} bytes, which is too many"),
             Damage::NotLog { at } => write!(f, "the byte at {at} is not that of a log"),
             Damage::Malformed { at } => write!(f, "no frame or no record stands at {at}"),
+            Damage::Broken { place } => write!(f, "record {place} can't stand where it does"),
             Damage::Differs(differs) => {
                 let Differs { place, at, .. } = differs;
                 write!(
@@ -94,27 +96,6 @@ impl fmt::Display for Damage {
                 )
             }
         }
-    }
-}
-
-/// What ends a session whose next command isn't read.
-pub fn read_halt(error: ReadError) -> Halt
-    ensures { result ≡ read_halt_of error }
-{
-    match error {
-        ReadError::Source => Halt::Source,
-        ReadError::Long => Halt::Long,
-        ReadError::NoMemory => Halt::NoMemory,
-    }
-}
-
-/// What ends a session whose machine can't be made again.
-pub fn rebuild_halt(error: RebuildError) -> Halt
-    ensures { result ≡ rebuild_halt_of error }
-{
-    match error {
-        RebuildError::Differs(differs) => Halt::Differs(differs),
-        RebuildError::NoMemory => Halt::NoMemory,
     }
 }
 

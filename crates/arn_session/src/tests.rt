@@ -36,6 +36,7 @@ fn codes(rt: HostRuntime) {
         (Status::Usage, 2),
         (Status::Disk, 3),
         (Status::Damaged(Damage::NotLog { at: 6 }), 4),
+        (Status::Damaged(Damage::Broken { place: 2 }), 4),
         (Status::NoMemory, 5),
         (Status::Source, 6),
         (Status::Sink, 7),

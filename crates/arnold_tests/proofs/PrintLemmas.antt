@@ -1,5 +1,5 @@
 -- What a session printed into an empty sink.
-use Rattle.std.proofs.Common.{◌≡◌, ℕ, List, [], ◌++◌, Option, Some, None, IfSome, ap, subst, sym, append-nil, ◌∙◌}
+use Rattle.std.proofs.Common.{◌≡◌, ℕ, List, [], ◌++◌, Option, Some, None, IfSome, append-nil, ap, subst, sym, ◌∙◌}
 use Rattle.arn_base.specs.declared.disk.Disk.{Ghosts}
 use Rattle.arn_base.specs.declared.records.Record.{Record}
 use Rattle.arn_commands.specs.Commands.{EachAsks}
@@ -8,11 +8,12 @@ use Rattle.parts_model.specs.Replies.{Answered}
 use Rattle.guest_devices.specs.Answers.{Asked}
 use Rattle.guest_machine.specs.LegLaws.{all_named}
 use Rattle.session_effects.specs.Carrying.{CarriesOut}
-use Rattle.session_effects.specs.Effects as effects
-use Rattle.session_questions.specs.Texts.{told}
+use Rattle.session_effects.specs.Effects.{Effect, printed as printed_by}
 use Rattle.session_runs.specs.Points.{Surroundings}
 use Rattle.session_runs.specs.Turns.{Turn}
+use Rattle.session_questions.specs.Texts.{told}
 use Rattle.session_text.specs.Answers.{Answers}
+use Rattle.session_text.specs.Transcript.{text_of}
 use Rattle.arnold_tests.specs.Sessions.{Prints}
 
 -- the bytes that are told, or else none
@@ -20,18 +21,18 @@ abbrev told_bytes : Option (List ℕ) → List ℕ
 told_bytes (Some bytes) = bytes
 told_bytes None = []
 
--- what was put into an empty sink is what the text's commands print, with the slices that were picked
-pub Answers-Prints : {D A : Type 0} (replies : A → Asked → Answered → A → Type 0) (is_run : List Record → Type 0) (d : Ghosts D) (old new : D) (history : List Record) (given text held printed : List ℕ) {before after : Surroundings A}
+-- what was put into an empty sink is the text of the session
+pub Answers-Prints : {D A : Type 0} (replies : A → Asked → Answered → A → Type 0) (is_run : List Record → Type 0) (d : Ghosts D) (old new : D) (history : List Record) (given text held printed : List ℕ) {u v : Surroundings A}
     → given ≡ text → held ≡ []
-    → IfSome (Some given) (λ all. Answers replies told history (text_parts all) before after (CarriesOut is_run d old new history (Some held) (Some printed)))
+    → IfSome (Some given) (λ all. Answers replies told history (text_parts all) u v (CarriesOut is_run d old new history (Some held) (Some printed)))
     → Prints history text printed
 Answers-Prints replies is_run d old new history given text held printed is_text is_empty answers =
-    let p = answers.answered in
+    let a = answers.answered in
+    let slices = all_named a.asks a.slices ++ [] in
+    let same : text_of told history answers.commands slices ≡ printed_by a.effects = ap (λ (t : Turn). printed_by t.effects) (a.leads []) ∙ ap printed_by (append-nil a.effects) in
     record {
       commands = answers.commands;
       each_asks = subst (λ (all : List ℕ). EachAsks (text_parts all) answers.commands) is_text answers.each_asks;
-      slices = all_named p.asks p.slices ++ [];
-      all =
-          ap told_bytes p.carries.put ∙ ap (λ (before : List ℕ). before ++ effects.printed p.effects) is_empty
-          ∙ sym (ap (λ (t : Turn). effects.printed t.effects) (p.leads []) ∙ ap effects.printed (append-nil p.effects));
+      slices = slices;
+      all = ap told_bytes a.carries.put ∙ ap (λ (before : List ℕ). before ++ printed_by a.effects) is_empty ∙ sym same;
     }

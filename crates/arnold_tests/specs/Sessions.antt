@@ -8,7 +8,7 @@ use Rattle.guest_machine.specs.Legs.{Picked}
 use Rattle.session_questions.specs.Texts.{told}
 use Rattle.session_text.specs.Transcript.{text_of}
 
--- every part of the text was answered on this history, with slices that were picked, and nothing else was printed
+-- every part of the text was answered on this history, with some slices, and nothing else was printed
 pub record Prints (history : List Record) (text printed : List ℕ) : Type 0 where
   pub commands : List Command
   pub each_asks : EachAsks (text_parts text) commands

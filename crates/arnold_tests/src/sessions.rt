@@ -13,6 +13,9 @@ use std::alloc::Global;
 use std::marker::Brand;
 use std::sync::ledger::{Blank, Ledger};
 
+/// How many instructions a process runs at most before the next one gets its turn.
+const SLICE: u32 = 1_000;
+
 /// A text, how a source gives it, and which calls fail.
 #[derive(Clone, Copy, Debug)]
 pub struct Script<'a> {
@@ -90,7 +93,7 @@ fn run_over<D: Disk, L: Ledger>(
     let fails = numbers(alloc, script.source_fails)?;
     let mut source = SliceSource::in_pieces(bytes, fails, script.piece);
     let mut sink = VecSink::new(alloc, numbers(alloc, script.sink_fails)?);
-    let mut chooser: Box<dyn Chooser> = Box::new(alloc, RoundChooser::new(1_000))?;
+    let mut chooser: Box<dyn Chooser> = Box::new(alloc, RoundChooser::new(SLICE))?;
     let mut devices: Vec<Option<Box<dyn Device>>> = Vec::new(alloc);
     let status = arnold(
         alloc,

@@ -1,9 +1,0 @@
-use Rattle.std.proofs.Common.{◌≡◌, ◌++◌, take}
-use Rattle.std.specs.Prelude.{flat_map}
-use Rattle.std.specs.String.{string_bytes}
-use Rattle.arn_lines.specs.Texts.{pair_text}
-use Rattle.arn_session.proofs.asking.push_pairs.Given as goal
-
-abbrev pub invariant-loop-pair : goal.invariant-loop-pair
-invariant-loop-pair l =
-    string_bytes l.text ≡ string_bytes l.initial.text ++ flat_map pair_text (take l.pair-index l.pairs)
