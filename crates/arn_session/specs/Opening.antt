@@ -40,6 +40,22 @@ HasOpened status.Sink = Unit {0}
 HasOpened (status.Full log payload) = Unit {0}
 HasOpened status.Long = Unit {0}
 
+-- the session read its text: it ended neither in its opening nor, perhaps, by its disk or by want of memory in that
+abbrev pub HasBegun : Status → Type 0
+HasBegun status.Done = Unit {0}
+HasBegun status.Usage = ⊥
+HasBegun status.Disk = ⊥
+HasBegun (status.Damaged (damage.TooLong len)) = ⊥
+HasBegun (status.Damaged (damage.NotLog at)) = ⊥
+HasBegun (status.Damaged (damage.Malformed at)) = ⊥
+HasBegun (status.Damaged (damage.Broken place)) = ⊥
+HasBegun (status.Damaged (damage.Differs d)) = Unit {0}
+HasBegun status.NoMemory = ⊥
+HasBegun status.Source = Unit {0}
+HasBegun status.Sink = Unit {0}
+HasBegun (status.Full log payload) = Unit {0}
+HasBegun status.Long = Unit {0}
+
 -- a session that opened its log has one that isn't too long
 abbrev pub IsOpened : Status → List ℕ → Type 0
 IsOpened status bytes = HasOpened status → (history : List Record) × IsLog bytes history × (length bytes ≤ MOST_LOG)

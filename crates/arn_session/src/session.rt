@@ -1,11 +1,11 @@
 // The top call: reads a source to its end, and answers each command of its text to a sink.
-ghost use Rattle.std.specs.Prelude.{◌≡◌, ◌≢◌, ◌⊎◌, ◌↔◌, ◌<◌, ◌≤◌, ◌^◌, [], ℕ, List, length, drop, OnOk, IfErr, IsErrOf, IfSome, Some};
+ghost use Rattle.std.specs.Prelude.{◌≡◌, ◌≢◌, ◌⊎◌, ◌↔◌, ◌<◌, ◌≤◌, ◌^◌, [], ℕ, List, length, drop, OnOk, IfErr, IsErrOf, IfSome, None, Some};
 ghost use Rattle.arn_base.specs.Faults.{Rose};
 ghost use Rattle.arn_base.specs.declared.records.Differs.{Differs};
 ghost use Rattle.arn_base.specs.declared.records.Record.{Record};
 ghost use Rattle.arn_commands.specs.Parts.{text_parts, whole_parts};
 ghost use Rattle.arn_session.specs.Begun.{BeginsOn, FindsOn, slots_answer, standing};
-ghost use Rattle.arn_session.specs.Opening.{FailsToOpen, IsOpened, NeverBegan};
+ghost use Rattle.arn_session.specs.Opening.{FailsToOpen, HasBegun, IsOpened, NeverBegan};
 ghost use Rattle.arn_session.specs.Status.{open_status_of};
 ghost use Rattle.arn_session.specs.Words.{AreAccepted};
 ghost use Rattle.history_model.specs.Broken.{first_broken};
@@ -290,6 +290,8 @@ pub fn arnold<S: Source, K: Sink, D: Disk, L: Ledger>(
     ensures broken { (place : ℕ) → result ≡ Status.Damaged (Damage.Broken place) →
         (history : List Record) → HoldsLog D.Disk disk.old history →
         first_broken history ≡ Some place }
+    ensures stands { HasBegun result → (history : List Record) →
+        HoldsLog D.Disk disk.old history → first_broken history ≡ None }
     ensures unbegun { (place : ℕ) → result ≡ Status.Damaged (Damage.Broken place) →
         NeverBegan source.old source.new sink.old sink.new
         chooser.old chooser.new devices.old devices.new steps.old steps.new }

@@ -1,6 +1,8 @@
 //! Sessions over texts in memory, and the logs that they leave.
 #![tactic(auto)]
 
+#[cfg(test)]
+mod programs;
 mod sessions;
 #[cfg(test)]
 mod tests;

@@ -1,4 +1,5 @@
 use super::*;
+use crate::programs::{BLOCKS, EXCHANGED, ILLEGAL, OTHER_CALL, OVERWRITTEN};
 use arn_base::{Bytes, Differs, Disk, NoMemory, Numbers};
 use arn_session::{Damage, Status};
 use log_disk::{FileDisk, FuseDisk, MemDisk};
@@ -102,162 +103,6 @@ const TYPED_PRINTS: &str = "event 0\nevent 1\nevent 2\nout 4 1 616263\nran 11 do
 /// What is printed for the line with which `TYPED` asks.
 const ASKED_PRINTS: &str =
     "pair 2 0 0\npair 2 1 1\npair 2 2 2\nback pairs 3 instructions 11 groups 1\n";
-
-/// A program of one word, which is no instruction. The last line has no LF.
-const ILLEGAL: &str = "\
-    file p 41524e494d4730310000010000000000000001000000000000000000\n\
-    boot p\n\
-    run 9";
-
-/// A program that asks for its number, and goes on to a word that is no instruction.
-const OTHER_CALL: &str = "\
-    file p 41524e494d4730310000010000000000000001000000000093085000730000\
-    00\n\
-    boot p\n\
-    back copy event 0 0 1\n\
-    run 9\n\
-    back copy event 0 0 1\n\
-    back copy event 9 0 1\n";
-
-/// A program that reads three bytes, exchanges the outer ones through registers, makes the middle
-/// one of its own (one more than the first), writes them, and exits with the first as its status.
-const EXCHANGED: &str = "\
-    file p 41524e494d473031000001000000000000000100000000009308b00013050000930501ff1306300073000000\
-    83c2050003c3250093830200238175002380650093821200a38055009308c000130510007300000003c505009308\
-    100073000000\n\
-    boot p\n\
-    type 616263\n\
-    run 100\n\
-    back copy event 4 0 3\n\
-    back copy event 5 0 1\n\
-    back copy event 3 1 2\n";
-
-/// A program that stores a call over the next word, which is no instruction, and then loads from
-/// behind its window.
-const OVERWRITTEN: &str = "\
-    file p 41524e494d47303100000100000000000000010000000000130330079702000023a4620000000000\
-    03351100\n\
-    boot p\n\
-    run 9\n";
-
-/// Reads three bytes, adds one to each, writes them and exits.
-const INCREMENT: &str = "\
-    asm p\n\
-    li a7, 11; li a0, 0; addi a1, sp, -16; li a2, 3; ecall\n\
-    lbu t0, 0(a1); addi t0, t0, 1; sb t0, 0(a1)\n\
-    lbu t0, 1(a1); addi t0, t0, 1; sb t0, 1(a1)\n\
-    lbu t0, 2(a1); addi t0, t0, 1; sb t0, 2(a1)\n\
-    li a7, 12; li a0, 1; ecall; li a7, 1; li a0, 0; ecall\n\
-    end\n\
-    boot p\n\
-    type 616263\n\
-    run 100\n\
-    back copy event 4 0 3\n\
-    back data event 4 0 3\n";
-
-/// Reads a number, and writes the byte of a table that stands in this place.
-const LOOK_UP: &str = "\
-    asm p\n\
-    li a7, 11; li a0, 0; addi a1, sp, -16; li a2, 1; ecall\n\
-    lbu t0, 0(a1); la t1, table; add t1, t1, t0; lbu t0, 0(t1); sb t0, 0(a1)\n\
-    li a7, 12; li a0, 1; ecall; li a7, 1; li a0, 0; ecall\n\
-    table:\n\
-    .byte 10, 20, 30, 40\n\
-    end\n\
-    boot p\n\
-    type 02\n\
-    run 100\n\
-    back copy event 4 0 1\n\
-    back data event 4 0 1\n\
-    back index event 4 0 1\n";
-
-/// Reads a byte, and writes it with its sign as eight bytes.
-const EXTEND: &str = "\
-    asm p\n\
-    li a7, 11; li a0, 0; addi a1, sp, -16; li a2, 1; ecall\n\
-    lb t0, 0(a1); sd t0, -8(a1)\n\
-    li a7, 12; li a0, 1; addi a1, a1, -8; li a2, 8; ecall\n\
-    li a7, 1; li a0, 0; ecall\n\
-    end\n\
-    boot p\n\
-    type 80\n\
-    run 100\n\
-    back copy event 4 0 8\n\
-    back data event 4 0 8\n";
-
-/// Reads two bytes of a file, and writes them to the console.
-const FROM_FILE: &str = "\
-    file f 4142\n\
-    asm p\n\
-    la a0, path; li a1, 1; li a2, 0; li a7, 9; ecall\n\
-    li a7, 11; li a0, 3; addi a1, sp, -16; li a2, 2; ecall\n\
-    li a7, 12; li a0, 1; ecall; li a7, 1; li a0, 0; ecall\n\
-    path:\n\
-    .byte 102\n\
-    end\n\
-    boot p\n\
-    run 100\n\
-    back copy event 5 0 2\n";
-
-/// Starts the program of `TYPED` from a file.
-const STARTS_ANEW: &str = "\
-    file q 41524e494d473031000001000000000000000100000000009308b00013050000930501ff1306300073000000\
-    9308c0001305100073000000930810001305000073000000\n\
-    asm p\n\
-    li a7, 3; la a0, path; li a1, 1; li a2, 0; li a3, 0; ecall\n\
-    path:\n\
-    .byte 113\n\
-    end\n\
-    boot p\n\
-    type 616263\n\
-    run 100\n\
-    back copy event 4 0 2\n\
-    back copy event 6 0 3\n";
-
-/// Sessions with blocks, and what is printed for them.
-const BLOCKS: &[(&str, &str)] = &[
-    (
-        INCREMENT,
-        "event 0\nevent 1\nevent 2\nout 4 1 626364\nran 20 done\n\
-        back pairs 0 instructions 20 groups 1\n\
-        pair 2 0 0\npair 2 1 1\npair 2 2 2\nback pairs 3 instructions 20 groups 1\n",
-    ),
-    (
-        LOOK_UP,
-        "event 0\nevent 1\nevent 2\nout 4 1 1e\nran 17 done\n\
-        pair 0 94 0\nback pairs 1 instructions 17 groups 1\n\
-        pair 0 94 0\nback pairs 1 instructions 17 groups 1\n\
-        pair 0 94 0\npair 2 0 0\nback pairs 2 instructions 17 groups 1\n",
-    ),
-    (
-        EXTEND,
-        "event 0\nevent 1\nevent 2\nout 4 1 80ffffffffffffff\nran 15 done\n\
-        pair 2 0 0\nback pairs 1 instructions 15 groups 1\n\
-        pair 2 0 0\npair 2 0 1\npair 2 0 2\npair 2 0 3\npair 2 0 4\npair 2 0 5\npair 2 0 6\n\
-        pair 2 0 7\nback pairs 8 instructions 15 groups 1\n",
-    ),
-    (
-        FROM_FILE,
-        "event 0\nevent 1\nevent 2\nout 5 1 4142\nran 17 done\n\
-        pair 0 0 0\npair 0 1 1\nback pairs 2 instructions 17 groups 1\n",
-    ),
-    (
-        STARTS_ANEW,
-        "event 0\nevent 1\nevent 2\nevent 3\nout 6 1 616263\nran 18 done\n\
-        pair 0 0 0\npair 0 1 1\nback pairs 2 instructions 18 groups 1\n\
-        pair 3 0 0\npair 3 1 1\npair 3 2 2\nback pairs 3 instructions 18 groups 1\n",
-    ),
-    (
-        "run 5\nboot p\nfile p 00\nboot p\nfile p 00\nasm q\n bogus\nend\nhello\n",
-        "no boot\nno name\nevent 0\nno image\nno name\nno asm 1\nno line\n",
-    ),
-    (
-        "asm p\necall\nend\nboot p\n\
-        boot p\nfile q 00\nasm q\necall\nend\nasm q\n bogus\nend\nhello\n",
-        "event 0\nevent 1\nno booted\nno booted\nno booted\nno booted\nno line\n",
-    ),
-    ("asm p\nli a0, 0\necall\n", "no asm 3\n"),
-];
 
 /// How many bytes a failing source gives at once, so that it is called often.
 const PIECE: usize = 7;
@@ -583,11 +428,15 @@ fn leaves_the_disk_where_words_are_refused(rt: HostRuntime) -> Result<(), Fail> 
     Ok(())
 }
 
+/// A log of one record: a slice of process 1, which was never booted.
+const NO_BOOT: &[u8] = b"ARNLOG01\x01\x09\0\0\0\x05\x01\0\0\0\x01\0\0\0\0";
+
 #[test]
 fn refuses_what_is_no_log(rt: HostRuntime) -> Result<(), Fail> {
     for (bytes, damage) in [
         (b"ARNLOG99\0\0".as_slice(), Damage::NotLog { at: 6 }),
         (&LOG[..20], Damage::Malformed { at: 8 }),
+        (NO_BOOT, Damage::Broken { place: 0 }),
     ] {
         let mut disk = disk_of(rt.alloc(), bytes)?;
         assert_ends(&rt, &mut disk, "hello\n", Status::Damaged(damage), "")?;

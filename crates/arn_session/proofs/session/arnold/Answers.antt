@@ -1,4 +1,4 @@
-use Rattle.std.proofs.Common.{◌≡◌, ◌⊎◌, ◌<◌, ℕ, inl, inr, [], List, length, Err, IfSome, Some, append-nil, refl, sym, ap, subst, ◌∙◌}
+use Rattle.std.proofs.Common.{◌≡◌, ◌⊎◌, ◌<◌, ℕ, inl, inr, [], List, length, Err, IfSome, None, Some, append-nil, refl, sym, ap, subst, ◌∙◌}
 use Rattle.arn_base.specs.declared.records.Record.{Record}
 use Rattle.arn_commands.specs.Parts.{whole_parts}
 use Rattle.history_index.specs.Errors.{TellsBroken}
@@ -133,6 +133,16 @@ returns-in-Ok-answer_text-clause-opened g c =
 pub returns-in-Ok-answer_text-clause-untouched : goal.returns-in-Ok-answer_text-clause-untouched
 returns-in-Ok-answer_text-clause-untouched g c =
     not-opened _ (g.D.Disk.image c.args.disk.now) c.in-Ok.store.entries c.in-Ok.ensures.recovered c.in-Ok.ensures.short
+
+pub returns-in-Ok-answer_text-clause-stands : goal.returns-in-Ok-answer_text-clause-stands
+returns-in-Ok-answer_text-clause-stands g c = λ begun history log.
+    subst (λ (h : List Record). first_broken h ≡ None) (c.openings_follow.ensures.history c.args.disk.now history c.in-Ok.store log c.in-Ok.ensures.recovered)
+    (subst (λ (h : List Record). first_broken h ≡ None) c.entries.ensures c.in-Ok-new.ensures.known.stands)
+
+pub returns-in-Err-answer_text-clause-stands : goal.returns-in-Err-answer_text-clause-stands
+returns-in-Err-answer_text-clause-stands g c = λ begun history log.
+    subst (λ (h : List Record). first_broken h ≡ None) (c.openings_follow.ensures.history c.args.disk.now history c.in-Ok.store log c.in-Ok.ensures.recovered)
+    (subst (λ (h : List Record). first_broken h ≡ None) c.entries.ensures c.in-Ok-new.ensures.known.stands)
 
 pub returns-in-Ok-answer_text-clause-rests : goal.returns-in-Ok-answer_text-clause-rests
 returns-in-Ok-answer_text-clause-rests g c = λ not_disk not_memory history was.
