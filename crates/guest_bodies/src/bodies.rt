@@ -1,5 +1,5 @@
 // The bodies of live processes.
-ghost use Rattle.std.specs.Prelude.{◌≡◌, ◌≢◌, ◌≤◌, ◌+◌, ◌↔◌, ℕ, [], true, false, Some, None, IfSome, IsNone, IsTrue, All, IfOk, OnOk, OnErr, is_some, option_map, option_copied};
+ghost use Rattle.std.specs.Prelude.{◌≡◌, ◌≢◌, ◌≤◌, ◌<◌, ◌+◌, ◌^◌, ◌↔◌, ℕ, [], length, true, false, Some, None, IfSome, IsNone, IsTrue, All, IfOk, OnOk, OnErr, is_some, option_map, option_copied};
 ghost use Rattle.acts_model.specs.Acts.{Act, Receives, Starts, Forks, Founds, Shares, Leaves, Delivers, begun, beginning_in, beginning_of, done, start_of, unborn};
 ghost use Rattle.acts_model.specs.Bodies.{put};
 ghost use Rattle.parts_model.specs.Image.{is_image};
@@ -332,8 +332,9 @@ impl Bodies {
     /// How a child that a process now forked would begin, as a record holds it.
     pub fn start_of(&self, pid: u32) -> Result<Start, NoMemory>
         requires live { IsLive self.now pid }
-        ensures { IfOk result (λ start. IfSome (seen_in self.now pid) (λ v.
+        ensures start { IfOk result (λ start. IfSome (seen_in self.now pid) (λ v.
             start ≡ start_of (beginning_of v))) }
+        ensures few { IfOk result (λ start. length start.blocks < 2 ^ 16) }
     {
         match &self.guests[pid as usize] {
             Some(guest) => guest.start(),
@@ -370,6 +371,17 @@ impl Bodies {
     {
         match &self.guests[pid as usize] {
             Some(guest) => guest.signals.slot().is_some(),
+            None => unreachable!(),
+        }
+    }
+
+    /// Whether a process holds a segment.
+    pub fn has_segment(&self, pid: u32) -> bool
+        requires live { IsLive self.now pid }
+        ensures { IfSome (seen_in self.now pid) (λ v. result ≡ is_some v.body.segment) }
+    {
+        match &self.guests[pid as usize] {
+            Some(guest) => guest.segment.is_some(),
             None => unreachable!(),
         }
     }

@@ -1,5 +1,5 @@
 // One live process.
-ghost use Rattle.std.specs.Prelude.{◌≡◌, Some, None, IfOk, is_some, unwrap_or};
+ghost use Rattle.std.specs.Prelude.{◌≡◌, ◌<◌, ◌^◌, length, Some, None, IfOk, is_some, unwrap_or};
 ghost use Rattle.acts_model.specs.Acts.{cut_off};
 ghost use Rattle.acts_model.specs.Views.{returned};
 ghost use Rattle.parts_model.specs.Blocks.{blocks_of};
@@ -118,16 +118,19 @@ impl Guest {
 
     /// How the child of a fork begins.
     pub fn start(&self) -> Result<Start, NoMemory>
-        ensures { IfOk result (λ start. start ≡ record {
+        ensures start { IfOk result (λ start. start ≡ record {
           cpu = returned self.now.cpu 0;
           slot = self.now.signals.slot;
           blocks = blocks_of self.now.memory.space;
         }) }
+        ensures few { IfOk result (λ start. length start.blocks < 2 ^ 16) }
     {
+        let _length = self.memory.space.len();
+        let blocks = self.memory.space.blocks()?;
         Ok(Start {
             cpu: registers::of_child(&self.cpu),
             slot: self.signals.slot().copied(),
-            blocks: self.memory.space.blocks()?,
+            blocks,
         })
     }
 }

@@ -2,15 +2,16 @@
 use Rattle.std.proofs.Common.{◌≡◌, ◌≢◌, ℕ, ◌==◌, Bool, true, false, cond, ◌||◌, ◌&&◌, List, [], ◌∷◌, Option, None, Some, IfOk, IfSome, refl, sym, ap, ap₂, ◌∙◌, subst, ne_eqb, true≢false}
 use Rattle.std.specs.Prelude.{Result, if◌then◌else◌, is_some, nat_lt, not}
 use Rattle.std.specs.List.{list_any}
-use Rattle.std.proofs.lemmas.Bool.{eqb-true, eqb-false}
+use Rattle.std.proofs.lemmas.Bool.{eqb-true}
 use Rattle.std.proofs.lemmas.Result.{IfOk-weaker}
 use Rattle.parts_model.specs.declared.open.Description.{Description}
 use Rattle.parts_model.specs.declared.open.Description.TheVariants as description
-use Rattle.parts_model.specs.declared.refusals.TheConstants.{BAD_ADDRESS, BAD_ARGUMENT, NAME_TAKEN, NO_DESCRIPTOR_ROOM, NO_ROOM, NO_SUCH_CALL, NOT_IMAGE}
+use Rattle.parts_model.specs.declared.refusals.TheConstants.{BAD_ADDRESS, BAD_ARGUMENT, NAME_TAKEN, NO_DESCRIPTOR_ROOM, NO_PROCESS_ROOM, NO_ROOM, NO_SUCH_CALL, NOT_IMAGE}
 use Rattle.parts_model.specs.declared.limits.TheConstants.{MOST_BLOCK_BYTES}
 use Rattle.parts_model.specs.declared.tagged.TaggedByte.{TaggedByte}
 use Rattle.parts_model.specs.Image.{is_image}
 use Rattle.parts_model.specs.Tagged.{values}
+use Rattle.parts_model.specs.Processes as table
 use Rattle.parts_model.specs.Files.{find_file, file_bytes, is_full, made, next_file}
 use Rattle.acts_model.specs.Bodies.{View, seen}
 use Rattle.acts_model.specs.Views.{argument, call_number, can_reach}
@@ -19,7 +20,7 @@ use Rattle.arn_model.specs.Doing.{Request, Does, Refusal, refuse, refused, retur
 use Rattle.arn_model.specs.FileCalls.{close_opened, close_row, dup_opened, dup_row, file_len, has_no_room, open_found, open_new, open_row, opened_as, seek_in, seek_opened, seek_row, seek_what, unlink_found, unlink_row}
 use Rattle.arn_model.specs.Kernel.{Kernel, Machine, also_held, description_of, next_descriptor, placed, what_is, with_description}
 use Rattle.arn_model.specs.Paths.{isnt_path_len, path_of}
-use Rattle.arn_model.specs.ProcessCalls.{exec_bytes, exec_doing, exec_file, exec_row, exit_row, getpid_row, wait_row, yield_row}
+use Rattle.arn_model.specs.ProcessCalls.{exec_bytes, exec_doing, exec_file, exec_row, exit_row, fork_row, getpid_row, wait_row, yield_row}
 use Rattle.arn_model.specs.Row.{row, built_calls, is_built, request, is_waiting}
 use Rattle.arn_model.specs.Step.{waits_at}
 use Rattle.arn_model.specs.TransferCalls.{read_row, write_row}
@@ -114,6 +115,9 @@ module _ (m : Machine) (pid : ℕ) where
   exec_file-ready v (Some file) = exec_bytes-ready v file (file_bytes m.kernel.files file)
 
 module _ (m : Machine) (pid : ℕ) (v : View) where
+  fork-ready : is_waiting (fork_row m pid v) ≡ false
+  fork-ready = unless-ready m.kernel (refuse NO_PROCESS_ROOM (table.is_full m.kernel.processes) ∷ []) _ refl
+
   exec-ready : is_waiting (exec_row m pid v) ≡ false
   exec-ready =
       let at : ℕ = argument v.body.cpu 0 in
@@ -144,6 +148,10 @@ module _ (m : Machine) (pid : ℕ) (v : View) where
   pub row-exit : row 1 m pid v ≡ exit_row m pid v
   unfolding row
   row-exit = refl
+
+  pub row-fork : row 2 m pid v ≡ fork_row m pid v
+  unfolding row
+  row-fork = refl
 
   pub row-exec : row 3 m pid v ≡ exec_row m pid v
   unfolding row
@@ -198,28 +206,31 @@ module _ (m : Machine) (pid : ℕ) (v : View) where
   each-ready = (
     λ ready. ap is_waiting row-exit,
     (
-      λ ready. ap is_waiting row-exec ∙ exec-ready,
+      λ ready. ap is_waiting row-fork ∙ fork-ready,
       (
-        λ ready. absurd (true≢false ready),
+        λ ready. ap is_waiting row-exec ∙ exec-ready,
         (
-          λ ready. ap is_waiting row-getpid,
+          λ ready. absurd (true≢false ready),
           (
-            λ ready. ap is_waiting row-open ∙ open-ready,
+            λ ready. ap is_waiting row-getpid,
             (
-              λ ready. ap is_waiting row-close ∙ close-ready m pid (argument v.body.cpu 0) (description_of m.kernel pid (argument v.body.cpu 0)),
+              λ ready. ap is_waiting row-open ∙ open-ready,
               (
-                λ ready. absurd (true≢false ready),
+                λ ready. ap is_waiting row-close ∙ close-ready m pid (argument v.body.cpu 0) (description_of m.kernel pid (argument v.body.cpu 0)),
                 (
                   λ ready. absurd (true≢false ready),
                   (
-                    λ ready. ap is_waiting row-seek ∙ seek-ready m pid (argument v.body.cpu 1) (description_of m.kernel pid (argument v.body.cpu 0)),
+                    λ ready. absurd (true≢false ready),
                     (
-                      λ ready. ap is_waiting row-dup ∙ dup-ready m pid (description_of m.kernel pid (argument v.body.cpu 0)),
+                      λ ready. ap is_waiting row-seek ∙ seek-ready m pid (argument v.body.cpu 1) (description_of m.kernel pid (argument v.body.cpu 0)),
                       (
-                        λ ready. ap is_waiting row-unlink ∙ unlink-ready,
+                        λ ready. ap is_waiting row-dup ∙ dup-ready m pid (description_of m.kernel pid (argument v.body.cpu 0)),
                         (
-                          λ ready. ap is_waiting row-yield,
-                          tt,
+                          λ ready. ap is_waiting row-unlink ∙ unlink-ready,
+                          (
+                            λ ready. ap is_waiting row-yield,
+                            tt,
+                          ),
                         ),
                       ),
                     ),

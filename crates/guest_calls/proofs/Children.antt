@@ -1,5 +1,5 @@
 -- What a wait comes to, and a child that is gone.
-use Rattle.std.proofs.Common.{◌≡◌, ◌≢◌, ℕ, zero, suc, ◌+◌, ◌==◌, Bool, true, false, cond, ◌&&◌, List, [], ◌∷◌, length, set, Option, None, Some, IfSome, is_some, refl, sym, ap, ◌∙◌, subst, arith, true≢false}
+use Rattle.std.proofs.Common.{◌≡◌, ◌≢◌, ℕ, zero, suc, ◌+◌, ◌==◌, Bool, true, false, cond, ◌&&◌, List, [], ◌∷◌, length, set, Option, None, Some, IfSome, is_some, refl, sym, ap, ◌∙◌, subst, arith}
 use Rattle.std.specs.Prelude.{nat_lt, not, option_and_then, option_map}
 use Rattle.std.proofs.lemmas.Bool.{eqb-true, eqb-false, lt-ltb}
 use Rattle.std.proofs.lemmas.List.{length-set}
@@ -7,7 +7,7 @@ use Rattle.std.proofs.lemmas.Option.{same_Some}
 use Rattle.parts_model.specs.declared.refusals.TheConstants.{BAD_ADDRESS, NO_CHILD}
 use Rattle.parts_model.specs.declared.tagged.TaggedByte.{TaggedByte}
 use Rattle.parts_model.specs.Numbered.{nth}
-use Rattle.parts_model.specs.Processes.{Life, Live, Ended, Process, Processes, children, ended_children, is_child_of, is_live, live_process, numbers_from, process, reaped, status_in, status_of, with_process}
+use Rattle.parts_model.specs.Processes.{Life, Live, Ended, Process, Processes, children, ended_children, is_child_of, is_live, live_process, numbers_from, process, reaped, status_in, status_of}
 use Rattle.acts_model.specs.Bodies.{View}
 use Rattle.acts_model.specs.Views.{argument, can_reach}
 use Rattle.arn_model.specs.Doing.{refuse, refused, unless_refused}
@@ -20,7 +20,6 @@ use Rattle.guest_calls.specs.Kept.{IsFull, IsKept, IsSound}
 use Rattle.guest_calls.specs.Waits.{collecting}
 use Rattle.guest_calls.specs.declared.kernel.Kernel.TheInside.{Inside}
 use Rattle.guest_calls.proofs.Ends.{if_live, with_process-other}
-use Rattle.guest_calls.proofs.Numbers.{nth-set}
 
 -- who has children that have ended has children
 no-more : (parent n : ℕ) (all : Processes) → numbers_from (is_child_of parent) n all ≡ [] → numbers_from (λ p. is_child_of parent p && not (is_live p)) n all ≡ []

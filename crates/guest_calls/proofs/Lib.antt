@@ -16,3 +16,4 @@ pub mod Children
 pub mod Past
 pub mod Restarts
 pub mod Begun
+pub mod Child

@@ -1,5 +1,5 @@
 -- Things by number, after one of them changes.
-use Rattle.std.proofs.Common.{◌≡◌, ℕ, zero, suc, ◌<◌, List, [], ◌∷◌, length, map, set, Option, None, is_some, true, refl, sym, ap, arith, true≢false}
+use Rattle.std.proofs.Common.{◌≡◌, ℕ, zero, suc, ◌<◌, List, [], ◌∷◌, ◌++◌, length, map, set, Option, None, is_some, true, refl, sym, ap, arith, true≢false}
 use Rattle.std.specs.Prelude.{option_and_then}
 use Rattle.parts_model.specs.Numbered.{nth}
 
@@ -31,3 +31,14 @@ module _ {A : Type 0} where
   nth-within [] n there = absurd (true≢false (sym there))
   nth-within (x ∷ all) zero there = omega arith
   nth-within (x ∷ all) (suc n) there = omega (arith, nth-within all n there)
+
+  -- one more behind the others
+  pub nth-add : (all : List (Option A)) (x : Option A) → nth (all ++ x ∷ []) (length all) ≡ x
+  nth-add [] x = refl
+  nth-add (y ∷ all) x = nth-add all x
+
+  pub nth-add_other : (all : List (Option A)) (x : Option A) (n : ℕ) → (n ≡ length all → ⊥) → nth (all ++ x ∷ []) n ≡ nth all n
+  nth-add_other [] x zero other = absurd (other refl)
+  nth-add_other [] x (suc n) other = refl
+  nth-add_other (y ∷ all) x zero other = refl
+  nth-add_other (y ∷ all) x (suc n) other = nth-add_other all x n (λ (e : n ≡ length all). other (ap (λ (k : ℕ). suc k) e))

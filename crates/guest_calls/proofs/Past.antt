@@ -1,14 +1,16 @@
 -- Memories that processes hold were made at events that have been.
-use Rattle.std.proofs.Common.{◌≡◌, ◌≢◌, ℕ, ◌+◌, ◌≤◌, IfSome, None, Some, List, [], refl, sym, ◌∙◌, arith}
+use Rattle.std.proofs.Common.{◌≡◌, ◌≢◌, ℕ, ◌+◌, ◌≤◌, IfSome, None, Option, Some, List, [], refl, sym, ◌∙◌, arith}
 use Rattle.parts_model.specs.declared.limits.TheConstants.{WINDOW_LEN}
 use Rattle.parts_model.specs.Memory.{zeros}
-use Rattle.acts_model.specs.Acts.{Act, Founds, Starts, begun, beginning_of, done, unborn}
+use Rattle.acts_model.specs.Acts.{Act, Forks, Founds, Starts, begun, beginning_of, done, founded, unborn}
 use Rattle.acts_model.specs.Bodies.{View, body_at, nobody, nth_body, put, seen}
 use Rattle.acts_model.specs.Views.{cpu_at, with_cpu, with_reach}
-use Rattle.guest_bodies.specs.Follows.{Follows, Ran, Shows}
-use Rattle.guest_bodies.specs.Fresh.{IsUnheld, OthersStayUnheld}
+use Rattle.guest_bodies.specs.Follows.{Follows, Ran}
+use Rattle.guest_bodies.specs.Fresh.{OthersStayUnheld}
 use Rattle.guest_bodies.specs.Shown.{Guests, IsFresh, IsUnheldBy, seen_in}
 use Rattle.rv64_core.specs.declared.outcome.Outcome.{Outcome}
+use Rattle.arn_model.specs.ProcessCalls.{child_act}
+use Rattle.guest_calls.specs.Forks.{with_child}
 use Rattle.guest_calls.specs.Kept.{IsPast}
 
 none-seen : (p : ℕ) → seen_in [] p ≡ seen nobody p
@@ -71,3 +73,10 @@ module _ (law : OthersStayUnheld) (guests : Guests) (events : ℕ) (past : IsPas
             λ event later. law.begins (done pid events (Founds child) past.bodies) child events event (beginning_of v) (isnt event later)
             (law.acts past.bodies pid events event (Founds child) (isnt event later) (past.unheld event (omega (arith, later))));
       }
+
+  past-by : (new : Guests) (pid child : ℕ) (v : View) (segment : Option ℕ) → Follows guests (λ b. founded (child_act segment child) events (beginning_of v) (done pid events (child_act segment child) b)) new → IsPast new (events + 1)
+  past-by new pid child v None follows = past-founded new pid child v follows
+  past-by new pid child v (Some s) follows = past-acted new pid (Forks child) follows
+
+  pub past-child : (new : Guests) (pid child : ℕ) (v : View) → Follows guests (with_child pid child events v) new → IsPast new (events + 1)
+  past-child new pid child v follows = past-by new pid child v v.body.segment follows

@@ -1,27 +1,24 @@
 -- What the calls that are built come to.
-use Rattle.std.proofs.Common.{◌≡◌, ◌≢◌, ℕ, ◌+◌, ◌==◌, Bool, true, false, cond, ◌||◌, List, [], ◌∷◌, length, take, None, Some, IfSome, refl, sym, ap, ap₂, ◌∙◌, subst, ne_eqb, true≢false}
-use Rattle.std.specs.Prelude.{Result, Err, IsErrAnd, IsErrOf, IsTrue, if◌then◌else◌, unwrap_or}
-use Rattle.std.proofs.lemmas.Bool.{eqb-true, eqb-false}
+use Rattle.std.proofs.Common.{◌≡◌, ◌≢◌, ℕ, ◌+◌, ◌==◌, Bool, true, false, cond, List, [], ◌∷◌, length, take, None, refl, sym, ap, ◌∙◌, subst, true≢false}
+use Rattle.std.specs.Prelude.{Result, Err, IsErrAnd, IsErrOf, IsTrue, unwrap_or}
 use Rattle.parts_model.specs.declared.limits.TheConstants.{MOST_FILE_BYTES}
 use Rattle.parts_model.specs.declared.open.Description.TheVariants.{File}
-use Rattle.parts_model.specs.declared.refusals.TheConstants.{NO_ROOM, NO_SUCH_CALL}
+use Rattle.parts_model.specs.declared.refusals.TheConstants.{NO_ROOM}
 use Rattle.parts_model.specs.declared.tagged.TaggedByte.{TaggedByte}
 use Rattle.parts_model.specs.Files.{file_bytes, fitting, read_from}
-use Rattle.acts_model.specs.Bodies.{View, seen}
+use Rattle.acts_model.specs.Bodies.{View}
 use Rattle.acts_model.specs.Moved.{KernelByte, FileByte}
-use Rattle.acts_model.specs.Views.{call_number, read}
+use Rattle.acts_model.specs.Views.{read}
 use Rattle.arn_model.specs.Doing.{Request, Does, refused}
 use Rattle.arn_model.specs.Kernel.{Kernel, Machine, with_description}
-use Rattle.arn_model.specs.ProcessCalls.{exit_row}
-use Rattle.arn_model.specs.Row.{row, is_built, request, is_waiting, does}
+use Rattle.arn_model.specs.Row.{request, is_waiting, does}
 use Rattle.arn_model.specs.TransferCalls.{put_into_file, read_row, received, write_row}
-use Rattle.guest_bodies.specs.Shown.{seen_in}
 use Rattle.guest_calls.specs.Acted.{Carried}
 use Rattle.guest_devices.specs.Answers as devices
 use Rattle.parts_model.specs.Replies.{Answered}
 use Rattle.guest_calls.specs.declared.outcomes.Done.{Done}
 use Rattle.guest_calls.specs.Steps.{Performed, RepliesTo}
-use Rattle.guest_calls.specs.State.{State, StandsFor}
+use Rattle.guest_calls.specs.State.{State}
 use Rattle.guest_calls.specs.Transfers.{IsReading, IsWriting}
 use Rattle.guest_calls.specs.Waits.{IsWait}
 use Rattle.guest_calls.specs.declared.waiting.Waiting.{Waiting}
@@ -34,7 +31,6 @@ use Rattle.guest_calls.specs.declared.transfers.Reading.{Reading}
 use Rattle.guest_calls.specs.declared.transfers.Reading.TheVariants as reading
 use Rattle.guest_calls.specs.declared.transfers.Writing.{Writing}
 use Rattle.guest_calls.specs.declared.transfers.Writing.TheVariants as writing
-use Rattle.guest_calls.proofs.Stands.{at-seen}
 
 -- a transfer from or to a file never waits
 received-ready : (m : Machine) (at : ℕ) (first : KernelByte) (held : List TaggedByte) (k : Kernel) → is_waiting (received m at first held k) ≡ false

@@ -1,9 +1,9 @@
 -- The handling of processes, as the kernel keeps it, and how they take signals.
-use Rattle.std.proofs.Common.{◌≡◌, ◌≢◌, ℕ, zero, suc, ◌+◌, ◌<◌, ◌≤◌, List, ◌∷◌, set, Option, None, Some, is_some, option_map, refl, sym, ap, ap₂, ◌∙◌, arith}
+use Rattle.std.proofs.Common.{◌≡◌, ◌≢◌, ℕ, zero, suc, ◌+◌, ◌<◌, ◌≤◌, List, [], ◌∷◌, ◌++◌, set, Option, None, Some, is_some, option_map, refl, sym, ap, ap₂, ◌∙◌, arith, add-one}
 use Rattle.parts_model.specs.Numbered.{nth, nth_from_one, with_nth_from_one}
-use Rattle.arn_model.specs.Kernel.{Handling}
+use Rattle.arn_model.specs.Kernel.{Handling, child_handling}
 use Rattle.guest_bodies.specs.Follows.{KeepsWatches, Rewatches, SetsWatch}
-use Rattle.guest_bodies.specs.Shown.{Guests, Shown, Watch, watch_in}
+use Rattle.guest_bodies.specs.Shown.{Guests, Shown, Watch, inherited, watch_in}
 use Rattle.guest_calls.specs.Kept.{handling, handlings, handlings_from}
 
 abbrev handling_in : Guests → ℕ → Option Handling
@@ -54,6 +54,19 @@ handlings-rewatched made old new pid change then is some within own kept =
 pub handlings-changed : (made : ℕ) (old new : Guests) (pid : ℕ) (change : Watch → Watch) (then : Handling → Handling) → ((w : Watch) → handling (change w) ≡ then (handling w)) → 0 < pid → pid < made + 1 → Rewatches pid change old new → handlings made new ≡ with_nth_from_one (handlings made old) pid (option_map then (nth_from_one (handlings made old) pid))
 handlings-changed made old new pid change then is some within rewatches =
     handlings-rewatched made old new pid change then is some within rewatches.own rewatches.kept
+
+-- one more takes signals, as its parent does
+added-from : (first n : ℕ) (old new : Guests) (p : ℕ) (x : Option Handling) → p ≡ first + n → handling_in new p ≡ x → ((q : ℕ) → q ≢ p → watch_in new q ≡ watch_in old q) → handlings_from first (suc n) new ≡ handlings_from first n old ++ x ∷ []
+added-from first zero old new p x is own kept = ap (λ (h : Option Handling). h ∷ []) (ap (handling_in new) (omega (arith, is)) ∙ own)
+added-from first (suc n) old new p x is own kept =
+    ap₂ (λ (h : Option Handling) (hs : List (Option Handling)). h ∷ hs) (ap (option_map handling) (kept first (λ (e : first ≡ p). omega (arith, is, e))))
+    (added-from (first + 1) n old new p x (omega (arith, is)) own kept)
+
+pub handlings-forked : (made : ℕ) (old new : Guests) (pid child : ℕ) → child ≡ made + 1 → 0 < pid → pid < made + 1 → SetsWatch child (option_map inherited (watch_in old pid)) old new → handlings (made + 1) new ≡ handlings made old ++ option_map child_handling (nth_from_one (handlings made old) pid) ∷ []
+handlings-forked made old new pid child next some within sets =
+    ap (λ (n : ℕ). handlings n new) (add-one made)
+    ∙ added-from 1 made old new child (option_map child_handling (nth_from_one (handlings made old) pid)) (omega (arith, next))
+    (ap (option_map handling) sets.own ∙ (changed inherited child_handling (λ w. refl) (watch_in old pid) ∙ ap (option_map child_handling) (sym (handling-of made old pid some within)))) sets.kept
 
 -- whether a process lives is seen by how it takes signals
 watched : (o : Option Shown) → is_some o ≡ is_some (option_map (λ (s : Shown). s.watch) o)

@@ -9,3 +9,4 @@ pub mod Fits
 pub mod Standing
 pub mod Starts
 pub mod Waits
+pub mod Forks

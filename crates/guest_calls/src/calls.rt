@@ -18,7 +18,7 @@ use crate::waiting::Waiting;
 use arn_base::NoMemory;
 use guest_devices::Answers;
 use parts_model::calls::{
-    CLOSE, DUP, EXEC, EXIT, GETPID, OPEN, READ, SEEK, UNLINK, WAIT, WRITE, YIELD,
+    CLOSE, DUP, EXEC, EXIT, FORK, GETPID, OPEN, READ, SEEK, UNLINK, WAIT, WRITE, YIELD,
 };
 use parts_model::refusals::NO_SUCH_CALL;
 
@@ -50,6 +50,7 @@ impl Kernel {
     {
         match number {
             EXIT => Ok(self.exit(pid)),
+            FORK => self.fork(pid),
             EXEC => self.exec(pid),
             GETPID => Ok(self.getpid(pid)),
             OPEN => self.open(pid),

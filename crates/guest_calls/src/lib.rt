@@ -10,6 +10,9 @@ mod executing;
 #[cfg(test)]
 mod file_tests;
 mod files;
+#[cfg(test)]
+mod fork_tests;
+mod forking;
 mod kernel;
 mod outcomes;
 mod parts;

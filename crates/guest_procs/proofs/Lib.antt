@@ -1,4 +1,5 @@
 pub mod Ends
+pub mod Last
 pub mod Lowest
 pub mod Numbers
 pub mod Tables

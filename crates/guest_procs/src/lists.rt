@@ -1,12 +1,12 @@
 // The numbers of the processes that are there, and of those that live.
-ghost use Rattle.std.specs.Prelude.{◌≡◌, ◌<◌, ◌^◌, ◌++◌, ◌∷◌, [], length, filter, find, Some, None, IfOk, IfErr, OnOk, OnErr, IsTrue, IfSome, IsSome, IsNone, option_and_then};
+ghost use Rattle.std.specs.Prelude.{◌≡◌, ◌-◌, ◌<◌, ◌^◌, ◌++◌, ◌∷◌, [], length, take, filter, find, Some, None, IfOk, IfErr, OnOk, OnErr, IsTrue, IfSome, IsSome, IsNone, option_and_then};
 ghost use Rattle.std.specs.List.{list_any};
 ghost use Rattle.std.specs.Result.{result_ok};
 ghost use Rattle.guest_procs.specs.Answers.{WaitFails, lowest_ended};
 ghost use Rattle.guest_procs.specs.Shown.{process_of};
 ghost use Rattle.guest_procs.specs.Sound.{is_any, present, holds, is_ended_child, IsSound};
 ghost use Rattle.guest_procs.specs.Status.{status_byte};
-ghost use Rattle.parts_model.specs.Processes.{process, with_process, next_process, is_full, is_live, is_child_of, ended, status_of, with_change, with_descriptor, descriptor, lowest_free, placed};
+ghost use Rattle.parts_model.specs.Processes.{process, with_process, next_process, is_full, is_live, is_child_of, live_process, ended, status_of, with_change, with_descriptor, descriptor, lowest_free, placed};
 
 use crate::answers::{Ended, ProcError};
 use crate::process::Process;
@@ -128,6 +128,18 @@ impl Lists {
         self.present.push(pid)?;
         self.live.push(pid)?;
         Ok(pid)
+    }
+
+    /// Takes the last process back, which lives.
+    pub fn pop(&mut self)
+        requires lives { IsSome (live_process self.old.table (length self.old.table)) }
+        requires sound { IsSound self.old.table self.old.present.items self.old.live.items }
+        ensures table { self.new.table ≡ take (length self.old.table - 1) self.old.table }
+        ensures sound { IsSound self.new.table self.new.present.items self.new.live.items }
+    {
+        self.table.pop();
+        let _ = self.present.pop();
+        let _ = self.live.pop();
     }
 
     /// Keeps the numbers of the processes that are still there, and of those that still live.

@@ -1,5 +1,5 @@
 // The table of processes.
-ghost use Rattle.std.specs.Prelude.{◌≡◌, ◌<◌, ◌^◌, ◌++◌, ◌∷◌, [], length, Ok, Err, Some, None, IfOk, IfErr, OnOk, OnErr, IsTrue, IsOk, IsSome, IsNone, option_and_then, option_map, ◌↔◌};
+ghost use Rattle.std.specs.Prelude.{◌≡◌, ◌-◌, ◌<◌, ◌^◌, ◌++◌, ◌∷◌, [], length, take, unwrap_or, Ok, Err, Some, None, IfOk, IfErr, OnOk, OnErr, IsTrue, IsOk, IsSome, IsNone, option_and_then, option_map, ◌↔◌};
 ghost use Rattle.std.specs.Result.{result_ok};
 ghost use Rattle.parts_model.specs.Processes.{process, live_process, live, is_live, is_full, next_process, booted, forked, ended, reaped, status_of, descriptor, free_descriptors, lowest_free, placed, with_change, with_descriptor};
 ghost use Rattle.guest_procs.specs.Answers.{MakeFails, WaitFails, lowest_ended};
@@ -88,6 +88,21 @@ impl Procs {
         }
     }
 
+    /// Takes back the process that was made last, which lives. Its number is that of the next one.
+    pub fn take_back(&mut self)
+        requires { IsSome (live_process self.old (length self.old)) }
+        ensures { self.new ≡ take (length self.old - 1) self.old }
+    {
+        self.lists.pop();
+    }
+
+    /// Whether there are as many processes as there may be.
+    pub fn is_full(&self) -> bool
+        ensures { result ≡ is_full self.now }
+    {
+        self.lists.is_full()
+    }
+
     /// Ends a live process with a status, by an event. Its children have no parent from then on. NoProcess says that it
     /// doesn't live.
     pub fn end(&mut self, pid: u32, status: u8, event: u64) -> Result<(), ProcError>
@@ -173,6 +188,17 @@ impl Procs {
         ensures { result ≡ option_and_then (λ p. descriptor p number) (process self.now pid) }
     {
         self.lists.table.find(pid)?.descriptor(number)
+    }
+
+    /// What all descriptors of a process stand for, none of one that isn't there.
+    pub fn descriptors(&self, pid: u32) -> &[Option<u32>]
+        ensures { result.now ≡
+            unwrap_or (option_map (λ p. p.descriptors) (process self.now pid)) [] }
+    {
+        match self.lists.table.find(pid) {
+            Some(process) => process.descriptors.as_slice(),
+            None => &[],
+        }
     }
 
     /// Closes a descriptor of a process, and answers what it stood for. None says that it isn't open.

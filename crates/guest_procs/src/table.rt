@@ -1,5 +1,5 @@
 // The processes by their numbers.
-ghost use Rattle.std.specs.Prelude.{◌≡◌, ◌++◌, ◌∷◌, [], length, map, option_copied, option_and_then, IfSome, IsSome, Some, None, OnOk, OnErr, ◌<◌};
+ghost use Rattle.std.specs.Prelude.{◌≡◌, ◌-◌, ◌++◌, ◌∷◌, [], length, take, map, option_copied, option_and_then, IfSome, IsSome, Some, None, OnOk, OnErr, ◌<◌};
 ghost use Rattle.guest_procs.specs.Answers.{ended_by};
 ghost use Rattle.guest_procs.specs.Shown.{process_of, shown};
 ghost use Rattle.guest_procs.specs.Sound.{is_any, present, holds, is_ended_child};
@@ -51,6 +51,13 @@ impl Table {
         ensures err { OnErr result (self.new ≡ self.old) }
     {
         Ok(self.all.push(Some(process))?)
+    }
+
+    /// Takes the last process back.
+    pub fn pop(&mut self)
+        ensures { self.new ≡ take (length self.old - 1) self.old }
+    {
+        let _ = self.all.pop();
     }
 
     /// The process of this number, if it isn't gone.

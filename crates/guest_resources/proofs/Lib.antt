@@ -2,3 +2,4 @@ pub mod Numbers
 pub mod Queues
 pub mod Sound
 pub mod Changed
+pub mod Rooms

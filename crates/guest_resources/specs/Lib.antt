@@ -1,3 +1,4 @@
 pub mod Opened
 pub mod Queue
 pub mod Resources
+pub mod Rooms

@@ -1,8 +1,9 @@
 // Open descriptions by number.
-ghost use Rattle.std.specs.Prelude.{◌≡◌, ◌++◌, ◌∷◌, ◌-◌, ◌<◌, ◌^◌, [], length, take, IfOk, IsSome, OnOk, OnErr, Some, option_map, slice_set};
+ghost use Rattle.std.specs.Prelude.{◌≡◌, ◌++◌, ◌∷◌, ◌-◌, ◌<◌, ◌^◌, [], length, take, IfOk, IsOk, IsSome, IsTrue, OnOk, OnErr, Some, option_map, slice_set};
 ghost use Rattle.parts_model.specs.Numbered.{nth};
 ghost use Rattle.arn_model.specs.Kernel.{with_what};
 ghost use Rattle.guest_resources.specs.Opened.{fewer, first_descriptions, last_of, more, opened_of};
+ghost use Rattle.guest_resources.specs.Rooms.{fits};
 
 use arn_base::NoMemory;
 use parts_model::Description;
@@ -106,9 +107,20 @@ impl Descriptions {
         let _ = self.all.pop();
     }
 
+    /// Whether so many descriptors more can stand for a description.
+    pub fn has_room(&self, number: u32, count: usize) -> bool
+        ensures { result ≡ fits count (nth self.now number) }
+    {
+        match self.get(number) {
+            Some(opened) => count <= (u32::MAX - opened.descriptors) as usize,
+            None => true,
+        }
+    }
+
     /// One descriptor more stands for a description. NoMemory says that there are too many.
     pub fn hold_one(&mut self, number: u32) -> Result<(), NoMemory>
         ensures more { OnOk result (self.new ≡ more number (nth self.old number) self.old) }
+        ensures enough { IsTrue (fits 1 (nth self.old number)) → IsOk result }
         ensures err { OnErr result (self.new ≡ self.old) }
     {
         let opened = match self.get(number) {

@@ -1,13 +1,15 @@
 // Descriptions and files together.
-ghost use Rattle.std.specs.Prelude.{◌≡◌, ◌≢◌, ◌+◌, ◌≤◌, ◌<◌, ◌^◌, ◌↔◌, [], false, length, Err, IfErr, IfOk, IfSome, IsNone, IsSome, IsTrue, None, OnErr, OnOk, Some, option_map, unwrap_or};
+ghost use Rattle.std.specs.Prelude.{◌≡◌, ◌≢◌, ◌+◌, ◌≤◌, ◌<◌, ◌^◌, ◌↔◌, ◌∷◌, [], false, length, Err, IfErr, IfOk, IfSome, IsNone, IsOk, IsSome, IsTrue, None, OnErr, OnOk, Some, option_map, unwrap_or};
+ghost use Rattle.std.specs.List.{list_all};
 ghost use Rattle.parts_model.specs.declared.limits.TheConstants.{MOST_FILE_BYTES};
 ghost use Rattle.parts_model.specs.declared.open.Description.TheVariants.{File};
 ghost use Rattle.parts_model.specs.Files.{file_bytes, find_file, held, is_full, made, next_file, read_from, unnamed, written};
 ghost use Rattle.parts_model.specs.Numbered.{nth};
 ghost use Rattle.parts_model.specs.Tagged.{given, held_bytes};
-ghost use Rattle.arn_model.specs.Kernel.{also_held, dropped, with_description, with_new};
+ghost use Rattle.arn_model.specs.Kernel.{all_also_held, also_held, dropped, with_description, with_new};
 ghost use Rattle.guest_files.specs.Table.{IsThere};
 ghost use Rattle.guest_resources.specs.Opened.{first_descriptions};
+ghost use Rattle.guest_resources.specs.Rooms.{fits, has_room, have_room};
 ghost use Rattle.guest_resources.specs.Resources.{Changes, HoldsFile, IsIn, IsKnown, is_of, no_resources, settled_files};
 
 use crate::descriptions::Descriptions;
@@ -55,6 +57,23 @@ fn close(files: &mut Files, what: &Description)
         Description::File { file, position: _ } => files.release(*file),
         _ => unreachable!(),
     }
+}
+
+// Whether so many descriptors more can stand for what one does that may be open.
+fn has_room(all: &Descriptions, found: Option<u32>, count: usize) -> bool
+    ensures { result ≡ has_room count all.now found }
+{
+    match found {
+        Some(number) => all.has_room(number, count),
+        None => true,
+    }
+}
+
+// Whether so many more can stand for what each of these does.
+fn have_room(all: &Descriptions, descriptors: &[Option<u32>], count: usize) -> bool
+    ensures { result ≡ list_all (has_room count all.now) descriptors.now }
+{
+    descriptors.iter().all(|found| has_room(all, *found, count))
 }
 
 impl Resources {
@@ -186,9 +205,40 @@ impl Resources {
     /// One descriptor more stands for a description. NoMemory says that there are too many.
     pub fn hold_one(&mut self, number: u32) -> Result<(), NoMemory>
         ensures held { OnOk result (Changes self.old (also_held number) self.new) }
+        ensures enough { IsTrue (fits 1 (nth self.old.descriptions number)) → IsOk result }
         ensures err { OnErr result (self.new ≡ self.old) }
     {
         self.descriptions.hold_one(number)
+    }
+
+    /// Whether for each of these descriptors one more can stand for what it does.
+    pub fn has_room(&self, descriptors: &[Option<u32>]) -> bool
+        ensures { result ≡ have_room descriptors.now self.now.descriptions }
+    {
+        have_room(&self.descriptions, descriptors, descriptors.len())
+    }
+
+    // One descriptor more stands for what one does that may be open.
+    fn hold_open(&mut self, found: Option<u32>)
+        requires { IsTrue (has_room 1 self.old.descriptions found) }
+        ensures { Changes self.old (all_also_held (found ∷ [])) self.new }
+    {
+        if let Some(number) = found {
+            match self.hold_one(number) {
+                Ok(()) => {}
+                Err(NoMemory) => unreachable!(),
+            }
+        }
+    }
+
+    /// For each of these descriptors one more stands for what it does.
+    pub fn hold_all(&mut self, descriptors: &[Option<u32>])
+        requires { IsTrue (have_room descriptors.now self.old.descriptions) }
+        ensures { Changes self.old (all_also_held descriptors.now) self.new }
+    {
+        for found in descriptors {
+            self.hold_open(*found);
+        }
     }
 
     /// One descriptor fewer stands for a description. Without any it is gone, and so may its file be.

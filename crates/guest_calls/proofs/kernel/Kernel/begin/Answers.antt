@@ -1,4 +1,4 @@
-use Rattle.std.proofs.Common.{◌≡◌, ◌∙◌, [], ap, ◌+◌}
+use Rattle.std.proofs.Common.{◌∙◌, ap, ◌+◌}
 use Rattle.guest_calls.specs.State.{State}
 use Rattle.guest_calls.proofs.Begun.{begun-sound}
 use Rattle.guest_calls.proofs.Past.{past-begun}

@@ -1,13 +1,9 @@
 use Rattle.std.proofs.Common.{refl, sym, subst, arith, ◌≡◌}
 use Rattle.std.specs.Prelude.{IsErrOf, IsTrue, ◌↔◌}
 use Rattle.arn_model.specs.Doing.{Request}
-use Rattle.std.proofs.lemmas.Result.{IfOk-weaker}
-use Rattle.arn_model.specs.Row.{is_waiting, request}
+use Rattle.arn_model.specs.Row.{is_waiting}
 use Rattle.arn_model.specs.TransferCalls.{read_row, write_row}
-use Rattle.guest_calls.specs.State.{OfProcess}
-use Rattle.guest_calls.specs.declared.outcomes.Done.{Done}
 use Rattle.guest_calls.specs.declared.outcomes.CallStop.TheVariants as stop
-use Rattle.guest_calls.specs.Acted.{Carried}
 use Rattle.guest_calls.proofs.Built.{called, carried-calls, ready-number, request-read, request-ready, request-wait, request-write, row-read, row-wait, row-write}
 use Rattle.arn_model.specs.ProcessCalls.{wait_row}
 use Rattle.guest_calls.proofs.Requests.{ended-ready, errs-otherwise}

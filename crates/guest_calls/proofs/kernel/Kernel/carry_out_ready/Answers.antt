@@ -1,7 +1,7 @@
-use Rattle.std.proofs.Common.{refl, ◌≡◌}
+use Rattle.std.proofs.Common.{refl}
 use Rattle.arn_model.specs.FileCalls.{close_row, dup_row, open_row, seek_row, unlink_row}
-use Rattle.arn_model.specs.ProcessCalls.{exec_row, exit_row, getpid_row, yield_row}
-use Rattle.guest_calls.proofs.Built.{carried-call, carried-calls, carried-none, not-any, row-close, row-dup, row-exec, row-exit, row-getpid, row-open, row-seek, row-unlink, row-yield}
+use Rattle.arn_model.specs.ProcessCalls.{exec_row, exit_row, fork_row, getpid_row, yield_row}
+use Rattle.guest_calls.proofs.Built.{carried-call, carried-calls, row-close, row-dup, row-exec, row-exit, row-fork, row-getpid, row-open, row-seek, row-unlink, row-yield}
 use Rattle.guest_calls.proofs.kernel.Kernel.carry_out_ready.Goals as goal
 
 pub returns-in-1-clause-carried : goal.returns-in-1-clause-carried
@@ -39,3 +39,7 @@ returns-in-22-clause-carried c =
 pub returns-in-3-clause-carried : goal.returns-in-3-clause-carried
 returns-in-3-clause-carried c =
     carried-calls c.args.self.now c.exec.new.self c.args.pid c.args.number 3 (λ m v. exec_row m c.args.pid v) c.requires.number c.in-3.is refl (λ m v. row-exec m c.args.pid v) c.exec.result c.exec.ensures.carried
+
+pub returns-in-2-clause-carried : goal.returns-in-2-clause-carried
+returns-in-2-clause-carried c =
+    carried-calls c.args.self.now c.fork.new.self c.args.pid c.args.number 2 (λ m v. fork_row m c.args.pid v) c.requires.number c.in-2.is refl (λ m v. row-fork m c.args.pid v) c.fork.result c.fork.ensures.carried

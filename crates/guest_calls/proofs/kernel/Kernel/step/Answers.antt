@@ -1,4 +1,4 @@
-use Rattle.std.proofs.Common.{subst, ◌+◌}
+use Rattle.std.proofs.Common.{subst}
 use Rattle.acts_model.specs.Views.{stands_at}
 use Rattle.guest_calls.specs.Kept.{state_of}
 use Rattle.guest_calls.specs.State.{State, OfProcess}
