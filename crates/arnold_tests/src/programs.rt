@@ -111,6 +111,48 @@ const STARTS_ANEW: &str = "\
     back copy event 4 0 2\n\
     back copy event 6 0 3\n";
 
+/// Reads a byte of a file and makes a child, which writes a typed byte over the next one of the file. When
+/// the child has ended it reads that, and writes both.
+const THROUGH_FILE: &str = "\
+    file f 4142\n\
+    asm p\n\
+    la a0, path; li a1, 1; li a2, 0; li a7, 9; ecall\n\
+    li a7, 11; li a0, 3; addi a1, sp, -16; li a2, 1; ecall\n\
+    li a7, 2; ecall; beq a0, zero, child\n\
+    li a7, 4; addi a0, sp, -32; ecall\n\
+    li a7, 13; li a0, 3; li a1, 0; ecall\n\
+    li a7, 11; li a0, 3; addi a1, sp, -15; li a2, 1; ecall\n\
+    li a7, 12; li a0, 1; addi a1, sp, -16; li a2, 2; ecall\n\
+    quit:\n\
+    li a7, 1; li a0, 0; ecall\n\
+    child:\n\
+    li a7, 11; li a0, 0; addi a1, sp, -24; li a2, 1; ecall\n\
+    li a7, 13; li a0, 3; li a1, 0; ecall\n\
+    li a7, 12; li a0, 3; addi a1, sp, -24; li a2, 1; ecall\n\
+    j quit\n\
+    path:\n\
+    .byte 102\n\
+    end\n\
+    boot p\n\
+    type 5a\n\
+    run 1000\n\
+    back copy event 14 0 2\n";
+
+/// Reads a byte and makes a child, which writes the byte without having touched it.
+const BY_CHILD: &str = "\
+    asm p\n\
+    li a7, 11; li a0, 0; addi a1, sp, -16; li a2, 1; ecall\n\
+    li a7, 2; ecall; beq a0, zero, child; j quit\n\
+    child:\n\
+    li a7, 12; li a0, 1; ecall\n\
+    quit:\n\
+    li a7, 1; li a0, 0; ecall\n\
+    end\n\
+    boot p\n\
+    type 78\n\
+    run 100\n\
+    back copy event 6 0 1\n";
+
 /// Sessions with blocks, and what is printed for them.
 pub const BLOCKS: &[(&str, &str)] = &[
     (
@@ -143,6 +185,16 @@ pub const BLOCKS: &[(&str, &str)] = &[
         "event 0\nevent 1\nevent 2\nevent 3\nout 6 1 616263\nran 18 done\n\
         pair 0 0 0\npair 0 1 1\nback pairs 2 instructions 18 groups 1\n\
         pair 3 0 0\npair 3 1 1\npair 3 2 2\nback pairs 3 instructions 18 groups 1\n",
+    ),
+    (
+        THROUGH_FILE,
+        "event 0\nevent 1\nevent 2\nevent 3\nout 14 1 415a\nran 53 done\n\
+        pair 0 0 0\npair 3 0 1\nback pairs 2 instructions 53 groups 1 2\n",
+    ),
+    (
+        BY_CHILD,
+        "event 0\nevent 1\nevent 2\nout 6 2 78\nran 19 done\n\
+        pair 2 0 0\nback pairs 1 instructions 19 groups 1 2\n",
     ),
     (
         "run 5\nboot p\nfile p 00\nboot p\nfile p 00\nasm q\n bogus\nend\nhello\n",
