@@ -7,4 +7,4 @@ mod sessions;
 #[cfg(test)]
 mod tests;
 
-pub use sessions::{Ended, Script, run, run_on};
+pub use sessions::{Ended, Schedule, Script, run, run_on};

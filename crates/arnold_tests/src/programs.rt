@@ -139,7 +139,7 @@ const THROUGH_FILE: &str = "\
     back copy event 14 0 2\n";
 
 /// Reads a byte and makes a child, which writes the byte without having touched it.
-const BY_CHILD: &str = "\
+pub const BY_CHILD: &str = "\
     asm p\n\
     li a7, 11; li a0, 0; addi a1, sp, -16; li a2, 1; ecall\n\
     li a7, 2; ecall; beq a0, zero, child; j quit\n\
@@ -152,6 +152,70 @@ const BY_CHILD: &str = "\
     type 78\n\
     run 100\n\
     back copy event 6 0 1\n";
+
+/// Starts a program from a file with an argument block, which the program writes.
+const STARTS_WITH_BLOCK: &str = "\
+    asm q\n\
+    mv a2, a1; mv a1, a0; li a7, 12; li a0, 1; ecall\n\
+    li a7, 1; li a0, 0; ecall\n\
+    end\n\
+    asm p\n\
+    la a0, path; li a1, 1; la a2, block; li a3, 3; li a7, 3; ecall\n\
+    path:\n\
+    .byte 113\n\
+    block:\n\
+    .byte 97, 98, 99\n\
+    end\n\
+    boot p\n\
+    run 100\n\
+    back copy event 4 0 3\n";
+
+/// Writes what a start from a file that isn't there answers, then one from a file that is no image, then a
+/// wait without a child.
+const ANSWERS: &str = "\
+    file q 00\n\
+    asm p\n\
+    la s1, path\n\
+    mv a0, s1; li a1, 2; li a3, 0; li a7, 3; ecall; sd a0, -24(sp)\n\
+    mv a0, s1; li a1, 1; li a3, 0; li a7, 3; ecall; sd a0, -16(sp)\n\
+    addi a0, sp, -32; li a7, 4; ecall; sd a0, -8(sp)\n\
+    li a7, 12; li a0, 1; addi a1, sp, -24; li a2, 24; ecall\n\
+    li a7, 1; li a0, 0; ecall\n\
+    path:\n\
+    .byte 113, 113\n\
+    end\n\
+    boot p\n\
+    run 100\n";
+
+/// Writes 65,536 bytes to a new file again and again, until that answers an error, and writes this.
+const FILLS_FILE: &str = "\
+    asm p\n\
+    la a0, path; li a1, 1; li a2, 1; li a7, 9; ecall\n\
+    again:\n\
+    li a7, 12; li a0, 3; lui a1, 16; lui a2, 16; ecall; blt zero, a0, again\n\
+    sd a0, -8(sp); li a7, 12; li a0, 1; addi a1, sp, -8; li a2, 8; ecall\n\
+    li a7, 1; li a0, 0; ecall\n\
+    path:\n\
+    .byte 102\n\
+    end\n\
+    boot p\n\
+    run 1000\n";
+
+/// Makes a child and waits for it. The child writes a letter and ends, then the process writes one.
+pub const IN_TURN: &str = "\
+    asm p\n\
+    li a7, 2; ecall; beq a0, zero, child\n\
+    li a7, 4; addi a0, sp, -16; ecall\n\
+    li a7, 12; li a0, 1; la a1, letters; li a2, 1; ecall; j quit\n\
+    child:\n\
+    li a7, 12; li a0, 1; la a1, letters; addi a1, a1, 1; li a2, 1; ecall\n\
+    quit:\n\
+    li a7, 1; li a0, 0; ecall\n\
+    letters:\n\
+    .byte 97, 98\n\
+    end\n\
+    boot p\n\
+    run 100\n";
 
 /// Sessions with blocks, and what is printed for them.
 pub const BLOCKS: &[(&str, &str)] = &[
@@ -195,6 +259,20 @@ pub const BLOCKS: &[(&str, &str)] = &[
         BY_CHILD,
         "event 0\nevent 1\nevent 2\nout 6 2 78\nran 19 done\n\
         pair 2 0 0\nback pairs 1 instructions 19 groups 1 2\n",
+    ),
+    (
+        STARTS_WITH_BLOCK,
+        "event 0\nevent 1\nevent 2\nout 4 1 616263\nran 16 done\n\
+        pair 1 57 0\npair 1 58 1\npair 1 59 2\nback pairs 3 instructions 16 groups 1\n",
+    ),
+    (
+        ANSWERS,
+        "event 0\nevent 1\nevent 2\n\
+        out 6 1 fefffffffffffffff8fffffffffffffff6ffffffffffffff\nran 26 done\n",
+    ),
+    (
+        FILLS_FILE,
+        "event 0\nevent 1\nout 20 1 f4ffffffffffffff\nran 117 done\n",
     ),
     (
         "run 5\nboot p\nfile p 00\nboot p\nfile p 00\nasm q\n bogus\nend\nhello\n",

@@ -5,9 +5,11 @@ ghost use Rattle.session_effects.specs.Carrying.{HoldsLog};
 ghost use Rattle.arn_session.specs.Words.{AreAccepted, AreAcceptedTexts, texts};
 ghost use Rattle.arnold_tests.specs.Sessions.{Prints};
 
-use arn_base::{Bytes, Chooser, Device, Disk, NoMemory, Numbers, SliceSource, Steps, VecSink};
+use arn_base::{
+    Bytes, Choice, Chooser, Device, Disk, NoMemory, Numbers, SliceSource, Steps, VecSink,
+};
 use arn_session::{Status, arnold};
-use guest_devices::RoundChooser;
+use guest_devices::{RoundChooser, ScriptChooser, SeededChooser};
 use log_disk::MemDisk;
 use std::alloc::Global;
 use std::marker::Brand;
@@ -16,7 +18,18 @@ use std::sync::ledger::{Blank, Ledger};
 /// How many instructions a process runs at most before the next one gets its turn.
 const SLICE: u32 = 1_000;
 
-/// A text, how a source gives it, and which calls fail.
+/// Who picks which process goes on, and for how long.
+#[derive(Clone, Copy, Debug)]
+pub enum Schedule<'a> {
+    /// One after the other, for many instructions.
+    Round,
+    /// By chance, from a seed.
+    Seeded(u64),
+    /// By these choices, and then the first process for one instruction at a time.
+    Chosen(&'a [Choice]),
+}
+
+/// A text, how a source gives it, which calls fail, and the schedule.
 #[derive(Clone, Copy, Debug)]
 pub struct Script<'a> {
     pub text: &'a [u8],
@@ -26,6 +39,7 @@ pub struct Script<'a> {
     pub source_fails: &'a [u32],
     /// The numbers of the sink's calls that fail, from 0 on.
     pub sink_fails: &'a [u32],
+    pub schedule: Schedule<'a>,
 }
 
 impl Script<'_> {
@@ -43,6 +57,7 @@ impl Script<'_> {
             piece: usize::MAX,
             source_fails: &[],
             sink_fails: &[],
+            schedule: Schedule::Round,
         }
     }
 }
@@ -72,6 +87,12 @@ fn owned(alloc: Global, words: &[&str]) -> Result<Vec<String>, NoMemory>
     Ok(made)
 }
 
+fn list_of(alloc: Global, choices: &[Choice]) -> Result<Vec<Choice>, NoMemory> {
+    let mut list = Vec::new(alloc);
+    list.extend_from_slice(choices)?;
+    Ok(list)
+}
+
 fn run_over<D: Disk, L: Ledger>(
     alloc: Global,
     words: &[String],
@@ -93,7 +114,13 @@ fn run_over<D: Disk, L: Ledger>(
     let fails = numbers(alloc, script.source_fails)?;
     let mut source = SliceSource::in_pieces(bytes, fails, script.piece);
     let mut sink = VecSink::new(alloc, numbers(alloc, script.sink_fails)?);
-    let mut chooser: Box<dyn Chooser> = Box::new(alloc, RoundChooser::new(SLICE))?;
+    let mut chooser: Box<dyn Chooser> = match script.schedule {
+        Schedule::Round => Box::new(alloc, RoundChooser::new(SLICE))?,
+        Schedule::Seeded(seed) => Box::new(alloc, SeededChooser::new(seed))?,
+        Schedule::Chosen(choices) => {
+            Box::new(alloc, ScriptChooser::new(list_of(alloc, choices)?))?
+        }
+    };
     let mut devices: Vec<Option<Box<dyn Device>>> = Vec::new(alloc);
     let status = arnold(
         alloc,

@@ -1,6 +1,6 @@
 use super::*;
-use crate::programs::{BLOCKS, EXCHANGED, ILLEGAL, OTHER_CALL, OVERWRITTEN};
-use arn_base::{Bytes, Differs, Disk, NoMemory, Numbers};
+use crate::programs::{BLOCKS, BY_CHILD, EXCHANGED, ILLEGAL, IN_TURN, OTHER_CALL, OVERWRITTEN};
+use arn_base::{Bytes, Choice, Differs, Disk, NoMemory, Numbers};
 use arn_session::{Damage, Status};
 use log_disk::{FileDisk, FuseDisk, MemDisk};
 use log_store::{OpenError, Store};
@@ -194,6 +194,65 @@ fn prints_the_answer_to_each_line(rt: HostRuntime) -> Result<(), Fail> {
 fn prints_the_answer_to_each_block(rt: HostRuntime) -> Result<(), Fail> {
     for (text, want) in BLOCKS {
         assert_prints(&rt, text, want)?;
+    }
+    Ok(())
+}
+
+/// What is printed for a text under a schedule.
+fn assert_prints_under(
+    rt: &(impl Abort + AllocGlobal),
+    schedule: Schedule,
+    text: &str,
+    want: &str,
+) -> Result<(), Fail> {
+    let script = Script {
+        schedule,
+        ..Script::of(text.as_bytes())
+    };
+    let ended = run(rt.alloc(), &["log"], &script)?;
+    assert_eq!(rt; ended.status, Status::Done);
+    assert_eq!(rt;
+        ended.sink.bytes(),
+        want.as_bytes(),
+        "at {text} under {schedule:?}"
+    );
+    Ok(())
+}
+
+/// As many instructions as come before the next call.
+const fn goes_on(index: u32) -> Choice {
+    Choice { index, count: 100 }
+}
+
+#[test]
+fn goes_by_the_schedule(rt: HostRuntime) -> Result<(), Fail> {
+    let parent_first = [goes_on(0), goes_on(0), goes_on(0), goes_on(0)];
+    assert_prints_under(
+        &rt,
+        Schedule::Chosen(&parent_first),
+        BY_CHILD,
+        "event 0\nevent 1\nevent 2\nout 6 2 78\nran 19 done\n\
+        pair 2 0 0\nback pairs 1 instructions 19 groups 1 2\n",
+    )?;
+    let child_first = [goes_on(0), goes_on(0), goes_on(1)];
+    assert_prints_under(
+        &rt,
+        Schedule::Chosen(&child_first),
+        BY_CHILD,
+        "event 0\nevent 1\nevent 2\nout 5 2 78\nran 19 done\n\
+        back pairs 0 instructions 12 groups 1\n",
+    )
+}
+
+#[test]
+fn waits_under_every_schedule(rt: HostRuntime) -> Result<(), Fail> {
+    for seed in 0..10 {
+        assert_prints_under(
+            &rt,
+            Schedule::Seeded(seed),
+            IN_TURN,
+            "event 0\nevent 1\nout 3 2 62\nout 6 1 61\nran 27 done\n",
+        )?;
     }
     Ok(())
 }
