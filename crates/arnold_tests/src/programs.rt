@@ -201,6 +201,19 @@ const FILLS_FILE: &str = "\
     boot p\n\
     run 1000\n";
 
+/// Makes children, which wait for the console, until that answers an error, and writes this.
+const FILLS_TABLE: &str = "\
+    asm p\n\
+    again:\n\
+    li a7, 2; ecall; beq a0, zero, child; blt zero, a0, again\n\
+    sd a0, -8(sp); li a7, 12; li a0, 1; addi a1, sp, -8; li a2, 8; ecall\n\
+    li a7, 1; li a0, 0; ecall\n\
+    child:\n\
+    li a7, 11; li a0, 0; addi a1, sp, -16; li a2, 1; ecall\n\
+    end\n\
+    boot p\n\
+    run 10000\n";
+
 /// Makes a child and waits for it. The child writes a letter and ends, then the process writes one.
 pub const IN_TURN: &str = "\
     asm p\n\
@@ -273,6 +286,10 @@ pub const BLOCKS: &[(&str, &str)] = &[
     (
         FILLS_FILE,
         "event 0\nevent 1\nout 20 1 f4ffffffffffffff\nran 117 done\n",
+    ),
+    (
+        FILLS_TABLE,
+        "event 0\nevent 1\nout 66 1 f5ffffffffffffff\nran 580 stalled\n",
     ),
     (
         "run 5\nboot p\nfile p 00\nboot p\nfile p 00\nasm q\n bogus\nend\nhello\n",

@@ -1,5 +1,5 @@
 use super::*;
-use crate::tests::{NO_CHILDREN, NO_RANGE, NOT_OPEN, answers, booted, call};
+use crate::tests::{NO_RANGE, NOT_OPEN, answers, booted, call};
 use arn_base::Extra;
 use std::process::Abort;
 use std::test::Fail;
@@ -180,10 +180,12 @@ const RESTARTS: [u8; 131] = [
     0x61, 0x62, 0x70,
 ];
 
-// Errors 2, 8, 17, 22 and 24.
+// Errors 2, 8, 10, 17, 22 and 24.
 const NO_SUCH_FILE: u64 = 0xffff_ffff_ffff_fffe;
 
 const NO_IMAGE: u64 = 0xffff_ffff_ffff_fff8;
+
+const NO_CHILDREN: u64 = 0xffff_ffff_ffff_fff6;
 
 const EXISTS: u64 = 0xffff_ffff_ffff_ffef;
 

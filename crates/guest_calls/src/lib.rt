@@ -10,8 +10,6 @@ mod executing;
 #[cfg(test)]
 mod file_tests;
 mod files;
-#[cfg(test)]
-mod fork_tests;
 mod forking;
 mod kernel;
 mod outcomes;

@@ -72,17 +72,15 @@ const WRITES: [u8; 64] = [
     0x13, 0x05, 0x10, 0x00, 0x13, 0x06, 0x40, 0x00, 0x73, 0x00, 0x00, 0x00,
 ];
 
-// Errors 9, 10, 14 and 38.
+// Errors 9, 14 and 38.
 pub(crate) const NOT_OPEN: u64 = 0xffff_ffff_ffff_fff7;
-
-pub(crate) const NO_CHILDREN: u64 = 0xffff_ffff_ffff_fff6;
 
 pub(crate) const NO_RANGE: u64 = 0xffff_ffff_ffff_fff2;
 
 const NO_CALL: u64 = 0xffff_ffff_ffff_ffda;
 
 // The number of the next event.
-pub(crate) fn next(rt: &impl Abort, kernel: &Kernel) -> u64
+fn next(rt: &impl Abort, kernel: &Kernel) -> u64
     ensures next { IsNext kernel.now result }
     ensures room { kernel.now.events + 1 < 2 ^ 64 }
 {
@@ -124,42 +122,37 @@ fn type_abc(rt: &impl Abort, kernel: &mut Kernel) -> Result<(), Fail> {
     Ok(kernel.type_in(b"abc", event)?)
 }
 
-// A process runs to its next call. False says that there is none within ten instructions.
-fn reaches_call_counted<L: Ledger>(kernel: &mut Kernel, pid: u32, blank: Blank) -> bool
+// Process 1 runs to its next call. False says that there is none within ten instructions.
+fn reaches_call_counted<L: Ledger>(kernel: &mut Kernel, blank: Blank) -> bool
     requires name { blank.name ≡ L.name }
     requires parts { blank.parts ≡ L.parts }
     requires some { 0 < blank.parts }
-    ensures { IsTrue result → IfSome (seen_in kernel.new.guests pid) (λ v. stands_at v ≡ Call) }
+    ensures { IsTrue result → IfSome (seen_in kernel.new.guests 1) (λ v. stands_at v ≡ Call) }
 {
     let mut steps = Steps::<L>::new(blank);
     for _ in 0..10 {
-        if !kernel.is_live(pid) {
+        if !kernel.is_live(1) {
             return false;
         }
-        if kernel.step(pid, &mut steps) == Outcome::Call {
+        if kernel.step(1, &mut steps) == Outcome::Call {
             return true;
         }
     }
     false
 }
 
-fn reaches_call(kernel: &mut Kernel, pid: u32) -> bool
-    ensures { IsTrue result → IfSome (seen_in kernel.new.guests pid) (λ v. stands_at v ≡ Call) }
+fn reaches_call(kernel: &mut Kernel) -> bool
+    ensures { IsTrue result → IfSome (seen_in kernel.new.guests 1) (λ v. stands_at v ≡ Call) }
 {
-    reaches_call_counted::<Brand>(kernel, pid, Blank::new(1))
-}
-
-// The next call of a process.
-pub(crate) fn call_of(rt: &impl Abort, kernel: &mut Kernel, pid: u32) -> Result<Done, CallStop> {
-    assert!(rt; reaches_call(kernel, pid));
-    assert!(rt; kernel.is_live(pid));
-    let event = next(rt, kernel);
-    kernel.perform(pid, event, &mut Told { entry: None })
+    reaches_call_counted::<Brand>(kernel, Blank::new(1))
 }
 
 // The next call of process 1.
 pub(crate) fn call(rt: &impl Abort, kernel: &mut Kernel) -> Result<Done, CallStop> {
-    call_of(rt, kernel, 1)
+    assert!(rt; reaches_call(kernel));
+    assert!(rt; kernel.is_live(1));
+    let event = next(rt, kernel);
+    kernel.perform(1, event, &mut Told { entry: None })
 }
 
 // The next call of process 1 has this result.
