@@ -1,10 +1,11 @@
 -- Pipes after the entry of one changes.
-use Rattle.std.proofs.Common.{◌≡◌, ◌≢◌, ◌⊎◌, inl, inr, ℕ, zero, suc, ◌+◌, ◌<◌, ◌≤◌, List, [], ◌∷◌, ◌++◌, length, get_or, set, Option, None, Some, IsSome, is_some, refl, sym, ap, subst, ◌∙◌, arith, zero-add, add-one}
+use Rattle.std.proofs.Common.{◌≡◌, ◌≢◌, ◌⊎◌, inl, inr, ℕ, zero, suc, ◌+◌, ◌<◌, ◌≤◌, ◌||◌, Bool, true, false, cond, List, [], ◌∷◌, ◌++◌, length, get_or, set, Option, None, Some, IsSome, is_some, Result, Ok, Err, OnOk, IfOk, refl, sym, ap, subst, ◌∙◌, arith, zero-add, add-one}
+use Rattle.std.specs.Prelude.{option_and_then, option_map}
 use Rattle.std.proofs.lemmas.Bool.{cases_eq, cases_lt}
 use Rattle.slab.specs.Slab.{Slab, get, slab_len, with_value, Updates}
 use Rattle.slab.proofs.SlabLemmas.{Updates-with_value}
 use Rattle.parts_model.specs.Numbered.{how_many, nth}
-use Rattle.parts_model.specs.Pipes.{Pipe, Pipes}
+use Rattle.parts_model.specs.Pipes.{End, Pipe, Pipes, end_closed, if_open, with_change, without_end}
 use Rattle.guest_pipes.specs.declared.entries.Entry.{Entry}
 use Rattle.guest_pipes.specs.Table.{HasNumber, IsSound, listed, numbered}
 use Rattle.guest_pipes.proofs.Listed.{get_or-nth, how_many-push, how_many-set_none, how_many-set_some, length-listed_from, listed_from-push, listed_from-same, listed_from-set, nth-listed_from, nth-listed_past, numbered-at, numbered-none, numbered-same, pipe_of}
@@ -83,15 +84,15 @@ module _ (s : Slab Entry) (made key n : ℕ) (e e' : Entry) (is : get s key ≡ 
   had : HasNumber n (get s key)
   had = subst (HasNumber n) (sym is) number
 
-  has_now : HasNumber n (get (with_value s key e') key)
-  has_now = subst (HasNumber n) (sym changes.changed) number'
+  pub has_number : HasNumber n (get (with_value s key e') key)
+  has_number = subst (HasNumber n) (sym changes.changed) number'
 
   only : (m : ℕ) → HasNumber m (Some e') → m ≡ n
   only m has = sym has ∙ number'
 
   numbered-now : numbered (with_value s key e').slots n ≡ Some e'.pipe
   numbered-now =
-      numbered-at (with_value s key e').slots key n has_now (λ k o. once-back s (with_value s key e') key (Some e') changes made n had only sound k o n)
+      numbered-at (with_value s key e').slots key n has_number (λ k o. once-back s (with_value s key e') key (Some e') changes made n had only sound k o n)
       ∙ ap pipe_of changes.changed
 
   pub listed-changed : listed (with_value s key e').slots made ≡ set (listed s.slots made) n (Some e'.pipe)
@@ -199,3 +200,58 @@ pub set-none : (all : Pipes) (i : ℕ) → nth all i ≡ None → set all i None
 set-none [] i is = refl
 set-none (x ∷ all) zero is = ap (λ (y : Option Pipe). y ∷ all) (sym is)
 set-none (x ∷ all) (suc i) is = ap (λ (l : Pipes). x ∷ l) (set-none all i is)
+
+-- a pipe is there exactly where its number is
+pub there-numbered : (ps : Pipes) (slots : List (Option Entry)) (made n : ℕ) → listed slots made ≡ ps → IsSound slots made → IsSome (nth ps n) → IsSome (numbered slots n)
+there-numbered ps slots made n seen sound there = subst IsSome (sym (ap (λ (all : Pipes). nth all n) seen) ∙ nth-listed slots made n sound) there
+
+module _ (ps : Pipes) (s : Slab Entry) (made key n : ℕ) (e : Entry) (seen : listed s.slots made ≡ ps) (is : get s key ≡ Some e) (number : e.number ≡ n) (sound : IsSound s.slots made) where
+  pub found-at : nth ps n ≡ Some e.pipe
+  found-at = sym (ap (λ (all : Pipes). nth all n) seen) ∙ nth-at s made key n e is number sound
+
+  -- a fact of the pipe is one of what is found
+  pub at-found : (P : Option Pipe → Type 0) → P (Some e.pipe) → P (nth ps n)
+  at-found P holds = subst P (sym found-at) holds
+
+  pub set-at : (p : Pipe) → listed (with_value s key (record { number = e.number; pipe = p })).slots made ≡ set ps n (Some p)
+  set-at p =
+      listed-changed s made key n e (record { number = e.number; pipe = p }) is number number sound
+      ∙ ap (λ (all : Pipes). set all n (Some p)) seen
+
+  -- a change of the pipe
+  pub changed-at : (change : Pipe → Pipe) (p : Pipe) → p ≡ change e.pipe → listed (with_value s key (record { number = e.number; pipe = p })).slots made ≡ with_change ps n change
+  changed-at change p same =
+      set-at p
+      ∙ ap (λ (q : Pipe). set ps n (Some q)) same
+      ∙ ap (λ (o : Option Pipe). set ps n (option_map change o)) (sym found-at)
+
+  -- an end fewer
+  pub closed-at : (new : Pipes) (end : End) (o : Option Pipe) → o ≡ without_end end e.pipe → new ≡ set ps n o → new ≡ end_closed ps n end
+  closed-at new end o same is_set =
+      is_set
+      ∙ ap (λ (p : Option Pipe). set ps n p) same
+      ∙ ap (λ (p : Option Pipe). set ps n (option_and_then (without_end end) p)) (sym found-at)
+
+-- an end of a pipe that isn't there
+pub end_closed-absent : (ps : Pipes) (n : ℕ) (end : End) → nth ps n ≡ None → ps ≡ end_closed ps n end
+end_closed-absent ps n end none = sym (ap (λ (p : Option Pipe). set ps n (option_and_then (without_end end) p)) none ∙ set-none ps n none)
+
+pub set-set : (all : Pipes) (n : ℕ) (p q : Option Pipe) → set (set all n p) n q ≡ set all n q
+set-set [] n p q = refl
+set-set (x ∷ all) zero p q = refl
+set-set (x ∷ all) (suc n) p q = ap (λ (l : Pipes). x ∷ l) (set-set all n p q)
+
+pub OnOk-map : {T E : Type 0} (r : Result T E) (P Q : Type 0) → (P → Q) → OnOk r P → OnOk r Q
+OnOk-map (Ok v) P Q f h = f h
+OnOk-map (Err e) P Q f h = tt
+
+pub IfOk-map : {T E : Type 0} (r : Result T E) (P Q : T → Type 0) → ((v : T) → P v → Q v) → IfOk r P → IfOk r Q
+IfOk-map (Ok v) P Q f h = f v h
+IfOk-map (Err e) P Q f h = tt
+
+-- whether an end is open still
+pub if_open-not : (p : Pipe) → p.has_reader || p.has_writer ≡ false → if_open p ≡ None
+if_open-not p is = ap (λ (b : Bool). cond b (Some p) None) is
+
+pub if_open-still : (p : Pipe) → p.has_reader || p.has_writer ≡ true → if_open p ≡ Some p
+if_open-still p is = ap (λ (b : Bool). cond b (Some p) None) is

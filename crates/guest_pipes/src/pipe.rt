@@ -92,19 +92,16 @@ impl Pipe {
         !self.queue.is_empty() || !self.has_writer
     }
 
-    pub fn is_open(&self) -> bool
-        ensures { result ≡ self.now.has_reader || self.now.has_writer }
-    {
-        self.has_reader || self.has_writer
-    }
-
-    pub fn close(&mut self, side: Side)
-        ensures { if_open self.new ≡ without_end (end_of side) self.old }
+    /// Closes an end, and answers whether one is open still.
+    pub fn close(&mut self, side: Side) -> bool
+        ensures closed { if_open self.new ≡ without_end (end_of side) self.old }
+        ensures open { result ≡ self.new.has_reader || self.new.has_writer }
     {
         match side {
             Side::Reader => self.has_reader = false,
             Side::Writer => self.has_writer = false,
         }
+        self.has_reader || self.has_writer
     }
 
     // How many further bytes can be counted.

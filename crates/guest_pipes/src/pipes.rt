@@ -148,8 +148,7 @@ impl Pipes {
             Some(key) => key,
             None => return,
         };
-        self.table[key].pipe.close(side);
-        if !self.table[key].pipe.is_open() {
+        if !self.table[key].pipe.close(side) {
             let _ = self.table.remove(key);
         }
     }
