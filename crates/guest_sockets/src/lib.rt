@@ -1,13 +1,10 @@
-// A library with one function.
+//! Ports that are listened to, and the connections that wait at them.
 #![tactic(auto)]
 
-ghost use Rattle.std.specs.Prelude.{◌≡◌};
-ghost use Rattle.guest_sockets.specs.Echo.{echo_of};
+mod errors;
+mod port;
+mod ports;
 
-// The `ensures` clause is the contract: what `echo` returns is `echo_of` of its argument, a definition
-// in `specs/Echo.antt`, which a caller's clause can cite too.
-pub fn echo(x: usize) -> usize
-    ensures { result ≡ echo_of x }
-{
-    x
-}
+pub use errors::PortError;
+pub use parts_model::Conn;
+pub use ports::Ports;

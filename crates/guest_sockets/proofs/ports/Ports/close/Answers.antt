@@ -1,0 +1,24 @@
+use Rattle.std.proofs.Common.{◌≡◌, false, Option, None, Some, Ok, Err, IfOk, IsFalse, IsNone, is_some, drop, sym, ap, subst, ◌∙◌, refl}
+use Rattle.std.specs.List.{position}
+use Rattle.parts_model.specs.declared.open.Conn.{Conn}
+use Rattle.parts_model.specs.Ports.{Port, Ports, freed, oldest}
+use Rattle.guest_sockets.specs.declared.errors.PortError.{PortError}
+use Rattle.guest_sockets.specs.Answers.{waiting_of}
+use Rattle.guest_sockets.specs.Sound.{AreApart}
+use Rattle.guest_sockets.proofs.Places.{AreApart-push, OnOk-always, OnOk-map, apart-freed, apart-here, can_connect-here, can_connect-none, changed-here, freed-here, freed-none, has, in_use-found, none-here, oldest-here, oldest-none, port-here}
+use Rattle.guest_sockets.proofs.ports.Ports.close.Goals as goal
+
+pub invariant_of-self : goal.invariant_of-self
+invariant_of-self c = subst AreApart (sym c.remove.ensures.items) (apart-freed c.args.self.now c.self.inside.all.items c.args.port c.in-Some.place _ c.self.view_is (sym (ap (position (has c.args.port)) c.deref.ensures.value) ∙ sym c.place_of.ensures ∙ c.in-Some.is) c.remove.ensures.value c.self.invariant)
+
+pub returns-in-Some-clause-freed : goal.returns-in-Some-clause-freed
+returns-in-Some-clause-freed c = c.remove.ensures.items ∙ freed-here c.args.self.now c.self.inside.all.items c.args.port c.in-Some.place _ c.self.view_is (sym (ap (position (has c.args.port)) c.deref.ensures.value) ∙ sym c.place_of.ensures ∙ c.in-Some.is) c.remove.ensures.value c.self.invariant
+
+pub returns-in-Some-clause-waiting : goal.returns-in-Some-clause-waiting
+returns-in-Some-clause-waiting c = c.into_waiting.ensures ∙ sym (ap waiting_of (port-here c.args.self.now c.self.inside.all.items c.args.port c.in-Some.place _ c.self.view_is (sym (ap (position (has c.args.port)) c.deref.ensures.value) ∙ sym c.place_of.ensures ∙ c.in-Some.is) c.remove.ensures.value c.self.invariant))
+
+pub returns-in-None-clause-freed : goal.returns-in-None-clause-freed
+returns-in-None-clause-freed c = sym (freed-none c.args.self.now c.args.port (none-here c.args.self.now c.self.inside.all.items c.args.port c.self.view_is (sym (ap (position (has c.args.port)) c.deref.ensures.value) ∙ sym c.place_of.ensures ∙ c.in-None.is)))
+
+pub returns-in-None-clause-waiting : goal.returns-in-None-clause-waiting
+returns-in-None-clause-waiting c = c.new.ensures.items ∙ sym (ap waiting_of (none-here c.args.self.now c.self.inside.all.items c.args.port c.self.view_is (sym (ap (position (has c.args.port)) c.deref.ensures.value) ∙ sym c.place_of.ensures ∙ c.in-None.is)))

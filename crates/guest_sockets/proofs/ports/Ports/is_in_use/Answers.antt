@@ -1,0 +1,13 @@
+use Rattle.std.proofs.Common.{◌≡◌, false, Option, None, Some, Ok, Err, IfOk, IsFalse, IsNone, is_some, drop, sym, ap, subst, ◌∙◌, refl}
+use Rattle.std.specs.List.{position}
+use Rattle.parts_model.specs.declared.open.Conn.{Conn}
+use Rattle.parts_model.specs.Ports.{Port, Ports, freed, oldest}
+use Rattle.guest_sockets.specs.declared.errors.PortError.{PortError}
+use Rattle.guest_sockets.specs.Answers.{waiting_of}
+use Rattle.guest_sockets.proofs.Places.{AreApart-push, OnOk-always, OnOk-map, apart-freed, apart-here, can_connect-here, can_connect-none, changed-here, freed-here, freed-none, has, in_use-found, none-here, oldest-here, oldest-none, port-here}
+use Rattle.guest_sockets.proofs.ports.Ports.is_in_use.Goals as goal
+
+pub returns : goal.returns
+returns c =
+    c.is_some.ensures ∙ ap is_some (c.place_of.ensures ∙ ap (position (has c.args.port)) c.deref.ensures.value)
+    ∙ in_use-found c.args.self.now c.self.inside.all.items c.args.port c.self.view_is
