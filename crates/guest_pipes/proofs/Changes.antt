@@ -1,5 +1,5 @@
 -- Pipes after the entry of one changes.
-use Rattle.std.proofs.Common.{◌≡◌, ◌≢◌, ◌⊎◌, inl, inr, ℕ, zero, suc, ◌+◌, ◌<◌, ◌≤◌, ◌||◌, Bool, true, false, cond, List, [], ◌∷◌, ◌++◌, length, get_or, set, Option, None, Some, IsSome, is_some, Result, Ok, Err, OnOk, IfOk, refl, sym, ap, subst, ◌∙◌, arith, zero-add, add-one}
+use Rattle.std.proofs.Common.{◌≡◌, ◌≢◌, ◌⊎◌, inl, inr, ℕ, zero, suc, ◌+◌, ◌<◌, ◌≤◌, ◌||◌, Bool, true, false, cond, List, [], ◌∷◌, ◌++◌, length, get_or, set, Option, None, Some, IsSome, is_some, Result, Ok, Err, OnOk, IfOk, IfSome, IfNone, take, true≢false, refl, sym, ap, subst, ◌∙◌, arith, zero-add, add-one}
 use Rattle.std.specs.Prelude.{option_and_then, option_map}
 use Rattle.std.proofs.lemmas.Bool.{cases_eq, cases_lt}
 use Rattle.slab.specs.Slab.{Slab, get, slab_len, with_value, Updates}
@@ -8,7 +8,7 @@ use Rattle.parts_model.specs.Numbered.{how_many, nth}
 use Rattle.parts_model.specs.Pipes.{End, Pipe, Pipes, end_closed, if_open, with_change, without_end}
 use Rattle.guest_pipes.specs.declared.entries.Entry.{Entry}
 use Rattle.guest_pipes.specs.Table.{HasNumber, IsSound, listed, numbered}
-use Rattle.guest_pipes.proofs.Listed.{get_or-nth, how_many-push, how_many-set_none, how_many-set_some, length-listed_from, listed_from-push, listed_from-same, listed_from-set, nth-listed_from, nth-listed_past, numbered-at, numbered-none, numbered-same, pipe_of}
+use Rattle.guest_pipes.proofs.Listed.{get_or-nth, how_many-push, how_many-push_none, how_many-set_none, how_many-set_some, length-listed_from, listed_from-push, listed_from-same, listed_from-set, nth-listed_from, nth-listed_past, numbered-at, numbered-none, numbered-same, pipe_of, take-listed_from}
 
 -- an entry has one number
 same_number : (n m : ℕ) (o : Option Entry) → HasNumber n o → HasNumber m o → m ≡ n
@@ -31,6 +31,15 @@ nth-at s made key n e is number sound =
     nth-listed s.slots made n sound
     ∙ numbered-at s.slots key n (subst (HasNumber n) (sym is) number) (λ k o. sound.once k o n)
     ∙ ap pipe_of is
+
+has_pipe : (n : ℕ) (o : Option Entry) → HasNumber n o → IsSome (pipe_of o)
+has_pipe n None has = absurd has
+has_pipe n (Some e) has = refl
+
+-- a number that an entry has is that of a pipe that is there
+pub nth-has : (s : Slab Entry) (made key n : ℕ) → HasNumber n (get s key) → IsSound s.slots made → IsSome (nth (listed s.slots made) n)
+nth-has s made key n was sound =
+    subst IsSome (sym (nth-listed s.slots made n sound ∙ numbered-at s.slots key n was (λ k o. sound.once k o n))) (has_pipe n (get s key) was)
 
 module _ (s t : Slab Entry) (key : ℕ) (x : Option Entry) (updates : Updates s t key x) where
   -- a key other than the changed one keeps its numbers
@@ -56,10 +65,10 @@ module _ (s t : Slab Entry) (key : ℕ) (x : Option Entry) (updates : Updates s 
     once-back : (k o m : ℕ) → HasNumber m (get t k) → HasNumber m (get t o) → k ≡ o
     once-back k o m here there = sound.once k o m (number-back k m here) (number-back o m there)
 
-    numbered-other : (m : ℕ) → m ≢ n → numbered t.slots m ≡ numbered s.slots m
+    pub numbered-other : (m : ℕ) → m ≢ n → numbered t.slots m ≡ numbered s.slots m
     numbered-other m other =
         let kept : (k : ℕ) → HasNumber m (get s k) → get t k ≡ get s k =
-            λ k here. updates.others k (λ same. other (same_number n m (get s key) was (subst (λ (j : ℕ). HasNumber m (get s j)) same here))) in
+        λ k here. updates.others k (λ same. other (same_number n m (get s key) was (subst (λ (j : ℕ). HasNumber m (get s j)) same here))) in
         numbered-same s.slots t.slots m (λ k o. sound.once k o m) (λ k o. once-back k o m) kept (λ k here. kept k (number-back k m here))
 
     listed-set : listed t.slots made ≡ set (listed s.slots made) n (numbered t.slots n)
@@ -68,13 +77,7 @@ module _ (s t : Slab Entry) (key : ℕ) (x : Option Entry) (updates : Updates s 
         ∙ ap (λ (i : ℕ). set (listed s.slots made) n (numbered t.slots i)) (zero-add n)
 
     was-listed : IsSome (get_or (listed s.slots made) n None)
-    was-listed =
-        let there : IsSome (pipe_of (get s key)) = is_there (get s key) was in
-        subst IsSome (sym (get_or-nth (listed s.slots made) n ∙ nth-listed s.slots made n sound ∙ numbered-at s.slots key n was (λ k o. sound.once k o n))) there
-      where
-        is_there : (o : Option Entry) → HasNumber n o → IsSome (pipe_of o)
-        is_there None has = absurd has
-        is_there (Some e) has = refl
+    was-listed = subst IsSome (sym (get_or-nth (listed s.slots made) n)) (nth-has s made key n was sound)
 
 -- another pipe under the same number
 module _ (s : Slab Entry) (made key n : ℕ) (e e' : Entry) (is : get s key ≡ Some e) (number : e.number ≡ n) (number' : e'.number ≡ n) (sound : IsSound s.slots made) where
@@ -115,11 +118,11 @@ module _ (s t : Slab Entry) (made key n : ℕ) (updates : Updates s t key None) 
   gone : (m : ℕ) → HasNumber m None → m ≡ n
   gone m has = absurd has
 
-  numbered-gone : numbered t.slots n ≡ None
+  pub numbered-gone : numbered t.slots n ≡ None
   numbered-gone =
       numbered-none t.slots n (λ k here.
-        let same : k ≡ key = sound.once k key n (number-back s t key None updates made n was gone sound k n here) was in
-        number-here s t key None updates k n same here)
+      let same : k ≡ key = sound.once k key n (number-back s t key None updates made n was gone sound k n here) was in
+      number-here s t key None updates k n same here)
 
   pub listed-removed : listed t.slots made ≡ set (listed s.slots made) n None
   listed-removed = listed-set s t key None updates made n was gone sound ∙ ap (set (listed s.slots made) n) numbered-gone
@@ -255,3 +258,46 @@ if_open-not p is = ap (λ (b : Bool). cond b (Some p) None) is
 
 pub if_open-still : (p : Pipe) → p.has_reader || p.has_writer ≡ true → if_open p ≡ Some p
 if_open-still p is = ap (λ (b : Bool). cond b (Some p) None) is
+
+-- a key is found exactly where the pipe is there
+pub found-there : (ps : Pipes) (s : Slab Entry) (made n : ℕ) → listed s.slots made ≡ ps → IsSound s.slots made → (o : Option ℕ) → IfSome o (λ key. HasNumber n (get s key)) → IfNone o (numbered s.slots n ≡ None) → is_some o ≡ is_some (nth ps n)
+found-there ps s made n seen sound None found gone =
+    sym (ap is_some (sym (ap (λ (all : Pipes). nth all n) seen) ∙ nth-listed s.slots made n sound ∙ gone))
+found-there ps s made n seen sound (Some key) found gone =
+    sym (ap (λ (all : Pipes). is_some (nth all n)) (sym seen) ∙ nth-has s made key n found sound)
+
+-- the pipes without the last number, whose pipe is gone
+module _ (slots : List (Option Entry)) (made m : ℕ) (is : made ≡ m + 1) (none : numbered slots m ≡ None) (sound : IsSound slots made) where
+  pub listed-shorter : listed slots m ≡ take m (listed slots made)
+  listed-shorter = take-listed_from slots 0 m ∙ ap (λ (k : ℕ). take m (listed slots k)) (sym (is ∙ add-one m))
+
+  pub IsSound-shorter : IsSound slots m
+  IsSound-shorter =
+      let counts = how_many-push_none (listed slots m) in
+      let all : listed slots made ≡ listed slots m ++ None ∷ [] =
+      ap (listed slots) (is ∙ add-one m) ∙ listed_from-push slots 0 m ∙ ap (λ (p : Option Pipe). listed slots m ++ p ∷ []) (ap (numbered slots) (zero-add m) ∙ none) in
+      let now : how_many (listed slots made) ≡ how_many (listed slots m ++ None ∷ []) = ap how_many all in
+      record {
+        given = λ key n here. below key n here (cases_eq n m);
+        once = sound.once;
+        counted = omega (arith, sound.counted, now, counts);
+      }
+    where
+      below : (key n : ℕ) → HasNumber n (get_or slots key None) → (n ≡ m) ⊎ (n ≢ m) → n < m
+      below key n here (inl same) =
+          let has : HasNumber m (get_or slots key None) = subst (λ (k : ℕ). HasNumber k (get_or slots key None)) same here in
+          let there = has_pipe m (get_or slots key None) has in
+          absurd (true≢false (sym there ∙ ap is_some (sym (numbered-at slots key m has (λ k o. sound.once k o m)) ∙ none)))
+      below key n here (inr other) =
+          let given = sound.given key n here in
+          strictly (cases_lt n m) given
+        where
+          strictly : (n < m) ⊎ (m ≤ n) → n < made → n < m
+          strictly (inl less) before = less
+          strictly (inr more) before = absurd (other (omega (arith, is, more, before)))
+
+-- the pipes without the last, of which an entry was taken away
+pub listed-taken : (s t : Slab Entry) (made m key : ℕ) (is : made ≡ m + 1) (updates : Updates s t key None) (was : HasNumber m (get s key)) (sound : IsSound s.slots made) → listed t.slots m ≡ take m (listed s.slots made)
+listed-taken s t made m key is updates was sound =
+    listed_from-same s.slots t.slots 0 m (λ n above below. numbered-other s t key None updates made m was (λ k has. absurd has) sound n (λ same. absurd (omega (arith, same, below))))
+    ∙ take-listed_from s.slots 0 m ∙ ap (λ (k : ℕ). take m (listed s.slots k)) (sym (is ∙ add-one m))

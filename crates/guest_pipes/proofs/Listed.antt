@@ -1,5 +1,5 @@
 -- Pipes in order of number.
-use Rattle.std.proofs.Common.{◌≡◌, ◌≢◌, ℕ, zero, suc, ◌+◌, ◌<◌, ◌≤◌, ◌==◌, Bool, true, false, cond, List, [], ◌∷◌, ◌++◌, length, get_or, set, Option, None, Some, IsSome, is_some, refl, sym, ap, ◌∙◌, arith, true≢false, eq-eqb, eqb-true}
+use Rattle.std.proofs.Common.{◌≡◌, ◌≢◌, ℕ, zero, suc, ◌+◌, ◌<◌, ◌≤◌, ◌==◌, Bool, true, false, cond, List, [], ◌∷◌, ◌++◌, length, get_or, set, take, Option, None, Some, IsSome, is_some, refl, sym, ap, ◌∙◌, arith, true≢false, eq-eqb, eqb-true}
 use Rattle.std.specs.Prelude.{option_map}
 use Rattle.std.proofs.lemmas.List.Sums.{sum_by-append, sum_by-set}
 use Rattle.parts_model.specs.Numbered.{how_many, nth}
@@ -65,8 +65,8 @@ numbered-same old new n once once' kept none = by (numbered old n) refl
     by : (o : Option Pipe) → numbered old n ≡ o → numbered new n ≡ numbered old n
     by None is =
         numbered-none new n (λ key here.
-          let was : HasNumber n (slot old key) = rw (← none key here) here in
-          IsSome-of n (slot old key) was (sym (numbered-at old key n was once) ∙ is))
+        let was : HasNumber n (slot old key) = rw (← none key here) here in
+        IsSome-of n (slot old key) was (sym (numbered-at old key n was once) ∙ is))
         ∙ sym is
     by (Some p) is =
         let found = key-of old n (ap is_some is) in
@@ -112,6 +112,10 @@ listed_from-push slots n (suc count) =
     ap (λ (ps : Pipes). numbered slots n ∷ ps)
     (listed_from-push slots (n + 1) count ∙ ap (λ (k : ℕ). listed_from slots (n + 1) count ++ numbered slots k ∷ []) (omega arith))
 
+pub take-listed_from : (slots : List (Option Entry)) (n count : ℕ) → listed_from slots n count ≡ take count (listed_from slots n (suc count))
+take-listed_from slots n zero = refl
+take-listed_from slots n (suc count) = ap (λ (ps : Pipes). numbered slots n ∷ ps) (take-listed_from slots (n + 1) count)
+
 module _ {A : Type 0} where
   pub IsSome-within : (all : List (Option A)) (n : ℕ) → IsSome (get_or all n None) → n < length all
   IsSome-within [] n there = absurd (true≢false (sym there))
@@ -141,3 +145,7 @@ module _ {A : Type 0} where
   pub how_many-push : (all : List (Option A)) (a : A) → how_many (all ++ Some a ∷ []) ≡ how_many all + 1
   unfolding one
   how_many-push all a = sum_by-append one all (Some a ∷ [])
+
+  pub how_many-push_none : (all : List (Option A)) → how_many (all ++ None ∷ []) ≡ how_many all
+  unfolding one
+  how_many-push_none all = omega (arith, sum_by-append one all (None ∷ []))

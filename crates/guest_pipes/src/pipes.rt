@@ -1,5 +1,5 @@
 // Pipes by number.
-ghost use Rattle.std.specs.Prelude.{◌≡◌, ◌≤◌, ◌<◌, ◌^◌, ◌↔◌, IfOk, IfErr, IfSome, IsTrue, OnOk, OnErr, Err, Some, length, min, not, option_map, []};
+ghost use Rattle.std.specs.Prelude.{◌≡◌, ◌≤◌, ◌<◌, ◌^◌, ◌↔◌, IfOk, IfErr, IfSome, IsTrue, OnOk, OnErr, Err, Some, length, min, not, option_map, take, ◌-◌, []};
 ghost use Rattle.parts_model.specs.Channel.{front};
 ghost use Rattle.parts_model.specs.Numbered.{nth};
 ghost use Rattle.parts_model.specs.Pipes.{can_put as has_place, can_take as has_bytes, end_closed, free_pipes, pipe_made, room, with_change, with_put, with_taken};
@@ -55,6 +55,13 @@ impl Pipes {
         self.made
     }
 
+    /// Whether the pipe of a number is there.
+    pub fn is_there(&self, pipe: u32) -> bool
+        ensures { IsTrue result ↔ IsThere self.now pipe }
+    {
+        find_key(&self.table, pipe).is_some()
+    }
+
     /// How many more pipes there may be.
     pub fn free(&self) -> u32
         ensures { result ≡ free_pipes self.now }
@@ -80,6 +87,19 @@ impl Pipes {
         self.table.insert_reserved(Entry { number, pipe });
         self.made += 1;
         Ok(number)
+    }
+
+    /// Takes the last pipe back, as if it weren't made.
+    pub fn remove_last(&mut self)
+        ensures { self.new ≡ take (length self.old - 1) self.old }
+    {
+        if self.made == 0 {
+            return;
+        }
+        self.made -= 1;
+        if let Some(key) = find_key(&self.table, self.made) {
+            let _ = self.table.remove(key);
+        }
     }
 
     /// Puts bytes of an event into a pipe, as many as there is room for, and answers how many.

@@ -1,5 +1,5 @@
 -- Ports by the places where they stand.
-use Rattle.std.proofs.Common.{◌≡◌, ℕ, zero, suc, ◌+◌, ◌<◌, ◌≤◌, ◌==◌, nat_lt, not, Bool, true, false, cond, List, [], ◌∷◌, ◌++◌, length, get_or, set, Option, None, Some, is_some, Result, Ok, Err, OnOk, refl, sym, ap, subst, ◌∙◌, arith, true≢false, eq-eqb, eqb-true}
+use Rattle.std.proofs.Common.{◌≡◌, ℕ, zero, suc, ◌+◌, ◌<◌, ◌≤◌, ◌==◌, nat_lt, not, Bool, true, false, cond, [], ◌∷◌, ◌++◌, length, get_or, set, Option, None, Some, is_some, Result, Ok, Err, OnOk, refl, sym, ap, subst, ◌∙◌, arith, true≢false, eq-eqb, eqb-true}
 use Rattle.std.specs.Prelude.{option_and_then, slice_get, unwrap_or}
 use Rattle.std.specs.List.{position, position_or_len, remove}
 use Rattle.std.proofs.lemmas.Bool.{ltb-true, ltb-false}
@@ -56,6 +56,7 @@ taken n ps i found = by (nat_lt (position_or_len (has n) ps) (length ps)) refl f
         either : (b : Bool) → cond (not b) (1 + position_or_len (has n) all) 0 < suc (length all) → (position_or_len (has n) all < length all → is_in_use all n ≡ true) → is_some (cond b (Some q) (port_at all n)) ≡ true
         either true front rest = refl
         either false front rest = rest (omega (arith, front))
+
     by : (b : Bool) → nat_lt (position_or_len (has n) ps) (length ps) ≡ b → cond b (Some (position_or_len (has n) ps)) None ≡ Some i → is_in_use ps n ≡ true
     by true is place = in_use ps (ltb-true (position_or_len (has n) ps) (length ps) is)
     by false is place = absurd (true≢false (sym (ap is_some place)))
@@ -149,6 +150,7 @@ in_use-with_port (q ∷ ps) n change m keeps = by (q.number == n) (in_use-with_p
         either : (b : Bool) → is_in_use (with_port ps n change) m ≡ is_in_use ps m → is_some (cond b (Some r) (port_at (with_port ps n change) m)) ≡ is_some (cond b (Some q) (port_at ps m))
         either true rest' = refl
         either false rest' = rest'
+
     by : (b : Bool) → is_in_use (with_port ps n change) m ≡ is_in_use ps m → is_in_use (cond b (change q) q ∷ with_port ps n change) m ≡ is_in_use (q ∷ ps) m
     by true rest = once (change q) (keeps q) rest
     by false rest = once q refl rest

@@ -1,6 +1,6 @@
 -- Ports as they are kept.
-use Rattle.std.specs.Prelude.{◌≡◌, false, List, [], ◌∷◌}
-use Rattle.parts_model.specs.Ports.{Port, Ports, is_in_use}
+use Rattle.std.specs.Prelude.{◌≡◌, false, [], ◌∷◌}
+use Rattle.parts_model.specs.Ports.{Ports, is_in_use}
 
 -- no number stands twice
 abbrev pub AreApart : Ports → Type 0

@@ -1,4 +1,4 @@
-use Rattle.std.proofs.Common.{◌≡◌, ◌<◌, ℕ, List, [], length, refl, arith, Option, None, Some, sym, ap, subst, inl, inr, ◌∙◌, Contains}
+use Rattle.std.proofs.Common.{◌≡◌, ◌<◌, ℕ, [], length, refl, arith, Option, None, Some, sym, ap, subst, inl, inr, ◌∙◌}
 use Rattle.slab.specs.Slab.{get}
 use Rattle.slab.proofs.SlabLemmas.{Contains-cons, Contains-cons_cases, Contains-entries}
 use Rattle.guest_pipes.specs.declared.entries.Entry.{Entry}

@@ -1,5 +1,4 @@
-use Rattle.std.proofs.Common.{◌≡◌, ◌+◌, length, ap, sym, ◌∙◌, arith, length-append}
-use Rattle.parts_model.specs.Channel.{Channel}
+use Rattle.std.proofs.Common.{◌+◌, length, ap, ◌∙◌, arith, length-append}
 use Rattle.parts_model.specs.Pipes.{Pipe}
 use Rattle.guest_pipes.proofs.Queues.{length-held_from}
 use Rattle.guest_pipes.proofs.pipe.Pipe.append.Goals as goal

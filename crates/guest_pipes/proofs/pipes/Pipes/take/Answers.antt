@@ -1,11 +1,11 @@
-use Rattle.std.proofs.Common.{◌≡◌, ℕ, Option, Some, Err, IfOk, IsTrue, length, min, not, ap, subst}
+use Rattle.std.proofs.Common.{◌≡◌, Option, Some, Err, IfOk, IsTrue, not, ap, subst}
 use Rattle.std.specs.Prelude.{option_map}
 use Rattle.arn_base.specs.declared.records.Give.{Give}
 use Rattle.parts_model.specs.Channel.{front}
-use Rattle.parts_model.specs.Pipes.{Pipe, can_take, room, with_put, with_taken}
+use Rattle.parts_model.specs.Pipes.{Pipe, can_take, with_taken}
 use Rattle.parts_model.specs.Tagged.{given}
 use Rattle.guest_pipes.specs.declared.errors.PipeError.{PipeError}
-use Rattle.guest_pipes.specs.Answers.{has_to_wait, holds}
+use Rattle.guest_pipes.specs.Answers.{holds}
 use Rattle.guest_pipes.specs.Table.{HasNumber}
 use Rattle.guest_pipes.proofs.Changes.{IfOk-map, IsSound-changed, OnOk-map, at-found, changed-at, there-numbered}
 use Rattle.guest_pipes.proofs.pipes.Pipes.take.Goals as goal

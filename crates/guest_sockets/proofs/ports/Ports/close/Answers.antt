@@ -1,11 +1,8 @@
-use Rattle.std.proofs.Common.{◌≡◌, false, Option, None, Some, Ok, Err, IfOk, IsFalse, IsNone, is_some, drop, sym, ap, subst, ◌∙◌, refl}
+use Rattle.std.proofs.Common.{sym, ap, subst, ◌∙◌}
 use Rattle.std.specs.List.{position}
-use Rattle.parts_model.specs.declared.open.Conn.{Conn}
-use Rattle.parts_model.specs.Ports.{Port, Ports, freed, oldest}
-use Rattle.guest_sockets.specs.declared.errors.PortError.{PortError}
 use Rattle.guest_sockets.specs.Answers.{waiting_of}
 use Rattle.guest_sockets.specs.Sound.{AreApart}
-use Rattle.guest_sockets.proofs.Places.{AreApart-push, OnOk-always, OnOk-map, apart-freed, apart-here, can_connect-here, can_connect-none, changed-here, freed-here, freed-none, has, in_use-found, none-here, oldest-here, oldest-none, port-here}
+use Rattle.guest_sockets.proofs.Places.{apart-freed, freed-here, freed-none, has, none-here, port-here}
 use Rattle.guest_sockets.proofs.ports.Ports.close.Goals as goal
 
 pub invariant_of-self : goal.invariant_of-self

@@ -1,10 +1,7 @@
-use Rattle.std.proofs.Common.{◌≡◌, false, Option, None, Some, Ok, Err, IfOk, IsFalse, IsNone, is_some, drop, sym, ap, subst, ◌∙◌, refl}
+use Rattle.std.proofs.Common.{◌≡◌, Err, IsFalse, sym, ap, subst, ◌∙◌, refl}
 use Rattle.std.specs.List.{position}
-use Rattle.parts_model.specs.declared.open.Conn.{Conn}
-use Rattle.parts_model.specs.Ports.{Port, Ports, freed, oldest}
 use Rattle.guest_sockets.specs.declared.errors.PortError.{PortError}
-use Rattle.guest_sockets.specs.Answers.{waiting_of}
-use Rattle.guest_sockets.proofs.Places.{AreApart-push, OnOk-always, OnOk-map, apart-freed, apart-here, can_connect-here, can_connect-none, changed-here, freed-here, freed-none, has, in_use-found, none-here, oldest-here, oldest-none, port-here}
+use Rattle.guest_sockets.proofs.Places.{OnOk-map, apart-here, can_connect-here, can_connect-none, changed-here, has, none-here}
 use Rattle.guest_sockets.proofs.ports.Ports.connect.Goals as goal
 
 pub invariant_of-self : goal.invariant_of-self
