@@ -1,6 +1,6 @@
 // Pipes under keys that are used again, each with its number.
 ghost use Rattle.std.specs.Prelude.{◌≡◌, IfSome, IfNone, IsSome, None};
-ghost use Rattle.slab.specs.Slab.{Slab, get};
+ghost use Rattle.slab.specs.Slab.{get};
 ghost use Rattle.guest_pipes.specs.Table.{HasNumber, numbered};
 
 use crate::pipe::Pipe;

@@ -111,12 +111,14 @@ impl Pipe {
         u64::MAX - self.taken - self.queue.len() as u64
     }
 
-    /// Puts bytes of an event behind the others, as many as there is room for, and answers how many.
+    /// Puts bytes of an event behind the others, as many as there is room for, and answers how
+    /// many. NoMemory says too that 2^64 bytes were put.
     pub fn put(&mut self, bytes: &[u8], event: u64) -> Result<u32, PipeError>
         ensures put { OnOk result (self.new ≡ with_put self.old bytes.now event) }
         ensures count { IfOk result (λ count. count ≡ min (length bytes.now) (room self.old)) }
         ensures broken { (result ≡ Err PipeError.Broken) ↔ IsTrue (not self.old.has_reader) }
-        ensures not_ready { (result ≡ Err PipeError.NotReady) ↔ IsTrue (has_to_wait bytes.now self.old) }
+        ensures not_ready { (result ≡ Err PipeError.NotReady) ↔
+            IsTrue (has_to_wait bytes.now self.old) }
         ensures answers { IfErr result IsPutError }
         ensures err { OnErr result (self.new ≡ self.old) }
     {

@@ -1,5 +1,5 @@
 // Pipes by number.
-ghost use Rattle.std.specs.Prelude.{◌≡◌, ◌≤◌, ◌<◌, ◌^◌, ◌↔◌, IfOk, IfErr, IfSome, IsTrue, OnOk, OnErr, Err, Some, length, min, not, option_map, take, ◌-◌, []};
+ghost use Rattle.std.specs.Prelude.{◌≡◌, ◌≤◌, ◌<◌, ◌^◌, ◌↔◌, IfOk, IfErr, IsTrue, OnOk, OnErr, Err, Some, length, min, not, option_map, take, ◌-◌, []};
 ghost use Rattle.parts_model.specs.Channel.{front};
 ghost use Rattle.parts_model.specs.Numbered.{nth};
 ghost use Rattle.parts_model.specs.Pipes.{can_put as has_place, can_take as has_bytes, end_closed, free_pipes, pipe_made, room, with_change, with_put, with_taken};
@@ -103,6 +103,7 @@ impl Pipes {
     }
 
     /// Puts bytes of an event into a pipe, as many as there is room for, and answers how many.
+    /// NoMemory says too that 2^64 bytes were put into the pipe.
     pub fn put(&mut self, pipe: u32, bytes: &[u8], event: u64) -> Result<u32, PipeError>
         requires there { IsThere self.old pipe }
 
