@@ -97,14 +97,21 @@ impl Ports {
         }
     }
 
+    /// The connection that has waited longest at a port.
+    pub fn oldest(&self, port: u16) -> Option<Conn>
+        ensures { result ≡ oldest self.now port }
+    {
+        match place_of(&self.all, port) {
+            Some(place) => self.all[place].oldest(),
+            None => None,
+        }
+    }
+
     /// Whether a connection waits at a port.
     pub fn can_accept(&self, port: u16) -> bool
         ensures { result ≡ is_some (oldest self.now port) }
     {
-        match place_of(&self.all, port) {
-            Some(place) => self.all[place].oldest().is_some(),
-            None => false,
-        }
+        self.oldest(port).is_some()
     }
 
     /// Takes the connection that has waited longest at a port.
