@@ -12,6 +12,10 @@ mod images;
 #[cfg(test)]
 mod origins;
 #[cfg(test)]
+mod pipes;
+#[cfg(test)]
+mod ports;
+#[cfg(test)]
 mod processes;
 #[cfg(test)]
 mod signals;
