@@ -1,19 +1,15 @@
 -- A question begins with one keyword, and reads one way.
-use Rattle.std.proofs.Common.{◌≡◌, ◌≢◌, ℕ, Bool, true, false, eq-eqb, ◌==◌, List, [], ◌∷◌, ◌++◌, get_or, drop, codes, refl, sym, ap, subst, ◌∙◌}
+use Rattle.std.proofs.Common.{◌≡◌, ◌≢◌, ℕ, false, eq-eqb, ◌==◌, List, [], ◌∷◌, ◌++◌, get_or, drop, codes, refl, sym, ap, subst, ◌∙◌}
 use Rattle.std.specs.Prelude.{if◌then◌else◌}
 use Rattle.std.proofs.lemmas.Bool.{false≢true}
-use Rattle.rv64_model.specs.declared.linkage.Linkage.{Linkage}
-use Rattle.rv64_model.specs.declared.linkage.Linkage.TheVariants.{Copy, Data, Index}
 use Rattle.arn_lines.specs.declared.line.Aspect.{Aspect}
 use Rattle.arn_lines.specs.declared.line.Aspect.TheVariants as aspect
-use Rattle.arn_lines.specs.declared.line.Question.{Question}
-use Rattle.arn_lines.specs.declared.line.Question.TheVariants as question
 use Rattle.arn_lines.specs.declared.line.Sought.{Sought}
 use Rattle.arn_lines.specs.declared.line.Sought.TheVariants as sought
-use Rattle.arn_lines.specs.Pieces.{AsksNothing, IsFirstWord}
-use Rattle.arn_lines.specs.Questions.{AreNumbers, IsAspect, IsBack, IsForth, IsKeyed, IsLinkage, IsNamed, IsNumberAnd, IsQuestion, IsShow, IsSought}
+use Rattle.arn_lines.specs.Pieces.{IsFirstWord}
+use Rattle.arn_lines.specs.Questions.{AreNumbers, IsAspect, IsKeyed, IsNamed, IsNumberAnd, IsSought}
 use Rattle.arn_lines.specs.Words.{IsName, IsNumber, space}
-use Rattle.arn_lines.proofs.FirstWords.{IsFirstWord-same, no_space-IsLinkage, no_space-IsName}
+use Rattle.arn_lines.proofs.FirstWords.{IsFirstWord-same, no_space-IsName}
 use Rattle.arn_lines.proofs.Lists.{AreNumbers-same, IsKeyed-numbers, IsKeyed-same, IsNumberAnd-same}
 
 -- two texts that differ at some place
@@ -134,3 +130,50 @@ IsSoughtOf-same AtName text a b h k =
 
 pub IsSought-same : (text : List ℕ) (a b : Sought) → IsSought text a → IsSought text b → a ≡ b
 IsSought-same text a b h k = IsSoughtOf-same (sought_kind text) text a b (IsSought-kind text a h) (IsSought-kind text b k)
+
+pub no_registers : (text : List ℕ) → ((pid : ℕ) → ¬ IsNumber text pid) → (s : Aspect) → ¬ IsAspect (codes "regs " ++ text) s
+no_registers text none s h =
+    let only : IsAspectOf AtRegisters (codes "regs " ++ text) s = IsAspect-kind (codes "regs " ++ text) s h in
+    none only.0 (IsKeyed-numbers (codes "regs") text (only.0 ∷ []) only.2)
+
+pub no_shown_memory : (text : List ℕ) → ((pid at len : ℕ) → ¬ AreNumbers text (pid ∷ at ∷ len ∷ []))
+    → (s : Aspect) → ¬ IsAspect (codes "mem " ++ text) s
+no_shown_memory text none s h =
+    let only : IsAspectOf AtMemory (codes "mem " ++ text) s = IsAspect-kind (codes "mem " ++ text) s h in
+    none only.0 only.1 only.2 (IsKeyed-numbers (codes "mem") text (only.0 ∷ only.1 ∷ only.2 ∷ []) only.4)
+
+pub no_event : (text : List ℕ) → ((event from len : ℕ) → ¬ AreNumbers text (event ∷ from ∷ len ∷ []))
+    → (s : Sought) → ¬ IsSought (codes "event " ++ text) s
+no_event text none s h =
+    let only : IsSoughtOf AtEvent (codes "event " ++ text) s = IsSought-kind (codes "event " ++ text) s h in
+    none only.0 only.1 only.2 (IsKeyed-numbers (codes "event") text (only.0 ∷ only.1 ∷ only.2 ∷ []) only.4)
+
+pub no_sought_memory : (text : List ℕ) → ((moment pid at len : ℕ) → ¬ AreNumbers text (moment ∷ pid ∷ at ∷ len ∷ []))
+    → (s : Sought) → ¬ IsSought (codes "mem " ++ text) s
+no_sought_memory text none s h =
+    let only : IsSoughtOf InMemory (codes "mem " ++ text) s = IsSought-kind (codes "mem " ++ text) s h in
+    none only.0 only.1 only.2 only.3 (IsKeyed-numbers (codes "mem") text (only.0 ∷ only.1 ∷ only.2 ∷ only.3 ∷ []) only.5)
+
+pub no_register : (text : List ℕ) → ((moment pid register : ℕ) → ¬ AreNumbers text (moment ∷ pid ∷ register ∷ []))
+    → (s : Sought) → ¬ IsSought (codes "reg " ++ text) s
+no_register text none s h =
+    let only : IsSoughtOf InRegister (codes "reg " ++ text) s = IsSought-kind (codes "reg " ++ text) s h in
+    none only.0 only.1 only.2 (IsKeyed-numbers (codes "reg") text (only.0 ∷ only.1 ∷ only.2 ∷ []) only.4)
+
+pub no_named : (text : List ℕ)
+    → ((moment : ℕ) (name : List ℕ) (from len : ℕ) → ¬ IsNamed (codes "name " ++ text) moment name from len)
+    → (s : Sought) → ¬ IsSought (codes "name " ++ text) s
+no_named text none s h =
+    let only : IsSoughtOf AtName (codes "name " ++ text) s = IsSought-kind (codes "name " ++ text) s h in
+    none only.0 only.1 only.2 only.3 only.5
+
+-- a text behind `name ` begins with the moment
+pub IsNamed-moment : (text : List ℕ) (moment : ℕ) (name : List ℕ) (from len : ℕ) → IsNamed (codes "name " ++ text) moment name from len
+    → (rest : List ℕ) × IsNumberAnd text moment rest × (range : List ℕ) × (rest ≡ name ++ space ++ range)
+IsNamed-moment text moment name from len named =
+    let said : text ≡ named.moment_text ++ space ++ (name ++ space ++ named.range) = ap (drop 5) named.is_text in (
+      name ++ space ++ named.range,
+      record { number = named.moment_text; is_number = named.is_moment; is_text = said },
+      named.range,
+      refl,
+    )

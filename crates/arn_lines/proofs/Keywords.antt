@@ -1,5 +1,5 @@
 -- A line begins with one keyword.
-use Rattle.std.proofs.Common.{◌≡◌, ℕ, Bool, true, false, leb, ◌==◌, List, ◌++◌, get_or, drop, codes, refl, sym, ap, subst, ◌∙◌, arith}
+use Rattle.std.proofs.Common.{◌≡◌, ℕ, Bool, true, false, leb, ◌==◌, List, ◌++◌, get_or, drop, codes, refl, sym, ap, subst, arith}
 use Rattle.std.specs.Prelude.{IfNone, if◌then◌else◌}
 use Rattle.std.specs.Bool.{then_some}
 use Rattle.std.proofs.lemmas.Bool.{leb-false}

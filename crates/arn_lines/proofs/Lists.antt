@@ -1,5 +1,5 @@
 -- Numbers behind one another.
-use Rattle.std.proofs.Common.{◌≡◌, ℕ, List, [], ◌∷◌, ◌++◌, length, refl, sym, ap, subst, ◌∙◌, arith}
+use Rattle.std.proofs.Common.{◌≡◌, ℕ, List, [], ◌∷◌, ◌++◌, length, sym, ap, subst, arith}
 use Rattle.std.proofs.lemmas.List.{append_cancel_left}
 use Rattle.arn_lines.specs.Pieces.{IsFirstWord}
 use Rattle.arn_lines.specs.Questions.{AreNumbers, IsKeyed, IsNumberAnd}

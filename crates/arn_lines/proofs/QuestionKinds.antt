@@ -1,5 +1,5 @@
 -- A line that asks a question asks one.
-use Rattle.std.proofs.Common.{◌≡◌, ℕ, false, ◌==◌, List, [], ◌∷◌, ◌++◌, get_or, drop, codes, refl, sym, ap, subst, ◌∙◌}
+use Rattle.std.proofs.Common.{◌≡◌, ℕ, ◌==◌, List, [], ◌∷◌, ◌++◌, get_or, drop, codes, refl, sym, ap, subst, ◌∙◌}
 use Rattle.std.specs.Prelude.{if◌then◌else◌}
 use Rattle.rv64_model.specs.declared.linkage.Linkage.{Linkage}
 use Rattle.rv64_model.specs.declared.linkage.Linkage.TheVariants.{Copy, Data, Index}
@@ -7,7 +7,7 @@ use Rattle.arn_lines.specs.declared.line.Aspect.{Aspect}
 use Rattle.arn_lines.specs.declared.line.Question.{Question}
 use Rattle.arn_lines.specs.declared.line.Question.TheVariants as question
 use Rattle.arn_lines.specs.declared.line.Sought.{Sought}
-use Rattle.arn_lines.specs.Pieces.{IsFirstWord}
+use Rattle.arn_lines.specs.Pieces.{AsksNothing, IsFirstWord}
 use Rattle.arn_lines.specs.Questions.{AreNumbers, IsAspect, IsBack, IsForth, IsLinkage, IsNumberAnd, IsQuestion, IsShow, IsSought}
 use Rattle.arn_lines.specs.Words.{space}
 use Rattle.arn_lines.proofs.Asks.{IsAspect-same, IsSought-same, apart}
@@ -131,3 +131,29 @@ IsQuestionOf-same AsksVerify text a b h k = h.0 ∙ sym k.0
 
 pub IsQuestion-same : (text : List ℕ) (a b : Question) → IsQuestion text a → IsQuestion text b → a ≡ b
 IsQuestion-same text a b h k = IsQuestionOf-same (question_kind text) text a b (IsQuestion-kind text a h) (IsQuestion-kind text b k)
+
+pub no_show : (text : List ℕ) → ((moment : ℕ) (shown : Aspect) → ¬ IsShow (codes "show " ++ text) moment shown)
+    → AsksNothing (codes "show " ++ text)
+no_show text none q h =
+    let only : IsQuestionOf AsksShow (codes "show " ++ text) q = IsQuestion-kind (codes "show " ++ text) q h in
+    none only.0 only.1 only.3
+
+pub no_back : (text : List ℕ) → ((linkage : Linkage) (bytes : Sought) → ¬ IsBack (codes "back " ++ text) linkage bytes)
+    → AsksNothing (codes "back " ++ text)
+no_back text none q h =
+    let only : IsQuestionOf AsksBack (codes "back " ++ text) q = IsQuestion-kind (codes "back " ++ text) q h in
+    none only.0 only.1 only.3
+
+pub no_forth : (text : List ℕ)
+    → ((linkage : Linkage) (event from len : ℕ) → ¬ IsForth (codes "forth " ++ text) linkage event from len)
+    → AsksNothing (codes "forth " ++ text)
+no_forth text none q h =
+    let only : IsQuestionOf AsksForth (codes "forth " ++ text) q = IsQuestion-kind (codes "forth " ++ text) q h in
+    none only.0 only.1 only.2 only.3 only.5
+
+-- a text behind `show ` begins with the moment
+pub IsShow-moment : (text : List ℕ) (moment : ℕ) (shown : Aspect) → IsShow (codes "show " ++ text) moment shown
+    → (rest : List ℕ) × IsNumberAnd text moment rest
+IsShow-moment text moment shown show =
+    let said : text ≡ show.moment_text ++ space ++ show.aspect_text = ap (drop 5) show.is_text in
+    (show.aspect_text, record { number = show.moment_text; is_number = show.is_moment; is_text = said })

@@ -1,5 +1,5 @@
 // Questions of a session, read.
-ghost use Rattle.std.specs.Prelude.{◌≡◌, ℕ, List, [], ◌∷◌, ◌++◌, IfOk, IfSome, IfNone, codes};
+ghost use Rattle.std.specs.Prelude.{◌≡◌, ◌≢◌, ℕ, List, [], ◌∷◌, ◌++◌, IfOk, IfSome, IfNone, codes};
 ghost use Rattle.rv64_model.specs.declared.linkage.Linkage.{Linkage};
 ghost use Rattle.arn_lines.specs.declared.line.Aspect.{Aspect};
 ghost use Rattle.arn_lines.specs.declared.line.Sought.{Sought};
@@ -165,6 +165,21 @@ fn forth_question(text: &[u8]) -> Option<Question>
     })
 }
 
+// The question that a word asks by itself.
+fn word_question(text: &[u8]) -> Option<Question>
+    ensures some { IfSome result (IsQuestion text.now) }
+    ensures no_groups { IfNone result (text.now ≢ codes "groups") }
+    ensures no_events { IfNone result (text.now ≢ codes "events") }
+    ensures no_verify { IfNone result (text.now ≢ codes "verify") }
+{
+    match text {
+        b"groups" => Some(Question::Groups),
+        b"events" => Some(Question::Events),
+        b"verify" => Some(Question::Verify),
+        _ => None,
+    }
+}
+
 // The question that the text asks.
 pub(crate) fn question(alloc: Global, text: &[u8]) -> Result<Option<Question>, NoMemory>
     ensures some { IfOk result (λ found. IfSome found (IsQuestion text.now)) }
@@ -179,10 +194,5 @@ pub(crate) fn question(alloc: Global, text: &[u8]) -> Result<Option<Question>, N
     if let Some(rest) = after(text, b"forth ") {
         return Ok(forth_question(rest));
     }
-    Ok(match text {
-        b"groups" => Some(Question::Groups),
-        b"events" => Some(Question::Events),
-        b"verify" => Some(Question::Verify),
-        _ => None,
-    })
+    Ok(word_question(text))
 }
