@@ -9,11 +9,10 @@ use Rattle.parts_model.specs.Image.{can_enter, fits_window, header_len, image_na
 use Rattle.parts_model.specs.Files.{is_name}
 use Rattle.arn_lines.specs.declared.line.Line.{Line}
 use Rattle.arn_lines.specs.declared.line.Line.TheVariants as line
-use Rattle.arn_lines.specs.declared.line.Question.TheVariants as question
 use Rattle.arn_lines.specs.declared.line.Reading.{Reading}
 use Rattle.arn_lines.specs.declared.line.Reading.TheVariants.{PassedOver, TooLong, Unreadable, Says}
-use Rattle.arn_lines.specs.Words.{IsHex, IsBytes, IsName, is_name_byte}
-use Rattle.arn_lines.specs.Grammar.{IsLine, IsLinkage, Reads, space}
+use Rattle.arn_lines.specs.Words.{IsHex, IsBytes, IsName, is_name_byte, space}
+use Rattle.arn_lines.specs.Grammar.{IsLine, Reads}
 use Rattle.arn_commands.specs.Commands.{line_command}
 use Rattle.arn_commands.specs.Sizes.{Fits, LineFits}
 

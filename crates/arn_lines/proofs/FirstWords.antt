@@ -6,9 +6,9 @@ use Rattle.std.proofs.lemmas.Bool.{and_parts, leb-true, ltb-true}
 use Rattle.std.proofs.lemmas.List.{get_or_at}
 use Rattle.std.proofs.lemmas.List.Elements.{All-cons, All-from_get_or, All-head, All-nil, All-tail}
 use Rattle.std.proofs.lemmas.Str.Parse.{digit_at}
-use Rattle.arn_lines.specs.Grammar.{IsLinkage, space}
-use Rattle.arn_lines.specs.Pieces.{AreThreeNumbers, IsFirstWord, IsNoSpace}
-use Rattle.arn_lines.specs.Words.{IsHexNumberFrom, IsName, IsNumber, is_name_byte}
+use Rattle.arn_lines.specs.Pieces.{IsFirstWord, IsNoSpace}
+use Rattle.arn_lines.specs.Questions.{IsLinkage}
+use Rattle.arn_lines.specs.Words.{IsHexNumberFrom, IsName, IsNumber, is_name_byte, space}
 use Rattle.rv64_model.specs.declared.linkage.Linkage.{Linkage}
 use Rattle.rv64_model.specs.declared.linkage.Linkage.TheVariants.{Copy, Data, Index}
 use Rattle.arn_lines.proofs.Decimals.{decimal_digits}
@@ -97,19 +97,3 @@ no_space-IsNumber text n number =
           rw hex.is_text
           (All-cons IsNoSpace 48 (120 ∷ hex.digits) (λ e. cc e) (All-cons IsNoSpace 120 hex.digits (λ e. cc e) (no_space-digits hex.digits 0 n hex.value)))
     ]
-
--- three numbers in the words that the text splits into
-pub AreThreeNumbers-rest : (text word rest : List ℕ) (a b c : ℕ) → IsFirstWord text word rest → (three : AreThreeNumbers text a b c)
-    → IsNumber word a × (rest ≡ three.second_text ++ space ++ three.third_text)
-AreThreeNumbers-rest text word rest a b c first three =
-    let others = three.second_text ++ space ++ three.third_text in
-    let said : text ≡ three.first_text ++ space ++ others = three.is_text ∙ simp append_assoc in
-    let same = IsFirstWord-same text word rest three.first_text others first (no_space-IsNumber three.first_text a three.is_first) said in
-    (rw same.0 at three.is_first, sym same.1)
-
-pub AreThreeNumbers-parts : (text first rest second third : List ℕ) (a b c : ℕ) → IsFirstWord text first rest
-    → IsFirstWord rest second third → AreThreeNumbers text a b c → IsNumber first a × IsNumber second b × IsNumber third c
-AreThreeNumbers-parts text first rest second third a b c front behind three =
-    let parts = AreThreeNumbers-rest text first rest a b c front three in
-    let same = IsFirstWord-same rest second third three.second_text three.third_text behind (no_space-IsNumber three.second_text b three.is_second) parts.1 in
-    (parts.0, rw same.0 at three.is_second, rw same.1 at three.is_third)

@@ -1,82 +1,80 @@
 -- A line begins with one keyword.
-use Rattle.std.proofs.Common.{◌≡◌, ◌≢◌, ℕ, Bool, true, false, eq-eqb, leb, ◌==◌, List, ◌++◌, get_or, drop, codes, refl, sym, ap, subst, ◌∙◌, append_assoc, arith}
-use Rattle.std.specs.Prelude.{IfNone}
+use Rattle.std.proofs.Common.{◌≡◌, ℕ, Bool, true, false, leb, ◌==◌, List, ◌++◌, get_or, drop, codes, refl, sym, ap, subst, arith}
+use Rattle.std.specs.Prelude.{IfNone, if◌then◌else◌}
 use Rattle.std.specs.Bool.{then_some}
-use Rattle.std.proofs.lemmas.Bool.{false≢true, leb-false}
+use Rattle.std.proofs.lemmas.Bool.{leb-false}
 use Rattle.arn_lines.specs.declared.line.TheConstants.{MOST_RUN}
 use Rattle.arn_lines.specs.declared.line.Line.{Line}
 use Rattle.arn_lines.specs.declared.line.Line.TheVariants as line
+use Rattle.arn_lines.specs.declared.line.Question.{Question}
 use Rattle.arn_lines.specs.declared.line.Question.TheVariants as question
-use Rattle.rv64_model.specs.declared.linkage.Linkage.{Linkage}
-use Rattle.arn_lines.specs.Grammar.{IsBack, IsBoot, IsFile, IsLine, IsRun, IsLinkage, IsType, space}
-use Rattle.arn_lines.specs.Pieces.{AreThreeNumbers, IsFirstWord, SaysNothing}
-use Rattle.arn_lines.specs.Words.{IsBytes, IsName, IsNumber}
-use Rattle.arn_lines.proofs.FirstWords.{IsFirstWord-same, no_space-IsLinkage, no_space-IsName}
+use Rattle.arn_lines.specs.Grammar.{IsBoot, IsFile, IsLine, IsRun, IsType}
+use Rattle.arn_lines.specs.Pieces.{IsFirstWord, SaysNothing}
+use Rattle.arn_lines.specs.Questions.{IsQuestion}
+use Rattle.arn_lines.specs.Words.{IsBytes, IsName, IsNumber, space}
+use Rattle.arn_lines.proofs.FirstWords.{IsFirstWord-same, no_space-IsName}
 use Rattle.arn_lines.proofs.Numbers.{IsNumber-same}
 
--- two texts that differ at some place
-pub apart : (xs ys : List ℕ) (i : ℕ) → (get_or xs i 0 == get_or ys i 0) ≡ false → xs ≢ ys
-apart xs ys i differ e =
-    let same = eq-eqb (get_or xs i 0) (get_or ys i 0) (ap (λ zs. get_or zs i 0) e) in
-    false≢true (sym differ ∙ same)
+-- which keyword a text begins with tells what kind of line it is
+pub data LineKind : Type 0 where
+  AtFile : LineKind
+  AtBoot : LineKind
+  AtType : LineKind
+  AtRun : LineKind
+  AtQuestion : LineKind
 
-pub only_file_line : (text : List ℕ) (l : Line) → IsLine (codes "file " ++ text) l
-    → (name : List ℕ) × (bytes : List ℕ) × (l ≡ line.File name bytes) × IsFile (codes "file " ++ text) name bytes
-only_file_line text (line.File name bytes) h = (name, bytes, refl, h)
-only_file_line text (line.Boot name) h = absurd (apart _ _ 0 refl h.is_text)
-only_file_line text (line.Type bytes) h = absurd (apart _ _ 0 refl h.is_text)
-only_file_line text (line.Run count) h = absurd (apart _ _ 0 refl h.is_text)
-only_file_line text (line.Asks (question.Back linkage event from len)) h = absurd (apart _ _ 0 refl h.is_text)
+abbrev pub line_kind : List ℕ → LineKind
+line_kind text =
+    if get_or text 0 0 == 102 then (if get_or text 1 0 == 105 then AtFile else AtQuestion)
+    else if get_or text 0 0 == 98 then (if get_or text 1 0 == 111 then AtBoot else AtQuestion)
+    else if get_or text 0 0 == 116 then AtType
+    else if get_or text 0 0 == 114 then AtRun
+    else AtQuestion
 
-pub only_boot_line : (text : List ℕ) (l : Line) → IsLine (codes "boot " ++ text) l
-    → (name : List ℕ) × (l ≡ line.Boot name) × IsBoot (codes "boot " ++ text) name
-only_boot_line text (line.File name bytes) h = absurd (apart _ _ 0 refl h.is_text)
-only_boot_line text (line.Boot name) h = (name, refl, h)
-only_boot_line text (line.Type bytes) h = absurd (apart _ _ 0 refl h.is_text)
-only_boot_line text (line.Run count) h = absurd (apart _ _ 0 refl h.is_text)
-only_boot_line text (line.Asks (question.Back linkage event from len)) h = absurd (apart _ _ 1 refl h.is_text)
+abbrev pub IsLineOf : LineKind → List ℕ → Line → Type 0
+IsLineOf AtFile text l = (name : List ℕ) × (bytes : List ℕ) × (l ≡ line.File name bytes) × IsFile text name bytes
+IsLineOf AtBoot text l = (name : List ℕ) × (l ≡ line.Boot name) × IsBoot text name
+IsLineOf AtType text l = (bytes : List ℕ) × (l ≡ line.Type bytes) × IsType text bytes
+IsLineOf AtRun text l = (count : ℕ) × (l ≡ line.Run count) × IsRun text count
+IsLineOf AtQuestion text l = (q : Question) × (l ≡ line.Asks q) × IsQuestion text q
 
-pub only_type_line : (text : List ℕ) (l : Line) → IsLine (codes "type " ++ text) l
-    → (bytes : List ℕ) × (l ≡ line.Type bytes) × IsType (codes "type " ++ text) bytes
-only_type_line text (line.File name bytes) h = absurd (apart _ _ 0 refl h.is_text)
-only_type_line text (line.Boot name) h = absurd (apart _ _ 0 refl h.is_text)
-only_type_line text (line.Type bytes) h = (bytes, refl, h)
-only_type_line text (line.Run count) h = absurd (apart _ _ 0 refl h.is_text)
-only_type_line text (line.Asks (question.Back linkage event from len)) h = absurd (apart _ _ 0 refl h.is_text)
+question-kind : (text : List ℕ) (q : Question) → IsQuestion text q → line_kind text ≡ AtQuestion
+question-kind text (question.Show moment shown) h = ap line_kind h.is_text
+question-kind text (question.Back linkage bytes) h = ap line_kind h.is_text
+question-kind text (question.Forth linkage event from len) h = ap line_kind h.is_text
+question-kind text question.Groups h = ap line_kind h
+question-kind text question.Events h = ap line_kind h
+question-kind text question.Verify h = ap line_kind h
 
-pub only_run_line : (text : List ℕ) (l : Line) → IsLine (codes "run " ++ text) l
-    → (count : ℕ) × (l ≡ line.Run count) × IsRun (codes "run " ++ text) count
-only_run_line text (line.File name bytes) h = absurd (apart _ _ 0 refl h.is_text)
-only_run_line text (line.Boot name) h = absurd (apart _ _ 0 refl h.is_text)
-only_run_line text (line.Type bytes) h = absurd (apart _ _ 0 refl h.is_text)
-only_run_line text (line.Run count) h = (count, refl, h)
-only_run_line text (line.Asks (question.Back linkage event from len)) h = absurd (apart _ _ 0 refl h.is_text)
-
-pub only_back_line : (text : List ℕ) (l : Line) → IsLine (codes "back " ++ text) l
-    → (linkage : Linkage) × (event : ℕ) × (from : ℕ) × (len : ℕ) × (l ≡ line.Asks (question.Back linkage event from len)) × IsBack (codes "back " ++ text) linkage event from len
-only_back_line text (line.File name bytes) h = absurd (apart _ _ 0 refl h.is_text)
-only_back_line text (line.Boot name) h = absurd (apart _ _ 1 refl h.is_text)
-only_back_line text (line.Type bytes) h = absurd (apart _ _ 0 refl h.is_text)
-only_back_line text (line.Run count) h = absurd (apart _ _ 0 refl h.is_text)
-only_back_line text (line.Asks (question.Back linkage event from len)) h = (linkage, event, from, len, refl, h)
+pub IsLine-kind : (text : List ℕ) (l : Line) → IsLine text l → IsLineOf (line_kind text) text l
+IsLine-kind text (line.File name bytes) h =
+    subst (λ xs. IsLineOf (line_kind xs) text (line.File name bytes)) (sym h.is_text) (name, bytes, refl, h)
+IsLine-kind text (line.Boot name) h = subst (λ xs. IsLineOf (line_kind xs) text (line.Boot name)) (sym h.is_text) (name, refl, h)
+IsLine-kind text (line.Type bytes) h = subst (λ xs. IsLineOf (line_kind xs) text (line.Type bytes)) (sym h.is_text) (bytes, refl, h)
+IsLine-kind text (line.Run count) h = subst (λ xs. IsLineOf (line_kind xs) text (line.Run count)) (sym h.is_text) (count, refl, h)
+IsLine-kind text (line.Asks q) h =
+    subst (λ kind. IsLineOf kind text (line.Asks q)) (sym (question-kind text q h)) (q, refl, h)
 
 pub no_file_line : (text : List ℕ) → ((name bytes : List ℕ) → ¬ IsFile (codes "file " ++ text) name bytes)
     → SaysNothing (codes "file " ++ text)
 no_file_line text none l h =
-    let file = only_file_line text l h in
+    let file : IsLineOf AtFile (codes "file " ++ text) l = IsLine-kind (codes "file " ++ text) l h in
     none file.0 file.1 file.3
+
+pub no_boot_line : (text : List ℕ) → ((name : List ℕ) → ¬ IsBoot (codes "boot " ++ text) name) → SaysNothing (codes "boot " ++ text)
+no_boot_line text none l h =
+    let boot : IsLineOf AtBoot (codes "boot " ++ text) l = IsLine-kind (codes "boot " ++ text) l h in
+    none boot.0 boot.2
+
+pub no_type_line : (text : List ℕ) → ((bytes : List ℕ) → ¬ IsType (codes "type " ++ text) bytes) → SaysNothing (codes "type " ++ text)
+no_type_line text none l h =
+    let typed : IsLineOf AtType (codes "type " ++ text) l = IsLine-kind (codes "type " ++ text) l h in
+    none typed.0 typed.2
 
 pub no_run_line : (text : List ℕ) → ((count : ℕ) → ¬ IsRun (codes "run " ++ text) count) → SaysNothing (codes "run " ++ text)
 no_run_line text none l h =
-    let run = only_run_line text l h in
+    let run : IsLineOf AtRun (codes "run " ++ text) l = IsLine-kind (codes "run " ++ text) l h in
     none run.0 run.2
-
-pub no_back_line : (text : List ℕ)
-    → ((linkage : Linkage) (event from len : ℕ) → ¬ IsBack (codes "back " ++ text) linkage event from len)
-    → SaysNothing (codes "back " ++ text)
-no_back_line text none l h =
-    let back = only_back_line text l h in
-    none back.0 back.1 back.2 back.3 back.5
 
 -- the words of a `file` line are those that its text splits into
 pub IsFile-parts : (text word rest name bytes : List ℕ) → IsFirstWord text word rest → IsFile (codes "file " ++ text) name bytes
@@ -100,45 +98,3 @@ no_run_above text n false number same =
     let count_is = IsNumber-same text n count number (IsRun-number text count run) in
     let above = leb-false n MOST_RUN (sym same) in
     absurd (omega (arith, run.at_most)))
-
--- the words of a `back` line
-pub IsBack-parts : (text word rest : List ℕ) (linkage : Linkage) (event from len : ℕ) → IsFirstWord text word rest
-    → IsBack (codes "back " ++ text) linkage event from len
-    → IsLinkage word linkage × (numbers : List ℕ) × (rest ≡ codes "event " ++ numbers) × AreThreeNumbers numbers event from len
-IsBack-parts text word rest linkage event from len first back =
-    let numbers = back.event_text ++ space ++ back.from_text ++ space ++ back.len_text in
-    let whole : codes "back " ++ text ≡ codes "back " ++ (back.linkage_text ++ space ++ (codes "event " ++ numbers)) = back.is_text ∙ simp append_assoc in
-    let said : text ≡ back.linkage_text ++ space ++ (codes "event " ++ numbers) = ap (drop 5) whole in
-    let same = IsFirstWord-same text word rest back.linkage_text (codes "event " ++ numbers) first (no_space-IsLinkage back.linkage_text linkage back.is_linkage) said in (
-      subst (λ xs. IsLinkage xs linkage) same.0 back.is_linkage,
-      numbers,
-      sym same.1,
-      record {
-        first_text = back.event_text;
-        second_text = back.from_text;
-        third_text = back.len_text;
-        is_first = back.is_event;
-        is_second = back.is_from;
-        is_third = back.is_len;
-        is_text = refl;
-      },
-    )
-
--- these words are a `back` line
-pub IsBack-from : (text word rest numbers : List ℕ) (linkage : Linkage) (event from len : ℕ) → IsFirstWord text word rest
-    → IsLinkage word linkage → rest ≡ codes "event " ++ numbers → AreThreeNumbers numbers event from len
-    → IsBack (codes "back " ++ text) linkage event from len
-IsBack-from text word rest numbers linkage event from len first is said three =
-    let behind : rest ≡ codes "event " ++ (three.first_text ++ space ++ three.second_text ++ space ++ three.third_text) =
-    said ∙ ap (λ xs. codes "event " ++ xs) three.is_text in
-    record {
-      linkage_text = word;
-      event_text = three.first_text;
-      from_text = three.second_text;
-      len_text = three.third_text;
-      is_linkage = is;
-      is_event = three.is_first;
-      is_from = three.is_second;
-      is_len = three.is_third;
-      is_text = ap (λ xs. codes "back " ++ xs) (first.is_text ∙ ap (λ xs. word ++ space ++ xs) behind) ∙ simp append_assoc;
-    }

@@ -5,5 +5,8 @@ pub mod Decimals
 pub mod Numbers
 pub mod HexText
 pub mod FirstWords
+pub mod Lists
+pub mod Asks
+pub mod QuestionKinds
 pub mod Keywords
 pub mod OneWay

@@ -1,5 +1,5 @@
 -- Clauses on an `Option` or a `Result`.
-use Rattle.std.specs.Prelude.{◌≡◌, Option, Some, None, Result, Ok, Err, MatchOption, MatchResult, IfSome, IfNone, OnErr}
+use Rattle.std.specs.Prelude.{◌≡◌, Option, Some, None, Result, Ok, Err, MatchOption, MatchResult, IfSome, IfNone, OnErr, is_some}
 use Rattle.std.specs.Result.{result_ok}
 use Rattle.std.proofs.lemmas.Option.{same_Some}
 use Rattle.std.proofs.Common.{sym, subst}
@@ -32,3 +32,11 @@ ok_at_none (Err e) P Q h same then = then e h
 pub OnErr-always : {T E P : Type 0} (r : Result T E) → P → OnErr r P
 OnErr-always (Ok x) h = tt
 OnErr-always (Err e) h = h
+
+-- what follows from what a clause says where there is no value to map
+pub IfNone-mapped : {T U P Q : Type 0} (found : Option T) (mapped : Option U) → is_some mapped ≡ is_some found → (P → Q)
+    → IfNone found P → IfNone mapped Q
+IfNone-mapped None None same f h = f h
+IfNone-mapped None (Some y) same f h = cc same
+IfNone-mapped (Some x) None same f h = cc same
+IfNone-mapped (Some x) (Some y) same f h = tt

@@ -1,25 +1,12 @@
 -- What a line says.
 use Rattle.std.specs.Prelude.{◌≡◌, ℕ, ◌<◌, ◌≤◌, ◌&&◌, if◌then◌else◌, List, [], ◌∷◌, ◌++◌, length, take, drop, Option, Some, None, bytes_eq, codes}
-use Rattle.rv64_model.specs.declared.linkage.Linkage.{Linkage}
-use Rattle.rv64_model.specs.declared.linkage.Linkage.TheVariants.{Copy, Data, Index}
 use Rattle.arn_lines.specs.declared.line.Line.{Line}
 use Rattle.arn_lines.specs.declared.line.Line.TheVariants as line
-use Rattle.arn_lines.specs.declared.line.Question.{Question}
-use Rattle.arn_lines.specs.declared.line.Question.TheVariants as question
 use Rattle.arn_lines.specs.declared.line.Reading.{Reading}
 use Rattle.arn_lines.specs.declared.line.Reading.TheVariants.{PassedOver, TooLong, Unreadable, Says}
 use Rattle.arn_lines.specs.declared.line.TheConstants.{MOST_LINE, MOST_RUN}
-use Rattle.arn_lines.specs.Words.{is_name, IsName, IsBytes, IsNumber}
-
--- words stand behind one another, with one space between
-abbrev pub space : List ℕ
-space = codes " "
-
--- the word names the linkage
-abbrev pub IsLinkage : List ℕ → Linkage → Type 0
-IsLinkage word Copy = word ≡ codes "copy"
-IsLinkage word Data = word ≡ codes "data"
-IsLinkage word Index = word ≡ codes "index"
+use Rattle.arn_lines.specs.Words.{is_name, IsName, IsBytes, IsNumber, space}
+use Rattle.arn_lines.specs.Questions.{IsQuestion}
 
 -- `file NAME HEX`
 pub record IsFile (text name bytes : List ℕ) : Type 0 where
@@ -46,25 +33,9 @@ pub record IsRun (text : List ℕ) (count : ℕ) : Type 0 where
   pub at_most : count ≤ MOST_RUN
   pub is_text : text ≡ codes "run " ++ number
 
--- `back LINKAGE event E FROM LEN`
-pub record IsBack (text : List ℕ) (linkage : Linkage) (event from len : ℕ) : Type 0 where
-  pub linkage_text : List ℕ
-  pub event_text : List ℕ
-  pub from_text : List ℕ
-  pub len_text : List ℕ
-  pub is_linkage : IsLinkage linkage_text linkage
-  pub is_event : IsNumber event_text event
-  pub is_from : IsNumber from_text from
-  pub is_len : IsNumber len_text len
-  pub is_text : text ≡ codes "back " ++ linkage_text ++ codes " event " ++ event_text ++ space ++ from_text ++ space ++ len_text
-
 -- the name in a line `asm NAME`, which opens a block: the lines behind it, up to `end`, belong to it
 abbrev pub block_name : List ℕ → Option (List ℕ)
 block_name text = if bytes_eq (take 4 text) (codes "asm ") && is_name (drop 4 text) then Some (drop 4 text) else None
-
--- a line that asks a question about the history
-abbrev pub IsQuestion : List ℕ → Question → Type 0
-IsQuestion text (question.Back linkage event from len) = IsBack text linkage event from len
 
 -- the grammar of the lines that stand by themselves: the text says this line
 abbrev pub IsLine : List ℕ → Line → Type 0

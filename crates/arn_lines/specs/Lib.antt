@@ -1,4 +1,5 @@
 pub mod Words
+pub mod Questions
 pub mod Grammar
 pub mod Pieces
 pub mod Texts

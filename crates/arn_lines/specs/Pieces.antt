@@ -1,8 +1,10 @@
 -- The pieces that a line is split into.
 use Rattle.std.specs.Prelude.{◌≡◌, ◌≢◌, ℕ, ◌<◌, ◌≤◌, ◌⊎◌, List, ◌++◌, All, codes, slice_index}
 use Rattle.arn_lines.specs.declared.line.Line.{Line}
-use Rattle.arn_lines.specs.Words.{IsNumber}
-use Rattle.arn_lines.specs.Grammar.{IsLine, space}
+use Rattle.arn_lines.specs.declared.line.Question.{Question}
+use Rattle.arn_lines.specs.Words.{space}
+use Rattle.arn_lines.specs.Questions.{IsQuestion}
+use Rattle.arn_lines.specs.Grammar.{IsLine}
 
 -- the byte is no space
 abbrev pub IsNoSpace : ℕ → Type 0
@@ -17,19 +19,13 @@ pub record IsFirstWord (text word rest : List ℕ) : Type 0 where
 abbrev pub IsUnpadded : List ℕ → Type 0
 IsUnpadded text = (text ≡ codes "0") ⊎ ((49 ≤ slice_index text 0) × (slice_index text 0 ≤ 57))
 
--- three numbers, with one space between
-pub record AreThreeNumbers (text : List ℕ) (first second third : ℕ) : Type 0 where
-  pub first_text : List ℕ
-  pub second_text : List ℕ
-  pub third_text : List ℕ
-  pub is_first : IsNumber first_text first
-  pub is_second : IsNumber second_text second
-  pub is_third : IsNumber third_text third
-  pub is_text : text ≡ first_text ++ space ++ second_text ++ space ++ third_text
-
 -- the text is no line of the grammar
 abbrev pub SaysNothing : List ℕ → Type 0
 SaysNothing text = (l : Line) → ¬ IsLine text l
+
+-- the text asks nothing about the history
+abbrev pub AsksNothing : List ℕ → Type 0
+AsksNothing text = (q : Question) → ¬ IsQuestion text q
 
 -- the old text, and behind it nothing or something that begins with an ASCII character
 pub record LeavesFront (old new : List ℕ) : Type 0 where

@@ -51,10 +51,18 @@ abbrev pub groups_text : List ℕ → List ℕ
 groups_text [] = codes " -"
 groups_text (g ∷ groups) = flat_map (λ h. codes " " ++ decimal h) (g ∷ groups)
 
+-- how many pairs there are, and which groups were asked for them: WORD` pairs P instructions I groups G ..`
+abbrev pub count_text : List ℕ → ℕ → ℕ → List ℕ → List ℕ
+count_text word pairs instructions groups =
+    word ++ codes " pairs " ++ decimal pairs ++ codes " instructions " ++ decimal instructions ++ codes " groups" ++ groups_text groups ++ line_end
+
 -- `back pairs P instructions I groups G ..`
 abbrev pub back_text : ℕ → ℕ → List ℕ → List ℕ
-back_text pairs instructions groups =
-    codes "back pairs " ++ decimal pairs ++ codes " instructions " ++ decimal instructions ++ codes " groups" ++ groups_text groups ++ line_end
+back_text pairs instructions groups = count_text (codes "back") pairs instructions groups
+
+-- `forth pairs P instructions I groups G ..`
+abbrev pub forth_text : ℕ → ℕ → List ℕ → List ℕ
+forth_text pairs instructions groups = count_text (codes "forth") pairs instructions groups
 
 -- `damaged E SAID FOUND`
 abbrev pub damaged_text : ℕ → ℕ → ℕ → List ℕ

@@ -2,6 +2,10 @@
 use Rattle.std.specs.Prelude.{◌≡◌, ℕ, ◌+◌, ◌*◌, ◌^◌, ◌<◌, ◌≤◌, ◌⊎◌, nat_le, ◌&&◌, Bool, List, [], ◌∷◌, ◌++◌, length, codes, decimal, slice_index, IsTrue}
 use Rattle.std.specs.List.{list_all}
 
+-- words stand behind one another, with one space between
+abbrev pub space : List ℕ
+space = codes " "
+
 -- the two spellings of the hex digits
 abbrev pub lower_digits : List ℕ
 lower_digits = codes "0123456789abcdef"

@@ -1,13 +1,12 @@
 // Lines of a session, read.
 ghost use Rattle.std.specs.Prelude.{◌≡◌, ℕ, ◌<◌, ◌↔◌, List, ◌++◌, length, IsTrue, IfOk, IfSome, IfNone, codes, option_map};
-ghost use Rattle.rv64_model.specs.declared.linkage.Linkage.{Linkage};
-ghost use Rattle.arn_lines.specs.Grammar.{IsLine, IsLinkage, IsPassedOver, Reads, block_name};
-ghost use Rattle.arn_lines.specs.Pieces.{AreThreeNumbers, SaysNothing};
+ghost use Rattle.arn_lines.specs.Grammar.{IsLine, IsPassedOver, Reads, block_name};
+ghost use Rattle.arn_lines.specs.Pieces.{SaysNothing};
 
+use crate::questions::question;
 use crate::words::{after, bytes, is_name, name, number, split_word};
-use crate::{Line, MOST_LINE, MOST_RUN, Question, Reading};
+use crate::{Line, MOST_LINE, MOST_RUN, Reading};
 use arn_base::NoMemory;
-use rv64_model::Linkage;
 use std::alloc::Global;
 
 fn is_passed_over(text: &[u8]) -> bool
@@ -55,43 +54,6 @@ fn run_line(text: &[u8]) -> Option<Line>
     (count <= MOST_RUN).then_some(Line::Run { count })
 }
 
-fn linkage(word: &[u8]) -> Option<Linkage>
-    ensures some { IfSome result (IsLinkage word.now) }
-    ensures none { IfNone result ((linkage : Linkage) → ¬ IsLinkage word.now linkage) }
-{
-    match word {
-        b"copy" => Some(Linkage::Copy),
-        b"data" => Some(Linkage::Data),
-        b"index" => Some(Linkage::Index),
-        _ => None,
-    }
-}
-
-fn three_numbers(text: &[u8]) -> Option<(u64, u64, u64)>
-    ensures some { IfSome result (λ n. AreThreeNumbers text.now n.0 n.1 n.2) }
-    ensures none { IfNone result ((a b c : ℕ) → ¬ AreThreeNumbers text.now a b c) }
-{
-    let (first, rest) = split_word(text)?;
-    let (second, third) = split_word(rest)?;
-    Some((number(first)?, number(second)?, number(third)?))
-}
-
-fn back_line(text: &[u8]) -> Option<Line>
-    ensures some { IfSome result (IsLine (codes "back " ++ text.now)) }
-    ensures none { IfNone result (SaysNothing (codes "back " ++ text.now)) }
-{
-    let (word, rest) = split_word(text)?;
-    let linkage = linkage(word)?;
-    let (event, from, len) = three_numbers(after(rest, b"event ")?)?;
-    let question = Question::Back {
-        linkage,
-        event,
-        from,
-        len,
-    };
-    Some(Line::Asks { question })
-}
-
 // The line that the text says, whatever its length.
 fn said(alloc: Global, text: &[u8]) -> Result<Option<Line>, NoMemory>
     ensures some { IfOk result (λ found. IfSome found (IsLine text.now)) }
@@ -109,10 +71,7 @@ fn said(alloc: Global, text: &[u8]) -> Result<Option<Line>, NoMemory>
     if let Some(rest) = after(text, b"run ") {
         return Ok(run_line(rest));
     }
-    if let Some(rest) = after(text, b"back ") {
-        return Ok(back_line(rest));
-    }
-    Ok(None)
+    Ok(question(alloc, text)?.map(|question| Line::Asks { question }))
 }
 
 /// The name in a line `asm NAME`, which opens a block.

@@ -7,16 +7,76 @@ pub const MOST_LINE: usize = 1_048_576;
 /// How many instructions a line may ask for.
 pub const MOST_RUN: u64 = 1_000_000_000;
 
+/// Of which bytes is asked where they come from.
+#[derive(Debug, Drop)]
+pub enum Sought {
+    /// The `len` bytes of an event from byte `from` on.
+    Event {
+        event: u64,
+        from: u64,
+        len: u64,
+    },
+    /// The `len` bytes from address `at` on that a process sees at a moment.
+    Memory {
+        moment: u64,
+        pid: u64,
+        at: u64,
+        len: u64,
+    },
+    /// The eight bytes of a register of a process at a moment.
+    Register {
+        moment: u64,
+        pid: u64,
+        register: u64,
+    },
+    /// The `len` bytes from byte `from` on of the file that has the name at a moment.
+    Name {
+        moment: u64,
+        name: Bytes,
+        from: u64,
+        len: u64,
+    },
+}
+
+/// What is shown of a moment.
+#[derive(Debug, Drop)]
+pub enum Aspect {
+    /// The registers of a process.
+    Registers { pid: u64 },
+    /// The `len` bytes from address `at` on that a process sees.
+    Memory { pid: u64, at: u64, len: u64 },
+    /// The bytes of the file of this name.
+    File { name: Bytes },
+    /// The live processes, and their groups.
+    Processes,
+}
+
 /// A question about the history. It changes nothing.
 #[derive(Debug, Drop)]
 pub enum Question {
-    /// The source bytes of `len` bytes of an event, from byte `from` on.
+    /// What the machine held at a moment.
+    Show {
+        moment: u64,
+        aspect: Aspect,
+    },
+    /// From which source bytes these bytes come.
     Back {
+        linkage: Linkage,
+        sought: Sought,
+    },
+    /// Which sink bytes come from the `len` bytes of an event from byte `from` on.
+    Forth {
         linkage: Linkage,
         event: u64,
         from: u64,
         len: u64,
     },
+    /// The groups of processes, and what each ran.
+    Groups,
+    /// The events, one by one.
+    Events,
+    /// Whether the records are those of a run.
+    Verify,
 }
 
 /// What a line asks for.

@@ -2,7 +2,7 @@
 ghost use Rattle.std.specs.Prelude.{◌≡◌, ◌<◌, List, [], ◌∷◌, ◌++◌, OnOk, OnErr, IfOk, codes, decimal, slice_index};
 ghost use Rattle.std.specs.String.{string_bytes};
 ghost use Rattle.arn_lines.specs.Pieces.{LeavesFront};
-ghost use Rattle.arn_lines.specs.Texts.{back_text, bytes_text, damaged_text, end_word, event_text, groups_text, out_text, pair_text, ran_text, refusal_text};
+ghost use Rattle.arn_lines.specs.Texts.{back_text, bytes_text, count_text, damaged_text, end_word, event_text, forth_text, groups_text, out_text, pair_text, ran_text, refusal_text};
 ghost use Rattle.arn_lines.specs.declared.answer.Refusal.TheVariants.{NoAsm};
 ghost use Rattle.hex.specs.Hex.{encode_lower, lower_digits};
 
@@ -151,11 +151,28 @@ fn push_groups(line: &mut String, groups: &[u32]) -> Result<(), NoMemory>
 }
 
 // What stands before the groups.
-fn back_head(alloc: Global, pairs: u64, instructions: u128) -> Result<String, NoMemory>
-    ensures { IfOk result (λ head. string_bytes head ≡ codes "back pairs " ++ decimal pairs
+fn count_head(alloc: Global, word: &str, pairs: u64, instructions: u128) -> Result<String, NoMemory>
+    ensures { IfOk result (λ head. string_bytes head ≡ word.now ++ codes " pairs " ++ decimal pairs
         ++ codes " instructions " ++ decimal instructions ++ codes " groups") }
 {
-    Ok(format!(in alloc; "back pairs {pairs} instructions {instructions} groups")?)
+    Ok(format!(in alloc; "{word} pairs {pairs} instructions {instructions} groups")?)
+}
+
+fn push_count(
+    text: &mut String,
+    word: &str,
+    pairs: u64,
+    instructions: u128,
+    groups: &[u32],
+) -> Result<(), NoMemory>
+    ensures ok { OnOk result (string_bytes text.new ≡
+        string_bytes text.old ++ count_text word.now pairs instructions groups.now) }
+    ensures err { OnErr result (string_bytes text.new ≡ string_bytes text.old) }
+{
+    let mut line = count_head(*text.allocator(), word, pairs, instructions)?;
+    push_groups(&mut line, groups)?;
+    line.push_str("\n")?;
+    Ok(text.push_str(line.as_str())?)
 }
 
 /// Appends the last line of an answer to `back`: how many pairs it has, how many instructions the
@@ -170,10 +187,21 @@ pub fn push_back(
         (string_bytes text.new ≡ string_bytes text.old ++ back_text pairs instructions groups.now) }
     ensures err { OnErr result (string_bytes text.new ≡ string_bytes text.old) }
 {
-    let mut line = back_head(*text.allocator(), pairs, instructions)?;
-    push_groups(&mut line, groups)?;
-    line.push_str("\n")?;
-    Ok(text.push_str(line.as_str())?)
+    push_count(text, "back", pairs, instructions, groups)
+}
+
+/// Appends the last line of an answer to `forth`, with the same as that of an answer to `back`.
+pub fn push_forth(
+    text: &mut String,
+    pairs: u64,
+    instructions: u128,
+    groups: &[u32],
+) -> Result<(), NoMemory>
+    ensures ok { OnOk result
+        (string_bytes text.new ≡ string_bytes text.old ++ forth_text pairs instructions groups.now) }
+    ensures err { OnErr result (string_bytes text.new ≡ string_bytes text.old) }
+{
+    push_count(text, "forth", pairs, instructions, groups)
 }
 
 /// Appends `damaged E SAID FOUND`: the records don't agree at event E, where one says a value and a replay

@@ -1,7 +1,7 @@
 use arn_base::Pair;
 use arn_lines::{
-    Line, MOST_LINE, Question, Reading, Refusal, RunEnd, block_name, push_back, push_damaged,
-    push_event, push_out, push_pair, push_ran, push_refusal, read_line,
+    Aspect, Line, MOST_LINE, Question, Reading, Refusal, RunEnd, Sought, block_name, push_back,
+    push_damaged, push_event, push_forth, push_out, push_pair, push_ran, push_refusal, read_line,
 };
 use rv64_model::Linkage;
 use std::alloc::{AllocError, Global};
@@ -31,14 +31,63 @@ fn shown_line(alloc: Global, line: &Line) -> Result<String, AllocError> {
 
 fn shown_question(alloc: Global, question: &Question) -> Result<String, AllocError> {
     match question {
-        Question::Back {
+        Question::Show { moment, aspect } => {
+            let aspect = shown_aspect(alloc, aspect)?;
+            format!(in alloc; "show {moment} {aspect}")
+        }
+        Question::Back { linkage, sought } => {
+            let linkage = linkage_word(*linkage);
+            let sought = shown_sought(alloc, sought)?;
+            format!(in alloc; "back {linkage} {sought}")
+        }
+        Question::Forth {
             linkage,
             event,
             from,
             len,
         } => {
             let linkage = linkage_word(*linkage);
-            format!(in alloc; "back {linkage} {event} {from} {len}")
+            format!(in alloc; "forth {linkage} {event} {from} {len}")
+        }
+        Question::Groups => format!(in alloc; "groups"),
+        Question::Events => format!(in alloc; "events"),
+        Question::Verify => format!(in alloc; "verify"),
+    }
+}
+
+fn shown_aspect(alloc: Global, aspect: &Aspect) -> Result<String, AllocError> {
+    match aspect {
+        Aspect::Registers { pid } => format!(in alloc; "registers of {pid}"),
+        Aspect::Memory { pid, at, len } => format!(in alloc; "{len} bytes at {at} of {pid}"),
+        Aspect::File { name } => format!(in alloc; "file {:?}", name.as_slice()),
+        Aspect::Processes => format!(in alloc; "processes"),
+    }
+}
+
+fn shown_sought(alloc: Global, sought: &Sought) -> Result<String, AllocError> {
+    match sought {
+        Sought::Event { event, from, len } => {
+            format!(in alloc; "{len} bytes from {from} of event {event}")
+        }
+        Sought::Memory {
+            moment,
+            pid,
+            at,
+            len,
+        } => format!(in alloc; "{len} bytes at {at} of {pid} at moment {moment}"),
+        Sought::Register {
+            moment,
+            pid,
+            register,
+        } => format!(in alloc; "register {register} of {pid} at moment {moment}"),
+        Sought::Name {
+            moment,
+            name,
+            from,
+            len,
+        } => {
+            let name = name.as_slice();
+            format!(in alloc; "{len} bytes from {from} of file {name:?} at moment {moment}")
         }
     }
 }
@@ -93,22 +142,6 @@ fn lines_are_read(rt: HostRuntime) -> Result<(), Fail> {
         ("run 1f", "unreadable"),
         ("run +5", "unreadable"),
         ("run -5", "unreadable"),
-        ("back copy event 4 0 3", "back copy 4 0 3"),
-        ("back data event 4 0 3", "back data 4 0 3"),
-        ("back index event 4 0 3", "back index 4 0 3"),
-        ("back all event 4 0 3", "unreadable"),
-        ("back copy mem 4 0 3", "unreadable"),
-        ("back copy event 4 0", "unreadable"),
-        ("back copy event 4 0 3 1", "unreadable"),
-        (
-            "back copy event 18446744073709551615 0 0",
-            "back copy 18446744073709551615 0 0",
-        ),
-        (
-            "back copy event 0xffffffffffffffff 0 0",
-            "back copy 18446744073709551615 0 0",
-        ),
-        ("back copy event 18446744073709551616 0 0", "unreadable"),
         ("asm p", "unreadable"),
         ("asm ", "unreadable"),
         ("asm", "unreadable"),
@@ -117,6 +150,155 @@ fn lines_are_read(rt: HostRuntime) -> Result<(), Fail> {
         let reading = read_line(rt.alloc(), line.as_bytes())?;
         let found = shown(rt.alloc(), &reading)?;
         assert_eq!(rt; found.as_str(), wanted, "at {line}");
+    }
+    Ok(())
+}
+
+#[test]
+fn questions_are_read(rt: HostRuntime) -> Result<(), Fail> {
+    let cases = [
+        ("show 7 regs 2", "show 7 registers of 2"),
+        (
+            "show 7 regs 1099511627776",
+            "show 7 registers of 1099511627776",
+        ),
+        ("show 7 mem 2 0x10000 16", "show 7 16 bytes at 65536 of 2"),
+        ("show 0 file p", "show 0 file [112]"),
+        ("show 0x7 procs", "show 7 processes"),
+        (
+            "back copy event 4 1 3",
+            "back copy 3 bytes from 1 of event 4",
+        ),
+        (
+            "back data event 4 1 3",
+            "back data 3 bytes from 1 of event 4",
+        ),
+        (
+            "back index event 4 1 3",
+            "back index 3 bytes from 1 of event 4",
+        ),
+        (
+            "back copy event 18446744073709551615 0 0",
+            "back copy 0 bytes from 0 of event 18446744073709551615",
+        ),
+        (
+            "back copy event 0xffffffffffffffff 0 0",
+            "back copy 0 bytes from 0 of event 18446744073709551615",
+        ),
+        (
+            "back copy mem 7 2 0x10000 16",
+            "back copy 16 bytes at 65536 of 2 at moment 7",
+        ),
+        (
+            "back data reg 7 2 32",
+            "back data register 32 of 2 at moment 7",
+        ),
+        (
+            "back index name 7 p 0 1",
+            "back index 1 bytes from 0 of file [112] at moment 7",
+        ),
+        (
+            "back index name 7 - 0 1",
+            "back index 1 bytes from 0 of file [45] at moment 7",
+        ),
+        ("forth copy 4 1 3", "forth copy 4 1 3"),
+        ("forth index 0x4 0x1 0x3", "forth index 4 1 3"),
+        ("groups", "groups"),
+        ("events", "events"),
+        ("verify", "verify"),
+    ];
+    for (line, wanted) in cases {
+        let reading = read_line(rt.alloc(), line.as_bytes())?;
+        let found = shown(rt.alloc(), &reading)?;
+        assert_eq!(rt; found.as_str(), wanted, "at {line}");
+    }
+    Ok(())
+}
+
+#[test]
+fn what_is_no_question_is_unreadable(rt: HostRuntime) -> Result<(), Fail> {
+    let cases = [
+        "show",
+        "show ",
+        "show 7",
+        "show regs 2",
+        "show 7 regs",
+        "show 7 regs ",
+        "show 7 regs 2 3",
+        "show 7 regs 02",
+        "show 07 regs 2",
+        "show 7  regs 2",
+        "show 7 regs  2",
+        "show 7 regs 2 ",
+        "show  7 regs 2",
+        "show 18446744073709551616 regs 2",
+        "show 7 reg 2",
+        "show 7 mem 2 65536",
+        "show 7 mem 2 65536 16 1",
+        "show 7 mem 2 065536 16",
+        "show 7 mem 2 65536  16",
+        "show 7 mem 2 0x 16",
+        "show 7 file",
+        "show 7 file ",
+        "show 7 file p q",
+        "show 7 file \x7f",
+        "show 7 file  p",
+        "show 7 procs ",
+        "show 7 procs 2",
+        "show 7  procs",
+        "show 07 procs",
+        "show procs",
+        "back",
+        "back copy",
+        "back all event 4 0 3",
+        "back event 4 0 3",
+        "back copy event 4 0",
+        "back copy event 4 0 3 1",
+        "back copy event 4 00 3",
+        "back copy event 4  0 3",
+        "back copy  event 4 0 3",
+        "back  copy event 4 0 3",
+        "back copy event 4 0 3 ",
+        "back copy event 18446744073709551616 0 0",
+        "back copy mem 7 2 16",
+        "back copy mem 7 2 65536 16 1",
+        "back copy mem 7 2 65536 016",
+        "back copy mem 7 2  65536 16",
+        "back copy reg 7 2",
+        "back copy reg 7 2 3 4",
+        "back copy reg 7 02 3",
+        "back copy reg 7 2  3",
+        "back copy regs 7 2 3",
+        "back copy name 7 0 1",
+        "back copy name p 0 1",
+        "back copy name 7 p 0",
+        "back copy name 7 p 0 1 2",
+        "back copy name 7 \x7f 0 1",
+        "back copy name 7 p 00 1",
+        "back copy name 7  p 0 1",
+        "back copy name 7 p  0 1",
+        "back copy name 7 p 0 1 ",
+        "back copy file p",
+        "forth copy 4 1",
+        "forth copy 4 1 3 5",
+        "forth copy 4 01 3",
+        "forth copy  4 1 3",
+        "forth copy event 4 1 3",
+        "forth 4 1 3",
+        "forth all 4 1 3",
+        "group",
+        "groups ",
+        " groups",
+        "groups 1",
+        "events ",
+        "event",
+        "verify ",
+        "verify run",
+        "Verify",
+    ];
+    for line in cases {
+        let reading = read_line(rt.alloc(), line.as_bytes())?;
+        assert!(rt; matches!(reading, Reading::Unreadable), "at {line}");
     }
     Ok(())
 }
@@ -247,6 +429,8 @@ fn answers_are_written(rt: HostRuntime) -> Result<(), Fail> {
     push_back(&mut text, 3, 11, &[1])?;
     push_back(&mut text, 0, 0, &[])?;
     push_back(&mut text, 3, u128::MAX, &[1, 3, 4294967295])?;
+    push_forth(&mut text, 1, 22, &[1, 2])?;
+    push_forth(&mut text, 0, 0, &[])?;
     push_damaged(&mut text, 10, 22, 12)?;
     let wanted = "event 0
 out 4 1 616263
@@ -259,6 +443,8 @@ pair 2 94 1
 back pairs 3 instructions 11 groups 1
 back pairs 0 instructions 0 groups -
 back pairs 3 instructions 340282366920938463463374607431768211455 groups 1 3 4294967295
+forth pairs 1 instructions 22 groups 1 2
+forth pairs 0 instructions 0 groups -
 damaged 10 22 12
 ";
     assert_eq!(rt; text.as_str(), wanted);

@@ -4,11 +4,12 @@ use Rattle.std.specs.Prelude.{codes}
 use Rattle.arn_base.specs.declared.records.Record.{Record}
 use Rattle.arn_base.specs.declared.records.Record.TheVariants as entry
 use Rattle.arn_lines.specs.declared.line.Question.TheVariants as question
+use Rattle.arn_lines.specs.declared.line.Sought.TheVariants as sought
 use Rattle.rv64_model.specs.declared.linkage.Linkage.TheVariants.{Copy, Data}
 use Rattle.session_questions.specs.Texts.{question_cost, question_text}
 
 -- no record tells an event yet
-no_event : question_text [] (question.Back Copy 0 0 1) ≡ codes "no point\n"
+no_event : question_text [] (question.Back Copy (sought.Event 0 0 1)) ≡ codes "no point\n"
 no_event = refl
 
 -- a file of two bytes was brought
@@ -16,10 +17,10 @@ a_file : List Record
 a_file = entry.File (97 ∷ []) (1 ∷ 2 ∷ []) ∷ []
 
 -- a range ends with the event's bytes
-too_far : question_text a_file (question.Back Data 0 1 2) ≡ codes "no point\n"
+too_far : question_text a_file (question.Back Data (sought.Event 0 1 2)) ≡ codes "no point\n"
 unfolding a_file
 too_far = refl
 
-costs_nothing : question_cost a_file (question.Back Data 0 1 2) ≡ 0
+costs_nothing : question_cost a_file (question.Back Data (sought.Event 0 1 2)) ≡ 0
 unfolding a_file
 costs_nothing = refl

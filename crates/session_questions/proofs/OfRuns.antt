@@ -10,6 +10,8 @@ use Rattle.arn_lines.specs.declared.answer.Refusal.TheVariants.{NoPoint}
 use Rattle.arn_lines.specs.declared.line.Question.{Question}
 use Rattle.arn_lines.specs.declared.line.Question.TheVariants as question
 use Rattle.arn_lines.specs.Texts.{refusal_text}
+use Rattle.arn_lines.specs.declared.line.Sought.{Sought}
+use Rattle.arn_lines.specs.declared.line.Sought.TheVariants as sought
 use Rattle.arn_model.specs.Run.{Input}
 use Rattle.history_model.specs.Alone.{Disagrees}
 use Rattle.history_model.specs.Events.{event_at, events, is_range}
@@ -18,9 +20,9 @@ use Rattle.log_store.specs.Log.{spellings}
 use Rattle.log_store.specs.declared.size.TheConstants.{MOST_LOG}
 use Rattle.query_laws.specs.OfRuns.{AnswersRun, QueriesAreOfRuns}
 use Rattle.query_model.specs.Answers.{count_in, event_disagreement, event_groups, moment_of}
-use Rattle.session_questions.specs.OfRuns.{run_pairs, run_text}
+use Rattle.session_questions.specs.OfRuns.{run_back_text, run_pairs, run_text}
 use Rattle.session_questions.specs.Short.{ShortRunsHaveNumbers}
-use Rattle.session_questions.specs.Texts.{answer_text, question_text, sources_text, unless_damaged}
+use Rattle.session_questions.specs.Texts.{answer_text, back_telling, question_text, sources_text, unless_damaged}
 
 -- an event that has bytes is there
 range-there : (entries : List Record) (n from len : ℕ) → is_range (slice_get entries n) from len ≡ true → n < length entries
@@ -44,9 +46,21 @@ module _ (numbers : ShortRunsHaveNumbers) (queries : QueriesAreOfRuns) (inputs :
       ∙ ap (λ (pairs : List Pair). answer_text pairs (count_in (records inputs) (event_groups (records inputs) event)) (event_groups (records inputs) event))
       ((answers linkage).pairs event from len (range-there (events (records inputs)) event from len is))
 
-pub of-runs : ShortRunsHaveNumbers → QueriesAreOfRuns → (inputs : List Input) (q : Question) → length (spellings (records inputs)) ≤ MOST_LOG → question_text (records inputs) q ≡ run_text inputs q
-of-runs numbers queries inputs (question.Back linkage event from len) short =
+back-of-runs : ShortRunsHaveNumbers → QueriesAreOfRuns → (inputs : List Input) (linkage : Linkage) (s : Sought) → length (spellings (records inputs)) ≤ MOST_LOG
+    → (back_telling (records inputs) linkage s).text ≡ run_back_text inputs linkage s
+back-of-runs numbers queries inputs linkage (sought.Event event from len) short =
     by-range numbers queries inputs short linkage event from len (is_range (event_at (records inputs) event) from len) refl
+back-of-runs numbers queries inputs linkage (sought.Memory moment pid at len) short = refl
+back-of-runs numbers queries inputs linkage (sought.Register moment pid register) short = refl
+back-of-runs numbers queries inputs linkage (sought.Name moment name from len) short = refl
+
+pub of-runs : ShortRunsHaveNumbers → QueriesAreOfRuns → (inputs : List Input) (q : Question) → length (spellings (records inputs)) ≤ MOST_LOG → question_text (records inputs) q ≡ run_text inputs q
+of-runs numbers queries inputs (question.Show moment shown) short = refl
+of-runs numbers queries inputs (question.Back linkage bytes) short = back-of-runs numbers queries inputs linkage bytes short
+of-runs numbers queries inputs (question.Forth linkage event from len) short = refl
+of-runs numbers queries inputs question.Groups short = refl
+of-runs numbers queries inputs question.Events short = refl
+of-runs numbers queries inputs question.Verify short = refl
 
 pub undamaged : ShortRunsHaveNumbers → QueriesAreOfRuns → (inputs : List Input) (event : ℕ) → length (spellings (records inputs)) ≤ MOST_LOG → event_disagreement (records inputs) event ≡ None
 undamaged numbers queries inputs event short = agrees numbers queries inputs short Copy event

@@ -4,6 +4,7 @@
 mod asking;
 mod of_runs;
 mod short;
+mod sources;
 
 pub use asking::Asking;
 pub use of_runs::answers_are_of_runs;

@@ -5,7 +5,7 @@ use Rattle.std.proofs.lemmas.Result.{IfOk-weaker}
 use Rattle.arn_base.specs.declared.records.Pair.{Pair}
 use Rattle.arn_lines.specs.Texts.{pair_text}
 use Rattle.session_questions.proofs.Printed.{answer-printed}
-use Rattle.session_questions.proofs.asking.push_answer.Goals as goal
+use Rattle.session_questions.proofs.sources.push_answer.Goals as goal
 
 pub returns : goal.returns
 returns c =

@@ -2,7 +2,7 @@ use Rattle.std.proofs.Common.{◌≡◌, ◌++◌, take}
 use Rattle.std.specs.Prelude.{flat_map}
 use Rattle.std.specs.String.{string_bytes}
 use Rattle.arn_lines.specs.Texts.{pair_text}
-use Rattle.session_questions.proofs.asking.push_pairs.Given as goal
+use Rattle.session_questions.proofs.sources.push_pairs.Given as goal
 
 abbrev pub invariant-loop-pair : goal.invariant-loop-pair
 invariant-loop-pair l =

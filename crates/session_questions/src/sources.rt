@@ -1,0 +1,119 @@
+// Where bytes come from.
+ghost use Rattle.std.specs.Prelude.{◌≡◌, ◌+◌, ◌≤◌, ◌++◌, false, IfNone, IfSome, OnOk, flat_map, string_bytes};
+ghost use Rattle.arn_lines.specs.Texts.{pair_text};
+ghost use Rattle.history_index.specs.Indexes.{AreCountable, Indexes};
+ghost use Rattle.history_model.specs.Events.{event_at, is_range};
+ghost use Rattle.query_engine.specs.declared.engine.Target.TheVariants as target;
+ghost use Rattle.rv64_model.specs.Carries.{operands};
+ghost use Rattle.session_questions.specs.Texts.{answer_text, back_telling, event_telling};
+
+use crate::Asking;
+use arn_base::{NoMemory, Pair, Record, Steps};
+use arn_lines::{Refusal, Sought, push_back, push_damaged, push_pair, push_refusal};
+use query_engine::{Answer, QueryError, Target};
+use rv64_model::Linkage;
+use std::sync::ledger::Ledger;
+
+// Appends the lines of pairs. An error leaves some of them behind the text.
+fn push_pairs(text: &mut String, pairs: &[Pair]) -> Result<(), NoMemory>
+    ensures { OnOk result
+        (string_bytes text.new ≡ string_bytes text.old ++ flat_map pair_text pairs.now) }
+{
+    for pair in pairs {
+        push_pair(text, pair)?;
+    }
+    Ok(())
+}
+
+// Appends what is answered: the pairs, and the line that counts them.
+fn push_answer(text: &mut String, answer: &Answer) -> Result<(), NoMemory>
+    ensures { OnOk result (string_bytes text.new ≡ string_bytes text.old
+        ++ answer_text answer.now.pairs answer.now.instructions answer.now.groups) }
+{
+    push_pairs(text, answer.pairs.as_slice())?;
+    push_back(
+        text,
+        answer.pairs.len() as u64,
+        answer.instructions.into(),
+        answer.groups.as_slice(),
+    )
+}
+
+// Which bytes of an event are asked for: none where 32 bits don't count them, since no event has these.
+#[tactic(auto, using(crate::proofs::Ranges::far_away))]
+fn target(_entries: &[Record], event: u64, from: u64, len: u64) -> Option<Target>
+    requires countable { AreCountable _entries.now }
+    ensures some { IfSome result (λ found. found ≡ target.Event event from len) }
+    ensures none { IfNone result (is_range (event_at _entries.now event) from len ≡ false) }
+{
+    let Ok(from) = u32::try_from(from) else {
+        return None;
+    };
+    let Ok(len) = u32::try_from(len) else {
+        return None;
+    };
+    Some(Target::Event { event, from, len })
+}
+
+impl Asking {
+    // Appends the answer to where bytes of an event come from.
+    fn event_sources<L: Ledger>(
+        &mut self,
+        entries: &[Record],
+        linkage: Linkage,
+        event: u64,
+        from: u64,
+        len: u64,
+        text: &mut String,
+        steps: &mut Steps<L>,
+    ) -> Result<(), NoMemory>
+        requires countable { AreCountable entries.now }
+        requires known { Indexes self.old entries.now }
+        ensures kept { self.new ≡ self.old }
+        ensures text { OnOk result (string_bytes text.new ≡
+            string_bytes text.old ++ (event_telling (operands linkage) entries.now event from len).text) }
+        ensures steps { steps.new ≤
+            steps.old + (event_telling (operands linkage) entries.now event from len).cost }
+    {
+        let Some(target) = target(entries, event, from, len) else {
+            return push_refusal(text, Refusal::NoPoint);
+        };
+        match self
+            .engine
+            .back(entries, &self.index, linkage, &target, steps)
+        {
+            Ok(answer) => push_answer(text, &answer),
+            Err(QueryError::NoPoint) => push_refusal(text, Refusal::NoPoint),
+            Err(QueryError::Disagrees(found)) => {
+                push_damaged(text, found.event, found.said, found.found)
+            }
+            Err(QueryError::NoMemory) => Err(NoMemory),
+        }
+    }
+    // Appends the answer to where bytes come from.
+    pub(crate) fn sources<L: Ledger>(
+        &mut self,
+        entries: &[Record],
+        linkage: Linkage,
+        sought: &Sought,
+        text: &mut String,
+        steps: &mut Steps<L>,
+    ) -> Result<(), NoMemory>
+        requires countable { AreCountable entries.now }
+        requires known { Indexes self.old entries.now }
+        ensures kept { self.new ≡ self.old }
+        ensures text { OnOk result (string_bytes text.new ≡
+            string_bytes text.old ++ (back_telling entries.now linkage sought.now).text) }
+        ensures steps { steps.new ≤
+            steps.old + (back_telling entries.now linkage sought.now).cost }
+    {
+        match sought {
+            Sought::Event { event, from, len } => {
+                self.event_sources(entries, linkage, *event, *from, *len, text, steps)
+            }
+            Sought::Memory { .. } | Sought::Register { .. } | Sought::Name { .. } => {
+                push_refusal(text, Refusal::NoLine)
+            }
+        }
+    }
+}
