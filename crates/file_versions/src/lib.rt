@@ -2,9 +2,11 @@
 #![tactic(auto)]
 
 mod errors;
-mod tables;
+mod give;
+mod names;
 mod told;
 mod versions;
+mod writes;
 
 pub use errors::VersionError;
 pub use versions::Versions;
