@@ -1,16 +1,18 @@
 -- What is kept of names and writes is what has happened of them by each moment.
-use Rattle.std.proofs.Common.{◌≡◌, ℕ, zero, suc, ◌+◌, ◌<◌, ◌≤◌, ◌&&◌, Bool, true, false, cond, nat_le, List, [], ◌∷◌, ◌++◌, map, filter, length, Option, Some, None, option_map, bytes_eq, refl, sym, ap, ◌∙◌, arith, add-zero, subst}
+use Rattle.std.proofs.Common.{◌≡◌, ℕ, zero, suc, ◌+◌, ◌<◌, ◌≤◌, ◌^◌, ◌&&◌, Bool, true, false, cond, nat_le, List, [], ◌∷◌, ◌++◌, map, filter, length, Option, Some, None, option_map, bytes_eq, refl, sym, ap, ◌∙◌, arith, add-zero, subst}
+use Rattle.std.specs.Prelude.{All}
 use Rattle.std.specs.List.{cons_option}
 use Rattle.std.proofs.lemmas.Bool.Decides.{nat_tests}
 use Rattle.arn_base.specs.declared.records.Record.{Record}
 use Rattle.arn_base.specs.declared.records.Record.TheVariants as entry
-use Rattle.acts_model.specs.Records.{NameChange, Names, Unnames, NoName, name_told, Written, is_event}
+use Rattle.acts_model.specs.Records.{NameChange, Names, Unnames, NoName, name_told, Written, is_event, event_len}
 use Rattle.history_index.specs.Lookups.{begin_after, events_in}
 use Rattle.history_model.specs.Moments.{Numbered, events_from, ran_in, total}
 use Rattle.history_model.specs.Names.{named_by, named_from}
 use Rattle.file_versions.specs.declared.told.Before.{Before}
 use Rattle.file_versions.specs.Versions.{Write, brought_by, written_by, writes_from, is_to}
 use Rattle.file_versions.specs.Tables.{NameAt, WriteAt, Tables, TellsFiles, nothing_before, with_record, name_changed, name_in, write_in, names_in, writes_in, name_after, named_until, is_until, writes_until}
+use Rattle.file_versions.proofs.Counted.{IsShortAt, writes-short}
 
 -- an event is there, or not
 abbrev cons_if : Bool → Numbered → List Numbered → List Numbered
@@ -278,10 +280,11 @@ writes-told m file b begins (e ∷ entries) before =
         written-past m file b (e ∷ entries) (grind (arith, nat_tests))
         ∙ sym (ap (filter (is_to file)) (nothing-written b.files (events_from m begins b.ran b.events (e ∷ entries)) (only-deliveries m begins b.ran b.events (e ∷ entries) (grind (arith, nat_tests)))))
 
-pub tells-files : (t : Tables) (entries : List Record) → t.total ≡ total entries → t.names ≡ names_in nothing_before entries → t.writes ≡ writes_in nothing_before entries → TellsFiles t entries
-tells-files t entries all names writes =
+pub tells-files : (t : Tables) (entries : List Record) → All (λ e. event_len e < 2 ^ 32) entries → t.total ≡ total entries → t.names ≡ names_in nothing_before entries → t.writes ≡ writes_in nothing_before entries → TellsFiles t entries
+tells-files t entries short all names writes =
     record {
       total = all;
       names = λ m name. ap (λ (ns : List NameAt). named_until m name ns None) names ∙ names-told m name nothing_before 0 entries None (omega arith);
+      short = subst (All IsShortAt) (sym writes) (writes-short nothing_before entries short);
       writes = λ m file. ap (writes_until m file) writes ∙ writes-told m file nothing_before 0 entries (omega arith);
     }

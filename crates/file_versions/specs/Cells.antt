@@ -1,5 +1,5 @@
 -- Cells that are held as a list, and whether there are enough of them.
-use Rattle.std.specs.Prelude.{◌≡◌, ◌⊎◌, ◌<◌, ◌≤◌, ℕ, ◌+◌, List, [], ◌∷◌, length, Option, None}
+use Rattle.std.specs.Prelude.{◌≡◌, ◌⊎◌, ◌<◌, ◌≤◌, ◌^◌, ℕ, ◌+◌, List, [], ◌∷◌, length, Option, None}
 use Rattle.parts_model.specs.declared.tagged.TaggedByte.{TaggedByte}
 use Rattle.parts_model.specs.Numbered.{nth}
 use Rattle.file_versions.specs.Versions.{Write, cell_after, reach, onto_filled}
@@ -7,6 +7,10 @@ use Rattle.file_versions.specs.Versions.{Write, cell_after, reach, onto_filled}
 -- bytes of an event, from a place of some file on
 abbrev pub write_of : ℕ → ℕ → List ℕ → Write
 write_of event at bytes = record { event = event; over = record { file = 0; at = at; bytes = bytes } }
+
+-- 32 bits count the places up to its own
+abbrev pub IsCounted : TaggedByte → Type 0
+IsCounted byte = byte.origin.at + 1 < 2 ^ 32
 
 -- what is in cells up to the first that is empty
 abbrev pub filled : List (Option TaggedByte) → List TaggedByte

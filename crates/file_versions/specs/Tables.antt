@@ -1,5 +1,5 @@
 -- What is kept of the names and writes of a history.
-use Rattle.std.specs.Prelude.{◌≡◌, ℕ, ◌+◌, nat_le, ◌&&◌, Bool, if◌then◌else◌, List, [], ◌∷◌, map, filter, Option, Some, None, option_map, bytes_eq}
+use Rattle.std.specs.Prelude.{◌≡◌, ℕ, ◌+◌, ◌<◌, ◌^◌, nat_le, ◌&&◌, Bool, if◌then◌else◌, List, [], ◌∷◌, length, map, filter, All, Option, Some, None, option_map, bytes_eq}
 use Rattle.std.specs.List.{cons_option}
 use Rattle.arn_base.specs.declared.records.Record.{Record}
 use Rattle.arn_base.specs.declared.records.Record.TheVariants as entry
@@ -75,4 +75,5 @@ writes_until moment file writes = map (λ w. w.write) (filter (is_until moment f
 pub record TellsFiles (t : Tables) (entries : List Record) : Type 0 where
   pub total : t.total ≡ total entries
   pub names : (moment : ℕ) (name : List ℕ) → named_until moment name t.names None ≡ file_at entries moment name
+  pub short : All (λ w. length w.write.over.bytes < 2 ^ 32) t.writes
   pub writes : (moment file : ℕ) → writes_until moment file t.writes ≡ writes_at entries moment file

@@ -11,7 +11,7 @@ returns c =
     let i = c.loop-entry.invariant in
     record {
       ok =
-          tells-files c.loop-entry.versions c.args.entries.now i.total
+          tells-files c.loop-entry.versions c.args.entries.now c.requires.countable.short i.total
           (sym (append-nil c.loop-entry.versions.names) ∙ ap (λ (es : List Record). c.loop-entry.versions.names ++ names_in c.loop-entry.before es) (sym done) ∙ i.names)
           (sym (append-nil c.loop-entry.versions.writes) ∙ ap (λ (es : List Record). c.loop-entry.versions.writes ++ writes_in c.loop-entry.before es) (sym done) ∙ i.writes);
     }
