@@ -4,6 +4,8 @@
 mod errors;
 mod give;
 mod names;
+#[cfg(test)]
+mod tests;
 mod told;
 mod versions;
 mod writes;

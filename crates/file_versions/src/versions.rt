@@ -8,11 +8,10 @@ ghost use Rattle.parts_model.specs.Tagged.{origins_of, values};
 ghost use Rattle.file_versions.specs.Versions.{bytes_after, file_at, version_at};
 ghost use Rattle.file_versions.specs.Tables.{name_in, named_until, write_in, writes_until, TellsFiles};
 
-use crate::VersionError;
-use crate::give;
 use crate::names::{self, Naming};
 use crate::told::Before;
 use crate::writes::{self, Writing};
+use crate::{VersionError, give};
 use arn_base::{Bytes, NoMemory, Origins, Record};
 use history_index::Index;
 use parts_model::TaggedByte;
@@ -86,7 +85,11 @@ impl<'a> Versions<'a> {
     }
 
     /// The versions of files that records tell, of which this is the index.
-    pub fn build(alloc: Global, entries: &'a [Record], index: &Index) -> Result<Versions<'a>, NoMemory>
+    pub fn build(
+        alloc: Global,
+        entries: &'a [Record],
+        index: &Index,
+    ) -> Result<Versions<'a>, NoMemory>
         requires countable { AreCountable entries.now }
         requires indexed { Indexes index.now entries.now }
         ensures ok { IfOk result (λ made. TellsFiles made entries.now) }
