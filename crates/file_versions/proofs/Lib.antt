@@ -1,0 +1,5 @@
+pub mod Laying
+pub mod Enough
+pub mod Happened
+pub mod Runs
+pub mod Counted

@@ -1,0 +1,17 @@
+use Rattle.std.proofs.Common.{◌≡◌, ◌++◌, [], List, drop, append-nil, length, ◌∙◌, ap, sym}
+use Rattle.std.proofs.lemmas.List.{drop_all}
+use Rattle.arn_base.specs.declared.records.Record.{Record}
+use Rattle.file_versions.specs.Tables.{names_in, writes_in}
+use Rattle.file_versions.proofs.Happened.{tells-files}
+use Rattle.file_versions.proofs.versions.Versions.build.Goals as goal
+
+pub returns : goal.returns
+returns c =
+    let done : drop c.loop-entry.entry-index c.args.entries.now ≡ [] = drop_all c.loop-entry.entry-index c.args.entries.now c.loop-entry-test.false in
+    let i = c.loop-entry.invariant in
+    record {
+      ok =
+          tells-files c.loop-entry.versions c.args.entries.now c.requires.countable.short i.total
+          (sym (append-nil c.loop-entry.versions.names) ∙ ap (λ (es : List Record). c.loop-entry.versions.names ++ names_in c.loop-entry.before es) (sym done) ∙ i.names)
+          (sym (append-nil c.loop-entry.versions.writes) ∙ ap (λ (es : List Record). c.loop-entry.versions.writes ++ writes_in c.loop-entry.before es) (sym done) ∙ i.writes);
+    }
