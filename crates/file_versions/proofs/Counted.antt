@@ -1,5 +1,5 @@
 -- 32 bits count the places of all bytes that are written.
-use Rattle.std.proofs.Common.{◌≡◌, ℕ, zero, suc, ◌+◌, ◌-◌, ◌<◌, ◌^◌, Bool, true, false, cond, nat_le, List, [], ◌∷◌, length, map, filter, Option, Some, None, IfSome, slice_get, option_map, ◌==◌, refl, sym, ap, subst, ◌∙◌, arith}
+use Rattle.std.proofs.Common.{◌≡◌, ℕ, zero, suc, ◌+◌, ◌-◌, ◌<◌, ◌^◌, Bool, true, false, cond, nat_le, List, [], ◌∷◌, length, filter, Option, Some, None, IfSome, slice_get, option_map, ◌==◌, refl, sym, ap, subst, ◌∙◌, arith}
 use Rattle.std.specs.Prelude.{All}
 use Rattle.std.specs.List.{cons_option}
 use Rattle.std.proofs.lemmas.List.Elements.{All-nil, All-cons, All-head, All-tail, All-filter, All-map}
@@ -13,7 +13,7 @@ use Rattle.acts_model.specs.Records.{Written, event_len}
 use Rattle.file_versions.specs.declared.told.Before.{Before}
 use Rattle.file_versions.specs.Versions.{Write, byte_of, or_before, laid_at, cell_after, reach, onto_filled, filled_from, bytes_after, bytes_at, version_at, written_by}
 use Rattle.file_versions.specs.Cells.{IsCounted}
-use Rattle.file_versions.specs.Tables.{WriteAt, write_in, writes_in, with_record, is_until, named_until, writes_until, Tables, TellsFiles}
+use Rattle.file_versions.specs.Tables.{WriteAt, writes_in, with_record, is_until, named_until, writes_until, Tables, TellsFiles}
 
 abbrev pub IsShort : Write → Type 0
 IsShort w = length w.over.bytes < 2 ^ 32

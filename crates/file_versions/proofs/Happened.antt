@@ -1,5 +1,5 @@
 -- What is kept of names and writes is what has happened of them by each moment.
-use Rattle.std.proofs.Common.{◌≡◌, ℕ, zero, suc, ◌+◌, ◌<◌, ◌≤◌, ◌^◌, ◌&&◌, Bool, true, false, cond, nat_le, List, [], ◌∷◌, ◌++◌, map, filter, length, Option, Some, None, option_map, bytes_eq, refl, sym, ap, ◌∙◌, arith, add-zero, subst}
+use Rattle.std.proofs.Common.{◌≡◌, ℕ, ◌+◌, ◌<◌, ◌≤◌, ◌^◌, ◌&&◌, Bool, true, false, cond, nat_le, List, [], ◌∷◌, map, filter, Option, Some, None, option_map, bytes_eq, refl, sym, ap, ◌∙◌, arith, add-zero, subst}
 use Rattle.std.specs.Prelude.{All}
 use Rattle.std.specs.List.{cons_option}
 use Rattle.std.proofs.lemmas.Bool.Decides.{nat_tests}
@@ -11,7 +11,7 @@ use Rattle.history_model.specs.Moments.{Numbered, events_from, ran_in, total}
 use Rattle.history_model.specs.Names.{named_by, named_from}
 use Rattle.file_versions.specs.declared.told.Before.{Before}
 use Rattle.file_versions.specs.Versions.{Write, brought_by, written_by, writes_from, is_to}
-use Rattle.file_versions.specs.Tables.{NameAt, WriteAt, Tables, TellsFiles, nothing_before, with_record, name_changed, name_in, write_in, names_in, writes_in, name_after, named_until, is_until, writes_until}
+use Rattle.file_versions.specs.Tables.{NameAt, WriteAt, Tables, TellsFiles, nothing_before, with_record, name_changed, name_in, names_in, writes_in, name_after, named_until, is_until, writes_until}
 use Rattle.file_versions.proofs.Counted.{IsShortAt, writes-short}
 
 -- an event is there, or not

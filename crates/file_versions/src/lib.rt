@@ -4,8 +4,6 @@
 mod errors;
 mod give;
 mod names;
-#[cfg(test)]
-mod tests;
 mod told;
 mod versions;
 mod writes;

@@ -1,4 +1,4 @@
-use Rattle.std.proofs.Common.{◌≡◌, ◌++◌, ◌∷◌, ◌∙◌, [], List, sym, ap}
+use Rattle.std.proofs.Common.{◌++◌, ◌∷◌, ◌∙◌, [], List, sym, ap}
 use Rattle.arn_base.specs.declared.records.Origin.{Origin}
 use Rattle.file_versions.proofs.Runs.{run-longer, run-begins}
 use Rattle.file_versions.proofs.give.go_on.Goals as goal

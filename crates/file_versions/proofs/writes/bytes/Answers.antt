@@ -1,8 +1,6 @@
-use Rattle.std.proofs.Common.{◌∙◌, ap, sym, List, Option}
+use Rattle.std.proofs.Common.{◌∙◌, ap}
 use Rattle.std.proofs.lemmas.Result.{IfOk-weaker}
-use Rattle.parts_model.specs.declared.tagged.TaggedByte.{TaggedByte}
 use Rattle.file_versions.specs.Cells.{filled}
-use Rattle.file_versions.specs.Versions.{bytes_after}
 use Rattle.file_versions.specs.Tables.{writes_until}
 use Rattle.file_versions.proofs.Enough.{held-is}
 use Rattle.file_versions.proofs.writes.bytes.Goals as goal

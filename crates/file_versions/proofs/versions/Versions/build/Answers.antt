@@ -1,4 +1,4 @@
-use Rattle.std.proofs.Common.{◌≡◌, ◌++◌, [], List, drop, append-nil, length, ◌∙◌, ap, sym}
+use Rattle.std.proofs.Common.{◌≡◌, ◌++◌, [], List, drop, append-nil, ◌∙◌, ap, sym}
 use Rattle.std.proofs.lemmas.List.{drop_all}
 use Rattle.arn_base.specs.declared.records.Record.{Record}
 use Rattle.file_versions.specs.Tables.{names_in, writes_in}

@@ -1,4 +1,4 @@
-use Rattle.std.proofs.Common.{◌∙◌, None, Option, Some, List, map, option_map, sym, subst, ap}
+use Rattle.std.proofs.Common.{◌∙◌, None, Some, List, map, option_map, sym, subst, ap}
 use Rattle.std.specs.Prelude.{All}
 use Rattle.arn_base.specs.declared.records.Origin.{Origin}
 use Rattle.parts_model.specs.declared.tagged.TaggedByte.{TaggedByte}
