@@ -1,2 +1,3 @@
+pub mod Happened
 pub mod Members
 pub mod Laws

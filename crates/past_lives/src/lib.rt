@@ -4,11 +4,10 @@
 
 mod events;
 mod law;
+mod lives;
 mod living;
 mod members;
 mod segments;
-#[cfg(test)]
-mod tests;
 
 pub use law::{members_are_seen, windows_are_whole};
 pub use living::live_at;

@@ -3,7 +3,8 @@ ghost use Rattle.std.specs.Prelude.{◌≡◌};
 ghost use Rattle.history_index.specs.Indexes.{Indexes};
 ghost use Rattle.past_lives.specs.Members as told;
 
-use crate::{events, segments};
+use crate::lives::lives;
+use crate::segments::segment;
 use arn_base::Record;
 use history_index::Index;
 use parts_model::limits::{MOST_ASKED, SEGMENT_END, SEGMENT_START, WINDOW_END, WINDOW_START};
@@ -13,7 +14,7 @@ pub fn is_member(entries: &[Record], index: &Index, moment: u64, pid: u32) -> bo
     requires indexed { Indexes index.now entries.now }
     ensures { result ≡ told.is_member entries.now moment pid }
 {
-    moment <= index.total() && events::lives(entries, index, moment, pid)
+    moment <= index.total() && lives(entries, index, moment, pid)
 }
 
 fn lies_between(start: u64, end: u64, at: u64, len: u32) -> bool
@@ -44,5 +45,5 @@ pub fn is_memory_range(
 {
     is_member(entries, index, moment, pid)
         && u64::from(len) <= MOST_ASKED
-        && is_present(segments::segment(entries, index, moment, pid).is_some(), at, len)
+        && is_present(segment(entries, index, moment, pid).is_some(), at, len)
 }
