@@ -1,2 +1,4 @@
 mod Until
 mod Places
+mod Records
+mod Flags
