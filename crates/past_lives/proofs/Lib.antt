@@ -2,3 +2,11 @@ mod Until
 mod Places
 mod Records
 mod Flags
+mod Bodies
+mod Sizes
+mod Sound
+mod Does
+mod Tells
+mod Steps
+mod Standing
+mod Fold

@@ -13,6 +13,7 @@ un-not true e = refl
 un-not false e = sym e
 
 pub record Stands (before : List Record) (e : Record) : Type 0 where
+  pub comes : comes_wrong before e ≡ false
   pub process : lacks_process before e ≡ false
   pub slice : lacks_slice before e ≡ false
   pub blocks : has_blocks_wrong (start_in e) ≡ false
@@ -28,7 +29,7 @@ can-follow before e f =
     let c = or_parts (lacks_slice before e) given b.1 in
     let d = or_parts (not (are_origins before (give_of e))) blocked c.1 in
     let g = or_parts (has_blocks_wrong (start_in e)) placed d.1 in
-    record { process = b.0; slice = c.0; blocks = g.0; numbers = (or_parts (misnumbers before (child_in e)) (misplaces_start e) g.1).0 }
+    record { comes = a.0; process = b.0; slice = c.0; blocks = g.0; numbers = (or_parts (misnumbers before (child_in e)) (misplaces_start e) g.1).0 }
 
 -- the next record stands, and so do those behind it
 pub follows : (before : List Record) (e : Record) (rest : List Record) → broken_from before (e ∷ rest) ≡ None → Stands before e × (broken_from (before ++ e ∷ []) rest ≡ None)
@@ -40,7 +41,7 @@ follows before e rest broken = by_test (cant_follow before e) refl broken
 
 -- There are no more processes than records.
 
-child-number : (before : List Record) (child : ℕ) → misnumbers before (Some child) ≡ false → child ≡ greatest before + 1
+pub child-number : (before : List Record) (child : ℕ) → misnumbers before (Some child) ≡ false → child ≡ greatest before + 1
 child-number before child m = eqb-true child (greatest before + 1) (un-not (child == greatest before + 1) m)
 
 after-few : (before : List Record) (e : Record) (n : ℕ) → misnumbers before (child_in e) ≡ false → greatest before ≤ n → greatest_after e (greatest before) ≤ n + 1
