@@ -10,3 +10,4 @@ mod Tells
 mod Steps
 mod Standing
 mod Fold
+mod Reach

@@ -2,6 +2,7 @@
 //! records alone.
 #![tactic(auto)]
 
+mod blocks;
 mod events;
 mod law;
 mod lives;
