@@ -39,11 +39,11 @@ use Rattle.past_lives.proofs.Tells.{IsChild, Lives, Tells, lives-more, other-liv
 
 -- who lives behind records, all of whose events have happened
 
-abbrev lived : List Record → ℕ → Bool → Bool
+abbrev pub lived : List Record → ℕ → Bool → Bool
 lived [] p before = before
 lived (e ∷ entries) p before = lived entries p (lives_after (life_told e) p before)
 
-lived-append : (entries : List Record) (e : Record) (p : ℕ) (before : Bool) → lived (entries ++ e ∷ []) p before ≡ lives_after (life_told e) p (lived entries p before)
+pub lived-append : (entries : List Record) (e : Record) (p : ℕ) (before : Bool) → lived (entries ++ e ∷ []) p before ≡ lives_after (life_told e) p (lived entries p before)
 lived-append [] e p before = refl
 lived-append (x ∷ entries) e p before = lived-append entries e p (lives_after (life_told x) p before)
 
@@ -51,7 +51,7 @@ there : (c : Bool) (k : ℕ) (e : Record) (events : List Numbered) (p : ℕ) (be
 there true k e events p before is = refl
 there false k e events p before is = absurd (cc)
 
-lives-all : (moment begins ends k : ℕ) (entries : List Record) (p : ℕ) (live : Bool) → begins ≤ ends → ends + total entries ≤ moment → lives_by (events_from moment begins ends k entries) p live ≡ lived entries p live
+pub lives-all : (moment begins ends k : ℕ) (entries : List Record) (p : ℕ) (live : Bool) → begins ≤ ends → ends + total entries ≤ moment → lives_by (events_from moment begins ends k entries) p live ≡ lived entries p live
 lives-all moment begins ends k [] p live le past = refl
 lives-all moment begins ends k (entry.Slice pid ran ∷ entries) p live le past = lives-all moment ends (ends + ran) k entries p live (omega arith) (omega (arith, past))
 lives-all moment begins ends k (entry.Signal pid signal cut handler ∷ entries) p live le past =
@@ -481,7 +481,7 @@ module _ (W : Type 0) (g until : ℕ) where
       (λ p. refl) (or-none (is_booted before)) refl refl
       (end-reached pid status before (λ p. lived before p false) (is_booted before) begins live held t checks r)
 
-  behind-append : (b : Behind) (rs : List Record) (e : Record) → behind_from b (rs ++ e ∷ []) ≡ behind_record (behind_from b rs) e
+  pub behind-append : (b : Behind) (rs : List Record) (e : Record) → behind_from b (rs ++ e ∷ []) ≡ behind_record (behind_from b rs) e
   behind-append b [] e = refl
   behind-append b (r ∷ rs) e = behind-append (behind_record b r) rs e
 

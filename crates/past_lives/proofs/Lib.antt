@@ -11,3 +11,4 @@ mod Steps
 mod Standing
 mod Fold
 mod Reach
+mod Grouped

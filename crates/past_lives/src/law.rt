@@ -1,5 +1,5 @@
 // What a group alone holds of its processes.
-ghost use Rattle.past_lives.specs.Laws.{MembersAreSeen, WindowsAreWhole};
+ghost use Rattle.past_lives.specs.Laws.{LivesHaveGroups, MembersAreSeen, WindowsAreWhole};
 
 use crate::blocks::blocks_are_whole;
 use arn_base::Record;
@@ -15,3 +15,8 @@ pub fn windows_are_whole(entries: &[Record])
 {
     blocks_are_whole(entries);
 }
+
+/// Who lives has a group, which is replayed to see it.
+pub fn lives_have_groups()
+    ensures { LivesHaveGroups }
+{}
