@@ -1,6 +1,5 @@
 -- All records, one after the other, as long as they aren't broken.
-use Rattle.std.proofs.Common.{◌≡◌, ℕ, zero, suc, ◌+◌, ◌≤◌, ◌==◌, ◌&&◌, ◌||◌, not, nat_le, if◌then◌else◌, max, length, All, Bool, true, false, is_some, List, [], ◌∷◌, ◌++◌, Option, Some, None, IfSome, option_map, refl, sym, ap, subst, ◌∙◌, arith}
-use Rattle.std.specs.List.{list_any}
+use Rattle.std.proofs.Common.{◌≡◌, ℕ, suc, ◌+◌, ◌≤◌, ◌==◌, ◌&&◌, ◌||◌, not, nat_le, if◌then◌else◌, max, length, All, Bool, true, false, List, [], ◌∷◌, ◌++◌, Option, Some, None, IfSome, refl, sym, ap, subst, ◌∙◌, arith}
 use Rattle.std.proofs.lemmas.Bool.{eqb-true, eq-eqb, and_parts, or_parts, leb-true, le-leb}
 use Rattle.arn_base.specs.declared.machine.Block.{Block}
 use Rattle.arn_base.specs.declared.machine.Cpu.{Cpu}
@@ -12,18 +11,17 @@ use Rattle.arn_base.specs.declared.records.Record.TheVariants as entry
 use Rattle.arn_base.specs.declared.records.Start.{Start}
 use Rattle.parts_model.specs.declared.calls.TheConstants.{FORK}
 use Rattle.parts_model.specs.declared.limits.TheConstants.{BLOCK_LEN, WINDOW_LEN}
-use Rattle.parts_model.specs.Image.{is_image}
 use Rattle.parts_model.specs.Memory.{zeros}
 use Rattle.parts_model.specs.Replies.{is_success}
-use Rattle.acts_model.specs.Acts.{Act, Delivers, Dies, Faults, beginning_in, done, unborn}
-use Rattle.acts_model.specs.Bodies.{Body, Bodies, View, body_at, put, seen, view}
+use Rattle.acts_model.specs.Acts.{Delivers, Dies, Faults, beginning_in, unborn}
+use Rattle.acts_model.specs.Bodies.{View, body_at, put, seen}
 use Rattle.acts_model.specs.Disagreement.{Wrong, wrong_with}
-use Rattle.acts_model.specs.Records.{LifeChange, BeginsLife, EndsLife, NoLife, life_told, lives_after}
+use Rattle.acts_model.specs.Records.{EndsLife, NoLife, life_told, lives_after}
 use Rattle.acts_model.specs.Told.{act_of, call_act, delivery_act, kind_of}
 use Rattle.acts_model.specs.Views.{stands_at}
 use Rattle.history_model.specs.Alone.{Own, Made, Makes, Fails, Standing, act_done, after_boot, after_last, after_record, after_signal, after_slice, at_first, begins, boots, happens, made_if, nothing_own, replayed, settled, unless_wrong}
 use Rattle.history_model.specs.Alone as alone
-use Rattle.history_model.specs.Broken.{Behind, Nowhere, ASlice, ADelivery, behind, behind_from, behind_record, behind_signal, broken_from, child_in, first_broken, greatest, greatest_after, greatest_from, has_blocks_wrong, is_behind, misnumbers, rise_from, start_in}
+use Rattle.history_model.specs.Broken.{Behind, Nowhere, ASlice, ADelivery, behind, behind_from, behind_record, behind_signal, broken_from, child_in, first_broken, greatest, greatest_after, has_blocks_wrong, is_behind, misnumbers, rise_from, start_in}
 use Rattle.history_model.specs.Groups.{Groups, group_forked, groups_from, groups_told, is_number}
 use Rattle.history_model.specs.Moments.{Numbered, changed, events_from, if_happened, lives_at, lives_by, segments_by, segments_told, total}
 use Rattle.history_model.specs.Names.{is_boot, is_booted}
@@ -33,9 +31,9 @@ use Rattle.past_lives.proofs.Does.{Does, IsFounded, call-does, end-does, signal-
 use Rattle.past_lives.proofs.Records.{Stands, follows, greatest-append, un-not}
 use Rattle.past_lives.proofs.Sizes.{HasSizes, blocks-len, zeros-len}
 use Rattle.past_lives.proofs.Sound.{nobody-sound}
-use Rattle.past_lives.proofs.Standing.{Ends, Happening, Lasts, and_then-ends, child-after, ends-ends, happens-ends, held_if, is-new, last-made, live_if, more-after, number-tells, number-told, settled-ends, stranger-state, told-child}
+use Rattle.past_lives.proofs.Standing.{Ends, Happening, and_then-ends, child-after, ends-ends, happens-ends, held_if, is-new, last-made, live_if, more-after, number-tells, number-told, settled-ends, stranger-state, told-child}
 use Rattle.past_lives.proofs.Steps.{State, begins-state, boot-state, live_after, seen-sizes, sounds-later, starts-well}
-use Rattle.past_lives.proofs.Tells.{IsChild, Lives, Tells, lives-more, other-lives}
+use Rattle.past_lives.proofs.Tells.{IsChild, Tells, other-lives}
 
 -- who lives behind records, all of whose events have happened
 

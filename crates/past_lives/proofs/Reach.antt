@@ -1,7 +1,7 @@
 -- Windows of full length are reached exactly where their addresses are.
-use Rattle.std.proofs.Common.{◌≡◌, ℕ, ◌+◌, ◌&&◌, ◌||◌, nat_le, if◌then◌else◌, length, Bool, true, false, is_some, List, Option, Some, None, IfSome, option_map, refl, sym, ap, ◌∙◌}
+use Rattle.std.proofs.Common.{◌≡◌, ℕ, ◌+◌, ◌&&◌, ◌||◌, nat_le, if◌then◌else◌, length, Bool, true, false, is_some, List, Option, Some, None, IfSome, option_map, refl, ap, ◌∙◌}
 use Rattle.arn_base.specs.Window.{bytes_at, is_whole_in, window_bytes}
-use Rattle.parts_model.specs.Memory.{shared_window, windows}
+use Rattle.parts_model.specs.Memory.{shared_window}
 use Rattle.parts_model.specs.declared.limits.TheConstants.{WINDOW_START, WINDOW_END, SEGMENT_START, SEGMENT_END, SEGMENT_LEN}
 use Rattle.acts_model.specs.Bodies.{View}
 use Rattle.acts_model.specs.Views.{can_reach}

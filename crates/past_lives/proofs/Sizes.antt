@@ -1,5 +1,5 @@
 -- Windows keep their lengths, whatever an instruction or an act does.
-use Rattle.std.proofs.Common.{◌≡◌, ℕ, suc, ◌+◌, ◌-◌, ◌*◌, ◌≤◌, List, [], ◌∷◌, ◌++◌, length, take, drop, replicate, refl, sym, ◌∙◌, subst, Option, Some, None, IfSome, All, unwrap_or, Bool, true, false, not, ◌==◌, ◌&&◌, ◌||◌, ◌%◌, if◌then◌else◌, arith, nat_le, nat_lt, is_some, option_map, length-take, length-drop, length-append, length-take-le}
+use Rattle.std.proofs.Common.{◌≡◌, ℕ, suc, ◌+◌, ◌-◌, ◌*◌, ◌≤◌, List, [], ◌∷◌, ◌++◌, length, take, drop, replicate, refl, ◌∙◌, subst, Option, Some, None, IfSome, All, unwrap_or, Bool, true, false, ◌==◌, ◌&&◌, ◌%◌, if◌then◌else◌, arith, nat_le, nat_lt, is_some, option_map, length-take, length-drop, length-append, length-take-le}
 use Rattle.std.specs.Prelude.{bytes_eq}
 use Rattle.std.proofs.lemmas.Bool.{and_parts, or_parts, leb-true, ltb-false}
 use Rattle.std.proofs.lemmas.List.{length-replicate}

@@ -5,7 +5,7 @@ use Rattle.parts_model.specs.declared.limits.TheConstants.{WINDOW_LEN, SEGMENT_L
 use Rattle.acts_model.specs.Acts.{Act, Returns, Receives, Gives, Starts, Forks, Founds, Shares, Leaves, Delivers, Exits, Faults, Dies, Beginning, acted, beginning_of, begun, child_view, done_by, joined, restored}
 use Rattle.acts_model.specs.Bodies.{Body, Bodies, View, become, body_at, memory_at, nobody, put, remove, segment_bytes, view}
 use Rattle.acts_model.specs.Transfers.{Holds, holds_of}
-use Rattle.acts_model.specs.Views.{reach, with_reach, after_instr, with_cpu}
+use Rattle.acts_model.specs.Views.{reach, with_reach}
 use Rattle.arn_base.specs.declared.machine.Cpu.{Cpu}
 use Rattle.arn_base.specs.Window.{Window, with_bytes}
 use Rattle.past_lives.proofs.Bodies.{laid_segment, put-body, put-memory, remove-body, remove-memory, nobody-at}

@@ -1,40 +1,28 @@
 -- A group alone, record by record, beside what the records tell of its members.
-use Rattle.std.proofs.Common.{◌≡◌, ℕ, zero, suc, ◌+◌, ◌≤◌, ◌==◌, ◌&&◌, ◌||◌, not, nat_le, if◌then◌else◌, max, length, All, Bool, true, false, is_some, List, [], ◌∷◌, ◌++◌, Option, Some, None, IfSome, option_map, refl, sym, ap, subst, ◌∙◌, arith}
-use Rattle.std.specs.List.{list_any}
-use Rattle.std.proofs.lemmas.Bool.{eqb-true, eq-eqb, and_parts, or_parts, leb-true, le-leb}
-use Rattle.arn_base.specs.declared.machine.Block.{Block}
+use Rattle.std.proofs.Common.{◌≡◌, ℕ, zero, suc, ◌+◌, ◌≤◌, ◌==◌, ◌&&◌, if◌then◌else◌, max, Bool, true, false, List, Option, Some, None, IfSome, option_map, refl, sym, ap, subst, ◌∙◌, arith}
+use Rattle.std.proofs.lemmas.Bool.{eqb-true, eq-eqb}
 use Rattle.arn_base.specs.declared.machine.Cpu.{Cpu}
-use Rattle.arn_base.specs.declared.records.Extra.{Extra}
 use Rattle.arn_base.specs.declared.records.Extra.TheVariants as extra
-use Rattle.arn_base.specs.declared.records.Give.{Give}
 use Rattle.arn_base.specs.declared.records.Record.{Record}
 use Rattle.arn_base.specs.declared.records.Record.TheVariants as entry
 use Rattle.arn_base.specs.declared.records.Start.{Start}
 use Rattle.parts_model.specs.declared.calls.TheConstants.{FORK}
-use Rattle.parts_model.specs.declared.limits.TheConstants.{BLOCK_LEN, WINDOW_LEN}
-use Rattle.parts_model.specs.Image.{is_image}
-use Rattle.parts_model.specs.Memory.{zeros}
 use Rattle.parts_model.specs.Replies.{is_success}
-use Rattle.acts_model.specs.Acts.{Act, Forks, Founds, Starts, beginning_in, done, unborn}
-use Rattle.acts_model.specs.Bodies.{Body, Bodies, View, body_at, put, seen, view}
+use Rattle.acts_model.specs.Acts.{Act, Forks, Founds}
+use Rattle.acts_model.specs.Bodies.{Body, View, body_at, seen, view}
 use Rattle.acts_model.specs.Disagreement.{Wrong, wrong_with}
 use Rattle.acts_model.specs.Records.{life_told, lives_after}
-use Rattle.acts_model.specs.Told.{act_of, call_act, delivery_act, kind_of}
+use Rattle.acts_model.specs.Told.{act_of}
 use Rattle.acts_model.specs.Views.{cpu_at, stands_at}
-use Rattle.history_model.specs.Alone as alone
-use Rattle.history_model.specs.Alone.{Own, Made, Makes, Fails, Slice, Standing, act_done, after_boot, after_last, after_record, after_signal, after_slice, and_then, at_first, begins, begins_by, begins_if, boots, call_start, ends_slice, happens, made_if, no_instruction, nothing_own, plain_in, plain_or, plains, record_done, record_seen, replayed, settled, slice_of, unless_wrong}
-use Rattle.history_model.specs.Broken.{Behind, Nowhere, ASlice, ADelivery, behind, behind_from, behind_record, behind_signal, broken_from, child_in, first_broken, greatest, greatest_after, greatest_from, has_blocks_wrong, is_behind, misnumbers, rise_from, start_in}
-use Rattle.history_model.specs.Groups.{Groups, group_forked, groups_from, groups_told, is_number}
-use Rattle.history_model.specs.Moments.{Numbered, changed, events_from, if_happened, lives_at, lives_by, segments_by, segments_told, total}
-use Rattle.history_model.specs.Names.{is_boot, is_booted}
-use Rattle.past_lives.specs.Blocks.{HasWholeBlocks}
-use Rattle.past_lives.proofs.Bodies.{nobody-at}
-use Rattle.past_lives.proofs.Does.{Does, IsFounded, IsTold, act_groups, act_held, act_live, call-does, end-does, signal-does}
-use Rattle.past_lives.proofs.Records.{Stands, child-number, follows, greatest-append, un-not}
-use Rattle.past_lives.proofs.Sizes.{HasSizes, StartsWell, blocks-len, zeros-len}
-use Rattle.past_lives.proofs.Sound.{nobody-sound}
-use Rattle.past_lives.proofs.Steps.{Sounds, State, act-state, begins-state, boot-state, live_after, plain-state, record-well, seen-sizes, sounds-later, starts-well}
-use Rattle.past_lives.proofs.Tells.{IsChild, IsFounding, Lives, Tells, later-act-lives, lives-as, lives-more, other-lives, stranger-lives}
+use Rattle.history_model.specs.Alone.{Own, Made, Makes, Fails, Slice, Standing, act_done, after_last, and_then, begins, begins_by, begins_if, ends_slice, happens, made_if, no_instruction, plain_in, plain_or, plains, record_seen, settled, slice_of, unless_wrong}
+use Rattle.history_model.specs.Broken.{child_in, greatest, greatest_after, misnumbers, start_in}
+use Rattle.history_model.specs.Groups.{Groups, groups_told, is_number}
+use Rattle.history_model.specs.Moments.{segments_told}
+use Rattle.past_lives.proofs.Does.{Does, IsFounded, IsTold, act_groups, act_held, act_live}
+use Rattle.past_lives.proofs.Records.{child-number}
+use Rattle.past_lives.proofs.Sizes.{StartsWell}
+use Rattle.past_lives.proofs.Steps.{State, act-state, live_after, plain-state, record-well, sounds-later}
+use Rattle.past_lives.proofs.Tells.{IsChild, IsFounding, Tells, later-act-lives, lives-as, stranger-lives}
 
 -- what holds of what was made, unless the records disagree
 abbrev pub Ends : (Own → Type 0) → Made → Type 0

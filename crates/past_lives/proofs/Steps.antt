@@ -1,7 +1,6 @@
 -- What a group alone has made, beside what was told of its members: with an instruction, an act, the boot, or a group's begin more.
-use Rattle.std.proofs.Common.{◌≡◌, ℕ, ◌+◌, ◌<◌, ◌≤◌, ◌==◌, cond, if◌then◌else◌, length, max, not, Bool, true, false, List, [], ◌∷◌, Option, Some, None, IfSome, option_map, refl, sym, ap, subst, ◌∙◌, arith}
+use Rattle.std.proofs.Common.{◌≡◌, ℕ, ◌+◌, ◌<◌, ◌≤◌, ◌==◌, cond, if◌then◌else◌, length, max, not, Bool, true, false, List, [], Option, Some, None, IfSome, option_map, refl, sym, ap, subst, ◌∙◌, arith}
 use Rattle.std.proofs.lemmas.Bool.{eqb-true}
-use Rattle.arn_base.specs.declared.machine.Cpu.{Cpu}
 use Rattle.arn_base.specs.declared.records.Extra.{Extra}
 use Rattle.arn_base.specs.declared.records.Extra.TheVariants as extra
 use Rattle.arn_base.specs.declared.records.Give.{Give}
@@ -12,14 +11,14 @@ use Rattle.rv64_model.specs.Instruction.{Effect, Next, Call, End}
 use Rattle.parts_model.specs.Image.{is_image}
 use Rattle.parts_model.specs.declared.limits.TheConstants.{WINDOW_LEN}
 use Rattle.parts_model.specs.Replies.{is_success}
-use Rattle.acts_model.specs.Acts.{Act, Returns, Receives, Gives, Starts, Forks, Founds, Shares, Leaves, Delivers, Exits, Faults, Dies, acted, beginning_in, begun, child_view, done, done_by, started, unborn}
+use Rattle.acts_model.specs.Acts.{Act, Returns, Gives, Starts, Forks, Founds, Shares, Leaves, Delivers, Exits, Dies, beginning_in, begun, child_view, done, done_by, unborn}
 use Rattle.acts_model.specs.Bodies.{Body, Bodies, View, body_at, put, seen, view}
 use Rattle.acts_model.specs.Disagreement.{Wrong, act_wrong, is_other_call, isnt_block, isnt_call, or_else, wrong_if, wrong_with}
 use Rattle.acts_model.specs.Records.{life_told, lives_after}
 use Rattle.acts_model.specs.Told.{Kind, Exit, Fork, Exec, Wait, Sigreturn, Read, Write, Shm, Other, kind_of, call_act, is_pipe_write, act_of}
 use Rattle.acts_model.specs.Transfers.{holds_of}
 use Rattle.acts_model.specs.Views.{after_instr, argument, stands_at, with_cpu}
-use Rattle.history_model.specs.Alone.{Own, begins, noted, plain_by, plain_in}
+use Rattle.history_model.specs.Alone.{Own, begins, plain_by, plain_in}
 use Rattle.history_model.specs.Groups.{Groups, groups_told}
 use Rattle.history_model.specs.Moments.{changed, segments_told}
 use Rattle.past_lives.proofs.Bodies.{put-body}
@@ -27,7 +26,7 @@ use Rattle.past_lives.proofs.Does.{Does, IsFounded, act_groups, act_held, act_li
 use Rattle.past_lives.proofs.Records.{un-not}
 use Rattle.past_lives.proofs.Sizes.{HasSizes, StartsWell, acted-sizes, instr-sizes, zeros-len}
 use Rattle.past_lives.proofs.Sound.{Fits, Marks, Sound, begun-sound, done-sound, fits-later, mark, mark-here, mark-same, put-sound, reach-body, sound-later}
-use Rattle.past_lives.proofs.Tells.{IsChild, IsFounding, IsLive, Lives, Tells, born-lives, is-live, lives-as, lives-more, other-lives, own-lives, put-lives}
+use Rattle.past_lives.proofs.Tells.{IsChild, IsFounding, Lives, Tells, born-lives, is-live, lives-as, own-lives, put-lives}
 
 -- windows and segments are whole
 

@@ -1,11 +1,10 @@
 -- Who has a body in a group, and which segment it holds, beside what is told: after each act.
-use Rattle.std.proofs.Common.{◌≡◌, ◌⊎◌, inl, inr, ℕ, ◌<◌, ◌≤◌, ◌==◌, cond, if◌then◌else◌, Bool, true, false, is_some, List, [], ◌∷◌, Option, Some, None, IfSome, option_map, refl, sym, ap, subst, ◌∙◌, arith}
+use Rattle.std.proofs.Common.{◌≡◌, ℕ, ◌<◌, ◌≤◌, ◌==◌, cond, if◌then◌else◌, Bool, true, false, Option, Some, None, option_map, refl, sym, ap, subst, ◌∙◌, arith}
 use Rattle.std.proofs.lemmas.Bool.{eqb-true, eqb-false}
 use Rattle.arn_base.specs.declared.machine.Cpu.{Cpu}
-use Rattle.acts_model.specs.Acts.{Act, Returns, Receives, Gives, Starts, Forks, Founds, Shares, Leaves, Delivers, Exits, Faults, Dies, Beginning, acted, beginning_of, begun, child_view, cut_off, delivered, done_by, restored, started, with_fresh_segment}
-use Rattle.acts_model.specs.Bodies.{Body, Bodies, View, become, body_at, put, remove, seen, view}
-use Rattle.acts_model.specs.Transfers.{Holds, holds_of}
-use Rattle.acts_model.specs.Views.{reach, with_reach, with_result, written}
+use Rattle.acts_model.specs.Acts.{Act, Returns, Receives, Gives, Starts, Forks, Founds, Shares, Leaves, Delivers, Exits, Faults, Dies, beginning_of, child_view, cut_off, delivered, done_by, restored, with_fresh_segment}
+use Rattle.acts_model.specs.Bodies.{Body, Bodies, View, body_at, put, remove, seen, view}
+use Rattle.acts_model.specs.Views.{reach, with_result, written}
 use Rattle.arn_base.specs.Window.{with_bytes}
 use Rattle.history_model.specs.Groups.{Groups}
 use Rattle.history_model.specs.Moments.{changed}

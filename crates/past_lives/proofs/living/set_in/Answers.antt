@@ -1,4 +1,4 @@
-use Rattle.std.proofs.Common.{◌≡◌, ℕ, suc, ◌+◌, ◌-◌, ◌∙◌, ◌++◌, [], ◌∷◌, List, Bool, true, false, cond, filter, get_or, length, ap, sym, arith, append-nil}
+use Rattle.std.proofs.Common.{◌≡◌, ℕ, suc, ◌+◌, ◌-◌, ◌∙◌, ◌++◌, [], ◌∷◌, List, Bool, false, cond, filter, get_or, length, ap, sym, arith, append-nil}
 use Rattle.std.specs.List.{range_with_len}
 use Rattle.past_lives.proofs.Flags.{filter-more}
 use Rattle.past_lives.proofs.living.set_in.Goals as goal
