@@ -1,18 +1,46 @@
 // What is seen at a moment.
-ghost use Rattle.std.specs.Prelude.{◌≡◌, ◌≤◌, ◌+◌, true, IfErr, IfOk, OnOk};
+ghost use Rattle.std.specs.Prelude.{◌≡◌, ◌≤◌, ◌+◌, length, option_and_then, true, IfErr, IfOk, OnOk};
+ghost use Rattle.acts_model.specs.Views.{bytes_in};
+ghost use Rattle.guest_bodies.specs.Shown.{seen_in};
 ghost use Rattle.history_index.specs.Indexes.{AreCountable, Indexes};
 ghost use Rattle.past_lives.specs.Members.{is_member, is_memory_range, is_moment, live_at as live_at_of};
 ghost use Rattle.state_viewer.specs.Views.{Explains, HasMemory, HasRegisters, Refuses, RunsNothing, made_of, ran_of};
 
 use crate::ViewError;
 use crate::replays::group_at;
-use arn_base::{Bytes, Cpu, Numbers, Record, Steps};
+use arn_base::{Bytes, Cpu, NoMemory, Numbers, Record, Steps};
 use history_index::Index;
 use past_lives::{is_member as lives_at, is_memory_range as has_range, live_at};
-use past_lives::{members_are_seen, windows_are_whole};
-use replayer::QueryError;
+use past_lives::{lives_have_groups, members_are_seen, windows_are_whole};
+use replayer::{GroupState, QueryError};
 use std::alloc::Global;
 use std::sync::ledger::Ledger;
+
+// So many zeros.
+fn zeros(alloc: Global, len: u32) -> Result<Vec<u8>, NoMemory>
+    ensures { IfOk result (λ made. length made.items ≡ len) }
+{
+    Ok(vec![in alloc; 0; len as usize]?)
+}
+
+// So many bytes at an address of a process, where they lie whole in one of its windows.
+fn bytes_of(
+    alloc: Global,
+    group: &GroupState,
+    pid: u32,
+    at: u64,
+    len: u32,
+) -> Result<Option<Bytes>, NoMemory>
+    ensures { IfOk result (λ bytes. bytes ≡
+        option_and_then (λ v. bytes_in v at len) (seen_in group.now pid)) }
+{
+    let mut bytes = zeros(alloc, len)?;
+    let buf = bytes.as_mut_slice();
+    match group.read_into(pid, at, buf) {
+        Ok(()) => Ok(Some(Bytes::from_slice(alloc, buf)?)),
+        Err(_) => Ok(None),
+    }
+}
 
 /// The registers of a process at a moment.
 pub fn registers<L: Ledger>(
@@ -32,6 +60,7 @@ pub fn registers<L: Ledger>(
     ensures unasked { IfErr result (λ error. RunsNothing error steps.old steps.new) }
     ensures bounded { steps.new ≤ steps.old + ran_of entries.now moment pid }
 {
+    lives_have_groups();
     members_are_seen();
     if !lives_at(entries, index, moment, pid) {
         return Err(QueryError::NoPoint);
@@ -63,16 +92,17 @@ pub fn memory<L: Ledger>(
     ensures unasked { IfErr result (λ error. RunsNothing error steps.old steps.new) }
     ensures bounded { steps.new ≤ steps.old + ran_of entries.now moment pid }
 {
+    lives_have_groups();
     members_are_seen();
     windows_are_whole(entries);
     if !has_range(entries, index, moment, pid, at, len) {
         return Err(QueryError::NoPoint);
     }
     let group = group_at(alloc, entries, index, moment, pid, steps)?;
-    let mut bytes = vec![in alloc; 0; len as usize]?;
-    match group.read_into(pid, at, bytes.as_mut_slice()) {
-        Ok(()) => Ok(Bytes::from(bytes)),
-        Err(_) => Err(QueryError::NoPoint),
+    let found = bytes_of(alloc, &group, pid, at, len)?;
+    match found {
+        Some(bytes) => Ok(bytes),
+        None => Err(QueryError::NoPoint),
     }
 }
 
