@@ -5,6 +5,8 @@
 mod errors;
 mod replays;
 mod silent;
+#[cfg(test)]
+mod tests;
 mod views;
 
 pub use errors::ViewError;

@@ -32,14 +32,19 @@ map-then (Some v) = refl
 record Sees (inputs : List Input) (moment pid : ℕ) (group : Option ℕ) : Type 0 where
   own : Own
   makes : made_by (records inputs) moment group ≡ Makes own
-  same : {A : Type 0} (f : View → Option A) (x : A) → option_and_then f (seen own.bodies pid) ≡ Some x → option_and_then f (seen (state_at inputs moment).bodies pid) ≡ Some x
+  same : (v : View) → seen own.bodies pid ≡ Some v → seen (state_at inputs moment).bodies pid ≡ Some v
 
 sees : (inputs : List Input) (moment pid : ℕ) (group : Option ℕ) → group_of (records inputs) pid ≡ group → ((g : ℕ) → PassesThrough inputs g moment) → Sees inputs moment pid group
 sees inputs moment pid None is passes =
-    record { own = nothing_own; makes = refl; same = λ f x e. absurd (let no = sym (ap (option_and_then f) (none-seen pid)) ∙ e in cc) }
+    record { own = nothing_own; makes = refl; same = λ v e. absurd (let no : None ≡ Some v = sym (none-seen pid) ∙ e in cc) }
 sees inputs moment pid (Some g) is passes =
     let through = passes g in
-    record { own = through.own; makes = through.made; same = λ f x e. sym (ap (option_and_then f) (through.whole.views pid is)) ∙ e }
+    record { own = through.own; makes = through.made; same = λ v e. sym (through.whole.views pid is) ∙ e }
+
+-- what is read of a view that is seen there too
+read-too : {A : Type 0} (f : View → Option A) (o p : Option View) (x : A) → ((v : View) → o ≡ Some v → p ≡ Some v) → option_and_then f o ≡ Some x → option_and_then f p ≡ Some x
+read-too f None p x same e = absurd (cc)
+read-too f (Some v) p x same e = ap (option_and_then f) (same v refl) ∙ e
 
 pub views : (inputs : List Input) (moment pid : ℕ) → HasNumbers (machine_after inputs).kernel → GroupsPassThrough → RecordsTellMoments → RecordsTellRuns → ViewsRun inputs moment pid
 views inputs moment pid few passes moments runs =
@@ -52,9 +57,9 @@ views inputs moment pid few passes moments runs =
           ∙ ap (λ (b : Bool). nat_le moment (instructions_in (run inputs)) && b) (moments inputs moment pid few).lives;
       registers = λ cpu h.
           map-then (seen (state_at inputs moment).bodies pid)
-          ∙ there.same (λ v. Some v.body.cpu) cpu
+          ∙ read-too (λ v. Some v.body.cpu) (seen there.own.bodies pid) (seen (state_at inputs moment).bodies pid) cpu there.same
           (ap (λ (o : Own). option_and_then (λ v. Some v.body.cpu) (seen o.bodies pid)) (same-own there.own h.own (sym there.makes ∙ h.made)) ∙ (sym (map-then (seen h.own.bodies pid)) ∙ h.registers));
       memory = λ at len bytes h.
-          there.same (λ v. bytes_in v at len) bytes
+          read-too (λ v. bytes_in v at len) (seen there.own.bodies pid) (seen (state_at inputs moment).bodies pid) bytes there.same
           (ap (λ (o : Own). option_and_then (λ v. bytes_in v at len) (seen o.bodies pid)) (same-own there.own h.own (sym there.makes ∙ h.made)) ∙ h.bytes_are);
     }
