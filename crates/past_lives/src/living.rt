@@ -21,10 +21,7 @@ fn greatest_after(entry: &Record, before: u64) -> u64
     match entry {
         Record::Boot { .. } if before < 1 => 1,
         Record::Call { number, result, .. }
-            if *number == FORK && is_success(*result) && before < *result =>
-        {
-            *result
-        }
+            if *number == FORK && is_success(*result) && before < *result => { *result }
         _ => before,
     }
 }

@@ -61,6 +61,6 @@ never-outside entries moment pid at len guests broken are_seen have whole range 
     let reaches = subst (λ (o : Option View). IfSome o (λ v. (at len : ℕ) → can_reach v at len ≡ is_present (is_some v.body.segment) at len)) sees (whole there.g moment shows.own broken there.made pid) at len in
     let can : can_reach there.v at len ≡ true = reaches ∙ (ap (λ (o : Option ℕ). is_present (is_some o) at len) there.segment ∙ present) in
     let gone : bytes_in there.v at len ≡ None =
-        sym (none ∙ ap (option_and_then (λ v. bytes_in v at len)) (shows.shows.same pid ∙ sees)) in
+    sym (none ∙ ap (option_and_then (λ v. bytes_in v at len)) (shows.shows.same pid ∙ sees)) in
     let no : true ≡ false = sym can ∙ ap is_some gone in
     cc

@@ -128,7 +128,10 @@ fn a_moment_lies_in_a_slice(rt: HostRuntime) -> Result<(), Fail> {
     assert_eq!(rt; pc_at(rt.alloc(), entries, &index, 3, 1), Ok(0x1_0004));
     let word = bytes_at(rt.alloc(), entries, &index, 0x1_0000, 4)?;
     assert_eq!(rt; word.as_slice(), [0x93, 0x82, 0x12, 0].as_slice());
-    assert_eq!(rt; bytes_at(rt.alloc(), entries, &index, 0x5_0000, 0)?.len(), 0);
+    assert_eq!(rt;
+        bytes_at(rt.alloc(), entries, &index, 0x5_0000, 0)?.len(),
+        0
+    );
     Ok(())
 }
 
@@ -142,8 +145,14 @@ fn a_point_is_not_there(rt: HostRuntime) -> Result<(), Fail> {
     assert_eq!(rt; pc_at(rt.alloc(), entries, &index, 5, 1).err(), no_point);
     assert_eq!(rt; pc_at(rt.alloc(), entries, &index, 3, 2).err(), no_point);
     // Across the end of the private window, and in the shared one, which isn't there.
-    assert_eq!(rt; bytes_at(rt.alloc(), entries, &index, 0x4_fffd, 4).err(), no_point);
-    assert_eq!(rt; bytes_at(rt.alloc(), entries, &index, 0x8000_0000, 1).err(), no_point);
+    assert_eq!(rt;
+        bytes_at(rt.alloc(), entries, &index, 0x4_fffd, 4).err(),
+        no_point
+    );
+    assert_eq!(rt;
+        bytes_at(rt.alloc(), entries, &index, 0x8000_0000, 1).err(),
+        no_point
+    );
     Ok(())
 }
 
@@ -158,6 +167,9 @@ fn a_child_begins_behind_its_fork(rt: HostRuntime) -> Result<(), Fail> {
     let behind = processes(rt.alloc(), entries, &index, 4)?;
     assert_eq!(rt; behind.as_slice(), [1, 2].as_slice());
     assert_eq!(rt; pc_at(rt.alloc(), entries, &index, 4, 2), Ok(0x1_0040));
-    assert_eq!(rt; processes(rt.alloc(), entries, &index, 5).err(), Some(ViewError::NoMoment));
+    assert_eq!(rt;
+        processes(rt.alloc(), entries, &index, 5).err(),
+        Some(ViewError::NoMoment)
+    );
     Ok(())
 }

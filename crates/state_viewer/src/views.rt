@@ -10,8 +10,10 @@ use crate::ViewError;
 use crate::replays::group_at;
 use arn_base::{Bytes, Cpu, NoMemory, Numbers, Record, Steps};
 use history_index::Index;
-use past_lives::{is_member as lives_at, is_memory_range as has_range, live_at};
-use past_lives::{lives_have_groups, members_are_seen, windows_are_whole};
+use past_lives::{
+    is_member as lives_at, is_memory_range as has_range, live_at, lives_have_groups,
+    members_are_seen, windows_are_whole,
+};
 use replayer::{GroupState, QueryError};
 use std::alloc::Global;
 use std::sync::ledger::Ledger;

@@ -27,7 +27,7 @@ loop-event-preserved c =
       | in-Some+in-Some-told_by w ↦
           let life = w.in-Some-told_by.life in
           let items : c.match-happened.flags.items ≡ set c.loop-event.flags.items w.in-Some-told_by.life.pid w.in-Some-told_by.life.lives =
-              ap (λ v. v.items) w.flags-is ∙ w.tell.ensures in
+          ap (λ v. v.items) w.flags-is ∙ w.tell.ensures in
           subst (λ (xs : List Bool). Flags entries c.args.moment xs (k + 1)) (sym items)
           (flags-next entries c.args.moment k (set flags life.pid life.lives) (length-set flags life.pid life.lives ∙ len) next
           (flags-told entries c.args.moment most k flags w.in-Some.entry.now life (omega arith) (sym w.in-Some.ensures) (sym w.in-Some-told_by.ensures) f))

@@ -13,7 +13,7 @@ loop-pid-preserved c =
     let here : c.loop-pid.pid ≡ 1 + (c.loop-pid.pid - 1) = omega arith in
     let so_far = filter test (range_with_len 1 n) in
     let more : so_far ++ cond (test p) (p ∷ []) [] ≡ filter test (range_with_len 1 (c.loop-pid.pid + 1 - 1)) =
-        ap (λ (k : ℕ). so_far ++ cond (test k) (k ∷ []) []) here ∙ (sym (filter-more test 1 n) ∙ ap (λ (k : ℕ). filter test (range_with_len 1 k)) next) in
+    ap (λ (k : ℕ). so_far ++ cond (test k) (k ∷ []) []) here ∙ (sym (filter-more test 1 n) ∙ ap (λ (k : ℕ). filter test (range_with_len 1 k)) next) in
     elim c.if-flags-pid.branch [
       | then-flags-pid+in_ok-push w ↦
           w.live-is ∙ (w.in_ok-push.ensures.ok ∙ (ap (λ (xs : List ℕ). xs ++ p ∷ []) c.loop-pid.invariant
