@@ -1,0 +1,98 @@
+// Whether a process lives.
+ghost use Rattle.std.specs.Prelude.{◌≡◌};
+ghost use Rattle.acts_model.specs.Records.{call_life, life_told};
+ghost use Rattle.history_index.specs.Indexes.{Indexes};
+ghost use Rattle.history_model.specs.Moments.{lives_at};
+ghost use Rattle.parts_model.specs.Replies.{is_success as is_success_of};
+ghost use Rattle.past_lives.specs.Happened as told;
+
+use crate::events::happened;
+use arn_base::Record;
+use history_index::Index;
+use parts_model::calls::{EXIT, FORK};
+
+/// Whether a call's result is no error.
+pub fn is_success(answer: u64) -> bool
+    ensures { result ≡ is_success_of answer }
+{
+    answer < 1 << 63
+}
+
+/// A process that begins or ends, and whether it lives from then on.
+#[derive(Clone, Copy, Debug, PartialEq, Eq)]
+pub struct Life {
+    pub pid: u64,
+    pub lives: bool,
+}
+
+fn told_by_call(own: u32, number: u64, answer: u64) -> Option<Life>
+    ensures { result ≡ told.change_in (call_life own number answer) }
+{
+    if number == EXIT {
+        Some(Life {
+            pid: u64::from(own),
+            lives: false,
+        })
+    } else if number == FORK && is_success(answer) {
+        Some(Life {
+            pid: answer,
+            lives: true,
+        })
+    } else {
+        None
+    }
+}
+
+/// Which process begins or ends at an event, if one does.
+pub fn told_by(entry: &Record) -> Option<Life>
+    ensures { result ≡ told.change_in (life_told entry.now) }
+{
+    match entry {
+        Record::Boot { .. } => Some(Life {
+            pid: 1,
+            lives: true,
+        }),
+        Record::Signal {
+            pid,
+            handler: 0,
+            ..
+        }
+        | Record::End { pid, .. } => Some(Life {
+            pid: u64::from(*pid),
+            lives: false,
+        }),
+        Record::Call {
+            pid,
+            number,
+            result,
+            ..
+        } => told_by_call(*pid, *number, *result),
+        _ => None,
+    }
+}
+
+// Whether a process lives after an event, if that is its begin or its end.
+fn life_after(entry: &Record, pid: u32) -> Option<bool>
+    ensures { result ≡ told.life_after (life_told entry.now) pid }
+{
+    match told_by(entry) {
+        Some(life) if life.pid == u64::from(pid) => Some(life.lives),
+        _ => None,
+    }
+}
+
+/// Whether a process lives at a moment: as the last of its begins and ends tells.
+pub fn lives(entries: &[Record], index: &Index, moment: u64, pid: u32) -> bool
+    requires indexed { Indexes index.now entries.now }
+    ensures { result ≡ lives_at entries.now moment pid }
+{
+    let events = index.events();
+    for back in 0..events {
+        if let Some(entry) = happened(entries, index, moment, events - 1 - back) {
+            if let Some(lives) = life_after(entry, pid) {
+                return lives;
+            }
+        }
+    }
+    false
+}
