@@ -148,7 +148,7 @@ module _ (g until : ℕ) (entries : List Record) (place : ℕ) (rest : List Reco
       }
 
 -- an event is no slice
-slice-none : (place moment event : ℕ) (e : Record) (slices : List SliceAt) → is_event e ≡ true → slice_in place moment event e slices ≡ slices
+pub slice-none : (place moment event : ℕ) (e : Record) (slices : List SliceAt) → is_event e ≡ true → slice_in place moment event e slices ≡ slices
 slice-none place moment event (entry.Slice pid ran) slices is = absurd (let no-way : false ≡ true = is in cc)
 slice-none place moment event (entry.File name bytes) slices is = refl
 slice-none place moment event (entry.Boot name give) slices is = refl
@@ -158,7 +158,7 @@ slice-none place moment event (entry.Signal pid signal cut handler) slices is = 
 slice-none place moment event (entry.Call pid number r more) slices is = refl
 slice-none place moment event (entry.End pid status) slices is = refl
 
-part-event : (g until : ℕ) (u : Standing) (e : Record) (rest : List Record) → is_event e ≡ true → after_part g until u (e ∷ rest) ≡ after_part g until (after_own g until u e) rest
+pub part-event : (g until : ℕ) (u : Standing) (e : Record) (rest : List Record) → is_event e ≡ true → after_part g until u (e ∷ rest) ≡ after_part g until (after_own g until u e) rest
 part-event g until u (entry.Slice pid ran) rest is = absurd (let no-way : false ≡ true = is in cc)
 part-event g until u (entry.File name bytes) rest is = refl
 part-event g until u (entry.Boot name give) rest is = refl
@@ -178,7 +178,7 @@ keeps-ended g until t (entry.Signal pid signal cut handler) is ended = ended
 keeps-ended g until t (entry.Call pid number r more) is ended = ended
 keeps-ended g until t (entry.End pid status) is ended = ended
 
-not-true : (b : Bool) → not b ≡ false → b ≡ true
+pub not-true : (b : Bool) → not b ≡ false → b ≡ true
 not-true true is = refl
 not-true false is = absurd (let no-way : true ≡ false = is in cc)
 
@@ -350,7 +350,7 @@ module _ (g until : ℕ) (entries : List Record) (place : ℕ) (rest : List Reco
             ∙ ap (with_slices g until entries (found_from g until t.events t.moment (e ∷ rest))) (sym mine-event))
       ]
 
-drop-next : (xs : List Record) (k : ℕ) (e : Record) (rest : List Record) → e ∷ rest ≡ drop k xs → rest ≡ drop (k + 1) xs
+pub drop-next : (xs : List Record) (k : ℕ) (e : Record) (rest : List Record) → e ∷ rest ≡ drop k xs → rest ≡ drop (k + 1) xs
 drop-next [] zero e rest is = absurd (let no-way : e ∷ rest ≡ [] = is in cc)
 drop-next [] (suc k) e rest is = absurd (let no-way : e ∷ rest ≡ [] = is in cc)
 drop-next (x ∷ xs) zero e rest is = let same : e ∷ rest ≡ x ∷ xs = is in cc

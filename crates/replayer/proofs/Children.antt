@@ -1,22 +1,19 @@
 -- The child that an act makes, and the child that a record tells.
-use Rattle.std.proofs.Common.{◌≡◌, ◌≢◌, ℕ, ◌==◌, ◌&&◌, Bool, true, false, if◌then◌else◌, Some, None, IsNone, option_and_then, refl, sym, ◌∙◌}
+use Rattle.std.proofs.Common.{◌≡◌, ℕ, ◌==◌, ◌&&◌, Bool, true, false, if◌then◌else◌, Some, None, option_and_then, refl, sym, ◌∙◌}
 use Rattle.arn_base.specs.declared.machine.Cpu.{Cpu}
 use Rattle.arn_base.specs.declared.records.Extra.{Extra}
 use Rattle.arn_base.specs.declared.records.Extra.TheVariants as extra
 use Rattle.arn_base.specs.declared.records.Record.{Record}
 use Rattle.arn_base.specs.declared.records.Record.TheVariants as entry
-use Rattle.parts_model.specs.Numbered.{nth}
 use Rattle.parts_model.specs.declared.calls.TheConstants as number
 use Rattle.parts_model.specs.Replies.{is_success}
 use Rattle.acts_model.specs.Acts.{Act, Returns, Gives, Shares, Leaves, Delivers, Dies, Forks, Founds}
 use Rattle.acts_model.specs.Told.{Kind, Exit, Fork, Exec, Wait, Sigreturn, Read, Write, Shm, Other, act_of, call_act, exec_act, fork_act, is_pipe_write, kind_of, read_act, wait_act, write_act}
-use Rattle.guest_bodies.specs.Shown.{Guests}
 use Rattle.history_model.specs.Broken.{child_in}
 use Rattle.replay_steps.specs.Calls.{child_joined}
-use Rattle.replay_steps.specs.Standing.{GainsOnly}
 
 -- of two acts without a child
-neither : (test : Bool) (a b : Act) → child_joined a ≡ None → child_joined b ≡ None → child_joined (if test then a else b) ≡ None
+pub neither : (test : Bool) (a b : Act) → child_joined a ≡ None → child_joined b ≡ None → child_joined (if test then a else b) ≡ None
 neither true a b first second = first
 neither false a b first second = second
 
@@ -86,7 +83,7 @@ fork-in r p (extra.Name file path) is = if-forks (is_success r) r p is
 fork-in r p (extra.Sent device bytes) is = if-forks (is_success r) r p is
 
 -- no other call makes one
-call-in : (k : Kind) (cpu : Cpu) (r p : ℕ) (more : Extra) → child_joined (call_act k cpu r more) ≡ Some p → (k ≡ Fork) × ((if is_success r then Some r else None) ≡ Some p)
+pub call-in : (k : Kind) (cpu : Cpu) (r p : ℕ) (more : Extra) → child_joined (call_act k cpu r more) ≡ Some p → (k ≡ Fork) × ((if is_success r then Some r else None) ≡ Some p)
 call-in Exit cpu r p more is = absurd (let none : None ≡ Some p = is in cc)
 call-in Fork cpu r p more is = (refl, fork-in r p more is)
 call-in Exec cpu r p more is = absurd (let none : None ≡ Some p = sym (exec-none cpu r more) ∙ is in cc)
@@ -108,7 +105,7 @@ only-fork false false false false false false true h is = absurd (let no : Write
 only-fork false false false false false false false true is = absurd (let no : Shm ≡ Fork = is in cc)
 only-fork false false false false false false false false is = absurd (let no : Other ≡ Fork = is in cc)
 
-kind-fork : (n : ℕ) → kind_of n ≡ Fork → (n == number.FORK) ≡ true
+pub kind-fork : (n : ℕ) → kind_of n ≡ Fork → (n == number.FORK) ≡ true
 kind-fork n is =
     only-fork (n == number.EXIT) (n == number.FORK) (n == number.EXEC) (n == number.WAIT) (n == number.SIGRETURN) (n == number.READ) (n == number.WRITE) (n == number.SHM) is
 
@@ -117,7 +114,7 @@ if-both true b r p yea is = is
 if-both false b r p yea is = absurd (let no : false ≡ true = yea in cc)
 
 -- the child that joins is the one that the record tells
-joined-in : (cpu : Cpu) (e : Record) (p : ℕ) → option_and_then child_joined (act_of cpu e) ≡ Some p → child_in e ≡ Some p
+pub joined-in : (cpu : Cpu) (e : Record) (p : ℕ) → option_and_then child_joined (act_of cpu e) ≡ Some p → child_in e ≡ Some p
 joined-in cpu (entry.Call pid n r more) p is =
     let found = call-in (kind_of n) cpu r p more is in
     if-both (n == number.FORK) (is_success r) r p (kind-fork n found.0) found.1
@@ -129,7 +126,3 @@ joined-in cpu (entry.File name bytes) p is = absurd (let none : None ≡ Some p 
 joined-in cpu (entry.Typed bytes) p is = absurd (let none : None ≡ Some p = is in cc)
 joined-in cpu (entry.Unplug device) p is = absurd (let none : None ≡ Some p = is in cc)
 joined-in cpu (entry.Slice pid ran) p is = absurd (let none : None ≡ Some p = is in cc)
-
-pub gains-child : (cpu : Cpu) (e : Record) (old new : Guests) → GainsOnly (option_and_then child_joined (act_of cpu e)) old new → GainsOnly (child_in e) old new
-gains-child cpu e old new gains =
-    record { dead = λ (p : ℕ) (other : child_in e ≢ Some p) (none : IsNone (nth old p)). gains.dead p (λ (is : option_and_then child_joined (act_of cpu e) ≡ Some p). other (joined-in cpu e p is)) none }

@@ -31,7 +31,7 @@ use Rattle.replayer.proofs.Loops.{stays-failed}
 use Rattle.replayer.proofs.Own.{hand-less, kept-all, same-test}
 use Rattle.replayer.proofs.Passing.{counts-one}
 use Rattle.replayer.proofs.Sound.{Sound, sound}
-use Rattle.replayer.proofs.Told.{after-event}
+use Rattle.replayer.proofs.Counting.{after-event}
 
 -- no record counts more before a moment than in all
 if-within : (member : Bool) (ran left : ℕ) → (if member then min ran left else 0) ≤ (if member then ran else 0)

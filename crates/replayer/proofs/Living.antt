@@ -1,11 +1,17 @@
 -- The live processes of a list of processes.
-use Rattle.std.proofs.Common.{◌≡◌, ◌<◌, ◌≤◌, ◌-◌, ◌⊎◌, inl, inr, ℕ, zero, suc, ◌+◌, Bool, true, false, List, [], ◌∷◌, ◌++◌, length, filter, cond, Option, option_and_then, is_some, refl, ap, sym, ◌∙◌, append_assoc, arith}
+use Rattle.std.proofs.Common.{◌≡◌, ◌<◌, ◌≤◌, ◌-◌, ◌⊎◌, inl, inr, ℕ, zero, suc, ◌+◌, Bool, true, false, List, [], ◌∷◌, length, filter, cond, Option, Some, None, option_and_then, is_some, refl, ap, sym, ◌∙◌, arith}
 use Rattle.std.specs.List.{range_with_len}
-use Rattle.std.proofs.lemmas.List.{append-nil}
 use Rattle.std.proofs.lemmas.Option.{slice_get_past}
 use Rattle.parts_model.specs.Numbered.{nth}
 use Rattle.guest_bodies.specs.Shown.{Guests, IsLive, Shown}
+use Rattle.arn_base.specs.declared.records.Record.{Record}
+use Rattle.history_index.specs.Lookups.{members_of}
+use Rattle.history_model.specs.Broken.{Behind, Nowhere, behind_record, first_broken, greatest, greatest_after, greatest_from}
+use Rattle.history_model.specs.Groups.{Groups, group_of, groups_from, groups_told, is_number}
 use Rattle.replayer.specs.Lives.{live_in}
+use Rattle.replayer.specs.Parts.{LivesIn}
+use Rattle.replayer.proofs.Own.{either, kept-all, same-test, told-above}
+use Rattle.replayer.proofs.Sound.{Sound, grows-all, sound}
 
 -- those with numbers from one on, so many
 abbrev pub lives_from : Guests → ℕ → ℕ → List ℕ
@@ -63,23 +69,51 @@ module _ (guests : Guests) where
       least (suc n) zero = inr (omega arith)
       least (suc n) (suc m) = elim (least n m) [ inl le ↦ inl (omega arith) | inr le ↦ inr (omega arith) ]
 
-  -- one number more
-  pub lives-in : (live : List ℕ) (a n : ℕ) (all : List ℕ) → a < n → IsLive guests a → live ++ lives_from guests a (n - a) ≡ all → (live ++ a ∷ []) ++ lives_from guests (a + 1) (n - (a + 1)) ≡ all
-  lives-in live a n all lt is so-far =
-      let more : n - a ≡ suc (n - (a + 1)) = omega arith in
-      append_assoc live (a ∷ []) (lives_from guests (a + 1) (n - (a + 1)))
-      ∙ (ap (λ (b : Bool). live ++ cond b (a ∷ lives_from guests (a + 1) (n - (a + 1))) (lives_from guests (a + 1) (n - (a + 1)))) (sym is)
-      ∙ (ap (λ (k : ℕ). live ++ lives_from guests a k) (sym more) ∙ so-far))
+-- those of which each passes another test too
+filter-both : (live own : ℕ → Bool) (xs : List ℕ) → ((p : ℕ) → live p ≡ true → own p ≡ true) → filter live (filter own xs) ≡ filter live xs
+filter-both live own [] passes = refl
+filter-both live own (x ∷ xs) passes =
+    let rest = filter-both live own xs passes in
+    elim (either (own x)) [
+      | inl is ↦
+          ap (λ (b : Bool). filter live (cond b (x ∷ filter own xs) (filter own xs))) is
+          ∙ ap (λ (ys : List ℕ). cond (live x) (x ∷ ys) ys) rest
+      | inr isnt ↦
+          let dead : live x ≡ false = if-dead (live x) (λ is. absurd (let no : true ≡ false = sym (passes x is) ∙ isnt in cc)) in
+          ap (λ (b : Bool). filter live (cond b (x ∷ filter own xs) (filter own xs))) isnt
+          ∙ (rest ∙ sym (ap (λ (b : Bool). cond b (x ∷ filter live xs) (filter live xs)) dead))
+    ]
 
-  pub lives-out : (live : List ℕ) (a n : ℕ) (all : List ℕ) → a < n → (IsLive guests a → ⊥) → live ++ lives_from guests a (n - a) ≡ all → live ++ lives_from guests (a + 1) (n - (a + 1)) ≡ all
-  lives-out live a n all lt not so-far =
-      let more : n - a ≡ suc (n - (a + 1)) = omega arith in
-      let dead : is_some (nth guests a) ≡ false = if-dead (is_some (nth guests a)) not in
-      ap (λ (b : Bool). live ++ cond b (a ∷ lives_from guests (a + 1) (n - (a + 1))) (lives_from guests (a + 1) (n - (a + 1)))) (sym dead)
-      ∙ (ap (λ (k : ℕ). live ++ lives_from guests a k) (sym more) ∙ so-far)
+-- a number that no process has is of no group
+above-all : (entries : List Record) (b : Behind) (n : ℕ) (groups : Groups) (p : ℕ) → Sound b n entries → greatest_from n entries < p → groups_from entries groups p ≡ groups p
+above-all [] b n groups p sound lt = refl
+above-all (e ∷ entries) b n groups p sound lt =
+    let up = grows-all entries (greatest_after e n) in
+    above-all entries (behind_record b e) (greatest_after e n) (groups_told e groups) p sound.1 lt ∙ told-above b n e groups p sound.0 (omega (arith, up, lt))
 
-  -- no number more
-  pub lives-all : (live : List ℕ) (a n : ℕ) → n ≤ a → ((p : ℕ) → IsLive guests p → p < n) → live ++ lives_from guests a (n - a) ≡ lives_from guests 0 n → live ≡ live_in guests
-  lives-all live a n le below so-far =
-      let none : n - a ≡ 0 = omega arith in
-      sym (append-nil live) ∙ (ap (λ (k : ℕ). live ++ lives_from guests a k) (sym none) ∙ (so-far ∙ lives-below n below))
+none-some : (g : ℕ) (o : Option ℕ) → o ≡ None → o ≡ Some g → ⊥
+none-some g o none some = let no : None ≡ Some g = sym none ∙ some in cc
+
+split : (p n : ℕ) → (p ≤ n) ⊎ (n < p)
+split zero n = inl (omega arith)
+split (suc p) zero = inr (omega arith)
+split (suc p) (suc n) = elim (split p n) [ inl le ↦ inl (omega arith) | inr lt ↦ inr (omega arith) ]
+
+-- where the live processes are of a group, they are its members that live
+module _ (entries : List Record) (g most : ℕ) (guests : Guests) (stands : first_broken entries ≡ None) (lives : LivesIn entries (Some g) most guests) where
+  made : (p : ℕ) → IsLive guests p → p < greatest entries + 1
+  made p live =
+      elim (split p (greatest entries)) [
+        | inl le ↦ omega (arith, le)
+        | inr lt ↦ absurd (none-some g (group_of entries p) (above-all entries Nowhere 0 (λ q. None) p (sound entries stands) lt) (lives.member p live))
+      ]
+
+  no-zero : is_some (nth guests 0) ≡ false
+  no-zero = if-dead (is_some (nth guests 0)) (λ live. none-some g (group_of entries 0) (kept-all entries Nowhere 0 (λ q. None) 0 (sound entries stands) (omega arith)) (lives.member 0 live))
+
+  pub members-live : filter (λ p. is_some (nth guests p)) (members_of entries g) ≡ live_in guests
+  members-live =
+      let one : greatest entries + 1 ≡ suc (greatest entries) = omega arith in
+      filter-both (λ p. is_some (nth guests p)) (λ p. is_number g (group_of entries p)) (range_with_len 1 (greatest entries)) (λ p live. ap (is_number g) (lives.member p live) ∙ same-test g g refl)
+      ∙ (sym (ap (λ (b : Bool). cond b (0 ∷ lives_from guests 1 (greatest entries)) (lives_from guests 1 (greatest entries))) no-zero)
+      ∙ (sym (ap (lives_from guests 0) one) ∙ lives-below guests (greatest entries + 1) made))

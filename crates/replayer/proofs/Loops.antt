@@ -10,9 +10,7 @@ use Rattle.history_model.specs.Alone as alone
 use Rattle.history_model.specs.Alone.{Own, Made, Makes, Fails, and_then, nothing_own, replayed, at_first}
 use Rattle.history_model.specs.Broken.{greatest_after, greatest_from}
 use Rattle.replay_steps.specs.Notices.{Listener, Notice, Told, notices}
-use Rattle.replay_steps.specs.Standing.{Explains, GoesOn, Reaches, disagreement, is_counted}
-use Rattle.replay_steps.specs.declared.errors.ReplayError.{ReplayError}
-use Rattle.replay_steps.specs.declared.errors.ReplayError.TheVariants as replay_error
+use Rattle.replay_steps.specs.Standing.{GoesOn, Reaches, is_counted}
 
 -- one after the other
 module _ {A : Type 0} (l : Listener A) where
@@ -20,7 +18,7 @@ module _ {A : Type 0} (l : Listener A) where
   told-append [] ms x y z e told = subst (λ (v : A). Told l ms v z) (sym e) told
   told-append (n ∷ ns) ms x y z s told = (s.0, s.1, told-append ns ms s.0 y z s.2 told)
 
-  goes-both : (x y z : A) (a b c : ℕ) (own own' own'' : Own) → GoesOn l x a own own' y b → GoesOn l y b own' own'' z c → GoesOn l x a own own'' z c
+  pub goes-both : (x y z : A) (a b c : ℕ) (own own' own'' : Own) → GoesOn l x a own own' y b → GoesOn l y b own' own'' z c → GoesOn l x a own own'' z c
   goes-both x y z a b c own own' own'' p q =
       record {
         more = p.more ++ q.more;
@@ -34,14 +32,6 @@ module _ {A : Type 0} (l : Listener A) where
       record { own' = s.own'; makes = s.makes; stands = s.stands; goes_on = goes-both x y z a b c own r.own' s.own' r.goes_on s.goes_on }
 
 -- one record more
-pub replayed-snoc : (g until : ℕ) (t : alone.Standing) (entries : List Record) (i : ℕ) (e : Record) → i < length entries → e ≡ get_or entries i e → replayed g until t (take (i + 1) entries) ≡ alone.after_record g until (replayed g until t (take i entries)) e
-replayed-snoc g until t entries i e lt is = let same : i + 1 ≡ suc i = omega arith in ap (λ (n : ℕ). replayed g until t (take n entries)) same ∙ by t entries i lt is
-  where
-    by : (t : alone.Standing) (entries : List Record) (i : ℕ) → i < length entries → e ≡ get_or entries i e → replayed g until t (take (suc i) entries) ≡ alone.after_record g until (replayed g until t (take i entries)) e
-    by t [] i lt is = absurd (omega arith)
-    by t (x ∷ entries) zero lt is = ap (alone.after_record g until t) (sym is)
-    by t (x ∷ entries) (suc i) lt is = by (alone.after_record g until t x) entries i (omega arith) is
-
 pub greatest-snoc : (n : ℕ) (entries : List Record) (i : ℕ) (e : Record) → i < length entries → e ≡ get_or entries i e → greatest_from n (take (suc i) entries) ≡ greatest_after e (greatest_from n (take i entries))
 greatest-snoc n [] i e lt is = absurd (omega arith)
 greatest-snoc n (x ∷ entries) zero e lt is = ap (λ (r : Record). greatest_after r n) (sym is)
@@ -52,7 +42,7 @@ made-if-fails : (b : Bool) (made : Made) (next : Own → Made) (d : alone.Disagr
 made-if-fails true made next d fails = ap (λ (m : Made). and_then m next) fails
 made-if-fails false made next d fails = fails
 
-after-fails : (g until : ℕ) (t : alone.Standing) (e : Record) (d : alone.Disagrees) → t.made ≡ Fails d → (alone.after_record g until t e).made ≡ Fails d
+pub after-fails : (g until : ℕ) (t : alone.Standing) (e : Record) (d : alone.Disagrees) → t.made ≡ Fails d → (alone.after_record g until t e).made ≡ Fails d
 after-fails g until t (entry.File name bytes) d fails = fails
 after-fails g until t (entry.Boot name give) d fails = made-if-fails _ t.made _ d fails
 after-fails g until t (entry.Typed bytes) d fails = fails
@@ -65,13 +55,3 @@ after-fails g until t (entry.End pid status) d fails = made-if-fails _ _ _ d (ma
 pub stays-failed : (g until : ℕ) (t : alone.Standing) (entries : List Record) (d : alone.Disagrees) → t.made ≡ Fails d → alone.settled (replayed g until t entries) ≡ Fails d
 stays-failed g until t [] d fails = ap (λ (m : Made). and_then m (alone.plains (alone.slice_of t) 0 t.owed)) fails
 stays-failed g until t (e ∷ entries) d fails = stays-failed g until (alone.after_record g until t e) entries d (after-fails g until t e d fails)
-
-later-fails : (g until : ℕ) (t : alone.Standing) (entries : List Record) (i : ℕ) (e : Record) (d : alone.Disagrees) → i < length entries → e ≡ get_or entries i e → (alone.after_record g until (replayed g until t (take i entries)) e).made ≡ Fails d → alone.settled (replayed g until t entries) ≡ Fails d
-later-fails g until t [] i e d lt is fails = absurd (omega arith)
-later-fails g until t (x ∷ entries) zero e d lt is fails =
-    stays-failed g until (alone.after_record g until t x) entries d (ap (λ (r : Record). (alone.after_record g until t r).made) (sym is) ∙ fails)
-later-fails g until t (x ∷ entries) (suc i) e d lt is fails = later-fails g until (alone.after_record g until t x) entries i e d (omega arith) is fails
-
-pub later-explains : (g until : ℕ) (entries : List Record) (i : ℕ) (e : Record) (err : ReplayError) → i < length entries → e ≡ get_or entries i e → Explains (alone.after_record g until (replayed g until at_first (take i entries)) e).made err → Explains (alone.alone entries g until) err
-later-explains g until entries i e (replay_error.Disagrees d) lt is fails = later-fails g until at_first entries i e (disagreement d) lt is fails
-later-explains g until entries i e replay_error.NoMemory lt is fails = tt

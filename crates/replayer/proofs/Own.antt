@@ -14,8 +14,7 @@ use Rattle.history_model.specs.Broken.{Behind, Nowhere, ASlice, ADelivery, behin
 use Rattle.history_model.specs.Groups.{Groups, group_forked, groups_from, groups_told, is_number}
 use Rattle.history_model.specs.Moments.{changed}
 use Rattle.history_model.specs.Names.{is_boot}
-use Rattle.replayer.specs.Others.{is_own}
-use Rattle.replayer.proofs.Passing.{first-not}
+use Rattle.replayer.proofs.Passing.{first-not, is_own}
 use Rattle.replayer.proofs.Sound.{Fits, Sound, grows}
 
 pub either : (b : Bool) → (b ≡ true) ⊎ (b ≡ false)

@@ -1,5 +1,5 @@
 -- A replay passes over records of other groups.
-use Rattle.std.proofs.Common.{◌≡◌, ℕ, ◌+◌, ◌-◌, ◌==◌, ◌&&◌, min, nat_le, Bool, true, false, if◌then◌else◌, List, [], ◌∷◌, ◌++◌, inl, inr, Some, None, refl, ap, sym, ◌∙◌, arith}
+use Rattle.std.proofs.Common.{◌≡◌, ℕ, ◌+◌, ◌-◌, ◌==◌, ◌&&◌, ◌||◌, option_and_then, min, Bool, true, false, if◌then◌else◌, inl, inr, Some, None, refl, ap, sym, ◌∙◌, arith}
 use Rattle.std.proofs.lemmas.Bool.{or_parts}
 use Rattle.std.proofs.lemmas.Bool.Decides.{eqb_tells}
 use Rattle.arn_base.specs.declared.records.Extra.{Extra}
@@ -9,20 +9,23 @@ use Rattle.arn_base.specs.declared.records.Record.TheVariants as entry
 use Rattle.arn_base.specs.declared.records.Start.{Start}
 use Rattle.parts_model.specs.declared.calls.TheConstants.{FORK}
 use Rattle.parts_model.specs.Replies.{is_success}
+use Rattle.acts_model.specs.Records.{process_of}
 use Rattle.history_index.specs.Lookups.{founds, events_in}
 use Rattle.history_model.specs.Alone as alone
 use Rattle.history_model.specs.Alone.{Standing, Own, Made, Makes, Fails, and_then, replayed, settled}
-use Rattle.history_model.specs.Events.{how_many}
-use Rattle.history_model.specs.Groups.{Groups, group_forked, groups_from, groups_told, is_number}
-use Rattle.history_model.specs.Moments.{ran_in, total}
-use Rattle.replayer.specs.Others.{AreOthers, counted, is_own, rested}
+use Rattle.history_model.specs.Groups.{Groups, group_forked, groups_told, is_number}
+use Rattle.history_model.specs.Moments.{ran_in}
+
+-- whether a record is a group's own, where processes have these groups: it begins the group, or its process is of it
+abbrev pub is_own : ℕ → Groups → Record → Bool
+is_own group groups e = founds group e || is_number group (option_and_then groups (process_of e))
 
 -- nothing more is made
 makes-same : (made : Made) (next : Own → Made) → ((own : Own) → next own ≡ Makes own) → and_then made next ≡ made
 makes-same (Makes own) next same = same own
 makes-same (Fails d) next same = refl
 
-made-if-same : (b : Bool) (made : Made) (next : Own → Made) → ((own : Own) → next own ≡ Makes own) → alone.made_if b made next ≡ made
+pub made-if-same : (b : Bool) (made : Made) (next : Own → Made) → ((own : Own) → next own ≡ Makes own) → alone.made_if b made next ≡ made
 made-if-same true made next same = makes-same made next same
 made-if-same false made next same = refl
 
@@ -56,7 +59,7 @@ begins-other true g pid r event e start own none = begins-not g r event e start 
 begins-other false g pid r event e start own none = refl
 
 module _ (g pid number r event : ℕ) (own : Own) where
-  call-begins : (more : Extra) → founds g (entry.Call pid number r more) ≡ false → alone.begins_by g event (entry.Call pid number r more) own ≡ Makes own
+  pub call-begins : (more : Extra) → founds g (entry.Call pid number r more) ≡ false → alone.begins_by g event (entry.Call pid number r more) own ≡ Makes own
   call-begins (extra.Start start) none = begins-other ((number == FORK) && is_success r) g pid r event (entry.Call pid number r (extra.Start start)) start own none
   call-begins extra.Nothing none = refl
   call-begins (extra.Give give) none = refl
@@ -135,83 +138,3 @@ counts-one g until t (entry.Slice pid ran) = record { groups = refl; events = om
 counts-one g until t (entry.Signal pid signal cut handler) = record { groups = refl; events = refl; moment = omega arith }
 counts-one g until t (entry.Call pid number r more) = record { groups = refl; events = refl; moment = omega arith }
 counts-one g until t (entry.End pid status) = record { groups = refl; events = refl; moment = omega arith }
-
-many-cons : (e : Record) (entries : List Record) → how_many (e ∷ entries) ≡ events_in e + how_many entries
-many-cons (entry.File name bytes) entries = omega arith
-many-cons (entry.Boot name give) entries = omega arith
-many-cons (entry.Typed bytes) entries = omega arith
-many-cons (entry.Unplug device) entries = omega arith
-many-cons (entry.Slice pid ran) entries = omega arith
-many-cons (entry.Signal pid signal cut handler) entries = omega arith
-many-cons (entry.Call pid number r more) entries = omega arith
-many-cons (entry.End pid status) entries = omega arith
-
-pub counts-all : (g until : ℕ) (t : Standing) (entries : List Record) → Counts t (groups_from entries t.groups) (how_many entries) (total entries) (replayed g until t entries)
-counts-all g until t [] = record { groups = refl; events = omega arith; moment = omega arith }
-counts-all g until t (e ∷ entries) =
-    let one = counts-one g until t e in
-    let rest = counts-all g until (alone.after_record g until t e) entries in
-    let many = many-cons e entries in
-    let first-events = one.events in
-    let first-moment = one.moment in
-    let more-events = rest.events in
-    let more-moment = rest.moment in
-    record {
-      groups = rest.groups ∙ ap (λ (gs : Groups). groups_from entries gs) one.groups;
-      events = omega (arith, many, first-events, more-events);
-      moment = omega (arith, first-moment, more-moment);
-    }
-
--- and others make nothing
-passes-all : (g until : ℕ) (t : Standing) (others : List Record) → t.owed ≡ 0 → AreOthers g t.groups others → Passes t (replayed g until t others)
-passes-all g until t [] none are = record { made = refl; owed = none }
-passes-all g until t (e ∷ others) none are =
-    let one = passes g until t none e are.0 in
-    let same = (counts-one g until t e).groups in
-    let rest = passes-all g until (alone.after_record g until t e) others one.owed (rw same are.1) in
-    record { made = rest.made ∙ one.made; owed = rest.owed }
-
-pub others-make-nothing : (g until : ℕ) (t : Standing) (others : List Record) → t.owed ≡ 0 → AreOthers g t.groups others → settled (replayed g until t others) ≡ t.made
-others-make-nothing g until t others none are =
-    let all = passes-all g until t others none are in settled-same (replayed g until t others) all.owed ∙ all.made
-
-replayed-append : (g until : ℕ) (t : Standing) (before after : List Record) → replayed g until t (before ++ after) ≡ replayed g until (replayed g until t before) after
-replayed-append g until t [] after = refl
-replayed-append g until t (e ∷ before) after = replayed-append g until (alone.after_record g until t e) before after
-
--- a slice goes on from what was made and counted, and from nothing else
-slice-of : ℕ → ℕ → ℕ → ℕ → Made → Groups → ℕ → ℕ → Standing
-slice-of g until pid ran made groups events moment =
-    record {
-      made = made;
-      groups = groups;
-      events = events;
-      moment = moment + ran;
-      is_begun = nat_le moment until;
-      is_ended = nat_le (moment + ran) until;
-      owed = if is_number g (groups pid) then min ran (until - moment) else 0;
-      pid = pid;
-      ran = ran;
-    }
-
-slice-same : (g until pid ran : ℕ) (t u : Standing) → settled t ≡ settled u → t.groups ≡ u.groups → t.events ≡ u.events → t.moment ≡ u.moment → alone.after_slice g until pid ran t ≡ alone.after_slice g until pid ran u
-unfolding slice-of
-slice-same g until pid ran t u made groups events moment =
-    ap (λ (m : Made). slice-of g until pid ran m t.groups t.events t.moment) made
-    ∙ (ap (λ (gs : Groups). slice-of g until pid ran (settled u) gs t.events t.moment) groups
-    ∙ (ap (λ (n : ℕ). slice-of g until pid ran (settled u) u.groups n t.moment) events
-    ∙ ap (λ (n : ℕ). slice-of g until pid ran (settled u) u.groups u.events n) moment))
-
-pub counted-next : (g until : ℕ) (t : Standing) (others rest : List Record) (pid ran : ℕ) → t.owed ≡ 0 → AreOthers g t.groups others → replayed g until t (others ++ entry.Slice pid ran ∷ rest) ≡ replayed g until (counted others t) (entry.Slice pid ran ∷ rest)
-counted-next g until t others rest pid ran none are =
-    let counts = counts-all g until t others in
-    replayed-append g until t others (entry.Slice pid ran ∷ rest)
-    ∙ ap (λ (s : Standing). replayed g until s rest)
-    (slice-same g until pid ran (replayed g until t others) (counted others t) (others-make-nothing g until t others none are ∙ sym (settled-same (counted others t) none)) counts.groups counts.events counts.moment)
-
-pub rested-settles : (t : Standing) → settled (rested t) ≡ settled t
-rested-settles t = settled-same (rested t) refl
-
-pub rested-next : (g until : ℕ) (t : Standing) (rest : List Record) (pid ran : ℕ) → replayed g until t (entry.Slice pid ran ∷ rest) ≡ replayed g until (rested t) (entry.Slice pid ran ∷ rest)
-rested-next g until t rest pid ran =
-    ap (λ (s : Standing). replayed g until s rest) (slice-same g until pid ran t (rested t) (sym (rested-settles t)) refl refl refl)

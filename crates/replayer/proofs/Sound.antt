@@ -75,7 +75,7 @@ grows (entry.Signal pid signal cut handler) m = omega arith
 grows (entry.Call pid number r more) m = grows-if ((number == FORK) && is_success r) m r
 grows (entry.End pid status) m = omega arith
 
-grows-all : (entries : List Record) (m : ℕ) → m ≤ greatest_from m entries
+pub grows-all : (entries : List Record) (m : ℕ) → m ≤ greatest_from m entries
 grows-all [] m = omega arith
 grows-all (e ∷ entries) m = let one = grows e m in let rest = grows-all entries (greatest_after e m) in omega (arith, one, rest)
 
@@ -134,17 +134,17 @@ hand-held before (entry.Signal pid signal cut handler) f = f.slice
 hand-held before (entry.Call pid number r more) f = f.slice
 hand-held before (entry.End pid status) f = f.slice
 
-behind-snoc : (b : Behind) (entries : List Record) (i : ℕ) (e : Record) → i < length entries → e ≡ get_or entries i e → behind_from b (take (suc i) entries) ≡ behind_record (behind_from b (take i entries)) e
+pub behind-snoc : (b : Behind) (entries : List Record) (i : ℕ) (e : Record) → i < length entries → e ≡ get_or entries i e → behind_from b (take (suc i) entries) ≡ behind_record (behind_from b (take i entries)) e
 behind-snoc b [] i e lt is = absurd (omega arith)
 behind-snoc b (x ∷ entries) zero e lt is = ap (behind_record b) (sym is)
 behind-snoc b (x ∷ entries) (suc i) e lt is = behind-snoc (behind_record b x) entries i e (omega arith) is
 
-pub drop-more : (entries : List Record) (i : ℕ) (e : Record) → i < length entries → e ≡ get_or entries i e → drop i entries ≡ e ∷ drop (suc i) entries
+pub drop-more : {A : Type 0} (entries : List A) (i : ℕ) (e : A) → i < length entries → e ≡ get_or entries i e → drop i entries ≡ e ∷ drop (suc i) entries
 drop-more [] i e lt is = absurd (omega arith)
-drop-more (x ∷ entries) zero e lt is = ap (λ (r : Record). r ∷ entries) (sym is)
+drop-more (x ∷ entries) zero e lt is = ap (λ r. r ∷ entries) (sym is)
 drop-more (x ∷ entries) (suc i) e lt is = drop-more entries i e (omega arith) is
 
-pub drop-past : (entries : List Record) (i : ℕ) → length entries ≤ i → drop i entries ≡ []
+pub drop-past : {A : Type 0} (entries : List A) (i : ℕ) → length entries ≤ i → drop i entries ≡ []
 drop-past [] zero le = refl
 drop-past [] (suc i) le = refl
 drop-past (x ∷ entries) zero le = absurd (omega arith)

@@ -1,5 +1,5 @@
 -- What stands behind a list of records that isn't broken.
-use Rattle.std.proofs.Common.{◌≡◌, ◌<◌, ◌≤◌, ◌^◌, ℕ, zero, suc, ◌+◌, ◌*◌, ◌==◌, ◌&&◌, not, nat_le, max, Bool, true, false, if◌then◌else◌, List, [], ◌∷◌, ◌++◌, length, take, get_or, Option, Some, None, IfSome, refl, ap, sym, subst, ◌∙◌, append_assoc, arith}
+use Rattle.std.proofs.Common.{◌≡◌, ◌<◌, ◌≤◌, ℕ, zero, suc, ◌+◌, ◌*◌, ◌==◌, ◌&&◌, not, nat_le, max, Bool, true, false, if◌then◌else◌, List, [], ◌∷◌, ◌++◌, length, take, get_or, Option, Some, None, IfSome, refl, ap, sym, subst, ◌∙◌, append_assoc, arith}
 use Rattle.std.specs.List.{All}
 use Rattle.std.proofs.lemmas.Bool.{and_parts, eqb-true, leb-true, or_parts}
 use Rattle.std.proofs.Math.Seq.{take-nil}
@@ -18,7 +18,6 @@ use Rattle.guest_bodies.specs.Shown.{IsInside}
 use Rattle.history_model.specs.Broken as broken
 use Rattle.history_model.specs.Broken.{Behind, Nowhere, behind, behind_from, broken_from, cant_follow, child_in, first_broken, greatest, greatest_after, greatest_from, has_blocks_wrong, misnumbers, rise_from, start_in}
 use Rattle.history_model.specs.Names.{is_boot, is_booted}
-use Rattle.replayer.specs.Mirrors.{CanTake}
 
 if-none : (b : Bool) (n : ℕ) (o : Option ℕ) → (if b then Some n else o) ≡ None → (b ≡ false) × (o ≡ None)
 if-none true n o none = absurd (let no : Some n ≡ None = none in cc)
@@ -198,21 +197,9 @@ boot-first before (entry.Slice pid ran) f is = absurd (let no : false ≡ true =
 boot-first before (entry.Signal pid signal cut handler) f is = absurd (let no : false ≡ true = is in cc)
 boot-first before (entry.End pid status) f is = absurd (let no : false ≡ true = is in cc)
 
--- so a replay can take each, one after the other
-pub can-take : (entries : List Record) (i next : ℕ) (e : Record) → first_broken entries ≡ None → length entries < 2 ^ 32 → i < length entries → e ≡ get_or entries i e → next ≡ greatest (take i entries) + 1 → CanTake next e
-can-take entries i next e none few lt is numbered =
-    let f : Follows (take i entries) e = tests (take i entries) e (can-follow [] entries i e none lt is) in
-    let fewer = greatest-few [] entries i 0 none (omega arith) in
-    record {
-      some = omega (arith, numbered);
-      boot = λ (boot : is_boot e ≡ true).
-          let files = unbooted-files [] entries i tt none (boot-first (take i entries) e f boot) in
-          let first = files-greatest (take i entries) 0 files in
-          omega (arith, numbered, first);
-      child = subst (λ (n : ℕ). IfSome (child_in e) (λ (c : ℕ). c ≡ n)) (sym numbered) (number-is (greatest (take i entries)) (child_in e) (take i entries) refl f.numbers);
-      few = omega (arith, numbered, fewer, few, lt);
-      start = start-inside (start_in e) f.blocks;
-    }
+-- the blocks with which a group begins lie in the window
+pub starts-inside : (entries : List Record) (i : ℕ) (e : Record) → first_broken entries ≡ None → i < length entries → e ≡ get_or entries i e → IfSome (start_in e) (λ (start : Start). All IsInside start.blocks)
+starts-inside entries i e none lt is = start-inside (start_in e) (tests (take i entries) e (can-follow [] entries i e none lt is)).blocks
 
 -- the boot comes before any process, and each child is the next
 pub boot-none : (entries : List Record) (i : ℕ) (e : Record) → first_broken entries ≡ None → Follows (take i entries) e → is_boot e ≡ true → greatest (take i entries) ≡ 0

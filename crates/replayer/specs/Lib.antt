@@ -1,7 +1,6 @@
 pub mod Bounds
 pub mod BySlices
+pub mod Foundings
 pub mod Lives
-pub mod Members
-pub mod Mirrors
-pub mod Others
+pub mod Parts
 pub mod Replays

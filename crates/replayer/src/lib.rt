@@ -2,13 +2,14 @@
 //! groups.
 #![tactic(auto)]
 
+mod founding;
 mod law;
-mod members;
-mod records;
+mod parts;
 mod state;
 #[cfg(test)]
 mod tests;
+mod walk;
 
-pub use law::{alone_by_slices, others_are_counted, runs_before, settles_early};
+pub use law::{alone_by_slices, runs_before};
 pub use replay_steps::{Disagrees, QueryError, ReplayError};
 pub use state::{GroupState, replay};

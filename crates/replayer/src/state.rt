@@ -1,5 +1,6 @@
 // What a replay makes of a group.
-ghost use Rattle.std.specs.Prelude.{◌≡◌, ◌+◌, ◌≤◌, IfErr, IfOk, None, OnErr, OnOk, Some, length, option_and_then, option_map};
+ghost use Rattle.std.specs.Prelude.{◌≡◌, ◌+◌, ◌≤◌, IfErr, IfOk, None, OnErr, OnOk, Some, filter, is_some, length, option_and_then, option_copied, option_map};
+ghost use Rattle.parts_model.specs.Numbered.{nth};
 ghost use Rattle.acts_model.specs.Views.{bytes_in};
 ghost use Rattle.guest_bodies.specs.Shown.{seen_in};
 ghost use Rattle.history_index.specs.Indexes.{AreCountable, Indexes};
@@ -11,9 +12,10 @@ ghost use Rattle.replayer.specs.Lives.{live_in};
 ghost use Rattle.replayer.specs.Replays.{Replays};
 
 use crate::ReplayError;
-use crate::records::{Replay, replay_all};
+use crate::walk::replay_slices;
 use acts_model::Observer;
-use arn_base::{BadAddress, Cpu, Record, Steps};
+use arn_base::{BadAddress, Cpu, NoMemory, Record, Steps};
+use guest_bodies::Bodies;
 use history_index::Index;
 use std::alloc::Global;
 use std::marker::Model;
@@ -22,7 +24,7 @@ use std::sync::ledger::Ledger;
 /// The processes of a group, as a replay left them.
 #[derive(Drop)]
 pub struct GroupState {
-    replay: Replay,
+    bodies: Bodies,
     live: Vec<u32>,
 }
 
@@ -34,9 +36,9 @@ impl Model for GroupState {
     ghost use Rattle.std.specs.Prelude.{◌≡◌};
     ghost use Rattle.replayer.specs.Lives.{live_in};
 
-    ghost view = { λ s. s.replay.bodies };
+    ghost view = { λ s. s.bodies };
 
-    ghost invariant = { λ s. s.live.items ≡ live_in s.replay.bodies };
+    ghost invariant = { λ s. s.live.items ≡ live_in s.bodies };
 }
 
 impl GroupState {
@@ -52,7 +54,21 @@ impl GroupState {
         ensures { option_map (λ cpu. cpu.now) result ≡
             option_map (λ v. v.body.cpu) (seen_in self.now pid) }
     {
-        self.replay.cpu(pid)
+        if !self.bodies.is_live(pid) {
+            return None;
+        }
+        Some(self.bodies.cpu(pid))
+    }
+
+    // The bytes at an address of a member, where they lie whole in one window.
+    fn bytes(&self, pid: u32, at: u64, len: u64) -> Option<&[u8]>
+        ensures { option_copied result ≡
+            option_and_then (λ v. bytes_in v at len) (seen_in self.now pid) }
+    {
+        if !self.bodies.is_live(pid) {
+            return None;
+        }
+        self.bodies.bytes(pid, at, len)
     }
 
     /// Copies the bytes at an address of a member, where they lie whole in one of its windows.
@@ -63,30 +79,51 @@ impl GroupState {
             (seen_in self.now pid) ≡ None) }
         ensures same { OnErr result (buf.new ≡ buf.old) }
     {
-        self.replay.read_into(pid, at, buf)
+        match self.bytes(pid, at, buf.len() as u64) {
+            Some(bytes) => {
+                buf.copy_from_slice(bytes);
+                Ok(())
+            }
+            None => Err(BadAddress),
+        }
     }
 }
 
-/// Replays a group up to a moment from records of which this is the index, and tells an observer what
-/// happens. It reads all records, and acts on those of the group alone.
+// Those members that live.
+fn living(alloc: Global, bodies: &Bodies, members: &[u32]) -> Result<Vec<u32>, NoMemory>
+    ensures { IfOk result (λ live. live.items ≡
+        filter (λ pid. is_some (nth bodies.now pid)) members.now) }
+{
+    let mut live = Vec::new(alloc);
+    for pid in members {
+        if bodies.is_live(*pid) {
+            live.push(*pid)?;
+        }
+    }
+    Ok(live)
+}
+
+/// Replays a group up to a moment from records of which this is the index, and tells an observer
+/// what happens. It reads the record by which the group begins, and those behind its own slices that
+/// begin up to the moment.
 pub fn replay<O: Observer, L: Ledger>(
     alloc: Global,
     entries: &[Record],
-    _index: &Index,
+    index: &Index,
     group: u32,
     until: u64,
     observer: &mut O,
     steps: &mut Steps<L>,
 ) -> Result<GroupState, ReplayError>
     requires countable { AreCountable entries.now }
-    requires indexed { Indexes _index.now entries.now }
+    requires indexed { Indexes index.now entries.now }
     ensures ok { IfOk result (λ state. Replays
         (record { begins = O.begins; runs = O.runs; hears = O.hears }) observer.old steps.old
         (alone.alone entries.now group until) state observer.new steps.new) }
     ensures err { IfErr result (Explains (alone.alone entries.now group until)) }
     ensures bounded { steps.new ≤ steps.old + ran_before entries.now group until }
 {
-    let replay = replay_all(alloc, entries, group, until, observer, steps)?;
-    let live = replay.live(alloc)?;
-    Ok(GroupState { replay, live })
+    let bodies = replay_slices(alloc, entries, index, group, until, observer, steps)?;
+    let live = living(alloc, &bodies, index.members(group))?;
+    Ok(GroupState { bodies, live })
 }

@@ -19,6 +19,10 @@ const IMAGE: &[u8; 32] = b"ARNIMG01\0\0\x01\0\0\0\0\0\0\0\x01\0\0\0\0\0\x93\x02\
 const LOOP: &[u8; 32] =
     b"ARNIMG01\0\0\x01\0\0\0\0\0\0\0\x01\0\0\0\0\0\x93\x82\x12\0\x6f\xf0\xdf\xff";
 
+// Entry and load address 0x1_0000: addi x17, x0, 2, and ecall, then LOOP's two.
+const FORKS: &[u8; 40] =
+    b"ARNIMG01\0\0\x01\0\0\0\0\0\0\0\x01\0\0\0\0\0\x93\x08\x20\0s\0\0\0\x93\x82\x12\0o\xf0\xdf\xff";
+
 // How often each call was made.
 #[derive(Clone, Copy, Debug, PartialEq, Eq)]
 struct Heard {
@@ -57,7 +61,7 @@ fn boot(alloc: Global, image: &[u8]) -> Result<Record, NoMemory> {
     origins.push(Origin {
         event: 0,
         at: 0,
-        len: 32,
+        len: u32::try_from(image.len()).unwrap_or(u32::MAX),
     })?;
     let bytes = Bytes::from_slice(alloc, image)?;
     Ok(Record::Boot {
@@ -233,7 +237,7 @@ fn a_moment_lies_in_a_slice(rt: HostRuntime) -> Result<(), Fail> {
 }
 
 // Process 1 forks process 2, which starts a group.
-fn forked(alloc: Global) -> Result<Vec<Record>, NoMemory> {
+fn forked(alloc: Global, image: &[u8]) -> Result<Vec<Record>, NoMemory> {
     let cpu = Cpu {
         x: [0; 31],
         pc: 0x1_0040,
@@ -243,7 +247,7 @@ fn forked(alloc: Global) -> Result<Vec<Record>, NoMemory> {
         slot: None,
         blocks: Blocks::new(alloc),
     };
-    let mut entries = started(alloc, IMAGE)?;
+    let mut entries = started(alloc, image)?;
     entries.push(Record::Slice { pid: 1, ran: 2 })?;
     entries.push(Record::Call {
         pid: 1,
@@ -256,7 +260,7 @@ fn forked(alloc: Global) -> Result<Vec<Record>, NoMemory> {
 
 #[test]
 fn a_child_begins_as_its_fork_tells(rt: HostRuntime) -> Result<(), Fail> {
-    let entries = forked(rt.alloc())?;
+    let entries = forked(rt.alloc(), IMAGE)?;
     let state = state_at(rt.alloc(), entries.as_slice(), 2, 2);
     assert_eq!(rt; pc_alone(state, 2), Some(0x1_0040));
     Ok(())
@@ -264,9 +268,46 @@ fn a_child_begins_as_its_fork_tells(rt: HostRuntime) -> Result<(), Fail> {
 
 #[test]
 fn a_child_to_come_does_not_live(rt: HostRuntime) -> Result<(), Fail> {
-    let entries = forked(rt.alloc())?;
+    let entries = forked(rt.alloc(), IMAGE)?;
     let state = state_at(rt.alloc(), entries.as_slice(), 2, 1);
     assert_eq!(rt; state.map(|state| state.live().len()), Some(0));
+    Ok(())
+}
+
+fn delivery(handler: u64) -> Record {
+    Record::Signal {
+        pid: 2,
+        signal: 2,
+        cut: false,
+        handler,
+    }
+}
+
+// Both groups run in turn, and process 2 takes a signal at moment 4, and dies by one at moment 8.
+fn in_turn(alloc: Global) -> Result<Vec<Record>, NoMemory> {
+    let mut entries = forked(alloc, FORKS)?;
+    entries.push(Record::Slice { pid: 1, ran: 2 })?;
+    entries.push(Record::Slice { pid: 2, ran: 0 })?;
+    entries.push(delivery(0x1_0100))?;
+    entries.push(Record::Slice { pid: 1, ran: 4 })?;
+    entries.push(Record::Slice { pid: 2, ran: 0 })?;
+    entries.push(delivery(0))?;
+    Ok(entries)
+}
+
+#[test]
+fn groups_run_in_turn(rt: HostRuntime) -> Result<(), Fail> {
+    let entries = in_turn(rt.alloc())?;
+    // The group, the moment, and where its only process stands then.
+    for (group, until, pc) in [
+        (1, 5, Some(0x1_000c)),
+        (2, 3, Some(0x1_0040)),
+        (2, 5, Some(0x1_0100)),
+        (2, 8, None),
+    ] {
+        let state = state_at(rt.alloc(), entries.as_slice(), group, until);
+        assert_eq!(rt; pc_alone(state, group), pc);
+    }
     Ok(())
 }
 
