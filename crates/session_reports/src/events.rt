@@ -19,12 +19,7 @@ fn is_event(entry: &Record) -> bool
     !matches!(entry, Record::Slice { .. })
 }
 
-fn push_one(
-    lines: &mut String,
-    index: &Index,
-    event: u64,
-    entry: &Record,
-) -> Result<(), NoMemory>
+fn push_one(lines: &mut String, index: &Index, event: u64, entry: &Record) -> Result<(), NoMemory>
     ensures { OnOk result ((entries : List Record) → Indexes index.now entries →
         event_at entries event ≡ Some entry.now →
         string_bytes lines.new ≡ string_bytes lines.old ++ event_text entries event) }
@@ -56,11 +51,7 @@ fn events(alloc: Global, entries: &[Record], index: &Index) -> Result<String, No
 
 /// Appends a line for each event of the history, in order, with the instructions that have run by then,
 /// its process, what happened, and how many bytes it has; and behind them how many events there are.
-pub fn report_events(
-    text: &mut String,
-    entries: &[Record],
-    index: &Index,
-) -> Result<(), NoMemory>
+pub fn report_events(text: &mut String, entries: &[Record], index: &Index) -> Result<(), NoMemory>
     requires known { Indexes index.now entries.now }
     ensures ok { OnOk result
         (string_bytes text.new ≡ string_bytes text.old ++ events_text entries.now) }
