@@ -1,0 +1,12 @@
+use Rattle.std.proofs.Common.{◌≡◌, ◌++◌, List, take}
+use Rattle.std.specs.Prelude.{flat_map}
+use Rattle.std.specs.String.{string_bytes}
+use Rattle.arn_base.specs.declared.records.Record.{Record}
+use Rattle.history_index.specs.Indexes.{Indexes}
+use Rattle.session_reports.specs.Groups.{group_text}
+use Rattle.session_reports.proofs.groups.push_each.Given as goal
+
+abbrev pub invariant-loop-group : goal.invariant-loop-group
+invariant-loop-group l =
+    (entries : List Record) → Indexes l.index entries
+    → string_bytes l.lines ≡ string_bytes l.initial.lines ++ flat_map (group_text entries) (take l.group-index l.groups)

@@ -1,0 +1,5 @@
+pub mod Groups
+pub mod Events
+pub mod Processes
+pub mod Refused
+pub mod States

@@ -1,0 +1,15 @@
+//! What is reported of a history, from its records alone: its groups, its events, and what its past
+//! states held.
+#![tactic(auto)]
+
+mod events;
+mod groups;
+mod processes;
+mod states;
+#[cfg(test)]
+mod tests;
+
+pub use events::report_events;
+pub use groups::report_groups;
+pub use processes::report_procs;
+pub use states::{report_mem, report_regs};
