@@ -53,7 +53,8 @@ fn three_numbers(text: &[u8]) -> Option<(u64, u64, u64)>
 // What is shown of the moment that stands before this text.
 fn aspect(alloc: Global, text: &[u8]) -> Result<Option<Aspect>, NoMemory>
     ensures some { IfOk result (λ found. IfSome found (IsAspect text.now)) }
-    ensures none { IfOk result (λ found. IfNone found ((aspect : Aspect) → ¬ IsAspect text.now aspect)) }
+    ensures none { IfOk result
+        (λ found. IfNone found ((aspect : Aspect) → ¬ IsAspect text.now aspect)) }
 {
     if let Some(rest) = after(text, b"regs ") {
         return Ok(number(rest).map(|pid| Aspect::Registers { pid }));
@@ -116,7 +117,8 @@ fn named_sought(alloc: Global, text: &[u8]) -> Result<Option<Sought>, NoMemory>
 // The bytes that are sought, by the text behind the linkage.
 fn sought(alloc: Global, text: &[u8]) -> Result<Option<Sought>, NoMemory>
     ensures some { IfOk result (λ found. IfSome found (IsSought text.now)) }
-    ensures none { IfOk result (λ found. IfNone found ((sought : Sought) → ¬ IsSought text.now sought)) }
+    ensures none { IfOk result
+        (λ found. IfNone found ((sought : Sought) → ¬ IsSought text.now sought)) }
 {
     if let Some(rest) = after(text, b"event ") {
         return Ok(three_numbers(rest).map(|(event, from, len)| Sought::Event { event, from, len }));
