@@ -80,7 +80,8 @@ fn show_question(alloc: Global, text: &[u8]) -> Result<Option<Question>, NoMemor
 
 fn memory_sought(text: &[u8]) -> Option<Sought>
     ensures some { IfSome result (IsSought (codes "mem " ++ text.now)) }
-    ensures none { IfNone result ((sought : Sought) → ¬ IsSought (codes "mem " ++ text.now) sought) }
+    ensures none { IfNone result
+        ((sought : Sought) → ¬ IsSought (codes "mem " ++ text.now) sought) }
 {
     let (moment, rest) = next_number(text)?;
     let (pid, at, len) = three_numbers(rest)?;
@@ -95,7 +96,8 @@ fn memory_sought(text: &[u8]) -> Option<Sought>
 fn named_sought(alloc: Global, text: &[u8]) -> Result<Option<Sought>, NoMemory>
     ensures some { IfOk result (λ found. IfSome found (IsSought (codes "name " ++ text.now))) }
     ensures none { IfOk result
-        (λ found. IfNone found ((sought : Sought) → ¬ IsSought (codes "name " ++ text.now) sought)) }
+        (λ found. IfNone found
+        ((sought : Sought) → ¬ IsSought (codes "name " ++ text.now) sought)) }
 {
     let Some((moment, rest)) = next_number(text) else {
         return Ok(None);
