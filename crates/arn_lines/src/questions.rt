@@ -53,7 +53,8 @@ fn three_numbers(text: &[u8]) -> Option<(u64, u64, u64)>
 // What is shown of the moment that stands before this text.
 fn aspect(alloc: Global, text: &[u8]) -> Result<Option<Aspect>, NoMemory>
     ensures some { IfOk result (λ found. IfSome found (IsAspect text.now)) }
-    ensures none { IfOk result (λ found. IfNone found ((aspect : Aspect) → ¬ IsAspect text.now aspect)) }
+    ensures none { IfOk result
+        (λ found. IfNone found ((aspect : Aspect) → ¬ IsAspect text.now aspect)) }
 {
     if let Some(rest) = after(text, b"regs ") {
         return Ok(number(rest).map(|pid| Aspect::Registers { pid }));
@@ -79,7 +80,8 @@ fn show_question(alloc: Global, text: &[u8]) -> Result<Option<Question>, NoMemor
 
 fn memory_sought(text: &[u8]) -> Option<Sought>
     ensures some { IfSome result (IsSought (codes "mem " ++ text.now)) }
-    ensures none { IfNone result ((sought : Sought) → ¬ IsSought (codes "mem " ++ text.now) sought) }
+    ensures none { IfNone result
+        ((sought : Sought) → ¬ IsSought (codes "mem " ++ text.now) sought) }
 {
     let (moment, rest) = next_number(text)?;
     let (pid, at, len) = three_numbers(rest)?;
@@ -94,7 +96,8 @@ fn memory_sought(text: &[u8]) -> Option<Sought>
 fn named_sought(alloc: Global, text: &[u8]) -> Result<Option<Sought>, NoMemory>
     ensures some { IfOk result (λ found. IfSome found (IsSought (codes "name " ++ text.now))) }
     ensures none { IfOk result
-        (λ found. IfNone found ((sought : Sought) → ¬ IsSought (codes "name " ++ text.now) sought)) }
+        (λ found. IfNone found
+        ((sought : Sought) → ¬ IsSought (codes "name " ++ text.now) sought)) }
 {
     let Some((moment, rest)) = next_number(text) else {
         return Ok(None);
@@ -116,7 +119,8 @@ fn named_sought(alloc: Global, text: &[u8]) -> Result<Option<Sought>, NoMemory>
 // The bytes that are sought, by the text behind the linkage.
 fn sought(alloc: Global, text: &[u8]) -> Result<Option<Sought>, NoMemory>
     ensures some { IfOk result (λ found. IfSome found (IsSought text.now)) }
-    ensures none { IfOk result (λ found. IfNone found ((sought : Sought) → ¬ IsSought text.now sought)) }
+    ensures none { IfOk result
+        (λ found. IfNone found ((sought : Sought) → ¬ IsSought text.now sought)) }
 {
     if let Some(rest) = after(text, b"event ") {
         return Ok(three_numbers(rest).map(|(event, from, len)| Sought::Event { event, from, len }));

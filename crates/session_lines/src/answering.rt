@@ -146,9 +146,9 @@ fn answer_line<Q: Questions, C: Chooser, A: Answers, D: Disk, K: Sink, L: Ledger
     if let Some(why) = refusal_of(kept.store.entries(), &line) {
         return print_refusal(text, why, sink);
     }
-    match line {
-        Line::Asks { question } => ask(kept, &question, text, sink, steps),
-        line => change(kept, line, chooser, answers, disk, text, sink, steps),
+    match &line {
+        Line::Asks { question } => ask(kept, question, text, sink, steps),
+        _ => change(kept, line, chooser, answers, disk, text, sink, steps),
     }
 }
 

@@ -39,7 +39,8 @@ fn push_answer(text: &mut String, answer: &Answer) -> Result<(), NoMemory>
     )
 }
 
-// Which bytes of an event are asked for: none where 32 bits don't count them, since no event has these.
+// Which bytes of an event are asked for: none where 32 bits don't count them, since no event has
+// these.
 #[tactic(auto, using(crate::proofs::Ranges::far_away))]
 fn target(_entries: &[Record], event: u64, from: u64, len: u64) -> Option<Target>
     requires countable { AreCountable _entries.now }
@@ -70,8 +71,8 @@ impl Asking {
         requires countable { AreCountable entries.now }
         requires known { Indexes self.old entries.now }
         ensures kept { self.new ≡ self.old }
-        ensures text { OnOk result (string_bytes text.new ≡
-            string_bytes text.old ++ (event_telling (operands linkage) entries.now event from len).text) }
+        ensures text { OnOk result (string_bytes text.new ≡ string_bytes text.old
+            ++ (event_telling (operands linkage) entries.now event from len).text) }
         ensures steps { steps.new ≤
             steps.old + (event_telling (operands linkage) entries.now event from len).cost }
     {
