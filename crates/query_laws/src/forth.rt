@@ -1,0 +1,37 @@
+// What holds of a query forward.
+ghost use Rattle.query_laws.specs.Forth.{FirstAreTold, ForthIsConnected, ForthIsOne, ReachingIsAmong, SinksAreReached};
+
+use lineage_join::reach_same;
+use taint_laws::follows_holders;
+use taint_tracker::acts_have_len;
+
+/// The groups that a query forward asks are those that can have received bytes from the given ones, each
+/// once, in rising order.
+pub fn forth_is_connected()
+    ensures { ForthIsConnected }
+{}
+
+/// No other list names these groups, each once, in rising order.
+pub fn forth_is_one()
+    ensures { ForthIsOne }
+{}
+
+/// The groups that had bytes of the outside first are those that received copies of them, and that which
+/// read them from a device.
+pub fn first_are_told()
+    ensures { FirstAreTold }
+{}
+
+/// The bytes that a byte reaches are those of writes to the outside that it is in.
+pub fn sinks_are_reached()
+    ensures { SinksAreReached }
+{}
+
+/// Items of some groups alone, at the bytes that events have, tell what reaches these by no other group.
+pub fn reaching_is_among()
+    ensures { ReachingIsAmong }
+{
+    follows_holders();
+    acts_have_len();
+    reach_same();
+}
