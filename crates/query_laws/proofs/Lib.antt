@@ -21,3 +21,10 @@ pub mod Received
 pub mod Operands
 pub mod Fitting
 pub mod Joined
+pub mod Growing
+pub mod Founding
+pub mod AskedForth
+pub mod Mapped
+pub mod First
+pub mod Sinks
+pub mod Among

@@ -44,7 +44,7 @@ all-in p (y ∷ xs) x h has =
     let parts = and_parts (p y) (list_all p xs) h in
     elim (head-or-tail y x xs has) [ inl is ↦ subst (λ (z : _). p z ≡ true) is parts.0 | inr later ↦ all-in p xs x parts.1 later ]
 
-got-in : {X : Type 0} (xs : List X) (i : ℕ) (x : X) → slice_get xs i ≡ Some x → Contains xs x
+pub got-in : {X : Type 0} (xs : List X) (i : ℕ) (x : X) → slice_get xs i ≡ Some x → Contains xs x
 got-in [] i x h = absurd (none-some x h)
 got-in (y ∷ xs) zero x h = subst (λ (z : _). Contains (y ∷ xs) z) (same_Some y x h) (first-in y xs)
 got-in (y ∷ xs) (suc i) x h = later-in y x xs (got-in xs i x h)
