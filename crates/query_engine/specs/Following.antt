@@ -84,7 +84,10 @@ pub record Adds (g : ℕ) (old new : Following) : Type 0 where
   pub of : IsOf old.entries old.linkage old.until new
   pub has : IsSome (tracker_of new g)
   pub keeps : (h : ℕ) → IsSome (tracker_of old h) → IsSome (tracker_of new h)
-  pub only : (h : ℕ) → IsSome (tracker_of new h) → IsSome (tracker_of old h) ⊎ (h ≡ g)
+
+-- and no others
+abbrev pub AddsOnly : ℕ → Following → Following → Type 0
+AddsOnly g old new = (h : ℕ) → IsSome (tracker_of new h) → IsSome (tracker_of old h) ⊎ (h ≡ g)
 
 -- what is asked of a tracker, of an event of so many bytes: none behind its end
 abbrev pub point_of : ℕ → ℕ → Place → Option Point

@@ -1,5 +1,5 @@
 -- Groups and pairs of a query forward, as they are found.
-use Rattle.std.specs.Prelude.{◌≡◌, ◌↔◌, ℕ, ◌+◌, ◌<◌, ◌&&◌, Bool, true, false, List, Contains, Option, Some, None}
+use Rattle.std.specs.Prelude.{◌≡◌, ◌↔◌, ℕ, ◌+◌, ◌<◌, ◌==◌, ◌&&◌, nat_le, nat_lt, Bool, true, false, List, Contains, Option, Some, None}
 use Rattle.arn_base.specs.declared.records.Pair.{Pair}
 use Rattle.arn_base.specs.declared.records.Record.{Record}
 use Rattle.acts_model.specs.Records.{event_len}
@@ -45,11 +45,15 @@ IsPairAt reaching asked n (Some e) pair = IsPairOf reaching asked n (event_len e
 -- and the event is such a write
 pub record IsOutPair (reaching : Reaching) (entries : List Record) (groups : List ℕ) (asked : Asked) (n : ℕ) (pair : Pair) : Type 0 where
   pub out : goes_out entries groups n (event_at entries n) ≡ true
-  pub pair : IsPairAt reaching asked n (event_at entries n) pair
+  pub is : IsPairAt reaching asked n (event_at entries n) pair
 
 -- it comes before event n
 abbrev pub IsOutBefore : Reaching → List Record → List ℕ → Asked → ℕ → Pair → Type 0
 IsOutBefore reaching entries groups asked n pair = (m : ℕ) × (m < n) × IsOutPair reaching entries groups asked m pair
+
+-- this source byte is one that is asked
+abbrev pub is_asked : Asked → Pair → Bool
+is_asked asked reached = (reached.event == asked.event) && (nat_le asked.from reached.at && nat_lt reached.at (asked.from + asked.len))
 
 -- A byte of event n is reached by a byte that is asked: of a byte beside one that reaches it, the other way round
 pub record IsTurned (asked : Asked) (n : ℕ) (reached pair : Pair) : Type 0 where

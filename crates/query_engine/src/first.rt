@@ -17,7 +17,7 @@ use lineage_join::{is_source, record_at};
 use std::alloc::Global;
 
 /// Bytes of an event, from a place on.
-#[derive(Clone, Copy, Debug)]
+#[derive(Clone, Copy)]
 pub struct Asked {
     pub event: u64,
     pub from: u32,

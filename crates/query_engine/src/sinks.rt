@@ -10,7 +10,7 @@ ghost use Rattle.lineage_join.specs.Fits.{AllFit};
 ghost use Rattle.lineage_join.specs.Laws.{reaches};
 ghost use Rattle.query_engine.specs.Following.{HasFollowed, HasOnly, IsOf, items_followed};
 ghost use Rattle.query_engine.specs.Reached.{IsOutBefore, IsOutPair, IsPairAt, IsTurned, TurnsOne};
-ghost use Rattle.query_engine.specs.Reached as reached;
+ghost use Rattle.query_engine.specs.Reached as model_reached;
 ghost use Rattle.query_model.specs.Sinks as model;
 
 use crate::engine::demands;
@@ -58,12 +58,20 @@ fn is_among(index: &Index, groups: &[u32], event: u64) -> bool
 /// Whether an event is a write of one of these groups to the outside.
 fn goes_out(entries: &[Record], index: &Index, groups: &[u32], event: u64) -> bool
     requires { Indexes index.now entries.now }
-    ensures { result ≡ reached.goes_out entries.now groups.now event (event_at entries.now event) }
+    ensures { result ≡ model_reached.goes_out entries.now groups.now event (event_at entries.now event) }
 {
     match record_at(entries, index, event) {
         Some(entry) => is_sink(entry) && is_among(index, groups, event),
         None => false,
     }
+}
+
+/// Whether a source byte is one that is asked.
+fn is_asked(asked: Asked, reached: Pair) -> bool
+    ensures { result ≡ model_reached.is_asked asked reached }
+{
+    let end = u64::from(asked.from) + u64::from(asked.len);
+    reached.event == asked.event && asked.from <= reached.at && u64::from(reached.at) < end
 }
 
 /// Adds a byte of event `sink` beside the byte that reaches it, where that is asked.
@@ -75,9 +83,9 @@ fn add_reached(
 ) -> Result<(), NoMemory>
     ensures { OnOk result ((pair : Pair) → Contains found.new pair ↔ (Contains found.old pair ⊎ IsTurned asked sink reached pair)) }
 {
-    let end = u64::from(asked.from) + u64::from(asked.len);
-    if reached.event == asked.event && asked.from <= reached.at && u64::from(reached.at) < end {
-        found.add(sink, reached.byte, reached.at - asked.from)?;
+    if is_asked(asked, reached) {
+        let byte = reached.at - asked.from;
+        found.add(sink, reached.byte, byte)?;
     }
     Ok(())
 }
