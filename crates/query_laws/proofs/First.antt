@@ -1,7 +1,8 @@
 -- Which groups had bytes of the outside first.
-use Rattle.std.proofs.Common.{◌≡◌, ◌⊎◌, inl, inr, ℕ, ◌+◌, ◌<◌, ◌&&◌, ◌||◌, nat_lt, Bool, true, if◌then◌else◌, List, [], filter, Option, Some, None, option_and_then, refl, ap, sym, subst, ◌∙◌, arith}
-use Rattle.std.specs.List.{Contains, range_with_len}
+use Rattle.std.proofs.Common.{◌≡◌, ◌⊎◌, inl, inr, ℕ, ◌+◌, ◌<◌, ◌&&◌, ◌||◌, nat_lt, Bool, true, false, if◌then◌else◌, List, [], filter, Option, Some, None, option_and_then, refl, ap, sym, subst, ◌∙◌, arith}
+use Rattle.std.specs.List.{All, Contains, range_with_len}
 use Rattle.std.proofs.lemmas.Bool.{and_from, and_parts, lt-ltb, ltb-true, or_left, or_right}
+use Rattle.std.proofs.lemmas.List.Elements.{All-contains_itself, All-filter, All-nil}
 use Rattle.arn_base.specs.declared.records.Record.{Record}
 use Rattle.history_index.specs.Lookups.{groups_in}
 use Rattle.history_model.specs.Broken.{first_broken}
@@ -50,6 +51,14 @@ module _ (entries : List Record) (event from len : ℕ) where
   had-group : first_broken entries ≡ None → (g : ℕ) → HadFirst entries event from len g → Contains (groups_in entries) g
   had-group stands g (Took n low takes) = event-is-of entries stands n g takes.group
   had-group stands g (Read some group) = event-is-of entries stands event g group
+
+pub first-known : (entries : List Record) (event from len : ℕ) (o : Option Record) → All (Contains (groups_in entries)) (first_by entries event from len o)
+first-known entries event from len None = All-nil (Contains (groups_in entries))
+first-known entries event from len (Some e) = by-test (is_source e)
+  where
+    by-test : (b : Bool) → All (Contains (groups_in entries)) (if b then filter (had entries event from len) (groups_in entries) else [])
+    by-test true = All-filter (had entries event from len) (Contains (groups_in entries)) (groups_in entries) (All-contains_itself (groups_in entries))
+    by-test false = All-nil (Contains (groups_in entries))
 
 pub first-told : FirstAreTold
 first-told entries event from len e stands at source g =

@@ -28,3 +28,6 @@ pub mod Mapped
 pub mod First
 pub mod Sinks
 pub mod Among
+pub mod Loses
+pub mod Lost
+pub mod Ended

@@ -1,5 +1,5 @@
 -- A stored origin is a byte that an event has.
-use Rattle.std.proofs.Common.{◌≡◌, inl, inr, ℕ, zero, suc, ◌+◌, ◌-◌, ◌<◌, ◌==◌, ◌++◌, not, nat_le, nat_lt, Bool, true, false, if◌then◌else◌, List, [], ◌∷◌, length, Option, Some, None, option_map, slice_get, refl, ap, sym, subst, ◌∙◌, arith, append_assoc}
+use Rattle.std.proofs.Common.{◌≡◌, inl, inr, ℕ, zero, suc, ◌+◌, ◌-◌, ◌<◌, ◌≤◌, ◌==◌, ◌++◌, not, nat_le, nat_lt, Bool, true, false, if◌then◌else◌, List, [], ◌∷◌, length, Option, Some, None, option_map, slice_get, refl, ap, sym, subst, ◌∙◌, arith, append_assoc}
 use Rattle.std.specs.Prelude.{Contains}
 use Rattle.std.specs.List.{list_all}
 use Rattle.std.proofs.lemmas.Bool.{false≢true, true≢false, and_parts, leb-true, ltb-true}
@@ -23,6 +23,7 @@ pub record IsPiece (origins : List Origin) (src : Src) : Type 0 where
   pub piece : Origin
   pub has : Contains origins piece
   pub event : piece.event ≡ src.event
+  pub low : piece.at ≤ src.at
   pub inside : src.at < piece.at + piece.len
 
 pub origin-piece : (origins : List Origin) (k : ℕ) (src : Src) → origin_at origins k ≡ Some src → IsPiece origins src
@@ -34,9 +35,9 @@ origin-piece (o ∷ origins) k src is = by-test (nat_lt k o.len) refl is (origin
         let e = same_Some (record { event = o.event; at = o.at + k }) src h in
         let low = ltb-true k o.len t in
         let at : o.at + k ≡ src.at = ap (λ (x : Src). x.at) e in
-        record { piece = o; has = first-in o origins; event = ap (λ (x : Src). x.event) e; inside = omega (arith, low, at) }
+        record { piece = o; has = first-in o origins; event = ap (λ (x : Src). x.event) e; low = omega (arith, at); inside = omega (arith, low, at) }
     by-test false t h rest =
-        let r = rest h in record { piece = r.piece; has = later-in o r.piece origins r.has; event = r.event; inside = r.inside }
+        let r = rest h in record { piece = r.piece; has = later-in o r.piece origins r.has; event = r.event; low = r.low; inside = r.inside }
 
 all-in : {X : Type 0} (p : X → Bool) (xs : List X) (x : X) → list_all p xs ≡ true → Contains xs x → p x ≡ true
 all-in p [] x h has = absurd (none-in x has)

@@ -5,3 +5,4 @@ pub mod Fitting
 pub mod OwnEvents
 pub mod Joined
 pub mod Forth
+pub mod ForthOfRuns

@@ -1,7 +1,9 @@
 // What holds of a query forward.
 ghost use Rattle.query_laws.specs.Forth.{FirstAreTold, ForthIsConnected, ForthIsOne, ReachingIsAmong, SinksAreReached};
+ghost use Rattle.query_laws.specs.ForthOfRuns.{ForthLosesNothing};
 
-use lineage_join::reach_same;
+use crate::law::items_are_received;
+use lineage_join::{pairs_are_told, reach_same};
 use taint_laws::follows_holders;
 use taint_tracker::acts_have_len;
 
@@ -34,4 +36,13 @@ pub fn reaching_is_among()
     follows_holders();
     acts_have_len();
     reach_same();
+}
+
+/// The pairs of a query forward are those of writes by whatever groups: following those to which bytes can
+/// have come loses none.
+pub fn forth_loses_nothing()
+    ensures { ForthLosesNothing }
+{
+    items_are_received();
+    pairs_are_told();
 }
