@@ -31,3 +31,5 @@ pub mod Among
 pub mod Loses
 pub mod Lost
 pub mod Ended
+pub mod Blocks
+pub mod RunsForth

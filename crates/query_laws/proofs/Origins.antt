@@ -10,7 +10,7 @@ use Rattle.arn_base.specs.declared.records.Origin.{Origin}
 use Rattle.arn_base.specs.declared.records.Record.{Record}
 use Rattle.arn_base.specs.declared.records.Src.{Src}
 use Rattle.acts_model.specs.Records.{event_len, give_of, is_event}
-use Rattle.history_model.specs.Broken.{are_origins, broken_from, first_broken, is_origin, lies_in_event, origins_len}
+use Rattle.history_model.specs.Broken.{are_origins, broken_from, first_broken, is_origin, lies_in_event, misplaces_start, origins_len}
 use Rattle.history_model.specs.Events.{events, event_at}
 use Rattle.lineage_join.specs.Fits.{IsThere}
 use Rattle.lineage_model.specs.Flow.{Byte}
@@ -65,13 +65,14 @@ record IsBehind (all : List Record) (e : Record) : Type 0 where
   rest : List Record
   whole : all ≡ before ++ rest
   origins : are_origins before (give_of e) ≡ true
+  placed : misplaces_start e ≡ false
 
 behind-some : (before rest : List Record) (e : Record) → broken_from before rest ≡ None → Contains rest e → IsBehind (before ++ rest) e
 behind-some before [] e h has = absurd (none-in e has)
 behind-some before (x ∷ rest) e h has =
     let next = follows before x rest h in
     elim (head-or-tail x e rest has) [
-      | inl is ↦ record { before = before; rest = x ∷ rest; whole = refl; origins = subst (λ (z : Record). are_origins before (give_of z) ≡ true) is (un-not (are_origins before (give_of x)) next.0.origins) }
+      | inl is ↦ record { before = before; rest = x ∷ rest; whole = refl; origins = subst (λ (z : Record). are_origins before (give_of z) ≡ true) is (un-not (are_origins before (give_of x)) next.0.origins); placed = subst (λ (z : Record). misplaces_start z ≡ false) is next.0.placed }
       | inr later ↦ subst (λ (es : List Record). IsBehind es e) (append_assoc before (x ∷ []) rest) (behind-some (before ++ x ∷ []) rest e next.1 later)
     ]
 
@@ -99,3 +100,7 @@ origin-there entries stands event k e at src is =
     let b = behind-some [] entries e stands has in
     option_and_then_some (λ (give : Give). origin_at give.origins k) (give_of e) src is (λ give gives piece.
     give-there entries b.before b.rest (give_of e) give src k b.whole b.origins gives piece)
+
+-- how a child begins stands with a fork that made one
+pub is-placed : (entries : List Record) → first_broken entries ≡ None → (e : Record) → Contains entries e → misplaces_start e ≡ false
+is-placed entries stands e has = (behind-some [] entries e stands has).placed

@@ -1,11 +1,16 @@
 // What holds of a query forward.
 ghost use Rattle.query_laws.specs.Forth.{FirstAreTold, ForthIsConnected, ForthIsOne, ReachingIsAmong, SinksAreReached};
-ghost use Rattle.query_laws.specs.ForthOfRuns.{ForthLosesNothing};
+ghost use Rattle.query_laws.specs.ForthOfRuns.{ForthIsOfRuns, ForthLosesNothing};
 
-use crate::law::items_are_received;
+use crate::law::{items_are_received, queries_are_of_runs};
+use arn_model::steps_tell;
+use lineage_laws::lineage_is_joined;
 use lineage_join::{pairs_are_told, reach_same};
+use log_model::events_recorded;
+use replay_laws::{groups_pass_through, records_tell_events};
 use taint_laws::follows_holders;
 use taint_tracker::acts_have_len;
+use unbroken_laws::runs_are_unbroken;
 
 /// The groups that a query forward asks are those that can have received bytes from the given ones, each
 /// once, in rising order.
@@ -45,4 +50,19 @@ pub fn forth_loses_nothing()
 {
     items_are_received();
     pairs_are_told();
+}
+
+/// On the records of a run no group of a query forward disagrees, and its pairs are those of writes whose
+/// byte has the source byte by the tracking of every step of the whole machine.
+pub fn forth_is_of_runs()
+    ensures { ForthIsOfRuns }
+{
+    steps_tell();
+    events_recorded();
+    groups_pass_through();
+    records_tell_events();
+    runs_are_unbroken();
+    lineage_is_joined();
+    queries_are_of_runs();
+    forth_loses_nothing();
 }
