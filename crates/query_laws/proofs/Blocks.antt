@@ -1,8 +1,8 @@
 -- In the records of a run each child begins with whole blocks.
-use Rattle.std.proofs.Common.{◌≡◌, ℕ, zero, suc, ◌+◌, ◌*◌, ◌/◌, ◌<◌, ◌≤◌, ◌==◌, ◌&&◌, ◌++◌, not, is_some, Bool, true, false, if◌then◌else◌, List, [], ◌∷◌, length, map, take, drop, filter, Option, Some, None, IfSome, refl, ap, sym, subst, ◌∙◌, arith, length-drop}
-use Rattle.std.specs.Prelude.{All, Contains, filter_map}
-use Rattle.std.specs.List.{AllByRecursion, cons_option}
-use Rattle.std.proofs.lemmas.Bool.{and_parts, eqb-true, false≢true, true≢false}
+use Rattle.std.proofs.Common.{◌≡◌, ℕ, zero, suc, ◌*◌, ◌/◌, ◌≤◌, ◌==◌, ◌&&◌, not, is_some, Bool, true, false, if◌then◌else◌, List, [], ◌∷◌, length, drop, Option, Some, None, IfSome, refl, ap, sym, subst, ◌∙◌, arith, length-drop}
+use Rattle.std.specs.Prelude.{All, Contains}
+use Rattle.std.specs.List.{cons_option}
+use Rattle.std.proofs.lemmas.Bool.{and_parts, eqb-true, true≢false}
 use Rattle.std.proofs.lemmas.List.{length-take-le}
 use Rattle.std.proofs.lemmas.List.Elements.{All-append, All-cons, All-contains, All-contains_itself, All-nil}
 use Rattle.std.proofs.lemmas.Option.{same_Some}
@@ -22,7 +22,7 @@ use Rattle.acts_model.specs.Acts.{Act, Founds, Returns, beginning_of, start_of}
 use Rattle.acts_model.specs.Bodies.{View}
 use Rattle.acts_model.specs.Moved.{Event}
 use Rattle.acts_model.specs.Records.{is_event}
-use Rattle.acts_model.specs.Told.{act_of, call_act, kind_of}
+use Rattle.acts_model.specs.Told.{call_act, kind_of}
 use Rattle.arn_model.specs.Doing.{Doing}
 use Rattle.arn_model.specs.Kernel.{Machine, at_first}
 use Rattle.arn_model.specs.Laws.{StepsTell}
@@ -38,9 +38,6 @@ use Rattle.query_laws.proofs.Mapped.{in-map}
 use Rattle.query_laws.proofs.Origins.{is-placed}
 
 -- blocks of a window are whole
-IsWholeBlock : Block → Type 0
-IsWholeBlock block = length block.bytes ≡ BLOCK_LEN
-
 used-whole : (block : Block) → length block.bytes ≡ BLOCK_LEN → AreWhole (used_block block)
 used-whole block is = by-test (is_used block)
   where

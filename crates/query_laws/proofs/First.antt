@@ -1,5 +1,5 @@
 -- Which groups had bytes of the outside first.
-use Rattle.std.proofs.Common.{◌≡◌, ◌⊎◌, inl, inr, ℕ, ◌+◌, ◌<◌, ◌&&◌, ◌||◌, nat_lt, Bool, true, false, if◌then◌else◌, List, [], filter, Option, Some, None, option_and_then, refl, ap, sym, subst, ◌∙◌, arith}
+use Rattle.std.proofs.Common.{◌≡◌, inl, inr, ℕ, ◌||◌, nat_lt, Bool, true, false, if◌then◌else◌, List, [], filter, Option, Some, None, option_and_then, ap, sym, subst, ◌∙◌, arith}
 use Rattle.std.specs.List.{All, Contains, range_with_len}
 use Rattle.std.proofs.lemmas.Bool.{and_from, and_parts, lt-ltb, ltb-true, or_left, or_right}
 use Rattle.std.proofs.lemmas.List.Elements.{All-contains_itself, All-filter, All-nil}

@@ -1,5 +1,5 @@
 -- A group that a fork founds is one of the groups.
-use Rattle.std.proofs.Common.{◌≡◌, inl, inr, ℕ, ◌==◌, ◌&&◌, ◌++◌, Bool, true, false, if◌then◌else◌, List, [], ◌∷◌, Option, Some, None, option_and_then, refl, ap, sym, subst, ◌∙◌}
+use Rattle.std.proofs.Common.{◌≡◌, inl, inr, ℕ, ◌==◌, ◌&&◌, ◌++◌, Bool, true, false, if◌then◌else◌, List, [], ◌∷◌, Some, None, option_and_then, refl, ap, sym, ◌∙◌}
 use Rattle.std.specs.Prelude.{Contains}
 use Rattle.std.proofs.lemmas.Option.{none-some, same_Some, option_and_then_some}
 use Rattle.arn_base.specs.declared.records.Extra.{Extra}
@@ -13,7 +13,7 @@ use Rattle.history_index.specs.Lookups.{groups_in}
 use Rattle.history_model.specs.Broken.{broken_from, first_broken, greatest}
 use Rattle.history_model.specs.Events.{events, event_at}
 use Rattle.history_model.specs.Exchanges.{call_founded, founded}
-use Rattle.history_model.specs.Groups.{Groups, group_called, group_of, groups_from, groups_told}
+use Rattle.history_model.specs.Groups.{Groups, group_called, groups_from, groups_told}
 use Rattle.history_model.specs.Moments.{changed}
 use Rattle.query_laws.proofs.Found.{AreFounded, changed-at, follows, nobody, process-group}
 use Rattle.query_laws.proofs.Lists.{head-or-tail, in-kept, none-in}

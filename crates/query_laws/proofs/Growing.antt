@@ -1,5 +1,5 @@
 -- Numbers that are found over links, over one more each time: over as many links as there are numbers no more are found.
-use Rattle.std.proofs.Common.{◌≡◌, ◌⊎◌, inl, inr, ℕ, zero, suc, ◌≤◌, ◌&&◌, ◌||◌, Bool, true, false, not, List, length, refl, sym, subst, ◌∙◌, arith}
+use Rattle.std.proofs.Common.{◌≡◌, ◌⊎◌, inl, inr, ℕ, zero, suc, ◌≤◌, ◌&&◌, ◌||◌, Bool, true, false, not, List, length, refl, sym, ◌∙◌, arith}
 use Rattle.std.specs.List.{Contains, list_any}
 use Rattle.std.proofs.lemmas.Bool.{false≢true, and_from, and_parts, not_from_false, or_left, or_right}
 use Rattle.query_laws.proofs.Counts.{Follows, passes, passes-one-more, passes-all}

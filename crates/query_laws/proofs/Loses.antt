@@ -1,7 +1,6 @@
 -- By following only the groups to which bytes can have come nothing is lost that they reach.
-use Rattle.std.proofs.Common.{◌≡◌, ◌⊎◌, inl, inr, ℕ, zero, suc, ◌+◌, ◌<◌, ◌≤◌, ◌==◌, ◌&&◌, nat_lt, max, min, Bool, true, false, if◌then◌else◌, List, [], ◌∷◌, flat_map, Option, Some, None, option_and_then, refl, ap, sym, subst, ◌∙◌, arith}
+use Rattle.std.proofs.Common.{◌≡◌, ◌⊎◌, inl, inr, ℕ, zero, suc, ◌+◌, ◌<◌, ◌≤◌, ◌==◌, nat_lt, max, min, Bool, true, false, if◌then◌else◌, List, [], ◌∷◌, flat_map, Option, Some, None, option_and_then, refl, ap, sym, subst, ◌∙◌, arith}
 use Rattle.std.specs.Prelude.{All, Contains}
-use Rattle.std.specs.List.{list_any}
 use Rattle.std.proofs.lemmas.Bool.{and_from, lt-ltb, true≢false}
 use Rattle.std.proofs.lemmas.List.Elements.{All-contains}
 use Rattle.std.proofs.lemmas.Option.{none-some, option_and_then_some, same_Some}
@@ -22,7 +21,7 @@ use Rattle.query_model.specs.Forth.{first_groups, forth_groups, has_copy, is_cop
 use Rattle.query_model.specs.Sinks.{is_among, items_among}
 use Rattle.query_model.specs.Sources.{items_at, items_in, reaching, tracked_at}
 use Rattle.taint_laws.specs.Follows.{HasWholeBlocks}
-use Rattle.query_laws.specs.Forth.{HadFirst, Read, TakesAt, Took}
+use Rattle.query_laws.specs.Forth.{HadFirst, Read, Took}
 use Rattle.query_laws.specs.Received.{HasTaken, IsItem, IsReceivedBy, ItemsAreReceived}
 use Rattle.query_laws.proofs.AskedForth.{forth-connected}
 use Rattle.query_laws.proofs.Asked.{itself}

@@ -1,5 +1,5 @@
 -- More items reach more, and the pairs of a query forward are told by what reaches the bytes of writes.
-use Rattle.std.proofs.Common.{◌≡◌, ◌↔◌, ℕ, zero, suc, ◌+◌, ◌<◌, Bool, true, false, if◌then◌else◌, List, [], ◌∷◌, flat_map, Option, Some, None, refl, ap, sym, subst, ◌∙◌}
+use Rattle.std.proofs.Common.{◌≡◌, ◌↔◌, ℕ, zero, suc, ◌+◌, ◌<◌, Bool, true, false, if◌then◌else◌, List, [], ◌∷◌, flat_map, Option, Some, None, refl, ap, sym, ◌∙◌}
 use Rattle.std.specs.Prelude.{All, Contains}
 use Rattle.std.proofs.lemmas.Bool.{false≢true, true≢false}
 use Rattle.std.proofs.lemmas.Option.{same_Some}
@@ -23,7 +23,6 @@ use Rattle.query_model.specs.Forth.{forth_groups}
 use Rattle.query_model.specs.Sinks.{forth_pairs, is_among, is_outward, is_sink, items_among, reaching_among, sinks_reached}
 use Rattle.query_model.specs.Sources.{items_at, reaching}
 use Rattle.taint_laws.specs.Follows.{HasWholeBlocks}
-use Rattle.query_laws.specs.Forth.{IsReached}
 use Rattle.query_laws.specs.ForthOfRuns.{ForthLosesNothing, IsSinkPair}
 use Rattle.query_laws.specs.Received.{ItemsAreReceived}
 use Rattle.query_laws.proofs.Links.{is-number}

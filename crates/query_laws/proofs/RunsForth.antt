@@ -1,5 +1,5 @@
 -- On the records of a run a query forward answers what whole tracking gives.
-use Rattle.std.proofs.Common.{◌≡◌, ◌↔◌, ℕ, ◌+◌, ◌<◌, List, length, None, sym, subst, ◌∙◌, arith}
+use Rattle.std.proofs.Common.{◌≡◌, ◌↔◌, ℕ, ◌+◌, ◌<◌, List, length, sym, subst, ◌∙◌, arith}
 use Rattle.std.specs.Prelude.{Contains}
 use Rattle.arn_base.specs.declared.records.Pair.{Pair}
 use Rattle.rv64_model.specs.Carries.{Table}
@@ -16,11 +16,10 @@ use Rattle.lineage_model.specs.Whole as whole
 use Rattle.log_model.specs.Laws.{EventsRecorded}
 use Rattle.log_model.specs.Records.{records}
 use Rattle.query_model.specs.Forth.{forth_groups}
-use Rattle.query_model.specs.Sinks.{forth_pairs}
 use Rattle.query_model.specs.Sources.{reaching}
 use Rattle.replay_laws.specs.Laws.{GroupsPassThrough, RecordsTellEvents}
 use Rattle.unbroken_laws.specs.Laws.{RunsAreUnbroken}
-use Rattle.query_laws.specs.ForthOfRuns.{AnswersRunForth, ForthIsOfRuns, ForthLosesNothing, IsSinkPair}
+use Rattle.query_laws.specs.ForthOfRuns.{ForthIsOfRuns, ForthLosesNothing, IsSinkPair}
 use Rattle.query_laws.specs.OfRuns.{QueriesAreOfRuns, whole_points}
 use Rattle.query_laws.proofs.Blocks.{run-whole}
 use Rattle.query_laws.proofs.Ended.{has-ended}

@@ -1,5 +1,5 @@
 -- What holds of the groups that are asked forward, and of what their items alone tell.
-use Rattle.std.specs.Prelude.{◌≡◌, ◌↔◌, ℕ, ◌<◌, true, List, All, Contains, Option, Some, None, option_and_then}
+use Rattle.std.specs.Prelude.{◌≡◌, ◌↔◌, ℕ, ◌<◌, true, List, All, Contains, Some, None, option_and_then}
 use Rattle.arn_base.specs.declared.records.Record.{Record}
 use Rattle.acts_model.specs.Records.{event_len}
 use Rattle.rv64_model.specs.Carries.{operands}
