@@ -1,36 +1,33 @@
 -- The bytes that went out and are reached, as they are found.
-use Rattle.std.proofs.Common.{◌≡◌, ◌⊎◌, ◌↔◌, inl, inr, ℕ, ◌+◌, ◌-◌, ◌<◌, ◌≤◌, ◌++◌, ◌==◌, ◌&&◌, ◌||◌, nat_le, nat_lt, Bool, true, false, if◌then◌else◌, List, [], ◌∷◌, length, take, get_or, All, Contains, Option, Some, None, IsSome, option_map, unwrap_or, refl, ap, sym, subst, ◌∙◌, arith, true≢false, eqb-true, leb-true, ltb-true, le-leb, lt-ltb, zero-add, add-zero}
+use Rattle.std.proofs.Common.{◌≡◌, ◌⊎◌, ◌↔◌, inl, inr, ℕ, ◌+◌, ◌-◌, ◌<◌, ◌≤◌, ◌==◌, ◌&&◌, ◌||◌, nat_le, nat_lt, Bool, true, false, if◌then◌else◌, List, [], ◌∷◌, length, take, get_or, Contains, Option, Some, None, IsSome, option_map, unwrap_or, refl, ap, sym, subst, ◌∙◌, arith, true≢false, eqb-true, leb-true, ltb-true, le-leb, lt-ltb, zero-add}
 use Rattle.std.specs.List.{list_any}
 use Rattle.std.proofs.lemmas.Bool.{and_from, and_parts}
-use Rattle.std.proofs.lemmas.Bool.Decides.{eqb_tells}
 use Rattle.std.proofs.lemmas.List.{take_all, take_more}
 use Rattle.std.proofs.lemmas.List.Elements.{Contains-append_left, Contains-push, Contains-push_cases}
 use Rattle.std.proofs.lemmas.List.Folds.{Any-from_list_any, list_any_at, list_any_none}
-use Rattle.std.proofs.lemmas.Option.{slice_get_within, same_Some}
+use Rattle.std.proofs.lemmas.Option.{slice_get_within}
 use Rattle.arn_base.specs.declared.records.Pair.{Pair}
 use Rattle.arn_base.specs.declared.records.Record.{Record}
 use Rattle.rv64_model.specs.Carries.{operands}
 use Rattle.rv64_model.specs.declared.linkage.Linkage.{Linkage}
 use Rattle.acts_model.specs.Records.{event_len}
-use Rattle.history_model.specs.Broken.{first_broken}
 use Rattle.history_model.specs.Events.{events, event_at, how_many}
 use Rattle.history_model.specs.Groups.{event_group, is_number}
 use Rattle.history_model.specs.Moments.{total}
 use Rattle.lineage_join.specs.Asked.{AreAsked}
 use Rattle.lineage_join.specs.Fits.{IsThere}
 use Rattle.lineage_join.specs.Laws.{PairsAreOne, reaches}
-use Rattle.lineage_join.specs.Rising.{IsRising, source_of}
+use Rattle.lineage_join.specs.Rising.{IsRising}
 use Rattle.lineage_join.specs.Waits.{HasAlso}
 use Rattle.lineage_model.specs.Flow.{At, Byte}
 use Rattle.lineage_model.specs.Joined.{Reaching}
 use Rattle.lineage_model.specs.Tracking.{EventByte}
-use Rattle.query_laws.specs.Forth.{AreAmong, IsReached, ReachingIsAmong, SinksAreReached}
-use Rattle.query_model.specs.Sinks.{is_among, is_sink, items_among, pairs_among, reaching_among, sinks_reached}
+use Rattle.query_laws.specs.Forth.{AreAmong, IsReached, SinksAreReached}
+use Rattle.query_model.specs.Sinks.{is_among, is_sink, pairs_among, reaching_among, sinks_reached}
 use Rattle.query_model.specs.Sources.{items_in, tracked_at}
-use Rattle.taint_laws.specs.Follows.{HasWholeBlocks}
 use Rattle.taint_tracker.specs.Kept.{Kept}
 use Rattle.query_engine.specs.Demands.{byte_demands}
-use Rattle.query_engine.specs.Following.{Following, HasFollowed, HasOnly, IsOf, is_there, items_by, items_followed, items_kept, tracker_of}
+use Rattle.query_engine.specs.Following.{Following, HasFollowed, HasOnly, IsOf, items_by, items_followed, items_kept, tracker_of}
 use Rattle.query_engine.specs.Reached.{IsOutBefore, IsOutPair, IsPairAt, IsPairOf, IsTurned, TurnsOne, goes_out, is_asked}
 use Rattle.query_engine.specs.declared.first.Asked.{Asked}
 use Rattle.query_engine.proofs.Takers.{none-has}
@@ -146,21 +143,23 @@ module _ (entries : List Record) (reach : Reaching) (asked : Asked) (n : ℕ) wh
   event-turned : (len : ℕ) (reached : List Pair) → AreAsked (event_at entries) reach (byte_demands n 0 len) reached → (pair : Pair) → TurnsOne asked n reached pair ↔ IsPairOf reach asked n len pair
   event-turned len reached are pair = (
     λ t. (
-      let one = t.0 in
-      let is = asked-of (event_at entries) reach n 0 len (λ k. reach n (Byte k)) (λ k l. byte-same k) one ((are one).0 t.1) in
-      record {
-        event = t.2.sink;
-        inside = subst (λ (m : ℕ). m < len) (sym t.2.byte) is.0;
-        within = t.2.within;
-        reached =
-            subst (λ (m : ℕ). Contains (reach n (Byte m)) (record { event = asked.event; at = Byte (asked.from + pair.byte) })) (sym t.2.byte)
-            (subst (λ (e : ℕ). Contains (reach n (Byte one.byte)) (record { event = e; at = Byte (asked.from + pair.byte) })) t.2.event
-            (subst (λ (m : ℕ). Contains (reach n (Byte one.byte)) (record { event = one.event; at = Byte m })) t.2.at is.1));
-      }),
+        let one = t.0 in
+        let is = asked-of (event_at entries) reach n 0 len (λ k. reach n (Byte k)) (λ k l. byte-same k) one ((are one).0 t.1) in
+        record {
+          event = t.2.sink;
+          inside = subst (λ (m : ℕ). m < len) (sym t.2.byte) is.0;
+          within = t.2.within;
+          reached =
+              subst (λ (m : ℕ). Contains (reach n (Byte m)) (record { event = asked.event; at = Byte (asked.from + pair.byte) })) (sym t.2.byte)
+              (subst (λ (e : ℕ). Contains (reach n (Byte one.byte)) (record { event = e; at = Byte (asked.from + pair.byte) })) t.2.event
+              (subst (λ (m : ℕ). Contains (reach n (Byte one.byte)) (record { event = one.event; at = Byte m })) t.2.at is.1));
+        }),
     λ p. (
-      let one : Pair = record { event = asked.event; at = asked.from + pair.byte; byte = pair.at } in
-      (one, (are one).1 (of-asked (event_at entries) reach n 0 len (λ k. reach n (Byte k)) (λ k l. byte-same k) one (p.inside, p.reached)),
-      record { event = refl; at = refl; within = p.within; sink = p.event; byte = refl })),
+        let one : Pair = record { event = asked.event; at = asked.from + pair.byte; byte = pair.at } in (
+          one,
+          (are one).1 (of-asked (event_at entries) reach n 0 len (λ k. reach n (Byte k)) (λ k l. byte-same k) one (p.inside, p.reached)),
+          record { event = refl; at = refl; within = p.within; sink = p.event; byte = refl },
+        )),
   )
 
   pub at-turned : (o : Option Record) (len : ℕ) (reached old new : List Pair) → len ≡ len_in o → AreAsked (event_at entries) reach (byte_demands n 0 len) reached → ((pair : Pair) → Contains new pair ↔ (Contains old pair ⊎ TurnsOne asked n reached pair))
@@ -283,12 +282,14 @@ module _ (entries : List Record) (groups : List ℕ) (asked : Asked) (linkage : 
   all-pairs one found pairs is rising are =
       one sources asked.len pairs rising (λ pair. (
         λ c. (
-          let out = (are pair).0 (subst (λ (ps : List Pair). Contains ps pair) is c) in
-          let ends = pair-event out.0 pair (event_at entries out.0) out.2.is in
-          (ends.1, (told entries groups among asked.event (asked.from + pair.byte) pair.event pair.at).1
-          (subst (λ (n : ℕ). IsReached entries groups among asked.event (asked.from + pair.byte) n pair.at) (sym ends.0) (out-reached out.0 pair (event_at entries out.0) refl out.2.out out.2.is)))),
+            let out = (are pair).0 (subst (λ (ps : List Pair). Contains ps pair) is c) in
+            let ends = pair-event out.0 pair (event_at entries out.0) out.2.is in (
+              ends.1,
+              (told entries groups among asked.event (asked.from + pair.byte) pair.event pair.at).1
+                  (subst (λ (n : ℕ). IsReached entries groups among asked.event (asked.from + pair.byte) n pair.at) (sym ends.0) (out-reached out.0 pair (event_at entries out.0) refl out.2.out out.2.is)),
+            )),
         λ h. (
-          let r = (told entries groups among asked.event (asked.from + pair.byte) pair.event pair.at).0 h.1 in
-          subst (λ (ps : List Pair). Contains ps pair) (sym is)
-          ((are pair).1 (pair.event, slice_get_within (events entries) pair.event r.entry r.there, reached-out pair h.0 r))),
+            let r = (told entries groups among asked.event (asked.from + pair.byte) pair.event pair.at).0 h.1 in
+            subst (λ (ps : List Pair). Contains ps pair) (sym is)
+            ((are pair).1 (pair.event, slice_get_within (events entries) pair.event r.entry r.there, reached-out pair h.0 r))),
       ))

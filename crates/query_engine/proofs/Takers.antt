@@ -10,9 +10,9 @@ use Rattle.history_model.specs.Events.{event_at, how_many}
 use Rattle.history_model.specs.Exchanges.{Beginning, Forth, Forward, received}
 use Rattle.history_model.specs.Groups.{event_group}
 use Rattle.lineage_model.specs.Joined.{is_source}
-use Rattle.query_laws.specs.Forth.{FirstAreTold, ForthIsOne, HadFirst, Read, TakesAt, Took}
+use Rattle.query_laws.specs.Forth.{FirstAreTold, ForthIsOne, HadFirst, Read, Took}
 use Rattle.query_model.specs.Forth.{first_by, first_groups, forth_groups, has_copy, has_read, has_taken}
-use Rattle.query_engine.specs.Reached.{AreTakers, HaveSame, Takes, TookBefore}
+use Rattle.query_engine.specs.Reached.{AreTakers, HaveSame, Takes}
 use Rattle.query_engine.specs.declared.first.Asked.{Asked}
 
 pub on-map : {A E P Q : Type 0} (r : Result A E) → (P → Q) → OnOk r P → OnOk r Q
@@ -28,7 +28,7 @@ pub push-has : (xs ys : List ℕ) (m : ℕ) → ys ≡ xs ++ m ∷ [] → (g : �
 push-has xs ys m is g = (
   λ c. elim (Contains-push_cases xs m g (subst (λ (zs : List ℕ). Contains zs g) is c)) [ inl d ↦ inl d | inr e ↦ inr (ap (λ (n : ℕ). Some n) e) ],
   λ s. subst (λ (zs : List ℕ). Contains zs g) (sym is)
-  (elim s [ inl d ↦ Contains-append_left xs (m ∷ []) g d | inr e ↦ subst (λ (n : ℕ). Contains (xs ++ m ∷ []) n) (same_Some m g e) (Contains-push xs m) ]),
+      (elim s [ inl d ↦ Contains-append_left xs (m ∷ []) g d | inr e ↦ subst (λ (n : ℕ). Contains (xs ++ m ∷ []) n) (same_Some m g e) (Contains-push xs m) ]),
 )
 
 pub none-more : (xs : List ℕ) (g : ℕ) → Contains xs g ↔ (Contains xs g ⊎ (None ≡ Some g))

@@ -86,6 +86,13 @@ impl Engine {
         if !has_range(index, event, from, len) {
             return Err(QueryError::NoPoint);
         }
-        event_forth(self.alloc, entries, index, linkage, Asked { event, from, len }, steps)
+        event_forth(
+            self.alloc,
+            entries,
+            index,
+            linkage,
+            Asked { event, from, len },
+            steps,
+        )
     }
 }

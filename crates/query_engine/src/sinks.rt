@@ -75,12 +75,7 @@ fn is_asked(asked: Asked, reached: Pair) -> bool
 }
 
 /// Adds a byte of event `sink` beside the byte that reaches it, where that is asked.
-fn add_reached(
-    asked: Asked,
-    sink: u64,
-    reached: Pair,
-    found: &mut Found,
-) -> Result<(), NoMemory>
+fn add_reached(asked: Asked, sink: u64, reached: Pair, found: &mut Found) -> Result<(), NoMemory>
     ensures { OnOk result ((pair : Pair) → Contains found.new pair ↔ (Contains found.old pair ⊎ IsTurned asked sink reached pair)) }
 {
     if is_asked(asked, reached) {
@@ -91,12 +86,7 @@ fn add_reached(
 }
 
 /// Adds the bytes of an event that are reached, each beside the bytes that reach it.
-fn add_all(
-    asked: Asked,
-    sink: u64,
-    reached: &[Pair],
-    found: &mut Found,
-) -> Result<(), NoMemory>
+fn add_all(asked: Asked, sink: u64, reached: &[Pair], found: &mut Found) -> Result<(), NoMemory>
     ensures { OnOk result ((pair : Pair) → Contains found.new pair ↔ (Contains found.old pair ⊎ TurnsOne asked sink reached.now pair)) }
 {
     for pair in reached {
@@ -164,7 +154,9 @@ fn sinks(
 {
     let mut found = Found::new(alloc);
     for event in 0..index.events() {
-        add_event(alloc, entries, index, followed, groups, asked, event, &mut found)?;
+        add_event(
+            alloc, entries, index, followed, groups, asked, event, &mut found,
+        )?;
     }
     Ok(found)
 }

@@ -53,7 +53,7 @@ among holders lens same linkage entries groups moment items stands blocks are ev
     (record {
       same = λ e a is. are e a (found-there (event_at entries e) a is);
       leads = λ e a is.
-      (let thereby = found-there (event_at entries e) a is in
-      subst (λ (xs : List EventByte). All (LeadsOn (event_at entries) (follows linkage entries stands)) xs) (sym (are e a thereby))
-      (cut-leads linkage entries stands holders lens blocks groups moment e a (is_among entries groups e) thereby));
+          (let thereby = found-there (event_at entries e) a is in
+          subst (λ (xs : List EventByte). All (LeadsOn (event_at entries) (follows linkage entries stands)) xs) (sym (are e a thereby))
+          (cut-leads linkage entries stands holders lens blocks groups moment e a (is_among entries groups e) thereby));
     }) event at (there-found (event_at entries event) at there)

@@ -62,6 +62,7 @@ first-known entries event from len (Some e) = by-test (is_source e)
 
 pub first-told : FirstAreTold
 first-told entries event from len e stands at source g =
-    let is = first-is entries event from len e at source in
-    (λ has. had-first entries event from len g (in-kept (had entries event from len) (groups_in entries) g (subst (λ (xs : List ℕ). Contains xs g) is has)).1,
-    λ h. subst (λ (xs : List ℕ). Contains xs g) (sym is) (kept-in (had entries event from len) (groups_in entries) g (had-group entries event from len stands g h) (first-had entries event from len g h)))
+    let is = first-is entries event from len e at source in (
+      λ has. had-first entries event from len g (in-kept (had entries event from len) (groups_in entries) g (subst (λ (xs : List ℕ). Contains xs g) is has)).1,
+      λ h. subst (λ (xs : List ℕ). Contains xs g) (sym is) (kept-in (had entries event from len) (groups_in entries) g (had-group entries event from len stands g h) (first-had entries event from len g h)),
+    )

@@ -199,10 +199,11 @@ module _ (entries : List Record) (event from len k : ℕ) (low : k < len) (stand
           let is-asked : IsAsked n at = record { entry = e; there = ap (event_at entries) (sym same.0) ∙ there; source = source; same = same.0; place = same.1 } in
           (has, λ g of. own-began n at is-asked g of, λ none. is-asked)
       event-comes n at e false there source has =
-          let c = group-comes n at (event_group entries n) refl has in
-          (subst (λ (b : Bool). Contains (flat_map (from_item (event_at entries) some) (if b then items n at else [])) asked) (sym (among-is n c.0 c.1 c.2.group)) c.2.has,
-          λ g of. subst (λ (h : ℕ). Contains groups h) (same_Some c.0 g (sym c.1 ∙ of)) c.2.group,
-          λ none. absurd (none-some c.0 (sym none ∙ c.1)))
+          let c = group-comes n at (event_group entries n) refl has in (
+            subst (λ (b : Bool). Contains (flat_map (from_item (event_at entries) some) (if b then items n at else [])) asked) (sym (among-is n c.0 c.1 c.2.group)) c.2.has,
+            λ g of. subst (λ (h : ℕ). Contains groups h) (same_Some c.0 g (sym c.1 ∙ of)) c.2.group,
+            λ none. absurd (none-some c.0 (sym none ∙ c.1)),
+          )
 
       next-comes : AllCome (suc m)
       next-comes n at has = by-record (event_at entries n) refl has

@@ -128,19 +128,22 @@ module _ (table : Table) (entries : List Record) (event from len : ℕ) (stands 
       let all = told (λ k. sinks_reached entries groups among event (from + k)) len in
       let one = sinks-reached entries groups among event (from + pair.byte) pair.event pair.at in (
         λ c. (
-          let h = (all.members pair).0 c in
-          let r = one.0 h.1 in
-          record { entry = r.entry; there = r.there; sink = r.sink; inside = r.inside; asked = h.0; reached = among-whole pair.event (Byte pair.at) (record { event = event; at = Byte (from + pair.byte) }) r.reached }),
+            let h = (all.members pair).0 c in
+            let r = one.0 h.1 in
+            record { entry = r.entry; there = r.there; sink = r.sink; inside = r.inside; asked = h.0; reached = among-whole pair.event (Byte pair.at) (record { event = event; at = Byte (from + pair.byte) }) r.reached }),
         λ s. (
-          let c = comes entries event from len pair.byte s.asked stands table (total entries) law blocks pair.event (Byte pair.at) s.reached in
-          (all.members pair).1 (s.asked, one.1 (record {
-            entry = s.entry;
-            there = s.there;
-            sink = s.sink;
-            among = sink-among pair.byte pair.event s.asked (Byte pair.at) s.entry s.there s.sink c;
-            inside = s.inside;
-            reached = c.has;
-          }))),
+            let c = comes entries event from len pair.byte s.asked stands table (total entries) law blocks pair.event (Byte pair.at) s.reached in
+            (all.members pair).1 (
+              s.asked,
+              one.1 (record {
+                entry = s.entry;
+                there = s.there;
+                sink = s.sink;
+                among = sink-among pair.byte pair.event s.asked (Byte pair.at) s.entry s.there s.sink c;
+                inside = s.inside;
+                reached = c.has;
+              }),
+            )),
       )
 
 pub lost-none : ItemsAreReceived → PairsAreTold → ForthLosesNothing

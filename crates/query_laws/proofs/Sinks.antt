@@ -98,11 +98,12 @@ module _ (entries : List Record) (groups : List ℕ) (reaching : Reaching) (even
       (sym (and_from (is_sink r.entry) (is_among entries groups n) r.sink r.among)) (of-reached reaching event k n (event_len r.entry) at r.inside r.reached))
 
 pub sinks-reached : SinksAreReached
-sinks-reached entries groups reaching event k n at =
-    (λ has. (
+sinks-reached entries groups reaching event k n at = (
+  λ has. (
       let found = in-flat (λ m. sinks_at entries groups reaching event k m (event_at entries m)) (range_with_len 0 (how_many entries)) (record { event = n; at = Byte at }) has in
       by-event entries groups reaching event k n found.0 at (event_at entries found.0) refl found.2),
-    λ r. (
+  λ r. (
       let low = below-len (events entries) n r.entry r.there in
       flat-in (λ m. sinks_at entries groups reaching event k m (event_at entries m)) (range_with_len 0 (how_many entries)) n (record { event = n; at = Byte at })
-      (in-range 0 (how_many entries) n (omega arith) (omega (arith, low))) (sinks-of entries groups reaching event k n at r)))
+      (in-range 0 (how_many entries) n (omega arith) (omega (arith, low))) (sinks-of entries groups reaching event k n at r)),
+)

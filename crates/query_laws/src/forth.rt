@@ -4,8 +4,8 @@ ghost use Rattle.query_laws.specs.ForthOfRuns.{ForthIsOfRuns, ForthLosesNothing}
 
 use crate::law::{items_are_received, queries_are_of_runs};
 use arn_model::steps_tell;
-use lineage_laws::lineage_is_joined;
 use lineage_join::{pairs_are_told, reach_same};
+use lineage_laws::lineage_is_joined;
 use log_model::events_recorded;
 use replay_laws::{groups_pass_through, records_tell_events};
 use taint_laws::follows_holders;

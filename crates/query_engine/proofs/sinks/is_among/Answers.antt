@@ -1,4 +1,4 @@
-use Rattle.std.proofs.Common.{sym, ◌∙◌}
+use Rattle.std.proofs.Common.{◌∙◌}
 use Rattle.query_engine.proofs.Outward.{among-none, among-some}
 use Rattle.query_engine.proofs.sinks.is_among.Goals as goal
 

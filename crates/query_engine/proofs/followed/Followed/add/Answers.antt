@@ -1,4 +1,4 @@
-use Rattle.std.proofs.Common.{◌≡◌, ◌⊎◌, ℕ, IsSome, sym, subst}
+use Rattle.std.proofs.Common.{◌≡◌, ◌⊎◌, IsSome, sym, subst}
 use Rattle.query_engine.specs.Follows.{Follows}
 use Rattle.query_engine.specs.Following.{Following, tracker_of}
 use Rattle.query_engine.proofs.Added.{following-more, only-added}
