@@ -8,3 +8,4 @@ mod search;
 mod told;
 
 pub use graph::Graph;
+pub use told::received;

@@ -12,7 +12,7 @@ use Rattle.arn_base.specs.declared.records.Pair.{Pair}
 use Rattle.lineage_model.specs.Flow.{At, Byte, StartRegister, StartSlot, StartMemory}
 use Rattle.lineage_model.specs.Pairs.{pair_at, comes_first, has_same_source, ranked, all_ranked, byte_pairs, pairs_from}
 use Rattle.lineage_model.specs.Tracking.{EventByte}
-use Rattle.lineage_join.specs.Laws.{PairsAreOne}
+use Rattle.lineage_join.specs.Laws.{PairsAreOne, PairsAreTold}
 use Rattle.lineage_join.specs.Rising.{pair_cmp, IsRising, source_of}
 use Rattle.lineage_join.proofs.Rises.{pair_cmp-total, none_in, front, behind, cases, weaker, same_list, append-rises}
 
@@ -212,3 +212,12 @@ one sources len pairs rises are =
       λ c. let s = mine.0 c in has.1 (omega arith, (let h = s.0 in omega arith), s.1),
       λ c. let s = has.0 c in mine.1 ((let h = s.1 in omega arith), s.2),
     ))
+
+pub told : PairsAreTold
+told sources len = record {
+  rises = from-rises sources 0 len;
+  members = λ p. let has = from-has sources 0 len p in (
+    λ c. let s = has.0 c in ((let h = s.1 in omega arith), s.2),
+    λ s. has.1 (omega arith, (let h = s.0 in omega arith), s.1),
+  );
+}

@@ -24,3 +24,11 @@ GoesByItems =
 -- a rising list of exactly these pairs is the one that answers
 abbrev pub PairsAreOne : Type 0
 PairsAreOne = (sources : ℕ → List EventByte) (len : ℕ) (pairs : List Pair) → IsRising pairs → ArePairs sources len pairs → pairs ≡ pairs_from sources 0 len
+
+-- the pairs that answer rise, and are exactly those of the sources
+pub record AreTold (sources : ℕ → List EventByte) (len : ℕ) : Type 0 where
+  pub rises : IsRising (pairs_from sources 0 len)
+  pub members : ArePairs sources len (pairs_from sources 0 len)
+
+abbrev pub PairsAreTold : Type 0
+PairsAreTold = (sources : ℕ → List EventByte) (len : ℕ) → AreTold sources len

@@ -1,7 +1,7 @@
 // Laws of what is joined.
 ghost use Rattle.lineage_join.specs.Alike.{ReachAlike, ReachSame};
 ghost use Rattle.lineage_join.specs.Asked.{NumbersStand};
-ghost use Rattle.lineage_join.specs.Laws.{GoesByItems, PairsAreOne};
+ghost use Rattle.lineage_join.specs.Laws.{GoesByItems, PairsAreOne, PairsAreTold};
 ghost use Rattle.lineage_join.specs.Named.{FittingAreNamed, ItemsName};
 
 /// On records that can be indexed, what reaches a byte of an event is what the items of the byte stand
@@ -13,6 +13,11 @@ pub fn goes_by_items()
 /// Rising pairs are told by their members alone.
 pub fn pairs_are_one()
     ensures { PairsAreOne }
+{}
+
+/// The pairs that answer rise, and are those of the sources.
+pub fn pairs_are_told()
+    ensures { PairsAreTold }
 {}
 
 /// Where answers of groups are the same, so is what they lead to.

@@ -1,5 +1,5 @@
 -- One group more.
-use Rattle.std.proofs.Common.{◌≡◌, ℕ, Bool, true, false, cond, List, Option, Some, IfSome, Ordering, Less, Equal, Greater, is_eq, nat_cmp, refl, sym, subst}
+use Rattle.std.proofs.Common.{◌≡◌, ◌⊎◌, inl, inr, ℕ, Bool, true, false, cond, List, Option, Some, IfSome, IsSome, Ordering, Less, Equal, Greater, is_eq, nat_cmp, refl, sym, subst}
 use Rattle.std.proofs.lemmas.Map.Lookups.{exact_unsigned}
 use Rattle.std.specs.BTreeMap.{is_at}
 use Rattle.std.specs.Map.{lookup}
@@ -19,3 +19,12 @@ following-more f g kept trackers all one h q = subst (λ (o : Option Kept). IfSo
     by_test : (b : Bool) → is_at (nat_cmp g) q ≡ b → IfSome (cond b (Some kept) (lookup (is_at (nat_cmp q)) f.trackers)) (Follows f.linkage f.entries f.until q)
     by_test true e = subst (λ (n : ℕ). Follows f.linkage f.entries f.until n kept) (exact_unsigned g q (equal-of (nat_cmp g q) e)) one
     by_test false e = all q
+
+-- the others were there before
+pub only-added : (g : ℕ) (kept : Kept) (old new : List (ℕ × Kept)) → ((q : ℕ) → lookup (is_at (nat_cmp q)) new ≡ cond (is_at (nat_cmp g) q) (Some kept) (lookup (is_at (nat_cmp q)) old))
+    → (h : ℕ) → IsSome (lookup (is_at (nat_cmp h)) new) → IsSome (lookup (is_at (nat_cmp h)) old) ⊎ (h ≡ g)
+only-added g kept old new updates h s = by_test (is_at (nat_cmp g) h) refl (subst (λ (o : Option Kept). IsSome o) (updates h) s)
+  where
+    by_test : (b : Bool) → is_at (nat_cmp g) h ≡ b → IsSome (cond b (Some kept) (lookup (is_at (nat_cmp h)) old)) → IsSome (lookup (is_at (nat_cmp h)) old) ⊎ (h ≡ g)
+    by_test true e t = inr (sym (exact_unsigned g h (equal-of (nat_cmp g h) e)))
+    by_test false e t = inl t

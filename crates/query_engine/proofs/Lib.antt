@@ -10,3 +10,5 @@ pub mod Fit
 pub mod Reaching
 pub mod Pairs
 pub mod Answered
+pub mod Takers
+pub mod Outward

@@ -26,7 +26,7 @@ demand-of event from len k below =
     (k, subst (λ (n : ℕ). k < n) (sym (length-map-range_with_len (byte_demand event from) 0 len)) below, get_or-map-range_with_len (byte_demand event from) 0 len k k (byte_demand event from k) below (zero-add k))
 
 module _ (event_at : ℕ → Option Record) (reach : Reaching) (event from len : ℕ) (sources : ℕ → List EventByte) (same : (k : ℕ) → k < len → reach event (Byte (from + k)) ≡ sources k) where
-  asked-of : (pair : Pair) → IsAsked event_at reach (byte_demands event from len) pair → (pair.byte < len) × Contains (sources pair.byte) (source_of pair)
+  pub asked-of : (pair : Pair) → IsAsked event_at reach (byte_demands event from len) pair → (pair.byte < len) × Contains (sources pair.byte) (source_of pair)
   asked-of pair a =
       let which = demand-from event from len a.0 a.1 in
       let k = which.0 in
@@ -34,7 +34,7 @@ module _ (event_at : ℕ → Option Record) (reach : Reaching) (event from len :
       let has : Contains (reach event (Byte (from + k))) (source_of pair) = subst (λ (d : Demand). Contains (asked_sources event_at reach d) (source_of pair)) which.2 a.3 in
       (subst (λ (n : ℕ). n < len) byte which.1, subst (λ (n : ℕ). Contains (sources n) (source_of pair)) byte (subst (λ (xs : List EventByte). Contains xs (source_of pair)) (same k which.1) has))
 
-  of-asked : (pair : Pair) → (pair.byte < len) × Contains (sources pair.byte) (source_of pair) → IsAsked event_at reach (byte_demands event from len) pair
+  pub of-asked : (pair : Pair) → (pair.byte < len) × Contains (sources pair.byte) (source_of pair) → IsAsked event_at reach (byte_demands event from len) pair
   of-asked pair h =
       (byte_demand event from pair.byte, demand-of event from len pair.byte h.0, refl, subst (λ (xs : List EventByte). Contains xs (source_of pair)) (sym (same pair.byte h.0)) h.1)
 

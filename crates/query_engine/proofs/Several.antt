@@ -1,7 +1,7 @@
 -- Groups, followed one after the other.
-use Rattle.std.proofs.Common.{◌≡◌, ℕ, ◌+◌, ◌<◌, ◌≤◌, List, ◌∷◌, length, get_or, take, drop, Contains, Option, None, IsSome, sym, ap, subst, ◌∙◌, inl, inr, add-one, drop-cons, drop_of_length-le}
+use Rattle.std.proofs.Common.{◌≡◌, ℕ, ◌+◌, ◌<◌, ◌≤◌, List, [], ◌∷◌, ◌++◌, length, get_or, take, drop, Contains, Option, None, IsSome, sym, ap, subst, ◌∙◌, inl, inr, add-one, drop-cons, drop_of_length-le}
 use Rattle.std.proofs.lemmas.List.{take_more, take_all}
-use Rattle.std.proofs.lemmas.List.Elements.{Contains-push_cases}
+use Rattle.std.proofs.lemmas.List.Elements.{Contains-append_left, Contains-push, Contains-push_cases}
 use Rattle.std.proofs.lemmas.List.Sums.{sum_by-drop_more}
 use Rattle.arn_base.specs.declared.records.Record.{Record}
 use Rattle.rv64_model.specs.declared.linkage.Linkage.{Linkage}
@@ -14,7 +14,7 @@ use Rattle.replayer.specs.Bounds.{ran_before}
 use Rattle.taint_tracker.specs.Kept.{Kept}
 use Rattle.query_engine.specs.Asked.{ran_in}
 use Rattle.query_engine.specs.Follows.{Explains, Follows}
-use Rattle.query_engine.specs.Following.{Adds, Following, HasFollowed, IsOf, tracker_of}
+use Rattle.query_engine.specs.Following.{Adds, AddsOnly, Following, HasFollowed, HasOnly, IsOf, tracker_of}
 
 drop-more : (xs : List ℕ) (i : ℕ) → i < length xs → drop i xs ≡ get_or xs i 0 ∷ drop (i + 1) xs
 drop-more xs i h = drop-cons xs i 0 h ∙ ap (λ (n : ℕ). get_or xs i 0 ∷ drop n xs) (sym (add-one i))
@@ -50,6 +50,16 @@ has-more groups i old new inside adds has g c =
       | inl d ↦ adds.keeps g (has g d)
       | inr e ↦ subst (λ (h : ℕ). IsSome (tracker_of new h)) e adds.has
     ]
+
+pub only-more : (groups : List ℕ) (i : ℕ) (old new : Following) → i < length groups → AddsOnly (get_or groups i 0) old new → HasOnly old (take i groups) → HasOnly new (take (i + 1) groups)
+only-more groups i old new inside adds only g s =
+    subst (λ (xs : List ℕ). Contains xs g) (sym (take_more groups i 0 inside)) (elim (adds g s) [
+      | inl before ↦ Contains-append_left (take i groups) (get_or groups i 0 ∷ []) g (only g before)
+      | inr same ↦ subst (λ (h : ℕ). Contains (take i groups ++ get_or groups i 0 ∷ []) h) (sym same) (Contains-push (take i groups) (get_or groups i 0))
+    ])
+
+pub only-all : (groups : List ℕ) (i : ℕ) (f : Following) → length groups ≤ i → HasOnly f (take i groups) → HasOnly f groups
+only-all groups i f h only g s = subst (λ (xs : List ℕ). Contains xs g) (take_all i groups h) (only g s)
 
 pub still-of : (entries : List Record) (linkage : Linkage) (until g : ℕ) (old new : Following) → IsOf entries linkage until old → Adds g old new → IsOf entries linkage until new
 still-of entries linkage until g old new of adds =

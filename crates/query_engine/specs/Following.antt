@@ -1,5 +1,5 @@
 -- Groups that were followed.
-use Rattle.std.specs.Prelude.{◌≡◌, ℕ, ◌&&◌, nat_lt, Bool, false, if◌then◌else◌, is_some, List, [], Contains, Option, Some, None, IfSome, IsSome}
+use Rattle.std.specs.Prelude.{◌≡◌, ◌⊎◌, ℕ, ◌&&◌, nat_lt, Bool, false, if◌then◌else◌, is_some, List, [], Contains, Option, Some, None, IfSome, IsSome}
 use Rattle.std.specs.BTreeMap.{is_at}
 use Rattle.std.specs.Map.{lookup}
 use Rattle.std.specs.Ordering.{nat_cmp}
@@ -41,6 +41,10 @@ IsFollowing f = (g : ℕ) → IfSome (tracker_of f g) (Follows f.linkage f.entri
 abbrev pub HasFollowed : Following → List ℕ → Type 0
 HasFollowed f groups = (g : ℕ) → Contains groups g → IsSome (tracker_of f g)
 
+-- and no others
+abbrev pub HasOnly : Following → List ℕ → Type 0
+HasOnly f groups = (g : ℕ) → IsSome (tracker_of f g) → Contains groups g
+
 -- a byte of a register, but x0
 abbrev pub is_register_byte : ℕ → ℕ → Bool
 is_register_byte r i = nat_lt 0 r && (nat_lt r 32 && nat_lt i 8)
@@ -80,6 +84,10 @@ pub record Adds (g : ℕ) (old new : Following) : Type 0 where
   pub of : IsOf old.entries old.linkage old.until new
   pub has : IsSome (tracker_of new g)
   pub keeps : (h : ℕ) → IsSome (tracker_of old h) → IsSome (tracker_of new h)
+
+-- and no others
+abbrev pub AddsOnly : ℕ → Following → Following → Type 0
+AddsOnly g old new = (h : ℕ) → IsSome (tracker_of new h) → IsSome (tracker_of old h) ⊎ (h ≡ g)
 
 -- what is asked of a tracker, of an event of so many bytes: none behind its end
 abbrev pub point_of : ℕ → ℕ → Place → Option Point

@@ -3,3 +3,6 @@ pub mod Follows
 pub mod Following
 pub mod Demands
 pub mod Asked
+pub mod Forth
+pub mod Reached
+pub mod LawsForth

@@ -44,11 +44,11 @@ pub struct Answer {
 /// Answers queries.
 #[derive(Debug, Drop)]
 pub struct Engine {
-    alloc: Global,
+    pub(crate) alloc: Global,
 }
 
 /// Whether an event is there and has these bytes, and they aren't too many to be asked for.
-fn has_range(index: &Index, event: u64, from: u32, len: u32) -> bool
+pub fn has_range(index: &Index, event: u64, from: u32, len: u32) -> bool
     ensures { (entries : List Record) → Indexes index.now entries → result ≡ is_range (event_at entries event) from len }
 {
     match index.event_len(event) {
@@ -87,7 +87,7 @@ fn moment_about(index: &Index, event: u64) -> u64
 }
 
 /// How many instructions groups counted.
-fn count_all(_entries: &[Record], index: &Index, groups: &[u32]) -> u64
+pub fn count_all(_entries: &[Record], index: &Index, groups: &[u32]) -> u64
     requires indexed { Indexes index.now _entries.now }
     requires rises { Rises groups.now }
     ensures { result ≡ count_in _entries.now groups.now }
@@ -101,7 +101,7 @@ fn count_all(_entries: &[Record], index: &Index, groups: &[u32]) -> u64
 }
 
 /// What is asked of bytes of an event.
-fn demands(alloc: Global, event: u64, from: u32, len: u32) -> Result<Vec<Demand>, NoMemory>
+pub fn demands(alloc: Global, event: u64, from: u32, len: u32) -> Result<Vec<Demand>, NoMemory>
     ensures { IfOk result (λ demands. demands.items ≡ byte_demands event from len) }
 {
     let mut demands = Vec::new(alloc);
@@ -140,7 +140,7 @@ fn pairs(
 }
 
 /// The same numbers once more.
-fn copy_of(alloc: Global, numbers: &[u32]) -> Result<Numbers, NoMemory>
+pub fn copy_of(alloc: Global, numbers: &[u32]) -> Result<Numbers, NoMemory>
     ensures { IfOk result (λ copy. copy ≡ numbers.now) }
 {
     let mut copy = Numbers::new(alloc);

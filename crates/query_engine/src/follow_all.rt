@@ -3,7 +3,7 @@ ghost use Rattle.std.specs.Prelude.{◌≡◌, ◌≤◌, ◌+◌, IfErr, IfOk, 
 ghost use Rattle.history_index.specs.Indexes.{AreCountable, Indexes};
 ghost use Rattle.query_engine.specs.Asked.{ran_in};
 ghost use Rattle.query_engine.specs.Follows.{Explains};
-ghost use Rattle.query_engine.specs.Following.{HasFollowed, IsOf};
+ghost use Rattle.query_engine.specs.Following.{HasFollowed, HasOnly, IsOf};
 ghost use Rattle.query_model.specs.Answers.{first_disagreement};
 
 use crate::follow::follow;
@@ -29,6 +29,7 @@ pub fn follow_all<'a, L: Ledger>(
     requires indexed { Indexes index.now entries.now }
     ensures of { IfOk result (IsOf entries.now linkage until) }
     ensures has { IfOk result (λ followed. HasFollowed followed groups.now) }
+    ensures only { IfOk result (λ followed. HasOnly followed groups.now) }
     ensures agree { OnOk result (first_disagreement entries.now until groups.now ≡ None) }
     ensures err { IfErr result (Explains (first_disagreement entries.now until groups.now)) }
     ensures counted { OnOk result (steps.new ≡ steps.old + ran_in entries.now until groups.now) }

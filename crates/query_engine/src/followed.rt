@@ -3,7 +3,7 @@ ghost use Rattle.std.specs.Prelude.{◌≡◌, [], OnOk, option_map, unwrap_or};
 ghost use Rattle.history_index.specs.Indexes.{AreCountable, Indexes};
 ghost use Rattle.lineage_join.specs.Places.{at_of};
 ghost use Rattle.query_engine.specs.Follows.{Follows};
-ghost use Rattle.query_engine.specs.Following.{Adds, IsOf, items_followed};
+ghost use Rattle.query_engine.specs.Following.{Adds, AddsOnly, HasOnly, IsOf, items_followed};
 ghost use Rattle.query_engine.specs.Following as following;
 ghost use Rattle.taint_tracker.specs.Items.{listed};
 ghost use Rattle.taint_tracker.specs.Shown.{AreItems};
@@ -65,7 +65,8 @@ impl<'a> Followed<'a> {
     ) -> Followed<'a>
         requires countable { AreCountable entries.now }
         requires indexed { Indexes index.now entries.now }
-        ensures { IsOf entries.now linkage until result }
+        ensures of { IsOf entries.now linkage until result }
+        ensures none { HasOnly result [] }
     {
         Followed {
             entries,
@@ -79,7 +80,8 @@ impl<'a> Followed<'a> {
     /// Keeps what followed a group.
     pub fn add(&mut self, group: u32, tracker: Tracker) -> Result<(), NoMemory>
         requires { Follows self.old.linkage self.old.entries self.old.until group tracker }
-        ensures { OnOk result (Adds group self.old self.new) }
+        ensures adds { OnOk result (Adds group self.old self.new) }
+        ensures only { OnOk result (AddsOnly group self.old self.new) }
     {
         self.trackers.insert(group, tracker)?;
         Ok(())

@@ -3,10 +3,14 @@
 #![tactic(auto)]
 
 mod engine;
+mod first;
 mod follow;
 mod follow_all;
 mod followed;
+mod forth;
 mod law;
+mod law_forth;
+mod sinks;
 
 pub use engine::{Answer, Engine, Target};
 pub use replayer::{Disagrees, QueryError};

@@ -49,6 +49,7 @@ pub record Stands (before : List Record) (e : Record) : Type 0 where
   pub slice : lacks_slice before e ≡ false
   pub origins : not (are_origins before (give_of e)) ≡ false
   pub child : misnumbers before (child_in e) ≡ false
+  pub placed : misplaces_start e ≡ false
 
 pub stands : (before : List Record) (e : Record) → cant_follow before e ≡ false → Stands before e
 stands before e h =
@@ -63,6 +64,7 @@ stands before e h =
       slice = left (lacks_slice before e) (rest-origins before e) slice;
       origins = left (not (are_origins before (give_of e))) (rest-blocks before e) origins;
       child = left (misnumbers before (child_in e)) (misplaces_start e) number;
+      placed = right (misnumbers before (child_in e)) (misplaces_start e) number;
     }
 
 module _ (before : List Record) (e : Record) (entries : List Record) where

@@ -51,11 +51,11 @@ had-byte e (StartRegister r i) is = and_from (is_some (founded e)) (is_register_
 had-byte e (StartSlot r i) is = and_from (is_some (founded e)) (is_register_byte r i) is.0 (byte-register r i is.1)
 had-byte e (StartMemory at) is = and_from (is_some (founded e)) (is_private at) is.0 is.1
 
-found-there : (o : Option Record) (at : At) → is_there o at ≡ true → IsThere o at
+pub found-there : (o : Option Record) (at : At) → is_there o at ≡ true → IsThere o at
 found-there None at is = absurd (false≢true is)
 found-there (Some e) at is = byte-had e at is
 
-there-found : (o : Option Record) (at : At) → IsThere o at → is_there o at ≡ true
+pub there-found : (o : Option Record) (at : At) → IsThere o at → is_there o at ≡ true
 there-found None at is = absurd is
 there-found (Some e) at is = had-byte e at is
 

@@ -21,3 +21,15 @@ pub mod Received
 pub mod Operands
 pub mod Fitting
 pub mod Joined
+pub mod Growing
+pub mod Founding
+pub mod AskedForth
+pub mod Mapped
+pub mod First
+pub mod Sinks
+pub mod Among
+pub mod Loses
+pub mod Lost
+pub mod Ended
+pub mod Blocks
+pub mod RunsForth

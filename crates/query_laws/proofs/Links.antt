@@ -23,7 +23,7 @@ number-is n None h = absurd (false≢true h)
 number-is n (Some m) h = elim (eqb_tells m n) [ inl is ↦ ap (λ (k : ℕ). Some k) is.1 | inr apart ↦ absurd (false≢true (rw apart.0 at h)) ]
 
 -- an event that has a group is there
-below-len : {X : Type 0} (xs : List X) (i : ℕ) (x : X) → slice_get xs i ≡ Some x → i < length xs
+pub below-len : {X : Type 0} (xs : List X) (i : ℕ) (x : X) → slice_get xs i ≡ Some x → i < length xs
 below-len [] i x h = absurd (none-some x h)
 below-len (y ∷ xs) zero x h = omega arith
 below-len (y ∷ xs) (suc i) x h = omega (arith, below-len xs i x h)

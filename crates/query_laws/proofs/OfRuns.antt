@@ -79,7 +79,7 @@ module _ (table : Table) (inputs : List Input) (few : HasNumbers (machine_after 
   items-by moment event at None = refl
   items-by moment event at (Some g) = ap (λ (t : Tracked EventByte). t.points event at) (tracked-same moment g)
 
-  reaching-joined : (moment event : ℕ) (at : At) → reaching table (records inputs) moment event at ≡ joined_point table inputs moment event at
+  pub reaching-joined : (moment event : ℕ) (at : At) → reaching table (records inputs) moment event at ≡ joined_point table inputs moment event at
   reaching-joined moment event at =
       reached-same (event_at (records inputs)) (items_at table (records inputs) moment) (lineage.items_at table inputs moment)
       (λ e a. items-by moment e a (event_group (records inputs) e)) (how_many (records inputs)) event at

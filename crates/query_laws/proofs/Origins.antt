@@ -1,5 +1,5 @@
 -- A stored origin is a byte that an event has.
-use Rattle.std.proofs.Common.{◌≡◌, inl, inr, ℕ, zero, suc, ◌+◌, ◌-◌, ◌<◌, ◌==◌, ◌++◌, not, nat_le, nat_lt, Bool, true, false, if◌then◌else◌, List, [], ◌∷◌, length, Option, Some, None, option_map, slice_get, refl, ap, sym, subst, ◌∙◌, arith, append_assoc}
+use Rattle.std.proofs.Common.{◌≡◌, inl, inr, ℕ, zero, suc, ◌+◌, ◌-◌, ◌<◌, ◌≤◌, ◌==◌, ◌++◌, not, nat_le, nat_lt, Bool, true, false, if◌then◌else◌, List, [], ◌∷◌, length, Option, Some, None, option_map, slice_get, refl, ap, sym, subst, ◌∙◌, arith, append_assoc}
 use Rattle.std.specs.Prelude.{Contains}
 use Rattle.std.specs.List.{list_all}
 use Rattle.std.proofs.lemmas.Bool.{false≢true, true≢false, and_parts, leb-true, ltb-true}
@@ -10,7 +10,7 @@ use Rattle.arn_base.specs.declared.records.Origin.{Origin}
 use Rattle.arn_base.specs.declared.records.Record.{Record}
 use Rattle.arn_base.specs.declared.records.Src.{Src}
 use Rattle.acts_model.specs.Records.{event_len, give_of, is_event}
-use Rattle.history_model.specs.Broken.{are_origins, broken_from, first_broken, is_origin, lies_in_event, origins_len}
+use Rattle.history_model.specs.Broken.{are_origins, broken_from, first_broken, is_origin, lies_in_event, misplaces_start, origins_len}
 use Rattle.history_model.specs.Events.{events, event_at}
 use Rattle.lineage_join.specs.Fits.{IsThere}
 use Rattle.lineage_model.specs.Flow.{Byte}
@@ -23,6 +23,7 @@ pub record IsPiece (origins : List Origin) (src : Src) : Type 0 where
   pub piece : Origin
   pub has : Contains origins piece
   pub event : piece.event ≡ src.event
+  pub low : piece.at ≤ src.at
   pub inside : src.at < piece.at + piece.len
 
 pub origin-piece : (origins : List Origin) (k : ℕ) (src : Src) → origin_at origins k ≡ Some src → IsPiece origins src
@@ -34,9 +35,9 @@ origin-piece (o ∷ origins) k src is = by-test (nat_lt k o.len) refl is (origin
         let e = same_Some (record { event = o.event; at = o.at + k }) src h in
         let low = ltb-true k o.len t in
         let at : o.at + k ≡ src.at = ap (λ (x : Src). x.at) e in
-        record { piece = o; has = first-in o origins; event = ap (λ (x : Src). x.event) e; inside = omega (arith, low, at) }
+        record { piece = o; has = first-in o origins; event = ap (λ (x : Src). x.event) e; low = omega (arith, at); inside = omega (arith, low, at) }
     by-test false t h rest =
-        let r = rest h in record { piece = r.piece; has = later-in o r.piece origins r.has; event = r.event; inside = r.inside }
+        let r = rest h in record { piece = r.piece; has = later-in o r.piece origins r.has; event = r.event; low = r.low; inside = r.inside }
 
 all-in : {X : Type 0} (p : X → Bool) (xs : List X) (x : X) → list_all p xs ≡ true → Contains xs x → p x ≡ true
 all-in p [] x h has = absurd (none-in x has)
@@ -44,7 +45,7 @@ all-in p (y ∷ xs) x h has =
     let parts = and_parts (p y) (list_all p xs) h in
     elim (head-or-tail y x xs has) [ inl is ↦ subst (λ (z : _). p z ≡ true) is parts.0 | inr later ↦ all-in p xs x parts.1 later ]
 
-got-in : {X : Type 0} (xs : List X) (i : ℕ) (x : X) → slice_get xs i ≡ Some x → Contains xs x
+pub got-in : {X : Type 0} (xs : List X) (i : ℕ) (x : X) → slice_get xs i ≡ Some x → Contains xs x
 got-in [] i x h = absurd (none-some x h)
 got-in (y ∷ xs) zero x h = subst (λ (z : _). Contains (y ∷ xs) z) (same_Some y x h) (first-in y xs)
 got-in (y ∷ xs) (suc i) x h = later-in y x xs (got-in xs i x h)
@@ -64,13 +65,14 @@ record IsBehind (all : List Record) (e : Record) : Type 0 where
   rest : List Record
   whole : all ≡ before ++ rest
   origins : are_origins before (give_of e) ≡ true
+  placed : misplaces_start e ≡ false
 
 behind-some : (before rest : List Record) (e : Record) → broken_from before rest ≡ None → Contains rest e → IsBehind (before ++ rest) e
 behind-some before [] e h has = absurd (none-in e has)
 behind-some before (x ∷ rest) e h has =
     let next = follows before x rest h in
     elim (head-or-tail x e rest has) [
-      | inl is ↦ record { before = before; rest = x ∷ rest; whole = refl; origins = subst (λ (z : Record). are_origins before (give_of z) ≡ true) is (un-not (are_origins before (give_of x)) next.0.origins) }
+      | inl is ↦ record { before = before; rest = x ∷ rest; whole = refl; origins = subst (λ (z : Record). are_origins before (give_of z) ≡ true) is (un-not (are_origins before (give_of x)) next.0.origins); placed = subst (λ (z : Record). misplaces_start z ≡ false) is next.0.placed }
       | inr later ↦ subst (λ (es : List Record). IsBehind es e) (append_assoc before (x ∷ []) rest) (behind-some (before ++ x ∷ []) rest e next.1 later)
     ]
 
@@ -98,3 +100,7 @@ origin-there entries stands event k e at src is =
     let b = behind-some [] entries e stands has in
     option_and_then_some (λ (give : Give). origin_at give.origins k) (give_of e) src is (λ give gives piece.
     give-there entries b.before b.rest (give_of e) give src k b.whole b.origins gives piece)
+
+-- how a child begins stands with a fork that made one
+pub is-placed : (entries : List Record) → first_broken entries ≡ None → (e : Record) → Contains entries e → misplaces_start e ≡ false
+is-placed entries stands e has = (behind-some [] entries e stands has).placed

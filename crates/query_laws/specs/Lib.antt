@@ -4,3 +4,5 @@ pub mod Received
 pub mod Fitting
 pub mod OwnEvents
 pub mod Joined
+pub mod Forth
+pub mod ForthOfRuns

@@ -6,8 +6,13 @@
 //! What holds is stated by functions that do nothing.
 #![tactic(auto)]
 
+mod forth;
 mod law;
 
+pub use forth::{
+    first_are_told, forth_is_connected, forth_is_of_runs, forth_is_one, forth_loses_nothing,
+    reaching_is_among, sinks_are_reached,
+};
 pub use law::{
     events_are_own, groups_are_connected, groups_are_one, items_are_cut, items_are_received,
     items_fit, members_received, pairs_are_joined, queries_are_of_runs, reaching_is_connected,

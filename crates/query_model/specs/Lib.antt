@@ -1,3 +1,5 @@
 pub mod Linked
 pub mod Sources
 pub mod Answers
+pub mod Forth
+pub mod Sinks

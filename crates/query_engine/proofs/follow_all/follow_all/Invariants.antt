@@ -1,6 +1,6 @@
 use Rattle.std.proofs.Common.{◌≡◌, ◌+◌, drop, take}
 use Rattle.query_engine.specs.Asked.{ran_in}
-use Rattle.query_engine.specs.Following.{HasFollowed, IsOf}
+use Rattle.query_engine.specs.Following.{HasFollowed, HasOnly, IsOf}
 use Rattle.query_model.specs.Answers.{first_disagreement}
 use Rattle.query_engine.proofs.follow_all.follow_all.Given as goal
 
@@ -8,6 +8,7 @@ abbrev pub invariant-loop-group : goal.invariant-loop-group
 invariant-loop-group g l = record {
   of : IsOf l.entries l.linkage l.until l.followed;
   has : HasFollowed l.followed (take l.group-index l.groups);
+  only : HasOnly l.followed (take l.group-index l.groups);
   first : first_disagreement l.entries l.until l.groups ≡ first_disagreement l.entries l.until (drop l.group-index l.groups);
   counted : l.steps + ran_in l.entries l.until (drop l.group-index l.groups) ≡ l.initial.steps + ran_in l.entries l.until l.groups;
 }

@@ -1,7 +1,7 @@
-use Rattle.std.proofs.Common.{sym, subst}
+use Rattle.std.proofs.Common.{◌≡◌, ◌⊎◌, IsSome, sym, subst}
 use Rattle.query_engine.specs.Follows.{Follows}
-use Rattle.query_engine.specs.Following.{Following}
-use Rattle.query_engine.proofs.Added.{following-more}
+use Rattle.query_engine.specs.Following.{Following, tracker_of}
+use Rattle.query_engine.proofs.Added.{following-more, only-added}
 use Rattle.query_engine.proofs.followed.Followed.add.Goals as goal
 
 pub invariant_of-self-2 : goal.invariant_of-self-2
@@ -14,3 +14,8 @@ invariant_of-self-2 c =
       indexed = c.self.invariant.indexed;
       following = following-more f c.args.group c.args.tracker c.insert.new.self.entries c.self.invariant.following one c.in_ok-insert.ensures.updates.0;
     }
+
+pub returns-clause-only : goal.returns-clause-only
+returns-clause-only c = λ h s.
+    subst (λ (x : Following). IsSome (tracker_of x h) ⊎ (h ≡ c.args.group)) c.self.view_is
+    (only-added c.args.group c.args.tracker c.self.inside.trackers.entries c.insert.new.self.entries c.in_ok-insert.ensures.updates.0 h s)
