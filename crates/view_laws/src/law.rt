@@ -1,7 +1,9 @@
 // What is seen at a moment of a run.
 ghost use Rattle.view_laws.specs.OfRuns.{ViewsAreOfRuns};
 
+use past_lives::lives_have_groups;
 use replay_laws::{groups_pass_through, records_tell_moments, records_tell_runs};
+use unbroken_laws::runs_are_unbroken;
 
 /// On the records of a run no group disagrees, and what is seen of a process at a moment is what it is in
 /// the whole machine then.
@@ -11,4 +13,6 @@ pub fn views_are_of_runs()
     groups_pass_through();
     records_tell_moments();
     records_tell_runs();
+    runs_are_unbroken();
+    lives_have_groups();
 }
