@@ -2,4 +2,5 @@ pub mod Laws
 pub mod Follows
 pub mod Following
 pub mod Demands
+pub mod States
 pub mod Asked

@@ -7,6 +7,7 @@ mod follow;
 mod follow_all;
 mod followed;
 mod law;
+mod states;
 
 pub use engine::{Answer, Engine, Target};
 pub use replayer::{Disagrees, QueryError};

@@ -21,3 +21,6 @@ pub mod Received
 pub mod Operands
 pub mod Fitting
 pub mod Joined
+mod Held
+mod Living
+mod Lived

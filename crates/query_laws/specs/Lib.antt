@@ -4,3 +4,4 @@ pub mod Received
 pub mod Fitting
 pub mod OwnEvents
 pub mod Joined
+pub mod States

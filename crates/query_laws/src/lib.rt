@@ -7,9 +7,11 @@
 #![tactic(auto)]
 
 mod law;
+mod states;
 
 pub use law::{
     events_are_own, groups_are_connected, groups_are_one, items_are_cut, items_are_received,
     items_fit, members_received, pairs_are_joined, queries_are_of_runs, reaching_is_connected,
     reaching_is_of_bytes,
 };
+pub use states::{held_is_of_bytes, held_items_are_there, states_are_of_runs};

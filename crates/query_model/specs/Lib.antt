@@ -1,3 +1,4 @@
 pub mod Linked
 pub mod Sources
 pub mod Answers
+pub mod States
