@@ -103,14 +103,14 @@ pub own-group : (entries : List Record) (pid : ℕ) (o : Option ℕ) → first_b
 own-group entries pid None stands is = All-nil (Contains (groups_in entries))
 own-group entries pid (Some g) stands is = All-cons (Contains (groups_in entries)) g [] (process-group entries stands pid g is) (All-nil (Contains (groups_in entries)))
 
+abbrev Leads : List Record → (ℕ → At → List EventByte) → EventByte → List EventByte
+Leads entries reach item = from_item (event_at entries) reach item
+
 pub held-bytes : FollowsHolders → ActsHaveLen → HeldIsOfBytes
 held-bytes follows lens linkage entries held items stands blocks agree k has = by-group (group_of entries held.pid) refl
   where
-    abbrev Leads : (ℕ → At → List EventByte) → EventByte → List EventByte
-    Leads reach item = from_item (event_at entries) reach item
-
     by-group : (o : Option ℕ) → group_of entries held.pid ≡ o
-        → flat_map (Leads (reaches entries items)) (items_among (operands linkage) entries held k o) ≡ flat_map (Leads (reaching (operands linkage) entries held.moment)) (items_among (operands linkage) entries held k o)
+        → flat_map (Leads entries (reaches entries items)) (items_among (operands linkage) entries held k o) ≡ flat_map (Leads entries (reaching (operands linkage) entries held.moment)) (items_among (operands linkage) entries held k o)
     by-group None is = refl
     by-group (Some g) is =
         let from : List ℕ = g ∷ [] in
@@ -120,7 +120,7 @@ held-bytes follows lens linkage entries held items stands blocks agree k has = b
             subst (λ (o : Option ℕ). (event : ℕ) (at : At) → IsConnected entries (option_to_list o) event → IsThere (event_at entries event) at → items event at ≡ items_at (operands linkage) entries held.moment event at) is agree in
         let same = reached-same entries from stands groups (λ event at. IsThere (event_at entries event) at) (origin-there entries stands) (operands linkage) held.moment
             (λ h event at there. real-items linkage entries h follows lens held.moment stands blocks event at there) items (λ event at asks. agrees event at asks.0 asks.1) (how_many entries) in
-        flat_map-all (IsNamedThere linkage entries g) (Leads (reaches entries items)) (Leads (reaching (operands linkage) entries held.moment))
+        flat_map-all (IsNamedThere linkage entries g) (Leads entries (reaches entries items)) (Leads entries (reaching (operands linkage) entries held.moment))
         (λ item named. item-same entries from stands groups (λ event at. IsThere (event_at entries event) at) (origin-there entries stands) (reaches entries items) (reaching (operands linkage) entries held.moment) same g asked
         item.event item.at named.0 named.1)
         (items_made (operands linkage) held.pid held.part k (history.alone entries g held.moment))

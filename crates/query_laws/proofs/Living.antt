@@ -16,7 +16,7 @@ use Rattle.query_laws.proofs.Found.{AreFounded, Stands, follows, nobody}
 use Rattle.query_laws.proofs.Settled.{Unbooted, behind-push, founded-push, told-group, unbooted-push}
 
 -- some record begins the process's life
-Begins : List Record → ℕ → Type 0
+abbrev Begins : List Record → ℕ → Type 0
 Begins [] pid = ⊥
 Begins (e ∷ entries) pid = (life_told e ≡ BeginsLife pid) ⊎ Begins entries pid
 
@@ -80,7 +80,7 @@ began moment (entry.End p status ∷ entries) begins ends n pid b h =
     one-more (nat_le ends moment) n (entry.End p status) (events_from moment begins ends (n + 1) entries) entries pid (began moment entries begins ends (n + 1) pid) b h
 
 living-began : (entries : List Record) (moment pid : ℕ) → lives_at entries moment pid ≡ true → Begins entries pid
-living-began entries moment pid h = elim (began moment entries 0 0 0 pid false h) [ inl no ↦ absurd (false≢true no) | inr is ↦ is ]
+living-began entries moment pid h = elim (began moment entries 0 0 0 pid false h) [ inl at_once ↦ absurd (false≢true at_once) | inr is ↦ is ]
 
 -- it has a group
 abbrev pub HasGroup : Groups → ℕ → Type 0
@@ -197,9 +197,9 @@ grouped-push before e groups s a = record {
 all-grouped : (before rest : List Record) (groups : Groups) → broken_from before rest ≡ None → AreGrouped before groups → (pid : ℕ) → Begins before pid ⊎ Begins rest pid → HasGroup (groups_from rest groups) pid
 all-grouped before [] groups h a pid (inl earlier) = a.begun pid earlier
 all-grouped before [] groups h a pid (inr none) = absurd none
-all-grouped before (e ∷ rest) groups h a pid began =
+all-grouped before (e ∷ rest) groups h a pid come =
     let next = follows before e rest h in
-    all-grouped (before ++ e ∷ []) rest (groups_told e groups) next.1 (grouped-push before e groups next.0 a) pid (pass began)
+    all-grouped (before ++ e ∷ []) rest (groups_told e groups) next.1 (grouped-push before e groups next.0 a) pid (pass come)
   where
     pass : Begins before pid ⊎ Begins (e ∷ rest) pid → Begins (before ++ e ∷ []) pid ⊎ Begins rest pid
     pass (inl earlier) = inl (begins-earlier before e pid earlier)
