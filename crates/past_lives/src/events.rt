@@ -1,5 +1,5 @@
 // Events that have happened at a moment.
-ghost use Rattle.std.specs.Prelude.{◌≡◌, option_map};
+ghost use Rattle.std.specs.Prelude.{◌≡◌, option_map, slice_get};
 ghost use Rattle.history_index.specs.Indexes.{Indexes};
 ghost use Rattle.history_model.specs.Events.{event_at};
 ghost use Rattle.past_lives.specs.Happened as told;
@@ -7,13 +7,19 @@ ghost use Rattle.past_lives.specs.Happened as told;
 use arn_base::Record;
 use history_index::Index;
 
+fn record_at(entries: &[Record], place: u64) -> Option<&Record>
+    ensures { option_map (λ entry. entry.now) result ≡ slice_get entries.now place }
+{
+    entries.get(place as usize)
+}
+
 // The record of an event.
 fn record_of<'a>(entries: &'a [Record], index: &Index, event: u64) -> Option<&'a Record>
     requires indexed { Indexes index.now entries.now }
     ensures { option_map (λ entry. entry.now) result ≡ event_at entries.now event }
 {
     let place = index.event_place(event)?;
-    entries.get(place as usize)
+    record_at(entries, place)
 }
 
 /// The record of an event, if that has happened at a moment.

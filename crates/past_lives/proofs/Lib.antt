@@ -1,0 +1,2 @@
+mod Until
+mod Places
