@@ -10,3 +10,8 @@ pub mod Fit
 pub mod Reaching
 pub mod Pairs
 pub mod Answered
+
+pub mod Lists
+pub mod Members
+pub mod HeldPairs
+pub mod HeldAnswered

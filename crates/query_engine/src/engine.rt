@@ -160,6 +160,31 @@ fn copy_of(alloc: Global, numbers: &[u32]) -> Result<Numbers, NoMemory>
     Ok(copy)
 }
 
+/// These pairs, beside the groups that were followed for them.
+fn answer_of(
+    alloc: Global,
+    entries: &[Record],
+    index: &Index,
+    groups: Numbers,
+    pairs: Pairs,
+) -> Result<Answer, NoMemory>
+    requires indexed { Indexes index.now entries.now }
+    requires rises { Rises groups }
+    ensures pairs { IfOk result (λ answer. answer.pairs ≡ pairs) }
+    ensures groups { IfOk result (λ answer. answer.groups ≡ groups) }
+    ensures replayed { IfOk result (λ answer. answer.replayed ≡ groups) }
+    ensures instructions { IfOk result (λ answer. answer.instructions ≡ count_in entries.now groups) }
+{
+    let replayed = copy_of(alloc, groups.as_slice())?;
+    let instructions = count_all(entries, index, groups.as_slice());
+    Ok(Answer {
+        pairs,
+        groups,
+        instructions,
+        replayed,
+    })
+}
+
 /// Where bytes of an event come from that it has.
 fn event_back<L: Ledger>(
     alloc: Global,
@@ -191,14 +216,7 @@ fn event_back<L: Ledger>(
         steps,
     )?;
     let pairs = pairs(alloc, entries, index, linkage, &followed, event, from, len)?;
-    let replayed = copy_of(alloc, groups.as_slice())?;
-    let instructions = count_all(entries, index, groups.as_slice());
-    Ok(Answer {
-        pairs,
-        groups,
-        instructions,
-        replayed,
-    })
+    Ok(answer_of(alloc, entries, index, groups, pairs)?)
 }
 
 /// Where bytes come from that a process holds at a moment.
@@ -229,14 +247,7 @@ fn held_back<L: Ledger>(
         steps,
     )?;
     let pairs = states::pairs(alloc, entries, index, linkage, &followed, held)?;
-    let replayed = copy_of(alloc, groups.as_slice())?;
-    let instructions = count_all(entries, index, groups.as_slice());
-    Ok(Answer {
-        pairs,
-        groups,
-        instructions,
-        replayed,
-    })
+    Ok(answer_of(alloc, entries, index, groups, pairs)?)
 }
 
 /// Where bytes come from that a process holds at a moment, if they are there.

@@ -118,7 +118,9 @@ impl<'a> Followed<'a> {
     /// Each group that is kept was followed.
     pub fn are_followed(&self)
         ensures { IsFollowing self.now }
-    {}
+    {
+        let _until = self.until;
+    }
 }
 
 impl<'a> Locals for Followed<'a> {
