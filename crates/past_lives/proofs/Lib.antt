@@ -1,2 +1,14 @@
 mod Until
 mod Places
+mod Records
+mod Flags
+mod Bodies
+mod Sizes
+mod Sound
+mod Does
+mod Tells
+mod Steps
+mod Standing
+mod Fold
+mod Reach
+mod Grouped

@@ -1,5 +1,5 @@
 -- The events that have happened at a moment, one after the other.
-use Rattle.std.proofs.Common.{◌≡◌, ℕ, zero, suc, ◌+◌, ◌==◌, nat_le, cond, if◌then◌else◌, length, Bool, true, false, List, [], ◌∷◌, ◌++◌, Option, Some, None, unwrap_or, refl, sym, ap, ◌∙◌, slice_get, append_assoc, append-nil, arith}
+use Rattle.std.proofs.Common.{◌≡◌, ℕ, zero, suc, ◌+◌, ◌==◌, nat_le, if◌then◌else◌, length, Bool, true, false, List, [], ◌∷◌, ◌++◌, Option, Some, None, unwrap_or, refl, sym, ap, ◌∙◌, slice_get, arith}
 use Rattle.arn_base.specs.declared.records.Record.{Record}
 use Rattle.arn_base.specs.declared.records.Record.TheVariants as entry
 use Rattle.acts_model.specs.Records.{LifeChange, BeginsLife, EndsLife, NoLife, life_told, lives_after}
@@ -8,7 +8,6 @@ use Rattle.history_model.specs.Events.{events, how_many}
 use Rattle.history_model.specs.Moments.{Numbered, events_from, events_until, if_happened, lives_at, lives_by, segment_at, segments_by, segments_told}
 use Rattle.past_lives.specs.Happened.{happened, happened_by, held_by, life_after}
 use Rattle.past_lives.specs.declared.segments.Source.{Source}
-use Rattle.past_lives.specs.declared.segments.Source.TheVariants as source
 
 abbrev pub numbered : ℕ → Option Record → List Numbered
 numbered n None = []

@@ -4,6 +4,7 @@ use Rattle.arn_base.specs.declared.records.Record.{Record}
 use Rattle.acts_model.specs.Records.{LifeChange, BeginsLife, EndsLife, NoLife}
 use Rattle.history_index.specs.Lookups.{event_moment}
 use Rattle.history_model.specs.Events.{event_at}
+use Rattle.past_lives.specs.declared.lives.Life.{Life}
 use Rattle.past_lives.specs.declared.segments.Source.{Source}
 use Rattle.past_lives.specs.declared.segments.Source.TheVariants as source
 
@@ -16,16 +17,16 @@ happened_by moment e at = None
 abbrev pub happened : List Record → ℕ → ℕ → Option Record
 happened entries moment n = happened_by moment (event_at entries n) (event_moment entries n)
 
+-- the process that begins or ends, and whether it lives from then on
+abbrev pub change_in : LifeChange → Option Life
+change_in (BeginsLife p) = Some (record { pid = p; lives = true })
+change_in (EndsLife p) = Some (record { pid = p; lives = false })
+change_in NoLife = None
+
 -- whether a process lives after a change, if that is one of its own
-abbrev pub own_begin : ℕ → ℕ → Option Bool
-own_begin p pid = if p == pid then Some true else None
-
-abbrev pub own_end : ℕ → ℕ → Option Bool
-own_end p pid = if p == pid then Some false else None
-
 abbrev pub life_after : LifeChange → ℕ → Option Bool
-life_after (BeginsLife p) pid = own_begin p pid
-life_after (EndsLife p) pid = own_end p pid
+life_after (BeginsLife p) pid = if p == pid then Some true else None
+life_after (EndsLife p) pid = if p == pid then Some false else None
 life_after NoLife pid = None
 
 -- which segment a process holds, where one is traced to this, and processes held these

@@ -1,5 +1,5 @@
 -- What a group alone holds, beside what the records tell of its processes.
-use Rattle.std.specs.Prelude.{◌≡◌, ℕ, List, None, Some, IfSome, is_some}
+use Rattle.std.specs.Prelude.{◌≡◌, ℕ, true, List, None, Some, IfSome, IsSome, is_some}
 use Rattle.arn_base.specs.declared.records.Record.{Record}
 use Rattle.acts_model.specs.Bodies.{body_at, seen}
 use Rattle.acts_model.specs.Views.{can_reach}
@@ -25,3 +25,7 @@ abbrev pub WindowsAreWhole : List Record → Type 0
 WindowsAreWhole entries =
     (g moment : ℕ) (own : Own) → first_broken entries ≡ None → alone entries g moment ≡ Makes own
     → (pid : ℕ) → IfSome (seen own.bodies pid) (λ v. (at len : ℕ) → can_reach v at len ≡ is_present (is_some v.body.segment) at len)
+
+-- whoever lives at a moment has a group
+abbrev pub LivesHaveGroups : Type 0
+LivesHaveGroups = (entries : List Record) (moment pid : ℕ) → first_broken entries ≡ None → lives_at entries moment pid ≡ true → IsSome (group_of entries pid)

@@ -1,3 +1,4 @@
+pub mod Blocks
 pub mod Happened
 pub mod Members
 pub mod Laws

@@ -1,5 +1,5 @@
 -- Who lives at a moment of a history, and which bytes can be asked for there, as the records alone tell.
-use Rattle.std.specs.Prelude.{ℕ, ◌+◌, nat_le, ◌&&◌, ◌||◌, Bool, List, filter, Option, is_some}
+use Rattle.std.specs.Prelude.{ℕ, ◌+◌, nat_le, ◌&&◌, ◌||◌, Bool, List, filter, is_some}
 use Rattle.arn_base.specs.declared.records.Record.{Record}
 use Rattle.parts_model.specs.declared.limits.TheConstants.{MOST_ASKED, WINDOW_START, WINDOW_END, SEGMENT_START, SEGMENT_END}
 use Rattle.history_index.specs.Lookups.{processes_in}

@@ -1,6 +1,7 @@
 // What a group alone holds of its processes.
-ghost use Rattle.past_lives.specs.Laws.{MembersAreSeen, WindowsAreWhole};
+ghost use Rattle.past_lives.specs.Laws.{LivesHaveGroups, MembersAreSeen, WindowsAreWhole};
 
+use crate::blocks::blocks_are_whole;
 use arn_base::Record;
 
 /// Who has a body in a group alone, and which segment it holds, is told by the records themselves.
@@ -11,4 +12,11 @@ pub fn members_are_seen()
 /// A process that is replayed reaches the whole of each window that is present.
 pub fn windows_are_whole(entries: &[Record])
     ensures { WindowsAreWhole entries.now }
+{
+    blocks_are_whole(entries);
+}
+
+/// Who lives has a group, which is replayed to see it.
+pub fn lives_have_groups()
+    ensures { LivesHaveGroups }
 {}

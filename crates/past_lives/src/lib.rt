@@ -2,6 +2,7 @@
 //! records alone.
 #![tactic(auto)]
 
+mod blocks;
 mod events;
 mod law;
 mod lives;
@@ -9,6 +10,6 @@ mod living;
 mod members;
 mod segments;
 
-pub use law::{members_are_seen, windows_are_whole};
+pub use law::{lives_have_groups, members_are_seen, windows_are_whole};
 pub use living::live_at;
 pub use members::{is_member, is_memory_range};

@@ -18,52 +18,65 @@ pub fn is_success(answer: u64) -> bool
     answer < 1 << 63
 }
 
-fn own_end(own: u32, pid: u32) -> Option<bool>
-    ensures { result ≡ told.own_end own pid }
-{
-    if own == pid { Some(false) } else { None }
+/// A process that begins or ends, and whether it lives from then on.
+#[derive(Clone, Copy, Debug, PartialEq, Eq)]
+pub struct Life {
+    pub pid: u64,
+    pub lives: bool,
 }
 
-fn own_begin(own: u64, pid: u32) -> Option<bool>
-    ensures { result ≡ told.own_begin own pid }
-{
-    if own == u64::from(pid) {
-        Some(true)
-    } else {
-        None
-    }
-}
-
-fn after_call(own: u32, number: u64, answer: u64, pid: u32) -> Option<bool>
-    ensures { result ≡ told.life_after (call_life own number answer) pid }
+fn told_by_call(own: u32, number: u64, answer: u64) -> Option<Life>
+    ensures { result ≡ told.change_in (call_life own number answer) }
 {
     if number == EXIT {
-        own_end(own, pid)
+        Some(Life {
+            pid: u64::from(own),
+            lives: false,
+        })
     } else if number == FORK && is_success(answer) {
-        own_begin(answer, pid)
+        Some(Life {
+            pid: answer,
+            lives: true,
+        })
     } else {
         None
     }
 }
 
-/// Whether a process lives after an event, if that is its begin or its end.
-pub fn life_after(entry: &Record, pid: u32) -> Option<bool>
-    ensures { result ≡ told.life_after (life_told entry.now) pid }
+/// Which process begins or ends at an event, if one does.
+pub fn told_by(entry: &Record) -> Option<Life>
+    ensures { result ≡ told.change_in (life_told entry.now) }
 {
     match entry {
-        Record::Boot { .. } => own_begin(1, pid),
+        Record::Boot { .. } => Some(Life {
+            pid: 1,
+            lives: true,
+        }),
         Record::Signal {
-            pid: own,
+            pid,
             handler: 0,
             ..
         }
-        | Record::End { pid: own, .. } => own_end(*own, pid),
+        | Record::End { pid, .. } => Some(Life {
+            pid: u64::from(*pid),
+            lives: false,
+        }),
         Record::Call {
-            pid: own,
+            pid,
             number,
             result,
             ..
-        } => after_call(*own, *number, *result, pid),
+        } => told_by_call(*pid, *number, *result),
+        _ => None,
+    }
+}
+
+// Whether a process lives after an event, if that is its begin or its end.
+fn life_after(entry: &Record, pid: u32) -> Option<bool>
+    ensures { result ≡ told.life_after (life_told entry.now) pid }
+{
+    match told_by(entry) {
+        Some(life) if life.pid == u64::from(pid) => Some(life.lives),
         _ => None,
     }
 }

@@ -1,4 +1,4 @@
-use Rattle.std.proofs.Common.{◌≡◌, ℕ, ◌+◌, ◌-◌, ◌∙◌, suc, ap, sym, arith}
+use Rattle.std.proofs.Common.{◌≡◌, ◌+◌, ◌-◌, ◌∙◌, suc, ap, sym, arith}
 use Rattle.history_model.specs.Events.{how_many}
 use Rattle.past_lives.proofs.Until.{lives-all, lives-told, lives-passed, lives_first}
 use Rattle.past_lives.proofs.lives.lives.Goals as goal

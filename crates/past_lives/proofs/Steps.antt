@@ -1,0 +1,307 @@
+-- What a group alone has made, beside what was told of its members: with an instruction, an act, the boot, or a group's begin more.
+use Rattle.std.proofs.Common.{◌≡◌, ℕ, ◌+◌, ◌<◌, ◌≤◌, ◌==◌, cond, if◌then◌else◌, length, max, not, Bool, true, false, List, [], Option, Some, None, IfSome, option_map, refl, sym, ap, subst, ◌∙◌, arith}
+use Rattle.std.proofs.lemmas.Bool.{eqb-true}
+use Rattle.arn_base.specs.declared.records.Extra.{Extra}
+use Rattle.arn_base.specs.declared.records.Extra.TheVariants as extra
+use Rattle.arn_base.specs.declared.records.Give.{Give}
+use Rattle.arn_base.specs.declared.records.Record.{Record}
+use Rattle.arn_base.specs.declared.records.Record.TheVariants as entry
+use Rattle.arn_base.specs.declared.records.Start.{Start}
+use Rattle.rv64_model.specs.Instruction.{Effect, Next, Call, End}
+use Rattle.parts_model.specs.Image.{is_image}
+use Rattle.parts_model.specs.declared.limits.TheConstants.{WINDOW_LEN}
+use Rattle.parts_model.specs.Replies.{is_success}
+use Rattle.acts_model.specs.Acts.{Act, Returns, Gives, Starts, Forks, Founds, Shares, Leaves, Delivers, Exits, Dies, beginning_in, begun, child_view, done, done_by, unborn}
+use Rattle.acts_model.specs.Bodies.{Body, Bodies, View, body_at, put, seen, view}
+use Rattle.acts_model.specs.Disagreement.{Wrong, act_wrong, is_other_call, isnt_block, isnt_call, or_else, wrong_if, wrong_with}
+use Rattle.acts_model.specs.Records.{life_told, lives_after}
+use Rattle.acts_model.specs.Told.{Kind, Exit, Fork, Exec, Wait, Sigreturn, Read, Write, Shm, Other, kind_of, call_act, is_pipe_write, act_of}
+use Rattle.acts_model.specs.Transfers.{holds_of}
+use Rattle.acts_model.specs.Views.{after_instr, argument, stands_at, with_cpu}
+use Rattle.history_model.specs.Alone.{Own, begins, plain_by, plain_in}
+use Rattle.history_model.specs.Groups.{Groups, groups_told}
+use Rattle.history_model.specs.Moments.{changed, segments_told}
+use Rattle.past_lives.proofs.Bodies.{put-body}
+use Rattle.past_lives.proofs.Does.{Does, IsFounded, act_groups, act_held, act_live, founds-does}
+use Rattle.past_lives.proofs.Records.{un-not}
+use Rattle.past_lives.proofs.Sizes.{HasSizes, StartsWell, acted-sizes, instr-sizes, zeros-len}
+use Rattle.past_lives.proofs.Sound.{Fits, Marks, Sound, begun-sound, done-sound, fits-later, mark, mark-here, mark-same, put-sound, reach-body, sound-later}
+use Rattle.past_lives.proofs.Tells.{IsChild, IsFounding, Lives, Tells, born-lives, is-live, lives-as, own-lives, put-lives}
+
+-- windows and segments are whole
+
+pub record Sounds (n : ℕ) (b : Bodies) : Type 0 where
+  pub shared : Marks
+  pub sound : Sound shared n b
+
+pub sounds-later : (n n' : ℕ) (b : Bodies) → n ≤ n' → Sounds n b → Sounds n' b
+sounds-later n n' b le s = record { shared = s.shared; sound = sound-later s.shared s.shared n n' b (λ k l. refl) le s.sound }
+
+some-view : (v w : View) → Some v ≡ Some w → v ≡ w
+some-view v w e = cc
+
+record IsSized (shared : Marks) (n : ℕ) (v : View) : Type 0 where
+  fits : Fits shared n (holds_of v.body)
+  sizes : HasSizes v
+
+is-sized : (shared : Marks) (n : ℕ) (b : Bodies) (pid : ℕ) (v : View) → Sound shared n b → seen b pid ≡ Some v → IsSized shared n v
+is-sized shared n b pid v s sees = by_body (body_at b pid) (s.fits pid) (s.sizes pid) sees
+  where
+    by_body : (o : Option Body) → IfSome o (λ (x : Body). Fits shared n (holds_of x)) → IfSome o (λ (x : Body). HasSizes (view b x)) → option_map (view b) o ≡ Some v → IsSized shared n v
+    by_body None f h e = absurd (cc)
+    by_body (Some x) f h e = subst (IsSized shared n) (some-view (view b x) v e) (record { fits = f; sizes = h })
+
+pub seen-sizes : (n : ℕ) (b : Bodies) (pid : ℕ) (v : View) → Sounds n b → seen b pid ≡ Some v → HasSizes v
+seen-sizes n b pid v s sees = (is-sized s.shared n b pid v s.sound sees).sizes
+
+plain-sounds : (n pid : ℕ) (b : Bodies) (v : View) (effect : Effect) → seen b pid ≡ Some v → stands_at v ≡ effect → Sounds n b
+    → (own : Own) → own.bodies ≡ b → IfSome (plain_by pid own v effect) (λ (o : Own). Sounds n o.bodies)
+plain-sounds n pid b v (Next instr cpu memory) sees stands s own is =
+    let z = is-sized s.shared n b pid v s.sound sees in
+    let same = ap holds_of (reach-body memory (with_cpu cpu v)) in
+    let w = after_instr cpu memory v in
+    subst (λ (c : Bodies). Sounds n (put pid w c)) (sym is)
+    (record { shared = s.shared; sound = put-sound s.shared n pid w b (subst (Fits s.shared n) (sym same) z.fits) (instr-sizes v instr cpu memory z.sizes stands) s.sound })
+plain-sounds n pid b v Call sees stands s own is = tt
+plain-sounds n pid b v (End status) sees stands s own is = tt
+
+act-sounds : (event pid : ℕ) (b : Bodies) (v : View) (act : Act) → StartsWell v act → seen b pid ≡ Some v → Sounds event b → Sounds (event + 1) (done pid event act b)
+act-sounds event pid b v act well sees s =
+    let z = is-sized s.shared event b pid v s.sound sees in
+    let marks = mark event act s.shared in
+    let same = mark-same event act s.shared in
+    let later = sound-later s.shared marks event (event + 1) b same (omega arith) s.sound in
+    let fits = fits-later s.shared marks event (event + 1) (holds_of v.body) same (omega arith) z.fits in
+    let after : Bodies = done_by pid event act (Some v) b in
+    let there : Sounds (event + 1) after = record {
+      shared = marks;
+      sound = done-sound marks event pid act v b (mark-here event act s.shared) fits z.sizes (acted-sizes event act v well z.sizes) later;
+    } in
+    subst (Sounds (event + 1)) (sym (ap (λ (o : Option View). done_by pid event act o b) sees)) there
+
+-- process 1 begins, and starts from an image
+first-view : ℕ → Bodies → View
+first-view event b = view (put 1 (unborn event) b) (unborn event).body
+
+first-seen : (event : ℕ) (b : Bodies) → seen (put 1 (unborn event) b) 1 ≡ Some (view (put 1 (unborn event) b) (unborn event).body)
+first-seen event b = ap (λ (o : Option Body). option_map (view (put 1 (unborn event) b)) o) (put-body 1 (unborn event) b 1)
+
+boot-sounds : (event : ℕ) (file : List ℕ) (b : Bodies) → is_image file ≡ true → Sounds event b → Sounds (event + 1) (done 1 event (Starts file 0 0) (put 1 (unborn event) b))
+boot-sounds event file b image s =
+    let act : Act = Starts file 0 0 in
+    let u = unborn event in
+    let marks = mark event act s.shared in
+    let here = mark-here event act s.shared in
+    let later = sound-later s.shared marks event (event + 1) b (mark-same event act s.shared) (omega arith) s.sound in
+    let sizes : HasSizes u = record { window = zeros-len WINDOW_LEN; segment = tt } in
+    let c = put 1 u b in
+    let sound = put-sound marks (event + 1) 1 u b (record { window = (omega arith, here); segment = tt }) sizes later in
+    let v = view c u.body in
+    let sees = first-seen event b in
+    let z = is-sized marks (event + 1) c 1 v sound sees in
+    let after : Bodies = done_by 1 event act (Some v) c in
+    let there : Sounds (event + 1) after = record {
+      shared = marks;
+      sound = done-sound marks event 1 act v c here z.fits z.sizes (acted-sizes event act v (image, refl) z.sizes) sound;
+    } in
+    subst (Sounds (event + 1)) (sym (ap (λ (o : Option View). done_by 1 event act o c) sees)) there
+
+begin-sounds : (event g : ℕ) (start : Start) (b : Bodies) → length (beginning_in start).window ≡ WINDOW_LEN → Sounds event b → Sounds (event + 1) (begun g event (beginning_in start) b)
+begin-sounds event g start b len s =
+    let marks = mark event Exits s.shared in
+    let later = sound-later s.shared marks event (event + 1) b (mark-same event Exits s.shared) (omega arith) s.sound in
+    record { shared = marks; sound = begun-sound marks event g (beginning_in start) b (mark-here event Exits s.shared) len later }
+
+-- acts that their records' checks let pass
+
+wrong_if-none : (test : Bool) (said found : ℕ) → wrong_if test said found ≡ None → test ≡ false
+wrong_if-none true said found e = absurd (cc)
+wrong_if-none false said found e = refl
+
+or_else-none : (a b : Option Wrong) → or_else a b ≡ None → (a ≡ None) × (b ≡ None)
+or_else-none None b e = (refl, e)
+or_else-none (Some wrong) b e = absurd (cc)
+
+if-well : (v : View) (b : Bool) (x y : Act) → StartsWell v x → StartsWell v y → StartsWell v (if b then x else y)
+if-well v true x y h k = h
+if-well v false x y h k = k
+
+pub starts-well : (v : View) (file : List ℕ) (block len : ℕ) (more : Extra) → act_wrong v (Starts file block len) more ≡ None → StartsWell v (Starts file block len)
+starts-well v file block len more e =
+    let parts = or_else-none (wrong_if (not (is_image file)) (length file) 0) (wrong_if (isnt_block v block len) len 0) e in
+    (un-not (is_image file) (wrong_if-none (not (is_image file)) (length file) 0 parts.0), wrong_if-none (isnt_block v block len) len 0 parts.1)
+
+fork-well : (v : View) (result : ℕ) (more : Extra) → StartsWell v (call_act Fork v.body.cpu result more)
+fork-well v result (extra.Start start) = if-well v (is_success result) (Founds result) (Returns result) tt tt
+fork-well v result more = if-well v (is_success result) (Forks result) (Returns result) tt tt
+
+exec-well : (v : View) (result : ℕ) (more : Extra) → act_wrong v (call_act Exec v.body.cpu result more) more ≡ None → StartsWell v (call_act Exec v.body.cpu result more)
+exec-well v result (extra.Give give) e = starts-well v give.bytes (argument v.body.cpu 2) (argument v.body.cpu 3) (extra.Give give) e
+exec-well v result more e = tt
+
+wait-well : (v : View) (result : ℕ) (more : Extra) → StartsWell v (call_act Wait v.body.cpu result more)
+wait-well v result (extra.Give give) = tt
+wait-well v result more = tt
+
+read-well : (v : View) (result : ℕ) (more : Extra) → StartsWell v (call_act Read v.body.cpu result more)
+read-well v result (extra.Give give) = tt
+read-well v result (extra.Reply device bytes) = tt
+read-well v result more = tt
+
+write-well : (v : View) (result : ℕ) (more : Extra) → StartsWell v (call_act Write v.body.cpu result more)
+write-well v result (extra.Put file at bytes) = tt
+write-well v result (extra.Console bytes) = tt
+write-well v result (extra.Sent device bytes) = tt
+write-well v result extra.Nothing = if-well v (is_pipe_write result) (Gives (argument v.body.cpu 1) result result) (Returns result) tt tt
+write-well v result more = tt
+
+call-well : (v : View) (kind : Kind) (result : ℕ) (more : Extra) → act_wrong v (call_act kind v.body.cpu result more) more ≡ None → StartsWell v (call_act kind v.body.cpu result more)
+call-well v Exit result more e = tt
+call-well v Fork result more e = fork-well v result more
+call-well v Exec result more e = exec-well v result more e
+call-well v Wait result more e = wait-well v result more
+call-well v Sigreturn result more e = if-well v (result == 0) Leaves (Returns result) tt tt
+call-well v Read result more e = read-well v result more
+call-well v Write result more e = write-well v result more
+call-well v Shm result more e = if-well v (result == 0) Shares (Returns result) tt tt
+call-well v Other result more e = tt
+
+pub record-well : (v : View) (effect : Effect) (e : Record) → wrong_with v effect e ≡ None → IfSome (act_of v.body.cpu e) (StartsWell v)
+record-well v effect (entry.File name bytes) w = tt
+record-well v effect (entry.Boot name give) w = starts-well v give.bytes 0 0 extra.Nothing w
+record-well v effect (entry.Typed bytes) w = tt
+record-well v effect (entry.Unplug device) w = tt
+record-well v effect (entry.Slice pid ran) w = tt
+record-well v effect (entry.Signal pid signal cut handler) w = if-well v (handler == 0) (Dies signal cut) (Delivers signal handler cut) tt tt
+record-well v effect (entry.Call pid number result more) w =
+    let act = call_act (kind_of number) v.body.cpu result more in
+    let a = or_else-none (isnt_call effect number) (or_else (is_other_call v.body.cpu number) (act_wrong v act more)) w in
+    let b = or_else-none (is_other_call v.body.cpu number) (act_wrong v act more) a.1 in
+    call-well v (kind_of number) result more b.1
+record-well v effect (entry.End pid status) w = tt
+
+-- all that is kept: what is told of members, and, if blocks are whole, that windows are
+
+pub record State (W : Type 0) (g n most : ℕ) (groups : Groups) (live : ℕ → Bool) (held : ℕ → Option ℕ) (own : Own) : Type 0 where
+  pub lives : Lives g groups most live held own.bodies
+  pub sounds : W → Sounds n own.bodies
+
+abbrev pub live_after : Record → (ℕ → Bool) → ℕ → Bool
+live_after e live p = lives_after (life_told e) p (live p)
+
+-- an instruction of a process
+
+same-lives : (g : ℕ) (groups : Groups) (most : ℕ) (live : ℕ → Bool) (held : ℕ → Option ℕ) (b : Bodies) (pid : ℕ) (v w : View) → seen b pid ≡ Some v → w.body.segment ≡ v.body.segment
+    → Lives g groups most live held b → Lives g groups most live held (put pid w b)
+same-lives g groups most live held b pid v w sees same s =
+    record {
+      tells = λ p k. subst (λ (o : Option Body). Tells o (live p) (held p)) (sym (put-body pid w b p)) (tells_by p k (p == pid) refl);
+      unborn = λ p l. (put-body pid w b p ∙ unborn_by p l (p == pid) refl, (s.unborn p l).1);
+    }
+  where
+    by_body : (o : Option Body) (l : Bool) (h : Option ℕ) → option_map (view b) o ≡ Some v → Tells o l h → Tells (Some w.body) l h
+    by_body None l h f t = absurd (cc)
+    by_body (Some x) l h f t = let is = some-view (view b x) v f in (t.0, same ∙ (ap (λ (y : View). y.body.segment) (sym is) ∙ t.1))
+
+    tells_by : (p : ℕ) → groups p ≡ Some g → (t : Bool) → (p == pid) ≡ t → Tells (cond t (Some w.body) (body_at b p)) (live p) (held p)
+    tells_by p k true e = by_body (body_at b p) (live p) (held p) (ap (seen b) (eqb-true p pid e) ∙ sees) (s.tells p k)
+    tells_by p k false e = s.tells p k
+
+    unborn_by : (p : ℕ) → most < p → (t : Bool) → (p == pid) ≡ t → cond t (Some w.body) (body_at b p) ≡ None
+    unborn_by p l true e = absurd (let none = (s.unborn p l).0 in let there = ap (seen b) (eqb-true p pid e) ∙ sees in let gone = ap (λ (o : Option Body). option_map (view b) o) none in (let no : None ≡ Some v = sym gone ∙ there in cc))
+    unborn_by p l false e = (s.unborn p l).0
+
+pub plain-state : (W : Type 0) (g n most pid : ℕ) (groups : Groups) (live : ℕ → Bool) (held : ℕ → Option ℕ) (own : Own) → State W g n most groups live held own
+    → IfSome (plain_in pid own (seen own.bodies pid)) (State W g n most groups live held)
+plain-state W g n most pid groups live held own s = by_view (seen own.bodies pid) refl
+  where
+    by_effect : (v : View) (effect : Effect) → seen own.bodies pid ≡ Some v → IfSome (plain_by pid own v effect) (λ (o : Own). W → Sounds n o.bodies) → IfSome (plain_by pid own v effect) (State W g n most groups live held)
+    by_effect v (Next instr cpu memory) sees f =
+        record {
+          lives = same-lives g groups most live held own.bodies pid v (after_instr cpu memory v) sees (ap (λ x. x.segment) (reach-body memory (with_cpu cpu v))) s.lives;
+          sounds = f;
+        }
+    by_effect v Call sees f = tt
+    by_effect v (End status) sees f = tt
+
+    under : (o : Option Own) → (W → IfSome o (λ (o : Own). Sounds n o.bodies)) → IfSome o (λ (o : Own). W → Sounds n o.bodies)
+    under None f = tt
+    under (Some o) f = f
+
+    by_view : (o : Option View) → seen own.bodies pid ≡ o → IfSome (plain_in pid own o) (State W g n most groups live held)
+    by_view None e = tt
+    by_view (Some v) e =
+        by_effect v (stands_at v) e (under (plain_by pid own v (stands_at v)) (λ w. plain-sounds n pid own.bodies v (stands_at v) e refl (s.sounds w) own refl))
+
+-- the act of a member
+pub act-state : (W : Type 0) (g event most most' pid : ℕ) (groups : Groups) (live : ℕ → Bool) (held : ℕ → Option ℕ) (e : Record) (own : Own) (v : View) (act : Act)
+    → Does event pid e act → most ≤ most' → IsChild most most' act → (IsFounding g act → ⊥) → groups pid ≡ Some g → seen own.bodies pid ≡ Some v → StartsWell v act
+    → State W g event most groups live held own
+    → (after : Own) → after.bodies ≡ done pid event act own.bodies → State W g (event + 1) most' (groups_told e groups) (live_after e live) (segments_told event e held) after
+act-state W g event most most' pid groups live held e own v act does more child unfounding is sees well s after bodies =
+    record {
+      lives = subst (Lives g (groups_told e groups) most' (live_after e live) (segments_told event e held)) (sym (bodies ∙ ends)) changes;
+      sounds = λ w. subst (Sounds (event + 1)) (sym bodies) (act-sounds event pid own.bodies v act well sees (s.sounds w));
+    }
+  where
+    ends : done pid event act own.bodies ≡ done_by pid event act (Some v) own.bodies
+    ends = ap (λ (o : Option View). done_by pid event act o own.bodies) sees
+
+    changes : Lives g (groups_told e groups) most' (live_after e live) (segments_told event e held) (done_by pid event act (Some v) own.bodies)
+    changes =
+        lives-as g (act_groups act pid groups) (groups_told e groups) most' (act_live act pid live) (live_after e live) (act_held event act pid held) (segments_told event e held) (done_by pid event act (Some v) own.bodies)
+        (does.groups groups) (does.live live) (does.held held)
+        (own-lives g event groups most most' live held own.bodies pid v act more child unfounding (is-live g groups most live held own.bodies pid v is sees s.lives) s.lives)
+
+-- the boot
+pub boot-state : (W : Type 0) (g event most : ℕ) (groups : Groups) (live : ℕ → Bool) (held : ℕ → Option ℕ) (name : List ℕ) (give : Give) (own : Own) → is_image give.bytes ≡ true
+    → State W g event most groups live held own
+    → (after : Own) → after.bodies ≡ done 1 event (Starts give.bytes 0 0) (put 1 (unborn event) own.bodies)
+    → State W g (event + 1) (max most 1) (groups_told (entry.Boot name give) groups) (live_after (entry.Boot name give) live) (segments_told event (entry.Boot name give) held) after
+boot-state W g event most groups live held name give own image s after bodies =
+    record {
+      lives = subst (Lives g (groups_told e groups) (max most 1) (live_after e live) (segments_told event e held)) (sym (bodies ∙ ends)) changes;
+      sounds = λ w. subst (Sounds (event + 1)) (sym bodies) (boot-sounds event give.bytes own.bodies image (s.sounds w));
+    }
+  where
+    e : Record
+    e = entry.Boot name give
+
+    ends : done 1 event (Starts give.bytes 0 0) (put 1 (unborn event) own.bodies) ≡ done_by 1 event (Starts give.bytes 0 0) (Some (view (put 1 (unborn event) own.bodies) (unborn event).body)) (put 1 (unborn event) own.bodies)
+    ends = ap (λ (o : Option View). done_by 1 event (Starts give.bytes 0 0) o (put 1 (unborn event) own.bodies)) (first-seen event own.bodies)
+
+    twice : (p : ℕ) → changed held 1 None p ≡ changed (changed held 1 None) 1 None p
+    twice p = by_test (p == 1)
+      where
+        by_test : (t : Bool) → (if t then None else held p) ≡ (if t then None else if t then None else held p)
+        by_test true = refl
+        by_test false = refl
+
+    begun_first : Lives g (changed groups 1 (Some 1)) (max most 1) (λ p. if 1 == p then true else live p) (changed held 1 None) (put 1 (unborn event) own.bodies)
+    begun_first = born-lives g groups (Some 1) most (max most 1) live held own.bodies 1 (unborn event) None (omega arith) (omega arith) refl s.lives
+
+    changes : Lives g (groups_told e groups) (max most 1) (live_after e live) (segments_told event e held) (done_by 1 event (Starts give.bytes 0 0) (Some (view (put 1 (unborn event) own.bodies) (unborn event).body)) (put 1 (unborn event) own.bodies))
+    changes =
+        lives-as g (changed groups 1 (Some 1)) (groups_told e groups) (max most 1) (λ p. if 1 == p then true else live p) (live_after e live) (changed (changed held 1 None) 1 None) (segments_told event e held) _
+        (λ p. refl) (λ p. refl) twice
+        (put-lives g (changed groups 1 (Some 1)) (max most 1) (λ p. if 1 == p then true else live p) (changed held 1 None) (put 1 (unborn event) own.bodies) 1 _ None refl refl begun_first)
+
+-- the group begins
+pub begins-state : (W : Type 0) (g event most most' pid n result : ℕ) (more : Extra) (groups : Groups) (live : ℕ → Bool) (held : ℕ → Option ℕ) (start : Start) (own : Own)
+    → most ≤ most' → g ≤ most' → IsFounded g (entry.Call pid n result more) → (W → length (beginning_in start).window ≡ WINDOW_LEN) → State W g event most groups live held own
+    → State W g (event + 1) most' (groups_told (entry.Call pid n result more) groups) (live_after (entry.Call pid n result more) live) (segments_told event (entry.Call pid n result more) held)
+    (begins g event (entry.Call pid n result more) start own)
+begins-state W g event most most' pid n result more groups live held start own le few founded len s =
+    record {
+      lives =
+          lives-as g (changed groups g (Some g)) (groups_told e groups) most' (λ p. if g == p then true else live p) (live_after e live) (changed held g None) (segments_told event e held) _
+          (does.groups groups) (does.live live) (does.held held)
+          (born-lives g groups (Some g) most most' live held own.bodies g (child_view event (beginning_in start) None []) None le few refl s.lives);
+      sounds = λ w. begin-sounds event g start own.bodies (len w) (s.sounds w);
+    }
+  where
+    e : Record
+    e = entry.Call pid n result more
+
+    does : Does event pid (entry.Call pid n result more) (Founds g)
+    does = founds-does g event pid n result more founded

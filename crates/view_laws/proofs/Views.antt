@@ -1,0 +1,60 @@
+-- Views on the records of a run.
+use Rattle.std.proofs.Common.{◌≡◌, ℕ, nat_le, ◌&&◌, Bool, List, Option, Some, None, refl, sym, ap, subst, ◌∙◌}
+use Rattle.std.specs.Prelude.{option_and_then, option_map}
+use Rattle.acts_model.specs.Bodies.{View, Body, body_at, nobody, nth_body, seen, view}
+use Rattle.acts_model.specs.Views.{bytes_in}
+use Rattle.arn_model.specs.Run.{Input, instructions_in, machine_after, run, state_at}
+use Rattle.arn_model.specs.Tells.{HasNumbers, lives}
+use Rattle.history_model.specs.Alone.{Own, Made, Makes, alone, nothing_own}
+use Rattle.history_model.specs.Groups.{group_of}
+use Rattle.history_model.specs.Moments.{lives_at, total}
+use Rattle.log_model.specs.Records.{records}
+use Rattle.past_lives.specs.Members.{is_member}
+use Rattle.replay_laws.specs.Laws.{GroupsPassThrough, PassesThrough, RecordsTellMoments, RecordsTellRuns}
+use Rattle.state_viewer.specs.Views.{HasMemory, HasRegisters, made_by, made_of}
+use Rattle.view_laws.specs.OfRuns.{ViewsRun}
+
+nobody-at : (p : ℕ) → body_at nobody p ≡ None
+unfolding body_at nth_body
+nobody-at p = refl
+
+same-own : (a b : Own) → Makes a ≡ Makes b → a ≡ b
+same-own a b e = cc
+
+none-seen : (p : ℕ) → seen nobody p ≡ None
+none-seen p = ap (λ (o : Option Body). option_map (view nobody) o) (nobody-at p)
+
+map-then : (o : Option View) → option_map (λ v. v.body.cpu) o ≡ option_and_then (λ v. Some v.body.cpu) o
+map-then None = refl
+map-then (Some v) = refl
+
+-- a group alone, or none
+record Sees (inputs : List Input) (moment pid : ℕ) (group : Option ℕ) : Type 0 where
+  own : Own
+  makes : made_by (records inputs) moment group ≡ Makes own
+  same : {A : Type 0} (f : View → Option A) (x : A) → option_and_then f (seen own.bodies pid) ≡ Some x → option_and_then f (seen (state_at inputs moment).bodies pid) ≡ Some x
+
+sees : (inputs : List Input) (moment pid : ℕ) (group : Option ℕ) → group_of (records inputs) pid ≡ group → ((g : ℕ) → PassesThrough inputs g moment) → Sees inputs moment pid group
+sees inputs moment pid None is passes =
+    record { own = nothing_own; makes = refl; same = λ f x e. absurd (let no = sym (ap (option_and_then f) (none-seen pid)) ∙ e in cc) }
+sees inputs moment pid (Some g) is passes =
+    let through = passes g in
+    record { own = through.own; makes = through.made; same = λ f x e. sym (ap (option_and_then f) (through.whole.views pid is)) ∙ e }
+
+pub views : (inputs : List Input) (moment pid : ℕ) → HasNumbers (machine_after inputs).kernel → GroupsPassThrough → RecordsTellMoments → RecordsTellRuns → ViewsRun inputs moment pid
+views inputs moment pid few passes moments runs =
+    let there = sees inputs moment pid (group_of (records inputs) pid) refl (λ g. passes inputs g moment few) in
+    record {
+      own = there.own;
+      agrees = there.makes;
+      member =
+          ap (λ (n : ℕ). nat_le moment n && lives_at (records inputs) moment pid) (runs inputs few).instructions
+          ∙ ap (λ (b : Bool). nat_le moment (instructions_in (run inputs)) && b) (moments inputs moment pid few).lives;
+      registers = λ cpu h.
+          map-then (seen (state_at inputs moment).bodies pid)
+          ∙ there.same (λ v. Some v.body.cpu) cpu
+          (ap (λ (o : Own). option_and_then (λ v. Some v.body.cpu) (seen o.bodies pid)) (same-own there.own h.own (sym there.makes ∙ h.made)) ∙ (sym (map-then (seen h.own.bodies pid)) ∙ h.registers));
+      memory = λ at len bytes h.
+          there.same (λ v. bytes_in v at len) bytes
+          (ap (λ (o : Own). option_and_then (λ v. bytes_in v at len) (seen o.bodies pid)) (same-own there.own h.own (sym there.makes ∙ h.made)) ∙ h.bytes_are);
+    }
