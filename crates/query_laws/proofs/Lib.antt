@@ -22,5 +22,4 @@ pub mod Operands
 pub mod Fitting
 pub mod Joined
 mod Held
-mod Living
 mod Lived

@@ -1,5 +1,5 @@
 -- On the records of a run, what reaches a byte that a process holds is what whole tracking gives it.
-use Rattle.std.proofs.Common.{◌≡◌, ◌⊎◌, inl, inr, ℕ, zero, suc, ◌+◌, ◌==◌, Bool, true, false, if◌then◌else◌, List, [], flat_map, Option, Some, None, option_map, refl, ap, sym, subst, ◌∙◌}
+use Rattle.std.proofs.Common.{◌≡◌, ◌⊎◌, inl, inr, ℕ, zero, suc, ◌+◌, ◌==◌, Bool, true, false, if◌then◌else◌, List, [], flat_map, Option, Some, None, IsSome, option_map, refl, ap, sym, subst, ◌∙◌}
 use Rattle.std.proofs.lemmas.Bool.Decides.{eqb_tells}
 use Rattle.std.proofs.lemmas.Option.{none-some, same_Some}
 use Rattle.arn_base.specs.declared.records.Record.{Record}
@@ -18,6 +18,7 @@ use Rattle.lineage_model.specs.Flow.{At, Location, Memory, Register}
 use Rattle.lineage_model.specs.Joined.{from_item}
 use Rattle.lineage_model.specs.Tracking.{EventByte, Tracked, alone}
 use Rattle.log_model.specs.Records.{records}
+use Rattle.past_lives.specs.Laws.{LivesHaveGroups}
 use Rattle.query_model.specs.Sources.{reaching}
 use Rattle.query_model.specs.States.{held_items, held_sources, in_memory, items_among, items_made, location_of, part_len, process_groups, set_at, set_of}
 use Rattle.query_model.specs.declared.held.Held.{Held}
@@ -26,7 +27,6 @@ use Rattle.query_model.specs.declared.held.Part.TheVariants as part
 use Rattle.replay_laws.specs.Laws.{GroupsPassThrough}
 use Rattle.unbroken_laws.specs.Laws.{RunsAreUnbroken}
 use Rattle.query_laws.specs.States.{HoldsRun, StatesAreOfRuns, whole_set}
-use Rattle.query_laws.proofs.Living.{living-group}
 use Rattle.query_laws.proofs.OfRuns.{flat_map-same, item-same, none-disagrees, pairs-same, reaching-joined}
 
 module _ (table : Table) (inputs : List Input) (few : HasNumbers (machine_after inputs).kernel) (passes : GroupsPassThrough) (joined : LineageIsJoined) (moment pid g : ℕ) (group : group_of (records inputs) pid ≡ Some g) where
@@ -89,8 +89,13 @@ module _ (table : Table) (inputs : List Input) (few : HasNumbers (machine_after 
       (items_made table pid p k (history.alone (records inputs) g moment))
       ∙ made-joins p k)
 
-pub states-of-runs : GroupsPassThrough → LineageIsJoined → RunsAreUnbroken → StatesAreOfRuns
-states-of-runs passes joined unbroken table inputs held few = record {
+-- the group that there is
+group-in : (o : Option ℕ) → IsSome o → (g : ℕ) × (o ≡ Some g)
+group-in None is = absurd (cc)
+group-in (Some g) is = (g, refl)
+
+pub states-of-runs : GroupsPassThrough → LineageIsJoined → RunsAreUnbroken → LivesHaveGroups → StatesAreOfRuns
+states-of-runs passes joined unbroken have table inputs held few = record {
   agree = none-disagrees table inputs few passes held.moment (process_groups (records inputs) held.pid);
   sources = λ lives k. sources lives k;
   pairs = λ lives. pairs-same (held_sources table (records inputs) held) (whole_set table inputs held) (sources lives) (part_len held.part) 0;
@@ -98,5 +103,5 @@ states-of-runs passes joined unbroken table inputs held few = record {
   where
     sources : lives_at (records inputs) held.moment held.pid ≡ true → (k : ℕ) → held_sources table (records inputs) held k ≡ whole_set table inputs held k
     sources lives k =
-        let own = living-group (records inputs) held.moment held.pid (unbroken inputs few) lives in
+        let own = group-in (group_of (records inputs) held.pid) (have (records inputs) held.moment held.pid (unbroken inputs few) lives) in
         sources-joined table inputs few passes joined held.moment held.pid own.0 own.1 held.part k

@@ -21,7 +21,7 @@ use Rattle.query_laws.proofs.Found.{AreFounded, Stands, follows, greatest-push, 
 abbrev pub Unbooted : List Record → Type 0
 Unbooted before = is_booted before ≡ false → (greatest before ≡ 0) × (behind before ≡ Nowhere)
 
-pub behind-push : (b : Behind) (rs : List Record) (e : Record) → behind_from b (rs ++ e ∷ []) ≡ behind_record (behind_from b rs) e
+behind-push : (b : Behind) (rs : List Record) (e : Record) → behind_from b (rs ++ e ∷ []) ≡ behind_record (behind_from b rs) e
 behind-push b [] e = refl
 behind-push b (r ∷ rs) e = behind-push (behind_record b r) rs e
 

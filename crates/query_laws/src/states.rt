@@ -2,6 +2,7 @@
 ghost use Rattle.query_laws.specs.States.{HeldIsOfBytes, HeldItemsAreThere, StatesAreOfRuns};
 
 use lineage_laws::lineage_is_joined;
+use past_lives::lives_have_groups;
 use replay_laws::groups_pass_through;
 use taint_laws::follows_holders;
 use taint_tracker::acts_have_len;
@@ -33,4 +34,5 @@ pub fn states_are_of_runs()
     groups_pass_through();
     lineage_is_joined();
     runs_are_unbroken();
+    lives_have_groups();
 }
