@@ -1,5 +1,5 @@
 -- The pairs that are asked for of bytes that a process holds.
-use Rattle.std.proofs.Common.{◌≡◌, ℕ, ◌+◌, ◌<◌, List, [], ◌∷◌, ◌++◌, All, map, flat_map, length, Contains, refl, sym, ap, subst, ◌∙◌, arith, zero-add}
+use Rattle.std.proofs.Common.{◌≡◌, ℕ, ◌+◌, ◌<◌, List, ◌++◌, All, map, flat_map, Contains, refl, sym, ap, subst, ◌∙◌}
 use Rattle.std.specs.List.{range_with_len}
 use Rattle.std.proofs.lemmas.List.Elements.{All-contains}
 use Rattle.arn_base.specs.declared.records.Pair.{Pair}
@@ -46,7 +46,7 @@ module _ (entries : List Record) (reach : Reaching) (stand : NumbersStand) (told
       let named = unmapped item_of (items k) item.0 ((are k low item.0).0 item.1) in
       let b = named.0 in
       let has : Contains (from_item (event_at entries) reach b) (source_of pair) =
-          subst (λ (xs : List EventByte). Contains xs (source_of pair)) (stands-for k low b named.1) (subst (λ (i : Item). Contains (from_number (event_at entries) reach i) (source_of pair)) (sym named.2) from) in
+      subst (λ (xs : List EventByte). Contains xs (source_of pair)) (stands-for k low b named.1) (subst (λ (i : Item). Contains (from_number (event_at entries) reach i) (source_of pair)) (sym named.2) from) in
       let flat = in-flat (from_item (event_at entries) reach) (items k) b (source_of pair) named.1 has in
       subst (λ (n : ℕ). (n < len) × Contains (sources n) (source_of pair)) byte (low, subst (λ (xs : List EventByte). Contains xs (source_of pair)) (lead k low) flat)
 
@@ -55,8 +55,7 @@ module _ (entries : List Record) (reach : Reaching) (stand : NumbersStand) (told
       let k = pair.byte in
       let led = from-flat (from_item (event_at entries) reach) (items k) (source_of pair) (subst (λ (xs : List EventByte). Contains xs (source_of pair)) (sym (lead k h.0)) h.1) in
       let b = led.0 in
-      let item : Contains (told k) (item_of b) = (are k h.0 (item_of b)).1 (mapped item_of (items k) b led.1) in
-      (
+      let item : Contains (told k) (item_of b) = (are k h.0 (item_of b)).1 (mapped item_of (items k) b led.1) in (
         item_demand k (item_of b),
         in-flat Byte-demands (range_with_len 0 len) k (item_demand k (item_of b)) (in-range len k h.0) (mapped (item_demand k) (told k) (item_of b) item),
         refl,

@@ -10,7 +10,6 @@ pub mod Fit
 pub mod Reaching
 pub mod Pairs
 pub mod Answered
-
 pub mod Lists
 pub mod Members
 pub mod HeldPairs

@@ -1,15 +1,14 @@
 -- What a tracker tells of a byte that a member holds.
-use Rattle.std.proofs.Common.{◌≡◌, ℕ, zero, suc, ◌+◌, ◌<◌, ◌==◌, ◌&&◌, nat_lt, Bool, true, false, List, [], ◌∷◌, Contains, Option, Some, None, IfSome, IsSome, is_some, option_map, option_and_then, option_to_list, unwrap_or, if◌then◌else◌, refl, sym, ap, subst, ◌∙◌, arith, lt-ltb, ne_eqb}
+use Rattle.std.proofs.Common.{◌≡◌, ℕ, zero, suc, ◌+◌, ◌<◌, nat_lt, Bool, true, false, List, [], Option, Some, None, IfSome, IsSome, option_map, option_and_then, unwrap_or, if◌then◌else◌, refl, sym, subst, arith, lt-ltb, ne_eqb}
 use Rattle.std.proofs.lemmas.Bool.{and_from}
-use Rattle.arn_base.specs.declared.records.Record.{Record}
 use Rattle.rv64_model.specs.Carries.{operands}
 use Rattle.acts_model.specs.Bodies.{Body, body_at}
 use Rattle.acts_model.specs.Transfers.{Holds, holds_of, is_private, is_shared}
 use Rattle.set_store.specs.declared.item.Item.{Item}
 use Rattle.history_model.specs.Alone as history
-use Rattle.history_model.specs.Alone.{Own, Made}
+use Rattle.history_model.specs.Alone.{Made}
 use Rattle.history_model.specs.Groups.{group_of}
-use Rattle.lineage_model.specs.Flow.{Location, Memory, Register}
+use Rattle.lineage_model.specs.Flow.{Memory, Register}
 use Rattle.lineage_model.specs.Tracking.{EventByte, Tracked, alone}
 use Rattle.query_model.specs.States.{HasByte, in_memory, in_register, items_among, items_made, location_of, set_at, set_of}
 use Rattle.query_model.specs.declared.held.Held.{Held}
@@ -18,7 +17,6 @@ use Rattle.query_model.specs.declared.held.Part.TheVariants as part
 use Rattle.taint_tracker.specs.Asked.{answer, memory_answer, register_answer, register_items, where_true}
 use Rattle.taint_tracker.specs.Kept.{Kept, shown}
 use Rattle.taint_tracker.specs.Shown.{AreItems, Member, ShowsMember, Tracking}
-use Rattle.taint_tracker.specs.declared.point.Point.{Point}
 use Rattle.query_engine.specs.Follows.{Follows}
 use Rattle.query_engine.specs.Following.{Following, IsFollowing, tracker_of}
 use Rattle.query_engine.specs.States.{point_in, told_at, told_by, told_of}

@@ -31,7 +31,11 @@ use taint_laws::blocks_are_whole;
 #[derive(Clone, Copy, Debug, PartialEq, Eq)]
 pub enum Target {
     /// Bytes of an event.
-    Event { event: u64, from: u32, len: u32 },
+    Event {
+        event: u64,
+        from: u32,
+        len: u32,
+    },
     /// Bytes of a process's memory at a moment, from an address on.
     Mem {
         moment: u64,
@@ -40,7 +44,11 @@ pub enum Target {
         len: u32,
     },
     /// The eight bytes of a process's register at a moment.
-    Reg { moment: u64, pid: u32, reg: u8 },
+    Reg {
+        moment: u64,
+        pid: u32,
+        reg: u8,
+    },
 }
 
 /// What a query answers: source bytes beside bytes of the target, rising; the groups that are asked, and how

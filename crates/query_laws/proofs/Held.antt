@@ -1,5 +1,5 @@
 -- The items of bytes that a process holds are bytes that events of its group have.
-use Rattle.std.proofs.Common.{◌≡◌, inl, inr, ℕ, zero, suc, ◌+◌, ◌<◌, Bool, true, false, if◌then◌else◌, List, [], ◌∷◌, flat_map, Option, Some, None, IfSome, option_map, option_to_list, refl, ap, sym, subst, ◌∙◌, arith}
+use Rattle.std.proofs.Common.{◌≡◌, inl, inr, ℕ, zero, suc, ◌+◌, Bool, true, false, if◌then◌else◌, List, [], ◌∷◌, flat_map, Option, Some, None, option_map, option_to_list, refl, ap, sym, subst, ◌∙◌, arith}
 use Rattle.std.specs.Prelude.{All, Contains}
 use Rattle.std.specs.List.{AllByRecursion}
 use Rattle.std.proofs.lemmas.List.Elements.{All-nil, All-cons, All-weaker}
@@ -20,13 +20,11 @@ use Rattle.lineage_join.specs.Laws.{reaches}
 use Rattle.lineage_model.specs.Flow.{At, Location, Register, Memory}
 use Rattle.lineage_model.specs.Joined.{from_item}
 use Rattle.lineage_model.specs.Tracking.{EventByte, alone}
-use Rattle.query_model.specs.Linked.{groups_back}
-use Rattle.query_model.specs.Sources.{items_at, reaching, tracked_of}
-use Rattle.query_model.specs.States.{HasByte, held_items, held_sources, in_memory, items_among, items_made, location_of, set_at, set_of}
-use Rattle.query_model.specs.declared.held.Held.{Held}
+use Rattle.query_model.specs.Sources.{items_at, reaching}
+use Rattle.query_model.specs.States.{HasByte, in_memory, items_among, items_made, location_of, set_at, set_of}
 use Rattle.query_model.specs.declared.held.Part.{Part}
 use Rattle.query_model.specs.declared.held.Part.TheVariants as part
-use Rattle.taint_laws.specs.Follows.{HasWholeBlocks, holders_from, none_holds}
+use Rattle.taint_laws.specs.Follows.{HasWholeBlocks}
 use Rattle.taint_laws.specs.Laws.{FollowsHolders}
 use Rattle.taint_tracker.specs.Lens.{ActsHaveLen}
 use Rattle.query_laws.specs.Received.{IsConnected, IsReceivedBy}
@@ -117,9 +115,9 @@ held-bytes follows lens linkage entries held items stands blocks agree k has = b
         let groups = own-group entries held.pid (Some g) stands is in
         let asked = own-asked entries (Some g) stands groups in
         let agrees : (event : ℕ) (at : At) → IsConnected entries from event → IsThere (event_at entries event) at → items event at ≡ items_at (operands linkage) entries held.moment event at =
-            subst (λ (o : Option ℕ). (event : ℕ) (at : At) → IsConnected entries (option_to_list o) event → IsThere (event_at entries event) at → items event at ≡ items_at (operands linkage) entries held.moment event at) is agree in
+        subst (λ (o : Option ℕ). (event : ℕ) (at : At) → IsConnected entries (option_to_list o) event → IsThere (event_at entries event) at → items event at ≡ items_at (operands linkage) entries held.moment event at) is agree in
         let same = reached-same entries from stands groups (λ event at. IsThere (event_at entries event) at) (origin-there entries stands) (operands linkage) held.moment
-            (λ h event at there. real-items linkage entries h follows lens held.moment stands blocks event at there) items (λ event at asks. agrees event at asks.0 asks.1) (how_many entries) in
+        (λ h event at there. real-items linkage entries h follows lens held.moment stands blocks event at there) items (λ event at asks. agrees event at asks.0 asks.1) (how_many entries) in
         flat_map-all (IsNamedThere linkage entries g) (Leads entries (reaches entries items)) (Leads entries (reaching (operands linkage) entries held.moment))
         (λ item named. item-same entries from stands groups (λ event at. IsThere (event_at entries event) at) (origin-there entries stands) (reaches entries items) (reaching (operands linkage) entries held.moment) same g asked
         item.event item.at named.0 named.1)

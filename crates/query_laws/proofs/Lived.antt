@@ -1,32 +1,31 @@
 -- On the records of a run, what reaches a byte that a process holds is what whole tracking gives it.
-use Rattle.std.proofs.Common.{◌≡◌, ◌⊎◌, inl, inr, ℕ, zero, suc, ◌+◌, ◌==◌, Bool, true, false, if◌then◌else◌, List, [], flat_map, Option, Some, None, IsSome, option_map, refl, ap, sym, subst, ◌∙◌}
+use Rattle.std.proofs.Common.{◌≡◌, inl, inr, ℕ, zero, suc, ◌+◌, ◌==◌, Bool, true, false, if◌then◌else◌, List, flat_map, Option, Some, None, IsSome, option_map, refl, ap, sym, subst, ◌∙◌}
 use Rattle.std.proofs.lemmas.Bool.Decides.{eqb_tells}
 use Rattle.std.proofs.lemmas.Option.{none-some, same_Some}
-use Rattle.arn_base.specs.declared.records.Record.{Record}
 use Rattle.rv64_model.specs.Carries.{Table}
 use Rattle.acts_model.specs.Bodies.{Body, body_at}
 use Rattle.acts_model.specs.Moved.{Inside}
-use Rattle.acts_model.specs.Transfers.{Holds, holds_of, is_private, is_shared}
+use Rattle.acts_model.specs.Transfers.{holds_of, is_private, is_shared}
 use Rattle.arn_model.specs.Run.{Input, machine_after, state_at}
 use Rattle.arn_model.specs.Tells.{HasNumbers}
 use Rattle.history_model.specs.Alone as history
 use Rattle.history_model.specs.Events.{event_at}
 use Rattle.history_model.specs.Groups.{group_of, is_number}
 use Rattle.history_model.specs.Moments.{lives_at}
-use Rattle.lineage_laws.specs.Laws.{IsOf, LineageIsJoined, OfMemory, OfRegister, joined_location, joined_point, local_at, whole_at}
-use Rattle.lineage_model.specs.Flow.{At, Location, Memory, Register}
+use Rattle.lineage_laws.specs.Laws.{IsOf, LineageIsJoined, OfMemory, OfRegister, joined_point, local_at, whole_at}
+use Rattle.lineage_model.specs.Flow.{Location, Memory, Register}
 use Rattle.lineage_model.specs.Joined.{from_item}
-use Rattle.lineage_model.specs.Tracking.{EventByte, Tracked, alone}
+use Rattle.lineage_model.specs.Tracking.{EventByte, alone}
 use Rattle.log_model.specs.Records.{records}
 use Rattle.past_lives.specs.Laws.{LivesHaveGroups}
 use Rattle.query_model.specs.Sources.{reaching}
-use Rattle.query_model.specs.States.{held_items, held_sources, in_memory, items_among, items_made, location_of, part_len, process_groups, set_at, set_of}
+use Rattle.query_model.specs.States.{held_sources, in_memory, items_among, items_made, location_of, part_len, process_groups, set_at, set_of}
 use Rattle.query_model.specs.declared.held.Held.{Held}
 use Rattle.query_model.specs.declared.held.Part.{Part}
 use Rattle.query_model.specs.declared.held.Part.TheVariants as part
 use Rattle.replay_laws.specs.Laws.{GroupsPassThrough}
 use Rattle.unbroken_laws.specs.Laws.{RunsAreUnbroken}
-use Rattle.query_laws.specs.States.{HoldsRun, StatesAreOfRuns, whole_set}
+use Rattle.query_laws.specs.States.{StatesAreOfRuns, whole_set}
 use Rattle.query_laws.proofs.OfRuns.{flat_map-same, item-same, none-disagrees, pairs-same, reaching-joined}
 
 module _ (table : Table) (inputs : List Input) (few : HasNumbers (machine_after inputs).kernel) (passes : GroupsPassThrough) (joined : LineageIsJoined) (moment pid g : ℕ) (group : group_of (records inputs) pid ≡ Some g) where
