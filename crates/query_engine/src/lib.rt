@@ -8,6 +8,8 @@ mod follow_all;
 mod followed;
 mod law;
 mod states;
+#[cfg(test)]
+mod tests;
 
 pub use engine::{Answer, Engine, Target};
 pub use replayer::{Disagrees, QueryError};
