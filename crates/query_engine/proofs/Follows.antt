@@ -1,5 +1,5 @@
 -- A replay that a tracker heard.
-use Rattle.std.proofs.Common.{◌≡◌, ℕ, ◌+◌, List, None, All, ap, ◌∙◌}
+use Rattle.std.proofs.Common.{◌≡◌, ℕ, ◌+◌, List, None, All, sym, ap, ◌∙◌}
 use Rattle.arn_base.specs.declared.records.Record.{Record}
 use Rattle.rv64_model.specs.declared.linkage.Linkage.{Linkage}
 use Rattle.guest_bodies.specs.Shown.{Guests}
@@ -14,19 +14,20 @@ use Rattle.replay_steps.specs.declared.errors.ReplayError.TheVariants as replay_
 use Rattle.replayer.specs.Bounds.{RunsBefore, ran_before}
 use Rattle.replayer.specs.Replays.{Replays}
 use Rattle.taint_laws.specs.Follows.{HasWholeBlocks}
-use Rattle.taint_laws.specs.Laws.{FollowsHolders, ToldHears, ToldShows, following}
+use Rattle.taint_laws.specs.Laws.{FollowsHolders, ToldHears, ToldHolds, ToldShows, following}
 use Rattle.taint_tracker.specs.Goes.{nothing_tracked}
 use Rattle.taint_tracker.specs.Kept.{Kept, shown}
 use Rattle.query_engine.specs.Follows.{Explains, Follows}
 
 module _ (entries : List Record) (unbroken : first_broken entries ≡ None) (g until : ℕ) (x y : Kept) (n m : ℕ) (guests : Guests) (r : Replays (following shown) x n (history.alone entries g until) guests y m) where
-  pub follows : (linkage : Linkage) → FollowsHolders → ToldShows shown → ToldHears shown → All HasWholeBlocks entries → shown x ≡ nothing_tracked linkage → Follows linkage entries until g y
-  follows linkage holders shows hears whole from =
+  pub follows : (linkage : Linkage) → FollowsHolders → ToldShows shown → ToldHears shown → ToldHolds shown → All HasWholeBlocks entries → shown x ≡ nothing_tracked linkage → Follows linkage entries until g y
+  follows linkage holders shows hears held whole from =
       let followed = holders entries g until r.own unbroken whole r.makes in
       record {
         own = r.own;
         makes = r.makes;
         shows = shows linkage r.own.inside x y followed.steps followed.possible followed.new from r.told;
+        holds = λ pid. held linkage r.own.inside x y followed.steps followed.possible followed.new from r.told pid ∙ sym (followed.holds pid);
         heard = hears linkage r.own.inside x y followed.steps followed.possible followed.new from r.told;
       }
 

@@ -130,7 +130,7 @@ kept test n from (suc len) t low high = by_less (nat_lt from n) refl (test from)
     by_less false l true e later = let most = ltb-false from n l in front n from (filter test (range_with_len (from + 1) len)) (omega arith)
     by_less false l false e later = absurd (let most = ltb-false from n l in let same : from ≡ n = omega arith in let clash : false ≡ true = sym e ∙ ap test same ∙ t in cc)
 
-group-known : (entries : List Record) (pid g : ℕ) → first_broken entries ≡ None → group_of entries pid ≡ Some g → Contains (groups_in entries) g
+pub group-known : (entries : List Record) (pid g : ℕ) → first_broken entries ≡ None → group_of entries pid ≡ Some g → Contains (groups_in entries) g
 group-known entries pid g unbroken is =
     let f : IsFounded (greatest entries) (group_of entries) g = subst (λ (o : Option ℕ). IfSome o (IsFounded (greatest entries) (group_of entries))) is (all-founded [] entries (λ p. None) unbroken (λ p. tt) pid) in
     kept (λ p. is_number p (group_of entries p)) g 1 (greatest entries) (ap (is_number g) f.own ∙ same-number g) f.above (let low = f.below in omega arith)

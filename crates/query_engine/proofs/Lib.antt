@@ -12,3 +12,7 @@ pub mod Pairs
 pub mod Answered
 pub mod Takers
 pub mod Outward
+pub mod Lists
+pub mod Members
+pub mod HeldPairs
+pub mod HeldAnswered

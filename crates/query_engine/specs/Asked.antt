@@ -5,10 +5,14 @@ use Rattle.rv64_model.specs.Carries.{operands}
 use Rattle.rv64_model.specs.declared.linkage.Linkage.{Linkage}
 use Rattle.history_model.specs.Events.{event_at, is_range}
 use Rattle.query_model.specs.Answers.{count_in, event_disagreement, event_groups, event_pairs, moment_of}
+use Rattle.query_model.specs.States.{process_groups}
+use Rattle.query_model.specs.declared.held.Held.{Held}
+use Rattle.query_model.specs.declared.held.Part.TheVariants as part
 use Rattle.replayer.specs.Bounds.{ran_before}
 use Rattle.replay_steps.specs.declared.errors.QueryError.{QueryError}
 use Rattle.replay_steps.specs.declared.errors.QueryError.TheVariants as error
 use Rattle.query_engine.specs.Follows.{Explains}
+use Rattle.query_engine.specs.States.{AnswersHeld, FailsHeld}
 use Rattle.query_engine.specs.declared.engine.Answer.{Answer}
 use Rattle.query_engine.specs.declared.engine.Target.{Target}
 use Rattle.query_engine.specs.declared.engine.Target.TheVariants as target
@@ -37,15 +41,32 @@ FailsEvent entries event from len (error.Disagrees d) =
     (is_range (event_at entries event) from len ≡ true) × Explains (event_disagreement entries event) (error.Disagrees d)
 FailsEvent entries event from len error.NoMemory = is_range (event_at entries event) from len ≡ true
 
+-- those that are asked about bytes of a process, before their moment
+abbrev pub ran_for_held : List Record → Held → ℕ
+ran_for_held entries held = ran_in entries held.moment (process_groups entries held.pid)
+
+-- the bytes of memory, and those of a register, that targets name
+abbrev pub in_memory : ℕ → ℕ → ℕ → ℕ → Held
+in_memory moment pid at len = record { moment = moment; pid = pid; part = part.Memory at len }
+
+abbrev pub in_register : ℕ → ℕ → ℕ → Held
+in_register moment pid reg = record { moment = moment; pid = pid; part = part.Register reg }
+
 abbrev pub Answers : Linkage → List Record → Target → Answer → Type 0
 Answers linkage entries (target.Event event from len) answer = AnswersEvent linkage entries event from len answer
+Answers linkage entries (target.Mem moment pid at len) answer = AnswersHeld linkage entries (in_memory moment pid at len) answer
+Answers linkage entries (target.Reg moment pid reg) answer = AnswersHeld linkage entries (in_register moment pid reg) answer
 
 abbrev pub Fails : List Record → Target → QueryError → Type 0
 Fails entries (target.Event event from len) why = FailsEvent entries event from len why
+Fails entries (target.Mem moment pid at len) why = FailsHeld entries (in_memory moment pid at len) why
+Fails entries (target.Reg moment pid reg) why = FailsHeld entries (in_register moment pid reg) why
 
 -- how many instructions a query runs, and at most so many where it fails
 abbrev pub ran_about : List Record → Target → ℕ
 ran_about entries (target.Event event from len) = ran_for entries event
+ran_about entries (target.Mem moment pid at len) = ran_for_held entries (in_memory moment pid at len)
+ran_about entries (target.Reg moment pid reg) = ran_for_held entries (in_register moment pid reg)
 
 -- what isn't there runs nothing
 abbrev pub RunsNothing : QueryError → ℕ → ℕ → Type 0

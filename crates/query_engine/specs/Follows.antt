@@ -9,16 +9,19 @@ use Rattle.lineage_model.specs.Tracking.{alone}
 use Rattle.replay_steps.specs.Standing.{disagreement}
 use Rattle.replay_steps.specs.declared.errors.QueryError.{QueryError}
 use Rattle.replay_steps.specs.declared.errors.QueryError.TheVariants as error
-use Rattle.taint_laws.specs.Follows.{heard_from, none_heard}
+use Rattle.taint_laws.specs.Follows.{heard_from, holders_in, none_heard}
 use Rattle.taint_tracker.specs.Goes.{hearings_of}
 use Rattle.taint_tracker.specs.Kept.{Kept, shown}
 use Rattle.taint_tracker.specs.Shown.{Shows}
+use Rattle.taint_tracker.specs.Steps.{holders_of}
 
--- what is kept of a group up to a moment: its records agree, each byte has the items that it has in the group alone, and its events were heard
+-- what is kept of a group up to a moment: its records agree, each byte has the items that it has in the group alone, its live processes are
+-- members with the memories that they hold, and its events were heard
 pub record Follows (linkage : Linkage) (entries : List Record) (until g : ℕ) (kept : Kept) : Type 0 where
   pub own : Own
   pub makes : history.alone entries g until ≡ Makes own
   pub shows : Shows (shown kept) (alone (operands linkage) own.inside)
+  pub holds : (pid : ℕ) → holders_of (shown kept) pid ≡ holders_in own.bodies pid
   pub heard : (event : ℕ) → hearings_of (shown kept) event ≡ heard_from own.inside none_heard event
 
 -- the error is that the group's records disagree, or memory ran out

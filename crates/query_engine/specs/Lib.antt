@@ -2,6 +2,7 @@ pub mod Laws
 pub mod Follows
 pub mod Following
 pub mod Demands
+pub mod States
 pub mod Asked
 pub mod Forth
 pub mod Reached

@@ -5,19 +5,22 @@ ghost use Rattle.rv64_model.specs.Carries.{operands};
 ghost use Rattle.exchange_graph.specs.Reach.{Rises};
 ghost use Rattle.history_index.specs.Indexes.{AreCountable, Indexes};
 ghost use Rattle.history_model.specs.Events.{event_at, is_range};
-ghost use Rattle.query_engine.specs.Asked.{Answers, AnswersEvent, Fails, FailsEvent, RunsNothing, ran_about, ran_for};
+ghost use Rattle.query_engine.specs.Asked.{Answers, AnswersEvent, Fails, FailsEvent, RunsNothing, ran_about, ran_for, ran_for_held};
 ghost use Rattle.query_engine.specs.Demands.{byte_demands};
 ghost use Rattle.query_engine.specs.Following.{HasFollowed, IsOf};
+ghost use Rattle.query_engine.specs.States.{AnswersHeld, FailsHeld, is_held};
 ghost use Rattle.query_model.specs.Answers.{count_in, event_groups, event_pairs, moment_of};
 
 use crate::follow_all::follow_all;
 use crate::followed::Followed;
 use crate::law::laws;
+use crate::states;
 use arn_base::{NoMemory, Numbers, Pairs, Record, Steps};
 use exchange_graph::Graph;
 use history_index::Index;
 use lineage_join::{Demand, Place, join, pairs_are_one};
 use parts_model::limits::MOST_ASKED;
+use query_model::{Held, Part};
 use replayer::QueryError;
 use rv64_model::Linkage;
 use std::alloc::Global;
@@ -28,7 +31,24 @@ use taint_laws::blocks_are_whole;
 #[derive(Clone, Copy, Debug, PartialEq, Eq)]
 pub enum Target {
     /// Bytes of an event.
-    Event { event: u64, from: u32, len: u32 },
+    Event {
+        event: u64,
+        from: u32,
+        len: u32,
+    },
+    /// Bytes of a process's memory at a moment, from an address on.
+    Mem {
+        moment: u64,
+        pid: u32,
+        at: u64,
+        len: u32,
+    },
+    /// The eight bytes of a process's register at a moment.
+    Reg {
+        moment: u64,
+        pid: u32,
+        reg: u8,
+    },
 }
 
 /// What a query answers: source bytes beside bytes of the target, rising; the groups that are asked, and how
@@ -148,6 +168,31 @@ pub fn copy_of(alloc: Global, numbers: &[u32]) -> Result<Numbers, NoMemory>
     Ok(copy)
 }
 
+/// These pairs, beside the groups that were followed for them.
+fn answer_of(
+    alloc: Global,
+    entries: &[Record],
+    index: &Index,
+    groups: Numbers,
+    pairs: Pairs,
+) -> Result<Answer, NoMemory>
+    requires indexed { Indexes index.now entries.now }
+    requires rises { Rises groups }
+    ensures pairs { IfOk result (λ answer. answer.pairs ≡ pairs) }
+    ensures groups { IfOk result (λ answer. answer.groups ≡ groups) }
+    ensures replayed { IfOk result (λ answer. answer.replayed ≡ groups) }
+    ensures instructions { IfOk result (λ answer. answer.instructions ≡ count_in entries.now groups) }
+{
+    let replayed = copy_of(alloc, groups.as_slice())?;
+    let instructions = count_all(entries, index, groups.as_slice());
+    Ok(Answer {
+        pairs,
+        groups,
+        instructions,
+        replayed,
+    })
+}
+
 /// Where bytes of an event come from that it has.
 fn event_back<L: Ledger>(
     alloc: Global,
@@ -179,14 +224,61 @@ fn event_back<L: Ledger>(
         steps,
     )?;
     let pairs = pairs(alloc, entries, index, linkage, &followed, event, from, len)?;
-    let replayed = copy_of(alloc, groups.as_slice())?;
-    let instructions = count_all(entries, index, groups.as_slice());
-    Ok(Answer {
-        pairs,
-        groups,
-        instructions,
-        replayed,
-    })
+    Ok(answer_of(alloc, entries, index, groups, pairs)?)
+}
+
+/// Where bytes come from that a process holds at a moment.
+fn held_back<L: Ledger>(
+    alloc: Global,
+    entries: &[Record],
+    index: &Index,
+    linkage: Linkage,
+    held: Held,
+    steps: &mut Steps<L>,
+) -> Result<Answer, QueryError>
+    requires countable { AreCountable entries.now }
+    requires indexed { Indexes index.now entries.now }
+    requires there { is_held entries.now held ≡ true }
+    ensures ok { IfOk result (AnswersHeld linkage entries.now held) }
+    ensures err { IfErr result (FailsHeld entries.now held) }
+    ensures counted { OnOk result (steps.new ≡ steps.old + ran_for_held entries.now held) }
+    ensures bounded { steps.new ≤ steps.old + ran_for_held entries.now held }
+{
+    let groups = states::groups_of(alloc, entries, index, held.pid)?;
+    let followed = follow_all(
+        alloc,
+        entries,
+        index,
+        linkage,
+        groups.as_slice(),
+        held.moment,
+        steps,
+    )?;
+    let pairs = states::pairs(alloc, entries, index, linkage, &followed, held)?;
+    Ok(answer_of(alloc, entries, index, groups, pairs)?)
+}
+
+/// Where bytes come from that a process holds at a moment, if they are there.
+fn state_back<L: Ledger>(
+    alloc: Global,
+    entries: &[Record],
+    index: &Index,
+    linkage: Linkage,
+    held: Held,
+    steps: &mut Steps<L>,
+) -> Result<Answer, QueryError>
+    requires countable { AreCountable entries.now }
+    requires indexed { Indexes index.now entries.now }
+    ensures ok { IfOk result (AnswersHeld linkage entries.now held) }
+    ensures err { IfErr result (FailsHeld entries.now held) }
+    ensures counted { OnOk result (steps.new ≡ steps.old + ran_for_held entries.now held) }
+    ensures unasked { IfErr result (λ error. RunsNothing error steps.old steps.new) }
+    ensures bounded { steps.new ≤ steps.old + ran_for_held entries.now held }
+{
+    if !states::is_held(entries, index, held) {
+        return Err(QueryError::NoPoint);
+    }
+    held_back(alloc, entries, index, linkage, held, steps)
 }
 
 impl Engine {
@@ -216,10 +308,28 @@ impl Engine {
         ensures unasked { IfErr result (λ error. RunsNothing error steps.old steps.new) }
         ensures bounded { steps.new ≤ steps.old + ran_about entries.now target.now }
     {
-        let Target::Event { event, from, len } = *target;
-        if !has_range(index, event, from, len) {
-            return Err(QueryError::NoPoint);
+        match *target {
+            Target::Event { event, from, len } => {
+                if !has_range(index, event, from, len) {
+                    return Err(QueryError::NoPoint);
+                }
+                event_back(self.alloc, entries, index, linkage, event, from, len, steps)
+            }
+            Target::Mem {
+                moment,
+                pid,
+                at,
+                len,
+            } => {
+                let part = Part::Memory { at, len };
+                let held = Held { moment, pid, part };
+                state_back(self.alloc, entries, index, linkage, held, steps)
+            }
+            Target::Reg { moment, pid, reg } => {
+                let part = Part::Register(reg);
+                let held = Held { moment, pid, part };
+                state_back(self.alloc, entries, index, linkage, held, steps)
+            }
         }
-        event_back(self.alloc, entries, index, linkage, event, from, len, steps)
     }
 }

@@ -13,7 +13,7 @@ use replayer::{QueryError, replay};
 use rv64_model::Linkage;
 use std::alloc::Global;
 use std::sync::ledger::Ledger;
-use taint_laws::{blocks_are_whole, follows_holders, told_hears, told_keeps};
+use taint_laws::{blocks_are_whole, follows_holders, told_hears, told_holds, told_keeps};
 use taint_tracker::Tracker;
 
 /// Replays a group up to a moment, and follows where its bytes come from.
@@ -38,6 +38,7 @@ pub fn follow<L: Ledger>(
     follows_holders();
     told_keeps();
     told_hears();
+    told_holds();
     let mut tracker = Tracker::new(alloc, linkage)?;
     replay(alloc, entries, index, group, until, &mut tracker, steps)?;
     Ok(tracker)

@@ -3,7 +3,9 @@ ghost use Rattle.std.specs.Prelude.{◌≡◌, [], OnOk, option_map, unwrap_or};
 ghost use Rattle.history_index.specs.Indexes.{AreCountable, Indexes};
 ghost use Rattle.lineage_join.specs.Places.{at_of};
 ghost use Rattle.query_engine.specs.Follows.{Follows};
-ghost use Rattle.query_engine.specs.Following.{Adds, AddsOnly, HasOnly, IsOf, items_followed};
+ghost use Rattle.history_model.specs.Groups.{group_of};
+ghost use Rattle.query_engine.specs.Following.{Adds, AddsOnly, HasOnly, IsFollowing, IsOf, items_followed};
+ghost use Rattle.query_engine.specs.States.{told_by};
 ghost use Rattle.query_engine.specs.Following as following;
 ghost use Rattle.taint_tracker.specs.Items.{listed};
 ghost use Rattle.taint_tracker.specs.Shown.{AreItems};
@@ -97,6 +99,29 @@ impl<'a> Followed<'a> {
         let tracker = self.trackers.get(&group)?;
         let len = self.index.event_len(event)?;
         tracker.local(point_of(len, event, place)?)
+    }
+
+    /// The items of a byte that a member holds, where its group was followed.
+    fn point(&self, pid: u32, point: Point) -> Option<Items<'_>>
+        ensures { unwrap_or (option_map listed result) [] ≡ told_by self.now point (group_of self.now.entries pid) }
+    {
+        let group = self.index.group_of(pid)?;
+        let tracker = self.trackers.get(&group)?;
+        tracker.local(point)
+    }
+
+    /// The same, or none.
+    pub fn held(&self, pid: u32, point: Point) -> Items<'_>
+        ensures { listed result ≡ told_by self.now point (group_of self.now.entries pid) }
+    {
+        self.point(pid, point).unwrap_or(Items::Set(&[]))
+    }
+
+    /// Each group that is kept was followed.
+    pub fn are_followed(&self)
+        ensures { IsFollowing self.now }
+    {
+        let _until = self.until;
     }
 }
 

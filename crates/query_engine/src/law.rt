@@ -1,7 +1,10 @@
 // What holds of queries.
-ghost use Rattle.query_engine.specs.Laws.{Laws};
+ghost use Rattle.query_engine.specs.Laws.{Laws, LawsOfStates};
 
-use query_laws::{groups_are_connected, groups_are_one, items_fit, reaching_is_of_bytes};
+use query_laws::{
+    groups_are_connected, groups_are_one, held_is_of_bytes, held_items_are_there, items_fit,
+    reaching_is_of_bytes,
+};
 use replayer::runs_before;
 
 /// What a query rests on, of groups, of their items and of replays.
@@ -13,4 +16,12 @@ pub fn laws()
     items_fit();
     reaching_is_of_bytes();
     runs_before();
+}
+
+/// What one of bytes that a process holds at a moment rests on besides.
+pub fn laws_of_states()
+    ensures { LawsOfStates }
+{
+    held_items_are_there();
+    held_is_of_bytes();
 }

@@ -11,6 +11,7 @@ mod forth;
 mod law;
 mod law_forth;
 mod sinks;
+mod states;
 
 pub use engine::{Answer, Engine, Target};
 pub use replayer::{Disagrees, QueryError};

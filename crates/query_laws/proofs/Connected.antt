@@ -23,7 +23,7 @@ use Rattle.query_laws.specs.Received.{HasTaken, IsReceivedBy, IsItem, ItemsAreRe
 use Rattle.query_laws.proofs.Asked.{connected}
 use Rattle.query_laws.proofs.Origins.{origin-piece}
 
-flat_map-all : {A : Type 0} (P : A → Type 0) (f g : A → List EventByte) → ((x : A) → P x → f x ≡ g x) → (xs : List A) → All P xs → flat_map f xs ≡ flat_map g xs
+pub flat_map-all : {A : Type 0} (P : A → Type 0) (f g : A → List EventByte) → ((x : A) → P x → f x ≡ g x) → (xs : List A) → All P xs → flat_map f xs ≡ flat_map g xs
 flat_map-all P f g same [] h = refl
 flat_map-all P f g same (x ∷ xs) h = ap₂ ◌++◌ (same x (All-head P x xs h)) (flat_map-all P f g same xs (All-tail P x xs h))
 
@@ -75,7 +75,7 @@ module _ (entries : List Record) (from : List ℕ) (stands : first_broken entrie
     fork-asked : (event : ℕ) → option_and_then founded (event_at entries event) ≡ Some g → IsConnected entries from event
     fork-asked event is = if-some (Contains (groups_back entries from)) (event_group entries event) (λ h group. linked-asked entries from stands groups h g asked (ByFork event group is))
 
-    item-same : (event : ℕ) (at : At) → IsReceivedBy entries g event at → There event at → from_item_at (event_at entries) p event at ≡ from_item_at (event_at entries) q event at
+    pub item-same : (event : ℕ) (at : At) → IsReceivedBy entries g event at → There event at → from_item_at (event_at entries) p event at ≡ from_item_at (event_at entries) q event at
     item-same event (Byte k) is there = received-same event k (event_at entries event) refl is.0 is.1
     item-same event (StartRegister r i) is there = same event (StartRegister r i) (fork-asked event is, there)
     item-same event (StartSlot r i) is there = same event (StartSlot r i) (fork-asked event is, there)

@@ -21,7 +21,7 @@ use Rattle.lineage_model.specs.Flow.{At, Byte, StartRegister, StartSlot, StartMe
 use Rattle.lineage_model.specs.Tracking.{EventByte, untracked}
 use Rattle.query_model.specs.Sources.{items_in, items_at, tracked_of, tracked_at}
 use Rattle.taint_flow.specs.Names.{loaded_len}
-use Rattle.taint_laws.specs.Follows.{HasWholeBlocks, none_heard, none_holds}
+use Rattle.taint_laws.specs.Follows.{HasWholeBlocks, holders_from, none_heard, none_holds}
 use Rattle.taint_laws.specs.Laws.{FollowsHolders}
 use Rattle.taint_tracker.specs.Lens.{ActsHaveLen}
 use Rattle.taint_tracker.specs.Shown.{IsRegisterByte}
@@ -31,8 +31,8 @@ use Rattle.query_laws.specs.Received.{IsItem, IsReceivedBy, HasTaken}
 use Rattle.query_laws.proofs.Alone.{Ends, alone-heard}
 use Rattle.query_laws.proofs.Connected.{reached-same}
 use Rattle.query_laws.proofs.Decoded.{FitsRun, ReadsRegisters}
-use Rattle.query_laws.proofs.Heard.{State}
-use Rattle.query_laws.proofs.Items.{IsShown, all-keep}
+use Rattle.query_laws.proofs.Heard.{State, last}
+use Rattle.query_laws.proofs.Items.{IsShown, Keeps, all-keep}
 use Rattle.query_laws.proofs.Operands.{AreBytes, linkage-bytes, stored-low}
 use Rattle.query_laws.proofs.Origins.{origin-there}
 use Rattle.query_laws.proofs.Scopes.{Scope, IsScope, InScope}
@@ -48,10 +48,10 @@ from-register (suc r) i low byte f h = h (suc r) i (record { above = omega arith
 
 module _ (linkage : Linkage) where
   -- bytes of registers, of windows by private addresses, and of segments by shared ones
-  abbrev real : Scope
+  abbrev pub real : Scope
   real = record { register = λ r i. IsRegisterByte r i; window = λ at. IsTrue (is_private at); segment = λ at. IsTrue (is_shared at); result = λ i. i < 8 }
 
-  is-real : IsScope real
+  pub is-real : IsScope real
   is-real = record {
     results = λ r i is. is.byte;
     stores = λ instr i low. (let most = stored-low instr in omega (arith, low, most));
@@ -87,7 +87,7 @@ module _ (linkage : Linkage) where
     taken-there k None takes = takes
     taken-there k (Some e) takes = takes.inside
 
-    named-there : (event : ℕ) (at : At) → IsReceivedBy entries g event at → InScope real at → IsThere (event_at entries event) at
+    pub named-there : (event : ℕ) (at : At) → IsReceivedBy entries g event at → InScope real at → IsThere (event_at entries event) at
     named-there event (Byte k) is in-scope = taken-there k (event_at entries event) is.1
     named-there event (StartRegister r i) is in-scope = there-by (event_at entries event) (StartRegister r i) (λ f e same. (ap is_some (sym (ap (option_and_then founded) same) ∙ f), in-scope)) is
     named-there event (StartSlot r i) is in-scope = there-by (event_at entries event) (StartSlot r i) (λ f e same. (ap is_some (sym (ap (option_and_then founded) same) ∙ f), in-scope)) is
@@ -110,15 +110,17 @@ module _ (linkage : Linkage) where
         (record { received = are.0.0.0; precedes = are.0.1 }, named-there item.event item.at are.0.0.0 are.0.0.1) (as-items event items are.1)
 
     module _ (follows : FollowsHolders) (lens : ActsHaveLen) (moment : ℕ) (stands : first_broken entries ≡ None) (blocks : All HasWholeBlocks entries) where
-      own-items : (own : Own) → history.alone entries g moment ≡ Makes own → (event : ℕ) (at : At) → InScope real at → All (IsRealItem event) ((tracked_of (operands linkage) (Makes own)).points event at)
-      own-items own is event at in-scope =
+      pub own-keeps : (own : Own) → history.alone entries g moment ≡ Makes own → Keeps (operands linkage) real is-real entries g (last 0 own.inside) (holders_from own.inside none_holds) (tracked_of (operands linkage) (Makes own))
+      own-keeps own is =
           let f = follows entries g moment own stands blocks is in
           let heard = subst (λ (made : Made). Ends (λ (o : Own). (m : ℕ) × State entries g m o.inside) made) is (alone-heard entries g moment stands) in
-          as-items event ((tracked_of (operands linkage) (Makes own)).points event at)
-          ((all-keep (operands linkage) real is-real entries g (λ i. FitsRun ReadsRegisters i.transfer) (tells-record lens)
+          all-keep (operands linkage) real is-real entries g (λ i. FitsRun ReadsRegisters i.transfer) (tells-record lens)
           (λ h hearings i fits step possible. step-takes (operands linkage) real ReadsRegisters IsLoaded allows-real h hearings i step fits possible)
           0 none_holds none_heard own.inside untracked f.steps f.possible heard.1.heard heard.1.runs
-          (record { locations = λ l held. tt; points = λ e a is. tt })).points event at in-scope)
+          (record { locations = λ l held. tt; points = λ e a is. tt })
+
+      own-items : (own : Own) → history.alone entries g moment ≡ Makes own → (event : ℕ) (at : At) → InScope real at → All (IsRealItem event) ((tracked_of (operands linkage) (Makes own)).points event at)
+      own-items own is event at in-scope = as-items event ((tracked_of (operands linkage) (Makes own)).points event at) ((own-keeps own is).points event at in-scope)
 
       made-items : (made : Made) → history.alone entries g moment ≡ made → (event : ℕ) (at : At) → InScope real at → All (IsRealItem event) ((tracked_of (operands linkage) made).points event at)
       made-items (Makes own) is event at in-scope = own-items own is event at in-scope

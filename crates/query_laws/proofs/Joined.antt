@@ -80,7 +80,7 @@ own-groups : (entries : List Record) (event : ℕ) (o : Option ℕ) → first_br
 own-groups entries event None stands is = All-nil (Contains (groups_in entries))
 own-groups entries event (Some g) stands is = All-cons (Contains (groups_in entries)) g [] (event-is-of entries stands event g is) (All-nil (Contains (groups_in entries)))
 
-own-asked : (entries : List Record) (o : Option ℕ) → first_broken entries ≡ None → All (Contains (groups_in entries)) (option_to_list o) → IfSome o (Contains (groups_back entries (option_to_list o)))
+pub own-asked : (entries : List Record) (o : Option ℕ) → first_broken entries ≡ None → All (Contains (groups_in entries)) (option_to_list o) → IfSome o (Contains (groups_back entries (option_to_list o)))
 own-asked entries None stands groups = tt
 own-asked entries (Some g) stands groups = ((connected entries (g ∷ []) stands groups).members g).1 (Starting g (first-in g []))
 

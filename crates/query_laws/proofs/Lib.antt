@@ -33,3 +33,5 @@ pub mod Lost
 pub mod Ended
 pub mod Blocks
 pub mod RunsForth
+mod Held
+mod Lived

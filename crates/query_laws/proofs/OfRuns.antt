@@ -31,7 +31,7 @@ use Rattle.query_laws.proofs.Lists.{range-in}
 use Rattle.query_laws.proofs.Stays.{within-stays}
 
 -- where bytes have the same items, the same reaches them
-flat_map-same : {A : Type 0} (f g : A → List EventByte) → ((x : A) → f x ≡ g x) → (xs : List A) → flat_map f xs ≡ flat_map g xs
+pub flat_map-same : {A : Type 0} (f g : A → List EventByte) → ((x : A) → f x ≡ g x) → (xs : List A) → flat_map f xs ≡ flat_map g xs
 flat_map-same f g same [] = refl
 flat_map-same f g same (x ∷ xs) = ap₂ ◌++◌ (same x) (flat_map-same f g same xs)
 
@@ -47,7 +47,7 @@ received-same p q same event k None = refl
 received-same p q same event k (Some e) =
     ap (λ (xs : List EventByte). (if is_source e then record { event = event; at = Byte k } ∷ [] else xs)) (origin-same p q same (origin_of e k))
 
-item-same : (at_number : ℕ → Option Record) (p q : Reaching) → AreSame p q → (event : ℕ) (at : At) → from_item_at at_number p event at ≡ from_item_at at_number q event at
+pub item-same : (at_number : ℕ → Option Record) (p q : Reaching) → AreSame p q → (event : ℕ) (at : At) → from_item_at at_number p event at ≡ from_item_at at_number q event at
 item-same at_number p q same event (Byte k) = received-same p q same event k (at_number event)
 item-same at_number p q same event (StartRegister r i) = same event (StartRegister r i)
 item-same at_number p q same event (StartSlot r i) = same event (StartSlot r i)
@@ -71,7 +71,7 @@ pairs-same f g same zero k = refl
 pairs-same f g same (suc len) k = ap₂ (λ (xs ys : List Pair). xs ++ ys) (ap (byte_pairs k) (same k)) (pairs-same f g same len (k + 1))
 
 module _ (table : Table) (inputs : List Input) (few : HasNumbers (machine_after inputs).kernel) (passes : GroupsPassThrough) where
-  tracked-same : (moment g : ℕ) → tracked_at table (records inputs) moment g ≡ lineage.local_at table inputs moment g
+  pub tracked-same : (moment g : ℕ) → tracked_at table (records inputs) moment g ≡ lineage.local_at table inputs moment g
   tracked-same moment g =
       let p = passes inputs g moment few in ap (tracked_of table) p.made ∙ ap (alone table) p.heard
 
@@ -87,7 +87,7 @@ module _ (table : Table) (inputs : List Input) (few : HasNumbers (machine_after 
   no-disagreement : (moment g : ℕ) → disagreement_in (history.alone (records inputs) g moment) ≡ None
   no-disagreement moment g = ap disagreement_in (passes inputs g moment few).made
 
-  none-disagrees : (moment : ℕ) (groups : List ℕ) → first_disagreement (records inputs) moment groups ≡ None
+  pub none-disagrees : (moment : ℕ) (groups : List ℕ) → first_disagreement (records inputs) moment groups ≡ None
   none-disagrees moment [] = refl
   none-disagrees moment (g ∷ groups) =
       ap (λ (o : Option Disagrees). or_first o (first_disagreement (records inputs) moment groups)) (no-disagreement moment g) ∙ none-disagrees moment groups

@@ -6,3 +6,4 @@ pub mod OwnEvents
 pub mod Joined
 pub mod Forth
 pub mod ForthOfRuns
+pub mod States

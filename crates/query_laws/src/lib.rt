@@ -8,6 +8,7 @@
 
 mod forth;
 mod law;
+mod states;
 
 pub use forth::{
     first_are_told, forth_is_connected, forth_is_of_runs, forth_is_one, forth_loses_nothing,
@@ -18,3 +19,4 @@ pub use law::{
     items_fit, members_received, pairs_are_joined, queries_are_of_runs, reaching_is_connected,
     reaching_is_of_bytes,
 };
+pub use states::{held_is_of_bytes, held_items_are_there, states_are_of_runs};

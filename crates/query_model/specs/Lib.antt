@@ -3,3 +3,4 @@ pub mod Sources
 pub mod Answers
 pub mod Forth
 pub mod Sinks
+pub mod States

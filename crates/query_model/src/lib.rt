@@ -3,3 +3,7 @@
 //!
 //! The definitions stand in `specs/`.
 #![tactic(auto)]
+
+mod held;
+
+pub use held::{Held, Part};

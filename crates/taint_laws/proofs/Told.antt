@@ -20,8 +20,8 @@ use Rattle.replay_steps.specs.Notices.{Notice, Listener, Says, Told, notices, bo
 use Rattle.taint_tracker.specs.Goes.{AreApart, ArePossible, GoesBy, GoesIf, Hearings, IsOwn, IsPossible, IsUnheldBy, StayApart, begin_inside, heard_after, hearings_of}
 use Rattle.taint_tracker.specs.Shown.{Shows, Tracking}
 use Rattle.taint_tracker.specs.Steps.{Holders, event_by, event_inside, event_of, event_step, fresh_holds, holders_after, holders_of, instr_inside, instr_step, with_holder}
-use Rattle.taint_laws.specs.Follows.{AreNew, AreSteps, IsNew, IsStep, heard_from, none_heard, none_holds, Steps, Hears, Starts as StartsGroup, with_booted}
-use Rattle.taint_laws.specs.Laws.{ToldHears, ToldShows, following}
+use Rattle.taint_laws.specs.Follows.{AreNew, AreSteps, IsNew, IsStep, heard_from, holders_from, none_heard, none_holds, Steps, Hears, Starts as StartsGroup, with_booted}
+use Rattle.taint_laws.specs.Laws.{ToldHears, ToldHolds, ToldShows, following}
 use Rattle.taint_laws.proofs.Boots.{begin-again, start_inside}
 
 abbrev plainly : Listener Tracking
@@ -203,6 +203,22 @@ heard-told stay (i ∷ list) linkage h heard x y t l hs es apart steps possible 
     ((λ k. λ event. goes.heard event k) ∙ ap (λ (k : Hearings). heard_after i k) es)
     (stay h heard i.transfer apart possible.0) steps.1 possible.1 new.1 parts.2 (subst (λ k. Shows z (alone_after (operands k) i t)) l goes.shows) event
 
+-- and its members hold what those of the steps hold
+holds-told : (stay : StayApart) (list : List Inside) (linkage : Linkage) (h : Holders) (heard : Hearings) (x y : Tracking) (t : Tracked EventByte)
+    → x.linkage ≡ linkage → holders_of x ≡ h → hearings_of x ≡ heard → AreApart h → AreSteps h list → ArePossible h heard list → AreNew heard list
+    → Told plainly (flat_map notices list) x y → Shows x t → (pid : ℕ) → holders_of y pid ≡ holders_from list h pid
+holds-told stay [] linkage h heard x y t l hs es apart steps possible new told shows pid = ap (λ (z : Tracking). holders_of z pid) (sym told) ∙ ap (λ (k : Holders). k pid) hs
+holds-told stay (i ∷ list) linkage h heard x y t l hs es apart steps possible new told shows pid =
+    let parts = told-append (notices i) (flat_map notices list) x y told in
+    let z = parts.0 in
+    let possible_here = subst (λ k. IsPossible k (hearings_of x) i.transfer) (sym hs) (subst (λ k. IsPossible h k i.transfer) (sym es) possible.0) in
+    let goes = step-going stay x z t i (subst (λ k. IsStep k i) (sym hs) steps.0) (subst AreApart (sym hs) apart) possible_here (subst (λ k. IsNew k i.event) (sym es) new.0) parts.1 shows in
+    holds-told stay list linkage (holders_after i.transfer h) (heard_after i heard) z y (alone_after (operands linkage) i t)
+    (goes.linkage ∙ l)
+    ((λ k. λ p. goes.holders p k) ∙ ap (λ (k : Holders). holders_after i.transfer k) hs)
+    ((λ k. λ event. goes.heard event k) ∙ ap (λ (k : Hearings). heard_after i k) es)
+    (stay h heard i.transfer apart possible.0) steps.1 possible.1 new.1 parts.2 (subst (λ k. Shows z (alone_after (operands k) i t)) l goes.shows) pid
+
 none-apart : AreApart none_holds
 none-apart = record { windows = λ p q a b e f same. none-holds a e; kinds = λ p q a b e f same. none-holds a e }
   where
@@ -228,4 +244,9 @@ module _ {A : Type 0} (shown : A → Tracking) where
   pub told-hears : StayApart → ToldHears shown
   told-hears stay linkage list x y steps possible new from told =
       heard-told stay list linkage none_holds none_heard (shown x) (shown y) untracked (ap (λ (z : Tracking). z.linkage) from) (ap holders_of from) (ap hearings_of from) none-apart steps possible new
+      (told-shown (flat_map notices list) x y told) (subst (λ z. Shows z untracked) (sym from) (record { members = λ pid. tt; heard = λ event. tt }))
+
+  pub told-holds : StayApart → ToldHolds shown
+  told-holds stay linkage list x y steps possible new from told =
+      holds-told stay list linkage none_holds none_heard (shown x) (shown y) untracked (ap (λ (z : Tracking). z.linkage) from) (ap holders_of from) (ap hearings_of from) none-apart steps possible new
       (told-shown (flat_map notices list) x y told) (subst (λ z. Shows z untracked) (sym from) (record { members = λ pid. tt; heard = λ event. tt }))

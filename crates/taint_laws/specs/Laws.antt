@@ -15,6 +15,7 @@ use Rattle.lineage_model.specs.Tracking as tracking
 use Rattle.replay_steps.specs.Notices.{Listener, Told, notices}
 use Rattle.taint_tracker.specs.Goes.{ArePossible, Hearing, TakesBegin, TakesInstr, TakesEvent, hearings_of, nothing_tracked}
 use Rattle.taint_tracker.specs.Shown.{Shows, Tracking}
+use Rattle.taint_tracker.specs.Steps.{holders_of}
 use Rattle.taint_laws.specs.Follows.{AreNew, AreSteps, HasWholeBlocks, heard_from, holders_from, holders_in, none_heard, none_holds}
 
 -- the steps are those of members, are possible, are events that weren't heard before, and come to what the bodies hold
@@ -48,6 +49,12 @@ abbrev pub ToldHears : {A : Type 0} → (A → Tracking) → Type 0
 ToldHears {A} shown =
     (linkage : Linkage) (list : List Inside) (x y : A) → AreSteps none_holds list → ArePossible none_holds none_heard list → AreNew none_heard list
     → shown x ≡ nothing_tracked linkage → Told (following shown) (flat_map notices list) x y → (event : ℕ) → hearings_of (shown y) event ≡ heard_from list none_heard event
+
+-- and its members hold what those of these steps hold
+abbrev pub ToldHolds : {A : Type 0} → (A → Tracking) → Type 0
+ToldHolds {A} shown =
+    (linkage : Linkage) (list : List Inside) (x y : A) → AreSteps none_holds list → ArePossible none_holds none_heard list → AreNew none_heard list
+    → shown x ≡ nothing_tracked linkage → Told (following shown) (flat_map notices list) x y → (pid : ℕ) → holders_of (shown y) pid ≡ holders_from list none_holds pid
 
 -- an event that wasn't heard shows nothing, and one that started no group shows no byte with which a child begins
 abbrev pub ShowsNothing : Option Hearing → At → Type 0

@@ -1,7 +1,7 @@
 // What holds of groups alone, for who follows their members.
 ghost use Rattle.taint_tracker.specs.Kept.{shown};
 ghost use Rattle.taint_tracker.specs.Shown.{Tracking};
-ghost use Rattle.taint_laws.specs.Laws.{FollowsHolders, HearsEvents, ToldHears, ToldShows, UnheardHaveNone};
+ghost use Rattle.taint_laws.specs.Laws.{FollowsHolders, HearsEvents, ToldHears, ToldHolds, ToldShows, UnheardHaveNone};
 
 use taint_tracker::stays_apart;
 
@@ -27,6 +27,13 @@ pub fn told_keeps()
 /// Who was told of all that happened inside a group, and keeps it, has heard its events.
 pub fn told_hears()
     ensures { ToldHears shown }
+{
+    stays_apart();
+}
+
+/// Its members are those that live then, with the memories that they hold.
+pub fn told_holds()
+    ensures { ToldHolds shown }
 {
     stays_apart();
 }

@@ -9,5 +9,6 @@ mod law;
 
 pub use blocks::blocks_are_whole;
 pub use law::{
-    follows_holders, hears_events, told_hears, told_keeps, told_shows, unheard_have_none,
+    follows_holders, hears_events, told_hears, told_holds, told_keeps, told_shows,
+    unheard_have_none,
 };

@@ -1,0 +1,11 @@
+use Rattle.std.proofs.Common.{ap, ◌∙◌}
+use Rattle.history_model.specs.Groups.{group_of}
+use Rattle.taint_tracker.specs.declared.point.Point.{Point}
+use Rattle.query_engine.specs.States.{told_by}
+use Rattle.query_engine.proofs.HeldPairs.{demands-more}
+use Rattle.query_engine.proofs.states.demands.Goals as goal
+
+pub loop-byte-preserved : goal.loop-byte-preserved
+loop-byte-preserved c =
+    demands-more c.args.followed.now c.args.held c.loop-byte.byte c.loop-byte.demands.items c.add_items.new.demands.items c.as_slice.result.now c.in_ok-add_items.ensures c.loop-byte.invariant
+    (c.as_slice.ensures ∙ (c.held-items.ensures ∙ ap (λ (p : Point). told_by c.args.followed.now p (group_of c.args.followed.now.entries c.args.held.pid)) c.point.ensures))
