@@ -1,28 +1,49 @@
 -- Answers on the records of a run.
-use Rattle.std.proofs.Common.{◌≡◌, ◌∙◌, ℕ, zero, suc, ◌<◌, ◌≤◌, Bool, true, false, cond, List, [], ◌∷◌, length, Option, None, refl, ap, arith}
-use Rattle.std.specs.Prelude.{slice_get}
+use Rattle.std.proofs.Common.{◌≡◌, ◌∙◌, ℕ, zero, suc, ◌<◌, ◌≤◌, ◌&&◌, nat_le, nat_lt, Bool, true, false, if◌then◌else◌, List, [], ◌∷◌, length, filter, Option, Some, None, is_some, refl, sym, ap, arith}
+use Rattle.std.specs.Prelude.{◌↔◌, Contains, slice_get}
+use Rattle.acts_model.specs.Bodies.{View, seen}
 use Rattle.arn_base.specs.declared.records.Pair.{Pair}
 use Rattle.arn_base.specs.declared.records.Record.{Record}
 use Rattle.rv64_model.specs.Carries.{operands}
 use Rattle.rv64_model.specs.declared.linkage.Linkage.{Linkage}
 use Rattle.rv64_model.specs.declared.linkage.Linkage.TheVariants.{Copy}
 use Rattle.arn_lines.specs.declared.answer.Refusal.TheVariants.{NoPoint}
+use Rattle.arn_lines.specs.declared.line.Aspect.{Aspect}
+use Rattle.arn_lines.specs.declared.line.Aspect.TheVariants as aspect
 use Rattle.arn_lines.specs.declared.line.Question.{Question}
 use Rattle.arn_lines.specs.declared.line.Question.TheVariants as question
 use Rattle.arn_lines.specs.Texts.{refusal_text}
 use Rattle.arn_lines.specs.declared.line.Sought.{Sought}
 use Rattle.arn_lines.specs.declared.line.Sought.TheVariants as sought
-use Rattle.arn_model.specs.Run.{Input}
-use Rattle.history_model.specs.Alone.{Disagrees}
+use Rattle.arn_model.specs.Run.{Input, state_at}
+use Rattle.arn_model.specs.Tells.{lives}
+use Rattle.history_index.specs.Lookups.{processes_in}
+use Rattle.history_model.specs.Alone.{Disagrees, Made}
 use Rattle.history_model.specs.Events.{event_at, events, is_range}
+use Rattle.history_model.specs.Moments.{lives_at, segment_at, total}
 use Rattle.log_model.specs.Records.{records}
 use Rattle.log_store.specs.Log.{spellings}
 use Rattle.log_store.specs.declared.size.TheConstants.{MOST_LOG}
-use Rattle.query_laws.specs.OfRuns.{AnswersRun, QueriesAreOfRuns}
+use Rattle.past_lives.specs.Members.{is_member, is_memory_range, is_moment, is_present}
+use Rattle.parts_model.specs.declared.limits.TheConstants.{MOST_ASKED}
+use Rattle.query_engine.specs.Asked.{in_memory, in_register}
+use Rattle.query_engine.specs.States.{is_held}
+use Rattle.query_laws.specs.ForthOfRuns.{ForthIsOfRuns, IsSinkPair}
+use Rattle.query_laws.specs.OfRuns.{AnswersRun, QueriesAreOfRuns, whole_points}
+use Rattle.query_laws.specs.States.{StatesAreOfRuns}
 use Rattle.query_model.specs.Answers.{count_in, event_disagreement, event_groups, moment_of}
-use Rattle.session_questions.specs.OfRuns.{run_back_text, run_pairs, run_text}
+use Rattle.query_model.specs.Sinks.{forth_pairs}
+use Rattle.query_model.specs.States.{process_groups}
+use Rattle.query_model.specs.declared.held.Held.{Held}
+use Rattle.query_model.specs.declared.held.Part.{Part}
+use Rattle.query_model.specs.declared.held.Part.TheVariants as part
+use Rattle.session_questions.specs.OfRuns.{living, run_back_text, run_forth_text, run_held_text, run_pairs, run_show_text, run_sources_text, run_text}
 use Rattle.session_questions.specs.Short.{ShortRunsHaveNumbers}
-use Rattle.session_questions.specs.Texts.{answer_text, back_telling, question_text, sources_text, unless_damaged}
+use Rattle.session_questions.specs.Texts.{answer_text, back_telling, event_telling, forth_telling, held_telling, held_text, question_text, show_telling, sinks_text, sources_text, unless_damaged}
+use Rattle.session_reports.specs.Processes.{processes_text}
+use Rattle.session_reports.specs.States.{mem_of, regs_of, seen_text}
+use Rattle.state_viewer.specs.Views.{made_of}
+use Rattle.view_laws.specs.OfRuns.{ViewsAreOfRuns, ViewsRun}
 
 -- an event that has bytes is there
 range-there : (entries : List Record) (n from len : ℕ) → is_range (slice_get entries n) from len ≡ true → n < length entries
@@ -30,37 +51,96 @@ range-there [] n from len is = absurd cc
 range-there (e ∷ entries) zero from len is = omega arith
 range-there (e ∷ entries) (suc n) from len is = omega (arith, range-there entries n from len is)
 
-module _ (numbers : ShortRunsHaveNumbers) (queries : QueriesAreOfRuns) (inputs : List Input) (short : length (spellings (records inputs)) ≤ MOST_LOG) where
+-- what is printed on either side of a test is the same, if it is where the test holds
+if-same : (b : Bool) (x y n : List ℕ) → (b ≡ true → x ≡ y) → (if b then x else n) ≡ (if b then y else n)
+if-same true x y n same = same refl
+if-same false x y n same = refl
+
+-- of two that hold the first does, and the second
+first : (a b : Bool) → (a && b) ≡ true → a ≡ true
+first true b is = refl
+first false b is = is
+
+second : (a b : Bool) → (a && b) ≡ true → b ≡ true
+second true b is = is
+second false b is = absurd (cc)
+
+member-lives : (entries : List Record) (moment pid : ℕ) → is_member entries moment pid ≡ true → lives_at entries moment pid ≡ true
+member-lives entries moment pid is = second (is_moment entries moment) (lives_at entries moment pid) is
+
+range-member : (entries : List Record) (moment pid at len : ℕ) → is_memory_range entries moment pid at len ≡ true → is_member entries moment pid ≡ true
+range-member entries moment pid at len is =
+    first (is_member entries moment pid) (nat_le len MOST_ASKED && is_present (is_some (segment_at entries moment pid)) at len) is
+
+-- bytes that are held are those of a process that lives
+part-lives : (entries : List Record) (moment pid : ℕ) (p : Part) → is_held entries (record { moment = moment; pid = pid; part = p }) ≡ true → lives_at entries moment pid ≡ true
+part-lives entries moment pid (part.Register r) is = member-lives entries moment pid (first (is_member entries moment pid) (nat_lt r 32) is)
+part-lives entries moment pid (part.Memory at len) is = member-lives entries moment pid (range-member entries moment pid at len is)
+
+-- the same tests keep the same elements
+filter-same : (f g : ℕ → Bool) (xs : List ℕ) → ((x : ℕ) → f x ≡ g x) → filter f xs ≡ filter g xs
+filter-same f g [] same = refl
+filter-same f g (x ∷ xs) same = ap (λ (b : Bool). if b then x ∷ filter f xs else filter f xs) (same x) ∙ ap (λ (rest : List ℕ). if g x then x ∷ rest else rest) (filter-same f g xs same)
+
+module _ (numbers : ShortRunsHaveNumbers) (queries : QueriesAreOfRuns) (states : StatesAreOfRuns) (sinks : ForthIsOfRuns) (views : ViewsAreOfRuns) (inputs : List Input) (short : length (spellings (records inputs)) ≤ MOST_LOG) where
   answers : (linkage : Linkage) → AnswersRun (operands linkage) inputs
   answers linkage = queries (operands linkage) inputs (numbers inputs short)
 
-  agrees : (linkage : Linkage) (event : ℕ) → event_disagreement (records inputs) event ≡ None
+  pub agrees : (linkage : Linkage) (event : ℕ) → event_disagreement (records inputs) event ≡ None
   agrees linkage event = (answers linkage).agree (moment_of (records inputs) event) (event_groups (records inputs) event)
 
-  by-range : (linkage : Linkage) (event from len : ℕ) (b : Bool) → is_range (event_at (records inputs) event) from len ≡ b
-      → cond b (unless_damaged (event_disagreement (records inputs) event) (sources_text (operands linkage) (records inputs) event from len)) (refusal_text NoPoint)
-      ≡ cond b (answer_text (run_pairs (operands linkage) inputs event from len) (count_in (records inputs) (event_groups (records inputs) event)) (event_groups (records inputs) event)) (refusal_text NoPoint)
-  by-range linkage event from len false is = refl
-  by-range linkage event from len true is =
+  of-event : (linkage : Linkage) (event from len : ℕ) → (event_telling (operands linkage) (records inputs) event from len).text ≡ run_sources_text (operands linkage) inputs event from len
+  of-event linkage event from len =
+      if-same (is_range (event_at (records inputs) event) from len) _ _ (refusal_text NoPoint) (λ is.
       ap (λ (o : Option Disagrees). unless_damaged o (sources_text (operands linkage) (records inputs) event from len)) (agrees linkage event)
       ∙ ap (λ (pairs : List Pair). answer_text pairs (count_in (records inputs) (event_groups (records inputs) event)) (event_groups (records inputs) event))
-      ((answers linkage).pairs event from len (range-there (events (records inputs)) event from len is))
+      ((answers linkage).pairs event from len (range-there (events (records inputs)) event from len is)))
 
-back-of-runs : ShortRunsHaveNumbers → QueriesAreOfRuns → (inputs : List Input) (linkage : Linkage) (s : Sought) → length (spellings (records inputs)) ≤ MOST_LOG
-    → (back_telling (records inputs) linkage s).text ≡ run_back_text inputs linkage s
-back-of-runs numbers queries inputs linkage (sought.Event event from len) short =
-    by-range numbers queries inputs short linkage event from len (is_range (event_at (records inputs) event) from len) refl
-back-of-runs numbers queries inputs linkage (sought.Memory moment pid at len) short = refl
-back-of-runs numbers queries inputs linkage (sought.Register moment pid register) short = refl
-back-of-runs numbers queries inputs linkage (sought.Name moment name from len) short = refl
+  of-part : (linkage : Linkage) (moment pid : ℕ) (p : Part) → (held_telling (operands linkage) (records inputs) (record { moment = moment; pid = pid; part = p })).text ≡ run_held_text (operands linkage) inputs (record { moment = moment; pid = pid; part = p })
+  of-part linkage moment pid p =
+      let held : Held = record { moment = moment; pid = pid; part = p } in
+      let of-run = states (operands linkage) inputs held (numbers inputs short) in
+      if-same (is_held (records inputs) held) _ _ (refusal_text NoPoint) (λ is.
+      ap (λ (o : Option Disagrees). unless_damaged o (held_text (operands linkage) (records inputs) held)) of-run.agree
+      ∙ ap (λ (pairs : List Pair). answer_text pairs (count_in (records inputs) (process_groups (records inputs) pid)) (process_groups (records inputs) pid))
+      (of-run.pairs (part-lives (records inputs) moment pid p is)))
 
-pub of-runs : ShortRunsHaveNumbers → QueriesAreOfRuns → (inputs : List Input) (q : Question) → length (spellings (records inputs)) ≤ MOST_LOG → question_text (records inputs) q ≡ run_text inputs q
-of-runs numbers queries inputs (question.Show moment shown) short = refl
-of-runs numbers queries inputs (question.Back linkage bytes) short = back-of-runs numbers queries inputs linkage bytes short
-of-runs numbers queries inputs (question.Forth linkage event from len) short = refl
-of-runs numbers queries inputs question.Groups short = refl
-of-runs numbers queries inputs question.Events short = refl
-of-runs numbers queries inputs question.Verify short = refl
+  of-back : (linkage : Linkage) (s : Sought) → (back_telling (records inputs) linkage s).text ≡ run_back_text inputs linkage s
+  of-back linkage (sought.Event event from len) = of-event linkage event from len
+  of-back linkage (sought.Memory moment pid at len) = of-part linkage moment pid (part.Memory at len)
+  of-back linkage (sought.Register moment pid register) = of-part linkage moment pid (part.Register register)
+  of-back linkage (sought.Name moment name from len) = refl
 
-pub undamaged : ShortRunsHaveNumbers → QueriesAreOfRuns → (inputs : List Input) (event : ℕ) → length (spellings (records inputs)) ≤ MOST_LOG → event_disagreement (records inputs) event ≡ None
-undamaged numbers queries inputs event short = agrees numbers queries inputs short Copy event
+  of-forth : (linkage : Linkage) (event from len : ℕ) → (forth_telling (operands linkage) (records inputs) event from len).text ≡ run_forth_text (operands linkage) inputs event from len
+  of-forth linkage event from len =
+      if-same (is_range (event_at (records inputs) event) from len) _ _ (refusal_text NoPoint) (λ is.
+      ap (λ (o : Option Disagrees). unless_damaged o (sinks_text (operands linkage) (records inputs) event from len)) (sinks (operands linkage) inputs event from len (numbers inputs short)).agree)
+
+  seen-by : (moment pid : ℕ) → ViewsRun inputs moment pid
+  seen-by moment pid = views inputs moment pid (numbers inputs short)
+
+  shown : (line : Option View → List ℕ) (moment pid : ℕ) → is_member (records inputs) moment pid ≡ true
+      → seen_text line pid (made_of (records inputs) moment pid) ≡ line (seen (state_at inputs moment).bodies pid)
+  shown line moment pid is = ap (λ (made : Made). seen_text line pid made) (seen-by moment pid).agrees ∙ ap line ((seen-by moment pid).sees is)
+
+  of-show : (moment : ℕ) (a : Aspect) → (show_telling (records inputs) moment a).text ≡ run_show_text inputs moment a
+  of-show moment (aspect.Registers pid) = if-same (is_member (records inputs) moment pid) _ _ (refusal_text NoPoint) (shown regs_of moment pid)
+  of-show moment (aspect.Memory pid at len) =
+      if-same (is_memory_range (records inputs) moment pid at len) _ _ (refusal_text NoPoint) (λ is.
+      shown (mem_of at len) moment pid (range-member (records inputs) moment pid at len is))
+  of-show moment (aspect.File name) = refl
+  of-show moment aspect.Processes =
+      if-same (is_moment (records inputs) moment) _ _ (refusal_text NoPoint) (λ is.
+      ap (processes_text (records inputs)) (filter-same (lives_at (records inputs) moment) (lives (state_at inputs moment).kernel) (processes_in (records inputs)) (λ pid. (seen-by moment pid).lives)))
+
+  pub of-runs : (q : Question) → question_text (records inputs) q ≡ run_text inputs q
+  of-runs (question.Show moment a) = of-show moment a
+  of-runs (question.Back linkage bytes) = of-back linkage bytes
+  of-runs (question.Forth linkage event from len) = of-forth linkage event from len
+  of-runs question.Groups = refl
+  of-runs question.Events = refl
+  of-runs question.Verify = refl
+
+  pub sunk : (linkage : Linkage) (event from len : ℕ) (pair : Pair)
+      → Contains (forth_pairs (operands linkage) (records inputs) event from len) pair ↔ IsSinkPair (records inputs) (whole_points (operands linkage) inputs) event from len pair
+  sunk linkage event from len = (sinks (operands linkage) inputs event from len (numbers inputs short)).pairs

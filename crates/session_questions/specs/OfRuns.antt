@@ -1,24 +1,39 @@
 -- What is printed for a question on the records of a run.
-use Rattle.std.specs.Prelude.{◌≡◌, ℕ, ◌+◌, ◌≤◌, if◌then◌else◌, List, length, None}
+use Rattle.std.specs.Prelude.{◌≡◌, ◌↔◌, ℕ, ◌+◌, ◌≤◌, if◌then◌else◌, List, Contains, filter, length, None}
 use Rattle.arn_base.specs.declared.records.Pair.{Pair}
 use Rattle.rv64_model.specs.Carries.{Table, operands}
 use Rattle.rv64_model.specs.declared.linkage.Linkage.{Linkage}
+use Rattle.acts_model.specs.Bodies.{seen}
 use Rattle.arn_lines.specs.declared.answer.Refusal.TheVariants.{NoPoint}
+use Rattle.arn_lines.specs.declared.line.Aspect.{Aspect}
+use Rattle.arn_lines.specs.declared.line.Aspect.TheVariants as aspect
 use Rattle.arn_lines.specs.declared.line.Question.{Question}
 use Rattle.arn_lines.specs.declared.line.Question.TheVariants as question
 use Rattle.arn_lines.specs.declared.line.Sought.{Sought}
 use Rattle.arn_lines.specs.declared.line.Sought.TheVariants as sought
 use Rattle.arn_lines.specs.Texts.{refusal_text}
-use Rattle.arn_model.specs.Run.{Input}
+use Rattle.arn_model.specs.Run.{Input, state_at}
+use Rattle.arn_model.specs.Tells.{lives}
+use Rattle.history_index.specs.Lookups.{processes_in}
 use Rattle.history_model.specs.Events.{event_at, is_range}
 use Rattle.lineage_model.specs.Flow.{Byte}
 use Rattle.lineage_model.specs.Pairs.{pairs_from}
 use Rattle.log_model.specs.Records.{records}
 use Rattle.log_store.specs.Log.{spellings}
 use Rattle.log_store.specs.declared.size.TheConstants.{MOST_LOG}
+use Rattle.past_lives.specs.Members.{is_member, is_memory_range, is_moment}
+use Rattle.query_engine.specs.Asked.{in_memory, in_register}
+use Rattle.query_engine.specs.States.{is_held}
+use Rattle.query_laws.specs.ForthOfRuns.{IsSinkPair}
 use Rattle.query_laws.specs.OfRuns.{whole_points}
+use Rattle.query_laws.specs.States.{whole_set}
 use Rattle.query_model.specs.Answers.{count_in, event_disagreement, event_groups}
-use Rattle.session_questions.specs.Texts.{answer_text, question_text, unbuilt}
+use Rattle.query_model.specs.Sinks.{forth_pairs}
+use Rattle.query_model.specs.States.{part_len, process_groups}
+use Rattle.query_model.specs.declared.held.Held.{Held}
+use Rattle.session_questions.specs.Texts.{answer_text, question_text, sinks_text, telling, unbuilt}
+use Rattle.session_reports.specs.Processes.{processes_text}
+use Rattle.session_reports.specs.States.{mem_of, regs_of}
 
 -- the pairs of bytes of an event, by the tracking of every step of the whole machine
 abbrev pub run_pairs : Table → List Input → ℕ → ℕ → ℕ → List Pair
@@ -31,20 +46,46 @@ run_sources_text table inputs event from len =
     then answer_text (run_pairs table inputs event from len) (count_in (records inputs) (event_groups (records inputs) event)) (event_groups (records inputs) event)
     else refusal_text NoPoint
 
+-- the same of bytes that a process holds at a moment
+abbrev pub run_held_text : Table → List Input → Held → List ℕ
+run_held_text table inputs held =
+    if is_held (records inputs) held
+    then answer_text (pairs_from (whole_set table inputs held) 0 (part_len held.part)) (count_in (records inputs) (process_groups (records inputs) held.pid)) (process_groups (records inputs) held.pid)
+    else refusal_text NoPoint
+
 -- where bytes come from
 abbrev pub run_back_text : List Input → Linkage → Sought → List ℕ
 run_back_text inputs linkage (sought.Event event from len) = run_sources_text (operands linkage) inputs event from len
-run_back_text inputs linkage (sought.Memory moment pid at len) = unbuilt.text
-run_back_text inputs linkage (sought.Register moment pid register) = unbuilt.text
+run_back_text inputs linkage (sought.Memory moment pid at len) = run_held_text (operands linkage) inputs (in_memory moment pid at len)
+run_back_text inputs linkage (sought.Register moment pid register) = run_held_text (operands linkage) inputs (in_register moment pid register)
 run_back_text inputs linkage (sought.Name moment name from len) = unbuilt.text
 
--- each question
+-- which bytes that went out they reach
+abbrev pub run_forth_text : Table → List Input → ℕ → ℕ → ℕ → List ℕ
+run_forth_text table inputs event from len =
+    if is_range (event_at (records inputs) event) from len then sinks_text table (records inputs) event from len else refusal_text NoPoint
+
+-- the processes that live in the machine at a moment
+abbrev pub living : List Input → ℕ → List ℕ
+living inputs moment = filter (lives (state_at inputs moment).kernel) (processes_in (records inputs))
+
+-- what the machine held at a moment
+abbrev pub run_show_text : List Input → ℕ → Aspect → List ℕ
+run_show_text inputs moment (aspect.Registers pid) =
+    if is_member (records inputs) moment pid then regs_of (seen (state_at inputs moment).bodies pid) else refusal_text NoPoint
+run_show_text inputs moment (aspect.Memory pid at len) =
+    if is_memory_range (records inputs) moment pid at len then mem_of at len (seen (state_at inputs moment).bodies pid) else refusal_text NoPoint
+run_show_text inputs moment (aspect.File name) = unbuilt.text
+run_show_text inputs moment aspect.Processes =
+    if is_moment (records inputs) moment then processes_text (records inputs) (living inputs moment) else refusal_text NoPoint
+
+-- each question; the records themselves tell groups and events
 abbrev pub run_text : List Input → Question → List ℕ
-run_text inputs (question.Show moment shown) = unbuilt.text
+run_text inputs (question.Show moment shown) = run_show_text inputs moment shown
 run_text inputs (question.Back linkage bytes) = run_back_text inputs linkage bytes
-run_text inputs (question.Forth linkage event from len) = unbuilt.text
-run_text inputs question.Groups = unbuilt.text
-run_text inputs question.Events = unbuilt.text
+run_text inputs (question.Forth linkage event from len) = run_forth_text (operands linkage) inputs event from len
+run_text inputs question.Groups = (telling (records inputs) question.Groups).text
+run_text inputs question.Events = (telling (records inputs) question.Events).text
 run_text inputs question.Verify = unbuilt.text
 
 -- so it is for every question on the records of a run that are those of a log
@@ -56,3 +97,9 @@ AnswersAreOfRuns =
 abbrev pub RunsAreUndamaged : Type 0
 RunsAreUndamaged =
     (inputs : List Input) (event : ℕ) → length (spellings (records inputs)) ≤ MOST_LOG → event_disagreement (records inputs) event ≡ None
+
+-- The pairs of a question forward are exactly those whose byte that went out has the source byte, by the tracking of every step.
+abbrev pub SinksAreOfRuns : Type 0
+SinksAreOfRuns =
+    (linkage : Linkage) (inputs : List Input) (event from len : ℕ) → length (spellings (records inputs)) ≤ MOST_LOG → (pair : Pair)
+    → Contains (forth_pairs (operands linkage) (records inputs) event from len) pair ↔ IsSinkPair (records inputs) (whole_points (operands linkage) inputs) event from len pair

@@ -1,19 +1,31 @@
 -- What is printed for a question about a history, and what it costs.
-use Rattle.std.specs.Prelude.{ℕ, if◌then◌else◌, List, ◌++◌, length, flat_map, Option, Some, None}
+use Rattle.std.specs.Prelude.{ℕ, if◌then◌else◌, List, ◌++◌, codes, length, flat_map, Option, Some, None}
 use Rattle.arn_base.specs.declared.records.Pair.{Pair}
 use Rattle.arn_base.specs.declared.records.Record.{Record}
 use Rattle.rv64_model.specs.Carries.{Table, operands}
 use Rattle.rv64_model.specs.declared.linkage.Linkage.{Linkage}
 use Rattle.arn_lines.specs.declared.answer.Refusal.TheVariants.{NoLine, NoPoint}
+use Rattle.arn_lines.specs.declared.line.Aspect.{Aspect}
+use Rattle.arn_lines.specs.declared.line.Aspect.TheVariants as aspect
 use Rattle.arn_lines.specs.declared.line.Question.{Question}
 use Rattle.arn_lines.specs.declared.line.Question.TheVariants as question
 use Rattle.arn_lines.specs.declared.line.Sought.{Sought}
 use Rattle.arn_lines.specs.declared.line.Sought.TheVariants as sought
-use Rattle.arn_lines.specs.Texts.{back_text, damaged_text, pair_text, refusal_text}
+use Rattle.arn_lines.specs.Texts.{count_text, damaged_text, pair_text, refusal_text}
 use Rattle.history_model.specs.Alone.{Disagrees}
 use Rattle.history_model.specs.Events.{event_at, is_range}
 use Rattle.query_model.specs.Answers.{count_in, event_disagreement, event_groups, event_pairs}
-use Rattle.query_engine.specs.Asked.{ran_for}
+use Rattle.query_model.specs.Forth.{forth_groups}
+use Rattle.query_model.specs.Sinks.{forth_disagreement, forth_pairs}
+use Rattle.query_model.specs.States.{held_disagreement, held_pairs, process_groups}
+use Rattle.query_model.specs.declared.held.Held.{Held}
+use Rattle.query_engine.specs.Asked.{in_memory, in_register, ran_for, ran_for_held}
+use Rattle.query_engine.specs.Forth.{ran_forth}
+use Rattle.query_engine.specs.States.{is_held}
+use Rattle.session_reports.specs.Events.{events_text}
+use Rattle.session_reports.specs.Groups.{groups_text}
+use Rattle.session_reports.specs.Processes.{show_procs_text}
+use Rattle.session_reports.specs.States.{show_mem_cost, show_mem_text, show_regs_cost, show_regs_text}
 use Rattle.session_lines.specs.Questions.{Told}
 
 -- what is printed for a question, and how many instructions are executed for it at most
@@ -22,8 +34,15 @@ pub record Telling : Type 0 where
   pub cost : ℕ
 
 -- the pairs, and behind them how many there are, what the groups have run that were asked, and which these are
+abbrev pub pairs_text : List ℕ → List Pair → ℕ → List ℕ → List ℕ
+pairs_text word pairs instructions groups = flat_map pair_text pairs ++ count_text word (length pairs) instructions groups
+
+-- backward and forward
 abbrev pub answer_text : List Pair → ℕ → List ℕ → List ℕ
-answer_text pairs instructions groups = flat_map pair_text pairs ++ back_text (length pairs) instructions groups
+answer_text = pairs_text (codes "back")
+
+abbrev pub reached_text : List Pair → ℕ → List ℕ → List ℕ
+reached_text = pairs_text (codes "forth")
 
 -- the source bytes of bytes of an event
 abbrev pub sources_text : Table → List Record → ℕ → ℕ → ℕ → List ℕ
@@ -45,6 +64,34 @@ event_telling table entries event from len = record {
   cost = if is_range (event_at entries event) from len then ran_for entries event else 0;
 }
 
+-- bytes that a process holds at a moment: the groups that are asked run again up to it
+abbrev pub held_text : Table → List Record → Held → List ℕ
+held_text table entries held =
+    answer_text (held_pairs table entries held) (count_in entries (process_groups entries held.pid)) (process_groups entries held.pid)
+
+abbrev pub held_telling : Table → List Record → Held → Telling
+held_telling table entries held = record {
+  text =
+      if is_held entries held
+      then unless_damaged (held_disagreement entries held) (held_text table entries held)
+      else refusal_text NoPoint;
+  cost = if is_held entries held then ran_for_held entries held else 0;
+}
+
+-- which bytes that went out bytes of an event reach: the groups to which they can have come run again to their end
+abbrev pub sinks_text : Table → List Record → ℕ → ℕ → ℕ → List ℕ
+sinks_text table entries event from len =
+    reached_text (forth_pairs table entries event from len) (count_in entries (forth_groups entries event from len)) (forth_groups entries event from len)
+
+abbrev pub forth_telling : Table → List Record → ℕ → ℕ → ℕ → Telling
+forth_telling table entries event from len = record {
+  text =
+      if is_range (event_at entries event) from len
+      then unless_damaged (forth_disagreement entries event from len) (sinks_text table entries event from len)
+      else refusal_text NoPoint;
+  cost = if is_range (event_at entries event) from len then ran_forth entries event from len else 0;
+}
+
 -- a question that isn't answered yet is refused as a line outside the grammar is
 abbrev pub unbuilt : Telling
 unbuilt = record { text = refusal_text NoLine; cost = 0 }
@@ -52,17 +99,24 @@ unbuilt = record { text = refusal_text NoLine; cost = 0 }
 -- where bytes come from
 abbrev pub back_telling : List Record → Linkage → Sought → Telling
 back_telling entries linkage (sought.Event event from len) = event_telling (operands linkage) entries event from len
-back_telling entries linkage (sought.Memory moment pid at len) = unbuilt
-back_telling entries linkage (sought.Register moment pid register) = unbuilt
+back_telling entries linkage (sought.Memory moment pid at len) = held_telling (operands linkage) entries (in_memory moment pid at len)
+back_telling entries linkage (sought.Register moment pid register) = held_telling (operands linkage) entries (in_register moment pid register)
 back_telling entries linkage (sought.Name moment name from len) = unbuilt
+
+-- what was held at a moment: the process's group runs again up to it
+abbrev pub show_telling : List Record → ℕ → Aspect → Telling
+show_telling entries moment (aspect.Registers pid) = record { text = show_regs_text entries moment pid; cost = show_regs_cost entries moment pid }
+show_telling entries moment (aspect.Memory pid at len) = record { text = show_mem_text entries moment pid at len; cost = show_mem_cost entries moment pid at len }
+show_telling entries moment (aspect.File name) = unbuilt
+show_telling entries moment aspect.Processes = record { text = show_procs_text entries moment; cost = 0 }
 
 -- each question
 abbrev pub telling : List Record → Question → Telling
-telling entries (question.Show moment shown) = unbuilt
+telling entries (question.Show moment shown) = show_telling entries moment shown
 telling entries (question.Back linkage bytes) = back_telling entries linkage bytes
-telling entries (question.Forth linkage event from len) = unbuilt
-telling entries question.Groups = unbuilt
-telling entries question.Events = unbuilt
+telling entries (question.Forth linkage event from len) = forth_telling (operands linkage) entries event from len
+telling entries question.Groups = record { text = groups_text entries; cost = 0 }
+telling entries question.Events = record { text = events_text entries; cost = 0 }
 telling entries question.Verify = unbuilt
 
 abbrev pub question_text : List Record → Question → List ℕ

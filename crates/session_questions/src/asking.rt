@@ -12,6 +12,7 @@ use arn_lines::{Question, Refusal, push_refusal};
 use history_index::{Index, IndexError};
 use query_engine::Engine;
 use session_lines::Questions;
+use session_reports::{report_events, report_groups};
 use std::alloc::Global;
 use std::marker::Model;
 use std::sync::ledger::Ledger;
@@ -72,11 +73,16 @@ impl Questions for Asking {
             Question::Back { linkage, sought } => {
                 self.sources(entries, *linkage, sought, text, steps)
             }
-            Question::Show { .. }
-            | Question::Forth { .. }
-            | Question::Groups
-            | Question::Events
-            | Question::Verify => push_refusal(text, Refusal::NoLine),
+            Question::Show { moment, aspect } => self.show(entries, *moment, aspect, text, steps),
+            Question::Forth {
+                linkage,
+                event,
+                from,
+                len,
+            } => self.sinks(entries, *linkage, *event, *from, *len, text, steps),
+            Question::Groups => report_groups(text, &self.index),
+            Question::Events => report_events(text, entries, &self.index),
+            Question::Verify => push_refusal(text, Refusal::NoLine),
         }
     }
 }

@@ -4,6 +4,8 @@
 mod asking;
 mod of_runs;
 mod short;
+mod shown;
+mod sinks;
 mod sources;
 
 pub use asking::Asking;

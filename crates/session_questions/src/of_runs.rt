@@ -1,15 +1,22 @@
 // What is printed for questions on the records of runs.
-ghost use Rattle.session_questions.specs.OfRuns.{AnswersAreOfRuns, RunsAreUndamaged};
+ghost use Rattle.session_questions.specs.OfRuns.{AnswersAreOfRuns, RunsAreUndamaged, SinksAreOfRuns};
 
 use crate::short::short_runs_have_numbers;
-use query_laws::queries_are_of_runs;
+use query_laws::{forth_is_of_runs, queries_are_of_runs, states_are_of_runs};
+use view_laws::views_are_of_runs;
 
-/// On the records of a run every question that names bytes of an event is answered by the pairs that the
-/// tracking of every step of the whole machine gives, and never by a disagreement.
+/// On the records of a run every question about where bytes come from is answered by the pairs that the
+/// tracking of every step of the whole machine gives, what is shown of a moment is what the machine held
+/// then, and nothing disagrees. A question where bytes went is answered by exactly the pairs of bytes that
+/// went out and have the source byte by that tracking.
 pub fn answers_are_of_runs()
     ensures text { AnswersAreOfRuns }
     ensures undamaged { RunsAreUndamaged }
+    ensures sinks { SinksAreOfRuns }
 {
     short_runs_have_numbers();
     queries_are_of_runs();
+    states_are_of_runs();
+    forth_is_of_runs();
+    views_are_of_runs();
 }

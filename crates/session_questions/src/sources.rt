@@ -3,19 +3,21 @@ ghost use Rattle.std.specs.Prelude.{◌≡◌, ◌+◌, ◌≤◌, ◌++◌, fal
 ghost use Rattle.arn_lines.specs.Texts.{pair_text};
 ghost use Rattle.history_index.specs.Indexes.{AreCountable, Indexes};
 ghost use Rattle.history_model.specs.Events.{event_at, is_range};
+ghost use Rattle.query_engine.specs.Asked.{in_memory, in_register};
 ghost use Rattle.query_engine.specs.declared.engine.Target.TheVariants as target;
 ghost use Rattle.rv64_model.specs.Carries.{operands};
-ghost use Rattle.session_questions.specs.Texts.{answer_text, back_telling, event_telling};
+ghost use Rattle.session_questions.specs.Texts.{answer_text, back_telling, event_telling, held_telling};
 
 use crate::Asking;
 use arn_base::{NoMemory, Pair, Record, Steps};
 use arn_lines::{Refusal, Sought, push_back, push_damaged, push_pair, push_refusal};
 use query_engine::{Answer, QueryError, Target};
 use rv64_model::Linkage;
+use session_reports::far_is_nowhere;
 use std::sync::ledger::Ledger;
 
-// Appends the lines of pairs. An error leaves some of them behind the text.
-fn push_pairs(text: &mut String, pairs: &[Pair]) -> Result<(), NoMemory>
+/// Appends the lines of pairs. An error leaves some of them behind the text.
+pub fn push_pairs(text: &mut String, pairs: &[Pair]) -> Result<(), NoMemory>
     ensures { OnOk result
         (string_bytes text.new ≡ string_bytes text.old ++ flat_map pair_text pairs.now) }
 {
@@ -91,6 +93,95 @@ impl Asking {
             Err(QueryError::NoMemory) => Err(NoMemory),
         }
     }
+
+    // Appends the answer to where bytes come from that a process held at a moment.
+    #[tactic(auto, using(crate::proofs::Far::far_memory, crate::proofs::Far::long_memory))]
+    fn memory_sources<L: Ledger>(
+        &mut self,
+        entries: &[Record],
+        linkage: Linkage,
+        moment: u64,
+        pid: u64,
+        at: u64,
+        len: u64,
+        text: &mut String,
+        steps: &mut Steps<L>,
+    ) -> Result<(), NoMemory>
+        requires countable { AreCountable entries.now }
+        requires known { Indexes self.old entries.now }
+        ensures kept { self.new ≡ self.old }
+        ensures text { OnOk result (string_bytes text.new ≡ string_bytes text.old
+            ++ (held_telling (operands linkage) entries.now (in_memory moment pid at len)).text) }
+        ensures steps { steps.new ≤ steps.old
+            + (held_telling (operands linkage) entries.now (in_memory moment pid at len)).cost }
+    {
+        far_is_nowhere();
+        let Ok(pid) = u32::try_from(pid) else {
+            return push_refusal(text, Refusal::NoPoint);
+        };
+        let Ok(len) = u32::try_from(len) else {
+            return push_refusal(text, Refusal::NoPoint);
+        };
+        let target = Target::Mem {
+            moment,
+            pid,
+            at,
+            len,
+        };
+        match self
+            .engine
+            .back(entries, &self.index, linkage, &target, steps)
+        {
+            Ok(answer) => push_answer(text, &answer),
+            Err(QueryError::NoPoint) => push_refusal(text, Refusal::NoPoint),
+            Err(QueryError::Disagrees(found)) => {
+                push_damaged(text, found.event, found.said, found.found)
+            }
+            Err(QueryError::NoMemory) => Err(NoMemory),
+        }
+    }
+
+    // Appends the answer to where the bytes of a register come from, as it was at a moment.
+    #[tactic(auto, using(crate::proofs::Far::far_register, crate::proofs::Far::no_register))]
+    fn register_sources<L: Ledger>(
+        &mut self,
+        entries: &[Record],
+        linkage: Linkage,
+        moment: u64,
+        pid: u64,
+        register: u64,
+        text: &mut String,
+        steps: &mut Steps<L>,
+    ) -> Result<(), NoMemory>
+        requires countable { AreCountable entries.now }
+        requires known { Indexes self.old entries.now }
+        ensures kept { self.new ≡ self.old }
+        ensures text { OnOk result (string_bytes text.new ≡ string_bytes text.old
+            ++ (held_telling (operands linkage) entries.now (in_register moment pid register)).text) }
+        ensures steps { steps.new ≤ steps.old
+            + (held_telling (operands linkage) entries.now (in_register moment pid register)).cost }
+    {
+        far_is_nowhere();
+        let Ok(pid) = u32::try_from(pid) else {
+            return push_refusal(text, Refusal::NoPoint);
+        };
+        let Ok(reg) = u8::try_from(register) else {
+            return push_refusal(text, Refusal::NoPoint);
+        };
+        let target = Target::Reg { moment, pid, reg };
+        match self
+            .engine
+            .back(entries, &self.index, linkage, &target, steps)
+        {
+            Ok(answer) => push_answer(text, &answer),
+            Err(QueryError::NoPoint) => push_refusal(text, Refusal::NoPoint),
+            Err(QueryError::Disagrees(found)) => {
+                push_damaged(text, found.event, found.said, found.found)
+            }
+            Err(QueryError::NoMemory) => Err(NoMemory),
+        }
+    }
+
     // Appends the answer to where bytes come from.
     pub(crate) fn sources<L: Ledger>(
         &mut self,
@@ -112,9 +203,18 @@ impl Asking {
             Sought::Event { event, from, len } => {
                 self.event_sources(entries, linkage, *event, *from, *len, text, steps)
             }
-            Sought::Memory { .. } | Sought::Register { .. } | Sought::Name { .. } => {
-                push_refusal(text, Refusal::NoLine)
-            }
+            Sought::Memory {
+                moment,
+                pid,
+                at,
+                len,
+            } => self.memory_sources(entries, linkage, *moment, *pid, *at, *len, text, steps),
+            Sought::Register {
+                moment,
+                pid,
+                register,
+            } => self.register_sources(entries, linkage, *moment, *pid, *register, text, steps),
+            Sought::Name { .. } => push_refusal(text, Refusal::NoLine),
         }
     }
 }

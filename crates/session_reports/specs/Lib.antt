@@ -3,3 +3,4 @@ pub mod Events
 pub mod Processes
 pub mod Refused
 pub mod States
+pub mod Far

@@ -3,6 +3,7 @@
 #![tactic(auto)]
 
 mod events;
+mod far;
 mod groups;
 mod processes;
 mod states;
@@ -10,6 +11,7 @@ mod states;
 mod tests;
 
 pub use events::report_events;
+pub use far::far_is_nowhere;
 pub use groups::report_groups;
 pub use processes::report_procs;
 pub use states::{report_mem, report_regs};

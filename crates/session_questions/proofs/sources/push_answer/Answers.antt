@@ -1,5 +1,5 @@
 use Rattle.std.proofs.Common.{◌≡◌, ◌∙◌, ◌++◌, List, ap}
-use Rattle.std.specs.Prelude.{flat_map}
+use Rattle.std.specs.Prelude.{codes, flat_map}
 use Rattle.std.specs.String.{string_bytes}
 use Rattle.std.proofs.lemmas.Result.{IfOk-weaker}
 use Rattle.arn_base.specs.declared.records.Pair.{Pair}
@@ -13,5 +13,5 @@ returns c =
     let first : string_bytes c.push_pairs.new.text ≡ string_bytes c.args.text.now ++ flat_map pair_text answer.pairs =
     c.in_ok-push_pairs.ensures ∙ ap (λ (pairs : List Pair). string_bytes c.args.text.now ++ flat_map pair_text pairs) c.as_slice.ensures in
     IfOk-weaker c.push_back.result _ _
-    (λ _ second. answer-printed _ _ _ answer.pairs c.len.result answer.instructions c.into.result answer.groups _ first second c.len.ensures c.into.ensures c.as_slice-2.ensures)
+    (λ _ second. answer-printed (codes "back") _ _ _ answer.pairs c.len.result answer.instructions c.into.result answer.groups _ first second c.len.ensures c.into.ensures c.as_slice-2.ensures)
     c.push_back.ensures.ok

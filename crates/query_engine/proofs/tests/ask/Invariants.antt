@@ -1,4 +1,0 @@
-use Rattle.query_engine.proofs.tests.ask.Given as goal
-
-abbrev pub ghosts-ask_counted : goal.ghosts-ask_counted
-ghosts-ask_counted a = record { name = a.blank.name; parts = a.blank.parts }

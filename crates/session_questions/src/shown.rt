@@ -1,0 +1,39 @@
+// What the machine held at a moment.
+ghost use Rattle.std.specs.Prelude.{◌≡◌, ◌+◌, ◌≤◌, ◌++◌, OnOk, string_bytes};
+ghost use Rattle.history_index.specs.Indexes.{AreCountable, Indexes};
+ghost use Rattle.session_questions.specs.Texts.{show_telling};
+
+use crate::Asking;
+use arn_base::{NoMemory, Record, Steps};
+use arn_lines::{Aspect, Refusal, push_refusal};
+use session_reports::{report_mem, report_procs, report_regs};
+use std::sync::ledger::Ledger;
+
+impl Asking {
+    // Appends what is shown of a moment.
+    pub(crate) fn show<L: Ledger>(
+        &self,
+        entries: &[Record],
+        moment: u64,
+        aspect: &Aspect,
+        text: &mut String,
+        steps: &mut Steps<L>,
+    ) -> Result<(), NoMemory>
+        requires countable { AreCountable entries.now }
+        requires known { Indexes self.now entries.now }
+        ensures text { OnOk result (string_bytes text.new ≡
+            string_bytes text.old ++ (show_telling entries.now moment aspect.now).text) }
+        ensures steps { steps.new ≤ steps.old + (show_telling entries.now moment aspect.now).cost }
+    {
+        match aspect {
+            Aspect::Registers { pid } => {
+                report_regs(text, entries, &self.index, moment, *pid, steps)
+            }
+            Aspect::Memory { pid, at, len } => {
+                report_mem(text, entries, &self.index, moment, *pid, *at, *len, steps)
+            }
+            Aspect::File { .. } => push_refusal(text, Refusal::NoLine),
+            Aspect::Processes => report_procs(text, entries, &self.index, moment),
+        }
+    }
+}

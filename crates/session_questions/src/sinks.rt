@@ -1,0 +1,68 @@
+// Which bytes that went out others reach.
+ghost use Rattle.std.specs.Prelude.{◌≡◌, ◌+◌, ◌≤◌, ◌++◌, OnOk, string_bytes};
+ghost use Rattle.history_index.specs.Indexes.{AreCountable, Indexes};
+ghost use Rattle.rv64_model.specs.Carries.{operands};
+ghost use Rattle.session_questions.specs.Texts.{forth_telling, reached_text};
+
+use crate::Asking;
+use crate::sources::push_pairs;
+use arn_base::{NoMemory, Record, Steps};
+use arn_lines::{Refusal, push_damaged, push_forth, push_refusal};
+use query_engine::{Answer, QueryError};
+use rv64_model::Linkage;
+use std::sync::ledger::Ledger;
+
+// Appends what is answered: the pairs, and the line that counts them.
+fn push_reached(text: &mut String, answer: &Answer) -> Result<(), NoMemory>
+    ensures { OnOk result (string_bytes text.new ≡ string_bytes text.old
+        ++ reached_text answer.now.pairs answer.now.instructions answer.now.groups) }
+{
+    push_pairs(text, answer.pairs.as_slice())?;
+    push_forth(
+        text,
+        answer.pairs.len() as u64,
+        answer.instructions.into(),
+        answer.groups.as_slice(),
+    )
+}
+
+impl Asking {
+    // Appends the answer to which bytes that went out bytes of an event reach.
+    #[tactic(auto, using(crate::proofs::Ranges::far_away))]
+    pub(crate) fn sinks<L: Ledger>(
+        &mut self,
+        entries: &[Record],
+        linkage: Linkage,
+        event: u64,
+        from: u64,
+        len: u64,
+        text: &mut String,
+        steps: &mut Steps<L>,
+    ) -> Result<(), NoMemory>
+        requires countable { AreCountable entries.now }
+        requires known { Indexes self.old entries.now }
+        ensures kept { self.new ≡ self.old }
+        ensures text { OnOk result (string_bytes text.new ≡ string_bytes text.old
+            ++ (forth_telling (operands linkage) entries.now event from len).text) }
+        ensures steps { steps.new ≤
+            steps.old + (forth_telling (operands linkage) entries.now event from len).cost }
+    {
+        let Ok(from) = u32::try_from(from) else {
+            return push_refusal(text, Refusal::NoPoint);
+        };
+        let Ok(len) = u32::try_from(len) else {
+            return push_refusal(text, Refusal::NoPoint);
+        };
+        match self
+            .engine
+            .forth(entries, &self.index, linkage, event, from, len, steps)
+        {
+            Ok(answer) => push_reached(text, &answer),
+            Err(QueryError::NoPoint) => push_refusal(text, Refusal::NoPoint),
+            Err(QueryError::Disagrees(found)) => {
+                push_damaged(text, found.event, found.said, found.found)
+            }
+            Err(QueryError::NoMemory) => Err(NoMemory),
+        }
+    }
+}
