@@ -18,7 +18,7 @@ ghost use Rattle.log_store.specs.declared.size.TheConstants.{MOST_LOG};
 ghost use Rattle.session_effects.specs.Carrying.{CarriesOut, HoldsLog, HoldsMore, IsAtRest, Keeps, RestsMore};
 ghost use Rattle.session_effects.specs.Standing.{IsOpen};
 ghost use Rattle.session_lines.specs.Answering.{IsNoRun};
-ghost use Rattle.session_questions.specs.OfRuns.{AnswersAreOfRuns};
+ghost use Rattle.session_questions.specs.OfRuns.{AnswersAreOfRuns, SinksAreOfRuns};
 ghost use Rattle.session_questions.specs.Texts.{told};
 ghost use Rattle.session_runs.specs.Points.{around};
 ghost use Rattle.session_text.specs.Answers.{Answers, AnswersTaken, TookAtMost, TookFewer};
@@ -342,6 +342,7 @@ pub fn arnold<S: Source, K: Sink, D: Disk, L: Ledger>(
     // On the records of a run the text for a question is what the tracking of every step of the
     // whole machine relates.
     ensures lineage { AnswersAreOfRuns }
+    ensures sinks { SinksAreOfRuns }
 {
     answers_are_of_runs();
     effects_follow::<MachineRuns, D>();

@@ -136,7 +136,9 @@ const THROUGH_FILE: &str = "\
     boot p\n\
     type 5a\n\
     run 1000\n\
-    back copy event 14 0 2\n";
+    back copy event 14 0 2\n\
+    forth copy 3 0 1\n\
+    forth copy 0 0 1\n";
 
 /// Reads a byte and makes a child, which writes the byte without having touched it.
 pub const BY_CHILD: &str = "\
@@ -151,7 +153,8 @@ pub const BY_CHILD: &str = "\
     boot p\n\
     type 78\n\
     run 100\n\
-    back copy event 6 0 1\n";
+    back copy event 6 0 1\n\
+    groups\n";
 
 /// Starts a program from a file with an argument block, which the program writes.
 const STARTS_WITH_BLOCK: &str = "\
@@ -230,6 +233,92 @@ pub const IN_TURN: &str = "\
     boot p\n\
     run 100\n";
 
+/// Reads three bytes, writes them and exits; then its past is asked about.
+const PAST: &str = "\
+    show 0 procs\n\
+    events\n\
+    file p 41524e494d473031000001000000000000000100000000009308b00013050000930501ff1306300073000000\
+    9308c0001305100073000000930810001305000073000000\n\
+    boot p\n\
+    type 616263\n\
+    run 100\n\
+    show 4 mem 1 0x4fff0 3\n\
+    show 5 mem 1 0x4fff0 3\n\
+    show 5 mem 1 0x50000 0\n\
+    show 5 mem 1 0x4fff0 17\n\
+    show 5 mem 1 0x80000000 0\n\
+    show 5 mem 2 0x4fff0 3\n\
+    show 5 regs 1\n\
+    show 5 regs 0x100000001\n\
+    show 11 regs 1\n\
+    show 12 procs\n\
+    show 0 procs\n\
+    show 11 procs\n\
+    back copy event 2 0 3\n\
+    back copy mem 4 1 0x4fff0 3\n\
+    back copy mem 5 1 0x4fff0 3\n\
+    back copy mem 5 1 0x10000 4\n\
+    back copy mem 5 1 0x4fff0 0\n\
+    back copy mem 11 1 0x4fff0 3\n\
+    back copy reg 5 1 10\n\
+    back copy reg 5 1 32\n\
+    forth copy 2 0 3\n\
+    forth copy 2 1 1\n\
+    forth copy 3 0 3\n\
+    forth copy 2 0 4\n\
+    groups\n\
+    events\n";
+
+/// What is printed for that.
+const PAST_PRINTS: &str = "\
+    procs 0\n\
+    events 0\n\
+    event 0\n\
+    event 1\n\
+    event 2\n\
+    out 4 1 616263\n\
+    ran 11 done\n\
+    mem 000000\n\
+    mem 616263\n\
+    mem -\n\
+    no point\n\
+    no point\n\
+    no point\n\
+    regs 0000000000010014 0000000000000000 0000000000050000 0000000000000000 0000000000000000 \
+    0000000000000000 0000000000000000 0000000000000000 0000000000000000 0000000000000000 \
+    0000000000000003 000000000004fff0 0000000000000003 0000000000000000 0000000000000000 \
+    0000000000000000 0000000000000000 000000000000000b 0000000000000000 0000000000000000 \
+    0000000000000000 0000000000000000 0000000000000000 0000000000000000 0000000000000000 \
+    0000000000000000 0000000000000000 0000000000000000 0000000000000000 0000000000000000 \
+    0000000000000000 0000000000000000\n\
+    no point\n\
+    no point\n\
+    no point\n\
+    proc 1 group 1\n\
+    procs 1\n\
+    procs 0\n\
+    pair 2 0 0\npair 2 1 1\npair 2 2 2\nback pairs 3 instructions 0 groups -\n\
+    back pairs 0 instructions 11 groups 1\n\
+    pair 2 0 0\npair 2 1 1\npair 2 2 2\nback pairs 3 instructions 11 groups 1\n\
+    pair 0 24 0\npair 0 25 1\npair 0 26 2\npair 0 27 3\nback pairs 4 instructions 11 groups 1\n\
+    back pairs 0 instructions 11 groups 1\n\
+    no point\n\
+    back pairs 0 instructions 11 groups 1\n\
+    no point\n\
+    pair 4 0 0\npair 4 1 1\npair 4 2 2\nforth pairs 3 instructions 11 groups 1\n\
+    pair 4 1 0\nforth pairs 1 instructions 11 groups 1\n\
+    forth pairs 0 instructions 0 groups -\n\
+    no point\n\
+    group 1 processes 1 instructions 11\n\
+    groups 1\n\
+    event 0 0 - file 68\n\
+    event 1 0 1 boot 68\n\
+    event 2 0 - type 3\n\
+    event 3 5 1 call.11.3 3\n\
+    event 4 8 1 call.12.3 3\n\
+    event 5 11 1 call.1.0 1\n\
+    events 6\n";
+
 /// Sessions with blocks, and what is printed for them.
 pub const BLOCKS: &[(&str, &str)] = &[
     (
@@ -266,13 +355,17 @@ pub const BLOCKS: &[(&str, &str)] = &[
     (
         THROUGH_FILE,
         "event 0\nevent 1\nevent 2\nevent 3\nout 14 1 415a\nran 53 done\n\
-        pair 0 0 0\npair 3 0 1\nback pairs 2 instructions 53 groups 1 2\n",
+        pair 0 0 0\npair 3 0 1\nback pairs 2 instructions 53 groups 1 2\n\
+        pair 9 0 0\npair 14 1 0\nforth pairs 2 instructions 53 groups 1 2\n\
+        pair 14 0 0\nforth pairs 1 instructions 53 groups 1 2\n",
     ),
     (
         BY_CHILD,
         "event 0\nevent 1\nevent 2\nout 6 2 78\nran 19 done\n\
-        pair 2 0 0\nback pairs 1 instructions 19 groups 1 2\n",
+        pair 2 0 0\nback pairs 1 instructions 19 groups 1 2\n\
+        group 1 processes 1 instructions 12\ngroup 2 processes 1 instructions 7\ngroups 2\n",
     ),
+    (PAST, PAST_PRINTS),
     (
         STARTS_WITH_BLOCK,
         "event 0\nevent 1\nevent 2\nout 4 1 616263\nran 16 done\n\

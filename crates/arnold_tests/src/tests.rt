@@ -232,7 +232,8 @@ fn goes_by_the_schedule(rt: HostRuntime) -> Result<(), Fail> {
         Schedule::Chosen(&parent_first),
         BY_CHILD,
         "event 0\nevent 1\nevent 2\nout 6 2 78\nran 19 done\n\
-        pair 2 0 0\nback pairs 1 instructions 19 groups 1 2\n",
+        pair 2 0 0\nback pairs 1 instructions 19 groups 1 2\n\
+        group 1 processes 1 instructions 12\ngroup 2 processes 1 instructions 7\ngroups 2\n",
     )?;
     let child_first = [goes_on(0), goes_on(0), goes_on(1)];
     assert_prints_under(
@@ -240,7 +241,8 @@ fn goes_by_the_schedule(rt: HostRuntime) -> Result<(), Fail> {
         Schedule::Chosen(&child_first),
         BY_CHILD,
         "event 0\nevent 1\nevent 2\nout 5 2 78\nran 19 done\n\
-        back pairs 0 instructions 12 groups 1\n",
+        back pairs 0 instructions 12 groups 1\n\
+        group 1 processes 1 instructions 12\ngroup 2 processes 1 instructions 7\ngroups 2\n",
     )
 }
 
