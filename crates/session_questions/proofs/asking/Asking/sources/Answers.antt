@@ -1,0 +1,14 @@
+use Rattle.std.proofs.Common.{◌≡◌, ◌++◌, OnOk, string_bytes, subst, sym}
+use Rattle.arn_lines.specs.declared.line.Sought.{Sought}
+use Rattle.session_questions.specs.Texts.{back_telling}
+use Rattle.session_questions.proofs.asking.Asking.sources.Goals as goal
+
+pub returns-in-Memory-clause-text : goal.returns-in-Memory-clause-text
+returns-in-Memory-clause-text g c =
+    subst (λ (s : Sought). OnOk c.memory_sources.result (string_bytes c.memory_sources.new.text ≡ string_bytes c.args.text.now ++ (back_telling c.args.entries.now c.args.linkage s).text))
+    (sym c.in-Memory.is) c.memory_sources.ensures.text
+
+pub returns-in-Register-clause-text : goal.returns-in-Register-clause-text
+returns-in-Register-clause-text g c =
+    subst (λ (s : Sought). OnOk c.register_sources.result (string_bytes c.register_sources.new.text ≡ string_bytes c.args.text.now ++ (back_telling c.args.entries.now c.args.linkage s).text))
+    (sym c.in-Register.is) c.register_sources.ensures.text
