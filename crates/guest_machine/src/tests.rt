@@ -3,7 +3,6 @@ ghost use Rattle.parts_model.specs.Files.{is_name};
 ghost use Rattle.result_log.specs.Spelling.{ExtraHasSpelling, GiveHasSpelling, HasSpelling, IsCounted};
 ghost use Rattle.guest_machine.specs.Recorded.{HasRoom};
 
-mod forks;
 mod legs;
 mod rebuild;
 

@@ -111,7 +111,7 @@ fn takes_the_slices_that_are_chosen(rt: HostRuntime) -> Result<(), Fail> {
     Ok(())
 }
 
-pub(super) fn assert_leg(
+fn assert_leg(
     rt: &impl Abort,
     machine: &mut Machine,
     budget: u64,
