@@ -20,13 +20,14 @@ const SLICE: u32 = 1_000;
 
 /// Who picks which process goes on, and for how long.
 #[derive(Clone, Copy, Debug)]
-pub enum Schedule<'a> {
+pub enum Schedule {
     /// One after the other, for many instructions.
     Round,
     /// By chance, from a seed.
     Seeded(u64),
-    /// By these choices, and then the first process for one instruction at a time.
-    Chosen(&'a [Choice]),
+    /// Twice the first process up to its next call, then the one in this place, and from then on the
+    /// first one for one instruction at a time.
+    Third(u32),
 }
 
 /// A text, how a source gives it, which calls fail, and the schedule.
@@ -39,7 +40,7 @@ pub struct Script<'a> {
     pub source_fails: &'a [u32],
     /// The numbers of the sink's calls that fail, from 0 on.
     pub sink_fails: &'a [u32],
-    pub schedule: Schedule<'a>,
+    pub schedule: Schedule,
 }
 
 impl Script<'_> {
@@ -87,10 +88,9 @@ fn owned(alloc: Global, words: &[&str]) -> Result<Vec<String>, NoMemory>
     Ok(made)
 }
 
-fn list_of(alloc: Global, choices: &[Choice]) -> Result<Vec<Choice>, NoMemory> {
-    let mut list = Vec::new(alloc);
-    list.extend_from_slice(choices)?;
-    Ok(list)
+/// As many instructions as come before the next call.
+fn goes_on(index: u32) -> Choice {
+    Choice { index, count: 100 }
 }
 
 fn run_over<D: Disk, L: Ledger>(
@@ -117,9 +117,10 @@ fn run_over<D: Disk, L: Ledger>(
     let mut chooser: Box<dyn Chooser> = match script.schedule {
         Schedule::Round => Box::new(alloc, RoundChooser::new(SLICE))?,
         Schedule::Seeded(seed) => Box::new(alloc, SeededChooser::new(seed))?,
-        Schedule::Chosen(choices) => {
-            Box::new(alloc, ScriptChooser::new(list_of(alloc, choices)?))?
-        }
+        Schedule::Third(index) => Box::new(
+            alloc,
+            ScriptChooser::new(vec![in alloc; goes_on(0), goes_on(0), goes_on(index)]?),
+        )?,
     };
     let mut devices: Vec<Option<Box<dyn Device>>> = Vec::new(alloc);
     let status = arnold(

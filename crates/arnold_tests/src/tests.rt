@@ -1,6 +1,6 @@
 use super::*;
 use crate::programs::{BLOCKS, BY_CHILD, EXCHANGED, ILLEGAL, IN_TURN, OTHER_CALL, OVERWRITTEN};
-use arn_base::{Bytes, Choice, Differs, Disk, NoMemory, Numbers};
+use arn_base::{Bytes, Differs, Disk, NoMemory, Numbers};
 use arn_session::{Damage, Status};
 use log_disk::{FileDisk, FuseDisk, MemDisk};
 use log_store::{OpenError, Store};
@@ -219,26 +219,19 @@ fn assert_prints_under(
     Ok(())
 }
 
-/// As many instructions as come before the next call.
-const fn goes_on(index: u32) -> Choice {
-    Choice { index, count: 100 }
-}
-
 #[test]
 fn goes_by_the_schedule(rt: HostRuntime) -> Result<(), Fail> {
-    let parent_first = [goes_on(0), goes_on(0), goes_on(0), goes_on(0)];
     assert_prints_under(
         &rt,
-        Schedule::Chosen(&parent_first),
+        Schedule::Third(0),
         BY_CHILD,
         "event 0\nevent 1\nevent 2\nout 6 2 78\nran 19 done\n\
         pair 2 0 0\nback pairs 1 instructions 19 groups 1 2\n\
         group 1 processes 1 instructions 12\ngroup 2 processes 1 instructions 7\ngroups 2\n",
     )?;
-    let child_first = [goes_on(0), goes_on(0), goes_on(1)];
     assert_prints_under(
         &rt,
-        Schedule::Chosen(&child_first),
+        Schedule::Third(1),
         BY_CHILD,
         "event 0\nevent 1\nevent 2\nout 5 2 78\nran 19 done\n\
         back pairs 0 instructions 12 groups 1\n\
