@@ -1,5 +1,5 @@
 -- What a call tells, from what its act, its record and its kernel say; and refusals.
-use Rattle.std.proofs.Common.{◌+◌, ◌≡◌, ℕ, ◌≤◌, List, [], ◌∷◌, length, refl, ap, ◌∙◌, sym, Option, Some, None, unwrap_or, Bool, true, false, ◌==◌, ◌&&◌, not, cond, if◌then◌else◌, nat_le}
+use Rattle.std.proofs.Common.{subst, ◌+◌, ◌≡◌, ℕ, ◌≤◌, List, [], ◌∷◌, length, refl, ap, ◌∙◌, sym, Option, Some, None, unwrap_or, Bool, true, false, ◌==◌, ◌&&◌, not, cond, if◌then◌else◌, nat_le}
 use Rattle.std.proofs.lemmas.Bool.{eq-eqb, and_right, and_parts, not-true}
 use Rattle.arn_base.specs.declared.machine.Cpu.{Cpu}
 use Rattle.arn_base.specs.declared.records.Extra.{Extra}
@@ -24,7 +24,7 @@ use Rattle.arn_model.specs.Kernel.{Kernel, Machine}
 use Rattle.arn_model.specs.Row.{answered}
 use Rattle.arn_model.specs.Tells as tells
 use Rattle.arn_model.specs.Sound.{IsSound}
-use Rattle.arn_model.specs.Tells.{lives, named_after, FileAfter, ForksRightly, EventTells, HasNumbers}
+use Rattle.arn_model.specs.Tells.{WritesInside, lives, named_after, FileAfter, ForksRightly, EventTells, HasNumbers}
 use Rattle.arn_model.proofs.Effects.{FileKept, KernelTells, quiet-tells}
 use Rattle.arn_model.proofs.Quiet.{Quiet, quiet-refl}
 
@@ -114,6 +114,8 @@ done-call m pid v n d name put at call k =
           lives = λ q. k.living q ∙ ap (λ (l : LifeChange). lives_after l q (lives m.kernel q)) (sym c.life);
           names = λ path. k.names path ∙ ap (λ (c : NameChange). named_after c path (find_file m.kernel.files path)) (sym c.name);
           files = λ file. kept-after m.events file (entry.Call pid n (result_of d.act) d.extra) put c.put (file_bytes m.kernel.files file) (file_bytes d.kernel.files file) (k.kept file);
+          last = k.last;
+          writes = subst (WritesInside m.kernel.files) (sym c.put) k.writes;
         }
 
 -- a call that returns, and moves nothing

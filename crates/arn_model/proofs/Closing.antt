@@ -1,5 +1,5 @@
 -- Each way in which the kernel opens, holds and closes is a quiet change.
-use Rattle.std.proofs.Common.{◌≡◌, ℕ, zero, suc, ◌+◌, ◌-◌, List, [], ◌∷◌, ◌++◌, length, refl, ap, ◌∙◌, sym, subst, Option, Some, None, IfSome, Bool, true, false, ◌==◌, cond, if◌then◌else◌, ◌||◌, arith, option_map, option_and_then, is_some, slice_get, slice_set, nat_lt, length-set}
+use Rattle.std.proofs.Common.{eq-eqb, ◌≡◌, ℕ, zero, suc, ◌+◌, ◌-◌, List, [], ◌∷◌, ◌++◌, length, bytes_eq, refl, ap, ◌∙◌, sym, subst, Option, Some, None, IfSome, Bool, true, false, ◌==◌, cond, if◌then◌else◌, ◌||◌, arith, option_map, option_and_then, is_some, slice_get, slice_set, nat_lt, length-set}
 use Rattle.parts_model.specs.declared.open.Conn.{Conn}
 use Rattle.parts_model.specs.declared.open.Description.{Description}
 use Rattle.parts_model.specs.declared.open.Description.TheVariants.{Console, File, Reader, Writer, Connection, Listener, Device}
@@ -157,9 +157,41 @@ quiet-without_port number (Some p) k =
     quiet-trans k k' (without_servers p.waiting k') (quiet-ports k (freed k.ports number)) (quiet-without_servers p.waiting k')
 
 -- how files are held
-pub reached-quiet : (fs : Files) (file : ℕ) (o p : Option files.File) → nth fs.all file ≡ o → FileSame (option_map (λ f. f.bytes) o) (option_map (λ f. f.bytes) p) → FilesQuiet fs (files.with_file fs file p)
-reached-quiet fs file o p e same = record { names = refl; made = length-set fs.all file p; files = each }
+pub among-named : (names : List files.Name) (path : List ℕ) (file : ℕ) → files.file_among names path ≡ Some file → files.has_name names file ≡ true
+among-named [] path file found = absurd (cc)
+among-named (n ∷ names) path file found = by_test (bytes_eq n.path path) found (among-named names path file)
   where
+    or-true : (b : Bool) → (b || true) ≡ true
+    or-true true = refl
+    or-true false = refl
+
+    by_test : (b : Bool) → cond b (Some n.file) (files.file_among names path) ≡ Some file → (files.file_among names path ≡ Some file → files.has_name names file ≡ true) → files.has_name (n ∷ names) file ≡ true
+    by_test true e rest = let same : n.file ≡ file = cc in ap (λ (b : Bool). b || files.has_name names file) (eq-eqb n.file file same)
+    by_test false e rest = ap (λ (b : Bool). (n.file == file) || b) (rest e) ∙ or-true (n.file == file)
+
+pub reached-quiet : (fs : Files) (file : ℕ) (o p : Option files.File) → nth fs.all file ≡ o → FileSame (option_map (λ f. f.bytes) o) (option_map (λ f. f.bytes) p)
+    → ((path : List ℕ) → files.file_among fs.names path ≡ Some file → is_some (option_map (λ f. f.bytes) o) ≡ true → is_some (option_map (λ f. f.bytes) p) ≡ true) → FilesQuiet fs (files.with_file fs file p)
+reached-quiet fs file o p e same stays =
+    record {
+      names = refl;
+      made = length-set fs.all file p;
+      files = each;
+      named = λ path q found some. ap (λ (x : Option files.File). is_some (option_map (λ f. f.bytes) x)) (nth-set fs.all file p q) ∙ by_name path q (q == file) refl (slice_get fs.all q) refl found some;
+    }
+  where
+    own : (x : Option (Option files.File)) → option_and_then (λ thing. thing) x ≡ o → is_some (option_map (λ f. f.bytes) o) ≡ true → is_some (option_map (λ f. f.bytes) p) ≡ true → is_some (option_map (λ f. f.bytes) (option_and_then (λ y. p) x)) ≡ true
+    own None h some there = absurd (let g : is_some (option_map (λ f. f.bytes) o) ≡ false = ap (λ (x : Option files.File). is_some (option_map (λ f. f.bytes) x)) (sym h) in cc)
+    own (Some y) h some there = there
+
+    by_name : (path : List ℕ) (q : ℕ) (b : Bool) → (q == file) ≡ b → (x : Option (Option files.File)) → slice_get fs.all q ≡ x → files.file_among fs.names path ≡ Some q → is_some (file_bytes fs q) ≡ true
+        → is_some (option_map (λ f. f.bytes) (cond b (option_and_then (λ y. p) x) (nth fs.all q))) ≡ true
+    by_name path q true t x got found some =
+        let here = eqb-true q file t in
+        let is : nth fs.all q ≡ o = ap (λ i. nth fs.all i) here ∙ e in
+        let was : is_some (option_map (λ f. f.bytes) o) ≡ true = ap (λ (x : Option files.File). is_some (option_map (λ f. f.bytes) x)) (sym is) ∙ some in
+        own x (ap (λ (x : Option (Option files.File)). option_and_then (λ thing. thing) x) (sym got) ∙ is) was (stays path (found ∙ ap (λ (i : ℕ). Some i) here) was)
+    by_name path q false t x got found some = some
+
     there : (x : Option (Option files.File)) → option_and_then (λ thing. thing) x ≡ o → FileSame (option_map (λ f. f.bytes) o) (option_map (λ f. f.bytes) (option_and_then (λ y. p) x))
     there None h = tt
     there (Some y) h = same
@@ -174,14 +206,14 @@ reached-quiet fs file o p e same = record { names = refl; made = length-set fs.a
     each q = subst (λ (x : Option files.File). FileSame (file_bytes fs q) (option_map (λ f. f.bytes) x)) (sym (nth-set fs.all file p q)) (by_test q (q == file) refl)
 
 pub files-same : (fs : Files) → FilesQuiet fs fs
-files-same fs = record { names = refl; made = refl; files = λ file. file-same (file_bytes fs file) (file_bytes fs file) refl }
+files-same fs = record { named = λ path file found some. some; names = refl; made = refl; files = λ file. file-same (file_bytes fs file) (file_bytes fs file) refl }
 
 pub held-quiet : (fs : Files) (file : ℕ) → FilesQuiet fs (files.held fs file)
 held-quiet fs file = by_file (nth fs.all file) refl
   where
     by_file : (o : Option files.File) → nth fs.all file ≡ o → FilesQuiet fs (files.with_holder fs file o)
     by_file None e = files-same fs
-    by_file (Some f) e = reached-quiet fs file (Some f) (Some (record f { holders = f.holders + 1 })) e refl
+    by_file (Some f) e = reached-quiet fs file (Some f) (Some (record f { holders = f.holders + 1 })) e refl (λ path found some. refl)
 
 abbrev pub with_holders : (ℕ → ℕ) → files.File → files.File
 with_holders holders f = record f { holders = holders f.holders }
@@ -191,7 +223,12 @@ reached-same fs file None holders e = files-same fs
 reached-same fs file (Some f) holders e =
     reached-quiet fs file (Some f) (files.if_reached fs.names file (record f { holders = holders f.holders })) e
     (by_test (files.has_name fs.names file || nat_lt 0 (holders f.holders)))
+    (λ path found some. by_name (files.has_name fs.names file) (among-named fs.names path file found))
   where
+    by_name : (b : Bool) → b ≡ true → is_some (option_map (λ f. f.bytes) (if b || nat_lt 0 (holders f.holders) then Some (record f { holders = holders f.holders }) else None)) ≡ true
+    by_name true h = refl
+    by_name false h = absurd (cc)
+
     by_test : (b : Bool) → FileSame (Some f.bytes) (option_map (λ f. f.bytes) (if b then Some (record f { holders = holders f.holders }) else None))
     by_test true = refl
     by_test false = tt

@@ -14,9 +14,9 @@ use Rattle.arn_model.specs.Kernel as kernel
 use Rattle.arn_model.specs.Kernel.{Kernel, Opened, Handling, all_dropped, descriptors_of, all_also_held, handling_of, child_handling, status_at}
 use Rattle.arn_model.specs.ProcessCalls.{status_of}
 use Rattle.arn_model.specs.Sound.{IsSound}
-use Rattle.arn_model.specs.Tells.{kernel_byte, lives, named_after, patched, put_byte, outgoing_byte, HoldsAfter}
+use Rattle.arn_model.specs.Tells.{FilesLast, WritesInside, kernel_byte, lives, named_after, patched, put_byte, outgoing_byte, HoldsAfter}
 use Rattle.arn_model.proofs.Numbers.{suc-test, nth-push}
-use Rattle.arn_model.proofs.Quiet.{FileSame, file-same, Quiet, quiet-handling}
+use Rattle.arn_model.proofs.Quiet.{FileSame, file-same, last-refl, last-trans, Quiet, quiet-handling}
 use Rattle.arn_model.proofs.Closing.{process-change, length-with_process, status_in, lives_in, quiet-all_dropped, quiet-all_also_held}
 
 -- a file that is there was there before with what is written over its bytes, or it is new and empty
@@ -31,6 +31,8 @@ pub record KernelTells (k : Kernel) (event : ℕ) (bytes : List ℕ) (outgoing :
   pub living : (q : ℕ) → lives new q ≡ lives_after life q (lives k q)
   pub names : (path : List ℕ) → find_file new.files path ≡ named_after name path (find_file k.files path)
   pub kept : (file : ℕ) → FileKept event put file (file_bytes k.files file) (file_bytes new.files file)
+  pub last : FilesLast k.files new.files
+  pub writes : WritesInside k.files put
   pub sound : IsSound k → IsSound new
   pub grows : length k.processes ≤ length new.processes
   pub few : length new.processes ≤ length k.processes + 1
@@ -53,6 +55,8 @@ quiet-tells k event bytes new q =
       living = q.lives;
       names = λ path. ap (λ (names : List Name). file_among names path) q.names;
       kept = λ file. kept-same event file (file_bytes k.files file) (file_bytes new.files file) (q.files file);
+      last = q.last;
+      writes = tt;
       sound = q.sound;
       grows = q.grows;
       few = let f = q.few in omega arith;
@@ -65,6 +69,8 @@ tells-then k event bytes outgoing life name put mid new t q =
       living = λ p. q.lives p ∙ t.living p;
       names = λ path. ap (λ (names : List Name). file_among names path) q.names ∙ t.names path;
       kept = λ file. kept-then event put file (file_bytes k.files file) (file_bytes mid.files file) (file_bytes new.files file) (t.kept file) (q.files file);
+      last = last-trans k.files mid.files new.files t.last q.last;
+      writes = t.writes;
       sound = λ s. q.sound (t.sound s);
       grows = let a = t.grows in let b = q.grows in omega arith;
       few = let a = t.few in let b = q.few in omega arith;
@@ -78,6 +84,8 @@ then-tells k event bytes outgoing life mid new q t same =
       living = λ p. t.living p ∙ ap (λ (x : Bool). lives_after life p x) (q.lives p);
       names = λ path. t.names path ∙ ap (λ (names : List Name). file_among names path) q.names;
       kept = λ file. subst (λ (fs : Files). FileKept event None file (file_bytes k.files file) (file_bytes fs file)) (sym same) (kept-same event file (file_bytes k.files file) (file_bytes mid.files file) (q.files file));
+      last = subst (FilesLast k.files) (sym same) q.last;
+      writes = tt;
       sound = λ s. t.sound (q.sound s);
       grows = let a = t.grows in let b = q.grows in omega arith;
       few = let a = t.few in let b = q.few in omega arith;
@@ -168,7 +176,9 @@ table-ended pid s event k =
       living = living;
       names = λ path. refl;
       kept = λ file. kept-same event file (file_bytes k.files file) (file_bytes k.files file) (file-same (file_bytes k.files file) (file_bytes k.files file) refl);
-      sound = λ h. record { fits = h.fits; named = h.named };
+      last = last-refl k.files;
+      writes = tt;
+      sound = λ h. record { fits = h.fits; named = h.named; there = h.there };
       grows = let e = length-mapped (option_and_then (table.orphan pid)) (table.with_process k.processes pid (option_and_then (table.with_end (status_at event s)) (process k.processes pid))) in let g = length-with_process k.processes pid (option_and_then (table.with_end (status_at event s)) (process k.processes pid)) in omega arith;
       few = let e = length-mapped (option_and_then (table.orphan pid)) (table.with_process k.processes pid (option_and_then (table.with_end (status_at event s)) (process k.processes pid))) in let g = length-with_process k.processes pid (option_and_then (table.with_end (status_at event s)) (process k.processes pid)) in omega arith;
     }
@@ -229,7 +239,9 @@ table-forked pid event k alive =
       living = λ q. ap lives_in (forked-process k.processes child q) ∙ (live q (q == length k.processes + 1) ∙ ap (λ (b : Bool). cond b true (lives k q)) (eq-swap q (length k.processes + 1)));
       names = λ path. refl;
       kept = λ file. kept-same event file (file_bytes k.files file) (file_bytes k.files file) (file-same (file_bytes k.files file) (file_bytes k.files file) refl);
-      sound = λ h. record { fits = h.fits; named = h.named };
+      last = last-refl k.files;
+      writes = tt;
+      sound = λ h. record { fits = h.fits; named = h.named; there = h.there };
       grows = let e = length_push k.processes child in omega arith;
       few = let e = length_push k.processes child in omega arith;
     }

@@ -1,7 +1,7 @@
 -- Files that are made, and names that come and go.
-use Rattle.std.proofs.Common.{◌≡◌, inr, ℕ, ◌+◌, ◌<◌, ◌≤◌, List, [], ◌∷◌, ◌++◌, length, refl, ap, ◌∙◌, sym, subst, Option, Some, None, IfSome, Bool, true, false, ◌==◌, cond, if◌then◌else◌, ◌||◌, not, arith, option_map, option_and_then, slice_get, nat_lt}
+use Rattle.std.proofs.Common.{is_some, ◌≡◌, inr, ℕ, ◌+◌, ◌<◌, ◌≤◌, List, [], ◌∷◌, ◌++◌, length, refl, ap, ◌∙◌, sym, subst, Option, Some, None, IfSome, Bool, true, false, ◌==◌, cond, if◌then◌else◌, ◌||◌, not, arith, option_map, option_and_then, slice_get, nat_lt}
 use Rattle.std.specs.Prelude.{bytes_eq}
-use Rattle.std.proofs.lemmas.Bool.{eqb-true}
+use Rattle.std.proofs.lemmas.Bool.{eqb-true, eqb-false}
 use Rattle.std.proofs.lemmas.List.{length_push}
 use Rattle.std.proofs.lemmas.Slice.Eq.{bytes_eq-Decides}
 use Rattle.parts_model.specs.declared.open.Description.{Description}
@@ -14,10 +14,10 @@ use Rattle.acts_model.specs.Moved.{KernelByte, ConsoleByte, PipeByte, FileByte, 
 use Rattle.acts_model.specs.Records.{NoLife, Names, Unnames}
 use Rattle.arn_model.specs.Kernel.{Kernel, Opened}
 use Rattle.arn_model.specs.Sound.{FitsFiles, IsSound}
-use Rattle.arn_model.specs.Tells.{kernel_byte, named_after, HoldsAfter}
+use Rattle.arn_model.specs.Tells.{FilesLast, kernel_byte, named_after, HoldsAfter}
 use Rattle.arn_model.proofs.Numbers.{nth-push, nth-past}
 use Rattle.arn_model.proofs.Quiet.{FileSame, file-same, FilesQuiet, quiet-files}
-use Rattle.arn_model.proofs.Closing.{reached-quiet, files-same}
+use Rattle.arn_model.proofs.Closing.{among-named, reached-quiet, files-same}
 use Rattle.arn_model.proofs.Effects.{FileKept, KernelTells, kept-same}
 
 pub same-path : (a b : List ℕ) → bytes_eq a b ≡ true → a ≡ b
@@ -89,16 +89,60 @@ made-named names path made named name file e = by_found (file_among names name) 
     by_found None t e = new (bytes_eq path name) e
     by_found (Some x) t e = let l = named name file (t ∙ e) in omega arith
 
+-- it is an old name, or the new one
+data Among (names : List Name) (made : ℕ) (file : ℕ) : Type 0 where
+  Old : (name : List ℕ) → file_among names name ≡ Some file → Among names made file
+  New : file ≡ made → Among names made file
+
+made-among : (names : List Name) (path : List ℕ) (made : ℕ) (name : List ℕ) (file : ℕ) → file_among (names ++ record { path = path; file = made } ∷ []) name ≡ Some file → Among names made file
+made-among names path made name file e = by_found (file_among names name) refl (sym (among-push names (record { path = path; file = made }) name) ∙ e)
+  where
+    new : (b : Bool) → cond b (Some made) None ≡ Some file → Among names made file
+    new true e = let k : made ≡ file = cc in New (sym k)
+    new false e = absurd (cc)
+
+    by_found : (o : Option ℕ) → file_among names name ≡ o → first_of_two o (cond (bytes_eq path name) (Some made) None) ≡ Some file → Among names made file
+    by_found None t e = new (bytes_eq path name) e
+    by_found (Some x) t e = Old name (t ∙ e)
+
+made-there : (k : Kernel) (path : List ℕ) (bytes : List TaggedByte) → IsSound k → (file : ℕ) → Among k.files.names (length k.files.all) file → is_some (file_bytes (made k.files path bytes) file) ≡ true
+made-there k path bytes s file among =
+    ap (λ (o : Option files.File). is_some (option_map (λ f. f.bytes) o)) (nth-push k.files.all new file) ∙ by_test (file == length k.files.all) refl among
+  where
+    new : Option files.File
+    new = Some (record { bytes = bytes; holders = 0 })
+
+    by_test : (b : Bool) → (file == length k.files.all) ≡ b → Among k.files.names (length k.files.all) file → is_some (option_map (λ f. f.bytes) (cond b (Some (let f : files.File = record { bytes = bytes; holders = 0 } in f)) (nth k.files.all file))) ≡ true
+    by_test true e a = refl
+    by_test false e (Old name found) = s.there name file found
+    by_test false e (New same) = absurd (let g = eqb-false file (length k.files.all) e in g same)
+
 pub made-sound : (k : Kernel) (path : List ℕ) (bytes : List TaggedByte) → IsSound k → IsSound (record k { files = made k.files path bytes })
 made-sound k path bytes s =
     record {
       fits = λ n. each (nth k.descriptions n) (s.fits n);
       named = λ name file e. let l = made-named k.files.names path (length k.files.all) s.named name file e in let g = length_push k.files.all (Some (record { bytes = bytes; holders = 0 })) in omega arith;
+      there = λ name file e. made-there k path bytes s file (made-among k.files.names path (length k.files.all) name file e);
     }
   where
     each : (o : Option Opened) → IfSome o (λ o. FitsFiles k.files o.what) → IfSome o (λ o. FitsFiles (made k.files path bytes) o.what)
     each None f = tt
     each (Some o) f = made-fits k.files path bytes o.what f
+
+-- the other files are as they were
+made-last : (k : Kernel) (path : List ℕ) → FilesLast k.files (made k.files path [])
+made-last k path =
+    record {
+      made = let g = length_push k.files.all new in omega arith;
+      gone = λ file made none. ap (option_map (λ f. f.bytes)) (nth-push k.files.all new file) ∙ by_test file (file == length k.files.all) refl made none;
+    }
+  where
+    new : Option files.File
+    new = Some (record { bytes = []; holders = 0 })
+
+    by_test : (file : ℕ) (b : Bool) → (file == length k.files.all) ≡ b → file < length k.files.all → file_bytes k.files file ≡ None → option_map (λ f. f.bytes) (cond b (Some (let f : files.File = record { bytes = []; holders = 0 } in f)) (nth k.files.all file)) ≡ None
+    by_test file true e made none = absurd (let g = eqb-true file (length k.files.all) e in omega arith)
+    by_test file false e made none = none
 
 -- a new empty file under a free name
 pub made-tells : (k : Kernel) (event : ℕ) (path : List ℕ) → find_file k.files path ≡ None → KernelTells k event [] None NoLife (Names path (next_file k.files)) None (record k { files = made k.files path [] })
@@ -108,6 +152,8 @@ made-tells k event path free =
       living = λ q. refl;
       names = made-names k.files.names path (next_file k.files) free;
       kept = λ file. subst (λ (o : Option files.File). FileKept event None file (file_bytes k.files file) (option_map (λ f. f.bytes) o)) (sym (nth-push k.files.all new file)) (kept file (file == length k.files.all) refl);
+      last = made-last k path;
+      writes = tt;
       sound = made-sound k path [];
       grows = omega arith;
       few = omega arith;
@@ -158,8 +204,14 @@ unnamed-names (n ∷ names) path name = by_test (bytes_eq n.path path) refl (unn
 -- without the name the file is as it was, or it is gone
 unnamed-quiet : (fs : Files) (file : ℕ) (o : Option files.File) → nth fs.all file ≡ o → FilesQuiet fs (files.reached_again fs file o)
 unnamed-quiet fs file None e = files-same fs
-unnamed-quiet fs file (Some f) e = reached-quiet fs file (Some f) (files.if_reached fs.names file f) e (by_test (files.has_name fs.names file || nat_lt 0 f.holders))
+unnamed-quiet fs file (Some f) e =
+    reached-quiet fs file (Some f) (files.if_reached fs.names file f) e (by_test (files.has_name fs.names file || nat_lt 0 f.holders))
+    (λ path found some. by_name (files.has_name fs.names file) (among-named fs.names path file found))
   where
+    by_name : (b : Bool) → b ≡ true → is_some (option_map (λ f. f.bytes) (if b || nat_lt 0 f.holders then Some f else None)) ≡ true
+    by_name true h = refl
+    by_name false h = absurd (cc)
+
     by_test : (b : Bool) → FileSame (Some f.bytes) (option_map (λ f. f.bytes) (if b then Some f else None))
     by_test true = refl
     by_test false = tt
@@ -174,6 +226,8 @@ unnamed-tells k event path file =
       living = λ p. refl;
       names = λ name. ap (λ (names : List Name). file_among names name) q.names ∙ unnamed-names k.files.names path name;
       kept = λ f. kept-same event f (file_bytes k.files f) (file_bytes (unnamed k.files path file) f) (q.files f);
+      last = record { made = q.last.made; gone = q.last.gone };
+      writes = tt;
       sound = λ s. q.sound (sound s);
       grows = omega arith;
       few = omega arith;
@@ -207,4 +261,5 @@ unnamed-tells k event path file =
         record {
           fits = λ n. each (nth k.descriptions n) (s.fits n);
           named = λ name file e. s.named name file (left name file (bytes_eq path name) (sym (unnamed-names k.files.names path name) ∙ e));
+          there = λ name file e. s.there name file (left name file (bytes_eq path name) (sym (unnamed-names k.files.names path name) ∙ e));
         }

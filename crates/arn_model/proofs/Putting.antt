@@ -1,5 +1,5 @@
 -- Bytes that are put into pipes and files, and taken from channels.
-use Rattle.std.proofs.Common.{◌≡◌, ◌⊎◌, inl, inr, ℕ, zero, suc, ◌+◌, ◌-◌, ◌<◌, ◌≤◌, min, List, [], ◌∷◌, ◌++◌, length, take, drop, refl, ap, ap₂, ◌∙◌, sym, subst, Option, Some, None, IfSome, Bool, true, false, ◌==◌, ◌&&◌, cond, if◌then◌else◌, arith, option_map, option_and_then, slice_get, nat_lt, nat_le, length-set, length-append, length-take, length-drop, take_all, length-take-le, append-nil}
+use Rattle.std.proofs.Common.{is_some, ◌≡◌, ◌⊎◌, inl, inr, ℕ, zero, suc, ◌+◌, ◌-◌, ◌<◌, ◌≤◌, min, List, [], ◌∷◌, ◌++◌, length, take, drop, refl, ap, ap₂, ◌∙◌, sym, subst, Option, Some, None, IfSome, Bool, true, false, ◌==◌, ◌&&◌, cond, if◌then◌else◌, arith, option_map, option_and_then, slice_get, nat_lt, nat_le, length-set, length-append, length-take, length-drop, take_all, length-take-le, append-nil}
 use Rattle.std.proofs.lemmas.List.{drop_all}
 use Rattle.std.proofs.lemmas.Bool.{eq-eqb, eqb-true, lt-ltb, le-ltb, ltb-true, ltb-false, le-leb, lt-leb, leb-true, leb-false}
 use Rattle.parts_model.specs.declared.open.Description.{Description}
@@ -18,7 +18,7 @@ use Rattle.arn_model.specs.Kernel.{Kernel, Opened}
 use Rattle.arn_model.specs.Sound.{FitsFiles}
 use Rattle.arn_model.specs.Tells.{at_position, kernel_byte, put_byte, HoldsAfter}
 use Rattle.arn_model.proofs.Numbers.{nth-change, get-take, get-drop, get-left, get-right}
-use Rattle.arn_model.proofs.Quiet.{Less, file-same, Quiet, quiet-pipe, quiet-console, pipe_byte}
+use Rattle.arn_model.proofs.Quiet.{Less, file-same, last-refl, Quiet, quiet-pipe, quiet-console, pipe_byte}
 use Rattle.arn_model.proofs.Effects.{FileKept, KernelTells, kept-same, eq-swap}
 
 -- bytes that leave a channel
@@ -187,7 +187,9 @@ piped-tells k event pipe p bytes there fits =
       living = λ q. refl;
       names = λ path. refl;
       kept = λ file. kept-same event file (file_bytes k.files file) (file_bytes k.files file) (file-same (file_bytes k.files file) (file_bytes k.files file) refl);
-      sound = λ s. record { fits = s.fits; named = s.named };
+      last = last-refl k.files;
+      writes = tt;
+      sound = λ s. record { fits = s.fits; named = s.named; there = s.there };
       grows = omega arith;
       few = omega arith;
     }
@@ -284,16 +286,22 @@ written-fits event file at bytes fs fits inside (Connection reads writes) f = tt
 written-fits event file at bytes fs fits inside (Listener port) f = tt
 written-fits event file at bytes fs fits inside (Device device) f = tt
 
-pub written-tells : (k : Kernel) (event file at : ℕ) (bytes : List ℕ) → take (fitting at (length bytes)) bytes ≡ bytes → LiesIn (file_bytes k.files file) at → KernelTells k event bytes (Some (record { first = FileByte file at; len = length bytes })) NoLife NoName (Some (record { file = file; at = at; bytes = bytes })) (record k { files = written k.files file at bytes event })
-written-tells k event file at bytes fits inside =
+pub written-tells : (k : Kernel) (event file at : ℕ) (bytes : List ℕ) → take (fitting at (length bytes)) bytes ≡ bytes → file < length k.files.all → LiesIn (file_bytes k.files file) at → KernelTells k event bytes (Some (record { first = FileByte file at; len = length bytes })) NoLife NoName (Some (record { file = file; at = at; bytes = bytes })) (record k { files = written k.files file at bytes event })
+written-tells k event file at bytes fits was inside =
     record {
       holds = holds;
       living = λ q. refl;
       names = λ path. refl;
       kept = λ q. subst (λ (o : Option files.File). FileKept event put q (file_bytes k.files q) (file_of o)) (sym (change q)) (kept q (q == file) refl (nth k.files.all q));
+      last = record {
+        made = let g = length-set k.files.all file (option_map (rewritten at bytes event) (nth k.files.all file)) in omega arith;
+        gone = λ q made none. ap file_of (change q) ∙ still-gone (q == file) (nth k.files.all q) none;
+      };
+      writes = record { made = was; inside = inside };
       sound = λ s. record {
         fits = λ n. each (nth k.descriptions n) (s.fits n);
         named = λ path q e. let l = s.named path q e in let g = length-set k.files.all file (option_map (rewritten at bytes event) (nth k.files.all file)) in omega arith;
+        there = λ path q e. ap (λ (o : Option files.File). is_some (file_of o)) (change q) ∙ still-there (q == file) (nth k.files.all q) (s.there path q e);
       };
       grows = omega arith;
       few = omega arith;
@@ -301,6 +309,16 @@ written-tells k event file at bytes fits inside =
   where
     put : Option Written
     put = Some (record { file = file; at = at; bytes = bytes })
+
+    still-there : (b : Bool) (o : Option files.File) → is_some (file_of o) ≡ true → is_some (file_of (cond b (rewritten_file at bytes event o) o)) ≡ true
+    still-there true None some = absurd (cc)
+    still-there true (Some f) some = refl
+    still-there false o some = some
+
+    still-gone : (b : Bool) (o : Option files.File) → file_of o ≡ None → file_of (cond b (rewritten_file at bytes event o) o) ≡ None
+    still-gone true None none = refl
+    still-gone true (Some f) none = absurd (cc)
+    still-gone false o none = none
 
     change : (q : ℕ) → nth (written k.files file at bytes event).all q ≡ cond (q == file) (rewritten_file at bytes event (nth k.files.all q)) (nth k.files.all q)
     change q = nth-change (option_map (rewritten at bytes event)) refl k.files.all file q

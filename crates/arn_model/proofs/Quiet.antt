@@ -1,5 +1,5 @@
 -- Changes of the kernel that put no byte anywhere and leave who lives, names and what files hold.
-use Rattle.std.proofs.Common.{◌≡◌, ℕ, ◌≤◌, List, length, refl, ap, ◌∙◌, sym, subst, Option, Some, None, IfSome, Bool, true, false, ◌==◌, cond, arith, option_and_then, is_some, slice_get, slice_set, nat_lt}
+use Rattle.std.proofs.Common.{◌≡◌, ℕ, ◌≤◌, List, length, refl, ap, ◌∙◌, sym, subst, Option, Some, None, IfSome, Bool, true, false, ◌<◌, ◌==◌, cond, arith, option_and_then, is_some, slice_get, slice_set, nat_lt}
 use Rattle.parts_model.specs.declared.open.Description.{Description}
 use Rattle.parts_model.specs.declared.open.Description.TheVariants.{Console, File, Reader, Writer, Connection, Listener, Device}
 use Rattle.parts_model.specs.declared.tagged.TaggedByte.{TaggedByte}
@@ -14,7 +14,7 @@ use Rattle.parts_model.specs.Processes.{Process, Processes, Life, process}
 use Rattle.acts_model.specs.Moved.{KernelByte, ConsoleByte, PipeByte, FileByte, StatusByte}
 use Rattle.arn_model.specs.Kernel.{Kernel, Opened, Handling}
 use Rattle.arn_model.specs.Sound.{FitsFiles, IsSound}
-use Rattle.arn_model.specs.Tells.{at_position, kernel_byte, lives}
+use Rattle.arn_model.specs.Tells.{FilesLast, at_position, kernel_byte, lives}
 use Rattle.arn_model.proofs.Numbers.{nth-change, nth-push}
 
 -- what the first is, the second is
@@ -49,17 +49,30 @@ file-through o None (Some q) h k = absurd k
 file-through None (Some p) (Some q) h k = absurd h
 file-through (Some o) (Some p) (Some q) h k = k ∙ h
 
+pub last-refl : (files : Files) → FilesLast files files
+last-refl files = record { made = omega arith; gone = λ file made none. none }
+
+pub last-trans : (old mid new : Files) → FilesLast old mid → FilesLast mid new → FilesLast old new
+last-trans old mid new h g =
+    record { made = let a = h.made in let b = g.made in omega arith; gone = λ file made none. g.gone file (let a = h.made in omega arith) (h.gone file made none) }
+
+gone-same : (o p : Option (List TaggedByte)) → FileSame o p → o ≡ None → p ≡ None
+gone-same o None h none = refl
+gone-same None (Some p) h none = absurd h
+gone-same (Some o) (Some p) h none = absurd (cc)
+
 pub record Quiet (old new : Kernel) : Type 0 where
   pub bytes : (b : KernelByte) → Less (kernel_byte new b) (kernel_byte old b)
   pub lives : (q : ℕ) → lives new q ≡ lives old q
   pub names : new.files.names ≡ old.files.names
   pub files : (file : ℕ) → FileSame (file_bytes old.files file) (file_bytes new.files file)
+  pub last : FilesLast old.files new.files
   pub sound : IsSound old → IsSound new
   pub grows : length old.processes ≤ length new.processes
   pub few : length new.processes ≤ length old.processes
 
 pub quiet-refl : (k : Kernel) → Quiet k k
-quiet-refl k = record { bytes = λ b h e. e; lives = λ q. refl; names = refl; files = λ file. file-same (file_bytes k.files file) (file_bytes k.files file) refl; sound = λ s. s; grows = omega arith; few = omega arith }
+quiet-refl k = record { last = last-refl k.files; bytes = λ b h e. e; lives = λ q. refl; names = refl; files = λ file. file-same (file_bytes k.files file) (file_bytes k.files file) refl; sound = λ s. s; grows = omega arith; few = omega arith }
 
 pub quiet-trans : (k l m : Kernel) → Quiet k l → Quiet l m → Quiet k m
 quiet-trans k l m h g =
@@ -68,6 +81,7 @@ quiet-trans k l m h g =
       lives = λ q. g.lives q ∙ h.lives q;
       names = g.names ∙ h.names;
       files = λ file. file-through (file_bytes k.files file) (file_bytes l.files file) (file_bytes m.files file) (h.files file) (g.files file);
+      last = last-trans k.files l.files m.files h.last g.last;
       sound = λ s. g.sound (h.sound s);
       grows = let a = h.grows in let b = g.grows in omega arith;
       few = let a = h.few in let b = g.few in omega arith;
@@ -79,6 +93,7 @@ pub record FilesQuiet (old new : Files) : Type 0 where
   pub names : new.names ≡ old.names
   pub made : length new.all ≡ length old.all
   pub files : (file : ℕ) → FileSame (file_bytes old file) (file_bytes new file)
+  pub named : (path : List ℕ) (file : ℕ) → file_among new.names path ≡ Some file → is_some (file_bytes old file) ≡ true → is_some (file_bytes new file) ≡ true
 
 lies-same : (position : ℕ) (o p : Option (List TaggedByte)) → FileSame o p → IfSome o (λ bytes. position ≤ length bytes) → IfSome p (λ bytes. position ≤ length bytes)
 lies-same position o None h k = tt
@@ -115,11 +130,21 @@ files-sound k fs h s =
     record {
       fits = λ n. fits-if k.files fs h (nth k.descriptions n) (s.fits n);
       named = λ path file e. let l = s.named path file (ap (λ (names : List Name). file_among names path) (sym h.names) ∙ e) in let m = h.made in omega arith;
+      there = λ path file e. h.named path file e (s.there path file (ap (λ (names : List Name). file_among names path) (sym h.names) ∙ e));
     }
 
 pub quiet-files : (k : Kernel) (fs : Files) → FilesQuiet k.files fs → Quiet k (record k { files = fs })
 quiet-files k fs h =
-    record { bytes = files-bytes k fs h; lives = λ q. refl; names = h.names; files = h.files; sound = files-sound k fs h; grows = omega arith; few = omega arith }
+    record {
+      last = record { made = let e = h.made in omega arith; gone = λ file made none. gone-same (file_bytes k.files file) (file_bytes fs file) (h.files file) none };
+      bytes = files-bytes k fs h;
+      lives = λ q. refl;
+      names = h.names;
+      files = h.files;
+      sound = files-sound k fs h;
+      grows = omega arith;
+      few = omega arith;
+    }
 
 -- pipes
 
@@ -128,7 +153,7 @@ pipe_byte p n = option_and_then (λ p. at_position p.channel n) p
 
 pub quiet-pipes : (k : Kernel) (ps : Pipes) → ((pipe n : ℕ) → Less (pipe_byte (nth ps pipe) n) (pipe_byte (nth k.pipes pipe) n)) → Quiet k (record k { pipes = ps })
 quiet-pipes k ps h =
-    record { bytes = bytes; lives = λ q. refl; names = refl; files = λ file. file-same (file_bytes k.files file) (file_bytes k.files file) refl; sound = λ s. record { fits = s.fits; named = s.named }; grows = omega arith; few = omega arith }
+    record { last = last-refl k.files; bytes = bytes; lives = λ q. refl; names = refl; files = λ file. file-same (file_bytes k.files file) (file_bytes k.files file) refl; sound = λ s. record { fits = s.fits; named = s.named; there = s.there }; grows = omega arith; few = omega arith }
   where
     bytes : (b : KernelByte) → Less (kernel_byte (record k { pipes = ps }) b) (kernel_byte k b)
     bytes (ConsoleByte n) x e = e
@@ -177,7 +202,7 @@ pub record TableQuiet (old new : Processes) : Type 0 where
 
 pub quiet-table : (k : Kernel) (ps : Processes) → TableQuiet k.processes ps → Quiet k (record k { processes = ps })
 quiet-table k ps h =
-    record { bytes = bytes; lives = h.lives; names = refl; files = λ file. file-same (file_bytes k.files file) (file_bytes k.files file) refl; sound = λ s. record { fits = s.fits; named = s.named }; grows = h.grows; few = h.few }
+    record { last = last-refl k.files; bytes = bytes; lives = h.lives; names = refl; files = λ file. file-same (file_bytes k.files file) (file_bytes k.files file) refl; sound = λ s. record { fits = s.fits; named = s.named; there = s.there }; grows = h.grows; few = h.few }
   where
     bytes : (b : KernelByte) → Less (kernel_byte (record k { processes = ps }) b) (kernel_byte k b)
     bytes (ConsoleByte n) x e = e
@@ -189,7 +214,7 @@ quiet-table k ps h =
 
 pub quiet-descriptions : (k : Kernel) (ds : List (Option Opened)) → (IsSound k → (n : ℕ) → IfSome (nth ds n) (λ o. FitsFiles k.files o.what)) → Quiet k (record k { descriptions = ds })
 quiet-descriptions k ds h =
-    record { bytes = bytes; lives = λ q. refl; names = refl; files = λ file. file-same (file_bytes k.files file) (file_bytes k.files file) refl; sound = λ s. record { fits = h s; named = s.named }; grows = omega arith; few = omega arith }
+    record { last = last-refl k.files; bytes = bytes; lives = λ q. refl; names = refl; files = λ file. file-same (file_bytes k.files file) (file_bytes k.files file) refl; sound = λ s. record { fits = h s; named = s.named; there = s.there }; grows = omega arith; few = omega arith }
   where
     bytes : (b : KernelByte) → Less (kernel_byte (record k { descriptions = ds }) b) (kernel_byte k b)
     bytes (ConsoleByte n) x e = e
@@ -201,7 +226,7 @@ quiet-descriptions k ds h =
 
 pub quiet-handling : (k : Kernel) (hs : List (Option Handling)) → Quiet k (record k { handling = hs })
 quiet-handling k hs =
-    record { bytes = bytes; lives = λ q. refl; names = refl; files = λ file. file-same (file_bytes k.files file) (file_bytes k.files file) refl; sound = λ s. record { fits = s.fits; named = s.named }; grows = omega arith; few = omega arith }
+    record { last = last-refl k.files; bytes = bytes; lives = λ q. refl; names = refl; files = λ file. file-same (file_bytes k.files file) (file_bytes k.files file) refl; sound = λ s. record { fits = s.fits; named = s.named; there = s.there }; grows = omega arith; few = omega arith }
   where
     bytes : (b : KernelByte) → Less (kernel_byte (record k { handling = hs }) b) (kernel_byte k b)
     bytes (ConsoleByte n) x e = e
@@ -211,7 +236,7 @@ quiet-handling k hs =
 
 pub quiet-ports : (k : Kernel) (ps : Ports) → Quiet k (record k { ports = ps })
 quiet-ports k ps =
-    record { bytes = bytes; lives = λ q. refl; names = refl; files = λ file. file-same (file_bytes k.files file) (file_bytes k.files file) refl; sound = λ s. record { fits = s.fits; named = s.named }; grows = omega arith; few = omega arith }
+    record { last = last-refl k.files; bytes = bytes; lives = λ q. refl; names = refl; files = λ file. file-same (file_bytes k.files file) (file_bytes k.files file) refl; sound = λ s. record { fits = s.fits; named = s.named; there = s.there }; grows = omega arith; few = omega arith }
   where
     bytes : (b : KernelByte) → Less (kernel_byte (record k { ports = ps }) b) (kernel_byte k b)
     bytes (ConsoleByte n) x e = e
@@ -222,7 +247,7 @@ quiet-ports k ps =
 -- the console
 pub quiet-console : (k : Kernel) (c : Channel) → ((n : ℕ) → Less (at_position c n) (at_position k.console n)) → Quiet k (record k { console = c })
 quiet-console k c h =
-    record { bytes = bytes; lives = λ q. refl; names = refl; files = λ file. file-same (file_bytes k.files file) (file_bytes k.files file) refl; sound = λ s. record { fits = s.fits; named = s.named }; grows = omega arith; few = omega arith }
+    record { last = last-refl k.files; bytes = bytes; lives = λ q. refl; names = refl; files = λ file. file-same (file_bytes k.files file) (file_bytes k.files file) refl; sound = λ s. record { fits = s.fits; named = s.named; there = s.there }; grows = omega arith; few = omega arith }
   where
     bytes : (b : KernelByte) → Less (kernel_byte (record k { console = c }) b) (kernel_byte k b)
     bytes (ConsoleByte n) x e = h n x e

@@ -71,7 +71,7 @@ booted-first k e =
     o.lives 1 ∙ (first-lives k 1 ∙ ap (λ (b : Bool). cond b true (lives k 1)) (eq-eqb 1 (length k.processes + 1) (omega arith)))
 
 booted-sound : (k : Kernel) → IsSound k → IsSound (kernel.booted k)
-booted-sound k s = (opened-quiet (first_made k)).sound (record { fits = s.fits; named = s.named })
+booted-sound k s = (opened-quiet (first_made k)).sound (record { fits = s.fits; named = s.named; there = s.there })
 
 booted-grows : (k : Kernel) → length k.processes ≤ length (kernel.booted k).processes
 booted-grows k =
@@ -142,7 +142,7 @@ typed-good m bytes s e =
     record {
       sound =
           record {
-            kernel = record { fits = s.kernel.fits; named = s.kernel.named };
+            kernel = record { fits = s.kernel.fits; named = s.kernel.named; there = s.kernel.there };
             bodies = fit-same m.bodies (lives m.kernel) (lives (typed_step m bytes).after.kernel) s.bodies (λ q. refl);
           };
       grows = omega arith;
@@ -155,7 +155,7 @@ unplug-good m device s e =
     record {
       sound =
           record {
-            kernel = record { fits = s.kernel.fits; named = s.kernel.named };
+            kernel = record { fits = s.kernel.fits; named = s.kernel.named; there = s.kernel.there };
             bodies = fit-same m.bodies (lives m.kernel) (lives (unplug_step m device).after.kernel) s.bodies (λ q. refl);
           };
       grows = omega arith;
@@ -206,7 +206,7 @@ pub at_first-sound : MachineSound at_first
 unfolding memory_at found
 at_first-sound =
     record {
-      kernel = record { fits = λ n. tt; named = λ path file e. absurd (cc) };
+      kernel = record { fits = λ n. tt; named = λ path file e. absurd (cc); there = λ path file e. absurd (cc) };
       bodies = record { alive = λ q. ap (λ (o : Option Body). is_some o) (nobody-at q) ∙ none-lives q; small = λ k. omega arith };
     }
 

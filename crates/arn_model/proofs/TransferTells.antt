@@ -285,7 +285,7 @@ write-file-tells m pid v n file position len at reach what =
     giving-done m pid v bytes (extra.Put file position bytes) (Some range) put k' at
     (record { told = refl; fine = gave-first v a len (fitting position (length all)) at.fits reach; len = refl; put = refl; name = refl; gives = refl })
     refl
-    (tells-then m.kernel m.events bytes (Some range) NoLife NoName put k k' (written-tells m.kernel m.events file position bytes fits lies.inside)
+    (tells-then m.kernel m.events bytes (Some range) NoLife NoName put k k' (written-tells m.kernel m.events file position bytes fits lies.made lies.inside)
     (quiet-with_description n (description.File file (position + length bytes)) k
     (λ s o f.
     record {

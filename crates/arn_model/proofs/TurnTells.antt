@@ -101,6 +101,8 @@ fault-done m pid v status s e x =
           lives = k.living;
           names = k.names;
           files = λ file. kept-after m.events file (entry.End pid status) None refl (file_bytes m.kernel.files file) (file_bytes (ending m pid (Faults status) status).kernel.files file) (k.kept file);
+          last = k.last;
+          writes = tt;
         }
 
 -- a delivery
@@ -126,6 +128,8 @@ death-done m pid v signal address cut s e none =
           lives = λ q. k.living q ∙ ap (λ (b : Bool). lives_after (if b then EndsLife pid else NoLife) q (lives m.kernel q)) (sym none);
           names = k.names;
           files = λ file. kept-after m.events file (entry.Signal pid signal cut address) None refl (file_bytes m.kernel.files file) (file_bytes (ending m pid (Dies signal cut) (128 + signal)).kernel.files file) (k.kept file);
+          last = k.last;
+          writes = tt;
         }
 
 handled-done : (m : Machine) (pid : ℕ) (v : View) (signal address : ℕ) (cut : Bool) → MachineSound m → seen m.bodies pid ≡ Some v → (address == 0) ≡ false → Done m pid v (only (Delivers signal address cut) (without_signal pid signal m.kernel)) (entry.Signal pid signal cut address)
@@ -151,6 +155,8 @@ handled-done m pid v signal address cut s e some =
           lives = λ q. k.living q ∙ ap (λ (b : Bool). lives_after (if b then EndsLife pid else NoLife) q (lives m.kernel q)) (sym some);
           names = k.names;
           files = λ file. kept-after m.events file (entry.Signal pid signal cut address) None refl (file_bytes m.kernel.files file) (file_bytes m.kernel.files file) (k.kept file);
+          last = k.last;
+          writes = tt;
         }
 
 delivering-done : (m : Machine) (pid : ℕ) (v : View) (signal address : ℕ) (cut : Bool) → MachineSound m → seen m.bodies pid ≡ Some v → Done m pid v (delivering m pid signal address cut) (entry.Signal pid signal cut address)

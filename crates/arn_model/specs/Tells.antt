@@ -1,5 +1,5 @@
 -- What each step of a run tells: all that may be known of a call without a look at its row.
-use Rattle.std.specs.Prelude.{◌≡◌, ◌⊎◌, ℕ, ◌-◌, ◌^◌, ◌<◌, ◌==◌, nat_lt, Bool, true, false, if◌then◌else◌, List, [], ◌∷◌, length, Option, Some, None, is_some, option_map, option_and_then, slice_get, bytes_eq}
+use Rattle.std.specs.Prelude.{◌≡◌, ◌⊎◌, ℕ, ◌-◌, ◌^◌, ◌<◌, ◌≤◌, ◌==◌, nat_lt, Bool, true, false, if◌then◌else◌, List, [], ◌∷◌, length, Option, Some, None, IfSome, is_some, option_map, option_and_then, slice_get, bytes_eq}
 use Rattle.arn_base.specs.declared.records.Extra.{Extra}
 use Rattle.arn_base.specs.declared.records.Extra.TheVariants as extra
 use Rattle.arn_base.specs.declared.records.Record.{Record}
@@ -9,7 +9,7 @@ use Rattle.arn_base.specs.Window.{Window}
 use Rattle.parts_model.specs.Image.{is_image}
 use Rattle.parts_model.specs.declared.tagged.TaggedByte.{TaggedByte}
 use Rattle.parts_model.specs.Channel.{Channel}
-use Rattle.parts_model.specs.Files.{find_file, file_bytes, laid_over}
+use Rattle.parts_model.specs.Files.{Files, find_file, file_bytes, laid_over}
 use Rattle.parts_model.specs.Numbered.{nth}
 use Rattle.parts_model.specs.Processes as table
 use Rattle.parts_model.specs.Tagged.{held_bytes, values, given}
@@ -108,6 +108,20 @@ FileAfter event entry file old None = Unit {0}
 FileAfter event entry file None (Some new) = new ≡ []
 FileAfter event entry file (Some old) (Some new) = new ≡ patched event (put_told entry) file old
 
+-- files are only ever added, and one that is gone stays gone
+pub record FilesLast (old new : Files) : Type 0 where
+  pub made : length old.all ≤ length new.all
+  pub gone : (file : ℕ) → file < length old.all → file_bytes old file ≡ None → file_bytes new file ≡ None
+
+-- a write begins in a file that was made, or at its end
+pub record WritesIn (files : Files) (w : Written) : Type 0 where
+  pub made : w.file < length files.all
+  pub inside : IfSome (file_bytes files w.file) (λ bytes. w.at ≤ length bytes)
+
+abbrev pub WritesInside : Files → Option Written → Type 0
+WritesInside files None = Unit {0}
+WritesInside files (Some w) = WritesIn files w
+
 -- a record that a slice makes: a delivery, a call or an end by fault
 abbrev pub is_inner : Record → Bool
 is_inner (entry.Signal pid signal cut handler) = true
@@ -139,6 +153,8 @@ pub record EventTells (m : Machine) (pid : ℕ) (v : View) (d : Doing) (entry : 
   pub lives : (q : ℕ) → lives d.kernel q ≡ lives_after (life_told entry) q (lives m.kernel q)
   pub names : (path : List ℕ) → find_file d.kernel.files path ≡ named_after (name_told entry) path (find_file m.kernel.files path)
   pub files : (file : ℕ) → FileAfter m.events entry file (file_bytes m.kernel.files file) (file_bytes d.kernel.files file)
+  pub last : FilesLast m.kernel.files d.kernel.files
+  pub writes : WritesInside m.kernel.files (put_told entry)
 
 -- what a step of a run is
 pub data StepTells (m : Machine) (s : Step) : Type 0 where
