@@ -6,19 +6,23 @@ use Rattle.std.proofs.lemmas.Bool.{eqb-true}
 use Rattle.std.proofs.lemmas.Result.{IfOk-weaker}
 use Rattle.parts_model.specs.declared.open.Description.{Description}
 use Rattle.parts_model.specs.declared.open.Description.TheVariants as description
-use Rattle.parts_model.specs.declared.refusals.TheConstants.{BAD_ADDRESS, BAD_ARGUMENT, NAME_TAKEN, NO_DESCRIPTOR_ROOM, NO_PROCESS_ROOM, NO_ROOM, NO_SUCH_CALL, NOT_IMAGE}
-use Rattle.parts_model.specs.declared.limits.TheConstants.{MOST_BLOCK_BYTES}
+use Rattle.parts_model.specs.declared.refusals.TheConstants.{BAD_ADDRESS, BAD_ARGUMENT, CONNECTION_REFUSED, NAME_TAKEN, NO_DESCRIPTOR_ROOM, NO_PROCESS_ROOM, NO_ROOM, NO_SUCH_CALL, NOT_IMAGE, PORT_IN_USE}
+use Rattle.parts_model.specs.declared.limits.TheConstants.{GREATEST_PORT, MOST_BLOCK_BYTES}
 use Rattle.parts_model.specs.declared.tagged.TaggedByte.{TaggedByte}
 use Rattle.parts_model.specs.Image.{is_image}
+use Rattle.parts_model.specs.Pipes.{free_pipes}
+use Rattle.parts_model.specs.Ports as ports
+use Rattle.parts_model.specs.Ports.{can_connect, is_in_use}
 use Rattle.parts_model.specs.Tagged.{values}
 use Rattle.parts_model.specs.Processes as table
 use Rattle.parts_model.specs.Files.{find_file, file_bytes, is_full, made, next_file}
 use Rattle.acts_model.specs.Bodies.{View, seen}
 use Rattle.acts_model.specs.Views.{argument, call_number, can_reach}
 use Rattle.rv64_model.specs.Instruction.{Effect, Next, Call, End}
+use Rattle.arn_model.specs.ChannelCalls.{accept_row, connect_row, listen_row, pipe_row}
 use Rattle.arn_model.specs.Doing.{Request, Does, Refusal, refuse, refused, returns, unless_refused}
 use Rattle.arn_model.specs.FileCalls.{close_opened, close_row, dup_opened, dup_row, file_len, has_no_room, open_found, open_new, open_row, opened_as, seek_in, seek_opened, seek_row, seek_what, unlink_found, unlink_row}
-use Rattle.arn_model.specs.Kernel.{Kernel, Machine, also_held, description_of, next_descriptor, placed, what_is, with_description}
+use Rattle.arn_model.specs.Kernel.{Kernel, Machine, also_held, description_of, next_descriptor, placed, room_for, what_is, with_description}
 use Rattle.arn_model.specs.Paths.{isnt_path_len, path_of}
 use Rattle.arn_model.specs.ProcessCalls.{exec_bytes, exec_doing, exec_file, exec_row, exit_row, fork_row, getpid_row, wait_row, yield_row}
 use Rattle.arn_model.specs.Row.{row, built_calls, is_built, request, is_waiting}
@@ -50,8 +54,9 @@ not-any n [] none = refl
 not-any n (x ∷ xs) none = ap₂ (λ (a b : Bool). a || b) (ne_eqb x n none.0) (not-any n xs none.1)
 
 -- the numbers of calls that are always ready
-pub ready-number : (n : ℕ) → n ≢ 11 → n ≢ 12 → n ≢ 4 → can_wait n ≡ false
-ready-number n a b c = ap₂ (λ (x y : Bool). x || y) (ap₂ (λ (x y : Bool). x || y) (ne_eqb n 11 a) (ne_eqb n 12 b)) (ne_eqb n 4 c)
+pub ready-number : (n : ℕ) → n ≢ 11 → n ≢ 12 → n ≢ 4 → n ≢ 20 → can_wait n ≡ false
+ready-number n a b c d =
+    ap₂ (λ (x y : Bool). x || y) (ap₂ (λ (x y : Bool). x || y) (ap₂ (λ (x y : Bool). x || y) (ne_eqb n 11 a) (ne_eqb n 12 b)) (ne_eqb n 4 c)) (ne_eqb n 20 d)
 
 -- a choice of calls that are ready is ready
 if-ready : (b : Bool) (x y : Request) → is_waiting x ≡ false → is_waiting y ≡ false → is_waiting (cond b x y) ≡ false
@@ -145,6 +150,21 @@ module _ (m : Machine) (pid : ℕ) (v : View) where
       let path : List ℕ = path_of v at len in
       path-ready m pid v at len (isnt_path_len len) (unlink_found m path (find_file m.kernel.files path)) (unlink_found-ready m pid path (find_file m.kernel.files path))
 
+  pipe-ready : is_waiting (pipe_row m pid v) ≡ false
+  pipe-ready = unless-ready m.kernel (refuse NO_DESCRIPTOR_ROOM (nat_lt (room_for m.kernel pid) 2) ∷ refuse NO_ROOM (free_pipes m.kernel.pipes == 0) ∷ []) _ refl
+
+  listen-ready : is_waiting (listen_row m pid v) ≡ false
+  listen-ready =
+      let port : ℕ = argument v.body.cpu 0 in
+      unless-ready m.kernel
+      (refuse BAD_ARGUMENT (nat_lt GREATEST_PORT port) ∷ refuse PORT_IN_USE (is_in_use m.kernel.ports port) ∷ refuse NO_DESCRIPTOR_ROOM (has_no_room m.kernel pid) ∷ refuse NO_ROOM (ports.is_full m.kernel.ports) ∷ [])
+      _ refl
+
+  connect-ready : is_waiting (connect_row m pid v) ≡ false
+  connect-ready =
+      let port : ℕ = argument v.body.cpu 0 in
+      unless-ready m.kernel (refuse CONNECTION_REFUSED (not (can_connect m.kernel.ports port)) ∷ refuse NO_DESCRIPTOR_ROOM (has_no_room m.kernel pid) ∷ refuse NO_ROOM (nat_lt (free_pipes m.kernel.pipes) 2) ∷ []) _ refl
+
   pub row-exit : row 1 m pid v ≡ exit_row m pid v
   unfolding row
   row-exit = refl
@@ -189,9 +209,25 @@ module _ (m : Machine) (pid : ℕ) (v : View) where
   unfolding row
   row-dup = refl
 
+  pub row-pipe : row 15 m pid v ≡ pipe_row m pid v
+  unfolding row
+  row-pipe = refl
+
   pub row-unlink : row 16 m pid v ≡ unlink_row m pid v
   unfolding row
   row-unlink = refl
+
+  pub row-listen : row 18 m pid v ≡ listen_row m pid v
+  unfolding row
+  row-listen = refl
+
+  pub row-connect : row 19 m pid v ≡ connect_row m pid v
+  unfolding row
+  row-connect = refl
+
+  pub row-accept : row 20 m pid v ≡ accept_row m pid v
+  unfolding row
+  row-accept = refl
 
   pub row-yield : row 22 m pid v ≡ yield_row m pid v
   unfolding row
@@ -226,10 +262,22 @@ module _ (m : Machine) (pid : ℕ) (v : View) where
                       (
                         λ ready. ap is_waiting row-dup ∙ dup-ready m pid (description_of m.kernel pid (argument v.body.cpu 0)),
                         (
-                          λ ready. ap is_waiting row-unlink ∙ unlink-ready,
+                          λ ready. ap is_waiting row-pipe ∙ pipe-ready,
                           (
-                            λ ready. ap is_waiting row-yield,
-                            tt,
+                            λ ready. ap is_waiting row-unlink ∙ unlink-ready,
+                            (
+                              λ ready. ap is_waiting row-listen ∙ listen-ready,
+                              (
+                                λ ready. ap is_waiting row-connect ∙ connect-ready,
+                                (
+                                  λ ready. absurd (true≢false ready),
+                                  (
+                                    λ ready. ap is_waiting row-yield,
+                                    tt,
+                                  ),
+                                ),
+                              ),
+                            ),
                           ),
                         ),
                       ),
@@ -261,6 +309,9 @@ module _ (m : Machine) (pid : ℕ) (v : View) where
 
   pub request-wait : call_number v.body.cpu ≡ 4 → request m pid v ≡ wait_row m pid v
   request-wait is = request-built 4 (wait_row m pid v) is refl row-wait
+
+  pub request-accept : call_number v.body.cpu ≡ 20 → request m pid v ≡ accept_row m pid v
+  request-accept is = request-built 20 (accept_row m pid v) is refl row-accept
 
   pub request-write : call_number v.body.cpu ≡ 12 → request m pid v ≡ write_row m pid v
   request-write is = request-built 12 (write_row m pid v) is refl row-write

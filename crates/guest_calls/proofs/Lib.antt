@@ -6,7 +6,9 @@ pub mod Ends
 pub mod Numbers
 pub mod Room
 pub mod Carries
+pub mod NewChannels
 pub mod Filed
+pub mod Piped
 pub mod Opening
 pub mod Pieces
 pub mod Stands

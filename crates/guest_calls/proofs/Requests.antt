@@ -9,6 +9,7 @@ use Rattle.parts_model.specs.Files.{file_bytes, fitting, read_from}
 use Rattle.acts_model.specs.Bodies.{View}
 use Rattle.acts_model.specs.Moved.{KernelByte, FileByte}
 use Rattle.acts_model.specs.Views.{read}
+use Rattle.arn_model.specs.ChannelCalls.{accept_row}
 use Rattle.arn_model.specs.Doing.{Request, Does, refused}
 use Rattle.arn_model.specs.Kernel.{Kernel, Machine, with_description}
 use Rattle.arn_model.specs.Row.{request, is_waiting, does}
@@ -20,7 +21,10 @@ use Rattle.guest_calls.specs.declared.outcomes.Done.{Done}
 use Rattle.guest_calls.specs.Steps.{Performed, RepliesTo}
 use Rattle.guest_calls.specs.State.{State}
 use Rattle.guest_calls.specs.Transfers.{IsReading, IsWriting}
+use Rattle.guest_calls.specs.Channels.{IsAccept}
 use Rattle.guest_calls.specs.Waits.{IsWait}
+use Rattle.guest_calls.specs.declared.channels.Accepting.{Accepting}
+use Rattle.guest_calls.specs.declared.channels.Accepting.TheVariants as accepting
 use Rattle.guest_calls.specs.declared.waiting.Waiting.{Waiting}
 use Rattle.guest_calls.specs.declared.waiting.Waiting.TheVariants as waiting
 use Rattle.arn_model.specs.ProcessCalls.{wait_row}
@@ -51,6 +55,7 @@ module _ (m : Machine) (pid : ℕ) (v : View) where
   reading-ready (reading.Takes at count) ready comes = sym (ap is_waiting comes)
   reading-ready (reading.Reads at most place) ready comes =
       sym (ap is_waiting comes ∙ received-ready m at (FileByte place.file place.position) (read_from (unwrap_or (file_bytes m.kernel.files place.file) []) place.position most) (with_description place.number (File place.file (place.position + length (read_from (unwrap_or (file_bytes m.kernel.files place.file) []) place.position most))) m.kernel))
+  reading-ready (reading.Drains at most pipe) ready comes = sym comes.1
 
   pub reads-ready : (r : Reading) (at most : ℕ) (place : Place) → r ≡ reading.Reads at most place → IsReading r m (read_row m pid v) → is_waiting (read_row m pid v) ≡ false
   reads-ready r at most place is comes = sym (reading-ready (reading.Reads at most place) (λ e. cc) (subst (λ (x : Reading). IsReading x m (read_row m pid v)) is comes))
@@ -63,6 +68,7 @@ module _ (m : Machine) (pid : ℕ) (v : View) where
   writing-ready (writing.Answers answer) ready comes = sym (ap is_waiting comes)
   writing-ready (writing.Prints at count) ready comes = sym (ap is_waiting comes)
   writing-ready (writing.Puts at count place) ready comes = sym (ap is_waiting comes ∙ put-ready m at (read v at count) place (place.position == MOST_FILE_BYTES))
+  writing-ready (writing.Pours at count pipe) ready comes = sym comes.1
 
   pub wait-waits : (r : Waiting) → r ≡ waiting.Waits → IsWait r m v (wait_row m pid v) → true ≡ is_waiting (wait_row m pid v)
   wait-waits r is comes = sym (ap is_waiting (subst (λ (x : Waiting). IsWait x m v (wait_row m pid v)) is comes))
@@ -71,6 +77,14 @@ module _ (m : Machine) (pid : ℕ) (v : View) where
   wait-ready waiting.Waits ready comes = absurd (ready refl)
   wait-ready (waiting.Answers answer) ready comes = sym (ap is_waiting comes)
   wait-ready (waiting.Collects child) ready comes = sym (ap is_waiting comes)
+
+  pub accept-waits : (r : Accepting) → r ≡ accepting.Waits → IsAccept r m pid (accept_row m pid v) → true ≡ is_waiting (accept_row m pid v)
+  accept-waits r is comes = sym (ap is_waiting (subst (λ (x : Accepting). IsAccept x m pid (accept_row m pid v)) is comes))
+
+  pub accept-ready : (r : Accepting) → r ≢ accepting.Waits → IsAccept r m pid (accept_row m pid v) → false ≡ is_waiting (accept_row m pid v)
+  accept-ready accepting.Waits ready comes = absurd (ready refl)
+  accept-ready (accepting.Answers answer) ready comes = sym (ap is_waiting comes)
+  accept-ready (accepting.Accepts port conn) ready comes = sym (ap is_waiting comes)
 
 -- a call that has ended didn't wait
 pub ended-ready : {T : Type 0} (r : Result T CallStop) (b : Bool) → (r ≡ Err stop.NotReady → ⊥) → b ≡ false → (IsErrOf r stop.NotReady → IsTrue b) × (IsTrue b → IsErrOf r stop.NotReady)

@@ -34,10 +34,10 @@ state_of k =
             processes = k.procs;
             handling = handlings (length k.procs) k.bodies;
             console = k.console;
-            pipes = [];
+            pipes = k.channels.pipes;
             files = k.resources.files;
             descriptions = k.resources.descriptions;
-            ports = [];
+            ports = k.channels.ports;
             unplugged = [];
           };
       events = k.events;

@@ -10,3 +10,4 @@ pub mod Standing
 pub mod Starts
 pub mod Waits
 pub mod Forks
+pub mod Channels

@@ -10,6 +10,7 @@ ghost use Rattle.guest_calls.specs.Standing.{can_wait};
 ghost use Rattle.guest_calls.specs.State.{IsNext, OfProcess};
 ghost use Rattle.guest_calls.specs.Steps.{Performed};
 
+use crate::channels::Accepting;
 use crate::kernel::Kernel;
 use crate::outcomes::{CallStop, Done};
 use crate::parts::error;
@@ -18,7 +19,8 @@ use crate::waiting::Waiting;
 use arn_base::NoMemory;
 use guest_devices::Answers;
 use parts_model::calls::{
-    CLOSE, DUP, EXEC, EXIT, FORK, GETPID, OPEN, READ, SEEK, UNLINK, WAIT, WRITE, YIELD,
+    ACCEPT, CLOSE, CONNECT, DUP, EXEC, EXIT, FORK, GETPID, LISTEN, OPEN, PIPE, READ, SEEK, UNLINK,
+    WAIT, WRITE, YIELD,
 };
 use parts_model::refusals::NO_SUCH_CALL;
 
@@ -32,6 +34,7 @@ impl Kernel {
             READ => matches!(self.reading(pid), Reading::Waits),
             WRITE => matches!(self.writing(pid), Writing::Waits),
             WAIT => matches!(self.waiting(pid), Waiting::Waits),
+            ACCEPT => matches!(self.accepting(pid), Accepting::Waits),
             _ => false,
         }
     }
@@ -57,7 +60,10 @@ impl Kernel {
             CLOSE => Ok(self.close(pid)),
             SEEK => Ok(self.seek(pid)),
             DUP => self.dup(pid),
+            PIPE => self.pipe(pid),
             UNLINK => self.unlink(pid),
+            LISTEN => self.listen(pid),
+            CONNECT => self.connect(pid),
             YIELD => Ok(self.yields(pid)),
             _ => Ok(self.answers(pid, error(NO_SUCH_CALL))),
         }
@@ -78,6 +84,7 @@ impl Kernel {
             READ => self.read(pid),
             WRITE => self.write(pid),
             WAIT => self.wait(pid),
+            ACCEPT => self.accept(pid),
             number => Ok(self.carry_out_ready(pid, number)?),
         }
     }

@@ -3,7 +3,7 @@ ghost use Rattle.std.specs.Prelude.{◌≡◌, ◌+◌, ◌<◌, ◌^◌, false,
 ghost use Rattle.parts_model.specs.declared.limits.TheConstants.{MOST_DESCRIPTORS};
 ghost use Rattle.parts_model.specs.Numbered.{nth};
 ghost use Rattle.arn_model.specs.FileCalls.{close_row, dup_opened, dup_row, has_no_room};
-ghost use Rattle.arn_model.specs.Kernel.{all_dropped, closes, description_of, descriptors_of, next_descriptor, placed, what_is};
+ghost use Rattle.arn_model.specs.Kernel.{all_dropped, closes, description_of, descriptors_of, dropped, next_descriptor, placed, what_is};
 ghost use Rattle.guest_bodies.specs.Shown.{IsLive};
 ghost use Rattle.guest_resources.specs.Resources.{IsKnown};
 ghost use Rattle.guest_calls.specs.Acted.{Carried};
@@ -51,10 +51,23 @@ impl Kernel {
           kernel = placed pid description self.old.kernel;
         } }
         ensures number { result ≡ next_descriptor self.old.kernel pid }
+        ensures small { result < 256 }
     {
         match self.procs.place(pid, description) {
             Ok(number) => number as u64,
             Err(_) => unreachable!(),
+        }
+    }
+
+    // One descriptor of a process fewer stands for a description. Without any it is gone, and what it
+    // stood for is closed.
+    fn drop_one(&mut self, pid: u32, number: u32)
+        requires { IsLive self.old.guests pid }
+        ensures dropped { self.new ≡ record self.old { kernel = dropped number self.old.kernel } }
+        ensures processes { self.new.kernel.processes ≡ self.old.kernel.processes }
+    {
+        if let Some(what) = self.resources.drop_one(number) {
+            self.channels.close(what);
         }
     }
 
@@ -68,7 +81,7 @@ impl Kernel {
         ensures none { IsNone result → self.new ≡ self.old }
     {
         let number = self.procs.lift(pid, descriptor)?;
-        self.resources.drop_one(number);
+        self.drop_one(pid, number);
         Some(number)
     }
 
@@ -145,7 +158,7 @@ impl Kernel {
         ensures processes { self.new.kernel.processes ≡ self.old.kernel.processes }
     {
         if let Some(number) = self.description_of(pid, descriptor) {
-            self.resources.drop_one(number);
+            self.drop_one(pid, number);
         }
     }
 

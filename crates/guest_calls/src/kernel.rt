@@ -9,6 +9,7 @@ ghost use Rattle.guest_calls.specs.State.{Becomes, IsNext, state_first};
 
 use arn_base::NoMemory;
 use guest_bodies::Bodies;
+use guest_channels::Channels;
 use guest_files::FileError;
 use guest_procs::Procs;
 use guest_resources::{Console, Resources};
@@ -16,13 +17,14 @@ use std::alloc::Global;
 use std::marker::Model;
 
 /// Processes, and what they have to do with each other and with the outside: what they have open,
-/// files, and the console.
+/// files, pipes and ports, and the console.
 #[derive(Drop)]
 pub struct Kernel {
     pub(crate) alloc: Global,
     pub(crate) bodies: Bodies,
     pub(crate) procs: Procs,
     pub(crate) resources: Resources,
+    pub(crate) channels: Channels,
     pub(crate) console: Console,
     pub(crate) booted: bool,
     pub(crate) events: u64,
@@ -50,6 +52,7 @@ impl Kernel {
             bodies: Bodies::new(alloc),
             procs: Procs::new(alloc),
             resources: Resources::new(alloc),
+            channels: Channels::new(alloc),
             console: Console::new(alloc),
             booted: false,
             events: 0,

@@ -1,14 +1,13 @@
 //! The kernel: it decides what the calls of processes do, and does it.
 //!
-//! It knows processes by their numbers, what their descriptors stand for, and the console's queue. What a call does to registers and memories is `guest_bodies`'s.
+//! It knows processes by their numbers, what their descriptors stand for, pipes and ports, and the console's queue. What a call does to registers and memories is `guest_bodies`'s.
 #![tactic(auto)]
 
 mod booting;
 mod calls;
+mod channels;
 mod descriptors;
 mod executing;
-#[cfg(test)]
-mod file_tests;
 mod files;
 mod forking;
 mod kernel;
@@ -16,8 +15,6 @@ mod outcomes;
 mod parts;
 mod processes;
 mod running;
-#[cfg(test)]
-mod tests;
 mod transfers;
 mod waiting;
 

@@ -1,15 +1,17 @@
 // The calls that move bytes: read and write.
 ghost use Rattle.std.specs.Prelude.{◌≡◌, ◌+◌, ◌<◌, ◌≤◌, ◌^◌, ◌↔◌, IfOk, IfSome, IsErrOf, IsSome, IsTrue, OnErr, length, take};
 ghost use Rattle.parts_model.specs.declared.limits.TheConstants.{MOST_TRANSFER};
+ghost use Rattle.acts_model.specs.Bodies.{View};
 ghost use Rattle.acts_model.specs.Views.{bytes_in, read};
 ghost use Rattle.arn_model.specs.Doing.{Request};
+ghost use Rattle.arn_model.specs.Kernel.{Machine};
 ghost use Rattle.arn_model.specs.Row.{is_waiting};
 ghost use Rattle.arn_model.specs.TransferCalls.{cut, if_moving, read_row, write_console, write_row};
 ghost use Rattle.guest_bodies.specs.Shown.{IsLive, seen_in};
 ghost use Rattle.guest_calls.specs.Acted.{Carried};
 ghost use Rattle.guest_calls.specs.Fits.{IsShort};
 ghost use Rattle.guest_calls.specs.State.{OfProcess};
-ghost use Rattle.guest_calls.specs.Transfers.{CanPrint, CanTake, IsOpenAt, IsReading, IsWriting, console_read, console_write, file_read, file_write, moved_by, number_read, number_write, reading_at, taking, writing_at};
+ghost use Rattle.guest_calls.specs.Transfers.{CanDrain, CanPour, CanPrint, CanTake, IsOpenAt, IsReading, IsWriting, console_read, console_write, draining, file_read, file_write, moved_by, number_read, number_write, pipe_read, pipe_write, pouring, reading_at, taking, writing_at};
 
 use crate::kernel::Kernel;
 use crate::outcomes::{CallStop, Done};
@@ -19,7 +21,7 @@ use guest_bodies::others_stay_unheld;
 use guest_give::give_of;
 use parts_model::Description;
 use parts_model::limits::MOST_TRANSFER;
-use parts_model::refusals::{BAD_ADDRESS, BAD_DESCRIPTOR, NO_ROOM};
+use parts_model::refusals::{BAD_ADDRESS, BAD_DESCRIPTOR, BROKEN_PIPE, NO_ROOM};
 
 /// A place in a file, and the description whose place it is.
 #[derive(Clone, Copy, Debug, PartialEq, Eq)]
@@ -40,6 +42,8 @@ pub enum Reading {
     Takes { at: u64, count: usize },
     /// It receives at an address what stands behind a place in a file, at most so many bytes.
     Reads { at: u64, most: u32, place: Place },
+    /// It receives at an address the first bytes of a pipe, at most so many.
+    Drains { at: u64, most: u32, pipe: u32 },
 }
 
 /// What a write comes to.
@@ -53,6 +57,9 @@ pub enum Writing {
     Prints { at: u64, count: u64 },
     /// It gives a file at a place so many bytes from an address, or as many of them as fit.
     Puts { at: u64, count: u64, place: Place },
+    /// It gives a pipe so many bytes from an address, or as many of them as fit. Where nothing reads
+    /// the pipe, it fails.
+    Pours { at: u64, count: u64, pipe: u32 },
 }
 
 impl Kernel {
@@ -114,8 +121,10 @@ impl Kernel {
                     position,
                 },
             ),
-            Some(_) => unreachable!(),
-            None => Reading::Answers {
+            Some(Description::Reader { pipe }) => self.reading_pipe(pid, pipe),
+            Some(Description::Connection { reads, writes: _ }) => self.reading_pipe(pid, reads),
+            Some(Description::Device { device: _ }) => unreachable!(),
+            _ => Reading::Answers {
                 answer: error(BAD_DESCRIPTOR),
             },
         }
@@ -158,6 +167,38 @@ impl Kernel {
         }
     }
 
+    // What a read from a pipe comes to.
+    fn reading_pipe(&self, pid: u32, pipe: u32) -> Reading
+        requires { IsLive self.now.guests pid }
+        ensures reading { OfProcess self.now pid (λ m v. IsReading result m (pipe_read m v pipe)) }
+        ensures within { CanTake result self.now.kernel }
+    {
+        let at = self.argument(pid, 1);
+        match self.moving(pid, at, self.argument(pid, 2)) {
+            Err(answer) => Reading::Answers { answer },
+            Ok(most) => self.draining(at, most as u32, pipe),
+        }
+    }
+
+    // What a read of at most so many bytes from a pipe comes to.
+    fn draining(&self, at: u64, most: u32, pipe: u32) -> Reading
+        requires some { 0 < most }
+        requires few { most ≤ MOST_TRANSFER }
+        ensures reading { (m : Machine) → self.now.kernel ≡ m.kernel →
+            IsReading result m (draining m at most pipe) }
+        ensures within { CanTake result self.now.kernel }
+    {
+        if !self.channels.is_there(pipe) {
+            return Reading::Answers {
+                answer: error(BAD_DESCRIPTOR),
+            };
+        }
+        if !self.channels.can_take(pipe) {
+            return Reading::Waits;
+        }
+        Reading::Drains { at, most, pipe }
+    }
+
     /// The call `read(descriptor, address, count)`.
     pub(crate) fn read(&mut self, pid: u32) -> Result<Done, CallStop>
         requires live { IsLive self.old.guests pid }
@@ -174,6 +215,7 @@ impl Kernel {
             Reading::Answers { answer } => Ok(self.answers(pid, answer)),
             Reading::Takes { at, count } => Ok(self.take(pid, at, count)?),
             Reading::Reads { at, most, place } => Ok(self.take_from_file(pid, at, most, place)?),
+            Reading::Drains { at, most, pipe } => Ok(self.drain(pid, at, most, pipe)?),
         }
     }
 
@@ -234,6 +276,33 @@ impl Kernel {
         })
     }
 
+    // A process receives the first bytes of a pipe. Where there are none, nothing writes it.
+    fn drain(&mut self, pid: u32, at: u64, most: u32, pipe: u32) -> Result<Done, NoMemory>
+        requires live { IsLive self.old.guests pid }
+        requires room { self.old.events + 1 < 2 ^ 64 }
+        requires ready { CanDrain self.old.kernel pipe }
+        requires some { 0 < most }
+        requires few { most ≤ MOST_TRANSFER }
+        ensures carried { IfOk result (λ done. OfProcess self.old pid (λ m v.
+            Carried (draining m at most pipe) done m pid v self.new)) }
+        ensures short { IfOk result (λ done. IsShort done.extra) }
+        ensures err { OnErr result (self.new ≡ self.old) }
+    {
+        let give = self.channels.take(pipe, most)?;
+        let count = give.bytes.len();
+        if count == 0 {
+            return Ok(self.answers(pid, 0));
+        }
+        others_stay_unheld();
+        self.bodies
+            .receives(pid, at, give.bytes.as_slice(), count as u64);
+        self.events += 1;
+        Ok(Done {
+            result: count as u64,
+            extra: Extra::Give(give),
+        })
+    }
+
     /// What the write at which a process stands comes to.
     pub(crate) fn writing(&self, pid: u32) -> Writing
         requires { IsLive self.now.guests pid }
@@ -265,8 +334,10 @@ impl Kernel {
                     position,
                 },
             ),
-            Some(_) => unreachable!(),
-            None => Writing::Answers {
+            Some(Description::Writer { pipe }) => self.writing_pipe(pid, pipe),
+            Some(Description::Connection { reads: _, writes }) => self.writing_pipe(pid, writes),
+            Some(Description::Device { device: _ }) => unreachable!(),
+            _ => Writing::Answers {
                 answer: error(BAD_DESCRIPTOR),
             },
         }
@@ -300,6 +371,38 @@ impl Kernel {
         }
     }
 
+    // What a write to a pipe comes to.
+    fn writing_pipe(&self, pid: u32, pipe: u32) -> Writing
+        requires { IsLive self.now.guests pid }
+        ensures writing { OfProcess self.now pid (λ m v. IsWriting result m v (pipe_write m v pipe)) }
+        ensures within { IfSome (seen_in self.now.guests pid) (CanPrint result self.now.kernel) }
+    {
+        let at = self.argument(pid, 1);
+        match self.moving(pid, at, self.argument(pid, 2)) {
+            Err(answer) => Writing::Answers { answer },
+            Ok(count) => self.pouring(pid, at, count, pipe),
+        }
+    }
+
+    // What a write of so many bytes to a pipe comes to.
+    fn pouring(&self, pid: u32, at: u64, count: u64, pipe: u32) -> Writing
+        requires reach { IfSome (seen_in self.now.guests pid) (λ v. IsSome (bytes_in v at count)) }
+        requires few { count ≤ MOST_TRANSFER }
+        ensures writing { (m : Machine) → (v : View) → self.now.kernel ≡ m.kernel →
+            IsWriting result m v (pouring m at (read v at count) pipe) }
+        ensures within { IfSome (seen_in self.now.guests pid) (CanPrint result self.now.kernel) }
+    {
+        if !self.channels.is_there(pipe) {
+            return Writing::Answers {
+                answer: error(BAD_DESCRIPTOR),
+            };
+        }
+        if !self.channels.can_put(pipe) {
+            return Writing::Waits;
+        }
+        Writing::Pours { at, count, pipe }
+    }
+
     /// The call `write(descriptor, address, count)`.
     pub(crate) fn write(&mut self, pid: u32) -> Result<Done, CallStop>
         requires live { IsLive self.old.guests pid }
@@ -316,6 +419,7 @@ impl Kernel {
             Writing::Answers { answer } => Ok(self.answers(pid, answer)),
             Writing::Prints { at, count } => Ok(self.print(pid, at, count)?),
             Writing::Puts { at, count, place } => Ok(self.put(pid, at, count, place)?),
+            Writing::Pours { at, count, pipe } => Ok(self.pour(pid, at, count, pipe)?),
         }
     }
 
@@ -402,5 +506,30 @@ impl Kernel {
                 bytes,
             },
         })
+    }
+
+    // A process gives a pipe bytes from an address, as many as fit.
+    fn pour(&mut self, pid: u32, at: u64, count: u64, pipe: u32) -> Result<Done, NoMemory>
+        requires live { IsLive self.old.guests pid }
+        requires room { self.old.events + 1 < 2 ^ 64 }
+        requires ready { CanPour self.old.kernel pipe }
+        requires reach { IfSome (seen_in self.old.guests pid) (λ v. IsSome (bytes_in v at count)) }
+        ensures carried { IfOk result (λ done. OfProcess self.old pid (λ m v.
+            Carried (pouring m at (read v at count) pipe) done m pid v self.new)) }
+        ensures short { IfOk result (λ done. IsShort done.extra) }
+        ensures err { OnErr result (self.new ≡ self.old) }
+    {
+        let bytes = self.copy_of(pid, at, count)?;
+        match self.channels.put(pipe, bytes.as_slice(), self.events)? {
+            None => Ok(self.answers(pid, error(BROKEN_PIPE))),
+            Some(taken) => {
+                let answer = taken as u64;
+                self.returns(pid, answer);
+                Ok(Done {
+                    result: answer,
+                    extra: Extra::Nothing,
+                })
+            }
+        }
     }
 }

@@ -11,7 +11,7 @@ use Rattle.parts_model.specs.Files as files
 use Rattle.parts_model.specs.Files.{Files, Name, has_name, held, if_reached, laid_over, made, next_file, fitting, reached_again, released, rewritten, unnamed, with_holder, without_holder, without_name, written}
 use Rattle.parts_model.specs.Numbered.{nth}
 use Rattle.parts_model.specs.Tagged.{held_bytes}
-use Rattle.arn_model.specs.Kernel.{Kernel, Opened, also_held, closed, dropped, less_held, with_count, with_what}
+use Rattle.arn_model.specs.Kernel.{Opened, also_held, with_count, with_what}
 use Rattle.guest_resources.specs.Opened.{fewer, first_descriptions, last_of, more}
 use Rattle.guest_resources.specs.Resources.{Resources, Changes, IsIn, IsKnown, IsSound, HoldsFile, is_of, one_if, holding, holders_of, settled_files, with_resources}
 use Rattle.guest_resources.proofs.Numbers.{nth-set, nth-add, nth-add_other, nth-behind, set-none}
@@ -118,8 +118,8 @@ more-sound r n sound = more-by r n sound (nth r.descriptions n) refl
 none-held : (r : Resources) (n : ℕ) (o : Opened) → nth r.descriptions n ≡ Some o → (m : ℕ) → holders_of m (set r.descriptions n None) + one_if (is_of m o.what) ≡ holders_of m r.descriptions
 none-held r n o is m = omega (arith, holders-set m r.descriptions n None (ap is_some is), ap (holding m) is)
 
-console-gone : (r : Resources) (n : ℕ) (o : Opened) → nth r.descriptions n ≡ Some o → ((m : ℕ) → is_of m o.what ≡ false) → IsSound r → IsSound (record r { descriptions = set r.descriptions n None })
-console-gone r n o is none sound =
+other-gone : (r : Resources) (n : ℕ) (o : Opened) → nth r.descriptions n ≡ Some o → ((m : ℕ) → is_of m o.what ≡ false) → IsSound r → IsSound (record r { descriptions = set r.descriptions n None })
+other-gone r n o is none sound =
     record {
       known = known-set r.files r.descriptions n None sound.known tt;
       held =
@@ -138,12 +138,12 @@ released-by r n file position d is sound (Some f) found =
     (known-set r.files r.descriptions n None sound.known tt) sound.held
 
 gone-sound : (r : Resources) (n : ℕ) (what : Description) (d : ℕ) → nth r.descriptions n ≡ Some (record { what = what; descriptors = d }) → IsSound r → IsSound (record { files = settled_files (Some what) r.files; descriptions = set r.descriptions n None })
-gone-sound r n Console d is sound = console-gone r n (record { what = Console; descriptors = d }) is (λ m. refl) sound
+gone-sound r n Console d is sound = other-gone r n (record { what = Console; descriptors = d }) is (λ m. refl) sound
 gone-sound r n (File file position) d is sound = released-by r n file position d is sound (nth r.files.all file) refl
-gone-sound r n (Reader pipe) d is sound = absurd (known-at r n (record { what = Reader pipe; descriptors = d }) is sound)
-gone-sound r n (Writer pipe) d is sound = absurd (known-at r n (record { what = Writer pipe; descriptors = d }) is sound)
-gone-sound r n (Connection reads writes) d is sound = absurd (known-at r n (record { what = Connection reads writes; descriptors = d }) is sound)
-gone-sound r n (Listener port) d is sound = absurd (known-at r n (record { what = Listener port; descriptors = d }) is sound)
+gone-sound r n (Reader pipe) d is sound = other-gone r n (record { what = Reader pipe; descriptors = d }) is (λ m. refl) sound
+gone-sound r n (Writer pipe) d is sound = other-gone r n (record { what = Writer pipe; descriptors = d }) is (λ m. refl) sound
+gone-sound r n (Connection reads writes) d is sound = other-gone r n (record { what = Connection reads writes; descriptors = d }) is (λ m. refl) sound
+gone-sound r n (Listener port) d is sound = other-gone r n (record { what = Listener port; descriptors = d }) is (λ m. refl) sound
 gone-sound r n (Device device) d is sound = absurd (known-at r n (record { what = Device device; descriptors = d }) is sound)
 
 fewer-more : (r : Resources) (n : ℕ) (o : Opened) → nth r.descriptions n ≡ Some o → IsSound r → (b : Bool) → IsSound (record { files = settled_files (cond b None (Some o.what)) r.files; descriptions = cond b (set r.descriptions n (Some (with_count (λ c. c - 1) o))) (set r.descriptions n None) })
@@ -157,27 +157,7 @@ fewer-by r n sound (Some o) is = fewer-more r n o is sound (nat_lt 1 o.descripto
 pub fewer-sound : (r : Resources) (n : ℕ) → IsSound r → IsSound (record { files = settled_files (last_of (nth r.descriptions n)) r.files; descriptions = fewer n (nth r.descriptions n) r.descriptions })
 fewer-sound r n sound = fewer-by r n sound (nth r.descriptions n) refl
 
--- the kernel's change is this one
-closed-known : (all : Files) (what : Description) (k : Kernel) → IsKnown all what → closed what k ≡ record k { files = settled_files (Some what) k.files }
-closed-known all Console k is = refl
-closed-known all (File file position) k is = refl
-closed-known all (Reader pipe) k is = absurd is
-closed-known all (Writer pipe) k is = absurd is
-closed-known all (Connection reads writes) k is = absurd is
-closed-known all (Listener port) k is = absurd is
-closed-known all (Device device) k is = absurd is
-
-less-more : (r : Resources) (n : ℕ) (o : Opened) (k : Kernel) → IsKnown r.files o.what → (b : Bool) → cond b (record (with_resources r k) { descriptions = set r.descriptions n (Some (with_count (λ c. c - 1) o)) }) (closed o.what (record (with_resources r k) { descriptions = set r.descriptions n None })) ≡ with_resources (record { files = settled_files (cond b None (Some o.what)) r.files; descriptions = cond b (set r.descriptions n (Some (with_count (λ c. c - 1) o))) (set r.descriptions n None) }) k
-less-more r n o k is true = refl
-less-more r n o k is false = closed-known r.files o.what (record (with_resources r k) { descriptions = set r.descriptions n None }) is
-
-less-by : (r : Resources) (n : ℕ) (k : Kernel) (o : Option Opened) → IfSome o (λ d. IsKnown r.files d.what) → less_held n o (with_resources r k) ≡ with_resources (record { files = settled_files (last_of o) r.files; descriptions = fewer n o r.descriptions }) k
-less-by r n k None is = refl
-less-by r n k (Some o) is = less-more r n o k is (nat_lt 1 o.descriptors)
-
-pub dropped-changes : (r : Resources) (n : ℕ) → IsSound r → Changes r (dropped n) (record { files = settled_files (last_of (nth r.descriptions n)) r.files; descriptions = fewer n (nth r.descriptions n) r.descriptions })
-dropped-changes r n sound = record { kernel = λ k. less-by r n k (nth r.descriptions n) (known-nth r.files r.descriptions n sound.known) }
-
+-- one descriptor more, as the kernel says it
 held-more : (n : ℕ) (ds : List (Option Opened)) (o : Option Opened) → nth ds n ≡ o → set ds n (option_map (with_count (λ c. c + 1)) o) ≡ more n o ds
 held-more n ds None is = set-none ds n is
 held-more n ds (Some o) is = refl
@@ -292,13 +272,14 @@ last-file r n file position sound is =
 pub last-holds : (r : Resources) (n : ℕ) (what : Description) → IsSound r → last_of (nth r.descriptions n) ≡ Some what → HoldsFile r.files what
 last-holds r n Console sound is = tt
 last-holds r n (File file position) sound is = (there-in (nth r.files.all file) position (last-known r n (File file position) sound is), last-file r n file position sound is)
-last-holds r n (Reader pipe) sound is = last-known r n (Reader pipe) sound is
-last-holds r n (Writer pipe) sound is = last-known r n (Writer pipe) sound is
-last-holds r n (Connection reads writes) sound is = last-known r n (Connection reads writes) sound is
-last-holds r n (Listener port) sound is = last-known r n (Listener port) sound is
-last-holds r n (Device device) sound is = last-known r n (Device device) sound is
+last-holds r n (Reader pipe) sound is = tt
+last-holds r n (Writer pipe) sound is = tt
+last-holds r n (Connection reads writes) sound is = tt
+last-holds r n (Listener port) sound is = tt
+last-holds r n (Device device) sound is = tt
 
-module _ (r : Resources) (n : ℕ) (what : Option Description) (all : Files) (ds : List (Option Opened)) (sound : IsSound r) (last : last_of (nth r.descriptions n) ≡ what) (less : ds ≡ fewer n (nth r.descriptions n) r.descriptions) (settled : all ≡ settled_files what r.files) where
+-- resources with one descriptor fewer, once the files are settled
+module _ (r : Resources) (n : ℕ) (what : Option Description) (all : Files) (ds : List (Option Opened)) (last : last_of (nth r.descriptions n) ≡ what) (less : ds ≡ fewer n (nth r.descriptions n) r.descriptions) (settled : all ≡ settled_files what r.files) where
   abbrev after : Resources
   after = record { files = settled_files (last_of (nth r.descriptions n)) r.files; descriptions = fewer n (nth r.descriptions n) r.descriptions }
 
@@ -308,11 +289,8 @@ module _ (r : Resources) (n : ℕ) (what : Option Description) (all : Files) (ds
   same-after : after ≡ into
   same-after = ap₂ (λ (a : Files) (l : List (Option Opened)). record { files = a; descriptions = l }) (ap (λ (w : Option Description). settled_files w r.files) last ∙ sym settled) (sym less)
 
-  pub after-sound : IsSound (record { files = all; descriptions = ds })
-  after-sound = subst IsSound same-after (fewer-sound r n sound)
-
-  pub after-changes : Changes r (dropped n) (record { files = all; descriptions = ds })
-  after-changes = subst (Changes r (dropped n)) same-after (dropped-changes r n sound)
+  pub after-sound : IsSound r → IsSound (record { files = all; descriptions = ds })
+  after-sound sound = subst IsSound same-after (fewer-sound r n sound)
 
 -- by how a call ends
 pub by-result : {T E : Type 0} (result : Result T E) (P Q R : Type 0) → OnOk result P → OnErr result Q → (P → R) → (Q → R) → R

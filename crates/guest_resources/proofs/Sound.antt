@@ -78,10 +78,10 @@ module _ (old new : Files) (file : ℕ) (others : (n at : ℕ) → (n ≡ file �
       by : (b : Bool) → (n == file) ≡ b → IsIn (nth new.all n) position
       by true e = subst (λ (i : ℕ). IsIn (nth new.all i) position) (sym (eqb-true n file e)) (own e position (subst (λ (i : ℕ). IsIn (nth old.all i) position) (eqb-true n file e) is))
       by false e = others n position (eqb-false n file e) is
-  kept-what (Reader pipe) own is = absurd is
-  kept-what (Writer pipe) own is = absurd is
-  kept-what (Connection reads writes) own is = absurd is
-  kept-what (Listener port) own is = absurd is
+  kept-what (Reader pipe) own is = tt
+  kept-what (Writer pipe) own is = tt
+  kept-what (Connection reads writes) own is = tt
+  kept-what (Listener port) own is = tt
   kept-what (Device device) own is = absurd is
 
   kept-one : (o : Option Opened) → ((at : ℕ) → IsIn (nth old.all file) at → IsIn (nth new.all file) at) → IfSome o (λ d. IsKnown old d.what) → IfSome o (λ d. IsKnown new d.what)

@@ -1,5 +1,5 @@
 -- Descriptions and files, and what they have to do with each other.
-use Rattle.std.specs.Prelude.{◌≡◌, ◌≤◌, ◌<◌, ◌+◌, ◌==◌, ℕ, Bool, true, false, List, [], ◌∷◌, length, Option, None, Some, IfSome, IsSome}
+use Rattle.std.specs.Prelude.{◌≡◌, ◌≤◌, ◌<◌, ◌+◌, ◌==◌, ℕ, Bool, true, false, List, [], ◌∷◌, ◌++◌, length, Option, None, Some, IfSome, IsSome}
 use Rattle.parts_model.specs.declared.open.Description.{Description}
 use Rattle.parts_model.specs.declared.open.Description.TheVariants.{Console, File, Reader, Writer, Connection, Listener, Device}
 use Rattle.parts_model.specs.Files as files
@@ -29,29 +29,56 @@ abbrev pub IsIn : Option files.File → ℕ → Type 0
 IsIn None at = ⊥
 IsIn (Some f) at = at ≤ length f.bytes
 
--- what can be open: the console, and a place in a file that is there
+-- what can be open: no device yet, and a file that is there, at a place in it
 abbrev pub IsKnown : Files → Description → Type 0
 IsKnown all Console = Unit {0}
 IsKnown all (File file position) = IsIn (nth all.all file) position
-IsKnown all (Reader pipe) = ⊥
-IsKnown all (Writer pipe) = ⊥
-IsKnown all (Connection reads writes) = ⊥
-IsKnown all (Listener port) = ⊥
+IsKnown all (Reader pipe) = Unit {0}
+IsKnown all (Writer pipe) = Unit {0}
+IsKnown all (Connection reads writes) = Unit {0}
+IsKnown all (Listener port) = Unit {0}
 IsKnown all (Device device) = ⊥
+
+-- a description that is no file
+abbrev pub IsNoFile : Description → Type 0
+IsNoFile Console = Unit {0}
+IsNoFile (File file position) = ⊥
+IsNoFile (Reader pipe) = Unit {0}
+IsNoFile (Writer pipe) = Unit {0}
+IsNoFile (Connection reads writes) = Unit {0}
+IsNoFile (Listener port) = Unit {0}
+IsNoFile (Device device) = Unit {0}
+
+-- ends of pipes, and ports
+abbrev pub IsChannel : Description → Type 0
+IsChannel Console = ⊥
+IsChannel (File file position) = ⊥
+IsChannel (Reader pipe) = Unit {0}
+IsChannel (Writer pipe) = Unit {0}
+IsChannel (Connection reads writes) = Unit {0}
+IsChannel (Listener port) = Unit {0}
+IsChannel (Device device) = ⊥
+
+-- the last that was opened is a channel, for which one descriptor stands
+pub record EndsWithChannel (descriptions : List (Option Opened)) : Type 0 where
+  pub before : List (Option Opened)
+  pub what : Description
+  pub is_channel : IsChannel what
+  pub last : descriptions ≡ before ++ Some (record { what = what; descriptors = 1 }) ∷ []
 
 abbrev pub AreKnown : Files → List (Option Opened) → Type 0
 AreKnown all [] = Unit {0}
 AreKnown all (o ∷ descriptions) = IfSome o (λ d. IsKnown all d.what) × AreKnown all descriptions
 
--- the description is one of those that hold its file
+-- the description is one of those that hold its file, if it is one of a file
 abbrev pub HoldsFile : Files → Description → Type 0
 HoldsFile all Console = Unit {0}
 HoldsFile all (File file position) = IsSome (nth all.all file) × IfSome (nth all.all file) (λ f. 0 < f.holders)
-HoldsFile all (Reader pipe) = ⊥
-HoldsFile all (Writer pipe) = ⊥
-HoldsFile all (Connection reads writes) = ⊥
-HoldsFile all (Listener port) = ⊥
-HoldsFile all (Device device) = ⊥
+HoldsFile all (Reader pipe) = Unit {0}
+HoldsFile all (Writer pipe) = Unit {0}
+HoldsFile all (Connection reads writes) = Unit {0}
+HoldsFile all (Listener port) = Unit {0}
+HoldsFile all (Device device) = Unit {0}
 
 -- the files once the last descriptor of a description has gone
 abbrev pub settled_files : Option Description → Files → Files

@@ -1,16 +1,16 @@
 // Descriptions and files together.
-ghost use Rattle.std.specs.Prelude.{◌≡◌, ◌≢◌, ◌+◌, ◌≤◌, ◌<◌, ◌^◌, ◌↔◌, ◌∷◌, [], false, length, Err, IfErr, IfOk, IfSome, IsNone, IsOk, IsSome, IsTrue, None, OnErr, OnOk, Some, option_map, unwrap_or};
+ghost use Rattle.std.specs.Prelude.{◌≡◌, ◌≢◌, ◌+◌, ◌-◌, ◌≤◌, ◌<◌, ◌^◌, ◌↔◌, ◌∷◌, [], false, length, Err, IfErr, IfOk, IfSome, IsNone, IsOk, IsSome, IsTrue, None, OnErr, OnOk, Some, option_map, take, unwrap_or};
 ghost use Rattle.std.specs.List.{list_all};
 ghost use Rattle.parts_model.specs.declared.limits.TheConstants.{MOST_FILE_BYTES};
 ghost use Rattle.parts_model.specs.declared.open.Description.TheVariants.{File};
 ghost use Rattle.parts_model.specs.Files.{file_bytes, find_file, held, is_full, made, next_file, read_from, unnamed, written};
 ghost use Rattle.parts_model.specs.Numbered.{nth};
 ghost use Rattle.parts_model.specs.Tagged.{given, held_bytes};
-ghost use Rattle.arn_model.specs.Kernel.{all_also_held, also_held, dropped, with_description, with_new};
+ghost use Rattle.arn_model.specs.Kernel.{Kernel, all_also_held, also_held, closed, dropped, with_description, with_new};
 ghost use Rattle.guest_files.specs.Table.{IsThere};
 ghost use Rattle.guest_resources.specs.Opened.{first_descriptions};
 ghost use Rattle.guest_resources.specs.Rooms.{fits, has_room, have_room};
-ghost use Rattle.guest_resources.specs.Resources.{Changes, HoldsFile, IsIn, IsKnown, is_of, no_resources, settled_files};
+ghost use Rattle.guest_resources.specs.Resources.{Changes, EndsWithChannel, HoldsFile, IsChannel, IsIn, IsKnown, IsNoFile, is_of, no_resources, settled_files, with_resources};
 
 use crate::descriptions::Descriptions;
 use arn_base::{Give, NoMemory};
@@ -53,9 +53,8 @@ fn close(files: &mut Files, what: &Description)
     ensures { files.new ≡ settled_files (Some what.now) files.old }
 {
     match what {
-        Description::Console => {}
         Description::File { file, position: _ } => files.release(*file),
-        _ => unreachable!(),
+        _ => {}
     }
 }
 
@@ -242,12 +241,62 @@ impl Resources {
     }
 
     /// One descriptor fewer stands for a description. Without any it is gone, and so may its file be.
-    pub fn drop_one(&mut self, number: u32)
-        ensures { Changes self.old (dropped number) self.new }
+    /// Where it is gone and was no file, this answers what it was, for the caller to close.
+    pub fn drop_one(&mut self, number: u32) -> Option<Description>
+        ensures none { IsNone result → Changes self.old (dropped number) self.new }
+        ensures some { IfSome result (λ what. (k : Kernel) →
+            dropped number (with_resources self.old k) ≡ closed what (with_resources self.new k)) }
+        ensures no_file { IfSome result IsNoFile }
     {
-        if let Some(what) = self.descriptions.drop_one(number) {
-            close(&mut self.files, &what);
+        let what = self.descriptions.drop_one(number)?;
+        close(&mut self.files, &what);
+        if let Description::File { .. } = what {
+            return None;
         }
+        Some(what)
+    }
+
+    /// Opens a channel for one descriptor, and answers its number.
+    pub fn open_channel(&mut self, what: Description) -> Result<u32, NoMemory>
+        requires { IsChannel what }
+        ensures opened { OnOk result (Changes self.old (with_new what) self.new) }
+        ensures number { IfOk result (λ number. number ≡ length self.old.descriptions) }
+        ensures few { IfOk result (λ number. number + 1 < 2 ^ 32) }
+        ensures last { OnOk result (EndsWithChannel self.new.descriptions) }
+        ensures err { OnErr result (self.new ≡ self.old) }
+    {
+        self.descriptions.add(what, 1)
+    }
+
+    /// Opens two channels for one descriptor each, and answers the number of the first. The second
+    /// has the next one.
+    pub fn open_two(&mut self, first: Description, second: Description) -> Result<u32, NoMemory>
+        requires first { IsChannel first }
+        requires second { IsChannel second }
+        ensures opened { OnOk result
+            (Changes self.old (λ k. with_new second (with_new first k)) self.new) }
+        ensures number { IfOk result (λ number. number ≡ length self.old.descriptions) }
+        ensures few { IfOk result (λ number. number + 1 < 2 ^ 32) }
+        ensures err { OnErr result (self.new ≡ self.old) }
+    {
+        let number = self.open_channel(first)?;
+        match self.open_channel(second) {
+            Ok(_) => Ok(number),
+            Err(NoMemory) => {
+                self.remove_last();
+                Err(NoMemory)
+            }
+        }
+    }
+
+    /// Takes the channel that was opened last back, as if it weren't opened.
+    pub fn remove_last(&mut self)
+        requires { EndsWithChannel self.old.descriptions }
+        ensures { self.new ≡ record self.old {
+          descriptions = take (length self.old.descriptions - 1) self.old.descriptions;
+        } }
+    {
+        self.descriptions.remove_last();
     }
 
     /// How many bytes a file has.

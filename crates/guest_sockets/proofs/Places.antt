@@ -102,6 +102,10 @@ with_port-absent (q ∷ ps) n change free =
     ap (λ (b : Bool). cond b (change q) q ∷ with_port ps n change) both.0
     ∙ ap (λ (rest : Ports). q ∷ rest) (with_port-absent ps n change both.1)
 
+-- nothing changes where nothing listens
+pub with_port-none : (ps : Ports) (n : ℕ) (change : Port → Port) → port_at ps n ≡ None → with_port ps n change ≡ ps
+with_port-none ps n change none = with_port-absent ps n change (ap is_some none)
+
 freed-absent : (ps : Ports) (n : ℕ) → is_in_use ps n ≡ false → freed ps n ≡ ps
 freed-absent [] n free = refl
 freed-absent (q ∷ ps) n free =
@@ -263,10 +267,6 @@ can_connect-none ps n none = ap (λ (o : Option Port). is_some (option_and_then 
 
 pub oldest-none : (ps : Ports) (n : ℕ) → port_at ps n ≡ None → oldest ps n ≡ None
 oldest-none ps n none = ap (λ (o : Option Port). option_and_then (λ p. slice_get p.waiting 0) o) none
-
-pub OnOk-always : {T E : Type 0} (r : Result T E) (P : Type 0) → P → OnOk r P
-OnOk-always (Ok v) P h = h
-OnOk-always (Err e) P h = tt
 
 pub OnOk-map : {T E : Type 0} (r : Result T E) (P Q : Type 0) → (P → Q) → OnOk r P → OnOk r Q
 OnOk-map (Ok v) P Q f h = f h

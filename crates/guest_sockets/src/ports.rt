@@ -30,11 +30,11 @@ impl Model for Ports {
     ghost invariant = { λ s. AreApart s.all.items };
 }
 
-// Where the port of a number stands.
-fn place_of(all: &[Port], number: u16) -> Option<usize>
+// Where the port of a number stands. There are numbers that no port has.
+fn place_of(all: &[Port], number: u64) -> Option<usize>
     ensures { result ≡ position (λ port. port.number == number) all.now }
 {
-    all.iter().position(|port| port.number() == number)
+    all.iter().position(|port| port.number() as u64 == number)
 }
 
 impl Ports {
@@ -46,11 +46,18 @@ impl Ports {
         }
     }
 
-    // Whether something listens at a port.
-    fn is_in_use(&self, port: u16) -> bool
+    /// Whether something listens at a port.
+    pub fn is_in_use(&self, port: u16) -> bool
         ensures { result ≡ is_in_use self.now port }
     {
-        place_of(&self.all, port).is_some()
+        place_of(&self.all, port as u64).is_some()
+    }
+
+    /// Whether as many ports are listened to as may be.
+    pub fn is_full(&self) -> bool
+        ensures { result ≡ is_full self.now }
+    {
+        self.all.len() >= MOST
     }
 
     /// Begins to listen at a port.
@@ -65,7 +72,7 @@ impl Ports {
         if self.is_in_use(port) {
             return Err(PortError::InUse);
         }
-        if self.all.len() >= MOST {
+        if self.is_full() {
             return Err(PortError::TooMany);
         }
         self.all.reserve(1)?;
@@ -74,8 +81,8 @@ impl Ports {
         Ok(())
     }
 
-    /// Whether one more connection may wait at a port.
-    pub fn can_connect(&self, port: u16) -> bool
+    /// Whether one more connection may wait at a port. Nothing listens at numbers that no port has.
+    pub fn can_connect(&self, port: u64) -> bool
         ensures { result ≡ can_connect self.now port }
     {
         match place_of(&self.all, port) {
@@ -85,7 +92,7 @@ impl Ports {
     }
 
     /// One more connection waits at a port.
-    pub fn connect(&mut self, port: u16, conn: Conn) -> Result<(), PortError>
+    pub fn connect(&mut self, port: u64, conn: Conn) -> Result<(), PortError>
         ensures waits { OnOk result (self.new ≡ connected self.old port conn) }
         ensures refused { (result ≡ Err PortError.Refused) ↔ IsFalse (can_connect self.old port) }
         ensures answers { IfErr result IsConnectError }
@@ -101,7 +108,7 @@ impl Ports {
     pub fn oldest(&self, port: u16) -> Option<Conn>
         ensures { result ≡ oldest self.now port }
     {
-        match place_of(&self.all, port) {
+        match place_of(&self.all, port as u64) {
             Some(place) => self.all[place].oldest(),
             None => None,
         }
@@ -116,13 +123,13 @@ impl Ports {
 
     /// Takes the connection that has waited longest at a port.
     pub fn accept(&mut self, port: u16) -> Result<Conn, PortError>
-        ensures accepted { OnOk result (self.new ≡ accepted self.old port) }
+        ensures accepted { self.new ≡ accepted self.old port }
         ensures oldest { IfOk result (λ conn. oldest self.old port ≡ Some conn) }
         ensures not_ready { (result ≡ Err PortError.NotReady) ↔ IsNone (oldest self.old port) }
         ensures answers { IfErr result (λ error. error ≡ PortError.NotReady) }
         ensures err { OnErr result (self.new ≡ self.old) }
     {
-        let place = match place_of(&self.all, port) {
+        let place = match place_of(&self.all, port as u64) {
             Some(place) => place,
             None => return Err(PortError::NotReady),
         };
@@ -137,7 +144,7 @@ impl Ports {
         ensures freed { self.new ≡ freed self.old port }
         ensures waiting { result.items ≡ waiting_at self.old port }
     {
-        match place_of(&self.all, port) {
+        match place_of(&self.all, port as u64) {
             Some(place) => self.all.remove(place).into_waiting(),
             None => Vec::new(*self.all.allocator()),
         }

@@ -1,10 +1,11 @@
 use Rattle.std.proofs.Common.{refl, sym, subst, arith, ◌≡◌}
 use Rattle.std.specs.Prelude.{IsErrOf, IsTrue, ◌↔◌}
+use Rattle.arn_model.specs.ChannelCalls.{accept_row}
 use Rattle.arn_model.specs.Doing.{Request}
 use Rattle.arn_model.specs.Row.{is_waiting}
 use Rattle.arn_model.specs.TransferCalls.{read_row, write_row}
 use Rattle.guest_calls.specs.declared.outcomes.CallStop.TheVariants as stop
-use Rattle.guest_calls.proofs.Built.{called, carried-calls, ready-number, request-read, request-ready, request-wait, request-write, row-read, row-wait, row-write}
+use Rattle.guest_calls.proofs.Built.{called, carried-calls, ready-number, request-accept, request-read, request-ready, request-wait, request-write, row-accept, row-read, row-wait, row-write}
 use Rattle.arn_model.specs.ProcessCalls.{wait_row}
 use Rattle.guest_calls.proofs.Requests.{ended-ready, errs-otherwise}
 use Rattle.guest_calls.proofs.kernel.Kernel.carry_out.Goals as goal
@@ -33,7 +34,7 @@ pub returns-in_err-carry_out_ready-in_default-clause-waits : goal.returns-in_err
 returns-in_err-carry_out_ready-in_default-clause-waits c m v stands sees =
     ended-ready _ _ (λ e. errs-otherwise _ _ c.from_residual.ensures.1 (λ p. cc) e)
     (request-ready m c.args.pid v c.call_number.result (called c.args.self.now c.args.pid c.call_number.result c.call_number.result m v stands sees c.call_number.ensures refl)
-    (ready-number c.call_number.result (λ (e : c.call_number.result ≡ 11). omega arith) (λ (e : c.call_number.result ≡ 12). omega arith) (λ (e : c.call_number.result ≡ 4). omega arith)))
+    (ready-number c.call_number.result (λ (e : c.call_number.result ≡ 11). omega arith) (λ (e : c.call_number.result ≡ 12). omega arith) (λ (e : c.call_number.result ≡ 4). omega arith) (λ (e : c.call_number.result ≡ 20). omega arith)))
 
 pub returns-in-4-clause-carried : goal.returns-in-4-clause-carried
 returns-in-4-clause-carried c =
@@ -44,3 +45,13 @@ returns-in-4-clause-waits c m v stands sees =
     subst (λ (r : Request). IsErrOf c.wait.result stop.NotReady ↔ IsTrue (is_waiting r))
     (sym (request-wait m c.args.pid v (called c.args.self.now c.args.pid c.call_number.result 4 m v stands sees c.call_number.ensures c.in-4.is)))
     (c.wait.ensures.waits m v stands sees)
+
+pub returns-in-20-clause-carried : goal.returns-in-20-clause-carried
+returns-in-20-clause-carried c =
+    carried-calls c.args.self.now c.accept.new.self c.args.pid c.call_number.result 20 (λ m v. accept_row m c.args.pid v) c.call_number.ensures c.in-20.is refl (λ m v. row-accept m c.args.pid v) c.accept.result c.accept.ensures.carried
+
+pub returns-in-20-clause-waits : goal.returns-in-20-clause-waits
+returns-in-20-clause-waits c m v stands sees =
+    subst (λ (r : Request). IsErrOf c.accept.result stop.NotReady ↔ IsTrue (is_waiting r))
+    (sym (request-accept m c.args.pid v (called c.args.self.now c.args.pid c.call_number.result 20 m v stands sees c.call_number.ensures c.in-20.is)))
+    (c.accept.ensures.waits m v stands sees)

@@ -1,7 +1,8 @@
 use Rattle.std.proofs.Common.{refl}
+use Rattle.arn_model.specs.ChannelCalls.{connect_row, listen_row, pipe_row}
 use Rattle.arn_model.specs.FileCalls.{close_row, dup_row, open_row, seek_row, unlink_row}
 use Rattle.arn_model.specs.ProcessCalls.{exec_row, exit_row, fork_row, getpid_row, yield_row}
-use Rattle.guest_calls.proofs.Built.{carried-call, carried-calls, row-close, row-dup, row-exec, row-exit, row-fork, row-getpid, row-open, row-seek, row-unlink, row-yield}
+use Rattle.guest_calls.proofs.Built.{carried-call, carried-calls, row-close, row-connect, row-dup, row-exec, row-exit, row-fork, row-getpid, row-listen, row-open, row-pipe, row-seek, row-unlink, row-yield}
 use Rattle.guest_calls.proofs.kernel.Kernel.carry_out_ready.Goals as goal
 
 pub returns-in-1-clause-carried : goal.returns-in-1-clause-carried
@@ -43,3 +44,15 @@ returns-in-3-clause-carried c =
 pub returns-in-2-clause-carried : goal.returns-in-2-clause-carried
 returns-in-2-clause-carried c =
     carried-calls c.args.self.now c.fork.new.self c.args.pid c.args.number 2 (λ m v. fork_row m c.args.pid v) c.requires.number c.in-2.is refl (λ m v. row-fork m c.args.pid v) c.fork.result c.fork.ensures.carried
+
+pub returns-in-15-clause-carried : goal.returns-in-15-clause-carried
+returns-in-15-clause-carried c =
+    carried-calls c.args.self.now c.pipe.new.self c.args.pid c.args.number 15 (λ m v. pipe_row m c.args.pid v) c.requires.number c.in-15.is refl (λ m v. row-pipe m c.args.pid v) c.pipe.result c.pipe.ensures.carried
+
+pub returns-in-18-clause-carried : goal.returns-in-18-clause-carried
+returns-in-18-clause-carried c =
+    carried-calls c.args.self.now c.listen.new.self c.args.pid c.args.number 18 (λ m v. listen_row m c.args.pid v) c.requires.number c.in-18.is refl (λ m v. row-listen m c.args.pid v) c.listen.result c.listen.ensures.carried
+
+pub returns-in-19-clause-carried : goal.returns-in-19-clause-carried
+returns-in-19-clause-carried c =
+    carried-calls c.args.self.now c.connect.new.self c.args.pid c.args.number 19 (λ m v. connect_row m c.args.pid v) c.requires.number c.in-19.is refl (λ m v. row-connect m c.args.pid v) c.connect.result c.connect.ensures.carried

@@ -1,7 +1,7 @@
 use Rattle.std.proofs.Common.{sym, ap, refl, arith, ◌∙◌, ◌≡◌}
 use Rattle.arn_model.specs.Row.{is_waiting}
-use Rattle.guest_calls.proofs.Built.{called, ready-number, request-read, request-ready, request-wait, request-write}
-use Rattle.guest_calls.proofs.Requests.{reading-waits, reading-ready, wait-ready, wait-waits, writing-waits, writing-ready}
+use Rattle.guest_calls.proofs.Built.{called, ready-number, request-accept, request-read, request-ready, request-wait, request-write}
+use Rattle.guest_calls.proofs.Requests.{accept-ready, accept-waits, reading-waits, reading-ready, wait-ready, wait-waits, writing-waits, writing-ready}
 use Rattle.guest_calls.proofs.kernel.Kernel.is_waiting.Goals as goal
 
 pub returns-in-Waits : goal.returns-in-Waits
@@ -27,7 +27,7 @@ returns-in_default-matches-2 c m v stands sees =
 pub returns-in_default : goal.returns-in_default
 returns-in_default c m v stands sees =
     sym (request-ready m c.args.pid v c.call_number.result (called c.args.self.now c.args.pid c.call_number.result c.call_number.result m v stands sees c.call_number.ensures refl)
-    (ready-number c.call_number.result (λ (e : c.call_number.result ≡ 11). omega arith) (λ (e : c.call_number.result ≡ 12). omega arith) (λ (e : c.call_number.result ≡ 4). omega arith)))
+    (ready-number c.call_number.result (λ (e : c.call_number.result ≡ 11). omega arith) (λ (e : c.call_number.result ≡ 12). omega arith) (λ (e : c.call_number.result ≡ 4). omega arith) (λ (e : c.call_number.result ≡ 20). omega arith)))
 
 pub returns-in-Waits-matches-2 : goal.returns-in-Waits-matches-2
 returns-in-Waits-matches-2 c m v stands sees =
@@ -38,3 +38,13 @@ pub returns-in_default-matches-3 : goal.returns-in_default-matches-3
 returns-in_default-matches-3 c m v stands sees =
     wait-ready m c.args.pid v c.waiting.result c.in_default-matches-3.not-Waits (c.waiting.ensures.waiting m v stands sees)
     ∙ sym (ap is_waiting (request-wait m c.args.pid v (called c.args.self.now c.args.pid c.call_number.result 4 m v stands sees c.call_number.ensures c.in-4.is)))
+
+pub returns-in-Waits-matches-3 : goal.returns-in-Waits-matches-3
+returns-in-Waits-matches-3 c m v stands sees =
+    accept-waits m c.args.pid v c.accepting.result c.in-Waits-matches-3.is (c.accepting.ensures.accepting m v stands sees)
+    ∙ sym (ap is_waiting (request-accept m c.args.pid v (called c.args.self.now c.args.pid c.call_number.result 20 m v stands sees c.call_number.ensures c.in-20.is)))
+
+pub returns-in_default-matches-4 : goal.returns-in_default-matches-4
+returns-in_default-matches-4 c m v stands sees =
+    accept-ready m c.args.pid v c.accepting.result c.in_default-matches-4.not-Waits (c.accepting.ensures.accepting m v stands sees)
+    ∙ sym (ap is_waiting (request-accept m c.args.pid v (called c.args.self.now c.args.pid c.call_number.result 20 m v stands sees c.call_number.ensures c.in-20.is)))

@@ -8,5 +8,5 @@ use Rattle.guest_calls.proofs.kernel.Kernel.lift.Goals as goal
 
 pub invariant_of-self-2 : goal.invariant_of-self-2
 invariant_of-self-2 c =
-    subst (λ (p : Processes). IsSound c.self.inside.bodies p c.drop_one.new.self.files c.drop_one.new.self.descriptions c.self.inside.booted c.self.inside.events) (sym (c.in_ok-number.ensures.closed refl))
-    (descriptor-sound c.self.inside c.args.pid c.args.descriptor None c.drop_one.new.self.files c.drop_one.new.self.descriptions (booted-live c.self.inside c.args.pid c.self.invariant (subst (λ (s : State). is_some (nth s.guests c.args.pid) ≡ true) (sym c.self.view_is) c.requires)) c.self.invariant)
+    subst (λ (p : Processes). IsSound c.self.inside.bodies p c.self.inside.resources.files c.self.inside.resources.descriptions c.self.inside.booted c.self.inside.events) (sym (c.in_ok-number.ensures.closed refl))
+    (descriptor-sound c.self.inside c.args.pid c.args.descriptor None c.self.inside.resources.files c.self.inside.resources.descriptions (booted-live c.self.inside c.args.pid c.self.invariant (subst (λ (s : State). is_some (nth s.guests c.args.pid) ≡ true) (sym c.self.view_is) c.requires)) c.self.invariant)

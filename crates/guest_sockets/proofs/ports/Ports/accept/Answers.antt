@@ -3,18 +3,21 @@ use Rattle.std.specs.List.{position}
 use Rattle.parts_model.specs.declared.open.Conn.{Conn}
 use Rattle.parts_model.specs.Ports.{Port, oldest}
 use Rattle.guest_sockets.specs.declared.errors.PortError.{PortError}
-use Rattle.guest_sockets.proofs.Places.{OnOk-always, apart-here, changed-here, has, none-here, oldest-here, oldest-none}
+use Rattle.guest_sockets.proofs.Places.{apart-here, changed-here, has, none-here, oldest-here, oldest-none, with_port-none}
 use Rattle.guest_sockets.proofs.ports.Ports.accept.Goals as goal
 use Rattle.guest_sockets.proofs.ports.Ports.accept.Goals.{in-Some-accept, in-None-accept}
 
 pub returns-in-None-clause-not_ready : goal.returns-in-None-clause-not_ready
 returns-in-None-clause-not_ready c = (λ _. ap is_some (oldest-none c.args.self.now c.args.port (none-here c.args.self.now c.self.inside.all.items c.args.port c.self.view_is (sym (ap (position (has c.args.port)) c.deref.ensures.value) ∙ sym c.place_of.ensures ∙ c.in-None.is))), λ _. refl)
 
+pub returns-in-None-clause-accepted : goal.returns-in-None-clause-accepted
+returns-in-None-clause-accepted c = sym (with_port-none c.args.self.now c.args.port (λ p. record p { waiting = drop 1 p.waiting }) (none-here c.args.self.now c.self.inside.all.items c.args.port c.self.view_is (sym (ap (position (has c.args.port)) c.deref.ensures.value) ∙ sym c.place_of.ensures ∙ c.in-None.is)))
+
 pub invariant_of-self : goal.invariant_of-self
 invariant_of-self c = apart-here c.args.self.now c.self.inside.all.items c.args.port c.in-Some.place _ c.self.view_is (sym (ap (position (has c.args.port)) c.deref.ensures.value) ∙ sym c.place_of.ensures ∙ c.in-Some.is) c.index_mut.ensures.value c.self.invariant c.accept.new.self (ap (λ (p : Port). p.number) c.accept.ensures.rest)
 
 pub returns-clause-accepted : goal.returns-clause-accepted
-returns-clause-accepted c = OnOk-always c.match-accept.result _ (changed-here c.args.self.now c.self.inside.all.items c.args.port c.in-Some.place _ c.self.view_is (sym (ap (position (has c.args.port)) c.deref.ensures.value) ∙ sym c.place_of.ensures ∙ c.in-Some.is) c.index_mut.ensures.value c.self.invariant (λ p. record p { waiting = drop 1 p.waiting }) c.accept.new.self c.accept.ensures.rest)
+returns-clause-accepted c = changed-here c.args.self.now c.self.inside.all.items c.args.port c.in-Some.place _ c.self.view_is (sym (ap (position (has c.args.port)) c.deref.ensures.value) ∙ sym c.place_of.ensures ∙ c.in-Some.is) c.index_mut.ensures.value c.self.invariant (λ p. record p { waiting = drop 1 p.waiting }) c.accept.new.self c.accept.ensures.rest
 
 pub returns-clause-oldest : goal.returns-clause-oldest
 returns-clause-oldest c =

@@ -1,0 +1,19 @@
+use Rattle.std.proofs.Common.{◌≡◌, ◌∙◌, subst}
+use Rattle.parts_model.specs.declared.open.Description.TheVariants.{Connection}
+use Rattle.arn_model.specs.ChannelCalls.{new_conn}
+use Rattle.guest_calls.specs.Channels.{with_client}
+use Rattle.guest_calls.specs.Kept.{state_of}
+use Rattle.guest_calls.specs.State.{State}
+use Rattle.guest_calls.proofs.NewChannels.{client-state, same-state, taken-back}
+use Rattle.guest_calls.proofs.kernel.Kernel.open_client.Goals as goal
+
+pub returns-in-Ok-clause-opened : goal.returns-in-Ok-clause-opened
+returns-in-Ok-clause-opened c =
+    subst (λ (s : State). state_of (record c.self.inside { resources = c.open_channel.new.self; channels = c.connect.new.self }) ≡ record s { kernel = with_client c.args.port (new_conn s.kernel) s.kernel }) c.self.view_is
+    (client-state c.self.inside c.open_channel.new.self c.connect.new.self c.args.port c.in_ok-conn.conn c.in_ok-conn.ensures c.in_ok-number.ensures.opened c.in-Ok.ensures.connected)
+
+pub returns-in-Err-clause-err : goal.returns-in-Err-clause-err
+returns-in-Err-clause-err c =
+    let what = Connection c.in_ok-conn.conn.to_client c.in_ok-conn.conn.to_server in
+    same-state c.self.inside c.remove_last.new.self c.connect.new.self (c.remove_last.ensures ∙ taken-back c.self.inside.resources c.open_channel.new.self what c.in_ok-number.ensures.opened) c.in-Err.ensures.err
+    ∙ c.self.view_is
