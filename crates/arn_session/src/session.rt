@@ -18,7 +18,7 @@ ghost use Rattle.log_store.specs.declared.size.TheConstants.{MOST_LOG};
 ghost use Rattle.session_effects.specs.Carrying.{CarriesOut, HoldsLog, HoldsMore, IsAtRest, Keeps, RestsMore};
 ghost use Rattle.session_effects.specs.Standing.{IsOpen};
 ghost use Rattle.session_lines.specs.Answering.{IsNoRun};
-ghost use Rattle.session_questions.specs.OfRuns.{AnswersAreOfRuns, SinksAreOfRuns};
+ghost use Rattle.session_questions.specs.OfRuns.{AnswersAreOfRuns, SinksAreOfRuns, VerifyTellsRuns};
 ghost use Rattle.session_questions.specs.Texts.{told};
 ghost use Rattle.session_runs.specs.Points.{around};
 ghost use Rattle.session_text.specs.Answers.{Answers, AnswersTaken, TookAtMost, TookFewer};
@@ -343,6 +343,9 @@ pub fn arnold<S: Source, K: Sink, D: Disk, L: Ledger>(
     // whole machine relates.
     ensures lineage { AnswersAreOfRuns }
     ensures sinks { SinksAreOfRuns }
+
+    // And that the records are a run's is printed of a run's records, and of no others.
+    ensures verify { VerifyTellsRuns }
 {
     answers_are_of_runs();
     effects_follow::<MachineRuns, D>();

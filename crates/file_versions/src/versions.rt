@@ -103,6 +103,19 @@ impl<'a> Versions<'a> {
         Ok(versions)
     }
 
+    /// The bytes of the file that has this name at a moment, each with the event byte that last wrote it.
+    pub fn tagged(&self, path: &[u8], moment: u64) -> Result<Vec<TaggedByte>, VersionError>
+        ensures ok { (entries : List Record) → TellsFiles self.now entries
+            → IfOk result (λ held. version_at entries moment path.now ≡ Some held.items) }
+        ensures no_moment { (entries : List Record) → TellsFiles self.now entries
+            → (result ≡ Err VersionError.NoMoment) ↔ (total entries < moment) }
+        ensures no_file { (entries : List Record) → TellsFiles self.now entries
+            → (result ≡ Err VersionError.NoFile) ↔
+            ((moment ≤ total entries) × (file_at entries moment path.now ≡ None)) }
+    {
+        self.held(path, moment)
+    }
+
     /// The bytes of the file that has this name at a moment.
     pub fn content(&self, path: &[u8], moment: u64) -> Result<Bytes, VersionError>
         ensures ok { (entries : List Record) → TellsFiles self.now entries

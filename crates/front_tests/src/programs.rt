@@ -1,3 +1,4 @@
+use gen_texts::{program, typed};
 use guest_asm::{AsmError, assemble};
 use rv64_isa::{BranchOp, ImmOp, Instr, LoadOp, Reg, RegOp, StoreOp, decode};
 use std::alloc::{AllocError, Global};
@@ -79,6 +80,28 @@ fn the_first_fault_is_told(rt: HostRuntime) -> Result<(), Fail> {
         let found = shown_fault(alloc, text)?;
         assert_eq!(rt; found.as_str(), wanted, "{text}");
     }
+    Ok(())
+}
+
+/// The first bytes that are typed with seed 7, as another program of the generator's algorithm gives them.
+const FIRST: &[u8] = &[202, 153, 13, 132, 222, 87, 199, 18];
+
+#[test]
+fn the_generators_program_has_no_fault(rt: HostRuntime) -> Result<(), Fail> {
+    let alloc = rt.alloc();
+    for processes in 1..33 {
+        let text = program(alloc, processes)?;
+        let found = shown_fault(alloc, text.as_str())?;
+        assert_eq!(rt; found.as_str(), "none", "{processes}");
+    }
+    Ok(())
+}
+
+#[test]
+fn the_generator_types_words_of_its_seed(rt: HostRuntime) -> Result<(), Fail> {
+    let bytes = typed(rt.alloc(), 7)?;
+    assert_eq!(rt; bytes.len(), 4_096);
+    assert!(rt; bytes.starts_with(FIRST));
     Ok(())
 }
 

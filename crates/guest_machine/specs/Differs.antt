@@ -2,10 +2,15 @@
 use Rattle.std.specs.Prelude.{◌≡◌, ◌≢◌, ℕ, ◌+◌, Bool, true, false, List, [], take, count_by, Option, None, Some, slice_get}
 use Rattle.arn_base.specs.declared.records.Record.{Record}
 use Rattle.arn_base.specs.declared.records.Record.TheVariants as entry
+use Rattle.arn_base.specs.contracts.records.RecordPartialEq.TheImpl as record_eq
 use Rattle.arn_model.specs.Run.{run, instructions_in}
 use Rattle.log_model.specs.Records.{named}
 use Rattle.result_log.specs.Spelling.{spelling}
 use Rattle.arn_base.specs.declared.records.Differs.{Differs}
+
+-- whether two records are the same, as `==` says
+unfoldable pub same_record : Record → Record → Bool
+same_record a b = (record_eq.ghosts).eq a b
 
 -- the spelling of a record, and no bytes where there is none
 abbrev pub spelling_if : Option Record → List ℕ

@@ -1,6 +1,6 @@
 // What holds of runs and their records.
 ghost use Rattle.guest_machine.specs.LegLaws.{LegsAsNamed, PicksFollow, RepliesFollow};
-ghost use Rattle.guest_machine.specs.Laws.{NamedFollow, RecordsFollow, RecordsLeaveRoom, RunsFollow};
+ghost use Rattle.guest_machine.specs.Laws.{NamedFollow, RecordsCompare, RecordsFollow, RecordsLeaveRoom, RunsFollow};
 
 use guest_devices::Answers;
 use log_model::{named_append, named_runs_again, slices_are_named};
@@ -25,6 +25,11 @@ pub fn named_follow()
 /// A machine with few enough records can go on counting.
 pub fn records_leave_room()
     ensures { RecordsLeaveRoom }
+{}
+
+/// Two records are the same or they aren't, and `==` tells.
+pub fn records_compare()
+    ensures { RecordsCompare }
 {}
 
 /// Choices of slices follow one another.

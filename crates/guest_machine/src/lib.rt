@@ -21,8 +21,8 @@ pub use arn_model::RunState;
 pub use differs::RebuildError;
 pub use errors::MachineError;
 pub use law::{
-    legs_as_named, named_follow, picks_follow, records_follow, records_leave_room, replies_follow,
-    runs_follow,
+    legs_as_named, named_follow, picks_follow, records_compare, records_follow, records_leave_room,
+    replies_follow, runs_follow,
 };
 pub use leg::{Leg, LegEnd, MOST_LEG, Pick, leg_end};
 pub use machine::Machine;

@@ -16,3 +16,6 @@ pub mod Lists
 pub mod Members
 pub mod HeldPairs
 pub mod HeldAnswered
+pub mod Writers
+pub mod Written
+pub mod Named

@@ -1,10 +1,12 @@
 -- What is answered of a target.
-use Rattle.std.specs.Prelude.{◌≡◌, ℕ, true, false, List, sum_by, None}
+use Rattle.std.specs.Prelude.{◌≡◌, ℕ, true, false, List, sum_by, Option, Some, None}
 use Rattle.arn_base.specs.declared.records.Record.{Record}
 use Rattle.rv64_model.specs.Carries.{operands}
 use Rattle.rv64_model.specs.declared.linkage.Linkage.{Linkage}
 use Rattle.history_model.specs.Events.{event_at, is_range}
 use Rattle.query_model.specs.Answers.{count_in, event_disagreement, event_groups, event_pairs, moment_of}
+use Rattle.parts_model.specs.declared.tagged.TaggedByte.{TaggedByte}
+use Rattle.query_model.specs.Names.{Named, named_bytes, written_groups}
 use Rattle.query_model.specs.States.{process_groups}
 use Rattle.query_model.specs.declared.held.Held.{Held}
 use Rattle.query_model.specs.declared.held.Part.TheVariants as part
@@ -12,6 +14,7 @@ use Rattle.replayer.specs.Bounds.{ran_before}
 use Rattle.replay_steps.specs.declared.errors.QueryError.{QueryError}
 use Rattle.replay_steps.specs.declared.errors.QueryError.TheVariants as error
 use Rattle.query_engine.specs.Follows.{Explains}
+use Rattle.query_engine.specs.Names.{AnswersNamed, FailsNamed}
 use Rattle.query_engine.specs.States.{AnswersHeld, FailsHeld}
 use Rattle.query_engine.specs.declared.engine.Answer.{Answer}
 use Rattle.query_engine.specs.declared.engine.Target.{Target}
@@ -52,21 +55,36 @@ in_memory moment pid at len = record { moment = moment; pid = pid; part = part.M
 abbrev pub in_register : ℕ → ℕ → ℕ → Held
 in_register moment pid reg = record { moment = moment; pid = pid; part = part.Register reg }
 
+-- those that are asked about bytes of a file, before their moment: none, where it hasn't these
+abbrev pub ran_for_bytes : List Record → ℕ → Option (List TaggedByte) → ℕ
+ran_for_bytes entries moment None = 0
+ran_for_bytes entries moment (Some bytes) = ran_in entries moment (written_groups entries bytes)
+
+abbrev pub ran_for_named : List Record → Named → ℕ
+ran_for_named entries n = ran_for_bytes entries n.moment (named_bytes entries n)
+
+-- the bytes of a file that a target names
+abbrev pub in_file : ℕ → List ℕ → ℕ → ℕ → Named
+in_file moment name from len = record { moment = moment; name = name; from = from; len = len }
+
 abbrev pub Answers : Linkage → List Record → Target → Answer → Type 0
 Answers linkage entries (target.Event event from len) answer = AnswersEvent linkage entries event from len answer
 Answers linkage entries (target.Mem moment pid at len) answer = AnswersHeld linkage entries (in_memory moment pid at len) answer
 Answers linkage entries (target.Reg moment pid reg) answer = AnswersHeld linkage entries (in_register moment pid reg) answer
+Answers linkage entries (target.Name moment name from len) answer = AnswersNamed linkage entries (in_file moment name from len) answer
 
 abbrev pub Fails : List Record → Target → QueryError → Type 0
 Fails entries (target.Event event from len) why = FailsEvent entries event from len why
 Fails entries (target.Mem moment pid at len) why = FailsHeld entries (in_memory moment pid at len) why
 Fails entries (target.Reg moment pid reg) why = FailsHeld entries (in_register moment pid reg) why
+Fails entries (target.Name moment name from len) why = FailsNamed entries (in_file moment name from len) why
 
 -- how many instructions a query runs, and at most so many where it fails
 abbrev pub ran_about : List Record → Target → ℕ
 ran_about entries (target.Event event from len) = ran_for entries event
 ran_about entries (target.Mem moment pid at len) = ran_for_held entries (in_memory moment pid at len)
 ran_about entries (target.Reg moment pid reg) = ran_for_held entries (in_register moment pid reg)
+ran_about entries (target.Name moment name from len) = ran_for_named entries (in_file moment name from len)
 
 -- what isn't there runs nothing
 abbrev pub RunsNothing : QueryError → ℕ → ℕ → Type 0

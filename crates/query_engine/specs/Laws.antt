@@ -1,6 +1,7 @@
 -- What a query rests on.
 use Rattle.query_laws.specs.Fitting.{ItemsFit, ReachingIsOfBytes}
 use Rattle.query_laws.specs.Laws.{GroupsAreConnected, GroupsAreOne}
+use Rattle.query_laws.specs.Names.{NamedAreWritten, WrittenIsOfBytes}
 use Rattle.query_laws.specs.States.{HeldIsOfBytes, HeldItemsAreThere}
 use Rattle.replayer.specs.Bounds.{RunsBefore}
 
@@ -16,3 +17,8 @@ pub record Laws : Type 0 where
 pub record LawsOfStates : Type 0 where
   pub there : HeldItemsAreThere
   pub reaching : HeldIsOfBytes
+
+-- bytes of files were written by bytes that events have, and what reaches these is told by connected groups
+pub record LawsOfNames : Type 0 where
+  pub written : NamedAreWritten
+  pub reaching : WrittenIsOfBytes

@@ -7,3 +7,4 @@ pub mod Asked
 pub mod Forth
 pub mod Reached
 pub mod LawsForth
+pub mod Names

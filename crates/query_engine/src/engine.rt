@@ -1,24 +1,30 @@
 // Queries.
-ghost use Rattle.std.specs.Prelude.{◌≡◌, ◌≤◌, ◌+◌, IfErr, IfOk, IsOk, List, OnOk, true};
+ghost use Rattle.std.specs.Prelude.{◌≡◌, ◌≤◌, ◌+◌, IfErr, IfOk, IsOk, List, OnOk, length, true};
 ghost use Rattle.arn_base.specs.declared.records.Record.{Record};
 ghost use Rattle.rv64_model.specs.Carries.{operands};
 ghost use Rattle.exchange_graph.specs.Reach.{Rises};
 ghost use Rattle.history_index.specs.Indexes.{AreCountable, Indexes};
 ghost use Rattle.history_model.specs.Events.{event_at, is_range};
-ghost use Rattle.query_engine.specs.Asked.{Answers, AnswersEvent, Fails, FailsEvent, RunsNothing, ran_about, ran_for, ran_for_held};
+ghost use Rattle.query_engine.specs.Asked.{Answers, AnswersEvent, Fails, FailsEvent, RunsNothing, in_file, ran_about, ran_for, ran_for_held, ran_for_named, ran_in};
 ghost use Rattle.query_engine.specs.Demands.{byte_demands};
 ghost use Rattle.query_engine.specs.Following.{HasFollowed, IsOf};
+ghost use Rattle.query_engine.specs.Follows.{Explains};
+ghost use Rattle.query_engine.specs.Names.{AnswersNamed, AnswersWritten, FailsNamed};
 ghost use Rattle.query_engine.specs.States.{AnswersHeld, FailsHeld, is_held};
+ghost use Rattle.parts_model.specs.declared.limits.TheConstants.{MOST_ASKED};
+ghost use Rattle.query_laws.specs.Names.{AreWritten};
 ghost use Rattle.query_model.specs.Answers.{count_in, event_groups, event_pairs, moment_of};
+ghost use Rattle.query_model.specs.Names.{written_disagreement, written_groups};
 
 use crate::follow_all::follow_all;
 use crate::followed::Followed;
-use crate::law::laws;
-use crate::states;
-use arn_base::{NoMemory, Numbers, Pairs, Record, Steps};
+use crate::law::{laws, laws_of_names};
+use crate::{names, states};
+use arn_base::{Bytes, NoMemory, Numbers, Pairs, Record, Steps};
 use exchange_graph::Graph;
 use history_index::Index;
 use lineage_join::{Demand, Place, join, pairs_are_one};
+use parts_model::TaggedByte;
 use parts_model::limits::MOST_ASKED;
 use query_model::{Held, Part};
 use replayer::QueryError;
@@ -28,7 +34,7 @@ use std::sync::ledger::Ledger;
 use taint_laws::blocks_are_whole;
 
 /// Of which bytes is asked where they come from.
-#[derive(Clone, Copy, Debug, PartialEq, Eq)]
+#[derive(Debug, Drop)]
 pub enum Target {
     /// Bytes of an event.
     Event {
@@ -48,6 +54,13 @@ pub enum Target {
         moment: u64,
         pid: u32,
         reg: u8,
+    },
+    /// Bytes of the file that has the name at a moment, from a place on.
+    Name {
+        moment: u64,
+        name: Bytes,
+        from: u64,
+        len: u32,
     },
 }
 
@@ -281,6 +294,67 @@ fn state_back<L: Ledger>(
     held_back(alloc, entries, index, linkage, held, steps)
 }
 
+/// Where bytes come from that were written by a moment.
+fn written_back<L: Ledger>(
+    alloc: Global,
+    entries: &[Record],
+    index: &Index,
+    linkage: Linkage,
+    moment: u64,
+    bytes: &[TaggedByte],
+    steps: &mut Steps<L>,
+) -> Result<Answer, QueryError>
+    requires countable { AreCountable entries.now }
+    requires indexed { Indexes index.now entries.now }
+    requires few { length bytes.now ≤ MOST_ASKED }
+    requires written { AreWritten entries.now bytes.now }
+    ensures ok { IfOk result (AnswersWritten linkage entries.now moment bytes.now) }
+    ensures err { IfErr result (Explains (written_disagreement entries.now moment bytes.now)) }
+    ensures counted { OnOk result (steps.new ≡ steps.old + ran_in entries.now moment (written_groups entries.now bytes.now)) }
+    ensures bounded { steps.new ≤ steps.old + ran_in entries.now moment (written_groups entries.now bytes.now) }
+{
+    let groups = names::groups_of(alloc, entries, index, bytes)?;
+    let followed = follow_all(
+        alloc,
+        entries,
+        index,
+        linkage,
+        groups.as_slice(),
+        moment,
+        steps,
+    )?;
+    let pairs = names::pairs(alloc, entries, index, linkage, &followed, moment, bytes)?;
+    Ok(answer_of(alloc, entries, index, groups, pairs)?)
+}
+
+/// Where bytes come from that the file has that a name stands for at a moment, if they are there.
+fn name_back<L: Ledger>(
+    alloc: Global,
+    entries: &[Record],
+    index: &Index,
+    linkage: Linkage,
+    moment: u64,
+    name: &[u8],
+    from: u64,
+    len: u32,
+    steps: &mut Steps<L>,
+) -> Result<Answer, QueryError>
+    requires countable { AreCountable entries.now }
+    requires indexed { Indexes index.now entries.now }
+    ensures ok { IfOk result (AnswersNamed linkage entries.now (in_file moment name.now from len)) }
+    ensures err { IfErr result (FailsNamed entries.now (in_file moment name.now from len)) }
+    ensures counted { OnOk result (steps.new ≡ steps.old + ran_for_named entries.now (in_file moment name.now from len)) }
+    ensures unasked { IfErr result (λ error. RunsNothing error steps.old steps.new) }
+    ensures bounded { steps.new ≤ steps.old + ran_for_named entries.now (in_file moment name.now from len) }
+{
+    laws_of_names();
+    let held = names::version(alloc, entries, index, moment, name)?;
+    let Some(bytes) = names::part(held.as_slice(), from, len) else {
+        return Err(QueryError::NoPoint);
+    };
+    written_back(alloc, entries, index, linkage, moment, bytes, steps)
+}
+
 impl Engine {
     /// An engine that keeps nothing between queries.
     pub fn new(alloc: Global, keep: u32) -> Result<Engine, NoMemory>
@@ -308,12 +382,14 @@ impl Engine {
         ensures unasked { IfErr result (λ error. RunsNothing error steps.old steps.new) }
         ensures bounded { steps.new ≤ steps.old + ran_about entries.now target.now }
     {
-        match *target {
+        match target {
             Target::Event { event, from, len } => {
-                if !has_range(index, event, from, len) {
+                if !has_range(index, *event, *from, *len) {
                     return Err(QueryError::NoPoint);
                 }
-                event_back(self.alloc, entries, index, linkage, event, from, len, steps)
+                event_back(
+                    self.alloc, entries, index, linkage, *event, *from, *len, steps,
+                )
             }
             Target::Mem {
                 moment,
@@ -321,15 +397,37 @@ impl Engine {
                 at,
                 len,
             } => {
-                let part = Part::Memory { at, len };
-                let held = Held { moment, pid, part };
+                let held = Held {
+                    moment: *moment,
+                    pid: *pid,
+                    part: Part::Memory { at: *at, len: *len },
+                };
                 state_back(self.alloc, entries, index, linkage, held, steps)
             }
             Target::Reg { moment, pid, reg } => {
-                let part = Part::Register(reg);
-                let held = Held { moment, pid, part };
+                let held = Held {
+                    moment: *moment,
+                    pid: *pid,
+                    part: Part::Register(*reg),
+                };
                 state_back(self.alloc, entries, index, linkage, held, steps)
             }
+            Target::Name {
+                moment,
+                name,
+                from,
+                len,
+            } => name_back(
+                self.alloc,
+                entries,
+                index,
+                linkage,
+                *moment,
+                name.as_slice(),
+                *from,
+                *len,
+                steps,
+            ),
         }
     }
 }

@@ -1,9 +1,9 @@
 // What holds of queries.
-ghost use Rattle.query_engine.specs.Laws.{Laws, LawsOfStates};
+ghost use Rattle.query_engine.specs.Laws.{Laws, LawsOfNames, LawsOfStates};
 
 use query_laws::{
     groups_are_connected, groups_are_one, held_is_of_bytes, held_items_are_there, items_fit,
-    reaching_is_of_bytes,
+    named_are_written, reaching_is_of_bytes, written_is_of_bytes,
 };
 use replayer::runs_before;
 
@@ -24,4 +24,12 @@ pub fn laws_of_states()
 {
     held_items_are_there();
     held_is_of_bytes();
+}
+
+/// What one of bytes of a file at a moment rests on besides.
+pub fn laws_of_names()
+    ensures { LawsOfNames }
+{
+    named_are_written();
+    written_is_of_bytes();
 }

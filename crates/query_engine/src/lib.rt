@@ -10,6 +10,7 @@ mod followed;
 mod forth;
 mod law;
 mod law_forth;
+mod names;
 mod sinks;
 mod states;
 

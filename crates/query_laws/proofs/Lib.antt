@@ -35,3 +35,5 @@ pub mod Blocks
 pub mod RunsForth
 mod Held
 mod Lived
+pub mod Written
+mod Named

@@ -7,3 +7,4 @@ pub mod Joined
 pub mod Forth
 pub mod ForthOfRuns
 pub mod States
+pub mod Names

@@ -8,6 +8,7 @@
 
 mod forth;
 mod law;
+mod names;
 mod states;
 
 pub use forth::{
@@ -19,4 +20,5 @@ pub use law::{
     items_fit, members_received, pairs_are_joined, queries_are_of_runs, reaching_is_connected,
     reaching_is_of_bytes,
 };
+pub use names::{named_are_written, names_are_of_runs, written_is_of_bytes};
 pub use states::{held_is_of_bytes, held_items_are_there, states_are_of_runs};

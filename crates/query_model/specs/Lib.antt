@@ -4,3 +4,4 @@ pub mod Answers
 pub mod Forth
 pub mod Sinks
 pub mod States
+pub mod Names

@@ -1,10 +1,11 @@
 // What commands do.
-ghost use Rattle.std.specs.Prelude.{◌≡◌, ◌||◌, ◌+◌, ◌≤◌, ◌++◌, ℕ, None, OnOk, IfErr, IsSome, IsTrue, is_some, option_map};
+ghost use Rattle.std.specs.Prelude.{◌≡◌, ◌||◌, ◌+◌, ◌≤◌, ◌++◌, ℕ, All, None, OnOk, IfErr, IsSome, IsTrue, is_some, option_map};
 ghost use Rattle.arn_base.specs.Faults.{NeverFalls};
 ghost use Rattle.arn_commands.specs.Sizes.{Fits, LineFits};
 ghost use Rattle.arn_commands.specs.declared.command.Command.TheVariants.{Says};
 ghost use Rattle.log_model.specs.Records.{IsRun};
 ghost use Rattle.log_store.specs.Stops.{GoesOn};
+ghost use Rattle.result_log.specs.Spelling.{HasSpelling};
 ghost use Rattle.session_effects.specs.Printing.{StopsPut};
 ghost use Rattle.session_effects.specs.Standing.{Carries, IsCause, IsOpen};
 ghost use Rattle.session_lines.specs.Answering.{BlamesRightly, IsAnswered, IsHalted, IsLineCause, standpoint};
@@ -161,6 +162,7 @@ fn ask<Q: Questions, K: Sink, L: Ledger>(
     steps: &mut Steps<L>,
 ) -> Result<(), Halt>
     requires known { Q.knows kept.old.questions kept.old.store.entries }
+    requires spelled { All HasSpelling kept.old.store.entries }
     ensures known { OnOk result (Q.knows kept.new.questions kept.old.store.entries) }
     ensures store { kept.new.store ≡ kept.old.store }
     ensures machine { kept.new.machine ≡ kept.old.machine }

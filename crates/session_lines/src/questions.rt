@@ -1,9 +1,10 @@
 // Who answers questions about a history.
-ghost use Rattle.std.specs.Prelude.{◌≡◌, ◌+◌, ◌≤◌, ◌++◌, List, OnOk, length, string_bytes, take};
+ghost use Rattle.std.specs.Prelude.{◌≡◌, ◌+◌, ◌≤◌, ◌++◌, All, List, OnOk, length, string_bytes, take};
 ghost use Rattle.arn_base.specs.declared.records.Record.{Record};
 ghost use Rattle.log_model.specs.Records.{IsRun};
 ghost use Rattle.log_store.specs.Log.{spellings};
 ghost use Rattle.log_store.specs.declared.size.TheConstants.{MOST_LOG};
+ghost use Rattle.result_log.specs.Spelling.{HasSpelling};
 ghost use Rattle.session_lines.specs.Questions.{Told};
 
 use arn_base::{NoMemory, Record, Steps};
@@ -35,6 +36,7 @@ pub trait Questions {
         steps: &mut Steps<L>,
     ) -> Result<(), NoMemory>
         requires fits { length (spellings entries.now) ≤ MOST_LOG }
+        requires spelled { All HasSpelling entries.now }
         requires known { knows self.old entries.now }
         ensures known { OnOk result (knows self.new entries.now) }
         ensures text { OnOk result (string_bytes text.new ≡

@@ -4,15 +4,13 @@ use Rattle.std.specs.Prelude.{Err, Ok, OnOk, Result}
 use Rattle.arn_base.specs.declared.records.Pair.{Pair}
 use Rattle.arn_base.specs.declared.records.Record.{Record}
 use Rattle.arn_lines.specs.declared.answer.Refusal.TheVariants.{NoPoint}
-use Rattle.arn_lines.specs.Texts.{damaged_text, refusal_text}
+use Rattle.arn_lines.specs.Texts.{refusal_text}
 use Rattle.history_model.specs.Alone as history
-use Rattle.query_engine.specs.States.{AnswersHeld, FailsHeld}
+use Rattle.query_engine.specs.States.{AnswersHeld}
 use Rattle.query_engine.specs.declared.engine.Answer.{Answer}
 use Rattle.query_model.specs.Answers.{count_in}
 use Rattle.query_model.specs.States.{held_disagreement, held_pairs, process_groups}
 use Rattle.query_model.specs.declared.held.Held.{Held}
-use Rattle.replay_steps.specs.declared.errors.Disagrees.{Disagrees}
-use Rattle.replay_steps.specs.declared.errors.QueryError.TheVariants as error
 use Rattle.rv64_model.specs.Carries.{operands}
 use Rattle.rv64_model.specs.declared.linkage.Linkage.{Linkage}
 use Rattle.session_questions.specs.Texts.{answer_text, held_telling, held_text, unless_damaged}
@@ -30,14 +28,6 @@ module _ (linkage : Linkage) (entries : List Record) (held : Held) (old new : Li
       ∙ (ap (λ (n : ℕ). answer_text (held_pairs (operands linkage) entries held) n answer.groups) a.instructions
       ∙ (ap (λ (groups : List ℕ). answer_text (held_pairs (operands linkage) entries held) (count_in entries (process_groups entries held.pid)) groups) a.groups
       ∙ sym (ap (λ (b : Bool). by-test b (held_disagreement entries held)) a.there ∙ ap (λ (o : Option history.Disagrees). by-test true o) a.agree))))
-
-  pub when-refused : FailsHeld entries held error.NoPoint → new ≡ old ++ refusal_text NoPoint → new ≡ old ++ (held_telling (operands linkage) entries held).text
-  when-refused none e = e ∙ ap (λ (b : Bool). old ++ by-test b (held_disagreement entries held)) (sym none)
-
-  pub when-damaged : (d : Disagrees) → FailsHeld entries held (error.Disagrees d) → new ≡ old ++ damaged_text d.event d.said d.found
-      → new ≡ old ++ (held_telling (operands linkage) entries held).text
-  when-damaged d fails e =
-      e ∙ sym (ap (λ (b : Bool). old ++ by-test b (held_disagreement entries held)) fails.0 ∙ ap (λ (o : Option history.Disagrees). old ++ by-test true o) fails.1)
 
 -- what follows from what holds of a success
 pub on-ok : {T E P Q : Type 0} (r : Result T E) → (P → Q) → OnOk r P → OnOk r Q

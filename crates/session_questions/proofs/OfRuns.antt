@@ -21,28 +21,35 @@ use Rattle.history_index.specs.Lookups.{processes_in}
 use Rattle.history_model.specs.Alone.{Disagrees, Made}
 use Rattle.history_model.specs.Events.{event_at, events, is_range}
 use Rattle.history_model.specs.Moments.{lives_at, segment_at, total}
+use Rattle.log_model.specs.Laws.{RecordsAreRun}
 use Rattle.log_model.specs.Records.{records}
 use Rattle.log_store.specs.Log.{spellings}
 use Rattle.log_store.specs.declared.size.TheConstants.{MOST_LOG}
 use Rattle.past_lives.specs.Members.{is_member, is_memory_range, is_moment, is_present}
 use Rattle.parts_model.specs.declared.limits.TheConstants.{MOST_ASKED}
-use Rattle.query_engine.specs.Asked.{in_memory, in_register}
+use Rattle.parts_model.specs.declared.tagged.TaggedByte.{TaggedByte}
+use Rattle.query_engine.specs.Asked.{in_file, in_memory, in_register}
 use Rattle.query_engine.specs.States.{is_held}
 use Rattle.query_laws.specs.ForthOfRuns.{ForthIsOfRuns, IsSinkPair}
+use Rattle.query_laws.specs.Names.{NamesAreOfRuns}
 use Rattle.query_laws.specs.OfRuns.{AnswersRun, QueriesAreOfRuns, whole_points}
 use Rattle.query_laws.specs.States.{StatesAreOfRuns}
 use Rattle.query_model.specs.Answers.{count_in, event_disagreement, event_groups, moment_of}
+use Rattle.query_model.specs.Names.{Named, named_bytes, written_groups}
 use Rattle.query_model.specs.Sinks.{forth_pairs}
 use Rattle.query_model.specs.States.{process_groups}
 use Rattle.query_model.specs.declared.held.Held.{Held}
 use Rattle.query_model.specs.declared.held.Part.{Part}
 use Rattle.query_model.specs.declared.held.Part.TheVariants as part
-use Rattle.session_questions.specs.OfRuns.{living, run_back_text, run_forth_text, run_held_text, run_pairs, run_show_text, run_sources_text, run_text}
+use Rattle.session_questions.specs.OfRuns.{living, run_back_text, run_bytes_text, run_forth_text, run_held_text, run_named_text, run_pairs, run_show_text, run_sources_text, run_text}
 use Rattle.session_questions.specs.Short.{ShortRunsHaveNumbers}
-use Rattle.session_questions.specs.Texts.{answer_text, back_telling, event_telling, forth_telling, held_telling, held_text, question_text, show_telling, sinks_text, sources_text, unless_damaged}
+use Rattle.session_questions.specs.Texts.{answer_text, back_telling, bytes_answer, event_telling, forth_telling, held_telling, held_text, named_telling, question_text, show_telling, sinks_text, sources_text, unless_damaged, written_text}
+use Rattle.session_reports.specs.Files.{file_of}
 use Rattle.session_reports.specs.Processes.{processes_text}
 use Rattle.session_reports.specs.States.{mem_of, regs_of, seen_text}
 use Rattle.state_viewer.specs.Views.{made_of}
+use Rattle.verify_reports.specs.Verify.{VerifiesRuns}
+use Rattle.version_laws.specs.OfRuns.{VersionsAreOfRuns}
 use Rattle.view_laws.specs.OfRuns.{ViewsAreOfRuns, ViewsRun}
 
 -- an event that has bytes is there
@@ -82,7 +89,7 @@ filter-same : (f g : ℕ → Bool) (xs : List ℕ) → ((x : ℕ) → f x ≡ g 
 filter-same f g [] same = refl
 filter-same f g (x ∷ xs) same = ap (λ (b : Bool). if b then x ∷ filter f xs else filter f xs) (same x) ∙ ap (λ (rest : List ℕ). if g x then x ∷ rest else rest) (filter-same f g xs same)
 
-module _ (numbers : ShortRunsHaveNumbers) (queries : QueriesAreOfRuns) (states : StatesAreOfRuns) (sinks : ForthIsOfRuns) (views : ViewsAreOfRuns) (inputs : List Input) (short : length (spellings (records inputs)) ≤ MOST_LOG) where
+module _ (numbers : ShortRunsHaveNumbers) (queries : QueriesAreOfRuns) (states : StatesAreOfRuns) (names : NamesAreOfRuns) (sinks : ForthIsOfRuns) (views : ViewsAreOfRuns) (versions : VersionsAreOfRuns) (verified : VerifiesRuns) (own : RecordsAreRun) (inputs : List Input) (short : length (spellings (records inputs)) ≤ MOST_LOG) where
   answers : (linkage : Linkage) → AnswersRun (operands linkage) inputs
   answers linkage = queries (operands linkage) inputs (numbers inputs short)
 
@@ -105,11 +112,22 @@ module _ (numbers : ShortRunsHaveNumbers) (queries : QueriesAreOfRuns) (states :
       ∙ ap (λ (pairs : List Pair). answer_text pairs (count_in (records inputs) (process_groups (records inputs) pid)) (process_groups (records inputs) pid))
       (of-run.pairs (part-lives (records inputs) moment pid p is)))
 
+  of-bytes : (linkage : Linkage) (n : Named) (o : Option (List TaggedByte)) → named_bytes (records inputs) n ≡ o → bytes_answer (operands linkage) (records inputs) n.moment o ≡ run_bytes_text (operands linkage) inputs n o
+  of-bytes linkage n None is = refl
+  of-bytes linkage n (Some bytes) is =
+      let of-run = names (operands linkage) inputs n (numbers inputs short) in
+      ap (λ (o : Option Disagrees). unless_damaged o (written_text (operands linkage) (records inputs) n.moment bytes)) (of-run.agree bytes)
+      ∙ ap (λ (pairs : List Pair). answer_text pairs (count_in (records inputs) (written_groups (records inputs) bytes)) (written_groups (records inputs) bytes)) (of-run.pairs bytes is)
+
+  of-named : (linkage : Linkage) (n : Named) → (named_telling (operands linkage) (records inputs) n).text ≡ run_named_text (operands linkage) inputs n
+  of-named linkage n =
+      of-bytes linkage n (named_bytes (records inputs) n) refl ∙ ap (run_bytes_text (operands linkage) inputs n) (names (operands linkage) inputs n (numbers inputs short)).bytes
+
   of-back : (linkage : Linkage) (s : Sought) → (back_telling (records inputs) linkage s).text ≡ run_back_text inputs linkage s
   of-back linkage (sought.Event event from len) = of-event linkage event from len
   of-back linkage (sought.Memory moment pid at len) = of-part linkage moment pid (part.Memory at len)
   of-back linkage (sought.Register moment pid register) = of-part linkage moment pid (part.Register register)
-  of-back linkage (sought.Name moment name from len) = refl
+  of-back linkage (sought.Name moment name from len) = of-named linkage (in_file moment name from len)
 
   of-forth : (linkage : Linkage) (event from len : ℕ) → (forth_telling (operands linkage) (records inputs) event from len).text ≡ run_forth_text (operands linkage) inputs event from len
   of-forth linkage event from len =
@@ -128,7 +146,9 @@ module _ (numbers : ShortRunsHaveNumbers) (queries : QueriesAreOfRuns) (states :
   of-show moment (aspect.Memory pid at len) =
       if-same (is_memory_range (records inputs) moment pid at len) _ _ (refusal_text NoPoint) (λ is.
       shown (mem_of at len) moment pid (range-member (records inputs) moment pid at len is))
-  of-show moment (aspect.File name) = refl
+  of-show moment (aspect.File name) =
+      if-same (is_moment (records inputs) moment) _ _ (refusal_text NoPoint) (λ is.
+      ap (λ (held : Option (List TaggedByte)). file_of held) (versions inputs moment name (numbers inputs short)).version)
   of-show moment aspect.Processes =
       if-same (is_moment (records inputs) moment) _ _ (refusal_text NoPoint) (λ is.
       ap (processes_text (records inputs)) (filter-same (lives_at (records inputs) moment) (lives (state_at inputs moment).kernel) (processes_in (records inputs)) (λ pid. (seen-by moment pid).lives)))
@@ -139,7 +159,7 @@ module _ (numbers : ShortRunsHaveNumbers) (queries : QueriesAreOfRuns) (states :
   of-runs (question.Forth linkage event from len) = of-forth linkage event from len
   of-runs question.Groups = refl
   of-runs question.Events = refl
-  of-runs question.Verify = refl
+  of-runs question.Verify = (verified (records inputs)).1 (own inputs)
 
   pub sunk : (linkage : Linkage) (event from len : ℕ) (pair : Pair)
       → Contains (forth_pairs (operands linkage) (records inputs) event from len) pair ↔ IsSinkPair (records inputs) (whole_points (operands linkage) inputs) event from len pair

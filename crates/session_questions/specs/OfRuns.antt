@@ -1,6 +1,7 @@
 -- What is printed for a question on the records of a run.
-use Rattle.std.specs.Prelude.{◌≡◌, ◌↔◌, ℕ, ◌+◌, ◌≤◌, if◌then◌else◌, List, Contains, filter, length, None}
+use Rattle.std.specs.Prelude.{◌≡◌, ◌↔◌, ℕ, ◌+◌, ◌≤◌, if◌then◌else◌, List, Contains, filter, length, Option, Some, None}
 use Rattle.arn_base.specs.declared.records.Pair.{Pair}
+use Rattle.arn_base.specs.declared.records.Record.{Record}
 use Rattle.rv64_model.specs.Carries.{Table, operands}
 use Rattle.rv64_model.specs.declared.linkage.Linkage.{Linkage}
 use Rattle.acts_model.specs.Bodies.{seen}
@@ -18,22 +19,28 @@ use Rattle.history_index.specs.Lookups.{processes_in}
 use Rattle.history_model.specs.Events.{event_at, is_range}
 use Rattle.lineage_model.specs.Flow.{Byte}
 use Rattle.lineage_model.specs.Pairs.{pairs_from}
-use Rattle.log_model.specs.Records.{records}
+use Rattle.log_model.specs.Records.{IsRun, records}
 use Rattle.log_store.specs.Log.{spellings}
 use Rattle.log_store.specs.declared.size.TheConstants.{MOST_LOG}
+use Rattle.parts_model.specs.declared.tagged.TaggedByte.{TaggedByte}
 use Rattle.past_lives.specs.Members.{is_member, is_memory_range, is_moment}
-use Rattle.query_engine.specs.Asked.{in_memory, in_register}
+use Rattle.query_engine.specs.Asked.{in_file, in_memory, in_register}
 use Rattle.query_engine.specs.States.{is_held}
 use Rattle.query_laws.specs.ForthOfRuns.{IsSinkPair}
+use Rattle.query_laws.specs.Names.{run_bytes, whole_file}
 use Rattle.query_laws.specs.OfRuns.{whole_points}
 use Rattle.query_laws.specs.States.{whole_set}
 use Rattle.query_model.specs.Answers.{count_in, event_disagreement, event_groups}
+use Rattle.query_model.specs.Names.{Named, written_groups}
 use Rattle.query_model.specs.Sinks.{forth_pairs}
 use Rattle.query_model.specs.States.{part_len, process_groups}
 use Rattle.query_model.specs.declared.held.Held.{Held}
-use Rattle.session_questions.specs.Texts.{answer_text, question_text, sinks_text, telling, unbuilt}
+use Rattle.report_texts.specs.Totals.{verify_line}
+use Rattle.session_questions.specs.Texts.{answer_text, question_text, sinks_text, telling}
+use Rattle.session_reports.specs.Files.{file_of}
 use Rattle.session_reports.specs.Processes.{processes_text}
 use Rattle.session_reports.specs.States.{mem_of, regs_of}
+use Rattle.version_laws.specs.OfRuns.{version_in}
 
 -- the pairs of bytes of an event, by the tracking of every step of the whole machine
 abbrev pub run_pairs : Table → List Input → ℕ → ℕ → ℕ → List Pair
@@ -53,12 +60,21 @@ run_held_text table inputs held =
     then answer_text (pairs_from (whole_set table inputs held) 0 (part_len held.part)) (count_in (records inputs) (process_groups (records inputs) held.pid)) (process_groups (records inputs) held.pid)
     else refusal_text NoPoint
 
+-- and of bytes that the machine's file has
+abbrev pub run_bytes_text : Table → List Input → Named → Option (List TaggedByte) → List ℕ
+run_bytes_text table inputs n None = refusal_text NoPoint
+run_bytes_text table inputs n (Some bytes) =
+    answer_text (pairs_from (whole_file table inputs n) 0 n.len) (count_in (records inputs) (written_groups (records inputs) bytes)) (written_groups (records inputs) bytes)
+
+abbrev pub run_named_text : Table → List Input → Named → List ℕ
+run_named_text table inputs n = run_bytes_text table inputs n (run_bytes inputs n)
+
 -- where bytes come from
 abbrev pub run_back_text : List Input → Linkage → Sought → List ℕ
 run_back_text inputs linkage (sought.Event event from len) = run_sources_text (operands linkage) inputs event from len
 run_back_text inputs linkage (sought.Memory moment pid at len) = run_held_text (operands linkage) inputs (in_memory moment pid at len)
 run_back_text inputs linkage (sought.Register moment pid register) = run_held_text (operands linkage) inputs (in_register moment pid register)
-run_back_text inputs linkage (sought.Name moment name from len) = unbuilt.text
+run_back_text inputs linkage (sought.Name moment name from len) = run_named_text (operands linkage) inputs (in_file moment name from len)
 
 -- which bytes that went out they reach
 abbrev pub run_forth_text : Table → List Input → ℕ → ℕ → ℕ → List ℕ
@@ -75,18 +91,19 @@ run_show_text inputs moment (aspect.Registers pid) =
     if is_member (records inputs) moment pid then regs_of (seen (state_at inputs moment).bodies pid) else refusal_text NoPoint
 run_show_text inputs moment (aspect.Memory pid at len) =
     if is_memory_range (records inputs) moment pid at len then mem_of at len (seen (state_at inputs moment).bodies pid) else refusal_text NoPoint
-run_show_text inputs moment (aspect.File name) = unbuilt.text
+run_show_text inputs moment (aspect.File name) =
+    if is_moment (records inputs) moment then file_of (version_in (state_at inputs moment).kernel.files name) else refusal_text NoPoint
 run_show_text inputs moment aspect.Processes =
     if is_moment (records inputs) moment then processes_text (records inputs) (living inputs moment) else refusal_text NoPoint
 
--- each question; the records themselves tell groups and events
+-- each question; the records themselves tell groups and events, and they are a run's
 abbrev pub run_text : List Input → Question → List ℕ
 run_text inputs (question.Show moment shown) = run_show_text inputs moment shown
 run_text inputs (question.Back linkage bytes) = run_back_text inputs linkage bytes
 run_text inputs (question.Forth linkage event from len) = run_forth_text (operands linkage) inputs event from len
 run_text inputs question.Groups = (telling (records inputs) question.Groups).text
 run_text inputs question.Events = (telling (records inputs) question.Events).text
-run_text inputs question.Verify = unbuilt.text
+run_text inputs question.Verify = verify_line None
 
 -- so it is for every question on the records of a run that are those of a log
 abbrev pub AnswersAreOfRuns : Type 0
@@ -103,3 +120,7 @@ abbrev pub SinksAreOfRuns : Type 0
 SinksAreOfRuns =
     (linkage : Linkage) (inputs : List Input) (event from len : ℕ) → length (spellings (records inputs)) ≤ MOST_LOG → (pair : Pair)
     → Contains (forth_pairs (operands linkage) (records inputs) event from len) pair ↔ IsSinkPair (records inputs) (whole_points (operands linkage) inputs) event from len pair
+
+-- That they are a run's is said of a run's records, and of no others.
+abbrev pub VerifyTellsRuns : Type 0
+VerifyTellsRuns = (entries : List Record) → (question_text entries question.Verify ≡ verify_line None) ↔ IsRun entries

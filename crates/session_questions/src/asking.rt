@@ -8,7 +8,7 @@ ghost use Rattle.session_questions.specs.Texts as texts;
 
 use crate::short::{short_logs_are_countable, short_runs_stand};
 use arn_base::{NoMemory, Record, Steps};
-use arn_lines::{Question, Refusal, push_refusal};
+use arn_lines::Question;
 use history_index::{Index, IndexError};
 use query_engine::Engine;
 use session_lines::Questions;
@@ -16,6 +16,7 @@ use session_reports::{report_events, report_groups};
 use std::alloc::Global;
 use std::marker::Model;
 use std::sync::ledger::Ledger;
+use verify_reports::report_verify;
 
 /// Answers questions about a history from its records, and from an index of them.
 #[derive(Debug, Drop)]
@@ -82,7 +83,7 @@ impl Questions for Asking {
             } => self.sinks(entries, *linkage, *event, *from, *len, text, steps),
             Question::Groups => report_groups(text, &self.index),
             Question::Events => report_events(text, entries, &self.index),
-            Question::Verify => push_refusal(text, Refusal::NoLine),
+            Question::Verify => report_verify(text, entries, steps),
         }
     }
 }

@@ -5,8 +5,8 @@ ghost use Rattle.session_questions.specs.Texts.{show_telling};
 
 use crate::Asking;
 use arn_base::{NoMemory, Record, Steps};
-use arn_lines::{Aspect, Refusal, push_refusal};
-use session_reports::{report_mem, report_procs, report_regs};
+use arn_lines::Aspect;
+use session_reports::{report_file, report_mem, report_procs, report_regs};
 use std::sync::ledger::Ledger;
 
 impl Asking {
@@ -32,7 +32,9 @@ impl Asking {
             Aspect::Memory { pid, at, len } => {
                 report_mem(text, entries, &self.index, moment, *pid, *at, *len, steps)
             }
-            Aspect::File { .. } => push_refusal(text, Refusal::NoLine),
+            Aspect::File { name } => {
+                report_file(text, entries, &self.index, moment, name.as_slice())
+            }
             Aspect::Processes => report_procs(text, entries, &self.index, moment),
         }
     }

@@ -3,13 +3,13 @@ ghost use Rattle.std.specs.Prelude.{◌≡◌, ◌+◌, ◌≤◌, ◌++◌, fal
 ghost use Rattle.arn_lines.specs.Texts.{pair_text};
 ghost use Rattle.history_index.specs.Indexes.{AreCountable, Indexes};
 ghost use Rattle.history_model.specs.Events.{event_at, is_range};
-ghost use Rattle.query_engine.specs.Asked.{in_memory, in_register};
+ghost use Rattle.query_engine.specs.Asked.{in_file, in_memory, in_register};
 ghost use Rattle.query_engine.specs.declared.engine.Target.TheVariants as target;
 ghost use Rattle.rv64_model.specs.Carries.{operands};
-ghost use Rattle.session_questions.specs.Texts.{answer_text, back_telling, event_telling, held_telling};
+ghost use Rattle.session_questions.specs.Texts.{answer_text, back_telling, event_telling, held_telling, named_telling};
 
 use crate::Asking;
-use arn_base::{NoMemory, Pair, Record, Steps};
+use arn_base::{Bytes, NoMemory, Pair, Record, Steps};
 use arn_lines::{Refusal, Sought, push_back, push_damaged, push_pair, push_refusal};
 use query_engine::{Answer, QueryError, Target};
 use rv64_model::Linkage;
@@ -182,6 +182,50 @@ impl Asking {
         }
     }
 
+    // Appends the answer to where bytes come from that a file had at a moment.
+    #[tactic(auto, using(crate::proofs::Far::many_bytes))]
+    fn name_sources<L: Ledger>(
+        &mut self,
+        entries: &[Record],
+        linkage: Linkage,
+        moment: u64,
+        name: &[u8],
+        from: u64,
+        len: u64,
+        text: &mut String,
+        steps: &mut Steps<L>,
+    ) -> Result<(), NoMemory>
+        requires countable { AreCountable entries.now }
+        requires known { Indexes self.old entries.now }
+        ensures kept { self.new ≡ self.old }
+        ensures text { OnOk result (string_bytes text.new ≡ string_bytes text.old
+            ++ (named_telling (operands linkage) entries.now (in_file moment name.now from len)).text) }
+        ensures steps { steps.new ≤ steps.old
+            + (named_telling (operands linkage) entries.now (in_file moment name.now from len)).cost }
+    {
+        let Ok(len) = u32::try_from(len) else {
+            return push_refusal(text, Refusal::NoPoint);
+        };
+        let name = Bytes::from_slice(*text.allocator(), name)?;
+        let target = Target::Name {
+            moment,
+            name,
+            from,
+            len,
+        };
+        match self
+            .engine
+            .back(entries, &self.index, linkage, &target, steps)
+        {
+            Ok(answer) => push_answer(text, &answer),
+            Err(QueryError::NoPoint) => push_refusal(text, Refusal::NoPoint),
+            Err(QueryError::Disagrees(found)) => {
+                push_damaged(text, found.event, found.said, found.found)
+            }
+            Err(QueryError::NoMemory) => Err(NoMemory),
+        }
+    }
+
     // Appends the answer to where bytes come from.
     pub(crate) fn sources<L: Ledger>(
         &mut self,
@@ -214,7 +258,21 @@ impl Asking {
                 pid,
                 register,
             } => self.register_sources(entries, linkage, *moment, *pid, *register, text, steps),
-            Sought::Name { .. } => push_refusal(text, Refusal::NoLine),
+            Sought::Name {
+                moment,
+                name,
+                from,
+                len,
+            } => self.name_sources(
+                entries,
+                linkage,
+                *moment,
+                name.as_slice(),
+                *from,
+                *len,
+                text,
+                steps,
+            ),
         }
     }
 }

@@ -4,6 +4,7 @@
 
 mod events;
 mod far;
+mod files;
 mod groups;
 mod processes;
 mod states;
@@ -12,6 +13,7 @@ mod tests;
 
 pub use events::report_events;
 pub use far::far_is_nowhere;
+pub use files::report_file;
 pub use groups::report_groups;
 pub use processes::report_procs;
 pub use states::{report_mem, report_regs};
