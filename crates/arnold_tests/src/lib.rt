@@ -2,6 +2,10 @@
 #![tactic(auto)]
 
 #[cfg(test)]
+mod calls;
+#[cfg(test)]
+mod handing;
+#[cfg(test)]
 mod programs;
 mod sessions;
 #[cfg(test)]

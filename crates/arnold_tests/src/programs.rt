@@ -138,7 +138,16 @@ const THROUGH_FILE: &str = "\
     run 1000\n\
     back copy event 14 0 2\n\
     forth copy 3 0 1\n\
-    forth copy 0 0 1\n";
+    forth copy 0 0 1\n\
+    show 53 file f\n\
+    show 0 file f\n\
+    show 54 file f\n\
+    show 53 file g\n\
+    back copy name 53 f 0 2\n\
+    back copy name 0 f 0 2\n\
+    back copy name 53 f 1 2\n\
+    back copy name 53 f 2 0\n\
+    verify\n";
 
 /// Reads a byte and makes a child, which writes the byte without having touched it.
 pub const BY_CHILD: &str = "\
@@ -357,7 +366,12 @@ pub const BLOCKS: &[(&str, &str)] = &[
         "event 0\nevent 1\nevent 2\nevent 3\nout 14 1 415a\nran 53 done\n\
         pair 0 0 0\npair 3 0 1\nback pairs 2 instructions 53 groups 1 2\n\
         pair 9 0 0\npair 14 1 0\nforth pairs 2 instructions 53 groups 1 2\n\
-        pair 14 0 0\nforth pairs 1 instructions 53 groups 1 2\n",
+        pair 14 0 0\nforth pairs 1 instructions 53 groups 1 2\n\
+        file 5a42\nfile 4142\nno point\nno point\n\
+        pair 3 0 0\npair 0 1 1\nback pairs 2 instructions 53 groups 1 2\n\
+        pair 0 0 0\npair 0 1 1\nback pairs 2 instructions 0 groups -\n\
+        no point\nback pairs 0 instructions 0 groups -\n\
+        verify run\n",
     ),
     (
         BY_CHILD,

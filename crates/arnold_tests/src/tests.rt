@@ -1,4 +1,5 @@
 use super::*;
+use crate::calls::CALLS;
 use crate::programs::{BLOCKS, BY_CHILD, EXCHANGED, ILLEGAL, IN_TURN, OTHER_CALL, OVERWRITTEN};
 use arn_base::{Bytes, Differs, Disk, NoMemory, Numbers};
 use arn_session::{Damage, Status};
@@ -194,6 +195,14 @@ fn prints_the_answer_to_each_line(rt: HostRuntime) -> Result<(), Fail> {
 fn prints_the_answer_to_each_block(rt: HostRuntime) -> Result<(), Fail> {
     for (text, want) in BLOCKS {
         assert_prints(&rt, text, want)?;
+    }
+    Ok(())
+}
+
+#[test]
+fn prints_what_calls_come_to(rt: HostRuntime) -> Result<(), Fail> {
+    for (text, want) in CALLS {
+        assert_prints_under(&rt, Schedule::Round, text, want)?;
     }
     Ok(())
 }
@@ -533,15 +542,30 @@ fn refuses_records_that_no_run_has(rt: HostRuntime) -> Result<(), Fail> {
             "no line\n",
         ),
         (
-            "boot p\nfile p 00\n",
+            "boot p\nfile p 00\nverify\n",
             Status::Done,
-            "no booted\nno booted\n",
+            "no booted\nno booted\nverify differs 6 26 98 97\n",
         ),
     ] {
         assert_ends(&rt, &mut disk, text, status, printed)?;
         assert_eq!(rt; disk.bytes(), bytes.as_slice());
     }
     Ok(())
+}
+
+/// A log of two files of one name.
+const TWICE: &[u8] = b"ARNLOG01\x01\x10\0\0\0\x01\x01p\x01\0\0\0\0\x01\x01p\x01\0\0\0\0\0";
+
+#[test]
+fn tells_the_record_that_no_input_makes(rt: HostRuntime) -> Result<(), Fail> {
+    let mut disk = disk_of(rt.alloc(), TWICE)?;
+    assert_ends(
+        &rt,
+        &mut disk,
+        "verify\n",
+        Status::Done,
+        "verify differs 1 0 1 -\n",
+    )
 }
 
 /// How many records a log of these bytes has.
