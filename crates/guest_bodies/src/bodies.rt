@@ -2,6 +2,7 @@
 ghost use Rattle.std.specs.Prelude.{◌≡◌, ◌≢◌, ◌≤◌, ◌<◌, ◌+◌, ◌^◌, ◌↔◌, ℕ, [], length, true, false, Some, None, IfSome, IsNone, IsTrue, All, IfOk, OnOk, OnErr, is_some, option_map, option_copied};
 ghost use Rattle.acts_model.specs.Acts.{Act, Receives, Starts, Forks, Founds, Shares, Leaves, Delivers, begun, beginning_in, beginning_of, done, start_of, unborn};
 ghost use Rattle.acts_model.specs.Bodies.{put};
+ghost use Rattle.parts_model.specs.Blocks.{blocks_of};
 ghost use Rattle.parts_model.specs.Image.{is_image};
 ghost use Rattle.parts_model.specs.Numbered.{nth};
 ghost use Rattle.parts_model.specs.Signals.{can_set, due_signal, handler_of, is_signal, with_handler, with_pending, without};
@@ -16,7 +17,7 @@ use crate::held;
 use crate::starting::First;
 use crate::table::{fork, make_room};
 use crate::windows::window_of;
-use arn_base::{Cpu, NoMemory, Start, Steps};
+use arn_base::{Blocks, Cpu, NoMemory, Start, Steps};
 use guest_mem::Segment;
 use parts_model::limits::MOST_BLOCK_BYTES;
 use rv64_core::{Outcome, Prospect};
@@ -382,6 +383,41 @@ impl Bodies {
     {
         match &self.guests[pid as usize] {
             Some(guest) => guest.segment.is_some(),
+            None => unreachable!(),
+        }
+    }
+
+    /// The event that made a process's private window.
+    pub fn window(&self, pid: u32) -> u64
+        requires live { IsLive self.now pid }
+        ensures { IfSome (seen_in self.now pid) (λ v. result ≡ v.body.window) }
+    {
+        match &self.guests[pid as usize] {
+            Some(guest) => guest.made,
+            None => unreachable!(),
+        }
+    }
+
+    /// The event that made the segment that a process holds, if it holds one.
+    pub fn segment(&self, pid: u32) -> Option<u64>
+        requires live { IsLive self.now pid }
+        ensures { IfSome (seen_in self.now pid) (λ v. result ≡ v.body.segment) }
+    {
+        match &self.guests[pid as usize] {
+            Some(guest) => guest.shared(),
+            None => unreachable!(),
+        }
+    }
+
+    /// The blocks that aren't all zero of the segment that a process holds, in order of number; none
+    /// where it holds no segment.
+    pub fn segment_blocks(&self, pid: u32) -> Result<Blocks, NoMemory>
+        requires live { IsLive self.now pid }
+        ensures { IfOk result (λ blocks. IfSome (seen_in self.now pid) (λ v.
+            blocks ≡ blocks_of v.segment)) }
+    {
+        match &self.guests[pid as usize] {
+            Some(guest) => held::segment_blocks(self.alloc, guest, &self.segments),
             None => unreachable!(),
         }
     }

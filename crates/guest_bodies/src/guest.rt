@@ -1,5 +1,5 @@
 // One live process.
-ghost use Rattle.std.specs.Prelude.{◌≡◌, ◌<◌, ◌^◌, length, Some, None, IfOk, is_some, unwrap_or};
+ghost use Rattle.std.specs.Prelude.{◌≡◌, ◌<◌, ◌^◌, length, Some, None, IfOk, is_some, option_map, unwrap_or};
 ghost use Rattle.acts_model.specs.Acts.{cut_off};
 ghost use Rattle.acts_model.specs.Views.{returned};
 ghost use Rattle.parts_model.specs.Blocks.{blocks_of};
@@ -114,6 +114,13 @@ impl Guest {
         };
         self.made = event;
         self.segment = None;
+    }
+
+    /// The event that made the segment that is held.
+    pub fn shared(&self) -> Option<u64>
+        ensures { result ≡ option_map (λ shared. shared.made) self.now.segment }
+    {
+        Some(self.segment?.made)
     }
 
     /// How the child of a fork begins.

@@ -1,16 +1,18 @@
 // Access of a process to its memories: the private window, and the segment in the table.
-ghost use Rattle.std.specs.Prelude.{◌≡◌, ◌≢◌, ◌≤◌, ◌+◌, None, length, option_copied};
+ghost use Rattle.std.specs.Prelude.{◌≡◌, ◌≢◌, ◌≤◌, ◌+◌, IfOk, None, length, option_copied};
 ghost use Rattle.acts_model.specs.Views.{bytes_in, reach, read, stands_at, written};
 ghost use Rattle.guest_bodies.specs.Kept.{IfHeld, IfKey, held_bytes, lent, view_of, with_held, with_key};
+ghost use Rattle.parts_model.specs.Blocks.{blocks_of};
 ghost use Rattle.rv64_core.specs.Outcome.{Tells, OnStop};
 ghost use Rattle.rv64_core.specs.Prospect.{Foretells, TakesEffect};
 ghost use Rattle.rv64_model.specs.Instruction.{Next};
 
 use crate::guest::Guest;
-use arn_base::Steps;
+use arn_base::{Blocks, NoMemory, Steps};
 use guest_mem::Segment;
 use rv64_core::{Outcome, Prospect};
 use rv64_isa::Instr;
+use std::alloc::Global;
 use std::sync::ledger::Ledger;
 
 /// Brings the segment that a process holds out of the table to it.
@@ -150,5 +152,29 @@ pub fn block<'a>(
     match bytes(guest, segments, at, len) {
         Some(bytes) => bytes,
         None => &[],
+    }
+}
+
+// The segment that a process holds.
+fn held_segment<'a>(guest: &'a Guest, segments: &'a Vec<Option<Segment>>) -> Option<&'a Segment>
+    requires { IfHeld guest.now.segment segments.now.items }
+    ensures { option_copied result ≡ lent segments.now.items guest.now.segment }
+{
+    segments[guest.segment?.key].as_ref()
+}
+
+/// The blocks that aren't all zero of the segment that a process holds, none where it holds none.
+pub fn segment_blocks(
+    alloc: Global,
+    guest: &Guest,
+    segments: &Vec<Option<Segment>>,
+) -> Result<Blocks, NoMemory>
+    requires { IfHeld guest.now.segment segments.now.items }
+    ensures { IfOk result (λ blocks.
+        blocks ≡ blocks_of (held_bytes segments.now.items guest.now.segment)) }
+{
+    match held_segment(guest, segments) {
+        Some(segment) => segment.blocks(),
+        None => Ok(Blocks::new(alloc)),
     }
 }

@@ -3,6 +3,7 @@ ghost use Rattle.std.specs.Prelude.{◌≡◌, ◌+◌, ◌≤◌, IfErr, IfOk, 
 ghost use Rattle.parts_model.specs.Numbered.{nth};
 ghost use Rattle.acts_model.specs.Views.{bytes_in};
 ghost use Rattle.guest_bodies.specs.Shown.{seen_in};
+ghost use Rattle.guest_states.specs.State.{state_of};
 ghost use Rattle.history_index.specs.Indexes.{AreCountable, Indexes};
 ghost use Rattle.history_model.specs.Alone as alone;
 ghost use Rattle.replay_steps.specs.Notices.{Listener};
@@ -14,8 +15,9 @@ ghost use Rattle.replayer.specs.Replays.{Replays};
 use crate::ReplayError;
 use crate::walk::replay_slices;
 use acts_model::Observer;
-use arn_base::{BadAddress, Cpu, NoMemory, Record, Steps};
+use arn_base::{BadAddress, Cpu, NoMemory, Record, State, Steps};
 use guest_bodies::Bodies;
+use guest_states::state_of;
 use history_index::Index;
 use std::alloc::Global;
 use std::marker::Model;
@@ -58,6 +60,13 @@ impl GroupState {
             return None;
         }
         Some(self.bodies.cpu(pid))
+    }
+
+    /// The whole state of the members that live, in order of number.
+    pub fn state(&self) -> Result<State, NoMemory>
+        ensures { IfOk result (λ state. state ≡ state_of (seen_in self.now) (live_in self.now)) }
+    {
+        state_of(*self.live.allocator(), &self.bodies, self.live.as_slice())
     }
 
     // The bytes at an address of a member, where they lie whole in one window.

@@ -1,1 +1,2 @@
 pub mod OfRuns
+pub mod States

@@ -1,6 +1,9 @@
-//! What a view of a process answers on the records of a run: a function that does nothing.
+//! What a view of a process and the state of a group are on the records of a run: functions that do
+//! nothing.
 #![tactic(auto)]
 
 mod law;
+mod states;
 
 pub use law::views_are_of_runs;
+pub use states::group_states_are_of_runs;

@@ -1,0 +1,3 @@
+pub mod Members
+pub mod Numbers
+pub mod Told
