@@ -5,9 +5,8 @@ use Rattle.acts_model.specs.Acts.{Act, Returns}
 use Rattle.acts_model.specs.Bodies.{Bodies, View}
 use Rattle.acts_model.specs.Views.{argument}
 use Rattle.arn_model.specs.Doing.{Request, Does, returning}
-use Rattle.arn_model.specs.FileCalls.{close_opened, close_row, dup_opened, dup_row, seek_opened, seek_row}
+use Rattle.arn_model.specs.FileCalls.{close_opened, close_row}
 use Rattle.arn_model.specs.Kernel.{Kernel, Machine, description_of}
-use Rattle.arn_model.specs.TransferCalls.{read_opened, read_row, write_opened, write_row}
 use Rattle.guest_bodies.specs.Shown.{seen_in}
 use Rattle.guest_calls.specs.Acted.{Acted, Carried}
 use Rattle.guest_calls.specs.State.{State, OfProcess}
@@ -52,18 +51,6 @@ module _ (m : Machine) (pid : ℕ) (v : View) (fd : ℕ) (found : Option ℕ) (f
 
   pub close-row : close_opened m pid fd found ≡ close_row m pid v
   close-row = ap₂ (close_opened m pid) first described
-
-  pub dup-row : dup_opened m pid found ≡ dup_row m pid v
-  dup-row = ap (dup_opened m pid) described
-
-  pub seek-row : (position : ℕ) → position ≡ argument v.body.cpu 1 → seek_opened m position found ≡ seek_row m pid v
-  seek-row position second = ap₂ (seek_opened m) second described
-
-  pub read-row : read_opened m v (argument v.body.cpu 1) (argument v.body.cpu 2) found ≡ read_row m pid v
-  read-row = ap (read_opened m v (argument v.body.cpu 1) (argument v.body.cpu 2)) described
-
-  pub write-row : write_opened m v (argument v.body.cpu 1) (argument v.body.cpu 2) found ≡ write_row m pid v
-  write-row = ap (write_opened m v (argument v.body.cpu 1) (argument v.body.cpu 2)) described
 
 -- an argument that is known of the process
 pub argument-is : (s : State) (pid place a : ℕ) (v : View) → seen_in s.guests pid ≡ Some v → IfSome (seen_in s.guests pid) (λ w. a ≡ argument w.body.cpu place) → a ≡ argument v.body.cpu place

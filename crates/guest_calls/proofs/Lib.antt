@@ -13,7 +13,7 @@ pub mod Opening
 pub mod Pieces
 pub mod Stands
 pub mod Watches
-pub mod Built
+pub mod Called
 pub mod Children
 pub mod Past
 pub mod Restarts

@@ -1,11 +1,12 @@
--- Reads from pipes and writes to them.
-use Rattle.std.proofs.Common.{◌≡◌, ◌≢◌, ℕ, zero, suc, ◌+◌, ◌<◌, ◌==◌, min, Bool, true, false, cond, ◌||◌, List, [], ◌∷◌, length, take, set, Option, Some, None, IfSome, refl, sym, ap, ◌∙◌, arith, subst, true≢false, ne_eqb}
+-- Reads from pipes and writes to them, carried out.
+use Rattle.std.proofs.Common.{◌≡◌, ◌≢◌, ℕ, zero, suc, ◌+◌, ◌<◌, ◌≤◌, ◌==◌, min, Bool, true, false, cond, ◌||◌, List, [], ◌∷◌, length, take, set, Option, Some, None, refl, sym, ap, ◌∙◌, arith, subst, true≢false, ne_eqb}
 use Rattle.std.specs.Prelude.{IsTrue, not, nat_lt, option_map, slice_set}
-use Rattle.std.proofs.lemmas.Bool.{lt-ltb, ltb-true, ltb-false}
+use Rattle.std.proofs.lemmas.Bool.{ltb-true}
 use Rattle.std.proofs.lemmas.List.{length-map, length-take}
 use Rattle.std.proofs.lemmas.Option.{same_Some}
 use Rattle.arn_base.specs.declared.records.Extra.TheVariants as extra
 use Rattle.arn_base.specs.declared.records.Give.{Give}
+use Rattle.parts_model.specs.declared.limits.TheConstants.{MOST_PIPE_BYTES}
 use Rattle.parts_model.specs.declared.refusals.TheConstants.{BROKEN_PIPE}
 use Rattle.parts_model.specs.declared.tagged.TaggedByte.{TaggedByte}
 use Rattle.parts_model.specs.Channel.{front, put_behind, without_front}
@@ -13,62 +14,30 @@ use Rattle.parts_model.specs.Numbered.{nth}
 use Rattle.parts_model.specs.Pipes.{Pipe, Pipes, can_put, can_take, room, with_change, with_put, with_taken}
 use Rattle.parts_model.specs.Tagged.{values, given}
 use Rattle.acts_model.specs.Acts.{Act, Gives, Receives, done}
-use Rattle.acts_model.specs.Bodies.{View}
 use Rattle.acts_model.specs.Moved.{PipeByte}
-use Rattle.acts_model.specs.Views.{read}
 use Rattle.arn_model.specs.Doing.{Doing, Request, Waits, Does, refused, returns}
 use Rattle.arn_model.specs.Kernel.{Handling, Kernel, Machine}
-use Rattle.arn_model.specs.Row.{is_waiting}
 use Rattle.arn_model.specs.TransferCalls.{put_into_pipe, read_empty, read_pipe, read_queue, receiving, write_pipe}
 use Rattle.guest_bodies.specs.Follows.{Follows, IsResult, KeepsWatches}
-use Rattle.guest_bodies.specs.Shown.{Guests, seen_in}
+use Rattle.guest_bodies.specs.Shown.{Guests}
 use Rattle.guest_channels.specs.Channels.{Channels, with_channels}
 use Rattle.guest_pipes.specs.Answers.{holds}
 use Rattle.guest_calls.specs.Acted.{Acted, Carried}
 use Rattle.guest_calls.specs.Kept.{state_of}
 use Rattle.guest_calls.specs.State.{State, OfProcess}
-use Rattle.guest_calls.specs.Transfers.{CanDrain, CanPour, draining, pouring}
+use Rattle.guest_args.specs.Transfers.{CanDrain, CanPour, draining, pouring}
 use Rattle.guest_calls.specs.declared.kernel.Kernel.TheInside.{Inside}
 use Rattle.guest_calls.proofs.Carries.{acted-after}
-use Rattle.guest_calls.proofs.Stands.{machine_with, of_process, acted-stands, at-seen}
+use Rattle.guest_calls.proofs.Stands.{machine_with, of_process, acted-stands}
 use Rattle.guest_calls.proofs.Watches.{handlings-same}
 
--- a pipe that is empty, and one that isn't
+-- a pipe that is empty
 empty-ready : (m : Machine) (written : Bool) → not written ≡ true → read_empty m written ≡ returns 0 m.kernel
 empty-ready m true ready = absurd (true≢false (sym ready))
 empty-ready m false ready = refl
 
-empty-waits : (m : Machine) (written : Bool) → not written ≡ false → read_empty m written ≡ Waits
-empty-waits m true waits = refl
-empty-waits m false waits = absurd (true≢false waits)
-
 module _ (m : Machine) (at most pipe : ℕ) (some : 0 < most) where
-  queue-ready : (n : ℕ) (p : Pipe) (queue : List TaggedByte) → 0 < n → (nat_lt 0 (length queue) || not p.has_writer) ≡ true → is_waiting (read_queue m pipe at p (take n queue)) ≡ false
-  queue-ready zero p queue some ready = absurd (omega arith)
-  queue-ready (suc n) p [] some ready = ap is_waiting (empty-ready m p.has_writer ready)
-  queue-ready (suc n) p (b ∷ queue) some ready = refl
-
-  queue-waits : (n : ℕ) (p : Pipe) (queue : List TaggedByte) → 0 < n → (nat_lt 0 (length queue) || not p.has_writer) ≡ false → read_queue m pipe at p (take n queue) ≡ Waits
-  queue-waits zero p queue some waits = absurd (omega arith)
-  queue-waits (suc n) p [] some waits = empty-waits m p.has_writer waits
-  queue-waits (suc n) p (b ∷ queue) some waits = absurd (true≢false (sym (ap (λ (t : Bool). t || not p.has_writer) (lt-ltb 0 (length (b ∷ queue)) (omega arith))) ∙ waits))
-
-  ready-by : (o : Option Pipe) → option_map can_take o ≡ Some true → is_waiting (read_pipe m pipe at most o) ≡ false
-  ready-by None ready = cc
-  ready-by (Some p) ready = queue-ready most p p.channel.queue some (same_Some (can_take p) true ready)
-
-  waits-by : (o : Option Pipe) → option_map can_take o ≡ Some false → read_pipe m pipe at most o ≡ Waits
-  waits-by None waits = cc
-  waits-by (Some p) waits = queue-waits most p p.channel.queue some (same_Some (can_take p) false waits)
-
-  -- a read that is ready, and one that isn't
-  pub draining-ready : CanDrain m.kernel pipe → is_waiting (draining m at most pipe) ≡ false
-  draining-ready ready = ready-by (nth m.kernel.pipes pipe) ready
-
-  pub draining-waits : option_map can_take (nth m.kernel.pipes pipe) ≡ Some false → draining m at most pipe ≡ Waits
-  draining-waits waits = waits-by (nth m.kernel.pipes pipe) waits
-
-  -- one that finds nothing
+  -- a read that finds nothing
   queue-none : (n : ℕ) (p : Pipe) (queue : List TaggedByte) → 0 < n → (nat_lt 0 (length queue) || not p.has_writer) ≡ true → length (take n queue) ≡ 0 → read_queue m pipe at p (take n queue) ≡ returns 0 m.kernel
   queue-none zero p queue some ready none = absurd (omega arith)
   queue-none (suc n) p [] some ready none = empty-ready m p.has_writer ready
@@ -163,56 +132,13 @@ module _ (k : Inside) (pid at most count pipe : ℕ) (give : Give) (new : Guests
   pub drained-carried : Some give ≡ option_map (λ p. given (front p.channel most)) (nth k.channels.pipes pipe) → count ≡ length give.bytes → count ≢ 0 → c ≡ record k.channels { pipes = with_change k.channels.pipes pipe (λ p. with_taken p most) } → Follows k.bodies (done pid k.events (Receives at give.bytes count)) new → KeepsWatches k.bodies new → OfProcess (state_of k) pid (λ m v. Carried (draining m at most pipe) (record { result = count; extra = extra.Give give }) m pid v (state_of (record k { bodies = new; channels = c; events = k.events + 1 })))
   drained-carried gives counts some changed follows keeps = drained-by (nth k.channels.pipes pipe) refl gives counts some changed follows keeps
 
--- a write to a pipe, by whether something reads it and by its room
-no-room : (r : ℕ) → nat_lt 0 r ≡ false → r ≡ 0
-no-room r none = omega (arith, ltb-false 0 r none)
-
-some-room : (r : ℕ) → nat_lt 0 r ≡ true → (r == 0) ≡ false
-some-room r some = ne_eqb r 0 (λ (e : r ≡ 0). omega (arith, e, ltb-true 0 r some))
-
 module _ (m : Machine) (at pipe : ℕ) (bytes : List ℕ) where
   -- the request of a pipe with this room
   abbrev poured : Pipe → Bool → Bool → Request
   poured p unread full = cond unread (refused BROKEN_PIPE m.kernel) (cond full Waits (Does (put_into_pipe m pipe at p (take (room p) bytes))))
 
-  poured-ready : (p : Pipe) (unread : Bool) → (nat_lt 0 (room p) || unread) ≡ true → is_waiting (poured p unread (room p == 0)) ≡ false
-  poured-ready p true ready = refl
-  poured-ready p false ready = by (nat_lt 0 (room p)) refl ready
-    where
-      by : (b : Bool) → nat_lt 0 (room p) ≡ b → (b || false) ≡ true → is_waiting (poured p false (room p == 0)) ≡ false
-      by true e h = ap (λ (full : Bool). is_waiting (poured p false full)) (some-room (room p) e)
-      by false e h = absurd (true≢false (sym h))
-
-  poured-waits : (p : Pipe) (unread : Bool) → (nat_lt 0 (room p) || unread) ≡ false → poured p unread (room p == 0) ≡ Waits
-  poured-waits p unread waits = by (nat_lt 0 (room p)) unread refl waits
-    where
-      by : (b u : Bool) → nat_lt 0 (room p) ≡ b → (b || u) ≡ false → poured p u (room p == 0) ≡ Waits
-      by true u e h = absurd (true≢false h)
-      by false true e h = absurd (true≢false h)
-      by false false e h = ap (λ (r : ℕ). poured p false (r == 0)) (no-room (room p) e)
-
-  pour-ready-by : (o : Option Pipe) → option_map can_put o ≡ Some true → is_waiting (write_pipe m pipe at bytes o) ≡ false
-  pour-ready-by None ready = cc
-  pour-ready-by (Some p) ready = poured-ready p (not p.has_reader) (same_Some (can_put p) true ready)
-
-  pour-waits-by : (o : Option Pipe) → option_map can_put o ≡ Some false → write_pipe m pipe at bytes o ≡ Waits
-  pour-waits-by None waits = cc
-  pour-waits-by (Some p) waits = poured-waits p (not p.has_reader) (same_Some (can_put p) false waits)
-
-  -- a write that is ready, and one that isn't
-  pub pouring-ready : CanPour m.kernel pipe → is_waiting (pouring m at bytes pipe) ≡ false
-  pouring-ready ready = pour-ready-by (nth m.kernel.pipes pipe) ready
-
-  pub pouring-waits : option_map can_put (nth m.kernel.pipes pipe) ≡ Some false → pouring m at bytes pipe ≡ Waits
-  pouring-waits waits = pour-waits-by (nth m.kernel.pipes pipe) waits
-
-  broken-by : (o : Option Pipe) → holds (λ p. IsTrue (not p.has_reader)) o → write_pipe m pipe at bytes o ≡ refused BROKEN_PIPE m.kernel
-  broken-by None broken = absurd broken
-  broken-by (Some p) broken = ap (λ (unread : Bool). poured p unread (room p == 0)) broken
-
-  -- one to a pipe that nothing reads
-  pub pouring-broken : holds (λ p. IsTrue (not p.has_reader)) (nth m.kernel.pipes pipe) → pouring m at bytes pipe ≡ refused BROKEN_PIPE m.kernel
-  pouring-broken broken = broken-by (nth m.kernel.pipes pipe) broken
+some-room : (r : ℕ) → nat_lt 0 r ≡ true → (r == 0) ≡ false
+some-room r some = ne_eqb r 0 (λ (e : r ≡ 0). omega (arith, e, ltb-true 0 r some))
 
 -- the first bytes of the first bytes
 take-twice : (n : ℕ) (bytes : List ℕ) → take n (take n bytes) ≡ take n bytes
@@ -238,34 +164,52 @@ poured-is m at pipe bytes p ready reads =
     with-room true h = refl
     with-room false h = h
 
+-- what a pipe takes of bytes, it takes of their first, where these are all or as many as a pipe holds
+take-enough : (r n : ℕ) (bytes : List ℕ) → min r (length bytes) ≤ n → take r (take n bytes) ≡ take r bytes
+take-enough zero n bytes enough = refl
+take-enough (suc r) zero [] enough = refl
+take-enough (suc r) (suc n) [] enough = refl
+take-enough (suc r) zero (b ∷ bytes) enough = absurd (omega (arith, enough))
+take-enough (suc r) (suc n) (b ∷ bytes) enough = ap (λ (bs : List ℕ). b ∷ bs) (take-enough r n bytes (omega (arith, enough)))
+
+first-poured : (m : Machine) (at pipe few : ℕ) (bytes : List ℕ) (o : Option Pipe) → min MOST_PIPE_BYTES (length bytes) ≤ few → write_pipe m pipe at (take few bytes) o ≡ write_pipe m pipe at bytes o
+first-poured m at pipe few bytes None enough = refl
+first-poured m at pipe few bytes (Some p) enough =
+    ap (λ (bs : List ℕ). cond (not p.has_reader) (refused BROKEN_PIPE m.kernel) (cond (room p == 0) Waits (Does (put_into_pipe m pipe at p bs))))
+    (take-enough (room p) few bytes (omega (arith, enough)))
+
+pub pouring-first : (m : Machine) (at count pipe few : ℕ) (bytes first : List ℕ) → length bytes ≡ count → few ≡ min count MOST_PIPE_BYTES → first ≡ take few bytes → pouring m at first pipe ≡ pouring m at bytes pipe
+pouring-first m at count pipe few bytes first long most is =
+    ap (λ (bs : List ℕ). pouring m at bs pipe) is
+    ∙ first-poured m at pipe few bytes (nth m.kernel.pipes pipe) (omega (arith, long, most))
+
 -- what a write does to the kernel
 abbrev pub poured_into : ℕ → List ℕ → State → Kernel
 poured_into pipe bytes s = record s.kernel { pipes = with_change s.kernel.pipes pipe (λ p. with_put p bytes s.events) }
 
-module _ (old mid new : State) (pid at count taken pipe : ℕ) (bytes : List ℕ) where
-  poured-by : (o : Option Pipe) → nth old.kernel.pipes pipe ≡ o → option_map can_put o ≡ Some true → (holds (λ p. IsTrue (not p.has_reader)) o → ⊥) → Some taken ≡ option_map (λ p. min (length bytes) (room p)) o → IfSome (seen_in old.guests pid) (λ v. bytes ≡ read v at count) → mid ≡ record old { kernel = poured_into pipe bytes old } → ((act : Act) → IsResult act taken → Acted pid act mid.kernel mid new) → OfProcess old pid (λ m v. Carried (pouring m at (read v at count) pipe) (record { result = taken; extra = extra.Nothing }) m pid v new)
-  poured-by None is ready read counts given changed acts = cc
-  poured-by (Some p) is ready reads counts given changed acts =
+module _ (old mid new : State) (pid at taken pipe : ℕ) (bytes : List ℕ) where
+  poured-by : (o : Option Pipe) → nth old.kernel.pipes pipe ≡ o → option_map can_put o ≡ Some true → (holds (λ p. IsTrue (not p.has_reader)) o → ⊥) → Some taken ≡ option_map (λ p. min (length bytes) (room p)) o → mid ≡ record old { kernel = poured_into pipe bytes old } → ((act : Act) → IsResult act taken → Acted pid act mid.kernel mid new) → OfProcess old pid (λ m v. Carried (pouring m at bytes pipe) (record { result = taken; extra = extra.Nothing }) m pid v new)
+  poured-by None is ready reads counts changed acts = cc
+  poured-by (Some p) is ready reads counts changed acts =
       let first : List ℕ = take (room p) bytes in
       let long : length first ≡ taken = omega (arith, length-take (room p) bytes, same_Some taken (min (length bytes) (room p)) counts) in
       let k : Kernel = record old.kernel { pipes = with_change old.kernel.pipes pipe (λ q. with_put q first old.events) } in
       let changes : mid ≡ record old { kernel = k } = changed ∙ ap (λ (x : Pipes). record old { kernel = record old.kernel { pipes = x } }) (put-same old.kernel.pipes pipe old.events bytes p is) in
       let acted : Acted pid (Gives at (length first) (length first)) k old new = acted-after pid (Gives at (length first) (length first)) k old mid new changes (acts (Gives at (length first) (length first)) long) in
-      of_process old pid (λ m v. Carried (pouring m at (read v at count) pipe) (record { result = taken; extra = extra.Nothing }) m pid v new)
+      of_process old pid (λ m v. Carried (pouring m at bytes pipe) (record { result = taken; extra = extra.Nothing }) m pid v new)
       (λ b v shows sees.
       let m : Machine = machine_with b old in
       let d : Doing = put_into_pipe m pipe at p first in
       record {
         doing = d;
         is =
-            ap (λ (x : List ℕ). pouring m at x pipe) (sym (at-seen (seen_in old.guests pid) v (λ (w : View). bytes ≡ read w at count) sees given))
-            ∙ (ap (write_pipe m pipe at bytes) is
-            ∙ poured-is m at pipe bytes p (same_Some (can_put p) true ready) (read-still (not p.has_reader) reads));
+            ap (write_pipe m pipe at bytes) is
+            ∙ poured-is m at pipe bytes p (same_Some (can_put p) true ready) (read-still (not p.has_reader) reads);
         answers = sym long;
         extra = refl;
         stands = acted-stands old new pid v b d shows acted refl;
       })
 
   -- a process has given a pipe bytes
-  pub poured-carried : CanPour old.kernel pipe → (holds (λ p. IsTrue (not p.has_reader)) (nth old.kernel.pipes pipe) → ⊥) → Some taken ≡ option_map (λ p. min (length bytes) (room p)) (nth old.kernel.pipes pipe) → IfSome (seen_in old.guests pid) (λ v. bytes ≡ read v at count) → mid ≡ record old { kernel = poured_into pipe bytes old } → ((act : Act) → IsResult act taken → Acted pid act mid.kernel mid new) → OfProcess old pid (λ m v. Carried (pouring m at (read v at count) pipe) (record { result = taken; extra = extra.Nothing }) m pid v new)
-  poured-carried ready reads counts given changed acts = poured-by (nth old.kernel.pipes pipe) refl ready reads counts given changed acts
+  pub poured-carried : CanPour old.kernel pipe → (holds (λ p. IsTrue (not p.has_reader)) (nth old.kernel.pipes pipe) → ⊥) → Some taken ≡ option_map (λ p. min (length bytes) (room p)) (nth old.kernel.pipes pipe) → mid ≡ record old { kernel = poured_into pipe bytes old } → ((act : Act) → IsResult act taken → Acted pid act mid.kernel mid new) → OfProcess old pid (λ m v. Carried (pouring m at bytes pipe) (record { result = taken; extra = extra.Nothing }) m pid v new)
+  poured-carried ready reads counts changed acts = poured-by (nth old.kernel.pipes pipe) refl ready reads counts changed acts

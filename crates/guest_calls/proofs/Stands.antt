@@ -7,8 +7,10 @@ use Rattle.arn_model.specs.Kernel.{Machine}
 use Rattle.arn_model.specs.Step.{after_act}
 use Rattle.guest_bodies.specs.Follows.{Shows}
 use Rattle.guest_bodies.specs.Shown.{seen_in}
+use Rattle.guest_args.specs.Tables.{OfTables, Tables}
 use Rattle.guest_calls.specs.Acted.{Acted}
 use Rattle.guest_calls.specs.State.{State, StandsFor, OfProcess, Becomes}
+use Rattle.guest_calls.specs.Tables.{tables_in}
 
 -- the machine of a state, with bodies that show the same
 abbrev pub machine_with : Bodies → State → Machine
@@ -42,3 +44,7 @@ at-seen o v P is holds = subst (λ (x : Option View). IfSome x P) is holds
 
 pub stands-with : (s : State) (b : Bodies) → Shows s.guests b → StandsFor s (machine_with b s)
 stands-with s b shows = record { seen = λ p. shows.same p; kernel = refl; events = refl }
+
+-- a fact of the tables of a state
+pub of-tables : (s : State) (pid : ℕ) (t : Tables) (P : Machine → View → Type 0) → t ≡ tables_in s → OfTables t pid P → OfProcess s pid P
+of-tables s pid t P is holds m v stands sees = subst (λ (x : Tables). OfTables x pid P) is holds m v stands.kernel (stands.seen pid ∙ sees)

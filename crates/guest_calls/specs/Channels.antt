@@ -1,15 +1,13 @@
 -- What the calls that make channels come to.
-use Rattle.std.specs.Prelude.{◌≡◌, ℕ, [], ◌∷◌, false, length, Some}
+use Rattle.std.specs.Prelude.{ℕ, [], ◌∷◌, length}
 use Rattle.parts_model.specs.declared.open.Conn.{Conn}
 use Rattle.parts_model.specs.declared.open.Description.TheVariants.{Reader, Writer, Connection, Listener}
 use Rattle.parts_model.specs.declared.refusals.TheConstants.{NO_DESCRIPTOR_ROOM, NO_ROOM, PORT_IN_USE}
 use Rattle.parts_model.specs.Ports.{accepted, connected, is_full, is_in_use, listened}
-use Rattle.arn_model.specs.ChannelCalls.{accept_conn, with_pipe}
-use Rattle.arn_model.specs.Doing.{Request, Waits, refuse, returns, unless_refused}
+use Rattle.arn_model.specs.ChannelCalls.{with_pipe}
+use Rattle.arn_model.specs.Doing.{Request, refuse, returns, unless_refused}
 use Rattle.arn_model.specs.FileCalls.{has_no_room}
 use Rattle.arn_model.specs.Kernel.{Kernel, Machine, next_descriptor, placed, with_new}
-use Rattle.guest_calls.specs.declared.channels.Accepting.{Accepting}
-use Rattle.guest_calls.specs.declared.channels.Accepting.TheVariants as accepting
 
 -- a new pipe, and both its ends open
 abbrev pub with_ends : Kernel → Kernel
@@ -35,15 +33,3 @@ listening m pid port =
     unless_refused m.kernel
     (refuse PORT_IN_USE (is_in_use m.kernel.ports port) ∷ refuse NO_DESCRIPTOR_ROOM (has_no_room m.kernel pid) ∷ refuse NO_ROOM (is_full m.kernel.ports) ∷ [])
     (returns (next_descriptor m.kernel pid) (placed pid (length m.kernel.descriptions) (with_listener port m.kernel)))
-
--- what an accept comes to
-abbrev pub IsAccept : Accepting → Machine → ℕ → Request → Type 0
-IsAccept (accepting.Answers answer) m pid request = request ≡ returns answer m.kernel
-IsAccept accepting.Waits m pid request = request ≡ Waits
-IsAccept (accepting.Accepts port conn) m pid request = request ≡ accept_conn m pid port (Some conn)
-
--- a process that accepts has a free descriptor
-abbrev pub CanAccept : Accepting → Kernel → ℕ → Type 0
-CanAccept (accepting.Answers answer) k pid = Unit {0}
-CanAccept accepting.Waits k pid = Unit {0}
-CanAccept (accepting.Accepts port conn) k pid = has_no_room k pid ≡ false

@@ -1,45 +1,23 @@
 -- A kernel as it is kept, and what is shown of it.
-use Rattle.std.specs.Prelude.{◌≡◌, ◌≤◌, ◌+◌, ℕ, zero, suc, nat_lt, Bool, false, List, [], ◌∷◌, length, Option, IfSome, is_some, option_map}
+use Rattle.std.specs.Prelude.{◌≡◌, ◌≤◌, ℕ, nat_lt, Bool, false, List, [], length, Option, IfSome, is_some}
 use Rattle.parts_model.specs.declared.limits.TheConstants.{MOST_DESCRIPTORS, MOST_FILES}
 use Rattle.parts_model.specs.Files.{Files}
 use Rattle.parts_model.specs.Numbered.{nth, how_many}
 use Rattle.parts_model.specs.Processes.{Process, Processes, process, live_process}
 use Rattle.acts_model.specs.Bodies.{Bodies}
-use Rattle.arn_model.specs.Kernel.{Handling, Opened}
+use Rattle.arn_model.specs.Kernel.{Opened}
 use Rattle.guest_bodies.specs.Follows.{Shows}
 use Rattle.guest_bodies.specs.Fresh.{IsUnheld}
-use Rattle.guest_bodies.specs.Shown.{Guests, Watch, watch_in}
+use Rattle.guest_bodies.specs.Shown.{Guests}
+use Rattle.guest_args.specs.Tables.{tables_of}
 use Rattle.guest_calls.specs.State.{State}
 use Rattle.guest_calls.specs.declared.kernel.Kernel.TheInside.{Inside}
-
--- how a process takes signals, as the kernel keeps it
-abbrev pub handling : Watch → Handling
-handling w = record { handlers = w.handlers; pending = w.pending }
-
--- the handling of so many processes, from a number on
-abbrev pub handlings_from : ℕ → ℕ → Guests → List (Option Handling)
-handlings_from first zero guests = []
-handlings_from first (suc n) guests = option_map handling (watch_in guests first) ∷ handlings_from (first + 1) n guests
-
--- by process, where so many were made
-abbrev pub handlings : ℕ → Guests → List (Option Handling)
-handlings made guests = handlings_from 1 made guests
 
 abbrev pub state_of : Inside → State
 state_of k =
     record {
       guests = k.bodies;
-      kernel =
-          record {
-            processes = k.procs;
-            handling = handlings (length k.procs) k.bodies;
-            console = k.console;
-            pipes = k.channels.pipes;
-            files = k.resources.files;
-            descriptions = k.resources.descriptions;
-            ports = k.channels.ports;
-            unplugged = [];
-          };
+      kernel = (tables_of k.bodies k.procs k.resources k.channels k.console).kernel;
       events = k.events;
     }
 

@@ -1,13 +1,10 @@
 pub mod State
+pub mod Tables
 pub mod Opened
 pub mod Kept
 pub mod Acted
-pub mod Files
-pub mod Transfers
 pub mod Steps
 pub mod Fits
-pub mod Standing
 pub mod Starts
-pub mod Waits
 pub mod Forks
 pub mod Channels

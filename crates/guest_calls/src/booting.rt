@@ -1,17 +1,15 @@
 // The boot of process 1.
-ghost use Rattle.std.specs.Prelude.{◌≡◌, ◌+◌, ◌<◌, ◌≤◌, ◌^◌, ◌↔◌, false, length, [], Ok, Some, IfOk, IfErr, IfSome, IsErrOf, IsNone, IsTrue, OnErr, OnOk, option_map};
+ghost use Rattle.std.specs.Prelude.{◌≡◌, ◌+◌, ◌<◌, ◌≤◌, ◌^◌, ◌↔◌, length, [], Ok, Some, IfOk, IsErrOf, IsNone, IsTrue, OnErr, OnOk};
 ghost use Rattle.parts_model.specs.declared.limits.TheConstants.{MOST_FILE_BYTES};
-ghost use Rattle.parts_model.specs.Files.{file_bytes, find_file};
+ghost use Rattle.parts_model.specs.Files.{find_file};
 ghost use Rattle.parts_model.specs.Image.{is_image};
-ghost use Rattle.parts_model.specs.Tagged.{given};
-ghost use Rattle.guest_files.specs.Table.{IsThere};
 ghost use Rattle.guest_calls.specs.Starts.{Begins, BootedFrom, HasNoImage, first_processes};
 
 use crate::kernel::Kernel;
 use crate::outcomes::BootError;
 use arn_base::{Give, NoMemory};
+use guest_args::is_image;
 use guest_bodies::others_stay_unheld;
-use guest_image::parse;
 use guest_procs::{ProcError, Procs};
 use guest_resources::Descriptions;
 use std::alloc::Global;
@@ -28,33 +26,7 @@ fn first_processes(alloc: Global) -> Result<Procs, ProcError>
     Ok(procs)
 }
 
-// Whether bytes are an image.
-pub(crate) fn is_image(bytes: &[u8]) -> bool
-    ensures { result ≡ is_image bytes.now }
-{
-    parse(bytes).is_ok()
-}
-
 impl Kernel {
-    // All bytes of a file.
-    pub(crate) fn whole_file(&self, file: u32) -> Result<Give, NoMemory>
-        requires { IsThere self.now.kernel.files file }
-        ensures given { IfOk result (λ give.
-            Some give ≡ option_map given (file_bytes self.now.kernel.files file)) }
-        ensures few_bytes { IfOk result (λ give. length give.bytes ≤ MOST_FILE_BYTES) }
-        ensures few_origins { IfOk result (λ give. length give.origins ≤ MOST_FILE_BYTES) }
-    {
-        self.resources.read_all(file)
-    }
-
-    // The file of a name.
-    pub(crate) fn find(&self, name: &[u8]) -> Option<u32>
-        ensures found { result ≡ find_file self.now.kernel.files name.now }
-        ensures there { IfSome result (IsThere self.now.kernel.files) }
-    {
-        self.resources.find_file(name)
-    }
-
     // Process 1 begins with an image.
     fn begin(&mut self, image: &[u8]) -> Result<(), NoMemory>
         requires no_process { self.old.kernel.processes ≡ [] }
@@ -91,11 +63,11 @@ impl Kernel {
         ensures not_image { IsErrOf result BootError.NotImage → HasNoImage name.now self.old }
         ensures err { OnErr result (self.new ≡ self.old) }
     {
-        let file = match self.find(name) {
+        let file = match self.resources.find_file(name) {
             Some(file) => file,
             None => return Err(BootError::NoName),
         };
-        let give = match self.whole_file(file) {
+        let give = match self.resources.read_all(file) {
             Ok(give) => give,
             Err(NoMemory) => return Err(BootError::NoMemory),
         };

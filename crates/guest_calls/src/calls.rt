@@ -4,19 +4,16 @@ ghost use Rattle.acts_model.specs.Views.{call_number, stands_at};
 ghost use Rattle.rv64_model.specs.Instruction.{Call};
 ghost use Rattle.arn_model.specs.Row.{is_waiting, request};
 ghost use Rattle.guest_bodies.specs.Shown.{IsLive, seen_in};
+ghost use Rattle.guest_args.specs.Standing.{can_wait};
 ghost use Rattle.guest_calls.specs.Acted.{Carried};
 ghost use Rattle.guest_calls.specs.Fits.{IsShort};
-ghost use Rattle.guest_calls.specs.Standing.{can_wait};
 ghost use Rattle.guest_calls.specs.State.{IsNext, OfProcess};
 ghost use Rattle.guest_calls.specs.Steps.{Performed};
 
-use crate::channels::Accepting;
 use crate::kernel::Kernel;
 use crate::outcomes::{CallStop, Done};
-use crate::parts::error;
-use crate::transfers::{Reading, Writing};
-use crate::waiting::Waiting;
 use arn_base::NoMemory;
+use guest_args::{calls_come_to_rows, error, others_are_ready};
 use guest_devices::Answers;
 use parts_model::calls::{
     ACCEPT, CLOSE, CONNECT, DUP, EXEC, EXIT, FORK, GETPID, LISTEN, OPEN, PIPE, READ, SEEK, UNLINK,
@@ -25,20 +22,6 @@ use parts_model::calls::{
 use parts_model::refusals::NO_SUCH_CALL;
 
 impl Kernel {
-    /// Whether the call at which a process stands isn't ready.
-    pub(crate) fn is_waiting(&self, pid: u32) -> bool
-        requires { IsLive self.now.guests pid }
-        ensures { OfProcess self.now pid (λ m v. result ≡ is_waiting (request m pid v)) }
-    {
-        match self.call_number(pid) {
-            READ => matches!(self.reading(pid), Reading::Waits),
-            WRITE => matches!(self.writing(pid), Writing::Waits),
-            WAIT => matches!(self.waiting(pid), Waiting::Waits),
-            ACCEPT => matches!(self.accepting(pid), Accepting::Waits),
-            _ => false,
-        }
-    }
-
     // Carries out a call that is always ready.
     fn carry_out_ready(&mut self, pid: u32, number: u64) -> Result<Done, NoMemory>
         requires live { IsLive self.old.guests pid }
@@ -51,6 +34,7 @@ impl Kernel {
         ensures short { IfOk result (λ done. IsShort done.extra) }
         ensures err { OnErr result (self.new ≡ self.old) }
     {
+        calls_come_to_rows();
         match number {
             EXIT => Ok(self.exit(pid)),
             FORK => self.fork(pid),
@@ -80,6 +64,8 @@ impl Kernel {
             IsErrOf result CallStop.NotReady ↔ IsTrue (is_waiting (request m pid v))) }
         ensures err { OnErr result (self.new ≡ self.old) }
     {
+        calls_come_to_rows();
+        others_are_ready();
         match self.call_number(pid) {
             READ => self.read(pid),
             WRITE => self.write(pid),

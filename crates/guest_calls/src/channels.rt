@@ -2,48 +2,28 @@
 ghost use Rattle.std.specs.Prelude.{◌≡◌, ◌≢◌, ◌+◌, ◌*◌, ◌<◌, ◌≤◌, ◌^◌, ◌↔◌, false, length, IfOk, IsErrOf, IsTrue, OnErr, OnOk, Some};
 ghost use Rattle.parts_model.specs.Pipes.{free_pipes};
 ghost use Rattle.parts_model.specs.Ports.{can_connect, is_full, is_in_use};
-ghost use Rattle.parts_model.specs.declared.open.Description.TheVariants.{Listener};
 ghost use Rattle.acts_model.specs.Acts.{Returns};
-ghost use Rattle.arn_model.specs.ChannelCalls.{accept_at, accept_conn, accept_row, connect_row, listen_row, new_conn, pipe_row};
+ghost use Rattle.arn_model.specs.ChannelCalls.{accept_conn, accept_row, connect_row, listen_row, new_conn, pipe_row};
 ghost use Rattle.arn_model.specs.FileCalls.{has_no_room};
-ghost use Rattle.arn_model.specs.Kernel.{next_descriptor, opened, placed, room_for};
+ghost use Rattle.arn_model.specs.Kernel.{next_descriptor, placed, room_for};
 ghost use Rattle.arn_model.specs.Row.{is_waiting};
 ghost use Rattle.guest_bodies.specs.Shown.{IsLive};
 ghost use Rattle.guest_calls.specs.Acted.{Acted, Carried};
-ghost use Rattle.guest_calls.specs.Channels.{CanAccept, IsAccept, listening, with_client, with_ends, with_listener, with_server};
+ghost use Rattle.guest_calls.specs.Channels.{listening, with_client, with_ends, with_listener, with_server};
 ghost use Rattle.guest_calls.specs.Fits.{IsShort};
 ghost use Rattle.guest_calls.specs.State.{OfProcess};
 
 use crate::kernel::Kernel;
 use crate::outcomes::{CallStop, Done};
-use crate::parts::error;
 use arn_base::{Extra, NoMemory};
+use guest_args::{Accepting, error};
 use parts_model::limits::GREATEST_PORT;
 use parts_model::refusals::{
-    BAD_ARGUMENT, BAD_DESCRIPTOR, CONNECTION_REFUSED, NO_DESCRIPTOR_ROOM, NO_ROOM, PORT_IN_USE,
+    BAD_ARGUMENT, CONNECTION_REFUSED, NO_DESCRIPTOR_ROOM, NO_ROOM, PORT_IN_USE,
 };
 use parts_model::{Conn, Description};
 
-/// What an accept comes to.
-#[derive(Clone, Copy, Debug, PartialEq, Eq)]
-pub enum Accepting {
-    /// It isn't ready.
-    Waits,
-    /// It ends with this result and opens nothing.
-    Answers { answer: u64 },
-    /// It opens the server's side of a connection that waits at a port.
-    Accepts { port: u16, conn: Conn },
-}
-
 impl Kernel {
-    // How many more descriptors a process may open.
-    fn room_for(&self, pid: u32) -> u32
-        requires { IsLive self.now.guests pid }
-        ensures { result ≡ room_for self.now.kernel pid }
-    {
-        self.procs.free(pid)
-    }
-
     // The lowest free descriptor of a process stands for a description, and is the call's result.
     fn answers_one(&mut self, pid: u32, description: u32) -> Done
         requires live { IsLive self.old.guests pid }
@@ -94,7 +74,7 @@ impl Kernel {
         ensures nothing { IfOk result (λ done. done.extra ≡ Extra.Nothing) }
         ensures err { OnErr result (self.new ≡ self.old) }
     {
-        if self.room_for(pid) < 2 {
+        if self.tables().room_for(pid) < 2 {
             return Ok(self.answers(pid, error(NO_DESCRIPTOR_ROOM)));
         }
         if self.channels.free_pipes() == 0 {
@@ -233,46 +213,6 @@ impl Kernel {
         }
     }
 
-    // What a descriptor of a process stands for, if it is open.
-    fn opened(&self, pid: u32, descriptor: u64) -> Option<Description>
-        requires { IsLive self.now.guests pid }
-        ensures { result ≡ opened self.now.kernel pid descriptor }
-    {
-        self.what_is(self.description_of(pid, descriptor)?)
-    }
-
-    // What an accept at a port comes to.
-    fn accepting_at(&self, pid: u32, port: u16) -> Accepting
-        requires { IsLive self.now.guests pid }
-        ensures accepting { OfProcess self.now pid (λ m v.
-            IsAccept result m pid (accept_at m pid (Some (Listener port)))) }
-        ensures ready { CanAccept result self.now.kernel pid }
-    {
-        if self.has_no_room(pid) {
-            return Accepting::Answers {
-                answer: error(NO_DESCRIPTOR_ROOM),
-            };
-        }
-        match self.channels.oldest(port) {
-            None => Accepting::Waits,
-            Some(conn) => Accepting::Accepts { port, conn },
-        }
-    }
-
-    /// What the accept at which a process stands comes to.
-    pub(crate) fn accepting(&self, pid: u32) -> Accepting
-        requires { IsLive self.now.guests pid }
-        ensures accepting { OfProcess self.now pid (λ m v. IsAccept result m pid (accept_row m pid v)) }
-        ensures ready { CanAccept result self.now.kernel pid }
-    {
-        match self.opened(pid, self.argument(pid, 0)) {
-            Some(Description::Listener { port }) => self.accepting_at(pid, port),
-            _ => Accepting::Answers {
-                answer: error(BAD_DESCRIPTOR),
-            },
-        }
-    }
-
     /// The call `accept(descriptor)`.
     pub(crate) fn accept(&mut self, pid: u32) -> Result<Done, CallStop>
         requires live { IsLive self.old.guests pid }
@@ -284,7 +224,7 @@ impl Kernel {
             IsErrOf result CallStop.NotReady ↔ IsTrue (is_waiting (accept_row m pid v))) }
         ensures err { OnErr result (self.new ≡ self.old) }
     {
-        match self.accepting(pid) {
+        match self.tables().accepting(pid) {
             Accepting::Waits => Err(CallStop::NotReady),
             Accepting::Answers { answer } => Ok(self.answers(pid, answer)),
             Accepting::Accepts { port, conn } => Ok(self.take_up(pid, port, conn)?),

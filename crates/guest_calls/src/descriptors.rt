@@ -1,20 +1,17 @@
 // Descriptors of processes: what opens and closes them, and the calls close and dup.
-ghost use Rattle.std.specs.Prelude.{◌≡◌, ◌+◌, ◌<◌, ◌^◌, false, length, IfOk, IfSome, IsNone, OnErr, Some, option_map};
+ghost use Rattle.std.specs.Prelude.{◌≡◌, ◌+◌, ◌<◌, ◌^◌, false, length, IfOk, IfSome, IsNone, OnErr, Some};
 ghost use Rattle.parts_model.specs.declared.limits.TheConstants.{MOST_DESCRIPTORS};
-ghost use Rattle.parts_model.specs.Numbered.{nth};
 ghost use Rattle.arn_model.specs.FileCalls.{close_row, dup_opened, dup_row, has_no_room};
-ghost use Rattle.arn_model.specs.Kernel.{all_dropped, closes, description_of, descriptors_of, dropped, next_descriptor, placed, what_is};
+ghost use Rattle.arn_model.specs.Kernel.{all_dropped, closes, description_of, descriptors_of, dropped, next_descriptor, placed};
 ghost use Rattle.guest_bodies.specs.Shown.{IsLive};
-ghost use Rattle.guest_resources.specs.Resources.{IsKnown};
 ghost use Rattle.guest_calls.specs.Acted.{Carried};
 ghost use Rattle.guest_calls.specs.Opened.{dropped_if};
 ghost use Rattle.guest_calls.specs.State.{OfProcess};
 
 use crate::kernel::Kernel;
 use crate::outcomes::Done;
-use crate::parts::error;
 use arn_base::{Extra, NoMemory};
-use parts_model::Description;
+use guest_args::error;
 use parts_model::limits::MOST_DESCRIPTORS;
 use parts_model::refusals::{BAD_DESCRIPTOR, NO_DESCRIPTOR_ROOM};
 
@@ -25,14 +22,6 @@ impl Kernel {
         ensures { result ≡ description_of self.now.kernel pid descriptor }
     {
         self.procs.descriptor(pid, descriptor)
-    }
-
-    /// What a description is, if it is there.
-    pub(crate) fn what_is(&self, number: u32) -> Option<Description>
-        ensures what { result ≡ what_is self.now.kernel number }
-        ensures known { IfSome result (IsKnown self.now.kernel.files) }
-    {
-        self.resources.what_is(number)
     }
 
     /// Whether a process has no free descriptor.

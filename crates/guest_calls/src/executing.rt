@@ -1,11 +1,11 @@
 // The call exec.
-ghost use Rattle.std.specs.Prelude.{◌≡◌, ◌+◌, ◌<◌, ◌≤◌, ◌^◌, ◌&&◌, nat_lt, not, IfOk, IfSome, IsTrue, OnErr, OnOk};
+ghost use Rattle.std.specs.Prelude.{◌≡◌, ◌+◌, ◌<◌, ◌≤◌, ◌^◌, IfOk, IfSome, IsTrue, OnErr, OnOk};
 ghost use Rattle.parts_model.specs.declared.limits.TheConstants.{MOST_BLOCK_BYTES};
 ghost use Rattle.parts_model.specs.Files.{find_file};
 ghost use Rattle.parts_model.specs.Image.{is_image};
 ghost use Rattle.parts_model.specs.Signals.{no_handlers};
 ghost use Rattle.acts_model.specs.Acts.{Starts};
-ghost use Rattle.acts_model.specs.Views.{argument, can_reach};
+ghost use Rattle.acts_model.specs.Views.{argument};
 ghost use Rattle.arn_model.specs.Kernel.{with_handling};
 ghost use Rattle.arn_model.specs.ProcessCalls.{exec_file, exec_row};
 ghost use Rattle.guest_bodies.specs.Shown.{IsLive, seen_in};
@@ -13,25 +13,15 @@ ghost use Rattle.guest_calls.specs.Acted.{Acted, Carried};
 ghost use Rattle.guest_calls.specs.Fits.{IsShort};
 ghost use Rattle.guest_calls.specs.State.{OfProcess};
 
-use crate::booting::is_image;
 use crate::kernel::Kernel;
 use crate::outcomes::Done;
-use crate::parts::error;
 use arn_base::{Extra, NoMemory};
+use guest_args::{error, is_image, lacks_block, path, path_refusal};
 use guest_bodies::others_stay_unheld;
 use parts_model::limits::MOST_BLOCK_BYTES;
 use parts_model::refusals::{BAD_ADDRESS, NO_FILE, NOT_IMAGE};
 
 impl Kernel {
-    // Whether a process lacks the bytes of an argument block. One of no bytes isn't looked at.
-    fn lacks_block(&self, pid: u32, block: u64, len: u64) -> bool
-        requires { IsLive self.now.guests pid }
-        ensures { IfSome (seen_in self.now.guests pid) (λ v.
-            result ≡ (nat_lt 0 len && not (can_reach v block len))) }
-    {
-        len > 0 && self.bodies.bytes(pid, block, len).is_none()
-    }
-
     /// The call `exec(path, length, block, block length)`.
     pub(crate) fn exec(&mut self, pid: u32) -> Result<Done, NoMemory>
         requires live { IsLive self.old.guests pid }
@@ -45,13 +35,19 @@ impl Kernel {
         let len = self.argument(pid, 1);
         let block = self.argument(pid, 2);
         let block_len = self.argument(pid, 3);
-        if let Some(answer) = self.path_refusal(pid, at, len, block_len > MOST_BLOCK_BYTES) {
+        if let Some(answer) = path_refusal(
+            &self.bodies,
+            pid,
+            at,
+            len,
+            block_len > MOST_BLOCK_BYTES,
+        ) {
             return Ok(self.answers(pid, answer));
         }
-        if self.lacks_block(pid, block, block_len) {
+        if lacks_block(&self.bodies, pid, block, block_len) {
             return Ok(self.answers(pid, error(BAD_ADDRESS)));
         }
-        let path = self.path(pid, at, len)?;
+        let path = path(self.alloc, &self.bodies, pid, at, len)?;
         self.exec_path(pid, path.as_slice(), block, block_len)
     }
 
@@ -74,11 +70,11 @@ impl Kernel {
         ensures short { IfOk result (λ done. IsShort done.extra) }
         ensures err { OnErr result (self.new ≡ self.old) }
     {
-        let file = match self.find(path) {
+        let file = match self.resources.find_file(path) {
             Some(file) => file,
             None => return Ok(self.answers(pid, error(NO_FILE))),
         };
-        let give = self.whole_file(file)?;
+        let give = self.resources.read_all(file)?;
         if !is_image(give.bytes.as_slice()) {
             return Ok(self.answers(pid, error(NOT_IMAGE)));
         }

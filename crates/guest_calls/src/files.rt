@@ -1,76 +1,29 @@
 // The calls on names and on places in files: open, unlink and seek.
-ghost use Rattle.std.specs.Prelude.{◌≡◌, ℕ, ◌+◌, ◌∷◌, ◌<◌, ◌^◌, ◌||◌, [], false, not, IfOk, IfSome, IsNone, IsSome, IsTrue, None, OnErr, Some, option_map};
+ghost use Rattle.std.specs.Prelude.{◌≡◌, ℕ, ◌+◌, ◌<◌, ◌^◌, false, IfOk, IfSome, IsSome, IsTrue, None, OnErr, Some};
 ghost use Rattle.parts_model.specs.Files.{find_file, is_name};
 ghost use Rattle.parts_model.specs.Numbered.{nth};
 ghost use Rattle.parts_model.specs.declared.open.Description.TheVariants.{File};
-ghost use Rattle.parts_model.specs.declared.refusals.TheConstants.{BAD_ADDRESS, BAD_ARGUMENT};
 ghost use Rattle.acts_model.specs.Acts.{Returns};
-ghost use Rattle.acts_model.specs.Views.{bytes_in, can_reach};
-ghost use Rattle.arn_model.specs.Doing.{Request, refuse, unless_refused};
 ghost use Rattle.arn_model.specs.FileCalls.{has_no_room, open_found, open_new, open_row, seek_in, seek_row, seek_what, unlink_found, unlink_row};
 ghost use Rattle.arn_model.specs.Kernel.{next_descriptor, placed, what_is};
-ghost use Rattle.arn_model.specs.Paths.{isnt_path_len, path_of};
-ghost use Rattle.guest_bodies.specs.Shown.{IsLive, seen_in};
-ghost use Rattle.guest_resources.specs.Resources.{IsIn, is_of};
+ghost use Rattle.guest_bodies.specs.Shown.{IsLive};
+ghost use Rattle.guest_resources.specs.Resources.{is_of};
 ghost use Rattle.guest_calls.specs.Acted.{Acted, Carried};
-ghost use Rattle.guest_calls.specs.Files.{goes_on_by};
 ghost use Rattle.guest_calls.specs.Fits.{IsShort};
 ghost use Rattle.guest_calls.specs.State.{OfProcess};
 
 use crate::kernel::Kernel;
 use crate::outcomes::Done;
-use crate::parts::error;
 use arn_base::{Bytes, Extra, NoMemory};
+use guest_args::{error, path, path_refusal};
 use guest_files::FileError;
 use guest_resources::OpenFile;
 use parts_model::Description;
-use parts_model::limits::MOST_NAME_BYTES;
 use parts_model::refusals::{
-    BAD_ADDRESS, BAD_ARGUMENT, BAD_DESCRIPTOR, NAME_TAKEN, NO_DESCRIPTOR_ROOM, NO_FILE, NO_ROOM,
+    BAD_ARGUMENT, BAD_DESCRIPTOR, NAME_TAKEN, NO_DESCRIPTOR_ROOM, NO_FILE, NO_ROOM,
 };
 
-// Whether a path is no name by its length.
-fn isnt_path_len(len: u64) -> bool
-    ensures { result ≡ isnt_path_len len }
-{
-    !(1 <= len && len <= MOST_NAME_BYTES)
-}
-
 impl Kernel {
-    // The result of a call that is refused for its path, its length or its range. `is_bad` says that
-    // another argument is out of its range.
-    pub(crate) fn path_refusal(&self, pid: u32, at: u64, len: u64, is_bad: bool) -> Option<u64>
-        requires { IsLive self.now.guests pid }
-        ensures refused { OfProcess self.now pid (λ m v. (goes_on : Request) →
-            unless_refused m.kernel (refuse BAD_ARGUMENT (isnt_path_len len || is_bad) ∷
-            refuse BAD_ADDRESS (not (can_reach v at len)) ∷ []) goes_on ≡
-            goes_on_by result m goes_on) }
-        ensures reach { IsNone result →
-            IfSome (seen_in self.now.guests pid) (λ v. IsSome (bytes_in v at len)) }
-        ensures len { IsNone result → isnt_path_len len ≡ false }
-        ensures good { IsNone result → is_bad ≡ false }
-    {
-        if isnt_path_len(len) || is_bad {
-            return Some(error(BAD_ARGUMENT));
-        }
-        if self.bodies.bytes(pid, at, len).is_none() {
-            return Some(error(BAD_ADDRESS));
-        }
-        None
-    }
-
-    // The path at an address of a process.
-    pub(crate) fn path(&self, pid: u32, at: u64, len: u64) -> Result<Bytes, NoMemory>
-        requires live { IsLive self.now.guests pid }
-        requires reach { IfSome (seen_in self.now.guests pid) (λ v. IsSome (bytes_in v at len)) }
-        requires len { isnt_path_len len ≡ false }
-        ensures path { IfOk result (λ path.
-            IfSome (seen_in self.now.guests pid) (λ v. path ≡ path_of v at len)) }
-        ensures name { IfOk result (λ path. IsTrue (is_name path)) }
-    {
-        self.copy_of(pid, at, len)
-    }
-
     /// The call `open(path, length, mode)`.
     pub(crate) fn open(&mut self, pid: u32) -> Result<Done, NoMemory>
         requires live { IsLive self.old.guests pid }
@@ -83,10 +36,10 @@ impl Kernel {
         let at = self.argument(pid, 0);
         let len = self.argument(pid, 1);
         let mode = self.argument(pid, 2);
-        if let Some(answer) = self.path_refusal(pid, at, len, mode > 1) {
+        if let Some(answer) = path_refusal(&self.bodies, pid, at, len, mode > 1) {
             return Ok(self.answers(pid, answer));
         }
-        let path = self.path(pid, at, len)?;
+        let path = path(self.alloc, &self.bodies, pid, at, len)?;
         if mode == 0 {
             self.open_found(pid, path)
         } else {
@@ -170,10 +123,10 @@ impl Kernel {
     {
         let at = self.argument(pid, 0);
         let len = self.argument(pid, 1);
-        if let Some(answer) = self.path_refusal(pid, at, len, false) {
+        if let Some(answer) = path_refusal(&self.bodies, pid, at, len, false) {
             return Ok(self.answers(pid, answer));
         }
-        let path = self.path(pid, at, len)?;
+        let path = path(self.alloc, &self.bodies, pid, at, len)?;
         Ok(self.unlink_path(pid, path))
     }
 
@@ -221,7 +174,7 @@ impl Kernel {
             Carried (seek_what m number position (what_is m.kernel number)) result m pid v self.new) }
         ensures nothing { result.extra ≡ Extra.Nothing }
     {
-        match self.what_is(number) {
+        match self.tables().what_is(number) {
             None => self.answers(pid, error(BAD_DESCRIPTOR)),
             Some(Description::File { file, position: _ }) => {
                 self.seek_file(pid, number, file, position)

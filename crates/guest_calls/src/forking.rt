@@ -13,13 +13,10 @@ ghost use Rattle.guest_calls.specs.State.{OfProcess};
 
 use crate::kernel::Kernel;
 use crate::outcomes::Done;
-use crate::parts::error;
 use arn_base::{Extra, NoMemory};
+use guest_args::error;
 use guest_bodies::{Bodies, others_stay_unheld};
 use parts_model::refusals::NO_PROCESS_ROOM;
-
-/// How many processes are made at most, those that are gone among them.
-const MOST_MADE: usize = 0x8000_0000;
 
 // A process makes a child: in its own group where it holds a segment, else one that starts a group.
 fn make_child(bodies: &mut Bodies, pid: u32, child: u32, event: u64) -> Result<(), NoMemory>
@@ -53,7 +50,7 @@ impl Kernel {
         if self.procs.is_full() {
             return Ok(self.answers(pid, error(NO_PROCESS_ROOM)));
         }
-        if !self.can_add_child(pid) {
+        if !self.tables().can_add_child(pid) {
             return Err(NoMemory);
         }
         let extra = self.child_extra(pid)?;
@@ -62,16 +59,6 @@ impl Kernel {
             result: child as u64,
             extra,
         })
-    }
-
-    // Whether there is a number for a child, and room for its descriptors.
-    fn can_add_child(&self, pid: u32) -> bool
-        requires live { IsLive self.now.guests pid }
-        ensures few { IsTrue result → length self.now.kernel.processes < 2 ^ 31 }
-        ensures room { IsTrue result → IsTrue
-            (have_room (descriptors_of self.now.kernel pid) self.now.kernel.descriptions) }
-    {
-        self.procs.count_made() < MOST_MADE && self.resources.has_room(self.procs.descriptors(pid))
     }
 
     // What the record of a fork holds beside the child's number.

@@ -1,13 +1,15 @@
 // The kernel, and what it knows of processes.
-ghost use Rattle.std.specs.Prelude.{◌≡◌, ◌≢◌, ◌+◌, ◌<◌, ◌^◌, ◌↔◌, nat_lt, false, [], length, Err, IfErr, IfSome, IfOk, OnOk, OnErr, IsNone, IsSome, IsTrue, Some, option_map};
+ghost use Rattle.std.specs.Prelude.{◌≡◌, ◌≢◌, ◌+◌, ◌<◌, ◌^◌, ◌↔◌, nat_lt, false, [], length, Err, IfErr, OnOk, OnErr, IsNone, IsSome, IsTrue};
 ghost use Rattle.parts_model.specs.declared.limits.TheConstants.{MOST_FILE_BYTES};
 ghost use Rattle.parts_model.specs.Files.{find_file, is_full};
 ghost use Rattle.parts_model.specs.Processes.{live};
 ghost use Rattle.arn_model.specs.Run.{file_step, typed_step};
 ghost use Rattle.guest_bodies.specs.Shown.{IsLive};
 ghost use Rattle.guest_calls.specs.State.{Becomes, IsNext, state_first};
+ghost use Rattle.guest_calls.specs.Tables.{tables_in};
 
 use arn_base::NoMemory;
+use guest_args::Tables;
 use guest_bodies::Bodies;
 use guest_channels::Channels;
 use guest_files::FileError;
@@ -85,6 +87,19 @@ impl Kernel {
         ensures { IsTrue result ↔ IsLive self.now.guests pid }
     {
         self.bodies.is_live(pid)
+    }
+
+    /// Its tables, to be read.
+    pub(crate) fn tables(&self) -> Tables<'_>
+        ensures { result ≡ tables_in self.now }
+    {
+        Tables::new(
+            &self.bodies,
+            &self.procs,
+            &self.resources,
+            &self.channels,
+            &self.console,
+        )
     }
 
     /// Adds a boot file.

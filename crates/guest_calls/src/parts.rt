@@ -1,8 +1,8 @@
 // What the calls are made of.
-ghost use Rattle.std.specs.Prelude.{◌≡◌, ℕ, ◌+◌, ◌<◌, ◌^◌, IfSome};
+ghost use Rattle.std.specs.Prelude.{◌≡◌, ◌+◌, ◌<◌, ◌^◌, IfSome};
 ghost use Rattle.parts_model.specs.Signals.{due_signal};
 ghost use Rattle.acts_model.specs.Acts.{Act, Delivers, Receives};
-ghost use Rattle.acts_model.specs.Views.{argument, call_number, error as error_of};
+ghost use Rattle.acts_model.specs.Views.{argument, call_number};
 ghost use Rattle.arn_model.specs.Doing.{returns};
 ghost use Rattle.arn_model.specs.Kernel.{ended, status_at};
 ghost use Rattle.arn_model.specs.Step.{without_signal};
@@ -14,15 +14,8 @@ ghost use Rattle.guest_calls.specs.State.{OfProcess};
 use crate::kernel::Kernel;
 use crate::outcomes::Done;
 use arn_base::Extra;
+use guest_args::{argument, call_number};
 use guest_bodies::others_stay_unheld;
-
-/// An error as a call's result.
-pub(crate) fn error(number: u64) -> u64
-    requires { 0 < number }
-    ensures { result ≡ error_of number }
-{
-    0u64.wrapping_sub(number)
-}
 
 impl Kernel {
     /// The number of the call at which a process stands.
@@ -30,7 +23,7 @@ impl Kernel {
         requires { IsLive self.now.guests pid }
         ensures { IfSome (seen_in self.now.guests pid) (λ v. result ≡ call_number v.body.cpu) }
     {
-        self.bodies.cpu(pid).x[16]
+        call_number(&self.bodies, pid)
     }
 
     /// An argument of the call at which a process stands.
@@ -39,7 +32,7 @@ impl Kernel {
         requires place { place < 8 }
         ensures { IfSome (seen_in self.now.guests pid) (λ v. result ≡ argument v.body.cpu place) }
     {
-        self.bodies.cpu(pid).x[9 + place]
+        argument(&self.bodies, pid, place)
     }
 
     /// A call of a process that moves no bytes to it ends with a result.

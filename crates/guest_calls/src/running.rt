@@ -1,14 +1,11 @@
 // What else happens to a process: instructions, deliveries and ends by fault.
-ghost use Rattle.std.specs.Prelude.{◌≡◌, ◌≢◌, ◌+◌, IfSome, IsTrue, Some, length};
+ghost use Rattle.std.specs.Prelude.{◌≡◌, ◌≢◌, ◌+◌, IfSome, IsTrue, Some};
 ghost use Rattle.parts_model.specs.Signals.{is_signal};
 ghost use Rattle.acts_model.specs.Views.{stands_at};
 ghost use Rattle.rv64_model.specs.Instruction.{Call};
-ghost use Rattle.arn_model.specs.Step.{delivery_step, fault_step, waits};
+ghost use Rattle.arn_model.specs.Step.{delivery_step, fault_step};
 ghost use Rattle.arn_model.specs.Turn.{can_go_on};
 ghost use Rattle.guest_bodies.specs.Shown.{IsLive, seen_in};
-ghost use Rattle.guest_calls.specs.Standing.{is_call, is_call_instr};
-ghost use Rattle.arn_base.specs.Window.{number_of};
-ghost use Rattle.rv64_isa.specs.Decoded.{decoded};
 ghost use Rattle.guest_calls.specs.State.{IsNext, OfProcess, StandsFor};
 ghost use Rattle.guest_calls.specs.Steps.{DeliveredBy, Stepped};
 
@@ -17,7 +14,6 @@ use crate::outcomes::Delivered;
 use arn_base::Steps;
 use guest_bodies::others_stay_unheld;
 use rv64_core::Outcome;
-use rv64_isa::{Instr, decode};
 use std::sync::ledger::Ledger;
 
 impl Kernel {
@@ -29,27 +25,8 @@ impl Kernel {
     {
         match self.bodies.due(pid) {
             Some(_) => true,
-            None => !self.waits(pid),
+            None => !self.tables().waits(pid),
         }
-    }
-
-    // Whether a process stands at a call.
-    fn is_at_call(&self, pid: u32) -> bool
-        requires { IsLive self.now.guests pid }
-        ensures { IfSome (seen_in self.now.guests pid) (λ v. result ≡ is_call (stands_at v)) }
-    {
-        match self.bodies.bytes(pid, self.bodies.cpu(pid).pc, 4) {
-            Some(bytes) => is_call_word(bytes),
-            None => false,
-        }
-    }
-
-    // Whether a process stands at a call that isn't ready.
-    fn waits(&self, pid: u32) -> bool
-        requires { IsLive self.now.guests pid }
-        ensures { OfProcess self.now pid (λ m v. result ≡ waits m pid v) }
-    {
-        self.is_at_call(pid) && self.is_waiting(pid)
     }
 
     /// Runs the instruction at which a process stands, and counts it whatever it comes to.
@@ -79,7 +56,7 @@ impl Kernel {
             Some(signal) => signal,
             None => return None,
         };
-        let cut = self.waits(pid);
+        let cut = self.tables().waits(pid);
         let handler = self.bodies.handler(pid, signal);
         if handler == 0 {
             self.ends(pid, 128 + signal);
@@ -101,24 +78,5 @@ impl Kernel {
             StandsFor self.new (fault_step m pid v status).after) }
     {
         self.ends(pid, status);
-    }
-}
-
-// Whether these four bytes are the word of a call.
-fn is_call_word(bytes: &[u8]) -> bool
-    requires { length bytes.now ≡ 4 }
-    ensures { result ≡ is_call_instr (decoded (number_of bytes.now)) }
-{
-    decode(word(bytes)) == Some(Instr::Ecall)
-}
-
-// The word that four bytes spell, the lowest first.
-fn word(bytes: &[u8]) -> u32
-    requires { length bytes.now ≡ 4 }
-    ensures { result ≡ number_of bytes.now }
-{
-    match bytes {
-        [a, b, c, d] => u32::from_le_bytes([*a, *b, *c, *d]),
-        _ => unreachable!(),
     }
 }

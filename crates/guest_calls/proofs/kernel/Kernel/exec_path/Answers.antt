@@ -1,28 +1,32 @@
-use Rattle.std.proofs.Common.{◌≡◌, ◌∙◌, ℕ, List, Some, true, false, ap, sym, subst, arith}
-use Rattle.parts_model.specs.Files.{find_file}
+use Rattle.std.proofs.Common.{◌≡◌, ◌∙◌, ℕ, List, Some, option_map, true, false, ap, sym, subst, arith}
+use Rattle.parts_model.specs.Files.{file_bytes, find_file}
 use Rattle.parts_model.specs.Image.{is_image}
 use Rattle.parts_model.specs.Signals.{no_handlers}
+use Rattle.parts_model.specs.Tagged.{given}
 use Rattle.acts_model.specs.Acts.{Starts}
 use Rattle.arn_model.specs.Doing.{returns}
 use Rattle.arn_model.specs.Kernel.{with_handling}
 use Rattle.arn_model.specs.ProcessCalls.{exec_file}
 use Rattle.guest_calls.specs.Acted.{Acted}
+use Rattle.guest_calls.specs.State.{State}
 use Rattle.guest_calls.proofs.Carries.{carried-same}
 use Rattle.guest_calls.proofs.Restarts.{exec-carried, not-image}
 use Rattle.guest_calls.proofs.kernel.Kernel.exec_path.Goals as goal
 
 pub returns-then-not-is_image-clause-carried : goal.returns-then-not-is_image-clause-carried
 returns-then-not-is_image-clause-carried c =
-    let found : find_file c.args.self.now.kernel.files c.args.path.now ≡ Some c.in-Some.file = sym c.find.ensures.found ∙ c.in-Some.is in
+    let found : find_file c.args.self.now.kernel.files c.args.path.now ≡ Some c.in-Some.file = ap (λ (s : State). find_file s.kernel.files c.args.path.now) (sym c.self.view_is) ∙ (sym c.find_file.ensures.found ∙ c.in-Some.is) in
+    let read : Some c.in_ok-give.give ≡ option_map given (file_bytes c.args.self.now.kernel.files c.in-Some.file) = subst (λ (s : State). Some c.in_ok-give.give ≡ option_map given (file_bytes s.kernel.files c.in-Some.file)) c.self.view_is c.in_ok-give.ensures.given in
     let tested : c.is_image.result ≡ false = first_of (cc, grind arith) in
     let none : is_image c.in_ok-give.give.bytes ≡ false = ap is_image (sym c.as_slice.ensures) ∙ (sym c.is_image.ensures ∙ tested) in
     carried-same c.args.pid c.answers-then-not-is_image.result c.args.self.now c.answers-then-not-is_image.new.self (λ m v. returns c.error-then-not-is_image.result m.kernel) (λ m v. exec_file m c.args.pid v (find_file m.kernel.files c.args.path.now)) c.answers-then-not-is_image.ensures.carried
-    (λ b v sees. ap (λ (a : ℕ). returns a c.args.self.now.kernel) c.error-then-not-is_image.ensures ∙ sym (not-image c.args.self.now c.args.pid c.in-Some.file c.args.path.now c.in_ok-give.give found c.in_ok-give.ensures.given b v none))
+    (λ b v sees. ap (λ (a : ℕ). returns a c.args.self.now.kernel) c.error-then-not-is_image.ensures ∙ sym (not-image c.args.self.now c.args.pid c.in-Some.file c.args.path.now c.in_ok-give.give found read b v none))
 
 pub returns-clause-carried : goal.returns-clause-carried
 returns-clause-carried c =
-    let found : find_file c.args.self.now.kernel.files c.args.path.now ≡ Some c.in-Some.file = sym c.find.ensures.found ∙ c.in-Some.is in
+    let found : find_file c.args.self.now.kernel.files c.args.path.now ≡ Some c.in-Some.file = ap (λ (s : State). find_file s.kernel.files c.args.path.now) (sym c.self.view_is) ∙ (sym c.find_file.ensures.found ∙ c.in-Some.is) in
+    let read : Some c.in_ok-give.give ≡ option_map given (file_bytes c.args.self.now.kernel.files c.in-Some.file) = subst (λ (s : State). Some c.in_ok-give.give ≡ option_map given (file_bytes s.kernel.files c.in-Some.file)) c.self.view_is c.in_ok-give.ensures.given in
     let tested : c.is_image.result ≡ true = first_of (cc, grind arith) in
     let image : is_image c.in_ok-give.give.bytes ≡ true = ap is_image (sym c.as_slice.ensures) ∙ (sym c.is_image.ensures ∙ tested) in
-    exec-carried c.args.self.now c.args.pid c.in-Some.file c.args.path.now c.in_ok-give.give found c.in_ok-give.ensures.given c.restart.new.self c.args.block c.args.block_len image c.requires.block c.requires.block_len
+    exec-carried c.args.self.now c.args.pid c.in-Some.file c.args.path.now c.in_ok-give.give found read c.restart.new.self c.args.block c.args.block_len image c.requires.block c.requires.block_len
     (subst (λ (x : List ℕ). Acted c.args.pid (Starts x c.args.block c.args.block_len) (with_handling c.args.pid (λ h. record h { handlers = no_handlers }) c.args.self.now.kernel) c.args.self.now c.restart.new.self) c.as_slice-2.ensures c.in_ok-restart.ensures.started)

@@ -1,8 +1,9 @@
-use Rattle.std.proofs.Common.{◌≡◌, ℕ, List, min, length, Option, Some, IfSome, is_some, option_map, sym, ap, subst}
+use Rattle.std.proofs.Common.{◌≡◌, ℕ, List, min, length, take, Option, Some, IfSome, is_some, option_map, sym, ap, subst}
 use Rattle.std.specs.Prelude.{IsNone, IsTrue, not}
 use Rattle.arn_base.specs.declared.records.Extra.TheVariants as extra
 use Rattle.parts_model.specs.Numbered.{nth}
 use Rattle.parts_model.specs.Pipes.{room, with_change, with_put}
+use Rattle.acts_model.specs.Bodies.{View}
 use Rattle.acts_model.specs.Views.{read}
 use Rattle.guest_bodies.specs.Shown.{seen_in}
 use Rattle.guest_channels.specs.Channels.{Channels}
@@ -10,8 +11,10 @@ use Rattle.guest_pipes.specs.Answers.{holds}
 use Rattle.guest_calls.specs.Acted.{Carried}
 use Rattle.guest_calls.specs.Kept.{state_of}
 use Rattle.guest_calls.specs.State.{State, OfProcess}
-use Rattle.guest_calls.specs.Transfers.{CanPour, pouring}
-use Rattle.guest_calls.proofs.Piped.{poured-carried}
+use Rattle.guest_args.specs.Transfers.{CanPour, pouring}
+use Rattle.guest_calls.proofs.Carries.{carried-same}
+use Rattle.guest_calls.proofs.Piped.{poured-carried, pouring-first}
+use Rattle.guest_calls.proofs.Stands.{at-seen, machine_with}
 use Rattle.guest_calls.proofs.kernel.Kernel.pour.Goals as goal
 
 pub returns-clause-carried : goal.returns-clause-carried
@@ -27,7 +30,11 @@ returns-clause-carried c =
     (c.in_ok-put.ensures.put (ap is_some c.in-Some.is)) in
     let reads : holds (λ p. IsTrue (not p.has_reader)) (nth c.self.inside.channels.pipes c.args.pipe) → ⊥ =
     λ unread. let none : IsNone (Some c.in-Some.taken) = subst (λ (o : Option ℕ). IsNone o) c.in-Some.is (c.in_ok-put.ensures.broken.1 unread) in cc in
-    subst (λ (s : State). OfProcess s c.args.pid (λ m v. Carried (pouring m c.args.at (read v c.args.at c.args.count) c.args.pipe) (record { result = c.in-Some.taken; extra = extra.Nothing }) m c.args.pid v c.returns.new.self)) c.self.view_is
-    (poured-carried old mid c.returns.new.self c.args.pid c.args.at c.args.count c.in-Some.taken c.args.pipe bytes (subst (λ (s : State). CanPour s.kernel c.args.pipe) (sym c.self.view_is) c.requires.ready) reads counts
-    (subst (λ (s : State). IfSome (seen_in s.guests c.args.pid) (λ v. bytes ≡ read v c.args.at c.args.count)) (sym c.self.view_is) c.in_ok-bytes.ensures.read)
-    (ap (λ (x : Channels). state_of (record c.self.inside { channels = x })) puts) c.returns.ensures)
+    carried-same c.args.pid (record { result = c.in-Some.taken; extra = extra.Nothing }) c.args.self.now c.returns.new.self (λ m v. pouring m c.args.at bytes c.args.pipe) (λ m v. pouring m c.args.at (read v c.args.at c.args.count) c.args.pipe)
+    (subst (λ (s : State). OfProcess s c.args.pid (λ m v. Carried (pouring m c.args.at bytes c.args.pipe) (record { result = c.in-Some.taken; extra = extra.Nothing }) m c.args.pid v c.returns.new.self)) c.self.view_is
+    (poured-carried old mid c.returns.new.self c.args.pid c.args.at c.in-Some.taken c.args.pipe bytes (subst (λ (s : State). CanPour s.kernel c.args.pipe) (sym c.self.view_is) c.requires.ready) reads counts
+    (ap (λ (x : Channels). state_of (record c.self.inside { channels = x })) puts) c.returns.ensures))
+    (λ b v sees. pouring-first (machine_with b c.args.self.now) c.args.at c.args.count c.args.pipe c.min-few.result (read v c.args.at c.args.count) bytes
+    (at-seen (seen_in c.args.self.now.guests c.args.pid) v (λ (w : View). length (read w c.args.at c.args.count) ≡ c.args.count) sees (subst (λ (s : State). IfSome (seen_in s.guests c.args.pid) (λ w. length (read w c.args.at c.args.count) ≡ c.args.count)) c.self.view_is c.in_ok-bytes.ensures.whole))
+    c.min-few.ensures
+    (at-seen (seen_in c.args.self.now.guests c.args.pid) v (λ (w : View). bytes ≡ take c.min-few.result (read w c.args.at c.args.count)) sees (subst (λ (s : State). IfSome (seen_in s.guests c.args.pid) (λ w. bytes ≡ take c.min-few.result (read w c.args.at c.args.count))) c.self.view_is c.in_ok-bytes.ensures.read)))

@@ -1,13 +1,14 @@
-use Rattle.std.proofs.Common.{subst, sym, ap, ◌∙◌, ◌+◌, min, arith, List, ℕ, length}
+use Rattle.std.proofs.Common.{subst, sym, ap, ◌∙◌, ◌+◌, ◌≡◌, min, arith, List, ℕ, length, take, IfSome}
 use Rattle.parts_model.specs.declared.open.Description.TheVariants.{File}
 use Rattle.parts_model.specs.Files.{written}
 use Rattle.acts_model.specs.Views.{read}
 use Rattle.arn_model.specs.Doing.{returns}
 use Rattle.arn_model.specs.Kernel.{Kernel, with_description}
+use Rattle.guest_bodies.specs.Shown.{seen_in}
 use Rattle.guest_resources.specs.Resources.{Changes}
 use Rattle.guest_calls.specs.Kept.{state_of}
 use Rattle.guest_calls.specs.State.{State}
-use Rattle.guest_calls.specs.Transfers.{writing_at}
+use Rattle.guest_args.specs.Transfers.{writing_at}
 use Rattle.guest_calls.proofs.Carries.{carried-same}
 use Rattle.guest_calls.proofs.Filed.{full-write, put-carried, put_at}
 use Rattle.guest_calls.proofs.Stands.{machine_with}
@@ -25,7 +26,10 @@ returns-clause-carried c =
     let bytes : List ℕ = c.in_ok-bytes.bytes in
     let changes : Changes c.self.inside.resources (λ k. with_description c.args.place.number (File c.args.place.file (c.args.place.position + length bytes)) (record k { files = written k.files c.args.place.file c.args.place.position bytes c.self.inside.events })) c.write.new.self =
     subst (λ (x : List ℕ). Changes c.self.inside.resources (λ k. with_description c.args.place.number (File c.args.place.file (c.args.place.position + length x)) (record k { files = written k.files c.args.place.file c.args.place.position x c.self.inside.events })) c.write.new.self) c.as_slice.ensures c.in_ok-write.ensures.written in
-    put-carried c.args.self.now mid c.returns.new.self c.args.pid c.args.at c.args.count c.min-fits.result c.args.place bytes c.in_ok-bytes.ensures.read c.in_ok-bytes.ensures.whole c.in_ok-bytes.ensures.count
+    put-carried c.args.self.now mid c.returns.new.self c.args.pid c.args.at c.args.count c.min-fits.result c.args.place bytes
+    (subst (λ (s : State). IfSome (seen_in s.guests c.args.pid) (λ v. bytes ≡ take c.min-fits.result (read v c.args.at c.args.count))) c.self.view_is c.in_ok-bytes.ensures.read)
+    (subst (λ (s : State). IfSome (seen_in s.guests c.args.pid) (λ v. length (read v c.args.at c.args.count) ≡ c.args.count)) c.self.view_is c.in_ok-bytes.ensures.whole)
+    c.in_ok-bytes.ensures.count
     (omega (arith, c.room-room.ensures, c.if-room-eq0.false))
     (c.min-fits.ensures ∙ ap (min c.args.count) (omega (arith, c.room-room.ensures)))
     (ap (λ (k : Kernel). record old { kernel = k }) (sym (changes.kernel old.kernel)) ∙ ap (λ (s : State). record s { kernel = put_at c.args.place bytes s }) c.self.view_is)

@@ -1,9 +1,8 @@
 -- What a call of a number comes to, and which calls are always ready.
-use Rattle.std.proofs.Common.{◌≡◌, ◌≢◌, ℕ, ◌==◌, Bool, true, false, cond, ◌||◌, ◌&&◌, List, [], ◌∷◌, Option, None, Some, IfOk, IfSome, refl, sym, ap, ap₂, ◌∙◌, subst, ne_eqb, true≢false}
-use Rattle.std.specs.Prelude.{Result, if◌then◌else◌, is_some, nat_lt, not}
+use Rattle.std.proofs.Common.{◌≡◌, ◌≢◌, ℕ, ◌==◌, Bool, true, false, cond, ◌||◌, ◌&&◌, List, [], ◌∷◌, Option, None, Some, refl, sym, ap, ap₂, ◌∙◌, subst, ne_eqb, true≢false}
+use Rattle.std.specs.Prelude.{if◌then◌else◌, is_some, nat_lt, not}
 use Rattle.std.specs.List.{list_any}
 use Rattle.std.proofs.lemmas.Bool.{eqb-true}
-use Rattle.std.proofs.lemmas.Result.{IfOk-weaker}
 use Rattle.parts_model.specs.declared.open.Description.{Description}
 use Rattle.parts_model.specs.declared.open.Description.TheVariants as description
 use Rattle.parts_model.specs.declared.refusals.TheConstants.{BAD_ADDRESS, BAD_ARGUMENT, CONNECTION_REFUSED, NAME_TAKEN, NO_DESCRIPTOR_ROOM, NO_PROCESS_ROOM, NO_ROOM, NO_SUCH_CALL, NOT_IMAGE, PORT_IN_USE}
@@ -16,7 +15,7 @@ use Rattle.parts_model.specs.Ports.{can_connect, is_in_use}
 use Rattle.parts_model.specs.Tagged.{values}
 use Rattle.parts_model.specs.Processes as table
 use Rattle.parts_model.specs.Files.{find_file, file_bytes, is_full, made, next_file}
-use Rattle.acts_model.specs.Bodies.{View, seen}
+use Rattle.acts_model.specs.Bodies.{View}
 use Rattle.acts_model.specs.Views.{argument, call_number, can_reach}
 use Rattle.rv64_model.specs.Instruction.{Effect, Next, Call, End}
 use Rattle.arn_model.specs.ChannelCalls.{accept_row, connect_row, listen_row, pipe_row}
@@ -28,30 +27,22 @@ use Rattle.arn_model.specs.ProcessCalls.{exec_bytes, exec_doing, exec_file, exec
 use Rattle.arn_model.specs.Row.{row, built_calls, is_built, request, is_waiting}
 use Rattle.arn_model.specs.Step.{waits_at}
 use Rattle.arn_model.specs.TransferCalls.{read_row, write_row}
-use Rattle.guest_bodies.specs.Shown.{seen_in}
-use Rattle.guest_calls.specs.Acted.{Carried}
-use Rattle.guest_calls.specs.Standing.{can_wait, is_call}
-use Rattle.guest_calls.specs.State.{State, StandsFor, OfProcess}
-use Rattle.guest_calls.specs.declared.outcomes.Done.{Done}
-use Rattle.guest_calls.proofs.Stands.{at-seen}
+use Rattle.guest_args.specs.Calls.{ComeToRows, OthersAreReady}
+use Rattle.guest_args.specs.Standing.{can_wait, is_call}
 
 -- P holds of each element
-abbrev pub Each : (ℕ → Type 0) → List ℕ → Type 0
+abbrev Each : (ℕ → Type 0) → List ℕ → Type 0
 Each P [] = Unit {0}
 Each P (x ∷ xs) = P x × Each P xs
 
 -- a number of a list is one of which each fact of the list holds
-pub any-of : (P : ℕ → Type 0) (ns : List ℕ) → Each P ns → (n : ℕ) → list_any (λ b. b == n) ns ≡ true → P n
+any-of : (P : ℕ → Type 0) (ns : List ℕ) → Each P ns → (n : ℕ) → list_any (λ b. b == n) ns ≡ true → P n
 any-of P [] all n is = cc
 any-of P (x ∷ xs) all n is = by (x == n) refl is (any-of P xs all.1 n)
   where
     by : (b : Bool) → (x == n) ≡ b → (b || list_any (λ y. y == n) xs) ≡ true → (list_any (λ y. y == n) xs ≡ true → P n) → P n
     by true e h later = subst P (eqb-true x n e) all.0
     by false e h later = later h
-
-pub not-any : (n : ℕ) (ns : List ℕ) → Each (λ b. b ≢ n) ns → list_any (λ b. b == n) ns ≡ false
-not-any n [] none = refl
-not-any n (x ∷ xs) none = ap₂ (λ (a b : Bool). a || b) (ne_eqb x n none.0) (not-any n xs none.1)
 
 -- the numbers of calls that are always ready
 pub ready-number : (n : ℕ) → n ≢ 11 → n ≢ 12 → n ≢ 4 → n ≢ 20 → can_wait n ≡ false
@@ -324,30 +315,40 @@ module _ (m : Machine) (pid : ℕ) (v : View) where
   pub request-ready : (n : ℕ) → call_number v.body.cpu ≡ n → can_wait n ≡ false → is_waiting (request m pid v) ≡ false
   request-ready n is ready = ready-by n (is_built n) refl is ready
 
--- the number of the call of a process that a machine knows
-pub called : (s : State) (pid number n : ℕ) (m : Machine) (v : View) → StandsFor s m → seen m.bodies pid ≡ Some v → IfSome (seen_in s.guests pid) (λ w. number ≡ call_number w.body.cpu) → number ≡ n → call_number v.body.cpu ≡ n
-called s pid number n m v stands sees told is = sym (at-seen (seen_in s.guests pid) v (λ (w : View). number ≡ call_number w.body.cpu) (stands.seen pid ∙ sees) told) ∙ is
-
--- what carries out a row carries out the call of its number
-module _ (s new : State) (pid number n : ℕ) (one : Machine → View → Request) (told : IfSome (seen_in s.guests pid) (λ w. number ≡ call_number w.body.cpu)) (is : number ≡ n) (built : is_built n ≡ true) (same : (m : Machine) (v : View) → row n m pid v ≡ one m v) where
-  pub carried-call : (d : Done) → OfProcess s pid (λ m v. Carried (one m v) d m pid v new) → OfProcess s pid (λ m v. Carried (request m pid v) d m pid v new)
-  carried-call d carried m v stands sees =
-      subst (λ (r : Request). Carried r d m pid v new)
-      (sym (request-built m pid v n (one m v) (called s pid number n m v stands sees told is) built (same m v))) (carried m v stands sees)
-
-  pub carried-calls : {E : Type 0} (r : Result Done E) → IfOk r (λ (d : Done). OfProcess s pid (λ m v. Carried (one m v) d m pid v new)) → IfOk r (λ (d : Done). OfProcess s pid (λ m v. Carried (request m pid v) d m pid v new))
-  carried-calls r carried =
-      IfOk-weaker r (λ (d : Done). OfProcess s pid (λ m v. Carried (one m v) d m pid v new)) (λ (d : Done). OfProcess s pid (λ m v. Carried (request m pid v) d m pid v new))
-      carried-call carried
-
--- a call that isn't built is refused
-pub carried-none : (s new : State) (pid number : ℕ) (d : Done) → IfSome (seen_in s.guests pid) (λ w. number ≡ call_number w.body.cpu) → is_built number ≡ false → OfProcess s pid (λ m v. Carried (refused NO_SUCH_CALL m.kernel) d m pid v new) → OfProcess s pid (λ m v. Carried (request m pid v) d m pid v new)
-carried-none s new pid number d told unbuilt carried m v stands sees =
-    subst (λ (r : Request). Carried r d m pid v new)
-    (sym (request-none m pid v number (called s pid number number m v stands sees told refl) unbuilt)) (carried m v stands sees)
-
 -- a process at a call waits where the call does
 pub waits-at-call : (m : Machine) (pid : ℕ) (v : View) (e : Effect) (b : Bool) → is_call e ≡ true → b ≡ is_waiting (request m pid v) → b ≡ waits_at m pid v e
 waits-at-call m pid v (Next instr cpu memory) b at is = absurd (true≢false (sym at))
 waits-at-call m pid v Call b at is = is
 waits-at-call m pid v (End status) b at is = absurd (true≢false (sym at))
+
+-- and waits nowhere else
+pub waits-not : (m : Machine) (pid : ℕ) (v : View) (e : Effect) → is_call e ≡ false → false ≡ waits_at m pid v e
+waits-not m pid v (Next instr cpu memory) isnt = refl
+waits-not m pid v Call isnt = absurd (true≢false isnt)
+waits-not m pid v (End status) isnt = refl
+
+-- the table of calls
+pub come-to-rows : ComeToRows
+come-to-rows =
+    record {
+      exit = λ m pid v is. request-built m pid v 1 (exit_row m pid v) is refl (row-exit m pid v);
+      fork = λ m pid v is. request-built m pid v 2 (fork_row m pid v) is refl (row-fork m pid v);
+      exec = λ m pid v is. request-built m pid v 3 (exec_row m pid v) is refl (row-exec m pid v);
+      wait = λ m pid v is. request-wait m pid v is;
+      getpid = λ m pid v is. request-built m pid v 5 (getpid_row m pid v) is refl (row-getpid m pid v);
+      «open» = λ m pid v is. request-built m pid v 9 (open_row m pid v) is refl (row-open m pid v);
+      close = λ m pid v is. request-built m pid v 10 (close_row m pid v) is refl (row-close m pid v);
+      read = λ m pid v is. request-read m pid v is;
+      write = λ m pid v is. request-write m pid v is;
+      seek = λ m pid v is. request-built m pid v 13 (seek_row m pid v) is refl (row-seek m pid v);
+      dup = λ m pid v is. request-built m pid v 14 (dup_row m pid v) is refl (row-dup m pid v);
+      pipe = λ m pid v is. request-built m pid v 15 (pipe_row m pid v) is refl (row-pipe m pid v);
+      unlink = λ m pid v is. request-built m pid v 16 (unlink_row m pid v) is refl (row-unlink m pid v);
+      listen = λ m pid v is. request-built m pid v 18 (listen_row m pid v) is refl (row-listen m pid v);
+      connect = λ m pid v is. request-built m pid v 19 (connect_row m pid v) is refl (row-connect m pid v);
+      accept = λ m pid v is. request-accept m pid v is;
+      yield = λ m pid v is. request-built m pid v 22 (yield_row m pid v) is refl (row-yield m pid v);
+    }
+
+pub others-ready : OthersAreReady
+others-ready = record { ready = λ m pid v ready. request-ready m pid v (call_number v.body.cpu) refl ready }

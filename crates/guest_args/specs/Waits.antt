@@ -8,8 +8,8 @@ use Rattle.arn_model.specs.ProcessCalls.{wait_status}
 use Rattle.guest_procs.specs.Answers.{lowest_ended}
 use Rattle.guest_procs.specs.Status.{status_byte}
 use Rattle.guest_procs.specs.declared.answers.Ended.{Ended}
-use Rattle.guest_calls.specs.declared.waiting.Waiting.{Waiting}
-use Rattle.guest_calls.specs.declared.waiting.Waiting.TheVariants as waiting
+use Rattle.guest_args.specs.declared.waiting.Waiting.{Waiting}
+use Rattle.guest_args.specs.declared.waiting.Waiting.TheVariants as waiting
 
 -- a process receives the status of a child that has ended so
 abbrev pub collecting : Machine → View → Ended → Request

@@ -13,11 +13,11 @@ use Rattle.arn_model.specs.Kernel.{Kernel, Machine, what_is}
 use Rattle.arn_model.specs.Row.{is_waiting}
 use Rattle.arn_model.specs.TransferCalls.{cut, if_moving, read_console, read_file, read_pipe, read_what, receiving, write_console, write_file, write_pipe, write_what}
 use Rattle.guest_resources.specs.Resources.{IsIn, is_of}
-use Rattle.guest_calls.specs.declared.transfers.Place.{Place}
-use Rattle.guest_calls.specs.declared.transfers.Reading.{Reading}
-use Rattle.guest_calls.specs.declared.transfers.Reading.TheVariants as reading
-use Rattle.guest_calls.specs.declared.transfers.Writing.{Writing}
-use Rattle.guest_calls.specs.declared.transfers.Writing.TheVariants as writing
+use Rattle.guest_args.specs.declared.reading.Place.{Place}
+use Rattle.guest_args.specs.declared.reading.Reading.{Reading}
+use Rattle.guest_args.specs.declared.reading.Reading.TheVariants as reading
+use Rattle.guest_args.specs.declared.writing.Writing.{Writing}
+use Rattle.guest_args.specs.declared.writing.Writing.TheVariants as writing
 
 -- a transfer that moves so many bytes at most goes on, and one that moves none has a result
 abbrev pub moved_by : Result ℕ ℕ → Machine → Request → Request
@@ -65,7 +65,7 @@ abbrev pub IsReading : Reading → Machine → Request → Type 0
 IsReading (reading.Answers answer) m request = request ≡ returns answer m.kernel
 IsReading reading.Waits m request = request ≡ Waits
 IsReading (reading.Takes at count) m request = request ≡ taking m at count
-IsReading (reading.Reads at most place) m request = request ≡ reading_at m at most place
+IsReading (reading.Reads at most place) m request = (request ≡ reading_at m at most place) × (is_waiting request ≡ false)
 IsReading (reading.Drains at most pipe) m request = (request ≡ draining m at most pipe) × (is_waiting request ≡ false)
 
 -- so many bytes wait in the console's queue, the place is there, the pipe is ready, and no more are moved than may be

@@ -1,0 +1,5 @@
+pub mod Rows
+pub mod Ready
+pub mod Children
+pub mod Piped
+pub mod Seen

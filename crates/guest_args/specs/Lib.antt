@@ -1,0 +1,7 @@
+pub mod Tables
+pub mod Paths
+pub mod Transfers
+pub mod Waits
+pub mod Accepts
+pub mod Standing
+pub mod Calls
