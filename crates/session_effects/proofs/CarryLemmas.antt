@@ -3,8 +3,9 @@ use Rattle.std.proofs.Common.{◌≡◌, ◌⊎◌, inl, inr, ℕ, ◌++◌, Lis
 use Rattle.arn_base.specs.declared.records.Record.{Record}
 use Rattle.log_store.specs.Log.{IsLog}
 use Rattle.log_store.specs.Stops.{LeavesOnly}
+use Rattle.log_store.specs.Stores.{MayLeaveLog}
 use Rattle.session_effects.specs.Effects.{Effect, committed, printed}
-use Rattle.session_effects.specs.Carrying.{IsAtRest, HoldsFirst, HoldsAll, HoldsMore, Keeps, CarriesOut, IsInText, IsAtCommit, IsInCommit, Stopped, StopsAt, StopsBetween, RestsMore}
+use Rattle.session_effects.specs.Carrying.{HoldsLog, IsAtRest, HoldsFirst, HoldsAll, HoldsMore, Keeps, CarriesOut, IsInText, IsAtCommit, IsInCommit, Stopped, StopsAt, StopsBetween, RestsMore}
 use Rattle.session_effects.specs.declared.halt.Halt.{Halt}
 use Rattle.session_effects.specs.declared.halt.Halt.TheVariants as halt
 use Rattle.session_effects.proofs.EffectLemmas.{printed-append, history-append}
@@ -98,12 +99,14 @@ module _ {D : Type 0} (is_run : List Record → Type 0) (d : Ghosts D) where
         (λ bytes h. subst (λ (x : List Effect). HoldsFirst is_run history x bytes) (sym (append_assoc first done next)) (HoldsFirst-before is_run history first (done ++ next) bytes (subst (λ (x : List Effect). HoldsFirst is_run history x bytes) (append-nil first) h)))
         (λ bytes h. subst (λ (x : List Effect). HoldsFirst is_run history x bytes) (sym (append_assoc first done next)) (HoldsFirst-behind is_run history first (done ++ next) bytes a.still_run h));
     now = λ bytes may. HoldsAll-behind history first done next bytes (b.now bytes may);
+    may_leave = subst (MayLeaveLog (d.may_leave new)) (history-append history first done) b.may_leave;
     still_run = λ was. subst is_run (history-append history first done) (b.still_run (a.still_run was));
   }
 
   pub CarriesOut-append : (old mid new : D) (history : List Record) (h0 h1 h2 : Option (List ℕ)) (first others : List Effect) → CarriesOut is_run d old mid history h0 h1 first → CarriesOut is_run d mid new (history ++ committed first) h1 h2 others → CarriesOut is_run d old new history h0 h2 (first ++ others)
   CarriesOut-append old mid new history h0 h1 h2 first others a b = record {
     put = held-more h0 h1 h2 _ _ _ a.put b.put (sym (printed-append first others));
+    holds_log = λ log. subst (HoldsLog d new) (history-append history first others) (b.holds_log (a.holds_log log));
     rests = λ was. subst (IsAtRest d new) (history-append history first others) (b.rests (a.rests was));
     keeps = λ was. Keeps-append old mid new history first others [] (a.keeps was) (b.keeps (a.rests was));
   }
@@ -121,6 +124,7 @@ module _ {D : Type 0} (is_run : List Record → Type 0) (d : Ghosts D) where
         held-more h0 h1 h2 _ _ _ a.put b.put
         (sym (append_assoc (printed first) (printed (some ++ b.done)) b.part) ∙ ap (λ (x : List ℕ). x ++ b.part) (sym (printed-append first (some ++ b.done)) ∙ ap printed (sym (append_assoc first some b.done))));
     keeps = λ was. subst (λ (x : List Effect). Keeps is_run d old new history x b.next) (sym (append_assoc first some b.done)) (Keeps-append old mid new history first (some ++ b.done) b.next (a.keeps was) (b.keeps (a.rests was)));
+    holds_log = λ none log. subst (HoldsLog d new) (history-append history first (some ++ b.done) ∙ ap (λ (x : List Effect). history ++ committed x) (sym (append_assoc first some b.done))) (b.holds_log none (a.holds_log log));
     rests = λ none was. subst (IsAtRest d new) (history-append history first (some ++ b.done) ∙ ap (λ (x : List Effect). history ++ committed x) (sym (append_assoc first some b.done))) (b.rests none (a.rests was));
   }
 
@@ -135,6 +139,7 @@ module _ {D : Type 0} (is_run : List Record → Type 0) (d : Ghosts D) where
     stopped = s.stopped;
     put = s.put ∙ ap (λ (x : List Effect). option_map (λ before. before ++ (printed x ++ s.part)) h0) (append_assoc first some s.done);
     keeps = λ was. subst (λ (x : List Effect). Keeps is_run d old new history x s.next) (append_assoc first some s.done) (s.keeps was);
+    holds_log = λ none log. subst (λ (x : List Effect). HoldsLog d new (history ++ committed x)) (append_assoc first some s.done) (s.holds_log none log);
     rests = λ none was. subst (λ (x : List Effect). IsAtRest d new (history ++ committed x)) (append_assoc first some s.done) (s.rests none was);
   }
 
@@ -149,6 +154,7 @@ module _ {D : Type 0} (is_run : List Record → Type 0) (d : Ghosts D) where
     stopped = Stopped-before d new why s.undone more s.part s.next s.stopped;
     put = s.put;
     keeps = s.keeps;
+    holds_log = s.holds_log;
     rests = s.rests;
   }
 
@@ -173,6 +179,7 @@ module _ {D : Type 0} (is_run : List Record → Type 0) (d : Ghosts D) where
     stopped = s.stopped;
     put = s.put;
     keeps = s.keeps;
+    holds_log = s.holds_log;
     rests = s.rests;
   }
 
@@ -183,6 +190,7 @@ module _ {D : Type 0} (is_run : List Record → Type 0) (d : Ghosts D) where
     stopped = b.stopped;
     put = held-more h0 h1 h2 _ _ _ a.put b.put (sym (append_assoc (printed first) (printed done) b.part) ∙ ap (λ (x : List ℕ). x ++ b.part) (sym (printed-append first done)));
     keeps = λ was. Keeps-append old mid new history first done b.next (a.keeps was) (b.keeps (a.rests was));
+    holds_log = λ none log. subst (HoldsLog d new) (history-append history first done) (b.holds_log none (a.holds_log log));
     rests = λ none was. subst (IsAtRest d new) (history-append history first done) (b.rests none (a.rests was));
   }
 
@@ -197,6 +205,7 @@ module _ {D : Type 0} (is_run : List Record → Type 0) (d : Ghosts D) where
     stopped = Stopped-before d new why undone more s.part s.next s.stopped;
     put = s.put;
     keeps = s.keeps;
+    holds_log = s.holds_log;
     rests = s.rests;
   }
 

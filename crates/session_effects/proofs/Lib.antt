@@ -7,3 +7,4 @@ pub mod StepLemmas
 pub mod CommitLemmas
 pub mod PrintLemmas
 pub mod OpenLemmas
+pub mod QuietLemmas

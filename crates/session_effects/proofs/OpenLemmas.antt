@@ -58,6 +58,10 @@ module _ {D : Type 0} (is_run : List Record → Type 0) (d : Ghosts D) where
   pub CarriesOut-open : MayStay D d → CountsNow D d → ClosedAreLogs → (old new : D) (store : StoreState) (held : Option (List ℕ)) → is_some (d.image new) ≡ is_some (d.image old) → IfSome (d.image new) (IsLeftBy store) → (NothingPending d.image d.may_leave old → NothingPending d.image d.may_leave new) → IfSome (d.image old) (λ bytes. Only bytes (d.may_leave old) → LeavesOnly d.moment d.left_since old new (KeepsRecords bytes)) → CarriesOut is_run d old new store.entries held held []
   CarriesOut-open stays counts closed old new store held tells left pending any = record {
     put = held-none held;
+    holds_log = λ log.
+        let told = told-too (d.image new) (d.image old) log.bytes log.is_image tells in
+        let is_left = told-at (d.image new) told.0 (IsLeftBy store) told.1 left in
+        record { bytes = told.0; is_image = told.1; is_log = subst (IsLog told.0) (sym (append-nil store.entries)) (closed told.0 store.entries is_left.is_log) };
     rests = λ was. at_rest was;
     keeps = λ was.
         let moments = told-at (d.image old) was.bytes (λ bytes. Only bytes (d.may_leave old) → LeavesOnly d.moment d.left_since old new (KeepsRecords bytes)) was.is_image any was.only in
@@ -65,6 +69,7 @@ module _ {D : Type 0} (is_run : List Record → Type 0) (d : Ghosts D) where
         record {
           any_moment = leaves-weaker d.moment d.left_since old new (KeepsRecords was.bytes) (HoldsFirst is_run store.entries []) moments (λ bytes k. kept-first is_run store.entries was.bytes bytes was.is_log was.fits k);
           now = λ bytes may. inl (subst (λ x. IsLog x (store.entries ++ [])) (sym (there.only bytes may)) there.is_log);
+          may_leave = record { left = there.bytes; may_be = told-at (d.image new) there.bytes (d.may_leave new) there.is_image (stays new); is_log = there.is_log };
           still_run = λ was_run. subst is_run (sym (append-nil store.entries)) was_run;
         };
   }
@@ -101,12 +106,15 @@ module _ {D : Type 0} (is_run : List Record → Type 0) (d : Ghosts D) where
       (leaves-joined d.moment d.left_since old mid new (HoldsMore is_run entries) (HoldsMore is_run entries) (HoldsMore is_run entries) (open-moments old mid entries any here) (session (subst (IsAtRest d mid) (append-nil entries) (opening.rests here))) (λ bytes h. h) (λ bytes h. h))
 
   -- an opening that failed leaves the history at any moment
-  pub Keeps-open : CountsNow D d → (old new : D) (history : List Record) → IfSome (d.image old) (λ bytes. Only bytes (d.may_leave old) → LeavesOnly d.moment d.left_since old new (KeepsRecords bytes)) → IsAtRest d old history → Keeps is_run d old new history [] []
-  Keeps-open counts old new history any was =
+  pub Keeps-open : MayStay D d → CountsNow D d → (old new : D) (history : List Record) → is_some (d.image new) ≡ is_some (d.image old) → IfSome (d.image old) (λ bytes. Only bytes (d.may_leave old) → LeavesOnly d.moment d.left_since old new (KeepsRecords bytes)) → IsAtRest d old history → Keeps is_run d old new history [] []
+  Keeps-open stays counts old new history tells any was =
       let moments = told-at (d.image old) was.bytes (λ bytes. Only bytes (d.may_leave old) → LeavesOnly d.moment d.left_since old new (KeepsRecords bytes)) was.is_image any was.only in
+      let told = told-too (d.image new) (d.image old) was.bytes was.is_image tells in
+      let here = told-at (d.image new) told.0 (d.may_leave new) told.1 (stays new) in
       record {
         any_moment = leaves-weaker d.moment d.left_since old new (KeepsRecords was.bytes) (HoldsFirst is_run history []) moments (λ bytes k. kept-first is_run history was.bytes bytes was.is_log was.fits k);
         now = λ bytes may. inl (subst (IsLog bytes) (sym (append-nil history)) ((moments.each bytes (counts new (d.moment old) bytes moments.later may)).same history was.is_log));
+        may_leave = record { left = told.0; may_be = here; is_log = subst (IsLog told.0) (sym (append-nil history)) ((moments.each told.0 (counts new (d.moment old) told.0 moments.later here)).same history was.is_log) };
         still_run = λ was_run. subst is_run (sym (append-nil history)) was_run;
       }
 

@@ -6,6 +6,7 @@ use Rattle.arn_base.specs.declared.disk.Disk.{Ghosts}
 use Rattle.arn_base.specs.Disk.{Only}
 use Rattle.log_store.specs.Log.{IsLog, spellings}
 use Rattle.log_store.specs.Stops.{LeavesOnly}
+use Rattle.log_store.specs.Stores.{MayLeaveLog}
 use Rattle.log_store.specs.declared.size.TheConstants.{MOST_LOG}
 use Rattle.session_effects.specs.Effects.{Effect, Commits, Prints, committed, printed}
 use Rattle.session_effects.specs.declared.halt.Halt.{Halt}
@@ -42,18 +43,20 @@ HoldsAll history done next bytes =
     IsLog bytes (history ++ committed done) ⊎ IsLog bytes (history ++ committed (done ++ next))
 
 -- From one state of the disk to a later one: a stop at any moment leaves the first commits, and a stop now leaves
--- all that are done, and perhaps the next commit, whole.
+-- all that are done, and perhaps the next commit, whole; some stop now leaves exactly those that are done.
 pub record Keeps {D : Type 0} (is_run : List Record → Type 0) (d : Ghosts D) (old new : D)
     (history : List Record) (done next : List Effect) : Type 0 where
   pub any_moment : LeavesOnly d.moment d.left_since old new (HoldsFirst is_run history (done ++ next))
   pub now : (bytes : List ℕ) → d.may_leave new bytes → HoldsAll history done next bytes
+  pub may_leave : MayLeaveLog (d.may_leave new) (history ++ committed done)
   pub still_run : is_run history → is_run (history ++ committed done)
 
 -- The effects were carried out: the sink holds what they print behind what it held, where it tells, and the disk
--- holds what they commit behind the history, where it tells and was at rest.
+-- holds what they commit behind the history, where it tells: at rest, where it was at rest.
 pub record CarriesOut {D : Type 0} (is_run : List Record → Type 0) (d : Ghosts D) (old new : D)
     (history : List Record) (held holds : Option (List ℕ)) (effects : List Effect) : Type 0 where
   pub put : holds ≡ option_map (λ before. before ++ printed effects) held
+  pub holds_log : HoldsLog d old history → HoldsLog d new (history ++ committed effects)
   pub rests : IsAtRest d old history → IsAtRest d new (history ++ committed effects)
   pub keeps : IsAtRest d old history → Keeps is_run d old new history effects []
 
@@ -101,6 +104,7 @@ pub record StopsAt {D : Type 0} (is_run : List Record → Type 0) (d : Ghosts D)
   pub stopped : Stopped d new why undone part next
   pub put : holds ≡ option_map (λ before. before ++ (printed (first ++ done) ++ part)) held
   pub keeps : IsAtRest d old history → Keeps is_run d old new history (first ++ done) next
+  pub holds_log : next ≡ [] → HoldsLog d old history → HoldsLog d new (history ++ committed (first ++ done))
   pub rests : next ≡ [] → IsAtRest d old history → IsAtRest d new (history ++ committed (first ++ done))
 
 -- The same, where these effects were carried out, and of those that come next some of the first at most.
@@ -112,6 +116,7 @@ pub record StopsBetween {D : Type 0} (is_run : List Record → Type 0) (d : Ghos
   pub stopped : Stopped d new why undone part next
   pub put : holds ≡ option_map (λ before. before ++ (printed done ++ part)) held
   pub keeps : IsAtRest d old history → Keeps is_run d old new history done next
+  pub holds_log : next ≡ [] → HoldsLog d old history → HoldsLog d new (history ++ committed done)
   pub rests : next ≡ [] → IsAtRest d old history → IsAtRest d new (history ++ committed done)
 
 -- A log of a history, and of more records behind it. Where the history was that of a run, it still is.

@@ -99,7 +99,7 @@ module _ {D : Type 0} (is_run : List Record → Type 0) (d : Ghosts D) where
 
   -- an opening that failed leaves the history at any moment
   abbrev pub OpeningKeeps : Type 0
-  OpeningKeeps = (old new : D) (history : List Record) → OpensLog d old new → IsAtRest d old history →
+  OpeningKeeps = (old new : D) (history : List Record) → is_some (d.image new) ≡ is_some (d.image old) → OpensLog d old new → IsAtRest d old history →
       Keeps is_run d old new history [] []
 
   abbrev pub OpeningLeaves : Type 0

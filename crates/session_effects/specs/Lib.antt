@@ -4,3 +4,4 @@ pub mod Printing
 pub mod Standing
 pub mod Halts
 pub mod Laws
+pub mod Quiet

@@ -1,5 +1,6 @@
 // What holds of effects as a whole.
 ghost use Rattle.session_effects.specs.Laws.{CausesFollow, OpeningCarries, OpeningKeeps, OpeningLeaves, OpenedCarries, OpenedStops, OpenedLeaves, OpenedRests, ReadsNothing, HistoryIsStore, EffectsFollow, HaltsFollow, CarriedLeaves, StoppedLeaves, CarriedRests, StoppedRests};
+ghost use Rattle.session_effects.specs.Quiet.{QuietFollows};
 
 use crate::runs::Runs;
 use arn_base::Disk;
@@ -48,3 +49,8 @@ pub fn openings_follow<R: Runs, D: Disk>()
 {
     logs_read_one_way();
 }
+
+/// What was done over a sink that drops what it is given, seen from another that was given nothing.
+pub fn quiet_follows<R: Runs, D: Disk>()
+    ensures { QuietFollows R.is_run D.Disk }
+{}

@@ -12,6 +12,6 @@ mod runs;
 
 pub use commits::{commit, commit_some};
 pub use halt::Halt;
-pub use law::{causes_follow, effects_follow, halts_follow, openings_follow};
+pub use law::{causes_follow, effects_follow, halts_follow, openings_follow, quiet_follows};
 pub use printing::put_all;
 pub use runs::Runs;

@@ -6,4 +6,7 @@ pub mod LegLemmas
 pub mod StopLemmas
 pub mod TakenLemmas
 pub mod LoopLemmas
+pub mod CountLemmas
+pub mod QuietLemmas
 mod Examples
+mod EndLemmas

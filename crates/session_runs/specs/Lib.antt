@@ -4,3 +4,5 @@ pub mod Runs
 pub mod Points
 pub mod Ready
 pub mod Laws
+pub mod Quiet
+pub mod Ends

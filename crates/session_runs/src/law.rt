@@ -1,11 +1,14 @@
 // What holds of points, and of what lies between them.
+ghost use Rattle.session_runs.specs.Ends.{RunsEnd};
 ghost use Rattle.session_runs.specs.Laws.{PointsFollow};
+ghost use Rattle.session_runs.specs.Quiet.{QuietPointsFollow};
 
 use arn_base::Disk;
+use arn_model::runs_append;
 use guest_devices::Answers;
 use guest_machine::{picks_follow, replies_follow};
-use log_model::named_append;
-use session_effects::{Runs, effects_follow, halts_follow};
+use log_model::{events_recorded, named_append, records_append};
+use session_effects::{Runs, effects_follow, halts_follow, quiet_follows};
 
 /// What lies between points follows one another, and where a session halts behind it.
 pub fn points_follow<R: Runs, D: Disk, A: Answers>()
@@ -17,3 +20,19 @@ pub fn points_follow<R: Runs, D: Disk, A: Answers>()
     effects_follow::<R, D>();
     halts_follow::<R, D>();
 }
+
+/// What is done over a sink that drops what it is given, and then told in one text.
+pub fn quiet_points_follow<R: Runs, D: Disk, A: Answers>()
+    ensures { QuietPointsFollow R.is_run D.Disk A.answers }
+{
+    quiet_follows::<R, D>();
+    halts_follow::<R, D>();
+    records_append();
+    events_recorded();
+    runs_append();
+}
+
+/// Each run ends with its machine done or stalled, or with its budget spent, and not before.
+pub fn runs_end()
+    ensures { RunsEnd }
+{}

@@ -6,8 +6,8 @@ use Rattle.session_effects.proofs.commits.commit.Goals as goal
 
 pub returns-in_err-commit-clause-undone : goal.returns-in_err-commit-clause-undone
 returns-in_err-commit-clause-undone g c =
-    halts-error-result g.R.Runs.is_run g.D.Disk g.met.D.Disk.counts_now g.met.D.Disk.only_now c.from_residual.result c.args.disk.now c.commit.new.disk c.args.store.now
-    c.args.entries.items c.in_err-commit.field-0.0 c.from_residual.ensures.1 c.requires.run c.requires.open.left c.in_err-commit.ensures.any_moment
+    halts-error-result g.R.Runs.is_run g.D.Disk g.met.D.Disk.counts_now g.met.D.Disk.reads_may_stay g.met.D.Disk.only_now c.from_residual.result c.args.disk.now c.commit.new.disk c.args.store.now
+    c.args.entries.items c.in_err-commit.field-0.0 c.from_residual.ensures.1 c.requires.run c.requires.open.left c.in_err-commit.ensures.any_moment c.in_err-commit.ensures.before
     (λ log payload is. let full = c.in_err-commit.ensures.full log payload (ap Err is) in record { is_len = full.0; is_payload = full.1; too_long = full.2 })
     (λ log payload is. let same = c.in_err-commit.ensures.full_unchanged log payload (ap Err is) in same.1)
 
@@ -15,8 +15,8 @@ pub returns-in_err-commit-clause-stops : goal.returns-in_err-commit-clause-stops
 returns-in_err-commit-clause-stops g c =
     stops-result g.R.Runs.is_run g.D.Disk c.from_residual.result c.args.disk.now c.commit.new.disk c.args.store.now.entries (Commits c.args.entries.items ∷ [])
     (
-    halts-error-result g.R.Runs.is_run g.D.Disk g.met.D.Disk.counts_now g.met.D.Disk.only_now c.from_residual.result c.args.disk.now c.commit.new.disk c.args.store.now
-    c.args.entries.items c.in_err-commit.field-0.0 c.from_residual.ensures.1 c.requires.run c.requires.open.left c.in_err-commit.ensures.any_moment
+    halts-error-result g.R.Runs.is_run g.D.Disk g.met.D.Disk.counts_now g.met.D.Disk.reads_may_stay g.met.D.Disk.only_now c.from_residual.result c.args.disk.now c.commit.new.disk c.args.store.now
+    c.args.entries.items c.in_err-commit.field-0.0 c.from_residual.ensures.1 c.requires.run c.requires.open.left c.in_err-commit.ensures.any_moment c.in_err-commit.ensures.before
     (λ log payload is. let full = c.in_err-commit.ensures.full log payload (ap Err is) in record { is_len = full.0; is_payload = full.1; too_long = full.2 })
     (λ log payload is. let same = c.in_err-commit.ensures.full_unchanged log payload (ap Err is) in same.1))
 

@@ -4,11 +4,11 @@ use Rattle.session_effects.proofs.law.effects_follow.Goals as goal
 
 pub returns-clause-follow : goal.returns-clause-follow
 returns-clause-follow g c = record {
-  nothing = CarriesOut-none g.R.Runs.is_run g.D.Disk g.met.D.Disk.only_now;
-  text = CarriesOut-text g.R.Runs.is_run g.D.Disk g.met.D.Disk.only_now;
+  nothing = CarriesOut-none g.R.Runs.is_run g.D.Disk g.met.D.Disk.reads_may_stay g.met.D.Disk.only_now;
+  text = CarriesOut-text g.R.Runs.is_run g.D.Disk g.met.D.Disk.reads_may_stay g.met.D.Disk.only_now;
   append = CarriesOut-then g.R.Runs.is_run g.D.Disk;
-  stops = StopsAt-nothing g.R.Runs.is_run g.D.Disk g.met.D.Disk.only_now;
-  stops_text = StopsAt-text g.R.Runs.is_run g.D.Disk g.met.D.Disk.only_now;
+  stops = StopsAt-nothing g.R.Runs.is_run g.D.Disk g.met.D.Disk.reads_may_stay g.met.D.Disk.only_now;
+  stops_text = StopsAt-text g.R.Runs.is_run g.D.Disk g.met.D.Disk.reads_may_stay g.met.D.Disk.only_now;
   behind = StopsAt-then g.R.Runs.is_run g.D.Disk;
   before = StopsAt-before g.R.Runs.is_run g.D.Disk;
   among = StopsAt-among g.R.Runs.is_run g.D.Disk;

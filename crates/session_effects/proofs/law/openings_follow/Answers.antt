@@ -8,7 +8,7 @@ pub returns-clause-carries : goal.returns-clause-carries
 returns-clause-carries g c = CarriesOut-open g.R.Runs.is_run g.D.Disk g.met.D.Disk.reads_may_stay g.met.D.Disk.counts_now c.logs_read_one_way.ensures.closed
 
 pub returns-clause-keeps : goal.returns-clause-keeps
-returns-clause-keeps g c = Keeps-open g.R.Runs.is_run g.D.Disk g.met.D.Disk.counts_now
+returns-clause-keeps g c = Keeps-open g.R.Runs.is_run g.D.Disk g.met.D.Disk.reads_may_stay g.met.D.Disk.counts_now
 
 pub returns-clause-leaves : goal.returns-clause-leaves
 returns-clause-leaves g c = open-moments g.R.Runs.is_run g.D.Disk
