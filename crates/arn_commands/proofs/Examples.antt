@@ -1,6 +1,9 @@
 -- Texts, and what they ask for.
-use Rattle.std.proofs.Common.{◌≡◌, ℕ, Bool, List, [], ◌∷◌, ◌++◌, flat_map, true, false, option_map, Some, refl, codes}
+use Rattle.std.proofs.Common.{◌≡◌, ℕ, Bool, List, [], ◌∷◌, ◌++◌, flat_map, true, false, option_map, None, Some, refl, codes}
+use Rattle.std.specs.Fmt.{digits}
 use Rattle.arn_lines.specs.declared.line.Line.TheVariants as line
+use Rattle.gen_texts.specs.Program as generator
+use Rattle.gen_texts.specs.Program.{rest}
 use Rattle.guest_asm.specs.Assembled.{fault_of, image_of_text}
 use Rattle.arn_commands.specs.declared.command.Command.{Command}
 use Rattle.arn_commands.specs.declared.command.Command.TheVariants.{Says, Faulty}
@@ -84,3 +87,8 @@ asks-nothing = refl
 
 asks-nothing_endless : asked [] false ≡ Faulty 1
 asks-nothing_endless = refl
+
+-- the program of the generator has no fault
+generator-faultless : fault_of (generator.program_text 12) ≡ None
+unfolding digits rest
+generator-faultless = refl

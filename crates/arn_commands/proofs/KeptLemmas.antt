@@ -1,9 +1,11 @@
 -- What is kept of a line tells what the whole line does.
-use Rattle.std.proofs.Common.{◌≡◌, ℕ, ◌<◌, ◌++◌, false, List, [], ◌∷◌, length, refl, sym, ap, ◌∙◌, append-nil, arith, inl, inr, codes, length-append}
+use Rattle.std.proofs.Common.{◌≡◌, ℕ, ◌<◌, ◌++◌, false, List, [], ◌∷◌, length, refl, sym, ap, subst, ◌∙◌, append-nil, arith, inl, inr, codes, length-append}
 use Rattle.std.specs.Prelude.{◌⊎◌}
 use Rattle.std.proofs.lemmas.Bool.{false_from_ne_true, lt-ltb}
 use Rattle.std.proofs.lemmas.Slice.Eq.{bytes_eq-Decides}
 use Rattle.arn_lines.specs.declared.line.TheConstants.{MOST_LINE}
+use Rattle.arn_lines.specs.declared.line.Reading.{Reading}
+use Rattle.arn_lines.specs.Grammar.{Reads}
 use Rattle.arn_commands.specs.Commands.{no_statement, program_line}
 use Rattle.arn_commands.specs.Lines.{line_feed}
 use Rattle.arn_commands.specs.Parts.{is_end}
@@ -47,3 +49,11 @@ kept-empty line kept k none = elim (kept_cases line kept k) [
 pub kept-nonempty : (line kept : List ℕ) → IsKept line kept → line ≡ [] → kept ≡ []
 kept-nonempty line [] k e = refl
 kept-nonempty line (byte ∷ kept) k e = absurd (omega (arith, ap length e, ap length k.is_line, length-append (byte ∷ kept) k.dropped))
+
+-- the whole line reads as what is kept of it does
+pub Reads-kept : (line kept : List ℕ) (reading : Reading) → IsKept line kept → Reads kept reading
+    → ((rest : List ℕ) → MOST_LINE < length kept → Reads (kept ++ rest) reading) → Reads line reading
+Reads-kept line kept reading k short long = elim k.enough [
+  | inl none ↦ subst (λ (text : List ℕ). Reads text reading) (sym (k.is_line ∙ ap (λ (x : List ℕ). kept ++ x) none ∙ append-nil kept)) short
+  | inr above ↦ subst (λ (text : List ℕ). Reads text reading) (sym k.is_line) (long k.dropped above)
+]

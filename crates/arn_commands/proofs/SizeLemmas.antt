@@ -1,5 +1,5 @@
 -- How much the lines of a session hold.
-use Rattle.std.proofs.Common.{◌≡◌, ℕ, ◌+◌, ◌≤◌, ◌++◌, Bool, List, [], ◌∷◌, length, take, refl, ap, arith, length-append, length-drop, inl, inr, codes, true}
+use Rattle.std.proofs.Common.{◌≡◌, ℕ, ◌+◌, ◌≤◌, ◌++◌, Bool, List, [], ◌∷◌, length, take, ap, arith, length-append, length-drop, inl, inr, codes, true}
 use Rattle.std.specs.Prelude.{◌&&◌, nat_le, bytes_eq}
 use Rattle.std.specs.List.{list_all}
 use Rattle.std.proofs.lemmas.Bool.{and_parts, leb-true}
@@ -9,12 +9,9 @@ use Rattle.parts_model.specs.Image.{can_enter, fits_window, header_len, image_na
 use Rattle.parts_model.specs.Files.{is_name}
 use Rattle.arn_lines.specs.declared.line.Line.{Line}
 use Rattle.arn_lines.specs.declared.line.Line.TheVariants as line
-use Rattle.arn_lines.specs.declared.line.Reading.{Reading}
-use Rattle.arn_lines.specs.declared.line.Reading.TheVariants.{PassedOver, TooLong, Unreadable, Says}
 use Rattle.arn_lines.specs.Words.{IsHex, IsBytes, IsName, is_name_byte, space}
-use Rattle.arn_lines.specs.Grammar.{IsLine, Reads}
-use Rattle.arn_commands.specs.Commands.{line_command}
-use Rattle.arn_commands.specs.Sizes.{Fits, LineFits}
+use Rattle.arn_lines.specs.Grammar.{IsLine}
+use Rattle.arn_commands.specs.Sizes.{LineFits}
 
 -- hex text is at least as long as its bytes
 length-hex : (text bytes : List ℕ) → IsHex text bytes → length bytes ≤ length text
@@ -40,7 +37,8 @@ name-is_name text is =
     let high = (and_parts (nat_le (length text) 64) (list_all is_name_byte text) parts.1).0 in
     grind (arith, nat_tests)
 
-line-fits : (text : List ℕ) (l : Line) → length text ≤ 1048576 → IsLine text l → LineFits l
+-- what a line of a session says fits the machine
+pub line-fits : (text : List ℕ) (l : Line) → length text ≤ 1048576 → IsLine text l → LineFits l
 line-fits text (line.File name bytes) short is =
     let size = length-bytes is.hex bytes is.is_bytes in
     let whole = ap length is.is_text in
@@ -52,13 +50,6 @@ line-fits text (line.Type bytes) short is =
     omega (arith, size, whole, short, length-append (codes "type ") is.hex)
 line-fits text (line.Run count) short is = is.at_most
 line-fits text (line.Asks asked) short is = tt
-
--- what a line of a session says fits the machine
-pub Reads-fits : (text : List ℕ) (reading : Reading) → Reads text reading → Fits (line_command reading)
-Reads-fits text PassedOver is = tt
-Reads-fits text TooLong is = tt
-Reads-fits text Unreadable is = tt
-Reads-fits text (Says l) is = line-fits text l is.0 is.1
 
 -- an image fits
 pub is_image-fits : (file : List ℕ) → is_image file ≡ true → length file ≤ MOST_FILE_BYTES

@@ -7,7 +7,9 @@ use Rattle.arn_lines.specs.declared.line.TheConstants.{MOST_LINE}
 use Rattle.arn_lines.specs.Grammar.{Reads}
 use Rattle.guest_asm.specs.Assembled.{Fault, fault_of, image_of_text}
 use Rattle.arn_commands.specs.declared.command.Command.{Command}
-use Rattle.arn_commands.specs.declared.command.Command.TheVariants.{PassedOver, TooLong, Unreadable, Says, Faulty}
+use Rattle.arn_commands.specs.declared.command.Command.TheVariants.{PassedOver, TooLong, Unreadable, Says, Faulty, Generates}
+use Rattle.gen_texts.specs.Program as generator
+use Rattle.gen_texts.specs.Typed.{typed_bytes}
 use Rattle.arn_commands.specs.Lines.{line_feed}
 use Rattle.arn_commands.specs.Parts.{Part, Alone, Block}
 
@@ -34,12 +36,18 @@ abbrev pub block_command : List ℕ → List (List ℕ) → Option ℕ → Comma
 block_command name lines None = Says (line.File name (image_of_text (program_text lines)))
 block_command name lines (Some at) = Faulty at
 
+-- the generator's program, with the bytes that a seed gives; it would be refused as a block of its text, if it had a fault
+abbrev pub generator_command : ℕ → ℕ → Option Fault → Command
+generator_command seed processes None = Generates (image_of_text (generator.program_text processes)) (typed_bytes seed) processes
+generator_command seed processes (Some fault) = Faulty fault.line
+
 -- what a line that reads so asks for
 abbrev pub line_command : Reading → Command
 line_command reading.PassedOver = PassedOver
 line_command reading.TooLong = TooLong
 line_command reading.Unreadable = Unreadable
 line_command (reading.Says l) = Says l
+line_command (reading.Generates seed processes) = generator_command seed processes (fault_of (generator.program_text processes))
 
 -- what a part asks for
 abbrev pub Asks : Part → Command → Type 0

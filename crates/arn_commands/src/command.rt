@@ -1,12 +1,16 @@
 // What parts of a text ask for.
 ghost use Rattle.std.specs.Prelude.{◌≡◌, ℕ, List, IfOk};
+ghost use Rattle.arn_lines.specs.declared.line.Reading.TheVariants as reading;
+ghost use Rattle.arn_lines.specs.Grammar.{Reads};
 ghost use Rattle.arn_commands.specs.Commands.{Asks, line_command};
 ghost use Rattle.arn_commands.specs.Parts.{Alone};
 ghost use Rattle.arn_commands.specs.Pieces.{IsKept};
 ghost use Rattle.arn_commands.specs.Sizes.{Fits};
 
-use arn_base::NoMemory;
+use arn_base::{Bytes, NoMemory};
 use arn_lines::{Line, Reading, read_line};
+use gen_texts::{program, typed};
+use guest_asm::{AsmError, assemble};
 use std::alloc::Global;
 
 /// What a line of a session asks for, with its block where it has one.
@@ -19,9 +23,20 @@ pub enum Command {
     /// A line outside the grammar.
     Unreadable,
     /// What a line says. A block says what a `file` line with the image of its program says.
-    Says { line: Line },
+    Says {
+        line: Line,
+    },
     /// A block whose program has a fault: this is the first faulty line behind `asm NAME`, from 1.
-    Faulty { at: u64 },
+    Faulty {
+        at: u64,
+    },
+    /// The generator is to run: with the image of its program, on bytes that are typed, with so many
+    /// processes.
+    Generates {
+        image: Bytes,
+        typed: Bytes,
+        processes: u64,
+    },
 }
 
 impl Command {
@@ -31,17 +46,44 @@ impl Command {
             IsKept whole line.now → Asks (Alone whole) command) }
         ensures fits { IfOk result Fits }
     {
-        Ok(Command::of_reading(read_line(alloc, line)?))
+        let reading = read_line(alloc, line)?;
+        Command::of_reading(alloc, reading)
     }
 
-    fn of_reading(reading: Reading) -> Command
-        ensures { result ≡ line_command reading }
+    // What a line that reads so asks for.
+    fn of_reading(alloc: Global, reading: Reading) -> Result<Command, NoMemory>
+        ensures asks { IfOk result (λ command. command ≡ line_command reading) }
+        ensures fits { IfOk result (λ command. (text : List ℕ) → Reads text reading → Fits command) }
     {
         match reading {
-            Reading::PassedOver => Command::PassedOver,
-            Reading::TooLong => Command::TooLong,
-            Reading::Unreadable => Command::Unreadable,
-            Reading::Says { line } => Command::Says { line },
+            Reading::PassedOver => Ok(Command::PassedOver),
+            Reading::TooLong => Ok(Command::TooLong),
+            Reading::Unreadable => Ok(Command::Unreadable),
+            Reading::Says { line } => Ok(Command::Says { line }),
+            Reading::Generates { seed, processes } => {
+                Command::of_generator(alloc, seed, processes)
+            }
+        }
+    }
+
+    // What a line `gen SEED N` asks for.
+    fn of_generator(alloc: Global, seed: u64, processes: u64) -> Result<Command, NoMemory>
+        ensures asks { IfOk result
+            (λ command. command ≡ line_command (reading.Generates seed processes)) }
+        ensures fits { IfOk result Fits }
+    {
+        let text = program(alloc, processes)?;
+        match assemble(alloc, text.as_bytes()) {
+            Ok(image) => {
+                let typed = Bytes::from(typed(alloc, seed)?);
+                Ok(Command::Generates {
+                    image,
+                    typed,
+                    processes,
+                })
+            }
+            Err(AsmError::Fault { line, .. }) => Ok(Command::Faulty { at: line }),
+            Err(AsmError::NoMemory) => Err(NoMemory),
         }
     }
 }

@@ -9,4 +9,5 @@ pub mod Lists
 pub mod Asks
 pub mod QuestionKinds
 pub mod Keywords
+pub mod GenWords
 pub mod OneWay

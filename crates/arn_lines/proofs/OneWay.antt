@@ -5,11 +5,12 @@ use Rattle.arn_lines.specs.declared.line.Line.{Line}
 use Rattle.arn_lines.specs.declared.line.Line.TheVariants as line
 use Rattle.arn_lines.specs.declared.line.Question.TheVariants as question
 use Rattle.arn_lines.specs.declared.line.Reading.{Reading}
-use Rattle.arn_lines.specs.declared.line.Reading.TheVariants.{PassedOver, TooLong, Unreadable, Says}
-use Rattle.arn_lines.specs.Grammar.{IsBoot, IsFile, IsLine, IsPassedOver, IsRun, IsType, Reads}
+use Rattle.arn_lines.specs.declared.line.Reading.TheVariants.{PassedOver, TooLong, Unreadable, Says, Generates}
+use Rattle.arn_lines.specs.Grammar.{IsBoot, IsFile, IsGen, IsLine, IsPassedOver, IsRun, IsType, Reads}
 use Rattle.arn_lines.specs.Pieces.{IsFirstWord}
 use Rattle.arn_lines.specs.Words.{IsBytes, IsHex, space}
 use Rattle.arn_lines.proofs.FirstWords.{IsFirstWord-same, no_space-IsName}
+use Rattle.arn_lines.proofs.GenWords.{IsGen-same, no_gen_line}
 use Rattle.arn_lines.proofs.HexBytes.{IsHex-same}
 use Rattle.arn_lines.proofs.Keywords.{AtBoot, AtFile, AtQuestion, AtRun, AtType, IsLine-kind, IsLineOf, LineKind, line_kind}
 use Rattle.arn_lines.proofs.Numbers.{IsNumber-same}
@@ -94,20 +95,34 @@ IsLine-begins text (line.Asks question.Groups) h over = no_hash 103 refl (subst 
 IsLine-begins text (line.Asks question.Events) h over = no_hash 101 refl (subst IsPassedOver h over)
 IsLine-begins text (line.Asks question.Verify) h over = no_hash 118 refl (subst IsPassedOver h over)
 
+IsGen-begins : (text : List ℕ) (seed processes : ℕ) → IsGen text seed processes → ¬ IsPassedOver text
+IsGen-begins text seed processes h over = no_hash 103 refl (subst IsPassedOver h.is_text over)
+
 pub Reads-same : (text : List ℕ) (a b : Reading) → Reads text a → Reads text b → a ≡ b
 Reads-same text PassedOver PassedOver h k = refl
 Reads-same text PassedOver TooLong h k = absurd (k.not_passed_over h)
 Reads-same text PassedOver Unreadable h k = absurd (k.not_passed_over h)
 Reads-same text PassedOver (Says l) h k = absurd (IsLine-begins text l k.1 h)
+Reads-same text PassedOver (Generates seed processes) h k = absurd (IsGen-begins text seed processes k.1 h)
 Reads-same text TooLong PassedOver h k = absurd (h.not_passed_over k)
 Reads-same text TooLong TooLong h k = refl
 Reads-same text TooLong Unreadable h k = absurd (omega (arith, h.long, k.not_long))
 Reads-same text TooLong (Says l) h k = absurd (omega (arith, h.long, k.0))
+Reads-same text TooLong (Generates seed processes) h k = absurd (omega (arith, h.long, k.0))
 Reads-same text Unreadable PassedOver h k = absurd (h.not_passed_over k)
 Reads-same text Unreadable TooLong h k = absurd (omega (arith, h.not_long, k.long))
 Reads-same text Unreadable Unreadable h k = refl
 Reads-same text Unreadable (Says l) h k = absurd (h.says_nothing l k.1)
+Reads-same text Unreadable (Generates seed processes) h k = absurd (h.generates_nothing seed processes k.1)
 Reads-same text (Says l) PassedOver h k = absurd (IsLine-begins text l h.1 k)
 Reads-same text (Says l) TooLong h k = absurd (omega (arith, h.0, k.long))
 Reads-same text (Says l) Unreadable h k = absurd (k.says_nothing l h.1)
 Reads-same text (Says l) (Says m) h k = ap Says (IsLine-same text l m h.1 k.1)
+Reads-same text (Says l) (Generates seed processes) h k = absurd (no_gen_line text l seed processes k.1 h.1)
+Reads-same text (Generates seed processes) PassedOver h k = absurd (IsGen-begins text seed processes h.1 k)
+Reads-same text (Generates seed processes) TooLong h k = absurd (omega (arith, h.0, k.long))
+Reads-same text (Generates seed processes) Unreadable h k = absurd (k.generates_nothing seed processes h.1)
+Reads-same text (Generates seed processes) (Says l) h k = absurd (no_gen_line text l seed processes h.1 k.1)
+Reads-same text (Generates seed processes) (Generates other many) h k =
+    let same = IsGen-same text seed other processes many h.1 k.1 in
+    cc (same.0, same.1)

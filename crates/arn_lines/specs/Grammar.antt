@@ -3,8 +3,8 @@ use Rattle.std.specs.Prelude.{◌≡◌, ℕ, ◌<◌, ◌≤◌, ◌&&◌, if�
 use Rattle.arn_lines.specs.declared.line.Line.{Line}
 use Rattle.arn_lines.specs.declared.line.Line.TheVariants as line
 use Rattle.arn_lines.specs.declared.line.Reading.{Reading}
-use Rattle.arn_lines.specs.declared.line.Reading.TheVariants.{PassedOver, TooLong, Unreadable, Says}
-use Rattle.arn_lines.specs.declared.line.TheConstants.{MOST_LINE, MOST_RUN}
+use Rattle.arn_lines.specs.declared.line.Reading.TheVariants.{PassedOver, TooLong, Unreadable, Says, Generates}
+use Rattle.arn_lines.specs.declared.line.TheConstants.{MOST_GENERATED, MOST_LINE, MOST_RUN}
 use Rattle.arn_lines.specs.Words.{is_name, IsName, IsBytes, IsNumber, space}
 use Rattle.arn_lines.specs.Questions.{IsQuestion}
 
@@ -45,6 +45,16 @@ IsLine text (line.Type bytes) = IsType text bytes
 IsLine text (line.Run count) = IsRun text count
 IsLine text (line.Asks asked) = IsQuestion text asked
 
+-- `gen SEED N`, which the generator answers with N processes
+pub record IsGen (text : List ℕ) (seed processes : ℕ) : Type 0 where
+  pub seed_word : List ℕ
+  pub processes_word : List ℕ
+  pub is_seed : IsNumber seed_word seed
+  pub is_processes : IsNumber processes_word processes
+  pub at_least : 1 ≤ processes
+  pub at_most : processes ≤ MOST_GENERATED
+  pub is_text : text ≡ codes "gen " ++ seed_word ++ space ++ processes_word
+
 -- a line that is passed over: an empty one, and one that begins with `#`, whatever its length
 abbrev pub IsPassedOver : List ℕ → Type 0
 IsPassedOver [] = Unit {0}
@@ -60,6 +70,7 @@ pub record IsUnreadable (text : List ℕ) : Type 0 where
   pub not_passed_over : ¬ IsPassedOver text
   pub not_long : length text ≤ MOST_LINE
   pub says_nothing : (l : Line) → ¬ IsLine text l
+  pub generates_nothing : (seed processes : ℕ) → ¬ IsGen text seed processes
 
 -- what a line is that stands by itself
 abbrev pub Reads : List ℕ → Reading → Type 0
@@ -67,6 +78,7 @@ Reads text PassedOver = IsPassedOver text
 Reads text TooLong = IsTooLong text
 Reads text Unreadable = IsUnreadable text
 Reads text (Says l) = (length text ≤ MOST_LINE) × IsLine text l
+Reads text (Generates seed processes) = (length text ≤ MOST_LINE) × IsGen text seed processes
 
 -- two readings of one line are one
 abbrev pub ReadsOneWay : Type 0

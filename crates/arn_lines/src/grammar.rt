@@ -1,11 +1,11 @@
 // Lines of a session, read.
 ghost use Rattle.std.specs.Prelude.{◌≡◌, ℕ, ◌<◌, ◌↔◌, List, ◌++◌, length, IsTrue, IfOk, IfSome, IfNone, codes, option_map};
-ghost use Rattle.arn_lines.specs.Grammar.{IsLine, IsPassedOver, Reads, block_name};
+ghost use Rattle.arn_lines.specs.Grammar.{IsGen, IsLine, IsPassedOver, Reads, block_name};
 ghost use Rattle.arn_lines.specs.Pieces.{SaysNothing};
 
-use crate::questions::question;
+use crate::questions::{question, two_numbers};
 use crate::words::{after, bytes, is_name, name, number, split_word};
-use crate::{Line, MOST_LINE, MOST_RUN, Reading};
+use crate::{Line, MOST_GENERATED, MOST_LINE, MOST_RUN, Reading};
 use arn_base::NoMemory;
 use std::alloc::Global;
 
@@ -74,6 +74,18 @@ fn said(alloc: Global, text: &[u8]) -> Result<Option<Line>, NoMemory>
     Ok(question(alloc, text)?.map(|question| Line::Asks { question }))
 }
 
+// The seed and the number of processes in a line `gen SEED N`, whatever its length.
+fn generated(text: &[u8]) -> Option<(u64, u64)>
+    ensures some { IfSome result (λ found. IsGen text.now found.0 found.1) }
+    ensures none { IfNone result ((seed processes : ℕ) → ¬ IsGen text.now seed processes) }
+{
+    let (seed, processes) = two_numbers(after(text, b"gen ")?)?;
+    match processes {
+        1..=MOST_GENERATED => Some((seed, processes)),
+        _ => None,
+    }
+}
+
 /// The name in a line `asm NAME`, which opens a block.
 pub fn block_name(line: &[u8]) -> Option<&[u8]>
     ensures { option_map (λ name. name.now) result ≡ block_name line.now }
@@ -96,6 +108,9 @@ pub fn read_line(alloc: Global, line: &[u8]) -> Result<Reading, NoMemory>
     }
     if line.len() > MOST_LINE {
         return Ok(Reading::TooLong);
+    }
+    if let Some((seed, processes)) = generated(line) {
+        return Ok(Reading::Generates { seed, processes });
     }
     Ok(match said(alloc, line)? {
         Some(line) => Reading::Says { line },

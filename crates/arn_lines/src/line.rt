@@ -7,6 +7,9 @@ pub const MOST_LINE: usize = 1_048_576;
 /// How many instructions a line may ask for.
 pub const MOST_RUN: u64 = 1_000_000_000;
 
+/// With how many processes the generator runs at most.
+pub const MOST_GENERATED: u64 = 32;
+
 /// Of which bytes is asked where they come from.
 #[derive(Debug, Drop)]
 pub enum Sought {
@@ -104,4 +107,6 @@ pub enum Reading {
     /// Outside the grammar.
     Unreadable,
     Says { line: Line },
+    /// The generator is to run with so many processes, on bytes that a seed gives.
+    Generates { seed: u64, processes: u64 },
 }

@@ -33,7 +33,7 @@ fn next_number(text: &[u8]) -> Option<(u64, &[u8])>
     Some((number(word)?, rest))
 }
 
-fn two_numbers(text: &[u8]) -> Option<(u64, u64)>
+pub(crate) fn two_numbers(text: &[u8]) -> Option<(u64, u64)>
     ensures some { IfSome result (λ n. AreNumbers text.now (n.0 ∷ n.1 ∷ [])) }
     ensures none { IfNone result ((a b : ℕ) → ¬ AreNumbers text.now (a ∷ b ∷ [])) }
 {

@@ -1,12 +1,12 @@
 // The top call: reads a source to its end, and answers each command of its text to a sink.
-ghost use Rattle.std.specs.Prelude.{◌≡◌, ◌≢◌, ◌⊎◌, ◌↔◌, ◌<◌, ◌≤◌, ◌^◌, [], ℕ, List, length, drop, OnOk, IfErr, IsErrOf, IfSome, None, Some};
+ghost use Rattle.std.specs.Prelude.{◌≡◌, ◌≢◌, ◌⊎◌, ◌↔◌, ◌+◌, ◌<◌, ◌≤◌, ◌^◌, [], ℕ, List, length, drop, OnOk, IfErr, IsErrOf, IfSome, None, Some};
 ghost use Rattle.arn_base.specs.Faults.{Rose};
 ghost use Rattle.arn_base.specs.declared.records.Differs.{Differs};
 ghost use Rattle.arn_base.specs.declared.records.Record.{Record};
 ghost use Rattle.arn_commands.specs.Parts.{text_parts, whole_parts};
 ghost use Rattle.arn_session.specs.Begun.{BeginsOn, FindsOn, slots_answer, standing};
 ghost use Rattle.arn_session.specs.Opening.{FailsToOpen, HasBegun, IsOpened, NeverBegan};
-ghost use Rattle.arn_session.specs.Status.{open_status_of};
+ghost use Rattle.arn_session.specs.Status.{NumbersHold, open_status_of};
 ghost use Rattle.arn_session.specs.Words.{AreAccepted};
 ghost use Rattle.history_model.specs.Broken.{first_broken};
 ghost use Rattle.log_model.specs.Records.{IsRun};
@@ -105,6 +105,8 @@ fn answer_in_slots<
         Rose (S.faults source.old) (S.faults source.new) }
     ensures sink { IsErrOf result Halt.Sink → Rose (K.faults sink.old) (K.faults sink.new) }
     ensures disk { IsErrOf result Halt.Disk → Rose (D.faults disk.old) (D.faults disk.new) }
+    ensures full { (log payload : ℕ) → IsErrOf result (Halt.Full log payload) →
+        MOST_LOG < log + 5 + payload }
     ensures later { GoesOn D.image D.faults disk.old disk.new }
     ensures same_slots { IfSome (S.left source.old) (λ text.
         slots.new.devices.ghost_name ≡ slots.old.devices.ghost_name) }
@@ -176,6 +178,8 @@ fn answer_text<Q: Questions + Drop, C: Chooser, V: Device, S: Source, K: Sink, D
         Rose (S.faults source.old) (S.faults source.new) }
     ensures sink { IsErrOf result Halt.Sink → Rose (K.faults sink.old) (K.faults sink.new) }
     ensures disk { IsErrOf result Halt.Disk → Rose (D.faults disk.old) (D.faults disk.new) }
+    ensures full { (log payload : ℕ) → IsErrOf result (Halt.Full log payload) →
+        MOST_LOG < log + 5 + payload }
     ensures later { GoesOn D.image D.faults disk.old disk.new }
 {
     let mut slots = Slots { devices };
@@ -332,12 +336,18 @@ pub fn arnold<S: Source, K: Sink, D: Disk, L: Ledger>(
         IsAtRest D.Disk disk.old history →
         LeavesOnly D.moment D.left_since disk.old disk.new (HoldsMore IsRun history) }
 
-    // But where the disk failed or memory ran out, nothing is pending then, as at the start.
+    // Unless the disk failed or memory ran out, nothing is pending then, as at the start.
     ensures rests { result ≢ Status.Disk → result ≢ Status.NoMemory → (history : List Record) →
         IsAtRest D.Disk disk.old history →
         RestsMore D.Disk disk.new history }
 
     ensures at_most { TookAtMost (2 ^ 40) (S.left source.old) (S.left source.new) }
+
+    // The numbers of a status are what they say, also on a disk that tells nothing.
+    ensures numbers { NumbersHold result }
+
+    // The disk goes on: it tells its bytes where it did, and its count of faults doesn't fall.
+    ensures later { GoesOn D.image D.faults disk.old disk.new }
 
     // On the records of a run the text for a question is what the tracking of every step of the
     // whole machine relates.

@@ -18,6 +18,7 @@ fn shown(alloc: Global, command: &Command) -> Result<String, AllocError> {
         Command::Unreadable => format!(in alloc; "unreadable"),
         Command::Says { line } => shown_line(alloc, line),
         Command::Faulty { at } => format!(in alloc; "faulty {at}"),
+        Command::Generates { processes, .. } => format!(in alloc; "generates {processes}"),
     }
 }
 
@@ -194,5 +195,27 @@ fn a_block_is_its_image(rt: HostRuntime) -> Result<(), Fail> {
         panic!(rt; "no file")
     };
     assert_eq!(rt; bytes.as_slice(), IMAGE);
+    Ok(())
+}
+
+#[test]
+fn a_line_of_the_generator_is_its_program(rt: HostRuntime) -> Result<(), Fail> {
+    let text = Bytes::from_slice(rt.alloc(), b"gen 7 12\n")?;
+    let mut source = SliceSource::new(text, Numbers::new(rt.alloc()));
+    let mut commands = Commands::new(rt.alloc())?;
+    let next = commands.next(&mut source)?;
+    let Next::More {
+        command: Command::Generates {
+            image,
+            typed,
+            processes,
+        },
+    } = next
+    else {
+        panic!(rt; "no program")
+    };
+    assert!(rt; image.as_slice().starts_with(b"ARNIMG01"));
+    assert_eq!(rt; typed.len(), 4_096);
+    assert_eq!(rt; processes, 12);
     Ok(())
 }

@@ -14,6 +14,9 @@ fn shown(alloc: Global, reading: &Reading) -> Result<String, AllocError> {
         Reading::TooLong => format!(in alloc; "too long"),
         Reading::Unreadable => format!(in alloc; "unreadable"),
         Reading::Says { line } => shown_line(alloc, line),
+        Reading::Generates { seed, processes } => {
+            format!(in alloc; "generates {seed} {processes}")
+        }
     }
 }
 
@@ -145,6 +148,26 @@ fn lines_are_read(rt: HostRuntime) -> Result<(), Fail> {
         ("asm p", "unreadable"),
         ("asm ", "unreadable"),
         ("asm", "unreadable"),
+    ];
+    for (line, wanted) in cases {
+        let reading = read_line(rt.alloc(), line.as_bytes())?;
+        let found = shown(rt.alloc(), &reading)?;
+        assert_eq!(rt; found.as_str(), wanted, "at {line}");
+    }
+    Ok(())
+}
+
+#[test]
+fn lines_of_the_generator_are_read(rt: HostRuntime) -> Result<(), Fail> {
+    let cases = [
+        ("gen 7 12", "generates 7 12"),
+        ("gen 0xff 0x20", "generates 255 32"),
+        ("gen 7 0", "unreadable"),
+        ("gen 7 33", "unreadable"),
+        ("gen 07 1", "unreadable"),
+        ("gen 7", "unreadable"),
+        ("gen  7 1", "unreadable"),
+        ("gen 7 1 ", "unreadable"),
     ];
     for (line, wanted) in cases {
         let reading = read_line(rt.alloc(), line.as_bytes())?;

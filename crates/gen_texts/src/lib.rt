@@ -6,5 +6,5 @@ mod sums;
 mod typing;
 
 pub use programs::program;
-pub use sums::{push_gen, written_sum};
+pub use sums::{push_gen, written_by, written_sum};
 pub use typing::{MANY_TYPED, typed};

@@ -6,8 +6,8 @@ ghost use Rattle.gen_texts.specs.Sums.{gen_text, written, written_by};
 
 use arn_base::{Extra, NoMemory, Record};
 
-// The bytes that a record tells to have been written to the console.
-fn written_by(entry: &Record) -> &[u8]
+/// The bytes that a record tells to have been written to the console.
+pub fn written_by(entry: &Record) -> &[u8]
     ensures { result.now ≡ written_by entry.now }
 {
     match entry {
@@ -45,7 +45,7 @@ pub fn written_sum(entries: &[Record]) -> u64
 }
 
 /// Appends `gen processes N bytes 4096 sum S pairs P`.
-pub fn push_gen(text: &mut String, processes: u64, sum: u64, pairs: u64) -> Result<(), NoMemory>
+pub fn push_gen(text: &mut String, processes: u64, sum: u64, pairs: u128) -> Result<(), NoMemory>
     ensures ok { OnOk result (string_bytes text.new ≡
         string_bytes text.old ++ gen_text processes sum pairs) }
     ensures err { OnErr result (string_bytes text.new ≡ string_bytes text.old) }

@@ -1,9 +1,11 @@
 -- Answers to commands, and where they halt.
-use Rattle.std.proofs.Common.{◌≡◌, inl, inr, ℕ, ◌+◌, ◌≤◌, ◌++◌, Bool, true, false, List, [], Option, option_map, Result, Ok, Err, IfErr, OnOk, refl, sym, ◌∙◌, subst}
+use Rattle.std.proofs.Common.{◌≡◌, inl, inr, ℕ, ◌+◌, ◌≤◌, ◌++◌, Bool, true, false, List, [], Option, option_map, Result, Ok, Err, IfErr, OnOk, refl, sym, ◌∙◌, subst, arith}
 use Rattle.std.proofs.lemmas.Bool.{false≢true}
 use Rattle.std.specs.Prelude.{◌||◌}
 use Rattle.arn_base.specs.declared.boxes.Choice.{Choice}
 use Rattle.arn_base.specs.declared.disk.Disk.{Ghosts}
+use Rattle.arn_base.specs.declared.records.Record.{Record}
+use Rattle.arn_base.specs.Faults.{Rose}
 use Rattle.parts_model.specs.Replies.{Answered}
 use Rattle.log_model.specs.Records.{IsRun}
 use Rattle.log_store.specs.Stores.{StoreState}
@@ -16,10 +18,10 @@ use Rattle.session_effects.specs.Standing.{IsCause, IsOpen}
 use Rattle.session_effects.specs.declared.halt.Halt.{Halt}
 use Rattle.session_effects.specs.declared.halt.Halt.TheVariants as halt
 use Rattle.session_runs.specs.Points.{around}
-use Rattle.session_runs.specs.Turns.{finished}
+use Rattle.session_runs.specs.Turns.{finished, prints}
 use Rattle.session_lines.specs.Answering.{BlamesRecords, BlamesRightly, IsAnswered, IsHalted, IsLineCause, IsNotBegun, IsNotMade, Standpoint, standpoint}
 use Rattle.session_lines.specs.Cost.{cost, machine_cost}
-use Rattle.session_lines.specs.Lines.{needs_machine, prints, turn}
+use Rattle.session_lines.specs.Lines.{needs_machine, turn}
 use Rattle.session_lines.specs.Questions.{Told}
 use Rattle.session_lines.proofs.TurnLemmas.{Advances-nothing, Advances-prints, IsStill, Stops-nothing, Stops-prints}
 
@@ -30,12 +32,32 @@ line-cause halt.Source d0 d1 s0 s1 is = absurd is
 line-cause halt.Sink d0 d1 s0 s1 is = is
 line-cause halt.Long d0 d1 s0 s1 is = absurd is
 line-cause halt.Disk d0 d1 s0 s1 is = is
-line-cause (halt.Full log payload) d0 d1 s0 s1 is = tt
+line-cause (halt.Full log payload) d0 d1 s0 s1 is = is
 line-cause (halt.Differs d) d0 d1 s0 s1 is = absurd is
 
 pub line-causes : {T : Type 0} (result : Result T Halt) (d s0 s1 : ℕ) → IfErr result (λ why. (faults : ℕ) → IsCause why faults faults s0 s1) → IfErr result (λ why. IsLineCause why d d s0 s1)
 line-causes (Ok x) d s0 s1 causes = tt
 line-causes (Err why) d s0 s1 causes = line-cause why d d s0 s1 (causes d)
+
+-- a count that didn't rise
+pub never-rose : Rose 0 0 → ⊥
+never-rose (inl less) = omega arith
+never-rose (inr most) = omega arith
+
+-- a text halts by no fault of the disk, whatever the disk did before
+pub text-cause : (why : Halt) (d0 d1 s0 s1 : ℕ) → ((faults : ℕ) → IsCause why faults faults s0 s1) → IsLineCause why d0 d1 s0 s1
+text-cause halt.NoMemory d0 d1 s0 s1 causes = tt
+text-cause halt.Source d0 d1 s0 s1 causes = absurd (causes 0)
+text-cause halt.Sink d0 d1 s0 s1 causes = causes 0
+text-cause halt.Long d0 d1 s0 s1 causes = absurd (causes 0)
+text-cause halt.Disk d0 d1 s0 s1 causes = absurd (never-rose (causes 0))
+text-cause (halt.Full log payload) d0 d1 s0 s1 causes = causes 0
+text-cause (halt.Differs d) d0 d1 s0 s1 causes = absurd (causes 0)
+
+-- what holds of an error by two facts
+pub err-both : {T : Type 0} (result : Result T Halt) (P Q R : Halt → Type 0) → ((why : Halt) → P why → Q why → R why) → IfErr result P → IfErr result Q → IfErr result R
+err-both (Ok x) P Q R then p q = tt
+err-both (Err why) P Q R then p q = then why p q
 
 pub not-made-cause : (why : Halt) (d0 d1 s0 s1 : ℕ) → IsNotMade why → IsLineCause why d0 d1 s0 s1
 not-made-cause halt.NoMemory d0 d1 s0 s1 is = tt
@@ -110,34 +132,38 @@ module _ {D A : Type 0} (is_there : Bool) (command : Command) where
 
 module _ {D A : Type 0} (d : Ghosts D) (replies : A → Asked → Answered → A → Type 0) (told : Told) (is_there : Bool) (command : Command) (choices : ℕ → Option Choice) (answers : A) where
   -- a text answers a command
-  pub answered-text : {T : Type 0} (laws : EffectsFollow IsRun d) (result : Result T Halt) (disk : D) (store store' : StoreState) (h0 h1 : Option (List ℕ)) (text : List ℕ) (steps steps' : ℕ) → store' ≡ store → turn told store.entries command ≡ prints text → needs_machine store.entries command ≡ false → IsOpen d store disk → steps' ≤ steps + cost told is_there store.entries command → OnOk result (h1 ≡ option_map (λ before. before ++ text) h0) → OnOk result (IsAnswered d replies told is_there command (standpoint disk store h0 (around choices answers steps)) (standpoint disk store' h1 (around choices answers steps')))
-  answered-text laws (Ok x) disk store store' h0 h1 text steps steps' same is none open_now cheap put =
+  pub answered-text : {T : Type 0} (laws : EffectsFollow IsRun d) (result : Result T Halt) (disk : D) (store store' : StoreState) (h0 h1 : Option (List ℕ)) (text : List ℕ) (steps steps' n : ℕ) → store' ≡ store → turn told store.entries command ≡ prints text → needs_machine store.entries command ≡ false → IsOpen d store disk → steps' ≤ steps + n → ((behind : List Record) → n ≤ cost told is_there store.entries behind command) → OnOk result (h1 ≡ option_map (λ before. before ++ text) h0) → OnOk result (IsAnswered d replies told is_there command (standpoint disk store h0 (around choices answers steps)) (standpoint disk store' h1 (around choices answers steps')))
+  answered-text laws (Ok x) disk store store' h0 h1 text steps steps' n same is none open_now cheap costs put =
       subst (λ (s : StoreState). IsAnswered d replies told is_there command (standpoint disk store h0 (around choices answers steps)) (standpoint disk s h1 (around choices answers steps'))) (sym same)
       (record {
-        advances = Advances-prints IsRun d replies laws choices answers disk store h0 h1 (turn told store.entries command) steps steps' (cost told is_there store.entries command) text is open_now put cheap;
+        advances = Advances-prints IsRun d replies laws choices answers disk store h0 h1 (turn told store.entries command) steps steps' (cost told is_there store.entries store.entries command) text is open_now put (omega (arith, cheap, costs store.entries));
         on_run = λ needed. absurd (false≢true (sym none ∙ needed));
       })
-  answered-text laws (Err e) disk store store' h0 h1 text steps steps' same is none open_now cheap put = tt
+  answered-text laws (Err e) disk store store' h0 h1 text steps steps' n same is none open_now cheap costs put = tt
 
   -- it stops somewhere
-  pub halted-text : {T : Type 0} (halts : HaltsFollow IsRun d) (result : Result T Halt) (disk : D) (store store' : StoreState) (h0 h1 : Option (List ℕ)) (text : List ℕ) (steps steps' : ℕ) → turn told store.entries command ≡ prints text → needs_machine store.entries command ≡ false → steps' ≤ steps + cost told is_there store.entries command → IfErr result (λ why. StopsPut why text h0 h1) → IfErr result (λ why. IsHalted d replies told is_there why command (standpoint disk store h0 (around choices answers steps)) (standpoint disk store' h1 (around choices answers steps')))
-  halted-text halts (Ok x) disk store store' h0 h1 text steps steps' is none cheap put = tt
-  halted-text halts (Err why) disk store store' h0 h1 text steps steps' is none cheap put = record {
-    stops = Stops-prints IsRun d replies halts choices answers disk store.entries h0 h1 why (turn told store.entries command) steps steps' (cost told is_there store.entries command) text is put cheap;
+  pub halted-text : {T : Type 0} (halts : HaltsFollow IsRun d) (result : Result T Halt) (disk : D) (store store' : StoreState) (h0 h1 : Option (List ℕ)) (text : List ℕ) (steps steps' n : ℕ) → turn told store.entries command ≡ prints text → needs_machine store.entries command ≡ false → steps' ≤ steps + n → ((behind : List Record) → n ≤ cost told is_there store.entries behind command) → IfErr result (λ why. StopsPut why text h0 h1) → IfErr result (λ why. IsHalted d replies told is_there why command (standpoint disk store h0 (around choices answers steps)) (standpoint disk store' h1 (around choices answers steps')))
+  halted-text halts (Ok x) disk store store' h0 h1 text steps steps' n is none cheap costs put = tt
+  halted-text halts (Err why) disk store store' h0 h1 text steps steps' n is none cheap costs put = record {
+    beside = n;
+    stops = Stops-prints IsRun d replies halts choices answers disk store.entries h0 h1 why (turn told store.entries command) steps steps' n text is put cheap;
+    costs = costs _;
     on_run = λ needed. absurd (false≢true (sym none ∙ needed));
   }
 
   -- a command that asks for nothing
   pub answered-nothing : (laws : EffectsFollow IsRun d) (disk : D) (store : StoreState) (held : Option (List ℕ)) (steps : ℕ) → turn told store.entries command ≡ finished → needs_machine store.entries command ≡ false → IsOpen d store disk → IsAnswered d replies told is_there command (standpoint disk store held (around choices answers steps)) (standpoint disk store held (around choices answers steps))
   answered-nothing laws disk store held steps is none open_now = record {
-    advances = Advances-nothing IsRun d replies laws choices answers disk store held (turn told store.entries command) steps (cost told is_there store.entries command) is open_now;
+    advances = Advances-nothing IsRun d replies laws choices answers disk store held (turn told store.entries command) steps (cost told is_there store.entries store.entries command) is open_now;
     on_run = λ needed. absurd (false≢true (sym none ∙ needed));
   }
 
   -- it halts there
-  pub halted-not-made : (halts : HaltsFollow IsRun d) (why : Halt) (disk : D) (store store' : StoreState) (held : Option (List ℕ)) (steps steps' : ℕ) → IsNotMade why → store' ≡ store → IsStill (turn told store.entries command) → steps' ≤ steps + machine_cost is_there store.entries → steps' ≤ steps + cost told is_there store.entries command → IsHalted d replies told is_there why command (standpoint disk store held (around choices answers steps)) (standpoint disk store' held (around choices answers steps'))
-  halted-not-made halts why disk store store' held steps steps' is same still made cheap = record {
-    stops = Stops-nothing IsRun d replies halts choices answers disk store.entries held why (turn told store.entries command) steps steps' (cost told is_there store.entries command) still (stopped why is) cheap;
+  pub halted-not-made : (halts : HaltsFollow IsRun d) (why : Halt) (disk : D) (store store' : StoreState) (held : Option (List ℕ)) (steps steps' : ℕ) → IsNotMade why → store' ≡ store → IsStill (turn told store.entries command) → steps' ≤ steps + machine_cost is_there store.entries → ((behind : List Record) → machine_cost is_there store.entries ≤ cost told is_there store.entries behind command) → IsHalted d replies told is_there why command (standpoint disk store held (around choices answers steps)) (standpoint disk store' held (around choices answers steps'))
+  halted-not-made halts why disk store store' held steps steps' is same still made costs = record {
+    beside = machine_cost is_there store.entries;
+    stops = Stops-nothing IsRun d replies halts choices answers disk store.entries held why (turn told store.entries command) steps steps' (machine_cost is_there store.entries) still (stopped why is) made;
+    costs = costs _;
     on_run = λ needed. inr (not-begun is_there command choices answers why disk store store' held steps steps' is same made);
   }
     where

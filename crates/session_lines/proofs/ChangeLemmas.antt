@@ -35,8 +35,8 @@ use Rattle.session_lines.proofs.AnswerLemmas.{or-true}
 
 module _ {A : Type 0} (replies : A → Asked → Answered → A → Type 0) (choices : ℕ → Option Choice) (answers : A) where
   -- what was executed before is part of the cost
-  pub Advances-later : (from to : Point) (steps mid cost : ℕ) (new : Surroundings A) (carried : List Effect → Type 0) → mid ≤ steps + cost → Advances replies from to (around choices answers mid) new 0 carried → Advances replies from to (around choices answers steps) new cost carried
-  Advances-later from to steps mid cost new carried cheap p = record {
+  pub Advances-later : (from to : Point) (steps mid more cost : ℕ) (new : Surroundings A) (carried : List Effect → Type 0) → mid + more ≤ steps + cost → Advances replies from to (around choices answers mid) new more carried → Advances replies from to (around choices answers steps) new cost carried
+  Advances-later from to steps mid more cost new carried cheap p = record {
     slices = p.slices;
     asks = p.asks;
     effects = p.effects;
@@ -111,9 +111,8 @@ is-change (line.Asks q) other = absurd (other q refl)
 pub some-there : (o : Option Recorded) (b n : Bool) → IsSome o → n ≡ true → is_some o ≡ (b || n)
 some-there o b n some needs = some ∙ or-true b n needs
 
-pub ask-cheap : (told : Told) (is_there : Bool) (history : List Record) (l : Line) (q : Question) (steps steps' : ℕ) → l ≡ line.Asks q → steps' ≤ steps + told.cost history q → steps' ≤ steps + cost told is_there history (Says l)
-ask-cheap told is_there history l q steps steps' is cheap =
-    subst (λ (x : Line). steps' ≤ steps + cost told is_there history (Says x)) (sym is) (omega (arith, cheap, cost-ask told is_there history q))
+pub ask-costs : (told : Told) (is_there : Bool) (history : List Record) (l : Line) (q : Question) → l ≡ line.Asks q → (behind : List Record) → told.cost history q ≤ cost told is_there history behind (Says l)
+ask-costs told is_there history l q is behind = subst (λ (x : Line). told.cost history q ≤ cost told is_there history behind (Says x)) (sym is) (cost-ask told is_there history behind q)
 
 -- what is kept stays sound where a question was answered
 pub sound-asked : {Q : Type 0} (knows : Q → List Record → Type 0) (m m' : Option Recorded) (q q' : Q) (s s' : StoreState) → IsSound knows m q s.entries → m' ≡ m → s' ≡ s → knows q' s.entries → IsSound knows m' q' s'.entries
@@ -129,7 +128,7 @@ module _ {D A : Type 0} (d : Ghosts D) (replies : A → Asked → Answered → A
   pub answered-change : {T : Type 0} (result : Result T Halt) (disk disk' : D) (store' : StoreState) (h0 h1 : Option (List ℕ)) (old new : Surroundings A) → OnOk result (IsRun store.entries) → OnOk result (Advances replies (line_turn told store.entries l) finished old new (machine_cost is_there store.entries) (Carries IsRun d disk disk' store store' h0 h1)) → OnOk result (IsAnswered d replies told is_there (Says l) (standpoint disk store h0 old) (standpoint disk' store' h1 new))
   answered-change (Ok x) disk disk' store' h0 h1 old new is_run p = record {
     advances =
-        subst (λ (from : Point). Advances replies from finished old new (cost told is_there store.entries (Says l)) (Carries IsRun d disk disk' store store' h0 h1)) (sym (turn-line told store.entries l accepted))
+        subst (λ (from : Point). Advances replies from finished old new (cost told is_there store.entries store'.entries (Says l)) (Carries IsRun d disk disk' store store' h0 h1)) (sym (turn-line told store.entries l accepted))
         (record {
           slices = p.slices;
           asks = p.asks;
@@ -141,7 +140,7 @@ module _ {D A : Type 0} (d : Ghosts D) (replies : A → Asked → Answered → A
           picked = p.picked;
           in_range = p.in_range;
           replied = p.replied;
-          executed = omega (arith, p.executed, cost-change told is_there store.entries l change accepted);
+          executed = omega (arith, p.executed, cost-change told is_there store.entries store'.entries l change accepted);
         });
     on_run = λ needed. is_run;
   }
@@ -151,16 +150,17 @@ module _ {D A : Type 0} (d : Ghosts D) (replies : A → Asked → Answered → A
     -- with the machine, which was made before
     pub advances-changed : (disk disk' : D) (there store' : StoreState) (h0 h1 : Option (List ℕ)) (new : Surroundings A) → there ≡ store → Advances replies (line_turn told there.entries l) finished (around choices answers mid) new 0 (Carries IsRun d disk disk' there store' h0 h1) → Advances replies (line_turn told store.entries l) finished (around choices answers steps) new (machine_cost is_there store.entries) (Carries IsRun d disk disk' store store' h0 h1)
     advances-changed disk disk' there store' h0 h1 new same p =
-        Advances-later replies choices answers (line_turn told store.entries l) finished steps mid (machine_cost is_there store.entries) new (Carries IsRun d disk disk' store store' h0 h1) cheap
+        Advances-later replies choices answers (line_turn told store.entries l) finished steps mid 0 (machine_cost is_there store.entries) new (Carries IsRun d disk disk' store store' h0 h1) (omega (arith, cheap))
         (subst (λ (s : StoreState). Advances replies (line_turn told s.entries l) finished (around choices answers mid) new 0 (Carries IsRun d disk disk' s store' h0 h1)) same p)
 
     -- it halted somewhere
     pub halted-changed : (disk disk' : D) (there store' : StoreState) (h0 h1 : Option (List ℕ)) (why : Halt) (new : Surroundings A) → there ≡ store → IsRun store.entries → Stops IsRun d replies disk disk' there.entries h0 h1 why (line_turn told there.entries l) (around choices answers mid) new 0 → IsHalted d replies told is_there why (Says l) (standpoint disk store h0 (around choices answers steps)) (standpoint disk' store' h1 new)
     halted-changed disk disk' there store' h0 h1 why new same is_run q = record {
+      beside = machine_cost is_there store.entries;
       stops =
-          Stops-later replies choices answers IsRun d disk disk' store.entries h0 h1 why (line_turn told store.entries l) (turn told store.entries (Says l)) steps mid (cost told is_there store.entries (Says l)) new (turn-line told store.entries l accepted)
-          (omega (arith, cheap, cost-change told is_there store.entries l change accepted))
+          Stops-later replies choices answers IsRun d disk disk' store.entries h0 h1 why (line_turn told store.entries l) (turn told store.entries (Says l)) steps mid (machine_cost is_there store.entries) new (turn-line told store.entries l accepted) cheap
           (subst (λ (s : StoreState). Stops IsRun d replies disk disk' s.entries h0 h1 why (line_turn told s.entries l) (around choices answers mid) new 0) same q);
+      costs = cost-change told is_there store.entries store.entries l change accepted;
       on_run = λ needed. inl is_run;
     }
 

@@ -15,9 +15,9 @@ use Rattle.session_effects.specs.Laws.{HaltsFollow}
 use Rattle.session_effects.specs.Standing.{Carries}
 use Rattle.session_effects.specs.declared.halt.Halt.{Halt}
 use Rattle.session_runs.specs.Points.{Advances, Stops, around}
-use Rattle.session_runs.specs.Turns.{Point, finished}
+use Rattle.session_runs.specs.Turns.{Point, does, finished}
 use Rattle.session_lines.specs.Answering.{HaltsIn}
-use Rattle.session_lines.specs.Lines.{does, event_effects}
+use Rattle.session_lines.specs.Lines.{event_effects}
 use Rattle.session_lines.proofs.LineLemmas.{IsPlain, plain-effects}
 use Rattle.session_lines.proofs.TurnLemmas.{Advances-does, Stops-does, quiet-event}
 

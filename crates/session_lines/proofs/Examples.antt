@@ -8,14 +8,15 @@ use Rattle.arn_lines.specs.declared.answer.Refusal.TheVariants.{NoBoot, NoBooted
 use Rattle.arn_lines.specs.declared.line.Line.TheVariants as line
 use Rattle.arn_lines.specs.declared.line.Question.{Question}
 use Rattle.arn_lines.specs.Texts.{refusal_text}
-use Rattle.arn_commands.specs.declared.command.Command.TheVariants.{PassedOver, TooLong, Says}
+use Rattle.arn_commands.specs.declared.command.Command.TheVariants.{PassedOver, TooLong, Says, Generates}
 use Rattle.session_effects.specs.Effects.{Prints}
 use Rattle.session_effects.specs.declared.halt.Halt.TheVariants as halt
 use Rattle.session_runs.specs.Points.{around}
 use Rattle.session_lines.specs.Answering.{IsNotBegun, Standpoint, standpoint}
+use Rattle.session_lines.specs.Generator.{gen_name}
 use Rattle.session_lines.specs.Lines.{needs_machine, turn}
 use Rattle.session_lines.specs.Questions.{Told}
-use Rattle.session_lines.specs.Refusals.{fault_refusal, refusal_of}
+use Rattle.session_lines.specs.Refusals.{fault_refusal, generator_refusal, refusal_of}
 
 -- a history that brought a file `a` of one byte, and one that booted behind it
 a_file : List Record
@@ -68,6 +69,22 @@ faulty_early = refl
 faulty_late : fault_refusal a_boot 7 ≡ NoBooted
 unfolding a_boot
 faulty_late = refl
+
+-- the generator's file is brought before a boot, once
+generates_late : generator_refusal a_boot ≡ Some NoBooted
+unfolding a_boot
+generates_late = refl
+
+generates_twice : generator_refusal (entry.File gen_name [] ∷ []) ≡ Some NoName
+generates_twice = refl
+
+generates_late_why : (told : Told) → (turn told a_boot (Generates [] [] 1) []).effects ≡ Prints (refusal_text NoBooted) ∷ []
+unfolding a_boot
+generates_late_why told = refl
+
+generates_by_machine : needs_machine a_file (Generates [] [] 1) ≡ true
+unfolding a_file
+generates_by_machine = refl
 
 -- a refused line prints why, commits nothing and needs no machine
 prints_why : (told : Told) → (turn told [] (Says (line.Run 5)) []).effects ≡ Prints (refusal_text NoBoot) ∷ []

@@ -6,4 +6,7 @@ mod PartLemmas
 mod AnswerLemmas
 mod ChangeLemmas
 mod EventLemmas
+mod BootLemmas
+mod QuietLemmas
+mod GeneratedLemmas
 mod Examples

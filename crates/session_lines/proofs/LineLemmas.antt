@@ -21,9 +21,9 @@ use Rattle.session_effects.specs.Effects.{Prints, committed}
 use Rattle.session_runs.specs.Points.{slices_in}
 use Rattle.session_runs.specs.Ready.{machine_of}
 use Rattle.session_runs.specs.Runs.{begun, ended, ends, run, unless_ended}
-use Rattle.session_runs.specs.Turns.{Point, cut_off, finished}
+use Rattle.session_runs.specs.Turns.{Point, cut_off, does, finished, prints}
 use Rattle.session_lines.specs.Cost.{cost, machine_cost}
-use Rattle.session_lines.specs.Lines.{does, event_effects, is_change, line_turn, needs_machine, prints, turn, turn_unless}
+use Rattle.session_lines.specs.Lines.{event_effects, is_change, line_turn, needs_machine, turn, turn_unless}
 use Rattle.session_lines.specs.Questions.{Told}
 use Rattle.session_lines.specs.Refusals.{refusal_of}
 use Rattle.session_lines.proofs.TurnLemmas.{IsStill, first-commit, no-commit, none-next, still-does}
@@ -122,11 +122,11 @@ needs-refused history l why is = ap (λ (o : Option Refusal). is_change l && is_
 pub needs-change : (history : List Record) (l : Line) → is_change l ≡ true → refusal_of history l ≡ None → needs_machine history (Says l) ≡ true
 needs-change history l change is = ap (λ (b : Bool). b && is_none (refusal_of history l)) change ∙ ap (λ (o : Option Refusal). true && is_none o) is
 
--- what a line costs
-pub cost-change : (told : Told) (is_there : Bool) (history : List Record) (l : Line) → is_change l ≡ true → refusal_of history l ≡ None → machine_cost is_there history ≤ cost told is_there history (Says l)
-cost-change told is_there history l change is =
+-- what a line costs, whatever the history behind it
+pub cost-change : (told : Told) (is_there : Bool) (history behind : List Record) (l : Line) → is_change l ≡ true → refusal_of history l ≡ None → machine_cost is_there history ≤ cost told is_there history behind (Says l)
+cost-change told is_there history behind l change is =
     let e : (if needs_machine history (Says l) then machine_cost is_there history else 0) ≡ machine_cost is_there history = ap (λ (b : Bool). if b then machine_cost is_there history else 0) (needs-change history l change is) in
     omega (arith, e)
 
-pub cost-ask : (told : Told) (is_there : Bool) (history : List Record) (q : Question) → told.cost history q ≤ cost told is_there history (Says (line.Asks q))
-cost-ask told is_there history q = omega arith
+pub cost-ask : (told : Told) (is_there : Bool) (history behind : List Record) (q : Question) → told.cost history q ≤ cost told is_there history behind (Says (line.Asks q))
+cost-ask told is_there history behind q = omega arith

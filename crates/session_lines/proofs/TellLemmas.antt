@@ -31,12 +31,19 @@ pub record IsTold (r : Recorded) (history : List Record) : Type 0 where
   pub free : names.is_booted history ≡ false → (name : List ℕ) → names.may_bring history name ≡ is_free r.kernel.kernel.files name
   pub brought : names.is_booted history ≡ false → (name : List ℕ) → names.brought history name ≡ named_bytes r.kernel.kernel.files name
 
-pub is-told : RecordsTellRuns → EachRunIsSound → RecordsLeaveRoom → (r : Recorded) (history : List Record) → IsReady r history → length history < 2 ^ 63 → IsTold r history
-is-told tell sound leave_room r history ready few =
+-- what the records tell of the run that they are of
+pub tells-run : RecordsTellRuns → EachRunIsSound → RecordsLeaveRoom → (r : Recorded) (history : List Record) → IsReady r history → length history < 2 ^ 63 → TellsRun (named history)
+tells-run tell sound leave_room r history ready few =
     let inputs : List Input = named history in
     let room : HasRoom r (2 ^ 63) 0 = room-for leave_room r history (2 ^ 63) 0 ready few (omega arith) (omega arith) in
     let numbers : HasNumbers (machine_after inputs).kernel = omega (arith, room.events, ready.is_after.leads.events, (sound inputs).few) in
-    let t : TellsRun inputs = tell inputs numbers in
+    tell inputs numbers
+
+-- and so of a machine that belongs to them
+pub is-told : RecordsTellRuns → EachRunIsSound → RecordsLeaveRoom → (r : Recorded) (history : List Record) → IsReady r history → length history < 2 ^ 63 → IsTold r history
+is-told tell sound leave_room r history ready few =
+    let inputs : List Input = named history in
+    let t : TellsRun inputs = tells-run tell sound leave_room r history ready few in
     let kernel : (machine_after inputs).kernel ≡ r.kernel.kernel = sym ready.is_after.leads.kernel in
     let later : names.is_booted history ≡ false → run.is_booted (machine_after inputs) ≡ false = λ none. sym t.booted ∙ ap names.is_booted (sym ready.is_run) ∙ none in
     record {
@@ -51,11 +58,11 @@ by-file true c is = absurd cc
 by-file false true is = (refl, refl)
 by-file false false is = absurd cc
 
-accepted-file : (history : List Record) (name bytes : List ℕ) → refusal_of history (line.File name bytes) ≡ None → (names.is_booted history ≡ false) × (names.may_bring history name ≡ true)
+pub accepted-file : (history : List Record) (name bytes : List ℕ) → refusal_of history (line.File name bytes) ≡ None → (names.is_booted history ≡ false) × (names.may_bring history name ≡ true)
 accepted-file history name bytes is = by-file (names.is_booted history) (names.may_bring history name) is
 
 -- an image was brought
-record IsBrought (o : Option (List ℕ)) : Type 0 where
+pub record IsBrought (o : Option (List ℕ)) : Type 0 where
   pub bytes : List ℕ
   pub are : o ≡ Some bytes
   pub image : is_image bytes ≡ true
@@ -69,7 +76,7 @@ by-boot true o is = absurd cc
 by-boot false None is = absurd cc
 by-boot false (Some bytes) is = (refl, record { bytes = bytes; are = refl; image = by-image (read_as_image bytes) (is_image bytes) is })
 
-accepted-boot : (history : List Record) (name : List ℕ) → refusal_of history (line.Boot name) ≡ None → (names.is_booted history ≡ false) × IsBrought (names.brought history name)
+pub accepted-boot : (history : List Record) (name : List ℕ) → refusal_of history (line.Boot name) ≡ None → (names.is_booted history ≡ false) × IsBrought (names.brought history name)
 accepted-boot history name is = by-boot (names.is_booted history) (names.brought history name) is
 
 -- a process was made

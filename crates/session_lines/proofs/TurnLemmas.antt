@@ -15,8 +15,7 @@ use Rattle.session_effects.specs.Printing.{StopsPut}
 use Rattle.session_effects.specs.Standing.{Carries, IsOpen}
 use Rattle.session_effects.specs.declared.halt.Halt.{Halt}
 use Rattle.session_runs.specs.Points.{Advances, IsSpent, Stops, around, slices_in}
-use Rattle.session_runs.specs.Turns.{Turn, Point, behind, finished}
-use Rattle.session_lines.specs.Lines.{does, prints}
+use Rattle.session_runs.specs.Turns.{Turn, Point, behind, does, finished, prints}
 
 -- the k-th slice is the k-th choice brought into range
 abbrev IsPicked : Option Choice → List Ask → List Picked → ℕ → Type 0
@@ -134,7 +133,7 @@ pub record IsStill (from : Point) : Type 0 where
   pub left : ((from []).left ≡ None) ⊎ ((from []).left ≡ Some [])
   pub names : (entries : List Record) → IsAtCommit (from []).effects entries → slices_in entries ≡ []
 
-spent-still : (undone : List Effect) (left : Option (List Picked)) → (left ≡ None) ⊎ (left ≡ Some []) → IsSpent [] undone left
+pub spent-still : (undone : List Effect) (left : Option (List Picked)) → (left ≡ None) ⊎ (left ≡ Some []) → IsSpent [] undone left
 spent-still undone left (inl none) = inl none
 spent-still undone left (inr all) = inr (all, inr refl)
 

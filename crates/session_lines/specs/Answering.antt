@@ -1,5 +1,5 @@
 -- What is carried out where a command is answered, and what where its answer halts.
-use Rattle.std.specs.Prelude.{◌≡◌, ◌⊎◌, ◌≤◌, ℕ, ◌+◌, ◌++◌, true, false, Bool, List, Option}
+use Rattle.std.specs.Prelude.{◌≡◌, ◌⊎◌, ◌<◌, ◌≤◌, ℕ, ◌+◌, ◌++◌, true, false, Bool, List, Option}
 use Rattle.arn_base.specs.declared.disk.Disk.{Ghosts}
 use Rattle.arn_base.specs.declared.records.Differs.{Differs}
 use Rattle.arn_base.specs.declared.records.Record.{Record}
@@ -7,8 +7,10 @@ use Rattle.arn_base.specs.Faults.{Rose}
 use Rattle.parts_model.specs.Replies.{Answered}
 use Rattle.log_model.specs.Records.{IsRun, named, records}
 use Rattle.log_store.specs.Stores.{StoreState}
+use Rattle.log_store.specs.declared.size.TheConstants.{MOST_LOG}
 use Rattle.guest_devices.specs.Answers.{Asked}
 use Rattle.guest_machine.specs.Differs.{IsFirstDifference}
+use Rattle.guest_machine.specs.LegLaws.{all_named}
 use Rattle.arn_commands.specs.declared.command.Command.{Command}
 use Rattle.session_effects.specs.Effects.{Effect}
 use Rattle.session_effects.specs.Standing.{Carries}
@@ -16,7 +18,7 @@ use Rattle.session_effects.specs.declared.halt.Halt.{Halt}
 use Rattle.session_effects.specs.declared.halt.Halt.TheVariants as halt
 use Rattle.session_runs.specs.Points.{Advances, Stops, Surroundings}
 use Rattle.session_runs.specs.Turns.{finished}
-use Rattle.session_lines.specs.Cost.{cost, machine_cost}
+use Rattle.session_lines.specs.Cost.{cost, cost_of_turn, machine_cost}
 use Rattle.session_lines.specs.Lines.{needs_machine, turn}
 use Rattle.session_lines.specs.Questions.{Told}
 
@@ -32,7 +34,7 @@ abbrev pub IsLineCause : Halt → ℕ → ℕ → ℕ → ℕ → Type 0
 IsLineCause halt.Disk disk disk' sink sink' = Rose disk disk'
 IsLineCause halt.Sink disk disk' sink sink' = Rose sink sink'
 IsLineCause halt.NoMemory disk disk' sink sink' = Unit {0}
-IsLineCause (halt.Full log payload) disk disk' sink sink' = Unit {0}
+IsLineCause (halt.Full log payload) disk disk' sink sink' = MOST_LOG < log + 5 + payload
 IsLineCause (halt.Differs d) disk disk' sink sink' = Unit {0}
 IsLineCause halt.Source disk disk' sink sink' = ⊥
 IsLineCause halt.Long disk disk' sink sink' = ⊥
@@ -89,12 +91,14 @@ pub record IsNotBegun {D A : Type 0} (why : Halt) (is_there : Bool) (old new : S
 module _ {D A : Type 0} (d : Ghosts D) (replies : A → Asked → Answered → A → Type 0) (told : Told) (is_there : Bool) where
   -- A command was answered: all that it asks for was carried out. Where it needs the machine, the history is that of a run.
   pub record IsAnswered (command : Command) (old new : Standpoint D A) : Type 0 where
-    pub advances : Advances replies (turn told old.store.entries command) finished old.around new.around (cost told is_there old.store.entries command) (Carries IsRun d old.disk new.disk old.store new.store old.held new.held)
+    pub advances : Advances replies (turn told old.store.entries command) finished old.around new.around (cost told is_there old.store.entries new.store.entries command) (Carries IsRun d old.disk new.disk old.store new.store old.held new.held)
     pub on_run : needs_machine old.store.entries command ≡ true → IsRun old.store.entries
 
   -- Its answer halted. Where it needs the machine, the history is that of a run, or no machine was made.
   pub record IsHalted (why : Halt) (command : Command) (old new : Standpoint D A) : Type 0 where
-    pub stops : Stops IsRun d replies old.disk new.disk old.store.entries old.held new.held why (turn told old.store.entries command) old.around new.around (cost told is_there old.store.entries command)
+    pub beside : ℕ
+    pub stops : Stops IsRun d replies old.disk new.disk old.store.entries old.held new.held why (turn told old.store.entries command) old.around new.around beside
+    pub costs : beside ≤ cost_of_turn told is_there old.store.entries command (turn told old.store.entries command (all_named stops.asks stops.slices ++ all_named stops.lost_asks stops.lost))
     pub on_run : needs_machine old.store.entries command ≡ true → IsRun old.store.entries ⊎ IsNotBegun why is_there old new
 
 -- it halted since the records of the history are none of a run's: it needs the machine, which wasn't there, and none was made

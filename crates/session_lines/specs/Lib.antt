@@ -1,5 +1,6 @@
 pub mod Questions
 pub mod Refusals
+pub mod Generator
 pub mod Lines
 pub mod Cost
 pub mod Kept

@@ -1,5 +1,5 @@
 -- What a command does on a recorded history, by the slices to come.
-use Rattle.std.specs.Prelude.{ℕ, Bool, true, false, ◌&&◌, List, [], ◌∷◌, Option, Some, None, is_none}
+use Rattle.std.specs.Prelude.{Bool, true, false, ◌&&◌, List, [], ◌∷◌, Option, Some, None, is_none}
 use Rattle.arn_base.specs.declared.records.Record.{Record}
 use Rattle.arn_model.specs.Kernel.{Machine}
 use Rattle.arn_model.specs.Run.{Input, File, Boot, Typed}
@@ -10,21 +10,14 @@ use Rattle.arn_lines.specs.declared.answer.Refusal.{Refusal}
 use Rattle.arn_lines.specs.declared.answer.Refusal.TheVariants.{NoLong, NoLine}
 use Rattle.arn_lines.specs.Texts.{event_text, refusal_text}
 use Rattle.arn_commands.specs.declared.command.Command.{Command}
-use Rattle.arn_commands.specs.declared.command.Command.TheVariants.{PassedOver, TooLong, Unreadable, Says, Faulty}
+use Rattle.arn_commands.specs.declared.command.Command.TheVariants.{PassedOver, TooLong, Unreadable, Says, Faulty, Generates}
 use Rattle.session_effects.specs.Effects.{Effect, Commits, Prints}
 use Rattle.session_runs.specs.Ready.{machine_of}
 use Rattle.session_runs.specs.Runs.{run}
-use Rattle.session_runs.specs.Turns.{Point, finished}
+use Rattle.session_runs.specs.Turns.{Point, does, finished, prints}
+use Rattle.session_lines.specs.Generator.{generator_turn}
 use Rattle.session_lines.specs.Questions.{Told}
-use Rattle.session_lines.specs.Refusals.{fault_refusal, refusal_of}
-
--- effects, for which no slice is taken
-abbrev pub does : List Effect → Point
-does effects slices = record { effects = effects; asks = []; left = Some slices }
-
--- a text is printed, and nothing is changed
-abbrev pub prints : List ℕ → Point
-prints text = does (Prints text ∷ [])
+use Rattle.session_lines.specs.Refusals.{fault_refusal, generator_refusal, refusal_of}
 
 -- an input becomes an event: its records are committed, and then its number is printed
 abbrev pub event_effects : Machine → Input → List Effect
@@ -50,6 +43,7 @@ turn told history TooLong = prints (refusal_text NoLong)
 turn told history Unreadable = prints (refusal_text NoLine)
 turn told history (Says l) = turn_unless (refusal_of history l) (line_turn told history l)
 turn told history (Faulty at) = prints (refusal_text (fault_refusal history at))
+turn told history (Generates image typed processes) = turn_unless (generator_refusal history) (generator_turn told history image typed processes)
 
 -- the line goes on with the running machine, and asks nothing of records alone
 abbrev pub is_change : Line → Bool
@@ -66,3 +60,4 @@ needs_machine history TooLong = false
 needs_machine history Unreadable = false
 needs_machine history (Says l) = is_change l && is_none (refusal_of history l)
 needs_machine history (Faulty at) = false
+needs_machine history (Generates image typed processes) = is_none (generator_refusal history)

@@ -7,3 +7,6 @@ use Rattle.arn_lines.specs.declared.line.Question.{Question}
 pub record Told : Type 0 where
   pub text : List Record → Question → List ℕ
   pub cost : List Record → Question → ℕ
+  -- the same of what the generator did with so many processes
+  pub generated : List Record → ℕ → List ℕ
+  pub generated_cost : List Record → ℕ

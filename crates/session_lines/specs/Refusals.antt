@@ -1,8 +1,9 @@
 -- Why lines are refused. The line and the records of the history tell, and no machine is needed.
-use Rattle.std.specs.Prelude.{ℕ, not, Bool, true, false, if◌then◌else◌, List, Option, Some, None, is_none}
+use Rattle.std.specs.Prelude.{ℕ, not, Bool, true, false, if◌then◌else◌, List, [], Option, Some, None, is_none}
 use Rattle.arn_base.specs.declared.records.Record.{Record}
 use Rattle.parts_model.specs.Image.{image_of}
 use Rattle.history_model.specs.Names.{is_booted, brought, may_bring}
+use Rattle.session_lines.specs.Generator.{gen_name}
 use Rattle.arn_lines.specs.declared.line.Line.{Line}
 use Rattle.arn_lines.specs.declared.line.Line.TheVariants as line
 use Rattle.arn_lines.specs.declared.answer.Refusal.{Refusal}
@@ -29,3 +30,7 @@ refusal_of history (line.Asks question) = None
 -- why a block is refused whose program has a fault on this line
 abbrev pub fault_refusal : List Record → ℕ → Refusal
 fault_refusal history at = if is_booted history then NoBooted else NoAsm at
+
+-- why the generator is refused: as a file of its name would be
+abbrev pub generator_refusal : List Record → Option Refusal
+generator_refusal history = refusal_of history (line.File gen_name [])

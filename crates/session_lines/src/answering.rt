@@ -19,6 +19,7 @@ ghost use Rattle.session_runs.specs.Ready.{IsReady};
 ghost use Rattle.session_runs.specs.Turns.{finished};
 
 use crate::events::{add_file, boot, type_in};
+use crate::generating::answer_generator;
 use crate::kept::Kept;
 use crate::printing::print_refusal;
 use crate::questions::Questions;
@@ -93,6 +94,16 @@ pub fn answer<Q: Questions, C: Chooser, A: Answers, D: Disk, K: Sink, L: Ledger>
         Command::Faulty { at } => {
             let why = fault_refusal(kept.store.entries(), at);
             print_refusal(text, why, sink)
+        }
+        Command::Generates {
+            image,
+            typed,
+            processes,
+        } => {
+            let (image, typed) = (image.as_slice(), typed.as_slice());
+            answer_generator(
+                kept, image, typed, processes, chooser, answers, disk, text, sink, steps,
+            )
         }
     }
 }

@@ -4,6 +4,7 @@
 
 mod answering;
 mod events;
+mod generating;
 mod kept;
 mod names;
 mod printing;

@@ -42,4 +42,20 @@ pub trait Questions {
         ensures text { OnOk result (string_bytes text.new ≡
             string_bytes text.old ++ told.text entries.now question.now) }
         ensures steps { steps.new ≤ steps.old + told.cost entries.now question.now };
+
+    /// Puts behind a text what the generator did with so many processes.
+    fn generated<L: Ledger>(
+        &mut self,
+        entries: &[Record],
+        processes: u64,
+        text: &mut String,
+        steps: &mut Steps<L>,
+    ) -> Result<(), NoMemory>
+        requires fits { length (spellings entries.now) ≤ MOST_LOG }
+        requires spelled { All HasSpelling entries.now }
+        requires known { knows self.old entries.now }
+        ensures known { OnOk result (knows self.new entries.now) }
+        ensures text { OnOk result (string_bytes text.new ≡
+            string_bytes text.old ++ told.generated entries.now processes) }
+        ensures steps { steps.new ≤ steps.old + told.generated_cost entries.now };
 }

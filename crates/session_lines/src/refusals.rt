@@ -1,6 +1,7 @@
 // Why lines are refused.
-ghost use Rattle.std.specs.Prelude.{◌≡◌, option_map};
-ghost use Rattle.session_lines.specs.Refusals.{refusal_of as refusal_by, fault_refusal as fault_refusal_by, file_refusal, refused_if};
+ghost use Rattle.std.specs.Prelude.{◌≡◌, [], option_map};
+ghost use Rattle.arn_lines.specs.declared.line.Line.TheVariants as line;
+ghost use Rattle.session_lines.specs.Refusals.{refusal_of as refusal_by, fault_refusal as fault_refusal_by, generator_refusal as generator_refusal_by, file_refusal, refused_if};
 
 use crate::names::{brought, is_booted, may_bring};
 use arn_base::Record;
@@ -17,18 +18,23 @@ fn file_refusal(file: Option<&[u8]>) -> Option<Refusal>
     }
 }
 
+// Why a file is refused that is brought under this name, if it is.
+fn bring_refusal(entries: &[Record], name: &[u8]) -> Option<Refusal>
+    ensures { result ≡ refusal_by entries.now (line.File name.now []) }
+{
+    if is_booted(entries) {
+        return Some(Refusal::NoBooted);
+    }
+    refused_if(!may_bring(entries, name), Refusal::NoName)
+}
+
 /// Why a line is refused, if it is. The line and the records of the history tell, and no machine is
 /// needed.
 pub fn refusal_of(entries: &[Record], line: &Line) -> Option<Refusal>
     ensures { result ≡ refusal_by entries.now line.now }
 {
     match line {
-        Line::File { name, .. } => {
-            if is_booted(entries) {
-                return Some(Refusal::NoBooted);
-            }
-            refused_if(!may_bring(entries, name.as_slice()), Refusal::NoName)
-        }
+        Line::File { name, .. } => bring_refusal(entries, name.as_slice()),
         Line::Boot { name } => {
             if is_booted(entries) {
                 return Some(Refusal::NoBooted);
@@ -49,6 +55,13 @@ pub fn fault_refusal(entries: &[Record], at: u64) -> Refusal
     } else {
         Refusal::NoAsm { line: at }
     }
+}
+
+/// Why the generator is refused, if it is.
+pub fn generator_refusal(entries: &[Record]) -> Option<Refusal>
+    ensures { result ≡ generator_refusal_by entries.now }
+{
+    bring_refusal(entries, b"gen")
 }
 
 fn refused_if(refused: bool, why: Refusal) -> Option<Refusal>

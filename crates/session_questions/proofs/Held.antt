@@ -13,7 +13,8 @@ use Rattle.query_model.specs.States.{held_disagreement, held_pairs, process_grou
 use Rattle.query_model.specs.declared.held.Held.{Held}
 use Rattle.rv64_model.specs.Carries.{operands}
 use Rattle.rv64_model.specs.declared.linkage.Linkage.{Linkage}
-use Rattle.session_questions.specs.Texts.{answer_text, held_telling, held_text, unless_damaged}
+use Rattle.session_questions.specs.Asked.{unless_damaged}
+use Rattle.session_questions.specs.Texts.{answer_text, held_telling, held_text}
 
 module _ (linkage : Linkage) (entries : List Record) (held : Held) (old new : List ℕ) where
   -- what is told, by whether the bytes are there and whether something disagrees

@@ -4,5 +4,6 @@ mod Ranges
 mod Far
 mod Held
 mod Printed
+mod Written
 mod OfRuns
 mod Examples

@@ -1,12 +1,15 @@
 -- Answers on the records of a run.
-use Rattle.std.proofs.Common.{◌≡◌, ◌∙◌, ℕ, zero, suc, ◌<◌, ◌≤◌, ◌&&◌, nat_le, nat_lt, Bool, true, false, if◌then◌else◌, List, [], ◌∷◌, length, filter, Option, Some, None, is_some, refl, sym, ap, arith}
+use Rattle.std.proofs.Common.{◌≡◌, ◌∙◌, ℕ, zero, suc, ◌<◌, ◌≤◌, ◌&&◌, nat_le, nat_lt, Bool, true, false, if◌then◌else◌, List, [], ◌∷◌, length, filter, Option, Some, None, is_some, refl, sym, ap, arith, sum_by}
+use Rattle.std.proofs.lemmas.List.Elements.{All-cons, All-head, All-nil, All-tail}
+use Rattle.std.proofs.lemmas.List.Sums.{sum_by-cons}
+use Rattle.std.specs.List.{All, sum}
 use Rattle.std.specs.Prelude.{◌↔◌, Contains, slice_get}
 use Rattle.acts_model.specs.Bodies.{View, seen}
 use Rattle.arn_base.specs.declared.records.Pair.{Pair}
 use Rattle.arn_base.specs.declared.records.Record.{Record}
 use Rattle.rv64_model.specs.Carries.{operands}
 use Rattle.rv64_model.specs.declared.linkage.Linkage.{Linkage}
-use Rattle.rv64_model.specs.declared.linkage.Linkage.TheVariants.{Copy}
+use Rattle.rv64_model.specs.declared.linkage.Linkage.TheVariants.{Copy, Data}
 use Rattle.arn_lines.specs.declared.answer.Refusal.TheVariants.{NoPoint}
 use Rattle.arn_lines.specs.declared.line.Aspect.{Aspect}
 use Rattle.arn_lines.specs.declared.line.Aspect.TheVariants as aspect
@@ -41,9 +44,12 @@ use Rattle.query_model.specs.States.{process_groups}
 use Rattle.query_model.specs.declared.held.Held.{Held}
 use Rattle.query_model.specs.declared.held.Part.{Part}
 use Rattle.query_model.specs.declared.held.Part.TheVariants as part
-use Rattle.session_questions.specs.OfRuns.{living, run_back_text, run_bytes_text, run_forth_text, run_held_text, run_named_text, run_pairs, run_show_text, run_sources_text, run_text}
+use Rattle.gen_texts.specs.Sums.{gen_text, written}
+use Rattle.session_questions.specs.Asked.{unless_damaged, unless_refused}
+use Rattle.session_questions.specs.Generated.{Write, generated_text, pairs_of, unless_one_refused, writes}
+use Rattle.session_questions.specs.OfRuns.{living, run_back_text, run_bytes_text, run_forth_text, run_generated_text, run_held_text, run_named_text, run_pairs, run_pairs_of, run_show_text, run_sources_text, run_text, unless_one_long}
 use Rattle.session_questions.specs.Short.{ShortRunsHaveNumbers}
-use Rattle.session_questions.specs.Texts.{answer_text, back_telling, bytes_answer, event_telling, forth_telling, held_telling, held_text, named_telling, question_text, show_telling, sinks_text, sources_text, unless_damaged, written_text}
+use Rattle.session_questions.specs.Texts.{answer_text, back_telling, bytes_answer, event_telling, forth_telling, held_telling, held_text, named_telling, question_text, show_telling, sinks_text, sources_text, written_text}
 use Rattle.session_reports.specs.Files.{file_of}
 use Rattle.session_reports.specs.Processes.{processes_text}
 use Rattle.session_reports.specs.States.{mem_of, regs_of, seen_text}
@@ -164,3 +170,33 @@ module _ (numbers : ShortRunsHaveNumbers) (queries : QueriesAreOfRuns) (states :
   pub sunk : (linkage : Linkage) (event from len : ℕ) (pair : Pair)
       → Contains (forth_pairs (operands linkage) (records inputs) event from len) pair ↔ IsSinkPair (records inputs) (whole_points (operands linkage) inputs) event from len pair
   sunk linkage event from len = (sinks (operands linkage) inputs event from len (numbers inputs short)).pairs
+
+  -- a write that may be asked for
+  IsAsked : Write → Type 0
+  IsAsked w = is_range (event_at (records inputs) w.event) 0 w.len ≡ true
+
+  of-write : (w : Write) (x y : List ℕ) → (IsAsked w → x ≡ y)
+      → unless_refused (records inputs) w.event 0 w.len x ≡ (if is_range (event_at (records inputs) w.event) 0 w.len then y else refusal_text NoPoint)
+  unfolding IsAsked
+  of-write w x y same =
+      if-same (is_range (event_at (records inputs) w.event) 0 w.len) _ _ (refusal_text NoPoint) (λ is.
+      ap (λ (o : Option Disagrees). unless_damaged o x) (agrees Data w.event) ∙ same is)
+
+  of-writes : (asked : List Write) (x y : List ℕ) → (All IsAsked asked → x ≡ y) → unless_one_refused (records inputs) asked x ≡ unless_one_long (records inputs) asked y
+  of-writes [] x y same = same (All-nil IsAsked)
+  of-writes (w ∷ more) x y same = of-write w _ _ (λ is. of-writes more x y (λ all. same (All-cons IsAsked w more is all)))
+
+  same-pairs : (w : Write) → IsAsked w → pairs_of (records inputs) w ≡ run_pairs_of inputs w
+  unfolding IsAsked
+  same-pairs w is = ap (λ (pairs : List Pair). length pairs) ((answers Data).pairs w.event 0 w.len (range-there (events (records inputs)) w.event 0 w.len is))
+
+  same-sums : (asked : List Write) → All IsAsked asked → sum_by (pairs_of (records inputs)) asked ≡ sum_by (run_pairs_of inputs) asked
+  same-sums [] all = refl
+  same-sums (w ∷ more) all =
+      let here = same-pairs w (All-head IsAsked w more all) in
+      let behind = same-sums more (All-tail IsAsked w more all) in
+      omega (arith, here, behind, sum_by-cons (pairs_of (records inputs)) w more, sum_by-cons (run_pairs_of inputs) w more)
+
+  pub of-generator : (processes : ℕ) → generated_text (records inputs) processes ≡ run_generated_text inputs processes
+  of-generator processes =
+      of-writes (writes (records inputs)) _ _ (λ all. ap (gen_text processes (sum (written (records inputs)))) (same-sums (writes (records inputs)) all))

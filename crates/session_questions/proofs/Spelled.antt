@@ -14,6 +14,7 @@ use Rattle.acts_model.specs.Records.{event_len, held_len, is_nothing, plain_len}
 use Rattle.result_log.specs.Spelling.{counted, extra_fields, field, give_fields, named, origins_fields, spelling}
 use Rattle.schedule_log.specs.Fields.{flag_field}
 use Rattle.history_index.specs.Indexes.{AreCountable}
+use Rattle.gen_texts.specs.Sums.{to_console, written, written_by}
 use Rattle.log_store.specs.Log.{spellings}
 use Rattle.log_store.specs.declared.size.TheConstants.{MOST_LOG}
 
@@ -113,3 +114,36 @@ pub countable : (entries : List Record) → length (spellings entries) ≤ MOST_
 countable entries short =
     let few = few-records entries in
     record { few = omega (arith, few, short); short = short-events entries short }
+
+-- what was written to the console is spelled
+console-le : (more : Extra) → length (to_console more) ≤ length (extra_fields more)
+console-le (extra.Console bytes) = behind-it (length bytes) (field 1 4) (counted bytes) (counted-le bytes)
+console-le (extra.Give g) = omega arith
+console-le (extra.Put file at bytes) = omega arith
+console-le (extra.Reply device bytes) = omega arith
+console-le (extra.Sent device bytes) = omega arith
+console-le extra.Nothing = omega arith
+console-le (extra.Start start) = omega arith
+console-le extra.Fault = omega arith
+console-le extra.Absent = omega arith
+console-le (extra.Name file path) = omega arith
+
+written-le : (e : Record) → length (written_by e) ≤ length (spelling e)
+written-le (entry.File name bytes) = omega arith
+written-le (entry.Boot name g) = omega arith
+written-le (entry.Typed bytes) = omega arith
+written-le (entry.Unplug device) = omega arith
+written-le (entry.Slice pid ran) = omega arith
+written-le (entry.Signal pid signal cut handler) = omega arith
+written-le (entry.Call pid number answer did) =
+    let n = length (to_console did) in
+    behind-it n (field 1 7) (field 4 pid ++ field 8 number ++ field 8 answer ++ extra_fields did) (behind-it n (field 4 pid) (field 8 number ++ field 8 answer ++ extra_fields did) (behind-it n (field 8 number) (field 8 answer ++ extra_fields did) (behind-it n (field 8 answer) (extra_fields did) (console-le did))))
+written-le (entry.End pid status) = omega arith
+
+all-written-le : (entries : List Record) → length (written entries) ≤ length (spellings entries)
+all-written-le [] = omega arith
+all-written-le (e ∷ entries) =
+    omega (arith, written-le e, all-written-le entries, length-append (spelling e) (spellings entries), length-append (written_by e) (written entries))
+
+pub few_written : (entries : List Record) → length (spellings entries) ≤ MOST_LOG → length (written entries) < 2 ^ 32
+few_written entries short = omega (arith, all-written-le entries, short)

@@ -1,3 +1,6 @@
+pub mod Asked
+pub mod Generated
+pub mod Counting
 pub mod Texts
 pub mod Short
 pub mod OfRuns

@@ -1,9 +1,11 @@
 -- What is printed for a question on the records of a run.
-use Rattle.std.specs.Prelude.{◌≡◌, ◌↔◌, ℕ, ◌+◌, ◌≤◌, if◌then◌else◌, List, Contains, filter, length, Option, Some, None}
+use Rattle.std.specs.Prelude.{◌≡◌, ◌↔◌, ℕ, ◌+◌, ◌≤◌, if◌then◌else◌, List, [], ◌∷◌, Contains, filter, length, sum_by, Option, Some, None}
+use Rattle.std.specs.List.{sum}
 use Rattle.arn_base.specs.declared.records.Pair.{Pair}
 use Rattle.arn_base.specs.declared.records.Record.{Record}
 use Rattle.rv64_model.specs.Carries.{Table, operands}
 use Rattle.rv64_model.specs.declared.linkage.Linkage.{Linkage}
+use Rattle.rv64_model.specs.declared.linkage.Linkage.TheVariants.{Data}
 use Rattle.acts_model.specs.Bodies.{seen}
 use Rattle.arn_lines.specs.declared.answer.Refusal.TheVariants.{NoPoint}
 use Rattle.arn_lines.specs.declared.line.Aspect.{Aspect}
@@ -15,6 +17,7 @@ use Rattle.arn_lines.specs.declared.line.Sought.TheVariants as sought
 use Rattle.arn_lines.specs.Texts.{refusal_text}
 use Rattle.arn_model.specs.Run.{Input, state_at}
 use Rattle.arn_model.specs.Tells.{lives}
+use Rattle.gen_texts.specs.Sums.{gen_text, written}
 use Rattle.history_index.specs.Lookups.{processes_in}
 use Rattle.history_model.specs.Events.{event_at, is_range}
 use Rattle.lineage_model.specs.Flow.{Byte}
@@ -36,6 +39,7 @@ use Rattle.query_model.specs.Sinks.{forth_pairs}
 use Rattle.query_model.specs.States.{part_len, process_groups}
 use Rattle.query_model.specs.declared.held.Held.{Held}
 use Rattle.report_texts.specs.Totals.{verify_line}
+use Rattle.session_questions.specs.Generated.{Write, generated_text, writes}
 use Rattle.session_questions.specs.Texts.{answer_text, question_text, sinks_text, telling}
 use Rattle.session_reports.specs.Files.{file_of}
 use Rattle.session_reports.specs.Processes.{processes_text}
@@ -109,6 +113,24 @@ run_text inputs question.Verify = verify_line None
 abbrev pub AnswersAreOfRuns : Type 0
 AnswersAreOfRuns =
     (inputs : List Input) (q : Question) → length (spellings (records inputs)) ≤ MOST_LOG → question_text (records inputs) q ≡ run_text inputs q
+
+-- how many pairs say where the bytes of a write come from, by that tracking
+abbrev pub run_pairs_of : List Input → Write → ℕ
+run_pairs_of inputs w = length (run_pairs (operands Data) inputs w.event 0 w.len)
+
+-- a text, unless a write has more bytes than may be asked for
+abbrev pub unless_one_long : List Record → List Write → List ℕ → List ℕ
+unless_one_long entries [] text = text
+unless_one_long entries (w ∷ more) text = if is_range (event_at entries w.event) 0 w.len then unless_one_long entries more text else refusal_text NoPoint
+
+-- what is told of the generator
+abbrev pub run_generated_text : List Input → ℕ → List ℕ
+run_generated_text inputs processes =
+    unless_one_long (records inputs) (writes (records inputs)) (gen_text processes (sum (written (records inputs))) (sum_by (run_pairs_of inputs) (writes (records inputs))))
+
+abbrev pub GeneratedIsOfRuns : Type 0
+GeneratedIsOfRuns =
+    (inputs : List Input) (processes : ℕ) → length (spellings (records inputs)) ≤ MOST_LOG → generated_text (records inputs) processes ≡ run_generated_text inputs processes
 
 -- and they disagree in nothing that a question asks
 abbrev pub RunsAreUndamaged : Type 0

@@ -11,18 +11,17 @@ use Rattle.arn_lines.specs.declared.line.Question.{Question}
 use Rattle.arn_lines.specs.declared.line.Question.TheVariants as question
 use Rattle.arn_lines.specs.declared.line.Sought.{Sought}
 use Rattle.arn_lines.specs.declared.line.Sought.TheVariants as sought
-use Rattle.arn_lines.specs.Texts.{count_text, damaged_text, pair_text, refusal_text}
+use Rattle.arn_lines.specs.Texts.{count_text, pair_text, refusal_text}
 use Rattle.guest_machine.specs.Differs.{rebuild_cost}
-use Rattle.history_model.specs.Alone.{Disagrees}
 use Rattle.history_model.specs.Events.{event_at, is_range}
 use Rattle.parts_model.specs.declared.tagged.TaggedByte.{TaggedByte}
-use Rattle.query_model.specs.Answers.{count_in, event_disagreement, event_groups, event_pairs}
+use Rattle.query_model.specs.Answers.{count_in, event_groups, event_pairs}
 use Rattle.query_model.specs.Forth.{forth_groups}
 use Rattle.query_model.specs.Names.{Named, named_bytes, written_disagreement, written_groups, written_pairs}
 use Rattle.query_model.specs.Sinks.{forth_disagreement, forth_pairs}
 use Rattle.query_model.specs.States.{held_disagreement, held_pairs, process_groups}
 use Rattle.query_model.specs.declared.held.Held.{Held}
-use Rattle.query_engine.specs.Asked.{in_file, in_memory, in_register, ran_for, ran_for_held, ran_for_named}
+use Rattle.query_engine.specs.Asked.{in_file, in_memory, in_register, ran_for_held, ran_for_named}
 use Rattle.query_engine.specs.Forth.{ran_forth}
 use Rattle.query_engine.specs.States.{is_held}
 use Rattle.session_reports.specs.Events.{events_text}
@@ -31,6 +30,8 @@ use Rattle.session_reports.specs.Groups.{groups_text}
 use Rattle.session_reports.specs.Processes.{show_procs_text}
 use Rattle.session_reports.specs.States.{show_mem_cost, show_mem_text, show_regs_cost, show_regs_text}
 use Rattle.session_lines.specs.Questions.{Told}
+use Rattle.session_questions.specs.Asked.{event_cost, unless_damaged, unless_refused}
+use Rattle.session_questions.specs.Generated.{generated_cost, generated_text}
 use Rattle.verify_reports.specs.Verify.{verify_text}
 
 -- what is printed for a question, and how many instructions are executed for it at most
@@ -54,19 +55,11 @@ abbrev pub sources_text : Table → List Record → ℕ → ℕ → ℕ → List
 sources_text table entries event from len =
     answer_text (event_pairs table entries event from len) (count_in entries (event_groups entries event)) (event_groups entries event)
 
--- where the records of a group that is asked disagree, that is said in the answer's place
-abbrev pub unless_damaged : Option Disagrees → List ℕ → List ℕ
-unless_damaged None text = text
-unless_damaged (Some d) text = damaged_text d.event d.said d.found
-
 -- bytes of an event: the groups that are asked run again up to it. Bytes that aren't there are refused
 abbrev pub event_telling : Table → List Record → ℕ → ℕ → ℕ → Telling
 event_telling table entries event from len = record {
-  text =
-      if is_range (event_at entries event) from len
-      then unless_damaged (event_disagreement entries event) (sources_text table entries event from len)
-      else refusal_text NoPoint;
-  cost = if is_range (event_at entries event) from len then ran_for entries event else 0;
+  text = unless_refused entries event from len (sources_text table entries event from len);
+  cost = event_cost entries event from len;
 }
 
 -- bytes that a process holds at a moment: the groups that are asked run again up to it
@@ -140,4 +133,4 @@ question_cost entries q = (telling entries q).cost
 
 -- how questions are answered
 abbrev pub told : Told
-told = record { text = question_text; cost = question_cost }
+told = record { text = question_text; cost = question_cost; generated = generated_text; generated_cost = generated_cost }

@@ -86,4 +86,14 @@ impl Questions for Asking {
             Question::Verify => report_verify(text, entries, steps),
         }
     }
+
+    fn generated<L: Ledger>(
+        &mut self,
+        entries: &[Record],
+        processes: u64,
+        text: &mut String,
+        steps: &mut Steps<L>,
+    ) -> Result<(), NoMemory> {
+        self.generator(entries, processes, text, steps)
+    }
 }

@@ -1,5 +1,5 @@
 // What is printed for questions on the records of runs.
-ghost use Rattle.session_questions.specs.OfRuns.{AnswersAreOfRuns, RunsAreUndamaged, SinksAreOfRuns, VerifyTellsRuns};
+ghost use Rattle.session_questions.specs.OfRuns.{AnswersAreOfRuns, GeneratedIsOfRuns, RunsAreUndamaged, SinksAreOfRuns, VerifyTellsRuns};
 
 use crate::short::short_runs_have_numbers;
 use log_model::records_are_run;
@@ -9,12 +9,13 @@ use version_laws::versions_are_of_runs;
 use view_laws::views_are_of_runs;
 
 /// On the records of a run every question about where bytes come from is answered by the pairs that the
-/// tracking of every step of the whole machine gives, what is shown of a moment is what the machine held
-/// then, and nothing disagrees. A question where bytes went is answered by exactly the pairs of bytes that
-/// went out and have the source byte by that tracking. And of a run's records, and of no others, it is said
-/// that they are those of a run.
+/// tracking of every step of the whole machine gives, and the generator's line counts such pairs; what is
+/// shown of a moment is what the machine held then, and nothing disagrees. A question where bytes went is
+/// answered by exactly the pairs of bytes that went out and have the source byte by that tracking. And of a
+/// run's records, and of no others, it is said that they are those of a run.
 pub fn answers_are_of_runs()
     ensures text { AnswersAreOfRuns }
+    ensures generated { GeneratedIsOfRuns }
     ensures undamaged { RunsAreUndamaged }
     ensures sinks { SinksAreOfRuns }
     ensures verify { VerifyTellsRuns }

@@ -7,9 +7,10 @@ ghost use Rattle.session_questions.specs.Texts.{forth_telling, reached_text};
 use crate::Asking;
 use crate::sources::push_pairs;
 use arn_base::{NoMemory, Record, Steps};
-use arn_lines::{Refusal, push_damaged, push_forth, push_refusal};
-use query_engine::{Answer, QueryError};
+use arn_lines::{Refusal, push_forth, push_refusal};
+use query_engine::Answer;
 use rv64_model::Linkage;
+use session_reports::push_error;
 use std::sync::ledger::Ledger;
 
 // Appends what is answered: the pairs, and the line that counts them.
@@ -58,11 +59,7 @@ impl Asking {
             .forth(entries, &self.index, linkage, event, from, len, steps)
         {
             Ok(answer) => push_reached(text, &answer),
-            Err(QueryError::NoPoint) => push_refusal(text, Refusal::NoPoint),
-            Err(QueryError::Disagrees(found)) => {
-                push_damaged(text, found.event, found.said, found.found)
-            }
-            Err(QueryError::NoMemory) => Err(NoMemory),
+            Err(error) => push_error(text, error),
         }
     }
 }

@@ -10,10 +10,10 @@ ghost use Rattle.session_questions.specs.Texts.{answer_text, back_telling, event
 
 use crate::Asking;
 use arn_base::{Bytes, NoMemory, Pair, Record, Steps};
-use arn_lines::{Refusal, Sought, push_back, push_damaged, push_pair, push_refusal};
-use query_engine::{Answer, QueryError, Target};
+use arn_lines::{Refusal, Sought, push_back, push_pair, push_refusal};
+use query_engine::{Answer, Target};
 use rv64_model::Linkage;
-use session_reports::far_is_nowhere;
+use session_reports::{far_is_nowhere, push_error};
 use std::sync::ledger::Ledger;
 
 /// Appends the lines of pairs. An error leaves some of them behind the text.
@@ -44,7 +44,7 @@ fn push_answer(text: &mut String, answer: &Answer) -> Result<(), NoMemory>
 // Which bytes of an event are asked for: none where 32 bits don't count them, since no event has
 // these.
 #[tactic(auto, using(crate::proofs::Ranges::far_away))]
-fn target(_entries: &[Record], event: u64, from: u64, len: u64) -> Option<Target>
+pub(crate) fn target(_entries: &[Record], event: u64, from: u64, len: u64) -> Option<Target>
     requires countable { AreCountable _entries.now }
     ensures some { IfSome result (λ found. found ≡ target.Event event from len) }
     ensures none { IfNone result (is_range (event_at _entries.now event) from len ≡ false) }
@@ -86,11 +86,7 @@ impl Asking {
             .back(entries, &self.index, linkage, &target, steps)
         {
             Ok(answer) => push_answer(text, &answer),
-            Err(QueryError::NoPoint) => push_refusal(text, Refusal::NoPoint),
-            Err(QueryError::Disagrees(found)) => {
-                push_damaged(text, found.event, found.said, found.found)
-            }
-            Err(QueryError::NoMemory) => Err(NoMemory),
+            Err(error) => push_error(text, error),
         }
     }
 
@@ -133,11 +129,7 @@ impl Asking {
             .back(entries, &self.index, linkage, &target, steps)
         {
             Ok(answer) => push_answer(text, &answer),
-            Err(QueryError::NoPoint) => push_refusal(text, Refusal::NoPoint),
-            Err(QueryError::Disagrees(found)) => {
-                push_damaged(text, found.event, found.said, found.found)
-            }
-            Err(QueryError::NoMemory) => Err(NoMemory),
+            Err(error) => push_error(text, error),
         }
     }
 
@@ -174,11 +166,7 @@ impl Asking {
             .back(entries, &self.index, linkage, &target, steps)
         {
             Ok(answer) => push_answer(text, &answer),
-            Err(QueryError::NoPoint) => push_refusal(text, Refusal::NoPoint),
-            Err(QueryError::Disagrees(found)) => {
-                push_damaged(text, found.event, found.said, found.found)
-            }
-            Err(QueryError::NoMemory) => Err(NoMemory),
+            Err(error) => push_error(text, error),
         }
     }
 
@@ -218,11 +206,7 @@ impl Asking {
             .back(entries, &self.index, linkage, &target, steps)
         {
             Ok(answer) => push_answer(text, &answer),
-            Err(QueryError::NoPoint) => push_refusal(text, Refusal::NoPoint),
-            Err(QueryError::Disagrees(found)) => {
-                push_damaged(text, found.event, found.said, found.found)
-            }
-            Err(QueryError::NoMemory) => Err(NoMemory),
+            Err(error) => push_error(text, error),
         }
     }
 

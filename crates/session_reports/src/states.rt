@@ -14,8 +14,8 @@ use report_texts::{push_mem, push_regs};
 use state_viewer::{QueryError, memory, registers};
 use std::sync::ledger::Ledger;
 
-// Appends why nothing is shown, unless memory ran out.
-fn push_error(text: &mut String, error: QueryError) -> Result<(), NoMemory>
+/// Appends why nothing is told, unless memory ran out.
+pub fn push_error(text: &mut String, error: QueryError) -> Result<(), NoMemory>
     ensures ok { OnOk result (string_bytes text.new ≡ string_bytes text.old ++ error_text error) }
     ensures known { OnOk result (error ≢ query.NoMemory) }
     ensures err { OnErr result (string_bytes text.new ≡ string_bytes text.old) }

@@ -24,12 +24,12 @@ use Rattle.session_effects.specs.declared.halt.Halt.TheVariants as halt
 use Rattle.session_runs.specs.Points.{Advances, Stops}
 use Rattle.session_runs.specs.Turns.{finished}
 use Rattle.session_lines.specs.Answering.{FindsNoRun, IsHalted, IsNoRun, IsNotBegun, IsNotMade, IsUntouched, Standpoint, standpoint}
-use Rattle.session_lines.specs.Cost.{cost, machine_cost}
+use Rattle.session_lines.specs.Cost.{cost_of_turn, machine_cost}
 use Rattle.session_lines.specs.Lines.{needs_machine, turn}
 use Rattle.session_lines.specs.Questions.{Told}
 use Rattle.session_text.specs.CutOff.{BeginsText, FindsOut, IsBegun}
 use Rattle.session_text.specs.Transcript.{needs_any, total_cost, transcript}
-use Rattle.session_text.proofs.PointLemmas.{Behind, Laws, PickedBy-same, Stops-along, Stops-behind, Stops-finished}
+use Rattle.session_text.proofs.PointLemmas.{Behind, Laws, PickedBy-same, Stops-along, Stops-behind, Stops-dearer, Stops-finished}
 use Rattle.session_text.proofs.Progress.{Advances-more, EachAsks-push, HaveAnswers, Progress, Progress-start, are_taken, costs-more, count_taken, parts-more, text_taken, wholes-more}
 use Rattle.session_text.proofs.TranscriptLemmas.{needs-push, transcript-one}
 use Rattle.session_text.proofs.UseLemmas.{Uses-append, Uses-none}
@@ -55,11 +55,11 @@ record Begins (text : List ℕ) (left : Option (List ℕ)) (parts : List Part) :
 
 module _ {D A : Type 0} (d : Ghosts D) (replies : A → Asked → Answered → A → Type 0) (told : Told) where
   -- a command was begun behind others, and halted
-  stops-more : (laws : Laws d replies) (old mid new : Standpoint D A) (parts : List Part) (is_there : Bool) (command : Command) (why : Halt) (p : HaveAnswers d replies told parts is_there old mid) (q : Stops IsRun d replies mid.disk new.disk mid.store.entries mid.held new.held why (turn told mid.store.entries command) mid.around new.around (cost told is_there mid.store.entries command)) → Behind d replies (transcript told old.store.entries (p.commands ++ command ∷ [])) old.around new.around (p.cost + cost told is_there mid.store.entries command) old.disk new.disk old.store.entries old.held new.held why (all_named p.answered.asks p.answered.slices) (all_named q.asks q.slices ++ all_named q.lost_asks q.lost)
-  stops-more laws old mid new parts is_there command why p q =
-      Stops-behind d replies laws (transcript told old.store.entries (p.commands ++ command ∷ [])) (transcript told mid.store.entries (command ∷ [])) old.around mid.around new.around p.cost (cost told is_there mid.store.entries command) old.disk mid.disk new.disk old.store mid.store old.held mid.held new.held why
+  stops-more : (laws : Laws d replies) (old mid new : Standpoint D A) (parts : List Part) (is_there : Bool) (command : Command) (why : Halt) (n : ℕ) (p : HaveAnswers d replies told parts is_there old mid) (q : Stops IsRun d replies mid.disk new.disk mid.store.entries mid.held new.held why (turn told mid.store.entries command) mid.around new.around n) → Behind d replies (transcript told old.store.entries (p.commands ++ command ∷ [])) old.around new.around (p.cost + n) old.disk new.disk old.store.entries old.held new.held why (all_named p.answered.asks p.answered.slices) (all_named q.asks q.slices ++ all_named q.lost_asks q.lost)
+  stops-more laws old mid new parts is_there command why n p q =
+      Stops-behind d replies laws (transcript told old.store.entries (p.commands ++ command ∷ [])) (transcript told mid.store.entries (command ∷ [])) old.around mid.around new.around p.cost n old.disk mid.disk new.disk old.store mid.store old.held mid.held new.held why
       (Advances-more d replies told old mid parts is_there p (command ∷ []))
-      (Stops-along d replies (turn told mid.store.entries command) (transcript told mid.store.entries (command ∷ [])) mid.around new.around (cost told is_there mid.store.entries command) mid.disk new.disk mid.store.entries mid.held new.held why (transcript-one told mid.store.entries command) q)
+      (Stops-along d replies (turn told mid.store.entries command) (transcript told mid.store.entries (command ∷ [])) mid.around new.around n mid.disk new.disk mid.store.entries mid.held new.held why (transcript-one told mid.store.entries command) q)
 
   -- nothing was begun behind these, for want of a machine
   not-made : (laws : Laws d replies) (disk : D) (history : List Record) (held : Option (List ℕ)) (why : Halt) → IsNotMade why → StopsBetween IsRun d disk disk history held held why [] []
@@ -71,19 +71,18 @@ module _ {D A : Type 0} (d : Ghosts D) (replies : A → Asked → Answered → A
   not-made laws disk history held halt.Disk is = absurd is
   not-made laws disk history held (halt.Full log payload) is = absurd is
 
-  stops-here : (laws : Laws d replies) (old mid new : Standpoint D A) (parts : List Part) (is_there : Bool) (command : Command) (why : Halt) (p : HaveAnswers d replies told parts is_there old mid) → needs_machine mid.store.entries command ≡ true → IsNotBegun why is_there mid new → Stops IsRun d replies old.disk new.disk old.store.entries old.held new.held why (transcript told old.store.entries p.commands) old.around new.around (p.cost + cost told is_there mid.store.entries command)
-  stops-here laws old mid new parts is_there command why p needs b =
-      let n = cost told is_there mid.store.entries command in
-      let cheap : new.around.steps ≤ mid.around.steps + n = omega (arith, b.executed, ap (λ (x : Bool). if x then machine_cost is_there mid.store.entries else 0) needs) in
+  stops-here : (laws : Laws d replies) (old mid new : Standpoint D A) (parts : List Part) (is_there : Bool) (why : Halt) (n : ℕ) (p : HaveAnswers d replies told parts is_there old mid) → machine_cost is_there mid.store.entries ≤ n → IsNotBegun why is_there mid new → Stops IsRun d replies old.disk new.disk old.store.entries old.held new.held why (transcript told old.store.entries p.commands) old.around new.around (p.cost + n)
+  stops-here laws old mid new parts is_there why n p dear b =
+      let cheap : new.around.steps ≤ mid.around.steps + n = omega (arith, b.executed, dear) in
       (Stops-behind d replies laws (transcript told old.store.entries p.commands) finished old.around mid.around new.around p.cost n old.disk mid.disk new.disk old.store mid.store old.held mid.held new.held why p.answered
       (Stops-finished d replies laws mid.around new.around n mid.disk new.disk mid.store.entries mid.held new.held why b.untouched.disk b.untouched.held b.untouched.choices b.untouched.answers cheap (not-made laws mid.disk mid.store.entries mid.held why b.not_made))).stops
 
   -- where one of those that were begun needs the machine, the history is that of a run, or of the last one nothing was done
-  begun-on-run : (laws : Laws d replies) (old mid new : Standpoint D A) (parts : List Part) (is_there : Bool) (command : Command) (why : Halt) (p : HaveAnswers d replies told parts is_there old mid) → (needs_machine mid.store.entries command ≡ true → IsRun mid.store.entries ⊎ IsNotBegun why is_there mid new) → needs_any old.store.entries (p.commands ++ command ∷ []) ≡ true → IsRun old.store.entries ⊎ Stops IsRun d replies old.disk new.disk old.store.entries old.held new.held why (transcript told old.store.entries p.commands) old.around new.around (p.cost + cost told is_there mid.store.entries command)
-  begun-on-run laws old mid new parts is_there command why p runs needed =
+  begun-on-run : (laws : Laws d replies) (old mid new : Standpoint D A) (parts : List Part) (is_there : Bool) (command : Command) (why : Halt) (n : ℕ) (p : HaveAnswers d replies told parts is_there old mid) → (needs_machine mid.store.entries command ≡ true → machine_cost is_there mid.store.entries ≤ n) → (needs_machine mid.store.entries command ≡ true → IsRun mid.store.entries ⊎ IsNotBegun why is_there mid new) → needs_any old.store.entries (p.commands ++ command ∷ []) ≡ true → IsRun old.store.entries ⊎ Stops IsRun d replies old.disk new.disk old.store.entries old.held new.held why (transcript told old.store.entries p.commands) old.around new.around (p.cost + n)
+  begun-on-run laws old mid new parts is_there command why n p dear runs needed =
       by_there is_there refl
     where
-      by_there : (b : Bool) → is_there ≡ b → IsRun old.store.entries ⊎ Stops IsRun d replies old.disk new.disk old.store.entries old.held new.held why (transcript told old.store.entries p.commands) old.around new.around (p.cost + cost told is_there mid.store.entries command)
+      by_there : (b : Bool) → is_there ≡ b → IsRun old.store.entries ⊎ Stops IsRun d replies old.disk new.disk old.store.entries old.held new.held why (transcript told old.store.entries p.commands) old.around new.around (p.cost + n)
       by_there true is = inl (p.on_run is)
       by_there false is =
           let same : mid.store.entries ≡ old.store.entries = p.unmoved is in
@@ -92,25 +91,27 @@ module _ {D A : Type 0} (d : Ghosts D) (replies : A → Asked → Answered → A
           let here : needs_machine mid.store.entries command ≡ true = subst (λ (x : List Record). needs_machine x command ≡ true) (sym same) one in
           elim (runs here) [
             | inl run ↦ inl (subst IsRun same run)
-            | inr none ↦ inr (stops-here laws old mid new parts is_there command why p here none)
+            | inr none ↦ inr (stops-here laws old mid new parts is_there why n p (dear here) none)
           ]
 
   -- the parts that were answered before, and some of the next
   begins_where : (laws : Laws d replies) (text : List ℕ) (l : Option (List ℕ)) (old mid new : Standpoint D A) (parts : List Part) (is_there : Bool) (part : Part) (command : Command) (why : Halt) → HaveAnswers d replies told parts is_there old mid → Begins text l (parts ++ part ∷ []) → Asks part command → IsHalted d replies told is_there why command mid new → (store : StoreState) → BeginsText d replies told old (standpoint new.disk store new.held new.around) why text l
   begins_where laws text l old mid new parts is_there part command why p s asks b store =
-      let q = b.stops in
-      let stop = stops-more laws old mid new parts is_there command why p q in
+      let taken : List Picked = all_named b.stops.asks b.stops.slices ++ all_named b.stops.lost_asks b.stops.lost in
+      let n = cost_of_turn told is_there mid.store.entries command (turn told mid.store.entries command taken) in
+      let q = Stops-dearer d replies (turn told mid.store.entries command) mid.around new.around b.beside n mid.disk new.disk mid.store.entries mid.held new.held why b.costs b.stops in
+      let stop = stops-more laws old mid new parts is_there command why n p q in
       record {
         is_begun = s.is_begun;
         answered = p.commands;
         next = command ∷ [];
         one_at_most = omega arith;
         each_asks = subst (λ (x : List Part). EachAsks x (p.commands ++ command ∷ [])) (sym s.are) (EachAsks-push parts p.commands part command p.each_asks asks);
-        cost = p.cost + cost told is_there mid.store.entries command;
+        cost = p.cost + n;
         halted = stop.stops;
-        costs = costs-more d replies told old mid parts is_there command p (all_named stop.stops.asks stop.stops.slices ++ all_named stop.stops.lost_asks stop.stops.lost) (all_named q.asks q.slices ++ all_named q.lost_asks q.lost) stop.slices;
+        costs = costs-more d replies told old mid parts is_there command p (all_named stop.stops.asks stop.stops.slices ++ all_named stop.stops.lost_asks stop.stops.lost) taken stop.slices;
         on_run = λ needed. p.on_run (p.needs ∙ needed);
-        begun_on_run = begun-on-run laws old mid new parts is_there command why p b.on_run;
+        begun_on_run = begun-on-run laws old mid new parts is_there command why n p (λ needs. omega (arith, ap (λ (x : Bool). if x then machine_cost is_there mid.store.entries else 0) needs)) b.on_run;
       }
 
   -- a whole part
@@ -200,7 +201,7 @@ module _ {D A : Type 0} {d : Ghosts D} {replies : A → Asked → Answered → A
   -- where a command halted behind others, effects stopped somewhere
   pub stops-all : {parts : List Part} {is_there : Bool} {old mid new : Standpoint D A} {command : Command} {why : Halt} (laws : Laws d replies) → HaveAnswers d replies told parts is_there old mid → IsHalted d replies told is_there why command mid new → (effects : List Effect) × StopsAt IsRun d old.disk new.disk old.store.entries old.held new.held why [] effects
   stops-all {parts = parts} {is_there = is_there} {old = old} {mid = mid} {new = new} {command = command} {why = why} laws p b =
-      let stop = (stops-more d replies told laws old mid new parts is_there command why p b.stops).stops in
+      let stop = (stops-more d replies told laws old mid new parts is_there command why b.beside p b.stops).stops in
       (stop.done ++ stop.undone, laws.halts.all old.disk new.disk old.store.entries old.held new.held why stop.done stop.undone stop.stopped)
 
   pub BeginsText-whole : {l0 l1 l2 : Option (List ℕ)} {r r' : ReaderState} {is_there : Bool} {old mid new : Standpoint D A} {command : Command} {why : Halt} (laws : Laws d replies) → Progress d replies told l0 l1 r is_there old mid → ReadsMore command r r' l1 l2 → IsHalted d replies told is_there why command mid new → IfSome l0 (λ text. (store : StoreState) → BeginsText d replies told old (standpoint new.disk store new.held new.around) why text l2)

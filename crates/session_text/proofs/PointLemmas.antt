@@ -145,6 +145,34 @@ module _ {D A : Type 0} (d : Ghosts D) (replies : A → Asked → Answered → A
     executed = q.executed;
   }
 
+  -- it may have cost more
+  abbrev pub Stops-dearer : (a : Point) (u v : Surroundings A) (cost most : ℕ) (old new : D) (history : List Record) (h0 h1 : Option (List ℕ)) (why : Halt) → cost ≤ most → Stops IsRun d replies old new history h0 h1 why a u v cost → Stops IsRun d replies old new history h0 h1 why a u v most
+  Stops-dearer a u v cost most old new history h0 h1 why dear q = record {
+    slices = q.slices;
+    lost = q.lost;
+    part = q.part;
+    asks = q.asks;
+    lost_asks = q.lost_asks;
+    part_asks = q.part_asks;
+    done = q.done;
+    undone = q.undone;
+    are_effects = q.are_effects;
+    are_asks = q.are_asks;
+    stopped = q.stopped;
+    names = q.names;
+    begins = q.begins;
+    names_lost = q.names_lost;
+    without = q.without;
+    spent = q.spent;
+    many = q.many;
+    picked = q.picked;
+    in_range = q.in_range;
+    replied = q.replied;
+    one_part = q.one_part;
+    by_memory = q.by_memory;
+    executed = omega (arith, q.executed, dear);
+  }
+
   -- one lies behind another, with the slices of both
   pub record Both (a c : Point) (u w : Surroundings A) (cost : ℕ) (old new : D) (s0 s2 : StoreState) (h0 h2 : Option (List ℕ)) (first second : List Picked) : Type 0 where
     pub advances : Advances replies a c u w cost (Carries IsRun d old new s0 s2 h0 h2)

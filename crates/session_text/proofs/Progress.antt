@@ -21,7 +21,7 @@ use Rattle.session_effects.specs.Standing.{Carries, IsOpen}
 use Rattle.session_runs.specs.Points.{Advances, Surroundings}
 use Rattle.session_runs.specs.Turns.{Point, Turn, finished}
 use Rattle.session_lines.specs.Answering.{IsAnswered, Standpoint}
-use Rattle.session_lines.specs.Cost.{cost}
+use Rattle.session_lines.specs.Cost.{cost, cost_of_turn}
 use Rattle.session_lines.specs.Lines.{needs_machine, turn}
 use Rattle.session_lines.specs.Questions.{Told}
 use Rattle.session_text.specs.Answers.{Answers, AnswersTaken, TookAtMost, TookFewer}
@@ -157,10 +157,10 @@ module _ {D A : Type 0} (d : Ghosts D) (replies : A → Asked → Answered → A
   }
 
   -- what one more command costs
-  pub costs-more : (old new : Standpoint D A) (parts : List Part) (is_there : Bool) (command : Command) (p : HaveAnswers parts is_there old new) (taken more : List Picked) → taken ≡ all_named p.answered.asks p.answered.slices ++ more → p.cost + cost told is_there new.store.entries command ≤ total_cost told old.store.entries (p.commands ++ command ∷ []) taken
+  pub costs-more : (old new : Standpoint D A) (parts : List Part) (is_there : Bool) (command : Command) (p : HaveAnswers parts is_there old new) (taken more : List Picked) → taken ≡ all_named p.answered.asks p.answered.slices ++ more → p.cost + cost_of_turn told is_there new.store.entries command (turn told new.store.entries command more) ≤ total_cost told old.store.entries (p.commands ++ command ∷ []) taken
   costs-more old new parts is_there command p taken more are =
       let costs = cost-push told old.store.entries new.store.entries p.commands command is_there (all_named p.answered.asks p.answered.slices) p.answered.effects p.answered.asks p.cost p.answered.carries.entries p.answered.leads p.needs p.unmoved p.costs more in
-      subst (λ (x : List Picked). p.cost + cost told is_there new.store.entries command ≤ total_cost told old.store.entries (p.commands ++ command ∷ []) x) (sym are) costs
+      subst (λ (x : List Picked). p.cost + cost_of_turn told is_there new.store.entries command (turn told new.store.entries command more) ≤ total_cost told old.store.entries (p.commands ++ command ∷ []) x) (sym are) costs
 
   HaveAnswers-none : (laws : Laws d replies) (now : Standpoint D A) → IsOpen d now.store now.disk → HaveAnswers [] false now now
   HaveAnswers-none laws now open_now = record {
@@ -186,13 +186,17 @@ module _ {D A : Type 0} (d : Ghosts D) (replies : A → Asked → Answered → A
     on_run = λ there. absurd (false≢true there);
   }
 
+  -- the history behind a command
+  there-behind : (is_there : Bool) (command : Command) (old new : Standpoint D A) (a : IsAnswered d replies told is_there command old new) (rest : List Picked) → old.store.entries ++ committed (turn told old.store.entries command (all_named a.advances.asks a.advances.slices ++ rest)).effects ≡ new.store.entries
+  there-behind is_there command old new a rest =
+      let q = a.advances in
+      ap (λ (t : Turn). old.store.entries ++ committed t.effects) (q.leads rest) ∙ ap (λ (e : List Effect). old.store.entries ++ committed e) (append-nil q.effects) ∙ sym q.carries.entries
+
   -- a command that needs no machine leaves the history
   still-there : (is_there : Bool) (command : Command) (old new : Standpoint D A) → IsAnswered d replies told is_there command old new → needs_machine old.store.entries command ≡ false → new.store.entries ≡ old.store.entries
   still-there is_there command old new a needless =
       let q = a.advances in
-      let effects : (turn told old.store.entries command (all_named q.asks q.slices ++ [])).effects ≡ q.effects = ap (λ (t : Turn). t.effects) (q.leads []) ∙ append-nil q.effects in
-      q.carries.entries
-      ∙ ap (λ (e : List Effect). old.store.entries ++ committed e) (sym effects)
+      sym (there-behind is_there command old new a [])
       ∙ ap (λ (x : List Record). old.store.entries ++ x) (commits-none told old.store.entries command (all_named q.asks q.slices ++ []) needless)
       ∙ append-nil old.store.entries
 
@@ -211,15 +215,18 @@ module _ {D A : Type 0} (d : Ghosts D) (replies : A → Asked → Answered → A
       let h = old.store.entries in
       let t = mid.store.entries in
       let first = Advances-more old mid parts is_there p (command ∷ []) in
-      let second = Advances-along replies (turn told t command) (transcript told t (command ∷ [])) finished mid.around new.around (cost told is_there t command) (Carries IsRun d mid.disk new.disk mid.store new.store mid.held new.held) (transcript-one told t command) a.advances in
-      let both = Advances-append d replies laws (transcript told h (p.commands ++ command ∷ [])) (transcript told t (command ∷ [])) finished old.around mid.around new.around p.cost (cost told is_there t command) old.disk mid.disk new.disk old.store mid.store new.store old.held mid.held new.held first second in
+      let second = Advances-along replies (turn told t command) (transcript told t (command ∷ [])) finished mid.around new.around (cost told is_there t new.store.entries command) (Carries IsRun d mid.disk new.disk mid.store new.store mid.held new.held) (transcript-one told t command) a.advances in
+      let both = Advances-append d replies laws (transcript told h (p.commands ++ command ∷ [])) (transcript told t (command ∷ [])) finished old.around mid.around new.around p.cost (cost told is_there t new.store.entries command) old.disk mid.disk new.disk old.store mid.store new.store old.held mid.held new.held first second in
       record {
         commands = p.commands ++ command ∷ [];
         each_asks = EachAsks-push parts p.commands part command p.each_asks asks;
-        cost = p.cost + cost told is_there t command;
+        cost = p.cost + cost told is_there t new.store.entries command;
         answered = both.advances;
-        costs = λ rest. costs-more old mid parts is_there command p (all_named both.advances.asks both.advances.slices ++ rest) (all_named a.advances.asks a.advances.slices ++ rest)
-            (ap (λ (x : List Picked). x ++ rest) both.slices ∙ append_assoc (all_named p.answered.asks p.answered.slices) (all_named a.advances.asks a.advances.slices) rest);
+        costs = λ rest.
+            let taken : List Picked = all_named both.advances.asks both.advances.slices ++ rest in
+            let more : List Picked = all_named a.advances.asks a.advances.slices ++ rest in
+            subst (λ (x : List Record). p.cost + cost told is_there t x command ≤ total_cost told h (p.commands ++ command ∷ []) taken) (there-behind is_there command mid new a rest)
+            (costs-more old mid parts is_there command p taken more (ap (λ (x : List Picked). x ++ rest) both.slices ∙ append_assoc (all_named p.answered.asks p.answered.slices) (all_named a.advances.asks a.advances.slices) rest));
         needs = there ∙ needs-more is_there (needs_any h p.commands) h t command p.needs p.unmoved ∙ sym (needs-push h p.commands command);
         unmoved = λ absent.
             let none = sym there ∙ absent in

@@ -8,16 +8,17 @@ use Rattle.arn_lines.specs.declared.answer.Refusal.{Refusal}
 use Rattle.arn_lines.specs.declared.line.Line.{Line}
 use Rattle.arn_lines.specs.declared.line.Line.TheVariants as line
 use Rattle.arn_commands.specs.declared.command.Command.{Command}
-use Rattle.arn_commands.specs.declared.command.Command.TheVariants.{PassedOver, TooLong, Unreadable, Says, Faulty}
+use Rattle.arn_commands.specs.declared.command.Command.TheVariants.{PassedOver, TooLong, Unreadable, Says, Faulty, Generates}
 use Rattle.guest_machine.specs.Differs.{rebuild_cost}
 use Rattle.guest_machine.specs.Legs.{Ask, Picked}
 use Rattle.session_effects.specs.Effects.{Effect, committed}
-use Rattle.session_runs.specs.Turns.{Point, Turn, behind, finished}
-use Rattle.session_lines.specs.Cost.{asked_cost, cost}
+use Rattle.session_runs.specs.Turns.{Point, Turn, behind, finished, followed_by}
+use Rattle.session_lines.specs.Cost.{asked_cost, cost_of_turn}
+use Rattle.session_lines.specs.Generator.{generator_turn}
 use Rattle.session_lines.specs.Lines.{is_change, line_turn, needs_machine, turn, turn_unless}
 use Rattle.session_lines.specs.Questions.{Told}
-use Rattle.session_lines.specs.Refusals.{refusal_of}
-use Rattle.session_text.specs.Transcript.{asked_costs, followed_by, history_behind, needs_any, total_cost, transcript, unless_cut_off}
+use Rattle.session_lines.specs.Refusals.{generator_refusal, refusal_of}
+use Rattle.session_text.specs.Transcript.{asked_costs, history_behind, needs_any, total_cost, transcript, unless_cut_off}
 use Rattle.session_text.proofs.PointLemmas.{behind-behind, behind-finished, committed-append}
 
 -- the history behind effects and a turn
@@ -85,7 +86,7 @@ module _ (told : Told) where
   asked-append history [] more slices = omega (arith, ap (λ (h : List Record). asked_costs told h more slices) (append-nil history))
   asked-append history (c ∷ commands) more slices =
       let t = turn told history c slices in
-      costs-one history t t.left commands more (asked_cost told history c) refl (asked-append (history_behind history t) commands more)
+      costs-one history t t.left commands more (asked_cost told history (history_behind history t) c) refl (asked-append (history_behind history t) commands more)
 
   -- the slices lead through these commands, whatever commands and slices follow
   pub leads-more : (history there : List Record) (commands more : List Command) (taken : List Picked) (effects : List Effect) (asks : List Ask) → there ≡ history ++ committed effects → ((rest : List Picked) → transcript told history commands (taken ++ rest) ≡ behind effects asks (finished rest)) → (rest : List Picked) → transcript told history (commands ++ more) (taken ++ rest) ≡ behind effects asks (transcript told there more rest)
@@ -97,7 +98,7 @@ module _ (told : Told) where
       ∙ ap (λ (h : List Record). behind effects asks (transcript told h more rest)) (sym is)
 
   -- what one more command costs
-  asked-push : (history there : List Record) (commands : List Command) (command : Command) (taken : List Picked) (effects : List Effect) (asks : List Ask) → there ≡ history ++ committed effects → ((rest : List Picked) → transcript told history commands (taken ++ rest) ≡ behind effects asks (finished rest)) → (rest : List Picked) → asked_costs told history commands (taken ++ rest) + asked_cost told there command ≤ asked_costs told history (commands ++ command ∷ []) (taken ++ rest)
+  asked-push : (history there : List Record) (commands : List Command) (command : Command) (taken : List Picked) (effects : List Effect) (asks : List Ask) → there ≡ history ++ committed effects → ((rest : List Picked) → transcript told history commands (taken ++ rest) ≡ behind effects asks (finished rest)) → (rest : List Picked) → asked_costs told history commands (taken ++ rest) + asked_cost told there (history_behind there (turn told there command rest)) command ≤ asked_costs told history (commands ++ command ∷ []) (taken ++ rest)
   asked-push history there commands command taken effects asks is leads rest =
       let t = transcript told history commands (taken ++ rest) in
       let more : unless_cut_off t.left (asked_costs told (history_behind history t) (command ∷ [])) ≡ asked_costs told (history ++ committed (effects ++ [])) (command ∷ []) rest =
@@ -106,7 +107,7 @@ module _ (told : Told) where
       ap (λ (e : List Effect). asked_costs told (history ++ committed e) (command ∷ []) rest) (append-nil effects) ∙ ap (λ (h : List Record). asked_costs told h (command ∷ []) rest) (sym is) in
       omega (arith, asked-append history commands (command ∷ []) (taken ++ rest), more, here)
 
-  pub cost-push : (history there : List Record) (commands : List Command) (command : Command) (is_there : Bool) (taken : List Picked) (effects : List Effect) (asks : List Ask) (n : ℕ) → there ≡ history ++ committed effects → ((rest : List Picked) → transcript told history commands (taken ++ rest) ≡ behind effects asks (finished rest)) → is_there ≡ needs_any history commands → (is_there ≡ false → there ≡ history) → ((rest : List Picked) → n ≤ total_cost told history commands (taken ++ rest)) → (rest : List Picked) → n + cost told is_there there command ≤ total_cost told history (commands ++ command ∷ []) (taken ++ rest)
+  pub cost-push : (history there : List Record) (commands : List Command) (command : Command) (is_there : Bool) (taken : List Picked) (effects : List Effect) (asks : List Ask) (n : ℕ) → there ≡ history ++ committed effects → ((rest : List Picked) → transcript told history commands (taken ++ rest) ≡ behind effects asks (finished rest)) → is_there ≡ needs_any history commands → (is_there ≡ false → there ≡ history) → ((rest : List Picked) → n ≤ total_cost told history commands (taken ++ rest)) → (rest : List Picked) → n + cost_of_turn told is_there there command (turn told there command rest) ≤ total_cost told history (commands ++ command ∷ []) (taken ++ rest)
   cost-push history there commands command is_there taken effects asks n is leads needs unmoved costs rest =
       let once = machine-once is_there (needs_machine history command) (needs_machine there command) (rebuild_cost history) (rebuild_cost there) (λ absent. ap rebuild_cost (unmoved absent)) (λ absent. ap (λ (h : List Record). needs_machine h command) (unmoved absent)) in
       let before = ap (λ (b : Bool). if b then rebuild_cost history else 0) needs in
@@ -122,9 +123,14 @@ module _ (told : Told) where
   commits-unless history (line.Run count) None slices isnt = absurd (false≢true (sym isnt))
   commits-unless history (line.Asks question) None slices isnt = refl
 
+  commits-refused : (point : Point) (why : Option Refusal) (slices : List Picked) → is_none why ≡ false → committed (turn_unless why point slices).effects ≡ []
+  commits-refused point (Some why) slices isnt = refl
+  commits-refused point None slices isnt = absurd (false≢true (sym isnt))
+
   pub commits-none : (history : List Record) (command : Command) (slices : List Picked) → needs_machine history command ≡ false → committed (turn told history command slices).effects ≡ []
   commits-none history PassedOver slices isnt = refl
   commits-none history TooLong slices isnt = refl
   commits-none history Unreadable slices isnt = refl
   commits-none history (Says l) slices isnt = commits-unless history l (refusal_of history l) slices isnt
   commits-none history (Faulty at) slices isnt = refl
+  commits-none history (Generates image typed processes) slices isnt = commits-refused (generator_turn told history image typed processes) (generator_refusal history) slices isnt

@@ -6,15 +6,10 @@ use Rattle.arn_commands.specs.declared.command.Command.{Command}
 use Rattle.guest_machine.specs.Differs.{rebuild_cost}
 use Rattle.guest_machine.specs.Legs.{Picked}
 use Rattle.session_effects.specs.Effects.{committed, printed}
-use Rattle.session_runs.specs.Turns.{Point, Turn, behind, finished}
+use Rattle.session_runs.specs.Turns.{Point, Turn, finished, followed_by}
 use Rattle.session_lines.specs.Cost.{asked_cost}
 use Rattle.session_lines.specs.Lines.{needs_machine, turn}
 use Rattle.session_lines.specs.Questions.{Told}
-
--- a turn, and what follows it with the slices that it leaves; nothing where they ended within a run
-abbrev pub followed_by : Turn → Option (List Picked) → Point → Turn
-followed_by t None next = t
-followed_by t (Some rest) next = behind t.effects t.asks (next rest)
 
 -- the history behind a turn
 abbrev pub history_behind : List Record → Turn → List Record
@@ -44,7 +39,7 @@ abbrev pub asked_costs : Told → List Record → List Command → List Picked �
 asked_costs told history [] slices = 0
 asked_costs told history (command ∷ commands) slices =
     let t = turn told history command slices in
-    asked_cost told history command + unless_cut_off t.left (asked_costs told (history_behind history t) commands)
+    asked_cost told history (history_behind history t) command + unless_cut_off t.left (asked_costs told (history_behind history t) commands)
 
 -- all that these commands cost beside the slices that they take: the machine is made once, where one of them needs it
 abbrev pub total_cost : Told → List Record → List Command → List Picked → ℕ

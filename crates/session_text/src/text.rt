@@ -1,11 +1,12 @@
 // Reads a source to its end, and does what each command of its text asks for.
-ghost use Rattle.std.specs.Prelude.{◌≡◌, ◌≢◌, ◌⊎◌, ◌<◌, ◌≤◌, ◌^◌, [], None, ℕ, List, length, drop, OnOk, IfErr, IsErrOf, IfSome, Some};
+ghost use Rattle.std.specs.Prelude.{◌≡◌, ◌≢◌, ◌⊎◌, ◌+◌, ◌<◌, ◌≤◌, ◌^◌, [], None, ℕ, List, length, drop, OnOk, IfErr, IsErrOf, IfSome, Some};
 ghost use Rattle.arn_base.specs.declared.records.Differs.{Differs};
 ghost use Rattle.arn_base.specs.Faults.{NeverFalls, Rose};
 ghost use Rattle.arn_commands.specs.Parts.{text_parts, whole_parts};
 ghost use Rattle.log_model.specs.Records.{IsRun};
 ghost use Rattle.log_store.specs.Stops.{GoesOn, LeavesOnly};
 ghost use Rattle.log_store.specs.Stores.{StoreState};
+ghost use Rattle.log_store.specs.declared.size.TheConstants.{MOST_LOG};
 ghost use Rattle.session_effects.specs.Carrying.{CarriesOut, HoldsMore, IsAtRest, RestsMore};
 ghost use Rattle.session_effects.specs.Standing.{IsOpen};
 ghost use Rattle.session_lines.specs.Answering.{IsNoRun, standpoint};
@@ -113,6 +114,8 @@ pub fn session<Q: Questions + Drop, C: Chooser, A: Answers, S: Source, K: Sink, 
         Rose (S.faults source.old) (S.faults source.new) }
     ensures sink { IsErrOf result Halt.Sink → Rose (K.faults sink.old) (K.faults sink.new) }
     ensures disk { IsErrOf result Halt.Disk → Rose (D.faults disk.old) (D.faults disk.new) }
+    ensures full { (log payload : ℕ) → IsErrOf result (Halt.Full log payload) →
+        MOST_LOG < log + 5 + payload }
     ensures later { GoesOn D.image D.faults disk.old disk.new }
 {
     effects_follow::<MachineRuns, D>();

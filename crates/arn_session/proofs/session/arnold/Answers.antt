@@ -40,13 +40,13 @@ returns-in-Err-clause-any_moment g c = λ history was.
 pub returns-in-Err-clause-stopped : goal.returns-in-Err-clause-stopped
 returns-in-Err-clause-stopped g c = λ is history log. inl (record {
   never = record { untaken = refl; unput = refl; unchosen = refl; unasked = refl; idle = refl };
-  keeps = c.openings_follow.ensures.keeps c.args.disk.now c.open_log.new.disk history c.open_log.ensures.any_moment;
+  keeps = c.openings_follow.ensures.keeps c.args.disk.now c.open_log.new.disk history c.open_log.ensures.later.tells c.open_log.ensures.any_moment;
 })
 
 pub returns-in-Err-clause-begun : goal.returns-in-Err-clause-begun
 returns-in-Err-clause-begun g c = λ is history log. inl (record {
   never = record { untaken = refl; unput = refl; unchosen = refl; unasked = refl; idle = refl };
-  keeps = c.openings_follow.ensures.keeps c.args.disk.now c.open_log.new.disk history c.open_log.ensures.any_moment;
+  keeps = c.openings_follow.ensures.keeps c.args.disk.now c.open_log.new.disk history c.open_log.ensures.later.tells c.open_log.ensures.any_moment;
 })
 
 pub returns-in-Err-clause-refused : goal.returns-in-Err-clause-refused
@@ -79,7 +79,7 @@ pub returns-in-Err-Broken-clause-unbegun : goal.returns-in-Err-Broken-clause-unb
 returns-in-Err-Broken-clause-unbegun g c = λ place is. record { untaken = refl; unput = refl; unchosen = refl; unasked = refl; idle = refl }
 
 pub returns-in-Err-Broken-clause-keeps : goal.returns-in-Err-Broken-clause-keeps
-returns-in-Err-Broken-clause-keeps g c = λ place is history. c.openings_follow.ensures.keeps c.args.disk.now c.open_log.new.disk history c.open_log.ensures.any_moment
+returns-in-Err-Broken-clause-keeps g c = λ place is history. c.openings_follow.ensures.keeps c.args.disk.now c.open_log.new.disk history c.open_log.ensures.later.tells c.open_log.ensures.any_moment
 
 pub returns-in-Err-Broken-clause-opened : goal.returns-in-Err-Broken-clause-opened
 returns-in-Err-Broken-clause-opened g c =
@@ -100,7 +100,7 @@ returns-in-Err-NoMemory-clause-any_moment g c = λ history was.
 pub returns-in-Err-NoMemory-clause-begun : goal.returns-in-Err-NoMemory-clause-begun
 returns-in-Err-NoMemory-clause-begun g c = λ is history log. inl (record {
   never = record { untaken = refl; unput = refl; unchosen = refl; unasked = refl; idle = refl };
-  keeps = c.openings_follow.ensures.keeps c.args.disk.now c.open_log.new.disk history c.open_log.ensures.any_moment;
+  keeps = c.openings_follow.ensures.keeps c.args.disk.now c.open_log.new.disk history c.open_log.ensures.later.tells c.open_log.ensures.any_moment;
 })
 
 pub returns-in-Err-NoMemory-clause-opened : goal.returns-in-Err-NoMemory-clause-opened

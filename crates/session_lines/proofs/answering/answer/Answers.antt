@@ -6,7 +6,8 @@ use Rattle.arn_lines.specs.declared.answer.Refusal.TheVariants.{NoLong, NoLine}
 use Rattle.arn_commands.specs.declared.command.Command.{Command}
 use Rattle.session_runs.specs.Points.{around}
 use Rattle.session_lines.specs.Answering.{BlamesRightly, IsAnswered, IsHalted, standpoint}
-use Rattle.session_lines.specs.Lines.{needs_machine, prints, turn}
+use Rattle.session_runs.specs.Turns.{prints}
+use Rattle.session_lines.specs.Lines.{needs_machine, turn}
 use Rattle.session_lines.specs.Refusals.{fault_refusal}
 use Rattle.session_lines.proofs.AnswerLemmas.{answered-nothing, answered-text, blames-text, halted-text, line-causes, or-false, OnOk-always}
 use Rattle.session_lines.proofs.answering.answer.Goals as goal
@@ -22,13 +23,13 @@ returns-in-PassedOver-clause-there g c =
 
 pub returns-in-TooLong-clause-answered : goal.returns-in-TooLong-clause-answered
 returns-in-TooLong-clause-answered g c =
-    answered-text g.D.Disk g.A.Answers.answers g.Q.Questions.told (is_some c.args.kept.now.machine) c.args.command (g.C.Chooser.choices c.args.chooser.now) c.args.answers.now c.effects_follow.ensures.follow c.print_refusal.result c.args.disk.now c.args.kept.now.store c.args.kept.now.store (g.K.Sink.holds c.args.sink.now) (g.K.Sink.holds c.print_refusal.new.sink) (refusal_text NoLong) c.args.steps.now c.args.steps.now refl
-    (ap (λ (x : Command). turn g.Q.Questions.told c.args.kept.now.store.entries x) c.in-TooLong.is) (ap (λ (x : Command). needs_machine c.args.kept.now.store.entries x) c.in-TooLong.is) c.requires.«open» (omega arith) c.print_refusal.ensures.ok
+    answered-text g.D.Disk g.A.Answers.answers g.Q.Questions.told (is_some c.args.kept.now.machine) c.args.command (g.C.Chooser.choices c.args.chooser.now) c.args.answers.now c.effects_follow.ensures.follow c.print_refusal.result c.args.disk.now c.args.kept.now.store c.args.kept.now.store (g.K.Sink.holds c.args.sink.now) (g.K.Sink.holds c.print_refusal.new.sink) (refusal_text NoLong) c.args.steps.now c.args.steps.now 0 refl
+    (ap (λ (x : Command). turn g.Q.Questions.told c.args.kept.now.store.entries x) c.in-TooLong.is) (ap (λ (x : Command). needs_machine c.args.kept.now.store.entries x) c.in-TooLong.is) c.requires.«open» (omega arith) (λ behind. omega arith) c.print_refusal.ensures.ok
 
 pub returns-in-TooLong-clause-halted : goal.returns-in-TooLong-clause-halted
 returns-in-TooLong-clause-halted g c =
-    halted-text g.D.Disk g.A.Answers.answers g.Q.Questions.told (is_some c.args.kept.now.machine) c.args.command (g.C.Chooser.choices c.args.chooser.now) c.args.answers.now c.halts_follow.ensures c.print_refusal.result c.args.disk.now c.args.kept.now.store c.args.kept.now.store (g.K.Sink.holds c.args.sink.now) (g.K.Sink.holds c.print_refusal.new.sink) (refusal_text NoLong) c.args.steps.now c.args.steps.now
-    (ap (λ (x : Command). turn g.Q.Questions.told c.args.kept.now.store.entries x) c.in-TooLong.is) (ap (λ (x : Command). needs_machine c.args.kept.now.store.entries x) c.in-TooLong.is) (omega arith) c.print_refusal.ensures.stops
+    halted-text g.D.Disk g.A.Answers.answers g.Q.Questions.told (is_some c.args.kept.now.machine) c.args.command (g.C.Chooser.choices c.args.chooser.now) c.args.answers.now c.halts_follow.ensures c.print_refusal.result c.args.disk.now c.args.kept.now.store c.args.kept.now.store (g.K.Sink.holds c.args.sink.now) (g.K.Sink.holds c.print_refusal.new.sink) (refusal_text NoLong) c.args.steps.now c.args.steps.now 0
+    (ap (λ (x : Command). turn g.Q.Questions.told c.args.kept.now.store.entries x) c.in-TooLong.is) (ap (λ (x : Command). needs_machine c.args.kept.now.store.entries x) c.in-TooLong.is) (omega arith) (λ behind. omega arith) c.print_refusal.ensures.stops
 
 pub returns-in-TooLong-clause-blames : goal.returns-in-TooLong-clause-blames
 returns-in-TooLong-clause-blames g c =
@@ -44,13 +45,13 @@ returns-in-TooLong-clause-there g c =
 
 pub returns-in-Unreadable-clause-answered : goal.returns-in-Unreadable-clause-answered
 returns-in-Unreadable-clause-answered g c =
-    answered-text g.D.Disk g.A.Answers.answers g.Q.Questions.told (is_some c.args.kept.now.machine) c.args.command (g.C.Chooser.choices c.args.chooser.now) c.args.answers.now c.effects_follow.ensures.follow c.print_refusal-in-Unreadable.result c.args.disk.now c.args.kept.now.store c.args.kept.now.store (g.K.Sink.holds c.args.sink.now) (g.K.Sink.holds c.print_refusal-in-Unreadable.new.sink) (refusal_text NoLine) c.args.steps.now c.args.steps.now refl
-    (ap (λ (x : Command). turn g.Q.Questions.told c.args.kept.now.store.entries x) c.in-Unreadable.is) (ap (λ (x : Command). needs_machine c.args.kept.now.store.entries x) c.in-Unreadable.is) c.requires.«open» (omega arith) c.print_refusal-in-Unreadable.ensures.ok
+    answered-text g.D.Disk g.A.Answers.answers g.Q.Questions.told (is_some c.args.kept.now.machine) c.args.command (g.C.Chooser.choices c.args.chooser.now) c.args.answers.now c.effects_follow.ensures.follow c.print_refusal-in-Unreadable.result c.args.disk.now c.args.kept.now.store c.args.kept.now.store (g.K.Sink.holds c.args.sink.now) (g.K.Sink.holds c.print_refusal-in-Unreadable.new.sink) (refusal_text NoLine) c.args.steps.now c.args.steps.now 0 refl
+    (ap (λ (x : Command). turn g.Q.Questions.told c.args.kept.now.store.entries x) c.in-Unreadable.is) (ap (λ (x : Command). needs_machine c.args.kept.now.store.entries x) c.in-Unreadable.is) c.requires.«open» (omega arith) (λ behind. omega arith) c.print_refusal-in-Unreadable.ensures.ok
 
 pub returns-in-Unreadable-clause-halted : goal.returns-in-Unreadable-clause-halted
 returns-in-Unreadable-clause-halted g c =
-    halted-text g.D.Disk g.A.Answers.answers g.Q.Questions.told (is_some c.args.kept.now.machine) c.args.command (g.C.Chooser.choices c.args.chooser.now) c.args.answers.now c.halts_follow.ensures c.print_refusal-in-Unreadable.result c.args.disk.now c.args.kept.now.store c.args.kept.now.store (g.K.Sink.holds c.args.sink.now) (g.K.Sink.holds c.print_refusal-in-Unreadable.new.sink) (refusal_text NoLine) c.args.steps.now c.args.steps.now
-    (ap (λ (x : Command). turn g.Q.Questions.told c.args.kept.now.store.entries x) c.in-Unreadable.is) (ap (λ (x : Command). needs_machine c.args.kept.now.store.entries x) c.in-Unreadable.is) (omega arith) c.print_refusal-in-Unreadable.ensures.stops
+    halted-text g.D.Disk g.A.Answers.answers g.Q.Questions.told (is_some c.args.kept.now.machine) c.args.command (g.C.Chooser.choices c.args.chooser.now) c.args.answers.now c.halts_follow.ensures c.print_refusal-in-Unreadable.result c.args.disk.now c.args.kept.now.store c.args.kept.now.store (g.K.Sink.holds c.args.sink.now) (g.K.Sink.holds c.print_refusal-in-Unreadable.new.sink) (refusal_text NoLine) c.args.steps.now c.args.steps.now 0
+    (ap (λ (x : Command). turn g.Q.Questions.told c.args.kept.now.store.entries x) c.in-Unreadable.is) (ap (λ (x : Command). needs_machine c.args.kept.now.store.entries x) c.in-Unreadable.is) (omega arith) (λ behind. omega arith) c.print_refusal-in-Unreadable.ensures.stops
 
 pub returns-in-Unreadable-clause-blames : goal.returns-in-Unreadable-clause-blames
 returns-in-Unreadable-clause-blames g c =
@@ -67,14 +68,14 @@ returns-in-Unreadable-clause-there g c =
 pub returns-in-Faulty-clause-answered : goal.returns-in-Faulty-clause-answered
 returns-in-Faulty-clause-answered g c =
     let why : c.fault_refusal-why.result ≡ fault_refusal c.args.kept.now.store.entries c.in-Faulty.at = rw c.entries.ensures at c.fault_refusal-why.ensures in
-    answered-text g.D.Disk g.A.Answers.answers g.Q.Questions.told (is_some c.args.kept.now.machine) c.args.command (g.C.Chooser.choices c.args.chooser.now) c.args.answers.now c.effects_follow.ensures.follow c.print_refusal-in-Faulty.result c.args.disk.now c.args.kept.now.store c.args.kept.now.store (g.K.Sink.holds c.args.sink.now) (g.K.Sink.holds c.print_refusal-in-Faulty.new.sink) (refusal_text c.fault_refusal-why.result) c.args.steps.now c.args.steps.now refl
-    (ap (λ (x : Command). turn g.Q.Questions.told c.args.kept.now.store.entries x) c.in-Faulty.is ∙ ap (λ (x : Refusal). prints (refusal_text x)) (sym why)) (ap (λ (x : Command). needs_machine c.args.kept.now.store.entries x) c.in-Faulty.is) c.requires.«open» (omega arith) c.print_refusal-in-Faulty.ensures.ok
+    answered-text g.D.Disk g.A.Answers.answers g.Q.Questions.told (is_some c.args.kept.now.machine) c.args.command (g.C.Chooser.choices c.args.chooser.now) c.args.answers.now c.effects_follow.ensures.follow c.print_refusal-in-Faulty.result c.args.disk.now c.args.kept.now.store c.args.kept.now.store (g.K.Sink.holds c.args.sink.now) (g.K.Sink.holds c.print_refusal-in-Faulty.new.sink) (refusal_text c.fault_refusal-why.result) c.args.steps.now c.args.steps.now 0 refl
+    (ap (λ (x : Command). turn g.Q.Questions.told c.args.kept.now.store.entries x) c.in-Faulty.is ∙ ap (λ (x : Refusal). prints (refusal_text x)) (sym why)) (ap (λ (x : Command). needs_machine c.args.kept.now.store.entries x) c.in-Faulty.is) c.requires.«open» (omega arith) (λ behind. omega arith) c.print_refusal-in-Faulty.ensures.ok
 
 pub returns-in-Faulty-clause-halted : goal.returns-in-Faulty-clause-halted
 returns-in-Faulty-clause-halted g c =
     let why : c.fault_refusal-why.result ≡ fault_refusal c.args.kept.now.store.entries c.in-Faulty.at = rw c.entries.ensures at c.fault_refusal-why.ensures in
-    halted-text g.D.Disk g.A.Answers.answers g.Q.Questions.told (is_some c.args.kept.now.machine) c.args.command (g.C.Chooser.choices c.args.chooser.now) c.args.answers.now c.halts_follow.ensures c.print_refusal-in-Faulty.result c.args.disk.now c.args.kept.now.store c.args.kept.now.store (g.K.Sink.holds c.args.sink.now) (g.K.Sink.holds c.print_refusal-in-Faulty.new.sink) (refusal_text c.fault_refusal-why.result) c.args.steps.now c.args.steps.now
-    (ap (λ (x : Command). turn g.Q.Questions.told c.args.kept.now.store.entries x) c.in-Faulty.is ∙ ap (λ (x : Refusal). prints (refusal_text x)) (sym why)) (ap (λ (x : Command). needs_machine c.args.kept.now.store.entries x) c.in-Faulty.is) (omega arith) c.print_refusal-in-Faulty.ensures.stops
+    halted-text g.D.Disk g.A.Answers.answers g.Q.Questions.told (is_some c.args.kept.now.machine) c.args.command (g.C.Chooser.choices c.args.chooser.now) c.args.answers.now c.halts_follow.ensures c.print_refusal-in-Faulty.result c.args.disk.now c.args.kept.now.store c.args.kept.now.store (g.K.Sink.holds c.args.sink.now) (g.K.Sink.holds c.print_refusal-in-Faulty.new.sink) (refusal_text c.fault_refusal-why.result) c.args.steps.now c.args.steps.now 0
+    (ap (λ (x : Command). turn g.Q.Questions.told c.args.kept.now.store.entries x) c.in-Faulty.is ∙ ap (λ (x : Refusal). prints (refusal_text x)) (sym why)) (ap (λ (x : Command). needs_machine c.args.kept.now.store.entries x) c.in-Faulty.is) (omega arith) (λ behind. omega arith) c.print_refusal-in-Faulty.ensures.stops
 
 pub returns-in-Faulty-clause-blames : goal.returns-in-Faulty-clause-blames
 returns-in-Faulty-clause-blames g c =

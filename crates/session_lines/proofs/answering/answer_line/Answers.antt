@@ -8,21 +8,21 @@ use Rattle.session_lines.specs.Answering.{standpoint}
 use Rattle.session_lines.specs.Lines.{needs_machine, turn}
 use Rattle.session_lines.specs.Refusals.{refusal_of}
 use Rattle.session_lines.proofs.AnswerLemmas.{OnOk-always, answered-text, blames-text, halted-text, line-causes, or-false}
-use Rattle.session_lines.proofs.ChangeLemmas.{answered-change, ask-cheap, is-change, some-there, sound-asked}
+use Rattle.session_lines.proofs.ChangeLemmas.{answered-change, ask-costs, is-change, some-there, sound-asked}
 use Rattle.session_lines.proofs.LineLemmas.{needs-change, needs-refused, turn-refused}
 use Rattle.session_lines.proofs.answering.answer_line.Goals as goal
 
 pub returns-in-Some-clause-answered : goal.returns-in-Some-clause-answered
 returns-in-Some-clause-answered g c =
     let why : refusal_of c.args.kept.now.store.entries c.args.line ≡ Some c.in-Some.why = sym (rw c.entries.ensures at c.refusal_of.ensures) ∙ c.in-Some.is in
-    answered-text g.D.Disk g.A.Answers.answers g.Q.Questions.told (is_some c.args.kept.now.machine) (Says c.args.line) (g.C.Chooser.choices c.args.chooser.now) c.args.answers.now c.effects_follow.ensures.follow c.print_refusal.result c.args.disk.now c.args.kept.now.store c.args.kept.now.store (g.K.Sink.holds c.args.sink.now) (g.K.Sink.holds c.print_refusal.new.sink) (refusal_text c.in-Some.why) c.args.steps.now c.args.steps.now refl
-    (turn-refused g.Q.Questions.told c.args.kept.now.store.entries c.args.line c.in-Some.why why) (needs-refused c.args.kept.now.store.entries c.args.line c.in-Some.why why) c.requires.«open» (omega arith) c.print_refusal.ensures.ok
+    answered-text g.D.Disk g.A.Answers.answers g.Q.Questions.told (is_some c.args.kept.now.machine) (Says c.args.line) (g.C.Chooser.choices c.args.chooser.now) c.args.answers.now c.effects_follow.ensures.follow c.print_refusal.result c.args.disk.now c.args.kept.now.store c.args.kept.now.store (g.K.Sink.holds c.args.sink.now) (g.K.Sink.holds c.print_refusal.new.sink) (refusal_text c.in-Some.why) c.args.steps.now c.args.steps.now 0 refl
+    (turn-refused g.Q.Questions.told c.args.kept.now.store.entries c.args.line c.in-Some.why why) (needs-refused c.args.kept.now.store.entries c.args.line c.in-Some.why why) c.requires.«open» (omega arith) (λ behind. omega arith) c.print_refusal.ensures.ok
 
 pub returns-in-Some-clause-halted : goal.returns-in-Some-clause-halted
 returns-in-Some-clause-halted g c =
     let why : refusal_of c.args.kept.now.store.entries c.args.line ≡ Some c.in-Some.why = sym (rw c.entries.ensures at c.refusal_of.ensures) ∙ c.in-Some.is in
-    halted-text g.D.Disk g.A.Answers.answers g.Q.Questions.told (is_some c.args.kept.now.machine) (Says c.args.line) (g.C.Chooser.choices c.args.chooser.now) c.args.answers.now c.halts_follow.ensures c.print_refusal.result c.args.disk.now c.args.kept.now.store c.args.kept.now.store (g.K.Sink.holds c.args.sink.now) (g.K.Sink.holds c.print_refusal.new.sink) (refusal_text c.in-Some.why) c.args.steps.now c.args.steps.now
-    (turn-refused g.Q.Questions.told c.args.kept.now.store.entries c.args.line c.in-Some.why why) (needs-refused c.args.kept.now.store.entries c.args.line c.in-Some.why why) (omega arith) c.print_refusal.ensures.stops
+    halted-text g.D.Disk g.A.Answers.answers g.Q.Questions.told (is_some c.args.kept.now.machine) (Says c.args.line) (g.C.Chooser.choices c.args.chooser.now) c.args.answers.now c.halts_follow.ensures c.print_refusal.result c.args.disk.now c.args.kept.now.store c.args.kept.now.store (g.K.Sink.holds c.args.sink.now) (g.K.Sink.holds c.print_refusal.new.sink) (refusal_text c.in-Some.why) c.args.steps.now c.args.steps.now 0
+    (turn-refused g.Q.Questions.told c.args.kept.now.store.entries c.args.line c.in-Some.why why) (needs-refused c.args.kept.now.store.entries c.args.line c.in-Some.why why) (omega arith) (λ behind. omega arith) c.print_refusal.ensures.stops
 
 pub returns-in-Some-clause-blames : goal.returns-in-Some-clause-blames
 returns-in-Some-clause-blames g c =
@@ -39,13 +39,13 @@ returns-in-Some-clause-there g c =
 
 pub returns-in-Asks-clause-answered : goal.returns-in-Asks-clause-answered
 returns-in-Asks-clause-answered g c =
-    answered-text g.D.Disk g.A.Answers.answers g.Q.Questions.told (is_some c.args.kept.now.machine) (Says c.args.line) (g.C.Chooser.choices c.args.chooser.now) c.args.answers.now c.effects_follow.ensures.follow c.ask.result c.args.disk.now c.args.kept.now.store c.ask.new.kept.store (g.K.Sink.holds c.args.sink.now) (g.K.Sink.holds c.ask.new.sink) (g.Q.Questions.told.text c.args.kept.now.store.entries c.in-Asks.question) c.args.steps.now c.ask.new.steps c.ask.ensures.store
-    (ap (λ (l : Line). turn g.Q.Questions.told c.args.kept.now.store.entries (Says l)) c.in-Asks.is) (ap (λ (l : Line). needs_machine c.args.kept.now.store.entries (Says l)) c.in-Asks.is) c.requires.«open» (ask-cheap g.Q.Questions.told (is_some c.args.kept.now.machine) c.args.kept.now.store.entries c.args.line c.in-Asks.question c.args.steps.now c.ask.new.steps c.in-Asks.is c.ask.ensures.steps) c.ask.ensures.ok
+    answered-text g.D.Disk g.A.Answers.answers g.Q.Questions.told (is_some c.args.kept.now.machine) (Says c.args.line) (g.C.Chooser.choices c.args.chooser.now) c.args.answers.now c.effects_follow.ensures.follow c.ask.result c.args.disk.now c.args.kept.now.store c.ask.new.kept.store (g.K.Sink.holds c.args.sink.now) (g.K.Sink.holds c.ask.new.sink) (g.Q.Questions.told.text c.args.kept.now.store.entries c.in-Asks.question) c.args.steps.now c.ask.new.steps (g.Q.Questions.told.cost c.args.kept.now.store.entries c.in-Asks.question) c.ask.ensures.store
+    (ap (λ (l : Line). turn g.Q.Questions.told c.args.kept.now.store.entries (Says l)) c.in-Asks.is) (ap (λ (l : Line). needs_machine c.args.kept.now.store.entries (Says l)) c.in-Asks.is) c.requires.«open» c.ask.ensures.steps (ask-costs g.Q.Questions.told (is_some c.args.kept.now.machine) c.args.kept.now.store.entries c.args.line c.in-Asks.question c.in-Asks.is) c.ask.ensures.ok
 
 pub returns-in-Asks-clause-halted : goal.returns-in-Asks-clause-halted
 returns-in-Asks-clause-halted g c =
-    halted-text g.D.Disk g.A.Answers.answers g.Q.Questions.told (is_some c.args.kept.now.machine) (Says c.args.line) (g.C.Chooser.choices c.args.chooser.now) c.args.answers.now c.halts_follow.ensures c.ask.result c.args.disk.now c.args.kept.now.store c.ask.new.kept.store (g.K.Sink.holds c.args.sink.now) (g.K.Sink.holds c.ask.new.sink) (g.Q.Questions.told.text c.args.kept.now.store.entries c.in-Asks.question) c.args.steps.now c.ask.new.steps
-    (ap (λ (l : Line). turn g.Q.Questions.told c.args.kept.now.store.entries (Says l)) c.in-Asks.is) (ap (λ (l : Line). needs_machine c.args.kept.now.store.entries (Says l)) c.in-Asks.is) (ask-cheap g.Q.Questions.told (is_some c.args.kept.now.machine) c.args.kept.now.store.entries c.args.line c.in-Asks.question c.args.steps.now c.ask.new.steps c.in-Asks.is c.ask.ensures.steps) c.ask.ensures.stops
+    halted-text g.D.Disk g.A.Answers.answers g.Q.Questions.told (is_some c.args.kept.now.machine) (Says c.args.line) (g.C.Chooser.choices c.args.chooser.now) c.args.answers.now c.halts_follow.ensures c.ask.result c.args.disk.now c.args.kept.now.store c.ask.new.kept.store (g.K.Sink.holds c.args.sink.now) (g.K.Sink.holds c.ask.new.sink) (g.Q.Questions.told.text c.args.kept.now.store.entries c.in-Asks.question) c.args.steps.now c.ask.new.steps (g.Q.Questions.told.cost c.args.kept.now.store.entries c.in-Asks.question)
+    (ap (λ (l : Line). turn g.Q.Questions.told c.args.kept.now.store.entries (Says l)) c.in-Asks.is) (ap (λ (l : Line). needs_machine c.args.kept.now.store.entries (Says l)) c.in-Asks.is) c.ask.ensures.steps (ask-costs g.Q.Questions.told (is_some c.args.kept.now.machine) c.args.kept.now.store.entries c.args.line c.in-Asks.question c.in-Asks.is) c.ask.ensures.stops
 
 pub returns-in-Asks-clause-blames : goal.returns-in-Asks-clause-blames
 returns-in-Asks-clause-blames g c =

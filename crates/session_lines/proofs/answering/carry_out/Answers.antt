@@ -3,7 +3,8 @@ use Rattle.arn_lines.specs.declared.line.Line.{Line}
 use Rattle.arn_model.specs.Run as input
 use Rattle.arn_model.specs.Run.{Input}
 use Rattle.session_runs.specs.Ready.{machine_of}
-use Rattle.session_lines.specs.Lines.{does, event_effects, line_turn}
+use Rattle.session_runs.specs.Turns.{does}
+use Rattle.session_lines.specs.Lines.{event_effects, line_turn}
 use Rattle.session_lines.proofs.EventLemmas.{event-advances, event-stops}
 use Rattle.session_lines.proofs.LineLemmas.{plain-boot, plain-file, plain-typed}
 use Rattle.session_lines.proofs.answering.carry_out.Goals as goal

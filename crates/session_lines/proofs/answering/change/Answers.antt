@@ -18,7 +18,7 @@ returns-in_err-machine-clause-halted g c =
     let still : IsStill (turn g.Q.Questions.told c.args.kept.now.store.entries (Says c.args.line)) = subst IsStill (sym (turn-line g.Q.Questions.told c.args.kept.now.store.entries c.args.line c.requires.accepted)) (still-line g.Q.Questions.told c.args.kept.now.store.entries c.args.line) in
     err-same c.from_residual.result why _ c.from_residual.ensures.1
     (halted-not-made g.D.Disk g.A.Answers.answers g.Q.Questions.told (is_some c.args.kept.now.machine) (Says c.args.line) (g.C.Chooser.choices c.args.chooser.now) c.args.answers.now c.halts_follow.ensures why c.args.disk.now c.args.kept.now.store c.take_machine.new.kept.store (g.K.Sink.holds c.args.sink.now) c.args.steps.now c.take_machine.new.steps c.in_err-machine.ensures.not_made c.take_machine.ensures.store still c.take_machine.ensures.steps
-    (omega (arith, c.take_machine.ensures.steps, cost-change g.Q.Questions.told (is_some c.args.kept.now.machine) c.args.kept.now.store.entries c.args.line c.requires.change c.requires.accepted)))
+    (λ behind. cost-change g.Q.Questions.told (is_some c.args.kept.now.machine) c.args.kept.now.store.entries behind c.args.line c.requires.change c.requires.accepted))
 
 pub returns-in_err-machine-clause-blames : goal.returns-in_err-machine-clause-blames
 returns-in_err-machine-clause-blames g c =
