@@ -1,14 +1,5 @@
-//! Sessions over texts in memory, and the logs that they leave.
+//! What sessions do with their words, their sources and sinks, and their logs.
 #![tactic(auto)]
 
 #[cfg(test)]
-mod calls;
-#[cfg(test)]
-mod handing;
-#[cfg(test)]
-mod programs;
-mod sessions;
-#[cfg(test)]
 mod tests;
-
-pub use sessions::{Ended, Schedule, Script, run, run_on};

@@ -1,10 +1,9 @@
 use super::*;
-use crate::calls::CALLS;
-use crate::programs::{BLOCKS, BY_CHILD, EXCHANGED, ILLEGAL, IN_TURN, OTHER_CALL, OVERWRITTEN};
 use arn_base::{Bytes, Differs, Disk, NoMemory, Numbers};
 use arn_session::{Damage, Status};
 use log_disk::{FileDisk, FuseDisk, MemDisk};
 use log_store::{OpenError, Store};
+use session_trials::{Ended, Script, run, run_on};
 use std::alloc::Global;
 use std::fs;
 use std::process::Abort;
@@ -171,92 +170,8 @@ fn prints_the_answer_to_each_line(rt: HostRuntime) -> Result<(), Fail> {
             STALLED,
             "event 0\nevent 1\nran 4 stalled\nevent 2\nout 4 1 616263\nran 7 done\n",
         ),
-        (ILLEGAL, "event 0\nevent 1\nran 1 done\n"),
-        (
-            EXCHANGED,
-            "event 0\nevent 1\nevent 2\nout 4 1 636261\nran 18 done\n\
-            pair 2 2 0\npair 2 0 2\nback pairs 2 instructions 18 groups 1\n\
-            pair 2 2 0\nback pairs 1 instructions 18 groups 1\n\
-            pair 2 1 0\npair 2 2 1\nback pairs 2 instructions 18 groups 1\n",
-        ),
-        (OVERWRITTEN, "event 0\nevent 1\nran 5 done\n"),
-        (
-            OTHER_CALL,
-            "event 0\nevent 1\npair 0 0 0\nback pairs 1 instructions 0 groups -\nran 3 done\n\
-            pair 0 0 0\nback pairs 1 instructions 0 groups -\nno point\n",
-        ),
     ] {
         assert_prints(&rt, text, want)?;
-    }
-    Ok(())
-}
-
-#[test]
-fn prints_the_answer_to_each_block(rt: HostRuntime) -> Result<(), Fail> {
-    for (text, want) in BLOCKS {
-        assert_prints(&rt, text, want)?;
-    }
-    Ok(())
-}
-
-#[test]
-fn prints_what_calls_come_to(rt: HostRuntime) -> Result<(), Fail> {
-    for (text, want) in CALLS {
-        assert_prints_under(&rt, Schedule::Round, text, want)?;
-    }
-    Ok(())
-}
-
-/// What is printed for a text under a schedule.
-fn assert_prints_under(
-    rt: &(impl Abort + AllocGlobal),
-    schedule: Schedule,
-    text: &str,
-    want: &str,
-) -> Result<(), Fail> {
-    let script = Script {
-        schedule,
-        ..Script::of(text.as_bytes())
-    };
-    let ended = run(rt.alloc(), &["log"], &script)?;
-    assert_eq!(rt; ended.status, Status::Done);
-    assert_eq!(rt;
-        ended.sink.bytes(),
-        want.as_bytes(),
-        "at {text} under {schedule:?}"
-    );
-    Ok(())
-}
-
-#[test]
-fn goes_by_the_schedule(rt: HostRuntime) -> Result<(), Fail> {
-    assert_prints_under(
-        &rt,
-        Schedule::Third(0),
-        BY_CHILD,
-        "event 0\nevent 1\nevent 2\nout 6 2 78\nran 19 done\n\
-        pair 2 0 0\nback pairs 1 instructions 19 groups 1 2\n\
-        group 1 processes 1 instructions 12\ngroup 2 processes 1 instructions 7\ngroups 2\n",
-    )?;
-    assert_prints_under(
-        &rt,
-        Schedule::Third(1),
-        BY_CHILD,
-        "event 0\nevent 1\nevent 2\nout 5 2 78\nran 19 done\n\
-        back pairs 0 instructions 12 groups 1\n\
-        group 1 processes 1 instructions 12\ngroup 2 processes 1 instructions 7\ngroups 2\n",
-    )
-}
-
-#[test]
-fn waits_under_every_schedule(rt: HostRuntime) -> Result<(), Fail> {
-    for seed in 0..10 {
-        assert_prints_under(
-            &rt,
-            Schedule::Seeded(seed),
-            IN_TURN,
-            "event 0\nevent 1\nout 3 2 62\nout 6 1 61\nran 27 done\n",
-        )?;
     }
     Ok(())
 }
@@ -449,6 +364,11 @@ fn a_session_asks_about_an_earlier_one(rt: HostRuntime) -> Result<(), Fail> {
             "back pairs 0 instructions 11 groups 1\n",
         ),
         ("back copy event 4 0 4\n", "no point\n"),
+        (
+            "show 4 mem 1 0x4fff0 3\nshow 5 mem 1 0x4fff0 3\nshow 11 regs 1\nshow 12 procs\n\
+            show 0 procs\nverify\n",
+            "mem 000000\nmem 616263\nno point\nno point\nproc 1 group 1\nprocs 1\nverify run\n",
+        ),
     ] {
         assert_ends(&rt, &mut disk, text, Status::Done, want)?;
     }
@@ -616,7 +536,7 @@ fn a_failing_disk_keeps_what_was_printed(rt: HostRuntime) -> Result<(), Fail> {
     panic!(rt; "the disk has no end")
 }
 
-const FOLDER: &str = "arnold_tests";
+const FOLDER: &str = "arnold_tests_log";
 
 #[test]
 fn a_file_holds_the_log(rt: HostRuntime) -> Result<(), Fail> {
@@ -628,7 +548,7 @@ fn a_file_holds_the_log(rt: HostRuntime) -> Result<(), Fail> {
         (typed.as_str(), TYPED_PRINTS),
         ("back copy event 4 0 3\n", ASKED_PRINTS),
     ] {
-        let path = String::from_str(alloc, "arnold_tests/log")?;
+        let path = String::from_str(alloc, "arnold_tests_log/log")?;
         let mut disk = FileDisk::new(rt.clone()?, path);
         assert_ends(&rt, &mut disk, text, Status::Done, printed)?;
     }

@@ -3,7 +3,7 @@ ghost use Rattle.std.specs.Prelude.{◌≡◌, ◌<◌, ◌↔◌, [], List, IfO
 ghost use Rattle.arn_base.specs.declared.records.Record.{Record};
 ghost use Rattle.session_effects.specs.Carrying.{HoldsLog};
 ghost use Rattle.arn_session.specs.Words.{AreAccepted, AreAcceptedTexts, texts};
-ghost use Rattle.arnold_tests.specs.Sessions.{Prints};
+ghost use Rattle.session_trials.specs.Sessions.{Prints};
 
 use arn_base::{
     Bytes, Choice, Chooser, Device, Disk, NoMemory, Numbers, SliceSource, Steps, VecSink,
@@ -16,12 +16,12 @@ use std::marker::Brand;
 use std::sync::ledger::{Blank, Ledger};
 
 /// How many instructions a process runs at most before the next one gets its turn.
-const SLICE: u32 = 1_000;
+const SLICE: u32 = 100;
 
 /// Who picks which process goes on, and for how long.
 #[derive(Clone, Copy, Debug)]
 pub enum Schedule {
-    /// One after the other, for many instructions.
+    /// One after the other, for up to a hundred instructions.
     Round,
     /// By chance, from a seed.
     Seeded(u64),

@@ -1,6 +1,6 @@
 use Rattle.std.proofs.Common.{◌≡◌, map, take}
 use Rattle.arn_session.specs.Words.{texts}
-use Rattle.arnold_tests.proofs.sessions.owned.Given as goal
+use Rattle.session_trials.proofs.sessions.owned.Given as goal
 
 abbrev pub invariant-loop-word : goal.invariant-loop-word
 invariant-loop-word l = texts l.made.items ≡ map (λ word. word.now) (take l.word-index l.words)

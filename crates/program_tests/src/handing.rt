@@ -3,6 +3,7 @@ use super::*;
 use arn_base::{Bytes, NoMemory};
 use arn_session::Status;
 use log_disk::MemDisk;
+use session_trials::{Schedule, Script, run_on};
 use std::alloc::Global;
 use std::process::Abort;
 use std::test::Fail;

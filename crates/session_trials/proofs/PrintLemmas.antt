@@ -14,7 +14,7 @@ use Rattle.session_runs.specs.Turns.{Turn}
 use Rattle.session_questions.specs.Texts.{told}
 use Rattle.session_text.specs.Answers.{Answers}
 use Rattle.session_text.specs.Transcript.{text_of}
-use Rattle.arnold_tests.specs.Sessions.{Prints}
+use Rattle.session_trials.specs.Sessions.{Prints}
 
 -- the bytes that are told, or else none
 abbrev told_bytes : Option (List ℕ) → List ℕ

@@ -2,8 +2,8 @@
 use Rattle.std.proofs.Common.{◌∙◌, ap}
 use Rattle.arn_base.specs.InMemory.{SourceState, SinkState}
 use Rattle.log_model.specs.Records.{IsRun}
-use Rattle.arnold_tests.proofs.PrintLemmas.{Answers-Prints}
-use Rattle.arnold_tests.proofs.sessions.run_over.Goals as goal
+use Rattle.session_trials.proofs.PrintLemmas.{Answers-Prints}
+use Rattle.session_trials.proofs.sessions.run_over.Goals as goal
 
 pub returns-clause-done : goal.returns-clause-done
 returns-clause-done g c = λ is history log.

@@ -1,13 +1,14 @@
 // Sessions with programs of their own, and what is printed for them.
 
 /// A program of one word, which is no instruction. The last line has no LF.
-pub const ILLEGAL: &str = "\
+const ILLEGAL: &str = "\
     file p 41524e494d4730310000010000000000000001000000000000000000\n\
     boot p\n\
-    run 9";
+    run 9\n\
+    events";
 
 /// A program that asks for its number, and goes on to a word that is no instruction.
-pub const OTHER_CALL: &str = "\
+const OTHER_CALL: &str = "\
     file p 41524e494d4730310000010000000000000001000000000093085000730000\
     00\n\
     boot p\n\
@@ -18,7 +19,7 @@ pub const OTHER_CALL: &str = "\
 
 /// A program that reads three bytes, exchanges the outer ones through registers, makes the middle
 /// one of its own (one more than the first), writes them, and exits with the first as its status.
-pub const EXCHANGED: &str = "\
+const EXCHANGED: &str = "\
     file p 41524e494d473031000001000000000000000100000000009308b00013050000930501ff1306300073000000\
     83c2050003c3250093830200238175002380650093821200a38055009308c000130510007300000003c505009308\
     100073000000\n\
@@ -31,7 +32,7 @@ pub const EXCHANGED: &str = "\
 
 /// A program that stores a call over the next word, which is no instruction, and then loads from
 /// behind its window.
-pub const OVERWRITTEN: &str = "\
+const OVERWRITTEN: &str = "\
     file p 41524e494d47303100000100000000000000010000000000130330079702000023a4620000000000\
     03351100\n\
     boot p\n\
@@ -328,8 +329,26 @@ const PAST_PRINTS: &str = "\
     event 5 11 1 call.1.0 1\n\
     events 6\n";
 
-/// Sessions with blocks, and what is printed for them.
-pub const BLOCKS: &[(&str, &str)] = &[
+/// Sessions with these programs, and what is printed for each.
+pub const PROGRAMS: &[(&str, &str)] = &[
+    (
+        ILLEGAL,
+        "event 0\nevent 1\nran 1 done\n\
+        event 0 0 - file 28\nevent 1 0 1 boot 28\nevent 2 1 1 end.132 1\nevents 3\n",
+    ),
+    (
+        EXCHANGED,
+        "event 0\nevent 1\nevent 2\nout 4 1 636261\nran 18 done\n\
+        pair 2 2 0\npair 2 0 2\nback pairs 2 instructions 18 groups 1\n\
+        pair 2 2 0\nback pairs 1 instructions 18 groups 1\n\
+        pair 2 1 0\npair 2 2 1\nback pairs 2 instructions 18 groups 1\n",
+    ),
+    (OVERWRITTEN, "event 0\nevent 1\nran 5 done\n"),
+    (
+        OTHER_CALL,
+        "event 0\nevent 1\npair 0 0 0\nback pairs 1 instructions 0 groups -\nran 3 done\n\
+        pair 0 0 0\nback pairs 1 instructions 0 groups -\nno point\n",
+    ),
     (
         INCREMENT,
         "event 0\nevent 1\nevent 2\nout 4 1 626364\nran 20 done\n\
@@ -399,8 +418,9 @@ pub const BLOCKS: &[(&str, &str)] = &[
         "event 0\nevent 1\nout 66 1 f5ffffffffffffff\nran 580 stalled\n",
     ),
     (
-        "run 5\nboot p\nfile p 00\nboot p\nfile p 00\nasm q\n bogus\nend\nhello\n",
-        "no boot\nno name\nevent 0\nno image\nno name\nno asm 1\nno line\n",
+        "run 5\nboot p\nfile p 00\nboot p\nfile p 00\nasm q\n bogus\nend\nshow 0 procs\n\
+        back copy event 9 0 1\nhello\n",
+        "no boot\nno name\nevent 0\nno image\nno name\nno asm 1\nprocs 0\nno point\nno line\n",
     ),
     (
         "asm p\necall\nend\nboot p\n\

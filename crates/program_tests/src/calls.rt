@@ -366,7 +366,7 @@ const WRITERS_PRINTS: &str = "\
     forth pairs 2 instructions 41 groups 1 2\n";
 
 /// A process hands typed bytes to a second child by a pipe, which writes them, while a first child spins.
-const BESIDE: &str = "\
+pub const BESIDE: &str = "\
     asm p\n\
     li a7, 15; ecall\n\
     li a7, 2; ecall; beq a0, zero, spin\n\
@@ -388,7 +388,7 @@ const BESIDE: &str = "\
     groups\n";
 
 /// What is printed for that.
-const BESIDE_PRINTS: &str = "\
+pub const BESIDE_PRINTS: &str = "\
     event 0\n\
     event 1\n\
     event 2\n\
@@ -447,7 +447,7 @@ const SERVED_PRINTS: &str = "\
     pair 2 2 2\n\
     back pairs 3 instructions 46 groups 1 2\n";
 
-/// All these sessions, and what is printed for each.
+/// The other sessions, and what is printed for each.
 pub const CALLS: &[(&str, &str)] = &[
     (READS, READS_PRINTS),
     (FILES, FILES_PRINTS),
@@ -456,6 +456,5 @@ pub const CALLS: &[(&str, &str)] = &[
     (PIPES, PIPES_PRINTS),
     (PORTS, PORTS_PRINTS),
     (WRITERS, WRITERS_PRINTS),
-    (BESIDE, BESIDE_PRINTS),
     (SERVED, SERVED_PRINTS),
 ];

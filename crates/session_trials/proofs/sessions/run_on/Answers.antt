@@ -2,7 +2,7 @@
 use Rattle.std.proofs.Common.{◌≡◌, ◌↔◌, ◌∙◌, ℕ, List, IfOk, ap, subst}
 use Rattle.arn_session.specs.Words.{AreAcceptedTexts, texts}
 use Rattle.arn_session.specs.declared.status.Status.TheVariants as status
-use Rattle.arnold_tests.proofs.sessions.run_on.Goals as goal
+use Rattle.session_trials.proofs.sessions.run_on.Goals as goal
 
 pub returns-clause-usage : goal.returns-clause-usage
 returns-clause-usage g c =

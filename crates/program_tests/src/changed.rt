@@ -1,0 +1,109 @@
+// Logs of a run in which one record was changed, and what is told of them.
+use super::*;
+use crate::calls::{BESIDE, BESIDE_PRINTS};
+use arn_base::{Bytes, Differs, NoMemory};
+use arn_session::{Damage, Status};
+use log_disk::MemDisk;
+use session_trials::{Script, run_on};
+use std::alloc::Global;
+use std::process::Abort;
+use std::test::Fail;
+
+/// Twenty bytes that stand once in a log, and what they become.
+struct Change {
+    from: [u8; 20],
+    to: [u8; 20],
+}
+
+/// The call of event 10, in record 22: what process 3 asked for was 12, a write, with the result 3, and becomes 22.
+const OTHER_CALL: Change = Change {
+    from: *b"\x03\0\0\0\x0c\0\0\0\0\0\0\0\x03\0\0\0\0\0\0\0",
+    to: *b"\x03\0\0\0\x16\0\0\0\0\0\0\0\x03\0\0\0\0\0\0\0",
+};
+
+/// The one origin of event 8, in record 17: three bytes of event 7 from 0 on become three of event 0 from 24 on.
+const OTHER_ORIGIN: Change = Change {
+    from: *b"\x01\0\0\0\x07\0\0\0\0\0\0\0\0\0\0\0\x03\0\0\0",
+    to: *b"\x01\0\0\0\0\0\0\0\0\0\0\0\x18\0\0\0\x03\0\0\0",
+};
+
+/// Five bytes stand in a call's record before its number.
+const OTHER_NUMBER: Damage = Damage::Differs(Differs {
+    place: 22,
+    at: 5,
+    said: Some(22),
+    found: Some(12),
+});
+
+/// A change, a session over the log with it, how the session ends, and what it prints.
+struct Trial {
+    change: Change,
+    text: &'static str,
+    status: Status,
+    prints: &'static str,
+}
+
+const TRIALS: [Trial; 3] = [
+    Trial {
+        change: OTHER_CALL,
+        text: "verify\nback copy event 11 0 1\nback copy event 7 0 3\n",
+        status: Status::Done,
+        prints: "verify differs 22 5 22 12\n\
+            damaged 10 22 12\n\
+            pair 2 0 0\npair 2 1 1\npair 2 2 2\nback pairs 3 instructions 20 groups 1\n",
+    },
+    Trial {
+        change: OTHER_CALL,
+        text: "type 00\n",
+        status: Status::Damaged(OTHER_NUMBER),
+        prints: "",
+    },
+    Trial {
+        change: OTHER_ORIGIN,
+        text: "verify\nback copy event 10 0 3\n",
+        status: Status::Done,
+        prints: "verify differs 17 33 0 7\n\
+            pair 0 24 0\npair 0 25 1\npair 0 26 2\nback pairs 3 instructions 32 groups 1 3\n",
+    },
+];
+
+/// A session over the log of a disk ends so, and prints this.
+fn assert_ends(
+    rt: &(impl Abort + AllocGlobal),
+    disk: &mut MemDisk,
+    text: &str,
+    status: Status,
+    prints: &str,
+) -> Result<(), Fail> {
+    let ended = run_on(rt.alloc(), &["log"], &Script::of(text.as_bytes()), disk)?;
+    assert_eq!(rt; ended.status, status, "at {text}");
+    assert_eq!(rt; ended.sink.bytes(), prints.as_bytes(), "at {text}");
+    Ok(())
+}
+
+/// The bytes of a log with a change.
+fn changed(alloc: Global, log: &[u8], change: &Change) -> Result<Bytes, NoMemory> {
+    let from = change.from.as_slice();
+    let at = log.windows(20).position(|piece| piece == from).unwrap_or(0);
+    let mut bytes = Bytes::new(alloc);
+    for (place, byte) in log.iter().enumerate() {
+        let other = place
+            .checked_sub(at)
+            .and_then(|inside| change.to.get(inside));
+        bytes.push(*other.unwrap_or(byte))?;
+    }
+    Ok(bytes)
+}
+
+#[test]
+fn tells_damage_where_a_question_meets_it(rt: HostRuntime) -> Result<(), Fail> {
+    let alloc = rt.alloc();
+    let mut disk = MemDisk::new(alloc, Bytes::new(alloc));
+    assert_ends(&rt, &mut disk, BESIDE, Status::Done, BESIDE_PRINTS)?;
+    for trial in &TRIALS {
+        let bytes = changed(alloc, disk.bytes(), &trial.change)?;
+        let mut disk = MemDisk::new(alloc, bytes);
+        assert_ends(&rt, &mut disk, trial.text, trial.status, trial.prints)?;
+    }
+    Ok(())
+}

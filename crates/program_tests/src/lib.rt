@@ -1,0 +1,15 @@
+//! What programs do in sessions, and what is told of them.
+#![tactic(auto)]
+
+#[cfg(test)]
+mod calls;
+#[cfg(test)]
+mod changed;
+#[cfg(test)]
+mod given;
+#[cfg(test)]
+mod handing;
+#[cfg(test)]
+mod programs;
+#[cfg(test)]
+mod tests;

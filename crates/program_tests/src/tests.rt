@@ -1,0 +1,90 @@
+use super::*;
+use crate::calls::CALLS;
+use crate::programs::{BY_CHILD, IN_TURN, PROGRAMS};
+use arn_session::Status;
+use session_trials::{Schedule, Script, run};
+use std::process::Abort;
+use std::test::Fail;
+
+/// What is printed for a text under a schedule.
+fn assert_prints(
+    rt: &(impl Abort + AllocGlobal),
+    schedule: Schedule,
+    text: &str,
+    want: &str,
+) -> Result<(), Fail> {
+    let script = Script {
+        schedule,
+        ..Script::of(text.as_bytes())
+    };
+    let ended = run(rt.alloc(), &["log"], &script)?;
+    assert_eq!(rt; ended.status, Status::Done);
+    assert_eq!(rt;
+        ended.sink.bytes(),
+        want.as_bytes(),
+        "at {text} under {schedule:?}"
+    );
+    Ok(())
+}
+
+#[test]
+fn prints_what_programs_do(rt: HostRuntime) -> Result<(), Fail> {
+    for (text, want) in PROGRAMS {
+        assert_prints(&rt, Schedule::Round, text, want)?;
+    }
+    Ok(())
+}
+
+#[test]
+fn prints_what_calls_come_to(rt: HostRuntime) -> Result<(), Fail> {
+    for (text, want) in CALLS {
+        assert_prints(&rt, Schedule::Round, text, want)?;
+    }
+    Ok(())
+}
+
+#[test]
+fn goes_by_the_schedule(rt: HostRuntime) -> Result<(), Fail> {
+    assert_prints(
+        &rt,
+        Schedule::Third(0),
+        BY_CHILD,
+        "event 0\nevent 1\nevent 2\nout 6 2 78\nran 19 done\n\
+        pair 2 0 0\nback pairs 1 instructions 19 groups 1 2\n\
+        group 1 processes 1 instructions 12\ngroup 2 processes 1 instructions 7\ngroups 2\n",
+    )?;
+    assert_prints(
+        &rt,
+        Schedule::Third(1),
+        BY_CHILD,
+        "event 0\nevent 1\nevent 2\nout 5 2 78\nran 19 done\n\
+        back pairs 0 instructions 12 groups 1\n\
+        group 1 processes 1 instructions 12\ngroup 2 processes 1 instructions 7\ngroups 2\n",
+    )
+}
+
+#[test]
+fn waits_under_every_schedule(rt: HostRuntime) -> Result<(), Fail> {
+    for seed in 0..10 {
+        assert_prints(
+            &rt,
+            Schedule::Seeded(seed),
+            IN_TURN,
+            "event 0\nevent 1\nout 3 2 62\nout 6 1 61\nran 27 done\n",
+        )?;
+    }
+    Ok(())
+}
+
+#[test]
+fn a_generated_chain_adds_up(rt: HostRuntime) -> Result<(), Fail> {
+    for schedule in [Schedule::Round, Schedule::Seeded(0)] {
+        assert_prints(
+            &rt,
+            schedule,
+            "gen 7 12\nverify\n",
+            "gen processes 12 bytes 4096 sum 528733 pairs 4096\nverify run\n",
+        )?;
+    }
+    Ok(())
+}
