@@ -7,7 +7,7 @@ ghost use Rattle.std.specs.IoError.{error_kind};
 ghost use Rattle.arn_session.specs.Words.{AreAccepted};
 
 use arn_base::{Chooser, Device, Disk, StdSink, StdSource, Steps};
-use arn_session::{Status, WordsError, arnold, read_words};
+use arn_session::{Status, WordsError, are_accepted, arnold, read_words};
 use guest_devices::RoundChooser;
 use log_disk::FileDisk;
 use std::alloc::Global;
@@ -78,10 +78,10 @@ fn session<L: Ledger, F: Files + Clone + Drop, R: Read + Drop, W: Write + Drop>(
 }
 
 /// Does all of it, and tells how it ended.
-fn run(rt: &HostRuntime) -> Status {
-    let words = match words(rt) {
+fn run(rt: &HostRuntime, words: &io::Result<Vec<String>>) -> Status {
+    let words = match words {
         Ok(words) => words,
-        Err(error) => return status_of(&error),
+        Err(error) => return status_of(error),
     };
     let Ok(files) = rt.clone() else {
         return Status::NoMemory;
@@ -96,10 +96,31 @@ fn run(rt: &HostRuntime) -> Status {
     )
 }
 
+/// The log that the words name, where they are accepted.
+fn log_of(words: &[String]) -> Option<&str> {
+    match words {
+        [log] if are_accepted(words) => Some(log.as_str()),
+        _ => None,
+    }
+}
+
+/// Prints how a session ended on standard error, behind the path of its log where the words name one.
+fn report(rt: &HostRuntime, words: &io::Result<Vec<String>>, status: Status) -> io::Result<()> {
+    let log = match words {
+        Ok(words) => log_of(words.as_slice()),
+        Err(_) => None,
+    };
+    match log {
+        Some(log) => eprintln!(rt; "arnold: {log}: {status}"),
+        None => eprintln!(rt; "arnold: {status}"),
+    }
+}
+
 fn main(rt: HostRuntime) -> ExitCode {
-    let status = run(&rt);
+    let words = words(&rt);
+    let status = run(&rt, &words);
     if status != Status::Done {
-        let _ = eprintln!(rt; "arnold: {status}");
+        let _ = report(&rt, &words, status);
     }
     ExitCode::from(status.code())
 }
