@@ -4,8 +4,8 @@ use Rattle.asm_text.specs.declared.statement.Number.{Number}
 use Rattle.asm_text.specs.declared.statement.Number.TheVariants.{Small, Large}
 use Rattle.asm_text.specs.declared.statement.Statement.{Statement}
 use Rattle.asm_text.specs.declared.statement.Statement.TheVariants as kept
-use Rattle.asm_text.specs.declared.statement.Reading.{Reading}
-use Rattle.asm_text.specs.declared.statement.Reading.TheVariants as read
+use Rattle.asm_text.specs.declared.statement.StatementReading.{StatementReading}
+use Rattle.asm_text.specs.declared.statement.StatementReading.TheVariants as read
 use Rattle.asm_text.specs.Statements as says
 use Rattle.asm_text.specs.Statements.{numbers_of, operands}
 
@@ -36,6 +36,6 @@ Keeps (kept.Bytes text) s = (numbers : List ℤ) × (numbers_of (operands text.n
 Keeps (kept.Zeros count) s = WithNumber count says.Zeros s
 
 -- the reading is kept so
-abbrev pub KeepsReading : Reading → says.Reading → Type 0
+abbrev pub KeepsReading : StatementReading → says.StatementReading → Type 0
 KeepsReading (read.Says kept) r = (s : says.Statement) × Keeps kept s × (r ≡ says.Says s)
 KeepsReading (read.Wrong kind) r = r ≡ says.Wrong kind

@@ -41,9 +41,9 @@ pub data Statement : Type 0 where
   Zeros : ℤ → Statement
 
 -- what is read of a statement, or why nothing is
-pub data Reading : Type 0 where
-  Says : Statement → Reading
-  Wrong : AsmKind → Reading
+pub data StatementReading : Type 0 where
+  Says : Statement → StatementReading
+  Wrong : AsmKind → StatementReading
 
 -- a word and its form
 pub record Word : Type 0 where
@@ -177,24 +177,24 @@ formed form.Byte texts = listed texts
 formed form.Zero texts = counted texts
 
 -- a statement or a fault
-abbrev pub reading_or : AsmKind → Option Statement → Reading
+abbrev pub reading_or : AsmKind → Option Statement → StatementReading
 reading_or why None = Wrong why
 reading_or why (Some s) = Says s
 
-abbrev pub by_form : Option Form → List ℕ → Reading
+abbrev pub by_form : Option Form → List ℕ → StatementReading
 by_form None rest = Wrong kind.Word
 by_form (Some f) rest = reading_or kind.Operand (formed f (operands rest))
 
 -- a word, blanks, and its operands
-abbrev pub worded : List ℕ → Reading
+abbrev pub worded : List ℕ → StatementReading
 worded text = let first = before is_blank text in by_form (form_of first) (skip_blanks (drop (length first) text))
 
 -- a label's definition is a label with `:` behind it at once
-abbrev pub defined : List ℕ → List ℕ → Reading
+abbrev pub defined : List ℕ → List ℕ → StatementReading
 defined [] text = worded text
 defined (c ∷ back) text = if (c == 58) && is_label (reverse back) then Says (Label (reverse back)) else worded text
 
 -- what a statement without blanks at its ends says
-abbrev pub reading : List ℕ → Reading
+abbrev pub reading : List ℕ → StatementReading
 reading [] = Says Nothing
 reading (c ∷ text) = defined (reverse (c ∷ text)) (c ∷ text)

@@ -18,4 +18,4 @@ pub use characters::trimmed;
 pub use fault::AsmKind;
 pub use numbers::number_of;
 pub use reading::read;
-pub use statement::{Number, Reading, Statement};
+pub use statement::{Number, Statement, StatementReading};

@@ -6,27 +6,18 @@ ghost use Rattle.asm_text.specs.Seen.{Tells};
 
 use crate::statement::Number;
 
-fn digit_value(byte: u8) -> Option<u8>
-    ensures { result ≡ number.digit_value byte }
-{
-    match byte {
-        b'0'..=b'9' => Some(byte - b'0'),
-        b'a'..=b'f' => Some(byte - b'a' + 10),
-        b'A'..=b'F' => Some(byte - b'A' + 10),
-        _ => None,
-    }
-}
-
-fn digit_of(base: u8, byte: u8) -> Option<u8>
+fn digit_of(base: u32, byte: u8) -> Option<u32>
+    requires least { 2 ≤ base }
+    requires most { base ≤ 16 }
     ensures { result ≡ number.digit_of base byte }
 {
-    let value = digit_value(byte)?;
-    (value < base).then_some(value)
+    char::from(byte).to_digit(base)
 }
 
 // The number that the digits spell, or the greatest number if it is greater.
-fn digits(base: u8, text: &[u8]) -> Option<u64>
-    requires { 1 ≤ base }
+fn digits(base: u32, text: &[u8]) -> Option<u64>
+    requires least { 2 ≤ base }
+    requires most { base ≤ 16 }
     ensures { KeepsMagnitude result (number.digits base text.now) }
 {
     if text.is_empty() {

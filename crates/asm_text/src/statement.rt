@@ -81,7 +81,7 @@ pub enum Statement<'a> {
 
 /// What is read of a statement, or why nothing is.
 #[derive(Clone, Copy, Debug)]
-pub enum Reading<'a> {
+pub enum StatementReading<'a> {
     Says(Statement<'a>),
     Wrong(AsmKind),
 }

@@ -1,5 +1,5 @@
 use crate::reading::read;
-use crate::statement::{Number, Reading, Statement};
+use crate::statement::{Number, Statement, StatementReading};
 use std::alloc::{AllocError, Global};
 use std::test::Fail;
 
@@ -58,8 +58,8 @@ fn shown_statement(alloc: Global, statement: &Statement<'_>) -> Result<String, A
 
 fn shown(alloc: Global, text: &str) -> Result<String, AllocError> {
     match read(text.as_bytes()) {
-        Reading::Says(statement) => shown_statement(alloc, &statement),
-        Reading::Wrong(kind) => format!(in alloc; "{kind:?}"),
+        StatementReading::Says(statement) => shown_statement(alloc, &statement),
+        StatementReading::Wrong(kind) => format!(in alloc; "{kind:?}"),
     }
 }
 

@@ -16,7 +16,6 @@ use Rattle.asm_text.specs.Names.{Named}
 use Rattle.guest_asm.specs.declared.places.Placed as kept_placed
 use Rattle.asm_text.specs.declared.fault.AsmKind.{AsmKind}
 use Rattle.guest_asm.proofs.Firsts.{first_assoc, first_of_append}
-use Rattle.guest_asm.proofs.Naming.{no_item}
 
 abbrev pub on_line : ℕ → AsmKind → Fault
 on_line line kind = record { line = line; kind = kind }
@@ -78,35 +77,30 @@ pub record Through (kept : List kept_placed.Placed) (at : ℕ) (all : List Place
   pub whole : before ++ after ≡ all
   pub keeps : AllZip KeepsPlaced (drop at kept) after
 
-abbrev pub no_placed : kept_placed.Placed
-no_placed = record { item = no_item; offset = 0; fault = None }
-
--- the next one
-pub record Next (kept : List kept_placed.Placed) (at : ℕ) (before after all : List Placed) : Type 0 where
+-- the next one, which is kept so
+pub record Next (kept : List kept_placed.Placed) (at : ℕ) (k : kept_placed.Placed) (before after all : List Placed) : Type 0 where
   pub placed : Placed
   pub rest : List Placed
   pub is_next : after ≡ placed ∷ rest
-  pub is_kept : KeepsPlaced (get_or kept at no_placed) placed
+  pub is_kept : KeepsPlaced k placed
   pub whole : (before ++ placed ∷ []) ++ rest ≡ all
   pub keeps : AllZip KeepsPlaced (drop (at + 1) kept) rest
 
-next_of : (kept : List kept_placed.Placed) (at : ℕ) (before after all : List Placed) (k : kept_placed.Placed) (ks : List kept_placed.Placed) → k ≡ get_or kept at no_placed → ks ≡ drop (at + 1) kept →
-    before ++ after ≡ all → AllZip KeepsPlaced (k ∷ ks) after → Next kept at before after all
-next_of kept at before [] all k ks e f whole h = absurd h
-next_of kept at before (p ∷ ps) all k ks e f whole h =
-    record {
-      placed = p;
-      rest = ps;
-      is_next = refl;
-      is_kept = subst (λ (k : kept_placed.Placed). KeepsPlaced k p) e h.0;
-      whole = append_assoc before (p ∷ []) ps ∙ whole;
-      keeps = subst (λ (ks : List kept_placed.Placed). AllZip KeepsPlaced ks ps) f h.1;
-    }
+next_of : (kept : List kept_placed.Placed) (at : ℕ) (k : kept_placed.Placed) (before after all : List Placed) → before ++ after ≡ all → AllZip KeepsPlaced (k ∷ drop (at + 1) kept) after → Next kept at k before after all
+next_of kept at k before [] all whole h = absurd h
+next_of kept at k before (p ∷ ps) all whole h = record {
+  placed = p;
+  rest = ps;
+  is_next = refl;
+  is_kept = h.0;
+  whole = append_assoc before (p ∷ []) ps ∙ whole;
+  keeps = h.1;
+}
 
-pub next : (kept : List kept_placed.Placed) (at : ℕ) (all : List Placed) → at < length kept → (t : Through kept at all) → Next kept at t.before t.after all
-next kept at all h t =
-    next_of kept at t.before t.after all (get_or kept at no_placed) (drop (at + 1) kept) refl refl t.whole
-    (subst (λ (ks : List kept_placed.Placed). AllZip KeepsPlaced ks t.after) (drop_more kept at no_placed h) t.keeps)
+pub next : (kept : List kept_placed.Placed) (at : ℕ) (k : kept_placed.Placed) (all : List Placed) → at < length kept → k ≡ get_or kept at k → (t : Through kept at all) → Next kept at k t.before t.after all
+next kept at k all h e t =
+    next_of kept at k t.before t.after all t.whole
+    (subst (λ (ks : List kept_placed.Placed). AllZip KeepsPlaced ks t.after) (drop_more kept at k h ∙ ap (λ (x : kept_placed.Placed). x ∷ drop (at + 1) kept) (sym e)) t.keeps)
 
 nothing_left : (ks : List kept_placed.Placed) (after : List Placed) → ks ≡ [] → AllZip KeepsPlaced ks after → after ≡ []
 nothing_left [] [] e h = refl
@@ -121,9 +115,9 @@ through_all kept at all h t =
 pub fault_first : (named : List Named) (p : Placed) (s : says.Statement) (x y : Option AsmKind) → p.reading ≡ says.Says s →
     x ≡ first_of (fault_if (not (is_in_range named (address p) s)) Range) → y ≡ first_of p.faults → either x y ≡ first_of (faults_of named p)
 fault_first named p s x y is e f =
-    let ranged : says.Reading → List AsmKind = λ r. flat_map (λ s. fault_if (not (is_in_range named (address p) s)) Range) (option_to_list (said r)) in
+    let ranged : says.StatementReading → List AsmKind = λ r. flat_map (λ s. fault_if (not (is_in_range named (address p) s)) Range) (option_to_list (said r)) in
     let own : List AsmKind = fault_if (not (is_in_range named (address p) s)) Range in
-    let one : first_of (ranged p.reading) ≡ first_of own = ap (λ (r : says.Reading). first_of (ranged r)) is ∙ ap first_of (append-nil own) in
+    let one : first_of (ranged p.reading) ≡ first_of own = ap (λ (r : says.StatementReading). first_of (ranged r)) is ∙ ap first_of (append-nil own) in
     sym (first_of_append (ranged p.reading) p.faults ∙ ap (λ (o : Option AsmKind). either o (first_of p.faults)) (one ∙ sym e) ∙ ap (either x) (sym f))
 
 pub told_more : (named : List Named) (before : List Placed) (p : Placed) (found : Option Fault) (line : ℕ) (kind : Option AsmKind) → found ≡ first_fault (flat_map (faults_at named) before) →

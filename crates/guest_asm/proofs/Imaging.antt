@@ -14,17 +14,17 @@ use Rattle.guest_asm.specs.declared.places.Placed as kept_placed
 use Rattle.guest_asm.proofs.FaultLists.{Next, Through}
 use Rattle.guest_asm.proofs.Wording.{read_word}
 
-pub encodable : (named : List Named) (p : Placed) (text : List ℕ) (s : says.Statement) (from to : ℕ) → p.reading ≡ reading text → reading text ≡ says.Says s → IsSoundAt named p →
+pub encodable : (named : List Named) (p : Placed) (text : List ℕ) (s : says.Statement) (from to : ℕ) → p.reading ≡ reading text → p.reading ≡ says.Says s → IsSoundAt named p →
     from ≡ address p → to ≡ unwrap_or (target named s) 0 → IsEncodable s from to
 encodable named p text s from to is told sound e f =
-    let fits = sound s (is ∙ told) in
-    let here : IsEncodable s (address p) (unwrap_or (target named s) 0) = record { fields = fits.fields; reached = fits.reached; word = read_word text s told } in
+    let fits = sound s told in
+    let here : IsEncodable s (address p) (unwrap_or (target named s) 0) = record { fields = fits.fields; reached = fits.reached; word = read_word text s (sym is ∙ told) } in
     subst (λ (n : ℕ). IsEncodable s n to) (sym e) (subst (λ (n : ℕ). IsEncodable s (address p) n) (sym f) here)
 
 pub statement_bytes_said : (named : List Named) (p : Placed) (s : says.Statement) (from to : ℕ) → p.reading ≡ says.Says s → from ≡ address p → to ≡ unwrap_or (target named s) 0 →
     bytes s from to ≡ statement_bytes named p
 statement_bytes_said named p s from to is e f =
-    let all : says.Reading → List ℕ = λ r. flat_map (λ s. bytes s (address p) (unwrap_or (target named s) 0)) (option_to_list (said r)) in
+    let all : says.StatementReading → List ℕ = λ r. flat_map (λ s. bytes s (address p) (unwrap_or (target named s) 0)) (option_to_list (said r)) in
     ap (λ (n : ℕ). bytes s n to) e ∙ ap (λ (n : ℕ). bytes s (address p) n) f
     ∙ sym (ap all is ∙ append-nil (bytes s (address p) (unwrap_or (target named s) 0)))
 
@@ -44,11 +44,11 @@ sound_next : (named : List Named) (after : List Placed) (p : Placed) (rest : Lis
 sound_next named after p rest e h =
     let both = subst (AllByRecursion (IsSoundAt named)) e h in (both.0, both.1)
 
-pub sound_here : (kept : List kept_placed.Placed) (at : ℕ) (all after : List Placed) (before : List Placed) → (n : Next kept at before after all) → AllByRecursion (IsSoundAt (places all)) after → IsSoundAt (places all) n.placed
-sound_here kept at all after before n h = (sound_next (places all) after n.placed n.rest n.is_next h).0
+pub sound_here : (kept : List kept_placed.Placed) (at : ℕ) (k : kept_placed.Placed) (all after before : List Placed) → (n : Next kept at k before after all) → AllByRecursion (IsSoundAt (places all)) after → IsSoundAt (places all) n.placed
+sound_here kept at k all after before n h = (sound_next (places all) after n.placed n.rest n.is_next h).0
 
-pub sound_rest : (kept : List kept_placed.Placed) (at : ℕ) (all after : List Placed) (before : List Placed) → (n : Next kept at before after all) → AllByRecursion (IsSoundAt (places all)) after → AllByRecursion (IsSoundAt (places all)) n.rest
-sound_rest kept at all after before n h = (sound_next (places all) after n.placed n.rest n.is_next h).1
+pub sound_rest : (kept : List kept_placed.Placed) (at : ℕ) (k : kept_placed.Placed) (all after before : List Placed) → (n : Next kept at k before after all) → AllByRecursion (IsSoundAt (places all)) after → AllByRecursion (IsSoundAt (places all)) n.rest
+sound_rest kept at k all after before n h = (sound_next (places all) after n.placed n.rest n.is_next h).1
 
 pub bytes_more : (named : List Named) (before : List Placed) (p : Placed) (old middle new : List ℕ) → middle ≡ old ++ flat_map (statement_bytes named) before →
     new ≡ middle ++ statement_bytes named p → new ≡ old ++ flat_map (statement_bytes named) (before ++ p ∷ [])

@@ -8,7 +8,7 @@ use Rattle.arn_base.specs.Window.{bytes_of}
 use Rattle.rv64_isa.specs.Encoded.{word_of}
 use Rattle.rv64_isa.specs.declared.instruction.Instr.{Instr}
 use Rattle.asm_text.specs.Names.{Named}
-use Rattle.asm_text.specs.Statements.{Statement, Reading, Says, Wrong, Nothing, Label, Lui, Auipc, Jal, Jalr, Branch, Load, Store, Imm, Plain, Address, Bytes, Zeros}
+use Rattle.asm_text.specs.Statements.{Statement, StatementReading, Says, Wrong, Nothing, Label, Lui, Auipc, Jal, Jalr, Branch, Load, Store, Imm, Plain, Address, Bytes, Zeros}
 use Rattle.asm_text.specs.declared.fault.AsmKind.TheVariants as kind
 use Rattle.guest_asm.specs.Meanings.{bytes, code, has_fields, most_bytes, size}
 use Rattle.guest_asm.specs.Assembled.{Item, Placed, address, all_faults, body, earlier_then, fault_of, items, labels, place_faults, placed, placed_from, places, said, statement_bytes, taken, target}
@@ -48,7 +48,7 @@ length-bytes (Bytes numbers) from to h = length-map numbers unsigned_abs
 length-bytes (Zeros n) from to h = length-replicate (unsigned_abs n) 0 ∙ ap (λ b. if b then unsigned_abs n else 0) (sym h)
 
 -- a sound statement has as many bytes as it takes
-length-said : (named : List Named) (p : Placed) (r : Reading) → p.reading ≡ r → IsSoundAt named p →
+length-said : (named : List Named) (p : Placed) (r : StatementReading) → p.reading ≡ r → IsSoundAt named p →
     length (flat_map (λ s. bytes s (address p) (unwrap_or (target named s) 0)) (option_to_list (said r))) ≡ taken [] r
 length-said named p (Wrong kind) is sound = refl
 length-said named p (Says s) is sound =
@@ -64,7 +64,7 @@ said_within : (known earlier : List (List ℕ)) (offset : ℕ) (s : Statement) �
 said_within known earlier offset s none =
     ltb-false most_bytes (offset + size s) (no_fault_if (nat_lt most_bytes (offset + size s)) kind.Size (second_empty _ _ none))
 
-within : (known earlier : List (List ℕ)) (offset : ℕ) (r : Reading) → place_faults known earlier offset r ≡ [] → offset + taken (place_faults known earlier offset r) r ≤ most_bytes
+within : (known earlier : List (List ℕ)) (offset : ℕ) (r : StatementReading) → place_faults known earlier offset r ≡ [] → offset + taken (place_faults known earlier offset r) r ≤ most_bytes
 within known earlier offset (Wrong kind) none = cc
 within known earlier offset (Says s) none =
     subst (λ faults. offset + taken faults (Says s) ≤ most_bytes) (sym none) (said_within known earlier offset s none)

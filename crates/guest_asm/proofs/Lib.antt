@@ -1,6 +1,7 @@
 pub mod Parting
 pub mod Naming
-pub mod Listing
+mod Itemizing
+mod Listing
 pub mod Sizes
 pub mod Pushing
 pub mod Coding

@@ -1,16 +1,18 @@
 -- Labels by their names.
-use Rattle.std.proofs.Common.{◌≡◌, ℕ, List, [], ◌∷◌, ◌++◌, Option, Some, None, refl, Bool, true, false, cond, option_map, is_some, ◌||◌, ap, sym, subst, ◌∙◌, append_assoc, append-nil, ◌<◌, ◌≤◌, ◌+◌, length, drop, get_or}
+use Rattle.std.proofs.Common.{◌≡◌, ℕ, List, [], ◌∷◌, ◌++◌, Option, Some, None, refl, Bool, true, false, cond, option_map, is_some, ◌||◌, ap, sym, subst, ◌∙◌, append_assoc, append-nil, ◌<◌, ◌≤◌, ◌+◌, length, drop, get_or, zero, suc, arith}
 use Rattle.std.specs.Prelude.{option_to_list}
 use Rattle.std.proofs.lemmas.List.{map-append, at_drop_more, at_drop_all}
-use Rattle.guest_asm.specs.Kept.{item_of, names_of, defined_at, HasPlaces, Knows}
-use Rattle.asm_text.specs.Statements.{Reading, reading}
+use Rattle.std.proofs.lemmas.Slice.Zip.{AllZip-long}
+use Rattle.guest_asm.specs.Kept.{names_of, defined_at, HasPlaces, KeepsItem, Knows}
+use Rattle.asm_text.specs.Statements.{StatementReading, Wrong}
+use Rattle.asm_text.specs.declared.fault.AsmKind.TheVariants.{Word}
 use Rattle.guest_asm.specs.declared.items.Item as kept_item
 use Rattle.guest_asm.specs.declared.labels.Labels.{Labels}
 use Rattle.std.proofs.lemmas.Slice.Eq.{bytes_eq-Decides}
-use Rattle.std.specs.List.{find}
+use Rattle.std.specs.List.{find, AllZip}
 use Rattle.std.specs.Prelude.{bytes_eq, map}
 use Rattle.asm_text.specs.Names.{Named, number_by}
-use Rattle.guest_asm.specs.Assembled.{is_among, labels, defined_label}
+use Rattle.guest_asm.specs.Assembled.{Item, is_among, labels, defined_label}
 
 -- what one more definition tells of a name
 pub number_by_more : (named : List Named) (n : Named) (name : List ℕ) →
@@ -65,28 +67,40 @@ knows_places labels named h = λ name. ap is_some (h name) ∙ among_named named
 pub names_both : (xs ys : List Named) → names_of (xs ++ ys) ≡ names_of xs ++ names_of ys
 names_both xs ys = map-append (λ n. n.name) xs ys
 
-pub names_defined : (address : ℕ) (r : Reading) → names_of (defined_at address r) ≡ option_to_list (defined_label r)
+pub names_defined : (address : ℕ) (r : StatementReading) → names_of (defined_at address r) ≡ option_to_list (defined_label r)
 names_defined address r = elim (defined_label r) as (λ o. names_of (map (λ name. record { name = name; number = address }) (option_to_list o)) ≡ option_to_list o) [ None ↦ refl | Some name ↦ refl ]
 
 -- the names behind a statement
-pub names_more : (named : List Named) (address : ℕ) (r : Reading) → names_of (named ++ defined_at address r) ≡ names_of named ++ option_to_list (defined_label r)
+pub names_more : (named : List Named) (address : ℕ) (r : StatementReading) → names_of (named ++ defined_at address r) ≡ names_of named ++ option_to_list (defined_label r)
 names_more named address r = map-append (λ n. n.name) named (defined_at address r) ∙ ap (λ (ns : List (List ℕ)). names_of named ++ ns) (names_defined address r)
 
--- the item that stands where none does
-abbrev pub no_item : kept_item.Item
-no_item = record { line = 0; text = record { ref_ptr = (0, 0); now = [] } }
+-- what stands where there is no item
+abbrev pub no_item : Item
+no_item = record { line = 0; reading = Wrong Word }
 
-pub labels_more : (items : List kept_item.Item) (at : ℕ) (named : List Named) (address : ℕ) → at < length items →
-    names_of named ++ labels (map item_of (drop at items)) ≡ labels (map item_of items) →
-    names_of (named ++ defined_at address (reading (get_or items at no_item).text.now)) ++ labels (map item_of (drop (at + 1) items)) ≡ labels (map item_of items)
-labels_more items at named address h so_far =
-    let r = reading (get_or items at no_item).text.now in
-    let rest = labels (map item_of (drop (at + 1) items)) in
+-- the item that is kept at a place
+pub kept_at : (items : List kept_item.Item) (is : List Item) (at : ℕ) (kept : kept_item.Item) → AllZip KeepsItem items is → at < length items → kept ≡ get_or items at kept → KeepsItem kept (get_or is at no_item)
+kept_at [] is at kept keeps h e = let no : ⊥ = omega arith in absurd no
+kept_at (k ∷ items) [] at kept keeps h e = absurd keeps
+kept_at (k ∷ items) (i ∷ is) zero kept keeps h e = subst (λ (k : kept_item.Item). KeepsItem k i) (sym e) keeps.0
+kept_at (k ∷ items) (i ∷ is) (suc at) kept keeps h e = kept_at items is at kept keeps.1 (omega arith) e
+
+-- both lists go on, and end, at one place
+pub goes_on : (items : List kept_item.Item) (is : List Item) (at : ℕ) → AllZip KeepsItem items is → at < length items → at < length is
+goes_on items is at keeps h = subst (λ (n : ℕ). at < n) (sym (AllZip-long KeepsItem items is keeps)) h
+
+pub ends : (items : List kept_item.Item) (is : List Item) (at : ℕ) → AllZip KeepsItem items is → length items ≤ at → length is ≤ at
+ends items is at keeps h = subst (λ (n : ℕ). n ≤ at) (sym (AllZip-long KeepsItem items is keeps)) h
+
+pub labels_more : (is : List Item) (at : ℕ) (named : List Named) (address : ℕ) → at < length is → names_of named ++ labels (drop at is) ≡ labels is →
+    names_of (named ++ defined_at address (get_or is at no_item).reading) ++ labels (drop (at + 1) is) ≡ labels is
+labels_more is at named address h so_far =
+    let r = (get_or is at no_item).reading in
+    let rest = labels (drop (at + 1) is) in
     ap (λ (ns : List (List ℕ)). ns ++ rest) (names_more named address r) ∙ append_assoc (names_of named) (option_to_list (defined_label r)) rest
-    ∙ ap (λ (ns : List (List ℕ)). names_of named ++ ns) (sym (at_drop_more (λ (is : List kept_item.Item). labels (map item_of is)) items at no_item h))
+    ∙ ap (λ (ns : List (List ℕ)). names_of named ++ ns) (sym (at_drop_more labels is at no_item h))
     ∙ so_far
 
-pub labels_end : (items : List kept_item.Item) (at : ℕ) (named : List Named) → length items ≤ at →
-    names_of named ++ labels (map item_of (drop at items)) ≡ labels (map item_of items) → names_of named ≡ labels (map item_of items)
-labels_end items at named h so_far =
-    sym (append-nil (names_of named)) ∙ ap (λ (ns : List (List ℕ)). names_of named ++ ns) (sym (at_drop_all (λ (is : List kept_item.Item). labels (map item_of is)) items at h)) ∙ so_far
+pub labels_end : (is : List Item) (at : ℕ) (named : List Named) → length is ≤ at → names_of named ++ labels (drop at is) ≡ labels is → names_of named ≡ labels is
+labels_end is at named h so_far =
+    sym (append-nil (names_of named)) ∙ ap (λ (ns : List (List ℕ)). names_of named ++ ns) (sym (at_drop_all labels is at h)) ∙ so_far

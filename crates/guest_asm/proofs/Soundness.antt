@@ -1,11 +1,12 @@
 -- Statements among which no fault is found are sound.
-use Rattle.std.proofs.Common.{◌≡◌, ◌++◌, ◌+◌, ℕ, List, [], ◌∷◌, Option, Some, None, Bool, true, false, not, is_some, refl, ap, subst, ◌∙◌, map}
+use Rattle.std.proofs.Common.{◌≡◌, ◌++◌, ◌+◌, ℕ, List, [], ◌∷◌, Option, Some, None, Bool, true, false, not, is_some, refl, ap, sym, subst, ◌∙◌, map}
 use Rattle.std.specs.Prelude.{option_to_list, option_and_then, unwrap_or}
-use Rattle.std.specs.List.{flat_map, AllByRecursion}
+use Rattle.std.specs.List.{flat_map, AllByRecursion, AllZip}
 use Rattle.guest_asm.specs.Assembled.{Fault, Item, Placed, address, all_faults, defined_label, earlier_then, fault_if, faults_of, first_fault, is_among, is_in_range, items, label_faults, labels, place_faults, placed, placed_from, places, reaches_if, said, taken, target}
-use Rattle.guest_asm.specs.Kept.{item_of, names_of, defined_at, Stands}
+use Rattle.guest_asm.specs.Kept.{names_of, defined_at, KeepsItem, Knows, Stands}
 use Rattle.guest_asm.specs.declared.items.Item as kept_item
 use Rattle.guest_asm.specs.declared.places.Layout.{Layout}
+use Rattle.guest_asm.specs.declared.labels.Labels.{Labels}
 use Rattle.guest_asm.specs.Meanings.{has_fields, named_label, reaches}
 use Rattle.asm_text.specs.Names.{Named, number_by}
 use Rattle.guest_asm.specs.Sound.{IsSound, IsSoundAt}
@@ -55,9 +56,9 @@ each_faultless named (p ∷ ps) e = (
 abbrev pub NamesKnown : List (List ℕ) → Placed → Type 0
 NamesKnown names p = p.faults ≡ [] → (s : says.Statement) → p.reading ≡ says.Says s → (name : List ℕ) → named_label s ≡ Some name → is_among names name ≡ true
 
-known_if : (names earlier : List (List ℕ)) (offset : ℕ) (r : says.Reading) → place_faults names earlier offset r ≡ [] → (s : says.Statement) → r ≡ says.Says s → (name : List ℕ) → named_label s ≡ Some name → is_among names name ≡ true
+known_if : (names earlier : List (List ℕ)) (offset : ℕ) (r : says.StatementReading) → place_faults names earlier offset r ≡ [] → (s : says.Statement) → r ≡ says.Says s → (name : List ℕ) → named_label s ≡ Some name → is_among names name ≡ true
 known_if names earlier offset r e s is name named =
-    let here : place_faults names earlier offset (says.Says s) ≡ [] = subst (λ (r : says.Reading). place_faults names earlier offset r ≡ []) is e in
+    let here : place_faults names earlier offset (says.Says s) ≡ [] = subst (λ (r : says.StatementReading). place_faults names earlier offset r ≡ []) is e in
     let labelled : label_faults names earlier s ≡ [] = first_empty _ _ (first_empty _ _ here) in
     let unknown : List ℕ → List AsmKind = λ name. fault_if (not (is_among names name)) Label in
     let mine : flat_map unknown (option_to_list (named_label s)) ≡ [] = first_empty _ _ labelled in
@@ -108,10 +109,10 @@ reached named s from (Some name) e known h = reached_named s from (number_by nam
 
 sound_at : (names : List (List ℕ)) (named : List Named) → names_of named ≡ names → (p : Placed) → Faultless named p → NamesKnown names p → IsSoundAt named p
 sound_at names named same p none known s is =
-    let ranged : says.Reading → List AsmKind = λ r. flat_map (λ s. fault_if (not (is_in_range named (address p) s)) Range) (option_to_list (said r)) in
+    let ranged : says.StatementReading → List AsmKind = λ r. flat_map (λ s. fault_if (not (is_in_range named (address p) s)) Range) (option_to_list (said r)) in
     let first : ranged p.reading ≡ [] = first_empty (ranged p.reading) p.faults none in
     let no_fault : p.faults ≡ [] = second_empty (ranged p.reading) p.faults none in
-    let mine : ranged (says.Says s) ≡ [] = subst (λ (r : says.Reading). ranged r ≡ []) is first in
+    let mine : ranged (says.Says s) ≡ [] = subst (λ (r : says.StatementReading). ranged r ≡ []) is first in
     let inside : is_in_range named (address p) s ≡ true =
     not_false _ (no_fault_if (not (is_in_range named (address p) s)) Range (first_empty (fault_if (not (is_in_range named (address p) s)) Range) [] mine)) in
     let both = both_true (has_fields s) (reaches_if s (address p) (target named s)) inside in
@@ -134,7 +135,9 @@ sound is e =
     (each_faultless (places all) all (no_first_fault (all_faults all) e)) (all_known (labels is) [] 0 is)
 
 -- the statements of a text stand at their places
-pub stands_placed : (layout : Layout) (text : List ℕ) (kept slice : List kept_item.Item) → slice ≡ kept → map item_of kept ≡ items text →
-    Stands layout (placed_from (labels (map item_of slice)) [] 0 (map item_of slice)) → Stands layout (placed text)
-stands_placed layout text kept slice e f h =
-    subst (λ (is : List Item). Stands layout (placed_from (labels is) [] 0 is)) (ap (map item_of) e ∙ f) h
+pub stands_placed : (layout : Layout) (known : Labels) (text : List ℕ) (kept first second : List kept_item.Item) → first ≡ kept → second ≡ kept → AllZip KeepsItem kept (items text) →
+    ((is : List Item) → AllZip KeepsItem first is → Knows known (labels is)) →
+    ((is : List Item) → AllZip KeepsItem second is → Knows known (labels is) → Stands layout (placed_from (labels is) [] 0 is)) → Stands layout (placed text)
+stands_placed layout known text kept first second e f keeps knows stands =
+    let keeps_items : List kept_item.Item → Type 0 = λ ks. AllZip KeepsItem ks (items text) in
+    stands (items text) (subst keeps_items (sym f) keeps) (knows (items text) (subst keeps_items (sym e) keeps))

@@ -5,7 +5,7 @@ use Rattle.std.specs.Prelude.{ℤ}
 use Rattle.guest_asm.specs.Encodable.{HasWord}
 use Rattle.asm_text.specs.Names.{is_label, register_of}
 use Rattle.asm_text.specs.Numbers.{number_of}
-use Rattle.asm_text.specs.Statements.{Statement, Reading, Says, Wrong, Label, Jal, Bytes, Zeros, alone, by_form, counted, defined, form_of, formed, jumped, label_of, listed, moved, numbers_of, offset_of, operands, reading, reading_or, with_label, with_number, with_offset, with_third, with_two, worded}
+use Rattle.asm_text.specs.Statements.{Statement, StatementReading, Says, Wrong, Label, Jal, Bytes, Zeros, alone, by_form, counted, defined, form_of, formed, jumped, label_of, listed, moved, numbers_of, offset_of, operands, reading, reading_or, with_label, with_number, with_offset, with_third, with_two, worded}
 use Rattle.asm_text.specs.declared.form.Form.{Form}
 use Rattle.asm_text.specs.declared.form.Form.TheVariants as form
 use Rattle.asm_text.specs.declared.fault.AsmKind.TheVariants as kind
@@ -93,7 +93,7 @@ formed_word form.La texts = label_word _ (λ r l. tt) texts
 formed_word form.Byte texts = listed_word texts
 formed_word form.Zero texts = counted_word texts
 
-abbrev ReadsWord : Reading → Type 0
+abbrev ReadsWord : StatementReading → Type 0
 ReadsWord (Says s) = HasWord s
 ReadsWord (Wrong kind) = Unit {0}
 
@@ -108,7 +108,7 @@ by_form_word (Some f) rest = or_word (formed f (operands rest)) (formed_word f (
 worded_word : (text : List ℕ) → ReadsWord (worded text)
 worded_word text = by_form_word (form_of (before is_blank text)) (skip_blanks (drop (length (before is_blank text)) text))
 
-choose_word : (b : Bool) (r q : Reading) → ReadsWord r → ReadsWord q → ReadsWord (if b then r else q)
+choose_word : (b : Bool) (r q : StatementReading) → ReadsWord r → ReadsWord q → ReadsWord (if b then r else q)
 choose_word true r q h k = h
 choose_word false r q h k = k
 

@@ -9,13 +9,13 @@ use Rattle.asm_text.specs.declared.fault.AsmKind.TheVariants.{Word, Operand, Ran
 use Rattle.asm_text.specs.Characters.{lines, statements}
 use Rattle.asm_text.specs.Names.{Named, number_by}
 use Rattle.asm_text.specs.Statements as says
-use Rattle.asm_text.specs.Statements.{Statement, Reading, Says, Wrong, reading}
+use Rattle.asm_text.specs.Statements.{Statement, StatementReading, Says, Wrong, reading}
 use Rattle.guest_asm.specs.Meanings.{bytes, has_fields, is_code, most_bytes, named_label, reaches, size}
 
 -- a statement of the text, and the number of its line
 pub record Item : Type 0 where
   pub line : ℕ
-  pub reading : Reading
+  pub reading : StatementReading
 
 -- the statements of lines, of which the first has this number
 abbrev pub items_from : ℕ → List (List ℕ) → List Item
@@ -27,7 +27,7 @@ abbrev pub items : List ℕ → List Item
 items text = items_from 1 (lines text)
 
 -- the label that is defined, if one is
-abbrev pub defined_label : Reading → Option (List ℕ)
+abbrev pub defined_label : StatementReading → Option (List ℕ)
 defined_label (Says (says.Label name)) = Some name
 defined_label other = None
 
@@ -49,7 +49,7 @@ label_faults known earlier s =
     ++ flat_map (λ name. fault_if (is_among earlier name) Label) (option_to_list (defined_label (Says s)))
 
 -- the faults by which a statement takes no place at an offset
-abbrev pub place_faults : List (List ℕ) → List (List ℕ) → ℕ → Reading → List AsmKind
+abbrev pub place_faults : List (List ℕ) → List (List ℕ) → ℕ → StatementReading → List AsmKind
 place_faults known earlier offset (Wrong kind) = kind ∷ []
 place_faults known earlier offset (Says s) =
     label_faults known earlier s
@@ -60,17 +60,17 @@ place_faults known earlier offset (Says s) =
 pub record Placed : Type 0 where
   pub line : ℕ
   pub offset : ℕ
-  pub reading : Reading
+  pub reading : StatementReading
   pub faults : List AsmKind
 
 -- how many bytes a statement takes
-abbrev pub taken : List AsmKind → Reading → ℕ
+abbrev pub taken : List AsmKind → StatementReading → ℕ
 taken (kind ∷ kinds) r = 0
 taken [] (Wrong kind) = 0
 taken [] (Says s) = size s
 
 -- the labels behind a statement
-abbrev pub earlier_then : List (List ℕ) → Reading → List (List ℕ)
+abbrev pub earlier_then : List (List ℕ) → StatementReading → List (List ℕ)
 earlier_then earlier r = earlier ++ option_to_list (defined_label r)
 
 -- statements one behind the other, from an offset on
@@ -94,7 +94,7 @@ abbrev pub places : List Placed → List Named
 places all = flat_map (λ p. map (λ name. record { name = name; number = address p }) (option_to_list (defined_label p.reading))) all
 
 -- the statement that is read, if one is
-abbrev pub said : Reading → Option Statement
+abbrev pub said : StatementReading → Option Statement
 said (Says s) = Some s
 said (Wrong kind) = None
 

@@ -1,7 +1,7 @@
 -- The first kind of several faults.
 use Rattle.std.specs.Prelude.{◌≡◌, ℕ, Result, Ok, Err, List, [], ◌∷◌, Option, Some, None}
 use Rattle.guest_asm.specs.Assembled.{first_kind, taken}
-use Rattle.asm_text.specs.Statements.{Reading}
+use Rattle.asm_text.specs.Statements.{StatementReading}
 use Rattle.asm_text.specs.declared.fault.AsmKind.{AsmKind}
 
 -- the first of the kinds that there are
@@ -16,6 +16,6 @@ first_of [] = None
 first_of (kind ∷ kinds) = either (Some kind) (first_of kinds)
 
 -- a statement with these faults takes so many bytes, or this is its first fault
-abbrev pub Takes : Result ℕ AsmKind → Reading → List AsmKind → Type 0
+abbrev pub Takes : Result ℕ AsmKind → StatementReading → List AsmKind → Type 0
 Takes (Ok n) r faults = (faults ≡ []) × (n ≡ taken [] r)
 Takes (Err kind) r faults = first_of faults ≡ Some kind

@@ -3,8 +3,8 @@ use Rattle.std.specs.Prelude.{◌≡◌, ℕ, List, Option, is_some, map, option
 use Rattle.std.specs.List.{AllZip}
 use Rattle.guest_asm.specs.Assembled.{Item, Placed, is_among, place_faults, places, defined_label}
 use Rattle.guest_asm.specs.First.{first_of}
-use Rattle.asm_text.specs.Statements.{reading}
-use Rattle.asm_text.specs.Statements.{Reading}
+use Rattle.asm_text.specs.Seen.{KeepsReading}
+use Rattle.asm_text.specs.Statements.{StatementReading, reading}
 use Rattle.guest_asm.specs.declared.items.Item as kept_item
 use Rattle.guest_asm.specs.declared.places.Placed as kept_placed
 use Rattle.guest_asm.specs.declared.places.Layout.{Layout}
@@ -22,9 +22,11 @@ address_in labels name = tree.get_by (λ k. slice_cmp nat_cmp name k.now) labels
 abbrev pub HasPlaces : Labels → List Named → Type 0
 HasPlaces labels named = (name : List ℕ) → address_in labels name ≡ number_by named name
 
--- the statement that is kept as its text
-abbrev pub item_of : kept_item.Item → Item
-item_of kept = record { line = kept.line; reading = reading kept.text.now }
+-- the statement is kept as it is read, and it is read from a text
+pub record KeepsItem (kept : kept_item.Item) (i : Item) : Type 0 where
+  pub line : i.line ≡ kept.line
+  pub reads : KeepsReading kept.reading i.reading
+  pub text : (text : List ℕ) × (i.reading ≡ reading text)
 
 -- the labels are those of these names
 abbrev pub Knows : Labels → List (List ℕ) → Type 0
@@ -35,7 +37,7 @@ abbrev pub names_of : List Named → List (List ℕ)
 names_of named = map (λ n. n.name) named
 
 -- the definition that a statement at an address is, if it is one
-abbrev pub defined_at : ℕ → Reading → List Named
+abbrev pub defined_at : ℕ → StatementReading → List Named
 defined_at address r = map (λ name. record { name = name; number = address }) (option_to_list (defined_label r))
 
 -- a statement at an offset, behind labels that are defined
@@ -44,8 +46,7 @@ placed_at known earlier offset i = record { line = i.line; offset = offset; read
 
 -- the statement at its offset is kept so
 pub record KeepsPlaced (kept : kept_placed.Placed) (p : Placed) : Type 0 where
-  pub line : p.line ≡ kept.item.line
-  pub reading : p.reading ≡ reading kept.item.text.now
+  pub item : KeepsItem kept.item.now (record { line = p.line; reading = p.reading })
   pub offset : p.offset ≡ kept.offset
   pub fault : kept.fault ≡ first_of p.faults
 

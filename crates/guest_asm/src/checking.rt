@@ -14,7 +14,7 @@ use crate::faults::{either, fault_if, first_kind};
 use crate::labels::Labels;
 use crate::meanings::{has_fields, named_label, reaches};
 use crate::places::{Layout, Placed};
-use asm_text::{AsmKind, Reading, Statement, read};
+use asm_text::{AsmKind, Statement, StatementReading};
 use parts_model::limits::WINDOW_START;
 
 /// A fault of a line.
@@ -71,12 +71,12 @@ fn fault_at(labels: &Labels<'_>, placed: &Placed<'_>) -> Option<AsmKind>
         HasPlaces labels.now named → KeepsPlaced placed.now p →
         result ≡ first_of (assembled.faults_of named p) }
 {
-    match read(placed.item.text) {
-        Reading::Says(statement) => either(
-            range_fault(labels, placed.offset, &statement),
+    match &placed.item.reading {
+        StatementReading::Says(statement) => either(
+            range_fault(labels, placed.offset, statement),
             placed.fault,
         ),
-        Reading::Wrong(_) => placed.fault,
+        StatementReading::Wrong(_) => placed.fault,
     }
 }
 

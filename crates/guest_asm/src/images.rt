@@ -12,7 +12,7 @@ use crate::encoding::{push_number, push_statement};
 use crate::labels::Labels;
 use crate::places::{Layout, Placed};
 use arn_base::{Bytes, NoMemory};
-use asm_text::{Reading, Statement, read};
+use asm_text::{Statement, StatementReading};
 use parts_model::limits::WINDOW_START;
 use std::alloc::Global;
 
@@ -40,12 +40,12 @@ fn push_placed(bytes: &mut Bytes, labels: &Labels<'_>, placed: &Placed<'_>) -> R
         HasPlaces labels.now named → KeepsPlaced placed.now p → IsSoundAt named p →
         bytes.new ≡ bytes.old ++ assembled.statement_bytes named p) }
 {
-    match read(placed.item.text) {
-        Reading::Says(statement) => {
-            let to = label_address(labels, &statement);
-            push_statement(bytes, &statement, address(placed.offset), to)?;
+    match &placed.item.reading {
+        StatementReading::Says(statement) => {
+            let to = label_address(labels, statement);
+            push_statement(bytes, statement, address(placed.offset), to)?;
         }
-        Reading::Wrong(_) => {}
+        StatementReading::Wrong(_) => {}
     }
     Ok(())
 }

@@ -1,12 +1,14 @@
 // Labels, and where they stand.
-ghost use Rattle.std.specs.Prelude.{◌≡◌, ℕ, ◌++◌, ◌∷◌, [], List, OnOk, IfOk, map, option_map};
+ghost use Rattle.std.specs.Prelude.{◌≡◌, ℕ, ◌++◌, ◌∷◌, [], List, OnOk, IfOk, option_map};
+ghost use Rattle.std.specs.List.{AllZip};
 ghost use Rattle.guest_asm.specs.Assembled as assembled;
-ghost use Rattle.guest_asm.specs.Kept.{item_of, Knows};
+ghost use Rattle.guest_asm.specs.Kept.{KeepsItem, Knows};
+ghost use Rattle.asm_text.specs.Seen.{KeepsReading};
 ghost use Rattle.asm_text.specs.Statements as says;
 
 use crate::items::Item;
 use arn_base::NoMemory;
-use asm_text::{Reading, Statement, read};
+use asm_text::{Statement, StatementReading};
 use std::alloc::Global;
 use std::collections::BTreeMap;
 
@@ -47,11 +49,16 @@ impl<'a> Labels<'a> {
     }
 
     // Adds the definition that a statement at an address is, if it is one.
-    pub(crate) fn define(&mut self, text: &'a [u8], address: u32) -> Result<(), NoMemory>
-        ensures { OnOk result ((named : List Named) → HasPlaces self.old named →
-            HasPlaces self.new (named ++ defined_at address (says.reading text.now))) }
+    pub(crate) fn define(
+        &mut self,
+        reading: &StatementReading<'a>,
+        address: u32,
+    ) -> Result<(), NoMemory>
+        ensures { OnOk result ((named : List Named) (r : says.StatementReading) →
+            HasPlaces self.old named → KeepsReading reading.now r →
+            HasPlaces self.new (named ++ defined_at address r)) }
     {
-        match defined_label(text) {
+        match defined_label(reading) {
             Some(name) => self.add(name, address)?,
             None => {}
         }
@@ -60,23 +67,24 @@ impl<'a> Labels<'a> {
 }
 
 // The label that a statement defines, if it does.
-pub(crate) fn defined_label(text: &[u8]) -> Option<&[u8]>
-    ensures { assembled.defined_label (says.reading text.now) ≡
-        option_map (λ name. name.now) result }
+pub(crate) fn defined_label<'a>(reading: &StatementReading<'a>) -> Option<&'a [u8]>
+    ensures { (r : says.StatementReading) → KeepsReading reading.now r →
+        assembled.defined_label r ≡ option_map (λ name. name.now) result }
 {
-    match read(text) {
-        Reading::Says(Statement::Label { name }) => Some(name),
+    match *reading {
+        StatementReading::Says(Statement::Label { name }) => Some(name),
         _ => None,
     }
 }
 
 /// The labels that are defined among statements.
 pub(crate) fn known_labels<'a>(alloc: Global, items: &[Item<'a>]) -> Result<Labels<'a>, NoMemory>
-    ensures { IfOk result (λ known. Knows known (assembled.labels (map item_of items.now))) }
+    ensures { IfOk result (λ known. (is : List assembled.Item) →
+        AllZip KeepsItem items.now is → Knows known (assembled.labels is)) }
 {
     let mut known = Labels::new(alloc);
     for item in items {
-        known.define(item.text, 0)?;
+        known.define(&item.reading, 0)?;
     }
     Ok(known)
 }

@@ -1,10 +1,10 @@
 // Statements at their offsets.
-ghost use Rattle.std.specs.Prelude.{◌≡◌, ◌≤◌, ◌+◌, ◌++◌, ◌∷◌, [], List, ℕ, Some, OnOk, IfOk, map};
+ghost use Rattle.std.specs.Prelude.{◌≡◌, ◌≤◌, ◌+◌, ◌++◌, ◌∷◌, [], List, ℕ, Some, OnOk, IfOk};
 ghost use Rattle.std.specs.Prelude.{not, nat_lt, ◌%◌, ◌==◌, ◌&&◌, option_to_list};
-ghost use Rattle.std.specs.List.{flat_map};
+ghost use Rattle.std.specs.List.{flat_map, AllZip};
 ghost use Rattle.guest_asm.specs.Assembled as assembled;
 ghost use Rattle.guest_asm.specs.First.{first_of, Takes};
-ghost use Rattle.guest_asm.specs.Kept.{item_of, names_of, placed_at, HasPlaces, Knows, Stands};
+ghost use Rattle.guest_asm.specs.Kept.{names_of, placed_at, HasPlaces, KeepsItem, Knows, Stands};
 ghost use Rattle.guest_asm.specs.Meanings as meanings;
 ghost use Rattle.asm_text.specs.Seen.{Keeps, KeepsReading};
 ghost use Rattle.asm_text.specs.Statements as says;
@@ -17,7 +17,7 @@ use crate::items::Item;
 use crate::labels::{Labels, defined_label};
 use crate::meanings::{is_code, named_label, size};
 use arn_base::NoMemory;
-use asm_text::{AsmKind, Reading, Statement, read};
+use asm_text::{AsmKind, Statement, StatementReading};
 use parts_model::limits::WINDOW_START;
 use std::alloc::Global;
 
@@ -27,7 +27,7 @@ pub(crate) const START: u32 = WINDOW_START as u32;
 /// A statement at its offset, and the first of the faults by which it takes no place.
 #[derive(Clone, Copy, Debug)]
 pub(crate) struct Placed<'a> {
-    pub(crate) item: Item<'a>,
+    pub(crate) item: &'a Item<'a>,
     pub(crate) offset: u32,
     pub(crate) fault: Option<AsmKind>,
 }
@@ -56,13 +56,14 @@ fn unknown_fault(known: &Labels<'_>, statement: &Statement<'_>) -> Option<AsmKin
 }
 
 // A label that is defined was so before.
-fn again_fault(earlier: &Labels<'_>, text: &[u8]) -> Option<AsmKind>
-    ensures { (names : List (List ℕ)) → Knows earlier.now names →
+fn again_fault(earlier: &Labels<'_>, reading: &StatementReading<'_>) -> Option<AsmKind>
+    ensures { (names : List (List ℕ)) (r : says.StatementReading) →
+        Knows earlier.now names → KeepsReading reading.now r →
         result ≡ first_of (flat_map
         (λ name. assembled.fault_if (assembled.is_among names name) kind.Label)
-        (option_to_list (assembled.defined_label (says.reading text.now)))) }
+        (option_to_list (assembled.defined_label r))) }
 {
-    match defined_label(text) {
+    match defined_label(reading) {
         Some(name) => fault_if(earlier.get(name).is_some(), AsmKind::Label),
         None => None,
     }
@@ -101,48 +102,56 @@ fn taken_by(label: Option<AsmKind>, offset: u32, statement: &Statement<'_>) -> R
 }
 
 // The same, among the labels.
-fn taken(known: &Labels<'_>, earlier: &Labels<'_>, offset: u32, text: &[u8]) -> Result<u32, AsmKind>
+fn taken(
+    known: &Labels<'_>,
+    earlier: &Labels<'_>,
+    offset: u32,
+    reading: &StatementReading<'_>,
+) -> Result<u32, AsmKind>
     requires { offset ≤ meanings.most_bytes }
     ensures room { IfOk result (λ n. offset + n ≤ meanings.most_bytes) }
-    ensures taken { (names before : List (List ℕ)) →
-        Knows known.now names → Knows earlier.now before →
-        Takes result (says.reading text.now)
-        (assembled.place_faults names before offset (says.reading text.now)) }
+    ensures taken { (names before : List (List ℕ)) (r : says.StatementReading) →
+        Knows known.now names → Knows earlier.now before → KeepsReading reading.now r →
+        Takes result r (assembled.place_faults names before offset r) }
 {
-    match read(text) {
-        Reading::Says(statement) => {
-            let label = either(unknown_fault(known, &statement), again_fault(earlier, text));
-            taken_by(label, offset, &statement)
+    match reading {
+        StatementReading::Says(statement) => {
+            let label = either(
+                unknown_fault(known, statement),
+                again_fault(earlier, reading),
+            );
+            taken_by(label, offset, statement)
         }
-        Reading::Wrong(kind) => Err(kind),
+        StatementReading::Wrong(kind) => Err(*kind),
     }
 }
 
 impl<'a> Layout<'a> {
     // Gives a statement its place.
-    fn place(&mut self, known: &Labels<'_>, item: Item<'a>) -> Result<(), NoMemory>
+    fn place(&mut self, known: &Labels<'_>, item: &'a Item<'a>) -> Result<(), NoMemory>
         requires { self.old.offset ≤ meanings.most_bytes }
         ensures room { OnOk result (self.new.offset ≤ meanings.most_bytes) }
-        ensures placed { OnOk result ((names : List (List ℕ)) (done : List assembled.Placed) →
-            Knows known.now names → Stands self.old done →
+        ensures placed { OnOk result ((names : List (List ℕ)) (done : List assembled.Placed)
+            (i : assembled.Item) →
+            Knows known.now names → Stands self.old done → KeepsItem item.now i →
             Stands self.new (done ++ placed_at names (names_of (assembled.places done))
-            self.old.offset (item_of item.entry) ∷ [])) }
-        ensures offset { OnOk result ((names : List (List ℕ)) (done : List assembled.Placed) →
-            Knows known.now names → Stands self.old done →
+            self.old.offset i ∷ [])) }
+        ensures offset { OnOk result ((names : List (List ℕ)) (done : List assembled.Placed)
+            (i : assembled.Item) →
+            Knows known.now names → Stands self.old done → KeepsItem item.now i →
             self.new.offset ≡ self.old.offset + assembled.taken
-            (placed_at names (names_of (assembled.places done)) self.old.offset
-            (item_of item.entry)).faults
-            (says.reading item.entry.text.now)) }
+            (placed_at names (names_of (assembled.places done)) self.old.offset i).faults
+            i.reading) }
     {
         let offset = self.offset;
-        let taken = taken(known, &self.labels, offset, item.text);
+        let taken = taken(known, &self.labels, offset, &item.reading);
         let fault = taken.err();
         self.placed.push(Placed {
             item,
             offset,
             fault,
         })?;
-        self.labels.define(item.text, START + offset)?;
+        self.labels.define(&item.reading, START + offset)?;
         self.offset += taken.unwrap_or(0);
         Ok(())
     }
@@ -151,12 +160,12 @@ impl<'a> Layout<'a> {
 /// The statements at their places, one behind the other.
 pub(crate) fn place<'a>(
     alloc: Global,
-    items: &[Item<'a>],
+    items: &'a [Item<'a>],
     known: &Labels<'_>,
 ) -> Result<Layout<'a>, NoMemory>
-    requires { Knows known.now (assembled.labels (map item_of items.now)) }
-    ensures { IfOk result (λ layout. Stands layout (assembled.placed_from
-        (assembled.labels (map item_of items.now)) [] 0 (map item_of items.now))) }
+    ensures { IfOk result (λ layout. (is : List assembled.Item) →
+        AllZip KeepsItem items.now is → Knows known.now (assembled.labels is) →
+        Stands layout (assembled.placed_from (assembled.labels is) [] 0 is)) }
 {
     let mut layout = Layout {
         placed: Vec::new(alloc),
@@ -164,7 +173,7 @@ pub(crate) fn place<'a>(
         offset: 0,
     };
     for item in items {
-        layout.place(known, *item)?;
+        layout.place(known, item)?;
     }
     Ok(layout)
 }

@@ -1,10 +1,11 @@
-use Rattle.std.proofs.Common.{◌≡◌, ◌++◌, List, map, drop}
-use Rattle.guest_asm.specs.Assembled.{labels}
-use Rattle.guest_asm.specs.Kept.{item_of, names_of, HasPlaces}
+use Rattle.std.proofs.Common.{◌≡◌, ◌++◌, List, drop}
+use Rattle.std.specs.List.{AllZip}
+use Rattle.guest_asm.specs.Assembled.{Item, labels}
+use Rattle.guest_asm.specs.Kept.{names_of, HasPlaces, KeepsItem}
 use Rattle.asm_text.specs.Names.{Named}
 use Rattle.guest_asm.proofs.labels.known_labels.Given as goal
 
 -- the labels so far and those of the statements that are left are all
 abbrev pub invariant-loop-item : goal.invariant-loop-item
 invariant-loop-item l =
-    (named : List Named) × HasPlaces l.known named × (names_of named ++ labels (map item_of (drop l.item-index l.items)) ≡ labels (map item_of l.items))
+    (is : List Item) → AllZip KeepsItem l.items is → (named : List Named) × HasPlaces l.known named × (names_of named ++ labels (drop l.item-index is) ≡ labels is)
