@@ -1,106 +1,103 @@
--- Pairs of hex digits, read one after another.
-use Rattle.std.proofs.Common.{◌≡◌, ℕ, ◌<◌, ◌≤◌, ◌-◌, ◌==◌, Bool, true, false, List, [], ◌∷◌, ◌++◌, length, take, drop, get_or, refl, sym, ◌∙◌, ap, subst, append_assoc, arith}
-use Rattle.std.specs.Prelude.{IfSome, IfNone}
-use Rattle.std.specs.Bool.{then_some}
-use Rattle.std.proofs.lemmas.Bool.{eqb-true}
-use Rattle.std.proofs.lemmas.List.{append-nil, drop_more, take_rest}
-use Rattle.arn_lines.specs.Words.{IsHex, IsHexByte}
-use Rattle.arn_lines.proofs.HexDigits.{IsHexDigit-same}
+-- Pairs of hex digits, and the bytes that they spell.
+use Rattle.std.proofs.Common.{◌≡◌, ℕ, ◌≤◌, ◌+◌, ◌*◌, ◌-◌, ◌%◌, true, List, [], ◌∷◌, length, refl, sym, ◌∙◌, ap, subst, arith, rules, inl, inr}
+use Rattle.std.proofs.lemmas.Bool.{cases_lt}
+use Rattle.std.proofs.lemmas.Bool.Decides.{nat_tests}
+use Rattle.std.specs.Prelude.{Result, Ok}
+use Rattle.std.specs.List.{AllPass}
+use Rattle.std.specs.Result.{result_unwrap_or}
+use Rattle.std.proofs.lemmas.List.Elements.{All-head, All-tail}
+use Rattle.hex.specs.Hex.{decode_of, decode_pairs, is_hex_digit}
+use Rattle.hex.specs.declared.error.FromHexError.{FromHexError}
+use Rattle.hex.proofs.HexLemmas.{decode_of-even, decode_of-ok}
+use Rattle.arn_lines.specs.Words.{IsHex, IsHexDigit}
+use Rattle.arn_lines.proofs.HexDigits.{hex_digit_value-IsHexDigit}
 
--- two digits spell one byte
-pub IsHexByte-same : (high low a b : ℕ) → IsHexByte high low a → IsHexByte high low b → a ≡ b
-IsHexByte-same high low a b ha hb =
-    let highs = IsHexDigit-same high ha.high_value hb.high_value ha.is_high hb.is_high in
-    let lows = IsHexDigit-same low ha.low_value hb.low_value ha.is_low hb.is_low in
-    omega (arith, ha.is_byte, hb.is_byte, highs, lows)
+-- the digits stand in three ranges
+upper_digit : (c : ℕ) → 65 ≤ c → c ≤ 70 → IsHexDigit c (c - 55)
+upper_digit c low high = search rules
+
+lower_digit : (c : ℕ) → 97 ≤ c → c ≤ 102 → IsHexDigit c (c - 87)
+lower_digit c low high = search rules
+
+decimal_digit : (c : ℕ) → 48 ≤ c → c ≤ 57 → IsHexDigit c (c - 48)
+decimal_digit c low high = search rules
+
+digit_value : (c : ℕ) → is_hex_digit c ≡ true → (v : ℕ) × IsHexDigit c v
+digit_value c h =
+    elim (cases_lt c 48) [
+      | inl low ↦ let no : ⊥ = grind (arith, nat_tests) in absurd no
+      | inr low ↦
+          elim (cases_lt c 58) [
+            | inl high ↦ (c - 48, decimal_digit c low (omega arith))
+            | inr high ↦
+                elim (cases_lt c 65) [
+                  | inl low ↦ let no : ⊥ = grind (arith, nat_tests) in absurd no
+                  | inr low ↦
+                      elim (cases_lt c 71) [
+                        | inl high ↦ (c - 55, upper_digit c low (omega arith))
+                        | inr high ↦
+                            elim (cases_lt c 97) [
+                              | inl low ↦ let no : ⊥ = grind (arith, nat_tests) in absurd no
+                              | inr low ↦
+                                  elim (cases_lt c 103) [
+                                    | inl high ↦ (c - 87, lower_digit c low (omega arith))
+                                    | inr high ↦ let no : ⊥ = grind (arith, nat_tests) in absurd no
+                                  ]
+                            ]
+                      ]
+                ]
+          ]
+    ]
+
+-- the byte is a digit of some value
+abbrev IsDigit : ℕ → Type 0
+IsDigit c = is_hex_digit c ≡ true
+
+-- an even number of digits spells bytes
+spelled : (text : List ℕ) → length text % 2 ≡ 0 → AllPass is_hex_digit text → (bytes : List ℕ) × IsHex text bytes
+spelled [] even digits = ([], tt)
+spelled (high ∷ []) even digits = absurd (omega arith)
+spelled (high ∷ low ∷ text) even digits =
+    let others = All-tail IsDigit high (low ∷ text) digits in
+    let first = digit_value high (All-head IsDigit high (low ∷ text) digits) in
+    let second = digit_value low (All-head IsDigit low text others) in
+    let rest = spelled text (omega arith) (All-tail IsDigit low text others) in
+    ((16 * first.0 + second.0) ∷ rest.0, (record { high_value = first.0; low_value = second.0; is_high = first.1; is_low = second.1; is_byte = refl }, rest.1))
+
+-- the text spells bytes where it decodes to them
+pub decode_pairs-IsHex : (i : ℕ) (text bytes : List ℕ) → IsHex text bytes → decode_pairs i text ≡ Ok bytes
+unfolding decode_pairs
+decode_pairs-IsHex i [] [] h = refl
+decode_pairs-IsHex i [] (b ∷ bytes) h = absurd h
+decode_pairs-IsHex i (high ∷ []) [] h = absurd h
+decode_pairs-IsHex i (high ∷ []) (b ∷ bytes) h = absurd h
+decode_pairs-IsHex i (high ∷ low ∷ text) [] h = absurd h
+decode_pairs-IsHex i (high ∷ low ∷ text) (b ∷ bytes) h =
+    let pair = h.0 in
+    let first = hex_digit_value-IsHexDigit high pair.high_value pair.is_high in
+    let second = hex_digit_value-IsHexDigit low pair.low_value pair.is_low in
+    let rest = decode_pairs-IsHex (i + 2) text bytes h.1 in
+    let byte : pair.high_value * 16 + pair.low_value ≡ b = omega (arith, pair.is_byte) in
+    rw (first, second, rest) (ap (λ (n : ℕ). Ok (n ∷ bytes)) byte)
+
+even_length : (text bytes : List ℕ) → IsHex text bytes → length text % 2 ≡ 0
+even_length [] [] h = refl
+even_length [] (b ∷ bytes) h = absurd h
+even_length (high ∷ []) [] h = absurd h
+even_length (high ∷ []) (b ∷ bytes) h = absurd h
+even_length (high ∷ low ∷ text) [] h = absurd h
+even_length (high ∷ low ∷ text) (b ∷ bytes) h = omega (arith, even_length text bytes h.1)
+
+pub decode_of-IsHex : (text bytes : List ℕ) → IsHex text bytes → decode_of text ≡ Ok bytes
+decode_of-IsHex text bytes h = decode_of-even text (even_length text bytes h) ∙ decode_pairs-IsHex 0 text bytes h
 
 -- hex text spells one list of bytes
 pub IsHex-same : (text a b : List ℕ) → IsHex text a → IsHex text b → a ≡ b
-IsHex-same [] [] [] ha hb = refl
-IsHex-same [] [] (y ∷ b) ha hb = absurd hb
-IsHex-same [] (x ∷ a) b ha hb = absurd ha
-IsHex-same (high ∷ []) [] b ha hb = absurd ha
-IsHex-same (high ∷ []) (x ∷ a) b ha hb = absurd ha
-IsHex-same (high ∷ low ∷ text) [] b ha hb = absurd ha
-IsHex-same (high ∷ low ∷ text) (x ∷ a) [] ha hb = absurd hb
-IsHex-same (high ∷ low ∷ text) (x ∷ a) (y ∷ b) ha hb =
-    let head = IsHexByte-same high low x y ha.0 hb.0 in
-    let tail = IsHex-same text a b ha.1 hb.1 in
-    cc
+IsHex-same text a b ha hb =
+    ap (λ (r : Result (List ℕ) FromHexError). result_unwrap_or r []) (sym (decode_of-IsHex text a ha) ∙ decode_of-IsHex text b hb)
 
--- the bytes are spelled by the front of the text, and what is left of it goes on from there
-pub record SpelledSoFar (text rest bytes : List ℕ) : Type 0 where
-  pub goes_on : (more : List ℕ) → IsHex rest more → IsHex text (bytes ++ more)
-  pub went_on : (all : List ℕ) → IsHex text all → (more : List ℕ) × (all ≡ bytes ++ more) × IsHex rest more
-
-pub SpelledSoFar-none : (text : List ℕ) → SpelledSoFar text text []
-SpelledSoFar-none text = record { goes_on = λ more h. h; went_on = λ all h. (all, refl, h) }
-
--- what follows a pair of digits
-IsHex-rest : (high low byte : ℕ) (others more : List ℕ) → IsHexByte high low byte → IsHex (high ∷ low ∷ others) more
-    → (rest : List ℕ) × (more ≡ byte ∷ rest) × IsHex others rest
-IsHex-rest high low byte others [] pair h = absurd h
-IsHex-rest high low byte others (b ∷ more) pair h =
-    (more, ap (λ x. x ∷ more) (IsHexByte-same high low b byte h.0 pair), h.1)
-
--- a text of two bytes or more, as those two and what follows
-pair_and_rest : (rest : List ℕ) → 2 ≤ length rest
-    → rest ≡ get_or rest 0 0 ∷ get_or rest 1 0 ∷ take (length rest - 2) (drop 2 rest)
-pair_and_rest rest two =
-    rw take_rest (drop_more rest 0 0 (omega arith) ∙ ap (λ xs. get_or rest 0 0 ∷ xs) (drop_more rest 1 0 (omega arith)))
-
-pub SpelledSoFar-more : (text rest bytes : List ℕ) (byte : ℕ) → 2 ≤ length rest
-    → IsHexByte (get_or rest 0 0) (get_or rest 1 0) byte → SpelledSoFar text rest bytes
-    → SpelledSoFar text (take (length rest - 2) (drop 2 rest)) (bytes ++ byte ∷ [])
-SpelledSoFar-more text rest bytes byte two pair s =
-    let high = get_or rest 0 0 in
-    let low = get_or rest 1 0 in
-    let others = take (length rest - 2) (drop 2 rest) in
-    let split = pair_and_rest rest two in
-    record {
-      goes_on = λ more h.
-          let longer : IsHex rest (byte ∷ more) = subst (λ xs. IsHex xs (byte ∷ more)) (sym split) (pair, h) in
-          subst (IsHex text) (sym (append_assoc bytes (byte ∷ []) more)) (s.goes_on (byte ∷ more) longer);
-      went_on = λ all h.
-          let front = s.went_on all h in
-          let left : IsHex (high ∷ low ∷ others) front.0 = subst (λ xs. IsHex xs front.0) split front.2 in
-          let tail = IsHex-rest high low byte others front.0 pair left in
-          (tail.0, front.1 ∙ ap (λ xs. bytes ++ xs) tail.1 ∙ sym (append_assoc bytes (byte ∷ []) tail.0), tail.2);
-    }
-
--- two bytes that spell no byte
-pub SpelledSoFar-stops : (text rest bytes : List ℕ) → 2 ≤ length rest
-    → ((byte : ℕ) → ¬ IsHexByte (get_or rest 0 0) (get_or rest 1 0) byte)
-    → SpelledSoFar text rest bytes → (all : List ℕ) → ¬ IsHex text all
-SpelledSoFar-stops text rest bytes two none s all h =
-    let front = s.went_on all h in
-    no_pair (get_or rest 0 0) (get_or rest 1 0) (take (length rest - 2) (drop 2 rest)) front.0 none
-    (subst (λ xs. IsHex xs front.0) (pair_and_rest rest two) front.2)
-  where
-    no_pair : (high low : ℕ) (others more : List ℕ) → ((byte : ℕ) → ¬ IsHexByte high low byte) → ¬ IsHex (high ∷ low ∷ others) more
-    no_pair high low others [] none h = h
-    no_pair high low others (b ∷ more) none h = none b h.0
-
--- at the end of the text the bytes are all
-pub SpelledSoFar-all : (text rest bytes : List ℕ) (ended : Bool) → ended ≡ (length rest == 0)
-    → SpelledSoFar text rest bytes → IfSome (then_some ended bytes) (IsHex text)
-SpelledSoFar-all text [] bytes true same s = subst (IsHex text) (append-nil bytes) (s.goes_on [] tt)
-SpelledSoFar-all text (digit ∷ rest) bytes true same s =
-    let none = eqb-true (length (digit ∷ rest)) 0 (sym same) in
-    absurd (omega arith)
-SpelledSoFar-all text rest bytes false same s = tt
-
--- a digit without a second one
-no_odd_hex : (digit : ℕ) (more : List ℕ) → ¬ IsHex (digit ∷ []) more
-no_odd_hex digit [] h = h
-no_odd_hex digit (b ∷ more) h = h
-
-pub SpelledSoFar-odd : (text rest bytes : List ℕ) (ended : Bool) → ended ≡ (length rest == 0) → length rest < 2
-    → SpelledSoFar text rest bytes → IfNone (then_some ended bytes) ((all : List ℕ) → ¬ IsHex text all)
-SpelledSoFar-odd text rest bytes true same short s = tt
-SpelledSoFar-odd text [] bytes false same short s = cc same
-SpelledSoFar-odd text (digit ∷ []) bytes false same short s =
-    λ all h.
-    let front = s.went_on all h in
-    no_odd_hex digit front.0 front.2
-SpelledSoFar-odd text (high ∷ low ∷ rest) bytes false same short s = absurd (omega arith)
+pub IsHex-decode_of : (text bytes : List ℕ) → decode_of text ≡ Ok bytes → IsHex text bytes
+IsHex-decode_of text bytes e =
+    let digits = decode_of-ok text bytes e in
+    let found = spelled text digits.0 digits.1 in
+    subst (IsHex text) (ap (λ (r : Result (List ℕ) FromHexError). result_unwrap_or r []) (sym (decode_of-IsHex text found.0 found.1) ∙ e)) found.1

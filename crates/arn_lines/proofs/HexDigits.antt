@@ -7,7 +7,7 @@ use Rattle.hex.proofs.HexLemmas.{IsDigits-lower_digits, IsDigits-upper_digits}
 use Rattle.hex.specs.Hex.{hex_digit_value}
 use Rattle.arn_lines.specs.Words.{IsHexDigit, IsHexNumber, IsHexNumberFrom}
 
-hex_digit_value-IsHexDigit : (c v : ℕ) → IsHexDigit c v → hex_digit_value c ≡ Some v
+pub hex_digit_value-IsHexDigit : (c v : ℕ) → IsHexDigit c v → hex_digit_value c ≡ Some v
 hex_digit_value-IsHexDigit c v h =
     elim h.1 [
       | inl lower ↦ rw lower (IsDigits-lower_digits v h.0)

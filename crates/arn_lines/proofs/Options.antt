@@ -1,5 +1,5 @@
 -- Clauses on an `Option` or a `Result`.
-use Rattle.std.specs.Prelude.{◌≡◌, Option, Some, None, Result, Ok, Err, MatchOption, MatchResult, IfSome, IfNone, OnErr, is_some}
+use Rattle.std.specs.Prelude.{◌≡◌, Option, Some, None, Result, Ok, Err, MatchOption, MatchResult, IfSome, IfNone, is_some}
 use Rattle.std.specs.Result.{result_ok}
 use Rattle.std.proofs.lemmas.Option.{same_Some}
 use Rattle.std.proofs.Common.{sym, subst}
@@ -27,11 +27,6 @@ pub ok_at_none : {T E R : Type 0} (r : Result T E) (P : T → Type 0) (Q : E →
     → MatchResult r P Q → None ≡ result_ok r → ((e : E) → Q e → R) → R
 ok_at_none (Ok y) P Q h same then = cc same
 ok_at_none (Err e) P Q h same then = then e h
-
--- what holds anyway holds after an error
-pub OnErr-always : {T E P : Type 0} (r : Result T E) → P → OnErr r P
-OnErr-always (Ok x) h = tt
-OnErr-always (Err e) h = h
 
 -- what follows from what a clause says where there is no value to map
 pub IfNone-mapped : {T U P Q : Type 0} (found : Option T) (mapped : Option U) → is_some mapped ≡ is_some found → (P → Q)

@@ -3,3 +3,4 @@ pub mod Questions
 pub mod Grammar
 pub mod Pieces
 pub mod Texts
+pub mod Printed

@@ -5,6 +5,7 @@ mod answer;
 mod grammar;
 mod law;
 mod line;
+mod pieces;
 mod questions;
 mod texts;
 mod words;

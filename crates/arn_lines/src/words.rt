@@ -2,9 +2,10 @@
 ghost use Rattle.std.specs.Prelude.{◌≡◌, ◌≢◌, ℕ, ◌+◌, ◌^◌, ◌<◌, ◌↔◌, List, ◌++◌, All, IsTrue, IfOk, IfSome, IfNone, codes, decimal};
 ghost use Rattle.std.specs.List.{list_all};
 ghost use Rattle.arn_lines.specs.Pieces.{IsFirstWord, IsNoSpace, IsUnpadded};
-ghost use Rattle.arn_lines.specs.Words.{IsBytes, IsHex, IsHexByte, IsHexDigit, IsHexNumber, IsName, IsNumber, is_name, is_name_byte};
+ghost use Rattle.arn_lines.specs.Words.{IsBytes, IsHex, IsHexDigit, IsHexNumber, IsName, IsNumber, is_name, is_name_byte};
 
 use arn_base::{Bytes, NoMemory};
+use hex::FromHexError;
 use std::alloc::Global;
 use std::str;
 
@@ -55,23 +56,11 @@ pub(crate) fn name(alloc: Global, text: &[u8]) -> Result<Option<Bytes>, NoMemory
     Ok(Some(Bytes::from_slice(alloc, text)?))
 }
 
-pub(crate) fn hex_digit(digit: u8) -> Option<u8>
+fn hex_digit(digit: u8) -> Option<u32>
     ensures some { IfSome result (IsHexDigit digit) }
     ensures none { IfNone result ((value : ℕ) → ¬ IsHexDigit digit value) }
 {
-    match digit {
-        b'0'..=b'9' => Some(digit - b'0'),
-        b'a'..=b'f' => Some(digit - b'a' + 10),
-        b'A'..=b'F' => Some(digit - b'A' + 10),
-        _ => None,
-    }
-}
-
-pub(crate) fn hex_byte(high: u8, low: u8) -> Option<u8>
-    ensures some { IfSome result (IsHexByte high low) }
-    ensures none { IfNone result ((byte : ℕ) → ¬ IsHexByte high low byte) }
-{
-    Some(16 * hex_digit(high)? + hex_digit(low)?)
+    char::from(digit).to_digit(16)
 }
 
 // The bytes that pairs of hex digits spell.
@@ -80,16 +69,11 @@ fn hex_bytes(alloc: Global, text: &[u8]) -> Result<Option<Bytes>, NoMemory>
     ensures none { IfOk result
         (λ found. IfNone found ((bytes : List ℕ) → ¬ IsHex text.now bytes)) }
 {
-    let mut bytes = Bytes::new(alloc);
-    let mut rest = text;
-    while let [high, low, others @ ..] = rest {
-        let Some(byte) = hex_byte(*high, *low) else {
-            return Ok(None);
-        };
-        bytes.push(byte)?;
-        rest = others;
+    match hex::decode(alloc, text) {
+        Ok(bytes) => Ok(Some(Bytes::from(bytes))),
+        Err(error) if error == FromHexError::OutOfMemory => Err(NoMemory),
+        Err(_) => Ok(None),
     }
-    Ok(rest.is_empty().then_some(bytes))
 }
 
 pub(crate) fn bytes(alloc: Global, text: &[u8]) -> Result<Option<Bytes>, NoMemory>
