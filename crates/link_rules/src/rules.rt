@@ -1,14 +1,12 @@
 // What each byte of an instruction's result takes.
 ghost use Rattle.std.specs.Prelude.{◌≡◌, ◌<◌, ◌↔◌, IsTrue, IfSome, Contains};
 ghost use Rattle.rv64_model.specs.Carries.{Operand, Loaded, extended_from, op_takes, operands};
-ghost use Rattle.rv64_model.specs.Operands as operands_of;
-ghost use Rattle.rv64_model.specs.Values as values;
 ghost use Rattle.link_rules.specs.Masks.{is_in};
 ghost use Rattle.link_rules.specs.Listed.{addressed, imm_bytes, is_move, listed, listed_option, loaded_by, looks_up, op_bytes, stored_by};
 
 use crate::masks::{ALL, NONE, Operands, WORD, bit, up_to};
 use rv64_isa::{ImmOp, Instr, LoadOp, RegOp, StoreOp};
-use rv64_model::Linkage;
+use rv64_model::{Linkage, load_len, reg_op, store_len};
 
 /// The top byte of a register's low word, whose sign fills the bytes above.
 const TOP_OF_WORD: u8 = 3;
@@ -42,28 +40,6 @@ fn looks_up(linkage: Linkage) -> bool
     match linkage {
         Linkage::Copy | Linkage::Data => false,
         Linkage::Index => true,
-    }
-}
-
-fn load_len(op: LoadOp) -> u8
-    ensures { result ≡ values.load_len op }
-{
-    match op {
-        LoadOp::Lb | LoadOp::Lbu => 1,
-        LoadOp::Lh | LoadOp::Lhu => 2,
-        LoadOp::Lw | LoadOp::Lwu => 4,
-        LoadOp::Ld => 8,
-    }
-}
-
-fn store_len(op: StoreOp) -> u8
-    ensures { result ≡ operands_of.store_len op }
-{
-    match op {
-        StoreOp::Sb => 1,
-        StoreOp::Sh => 2,
-        StoreOp::Sw => 4,
-        StoreOp::Sd => 8,
     }
 }
 
@@ -130,27 +106,6 @@ fn is_move(op: ImmOp, imm: i64) -> bool
     match op {
         ImmOp::Addi => imm == 0,
         _ => false,
-    }
-}
-
-/// The operation on two registers that an immediate form carries out.
-fn reg_op(op: ImmOp) -> RegOp
-    ensures { result ≡ values.reg_op op }
-{
-    match op {
-        ImmOp::Addi => RegOp::Add,
-        ImmOp::Slti => RegOp::Slt,
-        ImmOp::Sltiu => RegOp::Sltu,
-        ImmOp::Xori => RegOp::Xor,
-        ImmOp::Ori => RegOp::Or,
-        ImmOp::Andi => RegOp::And,
-        ImmOp::Slli => RegOp::Sll,
-        ImmOp::Srli => RegOp::Srl,
-        ImmOp::Srai => RegOp::Sra,
-        ImmOp::Addiw => RegOp::Addw,
-        ImmOp::Slliw => RegOp::Sllw,
-        ImmOp::Srliw => RegOp::Srlw,
-        ImmOp::Sraiw => RegOp::Sraw,
     }
 }
 

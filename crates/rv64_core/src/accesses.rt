@@ -1,7 +1,7 @@
 // Loads and stores.
 ghost use Rattle.std.specs.Prelude.{◌≡◌, ◌≢◌, ◌<◌, ℕ, IsTrue, option_map};
 ghost use Rattle.std.specs.Result.{result_ok};
-ghost use Rattle.arn_base.specs.Window.{number_at, IsAccessLength};
+ghost use Rattle.arn_base.specs.Window.{number_at};
 ghost use Rattle.rv64_isa.specs.declared.instruction.Instr.{Instr};
 ghost use Rattle.rv64_model.specs.Instruction.{loads, stores};
 ghost use Rattle.rv64_model.specs.Operands.{store_len as store_len_of, stored_len};
@@ -14,8 +14,10 @@ use crate::outcome::{Outcome, Prospect};
 use arn_base::{BadAddress, Cpu, Memory, StoreError};
 use rv64_isa::{Instr, LoadOp, Reg, StoreOp};
 use rv64_model::statuses::BAD_ACCESS;
+use rv64_model::{load_len, store_len};
 
 // Loads a register from an address.
+#[inline(always)]
 pub(crate) fn load<M: Memory>(op: LoadOp, rd: Reg, at: u64, cpu: &mut Cpu, mem: &M) -> Outcome
     ensures effect { (instr : Instr) → let memory = M.windows mem.now in
         let value = option_map (load_result_of op) (number_at memory at (load_len_of op)) in
@@ -31,6 +33,7 @@ pub(crate) fn load<M: Memory>(op: LoadOp, rd: Reg, at: u64, cpu: &mut Cpu, mem: 
 
 // The value of a register after a load. Each access has a length that is constant, so that it can
 // be compiled to one load.
+#[inline(always)]
 fn loaded<M: Memory>(op: LoadOp, at: u64, mem: &M) -> Result<u64, BadAddress>
     ensures { result_ok result ≡
         option_map (load_result_of op) (number_at (M.windows mem.now) at (load_len_of op)) }
@@ -47,6 +50,7 @@ fn loaded<M: Memory>(op: LoadOp, at: u64, mem: &M) -> Result<u64, BadAddress>
 }
 
 // Stores the low bytes of a value at an address.
+#[inline(always)]
 pub(crate) fn store<M: Memory>(
     op: StoreOp,
     at: u64,
@@ -75,6 +79,7 @@ pub(crate) fn store<M: Memory>(
 }
 
 // What a load would come to.
+#[inline(always)]
 pub(crate) fn load_ahead<M: Memory>(instr: Instr, op: LoadOp, at: u64, mem: &M) -> Prospect
     ensures { (cpu : Cpu) → (rd : ℕ) → let memory = M.windows mem.now in
         let value = option_map (load_result_of op) (number_at memory at (load_len_of op)) in
@@ -87,6 +92,7 @@ pub(crate) fn load_ahead<M: Memory>(instr: Instr, op: LoadOp, at: u64, mem: &M) 
 }
 
 // What a store would come to. It takes effect exactly where its bytes could be loaded.
+#[inline(always)]
 pub(crate) fn store_ahead<M: Memory>(instr: Instr, op: StoreOp, at: u64, mem: &M) -> Prospect
     ensures { (cpu : Cpu) → (value : ℕ) →
         Foretells result (stores instr cpu (M.windows mem.now) at (store_len_of op) value) }
@@ -94,31 +100,5 @@ pub(crate) fn store_ahead<M: Memory>(instr: Instr, op: StoreOp, at: u64, mem: &M
     match mem.load(at, store_len(op)) {
         Ok(_) => Prospect::Next(instr),
         Err(_) => Prospect::End(BAD_ACCESS),
-    }
-}
-
-// How many bytes a load reads.
-fn load_len(op: LoadOp) -> u8
-    ensures len { result ≡ load_len_of op }
-    ensures fits { IsAccessLength result }
-{
-    match op {
-        LoadOp::Lb | LoadOp::Lbu => 1,
-        LoadOp::Lh | LoadOp::Lhu => 2,
-        LoadOp::Lw | LoadOp::Lwu => 4,
-        LoadOp::Ld => 8,
-    }
-}
-
-// How many bytes a store writes.
-fn store_len(op: StoreOp) -> u8
-    ensures len { result ≡ store_len_of op }
-    ensures fits { IsAccessLength result }
-{
-    match op {
-        StoreOp::Sb => 1,
-        StoreOp::Sh => 2,
-        StoreOp::Sw => 4,
-        StoreOp::Sd => 8,
     }
 }

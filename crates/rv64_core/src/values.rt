@@ -1,12 +1,14 @@
 // What instructions work out from values of 64 bits.
 ghost use Rattle.std.specs.Prelude.{◌≡◌, ◌%◌, ◌^◌};
 ghost use Rattle.std.specs.Int.{cast_unsigned, w64};
-ghost use Rattle.rv64_model.specs.Values.{reg_result as reg_result_of, reg_op as reg_op_of};
+ghost use Rattle.rv64_model.specs.Values.{reg_result as reg_result_of};
 ghost use Rattle.rv64_model.specs.Values.{imm_result as imm_result_of, is_taken as is_taken_by};
 
 use rv64_isa::{BranchOp, ImmOp, RegOp};
+use rv64_model::reg_op;
 
 // What an operation gives at the values of two registers.
+#[inline(always)]
 pub(crate) fn reg_result(op: RegOp, a: u64, b: u64) -> u64
     ensures { result ≡ reg_result_of op a b }
 {
@@ -31,34 +33,15 @@ pub(crate) fn reg_result(op: RegOp, a: u64, b: u64) -> u64
 
 // What an operation gives at the value of a register and an immediate, which takes the place of the
 // second register.
+#[inline(always)]
 pub(crate) fn imm_result(op: ImmOp, value: u64, imm: i64) -> u64
     ensures { result ≡ imm_result_of op value imm }
 {
     reg_result(reg_op(op), value, imm.cast_unsigned())
 }
 
-// The operation that an immediate form carries out.
-fn reg_op(op: ImmOp) -> RegOp
-    ensures { result ≡ reg_op_of op }
-{
-    match op {
-        ImmOp::Addi => RegOp::Add,
-        ImmOp::Slti => RegOp::Slt,
-        ImmOp::Sltiu => RegOp::Sltu,
-        ImmOp::Xori => RegOp::Xor,
-        ImmOp::Ori => RegOp::Or,
-        ImmOp::Andi => RegOp::And,
-        ImmOp::Slli => RegOp::Sll,
-        ImmOp::Srli => RegOp::Srl,
-        ImmOp::Srai => RegOp::Sra,
-        ImmOp::Addiw => RegOp::Addw,
-        ImmOp::Slliw => RegOp::Sllw,
-        ImmOp::Srliw => RegOp::Srlw,
-        ImmOp::Sraiw => RegOp::Sraw,
-    }
-}
-
 // Whether a branch is taken at the values of two registers.
+#[inline(always)]
 pub(crate) fn is_taken(op: BranchOp, a: u64, b: u64) -> bool
     ensures { result ≡ is_taken_by op a b }
 {
@@ -73,6 +56,7 @@ pub(crate) fn is_taken(op: BranchOp, a: u64, b: u64) -> bool
 }
 
 // The low 32 bits of a value.
+#[inline(always)]
 fn low_word(value: u64) -> u32
     ensures { result ≡ value % 2 ^ 32 }
 {
@@ -80,6 +64,7 @@ fn low_word(value: u64) -> u32
 }
 
 // How far a value of 64 bits is shifted: by the low 6 bits.
+#[inline(always)]
 fn shift_amount(value: u64) -> u32
     ensures { result ≡ value % 64 }
 {
@@ -87,6 +72,7 @@ fn shift_amount(value: u64) -> u32
 }
 
 // How far one of 32 bits is shifted: by the low 5.
+#[inline(always)]
 fn word_shift_amount(value: u64) -> u32
     ensures { result ≡ value % 32 }
 {
@@ -94,6 +80,7 @@ fn word_shift_amount(value: u64) -> u32
 }
 
 // A value of 32 bits, its sign extended.
+#[inline(always)]
 fn extended(value: i32) -> u64
     ensures { result ≡ cast_unsigned w64 value }
 {

@@ -4,6 +4,8 @@
 #![tactic(auto)]
 
 mod linkage;
+mod operations;
 pub mod statuses;
 
 pub use linkage::Linkage;
+pub use operations::{load_len, reg_op, store_len};

@@ -8,14 +8,12 @@ ghost use Rattle.taint_members.specs.Access.{HoldsKey, WritesSegment, WritesWind
 ghost use Rattle.taint_members.specs.Rows.{AreZero, ClearsResult};
 
 use arn_base::NoMemory;
+use guest_image::HEADER_LEN;
 use parts_model::limits::{WINDOW_END, WINDOW_LEN, WINDOW_START};
 use std::alloc::Global;
 use taint_flow::narrow;
 use taint_members::{Member, number, write};
 use taint_pages::Numbers;
-
-/// How many bytes stand before an image's body.
-const HEADER_LEN: usize = 24;
 
 /// A member receives bytes of these sets from an address on, as far as they lie in the same memory. The call's result
 /// takes nothing. 2^31 bytes or more count as want of memory.
