@@ -72,6 +72,7 @@ impl Bodies {
 
     /// Runs the instruction at which a process stands, and counts it whatever it comes to. It is
     /// one call of `rv64_core::step` on the process's registers and memories.
+    #[inline(always)]
     pub fn step<L: Ledger>(&mut self, pid: u32, steps: &mut Steps<L>) -> Outcome
         requires live { IsLive self.old pid }
         ensures tick { steps.new ≡ steps.old + 1 }
@@ -88,6 +89,7 @@ impl Bodies {
 
     /// Says what the instruction at which a process stands would come to, and counts it whatever that
     /// is. It is one call of `rv64_core::next_instr` on the process's registers and memories.
+    #[inline(always)]
     pub fn next_instr<L: Ledger>(&mut self, pid: u32, steps: &mut Steps<L>) -> Prospect
         requires live { IsLive self.old pid }
         ensures tick { steps.new ≡ steps.old + 1 }
@@ -101,6 +103,7 @@ impl Bodies {
     }
 
     /// Executes the instruction that `next_instr` gave. It isn't counted.
+    #[inline(always)]
     pub fn execute(&mut self, pid: u32, instr: &Instr)
         requires live { IsLive self.old pid }
         requires next { IfSome (seen_in self.old pid) (λ v. TakesEffect instr.now (stands_at v)) }

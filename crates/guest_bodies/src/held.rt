@@ -16,6 +16,7 @@ use std::alloc::Global;
 use std::sync::ledger::Ledger;
 
 /// Brings the segment that a process holds out of the table to it.
+#[inline]
 fn lend(guest: &mut Guest, segments: &mut Vec<Option<Segment>>)
     requires { IfHeld guest.old.segment segments.old.items }
     ensures guest { guest.new ≡ record guest.old {
@@ -30,6 +31,7 @@ fn lend(guest: &mut Guest, segments: &mut Vec<Option<Segment>>)
 }
 
 /// Brings it back.
+#[inline]
 fn take_back(guest: &mut Guest, segments: &mut Vec<Option<Segment>>)
     requires { IfKey guest.old.segment segments.old.items }
     ensures guest { guest.new ≡ record guest.old {
@@ -43,8 +45,8 @@ fn take_back(guest: &mut Guest, segments: &mut Vec<Option<Segment>>)
     }
 }
 
-/// Runs the instruction at which the process stands, and counts it.
-pub fn step<L: Ledger>(
+// The same, with the segment that the process may hold brought to it.
+fn step_lent<L: Ledger>(
     guest: &mut Guest,
     segments: &mut Vec<Option<Segment>>,
     steps: &mut Steps<L>,
@@ -68,8 +70,34 @@ pub fn step<L: Ledger>(
     outcome
 }
 
-/// Says what the instruction at which the process stands would come to, and counts it.
-pub fn next_instr<L: Ledger>(
+/// Runs the instruction at which the process stands, and counts it.
+#[inline(always)]
+pub fn step<L: Ledger>(
+    guest: &mut Guest,
+    segments: &mut Vec<Option<Segment>>,
+    steps: &mut Steps<L>,
+) -> Outcome
+    requires { IfHeld guest.old.segment segments.old.items }
+    ensures tick { steps.new ≡ steps.old + 1 }
+    ensures effect { Tells result (stands_at (view_of segments.old.items guest.old))
+        guest.new.cpu (reach (view_of segments.new.items guest.new)) }
+    ensures guest { guest.new ≡
+        record guest.old { cpu = guest.new.cpu; memory = guest.new.memory } }
+    ensures segments { segments.new.items ≡ with_held guest.old.segment
+        (held_bytes segments.new.items guest.old.segment) segments.old.items }
+    ensures stop { OnStop result
+        (view_of segments.new.items guest.new ≡ view_of segments.old.items guest.old) }
+    ensures table { OnStop result (segments.new.items ≡ segments.old.items) }
+    ensures memory { result ≢ Outcome.NoMemory }
+{
+    match guest.segment {
+        Some(_) => step_lent(guest, segments, steps),
+        None => rv64_core::step(&mut guest.cpu, &mut guest.memory.space, steps),
+    }
+}
+
+// The same, with the segment that the process may hold brought to it.
+fn next_lent<L: Ledger>(
     guest: &mut Guest,
     segments: &mut Vec<Option<Segment>>,
     steps: &mut Steps<L>,
@@ -87,8 +115,28 @@ pub fn next_instr<L: Ledger>(
     prospect
 }
 
-/// Executes the instruction that `next_instr` gave.
-pub fn execute(guest: &mut Guest, segments: &mut Vec<Option<Segment>>, instr: &Instr)
+/// Says what the instruction at which the process stands would come to, and counts it.
+#[inline(always)]
+pub fn next_instr<L: Ledger>(
+    guest: &mut Guest,
+    segments: &mut Vec<Option<Segment>>,
+    steps: &mut Steps<L>,
+) -> Prospect
+    requires { IfHeld guest.old.segment segments.old.items }
+    ensures tick { steps.new ≡ steps.old + 1 }
+    ensures effect { Foretells result (stands_at (view_of segments.old.items guest.old)) }
+    ensures guest { guest.new ≡ record guest.old { memory = guest.new.memory } }
+    ensures same { view_of segments.new.items guest.new ≡ view_of segments.old.items guest.old }
+    ensures table { segments.new.items ≡ segments.old.items }
+{
+    match guest.segment {
+        Some(_) => next_lent(guest, segments, steps),
+        None => rv64_core::next_instr(&guest.cpu, &guest.memory.space, steps),
+    }
+}
+
+// The same, with the segment that the process may hold brought to it.
+fn execute_lent(guest: &mut Guest, segments: &mut Vec<Option<Segment>>, instr: &Instr)
     requires held { IfHeld guest.old.segment segments.old.items }
     requires next { TakesEffect instr.now (stands_at (view_of segments.old.items guest.old)) }
     ensures effect { stands_at (view_of segments.old.items guest.old) ≡
@@ -103,6 +151,26 @@ pub fn execute(guest: &mut Guest, segments: &mut Vec<Option<Segment>>, instr: &I
         unreachable!()
     };
     take_back(guest, segments);
+}
+
+/// Executes the instruction that `next_instr` gave.
+#[inline(always)]
+pub fn execute(guest: &mut Guest, segments: &mut Vec<Option<Segment>>, instr: &Instr)
+    requires held { IfHeld guest.old.segment segments.old.items }
+    requires next { TakesEffect instr.now (stands_at (view_of segments.old.items guest.old)) }
+    ensures effect { stands_at (view_of segments.old.items guest.old) ≡
+        Next instr.now guest.new.cpu (reach (view_of segments.new.items guest.new)) }
+    ensures guest { guest.new ≡
+        record guest.old { cpu = guest.new.cpu; memory = guest.new.memory } }
+    ensures segments { segments.new.items ≡ with_held guest.old.segment
+        (held_bytes segments.new.items guest.old.segment) segments.old.items }
+{
+    if guest.segment.is_some() {
+        return execute_lent(guest, segments, instr);
+    }
+    let Ok(()) = rv64_core::execute(instr, &mut guest.cpu, &mut guest.memory.space) else {
+        unreachable!()
+    };
 }
 
 /// A process receives bytes at an address, where they lie whole in one window.

@@ -32,6 +32,7 @@ impl Memory for Reach {
 
     ghost wants_memory = { λ m. false };
 
+    #[inline(always)]
     fn load(&self, at: u64, len: u8) -> Result<u64, BadAddress> {
         match (self.space.load(at, len), &self.segment) {
             (Err(BadAddress), Some(segment)) => segment.load(at, len),
@@ -40,6 +41,7 @@ impl Memory for Reach {
     }
 
     #[tactic(auto, using(crate::proofs::Spelled::lengths))]
+    #[inline(always)]
     fn store(&mut self, at: u64, len: u8, value: u64) -> Result<(), StoreError> {
         match (self.space.store(at, len, value), &mut self.segment) {
             (Err(StoreError::BadAddress), Some(segment)) => segment.store(at, len, value),

@@ -30,6 +30,7 @@ impl Kernel {
     }
 
     /// Runs the instruction at which a process stands, and counts it whatever it comes to.
+    #[inline(always)]
     pub fn step<L: Ledger>(&mut self, pid: u32, steps: &mut Steps<L>) -> Outcome
         requires live { IsLive self.old.guests pid }
         ensures tick { steps.new ≡ steps.old + 1 }

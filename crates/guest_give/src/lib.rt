@@ -75,6 +75,7 @@ fn origins(alloc: Global, held: &[TaggedByte]) -> Result<Origins, NoMemory>
 
 // The last run with one more place; where the place isn't the next one, the run is kept and another
 // one begins.
+#[inline(always)]
 fn go_on(origins: &mut Origins, run: Origin, place: Src) -> Result<Origin, NoMemory>
     requires few { run.len + 1 < 2 ^ 32 }
     ensures runs { IfOk result (λ last.
@@ -92,12 +93,14 @@ fn go_on(origins: &mut Origins, run: Origin, place: Src) -> Result<Origin, NoMem
 }
 
 // Whether the place is the one behind those of the origin.
+#[inline(always)]
 fn is_next(run: &Origin, place: Src) -> bool
     ensures { result ≡ goes_on run.now place }
 {
     run.event == place.event && u64::from(run.at) + u64::from(run.len) == u64::from(place.at)
 }
 
+#[inline(always)]
 fn single(place: Src) -> Origin
     ensures { result ≡ one_origin place }
 {

@@ -16,6 +16,7 @@ pub struct Extent {
 
 impl Extent {
     /// The place of a range among the window's bytes.
+    #[inline(always)]
     fn place(self, at: u64, len: u64) -> Result<usize, BadAddress>
         ensures whole { IsOk result ↔ ((self.from ≤ at) × (at + len ≤ self.from + self.len)) }
         ensures place { IfOk result (λ place. at ≡ self.from + place) }
@@ -27,6 +28,7 @@ impl Extent {
     }
 
     /// The number at an address.
+    #[inline(always)]
     pub fn load(self, bytes: &[u8], at: u64, len: u8) -> Result<u64, BadAddress>
         requires length { IsAccessLength len }
         requires extent { length bytes.now ≡ self.len }
@@ -38,6 +40,7 @@ impl Extent {
     }
 
     /// Writes a number at an address.
+    #[inline(always)]
     pub fn store(self, bytes: &mut [u8], at: u64, len: u8, value: u64) -> Result<(), BadAddress>
         requires length { IsAccessLength len }
         requires extent { length bytes.old ≡ self.len }

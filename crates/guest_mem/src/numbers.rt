@@ -5,6 +5,7 @@ ghost use Rattle.arn_base.specs.Window.{IsAccessLength, number_of, bytes_of};
 
 use byteorder::{ByteOrder, LittleEndian};
 
+#[inline(always)]
 fn load_2(bytes: &[u8], place: usize) -> u16
     requires { place + 2 ≤ length bytes.now }
     ensures { result ≡ number_of (take 2 (drop place bytes.now)) }
@@ -12,6 +13,7 @@ fn load_2(bytes: &[u8], place: usize) -> u16
     LittleEndian::read_u16(&bytes[place..])
 }
 
+#[inline(always)]
 fn load_4(bytes: &[u8], place: usize) -> u32
     requires { place + 4 ≤ length bytes.now }
     ensures { result ≡ number_of (take 4 (drop place bytes.now)) }
@@ -19,6 +21,7 @@ fn load_4(bytes: &[u8], place: usize) -> u32
     LittleEndian::read_u32(&bytes[place..])
 }
 
+#[inline(always)]
 fn load_8(bytes: &[u8], place: usize) -> u64
     requires { place + 8 ≤ length bytes.now }
     ensures { result ≡ number_of (take 8 (drop place bytes.now)) }
@@ -27,6 +30,7 @@ fn load_8(bytes: &[u8], place: usize) -> u64
 }
 
 /// The number that the `len` bytes at a place spell.
+#[inline(always)]
 pub fn load(bytes: &[u8], place: usize, len: u8) -> u64
     requires length { IsAccessLength len }
     requires whole { place + len ≤ length bytes.now }
@@ -42,6 +46,7 @@ pub fn load(bytes: &[u8], place: usize, len: u8) -> u64
 }
 
 /// Writes the low `len` bytes of a number at a place.
+#[inline(always)]
 pub fn store(bytes: &mut [u8], place: usize, len: u8, value: u64)
     requires length { IsAccessLength len }
     requires whole { place + len ≤ length bytes.old }

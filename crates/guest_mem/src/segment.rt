@@ -100,10 +100,12 @@ impl Memory for Segment {
 
     ghost wants_memory = { λ m. false };
 
+    #[inline(always)]
     fn load(&self, at: u64, len: u8) -> Result<u64, BadAddress> {
         SHARED.load(self.bytes.as_slice(), at, len)
     }
 
+    #[inline(always)]
     fn store(&mut self, at: u64, len: u8, value: u64) -> Result<(), StoreError> {
         Ok(SHARED.store(self.bytes.as_mut_slice(), at, len, value)?)
     }

@@ -35,6 +35,7 @@ impl Turn {
 }
 
 /// Runs the instruction at which a process stands, unless none follows it.
+#[inline(always)]
 fn run_one<O: Observer, L: Ledger>(
     bodies: &mut Bodies,
     pid: u32,

@@ -16,6 +16,7 @@ use rv64_model::statuses::BREAKPOINT;
 
 /// Executes the instruction that `next_instr` gave. It isn't counted, and fails only at a store that
 /// finds no memory, which may be tried again.
+#[inline(always)]
 pub fn execute<M: Memory>(instr: &Instr, cpu: &mut Cpu, mem: &mut M) -> Result<(), NoMemory>
     // It is the instruction at pc, and it takes effect.
     requires { TakesEffect instr.now (instruction cpu.old (M.windows mem.old)) }
@@ -38,6 +39,7 @@ pub fn execute<M: Memory>(instr: &Instr, cpu: &mut Cpu, mem: &mut M) -> Result<(
 }
 
 // Lets an instruction take effect.
+#[inline(always)]
 pub(crate) fn take_effect<M: Memory>(instr: &Instr, cpu: &mut Cpu, mem: &mut M) -> Outcome
     ensures effect { Tells result (executed instr.now cpu.old (M.windows mem.old))
         cpu.new (M.windows mem.new) }
@@ -73,6 +75,7 @@ pub(crate) fn take_effect<M: Memory>(instr: &Instr, cpu: &mut Cpu, mem: &mut M) 
 }
 
 // What an instruction would come to.
+#[inline(always)]
 pub(crate) fn look_ahead<M: Memory>(instr: Instr, cpu: &Cpu, mem: &M) -> Prospect
     ensures { Foretells result (executed instr cpu.now (M.windows mem.now)) }
 {
@@ -108,6 +111,7 @@ pub fn accessed(instr: &Instr, cpu: &Cpu) -> Option<u64>
 }
 
 // The address of a load or a store, or the target of a jump.
+#[inline(always)]
 fn address(cpu: &Cpu, rs1: Reg, imm: i64) -> u64
     ensures { result ≡ address_of cpu.now rs1 imm }
 {
@@ -115,6 +119,7 @@ fn address(cpu: &Cpu, rs1: Reg, imm: i64) -> u64
 }
 
 // The number with bit 0 cleared.
+#[inline(always)]
 fn without_bit_0(number: u64) -> u64
     ensures { result ≡ number - number % 2 }
 {

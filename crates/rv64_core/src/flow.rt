@@ -14,6 +14,7 @@ use rv64_isa::{Instr, Reg};
 use rv64_model::statuses::MISALIGNED;
 
 // Goes on to the next word.
+#[inline(always)]
 pub(crate) fn go_on(cpu: &mut Cpu) -> Outcome
     ensures next { result ≡ Outcome.Next }
     ensures cpu { cpu.new ≡ advanced cpu.old }
@@ -23,6 +24,7 @@ pub(crate) fn go_on(cpu: &mut Cpu) -> Outcome
 }
 
 // Writes a register, and goes on to the next word.
+#[inline(always)]
 pub(crate) fn write(cpu: &mut Cpu, rd: Reg, value: u64) -> Outcome
     ensures next { result ≡ Outcome.Next }
     ensures cpu { cpu.new ≡ advanced (with_register cpu.old rd value) }
@@ -32,6 +34,7 @@ pub(crate) fn write(cpu: &mut Cpu, rd: Reg, value: u64) -> Outcome
 }
 
 // Jumps to a target, and leaves the address of the next word in rd.
+#[inline(always)]
 pub(crate) fn jump(cpu: &mut Cpu, rd: Reg, target: u64) -> Outcome
     ensures effect { (instr : Instr) → (memory : List Window) →
         Tells result (jumps instr cpu.old memory rd target) cpu.new memory }
@@ -48,6 +51,7 @@ pub(crate) fn jump(cpu: &mut Cpu, rd: Reg, target: u64) -> Outcome
 }
 
 // Goes to a target if the branch is taken, and else to the next word.
+#[inline(always)]
 pub(crate) fn branch(cpu: &mut Cpu, taken: bool, target: u64) -> Outcome
     ensures effect { (instr : Instr) → (memory : List Window) →
         Tells result (branches instr cpu.old memory taken target) cpu.new memory }
@@ -65,6 +69,7 @@ pub(crate) fn branch(cpu: &mut Cpu, taken: bool, target: u64) -> Outcome
 }
 
 // What a jump would come to.
+#[inline(always)]
 pub(crate) fn jump_ahead(instr: Instr, target: u64) -> Prospect
     ensures { (cpu : Cpu) → (memory : List Window) → (rd : ℕ) →
         Foretells result (jumps instr cpu memory rd target) }
@@ -77,6 +82,7 @@ pub(crate) fn jump_ahead(instr: Instr, target: u64) -> Prospect
 }
 
 // What a branch would come to.
+#[inline(always)]
 pub(crate) fn branch_ahead(instr: Instr, taken: bool, target: u64) -> Prospect
     ensures { (cpu : Cpu) → (memory : List Window) →
         Foretells result (branches instr cpu memory taken target) }
@@ -89,6 +95,7 @@ pub(crate) fn branch_ahead(instr: Instr, taken: bool, target: u64) -> Prospect
 }
 
 // Whether a target is a multiple of 4.
+#[inline(always)]
 fn is_aligned(target: u64) -> bool
     ensures { result ≡ (target % 4 == 0) }
 {
@@ -96,6 +103,7 @@ fn is_aligned(target: u64) -> bool
 }
 
 // The address of the next word.
+#[inline(always)]
 fn next_pc(cpu: &Cpu) -> u64
     ensures { result ≡ next_pc_of cpu.now }
 {

@@ -5,6 +5,7 @@ ghost use Rattle.rv64_model.specs.Registers.{register as value_of, with_register
 use arn_base::Cpu;
 use rv64_isa::Reg;
 
+#[inline(always)]
 pub(crate) fn register(cpu: &Cpu, reg: Reg) -> u64
     ensures { result ≡ value_of cpu.now reg }
 {
@@ -15,6 +16,7 @@ pub(crate) fn register(cpu: &Cpu, reg: Reg) -> u64
 }
 
 // A write to x0 is lost.
+#[inline(always)]
 pub(crate) fn set_register(cpu: &mut Cpu, reg: Reg, value: u64)
     ensures { cpu.new ≡ with_register cpu.old reg value }
 {

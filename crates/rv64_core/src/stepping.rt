@@ -17,6 +17,7 @@ use std::sync::ledger::Ledger;
 /// The status of an End is 132 at a word that is no instruction, 133 at an EBREAK, 135 at a jump or
 /// a taken branch to a target that is no multiple of 4, and 139 at a fetch, a load or a store
 /// outside the windows.
+#[inline(always)]
 pub fn step<M: Memory, L: Ledger>(cpu: &mut Cpu, mem: &mut M, steps: &mut Steps<L>) -> Outcome
     ensures tick { steps.new ≡ steps.old + 1 }
 
@@ -40,6 +41,7 @@ pub fn step<M: Memory, L: Ledger>(cpu: &mut Cpu, mem: &mut M, steps: &mut Steps<
 
 /// Says what the instruction at pc would come to, and counts it whatever that is. Its jump has a
 /// fit target, and its load or store a range within a window: so it may be executed by `execute`.
+#[inline(always)]
 pub fn next_instr<M: Memory, L: Ledger>(cpu: &Cpu, mem: &M, steps: &mut Steps<L>) -> Prospect
     ensures tick { steps.new ≡ steps.old + 1 }
 
@@ -64,6 +66,7 @@ pub fn is_at_call<M: Memory>(cpu: &Cpu, mem: &M) -> bool
 }
 
 // The instruction at pc, or the status with which its process ends if there is none.
+#[inline(always)]
 fn instr_at_pc<M: Memory>(cpu: &Cpu, mem: &M) -> Result<Instr, u8>
     ensures ok { IfOk result (λ instr. instruction cpu.now (M.windows mem.now)
         ≡ executed instr cpu.now (M.windows mem.now)) }
@@ -79,6 +82,7 @@ fn instr_at_pc<M: Memory>(cpu: &Cpu, mem: &M) -> Result<Instr, u8>
 }
 
 // The word at pc.
+#[inline(always)]
 fn fetch<M: Memory>(cpu: &Cpu, mem: &M) -> Result<u32, BadAddress>
     ensures { result_ok result ≡ number_at (M.windows mem.now) cpu.now.pc 4 }
 {

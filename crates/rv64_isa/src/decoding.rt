@@ -20,6 +20,7 @@ use crate::row::Form;
 /// The instruction of a word, and None for an illegal one.
 ///
 /// The word's fields lie as in the manual's section "Base Instruction Formats".
+#[inline(always)]
 pub fn decode(word: u32) -> Option<Instr>
     ensures table { result ≡ decoded word }
 
@@ -35,6 +36,7 @@ pub fn decode(word: u32) -> Option<Instr>
 
 // The instruction of a word with this opcode.
 #[tactic(auto, unfolding(crate::specs::Decoded::decoded_by))]
+#[inline(always)]
 fn decode_by(opcode: u32, word: u32) -> Option<Instr>
     ensures { result ≡ decoded_by opcode word }
 {
@@ -63,6 +65,7 @@ fn decode_by(opcode: u32, word: u32) -> Option<Instr>
     }
 }
 
+#[inline(always)]
 fn decode_jalr(word: u32) -> Option<Instr>
     ensures { result ≡ jalr_decoded word }
 {
@@ -76,6 +79,7 @@ fn decode_jalr(word: u32) -> Option<Instr>
     }
 }
 
+#[inline(always)]
 fn decode_branch(word: u32) -> Option<Instr>
     ensures { result ≡ branch_decoded word }
 {
@@ -88,6 +92,7 @@ fn decode_branch(word: u32) -> Option<Instr>
     })
 }
 
+#[inline(always)]
 fn decode_load(word: u32) -> Option<Instr>
     ensures { result ≡ load_decoded word }
 {
@@ -100,6 +105,7 @@ fn decode_load(word: u32) -> Option<Instr>
     })
 }
 
+#[inline(always)]
 fn decode_store(word: u32) -> Option<Instr>
     ensures { result ≡ store_decoded word }
 {
@@ -112,6 +118,7 @@ fn decode_store(word: u32) -> Option<Instr>
     })
 }
 
+#[inline(always)]
 fn decode_imm(word: u32) -> Option<Instr>
     ensures { result ≡ imm_decoded word }
 {
@@ -124,6 +131,7 @@ fn decode_imm(word: u32) -> Option<Instr>
     })
 }
 
+#[inline(always)]
 fn decode_op(word: u32) -> Option<Instr>
     ensures { result ≡ reg_decoded word }
 {
@@ -136,6 +144,7 @@ fn decode_op(word: u32) -> Option<Instr>
     })
 }
 
+#[inline(always)]
 fn decode_fence(word: u32) -> Option<Instr>
     ensures { result ≡ fence_decoded word }
 {
@@ -145,6 +154,7 @@ fn decode_fence(word: u32) -> Option<Instr>
     }
 }
 
+#[inline(always)]
 fn decode_system(word: u32) -> Option<Instr>
     ensures { result ≡ system_decoded word }
 {
@@ -156,6 +166,7 @@ fn decode_system(word: u32) -> Option<Instr>
 }
 
 // The immediate of a word of OP-IMM or of OP-IMM-32, by the form of its row.
+#[inline(always)]
 fn immediate(form: Form, word: u32) -> i64
     ensures { result ≡ immediate_by form word }
 {
@@ -166,18 +177,21 @@ fn immediate(form: Form, word: u32) -> i64
     }
 }
 
+#[inline(always)]
 fn i_immediate(word: u32) -> i64
     ensures { result ≡ i_immediate_of word }
 {
     sign_extend(bits(word, 31, 20), 12)
 }
 
+#[inline(always)]
 fn s_immediate(word: u32) -> i64
     ensures { result ≡ s_immediate_of word }
 {
     sign_extend(join(bits(word, 31, 25), bits(word, 11, 7), 5), 12)
 }
 
+#[inline(always)]
 fn b_immediate(word: u32) -> i64
     ensures { result ≡ b_immediate_of word }
 {
@@ -186,12 +200,14 @@ fn b_immediate(word: u32) -> i64
     sign_extend(join(upper, bits(word, 11, 8), 4) << 1, 13)
 }
 
+#[inline(always)]
 fn u_immediate(word: u32) -> i64
     ensures { result ≡ u_immediate_of word }
 {
     sign_extend(bits(word, 31, 12) << 12, 32)
 }
 
+#[inline(always)]
 fn j_immediate(word: u32) -> i64
     ensures { result ≡ j_immediate_of word }
 {
@@ -200,30 +216,35 @@ fn j_immediate(word: u32) -> i64
     sign_extend(join(upper, bits(word, 30, 21), 10) << 1, 21)
 }
 
+#[inline(always)]
 fn funct3(word: u32) -> u32
     ensures { result ≡ funct3_of word }
 {
     bits(word, 14, 12)
 }
 
+#[inline(always)]
 fn funct7(word: u32) -> u32
     ensures { result ≡ funct7_of word }
 {
     bits(word, 31, 25)
 }
 
+#[inline(always)]
 fn rd(word: u32) -> Reg
     ensures { result ≡ bits_of word 11 7 }
 {
     Reg::from_field(bits(word, 11, 7))
 }
 
+#[inline(always)]
 fn rs1(word: u32) -> Reg
     ensures { result ≡ bits_of word 19 15 }
 {
     Reg::from_field(bits(word, 19, 15))
 }
 
+#[inline(always)]
 fn rs2(word: u32) -> Reg
     ensures { result ≡ bits_of word 24 20 }
 {

@@ -3,6 +3,7 @@ ghost use Rattle.rv64_isa.specs.Bits.{bits_of};
 ghost use Rattle.rv64_isa.specs.Signed.{signed_of, unsigned_of, FitsIn};
 
 // The bits from `high` down to `low`, as a number.
+#[inline(always)]
 pub(crate) fn bits(word: u32, high: u32, low: u32) -> u32
     requires ordered { low ≤ high }
     requires within { high < 32 }
@@ -13,6 +14,7 @@ pub(crate) fn bits(word: u32, high: u32, low: u32) -> u32
 }
 
 // The bits `high` above the `width` bits `low`.
+#[inline(always)]
 pub(crate) fn join(high: u32, low: u32, width: u32) -> u32
     requires within { width < 32 }
     requires fits { low < 2 ^ width }
@@ -23,6 +25,7 @@ pub(crate) fn join(high: u32, low: u32, width: u32) -> u32
 }
 
 // The signed number that `width` bits spell.
+#[inline(always)]
 pub(crate) fn sign_extend(bits: u32, width: u32) -> i64
     requires some { 0 < width }
     requires within { width ≤ 32 }

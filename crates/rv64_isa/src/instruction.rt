@@ -24,6 +24,7 @@ pub enum BranchOp {
 impl BranchOp {
     ghost use Rattle.rv64_isa.specs.Rows.{branch_op_at, branch_row, IsRow};
 
+    #[inline(always)]
     pub(crate) fn at(funct3: u32) -> Option<BranchOp>
         ensures { result ≡ branch_op_at funct3 }
     {
@@ -38,6 +39,7 @@ impl BranchOp {
         }
     }
 
+    #[inline(always)]
     pub(crate) fn row(self) -> Row
         ensures table { result ≡ branch_row self }
         ensures fits { IsRow result }
@@ -75,6 +77,7 @@ pub enum LoadOp {
 impl LoadOp {
     ghost use Rattle.rv64_isa.specs.Rows.{load_op_at, load_row, IsRow};
 
+    #[inline(always)]
     pub(crate) fn at(funct3: u32) -> Option<LoadOp>
         ensures { result ≡ load_op_at funct3 }
     {
@@ -90,6 +93,7 @@ impl LoadOp {
         }
     }
 
+    #[inline(always)]
     pub(crate) fn row(self) -> Row
         ensures table { result ≡ load_row self }
         ensures fits { IsRow result }
@@ -122,6 +126,7 @@ pub enum StoreOp {
 impl StoreOp {
     ghost use Rattle.rv64_isa.specs.Rows.{store_op_at, store_row, IsRow};
 
+    #[inline(always)]
     pub(crate) fn at(funct3: u32) -> Option<StoreOp>
         ensures { result ≡ store_op_at funct3 }
     {
@@ -134,6 +139,7 @@ impl StoreOp {
         }
     }
 
+    #[inline(always)]
     pub(crate) fn row(self) -> Row
         ensures table { result ≡ store_row self }
         ensures fits { IsRow result }
@@ -184,6 +190,7 @@ pub enum ImmOp {
 impl ImmOp {
     ghost use Rattle.rv64_isa.specs.Rows.{imm_op_at, imm_row, IsRow};
 
+    #[inline(always)]
     pub(crate) fn at(opcode: u32, funct3: u32, funct7: u32) -> Option<ImmOp>
         ensures { result ≡ imm_op_at opcode funct3 funct7 }
     {
@@ -205,6 +212,7 @@ impl ImmOp {
         }
     }
 
+    #[inline(always)]
     pub(crate) fn row(self) -> Row
         ensures table { result ≡ imm_row self }
         ensures fits { IsRow result }
@@ -268,6 +276,7 @@ pub enum RegOp {
 impl RegOp {
     ghost use Rattle.rv64_isa.specs.Rows.{reg_op_at, reg_row, IsRow};
 
+    #[inline(always)]
     pub(crate) fn at(opcode: u32, funct3: u32, funct7: u32) -> Option<RegOp>
         ensures { result ≡ reg_op_at opcode funct3 funct7 }
     {
@@ -291,6 +300,7 @@ impl RegOp {
         }
     }
 
+    #[inline(always)]
     pub(crate) fn row(self) -> Row
         ensures table { result ≡ reg_row self }
         ensures fits { IsRow result }

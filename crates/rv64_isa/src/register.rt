@@ -36,6 +36,7 @@ impl Reg {
     }
 
     /// The register that a field of five bits names.
+    #[inline(always)]
     pub(crate) fn from_field(field: u32) -> Reg
         requires { field < 32 }
         ensures { result ≡ field }
@@ -46,6 +47,7 @@ impl Reg {
     }
 
     /// From 0 to 31.
+    #[inline(always)]
     pub fn number(&self) -> u8
         ensures number { result ≡ self.now }
         ensures below { result < 32 }

@@ -24,6 +24,7 @@ pub(crate) enum Form {
 impl Row {
     ghost use Rattle.rv64_isa.specs.Rows.{row};
 
+    #[inline(always)]
     pub(crate) fn new(form: Form, opcode: u32, funct3: u32, upper: u32) -> Row
         ensures { result ≡ row form opcode funct3 upper }
     {

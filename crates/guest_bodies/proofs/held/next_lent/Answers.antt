@@ -6,9 +6,9 @@ use Rattle.rv64_model.specs.Instruction.{Effect, instruction}
 use Rattle.guest_bodies.specs.Kept.{Segments, with_key, view_of, windows_of}
 use Rattle.guest_bodies.specs.declared.guest.Guest.{Guest}
 use Rattle.guest_bodies.proofs.Lent.{back-same, lent-seen}
-use Rattle.guest_bodies.proofs.held.next_instr.Goals as goal
-use Rattle.guest_bodies.proofs.held.next_instr.Goals.{After-take_back}
-use Rattle.guest_bodies.proofs.held.next_instr.Given.{Over}
+use Rattle.guest_bodies.proofs.held.next_lent.Goals as goal
+use Rattle.guest_bodies.proofs.held.next_lent.Goals.{After-take_back}
+use Rattle.guest_bodies.proofs.held.next_lent.Given.{Over}
 
 same : (g : Over) (c : After-take_back g) → c.take_back.new.segments.items ≡ c.args.segments.now.items
 same g c =

@@ -10,8 +10,8 @@ use Rattle.guest_bodies.specs.declared.guest.Guest.{Guest}
 use Rattle.guest_bodies.specs.declared.guest.Shared.{Shared}
 use Rattle.guest_bodies.proofs.Counts.{next-leaves}
 use Rattle.guest_bodies.proofs.Lent.{back, windows-some, back-held, back-seen, lent-seen}
-use Rattle.guest_bodies.proofs.held.execute.Goals as goal
-use Rattle.guest_bodies.proofs.held.execute.Goals.{After-take_back}
+use Rattle.guest_bodies.proofs.held.execute_lent.Goals as goal
+use Rattle.guest_bodies.proofs.held.execute_lent.Goals.{After-take_back}
 
 pub execute-requires : goal.execute-requires
 execute-requires c =

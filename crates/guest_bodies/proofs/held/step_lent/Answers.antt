@@ -10,9 +10,9 @@ use Rattle.guest_bodies.specs.declared.guest.Guest.{Guest}
 use Rattle.guest_bodies.specs.declared.guest.Shared.{Shared}
 use Rattle.guest_bodies.proofs.Counts.{told-leaves, OnStop-map, OnStop-both}
 use Rattle.guest_bodies.proofs.Lent.{back, windows-some, windows-segment, back-held, back-seen, back-same, lent-seen, first_bytes}
-use Rattle.guest_bodies.proofs.held.step.Goals as goal
-use Rattle.guest_bodies.proofs.held.step.Goals.{After-take_back}
-use Rattle.guest_bodies.proofs.held.step.Given.{Over}
+use Rattle.guest_bodies.proofs.held.step_lent.Goals as goal
+use Rattle.guest_bodies.proofs.held.step_lent.Goals.{After-take_back}
+use Rattle.guest_bodies.proofs.held.step_lent.Given.{Over}
 
 segs_is : (g : Over) (c : After-take_back g) → c.take_back.new.segments.items ≡ back c.args.guest.now.segment c.step-outcome.new.mem.segment c.args.segments.now.items
 segs_is g c = c.take_back.ensures.segments ∙ ap₂ (λ (o : Option Shared) (l : Segments). with_key o c.step-outcome.new.mem.segment l) (ap (λ (x : Guest). x.segment) c.lend.ensures.guest) c.lend.ensures.segments
