@@ -1,2 +1,4 @@
 mod Bytes
+mod Flows
+mod Grown
 mod Operands

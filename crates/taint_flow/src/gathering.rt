@@ -23,7 +23,7 @@ fn has(mask: u8, byte: u8) -> bool
 }
 
 /// The set of all members of two sets.
-fn unite(sets: &mut Sets, first: u32, second: u32) -> Result<u32, NoMemory>
+pub fn unite(sets: &mut Sets, first: u32, second: u32) -> Result<u32, NoMemory>
     requires first { IsSet sets.old first }
     requires second { IsSet sets.old second }
     ensures set { IfOk result (IsSet sets.new) }
@@ -71,6 +71,9 @@ fn with_bytes(sets: &mut Sets, start: u32, mask: u8, numbers: &[u32]) -> Result<
     ensures takes { IfOk result (TakesBytes sets.old sets.new numbers.now mask byte_count start) }
     ensures before { StandAsBefore sets.old sets.new }
 {
+    if mask == 0 {
+        return Ok(start);
+    }
     let mut set = start;
     for byte in 0..8 {
         set = with_byte(sets, set, mask, byte, numbers[byte as usize])?;

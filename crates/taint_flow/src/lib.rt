@@ -1,12 +1,14 @@
 //! Which sets the bytes of an instruction's result have, by the sets of the bytes that it reads.
 #![tactic(auto)]
 
+mod flow;
 mod gathering;
 mod names;
 mod starts;
+mod working;
 mod writing;
 
 pub use gathering::{FIRST_START, narrow};
-pub use names::{accessed, loaded_len, rd, rs1, rs2, stored_len};
+pub use names::{loaded_len, rd, rs1, rs2, stored_len};
 pub use starts::{resolve, resolve_all};
 pub use writing::results;

@@ -1,14 +1,13 @@
 // What an instruction names.
 ghost use Rattle.std.specs.Prelude.{◌≡◌, ◌≤◌, unwrap_or};
 ghost use Rattle.rv64_model.specs.Operands as operands;
-ghost use Rattle.rv64_model.specs.Registers.{register as value_of};
-ghost use Rattle.rv64_model.specs.Values as values;
 ghost use Rattle.taint_flow.specs.Names.{loaded_len as loaded_len_of};
 
-use arn_base::Cpu;
-use rv64_isa::{Instr, LoadOp, Reg, StoreOp};
+use rv64_isa::{Instr, Reg};
+use rv64_model::{load_len, store_len};
 
 /// The first register that it reads, if it does.
+#[inline(always)]
 pub fn rs1(instr: &Instr) -> Option<Reg>
     ensures { unwrap_or result 0 ≡ operands.rs1_of instr.now }
 {
@@ -24,6 +23,7 @@ pub fn rs1(instr: &Instr) -> Option<Reg>
 }
 
 /// The second register that it reads.
+#[inline(always)]
 pub fn rs2(instr: &Instr) -> Option<Reg>
     ensures { unwrap_or result 0 ≡ operands.rs2_of instr.now }
 {
@@ -34,6 +34,7 @@ pub fn rs2(instr: &Instr) -> Option<Reg>
 }
 
 /// The register that it writes.
+#[inline(always)]
 pub fn rd(instr: &Instr) -> Option<Reg>
     ensures { unwrap_or result 0 ≡ operands.rd_of instr.now }
 {
@@ -50,69 +51,25 @@ pub fn rd(instr: &Instr) -> Option<Reg>
 }
 
 /// How many bytes it loads.
+#[inline(always)]
 pub fn loaded_len(instr: &Instr) -> usize
     ensures len { result ≡ loaded_len_of instr.now }
     ensures few { result ≤ 8 }
 {
     match *instr {
-        Instr::Load { op, .. } => load_len(op),
+        Instr::Load { op, .. } => usize::from(load_len(op)),
         _ => 0,
     }
 }
 
-fn load_len(op: LoadOp) -> usize
-    ensures len { result ≡ values.load_len op }
-    ensures few { result ≤ 8 }
-{
-    match op {
-        LoadOp::Lb | LoadOp::Lbu => 1,
-        LoadOp::Lh | LoadOp::Lhu => 2,
-        LoadOp::Lw | LoadOp::Lwu => 4,
-        LoadOp::Ld => 8,
-    }
-}
-
 /// How many bytes it stores.
+#[inline(always)]
 pub fn stored_len(instr: &Instr) -> usize
     ensures len { result ≡ operands.stored_len instr.now }
     ensures few { result ≤ 8 }
 {
     match *instr {
-        Instr::Store { op, .. } => store_len(op),
+        Instr::Store { op, .. } => usize::from(store_len(op)),
         _ => 0,
-    }
-}
-
-fn store_len(op: StoreOp) -> usize
-    ensures len { result ≡ operands.store_len op }
-    ensures few { result ≤ 8 }
-{
-    match op {
-        StoreOp::Sb => 1,
-        StoreOp::Sh => 2,
-        StoreOp::Sw => 4,
-        StoreOp::Sd => 8,
-    }
-}
-
-/// Where it loads or stores.
-pub fn accessed(instr: &Instr, before: &Cpu) -> Option<u64>
-    ensures { result ≡ operands.accessed instr.now before.now }
-{
-    match *instr {
-        Instr::Load { rs1, imm, .. } | Instr::Store { rs1, imm, .. } => {
-            Some(value(before, rs1).wrapping_add_signed(imm))
-        }
-        _ => None,
-    }
-}
-
-/// The value of a register.
-fn value(before: &Cpu, reg: Reg) -> u64
-    ensures { result ≡ value_of before.now reg }
-{
-    match usize::from(reg.number()) {
-        0 => 0,
-        number => before.x[number - 1],
     }
 }

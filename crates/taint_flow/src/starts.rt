@@ -1,5 +1,5 @@
 // Bytes with which a group's first member began.
-ghost use Rattle.std.specs.Prelude.{◌≡◌, ◌<◌, length, slice_index, IfOk};
+ghost use Rattle.std.specs.Prelude.{◌≡◌, ◌<◌, ◌≤◌, length, slice_index, IfOk};
 ghost use Rattle.set_store.specs.Sets.{IsSet, StandAsBefore};
 ghost use Rattle.taint_flow.specs.Gathered.{AreNumbers, first_start};
 ghost use Rattle.taint_flow.specs.Starts.{AreResolved, AreRaw, IsRaw, IsResolved};
@@ -10,6 +10,7 @@ use set_store::{Item, Sets};
 
 /// The set for which a number stands: its own, or that of the byte of the window, by address, with which the first
 /// member began at this event.
+#[inline(always)]
 pub fn resolve(sets: &mut Sets, begun: u64, number: u32) -> Result<u32, NoMemory>
     requires { IsRaw sets.old number }
     ensures resolved { IfOk result (IsResolved sets.old sets.new begun number) }
@@ -19,11 +20,22 @@ pub fn resolve(sets: &mut Sets, begun: u64, number: u32) -> Result<u32, NoMemory
     if number < FIRST_START {
         return Ok(number);
     }
+    first_byte(sets, begun, number)
+}
+
+// The set of a byte with which the first member began.
+fn first_byte(sets: &mut Sets, begun: u64, number: u32) -> Result<u32, NoMemory>
+    requires { first_start ≤ number }
+    ensures resolved { IfOk result (IsResolved sets.old sets.new begun number) }
+    ensures small { IfOk result (λ set. set < first_start) }
+    ensures before { StandAsBefore sets.old sets.new }
+{
     let at = u64::from(number - FIRST_START);
     narrow(sets.single(Item { event: begun, at })?)
 }
 
 /// The same of several numbers.
+#[inline(always)]
 pub fn resolve_all(sets: &mut Sets, begun: u64, numbers: &[u32]) -> Result<[u32; 8], NoMemory>
     requires { AreRaw sets.old numbers.now }
     ensures resolved { IfOk result (AreResolved sets.old sets.new begun numbers.now) }

@@ -1,20 +1,57 @@
 // The sets of an instruction's result.
-ghost use Rattle.std.specs.Prelude.{IfOk};
+ghost use Rattle.std.specs.Prelude.{◌≡◌, ℕ, [], IfOk, IsTrue, length, replicate, slice_index};
 ghost use Rattle.rv64_model.specs.Carries.{operands};
-ghost use Rattle.set_store.specs.Sets.{StandAsBefore};
-ghost use Rattle.taint_flow.specs.Gathered.{AreNumbers, number_of};
+ghost use Rattle.set_store.specs.Sets.{IsSet, StandAsBefore, members_of};
+ghost use Rattle.taint_flow.specs.Flow.{IsFlow, Moves};
+ghost use Rattle.taint_flow.specs.Gathered.{AreNumbers, byte_count, number_of};
 ghost use Rattle.taint_flow.specs.Results.{AreResults};
 
-use crate::gathering::gather;
+use crate::flow::{Flow, result_flow};
+use crate::gathering::{gather, narrow};
+use crate::working::{bytewise, carried, rising};
 use arn_base::NoMemory;
 use link_rules::inputs;
 use rv64_isa::Instr;
 use rv64_model::Linkage;
 use set_store::Sets;
 
-/// The sets of the bytes that an instruction writes to its register, or of those that it stores: by the sets of
-/// the bytes of rs1 and rs2, and of those that it loads.
-pub fn results(
+// The empty set for each byte.
+#[inline(always)]
+fn none(sets: &Sets) -> [u32; 8]
+    ensures numbers { result ≡ replicate 8 0 }
+    ensures empty { members_of sets.now 0 ≡ [] }
+    ensures set { IsSet sets.now 0 }
+{
+    let _ = sets.empty();
+    [0; 8]
+}
+
+// The first numbers as they are.
+#[inline(always)]
+fn moved(sets: &Sets, numbers: &[u32], count: u8) -> Result<[u32; 8], NoMemory>
+    requires { length numbers.now ≡ byte_count }
+    ensures moves { IfOk result (Moves numbers.now count) }
+    ensures empty { members_of sets.now 0 ≡ [] }
+    ensures set { IsSet sets.now 0 }
+{
+    let _ = sets.empty();
+    let mut moved = [0; 8];
+    for byte in 0..usize::from(count).min(8) {
+        moved[byte] = narrow(numbers[byte] as usize)?;
+    }
+    Ok(moved)
+}
+
+// Whether each byte has the empty set.
+#[inline(always)]
+fn is_empty(numbers: &[u32]) -> bool
+    ensures { IsTrue result → (byte : ℕ) → slice_index numbers.now byte ≡ 0 }
+{
+    numbers.iter().all(|number| *number == 0)
+}
+
+// The same of any instruction.
+fn mixed(
     sets: &mut Sets,
     linkage: Linkage,
     instr: &Instr,
@@ -35,4 +72,61 @@ pub fn results(
         numbers[byte as usize] = gather(sets, masks, first, second, loaded)?;
     }
     Ok(numbers)
+}
+
+// The sets of what an instruction works out.
+fn worked(
+    sets: &mut Sets,
+    flow: Flow,
+    linkage: Linkage,
+    instr: &Instr,
+    first: &[u32],
+    second: &[u32],
+    loaded: &[u32],
+) -> Result<[u32; 8], NoMemory>
+    requires flow { IsFlow flow (operands linkage instr.now) }
+    requires first { AreNumbers sets.old first.now }
+    requires second { AreNumbers sets.old second.now }
+    requires loaded { AreNumbers sets.old loaded.now }
+    ensures results { IfOk result (AreResults sets.old sets.new
+        (number_of first.now second.now loaded.now) (operands linkage instr.now)) }
+    ensures before { StandAsBefore sets.old sets.new }
+{
+    if is_empty(first) && is_empty(second) && is_empty(loaded) {
+        return Ok(none(sets));
+    }
+    match flow {
+        Flow::Rising(width) => rising(sets, first, width),
+        Flow::Carried(width) => carried(sets, first, second, width),
+        Flow::Bytewise => bytewise(sets, first, second),
+        _ => mixed(sets, linkage, instr, first, second, loaded),
+    }
+}
+
+/// The sets of the bytes that an instruction writes to its register, or of those that it stores: by the sets of
+/// the bytes of rs1 and rs2, and of those that it loads.
+#[inline(always)]
+pub fn results(
+    sets: &mut Sets,
+    linkage: Linkage,
+    instr: &Instr,
+    first: &[u32],
+    second: &[u32],
+    loaded: &[u32],
+) -> Result<[u32; 8], NoMemory>
+    requires first { AreNumbers sets.old first.now }
+    requires second { AreNumbers sets.old second.now }
+    requires loaded { AreNumbers sets.old loaded.now }
+    ensures results { IfOk result (AreResults sets.old sets.new
+        (number_of first.now second.now loaded.now) (operands linkage instr.now)) }
+    ensures before { StandAsBefore sets.old sets.new }
+{
+    let flow = result_flow(linkage, instr);
+    match flow {
+        Flow::Nothing => Ok(none(sets)),
+        Flow::First => moved(sets, first, 8),
+        Flow::Second(count) => moved(sets, second, count),
+        Flow::Memory(count) => moved(sets, loaded, count),
+        _ => worked(sets, flow, linkage, instr, first, second, loaded),
+    }
 }

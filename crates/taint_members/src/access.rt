@@ -10,6 +10,7 @@ use parts_model::limits::{SEGMENT_END, SEGMENT_START, WINDOW_END, WINDOW_START};
 use taint_pages::Numbers;
 
 /// How far an address lies in the private window, if it does.
+#[inline(always)]
 fn window_offset(at: u64) -> Option<usize>
     ensures offset { result ≡ from_start (is_private at) limits.WINDOW_START at }
     ensures small { IfSome result (λ offset. offset < 262144) }
@@ -60,6 +61,7 @@ fn number_shared(segment: Option<Shared>, segments: &[Numbers], at: u64, k: usiz
 
 /// The numbers of so many bytes from an address on, at most eight, and zeros behind them. An address outside the
 /// member's memories has zeros.
+#[inline(always)]
 pub fn read(member: &Member, segments: &[Numbers], at: u64, len: usize) -> [u32; 8]
     requires few { len ≤ 8 }
     requires held { HoldsKey member.now.segment segments.now }
@@ -85,6 +87,7 @@ fn read_segment(segment: Option<Shared>, segments: &[Numbers], at: u64, len: usi
 
 /// Sets the numbers of several bytes from an address on, as far as they lie in the same memory. At an address outside
 /// the member's memories nothing is set.
+#[inline(always)]
 pub fn write(
     member: &mut Member,
     segments: &mut [Numbers],

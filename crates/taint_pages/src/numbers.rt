@@ -38,6 +38,7 @@ impl Numbers {
     }
 
     /// The number of a byte.
+    #[inline(always)]
     pub fn get(&self, at: usize) -> u32
         requires { at < length self.now }
         ensures { result ≡ slice_index self.now at }
@@ -52,6 +53,7 @@ impl Numbers {
     }
 
     /// Whether there is such a byte.
+    #[inline(always)]
     fn has(&self, at: usize) -> bool
         ensures { result ≡ nat_lt at (length self.now) }
     {
@@ -59,6 +61,7 @@ impl Numbers {
     }
 
     /// The number of a byte, 0 behind the last one.
+    #[inline(always)]
     pub fn find(&self, at: usize) -> u32
         ensures { result ≡ slice_index self.now at }
     {
@@ -66,6 +69,7 @@ impl Numbers {
     }
 
     /// Sets the number of a byte.
+    #[inline(always)]
     pub fn set(&mut self, at: usize, number: u32) -> Result<(), NoMemory>
         requires { at < length self.old }
         ensures ok { OnOk result (Sets at number self.old self.new) }
@@ -100,6 +104,7 @@ impl Numbers {
     }
 
     /// Sets the number of a byte, where there is such a byte.
+    #[inline(always)]
     fn replace(&mut self, at: usize, number: u32) -> Result<(), NoMemory>
         ensures ok { OnOk result (SetsInside at number self.old self.new) }
         ensures len { length self.new ≡ length self.old }
@@ -112,6 +117,7 @@ impl Numbers {
     }
 
     /// Sets the numbers of several bytes that follow each other. Those behind the last byte are left out.
+    #[inline(always)]
     pub fn put(&mut self, at: usize, numbers: &[u32]) -> Result<(), NoMemory>
         requires small { at + length numbers.now < 2 ^ 32 }
         ensures ok { OnOk result (Puts at numbers.now self.old self.new) }
@@ -125,6 +131,7 @@ impl Numbers {
 
     /// The numbers of so many bytes that follow each other, at most eight, and zeros behind them and behind the
     /// last byte.
+    #[inline(always)]
     pub fn eight(&self, at: usize, len: usize) -> [u32; 8]
         requires few { len ≤ 8 }
         requires small { at < 2 ^ 32 }

@@ -21,6 +21,7 @@ pub enum Unset {
 pub type Page = Option<Vec<u32>>;
 
 /// The number of a byte that wasn't set.
+#[inline(always)]
 fn unset_at(unset: Unset, base: usize, at: usize) -> u32
     requires fits { FitsIn unset (base + page_len) }
     requires inside { at < page_len }
@@ -33,6 +34,7 @@ fn unset_at(unset: Unset, base: usize, at: usize) -> u32
 }
 
 /// The number of byte `at` of a page whose first byte has the place `base`.
+#[inline(always)]
 pub fn number_of(unset: Unset, base: usize, page: &Page, at: usize) -> u32
     requires page { IsPage (content page.now) }
     requires inside { at < page_len }
@@ -60,6 +62,7 @@ fn unset_page(alloc: Global, unset: Unset, base: usize) -> Result<Vec<u32>, NoMe
 }
 
 /// Sets the number of a byte. A page is made for a number that the byte hasn't had.
+#[inline(always)]
 pub fn set_number(
     alloc: Global,
     unset: Unset,

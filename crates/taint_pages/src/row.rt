@@ -40,6 +40,7 @@ impl Row {
     }
 
     /// The number of a byte of a register.
+    #[inline(always)]
     pub fn get(&self, reg: Reg, byte: u8) -> u32
         requires { byte < 8 }
         ensures number { result ≡ byte_in self.now reg byte }
@@ -49,6 +50,7 @@ impl Row {
     }
 
     /// Sets the number of a byte of a register that isn't x0.
+    #[inline(always)]
     pub fn set(&mut self, reg: Reg, byte: u8, number: u32)
         requires above { 0 < reg }
         requires byte { byte < 8 }
@@ -58,6 +60,7 @@ impl Row {
     }
 
     /// The numbers of the eight bytes of a register.
+    #[inline(always)]
     pub fn bytes(&self, reg: Reg) -> &[u32]
         ensures { AreBytes self.now reg result.now }
     {
@@ -66,6 +69,7 @@ impl Row {
     }
 
     /// Sets the numbers of all bytes of a register that isn't x0.
+    #[inline(always)]
     pub fn put(&mut self, reg: Reg, numbers: &[u32])
         requires above { 0 < reg }
         requires eight { length numbers.now ≡ 8 }
@@ -78,6 +82,7 @@ impl Row {
 }
 
 /// Where a byte of a register stands.
+#[inline(always)]
 fn place(reg: Reg, byte: u8) -> usize
     requires { byte < 8 }
     ensures place { result ≡ 8 * reg + byte }

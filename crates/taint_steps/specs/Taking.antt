@@ -37,6 +37,12 @@ AreSetsIn sets row = (r i : ℕ) → 0 < r → r < 32 → i < 8 → IsSet sets (
 abbrev pub AreRawIn : List (List Item) → Member → Segments → Type 0
 AreRawIn sets m segments = (at k : ℕ) → IsRaw sets (number_at m segments at k)
 
+-- The sets of what is loaded: of the numbers that stand there, each of which has a set then.
+pub record Loads (old mid : List (List Item)) (rules : Rules) (instr : Instr) (before : Cpu) (m : Member) (segments : Segments) (loaded : List ℕ) : Type 0 where
+  pub raw : List ℕ
+  pub read : IsRead (named.accessed instr before) (loaded_len instr) m segments raw
+  pub resolved : AreResolved old mid rules.begun raw loaded
+
 -- What was taken: by the bytes of both registers, and by those that are loaded, each of which has a set then.
 pub record Takes (old new : List (List Item)) (rules : Rules) (instr : Instr) (before : Cpu) (m : Member) (segments : Segments) (numbers : List ℕ) : Type 0 where
   pub first : List ℕ

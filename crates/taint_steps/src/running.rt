@@ -8,13 +8,15 @@ ghost use Rattle.taint_steps.specs.Taking.{AreRawIn, AreSetsIn};
 
 use crate::taking::{Rules, taken};
 use arn_base::{Cpu, NoMemory};
+use rv64_core::accessed;
 use rv64_isa::{Instr, Reg};
 use set_store::Sets;
-use taint_flow::{accessed, rd, stored_len};
+use taint_flow::{rd, stored_len};
 use taint_members::{Member, write};
 use taint_pages::{Numbers, Row};
 
 /// Sets the numbers of the register that is written, if there is one that isn't x0.
+#[inline(always)]
 fn write_register(row: &mut Row, rd: Option<Reg>, numbers: &[u32])
     requires eight { length numbers.now ≡ 8 }
     ensures { WritesRegister (unwrap_or rd 0) numbers.now row.old row.new }
@@ -28,6 +30,7 @@ fn write_register(row: &mut Row, rd: Option<Reg>, numbers: &[u32])
 }
 
 /// Sets the numbers of the bytes that are stored, if there are any.
+#[inline(always)]
 fn store(
     instr: &Instr,
     before: &Cpu,
@@ -52,6 +55,7 @@ fn store(
 
 /// A member runs an instruction that the next one follows: its register, or the bytes that it stores, have the sets
 /// of what it takes.
+#[inline(always)]
 pub fn run(
     sets: &mut Sets,
     rules: Rules,

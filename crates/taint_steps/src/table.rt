@@ -13,6 +13,7 @@ use taint_members::Member;
 use taint_pages::Numbers;
 
 /// A member runs an instruction that the next one follows, if there is one.
+#[inline(always)]
 fn run_entry(
     sets: &mut Sets,
     rules: Rules,
@@ -35,6 +36,7 @@ fn run_entry(
 
 /// The member of a number runs an instruction that the next one follows. Where there is no such member nothing is
 /// changed.
+#[inline(always)]
 pub fn run_member(
     sets: &mut Sets,
     rules: Rules,

@@ -5,13 +5,14 @@ ghost use Rattle.set_store.specs.Sets.{StandAsBefore};
 ghost use Rattle.taint_flow.specs.Names as names;
 ghost use Rattle.taint_members.specs.Access.{HoldsKey};
 ghost use Rattle.taint_pages.specs.Rows.{AreBytes};
-ghost use Rattle.taint_steps.specs.Taking.{AreRawIn, AreSetsIn, IsRead, IsRegister, Takes};
+ghost use Rattle.taint_steps.specs.Taking.{AreRawIn, AreSetsIn, IsRead, IsRegister, Loads, Takes};
 
 use arn_base::{Cpu, NoMemory};
+use rv64_core::accessed;
 use rv64_isa::{Instr, Reg};
 use rv64_model::Linkage;
 use set_store::Sets;
-use taint_flow::{accessed, loaded_len, resolve_all, results, rs1, rs2};
+use taint_flow::{loaded_len, resolve_all, results, rs1, rs2};
 use taint_members::{Member, read};
 use taint_pages::{Numbers, Row};
 
@@ -26,6 +27,7 @@ pub struct Rules {
 static NO_BYTES: [u32; 8] = [0; 8];
 
 /// The numbers of the bytes of a register, zeros for x0 and where none is named.
+#[inline(always)]
 fn bytes_of(row: &Row, reg: Option<Reg>) -> &[u32]
     ensures { IsRegister row.now (unwrap_or reg 0) result.now }
 {
@@ -36,6 +38,7 @@ fn bytes_of(row: &Row, reg: Option<Reg>) -> &[u32]
 }
 
 /// The numbers of the bytes that an instruction loads, and zeros behind them.
+#[inline(always)]
 fn loaded(instr: &Instr, before: &Cpu, member: &Member, segments: &[Numbers]) -> [u32; 8]
     requires held { HoldsKey member.now.segment segments.now }
     ensures { IsRead (operands.accessed instr.now before.now) (names.loaded_len instr.now)
@@ -47,7 +50,31 @@ fn loaded(instr: &Instr, before: &Cpu, member: &Member, segments: &[Numbers]) ->
     }
 }
 
+/// The sets of the bytes that an instruction loads, and the empty set behind them.
+#[inline(always)]
+fn loaded_sets(
+    sets: &mut Sets,
+    rules: Rules,
+    instr: &Instr,
+    before: &Cpu,
+    member: &Member,
+    segments: &[Numbers],
+) -> Result<[u32; 8], NoMemory>
+    requires held { HoldsKey member.now.segment segments.now }
+    requires memory { AreRawIn sets.old member.now segments.now }
+    ensures loads { IfOk result
+        (Loads sets.old sets.new rules instr.now before.now member.now segments.now) }
+    ensures before { StandAsBefore sets.old sets.new }
+{
+    let _ = sets.empty();
+    if loaded_len(instr) == 0 {
+        return Ok([0; 8]);
+    }
+    resolve_all(sets, rules.begun, &loaded(instr, before, member, segments))
+}
+
 /// The sets of the bytes that an instruction writes to its register, or of those that it stores.
+#[inline(always)]
 pub fn taken(
     sets: &mut Sets,
     rules: Rules,
@@ -63,8 +90,7 @@ pub fn taken(
         (Takes sets.old sets.new rules instr.now before.now member.now segments.now) }
     ensures before { StandAsBefore sets.old sets.new }
 {
-    let _ = sets.empty();
-    let loaded = resolve_all(sets, rules.begun, &loaded(instr, before, member, segments))?;
+    let loaded = loaded_sets(sets, rules, instr, before, member, segments)?;
     let first = bytes_of(&member.registers, rs1(instr));
     let second = bytes_of(&member.registers, rs2(instr));
     results(sets, rules.linkage, instr, first, second, &loaded)

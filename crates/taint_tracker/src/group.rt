@@ -94,6 +94,7 @@ impl Group {
     }
 
     /// A member runs an instruction that the next one follows. After an error nothing is known of what is kept.
+    #[inline(always)]
     pub fn instruction(&mut self, pid: u32, instr: &Instr, before: &Cpu) -> Result<(), NoMemory>
         requires sound { IsSoundGroup self.old }
         ensures takes { OnOk result

@@ -88,6 +88,7 @@ impl Observer for Tracker {
         Ok(())
     }
 
+    #[inline(always)]
     fn instruction(&mut self, pid: u32, instr: &Instr, before: &Cpu) -> Result<(), NoMemory>
         ensures takes { OnOk result
             (TakesInstr (shown self.old) pid instr.now before.now (shown self.new)) }

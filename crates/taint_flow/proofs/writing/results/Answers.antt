@@ -1,21 +1,22 @@
-use Rattle.std.proofs.Common.{◌<◌, slice_index, sym, subst, ◌∙◌}
-use Rattle.std.proofs.lemmas.List.{length-set}
-use Rattle.rv64_model.specs.Carries.{operands}
-use Rattle.taint_flow.specs.Gathered.{number_of}
-use Rattle.taint_flow.proofs.Bytes.{before-trans}
-use Rattle.taint_flow.proofs.Operands.{one-more, takes-named, takes-still}
+use Rattle.std.proofs.Common.{refl}
+use Rattle.rv64_model.specs.Carries.{Left, Right, Loaded, operands}
+use Rattle.taint_flow.proofs.Flows.{first-table, memory-table, moved-if, second-table}
 use Rattle.taint_flow.proofs.writing.results.Goals as goal
 
-pub loop-byte-preserved : goal.loop-byte-preserved
-loop-byte-preserved c =
-    let number = number_of c.args.first.now c.args.second.now c.args.loaded.now in
-    let table = operands c.args.linkage c.args.instr.now in
-    record {
-      len = length-set c.loop-byte.numbers c.loop-byte.byte c.in_ok-numbers.field-0 ∙ c.loop-byte.invariant.len;
-      bytes = one-more c.args.sets.now c.gather.new.sets number table c.loop-byte.numbers c.loop-byte.byte c.in_ok-numbers.field-0
-          (subst (λ n. c.loop-byte.byte < n) (sym c.loop-byte.invariant.len) c.loop-byte-test.true)
-          (λ k h. takes-still c.args.sets.now c.loop-byte.sets c.gather.new.sets number (table k) (slice_index c.loop-byte.numbers k) c.gather.ensures.before (c.loop-byte.invariant.bytes k h))
-          (takes-named c.args.sets.now c.loop-byte.sets c.gather.new.sets c.args.first.now c.args.second.now c.args.loaded.now c.inputs-masks.result (table c.loop-byte.byte) c.in_ok-numbers.field-0
-          c.requires.first c.requires.second c.requires.loaded c.loop-byte.invariant.before c.inputs-masks.ensures.exact c.in_ok-numbers.ensures.gathers);
-      before = before-trans c.args.sets.now c.loop-byte.sets c.gather.new.sets c.loop-byte.invariant.before c.gather.ensures.before;
-    }
+pub returns-in-First-clause-results : goal.returns-in-First-clause-results
+returns-in-First-clause-results c =
+    let taken = operands c.args.linkage c.args.instr.now in
+    moved-if c.args.sets.now c.args.first.now c.args.second.now c.args.loaded.now c.moved.ensures.set c.moved.ensures.empty c.moved.result Left taken c.args.first.now 8 c.requires.first (λ i. refl)
+    (first-table c.result_flow-flow.result taken c.in-First.is c.result_flow-flow.ensures.flow) c.moved.ensures.moves
+
+pub returns-in-Second-clause-results : goal.returns-in-Second-clause-results
+returns-in-Second-clause-results c =
+    let taken = operands c.args.linkage c.args.instr.now in
+    moved-if c.args.sets.now c.args.first.now c.args.second.now c.args.loaded.now c.moved-in-Second.ensures.set c.moved-in-Second.ensures.empty c.moved-in-Second.result Right taken c.args.second.now c.in-Second.count
+    c.requires.second (λ i. refl) (second-table c.result_flow-flow.result taken c.in-Second.count c.in-Second.is c.result_flow-flow.ensures.flow) c.moved-in-Second.ensures.moves
+
+pub returns-in-Memory-clause-results : goal.returns-in-Memory-clause-results
+returns-in-Memory-clause-results c =
+    let taken = operands c.args.linkage c.args.instr.now in
+    moved-if c.args.sets.now c.args.first.now c.args.second.now c.args.loaded.now c.moved-in-Memory.ensures.set c.moved-in-Memory.ensures.empty c.moved-in-Memory.result Loaded taken c.args.loaded.now c.in-Memory.count
+    c.requires.loaded (λ i. refl) (memory-table c.result_flow-flow.result taken c.in-Memory.count c.in-Memory.is c.result_flow-flow.ensures.flow) c.moved-in-Memory.ensures.moves

@@ -7,42 +7,40 @@ use Rattle.rv64_model.specs.Operands as named
 use Rattle.set_store.specs.declared.item.Item.{Item}
 use Rattle.set_store.specs.Sets.{StandAsBefore}
 use Rattle.taint_flow.specs.Gathered.{number_of}
-use Rattle.taint_flow.specs.Names.{loaded_len}
 use Rattle.taint_flow.specs.Results.{AreResults}
-use Rattle.taint_flow.specs.Starts.{AreResolved}
 use Rattle.taint_members.specs.Access.{Segments}
 use Rattle.taint_members.specs.declared.member.Member.{Member}
-use Rattle.taint_steps.specs.Taking.{IsRead, IsRegister, Takes}
+use Rattle.taint_steps.specs.Taking.{IsRegister, Loads, Takes}
 use Rattle.taint_steps.specs.declared.taking.Rules.{Rules}
 use Rattle.taint_steps.proofs.taking.taken.Goals as goal
 
-takes : (r : Result (List ℕ) NoMemory) (old mid new : List (List Item)) (rules : Rules) (instr : Instr) (before : Cpu) (m : Member) (segments : Segments) (first second raw loaded : List ℕ) (rs1 rs2 : ℕ)
+takes : (r : Result (List ℕ) NoMemory) (old mid new : List (List Item)) (rules : Rules) (instr : Instr) (before : Cpu) (m : Member) (segments : Segments) (first second loaded : List ℕ) (rs1 rs2 : ℕ)
     → rs1 ≡ named.rs1_of instr → rs2 ≡ named.rs2_of instr → IsRegister m.registers rs1 first → IsRegister m.registers rs2 second
-    → IsRead (named.accessed instr before) (loaded_len instr) m segments raw → AreResolved old mid rules.begun raw loaded → StandAsBefore old mid
+    → Loads old mid rules instr before m segments loaded → StandAsBefore old mid
     → IfOk r (AreResults mid new (number_of first second loaded) (operands rules.linkage instr)) → IfOk r (Takes old new rules instr before m segments)
-takes (Ok numbers) old mid new rules instr before m segments first second raw loaded rs1 rs2 n1 n2 f s read resolved stand results = record {
+takes (Ok numbers) old mid new rules instr before m segments first second loaded rs1 rs2 n1 n2 f s loads stand results = record {
   first = first;
   second = second;
-  raw = raw;
+  raw = loads.raw;
   loaded = loaded;
   mid = mid;
   of_first = subst (λ k. IsRegister m.registers k first) n1 f;
   of_second = subst (λ k. IsRegister m.registers k second) n2 s;
-  read = read;
-  resolved = resolved;
+  read = loads.read;
+  resolved = loads.resolved;
   stand = stand;
   results = results;
 }
-takes (Err e) old mid new rules instr before m segments first second raw loaded rs1 rs2 n1 n2 f s read resolved stand results = results
+takes (Err e) old mid new rules instr before m segments first second loaded rs1 rs2 n1 n2 f s loads stand results = results
 
 trans : (old mid new : List (List Item)) → StandAsBefore old mid → StandAsBefore mid new → StandAsBefore old new
 trans old mid new a b = record { there = λ set h. b.there set (a.there set h); same = λ set h. b.same set (a.there set h) ∙ a.same set h }
 
 pub returns-clause-takes : goal.returns-clause-takes
 returns-clause-takes c =
-    takes c.results.result c.args.sets.now c.resolve_all.new.sets c.results.new.sets c.args.rules c.args.instr.now c.args.before.now c.args.member.now c.args.segments.now
-    c.bytes_of-first.result.now c.bytes_of-second.result.now c.loaded.result c.in_ok-loaded.loaded (unwrap_or c.rs1.result 0) (unwrap_or c.rs2.result 0)
-    c.rs1.ensures c.rs2.ensures c.bytes_of-first.ensures c.bytes_of-second.ensures c.loaded.ensures c.in_ok-loaded.ensures.resolved c.resolve_all.ensures.before c.results.ensures.results
+    takes c.results.result c.args.sets.now c.loaded_sets.new.sets c.results.new.sets c.args.rules c.args.instr.now c.args.before.now c.args.member.now c.args.segments.now
+    c.bytes_of-first.result.now c.bytes_of-second.result.now c.in_ok-loaded.loaded (unwrap_or c.rs1.result 0) (unwrap_or c.rs2.result 0)
+    c.rs1.ensures c.rs2.ensures c.bytes_of-first.ensures c.bytes_of-second.ensures c.in_ok-loaded.ensures.loads c.loaded_sets.ensures.before c.results.ensures.results
 
 pub returns-clause-before : goal.returns-clause-before
-returns-clause-before c = trans c.args.sets.now c.resolve_all.new.sets c.results.new.sets c.resolve_all.ensures.before c.results.ensures.before
+returns-clause-before c = trans c.args.sets.now c.loaded_sets.new.sets c.results.new.sets c.loaded_sets.ensures.before c.results.ensures.before

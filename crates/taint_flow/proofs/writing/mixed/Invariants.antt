@@ -3,7 +3,7 @@ use Rattle.rv64_model.specs.Carries.{operands}
 use Rattle.set_store.specs.Sets.{StandAsBefore}
 use Rattle.taint_flow.specs.Gathered.{byte_count, number_of}
 use Rattle.taint_flow.specs.Results.{TakesOperands}
-use Rattle.taint_flow.proofs.writing.results.Given as goal
+use Rattle.taint_flow.proofs.writing.mixed.Given as goal
 
 abbrev pub invariant-loop-byte : goal.invariant-loop-byte
 invariant-loop-byte l = record {

@@ -1,0 +1,21 @@
+use Rattle.std.proofs.Common.{◌≡◌, ◌<◌, ℕ, ◌+◌, List, ◌++◌, length, slice_index}
+use Rattle.rv64_model.specs.Carries.{Left, Right, first_bytes}
+use Rattle.set_store.specs.Sets.{StandAsBefore}
+use Rattle.taint_flow.specs.Flow.{reach}
+use Rattle.taint_flow.specs.Gathered.{byte_count, number_of}
+use Rattle.taint_flow.specs.Results.{TakesOperands}
+use Rattle.taint_flow.proofs.working.carried.Given as goal
+
+abbrev pub invariant-loop-byte : goal.invariant-loop-byte
+invariant-loop-byte l = record {
+  len : length l.numbers ≡ byte_count;
+  set : (loaded : List ℕ) → TakesOperands l.fn.sets l.sets (number_of l.first l.second loaded) (first_bytes Left l.byte ++ first_bytes Right l.byte) l.set;
+  bytes : (loaded : List ℕ) (k : ℕ) → k < l.byte → TakesOperands l.fn.sets l.sets (number_of l.first l.second loaded) (first_bytes Left (k + 1) ++ first_bytes Right (k + 1)) (slice_index l.numbers k);
+  before : StandAsBefore l.fn.sets l.sets;
+}
+
+abbrev pub invariant-loop-byte-2 : goal.invariant-loop-byte-2
+invariant-loop-byte-2 l = record {
+  len : length l.numbers ≡ byte_count;
+  bytes : (loaded : List ℕ) (k : ℕ) → k < l.byte → TakesOperands l.fn.sets l.sets (number_of l.first l.second loaded) (first_bytes Left (reach l.width k) ++ first_bytes Right (reach l.width k)) (slice_index l.numbers k);
+}

@@ -1,0 +1,25 @@
+use Rattle.std.proofs.Common.{◌++◌}
+use Rattle.rv64_model.specs.Carries.{Left, Right, both, first_bytes, operands}
+use Rattle.taint_flow.specs.Flow.{reach}
+use Rattle.taint_flow.specs.Gathered.{number_of}
+use Rattle.taint_flow.proofs.Flows.{by-table, bytewise-flow, carried-flow, rising-flow}
+use Rattle.taint_flow.proofs.writing.worked.Goals as goal
+
+pub returns-in-Rising-clause-results : goal.returns-in-Rising-clause-results
+returns-in-Rising-clause-results c =
+    let taken = operands c.args.linkage c.args.instr.now in
+    by-table c.rising.result c.args.sets.now c.rising.new.sets (number_of c.args.first.now c.args.second.now c.args.loaded.now) taken (λ i. first_bytes Left (reach c.in-Rising.width i))
+    (λ i h. (rising-flow c.args.flow taken c.in-Rising.width c.in-Rising.is c.requires.flow).1 i) (c.rising.ensures.results c.args.second.now c.args.loaded.now)
+
+pub returns-in-Carried-clause-results : goal.returns-in-Carried-clause-results
+returns-in-Carried-clause-results c =
+    let taken = operands c.args.linkage c.args.instr.now in
+    by-table c.carried.result c.args.sets.now c.carried.new.sets (number_of c.args.first.now c.args.second.now c.args.loaded.now) taken
+    (λ i. first_bytes Left (reach c.in-Carried.width i) ++ first_bytes Right (reach c.in-Carried.width i))
+    (λ i h. (carried-flow c.args.flow taken c.in-Carried.width c.in-Carried.is c.requires.flow).1 i) (c.carried.ensures.results c.args.loaded.now)
+
+pub returns-in-Bytewise-clause-results : goal.returns-in-Bytewise-clause-results
+returns-in-Bytewise-clause-results c =
+    let taken = operands c.args.linkage c.args.instr.now in
+    by-table c.bytewise.result c.args.sets.now c.bytewise.new.sets (number_of c.args.first.now c.args.second.now c.args.loaded.now) taken both
+    (bytewise-flow c.args.flow taken c.in-Bytewise.is c.requires.flow) (c.bytewise.ensures.results c.args.loaded.now)

@@ -1,0 +1,112 @@
+// Where the bytes of a result come from.
+ghost use Rattle.std.specs.Prelude.{◌≡◌};
+ghost use Rattle.rv64_model.specs.Carries.{operands};
+ghost use Rattle.taint_flow.specs.Flow.{IsFlow, flow_of, imm_flow, load_flow, op_flow, store_flow, unless_zero};
+
+use rv64_isa::{ImmOp, Instr, LoadOp, Reg, RegOp, StoreOp};
+use rv64_model::{Linkage, load_len, store_len};
+
+/// Where the bytes of an instruction's result come from.
+#[derive(Clone, Copy, Debug, PartialEq, Eq)]
+pub enum Flow {
+    /// They take nothing.
+    Nothing,
+    /// Each is that of the first register.
+    First,
+    /// Those below this one are those of the second register, and the others take nothing.
+    Second(u8),
+    /// Those below this one are those that are loaded, and the others take nothing.
+    Memory(u8),
+    /// Each is worked out from that of the first register and all below it, those from this one on from the one below it.
+    Rising(usize),
+    /// The same of both registers.
+    Carried(usize),
+    /// Each is worked out from those of both registers in its place.
+    Bytewise,
+    /// They take several bytes in another way.
+    Mixed,
+}
+
+// A write to x0 is lost.
+#[inline(always)]
+fn unless_x0(rd: Reg, flow: Flow) -> Flow
+    ensures { result ≡ unless_zero rd flow }
+{
+    if rd.number() == 0 {
+        Flow::Nothing
+    } else {
+        flow
+    }
+}
+
+#[inline(always)]
+fn of_load(linkage: Linkage, op: LoadOp) -> Flow
+    ensures { result ≡ load_flow linkage op }
+{
+    match (linkage, op) {
+        (Linkage::Copy, _)
+        | (Linkage::Data, LoadOp::Ld | LoadOp::Lbu | LoadOp::Lhu | LoadOp::Lwu) => {
+            Flow::Memory(load_len(op))
+        }
+        _ => Flow::Mixed,
+    }
+}
+
+#[inline(always)]
+fn of_store(linkage: Linkage, op: StoreOp) -> Flow
+    ensures { result ≡ store_flow linkage op }
+{
+    match linkage {
+        Linkage::Copy | Linkage::Data => Flow::Second(store_len(op)),
+        Linkage::Index => Flow::Mixed,
+    }
+}
+
+#[inline(always)]
+fn of_immediate(linkage: Linkage, op: ImmOp, imm: i64) -> Flow
+    ensures { result ≡ imm_flow linkage op imm }
+{
+    match (linkage, op) {
+        (_, ImmOp::Addi) if imm == 0 => Flow::First,
+        (Linkage::Copy, _) => Flow::Nothing,
+        (_, ImmOp::Addi) => Flow::Rising(8),
+        (_, ImmOp::Addiw) => Flow::Rising(4),
+        (_, ImmOp::Xori | ImmOp::Ori | ImmOp::Andi) => Flow::First,
+        _ => Flow::Mixed,
+    }
+}
+
+#[inline(always)]
+fn of_operation(linkage: Linkage, op: RegOp) -> Flow
+    ensures { result ≡ op_flow linkage op }
+{
+    match (linkage, op) {
+        (Linkage::Copy, _) => Flow::Nothing,
+        (_, RegOp::Add | RegOp::Sub) => Flow::Carried(8),
+        (_, RegOp::Addw | RegOp::Subw) => Flow::Carried(4),
+        (_, RegOp::Xor | RegOp::Or | RegOp::And) => Flow::Bytewise,
+        _ => Flow::Mixed,
+    }
+}
+
+/// Where the bytes of an instruction's result come from.
+#[inline(always)]
+pub fn result_flow(linkage: Linkage, instr: &Instr) -> Flow
+    ensures exact { result ≡ flow_of linkage instr.now }
+    ensures flow { IsFlow result (operands linkage instr.now) }
+{
+    match *instr {
+        Instr::Load { op, rd, .. } => unless_x0(rd, of_load(linkage, op)),
+        Instr::Store { op, .. } => of_store(linkage, op),
+        Instr::Imm { op, rd, imm, .. } => unless_x0(rd, of_immediate(linkage, op, imm)),
+        Instr::Op { op, rd, .. } => unless_x0(rd, of_operation(linkage, op)),
+        Instr::Lui { .. }
+        | Instr::Auipc { .. }
+        | Instr::Jal { .. }
+        | Instr::Jalr { .. }
+        | Instr::Branch { .. }
+        | Instr::Fence { .. }
+        | Instr::Ecall
+        | Instr::Ebreak => Flow::Nothing,
+    }
+}
