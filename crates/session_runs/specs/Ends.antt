@@ -20,6 +20,7 @@ pub record EndsSo (budget : ℕ) (r : Running) (slices : List Picked) (t : Turn)
   pub are_slices : slices ≡ taken ++ rest
   pub end : RunEnd
   pub is_end : ends (running_after r taken) ≡ Some end
+  pub not_before : (before after : List Picked) (s : Picked) → taken ≡ before ++ s ∷ after → ends (running_after r before) ≡ None
   pub done : List Effect
   pub effects : t.effects ≡ done ++ Prints (ran_text (budget - (running_after r taken).leg.left) end) ∷ []
   pub left : t.left ≡ Some rest
