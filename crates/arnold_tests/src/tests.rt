@@ -488,10 +488,21 @@ fn tells_the_record_that_no_input_makes(rt: HostRuntime) -> Result<(), Fail> {
     )
 }
 
-/// How many records a log of these bytes has.
-fn count(alloc: Global, bytes: &[u8]) -> Result<usize, OpenError> {
+/// The log of these bytes.
+fn log_of(alloc: Global, bytes: &[u8]) -> Result<Store, OpenError> {
     let mut disk = disk_of(alloc, bytes)?;
-    Ok(Store::open_log(alloc, &mut disk)?.entries().len())
+    Store::open_log(alloc, &mut disk)
+}
+
+/// How many records a log has, where they are the first ones of another.
+fn count_first(log: &Store, whole: &Store) -> Option<usize> {
+    let records = log.entries().len();
+    let first = whole.entries().get(..records)?;
+    if first == log.entries() {
+        Some(records)
+    } else {
+        None
+    }
 }
 
 /// Whether so many records may be left where so many lines of `TYPED_PRINTS` were printed: those of
@@ -507,6 +518,9 @@ fn may_leave(lines: usize, records: usize) -> bool {
 fn a_failing_disk_keeps_what_was_printed(rt: HostRuntime) -> Result<(), Fail> {
     let alloc = rt.alloc();
     let typed = first_lines(alloc, TYPED, ASKS_AT)?;
+    let mut disk = disk_of(alloc, b"")?;
+    answer(alloc, &mut disk, typed.as_str())?;
+    let whole = log_of(alloc, disk.bytes())?;
     for call in 0..1_000 {
         let mut disk = failing_disk(alloc, call)?;
         let ended = answer(alloc, &mut disk, typed.as_str())?;
@@ -522,10 +536,10 @@ fn a_failing_disk_keeps_what_was_printed(rt: HostRuntime) -> Result<(), Fail> {
         for fill in FILLS {
             for short in [false, true] {
                 let left = disk.crash_with(alloc, fill, short)?;
-                let records = count(alloc, left.as_slice())?;
+                let records = count_first(&log_of(alloc, left.as_slice())?, &whole);
                 assert!(rt;
-                    may_leave(lines, records),
-                    "at {call}: {records} behind {lines}"
+                    records.is_some_and(|records| may_leave(lines, records)),
+                    "at {call}: {records:?} behind {lines}"
                 );
                 let mut disk = disk_of(alloc, left.as_slice())?;
                 let ended = answer(alloc, &mut disk, "run 0\n")?;
@@ -534,6 +548,24 @@ fn a_failing_disk_keeps_what_was_printed(rt: HostRuntime) -> Result<(), Fail> {
         }
     }
     panic!(rt; "the disk has no end")
+}
+
+/// One byte more than a log may have.
+const TOO_LONG: usize = 268_435_457;
+
+#[test]
+fn a_log_that_is_too_long_ends_it(rt: HostRuntime) -> Result<(), Fail> {
+    let alloc = rt.alloc();
+    let zeros = vec![in alloc; 0u8; TOO_LONG]?;
+    let mut disk = MemDisk::new(alloc, Bytes::from(zeros));
+    let len = TOO_LONG as u64;
+    assert_ends(
+        &rt,
+        &mut disk,
+        "verify\n",
+        Status::Damaged(Damage::TooLong { len }),
+        "",
+    )
 }
 
 const FOLDER: &str = "arnold_tests_log";
@@ -650,7 +682,13 @@ fn a_leg_is_kept_where_the_next_one_fails(rt: HostRuntime) -> Result<(), Fail> {
         printed.as_str(),
     )?;
     let left = disk.crash_with(alloc, Some(1), false)?;
-    assert_eq!(rt; count(alloc, left.as_slice())?, 10);
+    let mut disk = disk_of(alloc, b"")?;
+    answer(alloc, &mut disk, text.as_str())?;
+    let whole = log_of(alloc, disk.bytes())?;
+    assert_eq!(rt;
+        count_first(&log_of(alloc, left.as_slice())?, &whole),
+        Some(10)
+    );
     let mut rest = String::new(alloc);
     push_write(&mut rest, 6, body.as_str())?;
     rest.push_str("ran 5 done\n")?;
