@@ -6,3 +6,4 @@ pub mod Layouts
 pub mod RowLemmas
 pub mod ReadBack
 pub mod WrittenBack
+pub mod SignFlipped

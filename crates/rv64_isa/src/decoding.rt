@@ -4,7 +4,7 @@ ghost use Rattle.rv64_isa.specs.Decoded.{decoded, decoded_by, immediate_by, jalr
 ghost use Rattle.rv64_isa.specs.Decoded.{branch_decoded, load_decoded, store_decoded, imm_decoded};
 ghost use Rattle.rv64_isa.specs.Decoded.{reg_decoded, fence_decoded, system_decoded};
 ghost use Rattle.rv64_isa.specs.Encoded.{word_of, HasNoRow};
-ghost use Rattle.rv64_isa.specs.Fields.{funct3_of, funct7_of, i_immediate_of, s_immediate_of};
+ghost use Rattle.rv64_isa.specs.Fields.{opcode_of, funct3_of, funct7_of, i_immediate_of, s_immediate_of};
 ghost use Rattle.rv64_isa.specs.Fields.{b_immediate_of, u_immediate_of, j_immediate_of};
 ghost use Rattle.rv64_isa.specs.Valid.{HasRegisters, IsInRange};
 
@@ -38,6 +38,7 @@ pub fn decode(word: u32) -> Option<Instr>
 #[tactic(auto, unfolding(crate::specs::Decoded::decoded_by))]
 #[inline(always)]
 fn decode_by(opcode: u32, word: u32) -> Option<Instr>
+    requires { opcode ≡ opcode_of word }
     ensures { result ≡ decoded_by opcode word }
 {
     match opcode {
@@ -57,8 +58,10 @@ fn decode_by(opcode: u32, word: u32) -> Option<Instr>
         BRANCH => decode_branch(word),
         LOAD => decode_load(word),
         STORE => decode_store(word),
-        OP_IMM | OP_IMM_32 => decode_imm(word),
-        OP | OP_32 => decode_op(word),
+        OP_IMM => decode_imm(OP_IMM, word),
+        OP_IMM_32 => decode_imm(OP_IMM_32, word),
+        OP => decode_op(OP, word),
+        OP_32 => decode_op(OP_32, word),
         MISC_MEM => decode_fence(word),
         SYSTEM => decode_system(word),
         _ => None,
@@ -118,11 +121,14 @@ fn decode_store(word: u32) -> Option<Instr>
     })
 }
 
+// The instruction of a word of OP-IMM or of OP-IMM-32. Each call gives a constant opcode, so that it is
+// compiled for that one.
 #[inline(always)]
-fn decode_imm(word: u32) -> Option<Instr>
+fn decode_imm(opcode: u32, word: u32) -> Option<Instr>
+    requires { opcode ≡ opcode_of word }
     ensures { result ≡ imm_decoded word }
 {
-    let op = ImmOp::at(bits(word, 6, 0), funct3(word), funct7(word))?;
+    let op = ImmOp::at(opcode, funct3(word), funct7(word))?;
     Some(Instr::Imm {
         op,
         rd: rd(word),
@@ -131,11 +137,13 @@ fn decode_imm(word: u32) -> Option<Instr>
     })
 }
 
+// The instruction of a word of OP or of OP-32, in the same way.
 #[inline(always)]
-fn decode_op(word: u32) -> Option<Instr>
+fn decode_op(opcode: u32, word: u32) -> Option<Instr>
+    requires { opcode ≡ opcode_of word }
     ensures { result ≡ reg_decoded word }
 {
-    let op = RegOp::at(bits(word, 6, 0), funct3(word), funct7(word))?;
+    let op = RegOp::at(opcode, funct3(word), funct7(word))?;
     Some(Instr::Op {
         op,
         rd: rd(word),

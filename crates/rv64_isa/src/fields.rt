@@ -1,4 +1,4 @@
-ghost use Rattle.std.specs.Prelude.{◌≡◌, ◌+◌, ◌*◌, ◌^◌, ◌<◌, ◌≤◌};
+ghost use Rattle.std.specs.Prelude.{◌≡◌, suc, ◌+◌, ◌-◌, ◌*◌, ◌^◌, ◌<◌, ◌≤◌, nat_lt, if◌then◌else◌};
 ghost use Rattle.rv64_isa.specs.Bits.{bits_of};
 ghost use Rattle.rv64_isa.specs.Signed.{signed_of, unsigned_of, FitsIn};
 
@@ -24,6 +24,16 @@ pub(crate) fn join(high: u32, low: u32, width: u32) -> u32
     high << width | low
 }
 
+// The bits with bit `sign`, the highest, flipped: what they spell is 2^sign above the signed number.
+#[inline(always)]
+fn flip_sign(bits: u32, sign: u32) -> u64
+    requires within { sign < 32 }
+    requires fits { bits < 2 ^ suc sign }
+    ensures { result ≡ (if nat_lt bits (2 ^ sign) then bits + 2 ^ sign else bits - 2 ^ sign) }
+{
+    u64::from(bits) ^ (1 << sign)
+}
+
 // The signed number that `width` bits spell.
 #[inline(always)]
 pub(crate) fn sign_extend(bits: u32, width: u32) -> i64
@@ -32,11 +42,8 @@ pub(crate) fn sign_extend(bits: u32, width: u32) -> i64
     requires fits { bits < 2 ^ width }
     ensures { result ≡ signed_of width bits }
 {
-    if bits >> (width - 1) == 0 {
-        i64::from(bits)
-    } else {
-        i64::from(bits) - (1 << width)
-    }
+    let sign = width - 1;
+    flip_sign(bits, sign).cast_signed() - (1 << sign)
 }
 
 // The `width` bits that spell a signed number.
