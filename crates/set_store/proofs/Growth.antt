@@ -1,11 +1,12 @@
 -- What stays where one more set is added.
-use Rattle.std.proofs.Common.{◌≡◌, ◌⊎◌, ℕ, zero, suc, ◌<◌, List, [], ◌∷◌, ◌++◌, length, slice_get, Some, Contains, Result, Ok, Err, IfOk, OnErr, refl, sym, ap, subst, ◌∙◌, inl, inr, arith, length-append}
+use Rattle.std.proofs.Common.{◌≡◌, ◌⊎◌, ℕ, zero, suc, ◌<◌, min, max, nat_lt, Bool, true, false, List, [], ◌∷◌, ◌++◌, length, slice_get, Some, Contains, Result, Ok, Err, IfOk, OnErr, refl, sym, ap, subst, ◌∙◌, inl, inr, arith, length-append}
+use Rattle.std.proofs.lemmas.Bool.{ltb-true, ltb-false}
 use Rattle.arn_base.specs.declared.errors.NoMemory.{NoMemory}
 use Rattle.set_store.specs.declared.item.Item.{Item}
 use Rattle.set_store.specs.declared.memo.Memo.{Memo}
 use Rattle.set_store.specs.Sets.{IsSet, IsRising, IsUnionOf, AreOnce, StandForOne, StandAsBefore, IsInterned, IsGrownBy, members_of}
 use Rattle.set_store.specs.Sound.{IsRight, IsSound}
-use Rattle.set_store.specs.Memo.{RemembersAlso, RemembersNoMore, RemembersNothing}
+use Rattle.set_store.specs.Memo.{RemembersAlso, RemembersNoMore, RemembersEmptyAlone}
 use Rattle.std.specs.List.Sorted.{IsStrictlySortedBy}
 use Rattle.set_store.proofs.Rising.{same_list}
 
@@ -147,9 +148,22 @@ right-kept old new both pair set i first second u =
       members = subst (λ l. IsUnionOf (members_of new set) l (members_of new pair.1)) (sym a.1) (subst (λ l. IsUnionOf (members_of new set) (members_of old pair.0) l) (sym b.1) u);
     }
 
-pub IfOk-swapped : (r : Result ℕ NoMemory) (new : List (List Item)) (a b : List Item) → IfOk r (λ set. IsUnionOf (members_of new set) a b) → IfOk r (λ set. IsUnionOf (members_of new set) b a)
-IfOk-swapped (Ok set) new a b u = union-swapped (members_of new set) a b u
-IfOk-swapped (Err e) new a b u = u
+ordered : (a b : ℕ) → ((min a b ≡ a) × (max a b ≡ b)) ⊎ ((min a b ≡ b) × (max a b ≡ a))
+ordered a b = by (nat_lt a b) refl where
+  by : (c : Bool) → nat_lt a b ≡ c → ((min a b ≡ a) × (max a b ≡ b)) ⊎ ((min a b ≡ b) × (max a b ≡ a))
+  by true e = let below = ltb-true a b e in inl (omega arith, omega arith)
+  by false e = let above = ltb-false a b e in inr (omega arith, omega arith)
+
+-- the union of the lower of two sets and the higher one is theirs
+union-ordered : (sets : List (List Item)) (union : List Item) (a b low high : ℕ) → low ≡ min a b → high ≡ max a b → IsUnionOf union (members_of sets low) (members_of sets high) → IsUnionOf union (members_of sets a) (members_of sets b)
+union-ordered sets union a b low high l h u = elim (ordered a b) [
+  | inl e ↦ subst (λ set. IsUnionOf union (members_of sets set) (members_of sets b)) (l ∙ e.0) (subst (λ set. IsUnionOf union (members_of sets low) (members_of sets set)) (h ∙ e.1) u)
+  | inr e ↦ union-swapped union (members_of sets b) (members_of sets a) (subst (λ set. IsUnionOf union (members_of sets set) (members_of sets a)) (l ∙ e.0) (subst (λ set. IsUnionOf union (members_of sets low) (members_of sets set)) (h ∙ e.1) u))
+]
+
+pub IfOk-ordered : (r : Result ℕ NoMemory) (old new : List (List Item)) (a b low high : ℕ) → low ≡ min a b → high ≡ max a b → IfOk r (λ set. IsUnionOf (members_of new set) (members_of old low) (members_of old high)) → IfOk r (λ set. IsUnionOf (members_of new set) (members_of old a) (members_of old b))
+IfOk-ordered (Ok set) old new a b low high l h u = union-ordered old (members_of new set) a b low high l h u
+IfOk-ordered (Err e) old new a b low high l h u = u
 
 -- the first list that is kept is the first set
 pub first-is : (old new : List (List Item)) (members : List Item) (set : ℕ) → IsInterned old new members set → old ≡ [] → members ≡ [] → new ≡ [] ∷ []
@@ -162,14 +176,19 @@ rising-first : (set : ℕ) → set < 1 → IsRising (members_of ([] ∷ []) set)
 rising-first zero h = rising-none
 rising-first (suc set) h = absurd (omega arith)
 
-pub sound-first : (old new : List (List Item)) (members : List Item) (set : ℕ) (memo : Memo) → IsInterned old new members set → old ≡ [] → members ≡ [] → RemembersNothing memo → IsSound new memo
-sound-first old new members set memo i o m nothing =
+right-empty : IsRight ([] ∷ []) (0, 0) 0
+right-empty = record { there = omega arith; first = omega arith; second = omega arith; members = union-same [] }
+
+pub sound-first : (old new : List (List Item)) (members : List Item) (set : ℕ) (memo : Memo) → IsInterned old new members set → old ≡ [] → members ≡ [] → RemembersEmptyAlone memo → IsSound new memo
+sound-first old new members set memo i o m alone =
     let is = first-is old new members set i o m in
     let rising : (set : ℕ) → set < length new → IsRising (members_of new set) = subst (λ sets. (set : ℕ) → set < length sets → IsRising (members_of sets set)) (sym is) rising-first in
     record {
       empty = ap (λ (sets : List (List Item)). slice_get sets 0) is;
       interned = record { rising = rising; once = stand_for_one new i.once rising };
-      right = λ pair q h. absurd (nothing pair q h);
+      right = λ pair q h.
+          let is_empty = alone pair q h in
+          subst (λ sets. IsRight sets pair q) (sym is) (subst (λ x. IsRight ([] ∷ []) x q) (sym is_empty.0) (subst (λ y. IsRight ([] ∷ []) (0, 0) y) (sym is_empty.1) right-empty));
     }
 
 -- what holds where a list was kept, or there was no memory for it

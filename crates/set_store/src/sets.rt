@@ -95,6 +95,7 @@ impl Sets {
     }
 
     /// The set of all members of two sets.
+    #[inline(always)]
     pub fn union(&mut self, a: usize, b: usize) -> Result<usize, NoMemory>
         requires first { IsSet self.old a }
         requires second { IsSet self.old b }
@@ -113,15 +114,31 @@ impl Sets {
         if a == empty {
             return Ok(b);
         }
-        if a < b {
-            self.united((a, b))
-        } else {
-            self.united((b, a))
-        }
+        self.united((a.min(b), a.max(b)))
     }
 
     /// The union of a pair, as it is remembered or made.
+    #[inline(never)]
     fn united(&mut self, pair: Pair) -> Result<usize, NoMemory>
+        requires first { IsSet self.old pair.0 }
+        requires second { IsSet self.old pair.1 }
+        ensures set { IfOk result (IsSet self.new) }
+        ensures members { IfOk result (λ set.
+            IsUnionOf (members_of self.new set) (members_of self.old pair.0) (members_of self.old pair.1)) }
+        ensures grown { IfOk result (IsGrownBy self.old self.new) }
+        ensures before { StandAsBefore self.old self.new }
+        ensures interned { AreInterned self.new }
+        ensures err { OnErr result (self.new ≡ self.old) }
+    {
+        match self.memo.recent(pair) {
+            Some(set) => Ok(set),
+            None => self.recalled(pair),
+        }
+    }
+
+    /// The same of a pair that doesn't stand in front.
+    #[inline(never)]
+    fn recalled(&mut self, pair: Pair) -> Result<usize, NoMemory>
         requires first { IsSet self.old pair.0 }
         requires second { IsSet self.old pair.1 }
         ensures set { IfOk result (IsSet self.new) }
