@@ -4,7 +4,7 @@ ghost use Rattle.taint_tracker.specs.Shown.{AreItems};
 ghost use Rattle.lineage_join.specs.Places.{at_of};
 
 use crate::demand::Place;
-use taint_tracker::Items;
+use taint_tracker::KeptItems;
 
 /// Which items reach a byte of an event in the event's own group.
 pub trait Locals {
@@ -15,6 +15,6 @@ pub trait Locals {
     ghost items: { Self → ℕ → At → List EventByte };
 
     /// The items of a byte of an event. There are none where the event's group wasn't followed.
-    fn items(&self, event: u64, place: Place) -> Items<'_>
+    fn items(&self, event: u64, place: Place) -> KeptItems<'_>
         ensures { AreItems (listed result) (items self.now event (at_of place)) };
 }

@@ -22,7 +22,7 @@ use Rattle.taint_laws.specs.Laws.{HearsEvents, IsHeard, IsHearingOf, ShowsNothin
 use Rattle.taint_tracker.specs.Kept.{Kept, shown}
 use Rattle.taint_tracker.specs.Asked as asked
 use Rattle.taint_tracker.specs.Items.{listed}
-use Rattle.taint_tracker.specs.declared.items.Items.{Items}
+use Rattle.taint_tracker.specs.declared.items.KeptItems.{KeptItems}
 use Rattle.taint_tracker.specs.Asked.{answer, event_answer, start_answer, where_true}
 use Rattle.taint_tracker.specs.Goes.{Hearing, hearing_of, hearings_of}
 use Rattle.taint_tracker.specs.Shown.{AreItems, Heard, IsRegisterByte, Shows, ShowsHeard, Tracking}
@@ -197,6 +197,6 @@ local-told index f i hears unheard event p g is_group kept is_tracker len is_len
     own-told f g kept follows event has.e has.is hears unheard is_group is_tracker p q (subst (λ (n : ℕ). point_of n event p ≡ Some q) (sym has.long) is)
 
 -- none where nothing is told
-pub items-or : (r : Option Items) (d x : Items) (bytes : List EventByte) → x ≡ unwrap_or r d → listed d ≡ [] → AreItems (unwrap_or (option_map listed r) []) bytes → AreItems (listed x) bytes
+pub items-or : (r : Option KeptItems) (d x : KeptItems) (bytes : List EventByte) → x ≡ unwrap_or r d → listed d ≡ [] → AreItems (unwrap_or (option_map listed r) []) bytes → AreItems (listed x) bytes
 items-or None d x bytes is none are = subst (λ (items : List Item). AreItems items bytes) (sym (ap listed is ∙ none)) are
-items-or (Some items) d x bytes is none are = subst (λ (y : Items). AreItems (listed y) bytes) (sym is) are
+items-or (Some items) d x bytes is none are = subst (λ (y : KeptItems). AreItems (listed y) bytes) (sym is) are

@@ -18,7 +18,7 @@ use std::alloc::Global;
 use std::collections::BTreeMap;
 use std::marker::Model;
 use taint_laws::{hears_events, unheard_have_none};
-use taint_tracker::{Items, Point, Tracker};
+use taint_tracker::{KeptItems, Point, Tracker};
 
 /// Groups that were followed up to a moment, by number.
 #[derive(Drop)]
@@ -90,7 +90,7 @@ impl<'a> Followed<'a> {
     }
 
     /// The items of a byte of an event, where its group was followed.
-    fn local(&self, event: u64, place: Place) -> Option<Items<'_>>
+    fn local(&self, event: u64, place: Place) -> Option<KeptItems<'_>>
         ensures { AreItems (unwrap_or (option_map listed result) []) (items_followed self.now event (at_of place)) }
     {
         hears_events();
@@ -102,7 +102,7 @@ impl<'a> Followed<'a> {
     }
 
     /// The items of a byte that a member holds, where its group was followed.
-    fn point(&self, pid: u32, point: Point) -> Option<Items<'_>>
+    fn point(&self, pid: u32, point: Point) -> Option<KeptItems<'_>>
         ensures { unwrap_or (option_map listed result) [] ≡ told_by self.now point (group_of self.now.entries pid) }
     {
         let group = self.index.group_of(pid)?;
@@ -111,10 +111,10 @@ impl<'a> Followed<'a> {
     }
 
     /// The same, or none.
-    pub fn held(&self, pid: u32, point: Point) -> Items<'_>
+    pub fn held(&self, pid: u32, point: Point) -> KeptItems<'_>
         ensures { listed result ≡ told_by self.now point (group_of self.now.entries pid) }
     {
-        self.point(pid, point).unwrap_or(Items::Set(&[]))
+        self.point(pid, point).unwrap_or(KeptItems::Set(&[]))
     }
 
     /// Each group that is kept was followed.
@@ -130,7 +130,7 @@ impl<'a> Locals for Followed<'a> {
 
     ghost items = { items_followed };
 
-    fn items(&self, event: u64, place: Place) -> Items<'_> {
-        self.local(event, place).unwrap_or(Items::Set(&[]))
+    fn items(&self, event: u64, place: Place) -> KeptItems<'_> {
+        self.local(event, place).unwrap_or(KeptItems::Set(&[]))
     }
 }

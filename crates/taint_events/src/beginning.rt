@@ -13,8 +13,8 @@ use rv64_isa::Reg;
 use set_store::Sets;
 use std::alloc::Global;
 use taint_flow::FIRST_START;
-use taint_members::Member;
-use taint_pages::{Numbers, Row, Unset};
+use taint_members::MemberSets;
+use taint_pages::{Row, SetNumbers, Unset};
 
 /// How many pages a private window has.
 const WINDOW_PAGES: usize = 64;
@@ -58,7 +58,7 @@ fn begin_row(sets: &mut Sets, event: u64, first: u64) -> Result<Row, NoMemory>
 
 /// A member that begins without a parent: each byte is an item by itself, but for x10. The bytes of its window stand
 /// for themselves.
-pub fn begun(alloc: Global, sets: &mut Sets, event: u64) -> Result<Member, NoMemory>
+pub fn begun(alloc: Global, sets: &mut Sets, event: u64) -> Result<MemberSets, NoMemory>
     ensures registers { IfOk result (λ member. BeginsRegisters sets.new event member.registers) }
     ensures slot { IfOk result (λ member. AreItemsOfRow sets.new event 248 member.slot) }
     ensures window { IfOk result (λ member.
@@ -67,12 +67,12 @@ pub fn begun(alloc: Global, sets: &mut Sets, event: u64) -> Result<Member, NoMem
     ensures segment { IfOk result (λ member. member.segment ≡ None) }
     ensures before { StandAsBefore sets.old sets.new }
 {
-    let window = Numbers::new(
+    let window = SetNumbers::new(
         alloc,
         WINDOW_PAGES,
         Unset::From(FIRST_START + WINDOW_START as u32),
     )?;
-    let mut member = Member {
+    let mut member = MemberSets {
         registers: begin_row(sets, event, 0)?,
         slot: begin_row(sets, event, REGISTER_BYTES)?,
         window,
@@ -84,11 +84,11 @@ pub fn begun(alloc: Global, sets: &mut Sets, event: u64) -> Result<Member, NoMem
 }
 
 /// Each byte of a window is an item by itself.
-fn item_window(alloc: Global, sets: &mut Sets, event: u64) -> Result<Numbers, NoMemory>
+fn item_window(alloc: Global, sets: &mut Sets, event: u64) -> Result<SetNumbers, NoMemory>
     ensures window { IfOk result (AreItemsFrom sets.new event) }
     ensures before { StandAsBefore sets.old sets.new }
 {
-    let mut window = Numbers::new(alloc, WINDOW_PAGES, Unset::Zero)?;
+    let mut window = SetNumbers::new(alloc, WINDOW_PAGES, Unset::Zero)?;
     for place in 0..WINDOW_LEN {
         let number = item(sets, event, WINDOW_START + place)?;
         window.set(place as usize, number)?;
@@ -97,7 +97,7 @@ fn item_window(alloc: Global, sets: &mut Sets, event: u64) -> Result<Numbers, No
 }
 
 /// The same where the bytes of another event's window stand for themselves: each byte of the window has its set.
-pub fn begun_later(alloc: Global, sets: &mut Sets, event: u64) -> Result<Member, NoMemory>
+pub fn begun_later(alloc: Global, sets: &mut Sets, event: u64) -> Result<MemberSets, NoMemory>
     ensures registers { IfOk result (λ member. BeginsRegisters sets.new event member.registers) }
     ensures slot { IfOk result (λ member. AreItemsOfRow sets.new event 248 member.slot) }
     ensures window { IfOk result (λ member. AreItemsFrom sets.new event member.window) }

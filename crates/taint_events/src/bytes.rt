@@ -10,8 +10,8 @@ use rv64_isa::Reg;
 use set_store::{Item, Sets};
 use std::alloc::Global;
 use taint_flow::{narrow, resolve};
-use taint_members::{Member, number};
-use taint_pages::Numbers;
+use taint_members::{MemberSets, number};
+use taint_pages::SetNumbers;
 
 /// The set of a byte of an event that is an item by itself.
 pub fn item(sets: &mut Sets, event: u64, at: u64) -> Result<u32, NoMemory>
@@ -54,8 +54,8 @@ pub fn given(
     alloc: Global,
     sets: &mut Sets,
     begun: u64,
-    member: &Member,
-    segments: &[Numbers],
+    member: &MemberSets,
+    segments: &[SetNumbers],
     at: u64,
     len: usize,
 ) -> Result<Vec<u32>, NoMemory>
@@ -75,7 +75,7 @@ pub fn given(
 }
 
 /// The bytes of an exit: the first is the status, the lowest byte of x10.
-pub fn status(alloc: Global, member: &Member, len: usize) -> Result<Vec<u32>, NoMemory>
+pub fn status(alloc: Global, member: &MemberSets, len: usize) -> Result<Vec<u32>, NoMemory>
     ensures { IfOk result (λ numbers. IsStatus member.now.registers len numbers.items) }
 {
     let mut numbers = empty(alloc, len)?;

@@ -12,14 +12,14 @@ use guest_image::HEADER_LEN;
 use parts_model::limits::{WINDOW_END, WINDOW_LEN, WINDOW_START};
 use std::alloc::Global;
 use taint_flow::narrow;
-use taint_members::{Member, number, write};
-use taint_pages::Numbers;
+use taint_members::{MemberSets, number, write};
+use taint_pages::SetNumbers;
 
 /// A member receives bytes of these sets from an address on, as far as they lie in the same memory. The call's result
 /// takes nothing. 2^31 bytes or more count as want of memory.
 pub fn receives(
-    member: &mut Member,
-    segments: &mut [Numbers],
+    member: &mut MemberSets,
+    segments: &mut [SetNumbers],
     at: u64,
     numbers: &[u32],
 ) -> Result<(), NoMemory>
@@ -64,8 +64,8 @@ fn body_number(load: u64, numbers: &[u32], at: u64) -> u32
 
 /// The number of an address of a window in which an image was started, whose argument block stands at the end.
 fn started_number(
-    old: &Member,
-    segments: &[Numbers],
+    old: &MemberSets,
+    segments: &[SetNumbers],
     load: u64,
     numbers: &[u32],
     block: u64,
@@ -85,9 +85,9 @@ fn started_number(
 
 /// The numbers of a window in which an image was started.
 fn start_window(
-    window: &mut Numbers,
-    old: &Member,
-    segments: &[Numbers],
+    window: &mut SetNumbers,
+    old: &MemberSets,
+    segments: &[SetNumbers],
     load: u64,
     numbers: &[u32],
     block: u64,
@@ -111,13 +111,13 @@ fn start_window(
 pub fn started(
     alloc: Global,
     event: u64,
-    old: &Member,
-    segments: &[Numbers],
+    old: &MemberSets,
+    segments: &[SetNumbers],
     load: u64,
     numbers: &[u32],
     block: u64,
     block_len: u64,
-) -> Result<Member, NoMemory>
+) -> Result<MemberSets, NoMemory>
     requires held { HoldsKey old.now.segment segments.now }
     ensures registers { IfOk result (λ member. AreZero member.registers) }
     ensures slot { IfOk result (λ member. AreZero member.slot) }
@@ -126,7 +126,7 @@ pub fn started(
     ensures made { IfOk result (λ member. member.made ≡ event) }
     ensures segment { IfOk result (λ member. member.segment ≡ None) }
 {
-    let mut member = Member::fresh(alloc, event)?;
+    let mut member = MemberSets::fresh(alloc, event)?;
     start_window(
         &mut member.window,
         old,

@@ -8,7 +8,10 @@ use Rattle.set_store.specs.declared.item.Item.{Item}
 use Rattle.set_store.specs.Sets.{IsSet, IsUnionOf, StandAsBefore, members_of}
 use Rattle.link_rules.specs.declared.masks.Operands.{Operands}
 use Rattle.link_rules.specs.Masks.{has_byte, is_in}
-use Rattle.taint_flow.specs.Gathered.{AddsByte, AreNumbers, Gathers, IsAmong, IsTaken, TakesBytes, byte_count, first_start, number_of}
+use Rattle.taint_flow.specs.Gathered.{AddsByte, AreNumbers, Gathers, Includes, IsAmong, IsTaken, TakesBytes, byte_count, first_start, number_of}
+
+pub before-refl : (sets : List (List Item)) → StandAsBefore sets sets
+before-refl sets = record { there = λ set h. h; same = λ set h. refl }
 
 pub before-trans : (old mid new : List (List Item)) → StandAsBefore old mid → StandAsBefore mid new → StandAsBefore old new
 before-trans old mid new a b = record { there = λ set h. b.there set (a.there set h); same = λ set h. b.same set (a.there set h) ∙ a.same set h }
@@ -56,6 +59,12 @@ module _ (old mid new : List (List Item)) (numbers : List ℕ) (mask n start s s
 
   pub takes-more : TakesBytes old new numbers mask (n + 1) start s'
   takes-more = record { there = adds.there; small = adds.small; members = λ item. (forth item, back item) }
+
+-- the set has the members of each byte's set that was taken
+pub among-includes : (old new : List (List Item)) (numbers : List ℕ) (mask n byte start set : ℕ) → byte < n → IsTrue (has_byte mask byte) → IsSet old (slice_index numbers byte) → StandAsBefore old new
+    → TakesBytes old new numbers mask n start set → Includes new set (slice_index numbers byte)
+among-includes old new numbers mask n byte start set below named is before takes item h =
+    (takes.members item).1 (inr (record { byte = byte; below = below; named = named; member = subst (λ l. Contains l item) (before.same (slice_index numbers byte) is) h }))
 
 -- the same bytes, in sets that stand as before
 among-then : (old new : List (List Item)) (numbers : List ℕ) (mask : ℕ) (item : Item) → StandAsBefore old new → AreNumbers old numbers → IsAmong old numbers mask byte_count item → IsAmong new numbers mask byte_count item

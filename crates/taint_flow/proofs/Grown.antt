@@ -7,7 +7,7 @@ use Rattle.rv64_model.specs.Carries.{Operand, Left, Right, below, both, first_by
 use Rattle.set_store.specs.declared.item.Item.{Item}
 use Rattle.set_store.specs.Sets.{IsSet, IsUnionOf, StandAsBefore, members_of}
 use Rattle.taint_flow.specs.Flow.{IsWidth, reach}
-use Rattle.taint_flow.specs.Gathered.{first_start}
+use Rattle.taint_flow.specs.Gathered.{Includes, first_start}
 use Rattle.taint_flow.specs.Results.{TakesOperands}
 
 -- one operand more
@@ -28,7 +28,14 @@ takes-push old mid new number taken x a s before is_set t there small union = re
   );
 }
 
-only : (x y : Operand) → Contains (x ∷ []) y → x ≡ y
+-- a union of two sets is that of them as they stand later
+pub union-still : (old new : List (List Item)) (members : List Item) (a b : ℕ) → StandAsBefore old new → IsSet old a → IsSet old b → IsUnionOf members (members_of old a) (members_of old b)
+    → IsUnionOf members (members_of new a) (members_of new b)
+union-still old new members a b before of_a of_b =
+    subst (λ l. IsUnionOf members (members_of old a) (members_of old b) → IsUnionOf members (members_of new a) l) (sym (before.same b of_b))
+    (subst (λ l. IsUnionOf members (members_of old a) (members_of old b) → IsUnionOf members l (members_of old b)) (sym (before.same a of_a)) (λ union. union))
+
+pub only : (x y : Operand) → Contains (x ∷ []) y → x ≡ y
 only x y h = elim (Contains-push_cases [] x y h) [
   | inl none ↦ (let below : none.0 < 0 = none.1 in absurd (omega arith))
   | inr e ↦ e
@@ -52,6 +59,12 @@ takes-both old mid new number i s before of_left of_right there small union = re
   );
 }
 
+-- the set has the members of each of the operands
+pub takes-includes : (old new : List (List Item)) (number : Operand → ℕ) (taken : List Operand) (x : Operand) (set : ℕ) → StandAsBefore old new → IsSet old (number x) → Contains taken x
+    → TakesOperands old new number taken set → Includes new set (number x)
+takes-includes old new number taken x set before is_set named t item h =
+    (t.members item).1 (record { operand = x; named = named; member = subst (λ l. Contains l item) (before.same (number x) is_set) h })
+
 -- the same operands in another order
 takes-same : (old new : List (List Item)) (number : Operand → ℕ) (taken other : List Operand) (set : ℕ) → ((x : Operand) → Contains taken x → Contains other x) → ((x : Operand) → Contains other x → Contains taken x)
     → TakesOperands old new number taken set → TakesOperands old new number other set
@@ -66,6 +79,13 @@ takes-same old new number taken other set forth back t = record {
 
 first-more : (operand : ℕ → Operand) (n : ℕ) → first_bytes operand n ++ operand n ∷ [] ≡ first_bytes operand (n + 1)
 first-more operand n = sym (map-append operand (below n) (n ∷ [])) ∙ ap (first_bytes operand) (let next : suc n ≡ n + 1 = omega arith in next)
+
+-- the last of the first bytes
+pub last-of : (operand : ℕ → Operand) (n : ℕ) → 0 < n → Contains (first_bytes operand n) (operand (n - 1))
+last-of operand n some =
+    let next : n - 1 + 1 ≡ n = omega arith in
+    subst (λ m. Contains (first_bytes operand m) (operand (n - 1))) next
+    (subst (λ l. Contains l (operand (n - 1))) (first-more operand (n - 1)) (Contains-push (first_bytes operand (n - 1)) (operand (n - 1))))
 
 pub lefts-more : (old new : List (List Item)) (number : Operand → ℕ) (n set : ℕ) → TakesOperands old new number (first_bytes Left n ++ Left n ∷ []) set → TakesOperands old new number (first_bytes Left (n + 1)) set
 lefts-more old new number n set = subst (λ l. TakesOperands old new number l set) (first-more Left n)

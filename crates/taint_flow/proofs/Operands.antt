@@ -1,5 +1,5 @@
 -- The operands of masks, and those of a table.
-use Rattle.std.proofs.Common.{◌≡◌, ◌↔◌, ℕ, ◌+◌, ◌<◌, Bool, true, false, nat_lt, IsTrue, List, length, slice_index, slice_set as set, Contains, refl, sym, subst, arith}
+use Rattle.std.proofs.Common.{◌≡◌, ◌↔◌, ℕ, zero, suc, ◌+◌, ◌<◌, Bool, true, false, nat_lt, IsTrue, List, length, replicate, slice_index, slice_set as set, Contains, refl, sym, subst, arith}
 use Rattle.std.proofs.lemmas.Bool.{ltb-true, ltb-false}
 use Rattle.std.proofs.lemmas.Grind.{get_or-set_at}
 use Rattle.std.proofs.lemmas.List.{get_or-set_other}
@@ -42,6 +42,14 @@ takes-named old mid new first second loaded masks operands set f s l before exac
   );
 }
 
+-- the set is that of whichever operands masks have exactly
+abbrev pub Knows : List (List Item) → List (List Item) → (Operand → ℕ) → Operands → ℕ → Type 0
+Knows old new number masks set = (taken : List Operand) → ((x : Operand) → IsTrue (is_in masks x) ↔ Contains taken x) → TakesOperands old new number taken set
+
+pub known-same : (old new mid : List (List Item)) (number : Operand → ℕ) (masks : Operands) (s set : ℕ) → new ≡ mid → s ≡ set → Knows old mid number masks set → Knows old new number masks s
+known-same old new mid number masks s set sets same known =
+    subst (λ (n : ℕ). Knows old new number masks n) (sym same) (subst (λ n. Knows old n number masks set) (sym sets) known)
+
 -- what was taken stays so
 pub takes-still : (old mid new : List (List Item)) (number : Operand → ℕ) (operands : List Operand) (set : ℕ) → StandAsBefore mid new → TakesOperands old mid number operands set → TakesOperands old new number operands set
 takes-still old mid new number operands set before t = record {
@@ -52,6 +60,12 @@ takes-still old mid new number operands set before t = record {
     λ from. subst (λ members. Contains members item) (sym (before.same set t.there)) ((t.members item).1 from),
   );
 }
+
+-- the first of eight
+pub first-byte : (old new : List (List Item)) (number : Operand → ℕ) (operands : ℕ → List Operand) (s : ℕ) → TakesOperands old new number (operands 0) s
+    → (k : ℕ) → k < 1 → TakesOperands old new number (operands k) (slice_index (replicate 8 s) k)
+first-byte old new number operands s one zero h = one
+first-byte old new number operands s one (suc k) h = absurd (omega arith)
 
 -- one byte more
 pub one-more : (old new : List (List Item)) (number : Operand → ℕ) (operands : ℕ → List Operand) (numbers : List ℕ) (n s : ℕ) → n < length numbers

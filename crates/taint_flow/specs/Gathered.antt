@@ -19,6 +19,10 @@ pub record AreNumbers (sets : List (List Item)) (numbers : List ℕ) : Type 0 wh
   pub len : length numbers ≡ byte_count
   pub set : (byte : ℕ) → byte < byte_count → IsSet sets (slice_index numbers byte)
 
+-- a set has the members of another
+abbrev pub Includes : List (List Item) → ℕ → ℕ → Type 0
+Includes sets set other = (item : Item) → Contains (members_of sets other) item → Contains (members_of sets set) item
+
 -- the set has the members of another, and those of a byte's set where a mask has the byte
 pub record AddsByte (old new : List (List Item)) (start mask byte number set : ℕ) : Type 0 where
   pub there : IsSet new set

@@ -2,4 +2,5 @@ pub mod Flow
 pub mod Gathered
 pub mod Names
 pub mod Results
+pub mod Silent
 pub mod Starts

@@ -1,7 +1,9 @@
 // Where the bytes of a result come from.
-ghost use Rattle.std.specs.Prelude.{◌≡◌};
+ghost use Rattle.std.specs.Prelude.{◌≡◌, ◌==◌, ℕ, ℤ, suc, if◌then◌else◌};
+ghost use Rattle.rv64_isa.specs.declared.instruction.Instr.TheVariants as instr;
 ghost use Rattle.rv64_model.specs.Carries.{operands};
-ghost use Rattle.taint_flow.specs.Flow.{IsFlow, flow_of, imm_flow, load_flow, op_flow, store_flow, unless_zero};
+ghost use Rattle.taint_flow.specs.Flow.{IsFlow};
+ghost use Rattle.taint_flow.specs.declared.flow.Flow.TheVariants.{Nothing};
 
 use rv64_isa::{ImmOp, Instr, LoadOp, Reg, RegOp, StoreOp};
 use rv64_model::{Linkage, load_len, store_len};
@@ -30,7 +32,7 @@ pub enum Flow {
 // A write to x0 is lost.
 #[inline(always)]
 fn unless_x0(rd: Reg, flow: Flow) -> Flow
-    ensures { result ≡ unless_zero rd flow }
+    ensures { result ≡ (if rd == 0 then Nothing else flow) }
 {
     if rd.number() == 0 {
         Flow::Nothing
@@ -41,7 +43,8 @@ fn unless_x0(rd: Reg, flow: Flow) -> Flow
 
 #[inline(always)]
 fn of_load(linkage: Linkage, op: LoadOp) -> Flow
-    ensures { result ≡ load_flow linkage op }
+    ensures { (rd rs1 : ℕ) (imm : ℤ) →
+        IsFlow result (operands linkage (instr.Load op (suc rd) rs1 imm)) }
 {
     match (linkage, op) {
         (Linkage::Copy, _)
@@ -54,7 +57,8 @@ fn of_load(linkage: Linkage, op: LoadOp) -> Flow
 
 #[inline(always)]
 fn of_store(linkage: Linkage, op: StoreOp) -> Flow
-    ensures { result ≡ store_flow linkage op }
+    ensures { (rs1 rs2 : ℕ) (imm : ℤ) →
+        IsFlow result (operands linkage (instr.Store op rs1 rs2 imm)) }
 {
     match linkage {
         Linkage::Copy | Linkage::Data => Flow::Second(store_len(op)),
@@ -64,7 +68,7 @@ fn of_store(linkage: Linkage, op: StoreOp) -> Flow
 
 #[inline(always)]
 fn of_immediate(linkage: Linkage, op: ImmOp, imm: i64) -> Flow
-    ensures { result ≡ imm_flow linkage op imm }
+    ensures { (rd rs1 : ℕ) → IsFlow result (operands linkage (instr.Imm op (suc rd) rs1 imm)) }
 {
     match (linkage, op) {
         (_, ImmOp::Addi) if imm == 0 => Flow::First,
@@ -78,7 +82,8 @@ fn of_immediate(linkage: Linkage, op: ImmOp, imm: i64) -> Flow
 
 #[inline(always)]
 fn of_operation(linkage: Linkage, op: RegOp) -> Flow
-    ensures { result ≡ op_flow linkage op }
+    ensures { (rd rs1 rs2 : ℕ) →
+        IsFlow result (operands linkage (instr.Op op (suc rd) rs1 rs2)) }
 {
     match (linkage, op) {
         (Linkage::Copy, _) => Flow::Nothing,
@@ -92,8 +97,7 @@ fn of_operation(linkage: Linkage, op: RegOp) -> Flow
 /// Where the bytes of an instruction's result come from.
 #[inline(always)]
 pub fn result_flow(linkage: Linkage, instr: &Instr) -> Flow
-    ensures exact { result ≡ flow_of linkage instr.now }
-    ensures flow { IsFlow result (operands linkage instr.now) }
+    ensures { IsFlow result (operands linkage instr.now) }
 {
     match *instr {
         Instr::Load { op, rd, .. } => unless_x0(rd, of_load(linkage, op)),

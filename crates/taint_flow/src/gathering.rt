@@ -1,8 +1,8 @@
 // The set of several bytes.
-ghost use Rattle.std.specs.Prelude.{◌≡◌, ◌<◌, if◌then◌else◌, IfOk};
+ghost use Rattle.std.specs.Prelude.{◌≡◌, ◌-◌, ◌<◌, if◌then◌else◌, IfOk, IsTrue, slice_index};
 ghost use Rattle.set_store.specs.Sets.{IsSet, IsUnionOf, StandAsBefore, members_of};
 ghost use Rattle.link_rules.specs.Masks.{has_byte};
-ghost use Rattle.taint_flow.specs.Gathered.{AreNumbers, AddsByte, Gathers, TakesBytes, byte_count, first_start};
+ghost use Rattle.taint_flow.specs.Gathered.{AreNumbers, AddsByte, Gathers, Includes, TakesBytes, byte_count, first_start};
 
 use arn_base::NoMemory;
 use link_rules::Operands;
@@ -15,6 +15,7 @@ pub const FIRST_START: u32 = 0x8000_0000;
 const ALL: u8 = 0b1111_1111;
 
 /// Whether a mask has a byte.
+#[inline(always)]
 fn has(mask: u8, byte: u8) -> bool
     requires { byte < 8 }
     ensures { result ≡ has_byte mask byte }
@@ -23,6 +24,7 @@ fn has(mask: u8, byte: u8) -> bool
 }
 
 /// The set of all members of two sets.
+#[inline(always)]
 pub fn unite(sets: &mut Sets, first: u32, second: u32) -> Result<u32, NoMemory>
     requires first { IsSet sets.old first }
     requires second { IsSet sets.old second }
@@ -37,6 +39,7 @@ pub fn unite(sets: &mut Sets, first: u32, second: u32) -> Result<u32, NoMemory>
 }
 
 /// The number of a set in 32 bits. There is no memory for so many sets that it isn't below the first start's.
+#[inline(always)]
 pub fn narrow(set: usize) -> Result<u32, NoMemory>
     ensures { IfOk result (λ number. (number ≡ set) × (number < first_start)) }
 {
@@ -47,20 +50,34 @@ pub fn narrow(set: usize) -> Result<u32, NoMemory>
     }
 }
 
-/// The set with the members of a byte's set besides, where a mask has the byte.
-fn with_byte(sets: &mut Sets, set: u32, mask: u8, byte: u8, number: u32) -> Result<u32, NoMemory>
+/// The set with the members of a byte's set besides, where a mask has the byte. It has those of the byte below, if the
+/// mask has that: nothing new comes where both have the same number.
+#[inline(always)]
+fn with_byte(
+    sets: &mut Sets,
+    set: u32,
+    mask: u8,
+    byte: u8,
+    numbers: &[u32],
+) -> Result<u32, NoMemory>
     requires byte { byte < 8 }
     requires set { IsSet sets.old set }
     requires small { set < first_start }
-    requires number { IsSet sets.old number }
-    ensures adds { IfOk result (AddsByte sets.old sets.new set mask byte number) }
+    requires numbers { AreNumbers sets.old numbers.now }
+    requires below { 0 < byte → IsTrue (has_byte mask (byte - 1)) →
+        Includes sets.old set (slice_index numbers.now (byte - 1)) }
+    ensures adds { IfOk result
+        (AddsByte sets.old sets.new set mask byte (slice_index numbers.now byte)) }
     ensures before { StandAsBefore sets.old sets.new }
 {
-    if has(mask, byte) {
-        unite(sets, set, number)
-    } else {
-        Ok(set)
+    if !has(mask, byte) {
+        return Ok(set);
     }
+    let place = byte as usize;
+    if byte > 0 && has(mask, byte - 1) && numbers[place] == numbers[place - 1] {
+        return Ok(set);
+    }
+    unite(sets, set, numbers[place])
 }
 
 /// The set with the members of all bytes' sets besides that a mask has.
@@ -76,7 +93,7 @@ fn with_bytes(sets: &mut Sets, start: u32, mask: u8, numbers: &[u32]) -> Result<
     }
     let mut set = start;
     for byte in 0..8 {
-        set = with_byte(sets, set, mask, byte, numbers[byte as usize])?;
+        set = with_byte(sets, set, mask, byte, numbers)?;
     }
     Ok(set)
 }

@@ -11,4 +11,4 @@ mod writing;
 pub use gathering::{FIRST_START, narrow};
 pub use names::{loaded_len, rd, rs1, rs2, stored_len};
 pub use starts::{resolve, resolve_all};
-pub use writing::results;
+pub use writing::{results, silent};

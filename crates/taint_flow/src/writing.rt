@@ -1,10 +1,11 @@
 // The sets of an instruction's result.
-ghost use Rattle.std.specs.Prelude.{◌≡◌, ℕ, [], IfOk, IsTrue, length, replicate, slice_index};
+ghost use Rattle.std.specs.Prelude.{◌≡◌, ◌↔◌, ℕ, List, [], IfOk, IfSome, IsSome, IsTrue, length, replicate, slice_index};
 ghost use Rattle.rv64_model.specs.Carries.{operands};
 ghost use Rattle.set_store.specs.Sets.{IsSet, StandAsBefore, members_of};
 ghost use Rattle.taint_flow.specs.Flow.{IsFlow, Moves};
 ghost use Rattle.taint_flow.specs.Gathered.{AreNumbers, byte_count, number_of};
 ghost use Rattle.taint_flow.specs.Results.{AreResults};
+ghost use Rattle.taint_flow.specs.Silent.{IsSilent};
 
 use crate::flow::{Flow, result_flow};
 use crate::gathering::{gather, narrow};
@@ -50,7 +51,7 @@ fn is_empty(numbers: &[u32]) -> bool
     numbers.iter().all(|number| *number == 0)
 }
 
-// The same of any instruction.
+// The same of any instruction. Bytes that take the same share their set.
 fn mixed(
     sets: &mut Sets,
     linkage: Linkage,
@@ -66,10 +67,16 @@ fn mixed(
         (number_of first.now second.now loaded.now) (operands linkage instr.now)) }
     ensures before { StandAsBefore sets.old sets.new }
 {
-    let mut numbers = [0; 8];
-    for byte in 0..8 {
-        let masks = inputs(linkage, instr, byte);
-        numbers[byte as usize] = gather(sets, masks, first, second, loaded)?;
+    let mut masks = inputs(linkage, instr, 0);
+    let mut set = gather(sets, masks, first, second, loaded)?;
+    let mut numbers = [set; 8];
+    for byte in 1..8 {
+        let next = inputs(linkage, instr, byte);
+        if next != masks {
+            set = gather(sets, next, first, second, loaded)?;
+            masks = next;
+        }
+        numbers[byte as usize] = set;
     }
     Ok(numbers)
 }
@@ -128,5 +135,22 @@ pub fn results(
         Flow::Second(count) => moved(sets, second, count),
         Flow::Memory(count) => moved(sets, loaded, count),
         _ => worked(sets, flow, linkage, instr, first, second, loaded),
+    }
+}
+
+/// The sets of the bytes of a result none of which takes anything, of an instruction that accesses no memory. What its
+/// registers have needs no look.
+#[inline(always)]
+pub fn silent(sets: &Sets, linkage: Linkage, instr: &Instr) -> Option<[u32; 8]>
+    ensures silent { IsSome result ↔ IsSilent linkage instr.now }
+    ensures results { (first second loaded : List ℕ) → IfSome result (AreResults sets.now sets.now
+        (number_of first second loaded) (operands linkage instr.now)) }
+{
+    match instr {
+        Instr::Load { .. } | Instr::Store { .. } => None,
+        _ => match result_flow(linkage, instr) {
+            Flow::Nothing => Some(none(sets)),
+            _ => None,
+        },
     }
 }

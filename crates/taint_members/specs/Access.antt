@@ -3,7 +3,7 @@ use Rattle.std.specs.Prelude.{◌≡◌, ◌≢◌, ℕ, ◌+◌, ◌-◌, ◌<�
 use Rattle.parts_model.specs.declared.limits.TheConstants.{WINDOW_START, SEGMENT_START}
 use Rattle.acts_model.specs.Transfers.{is_private, is_shared}
 use Rattle.taint_pages.specs.Pages.{Puts}
-use Rattle.taint_members.specs.declared.member.Member.{Member}
+use Rattle.taint_members.specs.declared.member.MemberSets.{MemberSets}
 use Rattle.taint_members.specs.declared.member.Shared.{Shared}
 
 -- how far an address lies behind a start
@@ -29,7 +29,7 @@ shared_number segment segments at k =
     if is_shared at then slice_index (held_numbers segment segments) (at - SEGMENT_START + k) else 0
 
 -- and of the memories of a member
-abbrev pub number_at : Member → Segments → ℕ → ℕ → ℕ
+abbrev pub number_at : MemberSets → Segments → ℕ → ℕ → ℕ
 number_at m segments at k =
     if is_private at then slice_index m.window (at - WINDOW_START + k) else shared_number m.segment segments at k
 
@@ -42,7 +42,7 @@ pub record AreFirst (count : ℕ) (number : ℕ → ℕ) (eight : List ℕ) : Ty
 abbrev pub AreReadShared : Option Shared → Segments → ℕ → ℕ → List ℕ → Type 0
 AreReadShared segment segments at count eight = AreFirst count (shared_number segment segments at) eight
 
-abbrev pub AreRead : Member → Segments → ℕ → ℕ → List ℕ → Type 0
+abbrev pub AreRead : MemberSets → Segments → ℕ → ℕ → List ℕ → Type 0
 AreRead m segments at count eight = AreFirst count (number_at m segments at) eight
 
 -- the first, where the test holds, and else the other
@@ -51,7 +51,7 @@ ByTest true first other = first
 ByTest false first other = other
 
 -- the numbers of a window from an address on are others, where the address lies in it
-abbrev pub WritesWindow : ℕ → List ℕ → Member → Member → Type 0
+abbrev pub WritesWindow : ℕ → List ℕ → MemberSets → MemberSets → Type 0
 WritesWindow at numbers old new = ByTest (is_private at) (Puts (at - WINDOW_START) numbers old.window new.window) (new.window ≡ old.window)
 
 -- one segment has other numbers, and all others what they had

@@ -4,10 +4,10 @@ ghost use Rattle.acts_model.specs.Transfers.{is_private, is_shared};
 ghost use Rattle.parts_model.specs.declared.limits.TheConstants as limits;
 ghost use Rattle.taint_members.specs.Access.{AreRead, AreReadShared, HoldsKey, WritesSegment, WritesWindow, from_start, number_at, shared_number};
 
-use crate::member::{Member, Shared};
+use crate::member::{MemberSets, Shared};
 use arn_base::NoMemory;
 use parts_model::limits::{SEGMENT_END, SEGMENT_START, WINDOW_END, WINDOW_START};
-use taint_pages::Numbers;
+use taint_pages::SetNumbers;
 
 /// How far an address lies in the private window, if it does.
 #[inline(always)]
@@ -36,7 +36,7 @@ fn segment_offset(at: u64) -> Option<usize>
 
 /// The number of byte `k` from an address on, in the memory in which the address lies, and 0 behind its end. An address
 /// outside the member's memories has 0.
-pub fn number(member: &Member, segments: &[Numbers], at: u64, k: usize) -> u32
+pub fn number(member: &MemberSets, segments: &[SetNumbers], at: u64, k: usize) -> u32
     requires small { k < 2 ^ 32 }
     requires held { HoldsKey member.now.segment segments.now }
     ensures { result ≡ number_at member.now segments.now at k }
@@ -48,7 +48,7 @@ pub fn number(member: &Member, segments: &[Numbers], at: u64, k: usize) -> u32
 }
 
 /// The same of a segment that may be held.
-fn number_shared(segment: Option<Shared>, segments: &[Numbers], at: u64, k: usize) -> u32
+fn number_shared(segment: Option<Shared>, segments: &[SetNumbers], at: u64, k: usize) -> u32
     requires small { k < 2 ^ 32 }
     requires held { HoldsKey segment segments.now }
     ensures { result ≡ shared_number segment segments.now at k }
@@ -62,7 +62,7 @@ fn number_shared(segment: Option<Shared>, segments: &[Numbers], at: u64, k: usiz
 /// The numbers of so many bytes from an address on, at most eight, and zeros behind them. An address outside the
 /// member's memories has zeros.
 #[inline(always)]
-pub fn read(member: &Member, segments: &[Numbers], at: u64, len: usize) -> [u32; 8]
+pub fn read(member: &MemberSets, segments: &[SetNumbers], at: u64, len: usize) -> [u32; 8]
     requires few { len ≤ 8 }
     requires held { HoldsKey member.now.segment segments.now }
     ensures { AreRead member.now segments.now at len result }
@@ -74,7 +74,7 @@ pub fn read(member: &Member, segments: &[Numbers], at: u64, len: usize) -> [u32;
 }
 
 /// The same of a segment that may be held.
-fn read_segment(segment: Option<Shared>, segments: &[Numbers], at: u64, len: usize) -> [u32; 8]
+fn read_segment(segment: Option<Shared>, segments: &[SetNumbers], at: u64, len: usize) -> [u32; 8]
     requires few { len ≤ 8 }
     requires held { HoldsKey segment segments.now }
     ensures { AreReadShared segment segments.now at len result }
@@ -89,8 +89,8 @@ fn read_segment(segment: Option<Shared>, segments: &[Numbers], at: u64, len: usi
 /// the member's memories nothing is set.
 #[inline(always)]
 pub fn write(
-    member: &mut Member,
-    segments: &mut [Numbers],
+    member: &mut MemberSets,
+    segments: &mut [SetNumbers],
     at: u64,
     numbers: &[u32],
 ) -> Result<(), NoMemory>
@@ -111,7 +111,7 @@ pub fn write(
 /// The same in a segment that may be held.
 fn write_segment(
     segment: Option<Shared>,
-    segments: &mut [Numbers],
+    segments: &mut [SetNumbers],
     at: u64,
     numbers: &[u32],
 ) -> Result<(), NoMemory>

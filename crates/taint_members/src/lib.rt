@@ -6,4 +6,4 @@ mod access;
 mod member;
 
 pub use access::{number, read, write};
-pub use member::{Member, Shared};
+pub use member::{MemberSets, Shared};

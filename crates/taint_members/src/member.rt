@@ -7,7 +7,7 @@ ghost use Rattle.taint_members.specs.Rows.{AreZero, ClearsResult, IsSaved, windo
 use arn_base::NoMemory;
 use rv64_isa::Reg;
 use std::alloc::Global;
-use taint_pages::{Numbers, Row, Unset};
+use taint_pages::{Row, SetNumbers, Unset};
 
 /// How many pages a private window has.
 pub const WINDOW_PAGES: usize = 64;
@@ -22,10 +22,10 @@ pub struct Shared {
 /// The numbers of the sets of a member's bytes: of its registers, of what its slot keeps of them, and of its private
 /// window, with the event that made it; and the segment that it holds.
 #[derive(Debug, Drop)]
-pub struct Member {
+pub struct MemberSets {
     pub registers: Row,
     pub slot: Row,
-    pub window: Numbers,
+    pub window: SetNumbers,
     pub made: u64,
     pub segment: Option<Shared>,
 }
@@ -40,13 +40,13 @@ fn clear_result(registers: &mut Row)
 }
 
 /// A window none of whose bytes has a set.
-fn empty_window(alloc: Global) -> Result<Numbers, NoMemory>
+fn empty_window(alloc: Global) -> Result<SetNumbers, NoMemory>
     ensures { IfOk result (AreUnset Zero (page_len * window_pages)) }
 {
-    Numbers::new(alloc, WINDOW_PAGES, Unset::Zero)
+    SetNumbers::new(alloc, WINDOW_PAGES, Unset::Zero)
 }
 
-impl Member {
+impl MemberSets {
     /// A call returns. Its result takes nothing.
     pub fn returns(&mut self)
         ensures result { ClearsResult self.old.registers self.new.registers }
@@ -86,7 +86,7 @@ impl Member {
 
     /// The child of a fork: its registers, but the result, its slot and its window have what its parent's have. The
     /// event makes its window.
-    pub fn child(&self, event: u64) -> Result<Member, NoMemory>
+    pub fn child(&self, event: u64) -> Result<MemberSets, NoMemory>
         ensures result { IfOk result (λ child. ClearsResult self.now.registers child.registers) }
         ensures others { IfOk result (λ child. child ≡ record self.now {
           registers = child.registers;
@@ -95,7 +95,7 @@ impl Member {
     {
         let mut registers = self.registers.copy();
         clear_result(&mut registers);
-        Ok(Member {
+        Ok(MemberSets {
             registers,
             slot: self.slot.copy(),
             window: self.window.copy()?,
@@ -105,14 +105,14 @@ impl Member {
     }
 
     /// A process whose window an event makes, and none of whose bytes has a set.
-    pub fn fresh(alloc: Global, event: u64) -> Result<Member, NoMemory>
+    pub fn fresh(alloc: Global, event: u64) -> Result<MemberSets, NoMemory>
         ensures registers { IfOk result (λ member. AreZero member.registers) }
         ensures slot { IfOk result (λ member. AreZero member.slot) }
         ensures window { IfOk result (λ member. AreUnset Zero (page_len * window_pages) member.window) }
         ensures made { IfOk result (λ member. member.made ≡ event) }
         ensures segment { IfOk result (λ member. member.segment ≡ None) }
     {
-        Ok(Member {
+        Ok(MemberSets {
             registers: Row::new(),
             slot: Row::new(),
             window: empty_window(alloc)?,

@@ -1,5 +1,5 @@
 -- Pages one behind the other, byte by byte.
-use Rattle.std.proofs.Common.{◌≡◌, ℕ, zero, suc, ◌+◌, ◌*◌, ◌/◌, ◌%◌, ◌<◌, ◌≤◌, ◌==◌, Bool, true, false, nat_lt, if◌then◌else◌, List, [], ◌∷◌, ◌++◌, length, get_or, set, take, replicate, Option, None, Some, refl, sym, ap, subst, ◌∙◌, arith, length-append}
+use Rattle.std.proofs.Common.{◌≡◌, ◌⊎◌, ℕ, zero, suc, ◌+◌, ◌*◌, ◌/◌, ◌%◌, ◌<◌, ◌≤◌, ◌==◌, Bool, true, false, nat_lt, if◌then◌else◌, List, [], ◌∷◌, ◌++◌, length, get_or, set, take, replicate, Option, None, Some, refl, sym, ap, subst, ◌∙◌, arith, length-append, inl, inr}
 use Rattle.std.specs.Global.{Vec}
 use Rattle.std.proofs.Math.ListN.{get_or-eq_default}
 use Rattle.std.proofs.lemmas.Bool.{ltb-true, ltb-false}
@@ -8,7 +8,7 @@ use Rattle.std.proofs.lemmas.Grind.{get_or-set_at}
 use Rattle.std.proofs.lemmas.List.{length-map, length-set, map-append, map-set, take_all, take_more, get_or_append_left, get_or-append-add, get_or-set_other}
 use Rattle.taint_pages.specs.declared.page.Unset.{Unset}
 use Rattle.taint_pages.specs.declared.page.Unset.TheVariants.{Zero, From}
-use Rattle.taint_pages.specs.Pages.{AreSound, AreUnset, ArePages, FitsIn, IsPage, Page, Sets, SetsOne, content, contents, number_in, numbers_from, page_len, page_numbers, unset_number, unset_numbers}
+use Rattle.taint_pages.specs.Pages.{AreEight, AreEightOf, AreSound, AreUnset, ArePages, FitsIn, IsPage, Page, Puts, PutsIn, Sets, SetsOne, content, contents, number_in, numbers_from, page_len, page_numbers, unset_number, unset_numbers}
 
 pub fits-within : (u : Unset) (n m : ℕ) → m ≤ n → FitsIn u n → FitsIn u m
 fits-within Zero n m h f = tt
@@ -97,24 +97,50 @@ at-byte k at number was e = ap (λ (b : Bool). if b then number else was) ((Deci
 pub off-byte : (k at number was : ℕ) → (k ≡ at → ⊥) → (if k == at then number else was) ≡ was
 off-byte k at number was ne = ap (λ (b : Bool). if b then number else was) (other k at ne)
 
-module _ (u : Unset) (pages : List Page) (all : ArePages pages) (at number : ℕ) (inside : at / page_len < length pages) (old new : Page)
-    (read : old ≡ get_or pages (at / page_len) None) (page : IsPage new) (one : SetsOne u (at / page_len * page_len) (at % page_len) number old new) where
-  in-page : (k : ℕ) → k / page_len ≡ at / page_len → number_in u (k / page_len * page_len) (get_or (set pages (at / page_len) new) (k / page_len) None) (k % page_len) ≡ number_in u (at / page_len * page_len) new (k % page_len)
-  in-page k e =
-      ap (λ (p : Page). number_in u (k / page_len * page_len) p (k % page_len)) (get_or-set_at pages (at / page_len) (k / page_len) new None e inside)
+-- one page is another one: what its bytes and the others have
+module _ (u : Unset) (pages : List Page) (all : ArePages pages) (at : ℕ) (inside : at / page_len < length pages) (old new : Page)
+    (read : old ≡ get_or pages (at / page_len) None) (page : IsPage new) where
+  still : ArePages (set pages (at / page_len) new)
+  still = ArePages-set pages (at / page_len) new all page
+
+  long : length (numbers_from u 0 (set pages (at / page_len) new)) ≡ length (numbers_from u 0 pages)
+  long = length-pages u 0 (set pages (at / page_len) new) still ∙ ap (λ (n : ℕ). page_len * n) (length-set pages (at / page_len) new) ∙ sym (length-pages u 0 pages all)
+
+  index-new : (k : ℕ) → k / page_len < length pages → get_or (numbers_from u 0 (set pages (at / page_len) new)) k 0 ≡ number_in u (k / page_len * page_len) (get_or (set pages (at / page_len) new) (k / page_len) None) (k % page_len)
+  index-new k within = index-pages u (set pages (at / page_len) new) still k (subst (λ n. k / page_len < n) (sym (length-set pages (at / page_len) new)) within)
+
+  here-new : (k : ℕ) → k / page_len ≡ at / page_len → get_or (numbers_from u 0 (set pages (at / page_len) new)) k 0 ≡ number_in u (at / page_len * page_len) new (k % page_len)
+  here-new k e =
+      index-new k (subst (λ n. n < length pages) (sym e) inside)
+      ∙ ap (λ (p : Page). number_in u (k / page_len * page_len) p (k % page_len)) (get_or-set_at pages (at / page_len) (k / page_len) new None e inside)
       ∙ ap (λ (n : ℕ). number_in u (n * page_len) new (k % page_len)) e
 
-  was-page : (k : ℕ) → k / page_len ≡ at / page_len → number_in u (at / page_len * page_len) old (k % page_len) ≡ get_or (numbers_from u 0 pages) k 0
-  was-page k e =
+  here-old : (k : ℕ) → k / page_len ≡ at / page_len → number_in u (at / page_len * page_len) old (k % page_len) ≡ get_or (numbers_from u 0 pages) k 0
+  here-old k e =
       ap (λ (p : Page). number_in u (at / page_len * page_len) p (k % page_len)) (read ∙ ap (λ (n : ℕ). get_or pages n None) (sym e))
       ∙ ap (λ (n : ℕ). number_in u (n * page_len) (get_or pages (k / page_len) None) (k % page_len)) (sym e)
       ∙ sym (index-pages u pages all k (subst (λ n. n < length pages) (sym e) inside))
 
-  by-page : (k : ℕ) → k / page_len < length pages → (b : Bool) → (k / page_len == at / page_len) ≡ b
-      → number_in u (k / page_len * page_len) (get_or (set pages (at / page_len) new) (k / page_len) None) (k % page_len) ≡ (if k == at then number else get_or (numbers_from u 0 pages) k 0)
-  by-page k within true e =
+  elsewhere : (k : ℕ) → (k / page_len ≡ at / page_len → ⊥) → get_or (numbers_from u 0 (set pages (at / page_len) new)) k 0 ≡ get_or (numbers_from u 0 pages) k 0
+  elsewhere k apart = by (nat_lt (k / page_len) (length pages)) refl where
+    by : (b : Bool) → nat_lt (k / page_len) (length pages) ≡ b → get_or (numbers_from u 0 (set pages (at / page_len) new)) k 0 ≡ get_or (numbers_from u 0 pages) k 0
+    by true e =
+        let within = ltb-true (k / page_len) (length pages) e in
+        index-new k within
+        ∙ ap (λ (p : Page). number_in u (k / page_len * page_len) p (k % page_len)) (get_or-set_other pages (at / page_len) (k / page_len) new None apart)
+        ∙ sym (index-pages u pages all k within)
+    by false e =
+        let beyond = ltb-false (k / page_len) (length pages) e in
+        let past : length (numbers_from u 0 pages) ≤ k = omega (arith, length-pages u 0 pages all) in
+        get_or-eq_default (numbers_from u 0 (set pages (at / page_len) new)) 0 (subst (λ n. n ≤ k) (sym long) past)
+        ∙ sym (get_or-eq_default (numbers_from u 0 pages) 0 past)
+
+module _ (u : Unset) (pages : List Page) (all : ArePages pages) (at number : ℕ) (inside : at / page_len < length pages) (old new : Page)
+    (read : old ≡ get_or pages (at / page_len) None) (page : IsPage new) (one : SetsOne u (at / page_len * page_len) (at % page_len) number old new) where
+  by-page : (k : ℕ) (b : Bool) → (k / page_len == at / page_len) ≡ b → get_or (numbers_from u 0 (set pages (at / page_len) new)) k 0 ≡ (if k == at then number else get_or (numbers_from u 0 pages) k 0)
+  by-page k true e =
       let same = (Decides-eqb (k / page_len) (at / page_len)).0 e in
-      in-page k same ∙ one (k % page_len) (omega arith) ∙ in-byte (k % page_len == at % page_len) refl same
+      here-new u pages all at inside old new read page k same ∙ one (k % page_len) (omega arith) ∙ in-byte (k % page_len == at % page_len) refl same
     where
       in-byte : (b : Bool) → (k % page_len == at % page_len) ≡ b → k / page_len ≡ at / page_len → (if k % page_len == at % page_len then number else number_in u (at / page_len * page_len) old (k % page_len)) ≡ (if k == at then number else get_or (numbers_from u 0 pages) k 0)
       in-byte true f same =
@@ -123,34 +149,51 @@ module _ (u : Unset) (pages : List Page) (all : ArePages pages) (at number : ℕ
           at-byte (k % page_len) (at % page_len) number (number_in u (at / page_len * page_len) old (k % page_len)) rem ∙ sym (at-byte k at number (get_or (numbers_from u 0 pages) k 0) equal)
       in-byte false f same =
           let apart : k % page_len ≡ at % page_len → ⊥ = λ (r : k % page_len ≡ at % page_len). let t = test false (k % page_len) (at % page_len) f r in cc in
-          off-byte (k % page_len) (at % page_len) number (number_in u (at / page_len * page_len) old (k % page_len)) apart ∙ was-page k same
+          off-byte (k % page_len) (at % page_len) number (number_in u (at / page_len * page_len) old (k % page_len)) apart ∙ here-old u pages all at inside old new read page k same
           ∙ sym (off-byte k at number (get_or (numbers_from u 0 pages) k 0) (λ (r : k ≡ at). apart (ap (λ (n : ℕ). n % page_len) r)))
-  by-page k within false e =
+  by-page k false e =
       let apart : k / page_len ≡ at / page_len → ⊥ = λ (r : k / page_len ≡ at / page_len). let t = test false (k / page_len) (at / page_len) e r in cc in
-      ap (λ (p : Page). number_in u (k / page_len * page_len) p (k % page_len)) (get_or-set_other pages (at / page_len) (k / page_len) new None apart)
-      ∙ sym (index-pages u pages all k within)
+      elsewhere u pages all at inside old new read page k apart
       ∙ sym (off-byte k at number (get_or (numbers_from u 0 pages) k 0) (λ (r : k ≡ at). apart (ap (λ (n : ℕ). n / page_len) r)))
 
-  still : ArePages (set pages (at / page_len) new)
-  still = ArePages-set pages (at / page_len) new all page
-
-  long : length (numbers_from u 0 (set pages (at / page_len) new)) ≡ length (numbers_from u 0 pages)
-  long = length-pages u 0 (set pages (at / page_len) new) still ∙ ap (λ (n : ℕ). page_len * n) (length-set pages (at / page_len) new) ∙ sym (length-pages u 0 pages all)
-
-  by-place : (k : ℕ) (b : Bool) → nat_lt (k / page_len) (length pages) ≡ b → get_or (numbers_from u 0 (set pages (at / page_len) new)) k 0 ≡ (if k == at then number else get_or (numbers_from u 0 pages) k 0)
-  by-place k true e =
-      let within = ltb-true (k / page_len) (length pages) e in
-      index-pages u (set pages (at / page_len) new) still k (subst (λ n. k / page_len < n) (sym (length-set pages (at / page_len) new)) within)
-      ∙ by-page k within (k / page_len == at / page_len) refl
-  by-place k false e =
-      let beyond = ltb-false (k / page_len) (length pages) e in
-      let past : length (numbers_from u 0 pages) ≤ k = omega (arith, length-pages u 0 pages all) in
-      let apart : k ≡ at → ⊥ = λ (r : k ≡ at). let t = ap (λ (n : ℕ). n / page_len) r in omega arith in
-      get_or-eq_default (numbers_from u 0 (set pages (at / page_len) new)) 0 (subst (λ n. n ≤ k) (sym long) past)
-      ∙ sym (off-byte k at number (get_or (numbers_from u 0 pages) k 0) apart ∙ get_or-eq_default (numbers_from u 0 pages) 0 past)
-
   pub sets : Sets at number (numbers_from u 0 pages) (numbers_from u 0 (set pages (at / page_len) new))
-  sets = record { len = long; numbers = λ k. by-place k (nat_lt (k / page_len) (length pages)) refl }
+  sets = record { len = long u pages all at inside old new read page; numbers = λ k. by-page k (k / page_len == at / page_len) refl }
+
+module _ (u : Unset) (pages : List Page) (all : ArePages pages) (at : ℕ) (numbers : List ℕ) (inside : at / page_len < length pages) (short : at % page_len + length numbers ≤ page_len)
+    (old new : Page) (read : old ≡ get_or pages (at / page_len) None) (page : IsPage new) (put : PutsIn u (at / page_len * page_len) (at % page_len) numbers old new) where
+  put-here : (i : ℕ) → i < length numbers → get_or (numbers_from u 0 (set pages (at / page_len) new)) (at + i) 0 ≡ get_or numbers i 0
+  put-here i h =
+      let same : (at + i) / page_len ≡ at / page_len = omega arith in
+      let rem : (at + i) % page_len ≡ at % page_len + i = omega arith in
+      here-new u pages all at inside old new read page (at + i) same ∙ ap (λ (n : ℕ). number_in u (at / page_len * page_len) new n) rem ∙ put.put i h
+
+  put-kept : (k : ℕ) → (k < at) ⊎ (at + length numbers ≤ k) → (b : Bool) → (k / page_len == at / page_len) ≡ b → get_or (numbers_from u 0 (set pages (at / page_len) new)) k 0 ≡ get_or (numbers_from u 0 pages) k 0
+  put-kept k off true e =
+      let same = (Decides-eqb (k / page_len) (at / page_len)).0 e in
+      let beside : (k % page_len < at % page_len) ⊎ (at % page_len + length numbers ≤ k % page_len) = elim off [ inl before ↦ inl (omega arith) | inr behind ↦ inr (omega arith) ] in
+      here-new u pages all at inside old new read page k same ∙ put.kept (k % page_len) (omega arith) beside ∙ here-old u pages all at inside old new read page k same
+  put-kept k off false e =
+      let apart : k / page_len ≡ at / page_len → ⊥ = λ (r : k / page_len ≡ at / page_len). let t = test false (k / page_len) (at / page_len) e r in cc in
+      elsewhere u pages all at inside old new read page k apart
+
+  puts : Puts at numbers (numbers_from u 0 pages) (numbers_from u 0 (set pages (at / page_len) new))
+  puts = record { len = long u pages all at inside old new read page; put = λ i h there. put-here i h; kept = λ k off. put-kept k off (k / page_len == at / page_len) refl }
+
+-- eight bytes that lie in one page
+pub eight-page : (u : Unset) (pages : List Page) → ArePages pages → (at count : ℕ) (eight : List ℕ) (page : Page) → at / page_len < length pages → page ≡ get_or pages (at / page_len) None → at % page_len + 8 ≤ page_len → count ≤ 8
+    → AreEightOf u (at / page_len * page_len) page (at % page_len) count eight → AreEight (numbers_from u 0 pages) at count eight
+eight-page u pages all at count eight page inside read short few e = record {
+  len = e.len;
+  bytes = λ i h.
+      let same : at / page_len ≡ (at + i) / page_len = omega arith in
+      let rem : at % page_len + i ≡ (at + i) % page_len = omega arith in
+      e.bytes i h
+      ∙ ap (λ (n : ℕ). number_in u (at / page_len * page_len) page n) rem
+      ∙ ap (λ (p : Page). number_in u (at / page_len * page_len) p ((at + i) % page_len)) (read ∙ ap (λ (n : ℕ). get_or pages n None) same)
+      ∙ ap (λ (n : ℕ). number_in u (n * page_len) (get_or pages ((at + i) / page_len) None) ((at + i) % page_len)) same
+      ∙ sym (index-pages u pages all (at + i) (subst (λ n. n < length pages) same inside));
+  zeros = e.zeros;
+}
 
 -- pages that are all absent
 absent-at : (n i : ℕ) → get_or {A = Page} (contents (replicate n None)) i None ≡ None
@@ -227,6 +270,21 @@ pub sets-page : (u : Unset) (pages : List (Option (Vec ℕ))) → AreSound u (co
 sets-page u pages s at number old new inside read page one =
     subst (λ l. Sets at number (numbers_from u 0 (contents pages)) (numbers_from u 0 l)) (sym (map-set content pages (at / page_len) new))
     (sets u (contents pages) s.whole at number inside (content old) (content new) read page one)
+
+pub puts-page : (u : Unset) (pages : List (Option (Vec ℕ))) → AreSound u (contents pages) → (at : ℕ) (numbers : List ℕ) (old new : Option (Vec ℕ)) → at / page_len < length (contents pages) → at % page_len + length numbers ≤ page_len
+    → content old ≡ get_or (contents pages) (at / page_len) None → IsPage (content new) → PutsIn u (at / page_len * page_len) (at % page_len) numbers (content old) (content new)
+    → Puts at numbers (numbers_from u 0 (contents pages)) (numbers_from u 0 (contents (set pages (at / page_len) new)))
+puts-page u pages s at numbers old new inside short read page put =
+    subst (λ l. Puts at numbers (numbers_from u 0 (contents pages)) (numbers_from u 0 l)) (sym (map-set content pages (at / page_len) new))
+    (puts u (contents pages) s.whole at numbers inside short (content old) (content new) read page put)
+
+pub long-page : (u : Unset) (pages : List (Option (Vec ℕ))) → AreSound u (contents pages) → (i : ℕ) (new : Option (Vec ℕ)) → IsPage (content new)
+    → length (numbers_from u 0 (contents (set pages i new))) ≡ length (numbers_from u 0 (contents pages))
+long-page u pages s i new page =
+    ap (λ l. length (numbers_from u 0 l)) (map-set content pages i new)
+    ∙ length-pages u 0 (set (contents pages) i (content new)) (ArePages-set (contents pages) i (content new) s.whole page)
+    ∙ ap (λ (n : ℕ). page_len * n) (length-set (contents pages) i (content new))
+    ∙ sym (length-pages u 0 (contents pages) s.whole)
 
 pub sound-set : (u : Unset) (pages : List (Option (Vec ℕ))) (i : ℕ) (new : Option (Vec ℕ)) → AreSound u (contents pages) → IsPage (content new) → AreSound u (contents (set pages i new))
 sound-set u pages i new s page =

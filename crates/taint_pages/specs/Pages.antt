@@ -1,5 +1,5 @@
 -- Numbers of a memory's bytes, in pages.
-use Rattle.std.specs.Prelude.{◌≡◌, ◌⊎◌, ℕ, zero, suc, ◌+◌, ◌*◌, ◌^◌, ◌<◌, ◌≤◌, ◌==◌, ◌&&◌, nat_lt, if◌then◌else◌, List, [], ◌∷◌, ◌++◌, length, map, slice_index, slice_index_or, Option, Some, None, IfSome, option_map}
+use Rattle.std.specs.Prelude.{◌≡◌, ◌⊎◌, ℕ, zero, suc, ◌+◌, ◌*◌, ◌^◌, ◌<◌, ◌≤◌, ◌==◌, ◌&&◌, nat_lt, if◌then◌else◌, List, [], ◌∷◌, ◌++◌, length, map, slice_index, slice_index_or, take, drop, Option, Some, None, IfSome, option_map}
 use Rattle.std.specs.Global.{Vec}
 use Rattle.taint_pages.specs.declared.page.Unset.{Unset}
 use Rattle.taint_pages.specs.declared.page.Unset.TheVariants.{Zero, From}
@@ -80,6 +80,25 @@ pub record AreEight (numbers : List ℕ) (at count : ℕ) (eight : List ℕ) : T
   pub len : length eight ≡ 8
   pub bytes : (i : ℕ) → i < count → slice_index eight i ≡ slice_index numbers (at + i)
   pub zeros : (i : ℕ) → count ≤ i → slice_index eight i ≡ 0
+
+-- the same of the bytes of a page
+pub record AreEightOf (unset : Unset) (base : ℕ) (page : Page) (at count : ℕ) (eight : List ℕ) : Type 0 where
+  pub len : length eight ≡ 8
+  pub bytes : (i : ℕ) → i < count → slice_index eight i ≡ number_in unset base page (at + i)
+  pub zeros : (i : ℕ) → count ≤ i → slice_index eight i ≡ 0
+
+-- bytes from a place on have the numbers of bytes that weren't set
+abbrev pub HaveUnset : Unset → ℕ → List ℕ → Type 0
+HaveUnset unset at numbers = (i : ℕ) → i < length numbers → slice_index numbers i ≡ unset_number unset (at + i)
+
+-- several bytes of a page have other numbers
+pub record PutsIn (unset : Unset) (base at : ℕ) (numbers : List ℕ) (old new : Page) : Type 0 where
+  pub put : (i : ℕ) → i < length numbers → number_in unset base new (at + i) ≡ slice_index numbers i
+  pub kept : (k : ℕ) → k < page_len → (k < at) ⊎ (at + length numbers ≤ k) → number_in unset base new k ≡ number_in unset base old k
+
+-- numbers in place of those from a place on
+abbrev pub overwritten : List ℕ → ℕ → List ℕ → List ℕ
+overwritten kept at numbers = take at kept ++ numbers ++ drop (at + length numbers) kept
 
 -- no byte of so many has been set
 pub record AreUnset (unset : Unset) (count : ℕ) (numbers : List ℕ) : Type 0 where

@@ -5,6 +5,6 @@ mod numbers;
 mod page;
 mod row;
 
-pub use numbers::Numbers;
+pub use numbers::SetNumbers;
 pub use page::{PAGE_LEN, Unset};
 pub use row::Row;

@@ -1,5 +1,5 @@
 // The numbers of a memory's bytes.
-ghost use Rattle.std.specs.Prelude.{◌≡◌, ◌<◌, ◌≤◌, ◌+◌, ◌*◌, ◌^◌, nat_lt, length, slice_index, IfOk, OnOk, OnErr};
+ghost use Rattle.std.specs.Prelude.{◌≡◌, ◌<◌, ◌≤◌, ◌+◌, ◌-◌, ◌*◌, ◌%◌, ◌^◌, ◌&&◌, nat_lt, nat_le, length, slice_index, IfOk, OnOk, OnErr};
 ghost use Rattle.taint_pages.specs.Pages.{AreEight, AreUnset, FitsIn, Puts, Sets, SetsInside, page_len};
 
 use crate::page::{self, PAGE_LEN, Page, Unset};
@@ -9,12 +9,12 @@ use std::marker::Model;
 
 /// The number of the set of each byte of a memory. A page whose bytes weren't set takes no memory.
 #[derive(Debug, Drop)]
-pub struct Numbers {
+pub struct SetNumbers {
     pages: Vec<Page>,
     unset: Unset,
 }
 
-impl Model for Numbers {
+impl Model for SetNumbers {
     ghost use Rattle.std.specs.Prelude.{ℕ, List};
     ghost use Rattle.taint_pages.specs.Pages.{AreSound, contents, numbers_from};
 
@@ -25,13 +25,13 @@ impl Model for Numbers {
     ghost invariant = { λ n. AreSound n.unset (contents n.pages.items) };
 }
 
-impl Numbers {
+impl SetNumbers {
     /// The bytes of so many pages, none of which has been set.
-    pub fn new(alloc: Global, pages: usize, unset: Unset) -> Result<Numbers, NoMemory>
+    pub fn new(alloc: Global, pages: usize, unset: Unset) -> Result<SetNumbers, NoMemory>
         requires { FitsIn unset (page_len * pages) }
         ensures { IfOk result (AreUnset unset (page_len * pages)) }
     {
-        Ok(Numbers {
+        Ok(SetNumbers {
             pages: page::absent(alloc, pages)?,
             unset,
         })
@@ -89,7 +89,7 @@ impl Numbers {
     }
 
     /// The same numbers again.
-    pub fn copy(&self) -> Result<Numbers, NoMemory>
+    pub fn copy(&self) -> Result<SetNumbers, NoMemory>
         ensures { IfOk result (λ copy. copy ≡ self.now) }
     {
         let alloc = *self.pages.allocator();
@@ -97,10 +97,18 @@ impl Numbers {
         for page in &self.pages {
             pages.push(page::copy_of(alloc, page)?)?;
         }
-        Ok(Numbers {
+        Ok(SetNumbers {
             pages,
             unset: self.unset,
         })
+    }
+
+    /// Whether there is such a byte, and so many from there on lie in its page.
+    #[inline(always)]
+    fn has_in_page(&self, at: usize, len: usize) -> bool
+        ensures { result ≡ (nat_lt at (length self.now) && nat_le len (page_len - at % page_len)) }
+    {
+        self.has(at) && len <= PAGE_LEN - at % PAGE_LEN
     }
 
     /// Sets the number of a byte, where there is such a byte.
@@ -123,6 +131,41 @@ impl Numbers {
         ensures ok { OnOk result (Puts at numbers.now self.old self.new) }
         ensures len { length self.new ≡ length self.old }
     {
+        if self.has_in_page(at, numbers.len()) {
+            self.put_in_page(at, numbers)
+        } else {
+            self.put_each(at, numbers)
+        }
+    }
+
+    /// The same of bytes of one page.
+    #[inline(always)]
+    fn put_in_page(&mut self, at: usize, numbers: &[u32]) -> Result<(), NoMemory>
+        requires there { at < length self.old }
+        requires inside { at % page_len + length numbers.now ≤ page_len }
+        ensures ok { OnOk result (Puts at numbers.now self.old self.new) }
+        ensures len { length self.new ≡ length self.old }
+    {
+        let alloc = *self.pages.allocator();
+        let place = at / PAGE_LEN;
+        let page = &mut self.pages[place];
+        page::put_numbers(
+            alloc,
+            self.unset,
+            place * PAGE_LEN,
+            page,
+            at % PAGE_LEN,
+            numbers,
+        )
+    }
+
+    /// The same, one byte after the other.
+    #[inline(never)]
+    fn put_each(&mut self, at: usize, numbers: &[u32]) -> Result<(), NoMemory>
+        requires small { at + length numbers.now < 2 ^ 32 }
+        ensures ok { OnOk result (Puts at numbers.now self.old self.new) }
+        ensures len { length self.new ≡ length self.old }
+    {
         for (i, number) in numbers.iter().enumerate() {
             self.replace(at + i, *number)?;
         }
@@ -133,6 +176,38 @@ impl Numbers {
     /// last byte.
     #[inline(always)]
     pub fn eight(&self, at: usize, len: usize) -> [u32; 8]
+        requires few { len ≤ 8 }
+        requires small { at < 2 ^ 32 }
+        ensures { AreEight self.now at len result }
+    {
+        if self.has_in_page(at, 8) {
+            self.eight_in_page(at, len)
+        } else {
+            self.eight_each(at, len)
+        }
+    }
+
+    /// The same of bytes of one page.
+    #[inline(always)]
+    fn eight_in_page(&self, at: usize, len: usize) -> [u32; 8]
+        requires there { at < length self.now }
+        requires inside { at % page_len + 8 ≤ page_len }
+        requires few { len ≤ 8 }
+        ensures { AreEight self.now at len result }
+    {
+        let place = at / PAGE_LEN;
+        page::eight_of(
+            self.unset,
+            place * PAGE_LEN,
+            &self.pages[place],
+            at % PAGE_LEN,
+            len,
+        )
+    }
+
+    /// The same, one byte after the other.
+    #[inline(never)]
+    fn eight_each(&self, at: usize, len: usize) -> [u32; 8]
         requires few { len ≤ 8 }
         requires small { at < 2 ^ 32 }
         ensures { AreEight self.now at len result }

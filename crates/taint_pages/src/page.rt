@@ -1,6 +1,6 @@
 // A page of numbers.
-ghost use Rattle.std.specs.Prelude.{◌≡◌, ◌<◌, ◌+◌, ℕ, length, replicate, slice_index, None, IfOk, OnOk, OnErr};
-ghost use Rattle.taint_pages.specs.Pages.{FitsIn, IsPage, SetsOne, content, number_in, page_len, unset_number};
+ghost use Rattle.std.specs.Prelude.{◌≡◌, ◌<◌, ◌≤◌, ◌+◌, ◌↔◌, ℕ, IsTrue, length, replicate, slice_index, None, Some, IfOk, OnOk, OnErr};
+ghost use Rattle.taint_pages.specs.Pages.{AreEight, AreEightOf, FitsIn, HaveUnset, IsPage, PutsIn, SetsOne, content, number_in, overwritten, page_len, unset_number};
 
 use arn_base::NoMemory;
 use std::alloc::Global;
@@ -105,6 +105,121 @@ fn made_for(
     let mut numbers = unset_page(alloc, unset, base)?;
     numbers[at] = number;
     Ok(Some(numbers))
+}
+
+/// The numbers of so many bytes of a page that has them, at most eight, and zeros behind them.
+#[inline(always)]
+fn eight_kept(numbers: &[u32], at: usize, len: usize) -> [u32; 8]
+    requires inside { at + 8 ≤ length numbers.now }
+    requires few { len ≤ 8 }
+    ensures { AreEight numbers.now at len result }
+{
+    let mut eight = [0; 8];
+    for i in 0..8 {
+        let number = numbers[at + i];
+        eight[i] = if i < len { number } else { 0 };
+    }
+    eight
+}
+
+/// The same of a page whose bytes weren't set.
+fn eight_unset(unset: Unset, base: usize, at: usize, len: usize) -> [u32; 8]
+    requires inside { at + 8 ≤ page_len }
+    requires few { len ≤ 8 }
+    requires fits { FitsIn unset (base + page_len) }
+    ensures { AreEightOf unset base None at len result }
+{
+    let mut eight = [0; 8];
+    for i in 0..8 {
+        let number = unset_at(unset, base, at + i);
+        eight[i] = if i < len { number } else { 0 };
+    }
+    eight
+}
+
+/// The numbers of so many bytes of a page, at most eight, and zeros behind them.
+#[inline(always)]
+pub fn eight_of(unset: Unset, base: usize, page: &Page, at: usize, len: usize) -> [u32; 8]
+    requires page { IsPage (content page.now) }
+    requires inside { at + 8 ≤ page_len }
+    requires few { len ≤ 8 }
+    requires fits { FitsIn unset (base + page_len) }
+    ensures { AreEightOf unset base (content page.now) at len result }
+{
+    match page {
+        Some(numbers) => eight_kept(numbers, at, len),
+        None => eight_unset(unset, base, at, len),
+    }
+}
+
+/// Whether several bytes of a page have the numbers of bytes that weren't set.
+fn have_unset(unset: Unset, base: usize, at: usize, numbers: &[u32]) -> bool
+    requires inside { at + length numbers.now ≤ page_len }
+    requires fits { FitsIn unset (base + page_len) }
+    ensures { IsTrue result ↔ HaveUnset unset (base + at) numbers.now }
+{
+    for (i, number) in numbers.iter().enumerate() {
+        if *number != unset_at(unset, base, at + i) {
+            return false;
+        }
+    }
+    true
+}
+
+/// Puts numbers over those from one place on.
+#[inline(always)]
+fn overwrite(kept: &mut [u32], at: usize, numbers: &[u32])
+    requires { at + length numbers.now ≤ length kept.old }
+    ensures { kept.new ≡ overwritten kept.old at numbers.now }
+{
+    kept[at..at + numbers.len()].copy_from_slice(numbers);
+}
+
+/// Sets the numbers of several bytes of a page. A page is made where these have another number than before.
+#[inline(always)]
+pub fn put_numbers(
+    alloc: Global,
+    unset: Unset,
+    base: usize,
+    page: &mut Page,
+    at: usize,
+    numbers: &[u32],
+) -> Result<(), NoMemory>
+    requires page { IsPage (content page.old) }
+    requires inside { at + length numbers.now ≤ page_len }
+    requires fits { FitsIn unset (base + page_len) }
+    ensures page { IsPage (content page.new) }
+    ensures ok { OnOk result
+        (PutsIn unset base at numbers.now (content page.old) (content page.new)) }
+    ensures err { OnErr result (page.new ≡ page.old) }
+{
+    match page {
+        Some(kept) => overwrite(kept, at, numbers),
+        None => {
+            if !have_unset(unset, base, at, numbers) {
+                *page = Some(made_of(alloc, unset, base, at, numbers)?);
+            }
+        }
+    }
+    Ok(())
+}
+
+/// A page for several bytes of these numbers, the others not being set.
+fn made_of(
+    alloc: Global,
+    unset: Unset,
+    base: usize,
+    at: usize,
+    numbers: &[u32],
+) -> Result<Vec<u32>, NoMemory>
+    requires inside { at + length numbers.now ≤ page_len }
+    requires fits { FitsIn unset (base + page_len) }
+    ensures len { IfOk result (λ kept. length kept.items ≡ page_len) }
+    ensures put { IfOk result (λ kept. PutsIn unset base at numbers.now None (Some kept.items)) }
+{
+    let mut kept = unset_page(alloc, unset, base)?;
+    overwrite(&mut kept, at, numbers);
+    Ok(kept)
 }
 
 /// The same page again.

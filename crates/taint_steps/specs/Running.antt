@@ -5,7 +5,7 @@ use Rattle.rv64_isa.specs.declared.instruction.Instr.{Instr}
 use Rattle.rv64_model.specs.Operands.{accessed, rd_of, stored_len}
 use Rattle.set_store.specs.declared.item.Item.{Item}
 use Rattle.taint_members.specs.Access.{Segments, WritesSegment, WritesWindow}
-use Rattle.taint_members.specs.declared.member.Member.{Member}
+use Rattle.taint_members.specs.declared.member.MemberSets.{MemberSets}
 use Rattle.taint_members.specs.declared.member.Shared.{Shared}
 use Rattle.taint_pages.specs.Rows.{byte_in}
 use Rattle.taint_steps.specs.Taking.{Takes}
@@ -17,7 +17,7 @@ WritesRegister rd numbers old new =
     (r i : ℕ) → i < 8 → byte_in new r i ≡ (if (r == rd) && nat_lt 0 r then slice_index numbers i else byte_in old r i)
 
 -- the bytes of the window have other numbers from an address on, if there is one
-abbrev pub StoresWindow : Option ℕ → List ℕ → Member → Member → Type 0
+abbrev pub StoresWindow : Option ℕ → List ℕ → MemberSets → MemberSets → Type 0
 StoresWindow None numbers old new = new.window ≡ old.window
 StoresWindow (Some at) numbers old new = WritesWindow at numbers old new
 
@@ -27,7 +27,7 @@ StoresSegment None numbers segment old new = new ≡ old
 StoresSegment (Some at) numbers segment old new = WritesSegment at numbers segment old new
 
 -- What is taken becomes that of the register that is written, and of the bytes that are stored. All other bytes keep what they had.
-pub record Runs (rules : Rules) (instr : Instr) (before : Cpu) (m n : Member) (segments written : Segments) (old new : List (List Item)) : Type 0 where
+pub record Runs (rules : Rules) (instr : Instr) (before : Cpu) (m n : MemberSets) (segments written : Segments) (old new : List (List Item)) : Type 0 where
   pub numbers : List ℕ
   pub takes : Takes old new rules instr before m segments numbers
   pub register : WritesRegister (rd_of instr) numbers m.registers n.registers

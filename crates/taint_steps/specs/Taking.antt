@@ -11,7 +11,7 @@ use Rattle.taint_flow.specs.Names.{loaded_len}
 use Rattle.taint_flow.specs.Results.{AreResults}
 use Rattle.taint_flow.specs.Starts.{AreResolved, IsRaw}
 use Rattle.taint_members.specs.Access.{AreFirst, AreRead, Segments, number_at}
-use Rattle.taint_members.specs.declared.member.Member.{Member}
+use Rattle.taint_members.specs.declared.member.MemberSets.{MemberSets}
 use Rattle.taint_pages.specs.Rows.{AreBytes, byte_in}
 use Rattle.taint_steps.specs.declared.taking.Rules.{Rules}
 
@@ -25,7 +25,7 @@ IsRegister row zero numbers = AreFirst 8 no_bytes numbers
 IsRegister row (suc r) numbers = (suc r < 32) × AreBytes row (suc r) numbers
 
 -- the numbers of so many bytes from where they are loaded, if they are
-abbrev pub IsRead : Option ℕ → ℕ → Member → Segments → List ℕ → Type 0
+abbrev pub IsRead : Option ℕ → ℕ → MemberSets → Segments → List ℕ → Type 0
 IsRead None len m segments numbers = AreFirst 0 no_bytes numbers
 IsRead (Some at) len m segments numbers = AreRead m segments at len numbers
 
@@ -34,17 +34,17 @@ abbrev pub AreSetsIn : List (List Item) → List ℕ → Type 0
 AreSetsIn sets row = (r i : ℕ) → 0 < r → r < 32 → i < 8 → IsSet sets (byte_in row r i)
 
 -- those of memories are those of sets, or of bytes with which the group began
-abbrev pub AreRawIn : List (List Item) → Member → Segments → Type 0
+abbrev pub AreRawIn : List (List Item) → MemberSets → Segments → Type 0
 AreRawIn sets m segments = (at k : ℕ) → IsRaw sets (number_at m segments at k)
 
 -- The sets of what is loaded: of the numbers that stand there, each of which has a set then.
-pub record Loads (old mid : List (List Item)) (rules : Rules) (instr : Instr) (before : Cpu) (m : Member) (segments : Segments) (loaded : List ℕ) : Type 0 where
+pub record Loads (old mid : List (List Item)) (rules : Rules) (instr : Instr) (before : Cpu) (m : MemberSets) (segments : Segments) (loaded : List ℕ) : Type 0 where
   pub raw : List ℕ
   pub read : IsRead (named.accessed instr before) (loaded_len instr) m segments raw
   pub resolved : AreResolved old mid rules.begun raw loaded
 
 -- What was taken: by the bytes of both registers, and by those that are loaded, each of which has a set then.
-pub record Takes (old new : List (List Item)) (rules : Rules) (instr : Instr) (before : Cpu) (m : Member) (segments : Segments) (numbers : List ℕ) : Type 0 where
+pub record Takes (old new : List (List Item)) (rules : Rules) (instr : Instr) (before : Cpu) (m : MemberSets) (segments : Segments) (numbers : List ℕ) : Type 0 where
   pub first : List ℕ
   pub second : List ℕ
   pub raw : List ℕ

@@ -6,14 +6,14 @@ ghost use Rattle.taint_members.specs.Access.{HoldsKey};
 ghost use Rattle.taint_steps.specs.Running.{Runs, StoresSegment, StoresWindow, WritesRegister};
 ghost use Rattle.taint_steps.specs.Taking.{AreRawIn, AreSetsIn};
 
-use crate::taking::{Rules, taken};
+use crate::taking::{Rules, registers, taken};
 use arn_base::{Cpu, NoMemory};
 use rv64_core::accessed;
 use rv64_isa::{Instr, Reg};
 use set_store::Sets;
-use taint_flow::{rd, stored_len};
-use taint_members::{Member, write};
-use taint_pages::{Numbers, Row};
+use taint_flow::{rd, silent, stored_len};
+use taint_members::{MemberSets, write};
+use taint_pages::{Row, SetNumbers};
 
 /// Sets the numbers of the register that is written, if there is one that isn't x0.
 #[inline(always)]
@@ -34,8 +34,8 @@ fn write_register(row: &mut Row, rd: Option<Reg>, numbers: &[u32])
 fn store(
     instr: &Instr,
     before: &Cpu,
-    member: &mut Member,
-    segments: &mut [Numbers],
+    member: &mut MemberSets,
+    segments: &mut [SetNumbers],
     numbers: &[u32],
 ) -> Result<(), NoMemory>
     requires eight { length numbers.now ≡ 8 }
@@ -53,16 +53,15 @@ fn store(
     }
 }
 
-/// A member runs an instruction that the next one follows: its register, or the bytes that it stores, have the sets
-/// of what it takes.
+// A member runs any instruction that the next one follows.
 #[inline(always)]
-pub fn run(
+fn run_any(
     sets: &mut Sets,
     rules: Rules,
     instr: &Instr,
     before: &Cpu,
-    member: &mut Member,
-    segments: &mut [Numbers],
+    member: &mut MemberSets,
+    segments: &mut [SetNumbers],
 ) -> Result<(), NoMemory>
     requires held { HoldsKey member.old.segment segments.old }
     requires registers { AreSetsIn sets.old member.old.registers }
@@ -75,4 +74,33 @@ pub fn run(
     let numbers = taken(sets, rules, instr, before, member, segments)?;
     write_register(&mut member.registers, rd(instr), &numbers);
     store(instr, before, member, segments, &numbers)
+}
+
+/// A member runs an instruction that the next one follows: its register, or the bytes that it stores, have the sets
+/// of what it takes.
+#[inline(always)]
+pub fn run(
+    sets: &mut Sets,
+    rules: Rules,
+    instr: &Instr,
+    before: &Cpu,
+    member: &mut MemberSets,
+    segments: &mut [SetNumbers],
+) -> Result<(), NoMemory>
+    requires held { HoldsKey member.old.segment segments.old }
+    requires registers { AreSetsIn sets.old member.old.registers }
+    requires memory { AreRawIn sets.old member.old segments.old }
+    ensures runs { OnOk result (Runs rules instr.now before.now member.old member.new
+        segments.old segments.new sets.old sets.new) }
+    ensures before { StandAsBefore sets.old sets.new }
+    ensures keys { length segments.new ≡ length segments.old }
+{
+    if let Some(numbers) = silent(sets, rules.linkage, instr) {
+        // Asked for what is promised of both: nothing is done with them.
+        let _ = sets.empty();
+        let _ = registers(instr, member);
+        write_register(&mut member.registers, rd(instr), &numbers);
+        return Ok(());
+    }
+    run_any(sets, rules, instr, before, member, segments)
 }

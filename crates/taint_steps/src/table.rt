@@ -9,8 +9,8 @@ use crate::taking::Rules;
 use arn_base::{Cpu, NoMemory};
 use rv64_isa::Instr;
 use set_store::Sets;
-use taint_members::Member;
-use taint_pages::Numbers;
+use taint_members::MemberSets;
+use taint_pages::SetNumbers;
 
 /// A member runs an instruction that the next one follows, if there is one.
 #[inline(always)]
@@ -19,8 +19,8 @@ fn run_entry(
     rules: Rules,
     instr: &Instr,
     before: &Cpu,
-    entry: &mut Option<Member>,
-    segments: &mut [Numbers],
+    entry: &mut Option<MemberSets>,
+    segments: &mut [SetNumbers],
 ) -> Result<(), NoMemory>
     requires { IfSome entry.old (IsReady sets.old segments.old) }
     ensures runs { OnOk result (RunsEntry entry.old entry.new rules instr.now before.now
@@ -43,8 +43,8 @@ pub fn run_member(
     instr: &Instr,
     before: &Cpu,
     pid: u32,
-    members: &mut [Option<Member>],
-    segments: &mut [Numbers],
+    members: &mut [Option<MemberSets>],
+    segments: &mut [SetNumbers],
 ) -> Result<(), NoMemory>
     requires { IfSome (nth members.old pid) (IsReady sets.old segments.old) }
     ensures runs { OnOk result (RunsMember (nth members.old pid) pid rules instr.now before.now

@@ -13,8 +13,8 @@ use rv64_isa::{Instr, Reg};
 use rv64_model::Linkage;
 use set_store::Sets;
 use taint_flow::{loaded_len, resolve_all, results, rs1, rs2};
-use taint_members::{Member, read};
-use taint_pages::{Numbers, Row};
+use taint_members::{MemberSets, read};
+use taint_pages::{Row, SetNumbers};
 
 /// The linkage under which bytes are followed, and the event by which the group began.
 #[derive(Clone, Copy, Debug)]
@@ -37,9 +37,21 @@ fn bytes_of(row: &Row, reg: Option<Reg>) -> &[u32]
     }
 }
 
+/// The numbers of the bytes of both registers that an instruction reads.
+#[inline(always)]
+pub fn registers<'a>(instr: &Instr, member: &'a MemberSets) -> (&'a [u32], &'a [u32])
+    ensures first { IsRegister member.now.registers (operands.rs1_of instr.now) result.0.now }
+    ensures second { IsRegister member.now.registers (operands.rs2_of instr.now) result.1.now }
+{
+    (
+        bytes_of(&member.registers, rs1(instr)),
+        bytes_of(&member.registers, rs2(instr)),
+    )
+}
+
 /// The numbers of the bytes that an instruction loads, and zeros behind them.
 #[inline(always)]
-fn loaded(instr: &Instr, before: &Cpu, member: &Member, segments: &[Numbers]) -> [u32; 8]
+fn loaded(instr: &Instr, before: &Cpu, member: &MemberSets, segments: &[SetNumbers]) -> [u32; 8]
     requires held { HoldsKey member.now.segment segments.now }
     ensures { IsRead (operands.accessed instr.now before.now) (names.loaded_len instr.now)
         member.now segments.now result }
@@ -57,8 +69,8 @@ fn loaded_sets(
     rules: Rules,
     instr: &Instr,
     before: &Cpu,
-    member: &Member,
-    segments: &[Numbers],
+    member: &MemberSets,
+    segments: &[SetNumbers],
 ) -> Result<[u32; 8], NoMemory>
     requires held { HoldsKey member.now.segment segments.now }
     requires memory { AreRawIn sets.old member.now segments.now }
@@ -80,8 +92,8 @@ pub fn taken(
     rules: Rules,
     instr: &Instr,
     before: &Cpu,
-    member: &Member,
-    segments: &[Numbers],
+    member: &MemberSets,
+    segments: &[SetNumbers],
 ) -> Result<[u32; 8], NoMemory>
     requires held { HoldsKey member.now.segment segments.now }
     requires registers { AreSetsIn sets.old member.now.registers }
@@ -91,7 +103,6 @@ pub fn taken(
     ensures before { StandAsBefore sets.old sets.new }
 {
     let loaded = loaded_sets(sets, rules, instr, before, member, segments)?;
-    let first = bytes_of(&member.registers, rs1(instr));
-    let second = bytes_of(&member.registers, rs2(instr));
+    let (first, second) = registers(instr, member);
     results(sets, rules.linkage, instr, first, second, &loaded)
 }

@@ -3,7 +3,7 @@ use Rattle.std.proofs.Common.{◌≡◌, ◌≢◌, ◌⊎◌, inl, inr, ℕ, ze
 use Rattle.std.proofs.lemmas.Bool.{eqb-true, eqb-false}
 use Rattle.parts_model.specs.Numbered.{nth}
 use Rattle.taint_members.specs.Access.{HoldsKey, Segments}
-use Rattle.taint_members.specs.declared.member.Member.{Member}
+use Rattle.taint_members.specs.declared.member.MemberSets.{MemberSets}
 use Rattle.taint_members.specs.declared.member.Shared.{Shared}
 use Rattle.taint_steps.specs.Table.{Tables}
 use Rattle.taint_steps.specs.declared.taking.Rules.{Rules}
@@ -26,11 +26,11 @@ hears-next event heard = record {
   others = λ e ne. ap (λ b. cond b (Some event) (heard_among heard e)) (ne_eqb event.event e (λ same. ne (sym same)));
 }
 
-pub holds-itself : (o : Option Member) → HoldsSame o o
+pub holds-itself : (o : Option MemberSets) → HoldsSame o o
 holds-itself None = tt
 holds-itself (Some m) = inl refl
 
-holds-none : (m : Member) (o : Option Member) → m.segment ≡ None → HoldsSame (Some m) o
+holds-none : (m : MemberSets) (o : Option MemberSets) → m.segment ≡ None → HoldsSame (Some m) o
 holds-none m None e = e
 holds-none m (Some old) e = inr e
 
@@ -45,14 +45,14 @@ none-one-key (Some s) = tt
 key-there : (s : Option Shared) (x y : Segments) → y ≡ x → HoldsKey s x → HoldsKey s y
 key-there s x y e h = subst (HoldsKey s) (sym e) h
 
-pub held-by : (x y : Segments) (a c : Option Member) → y ≡ x → HoldsSame a c → IfSome c (λ (k : Member). HoldsKey k.segment x) → IfSome a (λ (k : Member). HoldsKey k.segment y)
+pub held-by : (x y : Segments) (a c : Option MemberSets) → y ≡ x → HoldsSame a c → IfSome c (λ (k : MemberSets). HoldsKey k.segment x) → IfSome a (λ (k : MemberSets). HoldsKey k.segment y)
 held-by x y None c e same h = tt
 held-by x y (Some k) None e same h = subst (λ s. HoldsKey s y) (sym same) tt
 held-by x y (Some k) (Some j) e (inl same) h = subst (λ s. HoldsKey s y) (sym same) (key-there j.segment x y e h)
 held-by x y (Some k) (Some j) e (inr same) h = subst (λ s. HoldsKey s y) (sym same) tt
 
-pub once-by : (a b c d : Option Member) → HoldsSame a c → HoldsSame b d → IfSome c (λ (k : Member). IfSome d (λ (j : Member). HaveOneKey k.segment j.segment))
-    → IfSome a (λ (k : Member). IfSome b (λ (j : Member). HaveOneKey k.segment j.segment))
+pub once-by : (a b c d : Option MemberSets) → HoldsSame a c → HoldsSame b d → IfSome c (λ (k : MemberSets). IfSome d (λ (j : MemberSets). HaveOneKey k.segment j.segment))
+    → IfSome a (λ (k : MemberSets). IfSome b (λ (j : MemberSets). HaveOneKey k.segment j.segment))
 once-by None b c d e f h = tt
 once-by (Some k) None c d e f h = tt
 once-by (Some k) (Some j) None d e f h = subst (λ s. HaveOneKey s j.segment) (sym e) (none-one-key j.segment)
@@ -77,7 +77,7 @@ same-but x y pid own others p = by_test (p == pid) refl
     by_test false e = subst (λ o. HoldsSame o (nth x.members p)) (sym (others p (eqb-false p pid e))) (holds-itself (nth x.members p))
 
 -- a member as it is kept, where segments are the same
-pub kept-same : (x y : Tables) (p : ℕ) (o : Option Member) → y.segments ≡ x.segments → nth y.members p ≡ o
+pub kept-same : (x y : Tables) (p : ℕ) (o : Option MemberSets) → y.segments ≡ x.segments → nth y.members p ≡ o
     → nth (map (option_map (kept_member y.segments)) y.members) p ≡ option_map (kept_member x.segments) o
 kept-same x y p o e is =
     nth-map (kept_member y.segments) y.members p ∙ (ap (option_map (kept_member y.segments)) is ∙ ap (λ s. option_map (kept_member s) o) e)

@@ -8,7 +8,7 @@ use Rattle.acts_model.specs.Acts as act
 use Rattle.acts_model.specs.Records.{event_len, process_of}
 use Rattle.acts_model.specs.Told.{act_of}
 use Rattle.acts_model.specs.Transfers.{Gives, Holds, Receives, Starts, place_of, transfer}
-use Rattle.taint_members.specs.declared.member.Member.{Member}
+use Rattle.taint_members.specs.declared.member.MemberSets.{MemberSets}
 use Rattle.taint_tracker.specs.declared.deeds.Deed.{Deed}
 use Rattle.taint_tracker.specs.declared.group.Group.{Group}
 use Rattle.taint_tracker.specs.Deeds.{DoesStep, deed_as}
@@ -44,14 +44,14 @@ step-of (act.Faults status) pid event count x y len step = step
 step-of (act.Dies signal cut) pid event count x y len step = step
 
 -- the event of a live member
-takes-step : (act : act.Act) (pid event : ℕ) (e : Record) (before : Cpu) (x y : Group) (old : Member) → process_of e ≡ Some pid → act_of before e ≡ Some act → nth x.members.items pid ≡ Some old
+takes-step : (act : act.Act) (pid event : ℕ) (e : Record) (before : Cpu) (x y : Group) (old : MemberSets) → process_of e ≡ Some pid → act_of before e ≡ Some act → nth x.members.items pid ≡ Some old
     → StepsFrom (λ (holds : Holds). transfer pid event holds act) pid event (event_len e) x y → TakesEvent (shown (kept_of x)) event e before (shown (kept_of y)) × IsSoundGroup y
 takes-step act pid event e before x y old process told is step =
     (subst (λ o. GoesIf o (shown (kept_of x)) (shown (kept_of y))) (sym inside) goes.follows.goes, record { kept = goes.follows.sound; keyed = goes.keyed })
   where
     goes : GroupGoes (event_by_member pid before (transfer pid event (holds_of old) act) event e) x y
     goes =
-        at-some (λ (m : Member). GroupGoes (event_by_member pid before (transfer pid event (holds_of m) act) event e) x y) (nth x.members.items pid) old is (step e before refl)
+        at-some (λ (m : MemberSets). GroupGoes (event_by_member pid before (transfer pid event (holds_of m) act) event e) x y) (nth x.members.items pid) old is (step e before refl)
 
     held : holders_of (shown (kept_of x)) pid ≡ Some (holds_of old)
     held =
@@ -68,7 +68,7 @@ pub takes-deed : (deed : Deed) (pid event count : ℕ) (e : Record) (before : Cp
     → count ≡ event_len e → DoesStep deed pid event count x y → TakesEvent (shown (kept_of x)) event e before (shown (kept_of y)) × IsSoundGroup y
 takes-deed deed pid event count e before x y lens process tells lives len step = by_act (act_of before e) refl tells (lens before e)
   where
-    by_member : (act : act.Act) → act_of before e ≡ Some act → StepsFrom (λ (holds : Holds). transfer pid event holds act) pid event (event_len e) x y → (o : Option Member) → nth x.members.items pid ≡ o → is_some o ≡ true → TakesEvent (shown (kept_of x)) event e before (shown (kept_of y)) × IsSoundGroup y
+    by_member : (act : act.Act) → act_of before e ≡ Some act → StepsFrom (λ (holds : Holds). transfer pid event holds act) pid event (event_len e) x y → (o : Option MemberSets) → nth x.members.items pid ≡ o → is_some o ≡ true → TakesEvent (shown (kept_of x)) event e before (shown (kept_of y)) × IsSoundGroup y
     by_member act told step None is lives = absurd (cc)
     by_member act told step (Some old) is lives = takes-step act pid event e before x y old process told is step
 

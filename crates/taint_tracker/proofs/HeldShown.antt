@@ -5,7 +5,7 @@ use Rattle.parts_model.specs.declared.limits.TheConstants.{SEGMENT_START}
 use Rattle.acts_model.specs.Transfers.{is_shared}
 use Rattle.taint_members.specs.Access.{ByTest, Segments, WritesKey, WritesSegment, held_numbers}
 use Rattle.taint_members.specs.Access as access
-use Rattle.taint_members.specs.declared.member.Member.{Member}
+use Rattle.taint_members.specs.declared.member.MemberSets.{MemberSets}
 use Rattle.taint_members.specs.declared.member.Shared.{Shared}
 use Rattle.taint_tracker.specs.Events.{WritesHeld, is_one, shares_with}
 use Rattle.taint_tracker.specs.Held.{HaveOneKey, OthersKept, ReceivesKept, kept_member}
@@ -22,13 +22,13 @@ held-written at numbers (Some shared) before after true w = w.one
 
 pub receives-kept : ReceivesKept
 receives-kept at numbers old new before after w =
-    let same : new.segment ≡ old.segment = ap (λ (m : Member). m.segment) w.others in
+    let same : new.segment ≡ old.segment = ap (λ (m : MemberSets). m.segment) w.others in
     record {
       result = w.result;
       window = w.window;
       segment = subst (λ o. ByTest (is_shared at) (WritesHeld (at - SEGMENT_START) numbers (made_of old.segment) (held_numbers old.segment before) (held_numbers o after)) (held_numbers o after ≡ held_numbers old.segment before)) (sym same)
           (held-written at numbers old.segment before after (is_shared at) w.segment);
-      others = ap (λ (m : Member). kept_member after m) w.others ∙ of-parts (held_numbers new.segment after) (ap (λ o. held_numbers o after) (sym same));
+      others = ap (λ (m : MemberSets). kept_member after m) w.others ∙ of-parts (held_numbers new.segment after) (ap (λ o. held_numbers o after) (sym same));
     }
   where
     of-parts : (l : List ℕ) → held_numbers old.segment after ≡ l
@@ -47,7 +47,7 @@ some-shared a b e = cc
 
 pub others-kept : OthersKept
 others-kept at numbers old new other before after w key =
-    of other.segment refl key (ap (λ (m : Member). m.segment) w.others)
+    of other.segment refl key (ap (λ (m : MemberSets). m.segment) w.others)
   where
     chosen : (b : Bool) → is_one (made_of other.segment) (made_of new.segment) ≡ b
         → held_numbers other.segment after ≡ cond b (held_numbers new.segment after) (held_numbers other.segment before)

@@ -11,7 +11,7 @@ use Rattle.acts_model.specs.Transfers.{Forks, Holds, Receives, Transfer, place_o
 use Rattle.acts_model.specs.Views.{cpu_at}
 use Rattle.taint_events.specs.Bytes.{AreEmpty, AreReceived}
 use Rattle.taint_members.specs.Access.{Segments, held_numbers}
-use Rattle.taint_members.specs.declared.member.Member.{Member}
+use Rattle.taint_members.specs.declared.member.MemberSets.{MemberSets}
 use Rattle.taint_members.specs.declared.member.Shared.{Shared}
 use Rattle.taint_steps.specs.Table.{Tables}
 use Rattle.taint_steps.specs.declared.taking.Rules.{Rules}
@@ -36,7 +36,7 @@ use Rattle.taint_tracker.proofs.Turning.{of-none, of-place, stand-still}
 -- what is kept goes on by an event of a live member
 abbrev pub GoesAt : (Holds → Transfer) → ℕ → ℕ → Record → Cpu → Rules → List KeptHeard → Tables → List KeptHeard → Tables → Type 0
 GoesAt transfer pid event e before rules heard x after y =
-    IfSome (nth x.members pid) (λ (old : Member). Follows (event_by_member pid before (transfer (holds_of old)) event e) (kept_in rules heard x) (kept_in rules after y) × AreKeyed y)
+    IfSome (nth x.members pid) (λ (old : MemberSets). Follows (event_by_member pid before (transfer (holds_of old)) event e) (kept_in rules heard x) (kept_in rules after y) × AreKeyed y)
 
 -- the same where it stands elsewhere
 pub goes-there : (transfer : Holds → Transfer) (pid event : ℕ) (e : Record) (before : Cpu) (rules : Rules) (heard : List KeptHeard) (x : Tables) (now then : List KeptHeard) (y z : Tables)
@@ -45,20 +45,20 @@ goes-there transfer pid event e before rules heard x now then y z same there goe
     subst (λ (w : Tables). GoesAt transfer pid event e before rules heard x then w) (sym there)
     (subst (λ (h : List KeptHeard). GoesAt transfer pid event e before rules heard x h y) (sym same) goes)
 
-pub tables-there : (m n : List (Option Member)) (s t : List (List ℕ)) (sets : List (List Item)) → m ≡ n → s ≡ t → tables_with m s sets ≡ tables_with n t sets
+pub tables-there : (m n : List (Option MemberSets)) (s t : List (List ℕ)) (sets : List (List Item)) → m ≡ n → s ≡ t → tables_with m s sets ≡ tables_with n t sets
 tables-there m n s t sets e f = ap (λ l. tables_with l s sets) e ∙ ap (λ l. tables_with n l sets) f
 
 -- the entry that receives bytes is that of the number
-pub receives-in : (pid at : ℕ) (numbers : List ℕ) (members : List (Option Member)) (d after : Option Member) (segments written : Segments) → pid < length members
+pub receives-in : (pid at : ℕ) (numbers : List ℕ) (members : List (Option MemberSets)) (d after : Option MemberSets) (segments written : Segments) → pid < length members
     → ReceivesEntry at numbers (slice_index_or members pid d) after segments written → ReceivesIn pid at numbers members (slice_set members pid after) segments written
 receives-in pid at numbers members d after segments written below entry =
     of-place (λ o. IfSome o (ReceivesOne pid at numbers members (slice_set members pid after) segments written)) members pid d below (by_entry (slice_index_or members pid d) entry)
   where
-    by_entry : (o : Option Member) → ReceivesEntry at numbers o after segments written → IfSome o (ReceivesOne pid at numbers members (slice_set members pid after) segments written)
+    by_entry : (o : Option MemberSets) → ReceivesEntry at numbers o after segments written → IfSome o (ReceivesOne pid at numbers members (slice_set members pid after) segments written)
     by_entry None h = tt
     by_entry (Some old) h = record { new = h.0; receives = h.2; members = ap (slice_set members pid) h.1 }
 
-pub receives-none : (pid at : ℕ) (numbers : List ℕ) (members after : List (Option Member)) (segments written : Segments) → length members ≤ pid
+pub receives-none : (pid at : ℕ) (numbers : List ℕ) (members after : List (Option MemberSets)) (segments written : Segments) → length members ≤ pid
     → ReceivesIn pid at numbers members after segments written
 receives-none pid at numbers members after segments written past = of-none (λ o. IfSome o (ReceivesOne pid at numbers members after segments written)) members pid past tt
 
@@ -69,7 +69,7 @@ pub receives-go : (rules : Rules) (heard : List KeptHeard) (pid event at : ℕ) 
     → GoesAt (λ holds. Receives pid (place_of holds at count) count) pid event e before rules heard x (plain_heard event numbers ∷ heard) y
 receives-go rules heard pid event at numbers count x y receive show sound items stand receives keys e before len = of (nth x.members pid) refl receives
   where
-    of : (o : Option Member) → nth x.members pid ≡ o → IfSome o (ReceivesOne pid at numbers x.members y.members x.segments y.segments)
+    of : (o : Option MemberSets) → nth x.members pid ≡ o → IfSome o (ReceivesOne pid at numbers x.members y.members x.segments y.segments)
         → IfSome o (λ old. Follows (event_by_member pid before (Receives pid (place_of (holds_of old) at count) count) event e) (kept_in rules heard x) (kept_in rules (plain_heard event numbers ∷ heard) y) × AreKeyed y)
     of None is one = tt
     of (Some old) is one =
@@ -86,7 +86,7 @@ receives-go rules heard pid event at numbers count x y receive show sound items 
         )
 
 -- the same where the tables stand elsewhere, and the event is heard last
-pub receives-group : (rules : Rules) (heard then : List KeptHeard) (pid event at : ℕ) (numbers : List ℕ) (count : ℕ) (m m' n n' : List (Option Member)) (s s' t t' : Segments) (sets new : List (List Item))
+pub receives-group : (rules : Rules) (heard then : List KeptHeard) (pid event at : ℕ) (numbers : List ℕ) (count : ℕ) (m m' n n' : List (Option MemberSets)) (s s' t t' : Segments) (sets new : List (List Item))
     → m' ≡ m → n' ≡ n → s' ≡ s → t' ≡ t → then ≡ plain_heard event numbers ∷ heard → TablesReceive → ReceivesShow → AreSoundTables rules heard (tables_with m s sets)
     → AreReceived new event count numbers → StandAsBefore sets new → ReceivesIn pid at numbers m' n s' t → length t ≡ length s' → (e : Record) (before : Cpu) → event_len e ≡ count
     → GoesAt (λ holds. Receives pid (place_of holds at count) count) pid event e before rules heard (tables_with m s sets) then (tables_with n' t' new)
@@ -97,7 +97,7 @@ receives-group rules heard then pid event at numbers count m m' n n' s s' t t' s
     (subst (λ l. ReceivesIn pid at numbers m n l t) es (subst (λ l. ReceivesIn pid at numbers l n s' t) em receives)) (keys ∙ ap length es) e before len)
 
 -- what a fork does to tables
-pub forks-go : (rules : Rules) (heard : List KeptHeard) (pid child event : ℕ) (numbers : List ℕ) (count : ℕ) (m back after : List (Option Member)) (segments : Segments) (sets : List (List Item)) (kid : Option Member)
+pub forks-go : (rules : Rules) (heard : List KeptHeard) (pid child event : ℕ) (numbers : List ℕ) (count : ℕ) (m back after : List (Option MemberSets)) (segments : Segments) (sets : List (List Item)) (kid : Option MemberSets)
     → TablesFork → ForksShow → AreSoundTables rules heard (tables_with m segments sets) → AreEmpty count numbers → ReturnsIn pid m back → HasChild event (nth m pid) kid → MayPlace child kid back after
     → (e : Record) (before : Cpu) → event_len e ≡ count
     → GoesAt (λ holds. Forks pid child holds.window event) pid event e before rules heard (tables_with m segments sets) (plain_heard event numbers ∷ heard) (tables_with after segments sets)
@@ -109,10 +109,10 @@ forks-go rules heard pid child event numbers count m back after segments sets ma
     y : Tables
     y = tables_with after segments sets
 
-    Goal : Member → Type 0
+    Goal : MemberSets → Type 0
     Goal old = Follows (event_by_member pid before (Forks pid child (holds_of old).window event) event e) (kept_in rules heard x) (kept_in rules (plain_heard event numbers ∷ heard) y) × AreKeyed y
 
-    both : (old kid : Member) → nth m pid ≡ Some old → ReturnsOne pid m back old → IsChildOf event old kid → Places child kid back after → Goal old
+    both : (old kid : MemberSets) → nth m pid ≡ Some old → ReturnsOne pid m back old → IsChildOf event old kid → Places child kid back after → Goal old
     both old kid is one birth put =
         let split = fork rules heard pid child old one.new kid (plain_heard event numbers) x y sound (record {
           was = is;
@@ -121,8 +121,8 @@ forks-go rules heard pid child event numbers count m back after segments sets ma
           others = λ p np nc. put.others p nc ∙ (ap (λ l. nth l p) one.members ∙ nth-other m pid p (Some one.new) np);
           segments = refl;
           sets = stand-still sets;
-          keeps = ap (λ (k : Member). k.segment) one.becomes.others;
-          shares = ap (λ (k : Member). k.segment) birth.others;
+          keeps = ap (λ (k : MemberSets). k.segment) one.becomes.others;
+          shares = ap (λ (k : MemberSets). k.segment) birth.others;
         }) in (
           show (kept_in rules heard x) (kept_in rules (plain_heard event numbers ∷ heard) y) pid event e before child (kept_member segments old) (kept_member segments one.new) (kept_member segments kid) numbers sound.kept
               (subst (λ n. AreEmpty n numbers) (sym len) empty) (record { result = one.becomes.result; others = ap (kept_member segments) one.becomes.others })
@@ -130,12 +130,12 @@ forks-go rules heard pid child event numbers count m back after segments sets ma
           split.keyed,
         )
 
-    of : (o : Option Member) → nth m pid ≡ o → IfSome o (ReturnsOne pid m back) → HasChild event o may → IfSome o Goal
+    of : (o : Option MemberSets) → nth m pid ≡ o → IfSome o (ReturnsOne pid m back) → HasChild event o may → IfSome o Goal
     of None is one birth = tt
     of (Some old) is one birth = both old birth.0 is one birth.2 (subst (λ o. MayPlace child o back after) birth.1 places)
 
 -- the same where the tables stand elsewhere, and the event is heard last
-pub forks-group : (rules : Rules) (heard then : List KeptHeard) (pid child event : ℕ) (numbers : List ℕ) (count : ℕ) (m m' back back' after : List (Option Member)) (segments : Segments) (sets : List (List Item)) (kid : Option Member)
+pub forks-group : (rules : Rules) (heard then : List KeptHeard) (pid child event : ℕ) (numbers : List ℕ) (count : ℕ) (m m' back back' after : List (Option MemberSets)) (segments : Segments) (sets : List (List Item)) (kid : Option MemberSets)
     → m' ≡ m → back' ≡ back → then ≡ plain_heard event numbers ∷ heard → TablesFork → ForksShow → AreSoundTables rules heard (tables_with m segments sets) → AreEmpty count numbers
     → ReturnsIn pid m' back → HasChild event (nth m pid) kid → MayPlace child kid back' after → (e : Record) (before : Cpu) → event_len e ≡ count
     → GoesAt (λ holds. Forks pid child holds.window event) pid event e before rules heard (tables_with m segments sets) then (tables_with after segments sets)
@@ -149,12 +149,12 @@ holds_with : ℕ → Option Shared → Holds
 holds_with made segment = record { window = made; segment = option_map (λ (shared : Shared). shared.made) segment }
 
 -- what a member that begins holds
-holds-fresh : (m : Member) (event : ℕ) → m.made ≡ event → m.segment ≡ None → holds_of m ≡ fresh_holds event
+holds-fresh : (m : MemberSets) (event : ℕ) → m.made ≡ event → m.segment ≡ None → holds_of m ≡ fresh_holds event
 unfolding holds_with
 holds-fresh m event e f = ap (λ made. holds_with made m.segment) e ∙ ap (holds_with event) f
 
 -- what a member that begins does to tables
-pub begins-go : (old new : Rules) (heard : List KeptHeard) (pid event : ℕ) (m : Member) (members after : List (Option Member)) (segments : Segments) (sets now : List (List Item)) → TablesAdd → BeginsShow
+pub begins-go : (old new : Rules) (heard : List KeptHeard) (pid event : ℕ) (m : MemberSets) (members after : List (Option MemberSets)) (segments : Segments) (sets now : List (List Item)) → TablesAdd → BeginsShow
     → AreSoundTables old heard (tables_with members segments sets) → new.linkage ≡ old.linkage → (new.begun ≡ old.begun) ⊎ ((members ≡ []) × (heard ≡ [])) → StandAsBefore sets now
     → BeginsAs now new.begun event m → Places pid m members after → (e : Record) (before : Cpu)
     → Follows (begin_inside pid event e before) (kept_in old heard (tables_with members segments sets)) (kept_in new heard (tables_with after segments now)) × AreKeyed (tables_with after segments now)
@@ -178,7 +178,7 @@ begins-go old new heard pid event m members after segments sets now add show sou
     )
 
 -- and to a group, where nothing may be kept so far
-pub begins-group : (old new : Rules) (events : List HeardEvent) (pid event : ℕ) (m : Member) (members after : List (Option Member)) (segments : Segments) (sets now : List (List Item)) (nothing : Bool) → TablesAdd → BeginsShow
+pub begins-group : (old new : Rules) (events : List HeardEvent) (pid event : ℕ) (m : MemberSets) (members after : List (Option MemberSets)) (segments : Segments) (sets now : List (List Item)) (nothing : Bool) → TablesAdd → BeginsShow
     → AreSoundTables old (latest_first events []) (tables_with members segments sets) → new.linkage ≡ old.linkage → (new.begun ≡ old.begun) ⊎ (nothing ≡ true)
     → (nothing ≡ true → (members ≡ []) × (events ≡ [])) → StandAsBefore sets now → BeginsAs now new.begun event m → Places pid m members after → (e : Record) (before : Cpu)
     → Follows (begin_inside pid event e before) (kept_in old (latest_first events []) (tables_with members segments sets)) (kept_in new (latest_first events []) (tables_with after segments now)) × AreKeyed (tables_with after segments now)

@@ -13,7 +13,7 @@ use Rattle.set_store.specs.Sets.{IsSet, StandAsBefore}
 use Rattle.acts_model.specs.Transfers.{is_private, is_shared}
 use Rattle.taint_flow.specs.Gathered.{first_start}
 use Rattle.taint_members.specs.Access.{ByTest, Segments, WritesHeld, held_numbers}
-use Rattle.taint_members.specs.declared.member.Member.{Member}
+use Rattle.taint_members.specs.declared.member.MemberSets.{MemberSets}
 use Rattle.taint_members.specs.declared.member.Shared.{Shared}
 use Rattle.taint_pages.specs.Pages.{Puts}
 use Rattle.taint_pages.specs.Rows.{byte_in}
@@ -86,7 +86,7 @@ module _ (sets : List (List Item)) (numbers : List ℕ) (len : ℕ) (eight : len
           let same = puts.len in
           subst (IsSet sets) (sym (behind (omega arith))) zero_set
 
-  window-sound : (acc : Option ℕ) (m n : Member) → StoresWindow acc (take len numbers) m n → AreRawIn sets m.window → AreRawIn sets n.window
+  window-sound : (acc : Option ℕ) (m n : MemberSets) → StoresWindow acc (take len numbers) m n → AreRawIn sets m.window → AreRawIn sets n.window
   window-sound None m n s h = subst (AreRawIn sets) (sym s) h
   window-sound (Some at) m n s h = by_test (is_private at) s
     where
@@ -94,7 +94,7 @@ module _ (sets : List (List Item)) (numbers : List ℕ) (len : ℕ) (eight : len
       by_test true s = puts-sound (at - WINDOW_START) m.window n.window s h
       by_test false s = subst (AreRawIn sets) (sym s) h
 
-  window-len : (acc : Option ℕ) (m n : Member) → StoresWindow acc (take len numbers) m n → length n.window ≡ length m.window
+  window-len : (acc : Option ℕ) (m n : MemberSets) → StoresWindow acc (take len numbers) m n → length n.window ≡ length m.window
   window-len None m n s = ap length s
   window-len (Some at) m n s = by_test (is_private at) s
     where

@@ -16,7 +16,7 @@ use Rattle.lineage_model.specs.Tracking.{EventByte, Tracked, alone_after, gather
 use Rattle.taint_flow.specs.Gathered.{first_start, number_of}
 use Rattle.taint_flow.specs.Names.{loaded_len}
 use Rattle.taint_flow.specs.Starts.{IsRaw}
-use Rattle.taint_members.specs.declared.member.Member.{Member}
+use Rattle.taint_members.specs.declared.member.MemberSets.{MemberSets}
 use Rattle.taint_members.specs.declared.member.Shared.{Shared}
 use Rattle.taint_pages.specs.Rows.{byte_in}
 use Rattle.taint_steps.specs.Running.{StoresWindow}
@@ -77,7 +77,7 @@ module _ (pid : ℕ) (instr : Instr) (before : Cpu) (x y : Kept) (sound : IsSoun
   is_kept = kept_member ran.written ran.changed
 
   -- the member afterwards, with what stays spelled out
-  abbrev pub after_member : Member
+  abbrev pub after_member : MemberSets
   after_member = record ran.member { registers = ran.changed.registers; window = ran.changed.window }
 
   abbrev pub after_kept : KeptMember

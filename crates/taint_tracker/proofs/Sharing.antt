@@ -9,7 +9,7 @@ use Rattle.acts_model.specs.Records.{event_len}
 use Rattle.acts_model.specs.Transfers.{Shares}
 use Rattle.taint_events.specs.Bytes.{AreEmpty}
 use Rattle.taint_members.specs.Access.{HoldsKey, Segments, held_numbers}
-use Rattle.taint_members.specs.declared.member.Member.{Member}
+use Rattle.taint_members.specs.declared.member.MemberSets.{MemberSets}
 use Rattle.taint_members.specs.declared.member.Shared.{Shared}
 use Rattle.taint_steps.specs.Table.{Tables}
 use Rattle.taint_steps.specs.declared.taking.Rules.{Rules}
@@ -28,7 +28,7 @@ use Rattle.taint_tracker.proofs.Tables.{nth-map, nth-other, nth-set}
 use Rattle.taint_tracker.proofs.Turning.{nth-past, stand-still}
 
 -- what is kept of a member with this segment
-abbrev pub kept_by : Segments → Member → Option Shared → KeptMember
+abbrev pub kept_by : Segments → MemberSets → Option Shared → KeptMember
 kept_by segments m segment =
     record {
       holds = record { window = m.made; segment = option_map (λ (shared : Shared). shared.made) segment };
@@ -38,10 +38,10 @@ kept_by segments m segment =
       segment = held_numbers segment segments;
     }
 
-some-same : (a b : Member) → Some a ≡ Some b → a ≡ b
+some-same : (a b : MemberSets) → Some a ≡ Some b → a ≡ b
 some-same a b e = cc
 
-module _ (rules : Rules) (heard : List KeptHeard) (pid event key : ℕ) (numbers : List ℕ) (fresh : List ℕ) (m after : List (Option Member)) (segments written : Segments) (sets : List (List Item)) (old new : Member)
+module _ (rules : Rules) (heard : List KeptHeard) (pid event key : ℕ) (numbers : List ℕ) (fresh : List ℕ) (m after : List (Option MemberSets)) (segments written : Segments) (sets : List (List Item)) (old new : MemberSets)
     (sound : AreSoundTables rules heard (tables_with m segments sets)) (is : nth m pid ≡ Some old) (members : after ≡ slice_set m pid (Some new)) (becomes : SharesAs (record { made = event; key = key }) old new)
     (own : IsKeyBy event key m) (whole : IsFreshSegment fresh) (put : PutsSegment key fresh segments written) where
   abbrev pub shared : Shared
@@ -54,7 +54,7 @@ module _ (rules : Rules) (heard : List KeptHeard) (pid event key : ℕ) (numbers
   y = tables_with after written sets
 
   segment : new.segment ≡ Some shared
-  segment = ap (λ (k : Member). k.segment) becomes.others
+  segment = ap (λ (k : MemberSets). k.segment) becomes.others
 
   one : nth after pid ≡ Some new
   one = ap (λ l. nth l pid) members ∙ nth-set m pid old new is
@@ -76,7 +76,7 @@ module _ (rules : Rules) (heard : List KeptHeard) (pid event key : ℕ) (numbers
   }
 
   -- another member keeps what it kept, or has the fresh segment too
-  other-kept : (k : Member) → HasKeyBy event key k.segment → kept_member written k ≡ shares_with (kept_member written new) (kept_member segments k)
+  other-kept : (k : MemberSets) → HasKeyBy event key k.segment → kept_member written k ≡ shares_with (kept_member written new) (kept_member segments k)
   other-kept k by = by_segment k.segment by
     where
       held-made : option_map (λ (s : Shared). s.made) new.segment ≡ Some event
@@ -97,13 +97,13 @@ module _ (rules : Rules) (heard : List KeptHeard) (pid event key : ℕ) (numbers
               (ap (λ l. record (kept_by segments k (Some s)) { segment = l }) (put.others s.key (λ e. eqb-false s.made event apart (by.1 e))))
 
   -- where a member's segment is from
-  from : (p : ℕ) (k : Member) → nth after p ≡ Some k → (k.segment ≡ Some shared) ⊎ (nth m p ≡ Some k)
+  from : (p : ℕ) (k : MemberSets) → nth after p ≡ Some k → (k.segment ≡ Some shared) ⊎ (nth m p ≡ Some k)
   from p k e = by_test (p == pid) refl
     where
       by_test : (b : Bool) → (p == pid) ≡ b → (k.segment ≡ Some shared) ⊎ (nth m p ≡ Some k)
       by_test true same =
           let both : Some new ≡ Some k = sym one ∙ (ap (λ q. nth after q) (sym (eqb-true p pid same)) ∙ e) in
-          inl (sym (ap (λ (k : Member). k.segment) (some-same new k both)) ∙ segment)
+          inl (sym (ap (λ (k : MemberSets). k.segment) (some-same new k both)) ∙ segment)
       by_test false apart = inr (sym (others p (eqb-false p pid apart)) ∙ e)
 
   keyed : AreKeyed y
@@ -115,13 +115,13 @@ module _ (rules : Rules) (heard : List KeptHeard) (pid event key : ℕ) (numbers
     grown None h = tt
     grown (Some s) h = let more = put.grown in omega arith
 
-    held : (p : ℕ) (o : Option Member) → nth after p ≡ o → IfSome o (λ (k : Member). HoldsKey k.segment written)
+    held : (p : ℕ) (o : Option MemberSets) → nth after p ≡ o → IfSome o (λ (k : MemberSets). HoldsKey k.segment written)
     held p None e = tt
     held p (Some k) e = of (from p k e)
       where
         of : (k.segment ≡ Some shared) ⊎ (nth m p ≡ Some k) → HoldsKey k.segment written
         of (inl same) = subst (λ s. HoldsKey s written) (sym same) put.there
-        of (inr was) = grown k.segment (at-some (λ (k : Member). HoldsKey k.segment segments) (nth m p) k was (sound.keyed.held p))
+        of (inr was) = grown k.segment (at-some (λ (k : MemberSets). HoldsKey k.segment segments) (nth m p) k was (sound.keyed.held p))
 
     key-first : (s : Option Shared) → HasKeyBy event key s → HaveOneKey (Some shared) s
     key-first None h = tt
@@ -131,16 +131,16 @@ module _ (rules : Rules) (heard : List KeptHeard) (pid event key : ℕ) (numbers
     key-last None h = tt
     key-last (Some s) h = h
 
-    once : (p q : ℕ) (o r : Option Member) → nth after p ≡ o → nth after q ≡ r → IfSome o (λ (k : Member). IfSome r (λ (j : Member). HaveOneKey k.segment j.segment))
+    once : (p q : ℕ) (o r : Option MemberSets) → nth after p ≡ o → nth after q ≡ r → IfSome o (λ (k : MemberSets). IfSome r (λ (j : MemberSets). HaveOneKey k.segment j.segment))
     once p q None r e f = tt
     once p q (Some k) None e f = tt
     once p q (Some k) (Some j) e f = of (from p k e) (from q j f)
       where
         of : (k.segment ≡ Some shared) ⊎ (nth m p ≡ Some k) → (j.segment ≡ Some shared) ⊎ (nth m q ≡ Some j) → HaveOneKey k.segment j.segment
         of (inl same) (inl equal) = subst (λ s. HaveOneKey s j.segment) (sym same) (subst (HaveOneKey (Some shared)) (sym equal) (λ h. refl, λ h. refl))
-        of (inl same) (inr was) = subst (λ s. HaveOneKey s j.segment) (sym same) (key-first j.segment (at-some (λ (k : Member). HasKeyBy event key k.segment) (nth m q) j was (own q)))
-        of (inr was) (inl equal) = subst (HaveOneKey k.segment) (sym equal) (key-last k.segment (at-some (λ (k : Member). HasKeyBy event key k.segment) (nth m p) k was (own p)))
-        of (inr was) (inr had) = at-some (λ (j : Member). HaveOneKey k.segment j.segment) (nth m q) j had (at-some (λ (k : Member). IfSome (nth m q) (λ (j : Member). HaveOneKey k.segment j.segment)) (nth m p) k was (sound.keyed.once p q))
+        of (inl same) (inr was) = subst (λ s. HaveOneKey s j.segment) (sym same) (key-first j.segment (at-some (λ (k : MemberSets). HasKeyBy event key k.segment) (nth m q) j was (own q)))
+        of (inr was) (inl equal) = subst (HaveOneKey k.segment) (sym equal) (key-last k.segment (at-some (λ (k : MemberSets). HasKeyBy event key k.segment) (nth m p) k was (own p)))
+        of (inr was) (inr had) = at-some (λ (j : MemberSets). HaveOneKey k.segment j.segment) (nth m q) j had (at-some (λ (k : MemberSets). IfSome (nth m q) (λ (j : MemberSets). HaveOneKey k.segment j.segment)) (nth m p) k was (sound.keyed.once p q))
 
   shares-becomes : BecomesShared pid (kept_member segments old) (kept_member written new) (plain_heard event numbers) (kept_in rules heard x) (kept_in rules (plain_heard event numbers ∷ heard) y)
   shares-becomes = record {
@@ -153,9 +153,9 @@ module _ (rules : Rules) (heard : List KeptHeard) (pid event key : ℕ) (numbers
         ∙ (by_other p (nth m p) refl ∙ ap (option_map (shares_with (kept_member written new))) (sym (nth-map (kept_member segments) m p))));
     heard = hears-next (plain_heard event numbers) heard;
   } where
-    by_other : (p : ℕ) (o : Option Member) → nth m p ≡ o → option_map (kept_member written) o ≡ option_map (shares_with (kept_member written new)) (option_map (kept_member segments) o)
+    by_other : (p : ℕ) (o : Option MemberSets) → nth m p ≡ o → option_map (kept_member written) o ≡ option_map (shares_with (kept_member written new)) (option_map (kept_member segments) o)
     by_other p None e = refl
-    by_other p (Some k) e = ap (λ (k : KeptMember). Some k) (other-kept k (at-some (λ (k : Member). HasKeyBy event key k.segment) (nth m p) k e (own p)))
+    by_other p (Some k) e = ap (λ (k : KeptMember). Some k) (other-kept k (at-some (λ (k : MemberSets). HasKeyBy event key k.segment) (nth m p) k e (own p)))
 
   pub shares-both : (count : ℕ) → SharesShow → AreEmpty count numbers → (e : Record) (before : Cpu) → event_len e ≡ count
       → Follows (event_by_member pid before (Shares pid event) event e) (kept_in rules heard x) (kept_in rules (plain_heard event numbers ∷ heard) y) × AreKeyed y
@@ -166,25 +166,25 @@ module _ (rules : Rules) (heard : List KeptHeard) (pid event key : ℕ) (numbers
   )
 
 -- what a fresh segment does to tables
-pub shares-go : (rules : Rules) (heard : List KeptHeard) (pid event key : ℕ) (numbers : List ℕ) (count : ℕ) (fresh : List ℕ) (m after : List (Option Member)) (segments written : Segments) (sets : List (List Item)) → SharesShow
+pub shares-go : (rules : Rules) (heard : List KeptHeard) (pid event key : ℕ) (numbers : List ℕ) (count : ℕ) (fresh : List ℕ) (m after : List (Option MemberSets)) (segments written : Segments) (sets : List (List Item)) → SharesShow
     → AreSoundTables rules heard (tables_with m segments sets) → AreEmpty count numbers → IsKeyBy event key m → IsFreshSegment fresh → PutsSegment key fresh segments written
     → ChangesIn (LivesAs (SharesAs (record { made = event; key = key }))) pid m after → (e : Record) (before : Cpu) → event_len e ≡ count
     → GoesAt (λ holds. Shares pid event) pid event e before rules heard (tables_with m segments sets) (plain_heard event numbers ∷ heard) (tables_with after written sets)
 shares-go rules heard pid event key numbers count fresh m after segments written sets show sound empty own whole put changes e before len = of (nth m pid) refl changes
   where
-    Goal : Member → Type 0
+    Goal : MemberSets → Type 0
     Goal old = Follows (event_by_member pid before (Shares pid event) event e) (kept_in rules heard (tables_with m segments sets)) (kept_in rules (plain_heard event numbers ∷ heard) (tables_with after written sets)) × AreKeyed (tables_with after written sets)
 
-    by_new : (old : Member) (n : Option Member) → nth m pid ≡ Some old → LivesAs (SharesAs (record { made = event; key = key })) old n → after ≡ slice_set m pid n → Goal old
+    by_new : (old : MemberSets) (n : Option MemberSets) → nth m pid ≡ Some old → LivesAs (SharesAs (record { made = event; key = key })) old n → after ≡ slice_set m pid n → Goal old
     by_new old None is lives members = absurd lives
     by_new old (Some new) is lives members = shares-both rules heard pid event key numbers fresh m after segments written sets old new sound is members lives own whole put count show empty e before len
 
-    of : (o : Option Member) → nth m pid ≡ o → IfSome o (ChangesOne (LivesAs (SharesAs (record { made = event; key = key }))) pid m after) → IfSome o Goal
+    of : (o : Option MemberSets) → nth m pid ≡ o → IfSome o (ChangesOne (LivesAs (SharesAs (record { made = event; key = key }))) pid m after) → IfSome o Goal
     of None is each = tt
     of (Some old) is each = by_new old each.new is each.becomes each.members
 
 -- the same where the tables stand elsewhere, and the event is heard last
-pub shares-group : (rules : Rules) (heard then : List KeptHeard) (pid event key : ℕ) (numbers : List ℕ) (count : ℕ) (fresh : List ℕ) (m m' n n' : List (Option Member)) (segments written : Segments) (sets : List (List Item))
+pub shares-group : (rules : Rules) (heard then : List KeptHeard) (pid event key : ℕ) (numbers : List ℕ) (count : ℕ) (fresh : List ℕ) (m m' n n' : List (Option MemberSets)) (segments written : Segments) (sets : List (List Item))
     → m' ≡ m → n' ≡ n → then ≡ plain_heard event numbers ∷ heard → SharesShow → AreSoundTables rules heard (tables_with m segments sets) → AreEmpty count numbers → IsKeyBy event key m
     → IsFreshSegment fresh → PutsSegment key fresh segments written → ChangesIn (LivesAs (SharesAs (record { made = event; key = key }))) pid m' n → (e : Record) (before : Cpu) → event_len e ≡ count
     → GoesAt (λ holds. Shares pid event) pid event e before rules heard (tables_with m segments sets) then (tables_with n' written sets)
@@ -195,7 +195,7 @@ shares-group rules heard then pid event key numbers count fresh m m' n n' segmen
     (subst (λ l. ChangesIn (LivesAs (SharesAs (record { made = event; key = key }))) pid l n) em changes) e before len)
 
 -- segments that tables keep have their keys
-pub held-once : (members l : List (Option Member)) (segments : Segments) (sets : List (List Item)) (count : ℕ) → AreKeyed (tables_with members segments sets) → count ≡ length segments → l ≡ members → AreHeldOnce count l
+pub held-once : (members l : List (Option MemberSets)) (segments : Segments) (sets : List (List Item)) (count : ℕ) → AreKeyed (tables_with members segments sets) → count ≡ length segments → l ≡ members → AreHeldOnce count l
 held-once members l segments sets count keyed e f =
     subst (λ n. AreHeldOnce n l) (sym e) (subst (AreHeldOnce (length segments)) (sym f) (record {
       below = λ p. keyed.held p;
@@ -203,10 +203,10 @@ held-once members l segments sets count keyed e f =
     }))
 
 -- the key that a member's segment has which this event made
-pub found-key : (count event : ℕ) (members : List (Option Member)) → AreHeldOnce count members → (i key : ℕ) → held_key event (nth members i) ≡ Some key → IsKeyBy event key members × (key ≤ count)
+pub found-key : (count event : ℕ) (members : List (Option MemberSets)) → AreHeldOnce count members → (i key : ℕ) → held_key event (nth members i) ≡ Some key → IsKeyBy event key members × (key ≤ count)
 found-key count event members once i key found = by_member (nth members i) refl found
   where
-    by_member : (o : Option Member) → nth members i ≡ o → held_key event o ≡ Some key → IsKeyBy event key members × (key ≤ count)
+    by_member : (o : Option MemberSets) → nth members i ≡ o → held_key event o ≡ Some key → IsKeyBy event key members × (key ≤ count)
     by_member None e h = absurd (cc)
     by_member (Some m) e h = by_segment m.segment refl h
       where
@@ -223,16 +223,16 @@ found-key count event members once i key found = by_member (nth members i) refl 
 
                 below : key ≤ count
                 below =
-                    let least : s.key < count = at-some (λ (shared : Shared). shared.key < count) m.segment s f (at-some (λ (m : Member). IfSome m.segment (λ (shared : Shared). shared.key < count)) (nth members i) m e (once.below i)) in
+                    let least : s.key < count = at-some (λ (shared : Shared). shared.key < count) m.segment s f (at-some (λ (m : MemberSets). IfSome m.segment (λ (shared : Shared). shared.key < count)) (nth members i) m e (once.below i)) in
                     let key-is = is-key in omega arith
 
                 one-key : (t : Option Shared) → HaveOneKey t (Some s) → HasKeyBy event key t
                 one-key None h = tt
                 one-key (Some t) h = (λ g. h.0 (g ∙ sym (eqb-true s.made event same)) ∙ is-key, λ g. h.1 (g ∙ sym is-key) ∙ eqb-true s.made event same)
 
-                at : (o : Option Member) → IfSome o (λ (k : Member). IfSome (nth members i) (λ (n : Member). HaveOneKey k.segment n.segment)) → IfSome o (λ (k : Member). HasKeyBy event key k.segment)
+                at : (o : Option MemberSets) → IfSome o (λ (k : MemberSets). IfSome (nth members i) (λ (n : MemberSets). HaveOneKey k.segment n.segment)) → IfSome o (λ (k : MemberSets). HasKeyBy event key k.segment)
                 at None h = tt
-                at (Some k) h = one-key k.segment (subst (HaveOneKey k.segment) f (at-some (λ (n : Member). HaveOneKey k.segment n.segment) (nth members i) m e h))
+                at (Some k) h = one-key k.segment (subst (HaveOneKey k.segment) f (at-some (λ (n : MemberSets). HaveOneKey k.segment n.segment) (nth members i) m e h))
 
 below-or : (p n : ℕ) → (p < n) ⊎ (n ≤ p)
 below-or p zero = inr (omega arith)
@@ -244,7 +244,7 @@ below-or (suc p) (suc n) = more (below-or p n)
     more (inr past) = inr (omega arith)
 
 -- one entry more has no such key
-pub none-more : (event : ℕ) (members : List (Option Member)) (i : ℕ) (item : Option Member) → ((p : ℕ) → p < i → held_key event (nth members p) ≡ None) → nth members i ≡ item → held_key event item ≡ None
+pub none-more : (event : ℕ) (members : List (Option MemberSets)) (i : ℕ) (item : Option MemberSets) → ((p : ℕ) → p < i → held_key event (nth members p) ≡ None) → nth members i ≡ item → held_key event item ≡ None
     → (p : ℕ) → p < i + 1 → held_key event (nth members p) ≡ None
 none-more event members i item none is last p below = split (below-or p i)
   where
@@ -255,7 +255,7 @@ none-more event members i item none is last p below = split (below-or p i)
         ap (λ q. held_key event (nth members q)) same ∙ (ap (held_key event) is ∙ last)
 
 -- where no member's segment was made by this event, the next key is its own
-pub next-key : (count event : ℕ) (members : List (Option Member)) → AreHeldOnce count members → ((p : ℕ) → p < length members → held_key event (nth members p) ≡ None) → IsKeyBy event count members
+pub next-key : (count event : ℕ) (members : List (Option MemberSets)) → AreHeldOnce count members → ((p : ℕ) → p < length members → held_key event (nth members p) ≡ None) → IsKeyBy event count members
 next-key count event members once none p = by_member (nth members p) refl (within (below-or p (length members))) (once.below p)
   where
     within : (p < length members) ⊎ (length members ≤ p) → held_key event (nth members p) ≡ None
@@ -269,6 +269,6 @@ next-key count event members once none p = by_member (nth members p) refl (withi
         some≢none : (k : ℕ) → Some k ≡ None → ⊥
         some≢none k e = cc
 
-    by_member : (o : Option Member) → nth members p ≡ o → held_key event o ≡ None → IfSome o (λ (m : Member). IfSome m.segment (λ (shared : Shared). shared.key < count)) → IfSome o (λ (m : Member). HasKeyBy event count m.segment)
+    by_member : (o : Option MemberSets) → nth members p ≡ o → held_key event o ≡ None → IfSome o (λ (m : MemberSets). IfSome m.segment (λ (shared : Shared). shared.key < count)) → IfSome o (λ (m : MemberSets). HasKeyBy event count m.segment)
     by_member None e h below = tt
     by_member (Some m) e h below = by_segment m.segment h below

@@ -10,7 +10,7 @@ use Rattle.set_store.specs.Sets.{StandAsBefore}
 use Rattle.acts_model.specs.Transfers.{is_private, is_shared}
 use Rattle.taint_flow.specs.Starts.{IsRaw}
 use Rattle.taint_members.specs.Access.{ByTest, HoldsKey, Segments, WritesHeld, held_numbers}
-use Rattle.taint_members.specs.declared.member.Member.{Member}
+use Rattle.taint_members.specs.declared.member.MemberSets.{MemberSets}
 use Rattle.taint_members.specs.declared.member.Shared.{Shared}
 use Rattle.taint_steps.specs.Running.{StoresSegment}
 use Rattle.taint_steps.specs.Table.{IsReady, RunsMember, RunsOne, Tables}
@@ -64,7 +64,7 @@ held-same (Some a) numbers segments written (Some k) (Some j) false e one stores
     by_test true s = s.others j.key (λ same. eqb-false k.made j.made e (one.1 (sym same)))
     by_test false s = ap (λ l. slice_index_or l j.key []) s
 
-other-sees : (acc : Option ℕ) (numbers : List ℕ) (segments written : Segments) (n other : Member) → HaveOneKey n.segment other.segment → StoresSegment acc numbers n.segment segments written
+other-sees : (acc : Option ℕ) (numbers : List ℕ) (segments written : Segments) (n other : MemberSets) → HaveOneKey n.segment other.segment → StoresSegment acc numbers n.segment segments written
     → kept_member written other ≡ sees (kept_member written n) (kept_member segments other)
 other-sees acc numbers segments written n other one stores =
     by_test (is_same (option_map (λ (u : Shared). u.made) n.segment) (option_map (λ (u : Shared). u.made) other.segment)) refl
@@ -79,10 +79,10 @@ other-sees acc numbers segments written n other one stores =
 both-some : {X Y : Type 0} (P : X → Y → Type 0) (o : Option X) (p : Option Y) (x : X) (y : Y) → o ≡ Some x → p ≡ Some y → IfSome o (λ a. IfSome p (P a)) → P x y
 both-some P o p x y e f h = at-some (P x) p y f (at-some (λ a. IfSome p (P a)) o x e h)
 
-module _ (rules : Rules) (heard : List KeptHeard) (pid : ℕ) (instr : Instr) (before : Cpu) (x y : Tables) (sound : AreSoundTables rules heard x) (m : Member) (there : nth x.members pid ≡ Some m)
+module _ (rules : Rules) (heard : List KeptHeard) (pid : ℕ) (instr : Instr) (before : Cpu) (x y : Tables) (sound : AreSoundTables rules heard x) (m : MemberSets) (there : nth x.members pid ≡ Some m)
     (one : RunsOne pid rules instr before m x y) (stand : StandAsBefore x.sets y.sets) (keys : length y.segments ≡ length x.segments) where
   segment-same : one.changed.segment ≡ m.segment
-  segment-same = ap (λ (k : Member). k.segment) one.runs.others
+  segment-same = ap (λ (k : MemberSets). k.segment) one.runs.others
 
   after : nth y.members pid ≡ Some one.changed
   after = ap (λ l. nth l pid) one.members ∙ nth-set x.members pid m one.changed there
@@ -105,23 +105,23 @@ module _ (rules : Rules) (heard : List KeptHeard) (pid : ℕ) (instr : Instr) (b
     stand = stand;
     rest = refl;
   } where
-    by_other : (p : ℕ) (o : Option Member) → nth x.members p ≡ o → option_map (kept_member y.segments) o ≡ option_map (sees (kept_member y.segments one.changed)) (option_map (kept_member x.segments) o)
+    by_other : (p : ℕ) (o : Option MemberSets) → nth x.members p ≡ o → option_map (kept_member y.segments) o ≡ option_map (sees (kept_member y.segments one.changed)) (option_map (kept_member x.segments) o)
     by_other p None e = refl
     by_other p (Some other) e =
-        let key = both-some (λ (a b : Member). HaveOneKey a.segment b.segment) (nth x.members pid) (nth x.members p) m other there e (sound.keyed.once pid p) in
+        let key = both-some (λ (a b : MemberSets). HaveOneKey a.segment b.segment) (nth x.members pid) (nth x.members p) m other there e (sound.keyed.once pid p) in
         ap Some (other-sees (accessed instr before) (take (stored_len instr) one.runs.numbers) x.segments y.segments one.changed other (subst (λ s. HaveOneKey s other.segment) (sym segment-same) key)
         (subst (λ s. StoresSegment (accessed instr before) (take (stored_len instr) one.runs.numbers) s x.segments y.segments) (sym segment-same) one.runs.segment))
 
   -- which segments members hold stays
-  segments-stay : (p : ℕ) → option_map (λ (k : Member). k.segment) (nth y.members p) ≡ option_map (λ (k : Member). k.segment) (nth x.members p)
+  segments-stay : (p : ℕ) → option_map (λ (k : MemberSets). k.segment) (nth y.members p) ≡ option_map (λ (k : MemberSets). k.segment) (nth x.members p)
   segments-stay p = by_test (p == pid) refl
     where
-      by_test : (b : Bool) → (p == pid) ≡ b → option_map (λ (k : Member). k.segment) (nth y.members p) ≡ option_map (λ (k : Member). k.segment) (nth x.members p)
+      by_test : (b : Bool) → (p == pid) ≡ b → option_map (λ (k : MemberSets). k.segment) (nth y.members p) ≡ option_map (λ (k : MemberSets). k.segment) (nth x.members p)
       by_test true e =
           let is : p ≡ pid = eqb-true p pid e in
-          ap (λ q. option_map (λ (k : Member). k.segment) (nth y.members q)) is ∙ ap (option_map (λ (k : Member). k.segment)) after ∙ ap Some segment-same
-          ∙ sym (ap (option_map (λ (k : Member). k.segment)) there) ∙ ap (λ q. option_map (λ (k : Member). k.segment) (nth x.members q)) (sym is)
-      by_test false e = ap (option_map (λ (k : Member). k.segment)) (others p (eqb-false p pid e))
+          ap (λ q. option_map (λ (k : MemberSets). k.segment) (nth y.members q)) is ∙ ap (option_map (λ (k : MemberSets). k.segment)) after ∙ ap Some segment-same
+          ∙ sym (ap (option_map (λ (k : MemberSets). k.segment)) there) ∙ ap (λ q. option_map (λ (k : MemberSets). k.segment) (nth x.members q)) (sym is)
+      by_test false e = ap (option_map (λ (k : MemberSets). k.segment)) (others p (eqb-false p pid e))
 
   keyed : AreKeyed y
   keyed = record {
@@ -132,14 +132,14 @@ module _ (rules : Rules) (heard : List KeptHeard) (pid : ℕ) (instr : Instr) (b
     grown None h = tt
     grown (Some s) h = let same = keys in omega arith
 
-    held-by : (a c : Option Member) → option_map (λ (k : Member). k.segment) a ≡ option_map (λ (k : Member). k.segment) c → IfSome c (λ (k : Member). HoldsKey k.segment x.segments)
-        → IfSome a (λ (k : Member). HoldsKey k.segment y.segments)
+    held-by : (a c : Option MemberSets) → option_map (λ (k : MemberSets). k.segment) a ≡ option_map (λ (k : MemberSets). k.segment) c → IfSome c (λ (k : MemberSets). HoldsKey k.segment x.segments)
+        → IfSome a (λ (k : MemberSets). HoldsKey k.segment y.segments)
     held-by None c e h = tt
     held-by (Some k) None e h = absurd (cc)
     held-by (Some k) (Some j) e h = let same : k.segment ≡ j.segment = cc in subst (λ s. HoldsKey s y.segments) (sym same) (grown j.segment h)
 
-    once-by : (a b c d : Option Member) → option_map (λ (k : Member). k.segment) a ≡ option_map (λ (k : Member). k.segment) c → option_map (λ (k : Member). k.segment) b ≡ option_map (λ (k : Member). k.segment) d
-        → IfSome c (λ (k : Member). IfSome d (λ (j : Member). HaveOneKey k.segment j.segment)) → IfSome a (λ (k : Member). IfSome b (λ (j : Member). HaveOneKey k.segment j.segment))
+    once-by : (a b c d : Option MemberSets) → option_map (λ (k : MemberSets). k.segment) a ≡ option_map (λ (k : MemberSets). k.segment) c → option_map (λ (k : MemberSets). k.segment) b ≡ option_map (λ (k : MemberSets). k.segment) d
+        → IfSome c (λ (k : MemberSets). IfSome d (λ (j : MemberSets). HaveOneKey k.segment j.segment)) → IfSome a (λ (k : MemberSets). IfSome b (λ (j : MemberSets). HaveOneKey k.segment j.segment))
     once-by None b c d e f h = tt
     once-by (Some k) None c d e f h = tt
     once-by (Some k) (Some j) None d e f h = absurd (cc)
@@ -159,7 +159,7 @@ pub tables-run : TablesRun
 tables-run = λ rules heard pid instr before x y sound runs stand keys. by_member rules heard pid instr before x y sound stand keys (nth x.members pid) refl runs
   where
     by_member : (rules : Rules) (heard : List KeptHeard) (pid : ℕ) (instr : Instr) (before : Cpu) (x y : Tables) → AreSoundTables rules heard x → StandAsBefore x.sets y.sets → length y.segments ≡ length x.segments
-        → (o : Option Member) → nth x.members pid ≡ o → RunsMember o pid rules instr before x y → TablesGoOn rules heard pid instr before x y
+        → (o : Option MemberSets) → nth x.members pid ≡ o → RunsMember o pid rules instr before x y → TablesGoOn rules heard pid instr before x y
     by_member rules heard pid instr before x y sound stand keys (Some m) e runs = goes-on rules heard pid instr before x y sound m e runs stand keys
     by_member rules heard pid instr before x y sound stand keys None e same =
         subst (λ (z : Tables). TablesGoOn rules heard pid instr before x z) (sym same) (record {
@@ -171,19 +171,19 @@ tables-run = λ rules heard pid instr before x y sound runs stand keys. by_membe
 pub tables-ready : TablesReady
 tables-ready = λ rules heard x sound pid. by_member rules heard x sound pid (nth x.members pid) refl
   where
-    raw : (rules : Rules) (heard : List KeptHeard) (x : Tables) (sound : AreSoundTables rules heard x) (m : Member) → IsSoundMember x.sets (kept_member x.segments m) → (b c : Bool) (i j : ℕ)
+    raw : (rules : Rules) (heard : List KeptHeard) (x : Tables) (sound : AreSoundTables rules heard x) (m : MemberSets) → IsSoundMember x.sets (kept_member x.segments m) → (b c : Bool) (i j : ℕ)
         → IsRaw x.sets (if b then slice_index m.window i else if c then slice_index (held_numbers m.segment x.segments) j else 0)
     raw rules heard x sound m own true c i j = own.window i
     raw rules heard x sound m own false true i j = own.segment j
     raw rules heard x sound m own false false i j = λ small. sound.kept.zero
 
-    by_member : (rules : Rules) (heard : List KeptHeard) (x : Tables) → AreSoundTables rules heard x → (pid : ℕ) (o : Option Member) → nth x.members pid ≡ o → IfSome o (IsReady x.sets x.segments)
+    by_member : (rules : Rules) (heard : List KeptHeard) (x : Tables) → AreSoundTables rules heard x → (pid : ℕ) (o : Option MemberSets) → nth x.members pid ≡ o → IfSome o (IsReady x.sets x.segments)
     by_member rules heard x sound pid None e = tt
     by_member rules heard x sound pid (Some m) e =
         let own = at-some (IsSoundMember x.sets) (nth (map (option_map (kept_member x.segments)) x.members) pid) (kept_member x.segments m)
         (nth-map (kept_member x.segments) x.members pid ∙ ap (option_map (kept_member x.segments)) e) (sound.kept.members pid) in
         record {
-          held = at-some (λ (k : Member). HoldsKey k.segment x.segments) (nth x.members pid) m e (sound.keyed.held pid);
+          held = at-some (λ (k : MemberSets). HoldsKey k.segment x.segments) (nth x.members pid) m e (sound.keyed.held pid);
           registers = λ r i above below byte. (own.registers r i (record { above = above; below = below; byte = byte })).0;
           memory = λ at k. raw rules heard x sound m own (is_private at) (is_shared at) (at - WINDOW_START + k) (at - SEGMENT_START + k);
         }

@@ -2,7 +2,7 @@
 use Rattle.std.proofs.Common.{◌≡◌, ◌≢◌, inl, ℕ, ◌==◌, Bool, true, false, Option, Some, refl, sym, subst, ap, ◌∙◌}
 use Rattle.std.proofs.lemmas.Bool.{eqb-true, eqb-false}
 use Rattle.parts_model.specs.Numbered.{nth}
-use Rattle.taint_members.specs.declared.member.Member.{Member}
+use Rattle.taint_members.specs.declared.member.MemberSets.{MemberSets}
 use Rattle.taint_steps.specs.Table.{Tables}
 use Rattle.taint_tracker.specs.Changes.{HoldsSame}
 use Rattle.taint_tracker.specs.RunsShow.{kept_member}
@@ -18,7 +18,7 @@ keyed-from x y keyed e same = record {
   once = λ p q. once-by (nth y.members p) (nth y.members q) (nth x.members (same p).0) (nth x.members (same q).0) (same p).1 (same q).1 (keyed.once (same p).0 (same q).0);
 }
 
-holds-as : (m old : Member) (a b : Option Member) → a ≡ Some m → b ≡ Some old → m.segment ≡ old.segment → HoldsSame a b
+holds-as : (m old : MemberSets) (a b : Option MemberSets) → a ≡ Some m → b ≡ Some old → m.segment ≡ old.segment → HoldsSame a b
 holds-as m old a b e f same = subst (λ o. HoldsSame o b) (sym e) (subst (HoldsSame (Some m)) (sym f) (inl same))
 
 pub tables-fork : TablesFork

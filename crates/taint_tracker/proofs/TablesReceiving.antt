@@ -2,7 +2,7 @@
 use Rattle.std.proofs.Common.{◌≡◌, ◌≢◌, inl, ℕ, ◌<◌, length, Option, Some, None, IfSome, option_map, refl, sym, subst, ap, ◌∙◌}
 use Rattle.parts_model.specs.Numbered.{nth}
 use Rattle.taint_members.specs.Access.{HoldsKey, Segments}
-use Rattle.taint_members.specs.declared.member.Member.{Member}
+use Rattle.taint_members.specs.declared.member.MemberSets.{MemberSets}
 use Rattle.taint_members.specs.declared.member.Shared.{Shared}
 use Rattle.taint_steps.specs.Table.{Tables}
 use Rattle.taint_tracker.specs.Changes.{HoldsSame}
@@ -28,7 +28,7 @@ key-stays : (s : Option Shared) (x y : Segments) → length y ≡ length x → H
 key-stays None x y e h = tt
 key-stays (Some s) x y e h = subst (λ n. s.key < n) (sym e) h
 
-held-stays : (x y : Segments) (o : Option Member) → length y ≡ length x → IfSome o (λ (m : Member). HoldsKey m.segment x) → IfSome o (λ (m : Member). HoldsKey m.segment y)
+held-stays : (x y : Segments) (o : Option MemberSets) → length y ≡ length x → IfSome o (λ (m : MemberSets). HoldsKey m.segment x) → IfSome o (λ (m : MemberSets). HoldsKey m.segment y)
 held-stays x y None e h = tt
 held-stays x y (Some m) e h = key-stays m.segment x y e h
 
@@ -56,7 +56,7 @@ tables-receive rules heard pid at numbers old new event x y sound step = record 
       (same-but x (record y { segments = x.segments }) pid (subst (λ o. HoldsSame o (nth x.members pid)) (sym one) (subst (HoldsSame (Some new)) (sym step.was) (inl same))) others));
 } where
   same : new.segment ≡ old.segment
-  same = ap (λ (m : Member). m.segment) step.receives.others
+  same = ap (λ (m : MemberSets). m.segment) step.receives.others
 
   one : nth y.members pid ≡ Some new
   one = ap (λ l. nth l pid) step.members ∙ nth-put x.members pid old (Some new) step.was
@@ -64,12 +64,12 @@ tables-receive rules heard pid at numbers old new event x y sound step = record 
   others : (p : ℕ) → p ≢ pid → nth y.members p ≡ nth x.members p
   others p ne = ap (λ l. nth l p) step.members ∙ nth-other x.members pid p (Some new) ne
 
-  key-at : (p : ℕ) (other : Member) → nth x.members p ≡ Some other → HaveOneKey other.segment old.segment
+  key-at : (p : ℕ) (other : MemberSets) → nth x.members p ≡ Some other → HaveOneKey other.segment old.segment
   key-at p other e =
-      at-some (λ (m : Member). HaveOneKey other.segment m.segment) (nth x.members pid) old step.was
-      (at-some (λ (k : Member). IfSome (nth x.members pid) (λ (m : Member). HaveOneKey k.segment m.segment)) (nth x.members p) other e (sound.keyed.once p pid))
+      at-some (λ (m : MemberSets). HaveOneKey other.segment m.segment) (nth x.members pid) old step.was
+      (at-some (λ (k : MemberSets). IfSome (nth x.members pid) (λ (m : MemberSets). HaveOneKey k.segment m.segment)) (nth x.members p) other e (sound.keyed.once p pid))
 
-  by_other : (p : ℕ) (o : Option Member) → nth x.members p ≡ o
+  by_other : (p : ℕ) (o : Option MemberSets) → nth x.members p ≡ o
       → option_map (kept_member y.segments) o ≡ option_map (shares_with (kept_member y.segments new)) (option_map (kept_member x.segments) o)
   by_other p None e = refl
   by_other p (Some other) e = ap (λ (k : KeptMember). Some k) (others-kept at numbers old new other x.segments y.segments step.receives (key-of other.segment old.segment (key-at p other e)))

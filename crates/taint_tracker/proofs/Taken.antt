@@ -16,7 +16,7 @@ use Rattle.taint_flow.specs.Names.{loaded_len}
 use Rattle.taint_flow.specs.Starts as starts
 use Rattle.taint_flow.specs.Starts.{AreResolved, IsRaw}
 use Rattle.taint_members.specs.Access.{Segments, held_numbers, number_at}
-use Rattle.taint_members.specs.declared.member.Member.{Member}
+use Rattle.taint_members.specs.declared.member.MemberSets.{MemberSets}
 use Rattle.taint_members.specs.declared.member.Shared.{Shared}
 use Rattle.taint_pages.specs.Rows.{byte_in}
 use Rattle.taint_steps.specs.Taking.{IsRead, IsRegister, Takes}
@@ -61,7 +61,7 @@ move-bytes a b c e h = subst (λ l. AreItems a l) (sym e) h
 none-items : AreItems [] []
 none-items = λ item. (λ h. h, λ h. h)
 
-module _ (x : Kept) (sound : IsSound x) (pid : ℕ) (m : Member) (segments : Segments) (own : IsSoundMember x.sets (kept_member segments m)) (t : Tracked EventByte)
+module _ (x : Kept) (sound : IsSound x) (pid : ℕ) (m : MemberSets) (segments : Segments) (own : IsSoundMember x.sets (kept_member segments m)) (t : Tracked EventByte)
     (shows : ShowsMember pid t (shown_member x (kept_member segments m))) where
   abbrev holds : Holds
   holds = (kept_member segments m).holds

@@ -5,7 +5,7 @@ use Rattle.set_store.specs.declared.item.Item.{Item}
 use Rattle.set_store.specs.Sets.{StandAsBefore}
 use Rattle.acts_model.specs.Moved.{Inside}
 use Rattle.taint_members.specs.Access.{held_numbers}
-use Rattle.taint_members.specs.declared.member.Member.{Member}
+use Rattle.taint_members.specs.declared.member.MemberSets.{MemberSets}
 use Rattle.taint_members.specs.declared.member.Shared.{Shared}
 use Rattle.taint_steps.specs.Table.{Tables}
 use Rattle.taint_steps.specs.declared.taking.Rules.{Rules}
@@ -44,13 +44,13 @@ pub stand-still : (sets : List (List Item)) → StandAsBefore sets sets
 stand-still sets = record { there = λ set h. h; same = λ set h. refl }
 
 -- who ends holds nothing
-pub ends-hold : (old : Member) (new : Option Member) → Ends old new → HoldsSame new (Some old)
+pub ends-hold : (old : MemberSets) (new : Option MemberSets) → Ends old new → HoldsSame new (Some old)
 ends-hold old new e = subst (λ o. HoldsSame o (Some old)) (sym e) tt
 
 -- what is kept goes on where a member of sound tables changes
-pub changes-go : (As : Member → Option Member → Type 0) (inside : Member → Inside) (rules : Rules) (pid : ℕ) (event : KeptHeard) (members after : List (Option Member)) (segments : List (List ℕ)) (sets new : List (List Item)) (heard : List KeptHeard)
-    → TablesChange → AreSoundTables rules heard (tables_with members segments sets) → StandAsBefore sets new → ((o : Member) (m : Option Member) → As o m → HoldsSame m (Some o))
-    → ((o : Member) → nth members pid ≡ Some o → (m : Option Member) → As o m
+pub changes-go : (As : MemberSets → Option MemberSets → Type 0) (inside : MemberSets → Inside) (rules : Rules) (pid : ℕ) (event : KeptHeard) (members after : List (Option MemberSets)) (segments : List (List ℕ)) (sets new : List (List Item)) (heard : List KeptHeard)
+    → TablesChange → AreSoundTables rules heard (tables_with members segments sets) → StandAsBefore sets new → ((o : MemberSets) (m : Option MemberSets) → As o m → HoldsSame m (Some o))
+    → ((o : MemberSets) → nth members pid ≡ Some o → (m : Option MemberSets) → As o m
     → Becomes pid (kept_member segments o) (option_map (kept_member segments) m) event (kept_in rules heard (tables_with members segments sets)) (kept_in rules (event ∷ heard) (tables_with after segments new))
     → Follows (inside o) (kept_in rules heard (tables_with members segments sets)) (kept_in rules (event ∷ heard) (tables_with after segments new)))
     → ChangesIn As pid members after
@@ -64,7 +64,7 @@ changes-go As inside rules pid event members after segments sets new heard chang
     y : Tables
     y = tables_with after segments new
 
-    of : (o : Option Member) → nth members pid ≡ o → IfSome o (ChangesOne As pid members after)
+    of : (o : Option MemberSets) → nth members pid ≡ o → IfSome o (ChangesOne As pid members after)
         → IfSome o (λ old. Follows (inside old) (kept_in rules heard x) (kept_in rules (event ∷ heard) y) × AreKeyed y)
     of None is one = tt
     of (Some old) is one =
@@ -77,10 +77,10 @@ changes-go As inside rules pid event members after segments sets new heard chang
         }) in (show old is one.new one.becomes changed.becomes, changed.keyed)
 
 -- the same where the tables stand elsewhere, and the event is heard last
-pub changes-group : (As : Member → Option Member → Type 0) (inside : Member → Inside) (rules : Rules) (pid : ℕ) (event : KeptHeard) (members was now after : List (Option Member)) (segments : List (List ℕ)) (sets new : List (List Item)) (old heard : List HeardEvent)
+pub changes-group : (As : MemberSets → Option MemberSets → Type 0) (inside : MemberSets → Inside) (rules : Rules) (pid : ℕ) (event : KeptHeard) (members was now after : List (Option MemberSets)) (segments : List (List ℕ)) (sets new : List (List Item)) (old heard : List HeardEvent)
     → was ≡ members → after ≡ now → latest_first heard [] ≡ event ∷ latest_first old [] → TablesChange → AreSoundTables rules (latest_first old []) (tables_with members segments sets) → StandAsBefore sets new
-    → ((o : Member) (m : Option Member) → As o m → HoldsSame m (Some o))
-    → ((o : Member) → nth members pid ≡ Some o → (m : Option Member) → As o m
+    → ((o : MemberSets) (m : Option MemberSets) → As o m → HoldsSame m (Some o))
+    → ((o : MemberSets) → nth members pid ≡ Some o → (m : Option MemberSets) → As o m
     → Becomes pid (kept_member segments o) (option_map (kept_member segments) m) event (kept_in rules (latest_first old []) (tables_with members segments sets)) (kept_in rules (event ∷ latest_first old []) (tables_with now segments new))
     → Follows (inside o) (kept_in rules (latest_first old []) (tables_with members segments sets)) (kept_in rules (event ∷ latest_first old []) (tables_with now segments new)))
     → ChangesIn As pid was now
@@ -89,49 +89,49 @@ pub changes-group : (As : Member → Option Member → Type 0) (inside : Member 
 changes-group As inside rules pid event members was now after segments sets new old heard same later hears change sound stand holds show step =
     subst (λ (h : List KeptHeard). IfSome (nth members pid) (λ o. Follows (inside o) (kept_in rules (latest_first old []) (tables_with members segments sets)) (kept_in rules h (tables_with after segments new)) × AreKeyed (tables_with after segments new)))
     (sym hears)
-    (subst (λ (z : List (Option Member)). IfSome (nth members pid) (λ o. Follows (inside o) (kept_in rules (latest_first old []) (tables_with members segments sets)) (kept_in rules (event ∷ latest_first old []) (tables_with z segments new)) × AreKeyed (tables_with z segments new)))
+    (subst (λ (z : List (Option MemberSets)). IfSome (nth members pid) (λ o. Follows (inside o) (kept_in rules (latest_first old []) (tables_with members segments sets)) (kept_in rules (event ∷ latest_first old []) (tables_with z segments new)) × AreKeyed (tables_with z segments new)))
     (sym later)
     (changes-go As inside rules pid event members now segments sets new (latest_first old []) change sound stand holds show (subst (λ z. ChangesIn As pid z now) same step)))
 
 -- who lives on holds what it held, or nothing
-pub lives-hold : (As : Member → Member → Type 0) → ((o n : Member) → As o n → (n.segment ≡ o.segment) ⊎ (n.segment ≡ None)) → (o : Member) (m : Option Member) → LivesAs As o m → HoldsSame m (Some o)
+pub lives-hold : (As : MemberSets → MemberSets → Type 0) → ((o n : MemberSets) → As o n → (n.segment ≡ o.segment) ⊎ (n.segment ≡ None)) → (o : MemberSets) (m : Option MemberSets) → LivesAs As o m → HoldsSame m (Some o)
 lives-hold As same o None lives = absurd lives
 lives-hold As same o (Some n) lives = same o n lives
 
 -- who ends becomes none
-pub becomes-none : (pid : ℕ) (k : KeptMember) (segments : List (List ℕ)) (m : Option Member) (event : KeptHeard) (x y : Kept) → m ≡ None → Becomes pid k (option_map (kept_member segments) m) event x y → Becomes pid k None event x y
+pub becomes-none : (pid : ℕ) (k : KeptMember) (segments : List (List ℕ)) (m : Option MemberSets) (event : KeptHeard) (x y : Kept) → m ≡ None → Becomes pid k (option_map (kept_member segments) m) event x y → Becomes pid k None event x y
 becomes-none pid k segments m event x y e h = subst (λ z. Becomes pid k (option_map (kept_member segments) z) event x y) e h
 
 -- who lives on becomes another
-pub becomes-some : {Q : Type 0} (As : Member → Member → Type 0) (o : Member) (m : Option Member) (pid : ℕ) (k : KeptMember) (segments : List (List ℕ)) (event : KeptHeard) (x y : Kept) → LivesAs As o m
-    → Becomes pid k (option_map (kept_member segments) m) event x y → ((n : Member) → As o n → Becomes pid k (Some (kept_member segments n)) event x y → Q) → Q
+pub becomes-some : {Q : Type 0} (As : MemberSets → MemberSets → Type 0) (o : MemberSets) (m : Option MemberSets) (pid : ℕ) (k : KeptMember) (segments : List (List ℕ)) (event : KeptHeard) (x y : Kept) → LivesAs As o m
+    → Becomes pid k (option_map (kept_member segments) m) event x y → ((n : MemberSets) → As o n → Becomes pid k (Some (kept_member segments n)) event x y → Q) → Q
 becomes-some As o None pid k segments event x y lives becomes next = absurd lives
 becomes-some As o (Some n) pid k segments event x y lives becomes next = next n lives becomes
 
 -- a fact of the member of a number, where the table stands elsewhere
-pub of-member : (P : Member → Type 0) (members was : List (Option Member)) (pid : ℕ) (o : Member) → was ≡ members → nth members pid ≡ Some o → IfSome (nth was pid) P → P o
+pub of-member : (P : MemberSets → Type 0) (members was : List (Option MemberSets)) (pid : ℕ) (o : MemberSets) → was ≡ members → nth members pid ≡ Some o → IfSome (nth was pid) P → P o
 of-member P members was pid o same is h = subst (λ z. IfSome z P) (ap (λ l. nth l pid) same ∙ is) h
 
 -- a call's return, as one of the changes
-pub returns-change : (pid : ℕ) (before after : List (Option Member)) → ReturnsIn pid before after → ChangesIn (LivesAs ReturnsAs) pid before after
+pub returns-change : (pid : ℕ) (before after : List (Option MemberSets)) → ReturnsIn pid before after → ChangesIn (LivesAs ReturnsAs) pid before after
 returns-change pid before after returns = of (nth before pid) returns
   where
-    of : (o : Option Member) → IfSome o (ReturnsOne pid before after) → IfSome o (ChangesOne (LivesAs ReturnsAs) pid before after)
+    of : (o : Option MemberSets) → IfSome o (ReturnsOne pid before after) → IfSome o (ChangesOne (LivesAs ReturnsAs) pid before after)
     of None h = tt
     of (Some old) one = record { new = Some one.new; becomes = one.becomes; members = one.members }
 
-pub returned-holds : (o : Member) (m : Option Member) → LivesAs ReturnsAs o m → HoldsSame m (Some o)
-returned-holds = lives-hold ReturnsAs (λ o n to. inl (ap (λ (m : Member). m.segment) to.others))
+pub returned-holds : (o : MemberSets) (m : Option MemberSets) → LivesAs ReturnsAs o m → HoldsSame m (Some o)
+returned-holds = lives-hold ReturnsAs (λ o n to. inl (ap (λ (m : MemberSets). m.segment) to.others))
 
 -- the child that starts a group is there
-pub becomes-child : {Q : Type 0} (o : Member) (start : Option ChildStart) (pid : ℕ) (k : KeptMember) (m : Option KeptMember) (event : ℕ) (numbers : List ℕ) (x y : Kept) → IsSomeAnd start (FoundsFrom o)
+pub becomes-child : {Q : Type 0} (o : MemberSets) (start : Option ChildStart) (pid : ℕ) (k : KeptMember) (m : Option KeptMember) (event : ℕ) (numbers : List ℕ) (x y : Kept) → IsSomeAnd start (FoundsFrom o)
     → Becomes pid k m (record { event = event; numbers = numbers; start = option_map kept_start start }) x y
     → ((s : ChildStart) → FoundsFrom o s → Becomes pid k m (record { event = event; numbers = numbers; start = Some (kept_start s) }) x y → Q) → Q
 becomes-child o None pid k m event numbers x y founds becomes next = absurd founds
 becomes-child o (Some s) pid k m event numbers x y founds becomes next = next s founds becomes
 
 -- what starts anew is kept so
-pub started-to : (segments : List (List ℕ)) (event load : ℕ) (numbers : List ℕ) (block block_len : ℕ) (old new : Member) → StartsAs segments event load numbers block block_len old new
+pub started-to : (segments : List (List ℕ)) (event load : ℕ) (numbers : List ℕ) (block block_len : ℕ) (old new : MemberSets) → StartsAs segments event load numbers block block_len old new
     → StartsTo event load numbers block block_len (kept_member segments old) (kept_member segments new)
 started-to segments event load numbers block block_len old new to = record {
   holds = ap (λ made. record { window = made; segment = option_map (λ (shared : Shared). shared.made) new.segment }) to.made ∙ ap (λ (o : Option Shared). record { window = event; segment = option_map (λ (shared : Shared). shared.made) o }) to.segment;

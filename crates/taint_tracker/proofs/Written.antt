@@ -7,7 +7,7 @@ use Rattle.acts_model.specs.Moved.{within}
 use Rattle.acts_model.specs.Transfers.{Holds, Place, is_private, is_shared, place_at}
 use Rattle.lineage_model.specs.Flow.{offset}
 use Rattle.taint_members.specs.Access.{ByTest, Segments, WritesHeld, WritesKey, held_numbers}
-use Rattle.taint_members.specs.declared.member.Member.{Member}
+use Rattle.taint_members.specs.declared.member.MemberSets.{MemberSets}
 use Rattle.taint_members.specs.declared.member.Shared.{Shared}
 use Rattle.taint_pages.specs.Pages.{Puts}
 use Rattle.taint_steps.specs.Running.{StoresSegment, StoresWindow}
@@ -112,7 +112,7 @@ puts-by numbers start a len at old new eight few from above inside puts = by_tes
         let low = leb-false a at p in
         puts.kept (at - start) (inl (omega arith))
 
-module _ (numbers : List ℕ) (len : ℕ) (eight : length numbers ≡ 8) (few : len ≤ 8) (m n : Member) (segments written : Segments) (same : n.segment ≡ m.segment) where
+module _ (numbers : List ℕ) (len : ℕ) (eight : length numbers ≡ 8) (few : len ≤ 8) (m n : MemberSets) (segments written : Segments) (same : n.segment ≡ m.segment) where
   abbrev holds : Holds
   holds = (kept_member segments m).holds
 

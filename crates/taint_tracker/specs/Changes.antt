@@ -2,7 +2,7 @@
 use Rattle.std.specs.Prelude.{◌≡◌, ◌≢◌, ◌⊎◌, ℕ, List, [], ◌∷◌, slice_set, Option, Some, None, option_map}
 use Rattle.parts_model.specs.Numbered.{nth}
 use Rattle.set_store.specs.Sets.{StandAsBefore}
-use Rattle.taint_members.specs.declared.member.Member.{Member}
+use Rattle.taint_members.specs.declared.member.MemberSets.{MemberSets}
 use Rattle.taint_steps.specs.Table.{Tables}
 use Rattle.taint_steps.specs.declared.taking.Rules.{Rules}
 use Rattle.taint_tracker.specs.Events.{Becomes, Begins}
@@ -11,13 +11,13 @@ use Rattle.taint_tracker.specs.RunsShow.{kept_member}
 use Rattle.taint_tracker.specs.Tables.{AreKeyed, AreSoundTables, kept_in}
 
 -- who lives holds the segment that was held before, or none
-abbrev pub HoldsSame : Option Member → Option Member → Type 0
+abbrev pub HoldsSame : Option MemberSets → Option MemberSets → Type 0
 HoldsSame None old = Unit {0}
 HoldsSame (Some m) None = m.segment ≡ None
 HoldsSame (Some m) (Some old) = (m.segment ≡ old.segment) ⊎ (m.segment ≡ None)
 
 -- a member becomes another, or lives no more
-pub record Changes (pid : ℕ) (old : Member) (new : Option Member) (x y : Tables) : Type 0 where
+pub record Changes (pid : ℕ) (old : MemberSets) (new : Option MemberSets) (x y : Tables) : Type 0 where
   pub was : nth x.members pid ≡ Some old
   pub members : y.members ≡ slice_set x.members pid new
   pub segments : y.segments ≡ x.segments
@@ -25,13 +25,13 @@ pub record Changes (pid : ℕ) (old : Member) (new : Option Member) (x y : Table
   pub holds : HoldsSame new (Some old)
 
 -- what is kept becomes so by an event that is then heard, and each segment is in the table once
-pub record TablesBecome (rules : Rules) (heard : List KeptHeard) (pid : ℕ) (old : Member) (new : Option Member) (event : KeptHeard) (x y : Tables) : Type 0 where
+pub record TablesBecome (rules : Rules) (heard : List KeptHeard) (pid : ℕ) (old : MemberSets) (new : Option MemberSets) (event : KeptHeard) (x y : Tables) : Type 0 where
   pub becomes : Becomes pid (kept_member x.segments old) (option_map (kept_member x.segments) new) event (kept_in rules heard x) (kept_in rules (event ∷ heard) y)
   pub keyed : AreKeyed y
 
 abbrev pub TablesChange : Type 0
 TablesChange =
-    (rules : Rules) (heard : List KeptHeard) (pid : ℕ) (old : Member) (new : Option Member) (event : KeptHeard) (x y : Tables)
+    (rules : Rules) (heard : List KeptHeard) (pid : ℕ) (old : MemberSets) (new : Option MemberSets) (event : KeptHeard) (x y : Tables)
     → AreSoundTables rules heard x → Changes pid old new x y → TablesBecome rules heard pid old new event x y
 
 -- the event by which the group began stays, or nothing was kept before
@@ -39,7 +39,7 @@ abbrev pub StaysBegun : Rules → Rules → List KeptHeard → Tables → Type 0
 StaysBegun old new heard x = (new.begun ≡ old.begun) ⊎ ((x.members ≡ []) × (heard ≡ []))
 
 -- a member begins that holds no segment
-pub record Adds (pid : ℕ) (new : Member) (x y : Tables) : Type 0 where
+pub record Adds (pid : ℕ) (new : MemberSets) (x y : Tables) : Type 0 where
   pub one : nth y.members pid ≡ Some new
   pub others : (p : ℕ) → p ≢ pid → nth y.members p ≡ nth x.members p
   pub segments : y.segments ≡ x.segments
@@ -47,11 +47,11 @@ pub record Adds (pid : ℕ) (new : Member) (x y : Tables) : Type 0 where
   pub holds : new.segment ≡ None
 
 -- what is kept begins so, and each segment is in the table once
-pub record TablesStart (old new : Rules) (heard : List KeptHeard) (pid event : ℕ) (m : Member) (x y : Tables) : Type 0 where
+pub record TablesStart (old new : Rules) (heard : List KeptHeard) (pid event : ℕ) (m : MemberSets) (x y : Tables) : Type 0 where
   pub begins : Begins pid event (kept_member x.segments m) (kept_in old heard x) (kept_in new heard y)
   pub keyed : AreKeyed y
 
 abbrev pub TablesAdd : Type 0
 TablesAdd =
-    (old new : Rules) (heard : List KeptHeard) (pid event : ℕ) (m : Member) (x y : Tables)
+    (old new : Rules) (heard : List KeptHeard) (pid event : ℕ) (m : MemberSets) (x y : Tables)
     → AreSoundTables old heard x → new.linkage ≡ old.linkage → StaysBegun old new heard x → Adds pid m x y → TablesStart old new heard pid event m x y

@@ -6,7 +6,7 @@ use Rattle.parts_model.specs.Numbered.{nth}
 use Rattle.acts_model.specs.Moved.{Inside}
 use Rattle.acts_model.specs.Records.{event_len}
 use Rattle.acts_model.specs.Transfers.{Transfer}
-use Rattle.taint_members.specs.declared.member.Member.{Member}
+use Rattle.taint_members.specs.declared.member.MemberSets.{MemberSets}
 use Rattle.taint_members.specs.Rows.{ClearsResult}
 use Rattle.taint_steps.specs.Table.{Tables}
 use Rattle.taint_tracker.specs.declared.group.Group.{Group}
@@ -40,25 +40,25 @@ pub record GroupGoes (inside : Inside) (x y : Group) : Type 0 where
 -- a step of a live member by an event of so many bytes
 abbrev pub StepsBy : Transfer → ℕ → ℕ → ℕ → Group → Group → Type 0
 StepsBy transfer pid event count x y =
-    (e : Record) (before : Cpu) → event_len e ≡ count → IfSome (nth x.members.items pid) (λ (old : Member). GroupGoes (event_by_member pid before transfer event e) x y)
+    (e : Record) (before : Cpu) → event_len e ≡ count → IfSome (nth x.members.items pid) (λ (old : MemberSets). GroupGoes (event_by_member pid before transfer event e) x y)
 
 -- what a call that moves no bytes makes of a member
-pub record ReturnsAs (old new : Member) : Type 0 where
+pub record ReturnsAs (old new : MemberSets) : Type 0 where
   pub result : ClearsResult old.registers new.registers
   pub others : new ≡ record old { registers = new.registers }
 
 -- and of the members
-pub record ReturnsOne (pid : ℕ) (before after : List (Option Member)) (old : Member) : Type 0 where
-  pub new : Member
+pub record ReturnsOne (pid : ℕ) (before after : List (Option MemberSets)) (old : MemberSets) : Type 0 where
+  pub new : MemberSets
   pub becomes : ReturnsAs old new
   pub members : after ≡ slice_set before pid (Some new)
 
-abbrev pub ReturnsIn : ℕ → List (Option Member) → List (Option Member) → Type 0
+abbrev pub ReturnsIn : ℕ → List (Option MemberSets) → List (Option MemberSets) → Type 0
 ReturnsIn pid before after = IfSome (nth before pid) (ReturnsOne pid before after)
 
 -- of one that may be there
-abbrev pub ReturnsEntry : Option Member → Option Member → Type 0
-ReturnsEntry before after = IfSome before (λ (old : Member). (new : Member) × (after ≡ Some new) × ReturnsAs old new)
+abbrev pub ReturnsEntry : Option MemberSets → Option MemberSets → Type 0
+ReturnsEntry before after = IfSome before (λ (old : MemberSets). (new : MemberSets) × (after ≡ Some new) × ReturnsAs old new)
 
 -- one event more is heard
 abbrev pub HearsOne : ℕ → List ℕ → List HeardEvent → List HeardEvent → Type 0

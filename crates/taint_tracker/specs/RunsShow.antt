@@ -5,7 +5,7 @@ use Rattle.rv64_isa.specs.declared.instruction.Instr.{Instr}
 use Rattle.parts_model.specs.Numbered.{nth}
 use Rattle.set_store.specs.Sets.{StandAsBefore}
 use Rattle.taint_members.specs.Access.{Segments, held_numbers}
-use Rattle.taint_members.specs.declared.member.Member.{Member}
+use Rattle.taint_members.specs.declared.member.MemberSets.{MemberSets}
 use Rattle.taint_members.specs.declared.member.Shared.{Shared}
 use Rattle.taint_steps.specs.Running.{Runs}
 use Rattle.taint_tracker.specs.Goes.{TakesInstr}
@@ -13,7 +13,7 @@ use Rattle.taint_tracker.specs.Kept.{Kept, KeptMember, shown}
 use Rattle.taint_tracker.specs.Sound.{IsSound}
 
 -- what is kept of a member, the segments being in a table
-abbrev pub kept_member : Segments → Member → KeptMember
+abbrev pub kept_member : Segments → MemberSets → KeptMember
 kept_member segments m =
     record {
       holds = record { window = m.made; segment = option_map (λ (shared : Shared). shared.made) m.segment };
@@ -34,8 +34,8 @@ sees m other = if is_same m.holds.segment other.holds.segment then record other 
 
 -- A member ran an instruction, and all that hold its segment see what it stored there.
 pub record RunsIn (pid : ℕ) (instr : Instr) (before : Cpu) (x y : Kept) : Type 0 where
-  pub member : Member
-  pub changed : Member
+  pub member : MemberSets
+  pub changed : MemberSets
   pub segments : Segments
   pub written : Segments
   pub was : nth x.members pid ≡ Some (kept_member segments member)

@@ -5,7 +5,7 @@ use Rattle.rv64_isa.specs.declared.instruction.Instr.{Instr}
 use Rattle.parts_model.specs.Numbered.{nth}
 use Rattle.set_store.specs.Sets.{StandAsBefore}
 use Rattle.taint_members.specs.Access.{HoldsKey}
-use Rattle.taint_members.specs.declared.member.Member.{Member}
+use Rattle.taint_members.specs.declared.member.MemberSets.{MemberSets}
 use Rattle.taint_members.specs.declared.member.Shared.{Shared}
 use Rattle.taint_steps.specs.Table.{IsReady, RunsMember, Tables}
 use Rattle.taint_steps.specs.declared.taking.Rules.{Rules}
@@ -32,8 +32,8 @@ HaveOneKey a b = Unit {0}
 
 -- each segment that a member holds is in the table, once
 pub record AreKeyed (tables : Tables) : Type 0 where
-  pub held : (p : ℕ) → IfSome (nth tables.members p) (λ (m : Member). HoldsKey m.segment tables.segments)
-  pub once : (p q : ℕ) → IfSome (nth tables.members p) (λ (m : Member). IfSome (nth tables.members q) (λ (n : Member). HaveOneKey m.segment n.segment))
+  pub held : (p : ℕ) → IfSome (nth tables.members p) (λ (m : MemberSets). HoldsKey m.segment tables.segments)
+  pub once : (p q : ℕ) → IfSome (nth tables.members p) (λ (m : MemberSets). IfSome (nth tables.members q) (λ (n : MemberSets). HaveOneKey m.segment n.segment))
 
 -- tables that keep what is sound
 pub record AreSoundTables (rules : Rules) (heard : List KeptHeard) (tables : Tables) : Type 0 where

@@ -2,7 +2,7 @@
 use Rattle.std.specs.Prelude.{◌≡◌, ◌≢◌, ℕ, List, ◌∷◌, Some}
 use Rattle.parts_model.specs.Numbered.{nth}
 use Rattle.set_store.specs.Sets.{StandAsBefore}
-use Rattle.taint_members.specs.declared.member.Member.{Member}
+use Rattle.taint_members.specs.declared.member.MemberSets.{MemberSets}
 use Rattle.taint_steps.specs.Table.{Tables}
 use Rattle.taint_steps.specs.declared.taking.Rules.{Rules}
 use Rattle.taint_tracker.specs.Events.{BecomesTwo}
@@ -11,7 +11,7 @@ use Rattle.taint_tracker.specs.RunsShow.{kept_member}
 use Rattle.taint_tracker.specs.Tables.{AreKeyed, AreSoundTables, kept_in}
 
 -- the member becomes another, and a child begins; both hold the segment that it held
-pub record TablesSplit (pid child : ℕ) (old new kid : Member) (x y : Tables) : Type 0 where
+pub record TablesSplit (pid child : ℕ) (old new kid : MemberSets) (x y : Tables) : Type 0 where
   pub was : nth x.members pid ≡ Some old
   pub parent : pid ≢ child → nth y.members pid ≡ Some new
   pub begins : nth y.members child ≡ Some kid
@@ -22,11 +22,11 @@ pub record TablesSplit (pid child : ℕ) (old new kid : Member) (x y : Tables) :
   pub shares : kid.segment ≡ old.segment
 
 -- what is kept becomes so by an event that is then heard, and each segment is in the table once
-pub record TablesBecomeTwo (rules : Rules) (heard : List KeptHeard) (pid child : ℕ) (old new kid : Member) (event : KeptHeard) (x y : Tables) : Type 0 where
+pub record TablesBecomeTwo (rules : Rules) (heard : List KeptHeard) (pid child : ℕ) (old new kid : MemberSets) (event : KeptHeard) (x y : Tables) : Type 0 where
   pub becomes : BecomesTwo pid child (kept_member x.segments old) (kept_member x.segments new) (kept_member x.segments kid) event (kept_in rules heard x) (kept_in rules (event ∷ heard) y)
   pub keyed : AreKeyed y
 
 abbrev pub TablesFork : Type 0
 TablesFork =
-    (rules : Rules) (heard : List KeptHeard) (pid child : ℕ) (old new kid : Member) (event : KeptHeard) (x y : Tables)
+    (rules : Rules) (heard : List KeptHeard) (pid child : ℕ) (old new kid : MemberSets) (event : KeptHeard) (x y : Tables)
     → AreSoundTables rules heard x → TablesSplit pid child old new kid x y → TablesBecomeTwo rules heard pid child old new kid event x y

@@ -2,7 +2,7 @@
 use Rattle.std.specs.Prelude.{◌≡◌, ℕ, List, ◌∷◌, length, slice_set, Some}
 use Rattle.parts_model.specs.Numbered.{nth}
 use Rattle.set_store.specs.Sets.{StandAsBefore}
-use Rattle.taint_members.specs.declared.member.Member.{Member}
+use Rattle.taint_members.specs.declared.member.MemberSets.{MemberSets}
 use Rattle.taint_steps.specs.Table.{Tables}
 use Rattle.taint_steps.specs.declared.taking.Rules.{Rules}
 use Rattle.taint_tracker.specs.Events.{BecomesShared, ReceivesTo}
@@ -11,7 +11,7 @@ use Rattle.taint_tracker.specs.Kept.{KeptHeard}
 use Rattle.taint_tracker.specs.Tables.{AreKeyed, AreSoundTables, kept_in}
 
 -- bytes of these numbers are written at an address of a member
-pub record TablesTake (pid at : ℕ) (numbers : List ℕ) (old new : Member) (x y : Tables) : Type 0 where
+pub record TablesTake (pid at : ℕ) (numbers : List ℕ) (old new : MemberSets) (x y : Tables) : Type 0 where
   pub was : nth x.members pid ≡ Some old
   pub members : y.members ≡ slice_set x.members pid (Some new)
   pub receives : Receives at numbers old new x.segments y.segments
@@ -19,12 +19,12 @@ pub record TablesTake (pid at : ℕ) (numbers : List ℕ) (old new : Member) (x 
   pub keys : length y.segments ≡ length x.segments
 
 -- what is kept takes them by an event that is then heard, and each segment is in the table once
-pub record TablesTook (rules : Rules) (heard : List KeptHeard) (pid at : ℕ) (numbers : List ℕ) (old new : Member) (event : KeptHeard) (x y : Tables) : Type 0 where
+pub record TablesTook (rules : Rules) (heard : List KeptHeard) (pid at : ℕ) (numbers : List ℕ) (old new : MemberSets) (event : KeptHeard) (x y : Tables) : Type 0 where
   pub receives : ReceivesTo at numbers (kept_member x.segments old) (kept_member y.segments new)
   pub becomes : BecomesShared pid (kept_member x.segments old) (kept_member y.segments new) event (kept_in rules heard x) (kept_in rules (event ∷ heard) y)
   pub keyed : AreKeyed y
 
 abbrev pub TablesReceive : Type 0
 TablesReceive =
-    (rules : Rules) (heard : List KeptHeard) (pid at : ℕ) (numbers : List ℕ) (old new : Member) (event : KeptHeard) (x y : Tables)
+    (rules : Rules) (heard : List KeptHeard) (pid at : ℕ) (numbers : List ℕ) (old new : MemberSets) (event : KeptHeard) (x y : Tables)
     → AreSoundTables rules heard x → TablesTake pid at numbers old new x y → TablesTook rules heard pid at numbers old new event x y

@@ -10,7 +10,7 @@ use Rattle.taint_events.specs.Bytes.{AreGiven, IsStatus}
 use Rattle.taint_events.specs.Starting.{IsStarted}
 use Rattle.taint_members.specs.Access.{Segments, number_at}
 use Rattle.taint_members.specs.Rows.{AreZero, ClearsResult, IsSaved}
-use Rattle.taint_members.specs.declared.member.Member.{Member}
+use Rattle.taint_members.specs.declared.member.MemberSets.{MemberSets}
 use Rattle.taint_members.specs.declared.member.Shared.{Shared}
 use Rattle.taint_tracker.specs.declared.group.ChildStart.{ChildStart}
 use Rattle.taint_tracker.specs.declared.group.Group.{Group}
@@ -19,61 +19,61 @@ use Rattle.taint_tracker.specs.Events.{event_by_member}
 use Rattle.taint_tracker.specs.Groups.{GroupGoes, kept_start, latest_first}
 
 -- the memories that a member holds
-abbrev pub holds_of : Member → Holds
+abbrev pub holds_of : MemberSets → Holds
 holds_of m = record { window = m.made; segment = option_map (λ (shared : Shared). shared.made) m.segment }
 
 -- a step of a live member by an event of so many bytes, by the memories that it holds
 abbrev pub StepsFrom : (Holds → Transfer) → ℕ → ℕ → ℕ → Group → Group → Type 0
 StepsFrom transfer pid event count x y =
     (e : Record) (before : Cpu)
-    → event_len e ≡ count → IfSome (nth x.members.items pid) (λ (old : Member). GroupGoes (event_by_member pid before (transfer (holds_of old)) event e) x y)
+    → event_len e ≡ count → IfSome (nth x.members.items pid) (λ (old : MemberSets). GroupGoes (event_by_member pid before (transfer (holds_of old)) event e) x y)
 
 -- what becomes of a member, among the members
-pub record ChangesOne (As : Member → Option Member → Type 0) (pid : ℕ) (before after : List (Option Member)) (old : Member) : Type 0 where
-  pub new : Option Member
+pub record ChangesOne (As : MemberSets → Option MemberSets → Type 0) (pid : ℕ) (before after : List (Option MemberSets)) (old : MemberSets) : Type 0 where
+  pub new : Option MemberSets
   pub becomes : As old new
   pub members : after ≡ slice_set before pid new
 
 -- and of that of a number, if there is one
-abbrev pub ChangesIn : (Member → Option Member → Type 0) → ℕ → List (Option Member) → List (Option Member) → Type 0
+abbrev pub ChangesIn : (MemberSets → Option MemberSets → Type 0) → ℕ → List (Option MemberSets) → List (Option MemberSets) → Type 0
 ChangesIn As pid before after = IfSome (nth before pid) (ChangesOne As pid before after)
 
 -- and of one that may be there
-abbrev pub ChangesEntry : (Member → Option Member → Type 0) → Option Member → Option Member → Type 0
-ChangesEntry As before after = IfSome before (λ (old : Member). As old after)
+abbrev pub ChangesEntry : (MemberSets → Option MemberSets → Type 0) → Option MemberSets → Option MemberSets → Type 0
+ChangesEntry As before after = IfSome before (λ (old : MemberSets). As old after)
 
 -- it lives no more
-abbrev pub Ends : Member → Option Member → Type 0
+abbrev pub Ends : MemberSets → Option MemberSets → Type 0
 Ends old new = new ≡ None
 
 -- it lives on as another
-abbrev pub LivesAs : (Member → Member → Type 0) → Member → Option Member → Type 0
+abbrev pub LivesAs : (MemberSets → MemberSets → Type 0) → MemberSets → Option MemberSets → Type 0
 LivesAs As old new = IsSomeAnd new (As old)
 
 -- the bytes of an exit of a member that may be there
-abbrev pub HasStatus : Option Member → ℕ → List ℕ → Type 0
-HasStatus entry count numbers = IfSome entry (λ (old : Member). IsStatus old.registers count numbers)
+abbrev pub HasStatus : Option MemberSets → ℕ → List ℕ → Type 0
+HasStatus entry count numbers = IfSome entry (λ (old : MemberSets). IsStatus old.registers count numbers)
 
 -- the slot keeps the registers
-pub record DeliversAs (cut : Bool) (old new : Member) : Type 0 where
+pub record DeliversAs (cut : Bool) (old new : MemberSets) : Type 0 where
   pub saved : IsSaved cut old.registers new.slot
   pub result : ClearsResult old.registers new.registers
   pub others : new ≡ record old { registers = new.registers; slot = new.slot }
 
 -- and gives them back
-pub record LeavesAs (old new : Member) : Type 0 where
+pub record LeavesAs (old new : MemberSets) : Type 0 where
   pub slot : AreZero new.slot
   pub others : new ≡ record old { registers = old.slot; slot = new.slot }
 
 -- what a child has that starts a group
-pub record FoundsFrom (old : Member) (start : ChildStart) : Type 0 where
+pub record FoundsFrom (old : MemberSets) (start : ChildStart) : Type 0 where
   pub result : ClearsResult old.registers start.registers
   pub slot : start.slot ≡ old.slot
   pub window : start.window ≡ old.window
 
 -- that of a member that may be there
-abbrev pub StartsChild : Option Member → Option ChildStart → Type 0
-StartsChild entry start = IfSome entry (λ (old : Member). IsSomeAnd start (FoundsFrom old))
+abbrev pub StartsChild : Option MemberSets → Option ChildStart → Type 0
+StartsChild entry start = IfSome entry (λ (old : MemberSets). IsSomeAnd start (FoundsFrom old))
 
 -- a fork that starts a group is heard
 abbrev pub HearsChild : ℕ → List ℕ → Option ChildStart → List HeardEvent → List HeardEvent → Type 0
@@ -81,7 +81,7 @@ HearsChild event numbers start old new =
     latest_first new [] ≡ record { event = event; numbers = numbers; start = option_map kept_start start } ∷ latest_first old []
 
 -- it starts anew from an image
-pub record StartsAs (segments : Segments) (event load : ℕ) (numbers : List ℕ) (block block_len : ℕ) (old new : Member) : Type 0 where
+pub record StartsAs (segments : Segments) (event load : ℕ) (numbers : List ℕ) (block block_len : ℕ) (old new : MemberSets) : Type 0 where
   pub made : new.made ≡ event
   pub registers : AreZero new.registers
   pub slot : AreZero new.slot
@@ -89,5 +89,5 @@ pub record StartsAs (segments : Segments) (event load : ℕ) (numbers : List ℕ
   pub segment : new.segment ≡ None
 
 -- the bytes given by a member that may be there
-abbrev pub HasGiven : List (List Item) → List (List Item) → ℕ → Option Member → Segments → ℕ → ℕ → List ℕ → Type 0
-HasGiven old new begun entry segments at count numbers = IfSome entry (λ (m : Member). AreGiven old new begun (number_at m segments at) count numbers)
+abbrev pub HasGiven : List (List Item) → List (List Item) → ℕ → Option MemberSets → Segments → ℕ → ℕ → List ℕ → Type 0
+HasGiven old new begun entry segments at count numbers = IfSome entry (λ (m : MemberSets). AreGiven old new begun (number_at m segments at) count numbers)

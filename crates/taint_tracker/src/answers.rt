@@ -15,27 +15,27 @@ ghost use Rattle.taint_tracker.specs.Kept.{heard_among, shown};
 ghost use Rattle.taint_tracker.specs.Numbered as numbers;
 
 use crate::group::{ChildStart, Group, HeardEvent};
-use crate::items::Items;
+use crate::items::KeptItems;
 use crate::point::Point;
 use parts_model::limits::{SEGMENT_END, SEGMENT_START, WINDOW_END, WINDOW_START};
 use rv64_isa::Reg;
 use set_store::{Item, Sets};
 use taint_flow::FIRST_START;
-use taint_members::{Member, Shared};
-use taint_pages::{Numbers, Row};
+use taint_members::{MemberSets, Shared};
+use taint_pages::{Row, SetNumbers};
 
 /// How many bytes 31 registers have.
 const REGISTER_BYTES: u64 = 248;
 
 /// The items for which a number stands.
-fn lent(sets: &Sets, begun: u64, number: u32) -> Items<'_>
+fn lent(sets: &Sets, begun: u64, number: u32) -> KeptItems<'_>
     requires raw { IsRaw sets.now number }
     ensures { listed result ≡ items_of sets.now begun number }
 {
     if number < FIRST_START {
-        Items::Set(sets.members(number as usize))
+        KeptItems::Set(sets.members(number as usize))
     } else {
-        Items::One(Item {
+        KeptItems::One(Item {
             event: begun,
             at: u64::from(number - FIRST_START),
         })
@@ -66,7 +66,7 @@ fn row_number(row: &Row, at: u64) -> u32
 }
 
 /// The number of a byte of a private window.
-fn window_number(window: &Numbers, at: u64) -> Option<u32>
+fn window_number(window: &SetNumbers, at: u64) -> Option<u32>
     ensures { result ≡
         where_true (is_private at) (slice_index window.now (at - limits.WINDOW_START)) }
 {
@@ -101,7 +101,7 @@ fn fork_number(heard: &HeardEvent, at: u64) -> Option<u32>
 }
 
 /// The number of a byte of a segment that may be held.
-fn segment_number(segment: Option<Shared>, segments: &[Numbers], at: u64) -> Option<u32>
+fn segment_number(segment: Option<Shared>, segments: &[SetNumbers], at: u64) -> Option<u32>
     requires held { HoldsKey segment segments.now }
     ensures { result ≡ if is_shared at
         then option_map (λ (shared : Shared).
@@ -117,7 +117,7 @@ fn segment_number(segment: Option<Shared>, segments: &[Numbers], at: u64) -> Opt
 }
 
 /// The number of a byte of a member's window.
-fn memory_number(member: &Member, segments: &[Numbers], at: u64) -> Option<u32>
+fn memory_number(member: &MemberSets, segments: &[SetNumbers], at: u64) -> Option<u32>
     requires held { HoldsKey member.now.segment segments.now }
     ensures { result ≡ numbers.memory_number at (kept_member segments.now member.now) }
 {
@@ -140,7 +140,7 @@ fn register_number(row: &Row, reg: u8, byte: u8) -> Option<u32>
 
 impl Group {
     /// The member of a number.
-    fn member(&self, pid: u32) -> Option<&Member>
+    fn member(&self, pid: u32) -> Option<&MemberSets>
         ensures { option_map (λ member. member.now) result ≡ nth self.now.members.items pid }
     {
         match self.members.get(pid as usize) {
@@ -204,7 +204,7 @@ impl Group {
     }
 
     /// The items of a byte, none where the group has no such byte.
-    pub fn local(&self, point: Point) -> Option<Items<'_>>
+    pub fn local(&self, point: Point) -> Option<KeptItems<'_>>
         requires sound { IsSoundGroup self.now }
         ensures { option_map listed result ≡ answer (shown (kept_of self.now)) point }
     {

@@ -13,11 +13,16 @@ use arn_base::NoMemory;
 use set_store::Sets;
 use std::alloc::Global;
 use taint_events::{begun, begun_later};
-use taint_members::Member;
+use taint_members::MemberSets;
 use taint_steps::Rules;
 
 /// A member with which the group begins: the bytes of its window stand for themselves.
-fn first(alloc: Global, rules: &mut Rules, sets: &mut Sets, event: u64) -> Result<Member, NoMemory>
+fn first(
+    alloc: Global,
+    rules: &mut Rules,
+    sets: &mut Sets,
+    event: u64,
+) -> Result<MemberSets, NoMemory>
     ensures begins { IfOk result (BeginsAs sets.new rules.new.begun event) }
     ensures linkage { rules.new.linkage ≡ rules.old.linkage }
     ensures before { StandAsBefore sets.old sets.new }
@@ -33,7 +38,7 @@ fn fresh(
     sets: &mut Sets,
     event: u64,
     nothing: bool,
-) -> Result<Member, NoMemory>
+) -> Result<MemberSets, NoMemory>
     ensures begins { IfOk result (BeginsAs sets.new rules.new.begun event) }
     ensures linkage { rules.new.linkage ≡ rules.old.linkage }
     ensures begun { (rules.new.begun ≡ rules.old.begun) ⊎ (nothing ≡ true) }

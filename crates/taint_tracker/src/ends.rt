@@ -10,10 +10,14 @@ use crate::law::{dies_show, exits_show, faults_show, tables_change};
 use arn_base::NoMemory;
 use std::alloc::Global;
 use taint_events::{empty, status};
-use taint_members::Member;
+use taint_members::MemberSets;
 
 /// The bytes of an exit of a member that may be there.
-fn entry_numbers(alloc: Global, entry: &Option<Member>, len: usize) -> Result<Vec<u32>, NoMemory>
+fn entry_numbers(
+    alloc: Global,
+    entry: &Option<MemberSets>,
+    len: usize,
+) -> Result<Vec<u32>, NoMemory>
     ensures { IfOk result (λ numbers. HasStatus entry.now len numbers.items) }
 {
     match entry {
@@ -25,7 +29,7 @@ fn entry_numbers(alloc: Global, entry: &Option<Member>, len: usize) -> Result<Ve
 /// The bytes of an exit of the member of a number, if there is one.
 fn exit_numbers(
     alloc: Global,
-    members: &[Option<Member>],
+    members: &[Option<MemberSets>],
     pid: u32,
     len: usize,
 ) -> Result<Vec<u32>, NoMemory>
@@ -40,7 +44,7 @@ fn exit_numbers(
 }
 
 /// The member of a number lives no more, if there is one.
-fn end_member(members: &mut [Option<Member>], pid: u32)
+fn end_member(members: &mut [Option<MemberSets>], pid: u32)
     ensures ends { ChangesIn Ends pid members.old members.new }
     ensures count { length members.new ≡ length members.old }
 {

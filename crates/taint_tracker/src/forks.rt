@@ -11,10 +11,14 @@ use crate::law::{forks_show, tables_fork};
 use crate::places::place;
 use arn_base::NoMemory;
 use taint_events::empty;
-use taint_members::Member;
+use taint_members::MemberSets;
 
 /// The child of the member of a number, if there is one.
-fn child_of(members: &[Option<Member>], pid: u32, event: u64) -> Result<Option<Member>, NoMemory>
+fn child_of(
+    members: &[Option<MemberSets>],
+    pid: u32,
+    event: u64,
+) -> Result<Option<MemberSets>, NoMemory>
     ensures { IfOk result (HasChild event (nth members.now pid)) }
 {
     match members.get(pid as usize) {
@@ -25,9 +29,9 @@ fn child_of(members: &[Option<Member>], pid: u32, event: u64) -> Result<Option<M
 
 /// A member that may begin does so at a number.
 fn may_place(
-    members: &mut Vec<Option<Member>>,
+    members: &mut Vec<Option<MemberSets>>,
     pid: u32,
-    member: Option<Member>,
+    member: Option<MemberSets>,
 ) -> Result<(), NoMemory>
     ensures { OnOk result (MayPlace pid member members.old.items members.new.items) }
 {

@@ -10,10 +10,10 @@ use crate::group::{ChildStart, Group, HeardEvent, return_member};
 use crate::law::{founds_show, tables_change};
 use arn_base::NoMemory;
 use taint_events::empty;
-use taint_members::Member;
+use taint_members::MemberSets;
 
 /// What a child began with.
-fn start_of(child: Member) -> ChildStart
+fn start_of(child: MemberSets) -> ChildStart
     ensures registers { result.registers ≡ child.registers }
     ensures slot { result.slot ≡ child.slot }
     ensures window { result.window ≡ child.window }
@@ -26,7 +26,7 @@ fn start_of(child: Member) -> ChildStart
 }
 
 /// What the child of a member that may be there begins with.
-fn entry_start(entry: &Option<Member>, event: u64) -> Result<Option<ChildStart>, NoMemory>
+fn entry_start(entry: &Option<MemberSets>, event: u64) -> Result<Option<ChildStart>, NoMemory>
     ensures { IfOk result (λ start. StartsChild entry.now start) }
 {
     match entry {
@@ -37,7 +37,7 @@ fn entry_start(entry: &Option<Member>, event: u64) -> Result<Option<ChildStart>,
 
 /// What the child of the member of a number begins with, if there is one.
 fn child_start(
-    members: &[Option<Member>],
+    members: &[Option<MemberSets>],
     pid: u32,
     event: u64,
 ) -> Result<Option<ChildStart>, NoMemory>

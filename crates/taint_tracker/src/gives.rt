@@ -14,16 +14,16 @@ use set_store::Sets;
 use std::alloc::Global;
 use taint_events::{empty, given};
 use taint_flow::narrow;
-use taint_members::Member;
-use taint_pages::Numbers;
+use taint_members::MemberSets;
+use taint_pages::SetNumbers;
 
 /// The bytes given by a member that may be there.
 fn entry_given(
     alloc: Global,
     sets: &mut Sets,
     begun: u64,
-    entry: &Option<Member>,
-    segments: &[Numbers],
+    entry: &Option<MemberSets>,
+    segments: &[SetNumbers],
     at: u64,
     len: usize,
 ) -> Result<Vec<u32>, NoMemory>
@@ -44,9 +44,9 @@ fn given_numbers(
     alloc: Global,
     sets: &mut Sets,
     begun: u64,
-    members: &[Option<Member>],
+    members: &[Option<MemberSets>],
     pid: u32,
-    segments: &[Numbers],
+    segments: &[SetNumbers],
     at: u64,
     len: usize,
 ) -> Result<Vec<u32>, NoMemory>

@@ -13,8 +13,8 @@ use rv64_model::Linkage;
 use set_store::Sets;
 use std::alloc::Global;
 use taint_events::empty;
-use taint_members::Member;
-use taint_pages::{Numbers, Row};
+use taint_members::MemberSets;
+use taint_pages::{Row, SetNumbers};
 use taint_steps::{Rules, run_member};
 
 /// How many unions are remembered at most.
@@ -25,7 +25,7 @@ const MEMO: u32 = 65_536;
 pub struct ChildStart {
     pub registers: Row,
     pub slot: Row,
-    pub window: Numbers,
+    pub window: SetNumbers,
 }
 
 /// An event of a member: the sets of its bytes.
@@ -41,13 +41,13 @@ pub struct HeardEvent {
 pub struct Group {
     pub rules: Rules,
     pub sets: Sets,
-    pub members: Vec<Option<Member>>,
-    pub segments: Vec<Numbers>,
+    pub members: Vec<Option<MemberSets>>,
+    pub segments: Vec<SetNumbers>,
     pub heard: Events,
 }
 
 /// A call returns to a member that may be there.
-fn return_entry(entry: &mut Option<Member>)
+fn return_entry(entry: &mut Option<MemberSets>)
     ensures { ReturnsEntry entry.old entry.new }
 {
     if let Some(member) = entry {
@@ -56,7 +56,7 @@ fn return_entry(entry: &mut Option<Member>)
 }
 
 /// A call returns to the member of a number, if there is one.
-pub fn return_member(members: &mut [Option<Member>], pid: u32)
+pub fn return_member(members: &mut [Option<MemberSets>], pid: u32)
     ensures returns { ReturnsIn pid members.old members.new }
     ensures count { length members.new ≡ length members.old }
 {

@@ -6,20 +6,20 @@ use set_store::Item;
 
 /// The items of a byte of an event, as they are kept.
 #[derive(Clone, Copy, Debug)]
-pub enum Items<'a> {
+pub enum KeptItems<'a> {
     /// One alone, which has no set.
     One(Item),
     /// Those of a set.
     Set(&'a [Item]),
 }
 
-impl<'a> Items<'a> {
+impl<'a> KeptItems<'a> {
     pub fn as_slice(&self) -> &[Item]
         ensures { result.now ≡ listed self.now }
     {
         match self {
-            Items::One(item) => std::slice::from_ref(item),
-            Items::Set(items) => items,
+            KeptItems::One(item) => std::slice::from_ref(item),
+            KeptItems::Set(items) => items,
         }
     }
 }

@@ -23,7 +23,7 @@ mod told;
 mod tracker;
 mod turns;
 
-pub use items::Items;
+pub use items::KeptItems;
 pub use law::{
     acts_have_len, begins_show, delivers_show, dies_show, exits_show, faults_show, forks_show,
     founds_show, gives_show, leaves_show, others_kept, receives_kept, receives_show, results_show,

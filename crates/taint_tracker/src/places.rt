@@ -4,10 +4,10 @@ ghost use Rattle.parts_model.specs.Numbered.{nth};
 ghost use Rattle.taint_tracker.specs.Moves.{Places};
 
 use arn_base::NoMemory;
-use taint_members::Member;
+use taint_members::MemberSets;
 
 /// There are so many numbers at least, and the same members.
-fn grow(members: &mut Vec<Option<Member>>, count: usize) -> Result<(), NoMemory>
+fn grow(members: &mut Vec<Option<MemberSets>>, count: usize) -> Result<(), NoMemory>
     ensures same { OnOk result
         ((p : ℕ) → nth members.new.items p ≡ nth members.old.items p) }
     ensures count { OnOk result (count ≤ length members.new.items) }
@@ -19,7 +19,11 @@ fn grow(members: &mut Vec<Option<Member>>, count: usize) -> Result<(), NoMemory>
 }
 
 /// A member begins at a number.
-pub fn place(members: &mut Vec<Option<Member>>, pid: u32, member: Member) -> Result<(), NoMemory>
+pub fn place(
+    members: &mut Vec<Option<MemberSets>>,
+    pid: u32,
+    member: MemberSets,
+) -> Result<(), NoMemory>
     ensures { OnOk result (Places pid member members.old.items members.new.items) }
 {
     let place = pid as usize;

@@ -11,13 +11,13 @@ use crate::group::{Group, hear};
 use crate::law::{receives_show, tables_receive};
 use arn_base::NoMemory;
 use taint_events::{received, receives};
-use taint_members::Member;
-use taint_pages::Numbers;
+use taint_members::MemberSets;
+use taint_pages::SetNumbers;
 
 /// Bytes of these sets come to a member that may be there.
 fn receive_entry(
-    entry: &mut Option<Member>,
-    segments: &mut [Numbers],
+    entry: &mut Option<MemberSets>,
+    segments: &mut [SetNumbers],
     at: u64,
     numbers: &[u32],
 ) -> Result<(), NoMemory>
@@ -34,8 +34,8 @@ fn receive_entry(
 
 /// Bytes of these sets come to the member of a number, if there is one.
 fn receive_member(
-    members: &mut [Option<Member>],
-    segments: &mut [Numbers],
+    members: &mut [Option<MemberSets>],
+    segments: &mut [SetNumbers],
     pid: u32,
     at: u64,
     numbers: &[u32],

@@ -11,14 +11,14 @@ use crate::law::shares_show;
 use arn_base::NoMemory;
 use std::alloc::Global;
 use taint_events::empty;
-use taint_members::{Member, Shared};
-use taint_pages::{Numbers, Unset};
+use taint_members::{MemberSets, Shared};
+use taint_pages::{SetNumbers, Unset};
 
 /// How many pages a segment has.
 const SEGMENT_PAGES: usize = 16;
 
 /// The key of the segment that an event made, if a member that may be there holds it.
-fn key_in(entry: &Option<Member>, event: u64) -> Option<usize>
+fn key_in(entry: &Option<MemberSets>, event: u64) -> Option<usize>
     ensures { result ≡ held_key event entry.now }
 {
     match entry {
@@ -31,7 +31,7 @@ fn key_in(entry: &Option<Member>, event: u64) -> Option<usize>
 }
 
 /// The key for a segment that an event makes: that of one that it made already, or the next.
-fn key_for(members: &[Option<Member>], count: usize, event: u64) -> usize
+fn key_for(members: &[Option<MemberSets>], count: usize, event: u64) -> usize
     requires once { AreHeldOnce count members.now }
     ensures own { IsKeyBy event result members.now }
     ensures most { result ≤ count }
@@ -45,14 +45,18 @@ fn key_for(members: &[Option<Member>], count: usize, event: u64) -> usize
 }
 
 /// A segment none of whose bytes has a set.
-fn fresh_segment(alloc: Global) -> Result<Numbers, NoMemory>
+fn fresh_segment(alloc: Global) -> Result<SetNumbers, NoMemory>
     ensures { IfOk result IsFreshSegment }
 {
-    Numbers::new(alloc, SEGMENT_PAGES, Unset::Zero)
+    SetNumbers::new(alloc, SEGMENT_PAGES, Unset::Zero)
 }
 
 /// A segment has a key from now on.
-fn put_segment(segments: &mut Vec<Numbers>, key: usize, segment: Numbers) -> Result<(), NoMemory>
+fn put_segment(
+    segments: &mut Vec<SetNumbers>,
+    key: usize,
+    segment: SetNumbers,
+) -> Result<(), NoMemory>
     requires { key ≤ length segments.old.items }
     ensures { OnOk result (PutsSegment key segment segments.old.items segments.new.items) }
 {
@@ -65,7 +69,7 @@ fn put_segment(segments: &mut Vec<Numbers>, key: usize, segment: Numbers) -> Res
 }
 
 /// A member that may be there gets a fresh segment.
-fn share_entry(entry: &mut Option<Member>, shared: Shared)
+fn share_entry(entry: &mut Option<MemberSets>, shared: Shared)
     ensures { ChangesEntry (LivesAs (SharesAs shared)) entry.old entry.new }
 {
     if let Some(member) = entry {
@@ -74,7 +78,7 @@ fn share_entry(entry: &mut Option<Member>, shared: Shared)
 }
 
 /// The member of a number gets one, if there is such a member.
-fn share_member(members: &mut [Option<Member>], pid: u32, shared: Shared)
+fn share_member(members: &mut [Option<MemberSets>], pid: u32, shared: Shared)
     ensures shares { ChangesIn (LivesAs (SharesAs shared)) pid members.old members.new }
     ensures count { length members.new ≡ length members.old }
 {

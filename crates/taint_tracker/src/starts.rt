@@ -3,7 +3,7 @@ ghost use Rattle.std.specs.Prelude.{◌≡◌, length, IfSome, OnOk};
 ghost use Rattle.acts_model.specs.Transfers.{Holds, Starts, place_of};
 ghost use Rattle.parts_model.specs.Numbered.{nth};
 ghost use Rattle.taint_members.specs.Access.{HoldsKey};
-ghost use Rattle.taint_members.specs.declared.member.Member.{Member};
+ghost use Rattle.taint_members.specs.declared.member.MemberSets.{MemberSets};
 ghost use Rattle.taint_tracker.specs.Groups.{IsSoundGroup};
 ghost use Rattle.taint_tracker.specs.Turns.{ChangesEntry, ChangesIn, LivesAs, StartsAs, StepsFrom};
 
@@ -12,8 +12,8 @@ use crate::law::{starts_show, tables_change};
 use arn_base::NoMemory;
 use std::alloc::Global;
 use taint_events::{received, started};
-use taint_members::Member;
-use taint_pages::Numbers;
+use taint_members::MemberSets;
+use taint_pages::SetNumbers;
 
 /// Where the body of an image lies, and the argument block, by its address in the old memory.
 #[derive(Clone, Copy, Debug)]
@@ -26,13 +26,13 @@ pub struct Layout {
 /// A member that may be there starts from an image.
 fn start_entry(
     alloc: Global,
-    entry: &mut Option<Member>,
-    segments: &[Numbers],
+    entry: &mut Option<MemberSets>,
+    segments: &[SetNumbers],
     event: u64,
     numbers: &[u32],
     layout: Layout,
 ) -> Result<(), NoMemory>
-    requires held { IfSome entry.old (λ (old : Member). HoldsKey old.segment segments.now) }
+    requires held { IfSome entry.old (λ (old : MemberSets). HoldsKey old.segment segments.now) }
     ensures { OnOk result (ChangesEntry
         (LivesAs (StartsAs segments.now event layout.load numbers.now layout.block layout.block_len))
         entry.old entry.new) }
@@ -55,14 +55,14 @@ fn start_entry(
 /// The member of a number starts from an image, if there is one.
 fn start_member(
     alloc: Global,
-    members: &mut [Option<Member>],
-    segments: &[Numbers],
+    members: &mut [Option<MemberSets>],
+    segments: &[SetNumbers],
     pid: u32,
     event: u64,
     numbers: &[u32],
     layout: Layout,
 ) -> Result<(), NoMemory>
-    requires held { IfSome (nth members.old pid) (λ (old : Member). HoldsKey old.segment segments.now) }
+    requires held { IfSome (nth members.old pid) (λ (old : MemberSets). HoldsKey old.segment segments.now) }
     ensures starts { OnOk result (ChangesIn
         (LivesAs (StartsAs segments.now event layout.load numbers.now layout.block layout.block_len))
         pid members.old members.new) }

@@ -7,7 +7,7 @@ ghost use Rattle.taint_tracker.specs.Items.{listed};
 ghost use Rattle.taint_tracker.specs.Kept.{shown};
 
 use crate::group::Group;
-use crate::items::Items;
+use crate::items::KeptItems;
 use crate::point::Point;
 use acts_model::Observer;
 use arn_base::{Cpu, NoMemory, Record};
@@ -47,7 +47,7 @@ impl Tracker {
 
     /// The items of a byte of the group so far. None where the group has no such byte, and of each byte
     /// once a step failed.
-    pub fn local(&self, point: Point) -> Option<Items<'_>>
+    pub fn local(&self, point: Point) -> Option<KeptItems<'_>>
         ensures { option_map listed result ≡ answer (shown self.now) point }
     {
         if self.lost {

@@ -8,10 +8,10 @@ use crate::group::{Group, hear};
 use crate::law::{delivers_show, leaves_show, tables_change};
 use arn_base::NoMemory;
 use taint_events::empty;
-use taint_members::Member;
+use taint_members::MemberSets;
 
 /// A handler of a member that may be there begins.
-fn deliver_entry(entry: &mut Option<Member>, cut: bool)
+fn deliver_entry(entry: &mut Option<MemberSets>, cut: bool)
     ensures { ChangesEntry (LivesAs (DeliversAs cut)) entry.old entry.new }
 {
     if let Some(member) = entry {
@@ -20,7 +20,7 @@ fn deliver_entry(entry: &mut Option<Member>, cut: bool)
 }
 
 /// A handler of the member of a number begins, if there is one.
-fn deliver_member(members: &mut [Option<Member>], pid: u32, cut: bool)
+fn deliver_member(members: &mut [Option<MemberSets>], pid: u32, cut: bool)
     ensures delivers { ChangesIn (LivesAs (DeliversAs cut)) pid members.old members.new }
     ensures count { length members.new ≡ length members.old }
 {
@@ -31,7 +31,7 @@ fn deliver_member(members: &mut [Option<Member>], pid: u32, cut: bool)
 }
 
 /// A handler of a member that may be there ends.
-fn leave_entry(entry: &mut Option<Member>)
+fn leave_entry(entry: &mut Option<MemberSets>)
     ensures { ChangesEntry (LivesAs LeavesAs) entry.old entry.new }
 {
     if let Some(member) = entry {
@@ -40,7 +40,7 @@ fn leave_entry(entry: &mut Option<Member>)
 }
 
 /// A handler of the member of a number ends, if there is one.
-fn leave_member(members: &mut [Option<Member>], pid: u32)
+fn leave_member(members: &mut [Option<MemberSets>], pid: u32)
     ensures leaves { ChangesIn (LivesAs LeavesAs) pid members.old members.new }
     ensures count { length members.new ≡ length members.old }
 {

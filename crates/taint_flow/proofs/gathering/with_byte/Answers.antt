@@ -1,6 +1,8 @@
-use Rattle.std.proofs.Common.{sym, ◌∙◌}
+use Rattle.std.proofs.Common.{slice_index, sym, ◌∙◌}
 use Rattle.taint_flow.proofs.Bytes.{added}
 use Rattle.taint_flow.proofs.gathering.with_byte.Goals as goal
 
-pub returns-then-has-clause-adds : goal.returns-then-has-clause-adds
-returns-then-has-clause-adds c = added c.unite.result c.args.sets.now c.unite.new.sets c.args.set c.args.mask c.args.byte c.args.number (sym c.has.ensures ∙ c.if-has.true) c.unite.ensures.set c.unite.ensures.small c.unite.ensures.members
+pub returns-clause-adds : goal.returns-clause-adds
+returns-clause-adds c =
+    let not = c.if-not-has.false in
+    added c.unite.result c.args.sets.now c.unite.new.sets c.args.set c.args.mask c.args.byte (slice_index c.args.numbers.now c.args.byte) (sym c.has.ensures ∙ not) c.unite.ensures.set c.unite.ensures.small c.unite.ensures.members

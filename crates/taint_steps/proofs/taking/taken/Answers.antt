@@ -1,4 +1,4 @@
-use Rattle.std.proofs.Common.{◌≡◌, ℕ, List, Result, Ok, Err, IfOk, unwrap_or, subst, ◌∙◌}
+use Rattle.std.proofs.Common.{◌≡◌, ℕ, List, Result, Ok, Err, IfOk, refl, subst, ◌∙◌}
 use Rattle.arn_base.specs.declared.errors.NoMemory.{NoMemory}
 use Rattle.arn_base.specs.declared.machine.Cpu.{Cpu}
 use Rattle.rv64_isa.specs.declared.instruction.Instr.{Instr}
@@ -9,12 +9,12 @@ use Rattle.set_store.specs.Sets.{StandAsBefore}
 use Rattle.taint_flow.specs.Gathered.{number_of}
 use Rattle.taint_flow.specs.Results.{AreResults}
 use Rattle.taint_members.specs.Access.{Segments}
-use Rattle.taint_members.specs.declared.member.Member.{Member}
+use Rattle.taint_members.specs.declared.member.MemberSets.{MemberSets}
 use Rattle.taint_steps.specs.Taking.{IsRegister, Loads, Takes}
 use Rattle.taint_steps.specs.declared.taking.Rules.{Rules}
 use Rattle.taint_steps.proofs.taking.taken.Goals as goal
 
-takes : (r : Result (List ℕ) NoMemory) (old mid new : List (List Item)) (rules : Rules) (instr : Instr) (before : Cpu) (m : Member) (segments : Segments) (first second loaded : List ℕ) (rs1 rs2 : ℕ)
+takes : (r : Result (List ℕ) NoMemory) (old mid new : List (List Item)) (rules : Rules) (instr : Instr) (before : Cpu) (m : MemberSets) (segments : Segments) (first second loaded : List ℕ) (rs1 rs2 : ℕ)
     → rs1 ≡ named.rs1_of instr → rs2 ≡ named.rs2_of instr → IsRegister m.registers rs1 first → IsRegister m.registers rs2 second
     → Loads old mid rules instr before m segments loaded → StandAsBefore old mid
     → IfOk r (AreResults mid new (number_of first second loaded) (operands rules.linkage instr)) → IfOk r (Takes old new rules instr before m segments)
@@ -39,8 +39,8 @@ trans old mid new a b = record { there = λ set h. b.there set (a.there set h); 
 pub returns-clause-takes : goal.returns-clause-takes
 returns-clause-takes c =
     takes c.results.result c.args.sets.now c.loaded_sets.new.sets c.results.new.sets c.args.rules c.args.instr.now c.args.before.now c.args.member.now c.args.segments.now
-    c.bytes_of-first.result.now c.bytes_of-second.result.now c.in_ok-loaded.loaded (unwrap_or c.rs1.result 0) (unwrap_or c.rs2.result 0)
-    c.rs1.ensures c.rs2.ensures c.bytes_of-first.ensures c.bytes_of-second.ensures c.in_ok-loaded.ensures.loads c.loaded_sets.ensures.before c.results.ensures.results
+    c.registers.result.0.now c.registers.result.1.now c.in_ok-loaded.loaded (named.rs1_of c.args.instr.now) (named.rs2_of c.args.instr.now)
+    refl refl c.registers.ensures.first c.registers.ensures.second c.in_ok-loaded.ensures.loads c.loaded_sets.ensures.before c.results.ensures.results
 
 pub returns-clause-before : goal.returns-clause-before
 returns-clause-before c = trans c.args.sets.now c.loaded_sets.new.sets c.results.new.sets c.loaded_sets.ensures.before c.results.ensures.before

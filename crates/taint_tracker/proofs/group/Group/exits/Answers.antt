@@ -2,7 +2,7 @@ use Rattle.std.proofs.Common.{sym, subst, arith}
 use Rattle.acts_model.specs.Transfers.{Exits}
 use Rattle.parts_model.specs.Numbered.{nth}
 use Rattle.acts_model.specs.Records.{event_len}
-use Rattle.taint_members.specs.declared.member.Member.{Member}
+use Rattle.taint_members.specs.declared.member.MemberSets.{MemberSets}
 use Rattle.taint_events.specs.Bytes.{IsStatus}
 use Rattle.taint_tracker.specs.Events.{event_by_member, plain_heard}
 use Rattle.taint_tracker.specs.RunsShow.{kept_member}
@@ -23,5 +23,5 @@ returns c =
     heard c.tables_change.ensures c.requires.sound (stand-still g.sets) ends-hold
     (λ o is m ends becomes.
     c.exits_show.ensures _ _ c.args.pid c.args.event e before (kept_member g.segments.items o) c.in_ok-numbers.numbers.items c.requires.sound.kept
-    (of-member (λ (m : Member). IsStatus m.registers (event_len e) c.in_ok-numbers.numbers.items) g.members.items c.as_slice.result.now c.args.pid o c.as_slice.ensures.value is (subst (λ n. HasStatus (nth c.as_slice.result.now c.args.pid) n c.in_ok-numbers.numbers.items) (sym len) c.in_ok-numbers.ensures)) (becomes-none _ _ _ _ _ _ _ ends becomes))
+    (of-member (λ (m : MemberSets). IsStatus m.registers (event_len e) c.in_ok-numbers.numbers.items) g.members.items c.as_slice.result.now c.args.pid o c.as_slice.ensures.value is (subst (λ n. HasStatus (nth c.as_slice.result.now c.args.pid) n c.in_ok-numbers.numbers.items) (sym len) c.in_ok-numbers.ensures)) (becomes-none _ _ _ _ _ _ _ ends becomes))
     c.end_member.ensures.ends)) c.hear.ensures

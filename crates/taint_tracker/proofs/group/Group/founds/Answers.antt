@@ -1,7 +1,7 @@
 use Rattle.std.proofs.Common.{IsSomeAnd, option_map, ap, sym, subst, arith}
 use Rattle.acts_model.specs.Transfers.{Founds}
 use Rattle.parts_model.specs.Numbered.{nth}
-use Rattle.taint_members.specs.declared.member.Member.{Member}
+use Rattle.taint_members.specs.declared.member.MemberSets.{MemberSets}
 use Rattle.taint_events.specs.Bytes.{AreEmpty}
 use Rattle.taint_tracker.specs.Events.{event_by_member}
 use Rattle.taint_tracker.specs.Groups.{ReturnsAs, kept_start}
@@ -18,7 +18,7 @@ returns c =
     let start = c.in_ok-start.start in
     ok-map c.hear_child.result (λ heard. λ child e before len.
     if-map (nth g.members.items c.args.pid) (λ old both. record { follows = both.0; keyed = both.1 })
-    (changes-group (LivesAs ReturnsAs) (λ (old : Member). event_by_member c.args.pid before (Founds c.args.pid child old.made c.args.event) c.args.event e) g.rules c.args.pid (record { event = c.args.event; numbers = numbers; start = option_map kept_start start })
+    (changes-group (LivesAs ReturnsAs) (λ (old : MemberSets). event_by_member c.args.pid before (Founds c.args.pid child old.made c.args.event) c.args.event e) g.rules c.args.pid (record { event = c.args.event; numbers = numbers; start = option_map kept_start start })
     g.members.items c.as_mut_slice.result.now c.return_member.new.members _ g.segments.items g.sets g.sets g.heard c.hear_child.new.heard
     c.as_mut_slice.ensures.value
     (slice-back g.members.len g.members.items c.return_member.new.members (omega arith))

@@ -1,7 +1,7 @@
 use Rattle.std.proofs.Common.{ap, inl, sym, subst, arith}
 use Rattle.acts_model.specs.Transfers.{Leaves}
 use Rattle.parts_model.specs.Numbered.{nth}
-use Rattle.taint_members.specs.declared.member.Member.{Member}
+use Rattle.taint_members.specs.declared.member.MemberSets.{MemberSets}
 use Rattle.taint_events.specs.Bytes.{AreEmpty}
 use Rattle.taint_tracker.specs.Events.{event_by_member, plain_heard}
 use Rattle.taint_tracker.specs.RunsShow.{kept_member}
@@ -19,7 +19,7 @@ returns c =
     g.members.items c.as_mut_slice.result.now c.leave_member.new.members _ g.segments.items g.sets g.sets g.heard c.hear.new.heard
     c.as_mut_slice.ensures.value
     (slice-back g.members.len g.members.items c.leave_member.new.members (omega arith))
-    heard c.tables_change.ensures c.requires.sound (stand-still g.sets) (lives-hold LeavesAs (λ o n to. inl (ap (λ (m : Member). m.segment) to.others)))
+    heard c.tables_change.ensures c.requires.sound (stand-still g.sets) (lives-hold LeavesAs (λ o n to. inl (ap (λ (m : MemberSets). m.segment) to.others)))
     (λ o is m lives becomes.
     becomes-some LeavesAs o m _ _ _ _ _ _ lives becomes (λ n to next.
     c.leaves_show.ensures _ _ c.args.pid c.args.event e before (kept_member g.segments.items o) (kept_member g.segments.items n) c.in_ok-numbers.numbers.items c.requires.sound.kept (subst (λ n. AreEmpty n c.in_ok-numbers.numbers.items) (sym len) c.in_ok-numbers.ensures)

@@ -2,7 +2,7 @@ use Rattle.std.proofs.Common.{ℕ, List, IfSome, inr, sym, subst, arith}
 use Rattle.acts_model.specs.Transfers.{Starts, place_of}
 use Rattle.parts_model.specs.Numbered.{nth}
 use Rattle.taint_members.specs.Access.{HoldsKey}
-use Rattle.taint_members.specs.declared.member.Member.{Member}
+use Rattle.taint_members.specs.declared.member.MemberSets.{MemberSets}
 use Rattle.taint_tracker.specs.Events.{event_by_member, plain_heard}
 use Rattle.taint_tracker.specs.RunsShow.{kept_member}
 use Rattle.taint_tracker.specs.Turns.{ChangesIn, LivesAs, StartsAs, holds_of}
@@ -13,8 +13,8 @@ use Rattle.taint_tracker.proofs.group.Group.starts.Goals as goal
 pub start_member-requires : goal.start_member-requires
 start_member-requires c =
     let g = c.args.self.now in
-    let held = subst (λ l. IfSome (nth l c.args.pid) (λ (old : Member). HoldsKey old.segment c.as_slice.result.now)) (sym c.as_mut_slice.ensures.value)
-    (subst (λ s. IfSome (nth g.members.items c.args.pid) (λ (old : Member). HoldsKey old.segment s)) (sym c.as_slice.ensures.value) (c.requires.sound.keyed.held c.args.pid)) in
+    let held = subst (λ l. IfSome (nth l c.args.pid) (λ (old : MemberSets). HoldsKey old.segment c.as_slice.result.now)) (sym c.as_mut_slice.ensures.value)
+    (subst (λ s. IfSome (nth g.members.items c.args.pid) (λ (old : MemberSets). HoldsKey old.segment s)) (sym c.as_slice.ensures.value) (c.requires.sound.keyed.held c.args.pid)) in
     record { held = held }
 
 pub returns : goal.returns
@@ -25,7 +25,7 @@ returns c =
     ok-map c.hear.result (λ heard. λ e before len.
     if-map (nth g.members.items c.args.pid) (λ old both. record { follows = both.0; keyed = both.1 })
     (changes-group (LivesAs (StartsAs g.segments.items c.args.event layout.load numbers layout.block layout.block_len))
-    (λ (old : Member). event_by_member c.args.pid before (Starts c.args.pid c.args.event layout.load c.args.len (place_of (holds_of old) layout.block layout.block_len) layout.block_len) c.args.event e) g.rules c.args.pid (plain_heard c.args.event numbers)
+    (λ (old : MemberSets). event_by_member c.args.pid before (Starts c.args.pid c.args.event layout.load c.args.len (place_of (holds_of old) layout.block layout.block_len) layout.block_len) c.args.event e) g.rules c.args.pid (plain_heard c.args.event numbers)
     g.members.items c.as_mut_slice.result.now c.start_member.new.members _ g.segments.items g.sets c.received.new.sets g.heard c.hear.new.heard
     c.as_mut_slice.ensures.value
     (slice-back g.members.len g.members.items c.start_member.new.members (omega arith))

@@ -1,7 +1,7 @@
 use Rattle.std.proofs.Common.{◌<◌, ◌*◌, ◌/◌, ◌%◌, length, get_or, sym, subst, ap, ◌∙◌, arith}
 use Rattle.taint_pages.specs.Pages.{IsPage, contents, number_in, page_len}
 use Rattle.taint_pages.proofs.Flat.{index-pages, page-inside, place-fits, place-inside, read-page}
-use Rattle.taint_pages.proofs.numbers.Numbers.get.Goals as goal
+use Rattle.taint_pages.proofs.numbers.SetNumbers.get.Goals as goal
 
 pub index-requires : goal.index-requires
 index-requires c =

@@ -2,7 +2,7 @@ use Rattle.std.proofs.Common.{◌/◌, nat_lt, length, ap, arith, ◌∙◌}
 use Rattle.std.proofs.lemmas.Bool.{ltb-true, lt-ltb, ltb_from_iff}
 use Rattle.taint_pages.specs.Pages.{contents, numbers_from, page_len}
 use Rattle.taint_pages.proofs.Flat.{length-contents, length-pages}
-use Rattle.taint_pages.proofs.numbers.Numbers.has.Goals as goal
+use Rattle.taint_pages.proofs.numbers.SetNumbers.has.Goals as goal
 
 pub returns : goal.returns
 returns c =

@@ -1,5 +1,5 @@
 use Rattle.std.proofs.Common.{◌≡◌, ◌<◌, ◌≤◌, ◌+◌, ℕ, length, slice_index}
-use Rattle.taint_pages.proofs.numbers.Numbers.eight.Given as goal
+use Rattle.taint_pages.proofs.numbers.SetNumbers.eight_each.Given as goal
 
 abbrev pub invariant-loop-i : goal.invariant-loop-i
 invariant-loop-i l = record {

@@ -1,7 +1,7 @@
 use Rattle.std.proofs.Common.{◌<◌, ◌*◌, ◌/◌, ◌%◌, length, Ok, Err, OnOk, Result, sym, subst, arith}
 use Rattle.taint_pages.specs.Pages.{IsPage, SetsOne, content, contents, page_len}
 use Rattle.taint_pages.proofs.Flat.{page-inside, place-fits, place-inside, read-page, sets-page, sound-set}
-use Rattle.taint_pages.proofs.numbers.Numbers.set.Goals as goal
+use Rattle.taint_pages.proofs.numbers.SetNumbers.set.Goals as goal
 
 pub index_mut-page-requires : goal.index_mut-page-requires
 index_mut-page-requires c =

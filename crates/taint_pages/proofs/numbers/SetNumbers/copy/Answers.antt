@@ -1,7 +1,7 @@
 use Rattle.std.proofs.Common.{ap, sym, subst, ◌∙◌}
 use Rattle.taint_pages.specs.Pages.{AreSound, contents}
 use Rattle.taint_pages.proofs.Flat.{copied, copy-more}
-use Rattle.taint_pages.proofs.numbers.Numbers.copy.Goals as goal
+use Rattle.taint_pages.proofs.numbers.SetNumbers.copy.Goals as goal
 
 pub loop-page-preserved : goal.loop-page-preserved
 loop-page-preserved c =

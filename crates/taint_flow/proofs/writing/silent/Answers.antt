@@ -1,0 +1,65 @@
+use Rattle.std.proofs.Common.{◌⊎◌, inl, inr, None, replicate, ◌≡◌, ℕ, ◌<◌, nat_lt, ℤ, List, [], ◌∷◌, ◌++◌, refl, ap, ◌∙◌, arith}
+use Rattle.std.proofs.lemmas.Bool.{lt-ltb}
+use Rattle.arn_base.specs.declared.machine.Cpu.{Cpu}
+use Rattle.rv64_isa.specs.declared.instruction.Instr.{Instr}
+use Rattle.rv64_isa.specs.declared.instruction.Instr.TheVariants.{Load, Store}
+use Rattle.rv64_isa.specs.declared.instruction.LoadOp.{LoadOp}
+use Rattle.rv64_isa.specs.declared.instruction.StoreOp.{StoreOp}
+use Rattle.rv64_model.specs.declared.linkage.Linkage.{Linkage}
+use Rattle.rv64_model.specs.Carries.{Operand, Left, Right, Loaded, both, first_bytes, operands, taken_if}
+use Rattle.rv64_model.specs.Operands.{accessed}
+use Rattle.taint_flow.specs.declared.flow.Flow.{Flow}
+use Rattle.taint_flow.specs.declared.flow.Flow.TheVariants.{Nothing, First, Second, Memory, Rising, Carried, Bytewise, Mixed}
+use Rattle.taint_flow.specs.Flow.{IsFlow}
+use Rattle.taint_flow.specs.Silent.{IsSilent}
+use Rattle.taint_flow.proofs.Grown.{reach-below}
+use Rattle.taint_flow.proofs.writing.silent.Goals as goal
+
+-- where byte 0 takes nothing, no byte does
+some-taken : (len : ℕ) (x : Operand) → 0 < len → taken_if (nat_lt 0 len) x ≡ x ∷ []
+some-taken len x some = ap (λ t. taken_if t x) (lt-ltb 0 len some)
+
+nothing-flow : (flow : Flow) (taken : ℕ → List Operand) → IsFlow flow taken → taken 0 ≡ [] → flow ≡ Nothing
+nothing-flow Nothing taken is none = refl
+nothing-flow First taken is none = let one : taken 0 ≡ Left 0 ∷ [] = is 0 (omega arith) in cc
+nothing-flow (Second len) taken is none = let one : taken 0 ≡ Right 0 ∷ [] = is.1 0 ∙ some-taken len (Right 0) is.0 in cc
+nothing-flow (Memory len) taken is none = let one : taken 0 ≡ Loaded 0 ∷ [] = is.1 0 ∙ some-taken len (Loaded 0) is.0 in cc
+nothing-flow (Rising width) taken is none = let one : taken 0 ≡ Left 0 ∷ [] = is.1 0 ∙ ap (first_bytes Left) (reach-below width 0 is.0.0) in cc
+nothing-flow (Carried width) taken is none =
+    let two : taken 0 ≡ both 0 = is.1 0 ∙ ap (λ n. first_bytes Left n ++ first_bytes Right n) (reach-below width 0 is.0.0) in cc
+nothing-flow Bytewise taken is none = let two : taken 0 ≡ both 0 = is 0 (omega arith) in cc
+nothing-flow Mixed taken is none = absurd (is none)
+
+-- what loads and stores access, and all others don't
+abbrev zeros : Cpu
+zeros = record { x = replicate 31 0; pc = 0 }
+
+accesses : (linkage : Linkage) (instr : Instr)
+    → ((op : LoadOp) × (rd : ℕ) × (rs1 : ℕ) × (imm : ℤ) × (instr ≡ Load op rd rs1 imm)) ⊎ ((op : StoreOp) × (rs1 : ℕ) × (rs2 : ℕ) × (imm : ℤ) × (instr ≡ Store op rs1 rs2 imm)) → IsSilent linkage instr → ⊥
+accesses linkage instr (inl load) silent = let some = ap (λ i. accessed i zeros) load.4 in let none = silent.apart zeros in cc
+accesses linkage instr (inr store) silent = let some = ap (λ i. accessed i zeros) store.4 in let none = silent.apart zeros in cc
+
+apart : (instr : Instr) → ((op : LoadOp) (rd rs1 : ℕ) (imm : ℤ) → instr ≡ Load op rd rs1 imm → ⊥) → ((op : StoreOp) (rs1 rs2 : ℕ) (imm : ℤ) → instr ≡ Store op rs1 rs2 imm → ⊥) → (cpu : Cpu) → accessed instr cpu ≡ None
+apart (Load op rd rs1 imm) not_load not_store cpu = absurd (not_load op rd rs1 imm refl)
+apart (Store op rs1 rs2 imm) not_load not_store cpu = absurd (not_store op rs1 rs2 imm refl)
+apart other not_load not_store cpu = refl
+
+pub returns-in-Nothing-clause-silent : goal.returns-in-Nothing-clause-silent
+returns-in-Nothing-clause-silent c =
+    let instr = c.args.instr.now in
+    (λ e. record { nothing = c.in-Nothing.ensures; apart = apart instr c.in_default.not-Load c.in_default.not-Store }, λ silent. refl)
+
+pub returns-in_default-result_flow : goal.returns-in_default-result_flow
+returns-in_default-result_flow c = record {
+  silent = (
+    λ e. cc,
+    λ silent. absurd (c.in_default-result_flow.not-Nothing (nothing-flow c.result_flow.result (operands c.args.linkage c.args.instr.now) c.result_flow.ensures (silent.nothing 0))),
+  );
+  results = λ first second loaded. tt;
+}
+
+pub returns-in-Load-clause-silent : goal.returns-in-Load-clause-silent
+returns-in-Load-clause-silent c = (λ e. cc, λ silent. absurd (accesses c.args.linkage c.args.instr.now c.in-Load.is silent))
+
+pub returns-in-Load-2-clause-silent : goal.returns-in-Load-2-clause-silent
+returns-in-Load-2-clause-silent c = (λ e. cc, λ silent. absurd (accesses c.args.linkage c.args.instr.now c.in-Load.is silent))
