@@ -33,6 +33,7 @@ pub const SLICE_RECORDS: usize = 3;
 
 /// Puts the records of a turn behind others, if anything was done in it. Answers how many bytes they
 /// are spelled by.
+#[inline(always)]
 pub fn keep_turn(out: &mut Vec<Record>, pid: u32, turn: Turn) -> u64
     requires room { vec_len out.old + SLICE_RECORDS ≤ vec_capacity out.old }
     requires delivery { IfSome turn.delivery HasSpelling }
@@ -51,6 +52,7 @@ pub fn keep_turn(out: &mut Vec<Record>, pid: u32, turn: Turn) -> u64
 }
 
 // Whether nothing was done in a turn.
+#[inline(always)]
 fn is_nothing(turn: &Turn) -> bool
     ensures { IsTrue result ↔ (slice_of 0 turn.now.ran
         (option_to_list turn.now.delivery ++ option_to_list turn.now.last) ≡ []) }
@@ -59,6 +61,7 @@ fn is_nothing(turn: &Turn) -> bool
 }
 
 // Puts a record behind others, if there is one. Answers how many bytes it is spelled by.
+#[inline(always)]
 fn keep(out: &mut Vec<Record>, entry: Option<Record>) -> u64
     requires room { vec_len out.old < vec_capacity out.old }
     requires spelled { IfSome entry HasSpelling }

@@ -34,6 +34,7 @@ pub struct Turn {
 }
 
 // Delivers the due signal of a process, if there is one, and answers the record.
+#[inline(always)]
 fn deliver(kernel: &mut Kernel, pid: u32) -> Option<Record>
     requires live { IsLive kernel.old.guests pid }
     requires real { IsReal kernel.old }

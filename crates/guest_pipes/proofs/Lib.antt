@@ -1,3 +1,4 @@
 pub mod Changes
+pub mod Cuts
 pub mod Listed
 pub mod Queues

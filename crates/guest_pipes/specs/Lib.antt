@@ -1,3 +1,4 @@
 pub mod Answers
 pub mod Queue
+pub mod Runs
 pub mod Table

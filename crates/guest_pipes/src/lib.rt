@@ -5,6 +5,7 @@ mod entries;
 mod errors;
 mod pipe;
 mod pipes;
+mod runs;
 
 pub use errors::{PipeError, Side};
 pub use pipes::Pipes;

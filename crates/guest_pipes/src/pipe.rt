@@ -2,13 +2,12 @@
 ghost use Rattle.std.specs.Prelude.{◌≡◌, ◌≤◌, ◌<◌, ◌^◌, ◌↔◌, ◌||◌, ◌+◌, ◌-◌, IfOk, IfErr, IsTrue, OnOk, OnErr, Err, length, min, not};
 ghost use Rattle.parts_model.specs.Channel.{front};
 ghost use Rattle.parts_model.specs.Pipes.{can_put, can_take, if_open, new_pipe, room, with_put, with_taken, without_end};
-ghost use Rattle.parts_model.specs.Tagged.{given, held_bytes as held_of};
+ghost use Rattle.parts_model.specs.Tagged.{given};
 ghost use Rattle.guest_pipes.specs.Answers.{IsPutError, IsTakeError, end_of, has_to_wait};
 
+use crate::runs::{Run, drop_gone, first_origins};
 use crate::{PipeError, Side};
-use arn_base::{Give, NoMemory, Src};
-use guest_give::give_of;
-use parts_model::TaggedByte;
+use arn_base::{Bytes, Give, NoMemory};
 use parts_model::limits::MOST_PIPE_BYTES;
 use std::alloc::Global;
 use std::collections::VecDeque;
@@ -17,48 +16,38 @@ use std::marker::Model;
 const MOST_BYTES: usize = MOST_PIPE_BYTES as usize;
 
 /// The bytes that were put into a pipe and not yet taken, how many were taken before them, and
-/// which ends are open.
+/// which ends are open. Bytes that were taken stay before those that wait, until bytes are put while
+/// more were taken than wait. The runs tell of which events those that wait are; so many places of
+/// the first run are gone.
 #[derive(Debug, Drop)]
 pub struct Pipe {
     taken: u64,
-    queue: VecDeque<TaggedByte>,
+    head: usize,
+    held: Vec<u8>,
+    gone: u32,
+    runs: VecDeque<Run>,
     has_reader: bool,
     has_writer: bool,
 }
 
 impl Model for Pipe {
-    ghost use Rattle.std.specs.Prelude.{length};
+    ghost use Rattle.std.specs.Prelude.{drop, length};
     ghost use Rattle.parts_model.specs.Pipes.{Pipe as PipeModel};
     ghost use Rattle.guest_pipes.specs.Queue.{IsQueue};
+    ghost use Rattle.guest_pipes.specs.Runs.{places_of, tagged};
 
     ghost Value = { PipeModel };
 
     ghost view = { λ s. record {
-      channel = record { taken = s.taken; queue = s.queue.items };
+      channel = record {
+        taken = s.taken;
+        queue = tagged (drop s.head s.held.items) (drop s.gone (places_of s.runs.items));
+      };
       has_reader = s.has_reader;
       has_writer = s.has_writer;
     } };
 
-    ghost invariant = { λ s. IsQueue s.taken (length s.queue.items) };
-}
-
-// Bytes of an event, each with its place.
-fn held_bytes(alloc: Global, event: u64, bytes: &[u8]) -> Result<Vec<TaggedByte>, NoMemory>
-    requires { length bytes.now < 2 ^ 32 }
-    ensures { IfOk result (λ held. held.items ≡ held_of event bytes.now) }
-{
-    let mut held = Vec::with_capacity(alloc, bytes.len())?;
-    for (at, value) in bytes.iter().enumerate() {
-        let origin = Src {
-            event,
-            at: at as u32,
-        };
-        held.push(TaggedByte {
-            value: *value,
-            origin,
-        })?;
-    }
-    Ok(held)
+    ghost invariant = { λ s. IsQueue s.taken s.head (length s.held.items) s.gone s.runs.items };
 }
 
 impl Pipe {
@@ -68,16 +57,28 @@ impl Pipe {
     {
         Pipe {
             taken: 0,
-            queue: VecDeque::new(alloc),
+            head: 0,
+            held: Vec::new(alloc),
+            gone: 0,
+            runs: VecDeque::new(alloc),
             has_reader: true,
             has_writer: true,
         }
     }
 
+    // How many bytes wait.
+    fn len(&self) -> usize
+        ensures count { result ≡ length self.now.channel.queue }
+        ensures few { result ≤ MOST_BYTES }
+        ensures counted { self.now.channel.taken + result < 2 ^ 64 }
+    {
+        self.held.len() - self.head
+    }
+
     fn room(&self) -> usize
         ensures { result ≡ room self.now }
     {
-        MOST_BYTES - self.queue.len()
+        MOST_BYTES - self.len()
     }
 
     pub fn can_put(&self) -> bool
@@ -89,7 +90,7 @@ impl Pipe {
     pub fn can_take(&self) -> bool
         ensures { result ≡ can_take self.now }
     {
-        !self.queue.is_empty() || !self.has_writer
+        self.len() > 0 || !self.has_writer
     }
 
     /// Closes an end, and answers whether one is open still.
@@ -108,7 +109,7 @@ impl Pipe {
     fn uncounted(&self) -> u64
         ensures { result + (self.now.channel.taken + length self.now.channel.queue) ≡ 2 ^ 64 - 1 }
     {
-        u64::MAX - self.taken - self.queue.len() as u64
+        u64::MAX - self.taken - self.len() as u64
     }
 
     /// Puts bytes of an event behind the others, as many as there is room for, and answers how
@@ -143,9 +144,28 @@ impl Pipe {
         if bytes.len() as u64 > self.uncounted() {
             return Err(NoMemory);
         }
-        let held = held_bytes(*self.queue.allocator(), event, bytes)?;
-        self.queue.append(&mut VecDeque::from_vec(held))?;
+        if bytes.is_empty() {
+            return Ok(());
+        }
+        self.forget_taken();
+        self.runs.reserve(1)?;
+        self.held.extend_from_slice(bytes)?;
+        let len = bytes.len() as u32;
+        self.runs.push_back_reserved(Run { event, len });
         Ok(())
+    }
+
+    // Forgets the bytes that were taken, where they are more than those that wait, or none waits.
+    fn forget_taken(&mut self)
+        ensures { self.new ≡ self.old }
+    {
+        if self.len() == 0 {
+            self.held.clear();
+            self.head = 0;
+        } else if self.head > self.len() {
+            let _ = self.held.drain(..self.head);
+            self.head = 0;
+        }
     }
 
     /// Takes the first bytes, at most `max`, with their origins as the longest runs.
@@ -161,7 +181,7 @@ impl Pipe {
         if !self.can_take() {
             return Err(PipeError::NotReady);
         }
-        let count = max.min(self.queue.len());
+        let count = max.min(self.len());
         let give = self.give(count)?;
         self.remove(count);
         Ok(give)
@@ -174,9 +194,11 @@ impl Pipe {
         ensures few_bytes { IfOk result (λ give. length give.bytes ≤ count) }
         ensures few_origins { IfOk result (λ give. length give.origins ≤ count) }
     {
-        let alloc = *self.queue.allocator();
-        let front: Vec<TaggedByte> = self.queue.range(..count).copied().collect(alloc)?;
-        give_of(alloc, &front)
+        let front = &self.held[self.head..self.head + count];
+        Ok(Give {
+            bytes: Bytes::from_slice(*self.held.allocator(), front)?,
+            origins: first_origins(&self.runs, self.gone, count as u32)?,
+        })
     }
 
     // Takes the first bytes away.
@@ -184,7 +206,8 @@ impl Pipe {
         requires { count ≤ length self.old.channel.queue }
         ensures { self.new ≡ with_taken self.old count }
     {
-        let _ = self.queue.drain(..count);
+        self.head += count;
         self.taken += count as u64;
+        self.gone = drop_gone(&mut self.runs, self.gone + count as u32);
     }
 }
