@@ -4,7 +4,7 @@ use Rattle.std.specs.Prelude.{◌⊎◌}
 use Rattle.std.proofs.lemmas.Bool.{false_from_ne_true, lt-ltb}
 use Rattle.std.proofs.lemmas.Slice.Eq.{bytes_eq-Decides}
 use Rattle.arn_lines.specs.declared.line.TheConstants.{MOST_LINE}
-use Rattle.arn_lines.specs.declared.line.Reading.{Reading}
+use Rattle.arn_lines.specs.declared.line.LineReading.{LineReading}
 use Rattle.arn_lines.specs.Grammar.{Reads}
 use Rattle.arn_commands.specs.Commands.{no_statement, program_line}
 use Rattle.arn_commands.specs.Lines.{line_feed}
@@ -51,7 +51,7 @@ kept-nonempty line [] k e = refl
 kept-nonempty line (byte ∷ kept) k e = absurd (omega (arith, ap length e, ap length k.is_line, length-append (byte ∷ kept) k.dropped))
 
 -- the whole line reads as what is kept of it does
-pub Reads-kept : (line kept : List ℕ) (reading : Reading) → IsKept line kept → Reads kept reading
+pub Reads-kept : (line kept : List ℕ) (reading : LineReading) → IsKept line kept → Reads kept reading
     → ((rest : List ℕ) → MOST_LINE < length kept → Reads (kept ++ rest) reading) → Reads line reading
 Reads-kept line kept reading k short long = elim k.enough [
   | inl none ↦ subst (λ (text : List ℕ). Reads text reading) (sym (k.is_line ∙ ap (λ (x : List ℕ). kept ++ x) none ∙ append-nil kept)) short

@@ -1,8 +1,8 @@
 -- What the parts of a text ask for.
 use Rattle.std.specs.Prelude.{◌≡◌, ℕ, ◌+◌, nat_lt, Bool, true, false, if◌then◌else◌, List, [], ◌∷◌, ◌++◌, length, flat_map, Option, Some, None, codes}
 use Rattle.arn_lines.specs.declared.line.Line.TheVariants as line
-use Rattle.arn_lines.specs.declared.line.Reading.{Reading}
-use Rattle.arn_lines.specs.declared.line.Reading.TheVariants as reading
+use Rattle.arn_lines.specs.declared.line.LineReading.{LineReading}
+use Rattle.arn_lines.specs.declared.line.LineReading.TheVariants as reading
 use Rattle.arn_lines.specs.declared.line.TheConstants.{MOST_LINE}
 use Rattle.arn_lines.specs.Grammar.{Reads}
 use Rattle.guest_asm.specs.Assembled.{Fault, fault_of, image_of_text}
@@ -42,7 +42,7 @@ generator_command seed processes None = Generates (image_of_text (generator.prog
 generator_command seed processes (Some fault) = Faulty fault.line
 
 -- what a line that reads so asks for
-abbrev pub line_command : Reading → Command
+abbrev pub line_command : LineReading → Command
 line_command reading.PassedOver = PassedOver
 line_command reading.TooLong = TooLong
 line_command reading.Unreadable = Unreadable
@@ -51,7 +51,7 @@ line_command (reading.Generates seed processes) = generator_command seed process
 
 -- what a part asks for
 abbrev pub Asks : Part → Command → Type 0
-Asks (Alone line) command = (reading : Reading) × Reads line reading × (command ≡ line_command reading)
+Asks (Alone line) command = (reading : LineReading) × Reads line reading × (command ≡ line_command reading)
 Asks (Block name lines is_ended) command =
     command ≡ block_command name lines (faulty_line lines is_ended (fault_of (program_text lines)))
 

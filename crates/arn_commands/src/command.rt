@@ -1,6 +1,6 @@
 // What parts of a text ask for.
 ghost use Rattle.std.specs.Prelude.{◌≡◌, ℕ, List, IfOk};
-ghost use Rattle.arn_lines.specs.declared.line.Reading.TheVariants as reading;
+ghost use Rattle.arn_lines.specs.declared.line.LineReading.TheVariants as reading;
 ghost use Rattle.arn_lines.specs.Grammar.{Reads};
 ghost use Rattle.arn_commands.specs.Commands.{Asks, line_command};
 ghost use Rattle.arn_commands.specs.Parts.{Alone};
@@ -8,7 +8,7 @@ ghost use Rattle.arn_commands.specs.Pieces.{IsKept};
 ghost use Rattle.arn_commands.specs.Sizes.{Fits};
 
 use arn_base::{Bytes, NoMemory};
-use arn_lines::{Line, Reading, read_line};
+use arn_lines::{Line, LineReading, read_line};
 use gen_texts::{program, typed};
 use guest_asm::{AsmError, assemble};
 use std::alloc::Global;
@@ -51,16 +51,16 @@ impl Command {
     }
 
     // What a line that reads so asks for.
-    fn of_reading(alloc: Global, reading: Reading) -> Result<Command, NoMemory>
+    fn of_reading(alloc: Global, reading: LineReading) -> Result<Command, NoMemory>
         ensures asks { IfOk result (λ command. command ≡ line_command reading) }
         ensures fits { IfOk result (λ command. (text : List ℕ) → Reads text reading → Fits command) }
     {
         match reading {
-            Reading::PassedOver => Ok(Command::PassedOver),
-            Reading::TooLong => Ok(Command::TooLong),
-            Reading::Unreadable => Ok(Command::Unreadable),
-            Reading::Says { line } => Ok(Command::Says { line }),
-            Reading::Generates { seed, processes } => {
+            LineReading::PassedOver => Ok(Command::PassedOver),
+            LineReading::TooLong => Ok(Command::TooLong),
+            LineReading::Unreadable => Ok(Command::Unreadable),
+            LineReading::Says { line } => Ok(Command::Says { line }),
+            LineReading::Generates { seed, processes } => {
                 Command::of_generator(alloc, seed, processes)
             }
         }

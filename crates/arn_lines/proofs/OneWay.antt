@@ -4,8 +4,8 @@ use Rattle.std.proofs.lemmas.Bool.{false≢true}
 use Rattle.arn_lines.specs.declared.line.Line.{Line}
 use Rattle.arn_lines.specs.declared.line.Line.TheVariants as line
 use Rattle.arn_lines.specs.declared.line.Question.TheVariants as question
-use Rattle.arn_lines.specs.declared.line.Reading.{Reading}
-use Rattle.arn_lines.specs.declared.line.Reading.TheVariants.{PassedOver, TooLong, Unreadable, Says, Generates}
+use Rattle.arn_lines.specs.declared.line.LineReading.{LineReading}
+use Rattle.arn_lines.specs.declared.line.LineReading.TheVariants.{PassedOver, TooLong, Unreadable, Says, Generates}
 use Rattle.arn_lines.specs.Grammar.{IsBoot, IsFile, IsGen, IsLine, IsPassedOver, IsRun, IsType, Reads}
 use Rattle.arn_lines.specs.Pieces.{IsFirstWord}
 use Rattle.arn_lines.specs.Words.{IsBytes, IsHex, space}
@@ -98,7 +98,7 @@ IsLine-begins text (line.Asks question.Verify) h over = no_hash 118 refl (subst 
 IsGen-begins : (text : List ℕ) (seed processes : ℕ) → IsGen text seed processes → ¬ IsPassedOver text
 IsGen-begins text seed processes h over = no_hash 103 refl (subst IsPassedOver h.is_text over)
 
-pub Reads-same : (text : List ℕ) (a b : Reading) → Reads text a → Reads text b → a ≡ b
+pub Reads-same : (text : List ℕ) (a b : LineReading) → Reads text a → Reads text b → a ≡ b
 Reads-same text PassedOver PassedOver h k = refl
 Reads-same text PassedOver TooLong h k = absurd (k.not_passed_over h)
 Reads-same text PassedOver Unreadable h k = absurd (k.not_passed_over h)

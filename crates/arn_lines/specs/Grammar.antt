@@ -2,8 +2,8 @@
 use Rattle.std.specs.Prelude.{◌≡◌, ℕ, ◌<◌, ◌≤◌, ◌&&◌, if◌then◌else◌, List, [], ◌∷◌, ◌++◌, length, take, drop, Option, Some, None, bytes_eq, codes}
 use Rattle.arn_lines.specs.declared.line.Line.{Line}
 use Rattle.arn_lines.specs.declared.line.Line.TheVariants as line
-use Rattle.arn_lines.specs.declared.line.Reading.{Reading}
-use Rattle.arn_lines.specs.declared.line.Reading.TheVariants.{PassedOver, TooLong, Unreadable, Says, Generates}
+use Rattle.arn_lines.specs.declared.line.LineReading.{LineReading}
+use Rattle.arn_lines.specs.declared.line.LineReading.TheVariants.{PassedOver, TooLong, Unreadable, Says, Generates}
 use Rattle.arn_lines.specs.declared.line.TheConstants.{MOST_GENERATED, MOST_LINE, MOST_RUN}
 use Rattle.arn_lines.specs.Words.{is_name, IsName, IsBytes, IsNumber, space}
 use Rattle.arn_lines.specs.Questions.{IsQuestion}
@@ -73,7 +73,7 @@ pub record IsUnreadable (text : List ℕ) : Type 0 where
   pub generates_nothing : (seed processes : ℕ) → ¬ IsGen text seed processes
 
 -- what a line is that stands by itself
-abbrev pub Reads : List ℕ → Reading → Type 0
+abbrev pub Reads : List ℕ → LineReading → Type 0
 Reads text PassedOver = IsPassedOver text
 Reads text TooLong = IsTooLong text
 Reads text Unreadable = IsUnreadable text
@@ -82,4 +82,4 @@ Reads text (Generates seed processes) = (length text ≤ MOST_LINE) × IsGen tex
 
 -- two readings of one line are one
 abbrev pub ReadsOneWay : Type 0
-ReadsOneWay = (text : List ℕ) (a b : Reading) → Reads text a → Reads text b → a ≡ b
+ReadsOneWay = (text : List ℕ) (a b : LineReading) → Reads text a → Reads text b → a ≡ b

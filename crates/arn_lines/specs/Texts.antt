@@ -1,5 +1,6 @@
 -- The lines that answer, each with its LF.
 use Rattle.std.specs.Prelude.{ℕ, List, [], ◌∷◌, ◌++◌, codes, decimal, flat_map}
+use Rattle.std.specs.Int.{w64, to_be_bytes}
 use Rattle.hex.specs.Hex.{encode_lower}
 use Rattle.arn_base.specs.declared.records.Pair.{Pair}
 use Rattle.arn_lines.specs.declared.answer.RunEnd.{RunEnd}
@@ -14,6 +15,14 @@ line_end = 10 ∷ []
 abbrev pub bytes_text : List ℕ → List ℕ
 bytes_text [] = codes "-"
 bytes_text (b ∷ bytes) = encode_lower (b ∷ bytes)
+
+-- a number of 64 bits, in 16 hex digits
+abbrev pub word_text : ℕ → List ℕ
+word_text n = encode_lower (to_be_bytes w64 n)
+
+-- such numbers behind one another
+abbrev pub words_text : List ℕ → List ℕ
+words_text words = flat_map (λ n. codes " " ++ word_text n) words
 
 -- `event E`
 abbrev pub event_text : ℕ → List ℕ

@@ -5,7 +5,7 @@ ghost use Rattle.arn_lines.specs.Pieces.{SaysNothing};
 
 use crate::questions::{question, two_numbers};
 use crate::words::{after, bytes, is_name, name, number, split_word};
-use crate::{Line, MOST_GENERATED, MOST_LINE, MOST_RUN, Reading};
+use crate::{Line, LineReading, MOST_GENERATED, MOST_LINE, MOST_RUN};
 use arn_base::NoMemory;
 use std::alloc::Global;
 
@@ -96,7 +96,7 @@ pub fn block_name(line: &[u8]) -> Option<&[u8]>
 
 /// Reads one line, without its LF, in time linear in its length. A line that opens a block says
 /// nothing by itself.
-pub fn read_line(alloc: Global, line: &[u8]) -> Result<Reading, NoMemory>
+pub fn read_line(alloc: Global, line: &[u8]) -> Result<LineReading, NoMemory>
     ensures ok { IfOk result (Reads line.now) }
 
     // Of a longer line its first bytes are enough, whatever follows them.
@@ -104,16 +104,16 @@ pub fn read_line(alloc: Global, line: &[u8]) -> Result<Reading, NoMemory>
         (rest : List ℕ) → MOST_LINE < length line.now → Reads (line.now ++ rest) reading) }
 {
     if is_passed_over(line) {
-        return Ok(Reading::PassedOver);
+        return Ok(LineReading::PassedOver);
     }
     if line.len() > MOST_LINE {
-        return Ok(Reading::TooLong);
+        return Ok(LineReading::TooLong);
     }
     if let Some((seed, processes)) = generated(line) {
-        return Ok(Reading::Generates { seed, processes });
+        return Ok(LineReading::Generates { seed, processes });
     }
     Ok(match said(alloc, line)? {
-        Some(line) => Reading::Says { line },
-        None => Reading::Unreadable,
+        Some(line) => LineReading::Says { line },
+        None => LineReading::Unreadable,
     })
 }

@@ -99,7 +99,7 @@ pub enum Line {
 
 /// What a line of the text is that stands by itself.
 #[derive(Debug, Drop)]
-pub enum Reading {
+pub enum LineReading {
     /// Empty, or a comment.
     PassedOver,
     /// Above the bound, whatever it says.

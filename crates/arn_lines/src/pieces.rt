@@ -1,27 +1,29 @@
 // The pieces of a line that answers, written.
-ghost use Rattle.std.specs.Prelude.{◌≡◌, ◌<◌, ◌∷◌, [], ◌++◌, List, IsTrue, OnOk, OnErr, slice_index};
+ghost use Rattle.std.specs.Prelude.{◌≡◌, ◌++◌, IsTrue, OnOk, OnErr};
 ghost use Rattle.std.specs.Prelude.{flat_map};
 ghost use Rattle.std.specs.List.{list_all};
 ghost use Rattle.std.specs.String.{string_bytes};
 ghost use Rattle.arn_lines.specs.Pieces.{LeavesFront};
 ghost use Rattle.arn_lines.specs.Printed.{IsPlain, is_plain, piece_text};
-ghost use Rattle.arn_lines.specs.Texts.{bytes_text, groups_text};
-ghost use Rattle.hex.specs.Hex.{encode_lower, lower_digits};
+ghost use Rattle.arn_lines.specs.Texts.{bytes_text, groups_text, words_text};
+ghost use Rattle.hex.specs.Hex.{encode_lower};
 
 use arn_base::NoMemory;
 use itoa::{Buffer, Integer};
 
-const DIGITS: [u8; 16] = *b"0123456789abcdef";
-
 /// A piece of a line.
 #[derive(Clone, Copy)]
-pub(crate) enum Piece<'a> {
+pub enum Piece<'a> {
+    /// As it stands.
     Text(&'a str),
+    /// In decimal.
     Number(u64),
-    /// Of such numbers.
+    /// The same of a sum of such numbers.
     Sum(u128),
     /// In hex, `-` for none.
     Bytes(&'a [u8]),
+    /// Each in 16 hex digits behind a space.
+    Words(&'a [u64]),
     /// The numbers of groups, each behind a space, ` -` for none.
     Groups(&'a [u32]),
 }
@@ -35,37 +37,39 @@ fn push_number<I: Integer>(text: &mut String, number: I) -> Result<(), NoMemory>
     Ok(text.push_str(digits.format(number))?)
 }
 
-fn push_digit(text: &mut String, value: u8) -> Result<(), NoMemory>
-    requires { value < 16 }
-    ensures ok { OnOk result
-        (string_bytes text.new ≡ string_bytes text.old ++ slice_index lower_digits value ∷ []) }
-    ensures err { OnErr result (string_bytes text.new ≡ string_bytes text.old) }
-{
-    Ok(text.push(char::from(DIGITS[usize::from(value)]))?)
-}
-
-// Appends the bytes in hex. An error leaves some of that behind the text.
+#[tactic(auto, using(crate::proofs::HexText::hex_is_plain))]
 fn push_hex(text: &mut String, bytes: &[u8]) -> Result<(), NoMemory>
     ensures ok { OnOk result
         (string_bytes text.new ≡ string_bytes text.old ++ encode_lower bytes.now) }
-    ensures front { LeavesFront (string_bytes text.old) (string_bytes text.new) }
+    ensures err { OnErr result (string_bytes text.new ≡ string_bytes text.old) }
+    ensures plain { IsPlain (encode_lower bytes.now) }
 {
-    for byte in bytes {
-        push_digit(text, byte / 16)?;
-        push_digit(text, byte % 16)?;
-    }
-    Ok(())
+    let digits = hex::encode(*text.allocator(), bytes)?;
+    Ok(text.push_str(digits.as_str())?)
 }
 
 fn push_bytes(text: &mut String, bytes: &[u8]) -> Result<(), NoMemory>
     ensures ok { OnOk result
         (string_bytes text.new ≡ string_bytes text.old ++ bytes_text bytes.now) }
-    ensures front { LeavesFront (string_bytes text.old) (string_bytes text.new) }
+    ensures err { OnErr result (string_bytes text.new ≡ string_bytes text.old) }
+    ensures plain { IsPlain (bytes_text bytes.now) }
 {
     if bytes.is_empty() {
         return Ok(text.push('-')?);
     }
     push_hex(text, bytes)
+}
+
+fn push_words(text: &mut String, words: &[u64]) -> Result<(), NoMemory>
+    ensures ok { OnOk result
+        (string_bytes text.new ≡ string_bytes text.old ++ words_text words.now) }
+    ensures front { LeavesFront (string_bytes text.old) (string_bytes text.new) }
+{
+    for word in words {
+        text.push_str(" ")?;
+        push_hex(text, &word.to_be_bytes())?;
+    }
+    Ok(())
 }
 
 fn push_groups(text: &mut String, groups: &[u32]) -> Result<(), NoMemory>
@@ -94,6 +98,7 @@ fn push_piece(text: &mut String, piece: &Piece<'_>) -> Result<(), NoMemory>
         Piece::Number(number) => push_number(text, number),
         Piece::Sum(sum) => push_number(text, sum),
         Piece::Bytes(bytes) => push_bytes(text, bytes),
+        Piece::Words(words) => push_words(text, words),
         Piece::Groups(groups) => push_groups(text, groups),
     }
 }
@@ -110,8 +115,8 @@ fn push_pieces(text: &mut String, pieces: &[Piece<'_>]) -> Result<(), NoMemory>
     Ok(())
 }
 
-// Appends the pieces of a line, each of which begins with an ASCII character.
-pub(crate) fn push_line(text: &mut String, pieces: &[Piece<'_>]) -> Result<(), NoMemory>
+/// Appends the pieces of a line, each of which begins with an ASCII character or is empty.
+pub fn push_line(text: &mut String, pieces: &[Piece<'_>]) -> Result<(), NoMemory>
     requires { IsTrue (list_all is_plain pieces.now) }
     ensures ok { OnOk result
         (string_bytes text.new ≡ string_bytes text.old ++ flat_map piece_text pieces.now) }

@@ -1,6 +1,6 @@
 use arn_base::Pair;
 use arn_lines::{
-    Aspect, Line, MOST_LINE, Question, Reading, Refusal, RunEnd, Sought, block_name, push_back,
+    Aspect, Line, LineReading, MOST_LINE, Question, Refusal, RunEnd, Sought, block_name, push_back,
     push_damaged, push_event, push_forth, push_out, push_pair, push_ran, push_refusal, read_line,
 };
 use rv64_model::Linkage;
@@ -8,13 +8,13 @@ use std::alloc::{AllocError, Global};
 use std::test::Fail;
 
 // A reading as text, with the bytes of words as lists of numbers.
-fn shown(alloc: Global, reading: &Reading) -> Result<String, AllocError> {
+fn shown(alloc: Global, reading: &LineReading) -> Result<String, AllocError> {
     match reading {
-        Reading::PassedOver => format!(in alloc; "passed over"),
-        Reading::TooLong => format!(in alloc; "too long"),
-        Reading::Unreadable => format!(in alloc; "unreadable"),
-        Reading::Says { line } => shown_line(alloc, line),
-        Reading::Generates { seed, processes } => {
+        LineReading::PassedOver => format!(in alloc; "passed over"),
+        LineReading::TooLong => format!(in alloc; "too long"),
+        LineReading::Unreadable => format!(in alloc; "unreadable"),
+        LineReading::Says { line } => shown_line(alloc, line),
+        LineReading::Generates { seed, processes } => {
             format!(in alloc; "generates {seed} {processes}")
         }
     }
@@ -321,7 +321,7 @@ fn what_is_no_question_is_unreadable(rt: HostRuntime) -> Result<(), Fail> {
     ];
     for line in cases {
         let reading = read_line(rt.alloc(), line.as_bytes())?;
-        assert!(rt; matches!(reading, Reading::Unreadable), "at {line}");
+        assert!(rt; matches!(reading, LineReading::Unreadable), "at {line}");
     }
     Ok(())
 }
@@ -361,14 +361,14 @@ fn names_have_64_bytes_at_most(rt: HostRuntime) -> Result<(), Fail> {
     assert!(rt;
         matches!(
             reading,
-            Reading::Says {
+            LineReading::Says {
                 line: Line::Boot { .. }
             }
         )
     );
     let line = format!(in rt.alloc(); "boot {longest}n")?;
     let reading = read_line(rt.alloc(), line.as_bytes())?;
-    assert!(rt; matches!(reading, Reading::Unreadable));
+    assert!(rt; matches!(reading, LineReading::Unreadable));
     Ok(())
 }
 
@@ -401,14 +401,14 @@ fn lines_have_a_mebibyte_at_most(rt: HostRuntime) -> Result<(), Fail> {
     assert!(rt;
         matches!(
             reading,
-            Reading::Says {
+            LineReading::Says {
                 line: Line::File { .. }
             }
         )
     );
     let longer = long_line(rt.alloc(), 2)?;
     let reading = read_line(rt.alloc(), longer.as_bytes())?;
-    assert!(rt; matches!(reading, Reading::TooLong));
+    assert!(rt; matches!(reading, LineReading::TooLong));
     Ok(())
 }
 
@@ -416,10 +416,10 @@ fn lines_have_a_mebibyte_at_most(rt: HostRuntime) -> Result<(), Fail> {
 fn long_nonsense_is_too_long(rt: HostRuntime) -> Result<(), Fail> {
     let longest = vec![in rt.alloc(); b' '; MOST_LINE]?;
     let reading = read_line(rt.alloc(), longest.as_slice())?;
-    assert!(rt; matches!(reading, Reading::Unreadable));
+    assert!(rt; matches!(reading, LineReading::Unreadable));
     let longer = vec![in rt.alloc(); b' '; MOST_LINE + 1]?;
     let reading = read_line(rt.alloc(), longer.as_slice())?;
-    assert!(rt; matches!(reading, Reading::TooLong));
+    assert!(rt; matches!(reading, LineReading::TooLong));
     Ok(())
 }
 
@@ -427,7 +427,7 @@ fn long_nonsense_is_too_long(rt: HostRuntime) -> Result<(), Fail> {
 fn long_comments_are_passed_over(rt: HostRuntime) -> Result<(), Fail> {
     let comment = vec![in rt.alloc(); b'#'; MOST_LINE + 1]?;
     let reading = read_line(rt.alloc(), comment.as_slice())?;
-    assert!(rt; matches!(reading, Reading::PassedOver));
+    assert!(rt; matches!(reading, LineReading::PassedOver));
     Ok(())
 }
 

@@ -6,7 +6,7 @@ use arn_base::{Failed, Numbers};
 
 /// Counts calls, from 0 on, and fails those whose numbers are listed.
 #[derive(Debug, Drop)]
-pub struct Fuse {
+pub struct CallFuse {
     pub fails: Numbers,
     pub calls: u64,
     pub faults: u64,
@@ -18,11 +18,11 @@ fn is_listed(numbers: &[u32], call: u64) -> bool
     numbers.iter().any(|number| *number as u64 == call)
 }
 
-impl Fuse {
-    pub fn new(fails: Numbers) -> Fuse
+impl CallFuse {
+    pub fn new(fails: Numbers) -> CallFuse
         ensures { result ≡ record { fails = fails; calls = 0; faults = 0 } }
     {
-        Fuse {
+        CallFuse {
             fails,
             calls: 0,
             faults: 0,

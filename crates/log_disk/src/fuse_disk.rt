@@ -5,7 +5,7 @@ ghost use Rattle.log_disk.specs.Crash.{CrashWith, durable};
 ghost use Rattle.log_disk.specs.InMemory.{fused, changed, IsListed, Counts, Makes};
 ghost use Rattle.log_disk.specs.Steps.{span, first_half, written_to, cut_to};
 
-use crate::fuse::Fuse;
+use crate::fuse::CallFuse;
 use crate::medium::Medium;
 use crate::ranges::Range;
 use arn_base::{Bytes, Disk, Failed, NoMemory, Numbers, Stop};
@@ -20,7 +20,7 @@ use std::marker::Model;
 #[derive(Drop)]
 pub struct FuseDisk {
     medium: Medium,
-    fuse: Fuse,
+    fuse: CallFuse,
 }
 
 impl Model for FuseDisk {
@@ -46,7 +46,7 @@ impl FuseDisk {
     {
         FuseDisk {
             medium: Medium::new(alloc, bytes),
-            fuse: Fuse::new(fails),
+            fuse: CallFuse::new(fails),
         }
     }
 

@@ -1,33 +1,36 @@
 // The events of a history.
-ghost use Rattle.std.specs.Prelude.{◌≡◌, ◌++◌, IfOk, OnErr, OnOk, codes, decimal};
+ghost use Rattle.std.specs.Prelude.{◌≡◌, ◌++◌, IfOk, IsTrue, OnErr, OnOk, codes, decimal};
 ghost use Rattle.std.specs.String.{string_bytes};
 ghost use Rattle.acts_model.specs.Records.{process_of};
+ghost use Rattle.arn_lines.specs.Printed.{IsPlain, is_plain, piece_text};
 ghost use Rattle.report_texts.specs.Events.{event_line, number_text, result_text, what_text};
 
 use arn_base::{NoMemory, Record};
+use arn_lines::{Piece, push_line};
 use std::alloc::Global;
 
-/// A number, or `-` where there is none.
-pub(crate) fn number(alloc: Global, number: Option<u64>) -> Result<String, NoMemory>
-    ensures { IfOk result (λ text. string_bytes text ≡ number_text number) }
+// A number, or `-` where there is none.
+pub(crate) fn number<'a>(number: Option<u64>) -> Piece<'a>
+    ensures text { piece_text result ≡ number_text number }
+    ensures plain { IsTrue (is_plain result) }
 {
     match number {
-        None => Ok(format!(in alloc; "-")?),
-        Some(number) => Ok(format!(in alloc; "{number}")?),
+        None => Piece::Text("-"),
+        Some(number) => Piece::Number(number),
     }
 }
 
 // The process of an event, if it has one.
-fn process(alloc: Global, entry: &Record) -> Result<String, NoMemory>
-    ensures { IfOk result (λ text. string_bytes text ≡ number_text (process_of entry.now)) }
+fn process(entry: &Record) -> Option<u64>
+    ensures { result ≡ process_of entry.now }
 {
     match entry {
-        Record::File { .. } | Record::Typed { .. } | Record::Unplug { .. } => number(alloc, None),
-        Record::Boot { .. } => number(alloc, Some(1)),
+        Record::File { .. } | Record::Typed { .. } | Record::Unplug { .. } => None,
+        Record::Boot { .. } => Some(1),
         Record::Slice { pid, .. }
         | Record::Signal { pid, .. }
         | Record::Call { pid, .. }
-        | Record::End { pid, .. } => number(alloc, Some(u64::from(*pid))),
+        | Record::End { pid, .. } => Some(u64::from(*pid)),
     }
 }
 
@@ -40,7 +43,8 @@ fn call(alloc: Global, number: u64, answer: u64) -> Result<String, NoMemory>
 }
 
 fn what(alloc: Global, entry: &Record) -> Result<String, NoMemory>
-    ensures { IfOk result (λ text. string_bytes text ≡ what_text entry.now) }
+    ensures text { IfOk result (λ text. string_bytes text ≡ what_text entry.now) }
+    ensures plain { IsPlain (what_text entry.now) }
 {
     match entry {
         Record::File { .. } => Ok(format!(in alloc; "file")?),
@@ -52,20 +56,6 @@ fn what(alloc: Global, entry: &Record) -> Result<String, NoMemory>
         Record::Call { number, result, .. } => call(alloc, *number, *result),
         Record::End { status, .. } => Ok(format!(in alloc; "end.{status}")?),
     }
-}
-
-fn line(
-    alloc: Global,
-    event: u64,
-    moment: u64,
-    entry: &Record,
-    len: u64,
-) -> Result<String, NoMemory>
-    ensures { IfOk result (λ line. string_bytes line ≡ event_line event moment entry.now len) }
-{
-    let process = process(alloc, entry)?;
-    let what = what(alloc, entry)?;
-    Ok(format!(in alloc; "event {event} {moment} {process} {what} {len}\n")?)
 }
 
 /// Appends `event E M P WHAT LEN`: at moment M the event E happened, by process P, with LEN bytes.
@@ -80,6 +70,22 @@ pub fn push_event_line(
         string_bytes text.old ++ event_line event moment entry.now len) }
     ensures err { OnErr result (string_bytes text.new ≡ string_bytes text.old) }
 {
-    let line = line(*text.allocator(), event, moment, entry, len)?;
-    Ok(text.push_str(line.as_str())?)
+    let process = number(process(entry));
+    let what = what(*text.allocator(), entry)?;
+    push_line(
+        text,
+        &[
+            Piece::Text("event "),
+            Piece::Number(event),
+            Piece::Text(" "),
+            Piece::Number(moment),
+            Piece::Text(" "),
+            process,
+            Piece::Text(" "),
+            Piece::Text(what.as_str()),
+            Piece::Text(" "),
+            Piece::Number(len),
+            Piece::Text("\n"),
+        ],
+    )
 }

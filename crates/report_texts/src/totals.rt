@@ -1,12 +1,13 @@
 // Processes and groups, how many there are of a kind, and whether records are a run's.
-ghost use Rattle.std.specs.Prelude.{◌≡◌, ◌++◌, IfOk, OnErr, OnOk, Some};
+ghost use Rattle.std.specs.Prelude.{◌≡◌, ◌++◌, IsTrue, OnErr, OnOk, Some};
 ghost use Rattle.std.specs.String.{string_bytes};
+ghost use Rattle.arn_lines.specs.Printed.{is_plain, piece_text};
 ghost use Rattle.report_texts.specs.Events.{number_text};
 ghost use Rattle.report_texts.specs.Totals.{events_line, group_line, groups_line, proc_line, procs_line, verify_line};
 
 use crate::events::number;
 use arn_base::{Differs, NoMemory};
-use std::alloc::Global;
+use arn_lines::{Piece, push_line};
 
 /// Appends `proc PID group G`: a process, and the group it belongs to.
 pub fn push_proc(text: &mut String, pid: u32, group: u32) -> Result<(), NoMemory>
@@ -14,8 +15,16 @@ pub fn push_proc(text: &mut String, pid: u32, group: u32) -> Result<(), NoMemory
         (string_bytes text.new ≡ string_bytes text.old ++ proc_line pid group) }
     ensures err { OnErr result (string_bytes text.new ≡ string_bytes text.old) }
 {
-    let line = format!(in *text.allocator(); "proc {pid} group {group}\n")?;
-    Ok(text.push_str(line.as_str())?)
+    push_line(
+        text,
+        &[
+            Piece::Text("proc "),
+            Piece::Number(u64::from(pid)),
+            Piece::Text(" group "),
+            Piece::Number(u64::from(group)),
+            Piece::Text("\n"),
+        ],
+    )
 }
 
 /// Appends `procs N`: how many processes there are.
@@ -23,8 +32,14 @@ pub fn push_procs(text: &mut String, count: u64) -> Result<(), NoMemory>
     ensures ok { OnOk result (string_bytes text.new ≡ string_bytes text.old ++ procs_line count) }
     ensures err { OnErr result (string_bytes text.new ≡ string_bytes text.old) }
 {
-    let line = format!(in *text.allocator(); "procs {count}\n")?;
-    Ok(text.push_str(line.as_str())?)
+    push_line(
+        text,
+        &[
+            Piece::Text("procs "),
+            Piece::Number(count),
+            Piece::Text("\n"),
+        ],
+    )
 }
 
 /// Appends `group G processes N instructions C`: how many processes a group has, and how many
@@ -39,10 +54,18 @@ pub fn push_group(
         string_bytes text.old ++ group_line group processes instructions) }
     ensures err { OnErr result (string_bytes text.new ≡ string_bytes text.old) }
 {
-    let line = format!(in *text.allocator();
-        "group {group} processes {processes} instructions {instructions}\n"
-    )?;
-    Ok(text.push_str(line.as_str())?)
+    push_line(
+        text,
+        &[
+            Piece::Text("group "),
+            Piece::Number(u64::from(group)),
+            Piece::Text(" processes "),
+            Piece::Number(processes),
+            Piece::Text(" instructions "),
+            Piece::Number(instructions),
+            Piece::Text("\n"),
+        ],
+    )
 }
 
 /// Appends `groups N`: how many groups there are.
@@ -50,8 +73,14 @@ pub fn push_groups(text: &mut String, count: u64) -> Result<(), NoMemory>
     ensures ok { OnOk result (string_bytes text.new ≡ string_bytes text.old ++ groups_line count) }
     ensures err { OnErr result (string_bytes text.new ≡ string_bytes text.old) }
 {
-    let line = format!(in *text.allocator(); "groups {count}\n")?;
-    Ok(text.push_str(line.as_str())?)
+    push_line(
+        text,
+        &[
+            Piece::Text("groups "),
+            Piece::Number(count),
+            Piece::Text("\n"),
+        ],
+    )
 }
 
 /// Appends `events N`: how many events there are.
@@ -59,40 +88,47 @@ pub fn push_events(text: &mut String, count: u64) -> Result<(), NoMemory>
     ensures ok { OnOk result (string_bytes text.new ≡ string_bytes text.old ++ events_line count) }
     ensures err { OnErr result (string_bytes text.new ≡ string_bytes text.old) }
 {
-    let line = format!(in *text.allocator(); "events {count}\n")?;
-    Ok(text.push_str(line.as_str())?)
+    push_line(
+        text,
+        &[
+            Piece::Text("events "),
+            Piece::Number(count),
+            Piece::Text("\n"),
+        ],
+    )
 }
 
-fn byte(alloc: Global, byte: Option<u8>) -> Result<String, NoMemory>
-    ensures { IfOk result (λ text. string_bytes text ≡ number_text byte) }
+fn byte<'a>(byte: Option<u8>) -> Piece<'a>
+    ensures text { piece_text result ≡ number_text byte }
+    ensures plain { IsTrue (is_plain result) }
 {
     match byte {
-        None => number(alloc, None),
-        Some(byte) => number(alloc, Some(u64::from(byte))),
+        None => number(None),
+        Some(byte) => number(Some(u64::from(byte))),
     }
 }
 
-fn differs_line(alloc: Global, differs: &Differs) -> Result<String, NoMemory>
-    ensures { IfOk result (λ line. string_bytes line ≡ verify_line (Some differs.now)) }
+fn push_differs(text: &mut String, differs: &Differs) -> Result<(), NoMemory>
+    ensures ok { OnOk result
+        (string_bytes text.new ≡ string_bytes text.old ++ verify_line (Some differs.now)) }
+    ensures err { OnErr result (string_bytes text.new ≡ string_bytes text.old) }
 {
-    let Differs {
-        place,
-        at,
-        said,
-        found,
-    } = *differs;
-    let said = byte(alloc, said)?;
-    let found = byte(alloc, found)?;
-    Ok(format!(in alloc; "verify differs {place} {at} {said} {found}\n")?)
-}
-
-fn verify(alloc: Global, differs: Option<Differs>) -> Result<String, NoMemory>
-    ensures { IfOk result (λ line. string_bytes line ≡ verify_line differs) }
-{
-    match differs {
-        None => Ok(format!(in alloc; "verify run\n")?),
-        Some(differs) => differs_line(alloc, &differs),
-    }
+    let said = byte(differs.said);
+    let found = byte(differs.found);
+    push_line(
+        text,
+        &[
+            Piece::Text("verify differs "),
+            Piece::Number(differs.place),
+            Piece::Text(" "),
+            Piece::Number(differs.at),
+            Piece::Text(" "),
+            said,
+            Piece::Text(" "),
+            found,
+            Piece::Text("\n"),
+        ],
+    )
 }
 
 /// Appends `verify run`, or, where records differ from those of a run, `verify differs R AT SAID FOUND`.
@@ -101,6 +137,8 @@ pub fn push_verify(text: &mut String, differs: Option<Differs>) -> Result<(), No
         (string_bytes text.new ≡ string_bytes text.old ++ verify_line differs) }
     ensures err { OnErr result (string_bytes text.new ≡ string_bytes text.old) }
 {
-    let line = verify(*text.allocator(), differs)?;
-    Ok(text.push_str(line.as_str())?)
+    match differs {
+        None => Ok(text.push_str("verify run\n")?),
+        Some(differs) => push_differs(text, &differs),
+    }
 }
