@@ -18,13 +18,16 @@ impl Extent {
     /// The place of a range among the window's bytes.
     #[inline(always)]
     fn place(self, at: u64, len: u64) -> Result<usize, BadAddress>
+        requires { self.from + self.len < 2 ^ 64 }
         ensures whole { IsOk result ↔ ((self.from ≤ at) × (at + len ≤ self.from + self.len)) }
         ensures place { IfOk result (λ place. at ≡ self.from + place) }
     {
-        if at < self.from || len > self.len || at - self.from > self.len - len {
+        // An address before the window lies far behind it.
+        let place = at.wrapping_sub(self.from);
+        if len > self.len || place > self.len - len {
             return Err(BadAddress);
         }
-        Ok((at - self.from) as usize)
+        Ok(place as usize)
     }
 
     /// The number at an address.
@@ -32,6 +35,7 @@ impl Extent {
     pub fn load(self, bytes: &[u8], at: u64, len: u8) -> Result<u64, BadAddress>
         requires length { IsAccessLength len }
         requires extent { length bytes.now ≡ self.len }
+        requires within { self.from + self.len < 2 ^ 64 }
         ensures number { result_ok result ≡ number_at (one_window self.from bytes.now) at len }
         ensures fits { IfOk result (λ number. number < 2 ^ (8 * len)) }
     {
@@ -44,6 +48,7 @@ impl Extent {
     pub fn store(self, bytes: &mut [u8], at: u64, len: u8, value: u64) -> Result<(), BadAddress>
         requires length { IsAccessLength len }
         requires extent { length bytes.old ≡ self.len }
+        requires within { self.from + self.len < 2 ^ 64 }
         ensures ok { OnOk result (one_window self.from bytes.new ≡
             with_bytes (one_window self.from bytes.old) at (bytes_of len value)) }
         ensures whole { IsOk result ↔ IsSome (bytes_at (one_window self.from bytes.old) at len) }
@@ -56,7 +61,8 @@ impl Extent {
 
     /// The bytes of a range.
     pub fn slice(self, bytes: &[u8], at: u64, len: u64) -> Result<&[u8], BadAddress>
-        requires { length bytes.now ≡ self.len }
+        requires extent { length bytes.now ≡ self.len }
+        requires within { self.from + self.len < 2 ^ 64 }
         ensures { option_copied (result_ok result) ≡ bytes_at (one_window self.from bytes.now) at len }
     {
         let place = self.place(at, len)?;
@@ -65,7 +71,8 @@ impl Extent {
 
     /// Writes bytes at an address.
     pub fn write_from(self, bytes: &mut [u8], at: u64, new: &[u8]) -> Result<(), BadAddress>
-        requires { length bytes.old ≡ self.len }
+        requires extent { length bytes.old ≡ self.len }
+        requires within { self.from + self.len < 2 ^ 64 }
         ensures ok { OnOk result (one_window self.from bytes.new ≡
             with_bytes (one_window self.from bytes.old) at new.now) }
         ensures whole { IsOk result ↔ IsSome (bytes_at (one_window self.from bytes.old) at (length new.now)) }

@@ -7,7 +7,7 @@ use std::marker::Model;
 /// x0 always reads as 0, and what is written to it is lost.
 #[derive(Clone, Copy, Debug, PartialEq, Eq)]
 pub struct Reg {
-    number: u8,
+    number: u32,
 }
 
 impl Model for Reg {
@@ -29,7 +29,9 @@ impl Reg {
         ensures number { IfSome result (λ reg. reg ≡ n) }
     {
         if n < 32 {
-            Some(Reg { number: n })
+            Some(Reg {
+                number: u32::from(n),
+            })
         } else {
             None
         }
@@ -41,9 +43,7 @@ impl Reg {
         requires { field < 32 }
         ensures { result ≡ field }
     {
-        Reg {
-            number: field as u8,
-        }
+        Reg { number: field }
     }
 
     /// From 0 to 31.
@@ -52,6 +52,6 @@ impl Reg {
         ensures number { result ≡ self.now }
         ensures below { result < 32 }
     {
-        self.number
+        self.number as u8
     }
 }
