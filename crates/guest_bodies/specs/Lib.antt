@@ -1,4 +1,7 @@
 pub mod Follows
 pub mod Fresh
+pub mod HeldTold
 pub mod Kept
+pub mod Running
 pub mod Shown
+pub mod Told

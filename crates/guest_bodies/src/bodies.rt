@@ -8,20 +8,23 @@ ghost use Rattle.parts_model.specs.Numbered.{nth};
 ghost use Rattle.parts_model.specs.Signals.{can_set, due_signal, handler_of, is_signal, with_handler, with_pending, without};
 ghost use Rattle.acts_model.specs.Views.{bytes_in, stands_at};
 ghost use Rattle.rv64_core.specs.Outcome.{OnStop};
-ghost use Rattle.rv64_core.specs.Prospect.{Foretells, TakesEffect};
-ghost use Rattle.guest_bodies.specs.Follows.{Executed, Follows, KeepsWatches, Ran, Rewatches, SetsWatch, IsResult, IsEnd};
+ghost use Rattle.rv64_core.specs.Prospect.{Foretells};
+ghost use Rattle.guest_bodies.specs.Follows.{Follows, KeepsWatches, Ran, Rewatches, SetsWatch, IsResult, IsEnd};
+ghost use Rattle.guest_bodies.specs.Running.{RanMany, StopsAt, stop_count};
 ghost use Rattle.guest_bodies.specs.Shown.{IsFresh, IsInside, IsLive, fresh_watch, inherited, restarted, seen_in, signals_in, watch_in};
+ghost use Rattle.guest_bodies.specs.Told.{IsStop, ToldMany};
 
 use crate::guest::{Guest, Shared, begin, boot};
-use crate::held;
+use crate::running::Stood;
 use crate::starting::First;
 use crate::table::{fork, make_room};
 use crate::windows::window_of;
+use crate::{held, told};
+use acts_model::Observer;
 use arn_base::{Blocks, Cpu, NoMemory, Start, Steps};
 use guest_mem::Segment;
 use parts_model::limits::MOST_BLOCK_BYTES;
 use rv64_core::{Outcome, Prospect};
-use rv64_isa::Instr;
 use std::alloc::Global;
 use std::marker::Model;
 use std::sync::ledger::Ledger;
@@ -87,31 +90,61 @@ impl Bodies {
         }
     }
 
-    /// Says what the instruction at which a process stands would come to, and counts it whatever that
-    /// is. It is one call of `rv64_core::next_instr` on the process's registers and memories.
-    #[inline(always)]
-    pub fn next_instr<L: Ledger>(&mut self, pid: u32, steps: &mut Steps<L>) -> Prospect
+    /// Runs up to so many instructions of a process, as long as the next one follows, and counts them.
+    /// A call or an end at which it stops is counted too.
+    pub fn run<L: Ledger>(&mut self, pid: u32, count: u32, steps: &mut Steps<L>) -> Stood
         requires live { IsLive self.old pid }
-        ensures tick { steps.new ≡ steps.old + 1 }
-        ensures foretells { IfSome (seen_in self.old pid) (λ v. Foretells result (stands_at v)) }
-        ensures same { self.new ≡ self.old }
+        ensures tick { steps.new ≡ steps.old + result.ran + stop_count result.outcome }
+        ensures ran { RanMany result.ran pid self.old self.new }
+        ensures stops { IfSome (seen_in self.new pid) (λ v.
+            StopsAt result.outcome result.ran count (stands_at v)) }
+        ensures watches { KeepsWatches self.old self.new }
+        ensures live { IsLive self.new pid }
     {
         match &mut self.guests[pid as usize] {
-            Some(guest) => held::next_instr(guest, &mut self.segments, steps),
+            Some(guest) => held::run(guest, &mut self.segments, count, steps),
             None => unreachable!(),
         }
     }
 
-    /// Executes the instruction that `next_instr` gave. It isn't counted.
-    #[inline(always)]
-    pub fn execute(&mut self, pid: u32, instr: &Instr)
+    /// Says what the instruction at which a process stands would come to, and counts it whatever that
+    /// is. It is one call of `rv64_core::next_instr` on the process's registers and memories.
+    pub fn next_instr<L: Ledger>(&mut self, pid: u32, steps: &mut Steps<L>) -> Prospect
         requires live { IsLive self.old pid }
-        requires next { IfSome (seen_in self.old pid) (λ v. TakesEffect instr.now (stands_at v)) }
-        ensures executed { Executed instr.now pid self.old self.new }
+        ensures tick { steps.new ≡ steps.old + 1 }
+        ensures foretells { IfSome (seen_in self.old pid) (λ v.
+            Foretells result v.body.cpu (stands_at v)) }
+        ensures same { self.new ≡ self.old }
+    {
+        match &mut self.guests[pid as usize] {
+            Some(guest) => held::next_lent(guest, &mut self.segments, steps),
+            None => unreachable!(),
+        }
+    }
+
+    /// Runs so many instructions of a process, or fewer where it comes to a call or to its end, and
+    /// says how many. The observer is told of each, with the registers before it. The one at which the
+    /// process stops is counted too. Where the observer fails, what ran before stays run.
+    pub fn run_told<O: Observer, L: Ledger>(
+        &mut self,
+        pid: u32,
+        count: u32,
+        observer: &mut O,
+        steps: &mut Steps<L>,
+    ) -> Result<u32, NoMemory>
+        requires live { IsLive self.old pid }
+        ensures told { IfOk result (λ ran.
+            ToldMany O.runs pid ran self.old self.new observer.old observer.new) }
+        ensures within { IfOk result (λ ran. ran ≤ count) }
+        ensures stops { IfOk result (λ ran. ran < count →
+            IfSome (seen_in self.new pid) (λ v. IsStop (stands_at v))) }
+        ensures counted { IfOk result (λ ran. ran ≡ count → steps.new ≡ steps.old + ran) }
+        ensures stopped { IfOk result (λ ran. ran < count → steps.new ≡ steps.old + ran + 1) }
+        ensures bounded { steps.new ≤ steps.old + count }
         ensures watches { KeepsWatches self.old self.new }
     {
         match &mut self.guests[pid as usize] {
-            Some(guest) => held::execute(guest, &mut self.segments, instr),
+            Some(guest) => told::run_told(guest, &mut self.segments, pid, count, observer, steps),
             None => unreachable!(),
         }
     }

@@ -2,16 +2,17 @@
 ghost use Rattle.std.specs.Prelude.{◌≡◌, ◌≢◌, ◌≤◌, ◌+◌, IfOk, None, length, option_copied};
 ghost use Rattle.acts_model.specs.Views.{bytes_in, reach, read, stands_at, written};
 ghost use Rattle.guest_bodies.specs.Kept.{IfHeld, IfKey, held_bytes, lent, view_of, with_held, with_key};
+ghost use Rattle.guest_bodies.specs.Running.{MovesMany, StopsAt, stop_count};
 ghost use Rattle.parts_model.specs.Blocks.{blocks_of};
 ghost use Rattle.rv64_core.specs.Outcome.{Tells, OnStop};
-ghost use Rattle.rv64_core.specs.Prospect.{Foretells, TakesEffect};
+ghost use Rattle.rv64_core.specs.Prospect.{Foretells, IsPlanned};
 ghost use Rattle.rv64_model.specs.Instruction.{Next};
 
 use crate::guest::Guest;
+use crate::running::{self, Stood};
 use arn_base::{Blocks, NoMemory, Steps};
 use guest_mem::Segment;
-use rv64_core::{Outcome, Prospect};
-use rv64_isa::Instr;
+use rv64_core::{Outcome, Planned, Prospect};
 use std::alloc::Global;
 use std::sync::ledger::Ledger;
 
@@ -96,15 +97,59 @@ pub fn step<L: Ledger>(
     }
 }
 
-// The same, with the segment that the process may hold brought to it.
-fn next_lent<L: Ledger>(
+// The same as `run`, with the segment that the process may hold brought to it once.
+fn run_lent<L: Ledger>(
+    guest: &mut Guest,
+    segments: &mut Vec<Option<Segment>>,
+    count: u32,
+    steps: &mut Steps<L>,
+) -> Stood
+    requires { IfHeld guest.old.segment segments.old.items }
+    ensures tick { steps.new ≡ steps.old + result.ran + stop_count result.outcome }
+    ensures many { MovesMany result.ran
+        guest.old segments.old.items guest.new segments.new.items }
+    ensures stops { StopsAt result.outcome result.ran count
+        (stands_at (view_of segments.new.items guest.new)) }
+{
+    lend(guest, segments);
+    let stood = running::run(&mut guest.cpu, &mut guest.memory, count, steps);
+    take_back(guest, segments);
+    stood
+}
+
+/// Runs up to so many instructions of a process that the next one follows, and counts them.
+#[inline]
+pub fn run<L: Ledger>(
+    guest: &mut Guest,
+    segments: &mut Vec<Option<Segment>>,
+    count: u32,
+    steps: &mut Steps<L>,
+) -> Stood
+    requires { IfHeld guest.old.segment segments.old.items }
+    ensures tick { steps.new ≡ steps.old + result.ran + stop_count result.outcome }
+    ensures many { MovesMany result.ran
+        guest.old segments.old.items guest.new segments.new.items }
+    ensures stops { StopsAt result.outcome result.ran count
+        (stands_at (view_of segments.new.items guest.new)) }
+{
+    match guest.segment {
+        Some(_) => run_lent(guest, segments, count, steps),
+        None => running::run(&mut guest.cpu, &mut guest.memory.space, count, steps),
+    }
+}
+
+/// Says what the instruction at which the process stands would come to, and counts it. The segment that
+/// the process may hold is brought to it.
+#[inline(never)]
+pub fn next_lent<L: Ledger>(
     guest: &mut Guest,
     segments: &mut Vec<Option<Segment>>,
     steps: &mut Steps<L>,
 ) -> Prospect
     requires { IfHeld guest.old.segment segments.old.items }
     ensures tick { steps.new ≡ steps.old + 1 }
-    ensures effect { Foretells result (stands_at (view_of segments.old.items guest.old)) }
+    ensures effect { Foretells result guest.old.cpu
+        (stands_at (view_of segments.old.items guest.old)) }
     ensures guest { guest.new ≡ record guest.old { memory = guest.new.memory } }
     ensures same { view_of segments.new.items guest.new ≡ view_of segments.old.items guest.old }
     ensures table { segments.new.items ≡ segments.old.items }
@@ -115,60 +160,44 @@ fn next_lent<L: Ledger>(
     prospect
 }
 
-/// Says what the instruction at which the process stands would come to, and counts it.
-#[inline(always)]
-pub fn next_instr<L: Ledger>(
-    guest: &mut Guest,
-    segments: &mut Vec<Option<Segment>>,
-    steps: &mut Steps<L>,
-) -> Prospect
-    requires { IfHeld guest.old.segment segments.old.items }
-    ensures tick { steps.new ≡ steps.old + 1 }
-    ensures effect { Foretells result (stands_at (view_of segments.old.items guest.old)) }
-    ensures guest { guest.new ≡ record guest.old { memory = guest.new.memory } }
-    ensures same { view_of segments.new.items guest.new ≡ view_of segments.old.items guest.old }
-    ensures table { segments.new.items ≡ segments.old.items }
-{
-    match guest.segment {
-        Some(_) => next_lent(guest, segments, steps),
-        None => rv64_core::next_instr(&guest.cpu, &guest.memory.space, steps),
-    }
-}
-
-// The same, with the segment that the process may hold brought to it.
-fn execute_lent(guest: &mut Guest, segments: &mut Vec<Option<Segment>>, instr: &Instr)
+// The same, with the segment that the process may hold brought to it. The instruction comes by value,
+// so that the caller may keep its own in registers.
+#[inline(never)]
+fn execute_lent(guest: &mut Guest, segments: &mut Vec<Option<Segment>>, planned: Planned)
     requires held { IfHeld guest.old.segment segments.old.items }
-    requires next { TakesEffect instr.now (stands_at (view_of segments.old.items guest.old)) }
+    requires next { IsPlanned planned guest.old.cpu
+        (stands_at (view_of segments.old.items guest.old)) }
     ensures effect { stands_at (view_of segments.old.items guest.old) ≡
-        Next instr.now guest.new.cpu (reach (view_of segments.new.items guest.new)) }
+        Next planned.instr guest.new.cpu (reach (view_of segments.new.items guest.new)) }
     ensures guest { guest.new ≡
         record guest.old { cpu = guest.new.cpu; memory = guest.new.memory } }
     ensures segments { segments.new.items ≡ with_held guest.old.segment
         (held_bytes segments.new.items guest.old.segment) segments.old.items }
 {
     lend(guest, segments);
-    let Ok(()) = rv64_core::execute(instr, &mut guest.cpu, &mut guest.memory) else {
+    let Ok(()) = rv64_core::execute(&planned, &mut guest.cpu, &mut guest.memory) else {
         unreachable!()
     };
     take_back(guest, segments);
 }
 
-/// Executes the instruction that `next_instr` gave.
+/// Executes the instruction that `next_instr` planned.
 #[inline(always)]
-pub fn execute(guest: &mut Guest, segments: &mut Vec<Option<Segment>>, instr: &Instr)
+pub fn execute(guest: &mut Guest, segments: &mut Vec<Option<Segment>>, planned: &Planned)
     requires held { IfHeld guest.old.segment segments.old.items }
-    requires next { TakesEffect instr.now (stands_at (view_of segments.old.items guest.old)) }
+    requires next { IsPlanned planned.now guest.old.cpu
+        (stands_at (view_of segments.old.items guest.old)) }
     ensures effect { stands_at (view_of segments.old.items guest.old) ≡
-        Next instr.now guest.new.cpu (reach (view_of segments.new.items guest.new)) }
+        Next planned.now.instr guest.new.cpu (reach (view_of segments.new.items guest.new)) }
     ensures guest { guest.new ≡
         record guest.old { cpu = guest.new.cpu; memory = guest.new.memory } }
     ensures segments { segments.new.items ≡ with_held guest.old.segment
         (held_bytes segments.new.items guest.old.segment) segments.old.items }
 {
     if guest.segment.is_some() {
-        return execute_lent(guest, segments, instr);
+        return execute_lent(guest, segments, *planned);
     }
-    let Ok(()) = rv64_core::execute(instr, &mut guest.cpu, &mut guest.memory.space) else {
+    let Ok(()) = rv64_core::execute(planned, &mut guest.cpu, &mut guest.memory.space) else {
         unreachable!()
     };
 }

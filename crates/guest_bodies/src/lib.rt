@@ -10,11 +10,14 @@ mod held;
 mod law;
 mod reach;
 mod registers;
+mod running;
 mod starting;
 mod table;
 #[cfg(test)]
 mod tests;
+mod told;
 mod windows;
 
 pub use bodies::Bodies;
 pub use law::{later_is_fresh, others_stay_unheld};
+pub use running::Stood;

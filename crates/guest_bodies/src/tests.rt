@@ -4,8 +4,10 @@ ghost use Rattle.parts_model.specs.Numbered.{nth};
 ghost use Rattle.guest_bodies.specs.Shown.{IsFresh, IsLive};
 
 use super::*;
-use arn_base::{Block, Blocks, Cpu, NoMemory, Start, Steps};
+use acts_model::Observer;
+use arn_base::{Block, Blocks, Cpu, NoMemory, Record, Start, Steps};
 use rv64_core::{Outcome, Prospect};
+use rv64_isa::Instr;
 use std::alloc::Global;
 use std::marker::Brand;
 use std::sync::ledger::{Blank, Ledger};
@@ -63,24 +65,77 @@ fn step_once(bodies: &mut Bodies) -> Outcome
     step_counted::<Brand>(bodies, Blank::new(1))
 }
 
-fn look_counted<L: Ledger>(bodies: &mut Bodies, blank: Blank) -> bool
+fn stood_counted<L: Ledger>(bodies: &mut Bodies, count: u32, blank: Blank) -> Stood
     requires live { IsLive bodies.old 1 }
     requires name { blank.name ≡ L.name }
     requires parts { blank.parts ≡ L.parts }
     requires some { 0 < blank.parts }
 {
     let mut steps = Steps::<L>::new(blank);
-    match bodies.next_instr(1, &mut steps) {
-        Prospect::Next(instr) => {
-            bodies.execute(1, &instr);
-            true
-        }
-        Prospect::Call | Prospect::End(_) => false,
+    bodies.run(1, count, &mut steps)
+}
+
+fn run_some(bodies: &mut Bodies, count: u32) -> Stood
+    requires { IsLive bodies.old 1 }
+{
+    stood_counted::<Brand>(bodies, count, Blank::new(1))
+}
+
+// Is told all, and keeps nothing.
+#[derive(Drop)]
+struct Silent;
+
+impl Observer for Silent {
+    ghost use Rattle.std.specs.Prelude.{⊤};
+
+    ghost begins = { λ _ _ _ _ _. ⊤ };
+
+    ghost runs = { λ _ _ _ _ _. ⊤ };
+
+    ghost hears = { λ _ _ _ _ _. ⊤ };
+
+    fn begin(&mut self, _: u32, _: u64, _: Option<u32>) -> Result<(), NoMemory> {
+        Ok(())
+    }
+
+    fn instruction(&mut self, _: u32, _: &Instr, _: &Cpu) -> Result<(), NoMemory> {
+        Ok(())
+    }
+
+    fn happened(&mut self, _: u64, _: &Record, _: &Cpu) -> Result<(), NoMemory> {
+        Ok(())
     }
 }
 
-// Executes the instruction at which process 1 stands, if the next one follows it.
-fn go_on(bodies: &mut Bodies) -> bool
+fn run_counted<L: Ledger>(bodies: &mut Bodies, count: u32, blank: Blank) -> Result<u32, NoMemory>
+    requires live { IsLive bodies.old 1 }
+    requires name { blank.name ≡ L.name }
+    requires parts { blank.parts ≡ L.parts }
+    requires some { 0 < blank.parts }
+{
+    let mut steps = Steps::<L>::new(blank);
+    bodies.run_told(1, count, &mut Silent, &mut steps)
+}
+
+// Runs so many instructions of process 1, if the next one follows each.
+fn go_on(bodies: &mut Bodies, count: u32) -> Result<u32, NoMemory>
+    requires { IsLive bodies.old 1 }
+{
+    run_counted::<Brand>(bodies, count, Blank::new(1))
+}
+
+fn look_counted<L: Ledger>(bodies: &mut Bodies, blank: Blank) -> Prospect
+    requires live { IsLive bodies.old 1 }
+    requires name { blank.name ≡ L.name }
+    requires parts { blank.parts ≡ L.parts }
+    requires some { 0 < blank.parts }
+{
+    let mut steps = Steps::<L>::new(blank);
+    bodies.next_instr(1, &mut steps)
+}
+
+// What the instruction at which process 1 stands would come to.
+fn look_ahead(bodies: &mut Bodies) -> Prospect
     requires { IsLive bodies.old 1 }
 {
     look_counted::<Brand>(bodies, Blank::new(1))
@@ -116,14 +171,50 @@ fn a_process_runs_to_its_call_and_receives(rt: HostRuntime) -> Result<(), Fail> 
 }
 
 #[test]
-fn a_look_ahead_gives_what_is_executed(rt: HostRuntime) -> Result<(), Fail> {
+fn a_process_runs_until_its_call(rt: HostRuntime) -> Result<(), Fail> {
     let mut bodies = begun(rt.alloc())?;
-    assert!(rt; go_on(&mut bodies));
+    let first = run_some(&mut bodies, 1);
+    assert_eq!(rt; first.ran, 1);
+    assert_eq!(rt; first.outcome, Outcome::Next);
     assert!(rt; bodies.is_live(1));
     assert_eq!(rt; bodies.cpu(1).x[4], 7);
-    assert!(rt; !go_on(&mut bodies));
+    let second = run_some(&mut bodies, 5);
+    assert_eq!(rt; second.ran, 0);
+    assert_eq!(rt; second.outcome, Outcome::Call);
     assert!(rt; bodies.is_live(1));
     assert_eq!(rt; bodies.cpu(1).pc, 0x1_0004);
+    Ok(())
+}
+
+#[test]
+fn a_process_with_a_segment_runs_until_its_call(rt: HostRuntime) -> Result<(), Fail> {
+    let mut bodies = begun(rt.alloc())?;
+    bodies.shares(1, 1)?;
+    assert!(rt; bodies.is_live(1));
+    bodies.delivers(1, 5, 0x1_0000, false);
+    assert!(rt; bodies.is_live(1));
+    let stood = run_some(&mut bodies, 5);
+    assert_eq!(rt; stood.ran, 1);
+    assert_eq!(rt; stood.outcome, Outcome::Call);
+    assert!(rt; bodies.is_live(1));
+    assert_eq!(rt; bodies.cpu(1).x[4], 7);
+    assert!(rt; has(&bodies, 1, 0x8000_0000, &[0, 0]));
+    Ok(())
+}
+
+#[test]
+fn a_process_runs_until_it_stops(rt: HostRuntime) -> Result<(), Fail> {
+    let mut bodies = begun(rt.alloc())?;
+    assert!(rt; matches!(look_ahead(&mut bodies), Prospect::Next(_)));
+    assert!(rt; bodies.is_live(1));
+    assert_eq!(rt; go_on(&mut bodies, 3)?, 1);
+    assert!(rt; bodies.is_live(1));
+    assert_eq!(rt; bodies.cpu(1).x[4], 7);
+    assert_eq!(rt; go_on(&mut bodies, 3)?, 0);
+    assert!(rt; bodies.is_live(1));
+    assert_eq!(rt; bodies.cpu(1).pc, 0x1_0004);
+    assert_eq!(rt; look_ahead(&mut bodies), Prospect::Call);
+    assert!(rt; bodies.is_live(1));
     assert!(rt; !bodies.is_in_handler(1));
     Ok(())
 }

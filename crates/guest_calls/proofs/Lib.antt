@@ -6,6 +6,7 @@ pub mod Ends
 pub mod Numbers
 pub mod Room
 pub mod Carries
+pub mod Many
 pub mod NewChannels
 pub mod Filed
 pub mod Piped

@@ -5,6 +5,7 @@ pub mod Kept
 pub mod Acted
 pub mod Steps
 pub mod Fits
+pub mod Running
 pub mod Starts
 pub mod Forks
 pub mod Channels

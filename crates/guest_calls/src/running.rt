@@ -5,14 +5,16 @@ ghost use Rattle.acts_model.specs.Views.{stands_at};
 ghost use Rattle.rv64_model.specs.Instruction.{Call};
 ghost use Rattle.arn_model.specs.Step.{delivery_step, fault_step};
 ghost use Rattle.arn_model.specs.Turn.{can_go_on};
+ghost use Rattle.guest_bodies.specs.Running.{StopsAt, stop_count};
 ghost use Rattle.guest_bodies.specs.Shown.{IsLive, seen_in};
+ghost use Rattle.guest_calls.specs.Running.{SteppedMany};
 ghost use Rattle.guest_calls.specs.State.{IsNext, OfProcess, StandsFor};
 ghost use Rattle.guest_calls.specs.Steps.{DeliveredBy, Stepped};
 
 use crate::kernel::Kernel;
 use crate::outcomes::Delivered;
 use arn_base::Steps;
-use guest_bodies::others_stay_unheld;
+use guest_bodies::{Stood, others_stay_unheld};
 use rv64_core::Outcome;
 use std::sync::ledger::Ledger;
 
@@ -43,6 +45,20 @@ impl Kernel {
     {
         others_stay_unheld();
         self.bodies.step(pid, steps)
+    }
+
+    /// Runs up to so many instructions of a process, as long as the next one follows, and counts them.
+    /// A call or an end at which it stops is counted too.
+    pub fn run<L: Ledger>(&mut self, pid: u32, count: u32, steps: &mut Steps<L>) -> Stood
+        requires live { IsLive self.old.guests pid }
+        ensures tick { steps.new ≡ steps.old + result.ran + stop_count result.outcome }
+        ensures stepped { SteppedMany result.ran pid self.old self.new }
+        ensures stops { IfSome (seen_in self.new.guests pid) (λ v.
+            StopsAt result.outcome result.ran count (stands_at v)) }
+        ensures alive { IsLive self.new.guests pid }
+    {
+        others_stay_unheld();
+        self.bodies.run(pid, count, steps)
     }
 
     /// Delivers the due signal of a process, if there is one.

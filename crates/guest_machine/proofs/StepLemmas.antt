@@ -16,7 +16,10 @@ use Rattle.arn_model.specs.Step.{Step, call_step, delivery_step, delivery_of, du
 use Rattle.arn_model.specs.Turn.{after_first, after_steps, delivery_in, last_in, plain_in, plains, steps_then}
 use Rattle.log_model.specs.Records.{event_records}
 use Rattle.guest_devices.specs.Answers.{Asked}
+use Rattle.guest_bodies.specs.Running as running
 use Rattle.guest_bodies.specs.Shown.{IsLive, seen_in}
+use Rattle.guest_bodies.specs.declared.running.Stood.{Stood}
+use Rattle.guest_calls.specs.Running.{SteppedMany}
 use Rattle.guest_calls.specs.State.{OfProcess, State, StandsFor}
 use Rattle.guest_calls.specs.Steps.{DeliveredBy, Performed, RepliesTo, Stepped}
 use Rattle.guest_calls.specs.declared.outcomes.Done.{Done}
@@ -173,9 +176,6 @@ RanPlain-stops m pid n ran v o old new so_far within is other stepped =
       stops = subst (λ (steps : List Step). StopsAt o ran n (after_steps m steps) pid) (sym all) (stops.stops ran n within);
     }
 
-pub stopped-same : (m : Machine) (pid : ℕ) (v : View) (o : Outcome) (old new : State) → seen m.bodies pid ≡ Some v → o ≢ outcome.Next → Stepped o m pid v (stands_at v) old new → new ≡ old
-stopped-same m pid v o old new is other stepped = (stops-effect m pid v (stands_at v) o old new is refl other stepped).same
-
 pub RanPlain-all : (m : Machine) (pid n : ℕ) (s : State) → AfterPlain m pid n s → RanPlain m pid n (record { ran = n; outcome = outcome.Next }) s
 RanPlain-all m pid n s so_far = record { many = so_far.many; stands = so_far.stands; stops = refl }
 
@@ -305,43 +305,97 @@ end-happens answers asked old new pid status at ended m stands =
     Happens-ended answers asked m pid status here.view new here.sees here.is (ended m here.view stands here.sees)
 
 -- instructions of a process so far
-pub record RunSoFar (old : State) (pid n : ℕ) (steps0 : ℕ) (new : State) (steps : ℕ) : Type 0 where
+pub record RunSoFar (old : State) (pid n : ℕ) (new : State) : Type 0 where
   pub live : IsLive new.guests pid
   pub real : IsReal new
   pub ran : OfEach old (λ m. AfterPlain m pid n new)
   pub events : new.events ≡ old.events
-  pub ticks : steps ≡ steps0 + n
 
-pub RunSoFar-none : (old : State) (pid steps : ℕ) → IsLive old.guests pid → IsReal old → RunSoFar old pid 0 steps old steps
-RunSoFar-none old pid steps live real = record { live = live; real = real; ran = λ m stands. AfterPlain-none m pid old stands; events = refl; ticks = omega arith }
+pub RunSoFar-none : (old : State) (pid : ℕ) → IsLive old.guests pid → IsReal old → RunSoFar old pid 0 old
+RunSoFar-none old pid live real = record { live = live; real = real; ran = λ m stands. AfterPlain-none m pid old stands; events = refl }
 
-pub RunSoFar-more : (old : State) (pid ran steps0 : ℕ) (s new : State) (steps steps' : ℕ) (o : Outcome) → RunSoFar old pid ran steps0 s steps → o ≡ outcome.Next → OfProcess s pid (λ m v. Stepped o m pid v (stands_at v) s new) → IsLive new.guests pid → steps' ≡ steps + 1 → RunSoFar old pid (ran + 1) steps0 new steps'
-RunSoFar-more old pid ran steps0 s new steps steps' o p next stepped live tick =
+pub RunSoFar-more : (old : State) (pid ran : ℕ) (s new : State) → RunSoFar old pid ran s → OfProcess s pid (λ m v. Stepped outcome.Next m pid v (stands_at v) s new) → IsLive new.guests pid → RunSoFar old pid (suc ran) new
+RunSoFar-more old pid ran s new p stepped live =
     let m0 = p.real.machine in
     let v0 = sees s m0 pid p.real.stands p.live in
-    let real = plain-real m0 pid v0.0 o s new p.real.stands v0.1 next (stepped m0 v0.0 p.real.stands v0.1) in
+    let real = plain-real m0 pid v0.0 outcome.Next s new p.real.stands v0.1 refl (stepped m0 v0.0 p.real.stands v0.1) in
+    let e : ran + 1 ≡ suc ran = omega arith in
     record {
       live = live;
       real = real.0;
       ran = λ m stands.
           let so_far = p.ran m stands in
           let v = sees s (after_steps m (plains ran pid m)) pid so_far.stands p.live in
-          AfterPlain-more m pid ran v.0 o s new so_far v.1 next (stepped (after_steps m (plains ran pid m)) v.0 so_far.stands v.1);
+          subst (λ (n : ℕ). AfterPlain m pid n new) e
+          (AfterPlain-more m pid ran v.0 outcome.Next s new so_far v.1 refl (stepped (after_steps m (plains ran pid m)) v.0 so_far.stands v.1));
       events = real.1 ∙ p.events;
-      ticks = omega (arith, tick, p.ticks);
     }
 
-pub RunSoFar-stops : (old : State) (pid ran steps0 n : ℕ) (s new : State) (steps : ℕ) (o : Outcome) → RunSoFar old pid ran steps0 s steps → ran < n → o ≢ outcome.Next → OfProcess s pid (λ m v. Stepped o m pid v (stands_at v) s new) → OfEach old (λ m. RanPlain m pid n (record { ran = ran; outcome = o }) new)
-RunSoFar-stops old pid ran steps0 n s new steps o p within other stepped m stands =
+-- all of them
+pub RunSoFar-many : (old : State) (pid n : ℕ) (new : State) → IsLive old.guests pid → IsReal old → IsLive new.guests pid → SteppedMany n pid old new → RunSoFar old pid n new
+RunSoFar-many old pid zero new first real live same = subst (RunSoFar old pid 0) (sym same) (RunSoFar-none old pid first real)
+RunSoFar-many old pid (suc n) new first real live many =
+    RunSoFar-more old pid n many.between new (RunSoFar-many old pid n many.between first real many.live many.before) many.stepped live
+
+RunSoFar-stops : (old : State) (pid ran n : ℕ) (s new : State) (o : Outcome) → RunSoFar old pid ran s → ran < n → o ≢ outcome.Next → OfProcess s pid (λ m v. Stepped o m pid v (stands_at v) s new) → OfEach old (λ m. RanPlain m pid n (record { ran = ran; outcome = o }) new)
+RunSoFar-stops old pid ran n s new o p within other stepped m stands =
     let so_far = p.ran m stands in
     let v = sees s (after_steps m (plains ran pid m)) pid so_far.stands p.live in
     RanPlain-stops m pid n ran v.0 o s new so_far within v.1 other (stepped (after_steps m (plains ran pid m)) v.0 so_far.stands v.1)
 
-pub RunSoFar-same : (old : State) (pid ran steps0 : ℕ) (s new : State) (steps : ℕ) (o : Outcome) → RunSoFar old pid ran steps0 s steps → o ≢ outcome.Next → OfProcess s pid (λ m v. Stepped o m pid v (stands_at v) s new) → new ≡ s
-RunSoFar-same old pid ran steps0 s new steps o p other stepped =
-    let m = p.real.machine in
-    let v = sees s m pid p.real.stands p.live in
-    stopped-same m pid v.0 o s new v.1 other (stepped m v.0 p.real.stands v.1)
+-- what the process stands at behind them
+abbrev AtStop : Outcome → ℕ → ℕ → State → ℕ → Type 0
+AtStop o ran n s pid = IfSome (seen_in s.guests pid) (λ v. running.StopsAt o ran n (stands_at v))
 
-pub RunSoFar-all : (old : State) (pid n steps0 : ℕ) (s : State) (steps : ℕ) → RunSoFar old pid n steps0 s steps → OfEach old (λ m. RanPlain m pid n (record { ran = n; outcome = outcome.Next }) s)
-RunSoFar-all old pid n steps0 s steps p m stands = RanPlain-all m pid n s (p.ran m stands)
+at-stop : (o : Outcome) (ran n pid : ℕ) (s : State) (m : Machine) (v : View) → AtStop o ran n s pid → StandsFor s m → seen m.bodies pid ≡ Some v → running.StopsAt o ran n (stands_at v)
+at-stop o ran n pid s m v stops stands sees = subst (λ (seen : Option View). IfSome seen (λ v. running.StopsAt o ran n (stands_at v))) (stands.seen pid ∙ sees) stops
+
+no_call : outcome.Call ≡ outcome.Next → ⊥
+no_call is = cc
+
+no_ended : (status : ℕ) → outcome.End status ≡ outcome.Next → ⊥
+no_ended status is = cc
+
+stops-by : (old : State) (pid n ran : ℕ) (new : State) (o : Outcome) (e : Effect) → RunSoFar old pid ran new → AtStop o ran n new pid → running.StopsAt o ran n e → OfEach old (λ m. RanPlain m pid n (record { ran = ran; outcome = o }) new)
+stops-by old pid n ran new outcome.Next e p stops here m stands =
+    subst (λ (k : ℕ). RanPlain m pid k (record { ran = ran; outcome = outcome.Next }) new) here (RanPlain-all m pid ran new (p.ran m stands))
+stops-by old pid n ran new outcome.Call e p stops here m stands =
+    RunSoFar-stops old pid ran n new new outcome.Call p here.0 no_call
+    (λ m v stands sees. subst (λ (e : Effect). Stepped outcome.Call m pid v e new new) (sym (at-stop outcome.Call ran n pid new m v stops stands sees).1) (refl, refl)) m stands
+stops-by old pid n ran new (outcome.End status) e p stops here m stands =
+    RunSoFar-stops old pid ran n new new (outcome.End status) p here.0 (no_ended status)
+    (λ m v stands sees. subst (λ (e : Effect). Stepped (outcome.End status) m pid v e new new) (sym (at-stop (outcome.End status) ran n pid new m v stops stands sees).1) (refl, refl)) m stands
+stops-by old pid n ran new outcome.NoMemory e p stops here m stands = absurd here
+
+-- how many ran, and were counted
+pub record Few (o : Outcome) (ran n : ℕ) : Type 0 where
+  pub within : ran ≤ n
+  pub some : o ≢ outcome.Next → ran < n
+  pub counted : ran + running.stop_count o ≤ n
+  pub one : running.stop_count o ≤ 1
+
+few : (o : Outcome) (ran n : ℕ) (e : Effect) → running.StopsAt o ran n e → Few o ran n
+few outcome.Next ran n e here =
+    record { within = omega (arith, here); some = λ (other : outcome.Next ≢ outcome.Next). absurd (other refl); counted = omega (arith, here); one = omega arith }
+few outcome.Call ran n e here =
+    record { within = omega (arith, here.0); some = λ (other : outcome.Call ≢ outcome.Next). here.0; counted = omega (arith, here.0); one = omega arith }
+few (outcome.End status) ran n e here =
+    record { within = omega (arith, here.0); some = λ (other : outcome.End status ≢ outcome.Next). here.0; counted = omega (arith, here.0); one = omega arith }
+few outcome.NoMemory ran n e here = absurd here
+
+-- instructions of a process have run, as many as might or until it stands at a call or an end
+module _ (old new : State) (pid n : ℕ) (stood : Stood) (first : IsLive old.guests pid) (real : IsReal old) (live : IsLive new.guests pid) (many : SteppedMany stood.ran pid old new) (stops : AtStop stood.outcome stood.ran n new pid) where
+  pub many-so-far : RunSoFar old pid stood.ran new
+  many-so-far = RunSoFar-many old pid stood.ran new first real live many
+
+  there : (e : Effect) × running.StopsAt stood.outcome stood.ran n e
+  there =
+      let m = many-so-far.real.machine in
+      let v = sees new m pid many-so-far.real.stands live in
+      (stands_at v.0, at-stop stood.outcome stood.ran n pid new m v.0 stops many-so-far.real.stands v.1)
+
+  pub many-plain : OfEach old (λ m. RanPlain m pid n stood new)
+  many-plain = stops-by old pid n stood.ran new stood.outcome there.0 many-so-far stops there.1
+
+  pub many-few : Few stood.outcome stood.ran n
+  many-few = few stood.outcome stood.ran n there.0 there.1

@@ -12,10 +12,10 @@ use Rattle.arn_model.specs.Run.{instructions_in}
 use Rattle.arn_model.specs.Step.{delivery_step}
 use Rattle.arn_model.specs.Turn.{after_first, after_steps, last_in, plains, steps_of, turn}
 use Rattle.log_model.specs.Records.{event_records}
+use Rattle.guest_bodies.specs.declared.running.Stood.{Stood}
 use Rattle.guest_devices.specs.Answers.{Asked}
 use Rattle.guest_calls.specs.State.{State, StandsFor}
 use Rattle.guest_machine.specs.Slices.{RepliesIn, RepliesOf}
-use Rattle.guest_machine.specs.declared.turn.Stood.{Stood}
 use Rattle.guest_machine.specs.declared.turn.Turn.{Turn}
 
 -- a process takes its due signal, if there is one, and this is the record

@@ -10,18 +10,11 @@ ghost use Rattle.guest_machine.specs.Recorded.{IsReal, OfEach};
 ghost use Rattle.guest_machine.specs.Turns.{Delivers, Finishes, Happens, RanPlain, StandsAt, StopsAt, Took};
 
 use arn_base::{NoMemory, Record, Steps};
+use guest_bodies::Stood;
 use guest_calls::{CallStop, Kernel};
 use guest_devices::Answers;
 use rv64_core::Outcome;
 use std::sync::ledger::Ledger;
-
-/// How many instructions ran that the next one follows, and what comes behind them: the next one where
-/// all ran that might.
-#[derive(Clone, Copy, Debug)]
-pub struct Stood {
-    pub ran: u32,
-    pub outcome: Outcome,
-}
 
 /// A turn: the record of its delivery, how many instructions ran, and the record of a call or an end by
 /// fault, which is the last of them. `cut` says that its call found no memory, and isn't of it.
@@ -69,16 +62,7 @@ fn run_plain<L: Ledger>(kernel: &mut Kernel, pid: u32, count: u32, steps: &mut S
     ensures steps { steps.new ≤ steps.old + result.ran + 1 }
     ensures at_most { steps.new ≤ steps.old + count }
 {
-    for ran in 0..count {
-        let outcome = kernel.step(pid, steps);
-        if outcome != Outcome::Next {
-            return Stood { ran, outcome };
-        }
-    }
-    Stood {
-        ran: count,
-        outcome: Outcome::Next,
-    }
+    kernel.run(pid, count, steps)
 }
 
 // Carries out the call at which a process stands, and answers its record, or none where it isn't ready.

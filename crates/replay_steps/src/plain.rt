@@ -1,16 +1,15 @@
 // Instructions that the next one follows.
-ghost use Rattle.std.specs.Prelude.{◌≡◌, ◌+◌, ◌≤◌, ℕ, IfErr, IfOk, OnOk};
+ghost use Rattle.std.specs.Prelude.{◌≡◌, ◌+◌, ◌≤◌, ℕ, IfErr, OnOk};
 ghost use Rattle.history_model.specs.Alone as alone;
 ghost use Rattle.history_model.specs.Alone.{Own};
 ghost use Rattle.replay_steps.specs.Notices.{Listener};
 ghost use Rattle.replay_steps.specs.Standing.{Explains, KeepsLives, Reaches, Stands};
-ghost use Rattle.replay_steps.specs.Plain.{Ran, slice_of};
+ghost use Rattle.replay_steps.specs.Plain.{slice_of};
 
 use crate::{Disagrees, ReplayError};
 use acts_model::Observer;
-use arn_base::{NoMemory, Steps};
+use arn_base::Steps;
 use guest_bodies::{Bodies, others_stay_unheld};
-use rv64_core::Prospect;
 use std::sync::ledger::Ledger;
 
 /// A slice: its process, its count, and the number of the event that comes next.
@@ -34,32 +33,6 @@ impl Turn {
     }
 }
 
-/// Runs the instruction at which a process stands, unless none follows it.
-#[inline(always)]
-fn run_one<O: Observer, L: Ledger>(
-    bodies: &mut Bodies,
-    pid: u32,
-    observer: &mut O,
-    steps: &mut Steps<L>,
-) -> Result<bool, NoMemory>
-    ensures lives { KeepsLives bodies.old bodies.new }
-    ensures ran { (own : Own) → (event : ℕ) → Stands bodies.old event own →
-        IfOk result (Ran (record { begins = O.begins; runs = O.runs; hears = O.hears })
-        observer.old steps.old own pid bodies.new event observer.new steps.new) }
-    ensures bounded { steps.new ≤ steps.old + 1 }
-{
-    if !bodies.is_live(pid) {
-        return Ok(false);
-    }
-    let Prospect::Next(instr) = bodies.next_instr(pid, steps) else {
-        return Ok(false);
-    };
-    observer.instruction(pid, &instr, bodies.cpu(pid))?;
-    others_stay_unheld();
-    bodies.execute(pid, &instr);
-    Ok(true)
-}
-
 /// Runs instructions of a slice.
 pub fn run<O: Observer, L: Ledger>(
     bodies: &mut Bodies,
@@ -77,10 +50,17 @@ pub fn run<O: Observer, L: Ledger>(
         IfErr result (Explains (alone.plains (slice_of slice.now) 0 count own)) }
     ensures bounded { steps.new ≤ steps.old + count }
 {
-    for done in 0..count {
-        if !run_one(bodies, slice.pid, observer, steps)? {
-            return Err(ReplayError::Disagrees(slice.stops_after(done)));
-        }
+    others_stay_unheld();
+    if !bodies.is_live(slice.pid) {
+        return if count == 0 {
+            Ok(())
+        } else {
+            Err(ReplayError::Disagrees(slice.stops_after(0)))
+        };
+    }
+    let ran = bodies.run_told(slice.pid, count, observer, steps)?;
+    if ran < count {
+        return Err(ReplayError::Disagrees(slice.stops_after(ran)));
     }
     Ok(())
 }

@@ -70,7 +70,7 @@ pub fn argument(cpu: &Cpu, place: usize) -> u64
 }
 
 fn isnt_call(prospect: Prospect, number: u64) -> Option<Finding>
-    ensures { (effect : Effect) → Foretells prospect effect →
+    ensures { (cpu : Cpu) → (effect : Effect) → Foretells prospect cpu effect →
         option_map wrong_as result ≡ disagreement.isnt_call effect number }
 {
     found_if(prospect != Prospect::Call, number, NO_CALL)
@@ -261,7 +261,8 @@ pub fn call_wrong(
     extra: &Extra,
 ) -> Option<Finding>
     requires live { IsLive bodies.now pid }
-    ensures { OfSeen bodies.now pid (λ v. (effect : Effect) → Foretells prospect effect →
+    ensures { OfSeen bodies.now pid (λ v. (effect : Effect) →
+        Foretells prospect v.body.cpu effect →
         option_map wrong_as result ≡
         disagreement.call_wrong v effect number answer extra.now) }
 {
@@ -276,7 +277,7 @@ pub fn call_wrong(
 
 /// What is wrong with the status of an end by fault.
 pub fn end_wrong(prospect: Prospect, status: u8) -> Option<Finding>
-    ensures { (effect : Effect) → Foretells prospect effect →
+    ensures { (cpu : Cpu) → (effect : Effect) → Foretells prospect cpu effect →
         option_map wrong_as result ≡ disagreement.status_wrong effect status }
 {
     match prospect {

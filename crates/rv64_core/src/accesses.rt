@@ -1,7 +1,7 @@
 // Loads and stores.
-ghost use Rattle.std.specs.Prelude.{◌≡◌, ◌≢◌, ◌<◌, ℕ, IsTrue, option_map};
+ghost use Rattle.std.specs.Prelude.{◌≡◌, ◌≢◌, ◌<◌, ◌↔◌, ℕ, IsTrue, IsSome, IsNone, Err, OnOk, OnErr, option_map};
 ghost use Rattle.std.specs.Result.{result_ok};
-ghost use Rattle.arn_base.specs.Window.{number_at};
+ghost use Rattle.arn_base.specs.Window.{bytes_at, bytes_of, number_at, with_bytes};
 ghost use Rattle.rv64_isa.specs.declared.instruction.Instr.{Instr};
 ghost use Rattle.rv64_model.specs.Instruction.{loads, stores};
 ghost use Rattle.rv64_model.specs.Operands.{store_len as store_len_of, stored_len};
@@ -9,12 +9,12 @@ ghost use Rattle.rv64_model.specs.Values.{load_len as load_len_of, load_result a
 ghost use Rattle.rv64_core.specs.Outcome.{Tells, OnStop};
 ghost use Rattle.rv64_core.specs.Prospect.{Foretells};
 
-use crate::flow::{go_on, write};
+use crate::flow::{go_on, go_on_ahead, write, write_ahead};
 use crate::outcome::{Outcome, Prospect};
 use arn_base::{BadAddress, Cpu, Memory, StoreError};
 use rv64_isa::{Instr, LoadOp, Reg, StoreOp};
 use rv64_model::statuses::BAD_ACCESS;
-use rv64_model::{load_len, store_len};
+use rv64_model::store_len;
 
 // Loads a register from an address.
 #[inline(always)]
@@ -65,40 +65,71 @@ pub(crate) fn store<M: Memory>(
     ensures memory { OnStop result (M.windows mem.new ≡ M.windows mem.old) }
     ensures no_memory { (result ≡ Outcome.NoMemory) → IsTrue (M.wants_memory mem.old) }
 {
-    let stored = match op {
-        StoreOp::Sb => mem.store(at, 1, value),
-        StoreOp::Sh => mem.store(at, 2, value),
-        StoreOp::Sw => mem.store(at, 4, value),
-        StoreOp::Sd => mem.store(at, 8, value),
-    };
-    match stored {
+    match put(op, at, value, mem) {
         Ok(()) => go_on(cpu),
         Err(StoreError::BadAddress) => Outcome::End(BAD_ACCESS),
         Err(StoreError::NoMemory) => Outcome::NoMemory,
     }
 }
 
+// The memory after a store. Each access has a length that is constant.
+#[inline(always)]
+pub(crate) fn put<M: Memory>(
+    op: StoreOp,
+    at: u64,
+    value: u64,
+    mem: &mut M,
+) -> Result<(), StoreError>
+    ensures ok { OnOk result (M.windows mem.new ≡
+        with_bytes (M.windows mem.old) at (bytes_of (store_len_of op) value)) }
+    ensures whole { OnOk result (IsSome (bytes_at (M.windows mem.old) at (store_len_of op))) }
+    ensures bad_address { (result ≡ Err StoreError.BadAddress) ↔
+        IsNone (bytes_at (M.windows mem.old) at (store_len_of op)) }
+    ensures no_memory { (result ≡ Err StoreError.NoMemory) → IsTrue (M.wants_memory mem.old) }
+    ensures err { OnErr result (M.windows mem.new ≡ M.windows mem.old) }
+{
+    match op {
+        StoreOp::Sb => mem.store(at, 1, value),
+        StoreOp::Sh => mem.store(at, 2, value),
+        StoreOp::Sw => mem.store(at, 4, value),
+        StoreOp::Sd => mem.store(at, 8, value),
+    }
+}
+
 // What a load would come to.
 #[inline(always)]
-pub(crate) fn load_ahead<M: Memory>(instr: Instr, op: LoadOp, at: u64, mem: &M) -> Prospect
-    ensures { (cpu : Cpu) → (rd : ℕ) → let memory = M.windows mem.now in
+pub(crate) fn load_ahead<M: Memory>(
+    instr: Instr,
+    op: LoadOp,
+    rd: Reg,
+    at: u64,
+    cpu: &Cpu,
+    mem: &M,
+) -> Prospect
+    ensures { let memory = M.windows mem.now in
         let value = option_map (load_result_of op) (number_at memory at (load_len_of op)) in
-        Foretells result (loads instr cpu memory rd value) }
+        Foretells result cpu.now (loads instr cpu.now memory rd value) }
 {
-    match mem.load(at, load_len(op)) {
-        Ok(_) => Prospect::Next(instr),
+    match loaded(op, at, mem) {
+        Ok(value) => write_ahead(instr, cpu, rd, value),
         Err(_) => Prospect::End(BAD_ACCESS),
     }
 }
 
 // What a store would come to. It takes effect exactly where its bytes could be loaded.
 #[inline(always)]
-pub(crate) fn store_ahead<M: Memory>(instr: Instr, op: StoreOp, at: u64, mem: &M) -> Prospect
-    ensures { (cpu : Cpu) → (value : ℕ) →
-        Foretells result (stores instr cpu (M.windows mem.now) at (store_len_of op) value) }
+pub(crate) fn store_ahead<M: Memory>(
+    instr: Instr,
+    op: StoreOp,
+    at: u64,
+    cpu: &Cpu,
+    mem: &M,
+) -> Prospect
+    ensures { (value : ℕ) → Foretells result cpu.now
+        (stores instr cpu.now (M.windows mem.now) at (store_len_of op) value) }
 {
     match mem.load(at, store_len(op)) {
-        Ok(_) => Prospect::Next(instr),
+        Ok(_) => go_on_ahead(instr, cpu),
         Err(_) => Prospect::End(BAD_ACCESS),
     }
 }

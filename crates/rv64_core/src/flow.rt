@@ -2,12 +2,12 @@
 ghost use Rattle.std.specs.Prelude.{◌≡◌, ◌≢◌, ◌%◌, ◌==◌, ℕ, List};
 ghost use Rattle.arn_base.specs.Window.{Window};
 ghost use Rattle.rv64_isa.specs.declared.instruction.Instr.{Instr};
-ghost use Rattle.rv64_model.specs.Instruction.{advanced, branches, jumps, next_pc as next_pc_of};
+ghost use Rattle.rv64_model.specs.Instruction.{Next, advanced, branches, jumps, writes, next_pc as next_pc_of};
 ghost use Rattle.rv64_model.specs.Registers.{with_register};
 ghost use Rattle.rv64_core.specs.Outcome.{Tells, OnStop};
 ghost use Rattle.rv64_core.specs.Prospect.{Foretells};
 
-use crate::outcome::{Outcome, Prospect};
+use crate::outcome::{Outcome, Planned, Prospect};
 use crate::registers::set_register;
 use arn_base::Cpu;
 use rv64_isa::{Instr, Reg};
@@ -68,29 +68,67 @@ pub(crate) fn branch(cpu: &mut Cpu, taken: bool, target: u64) -> Outcome
     Outcome::Next
 }
 
+// The register to which a write is lost.
+#[inline(always)]
+fn x0() -> Reg
+    ensures { result ≡ 0 }
+{
+    match Reg::new(0) {
+        Some(reg) => reg,
+        None => unreachable!(),
+    }
+}
+
+// An instruction that writes no register, and goes on to the next word.
+#[inline(always)]
+pub(crate) fn go_on_ahead(instr: Instr, cpu: &Cpu) -> Prospect
+    ensures { (memory : List Window) →
+        Foretells result cpu.now (Next instr (advanced cpu.now) memory) }
+{
+    write_ahead(instr, cpu, x0(), 0)
+}
+
+// One that writes a register, and goes on to the next word.
+#[inline(always)]
+pub(crate) fn write_ahead(instr: Instr, cpu: &Cpu, rd: Reg, value: u64) -> Prospect
+    ensures { (memory : List Window) →
+        Foretells result cpu.now (writes instr cpu.now memory rd value) }
+{
+    Prospect::Next(Planned {
+        instr,
+        rd,
+        value,
+        pc: next_pc(cpu),
+    })
+}
+
 // What a jump would come to.
 #[inline(always)]
-pub(crate) fn jump_ahead(instr: Instr, target: u64) -> Prospect
-    ensures { (cpu : Cpu) → (memory : List Window) → (rd : ℕ) →
-        Foretells result (jumps instr cpu memory rd target) }
+pub(crate) fn jump_ahead(instr: Instr, cpu: &Cpu, rd: Reg, target: u64) -> Prospect
+    ensures { (memory : List Window) →
+        Foretells result cpu.now (jumps instr cpu.now memory rd target) }
 {
-    if is_aligned(target) {
-        Prospect::Next(instr)
-    } else {
-        Prospect::End(MISALIGNED)
+    if !is_aligned(target) {
+        return Prospect::End(MISALIGNED);
     }
+    Prospect::Next(Planned {
+        instr,
+        rd,
+        value: next_pc(cpu),
+        pc: target,
+    })
 }
 
 // What a branch would come to.
 #[inline(always)]
-pub(crate) fn branch_ahead(instr: Instr, taken: bool, target: u64) -> Prospect
-    ensures { (cpu : Cpu) → (memory : List Window) →
-        Foretells result (branches instr cpu memory taken target) }
+pub(crate) fn branch_ahead(instr: Instr, cpu: &Cpu, taken: bool, target: u64) -> Prospect
+    ensures { (memory : List Window) →
+        Foretells result cpu.now (branches instr cpu.now memory taken target) }
 {
     if taken {
-        jump_ahead(instr, target)
+        jump_ahead(instr, cpu, x0(), target)
     } else {
-        Prospect::Next(instr)
+        go_on_ahead(instr, cpu)
     }
 }
 

@@ -14,6 +14,6 @@ mod stepping;
 mod tests;
 mod values;
 
-pub use execution::{accessed, execute};
-pub use outcome::{Outcome, Prospect};
-pub use stepping::{is_at_call, next_instr, step};
+pub use execution::{accessed, execute, look_ahead};
+pub use outcome::{Outcome, Planned, Prospect};
+pub use stepping::{fetch_instr, is_at_call, next_instr, step};

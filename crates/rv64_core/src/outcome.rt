@@ -1,4 +1,4 @@
-use rv64_isa::Instr;
+use rv64_isa::{Instr, Reg};
 
 /// What one instruction came to.
 #[derive(Clone, Copy, Debug, PartialEq, Eq)]
@@ -13,11 +13,23 @@ pub enum Outcome {
     NoMemory,
 }
 
+/// An instruction that would take effect, and what it would do to the registers.
+#[derive(Clone, Copy, Debug, PartialEq, Eq)]
+pub struct Planned {
+    pub instr: Instr,
+    /// The register that it writes, x0 where it writes none.
+    pub rd: Reg,
+    /// What it writes there.
+    pub value: u64,
+    /// Where the next instruction stands.
+    pub pc: u64,
+}
+
 /// What the instruction at pc would come to.
 #[derive(Clone, Copy, Debug, PartialEq, Eq)]
 pub enum Prospect {
     /// This one would take effect: it may be executed.
-    Next(Instr),
+    Next(Planned),
     /// It is an ECALL, which waits for whoever serves calls.
     Call,
     /// It would end its process with this status.

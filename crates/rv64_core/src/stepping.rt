@@ -46,13 +46,30 @@ pub fn next_instr<M: Memory, L: Ledger>(cpu: &Cpu, mem: &M, steps: &mut Steps<L>
     ensures tick { steps.new ≡ steps.old + 1 }
 
     // It is what the manual gives the instruction.
-    ensures effect { Foretells result (instruction cpu.now (M.windows mem.now)) }
+    ensures effect { Foretells result cpu.now (instruction cpu.now (M.windows mem.now)) }
 {
-    steps.tick();
-    match instr_at_pc(cpu, mem) {
+    match fetch_instr(cpu, mem, steps) {
         Ok(instr) => look_ahead(instr, cpu, mem),
         Err(status) => Prospect::End(status),
     }
+}
+
+/// The instruction at pc, or the status with which its process ends if there is none. It is counted
+/// whatever it is. With `look_ahead` it is `next_instr` in two parts, each of which is compiled into
+/// its caller.
+#[inline(always)]
+pub fn fetch_instr<M: Memory, L: Ledger>(
+    cpu: &Cpu,
+    mem: &M,
+    steps: &mut Steps<L>,
+) -> Result<Instr, u8>
+    ensures tick { steps.new ≡ steps.old + 1 }
+    ensures ok { IfOk result (λ instr. instruction cpu.now (M.windows mem.now)
+        ≡ executed instr cpu.now (M.windows mem.now)) }
+    ensures err { IfErr result (λ status. instruction cpu.now (M.windows mem.now) ≡ End status) }
+{
+    steps.tick();
+    instr_at_pc(cpu, mem)
 }
 
 /// Whether an ECALL stands at pc. It is not counted.

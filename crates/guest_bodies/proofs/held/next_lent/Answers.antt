@@ -1,4 +1,5 @@
 use Rattle.std.proofs.Common.{◌≡◌, ℕ, List, Option, sym, ap, ap₂, subst, ◌∙◌}
+use Rattle.arn_base.specs.declared.machine.Cpu.{Cpu}
 use Rattle.acts_model.specs.Views.{stands_at}
 use Rattle.parts_model.specs.Memory.{windows}
 use Rattle.rv64_core.specs.Prospect.{Foretells}
@@ -23,7 +24,9 @@ returns-clause-effect g c =
     let stood : instruction c.lend.new.guest.cpu (windows_of c.lend.new.guest.memory) ≡ stands_at (view_of segs c.args.guest.now) =
     ap (λ (x : Guest). instruction x.cpu (windows_of x.memory)) c.lend.ensures.guest
     ∙ ap (λ (x : Option (List ℕ)). instruction c.args.guest.now.cpu (windows c.args.guest.now.memory.space x)) (sym (lent-seen segs o c.requires)) in
-    subst (λ (e : Effect). Foretells c.next_instr-prospect.result e) stood c.next_instr-prospect.ensures.effect
+    let cpu : c.lend.new.guest.cpu ≡ c.args.guest.now.cpu = ap (λ (x : Guest). x.cpu) c.lend.ensures.guest in
+    subst (λ (k : Cpu). Foretells c.next_instr-prospect.result k (stands_at (view_of segs c.args.guest.now))) cpu
+    (subst (λ (e : Effect). Foretells c.next_instr-prospect.result c.lend.new.guest.cpu e) stood c.next_instr-prospect.ensures.effect)
 
 pub returns-clause-table : goal.returns-clause-table
 returns-clause-table g c = same g c

@@ -1,4 +1,4 @@
 use Rattle.guest_bodies.proofs.tests.go_on.Given as goal
 
-abbrev pub ghosts-look_counted : goal.ghosts-look_counted
-ghosts-look_counted a = record { name = a.blank.name; parts = a.blank.parts }
+abbrev pub ghosts-run_counted : goal.ghosts-run_counted
+ghosts-run_counted a = record { name = a.blank.name; parts = a.blank.parts }

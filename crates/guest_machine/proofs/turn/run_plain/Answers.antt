@@ -1,29 +1,33 @@
-use Rattle.std.proofs.Common.{rules, ◌≡◌, ◌≢◌, ◌<◌, ◌∙◌, ap, subst, sym}
-use Rattle.rv64_core.specs.declared.outcome.Outcome.TheVariants as outcome
-use Rattle.guest_calls.specs.State.{State}
-use Rattle.guest_machine.specs.Recorded.{IsReal}
-use Rattle.guest_machine.proofs.StepLemmas.{RunSoFar-more, RunSoFar-same, RunSoFar-stops}
+use Rattle.std.proofs.Common.{arith}
+use Rattle.guest_machine.proofs.StepLemmas.{many-few, many-plain, many-so-far}
 use Rattle.guest_machine.proofs.turn.run_plain.Goals as goal
 
-pub returns-then-ne-clause-ran : goal.returns-then-ne-clause-ran
-returns-then-ne-clause-ran g c =
-    let other : c.step-outcome.result ≢ outcome.Next = search rules in
-    let within : c.loop-ran.ran < c.args.count = search rules in
-    RunSoFar-stops c.args.kernel.now c.args.pid c.loop-ran.ran c.args.steps.now c.args.count c.loop-ran.kernel c.step-outcome.new.self c.loop-ran.steps c.step-outcome.result c.loop-ran.invariant within other c.step-outcome.ensures.stepped
+pub returns-clause-ran : goal.returns-clause-ran
+returns-clause-ran g c =
+    many-plain c.args.kernel.now c.run.new.self c.args.pid c.args.count c.run.result c.requires.live c.requires.real c.run.ensures.alive c.run.ensures.stepped c.run.ensures.stops
 
-pub returns-then-ne-clause-real : goal.returns-then-ne-clause-real
-returns-then-ne-clause-real g c =
-    let other : c.step-outcome.result ≢ outcome.Next = search rules in
-    let same = RunSoFar-same c.args.kernel.now c.args.pid c.loop-ran.ran c.args.steps.now c.loop-ran.kernel c.step-outcome.new.self c.loop-ran.steps c.step-outcome.result c.loop-ran.invariant other c.step-outcome.ensures.stepped in
-    subst IsReal (sym same) c.loop-ran.invariant.real
+pub returns-clause-real : goal.returns-clause-real
+returns-clause-real g c =
+    (many-so-far c.args.kernel.now c.run.new.self c.args.pid c.args.count c.run.result c.requires.live c.requires.real c.run.ensures.alive c.run.ensures.stepped c.run.ensures.stops).real
 
-pub returns-then-ne-clause-events : goal.returns-then-ne-clause-events
-returns-then-ne-clause-events g c =
-    let other : c.step-outcome.result ≢ outcome.Next = search rules in
-    let same = RunSoFar-same c.args.kernel.now c.args.pid c.loop-ran.ran c.args.steps.now c.loop-ran.kernel c.step-outcome.new.self c.loop-ran.steps c.step-outcome.result c.loop-ran.invariant other c.step-outcome.ensures.stepped in
-    ap (λ (s : State). s.events) same ∙ c.loop-ran.invariant.events
+pub returns-clause-events : goal.returns-clause-events
+returns-clause-events g c =
+    (many-so-far c.args.kernel.now c.run.new.self c.args.pid c.args.count c.run.result c.requires.live c.requires.real c.run.ensures.alive c.run.ensures.stepped c.run.ensures.stops).events
 
-pub loop-ran-preserved : goal.loop-ran-preserved
-loop-ran-preserved g c =
-    let next : c.step-outcome.result ≡ outcome.Next = search rules in
-    RunSoFar-more c.args.kernel.now c.args.pid c.loop-ran.ran c.args.steps.now c.loop-ran.kernel c.step-outcome.new.self c.loop-ran.steps c.step-outcome.new.steps c.step-outcome.result c.loop-ran.invariant next c.step-outcome.ensures.stepped c.step-outcome.ensures.alive c.step-outcome.ensures.tick
+pub returns-clause-within : goal.returns-clause-within
+returns-clause-within g c =
+    (many-few c.args.kernel.now c.run.new.self c.args.pid c.args.count c.run.result c.requires.live c.requires.real c.run.ensures.alive c.run.ensures.stepped c.run.ensures.stops).within
+
+pub returns-clause-some : goal.returns-clause-some
+returns-clause-some g c =
+    (many-few c.args.kernel.now c.run.new.self c.args.pid c.args.count c.run.result c.requires.live c.requires.real c.run.ensures.alive c.run.ensures.stepped c.run.ensures.stops).some
+
+pub returns-clause-steps : goal.returns-clause-steps
+returns-clause-steps g c =
+    let few = many-few c.args.kernel.now c.run.new.self c.args.pid c.args.count c.run.result c.requires.live c.requires.real c.run.ensures.alive c.run.ensures.stepped c.run.ensures.stops in
+    omega (arith, c.run.ensures.tick, few.one)
+
+pub returns-clause-at_most : goal.returns-clause-at_most
+returns-clause-at_most g c =
+    let few = many-few c.args.kernel.now c.run.new.self c.args.pid c.args.count c.run.result c.requires.live c.requires.real c.run.ensures.alive c.run.ensures.stepped c.run.ensures.stops in
+    omega (arith, c.run.ensures.tick, few.counted)

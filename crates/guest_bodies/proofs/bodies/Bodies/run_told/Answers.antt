@@ -1,0 +1,33 @@
+use Rattle.std.proofs.Common.{◌<◌, ℕ}
+use Rattle.std.proofs.lemmas.Result.{IfOk-weaker}
+use Rattle.guest_bodies.proofs.InPlace.{place}
+use Rattle.guest_bodies.proofs.Tolds.{none-there, runs-sound, runs-watches, stops-there, told-many}
+use Rattle.guest_bodies.proofs.bodies.Bodies.run_told.Goals as goal
+
+pub invariant_of-self : goal.invariant_of-self
+invariant_of-self g c =
+    let at = place c.args.self.now c.self.inside.guests.items c.self.inside.segments.items c.args.pid c.index_mut.result.now c.in-Some.guest c.run_told.new.guest c.self.view_is c.self.invariant c.requires.live c.index_mut.ensures.value c.in-Some.is in
+    runs-sound at c.run_told.new.segments.items c.run_told.ensures.runs
+
+pub unreachable-requires : goal.unreachable-requires
+unreachable-requires g c =
+    none-there c.args.self.now c.self.inside.guests.items c.self.inside.segments.items c.args.pid c.index_mut.result.now c.self.view_is c.requires.live c.index_mut.ensures.value c.in-None.is
+
+pub returns-clause-told : goal.returns-clause-told
+returns-clause-told g c =
+    let at = place c.args.self.now c.self.inside.guests.items c.self.inside.segments.items c.args.pid c.index_mut.result.now c.in-Some.guest c.run_told.new.guest c.self.view_is c.self.invariant c.requires.live c.index_mut.ensures.value c.in-Some.is in
+    IfOk-weaker c.run_told.result _ _
+    (λ (ran : ℕ) many. told-many g.O.Observer.runs c.args.self.now c.self.inside.guests.items c.self.inside.segments.items c.args.pid c.in-Some.guest at.shown at.sound at.stands ran c.run_told.new.guest c.run_told.new.segments.items c.args.observer.now c.run_told.new.observer many)
+    c.run_told.ensures.told
+
+pub returns-clause-stops : goal.returns-clause-stops
+returns-clause-stops g c =
+    let at = place c.args.self.now c.self.inside.guests.items c.self.inside.segments.items c.args.pid c.index_mut.result.now c.in-Some.guest c.run_told.new.guest c.self.view_is c.self.invariant c.requires.live c.index_mut.ensures.value c.in-Some.is in
+    IfOk-weaker c.run_told.result _ _
+    (λ (ran : ℕ) stops (less : ran < c.args.count). stops-there at c.run_told.new.segments.items (stops less))
+    c.run_told.ensures.stops
+
+pub returns-clause-watches : goal.returns-clause-watches
+returns-clause-watches g c =
+    let at = place c.args.self.now c.self.inside.guests.items c.self.inside.segments.items c.args.pid c.index_mut.result.now c.in-Some.guest c.run_told.new.guest c.self.view_is c.self.invariant c.requires.live c.index_mut.ensures.value c.in-Some.is in
+    runs-watches at c.run_told.new.segments.items c.run_told.ensures.runs
