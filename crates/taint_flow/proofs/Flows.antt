@@ -96,7 +96,7 @@ module _ (sets : List (List Item)) (number : Operand → ℕ) (is_set : IsSet se
 
 module _ (sets : List (List Item)) (first second loaded : List ℕ) (is_set : IsSet sets 0) (empty : members_of sets 0 ≡ []) where
   -- bytes of one operand, and none behind them
-  moved-by : (moved : List ℕ) (operand : ℕ → Operand) (taken : ℕ → List Operand) (numbers : List ℕ) (count : ℕ) → AreNumbers sets numbers → ((i : ℕ) → number_of first second loaded (operand i) ≡ slice_index numbers i)
+  pub moved-by : (moved : List ℕ) (operand : ℕ → Operand) (taken : ℕ → List Operand) (numbers : List ℕ) (count : ℕ) → AreNumbers sets numbers → ((i : ℕ) → number_of first second loaded (operand i) ≡ slice_index numbers i)
       → ((i : ℕ) → i < byte_count → taken i ≡ taken_if (nat_lt i count) (operand i)) → Moves numbers count moved → AreResults sets sets (number_of first second loaded) taken moved
   moved-by moved operand taken numbers count are is table m = record { len = m.len; bytes = λ i h. by_place i h (nat_lt i count) refl } where
     by_place : (i : ℕ) → i < byte_count → (b : Bool) → nat_lt i count ≡ b → TakesOperands sets sets (number_of first second loaded) (taken i) (slice_index moved i)

@@ -2,3 +2,4 @@ mod Bytes
 mod Flows
 mod Grown
 mod Operands
+pub mod Moved

@@ -4,3 +4,4 @@ pub mod Names
 pub mod Results
 pub mod Silent
 pub mod Starts
+pub mod Moving

@@ -8,7 +8,7 @@ ghost use Rattle.taint_flow.specs.Results.{AreResults};
 ghost use Rattle.taint_flow.specs.Silent.{IsSilent};
 
 use crate::flow::{Flow, result_flow};
-use crate::gathering::{gather, narrow};
+use crate::gathering::{are_small, gather};
 use crate::working::{bytewise, carried, rising};
 use arn_base::NoMemory;
 use link_rules::inputs;
@@ -37,10 +37,15 @@ fn moved(sets: &Sets, numbers: &[u32], count: u8) -> Result<[u32; 8], NoMemory>
 {
     let _ = sets.empty();
     let mut moved = [0; 8];
-    for byte in 0..usize::from(count).min(8) {
-        moved[byte] = narrow(numbers[byte] as usize)?;
+    for byte in 0..8 {
+        let number = numbers[byte];
+        moved[byte] = if byte < usize::from(count) { number } else { 0 };
     }
-    Ok(moved)
+    if are_small(&moved) {
+        Ok(moved)
+    } else {
+        Err(NoMemory)
+    }
 }
 
 // Whether each byte has the empty set.
@@ -51,11 +56,13 @@ fn is_empty(numbers: &[u32]) -> bool
     numbers.iter().all(|number| *number == 0)
 }
 
-// The same of any instruction. Bytes that take the same share their set.
+// The same of any instruction. Bytes that take the same share their set. It gets the instruction by value, so that
+// that of the caller needs no place in memory.
+#[inline(never)]
 fn mixed(
     sets: &mut Sets,
     linkage: Linkage,
-    instr: &Instr,
+    instr: Instr,
     first: &[u32],
     second: &[u32],
     loaded: &[u32],
@@ -64,14 +71,14 @@ fn mixed(
     requires second { AreNumbers sets.old second.now }
     requires loaded { AreNumbers sets.old loaded.now }
     ensures results { IfOk result (AreResults sets.old sets.new
-        (number_of first.now second.now loaded.now) (operands linkage instr.now)) }
+        (number_of first.now second.now loaded.now) (operands linkage instr)) }
     ensures before { StandAsBefore sets.old sets.new }
 {
-    let mut masks = inputs(linkage, instr, 0);
+    let mut masks = inputs(linkage, &instr, 0);
     let mut set = gather(sets, masks, first, second, loaded)?;
     let mut numbers = [set; 8];
     for byte in 1..8 {
-        let next = inputs(linkage, instr, byte);
+        let next = inputs(linkage, &instr, byte);
         if next != masks {
             set = gather(sets, next, first, second, loaded)?;
             masks = next;
@@ -106,7 +113,7 @@ fn worked(
         Flow::Rising(width) => rising(sets, first, width),
         Flow::Carried(width) => carried(sets, first, second, width),
         Flow::Bytewise => bytewise(sets, first, second),
-        _ => mixed(sets, linkage, instr, first, second, loaded),
+        _ => mixed(sets, linkage, *instr, first, second, loaded),
     }
 }
 

@@ -1,12 +1,15 @@
 // The numbers of a member's bytes by address.
-ghost use Rattle.std.specs.Prelude.{◌≡◌, ◌≤◌, ◌<◌, ◌^◌, length, IfSome, OnOk};
+ghost use Rattle.std.specs.Prelude.{◌≡◌, ◌≤◌, ◌<◌, ◌^◌, ◌-◌, ◌↔◌, IsTrue, false, length, IfOk, IfSome, IsOk, OnOk};
 ghost use Rattle.acts_model.specs.Transfers.{is_private, is_shared};
 ghost use Rattle.parts_model.specs.declared.limits.TheConstants as limits;
-ghost use Rattle.taint_members.specs.Access.{AreRead, AreReadShared, HoldsKey, WritesSegment, WritesWindow, from_start, number_at, shared_number};
+ghost use Rattle.taint_members.specs.Access.{AreRead, AreReadShared, ByTest, HoldsKey, WritesSegment, WritesWindow, from_start, number_at, shared_number};
+ghost use Rattle.taint_pages.specs.Pages.{Puts};
+ghost use Rattle.taint_pages.specs.Rows.{AreBelow, PutsFrom};
 
 use crate::member::{MemberSets, Shared};
 use arn_base::NoMemory;
 use parts_model::limits::{SEGMENT_END, SEGMENT_START, WINDOW_END, WINDOW_START};
+use rv64_isa::Reg;
 use taint_pages::SetNumbers;
 
 /// How far an address lies in the private window, if it does.
@@ -123,5 +126,48 @@ fn write_segment(
     match (segment, segment_offset(at)) {
         (Some(shared), Some(offset)) => segments[shared.key].put(offset, numbers),
         _ => Ok(()),
+    }
+}
+
+/// Sets the numbers of a register that isn't x0 to those of so many bytes, at most eight, from an address in the private window on,
+/// and zeros behind them, where each of these is below a bound, which is told. Else nothing changes.
+#[inline(always)]
+pub fn load_below(member: &mut MemberSets, at: u64, len: usize, bound: u32, reg: Reg) -> bool
+    requires few { len ≤ 8 }
+    requires above { 0 < reg }
+    requires bound { 0 < bound }
+    ensures told { IsTrue result ↔ (IsTrue (is_private at) ×
+        AreBelow bound member.old.window (at - limits.WINDOW_START) len) }
+    ensures puts { IsTrue result → PutsFrom member.old.window (at - limits.WINDOW_START) len reg
+        member.old.registers member.new.registers }
+    ensures others { member.new ≡ record member.old { registers = member.new.registers } }
+    ensures kept { result ≡ false → member.new ≡ member.old }
+{
+    match window_offset(at) {
+        Some(offset) => member
+            .window
+            .move_to(offset, len, bound, &mut member.registers, reg),
+        None => false,
+    }
+}
+
+/// Sets the numbers of several bytes from an address in a private window on, as far as they lie in it. False says that the
+/// address lies elsewhere: then nothing is set.
+#[inline(always)]
+pub fn write_window(window: &mut SetNumbers, at: u64, numbers: &[u32]) -> Result<bool, NoMemory>
+    requires few { length numbers.now < 2 ^ 31 }
+    ensures told { IfOk result (λ told. told ≡ is_private at) }
+    ensures puts { OnOk result (ByTest (is_private at)
+        (Puts (at - limits.WINDOW_START) numbers.now window.old window.new)
+        (window.new ≡ window.old)) }
+    ensures len { length window.new ≡ length window.old }
+    ensures elsewhere { is_private at ≡ false → IsOk result × (window.new ≡ window.old) }
+{
+    match window_offset(at) {
+        Some(offset) => {
+            window.put(offset, numbers)?;
+            Ok(true)
+        }
+        None => Ok(false),
     }
 }

@@ -179,19 +179,23 @@ module _ (u : Unset) (pages : List Page) (all : ArePages pages) (at : ℕ) (numb
   puts : Puts at numbers (numbers_from u 0 pages) (numbers_from u 0 (set pages (at / page_len) new))
   puts = record { len = long u pages all at inside old new read page; put = λ i h there. put-here i h; kept = λ k off. put-kept k off (k / page_len == at / page_len) refl }
 
+-- a byte that lies in the same page
+pub page-byte : (u : Unset) (pages : List Page) → ArePages pages → (at i : ℕ) (page : Page) → at / page_len < length pages → page ≡ get_or pages (at / page_len) None → at % page_len + i < page_len
+    → number_in u (at / page_len * page_len) page (at % page_len + i) ≡ get_or (numbers_from u 0 pages) (at + i) 0
+page-byte u pages all at i page inside read near =
+    let same : at / page_len ≡ (at + i) / page_len = omega arith in
+    let rem : at % page_len + i ≡ (at + i) % page_len = omega arith in
+    ap (λ (n : ℕ). number_in u (at / page_len * page_len) page n) rem
+    ∙ ap (λ (p : Page). number_in u (at / page_len * page_len) p ((at + i) % page_len)) (read ∙ ap (λ (n : ℕ). get_or pages n None) same)
+    ∙ ap (λ (n : ℕ). number_in u (n * page_len) (get_or pages ((at + i) / page_len) None) ((at + i) % page_len)) same
+    ∙ sym (index-pages u pages all (at + i) (subst (λ n. n < length pages) same inside))
+
 -- eight bytes that lie in one page
 pub eight-page : (u : Unset) (pages : List Page) → ArePages pages → (at count : ℕ) (eight : List ℕ) (page : Page) → at / page_len < length pages → page ≡ get_or pages (at / page_len) None → at % page_len + 8 ≤ page_len → count ≤ 8
     → AreEightOf u (at / page_len * page_len) page (at % page_len) count eight → AreEight (numbers_from u 0 pages) at count eight
 eight-page u pages all at count eight page inside read short few e = record {
   len = e.len;
-  bytes = λ i h.
-      let same : at / page_len ≡ (at + i) / page_len = omega arith in
-      let rem : at % page_len + i ≡ (at + i) % page_len = omega arith in
-      e.bytes i h
-      ∙ ap (λ (n : ℕ). number_in u (at / page_len * page_len) page n) rem
-      ∙ ap (λ (p : Page). number_in u (at / page_len * page_len) p ((at + i) % page_len)) (read ∙ ap (λ (n : ℕ). get_or pages n None) same)
-      ∙ ap (λ (n : ℕ). number_in u (n * page_len) (get_or pages ((at + i) / page_len) None) ((at + i) % page_len)) same
-      ∙ sym (index-pages u pages all (at + i) (subst (λ n. n < length pages) same inside));
+  bytes = λ i h. e.bytes i h ∙ page-byte u pages all at i page inside read (omega (arith, h));
   zeros = e.zeros;
 }
 

@@ -1,5 +1,5 @@
 -- Numbers of a memory's bytes, in pages.
-use Rattle.std.specs.Prelude.{◌≡◌, ◌⊎◌, ℕ, zero, suc, ◌+◌, ◌*◌, ◌^◌, ◌<◌, ◌≤◌, ◌==◌, ◌&&◌, nat_lt, if◌then◌else◌, List, [], ◌∷◌, ◌++◌, length, map, slice_index, slice_index_or, take, drop, Option, Some, None, IfSome, option_map}
+use Rattle.std.specs.Prelude.{◌≡◌, ◌⊎◌, ℕ, zero, suc, ◌+◌, ◌*◌, ◌^◌, ◌<◌, ◌≤◌, ◌==◌, ◌&&◌, nat_lt, if◌then◌else◌, List, [], ◌∷◌, ◌++◌, length, map, slice_index, slice_index_or, Option, Some, None, IfSome, option_map}
 use Rattle.std.specs.Global.{Vec}
 use Rattle.taint_pages.specs.declared.page.Unset.{Unset}
 use Rattle.taint_pages.specs.declared.page.Unset.TheVariants.{Zero, From}
@@ -95,10 +95,6 @@ HaveUnset unset at numbers = (i : ℕ) → i < length numbers → slice_index nu
 pub record PutsIn (unset : Unset) (base at : ℕ) (numbers : List ℕ) (old new : Page) : Type 0 where
   pub put : (i : ℕ) → i < length numbers → number_in unset base new (at + i) ≡ slice_index numbers i
   pub kept : (k : ℕ) → k < page_len → (k < at) ⊎ (at + length numbers ≤ k) → number_in unset base new k ≡ number_in unset base old k
-
--- numbers in place of those from a place on
-abbrev pub overwritten : List ℕ → ℕ → List ℕ → List ℕ
-overwritten kept at numbers = take at kept ++ numbers ++ drop (at + length numbers) kept
 
 -- no byte of so many has been set
 pub record AreUnset (unset : Unset) (count : ℕ) (numbers : List ℕ) : Type 0 where

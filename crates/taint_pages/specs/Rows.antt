@@ -1,5 +1,5 @@
 -- Numbers of the bytes of registers.
-use Rattle.std.specs.Prelude.{◌≡◌, ℕ, ◌+◌, ◌*◌, ◌<◌, ◌==◌, ◌&&◌, if◌then◌else◌, List, length, slice_index}
+use Rattle.std.specs.Prelude.{◌≡◌, ℕ, ◌+◌, ◌*◌, ◌<◌, ◌==◌, ◌&&◌, nat_lt, if◌then◌else◌, List, length, slice_index}
 
 -- the number of byte i of register r
 abbrev pub byte_in : List ℕ → ℕ → ℕ → ℕ
@@ -26,3 +26,15 @@ pub record AreBytes (row : List ℕ) (reg : ℕ) (numbers : List ℕ) : Type 0 w
 -- all bytes of one register have other numbers
 abbrev pub PutsBytes : ℕ → List ℕ → List ℕ → List ℕ → Type 0
 PutsBytes reg numbers old new = (r i : ℕ) → i < 8 → byte_in new r i ≡ (if r == reg then slice_index numbers i else byte_in old r i)
+
+-- number i of so many from a place on, 0 behind them
+abbrev pub number_from : List ℕ → ℕ → ℕ → ℕ → ℕ
+number_from numbers at count i = if nat_lt i count then slice_index numbers (at + i) else 0
+
+-- the bytes of one register have the numbers of so many bytes from a place on, and zeros behind them
+abbrev pub PutsFrom : List ℕ → ℕ → ℕ → ℕ → List ℕ → List ℕ → Type 0
+PutsFrom numbers at count reg old new = (r i : ℕ) → i < 8 → byte_in new r i ≡ (if r == reg then number_from numbers at count i else byte_in old r i)
+
+-- each of so many numbers from a place on is below a bound
+abbrev pub AreBelow : ℕ → List ℕ → ℕ → ℕ → Type 0
+AreBelow bound numbers at count = (i : ℕ) → i < count → slice_index numbers (at + i) < bound

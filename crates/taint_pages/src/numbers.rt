@@ -1,9 +1,12 @@
 // The numbers of a memory's bytes.
-ghost use Rattle.std.specs.Prelude.{◌≡◌, ◌<◌, ◌≤◌, ◌+◌, ◌-◌, ◌*◌, ◌%◌, ◌^◌, ◌&&◌, nat_lt, nat_le, length, slice_index, IfOk, OnOk, OnErr};
+ghost use Rattle.std.specs.Prelude.{◌≡◌, ◌<◌, ◌≤◌, ◌+◌, ◌-◌, ◌*◌, ◌%◌, ◌^◌, ◌&&◌, nat_lt, nat_le, length, slice_index, ℕ, ◌↔◌, IsTrue, false, IfOk, IfSome, OnOk, OnErr};
 ghost use Rattle.taint_pages.specs.Pages.{AreEight, AreUnset, FitsIn, Puts, Sets, SetsInside, page_len};
+ghost use Rattle.taint_pages.specs.Rows.{AreBelow, PutsFrom};
 
 use crate::page::{self, PAGE_LEN, Page, Unset};
+use crate::row::Row;
 use arn_base::NoMemory;
+use rv64_isa::Reg;
 use std::alloc::Global;
 use std::marker::Model;
 
@@ -187,7 +190,52 @@ impl SetNumbers {
         }
     }
 
-    /// The same of bytes of one page.
+    /// Sets the numbers of a register that isn't x0 to those of so many bytes that follow each other, at most eight, and zeros behind
+    /// them, where each of these is below a bound, which is told. Else the register keeps what it had.
+    #[inline(always)]
+    pub fn move_to(&self, at: usize, len: usize, bound: u32, row: &mut Row, reg: Reg) -> bool
+        requires few { len ≤ 8 }
+        requires small { at < 2 ^ 32 }
+        requires above { 0 < reg }
+        requires bound { 0 < bound }
+        ensures told { IsTrue result ↔ AreBelow bound self.now at len }
+        ensures puts { IsTrue result → PutsFrom self.now at len reg row.old row.new }
+        ensures kept { result ≡ false → row.new ≡ row.old }
+    {
+        match self.kept(at, len) {
+            Some(numbers) => row.put_below(reg, numbers, bound),
+            None => row.put_below(reg, &self.eight(at, len), bound),
+        }
+    }
+
+    /// The numbers of several bytes that follow each other, where they lie together in a page that is kept. None may be answered
+    /// of others, which are read one by one.
+    #[inline(always)]
+    fn kept(&self, at: usize, len: usize) -> Option<&[u32]>
+        ensures len { IfSome result (λ numbers. length numbers.now ≡ len) }
+        ensures numbers { IfSome result (λ numbers. (i : ℕ) → i < len →
+            slice_index numbers.now i ≡ slice_index self.now (at + i)) }
+    {
+        if self.has_in_page(at, len) {
+            self.kept_in_page(at, len)
+        } else {
+            None
+        }
+    }
+
+    /// The same of bytes that lie in one page.
+    #[inline(always)]
+    fn kept_in_page(&self, at: usize, len: usize) -> Option<&[u32]>
+        requires there { at < length self.now }
+        requires inside { at % page_len + len ≤ page_len }
+        ensures len { IfSome result (λ numbers. length numbers.now ≡ len) }
+        ensures numbers { IfSome result (λ numbers. (i : ℕ) → i < len →
+            slice_index numbers.now i ≡ slice_index self.now (at + i)) }
+    {
+        page::kept_in(&self.pages[at / PAGE_LEN], at % PAGE_LEN, len)
+    }
+
+    /// The numbers of so many bytes of one page, at most eight, and zeros behind them.
     #[inline(always)]
     fn eight_in_page(&self, at: usize, len: usize) -> [u32; 8]
         requires there { at < length self.now }

@@ -1,6 +1,8 @@
 // A page of numbers.
-ghost use Rattle.std.specs.Prelude.{◌≡◌, ◌<◌, ◌≤◌, ◌+◌, ◌↔◌, ℕ, IsTrue, length, replicate, slice_index, None, Some, IfOk, OnOk, OnErr};
-ghost use Rattle.taint_pages.specs.Pages.{AreEight, AreEightOf, FitsIn, HaveUnset, IsPage, PutsIn, SetsOne, content, number_in, overwritten, page_len, unset_number};
+ghost use Rattle.std.specs.Prelude.{◌≡◌, ◌<◌, ◌≤◌, ◌+◌, ◌↔◌, ℕ, IsTrue, length, replicate, slice_index, None, Some, IfOk, IfSome, OnOk, OnErr};
+ghost use Rattle.taint_pages.specs.declared.page.Unset.{Unset as UnsetBytes};
+ghost use Rattle.arn_base.specs.Disk.{overwrite};
+ghost use Rattle.taint_pages.specs.Pages.{AreEight, AreEightOf, FitsIn, HaveUnset, IsPage, PutsIn, SetsOne, content, number_in, page_len, unset_number};
 
 use arn_base::NoMemory;
 use std::alloc::Global;
@@ -152,6 +154,21 @@ pub fn eight_of(unset: Unset, base: usize, page: &Page, at: usize, len: usize) -
     }
 }
 
+/// The numbers of several bytes of a page, if it is kept.
+#[inline(always)]
+pub fn kept_in(page: &Page, at: usize, len: usize) -> Option<&[u32]>
+    requires page { IsPage (content page.now) }
+    requires inside { at + len ≤ page_len }
+    ensures len { IfSome result (λ numbers. length numbers.now ≡ len) }
+    ensures numbers { (unset : UnsetBytes) → (base : ℕ) → IfSome result (λ numbers. (i : ℕ) → i < len →
+        slice_index numbers.now i ≡ number_in unset base (content page.now) (at + i)) }
+{
+    match page {
+        Some(numbers) => Some(&numbers[at..at + len]),
+        None => None,
+    }
+}
+
 /// Whether several bytes of a page have the numbers of bytes that weren't set.
 fn have_unset(unset: Unset, base: usize, at: usize, numbers: &[u32]) -> bool
     requires inside { at + length numbers.now ≤ page_len }
@@ -166,13 +183,17 @@ fn have_unset(unset: Unset, base: usize, at: usize, numbers: &[u32]) -> bool
     true
 }
 
-/// Puts numbers over those from one place on.
+/// Puts numbers over those from one place on. One and eight, which most instructions store, are moved without a call.
 #[inline(always)]
 fn overwrite(kept: &mut [u32], at: usize, numbers: &[u32])
     requires { at + length numbers.now ≤ length kept.old }
-    ensures { kept.new ≡ overwritten kept.old at numbers.now }
+    ensures { kept.new ≡ overwrite kept.old at numbers.now }
 {
-    kept[at..at + numbers.len()].copy_from_slice(numbers);
+    match numbers.len() {
+        1 => kept[at] = numbers[0],
+        8 => kept[at..at + 8].copy_from_slice(numbers),
+        len => kept[at..at + len].copy_from_slice(numbers),
+    }
 }
 
 /// Sets the numbers of several bytes of a page. A page is made where these have another number than before.

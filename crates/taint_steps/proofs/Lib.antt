@@ -1,2 +1,4 @@
 pub mod Entries
 pub mod NothingLoaded
+pub mod NothingStored
+pub mod Whole

@@ -1,6 +1,7 @@
 //! What an instruction of a member of a group does to the sets of its bytes.
 #![tactic(auto)]
 
+mod moving;
 mod running;
 mod table;
 mod taking;

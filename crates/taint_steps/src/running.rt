@@ -6,6 +6,7 @@ ghost use Rattle.taint_members.specs.Access.{HoldsKey};
 ghost use Rattle.taint_steps.specs.Running.{Runs, StoresSegment, StoresWindow, WritesRegister};
 ghost use Rattle.taint_steps.specs.Taking.{AreRawIn, AreSetsIn};
 
+use crate::moving::{move_loaded, move_stored};
 use crate::taking::{Rules, registers, taken};
 use arn_base::{Cpu, NoMemory};
 use rv64_core::accessed;
@@ -47,18 +48,23 @@ fn store(
     ensures others { member.new ≡ record member.old { window = member.new.window } }
     ensures keys { length segments.new ≡ length segments.old }
 {
+    let len = stored_len(instr);
+    if len == 0 {
+        return Ok(());
+    }
     match accessed(instr, before) {
-        Some(at) => write(member, segments, at, &numbers[..stored_len(instr)]),
+        Some(at) => write(member, segments, at, &numbers[..len]),
         None => Ok(()),
     }
 }
 
-// A member runs any instruction that the next one follows.
-#[inline(always)]
+// A member runs any instruction that the next one follows. It gets the instruction by value, so that that of the caller needs no
+// place in memory.
+#[inline(never)]
 fn run_any(
     sets: &mut Sets,
-    rules: Rules,
-    instr: &Instr,
+    rules: &Rules,
+    instr: Instr,
     before: &Cpu,
     member: &mut MemberSets,
     segments: &mut [SetNumbers],
@@ -66,14 +72,14 @@ fn run_any(
     requires held { HoldsKey member.old.segment segments.old }
     requires registers { AreSetsIn sets.old member.old.registers }
     requires memory { AreRawIn sets.old member.old segments.old }
-    ensures runs { OnOk result (Runs rules instr.now before.now member.old member.new
+    ensures runs { OnOk result (Runs rules.now instr before.now member.old member.new
         segments.old segments.new sets.old sets.new) }
     ensures before { StandAsBefore sets.old sets.new }
     ensures keys { length segments.new ≡ length segments.old }
 {
-    let numbers = taken(sets, rules, instr, before, member, segments)?;
-    write_register(&mut member.registers, rd(instr), &numbers);
-    store(instr, before, member, segments, &numbers)
+    let numbers = taken(sets, rules, &instr, before, member, segments)?;
+    write_register(&mut member.registers, rd(&instr), &numbers);
+    store(&instr, before, member, segments, &numbers)
 }
 
 /// A member runs an instruction that the next one follows: its register, or the bytes that it stores, have the sets
@@ -81,7 +87,7 @@ fn run_any(
 #[inline(always)]
 pub fn run(
     sets: &mut Sets,
-    rules: Rules,
+    rules: &Rules,
     instr: &Instr,
     before: &Cpu,
     member: &mut MemberSets,
@@ -90,7 +96,7 @@ pub fn run(
     requires held { HoldsKey member.old.segment segments.old }
     requires registers { AreSetsIn sets.old member.old.registers }
     requires memory { AreRawIn sets.old member.old segments.old }
-    ensures runs { OnOk result (Runs rules instr.now before.now member.old member.new
+    ensures runs { OnOk result (Runs rules.now instr.now before.now member.old member.new
         segments.old segments.new sets.old sets.new) }
     ensures before { StandAsBefore sets.old sets.new }
     ensures keys { length segments.new ≡ length segments.old }
@@ -102,5 +108,11 @@ pub fn run(
         write_register(&mut member.registers, rd(instr), &numbers);
         return Ok(());
     }
-    run_any(sets, rules, instr, before, member, segments)
+    if move_loaded(sets, rules, instr, before, member) {
+        return Ok(());
+    }
+    if move_stored(sets, rules, instr, before, member)? {
+        return Ok(());
+    }
+    run_any(sets, rules, *instr, before, member, segments)
 }

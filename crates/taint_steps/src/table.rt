@@ -16,14 +16,14 @@ use taint_pages::SetNumbers;
 #[inline(always)]
 fn run_entry(
     sets: &mut Sets,
-    rules: Rules,
+    rules: &Rules,
     instr: &Instr,
     before: &Cpu,
     entry: &mut Option<MemberSets>,
     segments: &mut [SetNumbers],
 ) -> Result<(), NoMemory>
     requires { IfSome entry.old (IsReady sets.old segments.old) }
-    ensures runs { OnOk result (RunsEntry entry.old entry.new rules instr.now before.now
+    ensures runs { OnOk result (RunsEntry entry.old entry.new rules.now instr.now before.now
         segments.old segments.new sets.old sets.new) }
     ensures before { StandAsBefore sets.old sets.new }
     ensures keys { length segments.new ≡ length segments.old }
@@ -39,7 +39,7 @@ fn run_entry(
 #[inline(always)]
 pub fn run_member(
     sets: &mut Sets,
-    rules: Rules,
+    rules: &Rules,
     instr: &Instr,
     before: &Cpu,
     pid: u32,
@@ -47,7 +47,7 @@ pub fn run_member(
     segments: &mut [SetNumbers],
 ) -> Result<(), NoMemory>
     requires { IfSome (nth members.old pid) (IsReady sets.old segments.old) }
-    ensures runs { OnOk result (RunsMember (nth members.old pid) pid rules instr.now before.now
+    ensures runs { OnOk result (RunsMember (nth members.old pid) pid rules.now instr.now before.now
         record { members = members.old; segments = segments.old; sets = sets.old }
         record { members = members.new; segments = segments.new; sets = sets.new }) }
     ensures before { StandAsBefore sets.old sets.new }

@@ -28,7 +28,7 @@ static NO_BYTES: [u32; 8] = [0; 8];
 
 /// The numbers of the bytes of a register, zeros for x0 and where none is named.
 #[inline(always)]
-fn bytes_of(row: &Row, reg: Option<Reg>) -> &[u32]
+pub fn bytes_of(row: &Row, reg: Option<Reg>) -> &[u32]
     ensures { IsRegister row.now (unwrap_or reg 0) result.now }
 {
     match reg {
@@ -66,7 +66,7 @@ fn loaded(instr: &Instr, before: &Cpu, member: &MemberSets, segments: &[SetNumbe
 #[inline(always)]
 fn loaded_sets(
     sets: &mut Sets,
-    rules: Rules,
+    rules: &Rules,
     instr: &Instr,
     before: &Cpu,
     member: &MemberSets,
@@ -75,7 +75,7 @@ fn loaded_sets(
     requires held { HoldsKey member.now.segment segments.now }
     requires memory { AreRawIn sets.old member.now segments.now }
     ensures loads { IfOk result
-        (Loads sets.old sets.new rules instr.now before.now member.now segments.now) }
+        (Loads sets.old sets.new rules.now instr.now before.now member.now segments.now) }
     ensures before { StandAsBefore sets.old sets.new }
 {
     let _ = sets.empty();
@@ -89,7 +89,7 @@ fn loaded_sets(
 #[inline(always)]
 pub fn taken(
     sets: &mut Sets,
-    rules: Rules,
+    rules: &Rules,
     instr: &Instr,
     before: &Cpu,
     member: &MemberSets,
@@ -99,7 +99,7 @@ pub fn taken(
     requires registers { AreSetsIn sets.old member.now.registers }
     requires memory { AreRawIn sets.old member.now segments.now }
     ensures takes { IfOk result
-        (Takes sets.old sets.new rules instr.now before.now member.now segments.now) }
+        (Takes sets.old sets.new rules.now instr.now before.now member.now segments.now) }
     ensures before { StandAsBefore sets.old sets.new }
 {
     let loaded = loaded_sets(sets, rules, instr, before, member, segments)?;

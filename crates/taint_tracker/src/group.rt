@@ -105,7 +105,7 @@ impl Group {
         tables_run();
         run_member(
             &mut self.sets,
-            self.rules,
+            &self.rules,
             instr,
             before,
             pid,

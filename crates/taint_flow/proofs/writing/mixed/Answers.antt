@@ -11,7 +11,7 @@ use Rattle.taint_flow.proofs.writing.mixed.Goals.{then-ne+in_ok-set-2, else-ne}
 pub loop-byte-init : goal.loop-byte-init
 loop-byte-init c =
     let number = number_of c.args.first.now c.args.second.now c.args.loaded.now in
-    let table = operands c.args.linkage c.args.instr.now in
+    let table = operands c.args.linkage c.args.instr in
     let known : Knows c.args.sets.now c.gather.new.sets number c.inputs-masks.result c.in_ok-set.set =
     λ taken exact. takes-named c.args.sets.now c.args.sets.now c.gather.new.sets c.args.first.now c.args.second.now c.args.loaded.now c.inputs-masks.result taken c.in_ok-set.set
     c.requires.first c.requires.second c.requires.loaded (before-refl c.args.sets.now) exact c.in_ok-set.ensures.gathers in
@@ -26,7 +26,7 @@ pub loop-byte-preserved : goal.loop-byte-preserved
 loop-byte-preserved c =
     let old = c.args.sets.now in
     let number = number_of c.args.first.now c.args.second.now c.args.loaded.now in
-    let table = operands c.args.linkage c.args.instr.now in
+    let table = operands c.args.linkage c.args.instr in
     let i = c.loop-byte.byte in
     let known = c.loop-byte.invariant.known in
     let step : StandAsBefore c.loop-byte.sets c.if-ne.sets × Knows old c.if-ne.sets number c.inputs-next.result c.if-ne.set × (c.if-ne.masks ≡ c.inputs-next.result) = elim c.if-ne.branch [

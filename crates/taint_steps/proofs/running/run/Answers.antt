@@ -34,7 +34,7 @@ returns-in-Some-clause-runs c =
         of_first = c.registers.ensures.first;
         of_second = c.registers.ensures.second;
         read = subst (λ o. IsRead o (loaded_len instr) m c.args.segments.now nothing) (sym apart) (first-none no_bytes);
-        resolved = resolves-none sets c.args.rules.begun is_set;
+        resolved = resolves-none sets c.args.rules.now.begun is_set;
         stand = record { there = λ set h. h; same = λ set h. refl };
         results = c.in-Some.ensures.results c.registers.result.0.now c.registers.result.1.now nothing;
       };

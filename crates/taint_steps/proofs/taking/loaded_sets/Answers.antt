@@ -21,8 +21,8 @@ loads-some (Err e) old mid rules instr before m segments raw read resolved = res
 
 pub returns-then-loaded_len-eq0-clause-loads : goal.returns-then-loaded_len-eq0-clause-loads
 returns-then-loaded_len-eq0-clause-loads c =
-    loads-none c.args.sets.now c.args.rules c.args.instr.now c.args.before.now c.args.member.now c.args.segments.now (subst (IsSet c.args.sets.now) c.empty.ensures.zero c.empty.ensures.set) (sym c.loaded_len.ensures.len ∙ c.if-loaded_len-eq0.true)
+    loads-none c.args.sets.now c.args.rules.now c.args.instr.now c.args.before.now c.args.member.now c.args.segments.now (subst (IsSet c.args.sets.now) c.empty.ensures.zero c.empty.ensures.set) (sym c.loaded_len.ensures.len ∙ c.if-loaded_len-eq0.true)
 
 pub returns-clause-loads : goal.returns-clause-loads
 returns-clause-loads c =
-    loads-some c.resolve_all.result c.args.sets.now c.resolve_all.new.sets c.args.rules c.args.instr.now c.args.before.now c.args.member.now c.args.segments.now c.loaded.result c.loaded.ensures c.resolve_all.ensures.resolved
+    loads-some c.resolve_all.result c.args.sets.now c.resolve_all.new.sets c.args.rules.now c.args.instr.now c.args.before.now c.args.member.now c.args.segments.now c.loaded.result c.loaded.ensures c.resolve_all.ensures.resolved

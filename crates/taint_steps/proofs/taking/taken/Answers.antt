@@ -38,7 +38,7 @@ trans old mid new a b = record { there = λ set h. b.there set (a.there set h); 
 
 pub returns-clause-takes : goal.returns-clause-takes
 returns-clause-takes c =
-    takes c.results.result c.args.sets.now c.loaded_sets.new.sets c.results.new.sets c.args.rules c.args.instr.now c.args.before.now c.args.member.now c.args.segments.now
+    takes c.results.result c.args.sets.now c.loaded_sets.new.sets c.results.new.sets c.args.rules.now c.args.instr.now c.args.before.now c.args.member.now c.args.segments.now
     c.registers.result.0.now c.registers.result.1.now c.in_ok-loaded.loaded (named.rs1_of c.args.instr.now) (named.rs2_of c.args.instr.now)
     refl refl c.registers.ensures.first c.registers.ensures.second c.in_ok-loaded.ensures.loads c.loaded_sets.ensures.before c.results.ensures.results
 

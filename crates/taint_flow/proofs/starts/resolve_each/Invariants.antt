@@ -2,7 +2,7 @@ use Rattle.std.proofs.Common.{◌≡◌, ◌<◌, ℕ, length, slice_index}
 use Rattle.set_store.specs.Sets.{StandAsBefore}
 use Rattle.taint_flow.specs.Gathered.{byte_count}
 use Rattle.taint_flow.specs.Starts.{IsResolved}
-use Rattle.taint_flow.proofs.starts.resolve_all.Given as goal
+use Rattle.taint_flow.proofs.starts.resolve_each.Given as goal
 
 abbrev pub invariant-loop-i : goal.invariant-loop-i
 invariant-loop-i l = record {

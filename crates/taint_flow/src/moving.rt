@@ -1,0 +1,57 @@
+// Instructions that move sets as they are between a register and memory.
+ghost use Rattle.std.specs.Prelude.{ℕ, List, ◌↔◌, IsTrue};
+ghost use Rattle.rv64_model.specs.Carries.{operands};
+ghost use Rattle.rv64_model.specs.Operands.{stored_len};
+ghost use Rattle.taint_flow.specs.Flow.{Moves};
+ghost use Rattle.taint_flow.specs.Gathered.{AreNumbers, number_of};
+ghost use Rattle.taint_flow.specs.Moving.{Fills, MovesLoaded, MovesStored};
+ghost use Rattle.taint_flow.specs.Names.{loaded_len};
+ghost use Rattle.taint_flow.specs.Results.{AreResults};
+
+use rv64_isa::{Instr, LoadOp};
+use rv64_model::Linkage;
+use set_store::Sets;
+
+/// Whether a load fills a register with the sets of what it loads, and leaves those of the other bytes empty.
+#[inline(always)]
+fn fills(linkage: Linkage, op: LoadOp) -> bool
+    ensures { IsTrue result ↔ Fills linkage op }
+{
+    match (linkage, op) {
+        (Linkage::Copy, _)
+        | (Linkage::Data, LoadOp::Ld | LoadOp::Lbu | LoadOp::Lhu | LoadOp::Lwu) => true,
+        _ => false,
+    }
+}
+
+/// Whether an instruction moves the sets of the bytes that it loads to a register as they are. The sets are asked for what is
+/// promised of the empty one alone.
+#[inline(always)]
+pub fn moves_loaded(sets: &Sets, linkage: Linkage, instr: &Instr) -> bool
+    ensures moves { IsTrue result ↔ MovesLoaded linkage instr.now }
+    ensures results { MovesLoaded linkage instr.now → (first second loaded numbers : List ℕ) →
+        AreNumbers sets.now loaded → Moves loaded (loaded_len instr.now) numbers →
+        AreResults sets.now sets.now (number_of first second loaded) (operands linkage instr.now) numbers }
+{
+    let _ = sets.empty();
+    match *instr {
+        Instr::Load { op, rd, .. } => rd.number() > 0 && fills(linkage, op),
+        _ => false,
+    }
+}
+
+/// Whether an instruction moves the sets of a register's bytes to those that it stores as they are. The sets are asked for what is
+/// promised of the empty one alone.
+#[inline(always)]
+pub fn moves_stored(sets: &Sets, linkage: Linkage, instr: &Instr) -> bool
+    ensures moves { IsTrue result ↔ MovesStored linkage instr.now }
+    ensures results { MovesStored linkage instr.now → (first second loaded numbers : List ℕ) →
+        AreNumbers sets.now second → Moves second (stored_len instr.now) numbers →
+        AreResults sets.now sets.now (number_of first second loaded) (operands linkage instr.now) numbers }
+{
+    let _ = sets.empty();
+    match instr {
+        Instr::Store { .. } => linkage != Linkage::Index,
+        _ => false,
+    }
+}

@@ -1,0 +1,295 @@
+-- Sets that are moved whole between a register and the private window.
+use Rattle.std.proofs.Common.{◌≡◌, ℕ, zero, suc, ◌+◌, ◌-◌, ◌<◌, ◌≤◌, ◌==◌, ◌&&◌, Bool, true, false, nat_lt, nat_le, if◌then◌else◌, IsTrue, List, [], ◌∷◌, ◌++◌, length, take, replicate, slice_index, Option, None, Some, refl, sym, ap, subst, ◌∙◌, arith, length-append}
+use Rattle.std.proofs.lemmas.Bool.{lt-ltb, le-ltb, leb-true, ltb-true, ltb-false, eqb-true}
+use Rattle.std.proofs.lemmas.List.{get_or_append_left, get_or-append_right, get_or-take, length-replicate, length-take-le}
+use Rattle.std.proofs.Math.Seq.{take-append_seam}
+use Rattle.arn_base.specs.declared.machine.Cpu.{Cpu}
+use Rattle.acts_model.specs.Transfers.{is_private, is_shared}
+use Rattle.parts_model.specs.declared.limits.TheConstants.{WINDOW_START, WINDOW_END, SEGMENT_START, SEGMENT_END}
+use Rattle.rv64_isa.specs.declared.instruction.Instr.{Instr}
+use Rattle.rv64_isa.specs.declared.instruction.Instr.TheVariants.{Load, Store}
+use Rattle.rv64_model.specs.declared.linkage.Linkage.{Linkage}
+use Rattle.rv64_model.specs.Carries.{operands}
+use Rattle.rv64_model.specs.Operands.{accessed, rd_of, rs1_of, rs2_of, stored_len}
+use Rattle.set_store.specs.declared.item.Item.{Item}
+use Rattle.set_store.specs.Sets.{IsSet, members_of}
+use Rattle.taint_flow.specs.Flow.{Moves}
+use Rattle.taint_flow.specs.Gathered.{AreNumbers, first_start, number_of}
+use Rattle.taint_flow.specs.Moving.{MovesLoaded, MovesStored}
+use Rattle.taint_flow.specs.Names.{loaded_len}
+use Rattle.taint_flow.specs.Results.{AreResults}
+use Rattle.taint_flow.specs.Starts.{IsResolved}
+use Rattle.taint_members.specs.Access.{ByTest, Segments, WritesHeld, number_at, shared_number}
+use Rattle.taint_members.specs.declared.member.MemberSets.{MemberSets}
+use Rattle.taint_pages.specs.Pages.{Puts}
+use Rattle.taint_pages.specs.Rows.{AreBelow, PutsFrom, byte_in, number_from}
+use Rattle.taint_steps.specs.Running.{Runs, StoresSegment, StoresWindow, WritesRegister}
+use Rattle.taint_steps.specs.Taking.{AreRawIn, AreSetsIn, IsRead, IsRegister}
+use Rattle.taint_steps.specs.declared.taking.Rules.{Rules}
+use Rattle.taint_steps.proofs.NothingLoaded.{nothing, read-none, resolves-none}
+use Rattle.taint_steps.proofs.NothingStored.{segment-none, window-none}
+
+-- eight numbers, by their places
+abbrev pub eight : (ℕ → ℕ) → List ℕ
+eight f = f 0 ∷ f 1 ∷ f 2 ∷ f 3 ∷ f 4 ∷ f 5 ∷ f 6 ∷ f 7 ∷ []
+
+eight-at : (f : ℕ → ℕ) (i : ℕ) → i < 8 → slice_index (eight f) i ≡ f i
+eight-at f zero h = refl
+eight-at f (suc zero) h = refl
+eight-at f (suc (suc zero)) h = refl
+eight-at f (suc (suc (suc zero))) h = refl
+eight-at f (suc (suc (suc (suc zero)))) h = refl
+eight-at f (suc (suc (suc (suc (suc zero))))) h = refl
+eight-at f (suc (suc (suc (suc (suc (suc zero)))))) h = refl
+eight-at f (suc (suc (suc (suc (suc (suc (suc zero))))))) h = refl
+eight-at f (suc (suc (suc (suc (suc (suc (suc (suc i)))))))) h = absurd (omega arith)
+
+eight-behind : (f : ℕ → ℕ) (i : ℕ) → 8 ≤ i → slice_index (eight f) i ≡ 0
+eight-behind f (suc (suc (suc (suc (suc (suc (suc (suc i)))))))) h = refl
+eight-behind f i h = absurd (omega arith)
+
+zero-at : (n i : ℕ) → slice_index (replicate n 0) i ≡ 0
+zero-at zero i = refl
+zero-at (suc n) zero = refl
+zero-at (suc n) (suc i) = zero-at n i
+
+-- a number that stands for its own set
+resolves : (sets : List (List Item)) (begun number : ℕ) → IsSet sets number → number < first_start → IsResolved sets sets begun number number
+resolves sets begun number there small = record {
+  there = there;
+  members = ap (λ (t : Bool). if t then members_of sets number else record { event = begun; at = number - first_start } ∷ []) (sym (lt-ltb number first_start small));
+}
+
+-- the window is what it was
+window-same : (at : Option ℕ) (numbers : List ℕ) (m n : MemberSets) → n.window ≡ m.window → StoresWindow at numbers m m → StoresWindow at numbers m n
+window-same None numbers m n e stores = e
+window-same (Some at) numbers m n e stores = subst (λ (w : List ℕ). ByTest (is_private at) (Puts (at - WINDOW_START) numbers m.window w) (w ≡ m.window)) (sym e) stores
+
+-- a load stores nothing
+loads-stored : (linkage : Linkage) (instr : Instr) → MovesLoaded linkage instr → stored_len instr ≡ 0
+loads-stored linkage (Load op rd rs1 imm) is = refl
+loads-stored linkage other is = absurd is
+
+module _ (sets : List (List Item)) (rules : Rules) (instr : Instr) (before : Cpu) (m n : MemberSets) (segments : Segments) (at reg : ℕ) (first second : List ℕ)
+    (empty : IsSet sets 0) (loads : MovesLoaded rules.linkage instr)
+    (results : (first second loaded numbers : List ℕ) → AreNumbers sets loaded → Moves loaded (loaded_len instr) numbers → AreResults sets sets (number_of first second loaded) (operands rules.linkage instr) numbers)
+    (few : loaded_len instr ≤ 8) (is_at : accessed instr before ≡ Some at) (is_reg : reg ≡ rd_of instr) (above : 0 < reg)
+    (private : IsTrue (is_private at)) (below : AreBelow first_start m.window (at - WINDOW_START) (loaded_len instr))
+    (puts : PutsFrom m.window (at - WINDOW_START) (loaded_len instr) reg m.registers n.registers) (others : n ≡ record m { registers = n.registers })
+    (of_first : IsRegister m.registers (rs1_of instr) first) (of_second : IsRegister m.registers (rs2_of instr) second) (raw : AreRawIn sets m segments) where
+  abbrev number : ℕ → ℕ
+  number = number_from m.window (at - WINDOW_START) (loaded_len instr)
+
+  abbrev numbers : List ℕ
+  numbers = eight number
+
+  number-in : (i : ℕ) → i < loaded_len instr → number i ≡ slice_index m.window (at - WINDOW_START + i)
+  number-in i h = ap (λ (t : Bool). if t then slice_index m.window (at - WINDOW_START + i) else 0) (lt-ltb i (loaded_len instr) h)
+
+  number-behind : (i : ℕ) → loaded_len instr ≤ i → number i ≡ 0
+  number-behind i h = ap (λ (t : Bool). if t then slice_index m.window (at - WINDOW_START + i) else 0) (le-ltb i (loaded_len instr) h)
+
+  number-read : (i : ℕ) → slice_index m.window (at - WINDOW_START + i) ≡ number_at m segments at i
+  number-read i = sym (ap (λ (t : Bool). if t then slice_index m.window (at - WINDOW_START + i) else shared_number m.segment segments at i) private)
+
+  small : (i : ℕ) → number i < first_start
+  small i = by_test (nat_lt i (loaded_len instr)) refl
+    where
+      by_test : (t : Bool) → nat_lt i (loaded_len instr) ≡ t → number i < first_start
+      by_test true e = let h = ltb-true i (loaded_len instr) e in subst (λ (k : ℕ). k < first_start) (sym (number-in i h)) (below i h)
+      by_test false e = subst (λ (k : ℕ). k < first_start) (sym (number-behind i (ltb-false i (loaded_len instr) e))) (omega arith)
+
+  set : (i : ℕ) → IsSet sets (number i)
+  set i = by_test (nat_lt i (loaded_len instr)) refl
+    where
+      by_test : (t : Bool) → nat_lt i (loaded_len instr) ≡ t → IsSet sets (number i)
+      by_test true e =
+          let h = ltb-true i (loaded_len instr) e in
+          let same = number-in i h ∙ number-read i in
+          subst (IsSet sets) (sym same) (raw at i (subst (λ (k : ℕ). k < first_start) same (small i)))
+      by_test false e = subst (IsSet sets) (sym (number-behind i (ltb-false i (loaded_len instr) e))) empty
+
+  index : (i : ℕ) → i < 8 → slice_index numbers i ≡ number i
+  index i h = eight-at number i h
+
+  small-at : (i : ℕ) → slice_index numbers i < first_start
+  small-at i = by_test (nat_lt i 8) refl
+    where
+      by_test : (t : Bool) → nat_lt i 8 ≡ t → slice_index numbers i < first_start
+      by_test true e = subst (λ (k : ℕ). k < first_start) (sym (index i (ltb-true i 8 e))) (small i)
+      by_test false e = subst (λ (k : ℕ). k < first_start) (sym (eight-behind number i (ltb-false i 8 e))) (omega arith)
+
+  zeros : (i : ℕ) → loaded_len instr ≤ i → slice_index numbers i ≡ 0
+  zeros i h = by_test (nat_lt i 8) refl
+    where
+      by_test : (t : Bool) → nat_lt i 8 ≡ t → slice_index numbers i ≡ 0
+      by_test true e = index i (ltb-true i 8 e) ∙ number-behind i h
+      by_test false e = eight-behind number i (ltb-false i 8 e)
+
+  is_read : IsRead (accessed instr before) (loaded_len instr) m segments numbers
+  is_read = subst (λ (o : Option ℕ). IsRead o (loaded_len instr) m segments numbers) (sym is_at) (record {
+    len = refl;
+    bytes = λ k h. let within : k < 8 = omega (arith, h, few) in index k within ∙ number-in k h ∙ number-read k;
+    zeros = zeros;
+  })
+
+  are_numbers : AreNumbers sets numbers
+  are_numbers = record { len = refl; set = λ i h. subst (IsSet sets) (sym (index i h)) (set i) }
+
+  moves : Moves numbers (loaded_len instr) numbers
+  moves = record { len = refl; small = small-at; same = λ i h inside. refl; none = λ i h behind. zeros i behind }
+
+  register : WritesRegister (rd_of instr) numbers m.registers n.registers
+  register r i h = puts r i h ∙ by_test (r == reg) refl ∙ ap (λ (k : ℕ). if (r == k) && nat_lt 0 r then slice_index numbers i else byte_in m.registers r i) is_reg
+    where
+      by_test : (t : Bool) → (r == reg) ≡ t → (if r == reg then number i else byte_in m.registers r i) ≡ (if (r == reg) && nat_lt 0 r then slice_index numbers i else byte_in m.registers r i)
+      by_test true e =
+          let is : r ≡ reg = eqb-true r reg e in
+          let some : 0 < r = omega (arith, is, above) in
+          rw (e, lt-ltb 0 r some) (sym (index i h))
+      by_test false e = rw e refl
+
+  pub loaded-runs : Runs rules instr before m n segments segments sets sets
+  loaded-runs = record {
+    numbers = numbers;
+    takes = record {
+      first = first;
+      second = second;
+      raw = numbers;
+      loaded = numbers;
+      mid = sets;
+      of_first = of_first;
+      of_second = of_second;
+      read = is_read;
+      resolved = record { len = refl; all = λ i h. resolves sets rules.begun (slice_index numbers i) (are_numbers.set i h) (small-at i) };
+      stand = record { there = λ s h. h; same = λ s h. refl };
+      results = results first second numbers numbers are_numbers moves;
+    };
+    register = register;
+    window = window-same (accessed instr before) (take (stored_len instr) numbers) m n (ap (λ (k : MemberSets). k.window) others) (window-none (accessed instr before) (stored_len instr) numbers m (loads-stored rules.linkage instr loads));
+    segment = segment-none (accessed instr before) (stored_len instr) numbers m.segment segments (loads-stored rules.linkage instr loads);
+    others = others ∙ ap (λ (w : List ℕ). record m { registers = n.registers; window = w }) (sym (ap (λ (k : MemberSets). k.window) others));
+  }
+
+both : (a b : Bool) → (a && b) ≡ true → (a ≡ true) × (b ≡ true)
+both true true h = (refl, refl)
+both true false h = cc
+both false b h = cc
+
+-- an address of the private window isn't shared
+not-shared : (at : ℕ) → is_private at ≡ true → is_shared at ≡ false
+not-shared at h = by (is_shared at) refl where
+  by : (b : Bool) → is_shared at ≡ b → is_shared at ≡ false
+  by true e =
+      let private = both (nat_le WINDOW_START at) (nat_lt at WINDOW_END) h in
+      let shared = both (nat_le SEGMENT_START at) (nat_lt at SEGMENT_END) e in
+      let below = ltb-true at WINDOW_END private.1 in
+      let above = leb-true SEGMENT_START at shared.0 in
+      absurd (omega arith)
+  by false e = e
+
+-- a register's numbers are those of sets
+register-len : (row : List ℕ) (reg : ℕ) (numbers : List ℕ) → IsRegister row reg numbers → length numbers ≡ 8
+register-len row zero _ is = is.len
+register-len row (suc reg) _ is = is.1.len
+
+register-set : (sets : List (List Item)) (row : List ℕ) (reg : ℕ) (numbers : List ℕ) → IsSet sets 0 → AreSetsIn sets row → IsRegister row reg numbers → (i : ℕ) → i < 8 → IsSet sets (slice_index numbers i)
+register-set sets row zero numbers empty held is i h = subst (IsSet sets) (sym (is.bytes i h)) empty
+register-set sets row (suc reg) numbers empty held is i h = subst (IsSet sets) (sym (is.1.bytes i h)) (held (suc reg) i (omega arith) is.0 h)
+
+-- a store loads nothing, and writes no register
+stores-loaded : (linkage : Linkage) (instr : Instr) → MovesStored linkage instr → loaded_len instr ≡ 0
+stores-loaded linkage (Store op rs1 rs2 imm) is = refl
+stores-loaded linkage other is = absurd is
+
+stores-rd : (linkage : Linkage) (instr : Instr) → MovesStored linkage instr → rd_of instr ≡ 0
+stores-rd linkage (Store op rs1 rs2 imm) is = refl
+stores-rd linkage other is = absurd is
+
+writes-none : (all row : List ℕ) → WritesRegister 0 all row row
+writes-none all row zero i h = refl
+writes-none all row (suc r) i h = by_test (suc r == 0) refl
+  where
+    by_test : (t : Bool) → (suc r == 0) ≡ t → byte_in row (suc r) i ≡ (if (suc r == 0) && nat_lt 0 (suc r) then slice_index all i else byte_in row (suc r) i)
+    by_test true e = let is = eqb-true (suc r) 0 e in absurd (omega (arith, is))
+    by_test false e = rw e refl
+
+module _ (sets : List (List Item)) (rules : Rules) (instr : Instr) (before : Cpu) (m n : MemberSets) (segments : Segments) (at : ℕ) (first second : List ℕ)
+    (empty : IsSet sets 0) (held : AreSetsIn sets m.registers) (stores : MovesStored rules.linkage instr)
+    (results : (first second loaded numbers : List ℕ) → AreNumbers sets second → Moves second (stored_len instr) numbers → AreResults sets sets (number_of first second loaded) (operands rules.linkage instr) numbers)
+    (few : stored_len instr ≤ 8) (is_at : accessed instr before ≡ Some at) (private : IsTrue (is_private at))
+    (small : (i : ℕ) → i < length (take (stored_len instr) second) → slice_index (take (stored_len instr) second) i < first_start)
+    (puts : Puts (at - WINDOW_START) (take (stored_len instr) second) m.window n.window) (others : n ≡ record m { window = n.window })
+    (of_first : IsRegister m.registers (rs1_of instr) first) (of_second : IsRegister m.registers (rs2_of instr) second) where
+  abbrev len : ℕ
+  len = stored_len instr
+
+  abbrev taken : List ℕ
+  taken = take len second
+
+  abbrev filled : List ℕ
+  filled = taken ++ replicate (8 - len) 0
+
+  taken-len : length taken ≡ len
+  taken-len = length-take-le len second (omega (arith, few, register-len m.registers (rs2_of instr) second of_second))
+
+  filled-len : length filled ≡ 8
+  filled-len = length-append taken (replicate (8 - len) 0) ∙ (let zeros = length-replicate {A = ℕ} (8 - len) 0 in omega (arith, taken-len, zeros, few))
+
+  filled-low : (i : ℕ) → i < len → slice_index filled i ≡ slice_index taken i
+  filled-low i h = get_or_append_left taken (replicate (8 - len) 0) 0 i (subst (λ (k : ℕ). i < k) (sym taken-len) h)
+
+  filled-high : (i : ℕ) → len ≤ i → slice_index filled i ≡ 0
+  filled-high i h = get_or-append_right taken (replicate (8 - len) 0) len i 0 taken-len h ∙ zero-at (8 - len) (i - len)
+
+  filled-small : (i : ℕ) → slice_index filled i < first_start
+  filled-small i = by_test (nat_lt i len) refl
+    where
+      by_test : (t : Bool) → nat_lt i len ≡ t → slice_index filled i < first_start
+      by_test true e =
+          let h = ltb-true i len e in
+          subst (λ (k : ℕ). k < first_start) (sym (filled-low i h)) (small i (subst (λ (k : ℕ). i < k) (sym taken-len) h))
+      by_test false e = subst (λ (k : ℕ). k < first_start) (sym (filled-high i (ltb-false i len e))) (omega arith)
+
+  filled-take : take len filled ≡ taken
+  filled-take = ap (λ (k : ℕ). take k filled) (sym taken-len) ∙ take-append_seam taken (replicate (8 - len) 0)
+
+  moving : Moves second len filled
+  moving = record {
+    len = filled-len;
+    small = filled-small;
+    same = λ i h inside. filled-low i inside ∙ get_or-take len second i 0 inside;
+    none = λ i h behind. filled-high i behind;
+  }
+
+  window : StoresWindow (accessed instr before) (take len filled) m n
+  window =
+      subst (λ (o : Option ℕ). StoresWindow o (take len filled) m n) (sym is_at)
+      (subst (λ (l : List ℕ). StoresWindow (Some at) l m n) (sym filled-take) (subst (λ (t : Bool). ByTest t (Puts (at - WINDOW_START) taken m.window n.window) (n.window ≡ m.window)) (sym private) puts))
+
+  segment : StoresSegment (accessed instr before) (take len filled) m.segment segments segments
+  segment =
+      subst (λ (o : Option ℕ). StoresSegment o (take len filled) m.segment segments segments) (sym is_at)
+      (subst (λ (t : Bool). ByTest t (WritesHeld at (take len filled) m.segment segments segments) (segments ≡ segments)) (sym (not-shared at private)) refl)
+
+  pub stored-runs : Runs rules instr before m n segments segments sets sets
+  stored-runs = record {
+    numbers = filled;
+    takes = record {
+      first = first;
+      second = second;
+      raw = nothing;
+      loaded = nothing;
+      mid = sets;
+      of_first = of_first;
+      of_second = of_second;
+      read = read-none (accessed instr before) (loaded_len instr) m segments (stores-loaded rules.linkage instr stores);
+      resolved = resolves-none sets rules.begun empty;
+      stand = record { there = λ s h. h; same = λ s h. refl };
+      results = results first second nothing filled (record { len = register-len m.registers (rs2_of instr) second of_second; set = λ i h. register-set sets m.registers (rs2_of instr) second empty held of_second i h }) moving;
+    };
+    register = subst (λ (k : MemberSets). WritesRegister (rd_of instr) filled m.registers k.registers) (sym others) (subst (λ (rd : ℕ). WritesRegister rd filled m.registers m.registers) (sym (stores-rd rules.linkage instr stores)) (writes-none filled m.registers));
+    window = window;
+    segment = segment;
+    others = others ∙ ap (λ (r : List ℕ). record m { registers = r; window = n.window }) (sym (ap (λ (k : MemberSets). k.registers) others));
+  }

@@ -1,0 +1,108 @@
+// Instructions that move sets as they are between a register and the private window.
+ghost use Rattle.std.specs.Prelude.{◌≡◌, ◌<◌, ◌≤◌, ◌-◌, ℕ, IsTrue, false, length, slice_index, IfOk};
+ghost use Rattle.acts_model.specs.Transfers.{is_private};
+ghost use Rattle.parts_model.specs.declared.limits.TheConstants as limits;
+ghost use Rattle.taint_flow.specs.Gathered.{first_start};
+ghost use Rattle.taint_members.specs.Access.{Segments};
+ghost use Rattle.taint_pages.specs.Rows.{AreBelow, PutsFrom};
+ghost use Rattle.taint_steps.specs.Running.{Runs};
+ghost use Rattle.taint_steps.specs.Taking.{AreRawIn, AreSetsIn};
+
+use crate::taking::{Rules, bytes_of, registers};
+use arn_base::{Cpu, NoMemory};
+use rv64_core::accessed;
+use rv64_isa::{Instr, Reg};
+use set_store::Sets;
+use taint_flow::{FIRST_START, loaded_len, moves_loaded, moves_stored, rd, rs2, stored_len};
+use taint_members::{MemberSets, load_below, write_window};
+
+/// Sets the numbers of a register to those of so many bytes from an address in the private window on, and zeros behind them, where
+/// it isn't x0 and these are those of sets. False says that nothing was done.
+#[inline(always)]
+fn load_to(member: &mut MemberSets, at: u64, len: usize, reg: Reg) -> bool
+    requires { len ≤ 8 }
+    ensures above { IsTrue result → 0 < reg }
+    ensures private { IsTrue result → IsTrue (is_private at) }
+    ensures below { IsTrue result → AreBelow first_start member.old.window (at - limits.WINDOW_START) len }
+    ensures puts { IsTrue result → PutsFrom member.old.window (at - limits.WINDOW_START) len reg
+        member.old.registers member.new.registers }
+    ensures others { member.new ≡ record member.old { registers = member.new.registers } }
+    ensures kept { result ≡ false → member.new ≡ member.old }
+{
+    if reg.number() == 0 {
+        return false;
+    }
+    load_below(member, at, len, FIRST_START, reg)
+}
+
+/// Moves the sets of the bytes that an instruction loads to its register, if that is all that it does to sets and each of the
+/// bytes has one already. False says that nothing was done.
+#[inline(always)]
+pub fn move_loaded(
+    sets: &Sets,
+    rules: &Rules,
+    instr: &Instr,
+    before: &Cpu,
+    member: &mut MemberSets,
+) -> bool
+    ensures runs { IsTrue result → (segments : Segments) → AreRawIn sets.now member.old segments →
+        Runs rules.now instr.now before.now member.old member.new segments segments sets.now sets.now }
+    ensures kept { result ≡ false → member.new ≡ member.old }
+{
+    if !moves_loaded(sets, rules.linkage, instr) {
+        return false;
+    }
+    let _ = sets.empty();
+    let _ = registers(instr, member);
+    let Some(at) = accessed(instr, before) else {
+        return false;
+    };
+    let Some(reg) = rd(instr) else {
+        return false;
+    };
+    load_to(member, at, loaded_len(instr), reg)
+}
+
+/// Whether numbers are those of sets.
+#[inline(always)]
+fn are_sets(numbers: &[u32]) -> bool
+    ensures { IsTrue result → (i : ℕ) → i < length numbers.now →
+        slice_index numbers.now i < first_start }
+{
+    for number in numbers {
+        if *number >= FIRST_START {
+            return false;
+        }
+    }
+    true
+}
+
+/// Moves the sets of a register to the bytes that an instruction stores in the private window, if that is all that it does to
+/// sets. False says that nothing was done.
+#[inline(always)]
+pub fn move_stored(
+    sets: &Sets,
+    rules: &Rules,
+    instr: &Instr,
+    before: &Cpu,
+    member: &mut MemberSets,
+) -> Result<bool, NoMemory>
+    requires { AreSetsIn sets.now member.old.registers }
+    ensures runs { IfOk result (λ done. IsTrue done → (segments : Segments) →
+        Runs rules.now instr.now before.now member.old member.new segments segments sets.now sets.now) }
+    ensures kept { IfOk result (λ done. done ≡ false → member.new ≡ member.old) }
+{
+    if !moves_stored(sets, rules.linkage, instr) {
+        return Ok(false);
+    }
+    let _ = sets.empty();
+    let _ = registers(instr, member);
+    let Some(at) = accessed(instr, before) else {
+        return Ok(false);
+    };
+    let numbers = &bytes_of(&member.registers, rs2(instr))[..stored_len(instr)];
+    if !are_sets(numbers) {
+        return Ok(false);
+    }
+    write_window(&mut member.window, at, numbers)
+}
