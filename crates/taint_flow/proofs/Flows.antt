@@ -1,15 +1,12 @@
 -- The operands of a flow, bytes that are moved whole, and what their results are then.
-use Rattle.std.proofs.Common.{◌≡◌, inl, inr, ℕ, zero, ◌<◌, ◌≤◌, ◌+◌, nat_lt, Bool, true, false, List, [], ◌∷◌, ◌++◌, length, slice_index, slice_set as set, Contains, Result, Ok, Err, IfOk, refl, sym, ap, subst, ◌∙◌, arith}
+use Rattle.std.proofs.Common.{◌≡◌, ℕ, zero, ◌<◌, nat_lt, Bool, true, false, List, [], ◌∷◌, ◌++◌, slice_index, Contains, Result, Ok, Err, IfOk, refl, sym, ap, subst, ◌∙◌, arith}
 use Rattle.std.proofs.lemmas.Bool.{ltb-true, ltb-false, lt-ltb}
-use Rattle.std.proofs.lemmas.Bool.Decides.{eqb_tells}
-use Rattle.std.proofs.lemmas.Grind.{get_or-set_at}
-use Rattle.std.proofs.lemmas.List.{get_or-set_other}
 use Rattle.arn_base.specs.declared.errors.NoMemory.{NoMemory}
-use Rattle.rv64_model.specs.Carries.{Operand, Left, Right, Loaded, below, both, first_bytes, taken_if}
+use Rattle.rv64_model.specs.Carries.{Operand, Left, Right, Loaded, both, first_bytes, taken_if}
 use Rattle.set_store.specs.declared.item.Item.{Item}
 use Rattle.set_store.specs.Sets.{IsSet, members_of}
 use Rattle.taint_flow.specs.declared.flow.Flow.{Flow}
-use Rattle.taint_flow.specs.declared.flow.Flow.TheVariants.{First, Second, Memory, Rising, Carried, Bytewise}
+use Rattle.taint_flow.specs.declared.flow.Flow.TheVariants.{First, Second, Memory, Rising, Carried, Whole, Bytewise}
 use Rattle.taint_flow.specs.Flow.{IsFlow, IsWidth, Moves, reach}
 use Rattle.taint_flow.specs.Gathered.{AreNumbers, byte_count, first_start, number_of}
 use Rattle.taint_flow.specs.Results.{AreResults, TakesOperands}
@@ -36,6 +33,9 @@ pub carried-flow : (flow : Flow) (taken : ℕ → List Operand) (width : ℕ) �
     → IsWidth width × ((i : ℕ) → taken i ≡ first_bytes Left (reach width i) ++ first_bytes Right (reach width i))
 carried-flow flow taken width e is = subst (λ f. IsFlow f taken) e is
 
+pub whole-flow : (flow : Flow) (taken : ℕ → List Operand) (width : ℕ) → flow ≡ Whole width → IsFlow flow taken → IsWidth width × ((i : ℕ) → taken i ≡ first_bytes Left width)
+whole-flow flow taken width e is = subst (λ f. IsFlow f taken) e is
+
 pub bytewise-flow : (flow : Flow) (taken : ℕ → List Operand) → flow ≡ Bytewise → IsFlow flow taken → (i : ℕ) → i < byte_count → taken i ≡ both i
 bytewise-flow flow taken e is = subst (λ f. IsFlow f taken) e is
 
@@ -47,23 +47,6 @@ by-table (Ok numbers) old new number taken table same are = record {
   len = are.len;
   bytes = λ i h. subst (λ l. TakesOperands old new number l (slice_index numbers i)) (sym (same i h)) (are.bytes i h);
 }
-
--- one byte more is moved
-module _ (numbers moved : List ℕ) (n number : ℕ) (inside : n < length moved) (is : number ≡ slice_index numbers n) where
-  pub moved-small : number < first_start → ((k : ℕ) → slice_index moved k < first_start) → (k : ℕ) → slice_index (set moved n number) k < first_start
-  moved-small small all k = elim (eqb_tells k n) [
-    | inl e ↦ subst (λ (m : ℕ). m < first_start) (sym (get_or-set_at moved n k number 0 e.1 inside)) small
-    | inr e ↦ subst (λ (m : ℕ). m < first_start) (sym (get_or-set_other moved n k number 0 e.1)) (all k)
-  ]
-
-  pub moved-same : ((k : ℕ) → k < n → slice_index moved k ≡ slice_index numbers k) → (k : ℕ) → k < n + 1 → slice_index (set moved n number) k ≡ slice_index numbers k
-  moved-same all k below = elim (eqb_tells k n) [
-    | inl e ↦ get_or-set_at moved n k number 0 e.1 inside ∙ is ∙ ap (slice_index numbers) (sym e.1)
-    | inr e ↦ (let apart : k ≡ n → ⊥ = e.1 in get_or-set_other moved n k number 0 apart ∙ all k (let less : k < n = omega arith in less))
-  ]
-
-  pub moved-none : ((k : ℕ) → n ≤ k → slice_index moved k ≡ 0) → (k : ℕ) → n + 1 ≤ k → slice_index (set moved n number) k ≡ 0
-  moved-none all k above = let apart : k ≡ n → ⊥ = λ (same : k ≡ n). omega arith in get_or-set_other moved n k number 0 apart ∙ all k (let most : n ≤ k = omega arith in most)
 
 module _ (sets : List (List Item)) (number : Operand → ℕ) (is_set : IsSet sets 0) (empty : members_of sets 0 ≡ []) where
   -- nothing in the empty set

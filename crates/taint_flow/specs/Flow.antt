@@ -2,7 +2,7 @@
 use Rattle.std.specs.Prelude.{◌≡◌, ◌≢◌, ◌≤◌, ℕ, suc, ◌<◌, nat_lt, List, [], ◌∷◌, ◌++◌, length, slice_index}
 use Rattle.rv64_model.specs.Carries.{Operand, Left, Right, Loaded, both, first_bytes, taken_if, within_width}
 use Rattle.taint_flow.specs.declared.flow.Flow.{Flow}
-use Rattle.taint_flow.specs.declared.flow.Flow.TheVariants.{Nothing, First, Second, Memory, Rising, Carried, Bytewise, Mixed}
+use Rattle.taint_flow.specs.declared.flow.Flow.TheVariants.{Nothing, First, Second, Memory, Rising, Carried, Whole, Bytewise, Mixed}
 use Rattle.taint_flow.specs.Gathered.{byte_count, first_start}
 
 -- how many bytes from the lowest on byte i of a result of `width` bytes is worked out from
@@ -21,6 +21,7 @@ IsFlow (Second len) operands = (0 < len) × ((byte : ℕ) → operands byte ≡ 
 IsFlow (Memory len) operands = (0 < len) × ((byte : ℕ) → operands byte ≡ taken_if (nat_lt byte len) (Loaded byte))
 IsFlow (Rising width) operands = IsWidth width × ((byte : ℕ) → operands byte ≡ first_bytes Left (reach width byte))
 IsFlow (Carried width) operands = IsWidth width × ((byte : ℕ) → operands byte ≡ first_bytes Left (reach width byte) ++ first_bytes Right (reach width byte))
+IsFlow (Whole width) operands = IsWidth width × ((byte : ℕ) → operands byte ≡ first_bytes Left width)
 IsFlow Bytewise operands = (byte : ℕ) → byte < byte_count → operands byte ≡ both byte
 IsFlow Mixed operands = operands 0 ≢ []
 

@@ -23,6 +23,8 @@ pub enum Flow {
     Rising(usize),
     /// The same of both registers.
     Carried(usize),
+    /// Each is worked out from all bytes of the first register below this one.
+    Whole(usize),
     /// Each is worked out from those of both registers in its place.
     Bytewise,
     /// They take several bytes in another way.
@@ -76,6 +78,8 @@ fn of_immediate(linkage: Linkage, op: ImmOp, imm: i64) -> Flow
         (_, ImmOp::Addi) => Flow::Rising(8),
         (_, ImmOp::Addiw) => Flow::Rising(4),
         (_, ImmOp::Xori | ImmOp::Ori | ImmOp::Andi) => Flow::First,
+        (_, ImmOp::Slli | ImmOp::Srli | ImmOp::Srai) => Flow::Whole(8),
+        (_, ImmOp::Slliw | ImmOp::Srliw | ImmOp::Sraiw) => Flow::Whole(4),
         _ => Flow::Mixed,
     }
 }

@@ -81,6 +81,18 @@ pub fn carried(
     Ok(numbers)
 }
 
+/// Each byte is worked out from the lowest bytes of the register, so many as this says.
+pub fn whole(sets: &mut Sets, first: &[u32], width: usize) -> Result<[u32; 8], NoMemory>
+    requires first { AreNumbers sets.old first.now }
+    requires width { IsWidth width }
+    ensures results { (second loaded : List ℕ) → IfOk result (AreResults sets.old sets.new
+        (number_of first.now second loaded) (λ byte. first_bytes Left width)) }
+    ensures before { StandAsBefore sets.old sets.new }
+{
+    let numbers = rising(sets, first, width)?;
+    Ok([numbers[7]; 8])
+}
+
 /// The set of a byte of both registers. It is that of the byte below where both have the same numbers there.
 #[inline(always)]
 fn in_place(

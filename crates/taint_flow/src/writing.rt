@@ -9,7 +9,7 @@ ghost use Rattle.taint_flow.specs.Silent.{IsSilent};
 
 use crate::flow::{Flow, result_flow};
 use crate::gathering::{are_small, gather};
-use crate::working::{bytewise, carried, rising};
+use crate::working::{bytewise, carried, rising, whole};
 use arn_base::NoMemory;
 use link_rules::inputs;
 use rv64_isa::Instr;
@@ -112,6 +112,7 @@ fn worked(
     match flow {
         Flow::Rising(width) => rising(sets, first, width),
         Flow::Carried(width) => carried(sets, first, second, width),
+        Flow::Whole(width) => whole(sets, first, width),
         Flow::Bytewise => bytewise(sets, first, second),
         _ => mixed(sets, linkage, *instr, first, second, loaded),
     }

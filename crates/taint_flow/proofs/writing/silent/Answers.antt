@@ -1,4 +1,4 @@
-use Rattle.std.proofs.Common.{◌⊎◌, inl, inr, None, replicate, ◌≡◌, ℕ, ◌<◌, nat_lt, ℤ, List, [], ◌∷◌, ◌++◌, refl, ap, ◌∙◌, arith}
+use Rattle.std.proofs.Common.{◌⊎◌, inl, inr, None, replicate, ◌≡◌, ℕ, ◌<◌, ◌-◌, nat_lt, Contains, sym, subst, ℤ, List, [], ◌∷◌, ◌++◌, refl, ap, ◌∙◌, arith}
 use Rattle.std.proofs.lemmas.Bool.{lt-ltb}
 use Rattle.arn_base.specs.declared.machine.Cpu.{Cpu}
 use Rattle.rv64_isa.specs.declared.instruction.Instr.{Instr}
@@ -9,15 +9,18 @@ use Rattle.rv64_model.specs.declared.linkage.Linkage.{Linkage}
 use Rattle.rv64_model.specs.Carries.{Operand, Left, Right, Loaded, both, first_bytes, operands, taken_if}
 use Rattle.rv64_model.specs.Operands.{accessed}
 use Rattle.taint_flow.specs.declared.flow.Flow.{Flow}
-use Rattle.taint_flow.specs.declared.flow.Flow.TheVariants.{Nothing, First, Second, Memory, Rising, Carried, Bytewise, Mixed}
+use Rattle.taint_flow.specs.declared.flow.Flow.TheVariants.{Nothing, First, Second, Memory, Rising, Carried, Whole, Bytewise, Mixed}
 use Rattle.taint_flow.specs.Flow.{IsFlow}
 use Rattle.taint_flow.specs.Silent.{IsSilent}
-use Rattle.taint_flow.proofs.Grown.{reach-below}
+use Rattle.taint_flow.proofs.Grown.{last-of, reach-below}
 use Rattle.taint_flow.proofs.writing.silent.Goals as goal
 
 -- where byte 0 takes nothing, no byte does
 some-taken : (len : ℕ) (x : Operand) → 0 < len → taken_if (nat_lt 0 len) x ≡ x ∷ []
 some-taken len x some = ap (λ t. taken_if t x) (lt-ltb 0 len some)
+
+none-in : (operand : Operand) → Contains [] operand → ⊥
+none-in operand c = let below : c.0 < 0 = c.1 in omega arith
 
 nothing-flow : (flow : Flow) (taken : ℕ → List Operand) → IsFlow flow taken → taken 0 ≡ [] → flow ≡ Nothing
 nothing-flow Nothing taken is none = refl
@@ -27,6 +30,7 @@ nothing-flow (Memory len) taken is none = let one : taken 0 ≡ Loaded 0 ∷ [] 
 nothing-flow (Rising width) taken is none = let one : taken 0 ≡ Left 0 ∷ [] = is.1 0 ∙ ap (first_bytes Left) (reach-below width 0 is.0.0) in cc
 nothing-flow (Carried width) taken is none =
     let two : taken 0 ≡ both 0 = is.1 0 ∙ ap (λ n. first_bytes Left n ++ first_bytes Right n) (reach-below width 0 is.0.0) in cc
+nothing-flow (Whole width) taken is none = absurd (none-in (Left (width - 1)) (subst (λ l. Contains l (Left (width - 1))) (sym (is.1 0) ∙ none) (last-of Left width is.0.0)))
 nothing-flow Bytewise taken is none = let two : taken 0 ≡ both 0 = is 0 (omega arith) in cc
 nothing-flow Mixed taken is none = absurd (is none)
 

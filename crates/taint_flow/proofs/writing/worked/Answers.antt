@@ -2,7 +2,7 @@ use Rattle.std.proofs.Common.{◌++◌}
 use Rattle.rv64_model.specs.Carries.{Left, Right, both, first_bytes, operands}
 use Rattle.taint_flow.specs.Flow.{reach}
 use Rattle.taint_flow.specs.Gathered.{number_of}
-use Rattle.taint_flow.proofs.Flows.{by-table, bytewise-flow, carried-flow, rising-flow}
+use Rattle.taint_flow.proofs.Flows.{by-table, bytewise-flow, carried-flow, rising-flow, whole-flow}
 use Rattle.taint_flow.proofs.writing.worked.Goals as goal
 
 pub returns-in-Rising-clause-results : goal.returns-in-Rising-clause-results
@@ -17,6 +17,12 @@ returns-in-Carried-clause-results c =
     by-table c.carried.result c.args.sets.now c.carried.new.sets (number_of c.args.first.now c.args.second.now c.args.loaded.now) taken
     (λ i. first_bytes Left (reach c.in-Carried.width i) ++ first_bytes Right (reach c.in-Carried.width i))
     (λ i h. (carried-flow c.args.flow taken c.in-Carried.width c.in-Carried.is c.requires.flow).1 i) (c.carried.ensures.results c.args.loaded.now)
+
+pub returns-in-Whole-clause-results : goal.returns-in-Whole-clause-results
+returns-in-Whole-clause-results c =
+    let taken = operands c.args.linkage c.args.instr.now in
+    by-table c.whole.result c.args.sets.now c.whole.new.sets (number_of c.args.first.now c.args.second.now c.args.loaded.now) taken (λ i. first_bytes Left c.in-Whole.width)
+    (λ i h. (whole-flow c.args.flow taken c.in-Whole.width c.in-Whole.is c.requires.flow).1 i) (c.whole.ensures.results c.args.second.now c.args.loaded.now)
 
 pub returns-in-Bytewise-clause-results : goal.returns-in-Bytewise-clause-results
 returns-in-Bytewise-clause-results c =
