@@ -124,7 +124,7 @@ impl Bodies {
 
     /// Runs so many instructions of a process, or fewer where it comes to a call or to its end, and
     /// says how many. The observer is told of each, with the registers before it. The one at which the
-    /// process stops is counted too. Where the observer fails, what ran before stays run.
+    /// process stops is counted too. Where the observer fails, nothing is said of how many ran.
     pub fn run_told<O: Observer, L: Ledger>(
         &mut self,
         pid: u32,

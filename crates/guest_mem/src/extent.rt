@@ -22,7 +22,7 @@ impl Extent {
         ensures whole { IsOk result ↔ ((self.from ≤ at) × (at + len ≤ self.from + self.len)) }
         ensures place { IfOk result (λ place. at ≡ self.from + place) }
     {
-        // An address before the window lies far behind it.
+        // The difference wraps: an address before the window gives a place behind its end.
         let place = at.wrapping_sub(self.from);
         if len > self.len || place > self.len - len {
             return Err(BadAddress);

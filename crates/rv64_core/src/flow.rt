@@ -1,5 +1,5 @@
 // Where pc goes after an instruction.
-ghost use Rattle.std.specs.Prelude.{◌≡◌, ◌≢◌, ◌%◌, ◌==◌, ℕ, List};
+ghost use Rattle.std.specs.Prelude.{◌≡◌, ◌≢◌, ◌%◌, ◌==◌, List};
 ghost use Rattle.arn_base.specs.Window.{Window};
 ghost use Rattle.rv64_isa.specs.declared.instruction.Instr.{Instr};
 ghost use Rattle.rv64_model.specs.Instruction.{Next, advanced, branches, jumps, writes, next_pc as next_pc_of};

@@ -55,8 +55,7 @@ pub fn next_instr<M: Memory, L: Ledger>(cpu: &Cpu, mem: &M, steps: &mut Steps<L>
 }
 
 /// The instruction at pc, or the status with which its process ends if there is none. It is counted
-/// whatever it is. With `look_ahead` it is `next_instr` in two parts, each of which is compiled into
-/// its caller.
+/// whatever it is. `next_instr` is this and then `look_ahead`.
 #[inline(always)]
 pub fn fetch_instr<M: Memory, L: Ledger>(
     cpu: &Cpu,
