@@ -160,8 +160,8 @@ pub fn next_lent<L: Ledger>(
     prospect
 }
 
-// The same, with the segment that the process may hold brought to it. The instruction comes by value,
-// so that the caller may keep its own in registers.
+// The same as `execute`, with the segment that the process may hold brought to it. The instruction
+// comes by value, so that the caller may keep its own in registers.
 #[inline(never)]
 fn execute_lent(guest: &mut Guest, segments: &mut Vec<Option<Segment>>, planned: Planned)
     requires held { IfHeld guest.old.segment segments.old.items }
