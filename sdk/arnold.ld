@@ -1,4 +1,4 @@
-/* The private window of a process: 262,144 bytes from 0x10000 on. The program lies at its bottom, the
+/* The private window of a process: 262,144 bytes from 0x10000 on. The program is at its bottom, the
    stack grows down from its top. What is zero at first isn't part of the image: the window is zeros at boot. */
 OUTPUT_ARCH(riscv)
 ENTRY(_start)
@@ -15,6 +15,6 @@ SECTIONS
     .data : { *(.data .data.* .sdata .sdata.*) } > window
     .bss (NOLOAD) : { *(.bss .bss.* .sbss .sbss.* COMMON) } > window
     _end = .;
-    ASSERT(_end + stack_size <= ORIGIN(window) + LENGTH(window), "the program doesn't fit the window beside its stack")
+    ASSERT(_end + stack_size <= ORIGIN(window) + LENGTH(window), "the program doesn't fit into the window together with its stack")
     /DISCARD/ : { *(.comment) *(.riscv.attributes) *(.eh_frame .eh_frame.*) *(.note .note.*) }
 }

@@ -8,7 +8,7 @@ struct person {
 
 static struct person person;
 
-/* Takes a word into a field, with zeros behind it, and tells how long the word is. */
+/* Takes a word into a field, with zeros after it, and returns how long the word is. */
 static size_t take_word(char *field, size_t size, const char *text, size_t len)
 {
     size_t taken = 0;
@@ -21,7 +21,7 @@ static size_t take_word(char *field, size_t size, const char *text, size_t len)
     return taken;
 }
 
-/* Puts a text behind others. */
+/* Puts a text at the end of a line, and returns how long the line is then. */
 static size_t put(char *line, size_t len, const char *text)
 {
     while (*text != 0)

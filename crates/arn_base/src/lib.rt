@@ -26,6 +26,3 @@ pub use sinks::{StdSink, VecSink};
 pub use sources::{SliceSource, StdSource};
 pub use streams::{Sink, Source};
 pub use windows::Memory;
-
-#[cfg(test)]
-mod tests;

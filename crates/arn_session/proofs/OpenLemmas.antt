@@ -20,7 +20,7 @@ use Rattle.session_effects.specs.declared.halt.Halt.{Halt}
 use Rattle.session_effects.specs.declared.halt.Halt.TheVariants as halt
 use Rattle.session_runs.specs.Points.{Advances, Stops, Surroundings}
 use Rattle.session_runs.specs.Turns.{Point}
-use Rattle.session_lines.specs.Questions.{Told}
+use Rattle.session_model.specs.Questions.{Told}
 use Rattle.session_text.specs.Answers.{Answers, AnswersTaken}
 use Rattle.arn_session.specs.Begun.{BeginsOn, FindsOn, standing}
 use Rattle.arn_session.specs.Opening.{IsOpened}

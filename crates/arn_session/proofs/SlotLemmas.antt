@@ -25,7 +25,7 @@ use Rattle.session_effects.specs.declared.halt.Halt.TheVariants as halt
 use Rattle.session_runs.specs.Points.{Advances, Stops, Surroundings, around}
 use Rattle.session_runs.specs.Turns.{Point}
 use Rattle.session_lines.specs.Answering.{Standpoint, standpoint}
-use Rattle.session_lines.specs.Questions.{Told}
+use Rattle.session_model.specs.Questions.{Told}
 use Rattle.session_text.specs.Answers.{Answers, AnswersTaken}
 use Rattle.session_text.specs.CutOff.{BeginsText, FindsOut}
 use Rattle.arn_session.specs.Begun.{BeginsOn, FindsOn, Standing, standing, on_history, store_of}

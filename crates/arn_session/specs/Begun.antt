@@ -10,7 +10,7 @@ use Rattle.guest_devices.specs.Slots.{SlotAnswers}
 use Rattle.session_effects.specs.declared.halt.Halt.{Halt}
 use Rattle.session_runs.specs.Points.{Surroundings}
 use Rattle.session_lines.specs.Answering.{Standpoint, standpoint}
-use Rattle.session_lines.specs.Questions.{Told}
+use Rattle.session_model.specs.Questions.{Told}
 use Rattle.session_text.specs.CutOff.{BeginsText, FindsOut}
 
 -- what devices in slots answer, and what that makes of them

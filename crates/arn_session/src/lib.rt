@@ -3,8 +3,6 @@
 
 mod session;
 mod status;
-#[cfg(test)]
-mod tests;
 mod words;
 
 pub use session::arnold;

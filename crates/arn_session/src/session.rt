@@ -30,7 +30,7 @@ use guest_devices::Slots;
 use history_index::IndexError;
 use log_store::{Store, logs_read_one_way, store_is_short};
 use session_effects::{Halt, effects_follow, halts_follow, openings_follow};
-use session_lines::Questions;
+use session_model::Questions;
 use session_questions::{Asking, answers_are_of_runs};
 use session_runs::MachineRuns;
 use session_text::session;

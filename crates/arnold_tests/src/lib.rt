@@ -2,4 +2,8 @@
 #![tactic(auto)]
 
 #[cfg(test)]
+mod same;
+#[cfg(test)]
 mod tests;
+#[cfg(test)]
+mod words;

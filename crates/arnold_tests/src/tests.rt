@@ -1,13 +1,29 @@
-use super::*;
+use crate::same::assert_same;
 use arn_base::{Bytes, Differs, Disk, NoMemory, Numbers};
 use arn_session::{Damage, Status};
 use log_disk::{FileDisk, FuseDisk, MemDisk};
 use log_store::{OpenError, Store};
 use session_trials::{Ended, Script, run, run_on};
 use std::alloc::Global;
+use std::fmt::Debug;
 use std::fs;
 use std::process::Abort;
 use std::test::Fail;
+
+/// A session at a row of a table, or at a call that fails, ended so and printed this.
+fn assert_ended<A: PartialEq + Debug + Copy>(
+    rt: &impl Abort,
+    at: A,
+    ended: &Ended,
+    status: Status,
+    printed: &[u8],
+) {
+    assert_same(
+        rt,
+        (at, ended.status, ended.sink.bytes()),
+        (at, status, printed),
+    );
+}
 
 /// A line or a block, without its last LF, and what is printed for it.
 type Exchange = (&'static str, &'static str);
@@ -139,16 +155,7 @@ fn assert_prints(rt: &(impl Abort + AllocGlobal), text: &str, want: &str) -> Res
             ..Script::of(text.as_bytes())
         };
         let ended = run(rt.alloc(), &["log"], &script)?;
-        assert_eq!(rt;
-            ended.status,
-            Status::Done,
-            "at {text} in pieces of {piece}"
-        );
-        assert_eq!(rt;
-            ended.sink.bytes(),
-            want.as_bytes(),
-            "at {text} in pieces of {piece}"
-        );
+        assert_ended(rt, (text, piece), &ended, Status::Done, want.as_bytes());
     }
     Ok(())
 }
@@ -201,8 +208,7 @@ fn tells_lines_that_are_too_long(rt: HostRuntime) -> Result<(), Fail> {
     ] {
         let text = with_long_line(alloc, before, len, after)?;
         let ended = run(alloc, &["log"], &Script::of(text.as_bytes()))?;
-        assert_eq!(rt; ended.status, Status::Done, "at {len} bytes");
-        assert_eq!(rt; ended.sink.bytes(), want.as_bytes(), "at {len} bytes");
+        assert_ended(&rt, len, &ended, Status::Done, want.as_bytes());
     }
     Ok(())
 }
@@ -217,8 +223,7 @@ fn answers_an_unfinished_line(rt: HostRuntime) -> Result<(), Fail> {
         ("asm p\necall", "no asm 2\n"),
     ] {
         let ended = run(rt.alloc(), &["log"], &Script::of(text.as_bytes()))?;
-        assert_eq!(rt; ended.status, Status::Done, "at {text}");
-        assert_eq!(rt; ended.sink.bytes(), want.as_bytes(), "at {text}");
+        assert_ended(&rt, text, &ended, Status::Done, want.as_bytes());
     }
     Ok(())
 }
@@ -232,30 +237,38 @@ fn refuses_other_words(rt: HostRuntime) -> Result<(), Fail> {
     };
     for words in [[].as_slice(), &["--log"], &["log", "log"]] {
         let ended = run(rt.alloc(), words, &script)?;
-        assert_eq!(rt; ended.status, Status::Usage);
-        assert!(rt; ended.sink.bytes().is_empty());
+        assert_ended(&rt, words, &ended, Status::Usage, &[]);
     }
     Ok(())
 }
 
+/// Whether the text was answered to its end where this call of the source fails. What was printed is
+/// the answers to the lines that the calls before gave.
+fn ends_at_source(rt: &(impl Abort + AllocGlobal), text: &str, call: u32) -> Result<bool, Fail> {
+    let script = Script {
+        piece: PIECE,
+        source_fails: &[call],
+        ..Script::of(text.as_bytes())
+    };
+    let ended = run(rt.alloc(), &["log"], &script)?;
+    let given = call as usize * PIECE;
+    let printed = printed_within(rt.alloc(), EXCHANGES, given)?;
+    assert_same(rt, (call, ended.sink.bytes()), (call, printed.as_bytes()));
+    if ended.status == Status::Done {
+        assert!(rt; given > text.len());
+        return Ok(true);
+    }
+    assert_same(rt, (call, ended.status), (call, Status::Source));
+    Ok(false)
+}
+
 #[test]
 fn answers_what_a_failing_source_gave(rt: HostRuntime) -> Result<(), Fail> {
-    let alloc = rt.alloc();
-    let text = text_of(alloc, EXCHANGES)?;
+    let text = text_of(rt.alloc(), EXCHANGES)?;
     for call in 0..1_000 {
-        let script = Script {
-            piece: PIECE,
-            source_fails: &[call],
-            ..Script::of(text.as_bytes())
-        };
-        let ended = run(alloc, &["log"], &script)?;
-        let printed = printed_within(alloc, EXCHANGES, call as usize * PIECE)?;
-        assert_eq!(rt; ended.sink.bytes(), printed.as_bytes(), "at {call}");
-        if ended.status == Status::Done {
-            assert!(rt; call as usize * PIECE > text.len());
+        if ends_at_source(&rt, text.as_str(), call)? {
             return Ok(());
         }
-        assert_eq!(rt; ended.status, Status::Source, "at {call}");
     }
     panic!(rt; "the text has no end")
 }
@@ -270,33 +283,43 @@ fn a_source_fails_within_a_block(rt: HostRuntime) -> Result<(), Fail> {
             ..Script::of(b"file q 00\nasm p\nli a0, 0\nend")
         };
         let ended = run(rt.alloc(), &["log"], &script)?;
-        assert_eq!(rt; ended.status, Status::Source, "at {call}");
-        assert_eq!(rt; ended.sink.bytes(), b"event 0\n".as_slice(), "at {call}");
+        assert_ended(&rt, call, &ended, Status::Source, b"event 0\n");
     }
     Ok(())
 }
 
+/// Whether the text was answered to its end where this call of the sink fails. Else the sink holds
+/// the first bytes of what is printed, and at least one for each call before.
+fn ends_at_sink(
+    rt: &(impl Abort + AllocGlobal),
+    text: &str,
+    printed: &str,
+    call: u32,
+) -> Result<bool, Fail> {
+    let script = Script {
+        sink_fails: &[call],
+        ..Script::of(text.as_bytes())
+    };
+    let ended = run(rt.alloc(), &["log"], &script)?;
+    let held = ended.sink.bytes();
+    if ended.status == Status::Done {
+        assert_same(rt, held, printed.as_bytes());
+        return Ok(true);
+    }
+    assert_same(rt, (call, ended.status), (call, Status::Sink));
+    assert!(rt; held.len() >= call as usize, "at {call}");
+    assert!(rt; printed.as_bytes().starts_with(held), "at {call}");
+    Ok(false)
+}
+
 #[test]
 fn a_failing_sink_holds_what_came_before(rt: HostRuntime) -> Result<(), Fail> {
-    let alloc = rt.alloc();
-    let text = text_of(alloc, EXCHANGES)?;
-    let printed = printed_within(alloc, EXCHANGES, text.len())?;
+    let text = text_of(rt.alloc(), EXCHANGES)?;
+    let printed = printed_within(rt.alloc(), EXCHANGES, text.len())?;
     for call in 0..1_000 {
-        let script = Script {
-            sink_fails: &[call],
-            ..Script::of(text.as_bytes())
-        };
-        let ended = run(alloc, &["log"], &script)?;
-        if ended.status == Status::Done {
-            assert_eq!(rt; ended.sink.bytes(), printed.as_bytes());
+        if ends_at_sink(&rt, text.as_str(), printed.as_str(), call)? {
             return Ok(());
         }
-        assert_eq!(rt; ended.status, Status::Sink, "at {call}");
-        assert!(rt; ended.sink.bytes().len() >= call as usize, "at {call}");
-        assert!(rt;
-            printed.as_bytes().starts_with(ended.sink.bytes()),
-            "at {call}"
-        );
     }
     panic!(rt; "the answers have no end")
 }
@@ -342,8 +365,7 @@ fn assert_ends<D: Disk>(
     printed: &str,
 ) -> Result<(), Fail> {
     let ended = answer(rt.alloc(), disk, text)?;
-    assert_eq!(rt; ended.status, status, "at {text}");
-    assert_eq!(rt; ended.sink.bytes(), printed.as_bytes(), "at {text}");
+    assert_ended(rt, text, &ended, status, printed.as_bytes());
     Ok(())
 }
 
@@ -396,9 +418,9 @@ fn a_session_goes_on_with_an_earlier_one(rt: HostRuntime) -> Result<(), Fail> {
 fn a_session_leaves_a_log(rt: HostRuntime) -> Result<(), Fail> {
     let mut disk = disk_of(rt.alloc(), b"")?;
     assert_ends(&rt, &mut disk, "", Status::Done, "")?;
-    assert_eq!(rt; disk.bytes(), b"ARNLOG01\0".as_slice());
+    assert_same(&rt, disk.bytes(), b"ARNLOG01\0".as_slice());
     assert_ends(&rt, &mut disk, "file a 6162\n", Status::Done, "event 0\n")?;
-    assert_eq!(rt; disk.bytes(), LOG.as_slice());
+    assert_same(&rt, disk.bytes(), LOG.as_slice());
     Ok(())
 }
 
@@ -406,8 +428,8 @@ fn a_session_leaves_a_log(rt: HostRuntime) -> Result<(), Fail> {
 fn leaves_the_disk_where_words_are_refused(rt: HostRuntime) -> Result<(), Fail> {
     let mut disk = disk_of(rt.alloc(), b"junk")?;
     let ended = run_on(rt.alloc(), &[], &Script::of(b"file a 6162\n"), &mut disk)?;
-    assert_eq!(rt; ended.status, Status::Usage);
-    assert_eq!(rt; disk.bytes(), b"junk".as_slice());
+    assert_same(&rt, ended.status, Status::Usage);
+    assert_same(&rt, disk.bytes(), b"junk".as_slice());
     Ok(())
 }
 
@@ -423,7 +445,7 @@ fn refuses_what_is_no_log(rt: HostRuntime) -> Result<(), Fail> {
     ] {
         let mut disk = disk_of(rt.alloc(), bytes)?;
         assert_ends(&rt, &mut disk, "hello\n", Status::Damaged(damage), "")?;
-        assert_eq!(rt; disk.bytes(), bytes);
+        assert_same(&rt, disk.bytes(), bytes);
     }
     Ok(())
 }
@@ -468,7 +490,7 @@ fn refuses_records_that_no_run_has(rt: HostRuntime) -> Result<(), Fail> {
         ),
     ] {
         assert_ends(&rt, &mut disk, text, status, printed)?;
-        assert_eq!(rt; disk.bytes(), bytes.as_slice());
+        assert_same(&rt, disk.bytes(), bytes.as_slice());
     }
     Ok(())
 }
@@ -514,6 +536,62 @@ fn may_leave(lines: usize, records: usize) -> bool {
     )
 }
 
+/// A log that a crash left has the records of so many printed lines, and a session over it goes on.
+fn assert_keeps(
+    rt: &(impl Abort + AllocGlobal),
+    left: &[u8],
+    whole: &Store,
+    lines: usize,
+) -> Result<(), Fail> {
+    let records = count_first(&log_of(rt.alloc(), left)?, whole);
+    assert!(rt;
+        records.is_some_and(|records| may_leave(lines, records)),
+        "{records:?} behind {lines}"
+    );
+    let mut disk = disk_of(rt.alloc(), left)?;
+    let ended = answer(rt.alloc(), &mut disk, "run 0\n")?;
+    assert_same(rt, ended.status, Status::Done);
+    Ok(())
+}
+
+/// So does each log that a crash of this disk can leave.
+fn assert_crashes_keep(
+    rt: &(impl Abort + AllocGlobal),
+    disk: &FuseDisk,
+    whole: &Store,
+    lines: usize,
+) -> Result<(), Fail> {
+    for fill in FILLS {
+        for short in [false, true] {
+            let left = disk.crash_with(rt.alloc(), fill, short)?;
+            assert_keeps(rt, left.as_slice(), whole, lines)?;
+        }
+    }
+    Ok(())
+}
+
+/// Whether the text was answered to its end where this call of the disk fails.
+fn ends_at_disk(
+    rt: &(impl Abort + AllocGlobal),
+    text: &str,
+    whole: &Store,
+    call: u32,
+) -> Result<bool, Fail> {
+    let mut disk = failing_disk(rt.alloc(), call)?;
+    let ended = answer(rt.alloc(), &mut disk, text)?;
+    let printed = ended.sink.bytes();
+    if ended.status == Status::Done {
+        assert_same(rt, printed, TYPED_PRINTS.as_bytes());
+        return Ok(true);
+    }
+    assert_same(rt, (call, ended.status), (call, Status::Disk));
+    assert_same(rt, ended.status.code(), 3);
+    assert!(rt; TYPED_PRINTS.as_bytes().starts_with(printed), "at {call}");
+    let lines = printed.iter().filter(|byte| **byte == b'\n').count();
+    assert_crashes_keep(rt, &disk, whole, lines)?;
+    Ok(false)
+}
+
 #[test]
 fn a_failing_disk_keeps_what_was_printed(rt: HostRuntime) -> Result<(), Fail> {
     let alloc = rt.alloc();
@@ -522,29 +600,8 @@ fn a_failing_disk_keeps_what_was_printed(rt: HostRuntime) -> Result<(), Fail> {
     answer(alloc, &mut disk, typed.as_str())?;
     let whole = log_of(alloc, disk.bytes())?;
     for call in 0..1_000 {
-        let mut disk = failing_disk(alloc, call)?;
-        let ended = answer(alloc, &mut disk, typed.as_str())?;
-        let printed = ended.sink.bytes();
-        if ended.status == Status::Done {
-            assert_eq!(rt; printed, TYPED_PRINTS.as_bytes());
+        if ends_at_disk(&rt, typed.as_str(), &whole, call)? {
             return Ok(());
-        }
-        assert_eq!(rt; ended.status, Status::Disk, "at {call}");
-        assert_eq!(rt; ended.status.code(), 3);
-        assert!(rt; TYPED_PRINTS.as_bytes().starts_with(printed), "at {call}");
-        let lines = printed.iter().filter(|byte| **byte == b'\n').count();
-        for fill in FILLS {
-            for short in [false, true] {
-                let left = disk.crash_with(alloc, fill, short)?;
-                let records = count_first(&log_of(alloc, left.as_slice())?, &whole);
-                assert!(rt;
-                    records.is_some_and(|records| may_leave(lines, records)),
-                    "at {call}: {records:?} behind {lines}"
-                );
-                let mut disk = disk_of(alloc, left.as_slice())?;
-                let ended = answer(alloc, &mut disk, "run 0\n")?;
-                assert_eq!(rt; ended.status, Status::Done, "at {call}");
-            }
         }
     }
     panic!(rt; "the disk has no end")
@@ -685,10 +742,8 @@ fn a_leg_is_kept_where_the_next_one_fails(rt: HostRuntime) -> Result<(), Fail> {
     let mut disk = disk_of(alloc, b"")?;
     answer(alloc, &mut disk, text.as_str())?;
     let whole = log_of(alloc, disk.bytes())?;
-    assert_eq!(rt;
-        count_first(&log_of(alloc, left.as_slice())?, &whole),
-        Some(10)
-    );
+    let records = count_first(&log_of(alloc, left.as_slice())?, &whole);
+    assert_same(&rt, records, Some(10));
     let mut rest = String::new(alloc);
     push_write(&mut rest, 6, body.as_str())?;
     rest.push_str("ran 5 done\n")?;

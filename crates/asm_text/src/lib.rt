@@ -10,8 +10,6 @@ mod operands;
 mod reading;
 mod registers;
 mod statement;
-#[cfg(test)]
-mod tests;
 mod words;
 
 pub use characters::trimmed;

@@ -1,3 +1,4 @@
+use crate::same::assert_same;
 use arn_base::Pair;
 use arn_lines::{
     Aspect, Line, LineReading, MOST_LINE, Question, Refusal, RunEnd, Sought, block_name, push_back,
@@ -5,6 +6,7 @@ use arn_lines::{
 };
 use rv64_model::Linkage;
 use std::alloc::{AllocError, Global};
+use std::process::Abort;
 use std::test::Fail;
 
 // A reading as text, with the bytes of words as lists of numbers.
@@ -103,272 +105,278 @@ fn linkage_word(linkage: Linkage) -> &'static str {
     }
 }
 
-#[test]
-fn lines_are_read(rt: HostRuntime) -> Result<(), Fail> {
-    let cases = [
-        ("", "passed over"),
-        ("#x", "passed over"),
-        (" #x", "unreadable"),
-        ("hello", "unreadable"),
-        ("file p 00", "file [112] [0]"),
-        ("file p -", "file [112] []"),
-        ("file p 0", "unreadable"),
-        ("file p 0g", "unreadable"),
-        ("file p ", "unreadable"),
-        ("file p", "unreadable"),
-        ("file  p 00", "unreadable"),
-        ("file p  00", "unreadable"),
-        ("file p 00 ", "unreadable"),
-        ("file p 00\r", "unreadable"),
-        ("file p\t 00", "unreadable"),
-        ("FILE p 00", "unreadable"),
-        ("boot p", "boot [112]"),
-        ("boot -", "boot [45]"),
-        ("boot", "unreadable"),
-        ("boot ", "unreadable"),
-        ("boot p q", "unreadable"),
-        ("boot \x7f", "unreadable"),
-        ("boot !~", "boot [33, 126]"),
-        ("type AbcD", "type [171, 205]"),
-        ("type -", "type []"),
-        ("type --", "unreadable"),
-        ("type 616", "unreadable"),
-        ("run 0", "run 0"),
-        ("run 1000000000", "run 1000000000"),
-        ("run 1000000001", "unreadable"),
-        ("run 01", "unreadable"),
-        ("run 0x1F", "run 31"),
-        ("run 0x000000000000001f", "run 31"),
-        ("run 0x0000000000000001f", "unreadable"),
-        ("run 0x", "unreadable"),
-        ("run 0X1", "unreadable"),
-        ("run 1f", "unreadable"),
-        ("run +5", "unreadable"),
-        ("run -5", "unreadable"),
-        ("asm p", "unreadable"),
-        ("asm ", "unreadable"),
-        ("asm", "unreadable"),
-    ];
+/// These are the readings of these lines.
+fn assert_readings(rt: &(impl Abort + AllocGlobal), cases: &[(&str, &str)]) -> Result<(), Fail> {
     for (line, wanted) in cases {
         let reading = read_line(rt.alloc(), line.as_bytes())?;
         let found = shown(rt.alloc(), &reading)?;
-        assert_eq!(rt; found.as_str(), wanted, "at {line}");
+        assert_same(rt, (*line, found.as_str()), (*line, *wanted));
     }
     Ok(())
 }
+
+/// Lines, and what is read of each.
+const LINES: &[(&str, &str)] = &[
+    ("", "passed over"),
+    ("#x", "passed over"),
+    (" #x", "unreadable"),
+    ("hello", "unreadable"),
+    ("file p 00", "file [112] [0]"),
+    ("file p -", "file [112] []"),
+    ("file p 0", "unreadable"),
+    ("file p 0g", "unreadable"),
+    ("file p ", "unreadable"),
+    ("file p", "unreadable"),
+    ("file  p 00", "unreadable"),
+    ("file p  00", "unreadable"),
+    ("file p 00 ", "unreadable"),
+    ("file p 00\r", "unreadable"),
+    ("file p\t 00", "unreadable"),
+    ("FILE p 00", "unreadable"),
+    ("boot p", "boot [112]"),
+    ("boot -", "boot [45]"),
+    ("boot", "unreadable"),
+    ("boot ", "unreadable"),
+    ("boot p q", "unreadable"),
+    ("boot \x7f", "unreadable"),
+    ("boot !~", "boot [33, 126]"),
+    ("type AbcD", "type [171, 205]"),
+    ("type -", "type []"),
+    ("type --", "unreadable"),
+    ("type 616", "unreadable"),
+    ("run 0", "run 0"),
+    ("run 1000000000", "run 1000000000"),
+    ("run 1000000001", "unreadable"),
+    ("run 01", "unreadable"),
+    ("run 0x1F", "run 31"),
+    ("run 0x000000000000001f", "run 31"),
+    ("run 0x0000000000000001f", "unreadable"),
+    ("run 0x", "unreadable"),
+    ("run 0X1", "unreadable"),
+    ("run 1f", "unreadable"),
+    ("run +5", "unreadable"),
+    ("run -5", "unreadable"),
+    ("asm p", "unreadable"),
+    ("asm ", "unreadable"),
+    ("asm", "unreadable"),
+];
+
+#[test]
+fn lines_are_read(rt: HostRuntime) -> Result<(), Fail> {
+    assert_readings(&rt, LINES)
+}
+
+/// Lines of the generator, and what is read of each.
+const GENERATORS: &[(&str, &str)] = &[
+    ("gen 7 12", "generates 7 12"),
+    ("gen 0xff 0x20", "generates 255 32"),
+    ("gen 7 0", "unreadable"),
+    ("gen 7 33", "unreadable"),
+    ("gen 07 1", "unreadable"),
+    ("gen 7", "unreadable"),
+    ("gen  7 1", "unreadable"),
+    ("gen 7 1 ", "unreadable"),
+];
 
 #[test]
 fn lines_of_the_generator_are_read(rt: HostRuntime) -> Result<(), Fail> {
-    let cases = [
-        ("gen 7 12", "generates 7 12"),
-        ("gen 0xff 0x20", "generates 255 32"),
-        ("gen 7 0", "unreadable"),
-        ("gen 7 33", "unreadable"),
-        ("gen 07 1", "unreadable"),
-        ("gen 7", "unreadable"),
-        ("gen  7 1", "unreadable"),
-        ("gen 7 1 ", "unreadable"),
-    ];
-    for (line, wanted) in cases {
-        let reading = read_line(rt.alloc(), line.as_bytes())?;
-        let found = shown(rt.alloc(), &reading)?;
-        assert_eq!(rt; found.as_str(), wanted, "at {line}");
-    }
-    Ok(())
+    assert_readings(&rt, GENERATORS)
 }
+
+/// Questions, and what is read of each.
+const QUESTIONS: &[(&str, &str)] = &[
+    ("show 7 regs 2", "show 7 registers of 2"),
+    (
+        "show 7 regs 1099511627776",
+        "show 7 registers of 1099511627776",
+    ),
+    ("show 7 mem 2 0x10000 16", "show 7 16 bytes at 65536 of 2"),
+    ("show 0 file p", "show 0 file [112]"),
+    ("show 0x7 procs", "show 7 processes"),
+    (
+        "back copy event 4 1 3",
+        "back copy 3 bytes from 1 of event 4",
+    ),
+    (
+        "back data event 4 1 3",
+        "back data 3 bytes from 1 of event 4",
+    ),
+    (
+        "back index event 4 1 3",
+        "back index 3 bytes from 1 of event 4",
+    ),
+    (
+        "back copy event 18446744073709551615 0 0",
+        "back copy 0 bytes from 0 of event 18446744073709551615",
+    ),
+    (
+        "back copy event 0xffffffffffffffff 0 0",
+        "back copy 0 bytes from 0 of event 18446744073709551615",
+    ),
+    (
+        "back copy mem 7 2 0x10000 16",
+        "back copy 16 bytes at 65536 of 2 at moment 7",
+    ),
+    (
+        "back data reg 7 2 32",
+        "back data register 32 of 2 at moment 7",
+    ),
+    (
+        "back index name 7 p 0 1",
+        "back index 1 bytes from 0 of file [112] at moment 7",
+    ),
+    (
+        "back index name 7 - 0 1",
+        "back index 1 bytes from 0 of file [45] at moment 7",
+    ),
+    ("forth copy 4 1 3", "forth copy 4 1 3"),
+    ("forth index 0x4 0x1 0x3", "forth index 4 1 3"),
+    ("groups", "groups"),
+    ("events", "events"),
+    ("verify", "verify"),
+];
 
 #[test]
 fn questions_are_read(rt: HostRuntime) -> Result<(), Fail> {
-    let cases = [
-        ("show 7 regs 2", "show 7 registers of 2"),
-        (
-            "show 7 regs 1099511627776",
-            "show 7 registers of 1099511627776",
-        ),
-        ("show 7 mem 2 0x10000 16", "show 7 16 bytes at 65536 of 2"),
-        ("show 0 file p", "show 0 file [112]"),
-        ("show 0x7 procs", "show 7 processes"),
-        (
-            "back copy event 4 1 3",
-            "back copy 3 bytes from 1 of event 4",
-        ),
-        (
-            "back data event 4 1 3",
-            "back data 3 bytes from 1 of event 4",
-        ),
-        (
-            "back index event 4 1 3",
-            "back index 3 bytes from 1 of event 4",
-        ),
-        (
-            "back copy event 18446744073709551615 0 0",
-            "back copy 0 bytes from 0 of event 18446744073709551615",
-        ),
-        (
-            "back copy event 0xffffffffffffffff 0 0",
-            "back copy 0 bytes from 0 of event 18446744073709551615",
-        ),
-        (
-            "back copy mem 7 2 0x10000 16",
-            "back copy 16 bytes at 65536 of 2 at moment 7",
-        ),
-        (
-            "back data reg 7 2 32",
-            "back data register 32 of 2 at moment 7",
-        ),
-        (
-            "back index name 7 p 0 1",
-            "back index 1 bytes from 0 of file [112] at moment 7",
-        ),
-        (
-            "back index name 7 - 0 1",
-            "back index 1 bytes from 0 of file [45] at moment 7",
-        ),
-        ("forth copy 4 1 3", "forth copy 4 1 3"),
-        ("forth index 0x4 0x1 0x3", "forth index 4 1 3"),
-        ("groups", "groups"),
-        ("events", "events"),
-        ("verify", "verify"),
-    ];
-    for (line, wanted) in cases {
-        let reading = read_line(rt.alloc(), line.as_bytes())?;
-        let found = shown(rt.alloc(), &reading)?;
-        assert_eq!(rt; found.as_str(), wanted, "at {line}");
-    }
-    Ok(())
+    assert_readings(&rt, QUESTIONS)
 }
+
+/// Lines that are nearly questions.
+const NO_QUESTIONS: &[&str] = &[
+    "show",
+    "show ",
+    "show 7",
+    "show regs 2",
+    "show 7 regs",
+    "show 7 regs ",
+    "show 7 regs 2 3",
+    "show 7 regs 02",
+    "show 07 regs 2",
+    "show 7  regs 2",
+    "show 7 regs  2",
+    "show 7 regs 2 ",
+    "show  7 regs 2",
+    "show 18446744073709551616 regs 2",
+    "show 7 reg 2",
+    "show 7 mem 2 65536",
+    "show 7 mem 2 65536 16 1",
+    "show 7 mem 2 065536 16",
+    "show 7 mem 2 65536  16",
+    "show 7 mem 2 0x 16",
+    "show 7 file",
+    "show 7 file ",
+    "show 7 file p q",
+    "show 7 file \x7f",
+    "show 7 file  p",
+    "show 7 procs ",
+    "show 7 procs 2",
+    "show 7  procs",
+    "show 07 procs",
+    "show procs",
+    "back",
+    "back copy",
+    "back all event 4 0 3",
+    "back event 4 0 3",
+    "back copy event 4 0",
+    "back copy event 4 0 3 1",
+    "back copy event 4 00 3",
+    "back copy event 4  0 3",
+    "back copy  event 4 0 3",
+    "back  copy event 4 0 3",
+    "back copy event 4 0 3 ",
+    "back copy event 18446744073709551616 0 0",
+    "back copy mem 7 2 16",
+    "back copy mem 7 2 65536 16 1",
+    "back copy mem 7 2 65536 016",
+    "back copy mem 7 2  65536 16",
+    "back copy reg 7 2",
+    "back copy reg 7 2 3 4",
+    "back copy reg 7 02 3",
+    "back copy reg 7 2  3",
+    "back copy regs 7 2 3",
+    "back copy name 7 0 1",
+    "back copy name p 0 1",
+    "back copy name 7 p 0",
+    "back copy name 7 p 0 1 2",
+    "back copy name 7 \x7f 0 1",
+    "back copy name 7 p 00 1",
+    "back copy name 7  p 0 1",
+    "back copy name 7 p  0 1",
+    "back copy name 7 p 0 1 ",
+    "back copy file p",
+    "forth copy 4 1",
+    "forth copy 4 1 3 5",
+    "forth copy 4 01 3",
+    "forth copy  4 1 3",
+    "forth copy event 4 1 3",
+    "forth 4 1 3",
+    "forth all 4 1 3",
+    "group",
+    "groups ",
+    " groups",
+    "groups 1",
+    "events ",
+    "event",
+    "verify ",
+    "verify run",
+    "Verify",
+];
 
 #[test]
 fn what_is_no_question_is_unreadable(rt: HostRuntime) -> Result<(), Fail> {
-    let cases = [
-        "show",
-        "show ",
-        "show 7",
-        "show regs 2",
-        "show 7 regs",
-        "show 7 regs ",
-        "show 7 regs 2 3",
-        "show 7 regs 02",
-        "show 07 regs 2",
-        "show 7  regs 2",
-        "show 7 regs  2",
-        "show 7 regs 2 ",
-        "show  7 regs 2",
-        "show 18446744073709551616 regs 2",
-        "show 7 reg 2",
-        "show 7 mem 2 65536",
-        "show 7 mem 2 65536 16 1",
-        "show 7 mem 2 065536 16",
-        "show 7 mem 2 65536  16",
-        "show 7 mem 2 0x 16",
-        "show 7 file",
-        "show 7 file ",
-        "show 7 file p q",
-        "show 7 file \x7f",
-        "show 7 file  p",
-        "show 7 procs ",
-        "show 7 procs 2",
-        "show 7  procs",
-        "show 07 procs",
-        "show procs",
-        "back",
-        "back copy",
-        "back all event 4 0 3",
-        "back event 4 0 3",
-        "back copy event 4 0",
-        "back copy event 4 0 3 1",
-        "back copy event 4 00 3",
-        "back copy event 4  0 3",
-        "back copy  event 4 0 3",
-        "back  copy event 4 0 3",
-        "back copy event 4 0 3 ",
-        "back copy event 18446744073709551616 0 0",
-        "back copy mem 7 2 16",
-        "back copy mem 7 2 65536 16 1",
-        "back copy mem 7 2 65536 016",
-        "back copy mem 7 2  65536 16",
-        "back copy reg 7 2",
-        "back copy reg 7 2 3 4",
-        "back copy reg 7 02 3",
-        "back copy reg 7 2  3",
-        "back copy regs 7 2 3",
-        "back copy name 7 0 1",
-        "back copy name p 0 1",
-        "back copy name 7 p 0",
-        "back copy name 7 p 0 1 2",
-        "back copy name 7 \x7f 0 1",
-        "back copy name 7 p 00 1",
-        "back copy name 7  p 0 1",
-        "back copy name 7 p  0 1",
-        "back copy name 7 p 0 1 ",
-        "back copy file p",
-        "forth copy 4 1",
-        "forth copy 4 1 3 5",
-        "forth copy 4 01 3",
-        "forth copy  4 1 3",
-        "forth copy event 4 1 3",
-        "forth 4 1 3",
-        "forth all 4 1 3",
-        "group",
-        "groups ",
-        " groups",
-        "groups 1",
-        "events ",
-        "event",
-        "verify ",
-        "verify run",
-        "Verify",
-    ];
-    for line in cases {
+    for line in NO_QUESTIONS {
         let reading = read_line(rt.alloc(), line.as_bytes())?;
         assert!(rt; matches!(reading, LineReading::Unreadable), "at {line}");
     }
     Ok(())
 }
 
+/// First lines of blocks and other lines, and the block's name.
+const BLOCKS: &[(&str, Option<&str>)] = &[
+    ("asm p", Some("p")),
+    ("asm -", Some("-")),
+    ("asm !~", Some("!~")),
+    ("asm asm", Some("asm")),
+    ("asm ", None),
+    ("asm", None),
+    ("asm p q", None),
+    ("asm  p", None),
+    ("asm p ", None),
+    ("asm p\r", None),
+    ("asm \x7f", None),
+    ("asm\tp", None),
+    (" asm p", None),
+    ("ASM p", None),
+    ("boot p", None),
+    ("", None),
+];
+
 #[test]
-fn blocks_are_named(rt: HostRuntime) -> Result<(), Fail> {
-    let cases = [
-        ("asm p", Some("p")),
-        ("asm -", Some("-")),
-        ("asm !~", Some("!~")),
-        ("asm asm", Some("asm")),
-        ("asm ", None),
-        ("asm", None),
-        ("asm p q", None),
-        ("asm  p", None),
-        ("asm p ", None),
-        ("asm p\r", None),
-        ("asm \x7f", None),
-        ("asm\tp", None),
-        (" asm p", None),
-        ("ASM p", None),
-        ("boot p", None),
-        ("", None),
-    ];
-    for (line, wanted) in cases {
+fn blocks_are_named(rt: HostRuntime) {
+    for (line, wanted) in BLOCKS {
         let found = block_name(line.as_bytes());
-        assert_eq!(rt; found, wanted.map(|name| name.as_bytes()), "at {line}");
+        let name = wanted.map(|name| name.as_bytes());
+        assert_same(&rt, (*line, found), (*line, name));
     }
-    Ok(())
+}
+
+// Whether a `boot` line is read whose name has so many bytes.
+fn boots(alloc: Global, len: usize) -> Result<bool, Fail> {
+    let name = "n".repeat(alloc, len)?;
+    let line = format!(in alloc; "boot {name}")?;
+    match read_line(alloc, line.as_bytes())? {
+        LineReading::Says {
+            line: Line::Boot { .. },
+        } => Ok(true),
+        LineReading::Unreadable => Ok(false),
+        _ => Err(Fail::from("another reading")),
+    }
 }
 
 #[test]
 fn names_have_64_bytes_at_most(rt: HostRuntime) -> Result<(), Fail> {
-    let longest = "n".repeat(rt.alloc(), 64)?;
-    let line = format!(in rt.alloc(); "boot {longest}")?;
-    let reading = read_line(rt.alloc(), line.as_bytes())?;
-    assert!(rt;
-        matches!(
-            reading,
-            LineReading::Says {
-                line: Line::Boot { .. }
-            }
-        )
-    );
-    let line = format!(in rt.alloc(); "boot {longest}n")?;
-    let reading = read_line(rt.alloc(), line.as_bytes())?;
-    assert!(rt; matches!(reading, LineReading::Unreadable));
+    let read = [boots(rt.alloc(), 64)?, boots(rt.alloc(), 65)?];
+    assert_same(&rt, read, [true, false]);
     Ok(())
 }
 
@@ -376,59 +384,58 @@ fn names_have_64_bytes_at_most(rt: HostRuntime) -> Result<(), Fail> {
 fn names_of_blocks_have_64_bytes_at_most(rt: HostRuntime) -> Result<(), Fail> {
     let longest = "n".repeat(rt.alloc(), 64)?;
     let line = format!(in rt.alloc(); "asm {longest}")?;
-    assert_eq!(rt; block_name(line.as_bytes()), Some(longest.as_bytes()));
+    assert_same(&rt, block_name(line.as_bytes()), Some(longest.as_bytes()));
     let line = format!(in rt.alloc(); "asm {longest}n")?;
-    assert_eq!(rt; block_name(line.as_bytes()), None);
+    assert_same(&rt, block_name(line.as_bytes()), None);
     Ok(())
 }
 
-// A `file` line that is `extra` bytes longer than a line may be.
-fn long_line(alloc: Global, extra: usize) -> Result<String, AllocError> {
-    let mut line = String::from_str(alloc, "file pp ")?;
-    for _ in 8..MOST_LINE {
-        line.push('0')?;
+// Whether a `file` line is read that is `extra` bytes longer than a line may be.
+fn reads_file(alloc: Global, extra: usize) -> Result<bool, Fail> {
+    let mut line = Vec::from_slice(alloc, b"file pp ")?;
+    let zeros = vec![in alloc; b'0'; MOST_LINE - 8]?;
+    line.extend_from_slice(zeros.as_slice())?;
+    let zeros = vec![in alloc; b'0'; extra]?;
+    line.extend_from_slice(zeros.as_slice())?;
+    match read_line(alloc, line.as_slice())? {
+        LineReading::Says {
+            line: Line::File { .. },
+        } => Ok(true),
+        LineReading::TooLong => Ok(false),
+        _ => Err(Fail::from("another reading")),
     }
-    for _ in 0..extra {
-        line.push('0')?;
-    }
-    Ok(line)
 }
 
 #[test]
 fn lines_have_a_mebibyte_at_most(rt: HostRuntime) -> Result<(), Fail> {
-    let longest = long_line(rt.alloc(), 0)?;
-    let reading = read_line(rt.alloc(), longest.as_bytes())?;
-    assert!(rt;
-        matches!(
-            reading,
-            LineReading::Says {
-                line: Line::File { .. }
-            }
-        )
-    );
-    let longer = long_line(rt.alloc(), 2)?;
-    let reading = read_line(rt.alloc(), longer.as_bytes())?;
-    assert!(rt; matches!(reading, LineReading::TooLong));
+    let read = [reads_file(rt.alloc(), 0)?, reads_file(rt.alloc(), 2)?];
+    assert_same(&rt, read, [true, false]);
+    Ok(())
+}
+
+// This is read of a line of so many times a byte.
+fn assert_reads_long(
+    rt: &(impl Abort + AllocGlobal),
+    byte: u8,
+    count: usize,
+    wanted: &str,
+) -> Result<(), Fail> {
+    let line = vec![in rt.alloc(); byte; count]?;
+    let reading = read_line(rt.alloc(), line.as_slice())?;
+    let found = shown(rt.alloc(), &reading)?;
+    assert_same(rt, found.as_str(), wanted);
     Ok(())
 }
 
 #[test]
 fn long_nonsense_is_too_long(rt: HostRuntime) -> Result<(), Fail> {
-    let longest = vec![in rt.alloc(); b' '; MOST_LINE]?;
-    let reading = read_line(rt.alloc(), longest.as_slice())?;
-    assert!(rt; matches!(reading, LineReading::Unreadable));
-    let longer = vec![in rt.alloc(); b' '; MOST_LINE + 1]?;
-    let reading = read_line(rt.alloc(), longer.as_slice())?;
-    assert!(rt; matches!(reading, LineReading::TooLong));
-    Ok(())
+    assert_reads_long(&rt, b' ', MOST_LINE, "unreadable")?;
+    assert_reads_long(&rt, b' ', MOST_LINE + 1, "too long")
 }
 
 #[test]
 fn long_comments_are_passed_over(rt: HostRuntime) -> Result<(), Fail> {
-    let comment = vec![in rt.alloc(); b'#'; MOST_LINE + 1]?;
-    let reading = read_line(rt.alloc(), comment.as_slice())?;
-    assert!(rt; matches!(reading, LineReading::PassedOver));
-    Ok(())
+    assert_reads_long(&rt, b'#', MOST_LINE + 1, "passed over")
 }
 
 #[test]
@@ -470,30 +477,32 @@ forth pairs 1 instructions 22 groups 1 2
 forth pairs 0 instructions 0 groups -
 damaged 10 22 12
 ";
-    assert_eq!(rt; text.as_str(), wanted);
+    assert_same(&rt, text.as_str(), wanted);
     Ok(())
 }
 
+/// Refusals, and what is written for each.
+const REFUSALS: &[(Refusal, &str)] = &[
+    (Refusal::NoLong, "no long\n"),
+    (Refusal::NoLine, "no line\n"),
+    (Refusal::NoBoot, "no boot\n"),
+    (Refusal::NoBooted, "no booted\n"),
+    (Refusal::NoAsm { line: 7 }, "no asm 7\n"),
+    (
+        Refusal::NoAsm { line: u64::MAX },
+        "no asm 18446744073709551615\n",
+    ),
+    (Refusal::NoName, "no name\n"),
+    (Refusal::NoImage, "no image\n"),
+    (Refusal::NoPoint, "no point\n"),
+];
+
 #[test]
 fn refusals_are_written(rt: HostRuntime) -> Result<(), Fail> {
-    let cases = [
-        (Refusal::NoLong, "no long\n"),
-        (Refusal::NoLine, "no line\n"),
-        (Refusal::NoBoot, "no boot\n"),
-        (Refusal::NoBooted, "no booted\n"),
-        (Refusal::NoAsm { line: 7 }, "no asm 7\n"),
-        (
-            Refusal::NoAsm { line: u64::MAX },
-            "no asm 18446744073709551615\n",
-        ),
-        (Refusal::NoName, "no name\n"),
-        (Refusal::NoImage, "no image\n"),
-        (Refusal::NoPoint, "no point\n"),
-    ];
-    for (refusal, wanted) in cases {
+    for (refusal, wanted) in REFUSALS {
         let mut text = String::new(rt.alloc());
-        push_refusal(&mut text, refusal)?;
-        assert_eq!(rt; text.as_str(), wanted);
+        push_refusal(&mut text, *refusal)?;
+        assert_same(&rt, text.as_str(), *wanted);
     }
     Ok(())
 }

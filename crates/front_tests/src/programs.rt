@@ -1,7 +1,9 @@
+use crate::same::assert_same;
 use gen_texts::{program, typed};
 use guest_asm::{AsmError, assemble};
 use rv64_isa::{BranchOp, ImmOp, Instr, LoadOp, Reg, RegOp, StoreOp, decode};
 use std::alloc::{AllocError, Global};
+use std::process::Abort;
 use std::test::Fail;
 
 /// A program with each form of instruction, the short forms, and data.
@@ -36,7 +38,7 @@ const IMAGE: &[u8] = b"ARNIMG01\
 #[test]
 fn a_program_is_assembled(rt: HostRuntime) -> Result<(), Fail> {
     let image = assemble(rt.alloc(), PROGRAM)?;
-    assert_eq!(rt; image.as_slice(), IMAGE);
+    assert_same(&rt, image.as_slice(), IMAGE);
     Ok(())
 }
 
@@ -49,36 +51,37 @@ fn shown_fault(alloc: Global, text: &str) -> Result<String, AllocError> {
     }
 }
 
+/// Texts, and the first fault of each.
+const FAULTS: &[(&str, &str)] = &[
+    ("", "none"),
+    ("\n# nothing\nnop", "3 Word"),
+    ("addi a0, a0, 2048", "1 Range"),
+    ("addi a0, a0, -2048", "none"),
+    (".byte 256", "1 Range"),
+    ("j x\n.zero 1048572\nx:", "2 Range"),
+    ("beq a0, a1, x\n.zero 4088\nx:", "none"),
+    ("beq a0, a1, x\n.zero 4092\nx:", "1 Range"),
+    ("j nowhere", "1 Label"),
+    ("x:\nx:\nj x", "2 Label"),
+    (".byte 1\necall", "2 Align"),
+    (".byte 1\nj nowhere", "2 Label"),
+    (".zero 262144\n.byte 1", "2 Size"),
+    (".zero 262144", "none"),
+    (".zero 262145", "1 Range"),
+    ("addi a0, a0, 4096; mv a0, 1; what", "1 Word"),
+    ("x: ; addi a0, a0, 4096; x:", "1 Range"),
+    ("li a0", "1 Operand"),
+    ("addi a0, a0, 4096; mv a0, 1", "1 Operand"),
+    (".byte 256\nwhat", "1 Range"),
+    ("ecall\nmv a0, 1\nwhat\nj nowhere", "2 Operand"),
+    (".zero 262143\necall", "2 Align"),
+];
+
 #[test]
 fn the_first_fault_is_told(rt: HostRuntime) -> Result<(), Fail> {
-    let cases = [
-        ("", "none"),
-        ("\n# nothing\nnop", "3 Word"),
-        ("addi a0, a0, 2048", "1 Range"),
-        ("addi a0, a0, -2048", "none"),
-        (".byte 256", "1 Range"),
-        ("j x\n.zero 1048572\nx:", "2 Range"),
-        ("beq a0, a1, x\n.zero 4088\nx:", "none"),
-        ("beq a0, a1, x\n.zero 4092\nx:", "1 Range"),
-        ("j nowhere", "1 Label"),
-        ("x:\nx:\nj x", "2 Label"),
-        (".byte 1\necall", "2 Align"),
-        (".byte 1\nj nowhere", "2 Label"),
-        (".zero 262144\n.byte 1", "2 Size"),
-        (".zero 262144", "none"),
-        (".zero 262145", "1 Range"),
-        ("addi a0, a0, 4096; mv a0, 1; what", "1 Word"),
-        ("x: ; addi a0, a0, 4096; x:", "1 Range"),
-        ("li a0", "1 Operand"),
-        ("addi a0, a0, 4096; mv a0, 1", "1 Operand"),
-        (".byte 256\nwhat", "1 Range"),
-        ("ecall\nmv a0, 1\nwhat\nj nowhere", "2 Operand"),
-        (".zero 262143\necall", "2 Align"),
-    ];
-    let alloc = rt.alloc();
-    for (text, wanted) in cases {
-        let found = shown_fault(alloc, text)?;
-        assert_eq!(rt; found.as_str(), wanted, "{text}");
+    for (text, wanted) in FAULTS {
+        let found = shown_fault(rt.alloc(), text)?;
+        assert_same(&rt, (*text, found.as_str()), (*text, *wanted));
     }
     Ok(())
 }
@@ -92,7 +95,7 @@ fn the_generators_program_has_no_fault(rt: HostRuntime) -> Result<(), Fail> {
     for processes in 1..33 {
         let text = program(alloc, processes)?;
         let found = shown_fault(alloc, text.as_str())?;
-        assert_eq!(rt; found.as_str(), "none", "{processes}");
+        assert_same(&rt, (processes, found.as_str()), (processes, "none"));
     }
     Ok(())
 }
@@ -100,7 +103,7 @@ fn the_generators_program_has_no_fault(rt: HostRuntime) -> Result<(), Fail> {
 #[test]
 fn the_generator_types_words_of_its_seed(rt: HostRuntime) -> Result<(), Fail> {
     let bytes = typed(rt.alloc(), 7)?;
-    assert_eq!(rt; bytes.len(), 4_096);
+    assert_same(&rt, bytes.len(), 4_096);
     assert!(rt; bytes.starts_with(FIRST));
     Ok(())
 }
@@ -127,106 +130,143 @@ fn decoded(alloc: Global, text: &str, offset: usize) -> Result<Option<Instr>, As
     Ok(decode(u32::from_le_bytes(*word)))
 }
 
+/// The word at an offset of the image of a text is this instruction's.
+fn assert_decodes(
+    rt: &(impl Abort + AllocGlobal),
+    text: &str,
+    offset: usize,
+    said: Instr,
+) -> Result<(), Fail> {
+    let found = decoded(rt.alloc(), text, offset)?;
+    assert_same(rt, (text, found), (text, Some(said)));
+    Ok(())
+}
+
+const BRANCHES: &[(&str, BranchOp)] = &[
+    ("beq", BranchOp::Beq),
+    ("bne", BranchOp::Bne),
+    ("blt", BranchOp::Blt),
+    ("bge", BranchOp::Bge),
+    ("bltu", BranchOp::Bltu),
+    ("bgeu", BranchOp::Bgeu),
+];
+
+fn assert_branches(rt: &(impl Abort + AllocGlobal)) -> Result<(), Fail> {
+    let (rs1, rs2, imm) = (register(6)?, register(7)?, -4);
+    for (name, op) in BRANCHES {
+        let op = *op;
+        let text = format!(in rt.alloc(); "back: ; ecall ; {name} x6, x7, back")?;
+        assert_decodes(rt, text.as_str(), 4, Instr::Branch { op, rs1, rs2, imm })?;
+    }
+    Ok(())
+}
+
+const LOADS: &[(&str, LoadOp)] = &[
+    ("lb", LoadOp::Lb),
+    ("lh", LoadOp::Lh),
+    ("lw", LoadOp::Lw),
+    ("ld", LoadOp::Ld),
+    ("lbu", LoadOp::Lbu),
+    ("lhu", LoadOp::Lhu),
+    ("lwu", LoadOp::Lwu),
+];
+
+fn assert_loads(rt: &(impl Abort + AllocGlobal)) -> Result<(), Fail> {
+    let (rd, rs1, imm) = (register(5)?, register(6)?, -2048);
+    for (name, op) in LOADS {
+        let op = *op;
+        let text = format!(in rt.alloc(); "{name} x5, -2048(x6)")?;
+        assert_decodes(rt, text.as_str(), 0, Instr::Load { op, rd, rs1, imm })?;
+    }
+    Ok(())
+}
+
+const STORES: &[(&str, StoreOp)] = &[
+    ("sb", StoreOp::Sb),
+    ("sh", StoreOp::Sh),
+    ("sw", StoreOp::Sw),
+    ("sd", StoreOp::Sd),
+];
+
+fn assert_stores(rt: &(impl Abort + AllocGlobal)) -> Result<(), Fail> {
+    let (rs1, rs2, imm) = (register(6)?, register(7)?, 2047);
+    for (name, op) in STORES {
+        let op = *op;
+        let text = format!(in rt.alloc(); "{name} x7, 2047(x6)")?;
+        assert_decodes(rt, text.as_str(), 0, Instr::Store { op, rs1, rs2, imm })?;
+    }
+    Ok(())
+}
+
 #[test]
 fn branches_loads_and_stores_decode_to_what_they_say(rt: HostRuntime) -> Result<(), Fail> {
-    let alloc = rt.alloc();
+    assert_branches(&rt)?;
+    assert_loads(&rt)?;
+    assert_stores(&rt)
+}
+
+const IMMEDIATES: &[(&str, ImmOp, i64)] = &[
+    ("addi", ImmOp::Addi, -2048),
+    ("slti", ImmOp::Slti, 2047),
+    ("sltiu", ImmOp::Sltiu, -1),
+    ("xori", ImmOp::Xori, 1),
+    ("ori", ImmOp::Ori, -2),
+    ("andi", ImmOp::Andi, 255),
+    ("slli", ImmOp::Slli, 63),
+    ("srli", ImmOp::Srli, 32),
+    ("srai", ImmOp::Srai, 63),
+    ("addiw", ImmOp::Addiw, -1),
+    ("slliw", ImmOp::Slliw, 31),
+    ("srliw", ImmOp::Srliw, 0),
+    ("sraiw", ImmOp::Sraiw, 31),
+];
+
+fn assert_immediates(rt: &(impl Abort + AllocGlobal)) -> Result<(), Fail> {
+    let (rd, rs1) = (register(5)?, register(6)?);
+    for (name, op, imm) in IMMEDIATES {
+        let (op, imm) = (*op, *imm);
+        let text = format!(in rt.alloc(); "{name} x5, x6, {imm}")?;
+        assert_decodes(rt, text.as_str(), 0, Instr::Imm { op, rd, rs1, imm })?;
+    }
+    Ok(())
+}
+
+const OPERATIONS: &[(&str, RegOp)] = &[
+    ("add", RegOp::Add),
+    ("sub", RegOp::Sub),
+    ("sll", RegOp::Sll),
+    ("slt", RegOp::Slt),
+    ("sltu", RegOp::Sltu),
+    ("xor", RegOp::Xor),
+    ("srl", RegOp::Srl),
+    ("sra", RegOp::Sra),
+    ("or", RegOp::Or),
+    ("and", RegOp::And),
+    ("addw", RegOp::Addw),
+    ("subw", RegOp::Subw),
+    ("sllw", RegOp::Sllw),
+    ("srlw", RegOp::Srlw),
+    ("sraw", RegOp::Sraw),
+];
+
+fn assert_operations(rt: &(impl Abort + AllocGlobal)) -> Result<(), Fail> {
     let (rd, rs1, rs2) = (register(5)?, register(6)?, register(7)?);
-    let branches = [
-        ("beq", BranchOp::Beq),
-        ("bne", BranchOp::Bne),
-        ("blt", BranchOp::Blt),
-        ("bge", BranchOp::Bge),
-        ("bltu", BranchOp::Bltu),
-        ("bgeu", BranchOp::Bgeu),
-    ];
-    for (name, op) in branches {
-        let text = format!(in alloc; "back: ; ecall ; {name} x6, x7, back")?;
-        let imm = -4;
-        let said = Instr::Branch { op, rs1, rs2, imm };
-        assert_eq!(rt; decoded(alloc, text.as_str(), 4)?, Some(said), "{name}");
-    }
-    let loads = [
-        ("lb", LoadOp::Lb),
-        ("lh", LoadOp::Lh),
-        ("lw", LoadOp::Lw),
-        ("ld", LoadOp::Ld),
-        ("lbu", LoadOp::Lbu),
-        ("lhu", LoadOp::Lhu),
-        ("lwu", LoadOp::Lwu),
-    ];
-    for (name, op) in loads {
-        let text = format!(in alloc; "{name} x5, -2048(x6)")?;
-        let imm = -2048;
-        let said = Instr::Load { op, rd, rs1, imm };
-        assert_eq!(rt; decoded(alloc, text.as_str(), 0)?, Some(said), "{name}");
-    }
-    let stores = [
-        ("sb", StoreOp::Sb),
-        ("sh", StoreOp::Sh),
-        ("sw", StoreOp::Sw),
-        ("sd", StoreOp::Sd),
-    ];
-    for (name, op) in stores {
-        let text = format!(in alloc; "{name} x7, 2047(x6)")?;
-        let imm = 2047;
-        let said = Instr::Store { op, rs1, rs2, imm };
-        assert_eq!(rt; decoded(alloc, text.as_str(), 0)?, Some(said), "{name}");
+    for (name, op) in OPERATIONS {
+        let op = *op;
+        let text = format!(in rt.alloc(); "{name} x5, x6, x7")?;
+        assert_decodes(rt, text.as_str(), 0, Instr::Op { op, rd, rs1, rs2 })?;
     }
     Ok(())
 }
 
 #[test]
 fn operations_decode_to_what_they_say(rt: HostRuntime) -> Result<(), Fail> {
-    let alloc = rt.alloc();
-    let (rd, rs1, rs2) = (register(5)?, register(6)?, register(7)?);
-    let immediates = [
-        ("addi", ImmOp::Addi, -2048),
-        ("slti", ImmOp::Slti, 2047),
-        ("sltiu", ImmOp::Sltiu, -1),
-        ("xori", ImmOp::Xori, 1),
-        ("ori", ImmOp::Ori, -2),
-        ("andi", ImmOp::Andi, 255),
-        ("slli", ImmOp::Slli, 63),
-        ("srli", ImmOp::Srli, 32),
-        ("srai", ImmOp::Srai, 63),
-        ("addiw", ImmOp::Addiw, -1),
-        ("slliw", ImmOp::Slliw, 31),
-        ("srliw", ImmOp::Srliw, 0),
-        ("sraiw", ImmOp::Sraiw, 31),
-    ];
-    for (name, op, imm) in immediates {
-        let text = format!(in alloc; "{name} x5, x6, {imm}")?;
-        let said = Instr::Imm { op, rd, rs1, imm };
-        assert_eq!(rt; decoded(alloc, text.as_str(), 0)?, Some(said), "{name}");
-    }
-    let operations = [
-        ("add", RegOp::Add),
-        ("sub", RegOp::Sub),
-        ("sll", RegOp::Sll),
-        ("slt", RegOp::Slt),
-        ("sltu", RegOp::Sltu),
-        ("xor", RegOp::Xor),
-        ("srl", RegOp::Srl),
-        ("sra", RegOp::Sra),
-        ("or", RegOp::Or),
-        ("and", RegOp::And),
-        ("addw", RegOp::Addw),
-        ("subw", RegOp::Subw),
-        ("sllw", RegOp::Sllw),
-        ("srlw", RegOp::Srlw),
-        ("sraw", RegOp::Sraw),
-    ];
-    for (name, op) in operations {
-        let text = format!(in alloc; "{name} x5, x6, x7")?;
-        let said = Instr::Op { op, rd, rs1, rs2 };
-        assert_eq!(rt; decoded(alloc, text.as_str(), 0)?, Some(said), "{name}");
-    }
-    Ok(())
+    assert_immediates(&rt)?;
+    assert_operations(&rt)
 }
 
 #[test]
 fn the_other_statements_decode_to_what_they_say(rt: HostRuntime) -> Result<(), Fail> {
-    let alloc = rt.alloc();
     let (zero, ra, rd, rs1) = (register(0)?, register(1)?, register(5)?, register(6)?);
     let add = ImmOp::Addi;
     let word = 0x0ff0_000f;
@@ -310,7 +350,7 @@ fn the_other_statements_decode_to_what_they_say(rt: HostRuntime) -> Result<(), F
         ),
     ];
     for (text, offset, said) in cases {
-        assert_eq!(rt; decoded(alloc, text, offset)?, Some(said), "{text}");
+        assert_decodes(&rt, text, offset, said)?;
     }
     Ok(())
 }

@@ -13,8 +13,6 @@ mod registers;
 mod running;
 mod starting;
 mod table;
-#[cfg(test)]
-mod tests;
 mod told;
 mod windows;
 

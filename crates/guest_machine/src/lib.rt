@@ -12,8 +12,6 @@ mod machine;
 mod matching;
 mod pieces;
 mod rebuild;
-#[cfg(test)]
-mod tests;
 mod turn;
 
 pub use arn_base::Differs;

@@ -10,8 +10,6 @@ mod families;
 mod index;
 mod runs;
 mod slices;
-#[cfg(test)]
-mod tests;
 mod told;
 
 pub use countable::are_countable;

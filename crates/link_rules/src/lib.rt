@@ -6,6 +6,3 @@ mod rules;
 
 pub use masks::Operands;
 pub use rules::inputs;
-
-#[cfg(test)]
-mod tests;

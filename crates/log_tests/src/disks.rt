@@ -1,6 +1,7 @@
 ghost use Rattle.std.specs.Prelude.{◌≡◌, ◌∷◌, [], IfOk};
 ghost use Rattle.log_disk.specs.InMemory.{fresh};
 
+use crate::same::assert_same;
 use arn_base::{Bytes, Disk, Failed, NoMemory, Numbers, Stop};
 use log_disk::{FileDisk, FuseDisk, MemDisk};
 use std::alloc::Global;
@@ -44,7 +45,7 @@ fn assert_crashes(
         (Some(0xff), false, long_ff),
     ] {
         let left = disk.crash_with(rt.alloc(), fill, is_short)?;
-        assert_eq!(rt; left.as_slice(), want);
+        assert_same(rt, left.as_slice(), want);
     }
     Ok(())
 }
@@ -53,7 +54,7 @@ fn assert_crashes(
 fn a_write_may_leave_anything_in_its_range(rt: HostRuntime) -> Result<(), Fail> {
     let mut disk = four(rt.alloc())?;
     disk.write(1, &[8, 9])?;
-    assert_eq!(rt; disk.bytes(), [1, 8, 9, 4].as_slice());
+    assert_same(&rt, disk.bytes(), [1, 8, 9, 4].as_slice());
     let torn = [1, 0xff, 0xff, 4];
     assert_crashes(&rt, &disk, &[1, 8, 9, 4], &torn, &[1, 8, 9, 4], &torn)
 }
@@ -62,7 +63,7 @@ fn a_write_may_leave_anything_in_its_range(rt: HostRuntime) -> Result<(), Fail> 
 fn a_growth_may_be_lost(rt: HostRuntime) -> Result<(), Fail> {
     let mut disk = four(rt.alloc())?;
     disk.write(3, &[5, 6])?;
-    assert_eq!(rt; disk.len(), Ok(5));
+    assert_same(&rt, disk.len(), Ok(5));
     assert_crashes(
         &rt,
         &disk,
@@ -77,7 +78,7 @@ fn a_growth_may_be_lost(rt: HostRuntime) -> Result<(), Fail> {
 fn a_cut_may_be_lost(rt: HostRuntime) -> Result<(), Fail> {
     let mut disk = four(rt.alloc())?;
     disk.cut(2)?;
-    assert_eq!(rt; disk.bytes(), [1, 2].as_slice());
+    assert_same(&rt, disk.bytes(), [1, 2].as_slice());
     assert_crashes(
         &rt,
         &disk,
@@ -100,10 +101,44 @@ fn a_sync_keeps_what_is_read(rt: HostRuntime) -> Result<(), Fail> {
     let left = [7, 2, 3, 4, 5];
     let torn = [0xff, 2, 3, 4, 5];
     assert_crashes(&rt, &disk, &left, &torn, &left, &torn)?;
-    assert_eq!(rt; disk.bytes(), left.as_slice());
+    assert_same(&rt, disk.bytes(), left.as_slice());
     let mut buf = [0; 2];
-    assert_eq!(rt; disk.read(3, &mut buf), Ok(()));
-    assert_eq!(rt; buf, [4, 5]);
+    assert_same(&rt, disk.read(3, &mut buf), Ok(()));
+    assert_same(&rt, buf, [4, 5]);
+    Ok(())
+}
+
+// Of two reads the first fails.
+fn assert_reads(rt: &impl Abort, disk: &mut FuseDisk) {
+    assert!(rt; disk.bytes().len() == 4);
+    let mut buf = [0; 2];
+    let reads = [disk.read(1, &mut buf), disk.read(1, &mut buf)];
+    assert_same(rt, reads, [Err(Failed), Ok(())]);
+    assert_same(rt, buf, [2, 3]);
+}
+
+// Of two writes the first fails and is half done, and of two syncs the first.
+fn assert_writes(rt: &(impl Abort + AllocGlobal), disk: &mut FuseDisk) -> Result<(), Fail> {
+    assert_same(rt, disk.write(0, &[8, 9]), Err(Stop::Failed));
+    assert_same(rt, disk.bytes(), [8, 2, 3, 4].as_slice());
+    assert!(rt; disk.bytes().len() == 4);
+    assert_same(rt, disk.write(3, &[7]), Ok(()));
+    assert_same(rt, disk.sync(), Err(Stop::Failed));
+    let torn = disk.crash_with(rt.alloc(), Some(0xff), false)?;
+    assert_same(rt, torn.as_slice(), [0xff, 0xff, 3, 0xff].as_slice());
+    assert_same(rt, disk.sync(), Ok(()));
+    Ok(())
+}
+
+// Of two cuts the first fails.
+fn assert_cuts(rt: &(impl Abort + AllocGlobal), disk: &mut FuseDisk) -> Result<(), Fail> {
+    assert_same(rt, disk.cut(1), Err(Stop::Failed));
+    assert_same(rt, disk.bytes(), [8].as_slice());
+    let short = disk.crash_with(rt.alloc(), Some(0xff), true)?;
+    assert_same(rt, short.as_slice(), [8].as_slice());
+    let long = disk.crash_with(rt.alloc(), Some(0xff), false)?;
+    assert_same(rt, long.as_slice(), [8, 0xff, 0xff, 0xff].as_slice());
+    assert_same(rt, disk.cut(0), Ok(()));
     Ok(())
 }
 
@@ -112,27 +147,11 @@ fn a_fuse_fails_the_calls_that_are_listed(rt: HostRuntime) -> Result<(), Fail> {
     let alloc = rt.alloc();
     let fails = numbers(alloc, &[0, 2, 4, 6, 8])?;
     let mut disk = FuseDisk::new(alloc, bytes(alloc, &[1, 2, 3, 4])?, fails);
-    assert_eq!(rt; disk.len(), Err(Failed));
-    assert_eq!(rt; disk.len(), Ok(4));
-    let mut buf = [0; 2];
-    assert_eq!(rt; disk.read(1, &mut buf), Err(Failed));
-    assert_eq!(rt; disk.read(1, &mut buf), Ok(()));
-    assert_eq!(rt; buf, [2, 3]);
-    assert_eq!(rt; disk.write(0, &[8, 9]), Err(Stop::Failed));
-    assert_eq!(rt; disk.bytes(), [8, 2, 3, 4].as_slice());
-    assert_eq!(rt; disk.write(3, &[7]), Ok(()));
-    assert_eq!(rt; disk.sync(), Err(Stop::Failed));
-    let torn = disk.crash_with(alloc, Some(0xff), false)?;
-    assert_eq!(rt; torn.as_slice(), [0xff, 0xff, 3, 0xff].as_slice());
-    assert_eq!(rt; disk.sync(), Ok(()));
-    assert_eq!(rt; disk.cut(1), Err(Stop::Failed));
-    assert_eq!(rt; disk.bytes(), [8].as_slice());
-    let short = disk.crash_with(alloc, Some(0xff), true)?;
-    assert_eq!(rt; short.as_slice(), [8].as_slice());
-    let long = disk.crash_with(alloc, Some(0xff), false)?;
-    assert_eq!(rt; long.as_slice(), [8, 0xff, 0xff, 0xff].as_slice());
-    assert_eq!(rt; disk.cut(0), Ok(()));
-    assert_eq!(rt; disk.len(), Ok(0));
+    assert_same(&rt, [disk.len(), disk.len()], [Err(Failed), Ok(4)]);
+    assert_reads(&rt, &mut disk);
+    assert_writes(&rt, &mut disk)?;
+    assert_cuts(&rt, &mut disk)?;
+    assert_same(&rt, disk.len(), Ok(0));
     Ok(())
 }
 
@@ -143,21 +162,21 @@ fn a_file_keeps_what_is_written(rt: HostRuntime) -> Result<(), Fail> {
     let _ = fs::remove_dir_all(&rt, FOLDER);
     let path = String::from_str(rt.alloc(), "log_disk_test/log")?;
     let mut disk = FileDisk::new(rt, path);
-    assert_eq!(rt; disk.len(), Err(Failed));
+    assert_same(&rt, disk.len(), Err(Failed));
     fs::create_dir(&rt, FOLDER)?;
-    assert_eq!(rt; disk.len(), Ok(0));
-    assert_eq!(rt; disk.write(0, b"abcdef"), Ok(()));
-    assert_eq!(rt; disk.write(1, b"BC"), Ok(()));
-    assert_eq!(rt; disk.sync(), Ok(()));
+    assert_same(&rt, disk.len(), Ok(0));
+    assert_same(&rt, disk.write(0, b"abcdef"), Ok(()));
+    assert_same(&rt, disk.write(1, b"BC"), Ok(()));
+    assert_same(&rt, disk.sync(), Ok(()));
     let mut buf = [0; 4];
-    assert_eq!(rt; disk.read(1, &mut buf), Ok(()));
-    assert_eq!(rt; buf, *b"BCde");
-    assert_eq!(rt; disk.cut(3), Ok(()));
-    assert_eq!(rt; disk.cut(9), Ok(()));
-    assert_eq!(rt; disk.len(), Ok(3));
-    assert_eq!(rt; disk.read(1, &mut buf), Err(Failed));
+    assert_same(&rt, disk.read(1, &mut buf), Ok(()));
+    assert_same(&rt, buf, *b"BCde");
+    assert_same(&rt, disk.cut(3), Ok(()));
+    assert_same(&rt, disk.cut(9), Ok(()));
+    assert_same(&rt, disk.len(), Ok(3));
+    assert_same(&rt, disk.read(1, &mut buf), Err(Failed));
     let text = fs::read_to_string(&rt, "log_disk_test/log")?;
-    assert_eq!(rt; text.as_str(), "aBC");
+    assert_same(&rt, text.as_str(), "aBC");
     fs::remove_dir_all(&rt, FOLDER)?;
     Ok(())
 }

@@ -1,6 +1,7 @@
 ghost use Rattle.std.specs.Prelude.{IfOk};
 ghost use Rattle.exchange_log.specs.Gives.{GiveHasSpelling};
 
+use crate::same::assert_same;
 use arn_base::{Bytes, Give, NoMemory, Origin, Origins};
 use exchange_log::{GetError, get_give, give_len, put_give};
 use std::alloc::Global;
@@ -29,12 +30,12 @@ fn a_give(rt: HostRuntime) -> Result<(), Fail> {
     let give = give(rt.alloc())?;
     let mut out = Vec::new(rt.alloc());
     put_give(&mut out, &give)?;
-    assert_eq!(rt; out.as_slice(), GIVE.as_slice());
-    assert_eq!(rt; give_len(&give), 25);
-    assert_eq!(rt; get_give(rt.alloc(), &GIVE, 0), Ok((give, 25)));
+    assert_same(&rt, out.as_slice(), GIVE.as_slice());
+    assert_same(&rt, give_len(&give), 25);
+    assert_same(&rt, get_give(rt.alloc(), &GIVE, 0), Ok((give, 25)));
     for at in [1, 25, 26] {
         let malformed = GetError::Malformed { at: at as u64 };
-        assert_eq!(rt; get_give(rt.alloc(), &GIVE, at), Err(malformed));
+        assert_same(&rt, get_give(rt.alloc(), &GIVE, at), Err(malformed));
     }
     Ok(())
 }

@@ -8,6 +8,8 @@ mod gives;
 #[cfg(test)]
 mod records;
 #[cfg(test)]
+mod same;
+#[cfg(test)]
 mod slices;
 #[cfg(test)]
 mod stores;

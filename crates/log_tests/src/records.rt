@@ -1,4 +1,4 @@
-ghost use Rattle.std.specs.Prelude.{IfOk};
+ghost use Rattle.std.specs.Prelude.{◌<◌, IfOk};
 ghost use Rattle.result_log.specs.Spelling.{ExtraHasSpelling, GiveHasSpelling, HasSpelling};
 ghost use Rattle.result_log.specs.States.{StartHasSpelling};
 
@@ -37,8 +37,37 @@ fn give(alloc: Global) -> Result<Give, NoMemory>
     Ok(Give { bytes, origins })
 }
 
-// The record has these bytes, as many as are told, and what is read from them, behind others and
-// before others, has the same.
+// The record has these bytes, behind others, and as many as are told.
+fn assert_written(
+    rt: &impl Abort,
+    alloc: Global,
+    entry: &Record,
+    bytes: &[u8],
+) -> Result<(), NoMemory>
+    requires { HasSpelling entry.now }
+{
+    let mut out = Vec::from_slice(alloc, &[1, 2, 3])?;
+    put_record(&mut out, entry)?;
+    assert!(rt; out.get(3..) == Some(bytes));
+    assert!(rt; spelled_len(entry) == bytes.len() as u64);
+    Ok(())
+}
+
+// A record is read from these bytes, behind others and before others.
+fn read_record(rt: &impl Abort, alloc: Global, bytes: &[u8]) -> Result<Record, NoMemory>
+    ensures { IfOk result HasSpelling }
+{
+    let mut text = Vec::from_slice(alloc, &[1, 2, 3])?;
+    text.extend_from_slice(bytes)?;
+    text.push(0xff)?;
+    let Ok((read, next)) = get_record(alloc, text.as_slice(), 3) else {
+        panic!(rt; "no record was read");
+    };
+    assert!(rt; next == bytes.len() + 3);
+    Ok(read)
+}
+
+// The record has these bytes, and what is read from them has the same.
 fn assert_spelled(
     rt: &impl Abort,
     alloc: Global,
@@ -47,19 +76,9 @@ fn assert_spelled(
 ) -> Result<(), NoMemory>
     requires { HasSpelling entry }
 {
-    let mut out = Vec::from_slice(alloc, &[1, 2, 3])?;
-    put_record(&mut out, &entry)?;
-    assert!(rt; out.get(3..) == Some(bytes));
-    assert!(rt; spelled_len(&entry) == bytes.len() as u64);
-    out.push(0xff)?;
-    let Ok((read, next)) = get_record(alloc, out.as_slice(), 3) else {
-        panic!(rt; "no record was read");
-    };
-    assert!(rt; next == out.len() - 1);
-    let mut again = Vec::new(alloc);
-    put_record(&mut again, &read)?;
-    assert!(rt; again.as_slice() == bytes);
-    Ok(())
+    assert_written(rt, alloc, &entry, bytes)?;
+    let read = read_record(rt, alloc, bytes)?;
+    assert_written(rt, alloc, &read, bytes)
 }
 
 #[test]
@@ -91,36 +110,44 @@ fn assert_call_spelled(
     assert_spelled(rt, alloc, call, bytes.as_slice())
 }
 
-#[test]
-fn calls(rt: HostRuntime) -> Result<(), Fail> {
-    assert_call_spelled(&rt, rt.alloc(), Extra::Nothing, &[0])?;
-
-    let mut tagged = Vec::from_slice(rt.alloc(), &[1])?;
+fn assert_gives_spelled(rt: &impl Abort, alloc: Global) -> Result<(), NoMemory> {
+    let mut tagged = Vec::from_slice(alloc, &[1])?;
     tagged.extend_from_slice(&GIVE)?;
-    let extra = Extra::Give(give(rt.alloc())?);
-    assert_call_spelled(&rt, rt.alloc(), extra, tagged.as_slice())?;
+    let extra = Extra::Give(give(alloc)?);
+    assert_call_spelled(rt, alloc, extra, tagged.as_slice())
+}
 
-    let bytes = Bytes::from_slice(rt.alloc(), b"ab")?;
+fn assert_console_spelled(rt: &impl Abort, alloc: Global) -> Result<(), NoMemory> {
+    let bytes = Bytes::from_slice(alloc, b"ab")?;
     let extra = Extra::Console { bytes };
-    assert_call_spelled(&rt, rt.alloc(), extra, &[4, 2, 0, 0, 0, 0x61, 0x62])?;
+    assert_call_spelled(rt, alloc, extra, &[4, 2, 0, 0, 0, 0x61, 0x62])
+}
 
-    let bytes = Bytes::from_slice(rt.alloc(), b"z")?;
+fn assert_put_spelled(rt: &impl Abort, alloc: Global) -> Result<(), NoMemory> {
+    let bytes = Bytes::from_slice(alloc, b"z")?;
     let extra = Extra::Put {
         file: 5,
         at: 2,
         bytes,
     };
     let tagged = [3, 5, 0, 0, 0, 2, 0, 0, 0, 1, 0, 0, 0, 0x7a];
-    assert_call_spelled(&rt, rt.alloc(), extra, &tagged)?;
+    assert_call_spelled(rt, alloc, extra, &tagged)
+}
 
-    let path = Bytes::from_slice(rt.alloc(), b"log")?;
+fn assert_name_spelled(rt: &impl Abort, alloc: Global) -> Result<(), NoMemory> {
+    let path = Bytes::from_slice(alloc, b"log")?;
     let extra = Extra::Name { file: 4, path };
-    assert_call_spelled(
-        &rt,
-        rt.alloc(),
-        extra,
-        &[8, 4, 0, 0, 0, 3, 0x6c, 0x6f, 0x67],
-    )?;
+    let tagged = [8, 4, 0, 0, 0, 3, 0x6c, 0x6f, 0x67];
+    assert_call_spelled(rt, alloc, extra, &tagged)
+}
+
+#[test]
+fn calls(rt: HostRuntime) -> Result<(), Fail> {
+    assert_call_spelled(&rt, rt.alloc(), Extra::Nothing, &[0])?;
+    assert_gives_spelled(&rt, rt.alloc())?;
+    assert_console_spelled(&rt, rt.alloc())?;
+    assert_put_spelled(&rt, rt.alloc())?;
+    assert_name_spelled(&rt, rt.alloc())?;
     Ok(())
 }
 
@@ -164,28 +191,44 @@ fn assert_malformed(rt: &impl Abort, alloc: Global, bytes: &[u8], at: usize) {
     assert!(rt; matches!(read, Err(GetError::Malformed { at: found }) if found == at as u64));
 }
 
+// Behind these bytes, this one and zeros are no record, or no end of one that starts at the place.
+fn assert_ends_none(
+    rt: &impl Abort,
+    alloc: Global,
+    front: &[u8],
+    byte: u8,
+    at: usize,
+) -> Result<(), NoMemory> {
+    let mut bytes = Vec::from_slice(alloc, front)?;
+    bytes.push(byte)?;
+    bytes.extend_from_slice(&[0; 40])?;
+    assert_malformed(rt, alloc, bytes.as_slice(), at);
+    Ok(())
+}
+
+// The signal's bytes with another one in this place are no record.
+fn assert_no_signal(rt: &impl Abort, alloc: Global, place: usize, byte: u8)
+    requires { place < 15 }
+{
+    let mut signal = SIGNAL;
+    signal[place] = byte;
+    assert_malformed(rt, alloc, &signal, 0);
+}
+
 #[test]
 fn no_records(rt: HostRuntime) -> Result<(), Fail> {
     for kind in [0, 6, 9, 255] {
-        let mut bytes = Vec::from_slice(rt.alloc(), &FILE)?;
-        bytes.push(kind)?;
-        bytes.extend_from_slice(&[0; 40])?;
-        assert_malformed(&rt, rt.alloc(), bytes.as_slice(), 9);
+        assert_ends_none(&rt, rt.alloc(), &FILE, kind, 9)?;
     }
     for tag in [10, 255] {
-        let mut bytes = Vec::from_slice(rt.alloc(), &CALL)?;
-        bytes.push(tag)?;
-        bytes.extend_from_slice(&[0; 40])?;
-        assert_malformed(&rt, rt.alloc(), bytes.as_slice(), 0);
+        assert_ends_none(&rt, rt.alloc(), &CALL, tag, 0)?;
     }
     for at in [1, 9, 10, usize::MAX] {
         assert_malformed(&rt, rt.alloc(), &FILE, at);
     }
-    for (place, byte) in [(5, 0), (5, 32), (6, 2)] {
-        let mut signal = SIGNAL;
-        signal[place] = byte;
-        assert_malformed(&rt, rt.alloc(), &signal, 0);
-    }
+    assert_no_signal(&rt, rt.alloc(), 5, 0);
+    assert_no_signal(&rt, rt.alloc(), 5, 32);
+    assert_no_signal(&rt, rt.alloc(), 6, 2);
     assert_malformed(&rt, rt.alloc(), &FILE[..8], 0);
     assert_malformed(&rt, rt.alloc(), &CALL, 0);
     assert_malformed(&rt, rt.alloc(), &[], 0);

@@ -1,3 +1,4 @@
+use crate::same::assert_same;
 use schedule_log::{Delivery, GetError, get_signal, get_slice, put_signal, put_slice};
 use std::test::Fail;
 
@@ -18,10 +19,18 @@ fn a_slice_and_a_signal(rt: HostRuntime) -> Result<(), Fail> {
     let mut out = Vec::new(rt.alloc());
     put_slice(&mut out, 1, 1_000_000)?;
     put_signal(&mut out, delivery)?;
-    assert_eq!(rt; out.as_slice(), BYTES.as_slice());
-    assert_eq!(rt; get_slice(&BYTES, 0), Ok((1, 1_000_000, 9)));
-    assert_eq!(rt; get_signal(&BYTES, 9), Ok((delivery, 24)));
-    assert_eq!(rt; get_slice(&BYTES, 9), Err(GetError::Malformed { at: 9 }));
-    assert_eq!(rt; get_signal(&BYTES, 24), Err(GetError::Malformed { at: 24 }));
+    assert_same(&rt, out.as_slice(), BYTES.as_slice());
+    assert_same(&rt, get_slice(&BYTES, 0), Ok((1, 1_000_000, 9)));
+    assert_same(&rt, get_signal(&BYTES, 9), Ok((delivery, 24)));
+    assert_same(
+        &rt,
+        get_slice(&BYTES, 9),
+        Err(GetError::Malformed { at: 9 }),
+    );
+    assert_same(
+        &rt,
+        get_signal(&BYTES, 24),
+        Err(GetError::Malformed { at: 24 }),
+    );
     Ok(())
 }

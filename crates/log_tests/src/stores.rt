@@ -1,6 +1,7 @@
 ghost use Rattle.std.specs.Prelude.{◌<◌, ◌^◌, All, IfOk};
 ghost use Rattle.result_log.specs.Spelling.{HasSpelling, IsCounted, IsName};
 
+use crate::same::assert_same;
 use arn_base::{Bytes, Disk, Failed, NoMemory, Numbers, Record, Stop};
 use log_disk::{FuseDisk, MemDisk};
 use log_store::{CommitError, OpenError, Store, frame_end};
@@ -52,45 +53,36 @@ fn count(alloc: Global, bytes: &[u8]) -> Result<usize, OpenError> {
     Ok(Store::open_log(alloc, &mut disk)?.entries().len())
 }
 
-#[test]
-fn opens_logs_by_their_gates(rt: HostRuntime) -> Result<(), Fail> {
-    let alloc = rt.alloc();
-    assert_eq!(rt; count(alloc, b""), Ok(0));
-    assert_eq!(rt; count(alloc, b"ARNLOG01\x01"), Ok(0));
-    for len in 0..=13 {
-        let bytes = behind_first(alloc, 0, &SECOND[..len])?;
-        assert_eq!(rt; count(alloc, bytes.as_slice()), Ok(1));
-    }
-    assert_eq!(rt;
-        count(alloc, behind_first(alloc, 1, &[])?.as_slice()),
-        Ok(1)
-    );
-    assert_eq!(rt;
-        count(alloc, behind_first(alloc, 7, &SECOND)?.as_slice()),
-        Ok(1)
-    );
-    assert_eq!(rt;
-        count(alloc, behind_first(alloc, 1, &SECOND)?.as_slice()),
-        Ok(2)
-    );
-    Ok(())
+// How many records the log of the first frame, a gate and bytes holds.
+fn count_behind(alloc: Global, gate: u8, rest: &[u8]) -> Result<usize, OpenError> {
+    let bytes = behind_first(alloc, gate, rest)?;
+    count(alloc, bytes.as_slice())
 }
 
 #[test]
-fn says_where_bytes_are_no_log(rt: HostRuntime) -> Result<(), Fail> {
+fn opens_logs_by_their_gates(rt: HostRuntime) {
     let alloc = rt.alloc();
-    assert_eq!(rt;
-        count(alloc, b"ARNLOG99\0\0"),
-        Err(OpenError::NotLog { at: 6 })
-    );
-    assert_eq!(rt;
-        count(alloc, &FIRST[..20]),
-        Err(OpenError::Malformed { at: 8 })
-    );
-    assert_eq!(rt; count(alloc, &FIRST), Err(OpenError::Malformed { at: 8 }));
+    assert_same(&rt, count(alloc, b""), Ok(0));
+    assert_same(&rt, count(alloc, b"ARNLOG01\x01"), Ok(0));
+    for len in 0..=13 {
+        assert_same(&rt, count_behind(alloc, 0, &SECOND[..len]), Ok(1));
+    }
+    assert_same(&rt, count_behind(alloc, 1, &[]), Ok(1));
+    assert_same(&rt, count_behind(alloc, 7, &SECOND), Ok(1));
+    assert_same(&rt, count_behind(alloc, 1, &SECOND), Ok(2));
+}
+
+#[test]
+fn says_where_bytes_are_no_log(rt: HostRuntime) {
     let unknown = b"ARNLOG01\x01\x02\0\0\0\x09\x09\0";
-    assert_eq!(rt; count(alloc, unknown), Err(OpenError::Malformed { at: 13 }));
-    Ok(())
+    for (bytes, error) in [
+        (b"ARNLOG99\0\0".as_slice(), OpenError::NotLog { at: 6 }),
+        (&FIRST[..20], OpenError::Malformed { at: 8 }),
+        (&FIRST, OpenError::Malformed { at: 8 }),
+        (unknown, OpenError::Malformed { at: 13 }),
+    ] {
+        assert_same(&rt, count(rt.alloc(), bytes), Err(error));
+    }
 }
 
 #[test]
@@ -98,17 +90,21 @@ fn commits_behind_what_was_there(rt: HostRuntime) -> Result<(), Fail> {
     let alloc = rt.alloc();
     let mut disk = MemDisk::new(alloc, behind_first(alloc, 7, &SECOND)?);
     let mut store = Store::open_log(alloc, &mut disk)?;
-    assert_eq!(rt; disk.bytes(), behind_first(alloc, 0, &[])?.as_slice());
+    assert_same(&rt, disk.bytes(), behind_first(alloc, 0, &[])?.as_slice());
     let entry = file(alloc, b"b", b"c")?;
     store.commit(&mut disk, one(alloc, entry)?)?;
-    assert_eq!(rt; disk.bytes(), behind_first(alloc, 1, &SECOND)?.as_slice());
+    assert_same(
+        &rt,
+        disk.bytes(),
+        behind_first(alloc, 1, &SECOND)?.as_slice(),
+    );
     let want = [file(alloc, b"a", b"ab")?, file(alloc, b"b", b"c")?];
-    assert_eq!(rt; store.entries(), want.as_slice());
+    assert_same(&rt, store.entries(), want.as_slice());
     assert!(rt; store.usable());
     for fill in FILLS {
         for short in [false, true] {
             let left = disk.crash_with(alloc, Some(fill), short)?;
-            assert_eq!(rt; count(alloc, left.as_slice()), Ok(2));
+            assert_same(&rt, count(alloc, left.as_slice()), Ok(2));
         }
     }
     Ok(())
@@ -138,15 +134,16 @@ fn a_stopped_commit_is_whole_or_not_there(rt: HostRuntime) -> Result<(), Fail> {
         let mut disk = FuseDisk::new(alloc, behind_first(alloc, 0, &[])?, fails);
         let mut store = Store::open_log(alloc, &mut disk)?;
         let entry = file(alloc, b"b", b"c")?;
-        assert_eq!(rt;
+        assert_same(
+            &rt,
             store.commit(&mut disk, one(alloc, entry)?),
-            Err(CommitError::Disk)
+            Err(CommitError::Disk),
         );
         assert!(rt; !store.usable());
-        assert_eq!(rt; store.entries().len(), 1);
+        assert_same(&rt, store.entries().len(), 1);
         for short in [false, true] {
             let left = disk.crash_with(alloc, Some(fill), short)?;
-            assert_eq!(rt; count(alloc, left.as_slice()), Ok(want));
+            assert_same(&rt, count(alloc, left.as_slice()), Ok(want));
         }
     }
     Ok(())
@@ -242,9 +239,9 @@ fn refuses_a_log_that_is_too_long(rt: HostRuntime) -> Result<(), Fail> {
 
 #[test]
 fn frames_end_at_the_limit(rt: HostRuntime) -> Result<(), Fail> {
-    assert_eq!(rt; frame_end(268_435_000, 451), Some(268_435_456));
-    assert_eq!(rt; frame_end(268_435_000, 452), None);
-    assert_eq!(rt; frame_end(u64::MAX, u64::MAX), None);
+    assert_same(&rt, frame_end(268_435_000, 451), Some(268_435_456));
+    assert_same(&rt, frame_end(268_435_000, 452), None);
+    assert_same(&rt, frame_end(u64::MAX, u64::MAX), None);
     Ok(())
 }
 
@@ -272,8 +269,8 @@ fn a_commit_that_does_not_fit_changes_nothing(rt: HostRuntime) -> Result<(), Fai
         log: 9,
         payload: 268_435_443,
     };
-    assert_eq!(rt; store.commit(&mut disk, one(alloc, entry)?), Err(full));
-    assert_eq!(rt; disk.bytes(), b"ARNLOG01\0".as_slice());
+    assert_same(&rt, store.commit(&mut disk, one(alloc, entry)?), Err(full));
+    assert_same(&rt, disk.bytes(), b"ARNLOG01\0".as_slice());
     assert!(rt; store.usable());
     Ok(())
 }

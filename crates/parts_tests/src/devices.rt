@@ -1,3 +1,4 @@
+use crate::same::assert_same;
 use arn_base::{Bytes, Choice, Chooser, Device, Reply};
 use guest_devices::{
     Answer, Answers, EntropyDevice, ScriptDevice, ScriptReply, SeededChooser, Slots, unplug,
@@ -9,15 +10,15 @@ use std::test::Fail;
 fn words_fill_each_buffer(rt: HostRuntime) {
     let mut device = EntropyDevice::new(0);
     let mut buf = [0; 8];
-    assert_eq!(rt; device.ask(&mut buf), Reply::Gave(8));
-    assert_eq!(rt; buf, [0x66, 0x02, 0xa1, 0x7a, 0x6e, 0x2e, 0x1a, 0xfe]);
+    assert_same(&rt, device.ask(&mut buf), Reply::Gave(8));
+    assert_same(&rt, buf, [0x66, 0x02, 0xa1, 0x7a, 0x6e, 0x2e, 0x1a, 0xfe]);
     let mut buf = [0; 3];
-    assert_eq!(rt; device.ask(&mut buf), Reply::Gave(3));
-    assert_eq!(rt; buf, [0x0c, 0x7f, 0x7c]);
+    assert_same(&rt, device.ask(&mut buf), Reply::Gave(3));
+    assert_same(&rt, buf, [0x0c, 0x7f, 0x7c]);
 }
 
 fn assert_chooses(rt: &impl Abort, chooser: &mut SeededChooser, index: u32, count: u32) {
-    assert_eq!(rt; chooser.choose(2), Choice { index, count });
+    assert_same(rt, chooser.choose(2), Choice { index, count });
 }
 
 #[test]
@@ -45,13 +46,13 @@ fn a_script_is_used_up(rt: HostRuntime) -> Result<(), Fail> {
         devices: &mut devices,
     };
     let mut buf = [0; 2];
-    assert_eq!(rt; slots.ask(0, &mut buf), Answer::Fault);
-    assert_eq!(rt; slots.ask(0, &mut buf), Answer::Gave(2));
-    assert_eq!(rt; buf, [1, 2]);
-    assert_eq!(rt; slots.ask(0, &mut buf), Answer::Gave(0));
-    assert_eq!(rt; slots.put(0, &[7, 8]), Answer::Gave(2));
-    assert_eq!(rt; slots.put(0, &[7, 8]), Answer::Gave(1));
-    assert_eq!(rt; slots.ask(1, &mut buf), Answer::Absent);
+    assert_same(&rt, slots.ask(0, &mut buf), Answer::Fault);
+    assert_same(&rt, slots.ask(0, &mut buf), Answer::Gave(2));
+    assert_same(&rt, buf, [1, 2]);
+    assert_same(&rt, slots.ask(0, &mut buf), Answer::Gave(0));
+    assert_same(&rt, slots.put(0, &[7, 8]), Answer::Gave(2));
+    assert_same(&rt, slots.put(0, &[7, 8]), Answer::Gave(1));
+    assert_same(&rt, slots.ask(1, &mut buf), Answer::Absent);
     Ok(())
 }
 

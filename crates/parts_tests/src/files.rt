@@ -1,4 +1,5 @@
-use arn_base::{Give, Origin};
+use crate::same::{assert_gives, assert_same, origin};
+use arn_base::Give;
 use guest_files::{FileError, Files};
 use std::process::Abort;
 use std::test::Fail;
@@ -29,31 +30,32 @@ fn read(rt: &impl Abort, files: &Files, at: u32, max: u32) -> Result<Give, Fail>
 #[test]
 fn a_name_is_given_once(rt: HostRuntime) {
     let mut files = Files::new(rt.alloc());
-    assert_eq!(rt; files.create(b"f"), Ok(0));
-    assert_eq!(rt; files.create(b"f"), Err(FileError::Exists));
+    assert_same(&rt, files.create(b"f"), Ok(0));
+    assert_same(&rt, files.create(b"f"), Err(FileError::Exists));
 }
 
 #[test]
 fn a_number_is_given_once(rt: HostRuntime) {
     let mut files = Files::new(rt.alloc());
-    assert_eq!(rt; files.create(b"f"), Ok(0));
-    assert_eq!(rt; files.unlink(b"g"), Err(FileError::NoFile));
-    assert_eq!(rt; files.unlink(b"f"), Ok(0));
-    assert_eq!(rt; files.find(b"f"), None);
-    assert_eq!(rt; files.create(b"f"), Ok(1));
+    assert_same(&rt, files.create(b"f"), Ok(0));
+    assert_same(&rt, files.unlink(b"g"), Err(FileError::NoFile));
+    assert_same(&rt, files.unlink(b"f"), Ok(0));
+    assert_same(&rt, files.find(b"f"), None);
+    assert_same(&rt, files.create(b"f"), Ok(1));
 }
 
 #[test]
 fn a_full_file_takes_no_byte(rt: HostRuntime) -> Result<(), Fail> {
     let mut files = Files::new(rt.alloc());
-    assert_eq!(rt; files.create(b"f"), Ok(0));
+    assert_same(&rt, files.create(b"f"), Ok(0));
     let most = vec![in rt.alloc(); 0u8; 1_048_575]?;
-    assert_eq!(rt; write(&rt, &mut files, 0, &most, 2), Ok(1_048_575));
-    assert_eq!(rt; write(&rt, &mut files, 1_048_575, b"ab", 3), Ok(1));
-    assert_eq!(rt; write(&rt, &mut files, 1_048_576, b"", 4), Ok(0));
-    assert_eq!(rt;
+    assert_same(&rt, write(&rt, &mut files, 0, &most, 2), Ok(1_048_575));
+    assert_same(&rt, write(&rt, &mut files, 1_048_575, b"ab", 3), Ok(1));
+    assert_same(&rt, write(&rt, &mut files, 1_048_576, b"", 4), Ok(0));
+    assert_same(
+        &rt,
         write(&rt, &mut files, 1_048_576, b"c", 5),
-        Err(FileError::TooLong)
+        Err(FileError::TooLong),
     );
     Ok(())
 }
@@ -61,20 +63,12 @@ fn a_full_file_takes_no_byte(rt: HostRuntime) -> Result<(), Fail> {
 #[test]
 fn the_last_write_is_the_origin(rt: HostRuntime) -> Result<(), Fail> {
     let mut files = Files::new(rt.alloc());
-    assert_eq!(rt; files.create_with(b"f", b"abcd", 3), Ok(0));
-    assert_eq!(rt; write(&rt, &mut files, 1, b"xy", 5), Ok(2));
-    let give = read(&rt, &files, 0, 9)?;
-    assert_eq!(rt; give.bytes.as_slice(), b"axyd".as_slice());
-    let origin = |event, at, len| Origin { event, at, len };
-    assert_eq!(rt;
-        give.origins.as_slice(),
-        [origin(3, 0, 1), origin(5, 0, 2), origin(3, 3, 1)].as_slice()
-    );
-    let give = read(&rt, &files, 2, 2)?;
-    assert_eq!(rt; give.bytes.as_slice(), b"yd".as_slice());
-    assert_eq!(rt;
-        give.origins.as_slice(),
-        [origin(5, 1, 1), origin(3, 3, 1)].as_slice()
-    );
+    assert_same(&rt, files.create_with(b"f", b"abcd", 3), Ok(0));
+    assert_same(&rt, write(&rt, &mut files, 1, b"xy", 5), Ok(2));
+    let whole = read(&rt, &files, 0, 9)?;
+    let origins = [origin(3, 0, 1), origin(5, 0, 2), origin(3, 3, 1)];
+    assert_gives(&rt, &whole, b"axyd", &origins);
+    let end = read(&rt, &files, 2, 2)?;
+    assert_gives(&rt, &end, b"yd", &[origin(5, 1, 1), origin(3, 3, 1)]);
     Ok(())
 }

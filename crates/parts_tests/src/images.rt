@@ -1,3 +1,4 @@
+use crate::same::assert_same;
 use guest_image::{Image, parse};
 
 // The bytes stand in the order name, entry, load address, body.
@@ -16,17 +17,18 @@ fn tells_images_from_other_bytes(rt: HostRuntime) {
         (b"ARNIMG02\0\0\x01\0\0\0\0\0\0\0\x01\0\0\0\0\0", false),
     ];
     for (bytes, is_image) in cases {
-        assert_eq!(rt; parse(bytes).is_ok(), is_image, "at {bytes:?}");
+        assert_same(&rt, (bytes, parse(bytes).is_ok()), (bytes, is_image));
     }
 }
 
 #[test]
 fn reads_entry_and_load_address(rt: HostRuntime) {
-    assert_eq!(rt;
+    assert_same(
+        &rt,
         parse(b"ARNIMG01\x04\0\x01\0\0\0\0\0\x08\0\x02\0\0\0\0\0\x73\0\0\0"),
         Ok(Image {
             entry: 0x1_0004,
             load: 0x2_0008,
-        })
+        }),
     );
 }

@@ -18,6 +18,8 @@ mod ports;
 #[cfg(test)]
 mod processes;
 #[cfg(test)]
+mod same;
+#[cfg(test)]
 mod signals;
 #[cfg(test)]
 mod windows;

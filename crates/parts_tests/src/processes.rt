@@ -1,3 +1,4 @@
+use crate::same::assert_same;
 use guest_procs::{Ended, ProcError, Procs};
 use std::test::Fail;
 
@@ -6,10 +7,10 @@ fn there_are_at_most_64_processes(rt: HostRuntime) -> Result<(), Fail> {
     let mut procs = Procs::new(rt.alloc());
     for made in 0..64 {
         let pid = procs.boot()?;
-        assert_eq!(rt; pid, made + 1);
+        assert_same(&rt, pid, made + 1);
     }
-    assert_eq!(rt; procs.live().len(), 64);
-    assert_eq!(rt; procs.boot(), Err(ProcError::TooMany));
+    assert_same(&rt, procs.live().len(), 64);
+    assert_same(&rt, procs.boot(), Err(ProcError::TooMany));
     Ok(())
 }
 
@@ -19,10 +20,10 @@ fn there_are_at_most_16_descriptors(rt: HostRuntime) -> Result<(), Fail> {
     procs.boot()?;
     for count in 0..16 {
         let number = procs.place(1, 7)?;
-        assert_eq!(rt; number, count);
+        assert_same(&rt, number, count);
     }
-    assert_eq!(rt; procs.free(1), 0);
-    assert_eq!(rt; procs.place(1, 7), Err(ProcError::TooMany));
+    assert_same(&rt, procs.free(1), 0);
+    assert_same(&rt, procs.place(1, 7), Err(ProcError::TooMany));
     Ok(())
 }
 
@@ -30,15 +31,16 @@ fn there_are_at_most_16_descriptors(rt: HostRuntime) -> Result<(), Fail> {
 fn a_descriptor_is_opened_and_closed(rt: HostRuntime) -> Result<(), Fail> {
     let mut procs = Procs::new(rt.alloc());
     procs.boot()?;
-    assert_eq!(rt; procs.place(1, 7), Ok(0));
-    assert_eq!(rt; procs.descriptor(1, 0), Some(7));
-    assert_eq!(rt; procs.free(1), 15);
-    assert_eq!(rt; procs.lift(1, 0), Some(7));
-    assert_eq!(rt; procs.lift(1, 0), None);
-    assert_eq!(rt; procs.descriptor(1, 16), None);
+    assert_same(&rt, procs.place(1, 7), Ok(0));
+    assert_same(&rt, procs.descriptor(1, 0), Some(7));
+    assert_same(&rt, procs.free(1), 15);
+    assert_same(&rt, procs.lift(1, 0), Some(7));
+    assert_same(&rt, procs.lift(1, 0), None);
+    assert_same(&rt, procs.descriptor(1, 16), None);
     Ok(())
 }
 
+// Here the comparisons also tell which processes there are, as `fork` and `boot` require.
 #[test]
 fn a_child_is_waited_for(rt: HostRuntime) -> Result<(), Fail> {
     let mut procs = Procs::new(rt.alloc());

@@ -1,19 +1,34 @@
-use arn_base::{BadAddress, Memory, StoreError};
+use crate::same::assert_same;
+use arn_base::{BadAddress, Blocks, Memory, StoreError};
 use guest_mem::{Segment, SharedView, Space, View};
+use std::process::Abort;
 use std::test::Fail;
 
 #[test]
 fn a_store_lies_whole_in_the_window(rt: HostRuntime) -> Result<(), Fail> {
     let mut space = Space::new(rt.alloc())?;
-    assert_eq!(rt; space.store(0x4_fff8, 8, 0x0807_0605_0403_0201), Ok(()));
-    assert_eq!(rt; space.store(0x4_fff9, 8, 0), Err(StoreError::BadAddress));
-    assert_eq!(rt;
-        space.slice(0x4_fff8, 8)?,
-        [1, 2, 3, 4, 5, 6, 7, 8].as_slice()
+    assert_same(&rt, space.store(0x4_fff8, 8, 0x0807_0605_0403_0201), Ok(()));
+    assert_same(
+        &rt,
+        space.store(0x4_fff9, 8, 0),
+        Err(StoreError::BadAddress),
     );
-    assert_eq!(rt; space.load(0x4_fffa, 2), Ok(0x0403));
-    assert_eq!(rt; space.load(0x5_0000, 1), Err(BadAddress));
+    assert_same(
+        &rt,
+        space.slice(0x4_fff8, 8)?,
+        [1, 2, 3, 4, 5, 6, 7, 8].as_slice(),
+    );
+    assert_same(&rt, space.load(0x4_fffa, 2), Ok(0x0403));
+    assert_same(&rt, space.load(0x5_0000, 1), Err(BadAddress));
     Ok(())
+}
+
+// The number of the only block, and its first byte.
+fn first_byte(rt: &impl Abort, blocks: &Blocks) -> (u16, u8) {
+    let [block] = blocks.as_slice() else {
+        panic!(rt; "not one block");
+    };
+    (block.number, block.bytes[0])
 }
 
 #[test]
@@ -24,10 +39,9 @@ fn a_copy_keeps_its_bytes(rt: HostRuntime) -> Result<(), Fail> {
     space.write_from(0x1_0200, b"new")?;
     let mut read = [0; 3];
     copy.read_into(0x1_0200, &mut read)?;
-    assert_eq!(rt; read.as_slice(), b"old".as_slice());
+    assert_same(&rt, read.as_slice(), b"old".as_slice());
     let blocks = copy.blocks()?;
-    assert_eq!(rt; blocks.len(), 1);
-    assert_eq!(rt; blocks.as_slice()[0].number, 2);
+    assert_same(&rt, first_byte(&rt, &blocks), (2, b'o'));
     Ok(())
 }
 
@@ -37,13 +51,11 @@ fn a_view_writes_into_its_segment(rt: HostRuntime) -> Result<(), Fail> {
     let mut segment = Segment::new(rt.alloc())?;
     let mut view = View::with_segment(&mut space, &mut segment);
     view.write_from(0x8000_0100, &[1])?;
-    assert_eq!(rt; view.store(0x8000_0101, 1, 2), Ok(()));
-    assert_eq!(rt; view.load(0x8000_0100, 2), Ok(0x0201));
+    assert_same(&rt, view.store(0x8000_0101, 1, 2), Ok(()));
+    assert_same(&rt, view.load(0x8000_0100, 2), Ok(0x0201));
     let blocks = segment.blocks()?;
-    assert_eq!(rt; blocks.len(), 1);
-    assert_eq!(rt; blocks.as_slice()[0].number, 1);
-    assert_eq!(rt; blocks.as_slice()[0].bytes[0], 1);
-    assert_eq!(rt; space.blocks()?.len(), 0);
+    assert_same(&rt, first_byte(&rt, &blocks), (1, 1));
+    assert_same(&rt, space.blocks()?.len(), 0);
     Ok(())
 }
 
@@ -55,10 +67,14 @@ fn a_shared_view_shows_both_windows(rt: HostRuntime) -> Result<(), Fail> {
         space: &mut space,
         segment: &mut segment,
     };
-    assert_eq!(rt; view.store(0x1_0000, 4, 7), Ok(()));
-    assert_eq!(rt; view.store(0x8000_fffc, 4, 9), Ok(()));
-    assert_eq!(rt; view.store(0x8000_fffd, 4, 0), Err(StoreError::BadAddress));
-    assert_eq!(rt; view.load(0x1_0000, 4), Ok(7));
-    assert_eq!(rt; view.load(0x8000_fffc, 4), Ok(9));
+    assert_same(&rt, view.store(0x1_0000, 4, 7), Ok(()));
+    assert_same(&rt, view.store(0x8000_fffc, 4, 9), Ok(()));
+    assert_same(
+        &rt,
+        view.store(0x8000_fffd, 4, 0),
+        Err(StoreError::BadAddress),
+    );
+    assert_same(&rt, view.load(0x1_0000, 4), Ok(7));
+    assert_same(&rt, view.load(0x8000_fffc, 4), Ok(9));
     Ok(())
 }

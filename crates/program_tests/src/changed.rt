@@ -1,6 +1,7 @@
 // Logs of a run in which one record was changed, and what is told of them.
 use super::*;
 use crate::calls::{BESIDE, BESIDE_PRINTS};
+use crate::same::assert_same;
 use arn_base::{Bytes, Differs, NoMemory};
 use arn_session::{Damage, Status};
 use log_disk::MemDisk;
@@ -76,8 +77,11 @@ fn assert_ends(
     prints: &str,
 ) -> Result<(), Fail> {
     let ended = run_on(rt.alloc(), &["log"], &Script::of(text.as_bytes()), disk)?;
-    assert_eq!(rt; ended.status, status, "at {text}");
-    assert_eq!(rt; ended.sink.bytes(), prints.as_bytes(), "at {text}");
+    assert_same(
+        rt,
+        (text, ended.status, ended.sink.bytes()),
+        (text, status, prints.as_bytes()),
+    );
     Ok(())
 }
 

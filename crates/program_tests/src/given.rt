@@ -1,5 +1,6 @@
 // Whose bytes a read is recorded to have been given: a run for each event's bytes in a row.
 use super::*;
+use crate::same::assert_same;
 use arn_base::{Bytes, Extra, Origin, Record};
 use arn_session::Status;
 use log_disk::MemDisk;
@@ -132,16 +133,10 @@ const GIVEN: &[&[Origin]] = &[
     ],
 ];
 
-#[test]
-fn a_read_has_an_origin_for_each_run(rt: HostRuntime) -> Result<(), Fail> {
-    let alloc = rt.alloc();
-    let mut disk = MemDisk::new(alloc, Bytes::new(alloc));
-    let ended = run_on(alloc, &["log"], &Script::of(READS.as_bytes()), &mut disk)?;
-    assert_eq!(rt; ended.status, Status::Done);
-    assert_eq!(rt; ended.sink.bytes(), READS_PRINTS.as_bytes());
-    let store = Store::open_log(alloc, &mut disk)?;
+/// The reads among these records were given these bytes, in this order.
+fn assert_given(rt: &impl Abort, records: &[Record]) {
     let mut left = GIVEN.iter();
-    for record in store.entries() {
+    for record in records {
         if let Record::Call {
             extra: Extra::Give(give),
             ..
@@ -150,9 +145,20 @@ fn a_read_has_an_origin_for_each_run(rt: HostRuntime) -> Result<(), Fail> {
             let Some(want) = left.next() else {
                 panic!(rt; "there are more reads")
             };
-            assert_eq!(rt; give.origins.as_slice(), *want);
+            assert_same(rt, give.origins.as_slice(), *want);
         }
     }
     assert!(rt; left.next().is_none());
+}
+
+#[test]
+fn a_read_has_an_origin_for_each_run(rt: HostRuntime) -> Result<(), Fail> {
+    let alloc = rt.alloc();
+    let mut disk = MemDisk::new(alloc, Bytes::new(alloc));
+    let ended = run_on(alloc, &["log"], &Script::of(READS.as_bytes()), &mut disk)?;
+    assert_same(&rt, ended.status, Status::Done);
+    assert_same(&rt, ended.sink.bytes(), READS_PRINTS.as_bytes());
+    let store = Store::open_log(alloc, &mut disk)?;
+    assert_given(&rt, store.entries());
     Ok(())
 }

@@ -1,5 +1,6 @@
 // Sessions of processes that hand bytes on, under several schedules: what they write, and where it comes from.
 use super::*;
+use crate::same::assert_same;
 use arn_base::{Bytes, NoMemory};
 use arn_session::Status;
 use log_disk::MemDisk;
@@ -115,7 +116,7 @@ fn printed(
         ..Script::of(text.as_bytes())
     };
     let ended = run_on(rt.alloc(), &["log"], &script, disk)?;
-    assert_eq!(rt; ended.status, Status::Done);
+    assert_same(rt, ended.status, Status::Done);
     Ok(String::from_utf8_lossy(rt.alloc(), ended.sink.bytes())?)
 }
 
@@ -148,25 +149,45 @@ fn sinks(alloc: Global, event: &str, typed: u32) -> Result<String, NoMemory> {
     Ok(pairs)
 }
 
+/// The answer to a question over the log of a disk starts so.
+fn assert_starts(
+    rt: &(impl Abort + AllocGlobal),
+    disk: &mut MemDisk,
+    schedule: Schedule,
+    asked: &str,
+    want: &str,
+) -> Result<(), Fail> {
+    let answer = printed(rt, disk, schedule, asked)?;
+    assert!(rt; answer.starts_with(want), "under {schedule:?}");
+    Ok(())
+}
+
+/// The session writes its bytes under a schedule, and is told where they come from and go.
+fn assert_hands_on(
+    rt: &(impl Abort + AllocGlobal),
+    written: &Written,
+    schedule: Schedule,
+) -> Result<(), Fail> {
+    let alloc = rt.alloc();
+    let mut disk = MemDisk::new(alloc, Bytes::new(alloc));
+    let text = printed(rt, &mut disk, schedule, written.text)?;
+    let Some((event, bytes)) = output(text.as_str()) else {
+        panic!(rt; "nothing is written under {schedule:?}")
+    };
+    assert_same(rt, bytes, written.bytes);
+    let asked = format!(in alloc; "back copy event {event} 0 {}\n", bytes.len() / 2)?;
+    let want = sources(alloc, written.typed)?;
+    assert_starts(rt, &mut disk, schedule, asked.as_str(), want.as_str())?;
+    let asked = format!(in alloc; "forth copy 2 0 {}\n", written.typed)?;
+    let want = sinks(alloc, event, written.typed)?;
+    assert_starts(rt, &mut disk, schedule, asked.as_str(), want.as_str())
+}
+
 #[test]
 fn hands_bytes_on_under_every_schedule(rt: HostRuntime) -> Result<(), Fail> {
-    let alloc = rt.alloc();
     for written in &WRITTEN {
         for schedule in SCHEDULES {
-            let mut disk = MemDisk::new(alloc, Bytes::new(alloc));
-            let text = printed(&rt, &mut disk, schedule, written.text)?;
-            let Some((event, bytes)) = output(text.as_str()) else {
-                panic!(rt; "nothing is written under {schedule:?}")
-            };
-            assert_eq!(rt; bytes, written.bytes, "under {schedule:?}");
-            let asked = format!(in alloc; "back copy event {event} 0 {}\n", bytes.len() / 2)?;
-            let answer = printed(&rt, &mut disk, schedule, asked.as_str())?;
-            let want = sources(alloc, written.typed)?;
-            assert!(rt; answer.starts_with(want.as_str()), "under {schedule:?}");
-            let asked = format!(in alloc; "forth copy 2 0 {}\n", written.typed)?;
-            let answer = printed(&rt, &mut disk, schedule, asked.as_str())?;
-            let want = sinks(alloc, event, written.typed)?;
-            assert!(rt; answer.starts_with(want.as_str()), "under {schedule:?}");
+            assert_hands_on(&rt, written, schedule)?;
         }
     }
     Ok(())

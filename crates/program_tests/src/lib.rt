@@ -12,4 +12,6 @@ mod handing;
 #[cfg(test)]
 mod programs;
 #[cfg(test)]
+mod same;
+#[cfg(test)]
 mod tests;

@@ -1,6 +1,7 @@
 use super::*;
 use crate::calls::CALLS;
 use crate::programs::{BY_CHILD, IN_TURN, PROGRAMS};
+use crate::same::assert_same;
 use arn_session::Status;
 use session_trials::{Schedule, Script, run};
 use std::process::Abort;
@@ -18,7 +19,7 @@ fn assert_prints(
         ..Script::of(text.as_bytes())
     };
     let ended = run(rt.alloc(), &["log"], &script)?;
-    assert_eq!(rt; ended.status, Status::Done);
+    assert_same(rt, ended.status, Status::Done);
     assert_eq!(rt;
         ended.sink.bytes(),
         want.as_bytes(),

@@ -1,26 +1,19 @@
 // The state of a process as the machine has it, and as a replay of its records gives it.
 ghost use Rattle.std.specs.Prelude.{◌≡◌, ◌<◌};
 ghost use Rattle.guest_bodies.specs.Shown.{IsLive};
-ghost use Rattle.history_index.specs.Indexes.{AreCountable, Indexes};
 
-use acts_model::Observer;
+use crate::fixtures::{call, give, group_at, image, slice, started, typed, with};
+use crate::same::assert_same;
 use arn_base::{
-    Block, Blocks, Bytes, Cpu, Extra, Give, Member, Members, NoMemory, Origin, Origins, Record,
-    State, Steps, Windows,
+    Block, Blocks, Cpu, Extra, Member, Members, NoMemory, Record, State, Steps, Windows,
 };
 use guest_calls::Kernel;
-use history_index::{Index, are_countable};
 use parts_model::calls::{FORK, READ, SHM};
-use replayer::{GroupState, ReplayError, replay};
-use rv64_isa::Instr;
 use std::alloc::Global;
 use std::marker::Brand;
 use std::process::Abort;
 use std::sync::ledger::{Blank, Ledger};
 use std::test::Fail;
-
-// The header of an image with entry and load address 0x1_0000.
-const HEADER: &[u8; 24] = b"ARNIMG01\0\0\x01\0\0\0\0\0\0\0\x01\0\0\0\0\0";
 
 // Reads three bytes of the console, writes them to it and exits.
 const ECHO: [u8; 44] = [
@@ -36,135 +29,23 @@ const SHARES: [u8; 28] = [
     0x93, 0x02, 0x10, 0x00, 0x93, 0x92, 0xf2, 0x01, 0x23, 0x80, 0x12, 0x01,
 ];
 
-fn image(alloc: Global, program: &[u8]) -> Result<Bytes, NoMemory> {
-    let mut bytes = Bytes::from_slice(alloc, HEADER)?;
-    bytes.extend_from_slice(program)?;
-    Ok(bytes)
-}
-
-// Bytes that one event brought, all of them.
-fn give(alloc: Global, bytes: Bytes, event: u64) -> Result<Give, NoMemory> {
-    let len = u32::try_from(bytes.len()).unwrap_or(u32::MAX);
-    let mut origins = Origins::new(alloc);
-    origins.push(Origin { event, at: 0, len })?;
-    Ok(Give { bytes, origins })
-}
-
-// Process 1 was started from a program.
-fn started(alloc: Global, program: &[u8]) -> Result<Vec<Record>, NoMemory> {
-    let name = Bytes::from_slice(alloc, b"p")?;
-    let file = Record::File {
-        name: Bytes::from_slice(alloc, b"p")?,
-        bytes: image(alloc, program)?,
-    };
-    let boot = Record::Boot {
-        name,
-        give: give(alloc, image(alloc, program)?, 0)?,
-    };
-    let entries = vec![in alloc; file, boot]?;
-    Ok(entries)
-}
-
 // Three bytes are typed, and the program runs up to the call that reads them.
 fn echo_reads(alloc: Global) -> Result<Vec<Record>, NoMemory> {
-    let mut entries = started(alloc, &ECHO)?;
-    entries.push(Record::Typed {
-        bytes: Bytes::from_slice(alloc, b"abc")?,
-    })?;
-    entries.push(Record::Slice { pid: 1, ran: 5 })?;
-    entries.push(Record::Call {
-        pid: 1,
-        number: READ,
-        result: 3,
-        extra: Extra::Give(give(alloc, Bytes::from_slice(alloc, b"abc")?, 2)?),
-    })?;
-    Ok(entries)
-}
-
-fn call(number: u64, answer: u64) -> Record {
-    Record::Call {
-        pid: 1,
-        number,
-        result: answer,
-        extra: Extra::Nothing,
-    }
+    let entries = started(alloc, &ECHO)?;
+    let entries = with(entries, typed(alloc, b"abc")?)?;
+    let entries = with(entries, slice(1, 5))?;
+    let given = give(alloc, b"abc", 2)?;
+    with(entries, call(1, READ, 3, Extra::Give(given)))
 }
 
 // Process 1 gets a segment, which its child shares, and writes to it.
 fn segment_is_shared(alloc: Global) -> Result<Vec<Record>, NoMemory> {
-    let mut entries = started(alloc, &SHARES)?;
-    entries.push(Record::Slice { pid: 1, ran: 2 })?;
-    entries.push(call(SHM, 0))?;
-    entries.push(Record::Slice { pid: 1, ran: 2 })?;
-    entries.push(call(FORK, 2))?;
-    entries.push(Record::Slice { pid: 1, ran: 3 })?;
-    Ok(entries)
-}
-
-// Keeps nothing of what it is told.
-#[derive(Clone, Copy, Debug, PartialEq, Eq)]
-struct Silent;
-
-impl Observer for Silent {
-    ghost use Rattle.std.specs.Prelude.{⊤};
-
-    ghost begins = { λ _ _ _ _ _. ⊤ };
-
-    ghost runs = { λ _ _ _ _ _. ⊤ };
-
-    ghost hears = { λ _ _ _ _ _. ⊤ };
-
-    fn begin(&mut self, _: u32, _: u64, _: Option<u32>) -> Result<(), NoMemory> {
-        Ok(())
-    }
-
-    fn instruction(&mut self, _: u32, _: &Instr, _: &Cpu) -> Result<(), NoMemory> {
-        Ok(())
-    }
-
-    fn happened(&mut self, _: u64, _: &Record, _: &Cpu) -> Result<(), NoMemory> {
-        Ok(())
-    }
-}
-
-fn replay_counted<L: Ledger>(
-    alloc: Global,
-    entries: &[Record],
-    index: &Index,
-    until: u64,
-    blank: Blank,
-) -> Result<GroupState, ReplayError>
-    requires countable { AreCountable entries.now }
-    requires indexed { Indexes index.now entries.now }
-    requires name { blank.name ≡ L.name }
-    requires parts { blank.parts ≡ L.parts }
-    requires some { 0 < blank.parts }
-{
-    let mut steps = Steps::<L>::new(blank);
-    replay(alloc, entries, index, 1, until, &mut Silent, &mut steps)
-}
-
-// Group 1 at a moment.
-fn replayed(
-    alloc: Global,
-    entries: &[Record],
-    index: &Index,
-    until: u64,
-) -> Result<GroupState, ReplayError>
-    requires countable { AreCountable entries.now }
-    requires indexed { Indexes index.now entries.now }
-{
-    replay_counted::<Brand>(alloc, entries, index, until, Blank::new(1))
-}
-
-// Its state, where the records can be indexed.
-fn state_at(alloc: Global, entries: &[Record], until: u64) -> Option<State> {
-    if !are_countable(entries) {
-        return None;
-    }
-    let index = Index::build(alloc, entries).ok()?;
-    let group = replayed(alloc, entries, &index, until).ok()?;
-    group.state().ok()
+    let entries = started(alloc, &SHARES)?;
+    let entries = with(entries, slice(1, 2))?;
+    let entries = with(entries, call(1, SHM, 0, Extra::Nothing))?;
+    let entries = with(entries, slice(1, 2))?;
+    let entries = with(entries, call(1, FORK, 2, Extra::Nothing))?;
+    with(entries, slice(1, 3))
 }
 
 fn step_counted<L: Ledger>(kernel: &mut Kernel, blank: Blank)
@@ -189,31 +70,47 @@ fn state_of_one(kernel: &Kernel) -> Result<State, NoMemory>
     kernel.state_of(&[1])
 }
 
-// A kernel with the program's file.
-fn with_file(rt: &impl Abort, alloc: Global) -> Result<Kernel, NoMemory> {
-    let mut kernel = Kernel::new(alloc);
-    let image = image(alloc, &ECHO)?;
+fn add_file(rt: &impl Abort, kernel: &mut Kernel, bytes: &[u8]) {
     assert!(rt; !kernel.is_booted());
     let event = kernel.events();
     assert!(rt; event < 100);
-    match kernel.add_file(b"p", image.as_slice(), event) {
-        Ok(()) => Ok(kernel),
-        Err(_) => Err(NoMemory),
-    }
+    assert!(rt; kernel.add_file(b"p", bytes, event).is_ok());
+}
+
+fn boot(rt: &impl Abort, kernel: &mut Kernel) {
+    assert!(rt; !kernel.is_booted());
+    assert!(rt; kernel.events() < 100);
+    assert!(rt; kernel.boot(b"p").is_ok());
+}
+
+// The machine starts the program. Nothing fails here that would drop the machine: each place that does so makes the
+// proof a good deal longer.
+fn booted(rt: &impl Abort, alloc: Global) -> Result<Kernel, NoMemory> {
+    let image = image(alloc, &ECHO)?;
+    let mut kernel = Kernel::new(alloc);
+    add_file(rt, &mut kernel, image.as_slice());
+    boot(rt, &mut kernel);
+    Ok(kernel)
+}
+
+fn live_step(rt: &impl Abort, mut kernel: Kernel) -> Kernel {
+    assert!(rt; kernel.is_live(1));
+    step(&mut kernel);
+    kernel
+}
+
+fn live_state(rt: &impl Abort, kernel: &Kernel) -> Result<State, NoMemory> {
+    assert!(rt; kernel.is_live(1));
+    state_of_one(kernel)
 }
 
 // The machine starts the program, and runs four instructions.
 fn run(rt: &impl Abort, alloc: Global) -> Result<State, NoMemory> {
-    let mut kernel = with_file(rt, alloc)?;
-    assert!(rt; !kernel.is_booted());
-    assert!(rt; kernel.events() < 100);
-    assert!(rt; kernel.boot(b"p").is_ok());
+    let mut kernel = booted(rt, alloc)?;
     for _ in 0..4 {
-        assert!(rt; kernel.is_live(1));
-        step(&mut kernel);
+        kernel = live_step(rt, kernel);
     }
-    assert!(rt; kernel.is_live(1));
-    state_of_one(&kernel)
+    live_state(rt, &kernel)
 }
 
 // A memory with these bytes alone, at its begin.
@@ -250,17 +147,26 @@ fn echo_at_its_call(alloc: Global) -> Result<State, NoMemory> {
     })
 }
 
-#[test]
-fn a_replay_gives_the_state_of_the_machine(rt: HostRuntime) -> Result<(), Fail> {
-    let entries = echo_reads(rt.alloc())?;
-    let state = state_at(rt.alloc(), entries.as_slice(), 4);
-    assert_eq!(rt; state, Some(run(&rt, rt.alloc())?));
-    assert_eq!(rt; state, Some(echo_at_its_call(rt.alloc())?));
+// The state of group 1 at a moment.
+fn state_at(rt: &impl Abort, entries: Vec<Record>, until: u64) -> Result<State, Fail> {
+    Ok(group_at(rt, &entries, 1, until)?.state()?)
+}
+
+fn assert_echo_at_its_call(rt: &impl Abort, alloc: Global, found: State) -> Result<(), NoMemory> {
+    assert_same(rt, found, echo_at_its_call(alloc)?);
     Ok(())
 }
 
-// Parent and child with their segment, worked out by hand.
-fn parent_and_child(alloc: Global) -> Result<State, NoMemory> {
+#[test]
+fn a_replay_gives_the_state_of_the_machine(rt: HostRuntime) -> Result<(), Fail> {
+    let replayed = state_at(&rt, echo_reads(rt.alloc())?, 4)?;
+    assert_echo_at_its_call(&rt, rt.alloc(), replayed)?;
+    assert_echo_at_its_call(&rt, rt.alloc(), run(&rt, rt.alloc())?)?;
+    Ok(())
+}
+
+// Parent and child, worked out by hand.
+fn two_members(alloc: Global) -> Result<Members, NoMemory> {
     let mut x = [0; 31];
     x[1] = 0x5_0000;
     x[16] = 2;
@@ -283,6 +189,12 @@ fn parent_and_child(alloc: Global) -> Result<State, NoMemory> {
     let mut members = Members::new(alloc);
     members.push(parent)?;
     members.push(child)?;
+    Ok(members)
+}
+
+// They and their segment.
+fn parent_and_child(alloc: Global) -> Result<State, NoMemory> {
+    let members = two_members(alloc)?;
     let mut windows = Windows::new(alloc);
     windows.push(beginning_with(alloc, &SHARES)?)?;
     windows.push(beginning_with(alloc, &SHARES)?)?;
@@ -297,8 +209,7 @@ fn parent_and_child(alloc: Global) -> Result<State, NoMemory> {
 
 #[test]
 fn a_shared_segment_is_told_once(rt: HostRuntime) -> Result<(), Fail> {
-    let entries = segment_is_shared(rt.alloc())?;
-    let state = state_at(rt.alloc(), entries.as_slice(), 7);
-    assert_eq!(rt; state, Some(parent_and_child(rt.alloc())?));
+    let replayed = state_at(&rt, segment_is_shared(rt.alloc())?, 7)?;
+    assert_same(&rt, replayed, parent_and_child(rt.alloc())?);
     Ok(())
 }

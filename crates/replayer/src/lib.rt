@@ -6,8 +6,6 @@ mod founding;
 mod law;
 mod parts;
 mod state;
-#[cfg(test)]
-mod tests;
 mod walk;
 
 pub use law::{alone_by_slices, runs_before};

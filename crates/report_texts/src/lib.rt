@@ -3,8 +3,6 @@
 #![tactic(auto)]
 
 mod events;
-#[cfg(test)]
-mod tests;
 mod totals;
 mod values;
 

@@ -10,8 +10,6 @@ mod flow;
 mod outcome;
 mod registers;
 mod stepping;
-#[cfg(test)]
-mod tests;
 mod values;
 
 pub use execution::{accessed, execute, look_ahead};

@@ -11,8 +11,6 @@ mod instruction;
 mod opcode;
 mod register;
 mod row;
-#[cfg(test)]
-mod tests;
 
 pub use decoding::decode;
 pub use encoding::encode;

@@ -22,8 +22,8 @@ use Rattle.session_runs.specs.Turns.{finished, prints}
 use Rattle.session_lines.specs.Answering.{BlamesRecords, BlamesRightly, IsAnswered, IsHalted, IsLineCause, IsNotBegun, IsNotMade, Standpoint, standpoint}
 use Rattle.session_lines.specs.Cost.{cost, machine_cost}
 use Rattle.session_lines.specs.Lines.{needs_machine, turn}
-use Rattle.session_lines.specs.Questions.{Told}
 use Rattle.session_lines.proofs.TurnLemmas.{Advances-nothing, Advances-prints, IsStill, Stops-nothing, Stops-prints}
+use Rattle.session_model.specs.Questions.{Told}
 
 -- what halts a part of a line may halt the line
 pub line-cause : (why : Halt) (d0 d1 s0 s1 : ℕ) → IsCause why d0 d1 s0 s1 → IsLineCause why d0 d1 s0 s1

@@ -27,11 +27,11 @@ use Rattle.session_lines.specs.Answering.{IsAnswered, IsHalted, standpoint}
 use Rattle.session_lines.specs.Cost.{cost, machine_cost}
 use Rattle.session_lines.specs.Kept.{IsSound}
 use Rattle.session_lines.specs.Lines.{is_change, line_turn, turn}
-use Rattle.session_lines.specs.Questions.{Told}
 use Rattle.session_lines.specs.Refusals.{refusal_of}
 use Rattle.session_lines.proofs.LineLemmas.{cost-ask, cost-change, still-finished, turn-line}
 use Rattle.session_lines.proofs.TurnLemmas.{Stops-nothing}
 use Rattle.session_lines.proofs.AnswerLemmas.{or-true}
+use Rattle.session_model.specs.Questions.{Told}
 
 module _ {A : Type 0} (replies : A → Asked → Answered → A → Type 0) (choices : ℕ → Option Choice) (answers : A) where
   -- what was executed before is part of the cost
@@ -148,10 +148,11 @@ module _ {D A : Type 0} (d : Ghosts D) (replies : A → Asked → Answered → A
 
   module _ (halts : HaltsFollow IsRun d) (points : PointsFollow IsRun d replies) (choices : ℕ → Option Choice) (answers : A) (steps mid : ℕ) (cheap : mid ≤ steps + machine_cost is_there store.entries) where
     -- with the machine, which was made before
-    pub advances-changed : (disk disk' : D) (there store' : StoreState) (h0 h1 : Option (List ℕ)) (new : Surroundings A) → there ≡ store → Advances replies (line_turn told there.entries l) finished (around choices answers mid) new 0 (Carries IsRun d disk disk' there store' h0 h1) → Advances replies (line_turn told store.entries l) finished (around choices answers steps) new (machine_cost is_there store.entries) (Carries IsRun d disk disk' store store' h0 h1)
-    advances-changed disk disk' there store' h0 h1 new same p =
-        Advances-later replies choices answers (line_turn told store.entries l) finished steps mid 0 (machine_cost is_there store.entries) new (Carries IsRun d disk disk' store store' h0 h1) (omega (arith, cheap))
-        (subst (λ (s : StoreState). Advances replies (line_turn told s.entries l) finished (around choices answers mid) new 0 (Carries IsRun d disk disk' s store' h0 h1)) same p)
+    pub advances-changed : (disk disk' : D) (there store' behind : StoreState) (h0 h1 : Option (List ℕ)) (new : Surroundings A) → there ≡ store → behind ≡ store' → Advances replies (line_turn told there.entries l) finished (around choices answers mid) new 0 (Carries IsRun d disk disk' there store' h0 h1) → Advances replies (line_turn told store.entries l) finished (around choices answers steps) new (machine_cost is_there store.entries) (Carries IsRun d disk disk' store behind h0 h1)
+    advances-changed disk disk' there store' behind h0 h1 new same same_behind p =
+        Advances-later replies choices answers (line_turn told store.entries l) finished steps mid 0 (machine_cost is_there store.entries) new (Carries IsRun d disk disk' store behind h0 h1) (omega (arith, cheap))
+        (subst (λ (s : StoreState). Advances replies (line_turn told store.entries l) finished (around choices answers mid) new 0 (Carries IsRun d disk disk' store s h0 h1)) (sym same_behind)
+        (subst (λ (s : StoreState). Advances replies (line_turn told s.entries l) finished (around choices answers mid) new 0 (Carries IsRun d disk disk' s store' h0 h1)) same p))
 
     -- it halted somewhere
     pub halted-changed : (disk disk' : D) (there store' : StoreState) (h0 h1 : Option (List ℕ)) (why : Halt) (new : Surroundings A) → there ≡ store → IsRun store.entries → Stops IsRun d replies disk disk' there.entries h0 h1 why (line_turn told there.entries l) (around choices answers mid) new 0 → IsHalted d replies told is_there why (Says l) (standpoint disk store h0 (around choices answers steps)) (standpoint disk' store' h1 new)
@@ -165,9 +166,9 @@ module _ {D A : Type 0} (d : Ghosts D) (replies : A → Asked → Answered → A
     }
 
     -- memory ran out behind all of it
-    pub halted-unheard : (disk disk' : D) (there store' : StoreState) (h0 h1 : Option (List ℕ)) (choices' : ℕ → Option Choice) (answers' : A) (steps' : ℕ) → there ≡ store → IsRun store.entries → Advances replies (line_turn told there.entries l) finished (around choices answers mid) (around choices' answers' steps') 0 (Carries IsRun d disk disk' there store' h0 h1) → IsHalted d replies told is_there halt.NoMemory (Says l) (standpoint disk store h0 (around choices answers steps)) (standpoint disk' store' h1 (around choices' answers' steps'))
-    halted-unheard disk disk' there store' h0 h1 choices' answers' steps' same is_run p =
-        halted-changed disk disk' there store' h0 h1 halt.NoMemory (around choices' answers' steps') same is_run
+    pub halted-unheard : (disk disk' : D) (there store' behind : StoreState) (h0 h1 : Option (List ℕ)) (choices' : ℕ → Option Choice) (answers' : A) (steps' : ℕ) → there ≡ store → IsRun store.entries → Advances replies (line_turn told there.entries l) finished (around choices answers mid) (around choices' answers' steps') 0 (Carries IsRun d disk disk' there store' h0 h1) → IsHalted d replies told is_there halt.NoMemory (Says l) (standpoint disk store h0 (around choices answers steps)) (standpoint disk' behind h1 (around choices' answers' steps'))
+    halted-unheard disk disk' there store' behind h0 h1 choices' answers' steps' same is_run p =
+        halted-changed disk disk' there behind h0 h1 halt.NoMemory (around choices' answers' steps') same is_run
         (Stops-last IsRun d replies halts points (line_turn told there.entries l) (around choices answers mid) choices' answers' steps' disk disk' there store' h0 h1 p)
 
 -- what questions know of the records from before

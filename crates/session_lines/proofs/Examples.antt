@@ -15,8 +15,8 @@ use Rattle.session_runs.specs.Points.{around}
 use Rattle.session_lines.specs.Answering.{IsNotBegun, Standpoint, standpoint}
 use Rattle.session_lines.specs.Generator.{gen_name}
 use Rattle.session_lines.specs.Lines.{needs_machine, turn}
-use Rattle.session_lines.specs.Questions.{Told}
 use Rattle.session_lines.specs.Refusals.{fault_refusal, generator_refusal, refusal_of}
+use Rattle.session_model.specs.Questions.{Told}
 
 -- a history that brought a file `a` of one byte, and one that booted behind it
 a_file : List Record

@@ -36,12 +36,12 @@ use Rattle.session_lines.specs.Answering.{HaltsIn, IsAnswered, IsHalted, standpo
 use Rattle.session_lines.specs.Cost.{cost, machine_cost}
 use Rattle.session_lines.specs.Generator.{event_commits, gen_from, gen_inputs, gen_name, gen_run, generator_turn}
 use Rattle.session_lines.specs.Lines.{needs_machine, turn, turn_unless}
-use Rattle.session_lines.specs.Questions.{Told}
 use Rattle.session_lines.specs.Refusals.{generator_refusal}
 use Rattle.session_lines.proofs.ChangeLemmas.{Advances-later, Stops-later}
 use Rattle.session_lines.proofs.LineLemmas.{plain-boot, plain-file, plain-typed}
 use Rattle.session_lines.proofs.QuietLemmas.{AllPlain, AreCommitted, commits-are, plain-append, plain-committed, plain-done, plain-next}
 use Rattle.session_lines.proofs.TurnLemmas.{Advances-prints, IsStill, PickedBy-none, no-commit, spent-still}
+use Rattle.session_model.specs.Questions.{Told}
 
 -- a turn without slices asks for none, leaves none, and names none
 record IsAlone (t : Turn) : Type 0 where
@@ -208,6 +208,13 @@ module _ {D A : Type 0} (d : Ghosts D) (replies : A → Asked → Answered → A
       }
 
 module _ {D A : Type 0} (d : Ghosts D) (replies : A → Asked → Answered → A → Type 0) (told : Told) (is_there : Bool) (image typed : List ℕ) (processes : ℕ) (store : StoreState) (accepted : generator_refusal store.entries ≡ None) (choices : ℕ → Option Choice) (answers : A) (steps mid : ℕ) (cheap : mid ≤ steps + machine_cost is_there store.entries) where
+  -- what it did, by a store that is still the same
+  pub advances-kept : (disk disk' : D) (there s1 kept : StoreState) (held : Option (List ℕ)) (new : Surroundings A) → kept ≡ s1
+      → Advances replies (generator_turn told there.entries image typed processes) (prints (told.generated s1.entries processes)) (around choices answers mid) new 0 (Carries IsRun d disk disk' there s1 held held)
+      → Advances replies (generator_turn told there.entries image typed processes) (prints (told.generated kept.entries processes)) (around choices answers mid) new 0 (Carries IsRun d disk disk' there kept held held)
+  advances-kept disk disk' there s1 kept held new same p =
+      subst (λ (s : StoreState). Advances replies (generator_turn told there.entries image typed processes) (prints (told.generated s.entries processes)) (around choices answers mid) new 0 (Carries IsRun d disk disk' there s held held)) (sym same) p
+
   -- it was carried out and told
   pub answered-told : {T : Type 0} (laws : EffectsFollow IsRun d) (points : PointsFollow IsRun d replies) (result : Result T Halt) (disk disk' : D) (there s1 s2 : StoreState) (h0 h1 : Option (List ℕ)) (choices' : ℕ → Option Choice) (answers' : A) (there_steps steps' : ℕ) → there ≡ store → s2 ≡ s1 → IsRun store.entries
       → Advances replies (generator_turn told there.entries image typed processes) (prints (told.generated s1.entries processes)) (around choices answers mid) (around choices' answers' there_steps) 0 (Carries IsRun d disk disk' there s1 h0 h0) → steps' ≤ there_steps + told.generated_cost s1.entries → OnOk result (h1 ≡ option_map (λ before. before ++ told.generated s1.entries processes) h0)

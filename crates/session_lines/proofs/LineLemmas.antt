@@ -24,9 +24,9 @@ use Rattle.session_runs.specs.Runs.{begun, ended, ends, run, unless_ended}
 use Rattle.session_runs.specs.Turns.{Point, cut_off, does, finished, prints}
 use Rattle.session_lines.specs.Cost.{cost, machine_cost}
 use Rattle.session_lines.specs.Lines.{event_effects, is_change, line_turn, needs_machine, turn, turn_unless}
-use Rattle.session_lines.specs.Questions.{Told}
 use Rattle.session_lines.specs.Refusals.{refusal_of}
 use Rattle.session_lines.proofs.TurnLemmas.{IsStill, first-commit, no-commit, none-next, still-does}
+use Rattle.session_model.specs.Questions.{Told}
 
 -- records that name no slice, and begin with nothing that a slice ends with
 abbrev pub IsPlain : List Record → Type 0

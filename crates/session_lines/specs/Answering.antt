@@ -20,7 +20,7 @@ use Rattle.session_runs.specs.Points.{Advances, Stops, Surroundings}
 use Rattle.session_runs.specs.Turns.{finished}
 use Rattle.session_lines.specs.Cost.{cost, cost_of_turn, machine_cost}
 use Rattle.session_lines.specs.Lines.{needs_machine, turn}
-use Rattle.session_lines.specs.Questions.{Told}
+use Rattle.session_model.specs.Questions.{Told}
 
 -- effects halted somewhere: some were carried out, and of the others some of the first at most
 pub record HaltsIn (stops : List Effect → List Effect → Type 0) (effects : List Effect) : Type 0 where

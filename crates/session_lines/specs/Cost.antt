@@ -9,8 +9,8 @@ use Rattle.arn_commands.specs.declared.command.Command.TheVariants.{PassedOver, 
 use Rattle.session_effects.specs.Effects.{committed}
 use Rattle.session_runs.specs.Turns.{Turn}
 use Rattle.session_lines.specs.Lines.{needs_machine}
-use Rattle.session_lines.specs.Questions.{Told}
 use Rattle.session_lines.specs.Refusals.{generator_refusal}
+use Rattle.session_model.specs.Questions.{Told}
 
 -- a question costs what is told of it
 abbrev pub line_cost : Told → List Record → Line → ℕ

@@ -11,7 +11,7 @@ use Rattle.session_runs.specs.Quiet.{quietly}
 use Rattle.session_runs.specs.Ready.{machine_of}
 use Rattle.session_runs.specs.Runs.{run}
 use Rattle.session_runs.specs.Turns.{Point, behind}
-use Rattle.session_lines.specs.Questions.{Told}
+use Rattle.session_model.specs.Questions.{Told}
 
 -- the name of its file
 abbrev pub gen_name : List ℕ

@@ -1,4 +1,3 @@
-pub mod Questions
 pub mod Refusals
 pub mod Generator
 pub mod Lines

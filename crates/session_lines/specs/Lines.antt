@@ -16,8 +16,8 @@ use Rattle.session_runs.specs.Ready.{machine_of}
 use Rattle.session_runs.specs.Runs.{run}
 use Rattle.session_runs.specs.Turns.{Point, does, finished, prints}
 use Rattle.session_lines.specs.Generator.{generator_turn}
-use Rattle.session_lines.specs.Questions.{Told}
 use Rattle.session_lines.specs.Refusals.{fault_refusal, generator_refusal, refusal_of}
+use Rattle.session_model.specs.Questions.{Told}
 
 -- an input becomes an event: its records are committed, and then its number is printed
 abbrev pub event_effects : Machine → Input → List Effect

@@ -12,8 +12,8 @@ ghost use Rattle.session_lines.specs.Answering.{BlamesRightly, IsAnswered, IsHal
 ghost use Rattle.session_lines.specs.Cost.{machine_cost};
 ghost use Rattle.session_lines.specs.Kept.{IsSound};
 ghost use Rattle.session_lines.specs.Lines.{is_change, line_turn, needs_machine};
-ghost use Rattle.session_lines.specs.Questions.{Told};
 ghost use Rattle.session_lines.specs.Refusals.{refusal_of as refusal_by};
+ghost use Rattle.session_model.specs.Questions.{Told};
 ghost use Rattle.session_runs.specs.Points.{Advances, Stops, around};
 ghost use Rattle.session_runs.specs.Ready.{IsReady};
 ghost use Rattle.session_runs.specs.Turns.{finished};
@@ -22,8 +22,7 @@ use crate::events::{add_file, boot, type_in};
 use crate::generating::answer_generator;
 use crate::kept::Kept;
 use crate::printing::print_refusal;
-use crate::questions::Questions;
-use crate::ready::take_machine;
+use crate::ready::{return_machine, take_machine};
 use crate::refusals::{fault_refusal, refusal_of};
 use arn_base::{Chooser, Disk, Sink, Steps};
 use arn_commands::Command;
@@ -32,6 +31,7 @@ use guest_devices::Answers;
 use guest_machine::Machine;
 use log_store::{Store, store_is_short};
 use session_effects::{Halt, effects_follow, halts_follow, put_all};
+use session_model::Questions;
 use session_runs::{MachineRuns, points_follow, run};
 use std::alloc::Global;
 use std::sync::ledger::Ledger;
@@ -257,9 +257,7 @@ fn change<Q: Questions, C: Chooser, A: Answers, D: Disk, K: Sink, L: Ledger>(
         sink,
         steps,
     )?;
-    store_is_short(&kept.store);
-    kept.questions.extend(kept.store.entries(), known)?;
-    kept.machine = Some(machine);
+    return_machine(kept, machine, known)?;
     Ok(())
 }
 

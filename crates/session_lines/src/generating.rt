@@ -14,8 +14,8 @@ ghost use Rattle.session_lines.specs.Answering.{BlamesRightly, HaltsIn, IsAnswer
 ghost use Rattle.session_lines.specs.Generator.{event_commits, gen_inputs, gen_run, generator_turn};
 ghost use Rattle.session_lines.specs.Kept.{IsSound};
 ghost use Rattle.session_lines.specs.Lines.{needs_machine};
-ghost use Rattle.session_lines.specs.Questions.{Told};
 ghost use Rattle.session_lines.specs.Refusals.{generator_refusal as generator_refusal_by};
+ghost use Rattle.session_model.specs.Questions.{Told};
 ghost use Rattle.session_runs.specs.Points.{Advances, Stops, around};
 ghost use Rattle.session_runs.specs.Ready.{IsReady, machine_of};
 ghost use Rattle.session_runs.specs.Turns.{prints};
@@ -23,8 +23,7 @@ ghost use Rattle.session_runs.specs.Turns.{prints};
 use crate::events::{add_file, boot, type_in};
 use crate::kept::Kept;
 use crate::printing::print_refusal;
-use crate::questions::Questions;
-use crate::ready::take_machine;
+use crate::ready::{return_machine, take_machine};
 use crate::refusals::generator_refusal;
 use arn_base::{Chooser, Disk, Sink, Steps, Stop};
 use arn_lines::MOST_RUN;
@@ -35,6 +34,7 @@ use log_model::{named_append, named_runs_again, records_append};
 use log_store::{Store, store_is_short};
 use replay_laws::records_tell_runs;
 use session_effects::{Halt, causes_follow, effects_follow, halts_follow, put_all, quiet_follows};
+use session_model::Questions;
 use session_runs::{
     MachineRuns, count_records, history_laws, points_follow, quiet_points_follow, run,
 };
@@ -176,9 +176,7 @@ fn generate<Q: Questions, C: Chooser, A: Answers, D: Disk, K: Sink, L: Ledger>(
         text,
         steps,
     )?;
-    store_is_short(&kept.store);
-    kept.questions.extend(kept.store.entries(), known)?;
-    kept.machine = Some(machine);
+    return_machine(kept, machine, known)?;
     tell(kept, processes, text, sink, steps)
 }
 

@@ -8,10 +8,8 @@ mod generating;
 mod kept;
 mod names;
 mod printing;
-mod questions;
 mod ready;
 mod refusals;
 
 pub use answering::answer;
 pub use kept::Kept;
-pub use questions::Questions;

@@ -1,5 +1,6 @@
 // The machine of a history, there when a command needs it.
-ghost use Rattle.std.specs.Prelude.{◌≡◌, ◌+◌, ◌≤◌, All, is_some, IfOk, IfErr, None};
+ghost use Rattle.std.specs.Prelude.{◌≡◌, ◌+◌, ◌≤◌, All, is_some, length, take, IfOk, IfErr, None, OnOk, Some};
+ghost use Rattle.log_model.specs.Records.{IsRun};
 ghost use Rattle.result_log.specs.Spelling.{HasSpelling};
 ghost use Rattle.session_lines.specs.Answering.{BlamesRecords, IsNotMade};
 ghost use Rattle.session_lines.specs.Cost.{machine_cost};
@@ -8,10 +9,11 @@ ghost use Rattle.session_lines.specs.Kept.{IsSound};
 ghost use Rattle.session_runs.specs.Ready.{IsReady};
 
 use crate::kept::Kept;
-use crate::questions::Questions;
-use arn_base::Steps;
+use arn_base::{NoMemory, Steps};
 use guest_machine::{Machine, RebuildError};
+use log_store::store_is_short;
 use session_effects::Halt;
+use session_model::Questions;
 use std::sync::ledger::Ledger;
 
 /// What ends a session whose machine can't be made again.
@@ -45,4 +47,23 @@ pub fn take_machine<Q: Questions, L: Ledger>(
         Some(machine) => Ok(machine),
         None => { Machine::rebuild(kept.alloc, kept.store.entries(), steps).map_err(rebuild_halt) }
     }
+}
+
+/// Puts the machine back after a change, and hands the records from `known` on to who answers questions.
+pub fn return_machine<Q: Questions>(
+    kept: &mut Kept<Q>,
+    machine: Machine,
+    known: usize,
+) -> Result<(), NoMemory>
+    requires inside { known ≤ length kept.old.store.entries }
+    requires run { IsRun kept.old.store.entries }
+    requires known { Q.knows kept.old.questions (take known kept.old.store.entries) }
+    ensures machine { OnOk result (kept.new.machine ≡ Some machine) }
+    ensures questions { OnOk result (Q.knows kept.new.questions kept.old.store.entries) }
+    ensures store { kept.new.store ≡ kept.old.store }
+{
+    store_is_short(&kept.store);
+    kept.questions.extend(kept.store.entries(), known)?;
+    kept.machine = Some(machine);
+    Ok(())
 }

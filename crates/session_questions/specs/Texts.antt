@@ -29,7 +29,7 @@ use Rattle.session_reports.specs.Files.{show_file_text}
 use Rattle.session_reports.specs.Groups.{groups_text}
 use Rattle.session_reports.specs.Processes.{show_procs_text}
 use Rattle.session_reports.specs.States.{show_mem_cost, show_mem_text, show_regs_cost, show_regs_text}
-use Rattle.session_lines.specs.Questions.{Told}
+use Rattle.session_model.specs.Questions.{Told}
 use Rattle.session_questions.specs.Asked.{event_cost, unless_damaged, unless_refused}
 use Rattle.session_questions.specs.Generated.{generated_cost, generated_text}
 use Rattle.verify_reports.specs.Verify.{verify_text}

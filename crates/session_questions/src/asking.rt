@@ -11,7 +11,7 @@ use arn_base::{NoMemory, Record, Steps};
 use arn_lines::Question;
 use history_index::{Index, IndexError};
 use query_engine::Engine;
-use session_lines::Questions;
+use session_model::Questions;
 use session_reports::{report_events, report_groups};
 use std::alloc::Global;
 use std::marker::Model;

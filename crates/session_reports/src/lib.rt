@@ -8,8 +8,6 @@ mod files;
 mod groups;
 mod processes;
 mod states;
-#[cfg(test)]
-mod tests;
 
 pub use events::report_events;
 pub use far::far_is_nowhere;

@@ -26,7 +26,7 @@ use Rattle.session_runs.specs.Turns.{finished}
 use Rattle.session_lines.specs.Answering.{FindsNoRun, IsHalted, IsNoRun, IsNotBegun, IsNotMade, IsUntouched, Standpoint, standpoint}
 use Rattle.session_lines.specs.Cost.{cost_of_turn, machine_cost}
 use Rattle.session_lines.specs.Lines.{needs_machine, turn}
-use Rattle.session_lines.specs.Questions.{Told}
+use Rattle.session_model.specs.Questions.{Told}
 use Rattle.session_text.specs.CutOff.{BeginsText, FindsOut, IsBegun}
 use Rattle.session_text.specs.Transcript.{needs_any, total_cost, transcript}
 use Rattle.session_text.proofs.PointLemmas.{Behind, Laws, PickedBy-same, Stops-along, Stops-behind, Stops-dearer, Stops-finished}

@@ -23,7 +23,7 @@ use Rattle.session_runs.specs.Turns.{Point, Turn, finished}
 use Rattle.session_lines.specs.Answering.{IsAnswered, Standpoint}
 use Rattle.session_lines.specs.Cost.{cost, cost_of_turn}
 use Rattle.session_lines.specs.Lines.{needs_machine, turn}
-use Rattle.session_lines.specs.Questions.{Told}
+use Rattle.session_model.specs.Questions.{Told}
 use Rattle.session_text.specs.Answers.{Answers, AnswersTaken, TookAtMost, TookFewer}
 use Rattle.session_text.specs.Transcript.{needs_any, total_cost, transcript}
 use Rattle.session_text.proofs.PointLemmas.{Advances-along, Advances-append, Laws, PickedBy-none}

@@ -16,8 +16,8 @@ use Rattle.session_runs.specs.Turns.{Point, Turn, behind, finished, followed_by}
 use Rattle.session_lines.specs.Cost.{asked_cost, cost_of_turn}
 use Rattle.session_lines.specs.Generator.{generator_turn}
 use Rattle.session_lines.specs.Lines.{is_change, line_turn, needs_machine, turn, turn_unless}
-use Rattle.session_lines.specs.Questions.{Told}
 use Rattle.session_lines.specs.Refusals.{generator_refusal, refusal_of}
+use Rattle.session_model.specs.Questions.{Told}
 use Rattle.session_text.specs.Transcript.{asked_costs, history_behind, needs_any, total_cost, transcript, unless_cut_off}
 use Rattle.session_text.proofs.PointLemmas.{behind-behind, behind-finished, committed-append}
 

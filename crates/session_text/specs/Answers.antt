@@ -11,7 +11,7 @@ use Rattle.guest_machine.specs.LegLaws.{all_named}
 use Rattle.session_effects.specs.Effects.{Effect}
 use Rattle.session_runs.specs.Points.{Advances, Surroundings}
 use Rattle.session_runs.specs.Turns.{finished}
-use Rattle.session_lines.specs.Questions.{Told}
+use Rattle.session_model.specs.Questions.{Told}
 use Rattle.session_text.specs.Transcript.{needs_any, total_cost, transcript}
 
 module _ {A : Type 0} (replies : A → Asked → Answered → A → Type 0) (told : Told) (history : List Record) where

@@ -9,7 +9,7 @@ use Rattle.session_effects.specs.Effects.{committed, printed}
 use Rattle.session_runs.specs.Turns.{Point, Turn, finished, followed_by}
 use Rattle.session_lines.specs.Cost.{asked_cost}
 use Rattle.session_lines.specs.Lines.{needs_machine, turn}
-use Rattle.session_lines.specs.Questions.{Told}
+use Rattle.session_model.specs.Questions.{Told}
 
 -- the history behind a turn
 abbrev pub history_behind : List Record → Turn → List Record

@@ -5,8 +5,6 @@
 mod errors;
 mod replays;
 mod silent;
-#[cfg(test)]
-mod tests;
 mod views;
 
 pub use errors::ViewError;

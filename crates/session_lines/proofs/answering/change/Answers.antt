@@ -52,39 +52,38 @@ returns-in_err-carry_out-clause-cause g c =
     let why = c.in_err-carry_out.field-0.0 in
     err-same c.from_residual-in_err-carry_out.result why _ c.from_residual-in_err-carry_out.ensures.1 (line-cause why _ _ _ _ c.in_err-carry_out.ensures.cause)
 
-pub returns-in_err-extend-clause-halted : goal.returns-in_err-extend-clause-halted
-returns-in_err-extend-clause-halted g c =
+pub returns-in_err-return_machine-clause-halted : goal.returns-in_err-return_machine-clause-halted
+returns-in_err-return_machine-clause-halted g c =
     let n = c.carry_out.new in
-    err-same c.from_residual-in_err-extend.result halt.NoMemory _ c.from_residual-in_err-extend.ensures.1
+    err-same c.from_residual-in_err-return_machine.result halt.NoMemory _ c.from_residual-in_err-return_machine.ensures.1
     (halted-unheard g.D.Disk g.A.Answers.answers g.Q.Questions.told (is_some c.args.kept.now.machine) c.args.line c.args.kept.now.store c.requires.change c.requires.accepted c.halts_follow.ensures c.points_follow.ensures (g.C.Chooser.choices c.args.chooser.now) c.args.answers.now c.args.steps.now c.take_machine.new.steps c.take_machine.ensures.steps
-    c.args.disk.now n.disk c.take_machine.new.kept.store n.store (g.K.Sink.holds c.args.sink.now) (g.K.Sink.holds n.sink) (g.C.Chooser.choices n.chooser) n.answers n.steps c.take_machine.ensures.store c.in_ok-machine.ensures.ready.is_run
+    c.args.disk.now n.disk c.take_machine.new.kept.store n.store c.return_machine.new.kept.store (g.K.Sink.holds c.args.sink.now) (g.K.Sink.holds n.sink) (g.C.Chooser.choices n.chooser) n.answers n.steps c.take_machine.ensures.store c.in_ok-machine.ensures.ready.is_run
     (c.in_ok-carry_out.ensures.advances g.Q.Questions.told))
 
-pub returns-in_err-extend-clause-blames : goal.returns-in_err-extend-clause-blames
-returns-in_err-extend-clause-blames g c = err-same c.from_residual-in_err-extend.result halt.NoMemory _ c.from_residual-in_err-extend.ensures.1 tt
+pub returns-in_err-return_machine-clause-blames : goal.returns-in_err-return_machine-clause-blames
+returns-in_err-return_machine-clause-blames g c = err-same c.from_residual-in_err-return_machine.result halt.NoMemory _ c.from_residual-in_err-return_machine.ensures.1 tt
 
-pub returns-in_err-extend-clause-cause : goal.returns-in_err-extend-clause-cause
-returns-in_err-extend-clause-cause g c = err-same c.from_residual-in_err-extend.result halt.NoMemory _ c.from_residual-in_err-extend.ensures.1 tt
+pub returns-in_err-return_machine-clause-cause : goal.returns-in_err-return_machine-clause-cause
+returns-in_err-return_machine-clause-cause g c = err-same c.from_residual-in_err-return_machine.result halt.NoMemory _ c.from_residual-in_err-return_machine.ensures.1 tt
 
 pub returns-clause-advances : goal.returns-clause-advances
 returns-clause-advances g c =
     let n = c.carry_out.new in
     advances-changed g.D.Disk g.A.Answers.answers g.Q.Questions.told (is_some c.args.kept.now.machine) c.args.line c.args.kept.now.store c.requires.change c.requires.accepted c.halts_follow.ensures c.points_follow.ensures (g.C.Chooser.choices c.args.chooser.now) c.args.answers.now c.args.steps.now c.take_machine.new.steps c.take_machine.ensures.steps
-    c.args.disk.now n.disk c.take_machine.new.kept.store n.store (g.K.Sink.holds c.args.sink.now) (g.K.Sink.holds n.sink) (around (g.C.Chooser.choices n.chooser) n.answers n.steps) c.take_machine.ensures.store
+    c.args.disk.now n.disk c.take_machine.new.kept.store n.store c.return_machine.new.kept.store (g.K.Sink.holds c.args.sink.now) (g.K.Sink.holds n.sink) (around (g.C.Chooser.choices n.chooser) n.answers n.steps) c.take_machine.ensures.store c.return_machine.ensures.store
     (c.in_ok-carry_out.ensures.advances g.Q.Questions.told)
 
-pub extend-requires-clause-inside : goal.extend-requires-clause-inside
-extend-requires-clause-inside g c =
+pub return_machine-requires-clause-inside : goal.return_machine-requires-clause-inside
+return_machine-requires-clause-inside g c =
     let p = c.in_ok-carry_out.ensures.advances g.Q.Questions.told in
     omega (
       arith,
       few-known c.take_machine.new.kept.store.entries c.carry_out.new.store.entries (committed p.effects) p.carries.entries,
       ap (λ (x : List Record). length x) c.entries-known.ensures,
-      ap (λ (x : List Record). length x) c.entries.ensures,
     )
 
-pub extend-requires-clause-known : goal.extend-requires-clause-known
-extend-requires-clause-known g c =
+pub return_machine-requires-clause-known : goal.return_machine-requires-clause-known
+return_machine-requires-clause-known g c =
     let p = c.in_ok-carry_out.ensures.advances g.Q.Questions.told in
-    heard-before _ g.Q.Questions.knows c.args.kept.now.questions c.take_machine.new.kept.questions c.args.kept.now.store c.take_machine.new.kept.store c.carry_out.new.store c.entries-known.result.now c.entries.result.now (committed p.effects) (length c.entries-known.result.now)
-    c.requires.sound.questions c.take_machine.ensures.questions c.take_machine.ensures.store c.entries-known.ensures refl c.entries.ensures p.carries.entries
+    heard-before _ g.Q.Questions.knows c.args.kept.now.questions c.take_machine.new.kept.questions c.args.kept.now.store c.take_machine.new.kept.store c.carry_out.new.store c.entries-known.result.now c.carry_out.new.store.entries (committed p.effects) (length c.entries-known.result.now)
+    c.requires.sound.questions c.take_machine.ensures.questions c.take_machine.ensures.store c.entries-known.ensures refl refl p.carries.entries

@@ -1,6 +1,9 @@
 use Rattle.std.proofs.Common.{List, length, ap, is_some, refl, subst, sym, arith}
+use Rattle.std.specs.Prelude.{All}
 use Rattle.arn_base.specs.declared.records.Record.{Record}
 use Rattle.arn_commands.specs.declared.command.Command.TheVariants.{Generates}
+use Rattle.log_store.specs.Stores.{StoreState}
+use Rattle.result_log.specs.Spelling.{HasSpelling}
 use Rattle.session_effects.specs.Effects.{committed}
 use Rattle.session_effects.specs.declared.halt.Halt.TheVariants as halt
 use Rattle.session_runs.specs.Points.{around}
@@ -8,7 +11,7 @@ use Rattle.session_lines.specs.Answering.{standpoint}
 use Rattle.session_lines.specs.Lines.{turn}
 use Rattle.session_lines.proofs.AnswerLemmas.{cause-blames, err-both, halted-not-made, line-cause, text-cause}
 use Rattle.session_lines.proofs.ChangeLemmas.{err-same, few-known, heard-before}
-use Rattle.session_lines.proofs.GeneratedLemmas.{answered-told, cost-made, halted-told, halted-unheard, halted-untold, still-generator, turn-generator}
+use Rattle.session_lines.proofs.GeneratedLemmas.{advances-kept, answered-told, cost-made, halted-told, halted-unheard, halted-untold, still-generator, turn-generator}
 use Rattle.session_lines.proofs.TurnLemmas.{IsStill}
 use Rattle.session_lines.proofs.generating.generate.Goals as goal
 
@@ -40,46 +43,49 @@ returns-in_err-perform-clause-cause g c =
     let why = c.in_err-perform.field-0.0 in
     err-same c.from_residual-in_err-perform.result why _ c.from_residual-in_err-perform.ensures.1 (line-cause why _ _ _ _ (c.in_err-perform.ensures.cause (g.K.Sink.faults c.args.sink.now)))
 
-pub returns-in_err-extend-clause-halted : goal.returns-in_err-extend-clause-halted
-returns-in_err-extend-clause-halted g c =
+pub returns-in_err-return_machine-clause-halted : goal.returns-in_err-return_machine-clause-halted
+returns-in_err-return_machine-clause-halted g c =
     let n = c.perform.new in
-    err-same c.from_residual-in_err-extend.result halt.NoMemory _ c.from_residual-in_err-extend.ensures.1
-    (halted-unheard g.D.Disk g.A.Answers.answers g.Q.Questions.told (is_some c.args.kept.now.machine) c.args.image.now c.args.typed.now c.args.processes c.args.kept.now.store c.requires.accepted (g.C.Chooser.choices c.args.chooser.now) c.args.answers.now c.args.steps.now c.take_machine.new.steps c.take_machine.ensures.steps c.halts_follow.ensures c.args.disk.now n.disk c.take_machine.new.kept.store n.store n.store (g.K.Sink.holds c.args.sink.now) (g.C.Chooser.choices n.chooser) n.answers n.steps c.take_machine.ensures.store c.in_ok-machine.ensures.ready.is_run
+    err-same c.from_residual-in_err-return_machine.result halt.NoMemory _ c.from_residual-in_err-return_machine.ensures.1
+    (halted-unheard g.D.Disk g.A.Answers.answers g.Q.Questions.told (is_some c.args.kept.now.machine) c.args.image.now c.args.typed.now c.args.processes c.args.kept.now.store c.requires.accepted (g.C.Chooser.choices c.args.chooser.now) c.args.answers.now c.args.steps.now c.take_machine.new.steps c.take_machine.ensures.steps c.halts_follow.ensures c.args.disk.now n.disk c.take_machine.new.kept.store n.store c.return_machine.new.kept.store (g.K.Sink.holds c.args.sink.now) (g.C.Chooser.choices n.chooser) n.answers n.steps c.take_machine.ensures.store c.in_ok-machine.ensures.ready.is_run
     (c.in_ok-perform.ensures.advances g.Q.Questions.told c.args.processes (g.K.Sink.holds c.args.sink.now)))
 
 pub returns-clause-answered : goal.returns-clause-answered
 returns-clause-answered g c =
     let n = c.perform.new in
-    answered-told g.D.Disk g.A.Answers.answers g.Q.Questions.told (is_some c.args.kept.now.machine) c.args.image.now c.args.typed.now c.args.processes c.args.kept.now.store c.requires.accepted (g.C.Chooser.choices c.args.chooser.now) c.args.answers.now c.args.steps.now c.take_machine.new.steps c.take_machine.ensures.steps c.effects_follow.ensures.follow c.points_follow.ensures c.tell.result c.args.disk.now n.disk c.take_machine.new.kept.store n.store c.tell.new.kept.store (g.K.Sink.holds c.args.sink.now) (g.K.Sink.holds c.tell.new.sink) (g.C.Chooser.choices n.chooser) n.answers n.steps c.tell.new.steps c.take_machine.ensures.store c.tell.ensures.store c.in_ok-machine.ensures.ready.is_run
-    (c.in_ok-perform.ensures.advances g.Q.Questions.told c.args.processes (g.K.Sink.holds c.args.sink.now)) c.tell.ensures.steps c.tell.ensures.ok
+    answered-told g.D.Disk g.A.Answers.answers g.Q.Questions.told (is_some c.args.kept.now.machine) c.args.image.now c.args.typed.now c.args.processes c.args.kept.now.store c.requires.accepted (g.C.Chooser.choices c.args.chooser.now) c.args.answers.now c.args.steps.now c.take_machine.new.steps c.take_machine.ensures.steps c.effects_follow.ensures.follow c.points_follow.ensures c.tell.result c.args.disk.now n.disk c.take_machine.new.kept.store c.return_machine.new.kept.store c.tell.new.kept.store (g.K.Sink.holds c.args.sink.now) (g.K.Sink.holds c.tell.new.sink) (g.C.Chooser.choices n.chooser) n.answers n.steps c.tell.new.steps c.take_machine.ensures.store c.tell.ensures.store c.in_ok-machine.ensures.ready.is_run
+    (advances-kept g.D.Disk g.A.Answers.answers g.Q.Questions.told (is_some c.args.kept.now.machine) c.args.image.now c.args.typed.now c.args.processes c.args.kept.now.store c.requires.accepted (g.C.Chooser.choices c.args.chooser.now) c.args.answers.now c.args.steps.now c.take_machine.new.steps c.take_machine.ensures.steps c.args.disk.now n.disk c.take_machine.new.kept.store n.store c.return_machine.new.kept.store (g.K.Sink.holds c.args.sink.now) (around (g.C.Chooser.choices n.chooser) n.answers n.steps) c.return_machine.ensures.store
+    (c.in_ok-perform.ensures.advances g.Q.Questions.told c.args.processes (g.K.Sink.holds c.args.sink.now))) c.tell.ensures.steps c.tell.ensures.ok
 
 pub returns-clause-halted : goal.returns-clause-halted
 returns-clause-halted g c =
     let n = c.perform.new in
     err-both c.tell.result _ _ _
-    (λ why put again. halted-told g.D.Disk g.A.Answers.answers g.Q.Questions.told (is_some c.args.kept.now.machine) c.args.image.now c.args.typed.now c.args.processes c.args.kept.now.store c.requires.accepted (g.C.Chooser.choices c.args.chooser.now) c.args.answers.now c.args.steps.now c.take_machine.new.steps c.take_machine.ensures.steps c.halts_follow.ensures c.args.disk.now n.disk c.take_machine.new.kept.store n.store c.tell.new.kept.store (g.K.Sink.holds c.args.sink.now) (g.K.Sink.holds c.tell.new.sink) why (g.C.Chooser.choices n.chooser) n.answers n.steps c.tell.new.steps c.take_machine.ensures.store c.in_ok-machine.ensures.ready.is_run
-    (c.in_ok-perform.ensures.advances g.Q.Questions.told c.args.processes (g.K.Sink.holds c.args.sink.now)) c.tell.ensures.steps put)
+    (λ why put again. halted-told g.D.Disk g.A.Answers.answers g.Q.Questions.told (is_some c.args.kept.now.machine) c.args.image.now c.args.typed.now c.args.processes c.args.kept.now.store c.requires.accepted (g.C.Chooser.choices c.args.chooser.now) c.args.answers.now c.args.steps.now c.take_machine.new.steps c.take_machine.ensures.steps c.halts_follow.ensures c.args.disk.now n.disk c.take_machine.new.kept.store c.return_machine.new.kept.store c.tell.new.kept.store (g.K.Sink.holds c.args.sink.now) (g.K.Sink.holds c.tell.new.sink) why (g.C.Chooser.choices n.chooser) n.answers n.steps c.tell.new.steps c.take_machine.ensures.store c.in_ok-machine.ensures.ready.is_run
+    (advances-kept g.D.Disk g.A.Answers.answers g.Q.Questions.told (is_some c.args.kept.now.machine) c.args.image.now c.args.typed.now c.args.processes c.args.kept.now.store c.requires.accepted (g.C.Chooser.choices c.args.chooser.now) c.args.answers.now c.args.steps.now c.take_machine.new.steps c.take_machine.ensures.steps c.args.disk.now n.disk c.take_machine.new.kept.store n.store c.return_machine.new.kept.store (g.K.Sink.holds c.args.sink.now) (around (g.C.Chooser.choices n.chooser) n.answers n.steps) c.return_machine.ensures.store
+    (c.in_ok-perform.ensures.advances g.Q.Questions.told c.args.processes (g.K.Sink.holds c.args.sink.now))) c.tell.ensures.steps put)
     c.tell.ensures.stops c.tell.ensures.stops
 
 pub returns-clause-cause : goal.returns-clause-cause
 returns-clause-cause g c =
     err-both c.tell.result _ _ _ (λ why cause again. text-cause why _ _ _ _ cause) c.tell.ensures.cause c.tell.ensures.cause
 
-pub extend-requires-clause-inside : goal.extend-requires-clause-inside
-extend-requires-clause-inside g c =
+pub return_machine-requires-clause-inside : goal.return_machine-requires-clause-inside
+return_machine-requires-clause-inside g c =
     let p = c.in_ok-perform.ensures.advances g.Q.Questions.told c.args.processes (g.K.Sink.holds c.args.sink.now) in
     omega (
       arith,
       few-known c.take_machine.new.kept.store.entries c.perform.new.store.entries (committed p.effects) p.carries.entries,
       ap (λ (x : List Record). length x) c.entries-known.ensures,
-      ap (λ (x : List Record). length x) c.entries.ensures,
     )
 
-pub extend-requires-clause-known : goal.extend-requires-clause-known
-extend-requires-clause-known g c =
+pub return_machine-requires-clause-known : goal.return_machine-requires-clause-known
+return_machine-requires-clause-known g c =
     let p = c.in_ok-perform.ensures.advances g.Q.Questions.told c.args.processes (g.K.Sink.holds c.args.sink.now) in
-    heard-before _ g.Q.Questions.knows c.args.kept.now.questions c.take_machine.new.kept.questions c.args.kept.now.store c.take_machine.new.kept.store c.perform.new.store c.entries-known.result.now c.entries.result.now (committed p.effects) (length c.entries-known.result.now)
-    c.requires.sound.questions c.take_machine.ensures.questions c.take_machine.ensures.store c.entries-known.ensures refl c.entries.ensures p.carries.entries
+    heard-before _ g.Q.Questions.knows c.args.kept.now.questions c.take_machine.new.kept.questions c.args.kept.now.store c.take_machine.new.kept.store c.perform.new.store c.entries-known.result.now c.perform.new.store.entries (committed p.effects) (length c.entries-known.result.now)
+    c.requires.sound.questions c.take_machine.ensures.questions c.take_machine.ensures.store c.entries-known.ensures refl refl p.carries.entries
 
 pub tell-requires-clause-spelled : goal.tell-requires-clause-spelled
-tell-requires-clause-spelled g c = (c.in_ok-perform.ensures.advances g.Q.Questions.told c.args.processes (g.K.Sink.holds c.args.sink.now)).carries.stays_open.spelled
+tell-requires-clause-spelled g c =
+    subst (λ (s : StoreState). All HasSpelling s.entries) (sym c.return_machine.ensures.store)
+    (c.in_ok-perform.ensures.advances g.Q.Questions.told c.args.processes (g.K.Sink.holds c.args.sink.now)).carries.stays_open.spelled

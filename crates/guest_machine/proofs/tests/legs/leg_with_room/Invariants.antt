@@ -1,4 +1,0 @@
-use Rattle.guest_machine.proofs.tests.legs.leg_with_room.Given as goal
-
-abbrev pub ghosts-leg_counted : goal.ghosts-leg_counted
-ghosts-leg_counted g a = record { name = a.blank.name; parts = a.blank.parts }

@@ -1,4 +1,0 @@
-use Rattle.guest_machine.proofs.tests.rebuild.rebuilt.Given as goal
-
-abbrev pub ghosts-rebuild_counted : goal.ghosts-rebuild_counted
-ghosts-rebuild_counted a = record { name = a.blank.name; parts = a.blank.parts }

@@ -1,0 +1,7 @@
+//! The rules of links, and sets of items.
+#![tactic(auto)]
+
+#[cfg(test)]
+mod links;
+#[cfg(test)]
+mod sets;

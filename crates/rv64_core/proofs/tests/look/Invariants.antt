@@ -1,4 +1,0 @@
-use Rattle.rv64_core.proofs.tests.look.Given as goal
-
-abbrev pub ghosts-look_counted : goal.ghosts-look_counted
-ghosts-look_counted g a = record { name = a.blank.name; parts = a.blank.parts }

@@ -1,0 +1,6 @@
+//! What the crates of a session agree on: who answers its questions.
+#![tactic(auto)]
+
+mod questions;
+
+pub use questions::Questions;
