@@ -66,6 +66,7 @@ fn add_demands(
 /// Follows all that waits, the latest first: what waits then is of earlier events, or nearer to what its
 /// own event received.
 fn follow_all<P: Locals>(
+    alloc: Global,
     entries: &[Record],
     index: &Index,
     locals: &P,
@@ -78,7 +79,7 @@ fn follow_all<P: Locals>(
     ensures { OnOk result (AreFound (from_wait (event_at entries.now) (reaches entries.now (P.items locals.now))) waiting.old found.old found.new) }
 {
     while let Some(wait) = waiting.next() {
-        step(entries, index, locals, wait, waiting, found)?;
+        step(alloc, entries, index, locals, wait, waiting, found)?;
     }
     Ok(())
 }
@@ -100,6 +101,6 @@ pub fn join<P: Locals>(
     let mut waiting = Waiting::new(alloc);
     add_demands(entries, index, demands, &mut waiting)?;
     let mut found = Found::new(alloc);
-    follow_all(entries, index, locals, &mut waiting, &mut found)?;
+    follow_all(alloc, entries, index, locals, &mut waiting, &mut found)?;
     found.pairs(alloc)
 }

@@ -1,11 +1,13 @@
 // One step of the join of groups' answers.
-ghost use Rattle.std.specs.Prelude.{◌≡◌, false, All, map, Some, OnOk};
+ghost use Rattle.std.specs.Prelude.{◌≡◌, false, All, map, Some, IfOk, OnOk};
 ghost use Rattle.history_index.specs.Indexes.{Indexes};
 ghost use Rattle.history_model.specs.Events.{event_at};
 ghost use Rattle.lineage_model.specs.Flow.{Byte};
 ghost use Rattle.lineage_model.specs.Joined.{is_source, origin_of, source_byte};
 ghost use Rattle.lineage_join.specs.Fits.{AllFit};
+ghost use Rattle.taint_tracker.specs.Shown.{AreItems};
 ghost use Rattle.lineage_join.specs.Laws.{reaches};
+ghost use Rattle.lineage_join.specs.Places.{at_of};
 ghost use Rattle.lineage_join.specs.Waits.{HasAlso, HasBoth, HasPairs, IsFollowed, IsNumbered, IsStepped, from_wait, origin_waits, own_bytes, wait_of};
 
 use crate::demand::Place;
@@ -16,6 +18,7 @@ use crate::wait::{Kind, Wait, Waiting};
 use arn_base::{NoMemory, Record};
 use history_index::Index;
 use set_store::Item;
+use std::alloc::Global;
 
 /// Adds a source byte of an event, if the event has it.
 fn keep(found: &mut Found, event: u64, len: u32, at: u64, byte: u32) -> Result<(), NoMemory>
@@ -85,8 +88,21 @@ fn keep_source(found: &mut Found, wait: Wait, len: u32) -> Result<(), NoMemory>
     }
 }
 
+/// The items of a byte of an event.
+fn items_of<P: Locals>(
+    alloc: Global,
+    locals: &P,
+    event: u64,
+    place: Place,
+) -> Result<Vec<Item>, NoMemory>
+    ensures { IfOk result (λ items. AreItems items.items (P.items locals.now event (at_of place))) }
+{
+    locals.items(event, place).to_vec(alloc)
+}
+
 /// Lets that wait for which what waits stands, where its event's bytes didn't come from outside.
 fn follow<P: Locals>(
+    alloc: Global,
     entries: &[Record],
     index: &Index,
     locals: &P,
@@ -105,11 +121,11 @@ fn follow<P: Locals>(
     match wait.kind {
         Kind::Received => add_origin(entry, wait.at, wait.byte, waiting),
         Kind::Byte => {
-            let items = locals.items(wait.event, Place::Byte(wait.at));
+            let items = items_of(alloc, locals, wait.event, Place::Byte(wait.at))?;
             add_items(entries, index, items.as_slice(), wait.byte, waiting)
         }
         Kind::Start => {
-            let items = locals.items(wait.event, Place::Start(wait.at));
+            let items = items_of(alloc, locals, wait.event, Place::Start(wait.at))?;
             add_items(entries, index, items.as_slice(), wait.byte, waiting)
         }
     }
@@ -117,6 +133,7 @@ fn follow<P: Locals>(
 
 /// Follows what waits at an event.
 fn step_at<P: Locals>(
+    alloc: Global,
     entries: &[Record],
     index: &Index,
     locals: &P,
@@ -136,11 +153,12 @@ fn step_at<P: Locals>(
         let len = told::len_at(entries, index, entry, wait.event);
         return keep_source(found, wait, len);
     }
-    follow(entries, index, locals, entry, wait, waiting)
+    follow(alloc, entries, index, locals, entry, wait, waiting)
 }
 
 /// Follows what waits.
 pub fn step<P: Locals>(
+    alloc: Global,
     entries: &[Record],
     index: &Index,
     locals: &P,
@@ -156,6 +174,6 @@ pub fn step<P: Locals>(
 {
     match told::record_at(entries, index, wait.event) {
         None => Ok(()),
-        Some(entry) => step_at(entries, index, locals, entry, wait, waiting, found),
+        Some(entry) => step_at(alloc, entries, index, locals, entry, wait, waiting, found),
     }
 }

@@ -9,8 +9,17 @@ const FIRST: Item = Item { event: 1, at: 0 };
 const SECOND: Item = Item { event: 2, at: 5 };
 
 // Whether these are the members of a set.
-fn has(sets: &Sets, set: usize, wanted: &[Item]) -> bool {
-    set < sets.len() && sets.members(set) == wanted
+fn has(sets: &Sets, set: usize, wanted: &[Item]) -> Result<bool, NoMemory> {
+    if set < sets.len() {
+        let members = sets.members(set)?;
+        return Ok(members.as_slice() == wanted);
+    }
+    Ok(false)
+}
+
+// Whether one item is in a set.
+fn contains(sets: &Sets, set: usize, item: Item) -> bool {
+    set < sets.len() && sets.contains(set, item)
 }
 
 fn single(sets: &mut Sets, item: Item) -> Result<usize, NoMemory> {
@@ -29,7 +38,8 @@ fn check(rt: &impl Abort, alloc: Global, memo: u32) -> Result<(), Fail> {
     let a = single(&mut sets, FIRST)?;
     let b = single(&mut sets, SECOND)?;
     let both = union(rt, &mut sets, b, a)?;
-    assert!(rt; has(&sets, both, &[FIRST, SECOND]));
+    assert!(rt; has(&sets, both, &[FIRST, SECOND])?);
+    assert!(rt; contains(&sets, both, SECOND) && !contains(&sets, a, SECOND));
     // Another pair, and then the first again, which a memo of one has dropped.
     for (first, second, wanted) in [
         (a, both, both),
@@ -42,7 +52,7 @@ fn check(rt: &impl Abort, alloc: Global, memo: u32) -> Result<(), Fail> {
         assert_eq!(rt; found, wanted, "of {first} and {second}");
     }
     assert!(rt; single(&mut sets, FIRST)? == a);
-    assert!(rt; has(&sets, empty, &[]));
+    assert!(rt; has(&sets, empty, &[])?);
     Ok(())
 }
 

@@ -114,7 +114,7 @@ impl<'a> Followed<'a> {
     pub fn held(&self, pid: u32, point: Point) -> KeptItems<'_>
         ensures { listed result ≡ told_by self.now point (group_of self.now.entries pid) }
     {
-        self.point(pid, point).unwrap_or(KeptItems::Set(&[]))
+        self.point(pid, point).unwrap_or(KeptItems::Nothing)
     }
 
     /// Each group that is kept was followed.
@@ -131,6 +131,6 @@ impl<'a> Locals for Followed<'a> {
     ghost items = { items_followed };
 
     fn items(&self, event: u64, place: Place) -> KeptItems<'_> {
-        self.local(event, place).unwrap_or(KeptItems::Set(&[]))
+        self.local(event, place).unwrap_or(KeptItems::Nothing)
     }
 }

@@ -115,7 +115,9 @@ fn demands(
 {
     let mut demands = Vec::new(alloc);
     for byte in 0..len_of(held.part) {
-        let items = followed.held(held.pid, point(held.pid, held.part, byte));
+        let items = followed
+            .held(held.pid, point(held.pid, held.part, byte))
+            .to_vec(alloc)?;
         add_items(&mut demands, items.as_slice(), byte)?;
     }
     Ok(demands)

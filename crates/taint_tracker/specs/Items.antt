@@ -1,10 +1,12 @@
--- The items that are lent of a byte.
+-- The items that are kept of a byte.
 use Rattle.std.specs.Prelude.{List, [], ◌∷◌}
 use Rattle.set_store.specs.declared.item.Item.{Item}
+use Rattle.set_store.specs.Sets.{members_of}
 use Rattle.taint_tracker.specs.declared.items.KeptItems.{KeptItems}
-use Rattle.taint_tracker.specs.declared.items.KeptItems.TheVariants.{One, Set}
+use Rattle.taint_tracker.specs.declared.items.KeptItems.TheVariants.{Nothing, One, Set}
 
--- one alone, or the members of a set
+-- none, one alone, or the members of a set
 abbrev pub listed : KeptItems → List Item
+listed Nothing = []
 listed (One item) = item ∷ []
-listed (Set items) = items.now
+listed (Set sets set) = members_of sets.now set

@@ -33,7 +33,10 @@ fn lent(sets: &Sets, begun: u64, number: u32) -> KeptItems<'_>
     ensures { listed result ≡ items_of sets.now begun number }
 {
     if number < FIRST_START {
-        KeptItems::Set(sets.members(number as usize))
+        KeptItems::Set {
+            sets,
+            set: number as usize,
+        }
     } else {
         KeptItems::One(Item {
             event: begun,

@@ -1,25 +1,37 @@
 // The items of a byte.
-ghost use Rattle.std.specs.Prelude.{◌≡◌};
+ghost use Rattle.std.specs.Prelude.{◌≡◌, IfOk};
 ghost use Rattle.taint_tracker.specs.Items.{listed};
 
-use set_store::Item;
+use arn_base::NoMemory;
+use set_store::{Item, Sets};
+use std::alloc::Global;
 
 /// The items of a byte of an event, as they are kept.
-#[derive(Clone, Copy, Debug)]
+#[derive(Clone, Copy)]
 pub enum KeptItems<'a> {
+    /// None, which needs no sets.
+    Nothing,
     /// One alone, which has no set.
     One(Item),
-    /// Those of a set.
-    Set(&'a [Item]),
+    /// Those of one of these sets.
+    Set { sets: &'a Sets, set: usize },
 }
 
 impl<'a> KeptItems<'a> {
-    pub fn as_slice(&self) -> &[Item]
-        ensures { result.now ≡ listed self.now }
+    /// The items as a list. A set is walked for it: none is kept as a list.
+    pub fn to_vec(&self, alloc: Global) -> Result<Vec<Item>, NoMemory>
+        ensures { IfOk result (λ items. items.items ≡ listed self.now) }
     {
         match self {
-            KeptItems::One(item) => std::slice::from_ref(item),
-            KeptItems::Set(items) => items,
+            KeptItems::Nothing => Ok(Vec::new(alloc)),
+            KeptItems::One(item) => Ok(Vec::from_slice(alloc, &[*item])?),
+            KeptItems::Set { sets, set } => {
+                if *set < sets.len() {
+                    sets.members(*set)
+                } else {
+                    Ok(Vec::new(alloc))
+                }
+            }
         }
     }
 }

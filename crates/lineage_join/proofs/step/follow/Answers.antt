@@ -16,22 +16,22 @@ returns-in-Received-clause-ok g c =
     (received-followed c.args.entries.now (g.P.Locals.items c.args.locals.now) c.requires.indexed.stands c.requires.fit c.args.waiting.now c.add_origin.new.waiting c.args.wait c.args.entry.now c.in-Received.is c.requires.there c.requires.plain)
     c.add_origin.ensures.ok
 
-pub returns-in-Byte-clause-ok : goal.returns-in-Byte-clause-ok
-returns-in-Byte-clause-ok g c =
+pub returns-in_ok-items-in-Byte-clause-ok : goal.returns-in_ok-items-in-Byte-clause-ok
+returns-in_ok-items-in-Byte-clause-ok g c =
     let items = g.P.Locals.items c.args.locals.now in
     let rank_is : rank c.args.wait.kind ≡ 1 = ap rank c.in-Byte.is in
     let high : 1 ≤ rank c.args.wait.kind = omega arith in
     on-ok _ _ c.add_items.result
-    (items-followed c.args.entries.now items c.requires.indexed.stands c.requires.fit c.args.wait (Byte c.args.wait.at) c.as_slice.result.now (subst (λ (list : List Item). AreItems list (items c.args.wait.event (Byte c.args.wait.at))) (sym c.as_slice.ensures) c.items-items.ensures) c.args.waiting.now c.add_items.new.waiting c.args.entry.now
+    (items-followed c.args.entries.now items c.requires.indexed.stands c.requires.fit c.args.wait (Byte c.args.wait.at) c.as_slice.result.now (subst (λ (list : List Item). AreItems list (items c.args.wait.event (Byte c.args.wait.at))) (sym c.as_slice.ensures.value) c.in_ok-items-in-Byte.ensures) c.args.waiting.now c.add_items.new.waiting c.args.entry.now
     (ap (from_kind (event_at c.args.entries.now) (reaches c.args.entries.now items) c.args.wait.event c.args.wait.at) c.in-Byte.is) high c.requires.there c.requires.plain)
     c.add_items.ensures.ok
 
-pub returns-in-Start-clause-ok : goal.returns-in-Start-clause-ok
-returns-in-Start-clause-ok g c =
+pub returns-in_ok-items-in-Start-clause-ok : goal.returns-in_ok-items-in-Start-clause-ok
+returns-in_ok-items-in-Start-clause-ok g c =
     let items = g.P.Locals.items c.args.locals.now in
     let rank_is : rank c.args.wait.kind ≡ 2 = ap rank c.in-Start.is in
     let high : 1 ≤ rank c.args.wait.kind = omega arith in
     on-ok _ _ c.add_items-in-Start.result
-    (items-followed c.args.entries.now items c.requires.indexed.stands c.requires.fit c.args.wait (start_at c.args.wait.at) c.as_slice-in-Start.result.now (subst (λ (list : List Item). AreItems list (items c.args.wait.event (start_at c.args.wait.at))) (sym c.as_slice-in-Start.ensures) c.items-items-in-Start.ensures) c.args.waiting.now c.add_items-in-Start.new.waiting c.args.entry.now
+    (items-followed c.args.entries.now items c.requires.indexed.stands c.requires.fit c.args.wait (start_at c.args.wait.at) c.as_slice-in-Start.result.now (subst (λ (list : List Item). AreItems list (items c.args.wait.event (start_at c.args.wait.at))) (sym c.as_slice-in-Start.ensures.value) c.in_ok-items-in-Start.ensures) c.args.waiting.now c.add_items-in-Start.new.waiting c.args.entry.now
     (ap (from_kind (event_at c.args.entries.now) (reaches c.args.entries.now items) c.args.wait.event c.args.wait.at) c.in-Start.is) high c.requires.there c.requires.plain)
     c.add_items-in-Start.ensures.ok
