@@ -1,19 +1,20 @@
 -- A step keeps the group alone in agreement, whatever its act is.
-use Rattle.std.proofs.Common.{◌≡◌, ℕ, ◌+◌, ◌<◌, List, [], ◌∷◌, length, refl, ap, ap₂, ◌∙◌, sym, subst, Option, Some, None, IfSome, option_map, Bool, true, false, ◌==◌, cond, arith}
+use Rattle.std.proofs.Common.{◌≡◌, ℕ, ◌+◌, ◌<◌, List, [], length, refl, ap, ap₂, ◌∙◌, sym, subst, Option, Some, None, IfSome, Bool, true, false, ◌==◌, cond, arith}
+use Rattle.std.proofs.lemmas.Bool.Decides.{nat_tests}
 use Rattle.std.proofs.lemmas.Bool.{eqb-true}
 use Rattle.arn_base.specs.declared.machine.Cpu.{Cpu}
-use Rattle.arn_base.specs.Window.{Window, with_bytes}
+use Rattle.arn_base.specs.Window.{Window}
 use Rattle.rv64_isa.specs.declared.instruction.Instr.{Instr}
 use Rattle.rv64_model.specs.Instruction.{Next}
 use Rattle.parts_model.specs.declared.limits.TheConstants.{WINDOW_LEN}
-use Rattle.acts_model.specs.Acts.{Act, Returns, Receives, Gives, Starts, Forks, Founds, Shares, Leaves, Delivers, Exits, Faults, Dies, Beginning, beginning_of, beginning_in, start_of, acted, restored, child_view, begun, done_by, founded}
-use Rattle.acts_model.specs.Bodies.{Body, Bodies, View, body_at, view, seen, put, become}
-use Rattle.acts_model.specs.Views.{with_reach, reach, stands_at, after_instr, with_cpu}
+use Rattle.acts_model.specs.Acts.{Act, Starts, Forks, Founds, Shares, Beginning, beginning_of, beginning_in, start_of, acted, child_view, begun, done_by, founded}
+use Rattle.acts_model.specs.Bodies.{Body, Bodies, View, seen, put, become}
+use Rattle.acts_model.specs.Views.{with_reach, stands_at, after_instr, with_cpu}
 use Rattle.history_model.specs.Groups.{Groups, is_number}
 use Rattle.history_model.specs.Moments.{changed}
 use Rattle.replay_laws.proofs.Blocks.{blocks-whole}
 use Rattle.replay_laws.proofs.Sized.{StartsWell, acted-whole, instr-whole}
-use Rattle.replay_laws.proofs.Owned.{Owner, Private, Shared, Fits, Whole, fits-later, segment-later, changed-same, changed-other}
+use Rattle.replay_laws.proofs.Owned.{Owner, Private, Shared, Fits, fits-later, segment-later, changed-same, changed-other}
 use Rattle.replay_laws.proofs.Agrees.{Joint, Good, if_own, joint-become, joint-later}
 
 -- whose the memory is that an act makes
@@ -37,53 +38,20 @@ begun_bodies g e act v b = b
 
 -- what a live process sees fits, and its window is whole
 pub seen-good : (g : ℕ) (owner : ℕ → Owner) (gs : Groups) (n p : ℕ) (w o : Bodies) (v : View) → seen w p ≡ Some v → Joint g owner gs n w o → Good owner gs n p v
-seen-good g owner gs n p w o v e h = by_body (body_at w p) e (h.owned.fits p) (h.owned.whole p)
-  where
-    by_body : (b : Option Body) → option_map (view w) b ≡ Some v → IfSome b (Fits owner gs n p) → IfSome b (Whole w) → Good owner gs n p v
-    by_body None e f s = absurd (cc)
-    by_body (Some x) e f s =
-        let there : Good owner gs n p (view w x) = record { fits = f; whole = s } in
-        let same : view w x ≡ v = cc in
-        subst (λ (y : View). Good owner gs n p y) same there
+seen-good g owner gs n p w o v h1 h2 = grind (arith, nat_tests)
 
 -- older memories keep their owners
 kept-owner : (owner : ℕ → Owner) (e : ℕ) (o : Owner) (k : ℕ) → k < e → changed owner e o k ≡ owner k
 kept-owner owner e o k lt = changed-other owner e o k (λ s. omega arith)
 
 reach-body : (ws : List Window) (v : View) → (with_reach ws v).body ≡ v.body
-reach-body [] v = refl
-reach-body (w ∷ []) v = refl
-reach-body (w ∷ s ∷ more) v = refl
+reach-body ws v = grind (arith, nat_tests)
 
 reach-fits : (owner : ℕ → Owner) (gs : Groups) (n p : ℕ) (ws : List Window) (v : View) → Fits owner gs n p v.body → Fits owner gs n p (with_reach ws v).body
 reach-fits owner gs n p ws v f = subst (λ (x : Body). Fits owner gs n p x) (sym (reach-body ws v)) f
 
 acted-fits : (owner : ℕ → Owner) (gs : Groups) (e p : ℕ) (act : Act) (v : View) → Fits owner gs e p v.body → IfSome (acted e act v) (λ w. Fits (changed owner e (made_for p (gs p) act)) gs (e + 1) p w.body)
-acted-fits owner gs e p act v f = by_act act
-  where
-    old : (act : Act) → Fits (changed owner e (made_for p (gs p) act)) gs (e + 1) p v.body
-    old act = fits-later owner (changed owner e (made_for p (gs p) act)) gs e (e + 1) p v.body (kept-owner owner e (made_for p (gs p) act)) (omega arith) f
-
-    leaves : (o : Option Cpu) → Fits (changed owner e (made_for p (gs p) Leaves)) gs (e + 1) p (restored o v).body
-    leaves None = old Leaves
-    leaves (Some cpu) = record { window = (old Leaves).window; segment = (old Leaves).segment }
-
-    receives : (at : ℕ) (bytes : List ℕ) (result : ℕ) → Fits (changed owner e (Private p)) gs (e + 1) p (with_reach (with_bytes (reach v) at bytes) v).body
-    receives at bytes result = reach-fits (changed owner e (Private p)) gs (e + 1) p (with_bytes (reach v) at bytes) v (old (Receives at bytes result))
-
-    by_act : (act : Act) → IfSome (acted e act v) (λ w. Fits (changed owner e (made_for p (gs p) act)) gs (e + 1) p w.body)
-    by_act (Returns r) = record { window = (old (Returns r)).window; segment = (old (Returns r)).segment }
-    by_act (Receives at bytes r) = record { window = (receives at bytes r).window; segment = (receives at bytes r).segment }
-    by_act (Gives at len r) = record { window = (old (Gives at len r)).window; segment = (old (Gives at len r)).segment }
-    by_act (Starts file block len) = record { window = (omega arith, changed-same owner e (Private p)); segment = tt }
-    by_act (Forks c) = record { window = (old (Forks c)).window; segment = (old (Forks c)).segment }
-    by_act (Founds c) = record { window = (old (Founds c)).window; segment = (old (Founds c)).segment }
-    by_act Shares = record { window = (old Shares).window; segment = (omega arith, changed-same owner e (Shared (gs p))) }
-    by_act Leaves = leaves v.body.slot
-    by_act (Delivers s h cut) = record { window = (old (Delivers s h cut)).window; segment = (old (Delivers s h cut)).segment }
-    by_act Exits = tt
-    by_act (Faults status) = tt
-    by_act (Dies s cut) = tt
+acted-fits owner gs e p act v h1 = grind (arith, nat_tests, changed-same, fits-later, kept-owner, made_for, reach-fits)
 
 both-good : (owner : ℕ → Owner) (gs : Groups) (n p : ℕ) (o : Option View) → IfSome o (λ w. Fits owner gs n p w.body) → IfSome o (λ w. length w.window ≡ WINDOW_LEN) → IfSome o (Good owner gs n p)
 both-good owner gs n p None f s = tt

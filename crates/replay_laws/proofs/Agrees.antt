@@ -1,8 +1,9 @@
 -- A group alone agrees with the whole machine, and goes on to agree over whatever a process puts.
-use Rattle.std.proofs.Common.{◌≡◌, inl, inr, ℕ, ◌<◌, ◌≤◌, List, length, refl, ap, ap₂, ◌∙◌, sym, subst, Option, Some, None, IfSome, option_map, Bool, true, false, ◌==◌, cond}
+use Rattle.std.proofs.Common.{◌≡◌, ℕ, ◌<◌, ◌≤◌, List, length, refl, ap, ◌∙◌, sym, subst, Option, Some, None, IfSome, Bool, true, false, ◌==◌, cond, arith}
+use Rattle.std.proofs.lemmas.Bool.Decides.{nat_tests}
 use Rattle.std.proofs.lemmas.Bool.{eq-eqb, eqb-true}
 use Rattle.parts_model.specs.declared.limits.TheConstants.{WINDOW_LEN}
-use Rattle.acts_model.specs.Bodies.{Body, Bodies, View, body_at, memory_at, IsHolder, view, seen, segment_bytes, put, remove, become}
+use Rattle.acts_model.specs.Bodies.{Body, Bodies, View, body_at, memory_at, IsHolder, seen, put, remove, become}
 use Rattle.history_model.specs.Groups.{Groups, is_number}
 use Rattle.replay_laws.proofs.Places.{laid, laid_segment, put-body, put-memory, remove-body, remove-memory}
 use Rattle.replay_laws.proofs.Owned.{Owner, Fits, Owned, owned-later, put-owned, remove-owned, holder, apart}
@@ -21,11 +22,7 @@ pub number-false : (g : ℕ) (o : Option ℕ) → is_number g o ≡ false → o 
 number-false g o e f = let t = number-same g o f in absurd (let no : false ≡ true = sym e ∙ t in cc)
 
 pub number-other : (g : ℕ) (o : Option ℕ) → (o ≡ Some g → ⊥) → is_number g o ≡ false
-number-other g o ne = by_test (is_number g o) refl
-  where
-    by_test : (b : Bool) → is_number g o ≡ b → b ≡ false
-    by_test true e = absurd (ne (number-true g o e))
-    by_test false e = refl
+number-other g o h1 = grind (arith, nat_tests, number-true)
 
 -- own has the bodies of the group's live members, and the memories that these hold
 pub record Agrees (g : ℕ) (gs : Groups) (whole own : Bodies) : Type 0 where
@@ -38,30 +35,10 @@ pub record Joint (g : ℕ) (owner : ℕ → Owner) (gs : Groups) (n : ℕ) (whol
 
 -- what a view puts into a memory that it holds doesn't depend on what was there
 laid-held : (v : View) (k : ℕ) (old new : List ℕ) → IsHolder v.body k → laid v k old ≡ laid v k new
-laid-held v k old new (inl e) = ap (λ t. cond t v.window (laid_segment v.body.segment v.segment k old)) (eq-eqb k v.body.window (sym e)) ∙ sym (ap (λ t. cond t v.window (laid_segment v.body.segment v.segment k new)) (eq-eqb k v.body.window (sym e)))
-laid-held v k old new (inr e) = ap (cond (k == v.body.window) v.window) (by_segment v.body.segment e)
-  where
-    by_segment : (o : Option ℕ) → o ≡ Some k → laid_segment o v.segment k old ≡ laid_segment o v.segment k new
-    by_segment None e = absurd (cc)
-    by_segment (Some s) e = let same : k == s ≡ true = eq-eqb k s (cc) in ap (λ t. cond t v.segment old) same ∙ sym (ap (λ t. cond t v.segment new) same)
-
-some-same : (x y : Body) → Some x ≡ Some y → x ≡ y
-some-same x y e = cc
+laid-held v k old new h1 = grind (arith, nat_tests, eq-eqb, laid_segment)
 
 both-put : (g : ℕ) (gs : Groups) (p : ℕ) (v : View) (w o : Bodies) → gs p ≡ Some g → Agrees g gs w o → Agrees g gs (put p v w) (put p v o)
-both-put g gs p v w o mine h =
-    record {
-      bodies = λ q. put-body p v o q ∙ (by_test q (q == p) refl ∙ ap (λ x. cond (is_number g (gs q)) x None) (sym (put-body p v w q)));
-      memories = λ q x k of e holds. put-memory p v o k ∙ (memory q x k (q == p) refl of (sym (put-body p v w q) ∙ e) holds ∙ sym (put-memory p v w k));
-    }
-  where
-    by_test : (q : ℕ) (t : Bool) → (q == p) ≡ t → cond t (Some v.body) (body_at o q) ≡ cond (is_number g (gs q)) (cond t (Some v.body) (body_at w q)) None
-    by_test q true e = ap (λ t. cond t (Some v.body) None) (sym (number-same g (gs q) (ap gs (eqb-true q p e) ∙ mine)))
-    by_test q false e = h.bodies q
-
-    memory : (q : ℕ) (x : Body) (k : ℕ) (t : Bool) → (q == p) ≡ t → gs q ≡ Some g → cond t (Some v.body) (body_at w q) ≡ Some x → IsHolder x k → laid v k (memory_at o k) ≡ laid v k (memory_at w k)
-    memory q x k true e of is holds = laid-held v k (memory_at o k) (memory_at w k) (subst (λ (y : Body). IsHolder y k) (sym (some-same v.body x is)) holds)
-    memory q x k false e of is holds = ap (laid v k) (h.memories q x k of is holds)
+both-put g gs p v w o h1 h2 = grind (arith, nat_tests, eqb-true, laid, laid-held, number-same, put-body, put-memory)
 
 one-put : (g : ℕ) (owner : ℕ → Owner) (gs : Groups) (n p : ℕ) (v : View) (w o : Bodies) → (gs p ≡ Some g → ⊥) → Fits owner gs n p v.body → Owned owner gs n w → Agrees g gs w o → Agrees g gs (put p v w) o
 one-put g owner gs n p v w o other f own h =
@@ -84,38 +61,10 @@ one-put g owner gs n p v w o other f own h =
         h.memories q x k of is holds ∙ sym (apart owner gs n p q v w k f (λ s. other (s ∙ of)) (holder owner gs n q x k fq holds))
 
 both-remove : (g : ℕ) (gs : Groups) (p : ℕ) (w o : Bodies) → Agrees g gs w o → Agrees g gs (remove p w) (remove p o)
-both-remove g gs p w o h =
-    record {
-      bodies = λ q. remove-body p o q ∙ (by_test q (q == p) ∙ ap (λ x. cond (is_number g (gs q)) x None) (sym (remove-body p w q)));
-      memories = λ q x k of e holds. remove-memory p o k ∙ (memory q x k (q == p) of (sym (remove-body p w q) ∙ e) holds ∙ sym (remove-memory p w k));
-    }
-  where
-    nothing : (t : Bool) → None ≡ cond t None no_body
-    nothing true = refl
-    nothing false = refl
-
-    by_test : (q : ℕ) (t : Bool) → cond t None (body_at o q) ≡ cond (is_number g (gs q)) (cond t None (body_at w q)) None
-    by_test q true = nothing (is_number g (gs q))
-    by_test q false = h.bodies q
-
-    memory : (q : ℕ) (x : Body) (k : ℕ) (t : Bool) → gs q ≡ Some g → cond t None (body_at w q) ≡ Some x → IsHolder x k → memory_at o k ≡ memory_at w k
-    memory q x k true of is holds = absurd (cc)
-    memory q x k false of is holds = h.memories q x k of is holds
+both-remove g gs p w o h1 = grind (arith, nat_tests, no_body, remove-body, remove-memory)
 
 one-remove : (g : ℕ) (gs : Groups) (p : ℕ) (w o : Bodies) → (gs p ≡ Some g → ⊥) → Agrees g gs w o → Agrees g gs (remove p w) o
-one-remove g gs p w o other h =
-    record {
-      bodies = λ q. by_test q (q == p) refl ∙ ap (λ x. cond (is_number g (gs q)) x None) (sym (remove-body p w q));
-      memories = λ q x k of e holds. memory q x k (q == p) of (sym (remove-body p w q) ∙ e) holds ∙ sym (remove-memory p w k);
-    }
-  where
-    by_test : (q : ℕ) (t : Bool) → (q == p) ≡ t → body_at o q ≡ cond (is_number g (gs q)) (cond t None (body_at w q)) None
-    by_test q true e = let no = number-other g (gs q) (λ k. other (ap gs (sym (eqb-true q p e)) ∙ k)) in h.bodies q ∙ (ap (λ t. cond t (body_at w q) None) no ∙ sym (ap (λ t. cond t no_body None) no))
-    by_test q false e = h.bodies q
-
-    memory : (q : ℕ) (x : Body) (k : ℕ) (t : Bool) → gs q ≡ Some g → cond t None (body_at w q) ≡ Some x → IsHolder x k → memory_at o k ≡ memory_at w k
-    memory q x k true of is holds = absurd (cc)
-    memory q x k false of is holds = h.memories q x k of is holds
+one-remove g gs p w o h1 h2 = grind (arith, nat_tests, eqb-true, no_body, number-other, remove-body, remove-memory)
 
 -- the view fits and its window is whole
 pub record Good (owner : ℕ → Owner) (gs : Groups) (n p : ℕ) (v : View) : Type 0 where
@@ -143,15 +92,4 @@ joint-later g owner owner' gs n n' w o same le h = record { owned = owned-later 
 
 -- a member sees the same in both
 pub same-seen : (g : ℕ) (gs : Groups) (w o : Bodies) (p : ℕ) → Agrees g gs w o → gs p ≡ Some g → seen o p ≡ seen w p
-same-seen g gs w o p h of = by_body (body_at w p) refl (h.bodies p ∙ ap (λ t. cond t (body_at w p) None) (number-same g (gs p) of))
-  where
-    by_segment : (x : Body) (s : Option ℕ) → body_at w p ≡ Some x → x.segment ≡ s → segment_bytes o s ≡ segment_bytes w s
-    by_segment x None e k = refl
-    by_segment x (Some i) e k = h.memories p x i of e (inr k)
-
-    same : (x : Body) → body_at w p ≡ Some x → view o x ≡ view w x
-    same x e = ap₂ (λ (a b : List ℕ). record { body = x; window = a; segment = b }) (h.memories p x x.window of e (inl refl)) (by_segment x x.segment e refl)
-
-    by_body : (b : Option Body) → body_at w p ≡ b → body_at o p ≡ body_at w p → option_map (view o) (body_at o p) ≡ option_map (view w) (body_at w p)
-    by_body None e k = rw (k ∙ e, e) refl
-    by_body (Some x) e k = rw (k ∙ e, e) (ap Some (same x e))
+same-seen g gs w o p h1 h2 = grind (arith, nat_tests, number-same)

@@ -1,5 +1,6 @@
 -- A window is again what its blocks make of zeros.
-use Rattle.std.proofs.Common.{◌≡◌, ℕ, zero, suc, ◌+◌, ◌-◌, ◌*◌, ◌/◌, ◌==◌, ◌||◌, Bool, true, false, not, cond, List, [], ◌∷◌, ◌++◌, length, take, drop, replicate, refl, ap, ap₂, ◌∙◌, sym, append-nil, append_assoc, arith, length-drop, length-take-le, take_all}
+use Rattle.std.proofs.Common.{◌≡◌, ℕ, zero, suc, ◌+◌, ◌-◌, ◌*◌, ◌/◌, ◌==◌, ◌||◌, Bool, true, false, not, List, [], ◌∷◌, ◌++◌, length, take, drop, replicate, refl, ap, ap₂, ◌∙◌, sym, append-nil, append_assoc, arith, length-drop, length-take-le, take_all}
+use Rattle.std.proofs.lemmas.Bool.Decides.{nat_tests}
 use Rattle.std.proofs.Math.Seq.{take-append_seam, drop-append-add, take-add}
 use Rattle.std.proofs.lemmas.Bool.{eqb-true}
 use Rattle.std.proofs.lemmas.List.{replicate-append-replicate, drop-replicate}
@@ -7,7 +8,7 @@ use Rattle.std.specs.List.{list_any}
 use Rattle.arn_base.specs.Disk.{overwrite}
 use Rattle.arn_base.specs.declared.machine.Block.{Block}
 use Rattle.parts_model.specs.declared.limits.TheConstants.{BLOCK_LEN, WINDOW_LEN}
-use Rattle.parts_model.specs.Blocks.{block_of, is_used, used_block, used_blocks, blocks_of, with_blocks}
+use Rattle.parts_model.specs.Blocks.{block_of, used_block, used_blocks, blocks_of, with_blocks}
 use Rattle.parts_model.specs.Memory.{zeros}
 
 -- bytes of which none is another are zeros
@@ -34,11 +35,7 @@ same-zeros xs bytes len r e =
 
 one-block : (block : Block) (xs : List ℕ) (len r : ℕ) → BLOCK_LEN * block.number ≡ length xs → length block.bytes ≡ len → with_blocks (used_block block) (xs ++ replicate (len + r) 0) ≡ (xs ++ block.bytes) ++ replicate r 0
 unfolding with_blocks
-one-block block xs len r at e = by_test (is_used block) refl
-  where
-    by_test : (b : Bool) → is_used block ≡ b → with_blocks (cond b (block ∷ []) []) (xs ++ replicate (len + r) 0) ≡ (xs ++ block.bytes) ++ replicate r 0
-    by_test true t = ap (λ (n : ℕ). overwrite (xs ++ replicate (len + r) 0) n block.bytes) at ∙ over-zeros xs block.bytes len r e
-    by_test false t = same-zeros xs block.bytes len r (zero-bytes block.bytes t ∙ ap (λ (n : ℕ). replicate n 0) e)
+one-block block xs len r h1 h2 = grind (arith, nat_tests, over-zeros, same-zeros, zero-bytes)
 
 blocks-append : (blocks more : List Block) (bytes : List ℕ) → with_blocks (blocks ++ more) bytes ≡ with_blocks more (with_blocks blocks bytes)
 unfolding with_blocks

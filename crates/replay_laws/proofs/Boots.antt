@@ -1,5 +1,6 @@
 -- The boot, in the whole machine and in group 1 alone.
-use Rattle.std.proofs.Common.{◌≡◌, ℕ, ◌+◌, List, [], ◌++◌, length, refl, ap, ap₂, ◌∙◌, sym, subst, append-nil, Option, Some, None, option_map, Bool, true, false, not, ◌==◌, cond, arith, is_some, ne_eqb}
+use Rattle.std.proofs.Common.{◌≡◌, ℕ, ◌+◌, List, [], ◌++◌, length, refl, ap, ◌∙◌, sym, subst, append-nil, Option, Some, None, Bool, true, false, ◌==◌, cond, arith, is_some}
+use Rattle.std.proofs.lemmas.Bool.Decides.{nat_tests}
 use Rattle.std.proofs.lemmas.Bool.{eq-eqb, eqb-true, eqb-false}
 use Rattle.std.proofs.lemmas.List.{length-replicate}
 use Rattle.arn_base.specs.declared.records.Give.{Give}
@@ -9,12 +10,11 @@ use Rattle.parts_model.specs.declared.limits.TheConstants.{WINDOW_LEN}
 use Rattle.parts_model.specs.Image.{is_image, read_as_image}
 use Rattle.parts_model.specs.Memory.{zeros}
 use Rattle.acts_model.specs.Acts.{Act, Starts, done, done_by, started, unborn}
-use Rattle.acts_model.specs.Bodies.{Body, Bodies, View, body_at, memory_at, segment_bytes, view, seen, put}
-use Rattle.acts_model.specs.Disagreement.{Wrong, wrong_if, or_else, isnt_block}
+use Rattle.acts_model.specs.Bodies.{Bodies, View, body_at, seen, put}
 use Rattle.acts_model.specs.Moved.{Inside}
 use Rattle.acts_model.specs.Transfers.{holds_of, transfer}
 use Rattle.acts_model.specs.Views.{read}
-use Rattle.history_model.specs.Alone.{Own, Makes, made_if, unless_wrong, act_done, noted, boots}
+use Rattle.history_model.specs.Alone.{Own, Makes, made_if, noted, boots}
 use Rattle.history_model.specs.Groups.{Groups, is_number}
 use Rattle.history_model.specs.Moments.{changed}
 use Rattle.replay_laws.specs.Heard.{own_part}
@@ -25,16 +25,7 @@ use Rattle.replay_laws.proofs.Agrees.{Joint, Good, if_own, joint-become, joint-l
 
 -- what is put is seen
 seen-put : (p : ℕ) (v : View) (b : Bodies) → v.body.segment ≡ None → v.segment ≡ [] → seen (put p v b) p ≡ Some v
-seen-put p v b none empty =
-    ap (option_map (view (put p v b))) (put-body p v b p ∙ ap (λ t. cond t (Some v.body) (body_at b p)) (eq-eqb p p refl))
-    ∙ ap Some (ap₂ (λ (a c : List ℕ). record { body = v.body; window = a; segment = c }) window (segment v.body.segment none))
-  where
-    window : memory_at (put p v b) v.body.window ≡ v.window
-    window = put-memory p v b v.body.window ∙ ap (λ t. cond t v.window (laid_segment v.body.segment v.segment v.body.window (memory_at b v.body.window))) (eq-eqb v.body.window v.body.window refl)
-
-    segment : (o : Option ℕ) → o ≡ None → segment_bytes (put p v b) o ≡ v.segment
-    segment None e = sym empty
-    segment (Some k) e = absurd (cc)
+seen-put p v b h1 h2 = grind (arith, nat_tests, eq-eqb, laid_segment, put-body, put-memory)
 
 -- the first process sees zeros
 zeros-length : (n : ℕ) → length (zeros n) ≡ n
@@ -59,21 +50,7 @@ boot_own b e r file own = cond b (noted (boot_inside e r file) (boot_bodies e fi
 
 -- the group alone boots, from a file that is an image
 pub boot-made : (g e : ℕ) (path : List ℕ) (give : Give) (own : Own) (gs : Groups) → gs 1 ≡ Some 1 → is_image give.bytes ≡ true → made_if (g == 1) (Makes own) (boots e (entry.Boot path give)) ≡ Makes (boot_own (is_number g (gs 1)) e (entry.Boot path give) give.bytes own)
-boot-made g e path give own gs first image = ap (λ (b : Bool). made_if b (Makes own) (boots e (entry.Boot path give))) (swapped (1 == g) refl ∙ sym (ap (is_number g) first)) ∙ by_test (is_number g (gs 1))
-  where
-    swapped : (b : Bool) → (1 == g) ≡ b → (g == 1) ≡ b
-    swapped true t = eq-eqb g 1 (sym (eqb-true 1 g t))
-    swapped false t = ne_eqb g 1 (λ k. eqb-false 1 g t (sym k))
-
-    fine : or_else (wrong_if (not (is_image give.bytes)) (length give.bytes) 0) (wrong_if (isnt_block (unborn e) 0 0) 0 0) ≡ None
-    fine = ap (λ (b : Bool). or_else (wrong_if (not b) (length give.bytes) 0) (wrong_if (isnt_block (unborn e) 0 0) 0 0)) image
-
-    own_born : Own
-    own_born = record own { bodies = put 1 (unborn e) own.bodies }
-
-    by_test : (b : Bool) → made_if b (Makes own) (boots e (entry.Boot path give)) ≡ Makes (boot_own b e (entry.Boot path give) give.bytes own)
-    by_test true = ap (λ (w : Option Wrong). unless_wrong e w (act_done 1 e (entry.Boot path give) (unborn e) (Some (boot_act give.bytes)) (record own { bodies = put 1 (unborn e) own.bodies }))) fine
-    by_test false = refl
+boot-made g e path give own gs h1 h2 = grind (arith, nat_tests, boot_act, boot_own, eq-eqb, eqb-false, eqb-true)
 
 -- and what it does agrees
 twice : (t : Bool) (f h : Bodies → Bodies) (o : Bodies) → cond t (f (cond t (h o) o)) (cond t (h o) o) ≡ cond t (f (h o)) o
@@ -106,6 +83,4 @@ boot-own-inside false e r file own = sym (append-nil own.inside)
 
 -- process 1 lives then
 pub boot-lives : (e : ℕ) (file : List ℕ) (w : Bodies) → is_some (body_at (boot_bodies e file w) 1) ≡ true
-boot-lives e file w =
-    ap (λ (x : Bodies). is_some (body_at x 1)) (boot-bodies e file w)
-    ∙ ap (λ (o : Option Body). is_some o) (put-body 1 (started e (read_as_image file) (read (unborn e) 0 0)) (put 1 (unborn e) w) 1)
+boot-lives e file w = grind (arith, nat_tests, boot-bodies, put-body)

@@ -1,5 +1,6 @@
 -- What the group alone makes of one step, of the instructions of a turn, and of an event: its bodies, and what happens inside.
 use Rattle.std.proofs.Common.{◌≡◌, ℕ, zero, suc, ◌≤◌, ◌+◌, List, [], ◌∷◌, ◌++◌, length, take, refl, ap, ◌∙◌, sym, subst, append-nil, append_assoc, Option, Some, None, Bool, true, false, ◌==◌, cond, arith}
+use Rattle.std.proofs.lemmas.Bool.Decides.{nat_tests}
 use Rattle.arn_base.specs.declared.machine.Cpu.{Cpu}
 use Rattle.arn_base.specs.declared.records.Record.{Record}
 use Rattle.arn_base.specs.Window.{Window}
@@ -7,9 +8,7 @@ use Rattle.rv64_isa.specs.declared.instruction.Instr.{Instr}
 use Rattle.rv64_model.specs.Instruction.{Next}
 use Rattle.acts_model.specs.Acts.{Act, Founds, beginning_of, start_of, done_by, founded}
 use Rattle.acts_model.specs.Bodies.{Bodies, View, seen, put}
-use Rattle.acts_model.specs.Disagreement.{Wrong}
 use Rattle.acts_model.specs.Moved.{Inside}
-use Rattle.acts_model.specs.Told.{act_of}
 use Rattle.acts_model.specs.Transfers.{holds_of, transfer, instr_transfer}
 use Rattle.acts_model.specs.Views.{stands_at, after_instr}
 use Rattle.arn_model.specs.Doing.{Doing}
@@ -18,7 +17,7 @@ use Rattle.arn_model.specs.Step.{Step, plain_step, event_step}
 use Rattle.arn_model.specs.Tells.{EventTells}
 use Rattle.arn_model.specs.Turn.{plains, after_steps}
 use Rattle.history_model.specs.Alone as alone
-use Rattle.history_model.specs.Alone.{Own, Made, Makes, Slice, noted, plain_by, plain_in, plain_or, act_done, unless_wrong, record_done, record_seen, happens, begin_inside, begins}
+use Rattle.history_model.specs.Alone.{Own, Makes, Slice, noted, plain_by, plain_in, plain_or, happens, begin_inside, begins}
 use Rattle.history_model.specs.Groups.{Groups, is_number}
 use Rattle.history_model.specs.Moments.{changed}
 use Rattle.replay_laws.specs.Heard.{own_part, part, parts}
@@ -139,12 +138,7 @@ noted_act m p v act r o = noted (act_inside m p v act r) (done_by p m.events act
 
 -- the group alone does the act that the record tells
 pub does : (g : ℕ) (gs : Groups) (m : Machine) (p : ℕ) (v : View) (d : Doing) (r : Record) (o : Own) → EventTells m p v d r → Agrees g gs m.bodies o.bodies → gs p ≡ Some g → happens p m.events r o ≡ Makes (noted (act_inside m p v d.act r) (done_by p m.events d.act (Some v) o.bodies) o)
-does g gs m p v d r o t h of =
-    let sees = same-seen g gs m.bodies o.bodies p h of ∙ t.seen in
-    ap (λ (z : Option View). record_seen p m.events r z o) sees
-    ∙ (ap (λ (w : Option Wrong). unless_wrong m.events w (act_done p m.events r v (act_of v.body.cpu r) o)) t.right
-    ∙ (ap (λ (a : Option Act). act_done p m.events r v a o) t.told
-    ∙ ap (λ (z : Option View). Makes (noted (act_inside m p v d.act r) (done_by p m.events d.act z o.bodies) o)) sees))
+does g gs m p v d r o h1 h2 h3 = grind (arith, nat_tests, act_inside, same-seen)
 
 -- what the group alone has after the event
 abbrev pub own_did : Bool → Machine → ℕ → View → Act → Record → Own → Own
@@ -154,9 +148,7 @@ abbrev pub own_after : ℕ → Groups → Machine → ℕ → View → Act → R
 own_after g gs m p v act r o = begun_own g m.events r act v (own_did (mine gs g p) m p v act r o)
 
 own-bodies : (g : ℕ) (gs : Groups) (m : Machine) (p : ℕ) (v : View) (act : Act) (r : Record) (o : Own) → (own_after g gs m p v act r o).bodies ≡ begun_bodies g m.events act v (if_own (mine gs g p) (done_by p m.events act (Some v) o.bodies) o.bodies)
-own-bodies g gs m p v act r o =
-    begun-bodies g m.events r act v (own_did (mine gs g p) m p v act r o)
-    ∙ ap (begun_bodies g m.events act v) (bodies-if (mine gs g p) (noted_act m p v act r o) o)
+own-bodies g gs m p v act r o = grind (arith, nat_tests, begun-bodies, begun_bodies, bodies-if, mine, noted_act, own_did)
 
 pub own-inside : (g : ℕ) (gs : Groups) (m : Machine) (p : ℕ) (v : View) (d : Doing) (r : Record) (o : Own) → EventTells m p v d r → (own_after g gs m p v d.act r o).inside ≡ o.inside ++ part gs g (event_step m p v d r).moved.inside
 own-inside g gs m p v d r o t =

@@ -1,5 +1,6 @@
 -- What each input of a run does: nothing, one step from outside, the boot, or a turn.
-use Rattle.std.proofs.Common.{◌≡◌, ℕ, zero, suc, ◌≤◌, ◌<◌, ◌+◌, List, [], ◌∷◌, length, refl, ap, ◌∙◌, sym, Option, Some, None, Bool, true, false, arith}
+use Rattle.std.proofs.Common.{◌≡◌, ℕ, ◌≤◌, ◌<◌, ◌+◌, List, [], ◌∷◌, length, refl, ap, ◌∙◌, Option, Some, None, Bool, true, false, arith}
+use Rattle.std.proofs.lemmas.Bool.Decides.{nat_tests}
 use Rattle.std.proofs.lemmas.Bool.{cond-true, cond-false, and_parts, lt-ltb}
 use Rattle.arn_base.specs.declared.records.Record.{Record}
 use Rattle.arn_base.specs.declared.records.Record.TheVariants as entry
@@ -14,7 +15,7 @@ use Rattle.arn_model.specs.Kernel.{Machine}
 use Rattle.arn_model.specs.Run.{Input, File, Boot, Typed, Unplug, Slice, input_steps, after_input, steps_from, is_booted, can_add, may_unplug, boot_found, boot_from, boot_step, file_step, typed_step, unplug_step}
 use Rattle.arn_model.specs.Sound.{IsSoundMachine}
 use Rattle.arn_model.specs.Step.{Step}
-use Rattle.arn_model.specs.Tells.{lives, Along}
+use Rattle.arn_model.specs.Tells.{Along}
 use Rattle.arn_model.specs.Turn.{after_steps, turn, steps_of, can_go_on, is_runnable, is_possible}
 use Rattle.history_model.specs.Alone.{Standing, after_record}
 use Rattle.history_model.specs.Groups.{Groups, groups_told, groups_from}
@@ -95,11 +96,7 @@ takes m (Slice pid count reply) = by_test (is_possible m pid count) refl
 
 -- an input that does nothing has no records
 pub none-recorded : (i : Input) → input_records i [] ≡ []
-none-recorded (File path bytes) = refl
-none-recorded (Boot path) = refl
-none-recorded (Typed bytes) = refl
-none-recorded (Unplug device) = refl
-none-recorded (Slice pid count reply) = refl
+none-recorded i = grind (arith, nat_tests)
 
 -- numbers that are given keep their groups over all that is to come
 slice-groups : (pid : ℕ) (steps : List Step) (gs : Groups) → groups_from (slice_records pid steps) gs ≡ groups_from (event_records steps) gs
@@ -107,14 +104,7 @@ slice-groups pid [] gs = refl
 slice-groups pid (s ∷ steps) gs = refl
 
 pub input-groups : (i : Input) (steps : List Step) (gs : Groups) → groups_from (input_records i steps) gs ≡ groups_from (told steps) gs
-input-groups i steps gs = by_input i ∙ ap (λ (rs : List Record). groups_from rs gs) (records-told steps)
-  where
-    by_input : (i : Input) → groups_from (input_records i steps) gs ≡ groups_from (event_records steps) gs
-    by_input (File path bytes) = refl
-    by_input (Boot path) = refl
-    by_input (Typed bytes) = refl
-    by_input (Unplug device) = refl
-    by_input (Slice pid count reply) = slice-groups pid steps gs
+input-groups i steps gs = grind (arith, nat_tests, records-told, slice-groups)
 
 pub along-numbers : (m : Machine) (steps : List Step) → Along Known m steps → length m.kernel.processes ≤ length (after_steps m steps).kernel.processes
 along-numbers m [] h = omega arith
@@ -139,14 +129,7 @@ sound-first m (x ∷ steps) h s = h.0.sound
 
 -- once a process has seen something, the machine stays booted
 seen-booted : (m : Machine) (p : ℕ) (v : View) → IsSoundMachine m → seen m.bodies p ≡ Some v → 0 < length m.kernel.processes
-seen-booted m p v s e = by_number p (sym (s.bodies p) ∙ seen-lives m.bodies p v e)
-  where
-    by_number : (p : ℕ) → lives m.kernel p ≡ true → 0 < length m.kernel.processes
-    by_number zero k = absurd (cc)
-    by_number (suc i) k = let l = live-number m.kernel (suc i) k in omega arith
+seen-booted m p v h1 h2 = grind (arith, nat_tests, live-number, seen-lives)
 
 pub stays-booted : (m : Machine) (p : ℕ) (v : View) (steps : List Step) → IsSoundMachine m → seen m.bodies p ≡ Some v → Along Known m steps → is_booted (after_steps m steps) ≡ true
-stays-booted m p v steps s e h =
-    let some = seen-booted m p v s e in
-    let grown = along-numbers m steps h in
-    lt-ltb 0 (length (after_steps m steps).kernel.processes) (omega arith)
+stays-booted m p v steps h1 h2 h3 = grind (arith, nat_tests, along-numbers, lt-ltb, seen-booted)

@@ -1,21 +1,17 @@
 -- A private window keeps its length, whatever an instruction or an act does.
-use Rattle.std.proofs.Common.{◌≡◌, ℕ, ◌+◌, ◌-◌, ◌≤◌, List, [], ◌∷◌, ◌++◌, length, take, drop, replicate, refl, ◌∙◌, subst, Option, Some, None, IfSome, unwrap_or, Bool, true, false, ◌==◌, ◌&&◌, ◌||◌, ◌%◌, if◌then◌else◌, arith, nat_le, nat_lt, is_some, option_map, length-take, length-drop, length-append, length-take-le}
+use Rattle.std.proofs.Common.{◌≡◌, ℕ, ◌+◌, ◌-◌, ◌≤◌, List, [], ◌∷◌, ◌++◌, length, take, drop, replicate, refl, Option, Some, None, IfSome, unwrap_or, Bool, true, false, ◌||◌, if◌then◌else◌, arith, nat_le, nat_lt, is_some, length-take, length-drop, length-append, length-take-le}
+use Rattle.std.proofs.lemmas.Bool.Decides.{nat_tests}
 use Rattle.std.proofs.lemmas.Bool.{and_parts, leb-true, ltb-false}
 use Rattle.std.proofs.lemmas.List.{length-replicate}
 use Rattle.arn_base.specs.Disk.{overwrite}
 use Rattle.arn_base.specs.declared.machine.Cpu.{Cpu}
-use Rattle.arn_base.specs.Window.{Window, is_whole_in, window_bytes, window_with, bytes_at, with_bytes, bytes_of, number_at}
+use Rattle.arn_base.specs.Window.{Window, is_whole_in, window_bytes, bytes_at, with_bytes, bytes_of}
 use Rattle.rv64_isa.specs.declared.instruction.Instr.{Instr}
-use Rattle.rv64_isa.specs.declared.instruction.Instr.TheVariants.{Lui, Auipc, Jal, Jalr, Branch, Load, Store, Imm, Op, Fence, Ecall, Ebreak}
 use Rattle.rv64_isa.specs.Decoded.{decoded}
-use Rattle.rv64_model.specs.Instruction.{Effect, Next, Call, End, jumps, jumped, branches, loads, stores, executed, executed_if, fetched, advanced}
-use Rattle.rv64_model.specs.Operands.{address}
-use Rattle.rv64_model.specs.Registers.{register}
-use Rattle.rv64_model.specs.Values.{immediate, sum, is_taken, load_len, load_result}
-use Rattle.rv64_model.specs.declared.statuses.TheConstants.{MISALIGNED, BAD_ACCESS}
+use Rattle.rv64_model.specs.Instruction.{Effect, Next, Call, End, jumps, branches, loads, stores, executed, executed_if, fetched, advanced}
+use Rattle.rv64_model.specs.declared.statuses.TheConstants.{BAD_ACCESS}
 use Rattle.parts_model.specs.declared.limits.TheConstants.{WINDOW_START, WINDOW_END, WINDOW_LEN, MOST_BLOCK_BYTES}
-use Rattle.parts_model.specs.Image.{Image, image_name, header_len, can_enter, fits_window, is_image, read_as_image}
-use Rattle.std.specs.Prelude.{bytes_eq}
+use Rattle.parts_model.specs.Image.{Image, fits_window, is_image, read_as_image}
 use Rattle.acts_model.specs.Acts.{Act, Returns, Receives, Gives, Starts, Forks, Founds, Shares, Leaves, Delivers, Exits, Faults, Dies, acted, restored}
 use Rattle.acts_model.specs.Bodies.{View}
 use Rattle.acts_model.specs.Disagreement.{is_outside, isnt_block}
@@ -35,21 +31,10 @@ overwritten-len old at bytes l =
     omega arith
 
 with-whole : (ws : List Window) (at : ℕ) (bytes : List ℕ) → FirstWhole ws → FirstWhole (with_bytes ws at bytes)
-with-whole [] at bytes h = tt
-with-whole (w ∷ ws) at bytes h = by_test (is_whole_in w at (length bytes)) refl
-  where
-    by_test : (b : Bool) → is_whole_in w at (length bytes) ≡ b → FirstWhole (if b then window_with w at bytes ∷ ws else w ∷ with_bytes ws at bytes)
-    by_test true t =
-        let parts = and_parts (nat_le w.from at) (nat_le (at + length bytes) (w.from + length w.bytes)) t in
-        let x = leb-true w.from at parts.0 in
-        let y = leb-true (at + length bytes) (w.from + length w.bytes) parts.1 in
-        overwritten-len w.bytes (at - w.from) bytes (omega arith) ∙ h
-    by_test false t = h
+with-whole ws at bytes h1 = grind (arith, nat_tests, and_parts, leb-true, overwritten-len)
 
 with_reach-whole : (ws : List Window) (v : View) → FirstWhole ws → length v.window ≡ WINDOW_LEN → length (with_reach ws v).window ≡ WINDOW_LEN
-with_reach-whole [] v h s = s
-with_reach-whole (w ∷ []) v h s = h
-with_reach-whole (w ∷ x ∷ more) v h s = h
+with_reach-whole ws v h1 h2 = grind (arith, nat_tests)
 
 -- what is read has no more bytes than were asked for
 read-few : (ws : List Window) (at len : ℕ) → length (unwrap_or (bytes_at ws at len) []) ≤ len
@@ -68,11 +53,7 @@ WholeEffect Call = Unit {0}
 WholeEffect (End status) = Unit {0}
 
 jumps-whole : (instr : Instr) (cpu : Cpu) (ws : List Window) (rd target : ℕ) → FirstWhole ws → WholeEffect (jumps instr cpu ws rd target)
-jumps-whole instr cpu ws rd target h = by_test (target % 4 == 0)
-  where
-    by_test : (b : Bool) → WholeEffect (if b then Next instr (jumped cpu rd target) ws else End MISALIGNED)
-    by_test true = h
-    by_test false = tt
+jumps-whole instr cpu ws rd target h1 = grind (arith, nat_tests)
 
 branches-whole : (instr : Instr) (cpu : Cpu) (ws : List Window) (b : Bool) (target : ℕ) → FirstWhole ws → WholeEffect (branches instr cpu ws b target)
 branches-whole instr cpu ws false target h = h
@@ -90,18 +71,7 @@ stores-whole instr cpu ws at len value h = by_test (is_some (bytes_at ws at len)
     by_test false = tt
 
 executed-whole : (instr : Instr) (cpu : Cpu) (ws : List Window) → FirstWhole ws → WholeEffect (executed instr cpu ws)
-executed-whole (Lui rd imm) cpu ws h = h
-executed-whole (Auipc rd imm) cpu ws h = h
-executed-whole (Jal rd imm) cpu ws h = jumps-whole (Jal rd imm) cpu ws rd _ h
-executed-whole (Jalr rd rs1 imm) cpu ws h = jumps-whole (Jalr rd rs1 imm) cpu ws rd _ h
-executed-whole (Branch op rs1 rs2 imm) cpu ws h = branches-whole (Branch op rs1 rs2 imm) cpu ws (is_taken op (register cpu rs1) (register cpu rs2)) (sum cpu.pc (immediate imm)) h
-executed-whole (Load op rd rs1 imm) cpu ws h = loads-whole (Load op rd rs1 imm) cpu ws rd (option_map (load_result op) (number_at ws (address cpu rs1 imm) (load_len op))) h
-executed-whole (Store op rs1 rs2 imm) cpu ws h = stores-whole (Store op rs1 rs2 imm) cpu ws _ _ _ h
-executed-whole (Imm op rd rs1 imm) cpu ws h = h
-executed-whole (Op op rd rs1 rs2) cpu ws h = h
-executed-whole (Fence word) cpu ws h = h
-executed-whole Ecall cpu ws h = tt
-executed-whole Ebreak cpu ws h = tt
+executed-whole instr cpu ws h1 = grind (arith, nat_tests, branches-whole, jumps-whole, loads-whole, stores-whole)
 
 executed_if-whole : (o : Option Instr) (cpu : Cpu) (ws : List Window) → FirstWhole ws → WholeEffect (executed_if o cpu ws)
 executed_if-whole None cpu ws h = tt
@@ -112,9 +82,7 @@ fetched-whole None cpu ws h = tt
 fetched-whole (Some word) cpu ws h = executed_if-whole (decoded word) cpu ws h
 
 pub instr-whole : (v : View) (instr : Instr) (cpu : Cpu) (memory : List Window) → length v.window ≡ WINDOW_LEN → stands_at v ≡ Next instr cpu memory → length (after_instr cpu memory v).window ≡ WINDOW_LEN
-instr-whole v instr cpu memory s e =
-    let whole : FirstWhole memory = subst WholeEffect e (fetched-whole (number_at (reach v) v.body.cpu.pc 4) v.body.cpu (reach v) s) in
-    with_reach-whole memory (record v { body = record v.body { cpu = cpu } }) whole s
+instr-whole v instr cpu memory h1 h2 = grind (arith, nat_tests, fetched-whole, with_reach-whole)
 
 -- acts
 
@@ -124,11 +92,7 @@ StartsWell v (Starts file block len) = (is_image file ≡ true) × (isnt_block v
 StartsWell v act = Unit {0}
 
 image-fits : (file : List ℕ) → is_image file ≡ true → fits_window (read_as_image file) ≡ true
-image-fits file e =
-    let image = read_as_image file in
-    let a = and_parts (nat_le header_len (length file)) (bytes_eq (take 8 file) image_name && (can_enter image.entry && fits_window image)) e in
-    let b = and_parts (bytes_eq (take 8 file) image_name) (can_enter image.entry && fits_window image) a.1 in
-    (and_parts (can_enter image.entry) (fits_window image) b.1).1
+image-fits file h1 = grind (arith, nat_tests, and_parts)
 
 among-len : (len offset : ℕ) (bytes : List ℕ) → offset + length bytes ≤ len → length (among_zeros len offset bytes) ≡ len
 among-len len offset bytes l =

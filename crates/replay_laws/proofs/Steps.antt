@@ -1,5 +1,6 @@
 -- What each step of a turn tells, and how steps follow one another.
-use Rattle.std.proofs.Common.{◌≡◌, ℕ, zero, suc, ◌≤◌, ◌<◌, ◌+◌, ◌||◌, List, [], ◌∷◌, ◌++◌, length, take, map, filter_map, refl, ap, ◌∙◌, sym, subst, Option, Some, None, IfSome, is_some, option_map, option_and_then, Bool, true, false, cond, nat_lt, nat_le, arith}
+use Rattle.std.proofs.Common.{◌≡◌, ℕ, zero, suc, ◌≤◌, ◌<◌, ◌+◌, ◌||◌, List, [], ◌∷◌, ◌++◌, length, take, map, filter_map, refl, ap, ◌∙◌, sym, subst, Option, Some, None, IfSome, is_some, option_map, option_and_then, Bool, true, false, cond, nat_lt, arith}
+use Rattle.std.proofs.lemmas.Bool.Decides.{nat_tests}
 use Rattle.std.specs.List.{cons_option}
 use Rattle.std.proofs.lemmas.Bool.{ltb-false, leb-true, leb-false}
 use Rattle.std.proofs.lemmas.List.Sums.{sum_by-cons}
@@ -17,7 +18,7 @@ use Rattle.parts_model.specs.Replies.{Answered}
 use Rattle.parts_model.specs.Tagged.{given}
 use Rattle.acts_model.specs.Acts as act
 use Rattle.acts_model.specs.Acts.{Act, result_of}
-use Rattle.acts_model.specs.Bodies.{Body, Bodies, View, view, body_at, seen}
+use Rattle.acts_model.specs.Bodies.{Bodies, View, view, body_at, seen}
 use Rattle.acts_model.specs.Moved.{Event, is_plain, is_call_or_end, is_instruction}
 use Rattle.acts_model.specs.Records.{process_of}
 use Rattle.acts_model.specs.Transfers.{Holds, transfer, holds_of}
@@ -68,19 +69,10 @@ nth-past : (all : Processes) (i : ℕ) → length all ≤ i → table.live_proce
 nth-past all i l = ap (λ (o : Option (Option Process)). option_and_then (λ (p : Process). cond (table.is_live p) (Some p) None) (option_and_then (λ (thing : Option Process). thing) o)) (slice_get_past all i l)
 
 pub live-number : (k : Kernel) (p : ℕ) → lives k p ≡ true → p < next_process k.processes
-live-number k zero e = absurd (cc)
-live-number k (suc i) e = by_order (nat_le (length k.processes) i) refl
-  where
-    by_order : (b : Bool) → nat_le (length k.processes) i ≡ b → suc i < next_process k.processes
-    by_order true t = let none = ap (λ (o : Option Process). is_some o) (nth-past k.processes i (leb-true (length k.processes) i t)) in absurd (let no : true ≡ false = sym e ∙ none in cc)
-    by_order false t = let l = leb-false (length k.processes) i t in omega arith
+live-number k p h1 = grind (arith, nat_tests, leb-false, leb-true, nth-past)
 
 pub seen-lives : (b : Bodies) (p : ℕ) (v : View) → seen b p ≡ Some v → is_some (body_at b p) ≡ true
-seen-lives b p v e = by_body (body_at b p) e
-  where
-    by_body : (o : Option Body) → option_map (view b) o ≡ Some v → is_some o ≡ true
-    by_body None e = absurd (cc)
-    by_body (Some x) e = refl
+seen-lives b p v h1 = grind (arith, nat_tests)
 
 -- a process that sees something has a number
 pub seen-number : (m : Machine) (p : ℕ) (v : View) → IsSoundMachine m → seen m.bodies p ≡ Some v → p < next m
@@ -247,18 +239,7 @@ JointAt g owner gs m own = Joint g owner gs m.events m.bodies own
 
 -- the step of an event doesn't move as an instruction does
 pub acts-move : (pid event : ℕ) (holds : Holds) (a : Act) → is_plain (transfer pid event holds a) ≡ false
-acts-move pid event holds (act.Returns result) = refl
-acts-move pid event holds (act.Receives at bytes result) = refl
-acts-move pid event holds (act.Gives at len result) = refl
-acts-move pid event holds (act.Starts file block block_len) = refl
-acts-move pid event holds (act.Forks child) = refl
-acts-move pid event holds (act.Founds child) = refl
-acts-move pid event holds act.Shares = refl
-acts-move pid event holds act.Leaves = refl
-acts-move pid event holds (act.Delivers signal handler cut) = refl
-acts-move pid event holds act.Exits = refl
-acts-move pid event holds (act.Faults status) = refl
-acts-move pid event holds (act.Dies signal cut) = refl
+acts-move pid event holds a = grind (arith, nat_tests)
 
 pub event-counts : (m : Machine) (p : ℕ) (v : View) (d : Doing) (r : Record) → is_instruction (event_step m p v d r).moved.inside ≡ is_call_or_end r
 event-counts m p v d r = ap (λ (b : Bool). b || is_call_or_end r) (acts-move p m.events (holds_of v.body) d.act)
@@ -301,10 +282,7 @@ abbrev IsInner : Record → Type 0
 IsInner r = is_inner r ≡ true
 
 not-inner : (r' r : Record) → is_inner r' ≡ false → Some r' ≡ Some r → IsInner r → ⊥
-not-inner r' r none e inner =
-    let same : r' ≡ r = cc in
-    let both : true ≡ false = sym inner ∙ (ap is_inner (sym same) ∙ none) in
-    absurd (cc)
+not-inner r' r h1 h2 h3 = grind (arith, nat_tests)
 
 inner-of : (m : Machine) (p : ℕ) (s : Step) (r : Record) → IsInner r → process_of r ≡ Some p → HasRecord s r → StepTells m s → IsOf m p s r
 inner-of m p s r inner process has (Happens pid v d r' t is) =

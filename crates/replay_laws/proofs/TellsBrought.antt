@@ -15,7 +15,7 @@ use Rattle.arn_model.specs.Kernel.{Machine}
 use Rattle.arn_model.specs.Run as run
 use Rattle.arn_model.specs.Run.{is_free, boot_step}
 use Rattle.arn_model.specs.Step.{Step}
-use Rattle.arn_model.specs.Tells.{is_inner, StepTells, Runs, Happens, Boots, Adds, Types, Unplugs}
+use Rattle.arn_model.specs.Tells.{StepTells, Runs, Happens, Boots, Adds, Types, Unplugs}
 use Rattle.history_model.specs.Names.{is_file, brought_from}
 use Rattle.replay_laws.specs.Laws.{named_bytes}
 use Rattle.replay_laws.proofs.TellsLives.{seen-booted, stays-booted, boot-booted}
@@ -79,14 +79,7 @@ bytes-fold name (e ∷ es) old = by_entry e.entry (bytes-fold name es)
     by_entry (entry.End pid status) rest = rest old
 
 brings-count : (name : List ℕ) (n : ℕ) (e : Record) (old : Brought) → (brings name n e old).count ≡ old.count + cond (is_file e) 1 0
-brings-count name n (entry.File path bytes) old = refl
-brings-count name n (entry.Boot path give) old = omega arith
-brings-count name n (entry.Typed bytes) old = omega arith
-brings-count name n (entry.Unplug device) old = omega arith
-brings-count name n (entry.Slice pid ran) old = omega arith
-brings-count name n (entry.Signal pid signal cut handler) old = omega arith
-brings-count name n (entry.Call pid number result more) old = omega arith
-brings-count name n (entry.End pid status) old = omega arith
+brings-count name n e old = grind (arith, nat_tests)
 
 pub count-fold : (name : List ℕ) (es : List Event) (old : Brought) → old.count + count_by is_file (entries_of es) ≡ (fold_events (brings name) es old).count
 count-fold name [] old = omega arith
@@ -109,9 +102,7 @@ values-held event at [] = refl
 values-held event at (b ∷ bytes) = ap (λ (bs : List ℕ). b ∷ bs) (values-held event (at + 1) bytes)
 
 more-files : (all : List (Option File)) (x : File) → how_many (all ++ Some x ∷ []) ≡ how_many all + 1
-more-files all x =
-    let one : Option File → ℕ = λ (f : Option File). cond (is_some f) 1 0 in
-    sum_by-append one all (Some x ∷ []) ∙ omega (arith, sum_by-cons one (Some x) [])
+more-files all x = grind (arith, nat_tests, sum_by-append, sum_by-cons)
 
 nth-last : (all : List (Option File)) (x : Option File) → nth (all ++ x ∷ []) (length all) ≡ x
 nth-last [] x = refl
@@ -142,16 +133,6 @@ made-bytes all event path bytes name inside free =
 some-cond : {A B : Type 0} (t : Bool) (a : A) (b : B) (o : Option A) (p : Option B) → is_some o ≡ is_some p → is_some (cond t (Some a) o) ≡ is_some (cond t (Some b) p)
 some-cond true a b o p same = refl
 some-cond false a b o p same = same
-
-inner-brings : (name : List ℕ) (n : ℕ) (e : Record) (old : Brought) → is_inner e ≡ true → brings name n e old ≡ old
-inner-brings name n (entry.File path bytes) old is = cc
-inner-brings name n (entry.Boot path give) old is = refl
-inner-brings name n (entry.Typed bytes) old is = refl
-inner-brings name n (entry.Unplug device) old is = refl
-inner-brings name n (entry.Slice pid ran) old is = refl
-inner-brings name n (entry.Signal pid signal cut handler) old is = refl
-inner-brings name n (entry.Call pid number result more) old is = refl
-inner-brings name n (entry.End pid status) old is = refl
 
 -- only a file comes before a process is made
 pub brought-keeps : (name : List ℕ) (m : Machine) (s : Step) (old : Brought) → Facts m s → UntilBooted name m old → UntilBooted name s.after (by_event (brings name) s.moved.inside.event old)
@@ -186,14 +167,7 @@ brought-keeps name m s old facts is = by_kind facts.tells
 
 -- so one more may be brought exactly where the name is free
 less-full : (n : ℕ) → nat_lt n MOST_FILES ≡ not (nat_le MOST_FILES n)
-less-full n = by_test (nat_le MOST_FILES n) refl
-  where
-    by_test : (t : Bool) → nat_le MOST_FILES n ≡ t → nat_lt n MOST_FILES ≡ not t
-    by_test true e = grind (arith, nat_tests)
-    by_test false e = grind (arith, nat_tests)
+less-full n = grind (arith, nat_tests)
 
 pub brought-free : (name : List ℕ) (m : Machine) (b : Brought) → BroughtIs name m b → (not (is_some b.bytes) && nat_lt b.count MOST_FILES) ≡ is_free m.kernel.files name
-brought-free name m b is =
-    ap (λ (t : Bool). not t && nat_lt b.count MOST_FILES) is.there
-    ∙ ap (λ (n : ℕ). not (is_some (find_file m.kernel.files name)) && nat_lt n MOST_FILES) is.count
-    ∙ ap (λ (t : Bool). not (is_some (find_file m.kernel.files name)) && t) (less-full (how_many m.kernel.files.all))
+brought-free name m b h1 = grind (arith, nat_tests, less-full)

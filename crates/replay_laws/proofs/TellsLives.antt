@@ -1,12 +1,12 @@
 -- The records tell who lives, and whether a process was made.
-use Rattle.std.proofs.Common.{◌≡◌, ℕ, zero, suc, ◌≤◌, ◌==◌, ◌||◌, Bool, true, false, cond, nat_lt, List, [], ◌∷◌, Option, None, Some, is_some, length, map, refl, sym, ap, subst, ◌∙◌, arith, ne_eqb, option_map}
+use Rattle.std.proofs.Common.{◌≡◌, ℕ, zero, suc, ◌≤◌, ◌==◌, ◌||◌, Bool, true, false, cond, nat_lt, List, [], ◌∷◌, Some, is_some, length, map, refl, sym, ap, subst, ◌∙◌, arith, ne_eqb}
 use Rattle.std.specs.List.{list_any}
 use Rattle.std.proofs.lemmas.Bool.Decides.{nat_tests}
 use Rattle.arn_base.specs.declared.records.Record.{Record}
 use Rattle.arn_base.specs.declared.records.Record.TheVariants as entry
 use Rattle.parts_model.specs.Processes as table
 use Rattle.parts_model.specs.Processes.{Processes, live_process}
-use Rattle.acts_model.specs.Bodies.{View, seen, body_at, view}
+use Rattle.acts_model.specs.Bodies.{View, seen}
 use Rattle.acts_model.specs.Moved.{Event}
 use Rattle.acts_model.specs.Records.{life_told, lives_after}
 use Rattle.arn_model.specs.Kernel as kernel
@@ -43,19 +43,7 @@ abbrev pub LifeIs : ℕ → Machine → Bool → Type 0
 LifeIs pid m b = b ≡ lives m.kernel pid
 
 pub life-keeps : (pid : ℕ) (m : Machine) (s : Step) (b : Bool) → Facts m s → LifeIs pid m b → LifeIs pid s.after (by_event (life_by pid) s.moved.inside.event b)
-life-keeps pid m s b facts is = by_kind facts.tells
-  where
-    there : (x : Step) → s ≡ x → LifeIs pid x.after (by_event (life_by pid) x.moved.inside.event b) → LifeIs pid s.after (by_event (life_by pid) s.moved.inside.event b)
-    there x same r = subst (λ (x : Step). LifeIs pid x.after (by_event (life_by pid) x.moved.inside.event b)) (sym same) r
-
-    by_kind : StepTells m s → LifeIs pid s.after (by_event (life_by pid) s.moved.inside.event b)
-    by_kind (Runs p v instr cpu memory sees stands same) = there _ same is
-    by_kind (Happens p v d entry tells same) = there _ same (ap (lives_after (life_told entry) pid) is ∙ sym (tells.lives pid))
-    by_kind (Boots path file held first found bytes image same) =
-        there _ same (ap (cond (1 == pid) true) is ∙ booted-lives m.kernel pid first)
-    by_kind (Adds path bytes may same) = there _ same is
-    by_kind (Types bytes may same) = there _ same is
-    by_kind (Unplugs device may same) = there _ same is
+life-keeps pid m s b h1 h2 = grind (arith, nat_tests, booted-lives, by_event, life_by)
 
 pub lives-fold : (pid : ℕ) (es : List Event) (b : Bool) → lives_by (map as_numbered es) pid b ≡ fold_events (life_by pid) es b
 lives-fold pid [] b = refl
@@ -72,12 +60,7 @@ made-of [] pid is = absurd (past-none pid is)
 made-of (x ∷ all) pid is = grind (arith, nat_tests)
 
 pub seen-booted : (m : Machine) (s : Step) (pid : ℕ) (v : View) → Facts m s → seen m.bodies pid ≡ Some v → run.is_booted m ≡ true
-seen-booted m s pid v facts sees =
-    made-of m.kernel.processes pid (sym (facts.sound.bodies pid) ∙ by_body (body_at m.bodies pid) sees)
-  where
-    by_body : (o : Option _) → option_map (view m.bodies) o ≡ Some v → is_some o ≡ true
-    by_body None e = cc
-    by_body (Some x) e = refl
+seen-booted m s pid v h1 h2 = grind (arith, nat_tests, made-of)
 
 stays : (a b : ℕ) → a ≤ b → nat_lt 0 a ≡ true → nat_lt 0 b ≡ true
 stays a b h e = grind (arith, nat_tests)
@@ -89,14 +72,7 @@ pub boot-booted : (k : Kernel) → nat_lt 0 (length k.processes) ≡ false → n
 boot-booted k none = made-of (kernel.booted k).processes 1 (sym (booted-lives k 1 none))
 
 inner-boots : (e : Record) → is_inner e ≡ true → names.is_boot e ≡ false
-inner-boots (entry.File name bytes) is = refl
-inner-boots (entry.Boot name give) is = cc
-inner-boots (entry.Typed bytes) is = refl
-inner-boots (entry.Unplug device) is = refl
-inner-boots (entry.Slice pid ran) is = refl
-inner-boots (entry.Signal pid signal cut handler) is = refl
-inner-boots (entry.Call pid number result more) is = refl
-inner-boots (entry.End pid status) is = refl
+inner-boots e h1 = grind (arith, nat_tests)
 
 abbrev pub boot_by : ℕ → Record → Bool → Bool
 boot_by n e before = before || names.is_boot e

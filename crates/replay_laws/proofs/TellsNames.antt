@@ -1,5 +1,6 @@
 -- The records tell which file a name stands for.
-use Rattle.std.proofs.Common.{◌≡◌, ℕ, ◌+◌, ◌&&◌, not, Bool, true, false, cond, List, [], ◌∷◌, ◌++◌, Option, None, Some, is_some, map, filter, bytes_eq, refl, sym, ap, subst, ◌∙◌}
+use Rattle.std.proofs.Common.{◌≡◌, ℕ, ◌+◌, ◌&&◌, not, Bool, true, false, cond, List, [], ◌∷◌, ◌++◌, Option, None, Some, is_some, map, filter, bytes_eq, refl, sym, ap, subst, ◌∙◌, arith}
+use Rattle.std.proofs.lemmas.Bool.Decides.{nat_tests}
 use Rattle.std.specs.List.{list_any}
 use Rattle.std.proofs.lemmas.List.{length_push}
 use Rattle.std.proofs.lemmas.Slice.Eq.{bytes_eq-Decides}
@@ -8,11 +9,11 @@ use Rattle.arn_base.specs.declared.records.Record.TheVariants as entry
 use Rattle.parts_model.specs.Files.{Name, file_among, find_file, next_file}
 use Rattle.parts_model.specs.Tagged.{held_bytes}
 use Rattle.acts_model.specs.Moved.{Event}
-use Rattle.acts_model.specs.Records.{is_event, NameChange, Names, Unnames, NoName, name_told}
+use Rattle.acts_model.specs.Records.{is_event, NameChange, name_told}
 use Rattle.arn_model.specs.Kernel.{Machine}
 use Rattle.arn_model.specs.Row.{can_unplug}
 use Rattle.arn_model.specs.Run as run
-use Rattle.arn_model.specs.Run.{is_free, can_add, may_unplug}
+use Rattle.arn_model.specs.Run.{is_free, may_unplug}
 use Rattle.arn_model.specs.Step.{Step}
 use Rattle.arn_model.specs.TransferCalls.{was_unplugged}
 use Rattle.arn_model.specs.Tells.{is_inner, named_after, StepTells, Runs, Happens, Boots, Adds, Types, Unplugs}
@@ -23,9 +24,7 @@ use Rattle.replay_laws.proofs.TellsSteps.{Facts, by_event, fold_events}
 
 -- one text for a change of names
 same-change : (change : NameChange) (name : List ℕ) (before : Option ℕ) → named_by change name before ≡ named_after change name before
-same-change (Names path file) name before = refl
-same-change (Unnames path) name before = refl
-same-change NoName name before = refl
+same-change change name before = grind (arith, nat_tests)
 
 -- a new name behind the others is found, where it was free
 pub pushed : (all : List Name) (path : List ℕ) (file : ℕ) → file_among all path ≡ None → (name : List ℕ) → cond (bytes_eq path name) (Some file) (file_among all name) ≡ file_among (all ++ record { path = path; file = file } ∷ []) name
@@ -107,14 +106,7 @@ pub record NamesAre (name : List ℕ) (m : Machine) (naming : Naming) : Type 0 w
   pub next : run.is_booted m ≡ false → naming.brought ≡ next_file m.kernel.files
 
 inner-named : (name : List ℕ) (n : ℕ) (e : Record) (old : Naming) → is_inner e ≡ true → (named_at name n e old).file ≡ named_by (name_told e) name old.file
-inner-named name n (entry.File path bytes) old is = cc
-inner-named name n (entry.Boot path give) old is = refl
-inner-named name n (entry.Typed bytes) old is = refl
-inner-named name n (entry.Unplug device) old is = refl
-inner-named name n (entry.Slice pid ran) old is = refl
-inner-named name n (entry.Signal pid signal cut handler) old is = refl
-inner-named name n (entry.Call pid number result more) old is = refl
-inner-named name n (entry.End pid status) old is = refl
+inner-named name n e old h1 = grind (arith, nat_tests)
 
 pub free-none : (o : Option ℕ) (b : Bool) → (not (is_some o) && b) ≡ true → o ≡ None
 free-none None b e = refl

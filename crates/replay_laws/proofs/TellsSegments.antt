@@ -1,7 +1,8 @@
 -- The records tell which segment each live process holds.
-use Rattle.std.proofs.Common.{◌≡◌, ℕ, ◌==◌, ◌&&◌, Bool, true, false, cond, List, [], ◌∷◌, Option, None, Some, IfSome, zero, suc, map, refl, sym, ap, subst, ◌∙◌, arith, option_map, unwrap_or}
+use Rattle.std.proofs.Common.{◌≡◌, ℕ, ◌==◌, ◌&&◌, Bool, true, false, cond, List, [], ◌∷◌, Option, None, Some, IfSome, zero, suc, map, refl, sym, ap, subst, ◌∙◌, arith, unwrap_or}
+use Rattle.std.proofs.lemmas.Bool.Decides.{nat_tests}
 use Rattle.std.proofs.lemmas.Bool.{eq-eqb, eqb-true, eqb-false, cond-false}
-use Rattle.std.proofs.Common.{ne_eqb, length}
+use Rattle.std.proofs.Common.{ne_eqb}
 use Rattle.arn_base.specs.declared.machine.Cpu.{Cpu}
 use Rattle.arn_base.specs.Window.{Window, with_bytes}
 use Rattle.arn_base.specs.declared.records.Extra.{Extra}
@@ -13,11 +14,11 @@ use Rattle.parts_model.specs.Replies.{is_success}
 use Rattle.parts_model.specs.Tagged.{values}
 use Rattle.acts_model.specs.Acts as act
 use Rattle.acts_model.specs.Acts.{Act, acted, restored, beginning_of, joined, founded, done, done_by, unborn, child_view}
-use Rattle.acts_model.specs.Bodies.{Body, Bodies, View, nth_body, with_nth, body_at, with_body, with_memory, with_segment, view, seen, put, remove, become, nobody}
+use Rattle.acts_model.specs.Bodies.{Body, Bodies, View, nth_body, with_nth, body_at, with_body, with_memory, with_segment, seen, put, remove, become, nobody}
 use Rattle.acts_model.specs.Moved.{Event}
 use Rattle.acts_model.specs.Records.{process_of}
 use Rattle.acts_model.specs.Told as told
-use Rattle.acts_model.specs.Told.{Kind, kind_of, call_act, act_of, delivery_act, is_pipe_write}
+use Rattle.acts_model.specs.Told.{Kind, kind_of, call_act, act_of}
 use Rattle.acts_model.specs.Views.{reach, with_reach, with_cpu, after_instr, argument}
 use Rattle.arn_model.specs.Kernel.{Machine, at_first}
 use Rattle.arn_model.specs.Step.{Step}
@@ -34,11 +35,7 @@ not-suc : (p : ℕ) → (0 == suc p) ≡ false
 not-suc p = ne_eqb 0 (suc p) (λ e. omega arith)
 
 suc-same : (q p : ℕ) → (suc q == suc p) ≡ (q == p)
-suc-same q p = by_test (q == p) refl
-  where
-    by_test : (b : Bool) → (q == p) ≡ b → (suc q == suc p) ≡ b
-    by_test true e = eq-eqb (suc q) (suc p) (ap suc (eqb-true q p e))
-    by_test false e = let ne = eqb-false q p e in ne_eqb (suc q) (suc p) (λ k. ne (omega arith))
+suc-same q p = grind (arith, nat_tests, eq-eqb, eqb-false, eqb-true)
 
 nth-with : (p : ℕ) (x : Option Body) (xs : List (Option Body)) (q : ℕ) → nth_body (with_nth p x xs) q ≡ cond (q == p) x (nth_body xs q)
 unfolding nth_body with_nth
@@ -65,10 +62,7 @@ body-segment (Some k) bytes b q = body-kept k bytes b q
 
 put-body : (p : ℕ) (v : View) (b : Bodies) (q : ℕ) → body_at (put p v b) q ≡ cond (q == p) (Some v.body) (body_at b q)
 unfolding put
-put-body p v b q =
-    let old = with_segment v.body.segment v.segment b in
-    body-with p (Some v.body) (with_memory v.body.window v.window old) q
-    ∙ ap (cond (q == p) (Some v.body)) (body-kept v.body.window v.window old q ∙ body-segment v.body.segment v.segment b q)
+put-body p v b q = grind (arith, nat_tests, body-kept, body-segment, body-with)
 
 remove-body : (p : ℕ) (b : Bodies) (q : ℕ) → body_at (remove p b) q ≡ cond (q == p) None (body_at b q)
 unfolding remove
@@ -87,18 +81,10 @@ abbrev pub HoldIn : Bodies → (ℕ → Option ℕ) → Type 0
 HoldIn b held = (q : ℕ) → Holds (body_at b q) (held q)
 
 put-holds : (p : ℕ) (v : View) (b : Bodies) (held : ℕ → Option ℕ) → ((q : ℕ) → (q == p) ≡ false → Holds (body_at b q) (held q)) → held p ≡ v.body.segment → HoldIn (put p v b) held
-put-holds p v b held others here q = subst (λ (o : Option Body). Holds o (held q)) (sym (put-body p v b q)) (by_test (q == p) refl)
-  where
-    by_test : (t : Bool) → (q == p) ≡ t → Holds (cond t (Some v.body) (body_at b q)) (held q)
-    by_test true e = ap held (eqb-true q p e) ∙ here
-    by_test false e = others q e
+put-holds p v b held h1 h2 = grind (arith, nat_tests, eqb-true, put-body)
 
 remove-holds : (p : ℕ) (b : Bodies) (held : ℕ → Option ℕ) → ((q : ℕ) → (q == p) ≡ false → Holds (body_at b q) (held q)) → HoldIn (remove p b) held
-remove-holds p b held others q = subst (λ (o : Option Body). Holds o (held q)) (sym (remove-body p b q)) (by_test (q == p) refl)
-  where
-    by_test : (t : Bool) → (q == p) ≡ t → Holds (cond t None (body_at b q)) (held q)
-    by_test true e = tt
-    by_test false e = others q e
+remove-holds p b held h1 = grind (arith, nat_tests, remove-body)
 
 become-holds : (p : ℕ) (o : Option View) (b : Bodies) (held : ℕ → Option ℕ) → ((q : ℕ) → (q == p) ≡ false → Holds (body_at b q) (held q)) → IfSome o (λ w. held p ≡ w.body.segment) → HoldIn (become p o b) held
 become-holds p None b held others here = remove-holds p b held others
@@ -123,9 +109,7 @@ abbrev Follow : ℕ → ℕ → View → Bodies → Act → (ℕ → Option ℕ)
 Follow pid event v b a held = HoldIn (founded a event (beginning_of v) (joined a event v (become pid (acted event a v) b))) held
 
 reach-body : (ws : List Window) (v : View) → (with_reach ws v).body ≡ v.body
-reach-body [] v = refl
-reach-body (w ∷ []) v = refl
-reach-body (w ∷ s ∷ more) v = refl
+reach-body ws v = grind (arith, nat_tests)
 
 restored-segment : (slot : Option Cpu) (v : View) → v.body.segment ≡ (restored slot v).body.segment
 restored-segment None v = refl
@@ -133,11 +117,7 @@ restored-segment (Some cpu) v = refl
 
 -- a number is one of a few, or none of them
 either-is : (n k : ℕ) (P : ℕ → Type 0) → P k → ((n == k) ≡ false → P n) → P n
-either-is n k P here other = by_test (n == k) refl
-  where
-    by_test : (t : Bool) → (n == k) ≡ t → P n
-    by_test true e = subst P (sym (eqb-true n k e)) here
-    by_test false e = other e
+either-is n k P h1 h2 = grind (arith, nat_tests, eqb-true)
 
 module _ (pid event : ℕ) (v : View) (b : Bodies) (held : ℕ → Option ℕ) (before : Before pid v b held) where
   -- its own segment stays, or it lives no more
@@ -204,16 +184,7 @@ module _ (pid event : ℕ) (v : View) (b : Bodies) (held : ℕ → Option ℕ) (
   start-fork result false = follow-returns result
 
   fork-follow : (cpu : Cpu) (result : ℕ) (more : Extra) → Follow pid event v b (call_act told.Fork cpu result more) (cond (is_success result) (segment_forked pid result more held) held)
-  fork-follow cpu result extra.Nothing = plain-fork result (is_success result)
-  fork-follow cpu result (extra.Give give) = plain-fork result (is_success result)
-  fork-follow cpu result (extra.Start start) = start-fork result (is_success result)
-  fork-follow cpu result (extra.Put file at bytes) = plain-fork result (is_success result)
-  fork-follow cpu result (extra.Console bytes) = plain-fork result (is_success result)
-  fork-follow cpu result (extra.Reply device bytes) = plain-fork result (is_success result)
-  fork-follow cpu result (extra.Sent device bytes) = plain-fork result (is_success result)
-  fork-follow cpu result extra.Fault = plain-fork result (is_success result)
-  fork-follow cpu result extra.Absent = plain-fork result (is_success result)
-  fork-follow cpu result (extra.Name file path) = plain-fork result (is_success result)
+  fork-follow cpu result more = grind (arith, nat_tests, plain-fork, start-fork)
 
   exec-follow : (cpu : Cpu) (result : ℕ) (more : Extra) → Follow pid event v b (call_act told.Exec cpu result more) (segment_started pid more held)
   exec-follow cpu result extra.Nothing = follow-returns result
@@ -228,44 +199,17 @@ module _ (pid event : ℕ) (v : View) (b : Bodies) (held : ℕ → Option ℕ) (
   exec-follow cpu result (extra.Name file path) = follow-returns result
 
   wait-follow : (cpu : Cpu) (result : ℕ) (more : Extra) → Follow pid event v b (call_act told.Wait cpu result more) held
-  wait-follow cpu result extra.Nothing = follow-returns result
-  wait-follow cpu result (extra.Give give) = follow-receives (argument cpu 0) give.bytes result
-  wait-follow cpu result (extra.Start start) = follow-returns result
-  wait-follow cpu result (extra.Put file at bytes) = follow-returns result
-  wait-follow cpu result (extra.Console bytes) = follow-returns result
-  wait-follow cpu result (extra.Reply device bytes) = follow-returns result
-  wait-follow cpu result (extra.Sent device bytes) = follow-returns result
-  wait-follow cpu result extra.Fault = follow-returns result
-  wait-follow cpu result extra.Absent = follow-returns result
-  wait-follow cpu result (extra.Name file path) = follow-returns result
+  wait-follow cpu result more = grind (arith, nat_tests, follow-receives, follow-returns)
 
   read-follow : (cpu : Cpu) (result : ℕ) (more : Extra) → Follow pid event v b (call_act told.Read cpu result more) held
-  read-follow cpu result extra.Nothing = follow-returns result
-  read-follow cpu result (extra.Give give) = follow-receives (argument cpu 1) give.bytes result
-  read-follow cpu result (extra.Start start) = follow-returns result
-  read-follow cpu result (extra.Put file at bytes) = follow-returns result
-  read-follow cpu result (extra.Console bytes) = follow-returns result
-  read-follow cpu result (extra.Reply device bytes) = follow-receives (argument cpu 1) bytes result
-  read-follow cpu result (extra.Sent device bytes) = follow-returns result
-  read-follow cpu result extra.Fault = follow-returns result
-  read-follow cpu result extra.Absent = follow-returns result
-  read-follow cpu result (extra.Name file path) = follow-returns result
+  read-follow cpu result more = grind (arith, nat_tests, follow-receives, follow-returns)
 
   pipe-follow : (at result : ℕ) (t : Bool) → Follow pid event v b (cond t (act.Gives at result result) (act.Returns result)) held
   pipe-follow at result true = follow-gives at result result
   pipe-follow at result false = follow-returns result
 
   write-follow : (cpu : Cpu) (result : ℕ) (more : Extra) → Follow pid event v b (call_act told.Write cpu result more) held
-  write-follow cpu result extra.Nothing = pipe-follow (argument cpu 1) result (is_pipe_write result)
-  write-follow cpu result (extra.Give give) = follow-returns result
-  write-follow cpu result (extra.Start start) = follow-returns result
-  write-follow cpu result (extra.Put file at bytes) = follow-gives (argument cpu 1) (length bytes) result
-  write-follow cpu result (extra.Console bytes) = follow-gives (argument cpu 1) (length bytes) result
-  write-follow cpu result (extra.Reply device bytes) = follow-returns result
-  write-follow cpu result (extra.Sent device bytes) = follow-gives (argument cpu 1) (length bytes) result
-  write-follow cpu result extra.Fault = follow-returns result
-  write-follow cpu result extra.Absent = follow-returns result
-  write-follow cpu result (extra.Name file path) = follow-returns result
+  write-follow cpu result more = grind (arith, nat_tests, follow-gives, follow-returns, pipe-follow)
 
   leave-follow : (result : ℕ) (t : Bool) → Follow pid event v b (cond t act.Leaves (act.Returns result)) held
   leave-follow result true = follow-leaves
@@ -330,11 +274,7 @@ module _ (pid event : ℕ) (v : View) (b : Bodies) (held : ℕ → Option ℕ) (
 
 -- what a live process holds is what its body has
 seen-body : (b : Bodies) (pid : ℕ) (v : View) → seen b pid ≡ Some v → body_at b pid ≡ Some v.body
-seen-body b pid v e = by_body (body_at b pid) e
-  where
-    by_body : (o : Option Body) → option_map (view b) o ≡ Some v → o ≡ Some v.body
-    by_body None e = cc
-    by_body (Some x) e = ap (λ (o : Option View). Some (unwrap_or (option_map (λ (w : View). w.body) o) x)) e
+seen-body b pid v h1 = grind (arith, nat_tests)
 
 before-of : (b : Bodies) (held : ℕ → Option ℕ) (pid : ℕ) (v : View) → HoldIn b held → seen b pid ≡ Some v → Before pid v b held
 before-of b held pid v there sees =

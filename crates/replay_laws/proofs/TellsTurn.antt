@@ -1,6 +1,7 @@
 -- What an input's steps are, by their records: at most a delivery first, instructions, at most a call or an end behind them; or one step of
 -- what comes from outside.
-use Rattle.std.proofs.Common.{◌≡◌, ℕ, zero, suc, ◌+◌, ◌||◌, ◌++◌, Bool, true, false, cond, nat_lt, List, [], ◌∷◌, Option, None, Some, length, option_to_list, option_map, refl, ap, ◌∙◌, arith}
+use Rattle.std.proofs.Common.{◌≡◌, ℕ, zero, suc, ◌+◌, ◌||◌, ◌++◌, Bool, true, false, cond, List, [], ◌∷◌, Option, None, Some, length, option_to_list, option_map, refl, ap, ◌∙◌, arith}
+use Rattle.std.proofs.lemmas.Bool.Decides.{nat_tests}
 use Rattle.std.proofs.lemmas.List.Sums.{sum_by-cons}
 use Rattle.arn_base.specs.declared.records.Record.TheVariants as entry
 use Rattle.arn_base.specs.declared.records.Extra.{Extra}
@@ -10,14 +11,14 @@ use Rattle.acts_model.specs.Acts as act
 use Rattle.acts_model.specs.Acts.{Act, result_of}
 use Rattle.acts_model.specs.Bodies.{View, seen}
 use Rattle.acts_model.specs.Moved.{is_plain, is_instruction}
-use Rattle.acts_model.specs.Transfers.{Holds, transfer, holds_of}
+use Rattle.acts_model.specs.Transfers.{Holds, transfer}
 use Rattle.acts_model.specs.Views.{stands_at, call_number}
 use Rattle.arn_model.specs.Doing.{Doing}
 use Rattle.arn_model.specs.Kernel.{Machine}
 use Rattle.arn_model.specs.Row.{request, does}
 use Rattle.arn_model.specs.Run.{instructions_in}
-use Rattle.arn_model.specs.Step.{Step, plain_by, last_by, delivery_of, delivering, due_signal, call_step, handler, waits}
-use Rattle.arn_model.specs.Turn.{Turn, plains, plain_in, steps_then, steps_of, turn, delivery_in, after_first, after_steps, last_of, last_in}
+use Rattle.arn_model.specs.Step.{Step, plain_by, last_by, delivery_of, due_signal, call_step, handler}
+use Rattle.arn_model.specs.Turn.{Turn, plains, plain_in, steps_then, steps_of, turn, delivery_in, last_of, last_in}
 
 -- a delivery: a signal's record, and no instruction
 pub record Delivery (s : Step) : Type 0 where
@@ -34,31 +35,10 @@ MaybeDelivery None = Unit {0}
 MaybeDelivery (Some s) = Delivery s
 
 acts-move : (pid event : ℕ) (holds : Holds) (a : Act) → is_plain (transfer pid event holds a) ≡ false
-acts-move pid event holds (act.Returns result) = refl
-acts-move pid event holds (act.Receives at bytes result) = refl
-acts-move pid event holds (act.Gives at len result) = refl
-acts-move pid event holds (act.Starts file block block_len) = refl
-acts-move pid event holds (act.Forks child) = refl
-acts-move pid event holds (act.Founds child) = refl
-acts-move pid event holds act.Shares = refl
-acts-move pid event holds act.Leaves = refl
-acts-move pid event holds (act.Delivers signal handler cut) = refl
-acts-move pid event holds act.Exits = refl
-acts-move pid event holds (act.Faults status) = refl
-acts-move pid event holds (act.Dies signal cut) = refl
+acts-move pid event holds a = grind (arith, nat_tests)
 
 delivery_of-Maybe : (m : Machine) (pid : ℕ) (v : View) (o : Option ℕ) → MaybeDelivery (delivery_of m pid v o)
-delivery_of-Maybe m pid v None = tt
-delivery_of-Maybe m pid v (Some signal) =
-    record {
-      number = m.events;
-      pid = pid;
-      signal = signal;
-      cut = waits m pid v;
-      handler = handler m pid signal;
-      event = refl;
-      none = ap (λ (b : Bool). b || false) (acts-move pid m.events (holds_of v.body) (delivering m pid signal (handler m pid signal) (waits m pid v)).act);
-    }
+delivery_of-Maybe m pid v o = grind (arith, nat_tests, acts-move)
 
 delivery_in-Maybe : (m : Machine) (pid : ℕ) (o : Option View) → MaybeDelivery (delivery_in m pid o)
 delivery_in-Maybe m pid None = tt
@@ -78,9 +58,7 @@ ArePlain [] = Unit {0}
 ArePlain (s ∷ steps) = Plain s × ArePlain steps
 
 plain_by-Maybe : (m : Machine) (pid : ℕ) (v : View) (e : Effect) → MaybePlain (plain_by m pid v e)
-plain_by-Maybe m pid v (Next instr cpu memory) = record { event = refl; one = refl }
-plain_by-Maybe m pid v Call = tt
-plain_by-Maybe m pid v (End status) = tt
+plain_by-Maybe m pid v e = grind (arith, nat_tests)
 
 plain_in-Maybe : (m : Machine) (pid : ℕ) (o : Option View) → MaybePlain (plain_in m pid o)
 plain_in-Maybe m pid None = tt
@@ -121,9 +99,7 @@ if-Maybe true o is = is
 if-Maybe false o is = tt
 
 last_of-Maybe : (n pid : ℕ) (reply : Option Answered) (m : Machine) (plain : List Step) → MaybeLast (last_of n pid reply m plain)
-last_of-Maybe n pid reply m plain =
-    let m' = after_steps m plain in
-    if-Maybe (nat_lt (length plain) n) (last_in m' pid reply (seen m'.bodies pid)) (last_in-Maybe m' pid reply (seen m'.bodies pid))
+last_of-Maybe n pid reply m plain = grind (arith, nat_tests, if-Maybe, last_in-Maybe)
 
 -- the parts of a turn
 pub record IsTurn (t : Turn) : Type 0 where
@@ -132,14 +108,7 @@ pub record IsTurn (t : Turn) : Type 0 where
   pub last : MaybeLast t.last
 
 pub turn-IsTurn : (n pid : ℕ) (reply : Option Answered) (m : Machine) → IsTurn (turn n pid reply m)
-turn-IsTurn n pid reply m =
-    let delivery = delivery_in m pid (seen m.bodies pid) in
-    let m' = after_first m delivery in
-    record {
-      delivery = delivery_in-Maybe m pid (seen m.bodies pid);
-      plain = plains-Are n pid m';
-      last = last_of-Maybe n pid reply m' (plains n pid m');
-    }
+turn-IsTurn n pid reply m = grind (arith, nat_tests, delivery_in-Maybe, last_of-Maybe, plains-Are)
 
 -- a turn's instructions are the plain ones and the last
 pub instructions-cons : (s : Step) (steps : List Step) (b : Bool) → is_instruction s.moved.inside ≡ b → instructions_in (s ∷ steps) ≡ cond b 1 0 + instructions_in steps
@@ -172,7 +141,4 @@ delivery-no None rest is = refl
 delivery-no (Some s) rest is = omega (arith, instructions-cons s rest false is.none)
 
 pub turn-instructions : (t : Turn) → IsTurn t → instructions_in (steps_of t) ≡ length t.plain + one_if_some t.last
-turn-instructions t is =
-    delivery-no t.delivery (t.plain ++ option_to_list t.last) is.delivery
-    ∙ plain-all t.plain (option_to_list t.last) is.plain
-    ∙ ap (λ (k : ℕ). length t.plain + k) (last-one t.last is.last)
+turn-instructions t h1 = grind (arith, nat_tests, delivery-no, last-one, plain-all)

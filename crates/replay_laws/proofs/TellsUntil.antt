@@ -1,7 +1,6 @@
 -- The events that have happened at a moment, by the records, are those of the run's steps up to it; and the records count its instructions.
-use Rattle.std.proofs.Common.{◌≡◌, ℕ, zero, suc, ◌+◌, ◌<◌, ◌≤◌, ◌++◌, Bool, true, false, cond, nat_le, List, [], ◌∷◌, Option, None, Some, length, map, option_to_list, refl, sym, ap, subst, ◌∙◌, arith, append_assoc}
+use Rattle.std.proofs.Common.{◌≡◌, ℕ, zero, suc, ◌+◌, ◌<◌, ◌≤◌, ◌++◌, Bool, true, false, cond, nat_le, List, [], ◌∷◌, Option, None, Some, length, option_to_list, refl, sym, ap, subst, ◌∙◌, arith, append_assoc}
 use Rattle.std.proofs.lemmas.Bool.Decides.{nat_tests}
-use Rattle.std.specs.List.{cons_option}
 use Rattle.std.proofs.lemmas.List.Sums.{sum_by-append}
 use Rattle.arn_base.specs.declared.records.Record.{Record}
 use Rattle.arn_base.specs.declared.records.Record.TheVariants as entry
@@ -9,9 +8,9 @@ use Rattle.parts_model.specs.declared.tagged.TaggedByte.{TaggedByte}
 use Rattle.parts_model.specs.Files.{find_file, file_bytes}
 use Rattle.parts_model.specs.Image.{is_image}
 use Rattle.parts_model.specs.Tagged.{values, given}
-use Rattle.acts_model.specs.Moved.{Event, is_instruction}
+use Rattle.acts_model.specs.Moved.{is_instruction}
 use Rattle.arn_model.specs.Kernel.{Machine, at_first}
-use Rattle.arn_model.specs.Run.{Input, File, Boot, Typed, Unplug, Slice, input_steps, after_input, steps_from, run, events_of, instructions_in, within, unless_reached, is_booted, can_add, may_unplug, boot_found, boot_from, boot_step, file_step, typed_step, unplug_step}
+use Rattle.arn_model.specs.Run.{Input, File, Boot, Typed, Unplug, Slice, input_steps, after_input, steps_from, run, instructions_in, within, unless_reached, is_booted, can_add, may_unplug, boot_found, boot_from, boot_step, file_step, typed_step, unplug_step}
 use Rattle.arn_model.specs.Step.{Step}
 use Rattle.arn_model.specs.Turn.{Turn, steps_of, turn, is_possible}
 use Rattle.history_model.specs.Moments.{Numbered, ran_in, total, if_happened, events_from, events_until}
@@ -36,11 +35,7 @@ le-no a b h = grind (arith, nat_tests)
 
 -- the records of steps, and what of them comes before an instruction
 records-cons : (s : Step) (steps : List Step) → event_records (s ∷ steps) ≡ event_records (s ∷ []) ++ event_records steps
-records-cons s steps = by_event s.moved.inside.event
-  where
-    by_event : (o : Option Event) → map (λ e. e.entry) (cons_option o (events_of steps)) ≡ map (λ e. e.entry) (cons_option o []) ++ map (λ e. e.entry) (events_of steps)
-    by_event None = refl
-    by_event (Some e) = refl
+records-cons s steps = grind (arith, nat_tests)
 
 quiet-cons : (s : Step) (steps : List Step) → s.moved.inside.event ≡ None → event_records (s ∷ steps) ≡ event_records steps
 quiet-cons s steps e = rw e refl
@@ -70,10 +65,7 @@ loud-yes s l moment begins ends n rest h =
 
 loud-no : (s : Step) (l : Loud s) (moment begins ends n : ℕ) (rest : List Record) → moment < ends
     → events_from moment begins ends n (event_records (s ∷ []) ++ rest) ≡ events_from moment begins ends (n + 1) rest
-loud-no s l moment begins ends n rest h =
-    ap (λ (es : List Record). events_from moment begins ends n (es ++ rest)) l.has
-    ∙ l.next moment begins ends n rest
-    ∙ ap (λ (b : Bool). if_happened b n l.entry (events_from moment begins ends (n + 1) rest)) (le-no ends moment h)
+loud-no s l moment begins ends n rest h1 = grind (arith, nat_tests, le-no)
 
 loud-numbered : (s : Step) (l : Loud s) (n : ℕ) (steps : List Step) → numbered n (event_records (s ∷ steps)) ≡ record { number = n; entry = l.entry } ∷ numbered (n + 1) (event_records steps)
 loud-numbered s l n steps = ap (numbered n) (records-cons s steps ∙ ap (λ (es : List Record). es ++ event_records steps) l.has)
@@ -115,16 +107,7 @@ boot-Outer m path false = boot_found-Outer m path (find_file m.kernel.files path
 
 -- in front of others, its records agree with its steps
 one-agree : (s : Step) (rest : List Record) (more : List Step) → Loud s → is_instruction s.moved.inside ≡ false → Agree rest more → Agree (event_records (s ∷ []) ++ rest) (s ∷ more)
-one-agree s rest more loud none agree =
-    record {
-      at =
-          λ begins ends n left.
-          loud-yes s loud (ends + left) begins ends n rest (omega arith)
-          ∙ ap (λ (es : List Numbered). record { number = n; entry = loud.entry } ∷ es) (agree.at begins ends (n + 1) left)
-          ∙ sym (loud-numbered s loud n (within left more))
-          ∙ sym (ap (λ (x : List Step). numbered n (event_records x)) (within-loud s left more none));
-      past = λ moment begins ends n h. loud-no s loud moment begins ends n rest h ∙ agree.past moment begins ends (n + 1) h;
-    }
+one-agree s rest more h1 h2 h3 = grind (arith, nat_tests, loud-no, loud-numbered, loud-yes, numbered, within-loud)
 
 outer-agree : (steps : List Step) (rest : List Record) (more : List Step) → Outer steps → Agree rest more → Agree (event_records steps ++ rest) (steps ++ more)
 outer-agree steps rest more (NoStep none) agree = subst (λ (x : List Step). Agree (event_records x ++ rest) (x ++ more)) (sym none) agree
@@ -182,8 +165,7 @@ tail-at plain o rest more are is agree x b e n left same =
 
 tail-past : (plain : List Step) (o : Option Step) (rest : List Record) (more : List Step) → ArePlain plain → MaybeLast o → Agree rest more → (moment b e n : ℕ) → moment < e
     → events_from moment b e n (event_records (plain ++ option_to_list o) ++ rest) ≡ []
-tail-past plain o rest more are is agree moment b e n h =
-    ap (λ (es : List Record). events_from moment b e n (es ++ rest)) (plain-records plain (option_to_list o) are) ∙ last-past o rest more is agree moment b e n h
+tail-past plain o rest more h1 h2 h3 moment b e n h4 = grind (arith, nat_tests, last-past, plain-records)
 
 -- a delivery comes before the instructions
 signal-has : (s : Step) (d : Delivery s) → event_records (s ∷ []) ≡ entry.Signal d.pid d.signal d.cut d.handler ∷ []
@@ -192,29 +174,17 @@ signal-has s d = rw d.event refl
 signal-from : (s : Step) (d : Delivery s) (steps : List Step) (rest : List Record) (moment b e n : ℕ)
     → events_from moment b e n (event_records (s ∷ steps) ++ rest)
     ≡ if_happened (nat_le b moment) n (entry.Signal d.pid d.signal d.cut d.handler) (events_from moment b e (n + 1) (event_records steps ++ rest))
-signal-from s d steps rest moment b e n =
-    ap (λ (es : List Record). events_from moment b e n (es ++ rest)) (records-cons s steps ∙ ap (λ (es : List Record). es ++ event_records steps) (signal-has s d))
+signal-from s d steps rest moment b e n = grind (arith, nat_tests, records-cons, signal-has)
 
 delivered-at : (o : Option Step) (steps : List Step) (rest : List Record) (more : List Step) → MaybeDelivery o → (ends e n left : ℕ)
     → ((n : ℕ) → events_from (ends + left) ends e n (event_records steps ++ rest) ≡ numbered n (event_records (within left (steps ++ more))))
     → events_from (ends + left) ends e n (event_records (option_to_list o ++ steps) ++ rest) ≡ numbered n (event_records (within left ((option_to_list o ++ steps) ++ more)))
-delivered-at None steps rest more is ends e n left behind = behind n
-delivered-at (Some s) steps rest more is ends e n left behind =
-    let signal = entry.Signal is.pid is.signal is.cut is.handler in
-    signal-from s is steps rest (ends + left) ends e n
-    ∙ ap (λ (b : Bool). if_happened b n signal (events_from (ends + left) ends e (n + 1) (event_records steps ++ rest))) (le-yes ends (ends + left) (omega arith))
-    ∙ ap (λ (es : List Numbered). record { number = n; entry = signal } ∷ es) (behind (n + 1))
-    ∙ sym (ap (numbered n) (records-cons s (within left (steps ++ more)) ∙ ap (λ (es : List Record). es ++ event_records (within left (steps ++ more))) (signal-has s is)))
-    ∙ sym (ap (λ (y : List Step). numbered n (event_records y)) (within-loud s left (steps ++ more) is.none))
+delivered-at o steps rest more h1 ends e n left h2 = grind (arith, nat_tests, le-yes, numbered, records-cons, signal-from, signal-has, within-loud)
 
 delivered-past : (o : Option Step) (steps : List Step) (rest : List Record) → MaybeDelivery o → (moment ends e n : ℕ) → moment < ends
     → ((n : ℕ) → events_from moment ends e n (event_records steps ++ rest) ≡ [])
     → events_from moment ends e n (event_records (option_to_list o ++ steps) ++ rest) ≡ []
-delivered-past None steps rest is moment ends e n h behind = behind n
-delivered-past (Some s) steps rest is moment ends e n h behind =
-    signal-from s is steps rest moment ends e n
-    ∙ ap (λ (b : Bool). if_happened b n (entry.Signal is.pid is.signal is.cut is.handler) (events_from moment ends e (n + 1) (event_records steps ++ rest))) (le-no ends moment h)
-    ∙ behind (n + 1)
+delivered-past o steps rest h1 moment ends e n h2 h3 = grind (arith, nat_tests, le-no, signal-from)
 
 slice-agree : (pid : ℕ) (t : Turn) → IsTurn t → (rest : List Record) (more : List Step) → Agree rest more → (steps : List Step) → steps_of t ≡ steps → Agree (slice_records pid steps ++ rest) (steps ++ more)
 slice-agree pid t is rest more agree [] same = agree
@@ -272,9 +242,7 @@ delivered-none None steps is none = none
 delivered-none (Some s) steps is none = ap total (records-cons s steps ∙ ap (λ (es : List Record). es ++ event_records steps) (signal-has s is)) ∙ omega (arith, none)
 
 turn-none : (t : Turn) → IsTurn t → total (event_records (steps_of t)) ≡ 0
-turn-none t is =
-    delivered-none t.delivery (t.plain ++ option_to_list t.last) is.delivery
-    (ap total (plain-records t.plain (option_to_list t.last) is.plain) ∙ last-none t.last is.last)
+turn-none t h1 = grind (arith, nat_tests, delivered-none, last-none, plain-records)
 
 slice-total : (pid : ℕ) (t : Turn) → IsTurn t → (steps : List Step) → steps_of t ≡ steps → total (slice_records pid steps) ≡ instructions_in steps
 slice-total pid t is [] same = refl
@@ -287,12 +255,7 @@ possible-total true pid t is = slice-total pid t is (steps_of t) refl
 possible-total false pid t is = refl
 
 outer-total : (steps : List Step) → Outer steps → total (event_records steps) ≡ instructions_in steps
-outer-total steps (NoStep none) = rw none refl
-outer-total steps (OneStep s is loud none) =
-    ap (λ (y : List Step). total (event_records y)) is
-    ∙ ap total loud.has
-    ∙ omega (arith, loud.ran, instructions-cons s [] false none)
-    ∙ sym (ap instructions_in is)
+outer-total steps h1 = grind (arith, nat_tests, instructions-cons)
 
 input-total : (m : Machine) (i : Input) → total (input_records i (input_steps m i)) ≡ instructions_in (input_steps m i)
 input-total m (File path bytes) = outer-total (input_steps m (File path bytes)) (file-Outer m path bytes)

@@ -1,5 +1,6 @@
 -- The induction over the inputs of a run: up to the moment turn for turn, behind it no record matters.
-use Rattle.std.proofs.Common.{◌≡◌, ℕ, zero, suc, ◌<◌, ◌≤◌, ◌+◌, ◌-◌, ◌&&◌, List, [], ◌∷◌, ◌++◌, refl, ap, ap₂, ◌∙◌, sym, subst, append-nil, append_assoc, Option, Some, None, Bool, true, false, ◌==◌, cond, arith, nat_le}
+use Rattle.std.proofs.Common.{◌≡◌, ℕ, zero, suc, ◌<◌, ◌≤◌, ◌+◌, ◌-◌, ◌&&◌, List, [], ◌∷◌, ◌++◌, refl, ap, ap₂, ◌∙◌, sym, subst, append-nil, append_assoc, Option, Some, Bool, true, false, ◌==◌, arith, nat_le}
+use Rattle.std.proofs.lemmas.Bool.Decides.{nat_tests}
 use Rattle.std.proofs.lemmas.Bool.{leb-true, leb-false, le-leb, lt-leb}
 use Rattle.arn_base.specs.declared.records.Record.{Record}
 use Rattle.arn_base.specs.declared.records.Record.TheVariants as entry
@@ -7,7 +8,7 @@ use Rattle.parts_model.specs.declared.tagged.TaggedByte.{TaggedByte}
 use Rattle.parts_model.specs.Image.{is_image}
 use Rattle.parts_model.specs.Replies.{Answered}
 use Rattle.parts_model.specs.Tagged.{given, values}
-use Rattle.acts_model.specs.Bodies.{Bodies, View, body_at, nobody, seen}
+use Rattle.acts_model.specs.Bodies.{Bodies, View, nobody, seen}
 use Rattle.acts_model.specs.Moved.{Inside, is_instruction}
 use Rattle.arn_model.specs.Kernel.{Machine, at_first}
 use Rattle.arn_model.specs.Run.{Input, input_steps, steps_from, instructions_in, is_booted, boot_step, within, unless_reached, run, machine_after, state_at}
@@ -17,7 +18,7 @@ use Rattle.arn_model.specs.Tells.{Along}
 use Rattle.arn_model.specs.Turn.{after_steps, turn, steps_of}
 use Rattle.arn_model.specs.Laws.{StepsTell, EachRunIsSound, EachRunAppends}
 use Rattle.history_model.specs.Alone as alone
-use Rattle.history_model.specs.Alone.{Own, Made, Makes, Standing, and_then, made_if, boots, nothing_own, after_boot, after_record, after_slice, replayed, settled}
+use Rattle.history_model.specs.Alone.{Own, Made, Makes, Standing, and_then, made_if, boots, nothing_own, after_boot, after_slice, replayed, settled}
 use Rattle.history_model.specs.Groups.{Groups, group_of, groups_from, is_number}
 use Rattle.history_model.specs.Moments.{changed}
 use Rattle.log_model.specs.Records.{event_records, slice_records, input_records, records_from, records}
@@ -114,15 +115,7 @@ Goes g gs until inputs = (now : ℕ) (t : Standing) (m : Machine) (h : Stood g g
 
 -- what is to come behind an input's steps
 rest-before : (g : ℕ) (gs : Groups) (t t' : Standing) (m : Machine) (i : Input) (steps : List Step) (inputs : List Input) → t'.groups ≡ groups_from (input_records i steps) t.groups → t'.is_ended ≡ true → (is_booted (after_steps m steps) ≡ false → t'.owed ≡ 0) → Along Known m (steps ++ steps_from (after_steps m steps) inputs) → IsSoundMachine (after_steps m (steps ++ steps_from (after_steps m steps) inputs)) → ((q : ℕ) → groups_from (all_records i m steps inputs) t.groups q ≡ gs q) → Before g gs t' (after_steps m steps) inputs
-rest-before g gs t t' m i steps inputs same ended idle known sound final =
-    let m' = after_steps m steps in
-    record {
-      ended = ended;
-      idle = idle;
-      known = along-rest Known m steps (steps_from m' inputs) known;
-      sound = subst IsSoundMachine (after-append m steps (steps_from m' inputs)) sound;
-      final = λ q. ap (λ (x : Groups). groups_from (records_from m' inputs) x q) same ∙ (ap (λ (x : Groups). x q) (sym (groups-append (input_records i steps) (records_from m' inputs) t.groups)) ∙ final q);
-    }
+rest-before g gs t t' m i steps inputs h1 h2 h3 h4 h5 h6 = grind (arith, nat_tests, after-append, along-rest, groups-append)
 
 -- what is heard of steps, and then of more
 heard-on : (gs : Groups) (g : ℕ) (old mid all : List Inside) (steps first : List Step) → mid ≡ old ++ parts gs g steps → all ≡ mid ++ parts gs g first → all ≡ old ++ parts gs g (steps ++ first)
@@ -145,9 +138,7 @@ InputGoal g gs until now i inputs m t old steps = Along Known m (steps ++ steps_
 
 -- none
 none-goes : (g : ℕ) (gs : Groups) (until now : ℕ) (i : Input) (inputs : List Input) (m : Machine) (t : Standing) (h : Stood g gs now t m) → t.is_ended ≡ true → (is_booted m ≡ false → t.owed ≡ 0) → now ≤ until → Goes g gs until inputs → InputGoal g gs until now i inputs m t h.own.inside []
-none-goes g gs until now i inputs m t h ended idle early go known sound final =
-    let b = rest-before g gs t t m i [] inputs (sym (ap (λ (rs : List Record). groups_from rs t.groups) (none-recorded i))) ended idle known sound final in
-    subst (λ (rs : List Record). Reaches g gs (replayed g until t (rs ++ records_from m inputs)) h.own.inside m (within (until - now) (steps_from m inputs))) (sym (none-recorded i)) (go now t m h b early)
+none-goes g gs until now i inputs m t h h1 h2 h3 h4 = grind (arith, nat_tests, none-recorded, rest-before)
 
 -- one from outside
 comes-goes : (g : ℕ) (gs : Groups) (until now : ℕ) (i : Input) (inputs : List Input) (m : Machine) (t : Standing) (h : Stood g gs now t m) → t.is_ended ≡ true → (is_booted m ≡ false → t.owed ≡ 0) → now ≤ until → Goes g gs until inputs → (s : Step) (r : Record) → input_records i (s ∷ []) ≡ r ∷ [] → IsOutside m s r → InputGoal g gs until now i inputs m t h.own.inside (s ∷ [])
@@ -297,15 +288,7 @@ inputs-reach g gs until (i ∷ inputs) now t m h b early = by_input (takes m i) 
 
 -- at first there is nobody
 nobody-joint : (g : ℕ) (owner : ℕ → Owner) (gs : Groups) → Joint g owner gs 0 nobody nobody
-nobody-joint g owner gs =
-    record {
-      owned = record { fits = λ p. rw (nobody-at p) tt; whole = λ p. rw (nobody-at p) tt };
-      agrees = record { bodies = λ p. by_test p (is_number g (gs p)); memories = λ p x k of e holds. refl };
-    }
-  where
-    by_test : (p : ℕ) (b : Bool) → body_at nobody p ≡ cond b (body_at nobody p) None
-    by_test p true = refl
-    by_test p false = nobody-at p
+nobody-joint g owner gs = grind (arith, nat_tests, nobody-at)
 
 first-stood : (g : ℕ) (gs : Groups) → Stood g gs 0 alone.at_first at_first
 first-stood g gs = record { owner = λ k. Private 0; own = nothing_own; settled = λ event. refl; joint = nobody-joint g (λ k. Private 0) gs; events = refl; moment = refl }
