@@ -1,3 +1,11 @@
+mod UseLemmas
+mod ResultLemmas
+mod HaltLemmas
+mod PointLemmas
+mod TranscriptLemmas
+mod Progress
+mod CutLemmas
+mod LeavesLemmas
 pub mod FaultLemmas
 pub mod StatusLemmas
 pub mod SlotLemmas

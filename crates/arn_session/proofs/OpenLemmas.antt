@@ -21,7 +21,7 @@ use Rattle.session_effects.specs.declared.halt.Halt.TheVariants as halt
 use Rattle.session_runs.specs.Points.{Advances, Stops, Surroundings}
 use Rattle.session_runs.specs.Turns.{Point}
 use Rattle.session_model.specs.Questions.{Told}
-use Rattle.session_text.specs.Answers.{Answers, AnswersTaken}
+use Rattle.arn_session.specs.Answered.{AnswersParts, AnswersTaken}
 use Rattle.arn_session.specs.Begun.{BeginsOn, FindsOn, standing}
 use Rattle.arn_session.specs.Opening.{IsOpened}
 use Rattle.arn_session.specs.Status.{open_status_of}
@@ -121,7 +121,7 @@ module _ {D A : Type 0} (d : Ghosts D) (replies : A → Asked → Answered → A
     executed = p.executed;
   }
 
-  Answers-behind : (parts : List Part) → Answers replies told entries parts u v (CarriesOut IsRun d mid new entries h0 h1) → Answers replies told entries parts u v (CarriesOut IsRun d old new entries h0 h1)
+  Answers-behind : (parts : List Part) → AnswersParts replies told entries parts u v (CarriesOut IsRun d mid new entries h0 h1) → AnswersParts replies told entries parts u v (CarriesOut IsRun d old new entries h0 h1)
   Answers-behind parts a = record {
     commands = a.commands;
     each_asks = a.each_asks;
@@ -162,9 +162,9 @@ module _ {D A : Type 0} (d : Ghosts D) (replies : A → Asked → Answered → A
   }
 
   -- a session that answered all, behind its opening
-  pub Answers-opened : (history : List Record) → entries ≡ history → (l0 : Option (List ℕ)) → IfSome l0 (λ text. Answers replies told entries (text_parts text) u v (CarriesOut IsRun d mid new entries h0 h1)) → IfSome l0 (λ text. Answers replies told history (text_parts text) u v (CarriesOut IsRun d old new history h0 h1))
+  pub Answers-opened : (history : List Record) → entries ≡ history → (l0 : Option (List ℕ)) → IfSome l0 (λ text. AnswersParts replies told entries (text_parts text) u v (CarriesOut IsRun d mid new entries h0 h1)) → IfSome l0 (λ text. AnswersParts replies told history (text_parts text) u v (CarriesOut IsRun d old new history h0 h1))
   Answers-opened history same l0 answers =
-      subst (λ (h : List Record). IfSome l0 (λ text. Answers replies told h (text_parts text) u v (CarriesOut IsRun d old new h h0 h1))) same
+      subst (λ (h : List Record). IfSome l0 (λ text. AnswersParts replies told h (text_parts text) u v (CarriesOut IsRun d old new h h0 h1))) same
       (IfSome_then l0 answers (λ text a. Answers-behind (text_parts text) a))
 
   pub Taken-opened : (history : List Record) → entries ≡ history → (l0 l : Option (List ℕ)) (parts : List ℕ → List Part) → AnswersTaken replies told entries l0 l parts u v (CarriesOut IsRun d mid new entries h0 h1) → AnswersTaken replies told history l0 l parts u v (CarriesOut IsRun d old new history h0 h1)

@@ -12,7 +12,7 @@ use Rattle.arn_model.specs.Doing.{Request, Waits, Does, Asks}
 use Rattle.arn_model.specs.Kernel.{Machine}
 use Rattle.arn_model.specs.Row.{request}
 use Rattle.arn_model.specs.Turn.{after_steps, plains}
-use Rattle.arn_commands.specs.Parts.{Part}
+use Rattle.arn_commands.specs.Parts.{Part, text_parts, whole_parts}
 use Rattle.log_model.specs.Records.{IsRun}
 use Rattle.log_store.specs.Stores.{StoreState}
 use Rattle.guest_calls.specs.Steps.{RepliesTo, asked_of}
@@ -24,11 +24,21 @@ use Rattle.session_effects.specs.declared.halt.Halt.{Halt}
 use Rattle.session_effects.specs.declared.halt.Halt.TheVariants as halt
 use Rattle.session_runs.specs.Points.{Advances, Stops, Surroundings, around}
 use Rattle.session_runs.specs.Turns.{Point}
-use Rattle.session_lines.specs.Answering.{Standpoint, standpoint}
+use Rattle.session_runs.specs.Standing.{Standpoint, standpoint}
 use Rattle.session_model.specs.Questions.{Told}
-use Rattle.session_text.specs.Answers.{Answers, AnswersTaken}
-use Rattle.session_text.specs.CutOff.{BeginsText, FindsOut}
+use Rattle.arn_session.specs.Answered.{AnswersParts, AnswersTaken}
+use Rattle.arn_session.specs.CutOff.{BeginsText, FindsOut}
+use Rattle.arn_session.specs.Leaves.{Leaves, Scene}
 use Rattle.arn_session.specs.Begun.{BeginsOn, FindsOn, Standing, standing, on_history, store_of}
+
+-- what follows of a call that succeeded, of one that failed
+pub OnOk-then : {T E P Q : Type 0} (r : Result T E) → OnOk r P → (P → Q) → OnOk r Q
+OnOk-then (Ok t) p then = then p
+OnOk-then (Err e) p then = tt
+
+pub IfErr-then : {T E : Type 0} {P Q : E → Type 0} (r : Result T E) → IfErr r P → ((e : E) → P e → Q e) → IfErr r Q
+IfErr-then (Ok t) p then = tt
+IfErr-then (Err e) p then = then e p
 
 -- what answered, and what that made of it, seen otherwise
 module _ {A B : Type 0} (here : A) (replies : A → Asked → Answered → A → Type 0) (replies' : B → Asked → Answered → B → Type 0) (see : A → B) (seen : (a : A) (asked : Asked) (answer : Answered) (a' : A) → replies a asked answer a' → replies' (see a) asked answer (see a')) where
@@ -108,7 +118,7 @@ module _ {A B : Type 0} (here : A) (replies : A → Asked → Answered → A →
   }
 
   -- what a session answered
-  pub Answers-seen : (told : Told) (history : List Record) (parts : List Part) (u v : Surroundings A) (carried : List effects.Effect → Type 0) → Answers replies told history parts u v carried → Answers replies' told history parts (see_around u) (see_around v) carried
+  pub Answers-seen : (told : Told) (history : List Record) (parts : List Part) (u v : Surroundings A) (carried : List effects.Effect → Type 0) → AnswersParts replies told history parts u v carried → AnswersParts replies' told history parts (see_around u) (see_around v) carried
   Answers-seen told history parts u v carried a = record {
     commands = a.commands;
     each_asks = a.each_asks;
@@ -160,6 +170,33 @@ module _ {A B : Type 0} (here : A) (replies : A → Asked → Answered → A →
       costs = b.costs;
     }
 
+  -- all that it left
+  abbrev pub see_scene : {D : Type 0} → Scene D A → Scene D B
+  see_scene s = record { stands = standing s.stands.disk s.stands.held (see_around s.stands.around); left = s.left; source_faults = s.source_faults; sink_faults = s.sink_faults }
+
+  pub Leaves-seen : {D : Type 0} (d : Ghosts D) (told : Told) (history : List Record) (r : Result (Unit {0}) Halt) (old new : Scene D A) → Leaves d replies told history r old new → Leaves d replies' told history r (see_scene old) (see_scene new)
+  Leaves-seen d told history r old new p = record {
+    read = p.read;
+    answered = OnOk-then r p.answered (λ all. IfSome_then old.left all (λ text a. Answers-seen told history (text_parts text) old.stands.around new.stands.around _ a));
+    short = p.short;
+    stops = IfErr-then r p.stops (λ why all not_source not_long. IfSome_then old.left (all not_source not_long) (λ text b. Begins-seen d told old.stands new.stands (store_of history) (store_of history) text new.left why b));
+    blames = p.blames;
+    finds = λ at is. IfSome_then old.left (p.finds at is) (λ text b. Finds-seen d told old.stands new.stands (store_of history) (store_of history) text new.left b);
+    early = p.early;
+    long = p.long;
+    taken = λ which. Taken-seen told history old.left new.left whole_parts old.stands.around new.stands.around _ (p.taken which);
+    at_most = p.at_most;
+    any_moment = p.any_moment;
+    rests = p.rests;
+    still_rests = p.still_rests;
+    source = p.source;
+    sink = p.sink;
+    disk = p.disk;
+    full = p.full;
+    later = p.later;
+    asked = record { asks = p.asked.asks; slices = p.asked.slices; replied = RepliedBy-seen p.asked.asks p.asked.slices old.stands.around.answers new.stands.around.answers p.asked.replied };
+  }
+
 -- what stays the same of one that answers
 module _ {A N : Type 0} (here : A) (replies : A → Asked → Answered → A → Type 0) (name : A → N) (stays : (a : A) (asked : Asked) (answer : Answered) (a' : A) → replies a asked answer a' → name a' ≡ name a) where
   abbrev Stays : N → Asked → Answered → N → Type 0
@@ -196,30 +233,3 @@ module _ {A N : Type 0} (here : A) (replies : A → Asked → Answered → A →
 
   pub Replied-stays : (asks : List Ask) (slices : List Picked) (a a' : A) → RepliedBy replies asks slices a a' → name a' ≡ name a
   Replied-stays asks slices a a' p = By-stays asks slices (name a) (name a') (RepliedBy-seen here replies Stays name stays asks slices a a' p)
-
-  pub Answers-stays : (told : Told) (history : List Record) (parts : List Part) (u v : Surroundings A) (carried : List effects.Effect → Type 0) → Answers replies told history parts u v carried → name v.answers ≡ name u.answers
-  Answers-stays told history parts u v carried a = Replied-stays a.answered.asks a.answered.slices u.answers v.answers a.answered.replied
-
-  pub Begins-stays : {D : Type 0} (d : Ghosts D) (told : Told) (old new : Standpoint D A) (why : Halt) (text : List ℕ) (left : Option (List ℕ)) → BeginsText d replies told old new why text left → name new.around.answers ≡ name old.around.answers
-  Begins-stays d told old new why text left b = Replied-stays (b.halted.asks ++ b.halted.lost_asks) (b.halted.slices ++ b.halted.lost) old.around.answers new.around.answers b.halted.replied
-
--- what holds whatever a session came to
-pub in-each : (P : Type 0) (r : Result (Unit {0}) Halt) (l : Option (List ℕ)) → OnOk r (IfSome l (λ text. P)) → IfErr r (λ why. why ≢ halt.Source → why ≢ halt.Long → IfSome l (λ text. P)) → (IsErrOf r halt.Source ⊎ IsErrOf r halt.Long → P) → IfSome l (λ text. P)
-in-each P r None ok err taken = tt
-in-each P (Ok unit) (Some text) ok err taken = ok
-in-each P (Err halt.Source) (Some text) ok err taken = taken (inl refl)
-in-each P (Err halt.Long) (Some text) ok err taken = taken (inr refl)
-in-each P (Err halt.NoMemory) (Some text) ok err taken = err (λ is. cc is) (λ is. cc is)
-in-each P (Err halt.Sink) (Some text) ok err taken = err (λ is. cc is) (λ is. cc is)
-in-each P (Err halt.Disk) (Some text) ok err taken = err (λ is. cc is) (λ is. cc is)
-in-each P (Err (halt.Full log payload)) (Some text) ok err taken = err (λ is. cc is) (λ is. cc is)
-in-each P (Err (halt.Differs d)) (Some text) ok err taken = err (λ is. cc is) (λ is. cc is)
-
--- what follows of a call that succeeded, of one that failed
-pub OnOk-then : {T E P Q : Type 0} (r : Result T E) → OnOk r P → (P → Q) → OnOk r Q
-OnOk-then (Ok t) p then = then p
-OnOk-then (Err e) p then = tt
-
-pub IfErr-then : {T E : Type 0} {P Q : E → Type 0} (r : Result T E) → IfErr r P → ((e : E) → P e → Q e) → IfErr r Q
-IfErr-then (Ok t) p then = tt
-IfErr-then (Err e) p then = then e p

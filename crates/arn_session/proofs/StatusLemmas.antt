@@ -1,9 +1,10 @@
 -- Which halt or which refusal a status is of.
-use Rattle.std.proofs.Common.{◌≡◌, ◌≢◌, ℕ, Option, None, Some, refl, sym, ap, ◌∙◌}
+use Rattle.std.proofs.Common.{◌≡◌, ◌≢◌, ◌+◌, ◌<◌, ℕ, Option, None, Some, refl, subst, sym, ap, ◌∙◌}
+use Rattle.log_store.specs.declared.size.TheConstants.{MOST_LOG}
 use Rattle.log_store.specs.Causes.{BlamesBytes}
 use Rattle.log_store.specs.declared.errors.OpenError.{OpenError}
 use Rattle.log_store.specs.declared.errors.OpenError.TheVariants as opening
-use Rattle.arn_session.specs.Status.{status_of, open_status_of}
+use Rattle.arn_session.specs.Status.{NumbersHold, status_of, open_status_of}
 use Rattle.arn_session.specs.declared.status.Status.{Status}
 use Rattle.arn_session.specs.declared.status.Status.TheVariants as status
 use Rattle.arn_session.specs.declared.status.Damage.TheVariants as damage
@@ -95,3 +96,16 @@ same-error a b is = error-is a (open_status_of b) b (sym is) (error_for-status b
 -- two places at which records can't stand are one
 pub broken-is : (a b : ℕ) → status.Damaged (damage.Broken a) ≡ status.Damaged (damage.Broken b) → a ≡ b
 broken-is a b is = cc is
+
+-- the numbers of a halt's status hold where a full log has no room
+numbers-at : (why : Halt) → ((log payload : ℕ) → why ≡ halt.Full log payload → MOST_LOG < log + 5 + payload) → NumbersHold (status_of why)
+numbers-at halt.NoMemory full = tt
+numbers-at halt.Source full = tt
+numbers-at halt.Sink full = tt
+numbers-at halt.Long full = tt
+numbers-at halt.Disk full = tt
+numbers-at (halt.Full log payload) full = full log payload refl
+numbers-at (halt.Differs d) full = tt
+
+pub numbers-of : (why : Halt) (s : Status) → s ≡ status_of why → ((log payload : ℕ) → why ≡ halt.Full log payload → MOST_LOG < log + 5 + payload) → NumbersHold s
+numbers-of why s is full = subst NumbersHold (sym is) (numbers-at why full)

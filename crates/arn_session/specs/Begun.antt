@@ -9,9 +9,9 @@ use Rattle.guest_devices.specs.Answers.{Asked}
 use Rattle.guest_devices.specs.Slots.{SlotAnswers}
 use Rattle.session_effects.specs.declared.halt.Halt.{Halt}
 use Rattle.session_runs.specs.Points.{Surroundings}
-use Rattle.session_lines.specs.Answering.{Standpoint, standpoint}
+use Rattle.session_runs.specs.Standing.{Standpoint, standpoint}
 use Rattle.session_model.specs.Questions.{Told}
-use Rattle.session_text.specs.CutOff.{BeginsText, FindsOut}
+use Rattle.arn_session.specs.CutOff.{BeginsText, FindsOut}
 
 -- what devices in slots answer, and what that makes of them
 abbrev pub slots_answer : {V : Type 0} → device.Ghosts V → List (Option V) → Asked → Answered → List (Option V) → Type 0

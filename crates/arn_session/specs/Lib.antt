@@ -1,4 +1,9 @@
+pub mod Transcript
+pub mod Answered
+pub mod CutOff
+pub mod Halts
 pub mod Status
 pub mod Words
 pub mod Opening
 pub mod Begun
+pub mod Leaves

@@ -3,6 +3,7 @@
 
 mod session;
 mod status;
+mod text;
 mod words;
 
 pub use session::arnold;

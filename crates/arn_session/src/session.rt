@@ -4,7 +4,9 @@ ghost use Rattle.arn_base.specs.Faults.{Rose};
 ghost use Rattle.arn_base.specs.declared.records.Differs.{Differs};
 ghost use Rattle.arn_base.specs.declared.records.Record.{Record};
 ghost use Rattle.arn_commands.specs.Parts.{text_parts, whole_parts};
+ghost use Rattle.arn_session.specs.Answered.{AnswersParts, AnswersTaken, TookAtMost, TookFewer};
 ghost use Rattle.arn_session.specs.Begun.{BeginsOn, FindsOn, slots_answer, standing};
+ghost use Rattle.arn_session.specs.Leaves.{Leaves, scene_of};
 ghost use Rattle.arn_session.specs.Opening.{FailsToOpen, HasBegun, IsOpened, NeverBegan};
 ghost use Rattle.arn_session.specs.Status.{NumbersHold, open_status_of};
 ghost use Rattle.arn_session.specs.Words.{AreAccepted};
@@ -21,23 +23,54 @@ ghost use Rattle.session_lines.specs.Answering.{IsNoRun};
 ghost use Rattle.session_questions.specs.OfRuns.{AnswersAreOfRuns, SinksAreOfRuns, VerifyTellsRuns};
 ghost use Rattle.session_questions.specs.Texts.{told};
 ghost use Rattle.session_runs.specs.Points.{around};
-ghost use Rattle.session_text.specs.Answers.{Answers, AnswersTaken, TookAtMost, TookFewer};
 
 use crate::status::{Damage, Status};
+use crate::text::session;
 use crate::words::are_accepted;
 use arn_base::{Chooser, Device, Disk, Sink, Source, Steps};
-use guest_devices::Slots;
+use guest_devices::{Answers, Slots};
 use history_index::IndexError;
 use log_store::{Store, logs_read_one_way, store_is_short};
-use session_effects::{Halt, effects_follow, halts_follow, openings_follow};
+use session_effects::{Halt, Outside, effects_follow, halts_follow, openings_follow};
 use session_model::Questions;
 use session_questions::{Asking, answers_are_of_runs};
 use session_runs::MachineRuns;
-use session_text::session;
 use std::alloc::Global;
 use std::sync::ledger::Ledger;
 
-// Answers a text with devices in slots, and keeps those slots.
+// Answers a text on the history of a log, with all that is lent for it.
+fn answer_lent<Q: Questions + Drop, C: Chooser, A: Answers, S: Source, K: Sink, D: Disk, L: Ledger>(
+    alloc: Global,
+    store: Store,
+    questions: Q,
+    chooser: &mut C,
+    answers: &mut A,
+    source: &mut S,
+    sink: &mut K,
+    disk: &mut D,
+    steps: &mut Steps<L>,
+) -> Result<(), Halt>
+    requires open { IsOpen D.Disk store disk.old }
+    requires known { Q.knows questions store.entries }
+    ensures { Leaves D.Disk A.answers Q.told store.entries result
+        (scene_of S.Source K.Sink source.old sink.old disk.old
+        (around (C.choices chooser.old) answers.old steps.old))
+        (scene_of S.Source K.Sink source.new sink.new disk.new
+        (around (C.choices chooser.new) answers.new steps.new)) }
+{
+    let mut text = String::new(alloc);
+    let mut outside = Outside {
+        chooser,
+        answers,
+        disk,
+        sink,
+        steps,
+        text: &mut text,
+    };
+    session(alloc, store, questions, source, &mut outside)
+}
+
+// The same with devices in slots, which it keeps.
 fn answer_in_slots<
     Q: Questions + Drop,
     C: Chooser,
@@ -59,66 +92,19 @@ fn answer_in_slots<
 ) -> Result<(), Halt>
     requires open { IsOpen D.Disk store disk.old }
     requires known { Q.knows questions store.entries }
-    ensures read { OnOk result
-        (IfSome (S.left source.old) (λ text. S.left source.new ≡ Some [])) }
-    ensures answered { OnOk result (IfSome (S.left source.old) (λ text.
-        Answers (slots_answer V.Device) Q.told store.entries (text_parts text)
-        (around (C.choices chooser.old) slots.old.devices.now.items steps.old)
-        (around (C.choices chooser.new) slots.new.devices.now.items steps.new)
-        (CarriesOut IsRun D.Disk disk.old disk.new
-        store.entries (K.holds sink.old) (K.holds sink.new)))) }
-    ensures short { OnOk result
-        (IfSome (S.left source.old) (λ text. length text < 2 ^ 40)) }
-    ensures stops { IfErr result (λ halt. halt ≢ Halt.Source → halt ≢ Halt.Long →
-        IfSome (S.left source.old) (λ text.
-        BeginsOn D.Disk (slots_answer V.Device) Q.told store.entries
-        (standing disk.old (K.holds sink.old) (around (C.choices chooser.old) slots.old.devices.now.items steps.old))
-        (standing disk.new (K.holds sink.new) (around (C.choices chooser.new) slots.new.devices.now.items steps.new))
-        halt text (S.left source.new))) }
-    ensures blames { (d : Differs) → IsErrOf result (Halt.Differs d) → IsNoRun store.entries d }
-    ensures finds { (d : Differs) → IsErrOf result (Halt.Differs d) →
-        IfSome (S.left source.old) (λ text.
-        FindsOn D.Disk (slots_answer V.Device) Q.told store.entries
-        (standing disk.old (K.holds sink.old) (around (C.choices chooser.old) slots.old.devices.now.items steps.old))
-        (standing disk.new (K.holds sink.new) (around (C.choices chooser.new) slots.new.devices.now.items steps.new))
-        text (S.left source.new)) }
-    ensures early { IsErrOf result Halt.Source →
-        TookFewer (2 ^ 40) (S.left source.old) (S.left source.new) }
-    ensures long { IsErrOf result Halt.Long → IfSome (S.left source.old) (λ text.
-        (2 ^ 40 ≤ length text) × (S.left source.new ≡ Some (drop (2 ^ 40) text))) }
-    ensures taken { IsErrOf result Halt.Source ⊎ IsErrOf result Halt.Long →
-        AnswersTaken (slots_answer V.Device) Q.told store.entries
-        (S.left source.old) (S.left source.new) whole_parts
-        (around (C.choices chooser.old) slots.old.devices.now.items steps.old)
-        (around (C.choices chooser.new) slots.new.devices.now.items steps.new)
-        (CarriesOut IsRun D.Disk disk.old disk.new
-        store.entries (K.holds sink.old) (K.holds sink.new)) }
-    ensures at_most { TookAtMost (2 ^ 40) (S.left source.old) (S.left source.new) }
-    ensures any_moment { IsAtRest D.Disk disk.old store.entries →
-        LeavesOnly D.moment D.left_since disk.old disk.new (HoldsMore IsRun store.entries) }
-    ensures rests { OnOk result (IsAtRest D.Disk disk.old store.entries →
-        RestsMore D.Disk disk.new store.entries) }
-    ensures still_rests { IfErr result (λ halt. halt ≢ Halt.Disk → halt ≢ Halt.NoMemory →
-        IsAtRest D.Disk disk.old store.entries →
-        RestsMore D.Disk disk.new store.entries) }
-    ensures source { IsErrOf result Halt.Source →
-        Rose (S.faults source.old) (S.faults source.new) }
-    ensures sink { IsErrOf result Halt.Sink → Rose (K.faults sink.old) (K.faults sink.new) }
-    ensures disk { IsErrOf result Halt.Disk → Rose (D.faults disk.old) (D.faults disk.new) }
-    ensures full { (log payload : ℕ) → IsErrOf result (Halt.Full log payload) →
-        MOST_LOG < log + 5 + payload }
-    ensures later { GoesOn D.image D.faults disk.old disk.new }
-    ensures same_slots { IfSome (S.left source.old) (λ text.
-        slots.new.devices.ghost_name ≡ slots.old.devices.ghost_name) }
-    ensures same_taken { IsErrOf result Halt.Source ⊎ IsErrOf result Halt.Long →
-        slots.new.devices.ghost_name ≡ slots.old.devices.ghost_name }
+    ensures leaves { Leaves D.Disk (slots_answer V.Device) Q.told store.entries result
+        (scene_of S.Source K.Sink source.old sink.old disk.old
+        (around (C.choices chooser.old) slots.old.devices.now.items steps.old))
+        (scene_of S.Source K.Sink source.new sink.new disk.new
+        (around (C.choices chooser.new) slots.new.devices.now.items steps.new)) }
+    ensures same { slots.new.devices.ghost_name ≡ slots.old.devices.ghost_name }
 {
-    session(
+    answer_lent(
         alloc, store, questions, chooser, slots, source, sink, disk, steps,
     )
 }
 
-// Answers a text on the history of a log, with devices that are lent.
+// The same with devices that are lent.
 fn answer_text<Q: Questions + Drop, C: Chooser, V: Device, S: Source, K: Sink, D: Disk, L: Ledger>(
     alloc: Global,
     store: Store,
@@ -132,55 +118,11 @@ fn answer_text<Q: Questions + Drop, C: Chooser, V: Device, S: Source, K: Sink, D
 ) -> Result<(), Halt>
     requires open { IsOpen D.Disk store disk.old }
     requires known { Q.knows questions store.entries }
-    ensures read { OnOk result
-        (IfSome (S.left source.old) (λ text. S.left source.new ≡ Some [])) }
-    ensures answered { OnOk result (IfSome (S.left source.old) (λ text.
-        Answers (slots_answer V.Device) Q.told store.entries (text_parts text)
-        (around (C.choices chooser.old) devices.old.items steps.old)
-        (around (C.choices chooser.new) devices.new.items steps.new)
-        (CarriesOut IsRun D.Disk disk.old disk.new
-        store.entries (K.holds sink.old) (K.holds sink.new)))) }
-    ensures short { OnOk result
-        (IfSome (S.left source.old) (λ text. length text < 2 ^ 40)) }
-    ensures stops { IfErr result (λ halt. halt ≢ Halt.Source → halt ≢ Halt.Long →
-        IfSome (S.left source.old) (λ text.
-        BeginsOn D.Disk (slots_answer V.Device) Q.told store.entries
-        (standing disk.old (K.holds sink.old) (around (C.choices chooser.old) devices.old.items steps.old))
-        (standing disk.new (K.holds sink.new) (around (C.choices chooser.new) devices.new.items steps.new))
-        halt text (S.left source.new))) }
-    ensures blames { (d : Differs) → IsErrOf result (Halt.Differs d) → IsNoRun store.entries d }
-    ensures finds { (d : Differs) → IsErrOf result (Halt.Differs d) →
-        IfSome (S.left source.old) (λ text.
-        FindsOn D.Disk (slots_answer V.Device) Q.told store.entries
-        (standing disk.old (K.holds sink.old) (around (C.choices chooser.old) devices.old.items steps.old))
-        (standing disk.new (K.holds sink.new) (around (C.choices chooser.new) devices.new.items steps.new))
-        text (S.left source.new)) }
-    ensures early { IsErrOf result Halt.Source →
-        TookFewer (2 ^ 40) (S.left source.old) (S.left source.new) }
-    ensures long { IsErrOf result Halt.Long → IfSome (S.left source.old) (λ text.
-        (2 ^ 40 ≤ length text) × (S.left source.new ≡ Some (drop (2 ^ 40) text))) }
-    ensures taken { IsErrOf result Halt.Source ⊎ IsErrOf result Halt.Long →
-        AnswersTaken (slots_answer V.Device) Q.told store.entries
-        (S.left source.old) (S.left source.new) whole_parts
-        (around (C.choices chooser.old) devices.old.items steps.old)
-        (around (C.choices chooser.new) devices.new.items steps.new)
-        (CarriesOut IsRun D.Disk disk.old disk.new
-        store.entries (K.holds sink.old) (K.holds sink.new)) }
-    ensures at_most { TookAtMost (2 ^ 40) (S.left source.old) (S.left source.new) }
-    ensures any_moment { IsAtRest D.Disk disk.old store.entries →
-        LeavesOnly D.moment D.left_since disk.old disk.new (HoldsMore IsRun store.entries) }
-    ensures rests { OnOk result (IsAtRest D.Disk disk.old store.entries →
-        RestsMore D.Disk disk.new store.entries) }
-    ensures still_rests { IfErr result (λ halt. halt ≢ Halt.Disk → halt ≢ Halt.NoMemory →
-        IsAtRest D.Disk disk.old store.entries →
-        RestsMore D.Disk disk.new store.entries) }
-    ensures source { IsErrOf result Halt.Source →
-        Rose (S.faults source.old) (S.faults source.new) }
-    ensures sink { IsErrOf result Halt.Sink → Rose (K.faults sink.old) (K.faults sink.new) }
-    ensures disk { IsErrOf result Halt.Disk → Rose (D.faults disk.old) (D.faults disk.new) }
-    ensures full { (log payload : ℕ) → IsErrOf result (Halt.Full log payload) →
-        MOST_LOG < log + 5 + payload }
-    ensures later { GoesOn D.image D.faults disk.old disk.new }
+    ensures { Leaves D.Disk (slots_answer V.Device) Q.told store.entries result
+        (scene_of S.Source K.Sink source.old sink.old disk.old
+        (around (C.choices chooser.old) devices.old.items steps.old))
+        (scene_of S.Source K.Sink source.new sink.new disk.new
+        (around (C.choices chooser.new) devices.new.items steps.new)) }
 {
     let mut slots = Slots { devices };
     answer_in_slots(
@@ -213,7 +155,7 @@ pub fn arnold<S: Source, K: Sink, D: Disk, L: Ledger>(
         IfSome (S.left source.old) (λ text. S.left source.new ≡ Some []) }
     ensures answered { result ≡ Status.Done → (history : List Record) →
         HoldsLog D.Disk disk.old history → IfSome (S.left source.old) (λ text.
-        Answers (slots_answer ⟦<Box<dyn Device> as Device>⟧) told history (text_parts text)
+        AnswersParts (slots_answer ⟦<Box<dyn Device> as Device>⟧) told history (text_parts text)
         (around (⟦<Box<dyn Chooser> as Chooser>⟧.choices chooser.old) devices.old.items steps.old)
         (around (⟦<Box<dyn Chooser> as Chooser>⟧.choices chooser.new) devices.new.items steps.new)
         (CarriesOut IsRun D.Disk disk.old disk.new

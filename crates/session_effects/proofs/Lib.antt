@@ -8,3 +8,4 @@ pub mod CommitLemmas
 pub mod PrintLemmas
 pub mod OpenLemmas
 pub mod QuietLemmas
+pub mod OutsideLemmas

@@ -7,11 +7,13 @@
 mod commits;
 mod halt;
 mod law;
+mod outside;
 mod printing;
 mod runs;
 
 pub use commits::{commit, commit_some};
 pub use halt::Halt;
 pub use law::{causes_follow, effects_follow, halts_follow, openings_follow, quiet_follows};
+pub use outside::{Outside, goings_follow};
 pub use printing::put_all;
 pub use runs::Runs;

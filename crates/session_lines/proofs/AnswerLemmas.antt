@@ -19,7 +19,8 @@ use Rattle.session_effects.specs.declared.halt.Halt.{Halt}
 use Rattle.session_effects.specs.declared.halt.Halt.TheVariants as halt
 use Rattle.session_runs.specs.Points.{around}
 use Rattle.session_runs.specs.Turns.{finished, prints}
-use Rattle.session_lines.specs.Answering.{BlamesRecords, BlamesRightly, IsAnswered, IsHalted, IsLineCause, IsNotBegun, IsNotMade, Standpoint, standpoint}
+use Rattle.session_lines.specs.Answering.{BlamesRecords, BlamesRightly, IsAnswered, IsHalted, IsLineCause, IsNotBegun, IsNotMade}
+use Rattle.session_runs.specs.Standing.{Standpoint, standpoint}
 use Rattle.session_lines.specs.Cost.{cost, machine_cost}
 use Rattle.session_lines.specs.Lines.{needs_machine, turn}
 use Rattle.session_lines.proofs.TurnLemmas.{Advances-nothing, Advances-prints, IsStill, Stops-nothing, Stops-prints}
@@ -53,6 +54,16 @@ text-cause halt.Long d0 d1 s0 s1 causes = absurd (causes 0)
 text-cause halt.Disk d0 d1 s0 s1 causes = absurd (never-rose (causes 0))
 text-cause (halt.Full log payload) d0 d1 s0 s1 causes = causes 0
 text-cause (halt.Differs d) d0 d1 s0 s1 causes = absurd (causes 0)
+
+-- what puts no text halts by no fault of the sink, whatever the sink did before
+pub disk-cause : (why : Halt) (d0 d1 s0 s1 : ℕ) → ((faults : ℕ) → IsCause why d0 d1 faults faults) → IsLineCause why d0 d1 s0 s1
+disk-cause halt.NoMemory d0 d1 s0 s1 causes = tt
+disk-cause halt.Source d0 d1 s0 s1 causes = absurd (causes 0)
+disk-cause halt.Sink d0 d1 s0 s1 causes = absurd (never-rose (causes 0))
+disk-cause halt.Long d0 d1 s0 s1 causes = absurd (causes 0)
+disk-cause halt.Disk d0 d1 s0 s1 causes = causes 0
+disk-cause (halt.Full log payload) d0 d1 s0 s1 causes = causes 0
+disk-cause (halt.Differs d) d0 d1 s0 s1 causes = absurd (causes 0)
 
 -- what holds of an error by two facts
 pub err-both : {T : Type 0} (result : Result T Halt) (P Q R : Halt → Type 0) → ((why : Halt) → P why → Q why → R why) → IfErr result P → IfErr result Q → IfErr result R

@@ -23,7 +23,8 @@ use Rattle.session_runs.specs.Laws.{PointsFollow}
 use Rattle.session_runs.specs.Points.{Advances, Stops, Surroundings, around}
 use Rattle.session_runs.specs.Ready.{IsReady}
 use Rattle.session_runs.specs.Turns.{Point, finished}
-use Rattle.session_lines.specs.Answering.{IsAnswered, IsHalted, standpoint}
+use Rattle.session_lines.specs.Answering.{IsAnswered, IsHalted}
+use Rattle.session_runs.specs.Standing.{standpoint}
 use Rattle.session_lines.specs.Cost.{cost, machine_cost}
 use Rattle.session_lines.specs.Kept.{IsSound}
 use Rattle.session_lines.specs.Lines.{is_change, line_turn, turn}

@@ -12,7 +12,8 @@ use Rattle.arn_commands.specs.declared.command.Command.TheVariants.{PassedOver, 
 use Rattle.session_effects.specs.Effects.{Prints}
 use Rattle.session_effects.specs.declared.halt.Halt.TheVariants as halt
 use Rattle.session_runs.specs.Points.{around}
-use Rattle.session_lines.specs.Answering.{IsNotBegun, Standpoint, standpoint}
+use Rattle.session_lines.specs.Answering.{IsNotBegun}
+use Rattle.session_runs.specs.Standing.{Standpoint, standpoint}
 use Rattle.session_lines.specs.Generator.{gen_name}
 use Rattle.session_lines.specs.Lines.{needs_machine, turn}
 use Rattle.session_lines.specs.Refusals.{fault_refusal, generator_refusal, refusal_of}

@@ -32,7 +32,8 @@ use Rattle.session_runs.specs.Quiet.{quiet_turn, quietly, then_told}
 use Rattle.session_runs.specs.Ready.{machine_of}
 use Rattle.session_runs.specs.Runs.{begun, ended, ends, run, unless_ended}
 use Rattle.session_runs.specs.Turns.{Point, Turn, behind, cut_off, finished, prints}
-use Rattle.session_lines.specs.Answering.{HaltsIn, IsAnswered, IsHalted, standpoint}
+use Rattle.session_lines.specs.Answering.{HaltsIn, IsAnswered, IsHalted}
+use Rattle.session_runs.specs.Standing.{standpoint}
 use Rattle.session_lines.specs.Cost.{cost, machine_cost}
 use Rattle.session_lines.specs.Generator.{event_commits, gen_from, gen_inputs, gen_name, gen_run, generator_turn}
 use Rattle.session_lines.specs.Lines.{needs_machine, turn, turn_unless}
@@ -163,9 +164,9 @@ record HaltsTold {D A : Type 0} (d : Ghosts D) (replies : A → Asked → Answer
   pub leaves : history ++ committed (from (all_named stops.asks stops.slices ++ all_named stops.lost_asks stops.lost)).effects ≡ there
 
 module _ {D A : Type 0} (d : Ghosts D) (replies : A → Asked → Answered → A → Type 0) (halts : HaltsFollow IsRun d) where
-  halts-told : (from : Point) (text : List ℕ) (choices choices' : ℕ → Option Choice) (answers answers' : A) (steps mid there_steps steps' cost : ℕ) (old new : D) (s0 s1 : StoreState) (h0 h1 : Option (List ℕ)) (why : Halt) → Advances replies from (prints text) (around choices answers mid) (around choices' answers' there_steps) 0 (Carries IsRun d old new s0 s1 h0 h0) → StopsPut why text h0 h1 → mid + steps' ≤ steps + cost + there_steps
+  halts-told : (from : Point) (text : List ℕ) (choices choices' : ℕ → Option Choice) (answers answers' : A) (steps mid there_steps steps' cost : ℕ) (old new : D) (s0 s1 : StoreState) (h0 there h1 : Option (List ℕ)) (why : Halt) → Advances replies from (prints text) (around choices answers mid) (around choices' answers' there_steps) 0 (Carries IsRun d old new s0 s1 h0 there) → StopsPut why text there h1 → mid + steps' ≤ steps + cost + there_steps
       → HaltsTold d replies from (around choices answers steps) (around choices' answers' steps') cost old new s0.entries s1.entries h0 h1 why
-  halts-told from text choices choices' answers answers' steps mid there_steps steps' cost old new s0 s1 h0 h1 why p put cheap =
+  halts-told from text choices choices' answers answers' steps mid there_steps steps' cost old new s0 s1 h0 there h1 why p put cheap =
       let xs : List Picked = all_named p.asks p.slices in
       record {
         stops = record {
@@ -180,8 +181,8 @@ module _ {D A : Type 0} (d : Ghosts D) (replies : A → Asked → Answered → A
           are_effects = ap (λ (t : Turn). t.effects) (p.leads []) ∙ ap (λ (e : List Effect). e ++ Prints text ∷ []) (sym (append-nil p.effects));
           are_asks = ap (λ (t : Turn). t.asks) (p.leads []);
           stopped =
-              halts.behind old new new s0.entries s1.entries h0 h0 h1 why p.effects [] (Prints text ∷ []) p.carries.entries p.carries.out
-              (halts.text new s1.entries h0 h1 why text put);
+              halts.behind old new new s0.entries s1.entries h0 there h1 why p.effects [] (Prints text ∷ []) p.carries.entries p.carries.out
+              (halts.text new s1.entries there h1 why text put);
           names = ap (λ (e : List Effect). slices_in (committed e)) (append-nil p.effects) ∙ p.names;
           begins = ap (λ (e : List Effect). reply_behind (committed e)) (append-nil p.effects) ∙ p.begins;
           names_lost = λ entries at. absurd (no-commit text entries [] at);
@@ -209,18 +210,18 @@ module _ {D A : Type 0} (d : Ghosts D) (replies : A → Asked → Answered → A
 
 module _ {D A : Type 0} (d : Ghosts D) (replies : A → Asked → Answered → A → Type 0) (told : Told) (is_there : Bool) (image typed : List ℕ) (processes : ℕ) (store : StoreState) (accepted : generator_refusal store.entries ≡ None) (choices : ℕ → Option Choice) (answers : A) (steps mid : ℕ) (cheap : mid ≤ steps + machine_cost is_there store.entries) where
   -- what it did, by a store that is still the same
-  pub advances-kept : (disk disk' : D) (there s1 kept : StoreState) (held : Option (List ℕ)) (new : Surroundings A) → kept ≡ s1
-      → Advances replies (generator_turn told there.entries image typed processes) (prints (told.generated s1.entries processes)) (around choices answers mid) new 0 (Carries IsRun d disk disk' there s1 held held)
-      → Advances replies (generator_turn told there.entries image typed processes) (prints (told.generated kept.entries processes)) (around choices answers mid) new 0 (Carries IsRun d disk disk' there kept held held)
-  advances-kept disk disk' there s1 kept held new same p =
-      subst (λ (s : StoreState). Advances replies (generator_turn told there.entries image typed processes) (prints (told.generated s.entries processes)) (around choices answers mid) new 0 (Carries IsRun d disk disk' there s held held)) (sym same) p
+  pub advances-kept : (disk disk' : D) (there s1 kept : StoreState) (held holds : Option (List ℕ)) (new : Surroundings A) → kept ≡ s1
+      → Advances replies (generator_turn told there.entries image typed processes) (prints (told.generated s1.entries processes)) (around choices answers mid) new 0 (Carries IsRun d disk disk' there s1 held holds)
+      → Advances replies (generator_turn told there.entries image typed processes) (prints (told.generated kept.entries processes)) (around choices answers mid) new 0 (Carries IsRun d disk disk' there kept held holds)
+  advances-kept disk disk' there s1 kept held holds new same p =
+      subst (λ (s : StoreState). Advances replies (generator_turn told there.entries image typed processes) (prints (told.generated s.entries processes)) (around choices answers mid) new 0 (Carries IsRun d disk disk' there s held holds)) (sym same) p
 
   -- it was carried out and told
-  pub answered-told : {T : Type 0} (laws : EffectsFollow IsRun d) (points : PointsFollow IsRun d replies) (result : Result T Halt) (disk disk' : D) (there s1 s2 : StoreState) (h0 h1 : Option (List ℕ)) (choices' : ℕ → Option Choice) (answers' : A) (there_steps steps' : ℕ) → there ≡ store → s2 ≡ s1 → IsRun store.entries
-      → Advances replies (generator_turn told there.entries image typed processes) (prints (told.generated s1.entries processes)) (around choices answers mid) (around choices' answers' there_steps) 0 (Carries IsRun d disk disk' there s1 h0 h0) → steps' ≤ there_steps + told.generated_cost s1.entries → OnOk result (h1 ≡ option_map (λ before. before ++ told.generated s1.entries processes) h0)
+  pub answered-told : {T : Type 0} (laws : EffectsFollow IsRun d) (points : PointsFollow IsRun d replies) (result : Result T Halt) (disk disk' : D) (there s1 s2 : StoreState) (h0 mid_held h1 : Option (List ℕ)) (choices' : ℕ → Option Choice) (answers' : A) (there_steps steps' : ℕ) → there ≡ store → s2 ≡ s1 → IsRun store.entries
+      → Advances replies (generator_turn told there.entries image typed processes) (prints (told.generated s1.entries processes)) (around choices answers mid) (around choices' answers' there_steps) 0 (Carries IsRun d disk disk' there s1 h0 mid_held) → steps' ≤ there_steps + told.generated_cost s1.entries → OnOk result (h1 ≡ option_map (λ before. before ++ told.generated s1.entries processes) mid_held)
       → OnOk result (IsAnswered d replies told is_there (Generates image typed processes) (standpoint disk store h0 (around choices answers steps)) (standpoint disk' s2 h1 (around choices' answers' steps')))
-  answered-told laws points (Err e) disk disk' there s1 s2 h0 h1 choices' answers' there_steps steps' same same_behind is_run p telling put = tt
-  answered-told laws points (Ok x) disk disk' there s1 s2 h0 h1 choices' answers' there_steps steps' same same_behind is_run p telling put =
+  answered-told laws points (Err e) disk disk' there s1 s2 h0 mid_held h1 choices' answers' there_steps steps' same same_behind is_run p telling put = tt
+  answered-told laws points (Ok x) disk disk' there s1 s2 h0 mid_held h1 choices' answers' there_steps steps' same same_behind is_run p telling put =
       let point = generator_turn told store.entries image typed processes in
       let text = told.generated s1.entries processes in
       let u = around choices answers mid in
@@ -228,9 +229,9 @@ module _ {D A : Type 0} (d : Ghosts D) (replies : A → Asked → Answered → A
       let w = around choices' answers' steps' in
       let asked = told.generated_cost s1.entries in
       let all = cost told is_there store.entries s1.entries (Generates image typed processes) in
-      let first : Advances replies point (prints text) u v 0 (Carries IsRun d disk disk' store s1 h0 h0) = subst (λ (s : StoreState). Advances replies (generator_turn told s.entries image typed processes) (prints text) u v 0 (Carries IsRun d disk disk' s s1 h0 h0)) same p in
-      let second = Advances-prints IsRun d replies laws choices' answers' disk' s1 h0 h1 (prints text) there_steps steps' asked text refl first.carries.stays_open put telling in
-      let both = points.advances point (prints text) finished u v w 0 asked disk disk' disk' store s1 s1 h0 h0 h1 first second in
+      let first : Advances replies point (prints text) u v 0 (Carries IsRun d disk disk' store s1 h0 mid_held) = subst (λ (s : StoreState). Advances replies (generator_turn told s.entries image typed processes) (prints text) u v 0 (Carries IsRun d disk disk' s s1 h0 mid_held)) same p in
+      let second = Advances-prints IsRun d replies laws choices' answers' disk' s1 mid_held h1 (prints text) there_steps steps' asked text refl first.carries.stays_open put telling in
+      let both = points.advances point (prints text) finished u v w 0 asked disk disk' disk' store s1 s1 h0 mid_held h1 first second in
       let whole = Advances-later replies choices answers point finished steps mid (0 + asked) all w (Carries IsRun d disk disk' store s1 h0 h1) (omega (arith, cheap, cost-generator told store.entries image typed processes is_there s1.entries accepted)) both in
       subst (λ (s : StoreState). IsAnswered d replies told is_there (Generates image typed processes) (standpoint disk store h0 (around choices answers steps)) (standpoint disk' s h1 w)) (sym same_behind)
       (record {
@@ -252,18 +253,18 @@ module _ {D A : Type 0} (d : Ghosts D) (replies : A → Asked → Answered → A
     }
 
     -- it halted where it was told
-    pub halted-told : (disk disk' : D) (there s1 s2 : StoreState) (h0 h1 : Option (List ℕ)) (why : Halt) (choices' : ℕ → Option Choice) (answers' : A) (there_steps steps' : ℕ) → there ≡ store → IsRun store.entries
-        → Advances replies (generator_turn told there.entries image typed processes) (prints (told.generated s1.entries processes)) (around choices answers mid) (around choices' answers' there_steps) 0 (Carries IsRun d disk disk' there s1 h0 h0) → steps' ≤ there_steps + told.generated_cost s1.entries → StopsPut why (told.generated s1.entries processes) h0 h1
+    pub halted-told : (disk disk' : D) (there s1 s2 : StoreState) (h0 mid_held h1 : Option (List ℕ)) (why : Halt) (choices' : ℕ → Option Choice) (answers' : A) (there_steps steps' : ℕ) → there ≡ store → IsRun store.entries
+        → Advances replies (generator_turn told there.entries image typed processes) (prints (told.generated s1.entries processes)) (around choices answers mid) (around choices' answers' there_steps) 0 (Carries IsRun d disk disk' there s1 h0 mid_held) → steps' ≤ there_steps + told.generated_cost s1.entries → StopsPut why (told.generated s1.entries processes) mid_held h1
         → IsHalted d replies told is_there why (Generates image typed processes) (standpoint disk store h0 (around choices answers steps)) (standpoint disk' s2 h1 (around choices' answers' steps'))
-    halted-told disk disk' there s1 s2 h0 h1 why choices' answers' there_steps steps' same is_run p telling put =
+    halted-told disk disk' there s1 s2 h0 mid_held h1 why choices' answers' there_steps steps' same is_run p telling put =
         let text = told.generated s1.entries processes in
         let all = machine_cost is_there store.entries + told.generated_cost s1.entries in
         let from = turn told store.entries (Generates image typed processes) in
         let v = around choices' answers' there_steps in
-        let first : Advances replies from (prints text) (around choices answers mid) v 0 (Carries IsRun d disk disk' store s1 h0 h0) =
-        subst (λ (x : Point). Advances replies x (prints text) (around choices answers mid) v 0 (Carries IsRun d disk disk' store s1 h0 h0)) (sym (turn-generator told store.entries image typed processes accepted))
-        (subst (λ (s : StoreState). Advances replies (generator_turn told s.entries image typed processes) (prints text) (around choices answers mid) v 0 (Carries IsRun d disk disk' s s1 h0 h0)) same p) in
-        let halted = halts-told d replies halts from text choices choices' answers answers' steps mid there_steps steps' all disk disk' store s1 h0 h1 why first put (omega (arith, cheap, telling)) in
+        let first : Advances replies from (prints text) (around choices answers mid) v 0 (Carries IsRun d disk disk' store s1 h0 mid_held) =
+        subst (λ (x : Point). Advances replies x (prints text) (around choices answers mid) v 0 (Carries IsRun d disk disk' store s1 h0 mid_held)) (sym (turn-generator told store.entries image typed processes accepted))
+        (subst (λ (s : StoreState). Advances replies (generator_turn told s.entries image typed processes) (prints text) (around choices answers mid) v 0 (Carries IsRun d disk disk' s s1 h0 mid_held)) same p) in
+        let halted = halts-told d replies halts from text choices choices' answers answers' steps mid there_steps steps' all disk disk' store s1 h0 mid_held h1 why first put (omega (arith, cheap, telling)) in
         record {
           beside = all;
           stops = halted.stops;
@@ -272,12 +273,12 @@ module _ {D A : Type 0} (d : Ghosts D) (replies : A → Asked → Answered → A
         }
 
     -- memory ran out before anything of its text was put
-    pub halted-unheard : (disk disk' : D) (there s1 s2 : StoreState) (held : Option (List ℕ)) (choices' : ℕ → Option Choice) (answers' : A) (steps' : ℕ) → there ≡ store → IsRun store.entries
-        → Advances replies (generator_turn told there.entries image typed processes) (prints (told.generated s1.entries processes)) (around choices answers mid) (around choices' answers' steps') 0 (Carries IsRun d disk disk' there s1 held held)
-        → IsHalted d replies told is_there halt.NoMemory (Generates image typed processes) (standpoint disk store held (around choices answers steps)) (standpoint disk' s2 held (around choices' answers' steps'))
-    halted-unheard disk disk' there s1 s2 held choices' answers' steps' same is_run p =
-        halted-told disk disk' there s1 s2 held held halt.NoMemory choices' answers' steps' steps' same is_run p (omega arith)
-        (record { put = []; left = told.generated s1.entries processes; are_bytes = refl; printed = put_nothing held })
+    pub halted-unheard : (disk disk' : D) (there s1 s2 : StoreState) (held holds : Option (List ℕ)) (choices' : ℕ → Option Choice) (answers' : A) (steps' : ℕ) → there ≡ store → IsRun store.entries
+        → Advances replies (generator_turn told there.entries image typed processes) (prints (told.generated s1.entries processes)) (around choices answers mid) (around choices' answers' steps') 0 (Carries IsRun d disk disk' there s1 held holds)
+        → IsHalted d replies told is_there halt.NoMemory (Generates image typed processes) (standpoint disk store held (around choices answers steps)) (standpoint disk' s2 holds (around choices' answers' steps'))
+    halted-unheard disk disk' there s1 s2 held holds choices' answers' steps' same is_run p =
+        halted-told disk disk' there s1 s2 held holds holds halt.NoMemory choices' answers' steps' steps' same is_run p (omega arith)
+        (record { put = []; left = told.generated s1.entries processes; are_bytes = refl; printed = put_nothing holds })
       where
         put_nothing : (o : Option (List ℕ)) → o ≡ option_map (λ before. before ++ []) o
         put_nothing None = refl

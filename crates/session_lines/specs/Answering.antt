@@ -6,17 +6,15 @@ use Rattle.arn_base.specs.declared.records.Record.{Record}
 use Rattle.arn_base.specs.Faults.{Rose}
 use Rattle.parts_model.specs.Replies.{Answered}
 use Rattle.log_model.specs.Records.{IsRun, named, records}
-use Rattle.log_store.specs.Stores.{StoreState}
 use Rattle.log_store.specs.declared.size.TheConstants.{MOST_LOG}
 use Rattle.guest_devices.specs.Answers.{Asked}
 use Rattle.guest_machine.specs.Differs.{IsFirstDifference}
 use Rattle.guest_machine.specs.LegLaws.{all_named}
 use Rattle.arn_commands.specs.declared.command.Command.{Command}
 use Rattle.session_effects.specs.Effects.{Effect}
-use Rattle.session_effects.specs.Standing.{Carries}
 use Rattle.session_effects.specs.declared.halt.Halt.{Halt}
 use Rattle.session_effects.specs.declared.halt.Halt.TheVariants as halt
-use Rattle.session_runs.specs.Points.{Advances, Stops, Surroundings}
+use Rattle.session_runs.specs.Standing.{HaltsBehind, Proceeds, Standpoint}
 use Rattle.session_runs.specs.Turns.{finished}
 use Rattle.session_lines.specs.Cost.{cost, cost_of_turn, machine_cost}
 use Rattle.session_lines.specs.Lines.{needs_machine, turn}
@@ -64,16 +62,6 @@ IsNotMade halt.Sink = ⊥
 IsNotMade halt.Disk = ⊥
 IsNotMade (halt.Full log payload) = ⊥
 
--- where a session stands: the disk and the store over it, what the sink holds if it tells, and what surrounds the machine
-pub record Standpoint (D A : Type 0) : Type 0 where
-  pub disk : D
-  pub store : StoreState
-  pub held : Option (List ℕ)
-  pub around : Surroundings A
-
-abbrev pub standpoint : {D A : Type 0} → D → StoreState → Option (List ℕ) → Surroundings A → Standpoint D A
-standpoint disk store held around = record { disk = disk; store = store; held = held; around = around }
-
 -- nothing was carried out, and no slice taken
 pub record IsUntouched {D A : Type 0} (old new : Standpoint D A) : Type 0 where
   pub disk : new.disk ≡ old.disk
@@ -91,13 +79,13 @@ pub record IsNotBegun {D A : Type 0} (why : Halt) (is_there : Bool) (old new : S
 module _ {D A : Type 0} (d : Ghosts D) (replies : A → Asked → Answered → A → Type 0) (told : Told) (is_there : Bool) where
   -- A command was answered: all that it asks for was carried out. Where it needs the machine, the history is that of a run.
   pub record IsAnswered (command : Command) (old new : Standpoint D A) : Type 0 where
-    pub advances : Advances replies (turn told old.store.entries command) finished old.around new.around (cost told is_there old.store.entries new.store.entries command) (Carries IsRun d old.disk new.disk old.store new.store old.held new.held)
+    pub advances : Proceeds d replies (turn told old.store.entries command) finished (cost told is_there old.store.entries new.store.entries command) old new
     pub on_run : needs_machine old.store.entries command ≡ true → IsRun old.store.entries
 
   -- Its answer halted. Where it needs the machine, the history is that of a run, or no machine was made.
   pub record IsHalted (why : Halt) (command : Command) (old new : Standpoint D A) : Type 0 where
     pub beside : ℕ
-    pub stops : Stops IsRun d replies old.disk new.disk old.store.entries old.held new.held why (turn told old.store.entries command) old.around new.around beside
+    pub stops : HaltsBehind d replies why (turn told old.store.entries command) beside old new
     pub costs : beside ≤ cost_of_turn told is_there old.store.entries command (turn told old.store.entries command (all_named stops.asks stops.slices ++ all_named stops.lost_asks stops.lost))
     pub on_run : needs_machine old.store.entries command ≡ true → IsRun old.store.entries ⊎ IsNotBegun why is_there old new
 

@@ -4,18 +4,18 @@ ghost use Rattle.arn_base.specs.Faults.{NeverFalls};
 ghost use Rattle.arn_commands.specs.Sizes.{Fits, LineFits};
 ghost use Rattle.arn_commands.specs.declared.command.Command.TheVariants.{Says};
 ghost use Rattle.log_model.specs.Records.{IsRun};
-ghost use Rattle.log_store.specs.Stops.{GoesOn};
 ghost use Rattle.result_log.specs.Spelling.{HasSpelling};
+ghost use Rattle.session_effects.specs.Outside.{GoesOnOutside, IsCauseOutside};
 ghost use Rattle.session_effects.specs.Printing.{StopsPut};
-ghost use Rattle.session_effects.specs.Standing.{Carries, IsCause, IsOpen};
-ghost use Rattle.session_lines.specs.Answering.{BlamesRightly, IsAnswered, IsHalted, IsLineCause, standpoint};
+ghost use Rattle.session_effects.specs.Standing.{IsCause, IsOpen};
+ghost use Rattle.session_lines.specs.Answering.{BlamesRightly, IsAnswered, IsHalted, IsLineCause};
 ghost use Rattle.session_lines.specs.Cost.{machine_cost};
 ghost use Rattle.session_lines.specs.Kept.{IsSound};
 ghost use Rattle.session_lines.specs.Lines.{is_change, line_turn, needs_machine};
 ghost use Rattle.session_lines.specs.Refusals.{refusal_of as refusal_by};
 ghost use Rattle.session_model.specs.Questions.{Told};
-ghost use Rattle.session_runs.specs.Points.{Advances, Stops, around};
 ghost use Rattle.session_runs.specs.Ready.{IsReady};
+ghost use Rattle.session_runs.specs.Standing.{HaltsBehind, Proceeds, standing};
 ghost use Rattle.session_runs.specs.Turns.{finished};
 
 use crate::events::{add_file, boot, type_in};
@@ -30,25 +30,19 @@ use arn_lines::{Line, Question, Refusal};
 use guest_devices::Answers;
 use guest_machine::Machine;
 use log_store::{Store, store_is_short};
-use session_effects::{Halt, effects_follow, halts_follow, put_all};
+use session_effects::{Halt, Outside, effects_follow, halts_follow, put_all};
 use session_model::Questions;
 use session_runs::{MachineRuns, points_follow, run};
 use std::alloc::Global;
 use std::sync::ledger::Ledger;
 
-/// Does what a command asks for: commits what it adds to the history, and prints its answer. `text` is a
-/// buffer whose contents are lost.
+/// Does what a command asks for: commits what it adds to the history, and prints its answer.
 pub fn answer<Q: Questions, C: Chooser, A: Answers, D: Disk, K: Sink, L: Ledger>(
     kept: &mut Kept<Q>,
     command: Command,
-    chooser: &mut C,
-    answers: &mut A,
-    disk: &mut D,
-    text: &mut String,
-    sink: &mut K,
-    steps: &mut Steps<L>,
+    outside: &mut Outside<C, A, D, K, L>,
 ) -> Result<(), Halt>
-    requires open { IsOpen D.Disk kept.old.store disk.old }
+    requires open { IsOpen D.Disk kept.old.store outside.old.disk.now }
     requires sound { IsSound Q.knows kept.old.machine kept.old.questions kept.old.store.entries }
     requires fits { Fits command }
 
@@ -58,42 +52,34 @@ pub fn answer<Q: Questions, C: Chooser, A: Answers, D: Disk, K: Sink, L: Ledger>
         is_some kept.old.machine || needs_machine kept.old.store.entries command) }
     ensures answered { OnOk result
         (IsAnswered D.Disk A.answers Q.told (is_some kept.old.machine) command
-        (standpoint disk.old kept.old.store (K.holds sink.old)
-        (around (C.choices chooser.old) answers.old steps.old))
-        (standpoint disk.new kept.new.store (K.holds sink.new)
-        (around (C.choices chooser.new) answers.new steps.new))) }
+        (standing C.choices K.holds kept.old.store outside.old)
+        (standing C.choices K.holds kept.new.store outside.new)) }
 
     ensures halted { IfErr result (λ halt.
         IsHalted D.Disk A.answers Q.told (is_some kept.old.machine) halt command
-        (standpoint disk.old kept.old.store (K.holds sink.old)
-        (around (C.choices chooser.old) answers.old steps.old))
-        (standpoint disk.new kept.new.store (K.holds sink.new)
-        (around (C.choices chooser.new) answers.new steps.new))) }
+        (standing C.choices K.holds kept.old.store outside.old)
+        (standing C.choices K.holds kept.new.store outside.new)) }
     ensures blames { IfErr result (λ halt.
         BlamesRightly (is_some kept.old.machine) halt command
-        (standpoint disk.old kept.old.store (K.holds sink.old)
-        (around (C.choices chooser.old) answers.old steps.old))
-        (standpoint disk.new kept.new.store (K.holds sink.new)
-        (around (C.choices chooser.new) answers.new steps.new))) }
+        (standing C.choices K.holds kept.old.store outside.old)
+        (standing C.choices K.holds kept.new.store outside.new)) }
     ensures cause { IfErr result (λ halt. IsLineCause halt
-        (D.faults disk.old) (D.faults disk.new) (K.faults sink.old) (K.faults sink.new)) }
+        (D.faults outside.old.disk.now) (D.faults outside.new.disk.now)
+        (K.faults outside.old.sink.now) (K.faults outside.new.sink.now)) }
 
-    ensures later { GoesOn D.image D.faults disk.old disk.new }
-    ensures faults { NeverFalls (K.faults sink.old) (K.faults sink.new) }
+    ensures goes_on { GoesOnOutside D.Disk K.faults outside.old outside.new }
 {
     effects_follow::<MachineRuns, D>();
     halts_follow::<MachineRuns, D>();
     points_follow::<MachineRuns, D, A>();
     match command {
         Command::PassedOver => Ok(()),
-        Command::TooLong => print_refusal(text, Refusal::NoLong, sink),
-        Command::Unreadable => print_refusal(text, Refusal::NoLine, sink),
-        Command::Says { line } => {
-            answer_line(kept, line, chooser, answers, disk, text, sink, steps)
-        }
+        Command::TooLong => print_refusal(outside.text, Refusal::NoLong, outside.sink),
+        Command::Unreadable => print_refusal(outside.text, Refusal::NoLine, outside.sink),
+        Command::Says { line } => answer_line(kept, line, outside),
         Command::Faulty { at } => {
             let why = fault_refusal(kept.store.entries(), at);
-            print_refusal(text, why, sink)
+            print_refusal(outside.text, why, outside.sink)
         }
         Command::Generates {
             image,
@@ -101,9 +87,7 @@ pub fn answer<Q: Questions, C: Chooser, A: Answers, D: Disk, K: Sink, L: Ledger>
             processes,
         } => {
             let (image, typed) = (image.as_slice(), typed.as_slice());
-            answer_generator(
-                kept, image, typed, processes, chooser, answers, disk, text, sink, steps,
-            )
+            answer_generator(kept, image, typed, processes, outside)
         }
     }
 }
@@ -112,14 +96,9 @@ pub fn answer<Q: Questions, C: Chooser, A: Answers, D: Disk, K: Sink, L: Ledger>
 fn answer_line<Q: Questions, C: Chooser, A: Answers, D: Disk, K: Sink, L: Ledger>(
     kept: &mut Kept<Q>,
     line: Line,
-    chooser: &mut C,
-    answers: &mut A,
-    disk: &mut D,
-    text: &mut String,
-    sink: &mut K,
-    steps: &mut Steps<L>,
+    outside: &mut Outside<C, A, D, K, L>,
 ) -> Result<(), Halt>
-    requires open { IsOpen D.Disk kept.old.store disk.old }
+    requires open { IsOpen D.Disk kept.old.store outside.old.disk.now }
     requires sound { IsSound Q.knows kept.old.machine kept.old.questions kept.old.store.entries }
     requires fits { LineFits line }
 
@@ -129,38 +108,34 @@ fn answer_line<Q: Questions, C: Chooser, A: Answers, D: Disk, K: Sink, L: Ledger
         is_some kept.old.machine || needs_machine kept.old.store.entries (Says line)) }
     ensures answered { OnOk result
         (IsAnswered D.Disk A.answers Q.told (is_some kept.old.machine) (Says line)
-        (standpoint disk.old kept.old.store (K.holds sink.old)
-        (around (C.choices chooser.old) answers.old steps.old))
-        (standpoint disk.new kept.new.store (K.holds sink.new)
-        (around (C.choices chooser.new) answers.new steps.new))) }
+        (standing C.choices K.holds kept.old.store outside.old)
+        (standing C.choices K.holds kept.new.store outside.new)) }
 
     ensures halted { IfErr result (λ halt.
         IsHalted D.Disk A.answers Q.told (is_some kept.old.machine) halt (Says line)
-        (standpoint disk.old kept.old.store (K.holds sink.old)
-        (around (C.choices chooser.old) answers.old steps.old))
-        (standpoint disk.new kept.new.store (K.holds sink.new)
-        (around (C.choices chooser.new) answers.new steps.new))) }
+        (standing C.choices K.holds kept.old.store outside.old)
+        (standing C.choices K.holds kept.new.store outside.new)) }
     ensures blames { IfErr result (λ halt.
         BlamesRightly (is_some kept.old.machine) halt (Says line)
-        (standpoint disk.old kept.old.store (K.holds sink.old)
-        (around (C.choices chooser.old) answers.old steps.old))
-        (standpoint disk.new kept.new.store (K.holds sink.new)
-        (around (C.choices chooser.new) answers.new steps.new))) }
+        (standing C.choices K.holds kept.old.store outside.old)
+        (standing C.choices K.holds kept.new.store outside.new)) }
     ensures cause { IfErr result (λ halt. IsLineCause halt
-        (D.faults disk.old) (D.faults disk.new) (K.faults sink.old) (K.faults sink.new)) }
+        (D.faults outside.old.disk.now) (D.faults outside.new.disk.now)
+        (K.faults outside.old.sink.now) (K.faults outside.new.sink.now)) }
 
-    ensures later { GoesOn D.image D.faults disk.old disk.new }
-    ensures faults { NeverFalls (K.faults sink.old) (K.faults sink.new) }
+    ensures goes_on { GoesOnOutside D.Disk K.faults outside.old outside.new }
 {
     effects_follow::<MachineRuns, D>();
     halts_follow::<MachineRuns, D>();
     points_follow::<MachineRuns, D, A>();
     if let Some(why) = refusal_of(kept.store.entries(), &line) {
-        return print_refusal(text, why, sink);
+        return print_refusal(outside.text, why, outside.sink);
     }
     match &line {
-        Line::Asks { question } => ask(kept, question, text, sink, steps),
-        _ => change(kept, line, chooser, answers, disk, text, sink, steps),
+        Line::Asks { question } => {
+            ask(kept, question, outside.text, outside.sink, outside.steps)
+        }
+        _ => change(kept, line, outside),
     }
 }
 
@@ -197,14 +172,9 @@ fn ask<Q: Questions, K: Sink, L: Ledger>(
 fn change<Q: Questions, C: Chooser, A: Answers, D: Disk, K: Sink, L: Ledger>(
     kept: &mut Kept<Q>,
     line: Line,
-    chooser: &mut C,
-    answers: &mut A,
-    disk: &mut D,
-    text: &mut String,
-    sink: &mut K,
-    steps: &mut Steps<L>,
+    outside: &mut Outside<C, A, D, K, L>,
 ) -> Result<(), Halt>
-    requires open { IsOpen D.Disk kept.old.store disk.old }
+    requires open { IsOpen D.Disk kept.old.store outside.old.disk.now }
     requires sound { IsSound Q.knows kept.old.machine kept.old.questions kept.old.store.entries }
     requires fits { LineFits line }
     requires change { IsTrue (is_change line) }
@@ -215,48 +185,31 @@ fn change<Q: Questions, C: Chooser, A: Answers, D: Disk, K: Sink, L: Ledger>(
     ensures there { OnOk result (IsSome kept.new.machine) }
     ensures on_run { OnOk result (IsRun kept.old.store.entries) }
     ensures advances { OnOk result
-        (Advances A.answers (line_turn Q.told kept.old.store.entries line) finished
-        (around (C.choices chooser.old) answers.old steps.old)
-        (around (C.choices chooser.new) answers.new steps.new)
+        (Proceeds D.Disk A.answers (line_turn Q.told kept.old.store.entries line) finished
         (machine_cost (is_some kept.old.machine) kept.old.store.entries)
-        (Carries IsRun D.Disk disk.old disk.new
-        kept.old.store kept.new.store (K.holds sink.old) (K.holds sink.new))) }
+        (standing C.choices K.holds kept.old.store outside.old)
+        (standing C.choices K.holds kept.new.store outside.new)) }
 
     ensures halted { IfErr result (λ halt.
         IsHalted D.Disk A.answers Q.told (is_some kept.old.machine) halt (Says line)
-        (standpoint disk.old kept.old.store (K.holds sink.old)
-        (around (C.choices chooser.old) answers.old steps.old))
-        (standpoint disk.new kept.new.store (K.holds sink.new)
-        (around (C.choices chooser.new) answers.new steps.new))) }
+        (standing C.choices K.holds kept.old.store outside.old)
+        (standing C.choices K.holds kept.new.store outside.new)) }
     ensures blames { IfErr result (λ halt.
         BlamesRightly (is_some kept.old.machine) halt (Says line)
-        (standpoint disk.old kept.old.store (K.holds sink.old)
-        (around (C.choices chooser.old) answers.old steps.old))
-        (standpoint disk.new kept.new.store (K.holds sink.new)
-        (around (C.choices chooser.new) answers.new steps.new))) }
+        (standing C.choices K.holds kept.old.store outside.old)
+        (standing C.choices K.holds kept.new.store outside.new)) }
     ensures cause { IfErr result (λ halt. IsLineCause halt
-        (D.faults disk.old) (D.faults disk.new) (K.faults sink.old) (K.faults sink.new)) }
+        (D.faults outside.old.disk.now) (D.faults outside.new.disk.now)
+        (K.faults outside.old.sink.now) (K.faults outside.new.sink.now)) }
 
-    ensures later { GoesOn D.image D.faults disk.old disk.new }
-    ensures faults { NeverFalls (K.faults sink.old) (K.faults sink.new) }
+    ensures goes_on { GoesOnOutside D.Disk K.faults outside.old outside.new }
 {
     effects_follow::<MachineRuns, D>();
     halts_follow::<MachineRuns, D>();
     points_follow::<MachineRuns, D, A>();
-    let mut machine = take_machine(kept, steps)?;
+    let mut machine = take_machine(kept, outside.steps)?;
     let known = kept.store.entries().len();
-    carry_out(
-        kept.alloc,
-        &mut kept.store,
-        &mut machine,
-        line,
-        chooser,
-        answers,
-        disk,
-        text,
-        sink,
-        steps,
-    )?;
+    carry_out(kept.alloc, &mut kept.store, &mut machine, line, outside)?;
     return_machine(kept, machine, known)?;
     Ok(())
 }
@@ -267,34 +220,25 @@ fn carry_out<C: Chooser, A: Answers, D: Disk, K: Sink, L: Ledger>(
     store: &mut Store,
     machine: &mut Machine,
     line: Line,
-    chooser: &mut C,
-    answers: &mut A,
-    disk: &mut D,
-    text: &mut String,
-    sink: &mut K,
-    steps: &mut Steps<L>,
+    outside: &mut Outside<C, A, D, K, L>,
 ) -> Result<(), Halt>
-    requires open { IsOpen D.Disk store.old disk.old }
+    requires open { IsOpen D.Disk store.old outside.old.disk.now }
     requires ready { IsReady machine.old store.old.entries }
     requires fits { LineFits line }
     requires change { IsTrue (is_change line) }
     requires accepted { refusal_by store.old.entries line ≡ None }
     ensures ready { OnOk result (IsReady machine.new store.new.entries) }
     ensures advances { (told : Told) → OnOk result (
-        Advances A.answers (line_turn told store.old.entries line) finished
-        (around (C.choices chooser.old) answers.old steps.old)
-        (around (C.choices chooser.new) answers.new steps.new) 0
-        (Carries IsRun D.Disk disk.old disk.new
-        store.old store.new (K.holds sink.old) (K.holds sink.new))) }
+        Proceeds D.Disk A.answers (line_turn told store.old.entries line) finished 0
+        (standing C.choices K.holds store.old outside.old)
+        (standing C.choices K.holds store.new outside.new)) }
     ensures stops { (told : Told) → IfErr result (λ halt.
-        Stops IsRun D.Disk A.answers disk.old disk.new store.old.entries
-        (K.holds sink.old) (K.holds sink.new) halt (line_turn told store.old.entries line)
-        (around (C.choices chooser.old) answers.old steps.old)
-        (around (C.choices chooser.new) answers.new steps.new) 0) }
-    ensures cause { IfErr result (λ halt. IsCause halt
-        (D.faults disk.old) (D.faults disk.new) (K.faults sink.old) (K.faults sink.new)) }
-    ensures later { GoesOn D.image D.faults disk.old disk.new }
-    ensures faults { NeverFalls (K.faults sink.old) (K.faults sink.new) }
+        HaltsBehind D.Disk A.answers halt (line_turn told store.old.entries line) 0
+        (standing C.choices K.holds store.old outside.old)
+        (standing C.choices K.holds store.new outside.new)) }
+    ensures cause { IfErr result (λ halt.
+        IsCauseOutside D.Disk K.faults halt outside.old outside.new) }
+    ensures goes_on { GoesOnOutside D.Disk K.faults outside.old outside.new }
 {
     effects_follow::<MachineRuns, D>();
     halts_follow::<MachineRuns, D>();
@@ -302,13 +246,36 @@ fn carry_out<C: Chooser, A: Answers, D: Disk, K: Sink, L: Ledger>(
     match line {
         Line::File { name, bytes } => {
             let (name, bytes) = (name.as_slice(), bytes.as_slice());
-            add_file(alloc, store, machine, name, bytes, disk, text, sink)
+            add_file(
+                alloc,
+                store,
+                machine,
+                name,
+                bytes,
+                outside.disk,
+                outside.text,
+                outside.sink,
+            )
         }
-        Line::Boot { name } => boot(alloc, store, machine, name.as_slice(), disk, text, sink),
-        Line::Type { bytes } => type_in(alloc, store, machine, bytes.as_slice(), disk, text, sink),
-        Line::Run { count } => run(
-            alloc, store, machine, count, chooser, answers, disk, text, sink, steps,
+        Line::Boot { name } => boot(
+            alloc,
+            store,
+            machine,
+            name.as_slice(),
+            outside.disk,
+            outside.text,
+            outside.sink,
         ),
+        Line::Type { bytes } => type_in(
+            alloc,
+            store,
+            machine,
+            bytes.as_slice(),
+            outside.disk,
+            outside.text,
+            outside.sink,
+        ),
+        Line::Run { count } => run(alloc, store, machine, count, outside),
         Line::Asks { .. } => unreachable!(),
     }
 }

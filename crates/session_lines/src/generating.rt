@@ -8,16 +8,17 @@ ghost use Rattle.log_model.specs.Records.{IsRun};
 ghost use Rattle.log_store.specs.Stops.{GoesOn};
 ghost use Rattle.result_log.specs.Spelling.{HasSpelling};
 ghost use Rattle.session_effects.specs.Carrying.{StopsBetween};
+ghost use Rattle.session_effects.specs.Outside.{GoesOnOutside};
 ghost use Rattle.session_effects.specs.Printing.{StopsPut};
 ghost use Rattle.session_effects.specs.Standing.{Carries, IsCause, IsOpen};
-ghost use Rattle.session_lines.specs.Answering.{BlamesRightly, HaltsIn, IsAnswered, IsHalted, IsLineCause, standpoint};
+ghost use Rattle.session_lines.specs.Answering.{BlamesRightly, HaltsIn, IsAnswered, IsHalted, IsLineCause};
 ghost use Rattle.session_lines.specs.Generator.{event_commits, gen_inputs, gen_run, generator_turn};
 ghost use Rattle.session_lines.specs.Kept.{IsSound};
 ghost use Rattle.session_lines.specs.Lines.{needs_machine};
 ghost use Rattle.session_lines.specs.Refusals.{generator_refusal as generator_refusal_by};
 ghost use Rattle.session_model.specs.Questions.{Told};
-ghost use Rattle.session_runs.specs.Points.{Advances, Stops, around};
 ghost use Rattle.session_runs.specs.Ready.{IsReady, machine_of};
+ghost use Rattle.session_runs.specs.Standing.{HaltsBehind, Proceeds, standing};
 ghost use Rattle.session_runs.specs.Turns.{prints};
 
 use crate::events::{add_file, boot, type_in};
@@ -33,7 +34,9 @@ use guest_machine::Machine;
 use log_model::{named_append, named_runs_again, records_append};
 use log_store::{Store, store_is_short};
 use replay_laws::records_tell_runs;
-use session_effects::{Halt, causes_follow, effects_follow, halts_follow, put_all, quiet_follows};
+use session_effects::{
+    Halt, Outside, causes_follow, effects_follow, halts_follow, put_all, quiet_follows,
+};
 use session_model::Questions;
 use session_runs::{
     MachineRuns, count_records, history_laws, points_follow, quiet_points_follow, run,
@@ -61,14 +64,9 @@ pub fn answer_generator<Q: Questions, C: Chooser, A: Answers, D: Disk, K: Sink, 
     image: &[u8],
     typed: &[u8],
     processes: u64,
-    chooser: &mut C,
-    answers: &mut A,
-    disk: &mut D,
-    text: &mut String,
-    sink: &mut K,
-    steps: &mut Steps<L>,
+    outside: &mut Outside<C, A, D, K, L>,
 ) -> Result<(), Halt>
-    requires open { IsOpen D.Disk kept.old.store disk.old }
+    requires open { IsOpen D.Disk kept.old.store outside.old.disk.now }
     requires sound { IsSound Q.knows kept.old.machine kept.old.questions kept.old.store.entries }
     requires image { IsBootable image.now }
     requires typed { length typed.now < 2 ^ 32 }
@@ -79,37 +77,29 @@ pub fn answer_generator<Q: Questions, C: Chooser, A: Answers, D: Disk, K: Sink, 
         is_some kept.old.machine || needs_machine kept.old.store.entries (Generates image.now typed.now processes)) }
     ensures answered { OnOk result
         (IsAnswered D.Disk A.answers Q.told (is_some kept.old.machine) (Generates image.now typed.now processes)
-        (standpoint disk.old kept.old.store (K.holds sink.old)
-        (around (C.choices chooser.old) answers.old steps.old))
-        (standpoint disk.new kept.new.store (K.holds sink.new)
-        (around (C.choices chooser.new) answers.new steps.new))) }
+        (standing C.choices K.holds kept.old.store outside.old)
+        (standing C.choices K.holds kept.new.store outside.new)) }
 
     ensures halted { IfErr result (λ halt.
         IsHalted D.Disk A.answers Q.told (is_some kept.old.machine) halt (Generates image.now typed.now processes)
-        (standpoint disk.old kept.old.store (K.holds sink.old)
-        (around (C.choices chooser.old) answers.old steps.old))
-        (standpoint disk.new kept.new.store (K.holds sink.new)
-        (around (C.choices chooser.new) answers.new steps.new))) }
+        (standing C.choices K.holds kept.old.store outside.old)
+        (standing C.choices K.holds kept.new.store outside.new)) }
     ensures blames { IfErr result (λ halt.
         BlamesRightly (is_some kept.old.machine) halt (Generates image.now typed.now processes)
-        (standpoint disk.old kept.old.store (K.holds sink.old)
-        (around (C.choices chooser.old) answers.old steps.old))
-        (standpoint disk.new kept.new.store (K.holds sink.new)
-        (around (C.choices chooser.new) answers.new steps.new))) }
+        (standing C.choices K.holds kept.old.store outside.old)
+        (standing C.choices K.holds kept.new.store outside.new)) }
     ensures cause { IfErr result (λ halt. IsLineCause halt
-        (D.faults disk.old) (D.faults disk.new) (K.faults sink.old) (K.faults sink.new)) }
+        (D.faults outside.old.disk.now) (D.faults outside.new.disk.now)
+        (K.faults outside.old.sink.now) (K.faults outside.new.sink.now)) }
 
-    ensures later { GoesOn D.image D.faults disk.old disk.new }
-    ensures faults { NeverFalls (K.faults sink.old) (K.faults sink.new) }
+    ensures goes_on { GoesOnOutside D.Disk K.faults outside.old outside.new }
 {
     effects_follow::<MachineRuns, D>();
     halts_follow::<MachineRuns, D>();
     if let Some(why) = generator_refusal(kept.store.entries()) {
-        return print_refusal(text, why, sink);
+        return print_refusal(outside.text, why, outside.sink);
     }
-    generate(
-        kept, image, typed, processes, chooser, answers, disk, text, sink, steps,
-    )
+    generate(kept, image, typed, processes, outside)
 }
 
 // Does it where it isn't refused.
@@ -118,14 +108,9 @@ fn generate<Q: Questions, C: Chooser, A: Answers, D: Disk, K: Sink, L: Ledger>(
     image: &[u8],
     typed: &[u8],
     processes: u64,
-    chooser: &mut C,
-    answers: &mut A,
-    disk: &mut D,
-    text: &mut String,
-    sink: &mut K,
-    steps: &mut Steps<L>,
+    outside: &mut Outside<C, A, D, K, L>,
 ) -> Result<(), Halt>
-    requires open { IsOpen D.Disk kept.old.store disk.old }
+    requires open { IsOpen D.Disk kept.old.store outside.old.disk.now }
     requires sound { IsSound Q.knows kept.old.machine kept.old.questions kept.old.store.entries }
     requires image { IsBootable image.now }
     requires typed { length typed.now < 2 ^ 32 }
@@ -136,33 +121,28 @@ fn generate<Q: Questions, C: Chooser, A: Answers, D: Disk, K: Sink, L: Ledger>(
     ensures there { OnOk result (IsSome kept.new.machine) }
     ensures answered { OnOk result
         (IsAnswered D.Disk A.answers Q.told (is_some kept.old.machine) (Generates image.now typed.now processes)
-        (standpoint disk.old kept.old.store (K.holds sink.old)
-        (around (C.choices chooser.old) answers.old steps.old))
-        (standpoint disk.new kept.new.store (K.holds sink.new)
-        (around (C.choices chooser.new) answers.new steps.new))) }
+        (standing C.choices K.holds kept.old.store outside.old)
+        (standing C.choices K.holds kept.new.store outside.new)) }
 
     ensures halted { IfErr result (λ halt.
         IsHalted D.Disk A.answers Q.told (is_some kept.old.machine) halt (Generates image.now typed.now processes)
-        (standpoint disk.old kept.old.store (K.holds sink.old)
-        (around (C.choices chooser.old) answers.old steps.old))
-        (standpoint disk.new kept.new.store (K.holds sink.new)
-        (around (C.choices chooser.new) answers.new steps.new))) }
+        (standing C.choices K.holds kept.old.store outside.old)
+        (standing C.choices K.holds kept.new.store outside.new)) }
     ensures blames { IfErr result (λ halt.
         BlamesRightly (is_some kept.old.machine) halt (Generates image.now typed.now processes)
-        (standpoint disk.old kept.old.store (K.holds sink.old)
-        (around (C.choices chooser.old) answers.old steps.old))
-        (standpoint disk.new kept.new.store (K.holds sink.new)
-        (around (C.choices chooser.new) answers.new steps.new))) }
+        (standing C.choices K.holds kept.old.store outside.old)
+        (standing C.choices K.holds kept.new.store outside.new)) }
     ensures cause { IfErr result (λ halt. IsLineCause halt
-        (D.faults disk.old) (D.faults disk.new) (K.faults sink.old) (K.faults sink.new)) }
+        (D.faults outside.old.disk.now) (D.faults outside.new.disk.now)
+        (K.faults outside.old.sink.now) (K.faults outside.new.sink.now)) }
 
-    ensures later { GoesOn D.image D.faults disk.old disk.new }
-    ensures faults { NeverFalls (K.faults sink.old) (K.faults sink.new) }
+    ensures goes_on { GoesOnOutside D.Disk K.faults outside.old outside.new }
 {
     effects_follow::<MachineRuns, D>();
     halts_follow::<MachineRuns, D>();
     points_follow::<MachineRuns, D, A>();
-    let mut machine = take_machine(kept, steps)?;
+    causes_follow::<D>();
+    let mut machine = take_machine(kept, outside.steps)?;
     let known = kept.store.entries().len();
     perform(
         kept.alloc,
@@ -170,14 +150,10 @@ fn generate<Q: Questions, C: Chooser, A: Answers, D: Disk, K: Sink, L: Ledger>(
         &mut machine,
         image,
         typed,
-        chooser,
-        answers,
-        disk,
-        text,
-        steps,
+        outside,
     )?;
     return_machine(kept, machine, known)?;
-    tell(kept, processes, text, sink, steps)
+    tell(kept, processes, outside.text, outside.sink, outside.steps)
 }
 
 // Prints what the generator did.
@@ -210,45 +186,49 @@ fn tell<Q: Questions, K: Sink, L: Ledger>(
 }
 
 // Commits the generator's events, and runs it: none of that is printed.
-fn perform<C: Chooser, A: Answers, D: Disk, L: Ledger>(
+fn perform<C: Chooser, A: Answers, D: Disk, K: Sink, L: Ledger>(
     alloc: Global,
     store: &mut Store,
     machine: &mut Machine,
     image: &[u8],
     typed: &[u8],
-    chooser: &mut C,
-    answers: &mut A,
-    disk: &mut D,
-    text: &mut String,
-    steps: &mut Steps<L>,
+    outside: &mut Outside<C, A, D, K, L>,
 ) -> Result<(), Halt>
-    requires open { IsOpen D.Disk store.old disk.old }
+    requires open { IsOpen D.Disk store.old outside.old.disk.now }
     requires ready { IsReady machine.old store.old.entries }
     requires image { IsBootable image.now }
     requires typed { length typed.now < 2 ^ 32 }
     requires accepted { generator_refusal_by store.old.entries ≡ None }
     ensures ready { OnOk result (IsReady machine.new store.new.entries) }
-    ensures advances { (told : Told) (processes : ℕ) (held : Option (List ℕ)) → OnOk result (
-        Advances A.answers (generator_turn told store.old.entries image.now typed.now processes)
-        (prints (told.generated store.new.entries processes))
-        (around (C.choices chooser.old) answers.old steps.old)
-        (around (C.choices chooser.new) answers.new steps.new) 0
-        (Carries IsRun D.Disk disk.old disk.new store.old store.new held held)) }
-    ensures stops { (told : Told) (processes : ℕ) (held : Option (List ℕ)) → IfErr result (λ halt.
-        Stops IsRun D.Disk A.answers disk.old disk.new store.old.entries held held halt
+    ensures advances { (told : Told) (processes : ℕ) → OnOk result (
+        Proceeds D.Disk A.answers
         (generator_turn told store.old.entries image.now typed.now processes)
-        (around (C.choices chooser.old) answers.old steps.old)
-        (around (C.choices chooser.new) answers.new steps.new) 0) }
-    ensures cause { IfErr result (λ halt. (faults : ℕ) →
-        IsCause halt (D.faults disk.old) (D.faults disk.new) faults faults) }
-    ensures later { GoesOn D.image D.faults disk.old disk.new }
+        (prints (told.generated store.new.entries processes)) 0
+        (standing C.choices K.holds store.old outside.old)
+        (standing C.choices K.holds store.new outside.new)) }
+    ensures stops { (told : Told) (processes : ℕ) → IfErr result (λ halt.
+        HaltsBehind D.Disk A.answers halt
+        (generator_turn told store.old.entries image.now typed.now processes) 0
+        (standing C.choices K.holds store.old outside.old)
+        (standing C.choices K.holds store.new outside.new)) }
+    ensures cause { IfErr result (λ halt. (faults : ℕ) → IsCause halt
+        (D.faults outside.old.disk.now) (D.faults outside.new.disk.now) faults faults) }
+    ensures goes_on { GoesOnOutside D.Disk K.faults outside.old outside.new }
 {
     halts_follow::<MachineRuns, D>();
     points_follow::<MachineRuns, D, A>();
     causes_follow::<D>();
     named_append();
-    commit_events(alloc, store, machine, image, typed, disk, text)?;
-    run_quietly(alloc, store, machine, chooser, answers, disk, text, steps)
+    commit_events(
+        alloc,
+        store,
+        machine,
+        image,
+        typed,
+        outside.disk,
+        outside.text,
+    )?;
+    run_quietly(alloc, store, machine, outside)
 }
 
 // Brings the program as a file, boots it and types the bytes, each as an event: none of it is printed.
@@ -306,47 +286,67 @@ fn commit_events<D: Disk>(
 }
 
 // Runs the generator, which is booted: each leg is committed, and nothing is printed.
-fn run_quietly<C: Chooser, A: Answers, D: Disk, L: Ledger>(
+fn run_quietly<C: Chooser, A: Answers, D: Disk, K: Sink, L: Ledger>(
     alloc: Global,
     store: &mut Store,
     machine: &mut Machine,
-    chooser: &mut C,
-    answers: &mut A,
-    disk: &mut D,
-    text: &mut String,
-    steps: &mut Steps<L>,
+    outside: &mut Outside<C, A, D, K, L>,
 ) -> Result<(), Halt>
-    requires open { IsOpen D.Disk store.old disk.old }
+    requires open { IsOpen D.Disk store.old outside.old.disk.now }
+    requires ready { IsReady machine.old store.old.entries }
+    ensures ready { OnOk result (IsReady machine.new store.new.entries) }
+    ensures advances { (told : Told) (processes : ℕ) → OnOk result (
+        Proceeds D.Disk A.answers
+        (gen_run told store.old.entries (machine_of store.old.entries) processes)
+        (prints (told.generated store.new.entries processes)) 0
+        (standing C.choices K.holds store.old outside.old)
+        (standing C.choices K.holds store.new outside.new)) }
+    ensures stops { (told : Told) (processes : ℕ) → IfErr result (λ halt.
+        HaltsBehind D.Disk A.answers halt
+        (gen_run told store.old.entries (machine_of store.old.entries) processes) 0
+        (standing C.choices K.holds store.old outside.old)
+        (standing C.choices K.holds store.new outside.new)) }
+    ensures cause { IfErr result (λ halt. (faults : ℕ) → IsCause halt
+        (D.faults outside.old.disk.now) (D.faults outside.new.disk.now) faults faults) }
+    ensures goes_on { GoesOnOutside D.Disk K.faults outside.old outside.new }
+{
+    let mut silence = Silence;
+    let mut quiet = Outside {
+        chooser: &mut *outside.chooser,
+        answers: &mut *outside.answers,
+        disk: &mut *outside.disk,
+        sink: &mut silence,
+        steps: &mut *outside.steps,
+        text: &mut *outside.text,
+    };
+    run_in_silence(alloc, store, machine, &mut quiet)
+}
+
+// Runs it with a sink that drops what it is given.
+fn run_in_silence<C: Chooser, A: Answers, D: Disk, L: Ledger>(
+    alloc: Global,
+    store: &mut Store,
+    machine: &mut Machine,
+    quiet: &mut Outside<C, A, D, Silence, L>,
+) -> Result<(), Halt>
+    requires open { IsOpen D.Disk store.old quiet.old.disk.now }
     requires ready { IsReady machine.old store.old.entries }
     ensures ready { OnOk result (IsReady machine.new store.new.entries) }
     ensures advances { (told : Told) (processes : ℕ) (held : Option (List ℕ)) → OnOk result (
-        Advances A.answers
+        Proceeds D.Disk A.answers
         (gen_run told store.old.entries (machine_of store.old.entries) processes)
-        (prints (told.generated store.new.entries processes))
-        (around (C.choices chooser.old) answers.old steps.old)
-        (around (C.choices chooser.new) answers.new steps.new) 0
-        (Carries IsRun D.Disk disk.old disk.new store.old store.new held held)) }
-    ensures stops { (told : Told) (processes : ℕ) (held : Option (List ℕ)) → IfErr result (λ halt.
-        Stops IsRun D.Disk A.answers disk.old disk.new store.old.entries held held halt
-        (gen_run told store.old.entries (machine_of store.old.entries) processes)
-        (around (C.choices chooser.old) answers.old steps.old)
-        (around (C.choices chooser.new) answers.new steps.new) 0) }
-    ensures cause { IfErr result (λ halt. (faults : ℕ) →
-        IsCause halt (D.faults disk.old) (D.faults disk.new) faults faults) }
-    ensures later { GoesOn D.image D.faults disk.old disk.new }
+        (prints (told.generated store.new.entries processes)) 0
+        (standing C.choices (λ _. held) store.old quiet.old)
+        (standing C.choices (λ _. held) store.new quiet.new)) }
+    ensures stops { (told : Told) (processes : ℕ) (held : Option (List ℕ)) →
+        IfErr result (λ halt. HaltsBehind D.Disk A.answers halt
+        (gen_run told store.old.entries (machine_of store.old.entries) processes) 0
+        (standing C.choices (λ _. held) store.old quiet.old)
+        (standing C.choices (λ _. held) store.new quiet.new)) }
+    ensures cause { IfErr result (λ halt. (faults : ℕ) → IsCause halt
+        (D.faults quiet.old.disk.now) (D.faults quiet.new.disk.now) faults faults) }
+    ensures goes_on { GoesOnOutside D.Disk (λ _. 0) quiet.old quiet.new }
 {
     quiet_points_follow::<MachineRuns, D, A>();
-    let mut silence = Silence;
-    run(
-        alloc,
-        store,
-        machine,
-        MOST_RUN,
-        chooser,
-        answers,
-        disk,
-        text,
-        &mut silence,
-        steps,
-    )
+    run(alloc, store, machine, MOST_RUN, quiet)
 }

@@ -2,6 +2,7 @@ pub mod Outputs
 pub mod Turns
 pub mod Runs
 pub mod Points
+pub mod Standing
 pub mod Ready
 pub mod Laws
 pub mod Quiet

@@ -12,8 +12,8 @@ use Rattle.session_effects.specs.Effects.{Effect, printed as printed_by}
 use Rattle.session_runs.specs.Points.{Surroundings}
 use Rattle.session_runs.specs.Turns.{Turn}
 use Rattle.session_questions.specs.Texts.{told}
-use Rattle.session_text.specs.Answers.{Answers}
-use Rattle.session_text.specs.Transcript.{text_of}
+use Rattle.arn_session.specs.Answered.{AnswersParts}
+use Rattle.arn_session.specs.Transcript.{text_of}
 use Rattle.session_trials.specs.Sessions.{Prints}
 
 -- the bytes that are told, or else none
@@ -24,7 +24,7 @@ told_bytes None = []
 -- what was put into an empty sink is the text of the session
 pub Answers-Prints : {D A : Type 0} (replies : A → Asked → Answered → A → Type 0) (is_run : List Record → Type 0) (d : Ghosts D) (old new : D) (history : List Record) (given text held printed : List ℕ) {u v : Surroundings A}
     → given ≡ text → held ≡ []
-    → IfSome (Some given) (λ all. Answers replies told history (text_parts all) u v (CarriesOut is_run d old new history (Some held) (Some printed)))
+    → IfSome (Some given) (λ all. AnswersParts replies told history (text_parts all) u v (CarriesOut is_run d old new history (Some held) (Some printed)))
     → Prints history text printed
 Answers-Prints replies is_run d old new history given text held printed is_text is_empty answers =
     let a = answers.answered in

@@ -6,7 +6,7 @@ use Rattle.arn_commands.specs.Parts.{text_parts}
 use Rattle.arn_commands.specs.Commands.{EachAsks}
 use Rattle.guest_machine.specs.Legs.{Picked}
 use Rattle.session_questions.specs.Texts.{told}
-use Rattle.session_text.specs.Transcript.{text_of}
+use Rattle.arn_session.specs.Transcript.{text_of}
 
 -- every part of the text was answered on this history, with some slices, and nothing else was printed
 pub record Prints (history : List Record) (text printed : List ℕ) : Type 0 where

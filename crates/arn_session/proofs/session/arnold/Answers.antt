@@ -18,7 +18,8 @@ use Rattle.arn_session.specs.declared.status.Status.TheVariants as status
 use Rattle.arn_session.specs.declared.status.Damage.TheVariants as damage
 use Rattle.arn_session.proofs.FaultLemmas.{Rose-after}
 use Rattle.arn_session.proofs.OpenLemmas.{rest-log, rests-opened, Begins-opened, Answers-opened, Taken-opened, Finds-opened, log-is-none, not-opened, for-any, with-never, told-both}
-use Rattle.arn_session.proofs.StatusLemmas.{broken-is, halt_for, halt-is, same-error}
+use Rattle.arn_session.proofs.ResultLemmas.{err-at, ok-at}
+use Rattle.arn_session.proofs.StatusLemmas.{broken-is, halt_for, halt-is, numbers-of, same-error}
 use Rattle.arn_session.proofs.session.arnold.Goals as goal
 
 pub returns-then-not-are_accepted-clause-any_moment : goal.returns-then-not-are_accepted-clause-any_moment
@@ -117,7 +118,7 @@ returns-in-Ok-answer_text-clause-answered g c = λ is history log.
     (g.K.Sink.holds c.args.sink.now) (g.K.Sink.holds c.answer_text.new.sink) _ _ c.in-Ok.store.entries
     (c.openings_follow.ensures.carries c.args.disk.now c.open_log.new.disk c.in-Ok.store (g.K.Sink.holds c.args.sink.now) c.in-Ok.ensures.later.tells c.in-Ok.ensures.left c.in-Ok.ensures.durable c.in-Ok.ensures.any_moment)
     history (c.openings_follow.ensures.history c.args.disk.now history c.in-Ok.store log c.in-Ok.ensures.recovered)
-    (g.S.Source.left c.args.source.now) c.in-Ok-answer_text.ensures.answered
+    (g.S.Source.left c.args.source.now) (ok-at c.answer_text.result _ _ c.in-Ok-answer_text.is c.answer_text.ensures.answered)
 
 pub returns-in-Ok-answer_text-clause-any_moment : goal.returns-in-Ok-answer_text-clause-any_moment
 returns-in-Ok-answer_text-clause-any_moment g c = λ history was.
@@ -149,7 +150,7 @@ returns-in-Ok-answer_text-clause-rests g c = λ not_disk not_memory history was.
     c.openings_follow.ensures.rests_behind c.args.disk.now c.open_log.new.disk c.answer_text.new.disk c.in-Ok.store.entries history (g.K.Sink.holds c.args.sink.now)
     (c.openings_follow.ensures.history c.args.disk.now history c.in-Ok.store (rest-log g.D.Disk c.args.disk.now history was) c.in-Ok.ensures.recovered)
     (c.openings_follow.ensures.carries c.args.disk.now c.open_log.new.disk c.in-Ok.store (g.K.Sink.holds c.args.sink.now) c.in-Ok.ensures.later.tells c.in-Ok.ensures.left c.in-Ok.ensures.durable c.in-Ok.ensures.any_moment)
-    c.in-Ok-answer_text.ensures.rests was
+    (ok-at c.answer_text.result _ _ c.in-Ok-answer_text.is c.answer_text.ensures.rests) was
 
 pub returns-in-Err-answer_text-clause-any_moment : goal.returns-in-Err-answer_text-clause-any_moment
 returns-in-Err-answer_text-clause-any_moment g c = λ history was.
@@ -160,7 +161,7 @@ returns-in-Err-answer_text-clause-any_moment g c = λ history was.
 
 pub returns-in-Err-answer_text-clause-disk : goal.returns-in-Err-answer_text-clause-disk
 returns-in-Err-answer_text-clause-disk g c = λ is.
-    Rose-after _ _ _ c.in-Ok.ensures.later.never_falls c.answer_text.ensures.later.never_falls (c.in-Err-answer_text.ensures.disk (ap (λ (x : Halt). Err x) (halt-is c.in-Err-answer_text.halt c.from-in-Err-answer_text.result halt.Disk c.from-in-Err-answer_text.ensures (ap halt_for is))))
+    Rose-after _ _ _ c.in-Ok.ensures.later.never_falls c.answer_text.ensures.later.never_falls (c.answer_text.ensures.disk (c.in-Err-answer_text.is ∙ ap (λ (x : Halt). Err x) (halt-is c.in-Err-answer_text.halt c.from-in-Err-answer_text.result halt.Disk c.from-in-Err-answer_text.ensures (ap halt_for is))))
 
 pub returns-in-Err-answer_text-clause-opened : goal.returns-in-Err-answer_text-clause-opened
 returns-in-Err-answer_text-clause-opened g c =
@@ -177,7 +178,7 @@ returns-in-Err-answer_text-clause-cut g c = λ is history log.
     (c.openings_follow.ensures.carries c.args.disk.now c.open_log.new.disk c.in-Ok.store (g.K.Sink.holds c.args.sink.now) c.in-Ok.ensures.later.tells c.in-Ok.ensures.left c.in-Ok.ensures.durable c.in-Ok.ensures.any_moment)
     history (c.openings_follow.ensures.history c.args.disk.now history c.in-Ok.store log c.in-Ok.ensures.recovered)
     c.in-Err-answer_text.halt halt.Sink (halt-is c.in-Err-answer_text.halt c.from-in-Err-answer_text.result halt.Sink c.from-in-Err-answer_text.ensures (ap halt_for is))
-    (λ e. cc) (λ e. cc) (g.S.Source.left c.args.source.now) (g.S.Source.left c.answer_text.new.source) c.in-Err-answer_text.ensures.stops
+    (λ e. cc) (λ e. cc) (g.S.Source.left c.args.source.now) (g.S.Source.left c.answer_text.new.source) (err-at c.answer_text.result _ c.in-Err-answer_text.halt c.in-Err-answer_text.is c.answer_text.ensures.stops)
 
 pub returns-in-Err-answer_text-clause-stopped : goal.returns-in-Err-answer_text-clause-stopped
 returns-in-Err-answer_text-clause-stopped g c = λ is history log. inr (
@@ -186,7 +187,7 @@ returns-in-Err-answer_text-clause-stopped g c = λ is history log. inr (
     (c.openings_follow.ensures.carries c.args.disk.now c.open_log.new.disk c.in-Ok.store (g.K.Sink.holds c.args.sink.now) c.in-Ok.ensures.later.tells c.in-Ok.ensures.left c.in-Ok.ensures.durable c.in-Ok.ensures.any_moment)
     history (c.openings_follow.ensures.history c.args.disk.now history c.in-Ok.store log c.in-Ok.ensures.recovered)
     c.in-Err-answer_text.halt halt.Disk (halt-is c.in-Err-answer_text.halt c.from-in-Err-answer_text.result halt.Disk c.from-in-Err-answer_text.ensures (ap halt_for is))
-    (λ e. cc) (λ e. cc) (g.S.Source.left c.args.source.now) (g.S.Source.left c.answer_text.new.source) c.in-Err-answer_text.ensures.stops)
+    (λ e. cc) (λ e. cc) (g.S.Source.left c.args.source.now) (g.S.Source.left c.answer_text.new.source) (err-at c.answer_text.result _ c.in-Err-answer_text.halt c.in-Err-answer_text.is c.answer_text.ensures.stops))
 
 pub returns-in-Err-answer_text-clause-full : goal.returns-in-Err-answer_text-clause-full
 returns-in-Err-answer_text-clause-full g c = λ at payload is history log.
@@ -195,7 +196,7 @@ returns-in-Err-answer_text-clause-full g c = λ at payload is history log.
     (c.openings_follow.ensures.carries c.args.disk.now c.open_log.new.disk c.in-Ok.store (g.K.Sink.holds c.args.sink.now) c.in-Ok.ensures.later.tells c.in-Ok.ensures.left c.in-Ok.ensures.durable c.in-Ok.ensures.any_moment)
     history (c.openings_follow.ensures.history c.args.disk.now history c.in-Ok.store log c.in-Ok.ensures.recovered)
     c.in-Err-answer_text.halt (halt.Full at payload) (halt-is c.in-Err-answer_text.halt c.from-in-Err-answer_text.result (halt.Full at payload) c.from-in-Err-answer_text.ensures (ap halt_for is))
-    (λ e. cc) (λ e. cc) (g.S.Source.left c.args.source.now) (g.S.Source.left c.answer_text.new.source) c.in-Err-answer_text.ensures.stops
+    (λ e. cc) (λ e. cc) (g.S.Source.left c.args.source.now) (g.S.Source.left c.answer_text.new.source) (err-at c.answer_text.result _ c.in-Err-answer_text.halt c.in-Err-answer_text.is c.answer_text.ensures.stops)
 
 pub returns-in-Err-answer_text-clause-begun : goal.returns-in-Err-answer_text-clause-begun
 returns-in-Err-answer_text-clause-begun g c = λ is history log. inr (
@@ -204,7 +205,7 @@ returns-in-Err-answer_text-clause-begun g c = λ is history log. inr (
     (c.openings_follow.ensures.carries c.args.disk.now c.open_log.new.disk c.in-Ok.store (g.K.Sink.holds c.args.sink.now) c.in-Ok.ensures.later.tells c.in-Ok.ensures.left c.in-Ok.ensures.durable c.in-Ok.ensures.any_moment)
     history (c.openings_follow.ensures.history c.args.disk.now history c.in-Ok.store log c.in-Ok.ensures.recovered)
     c.in-Err-answer_text.halt halt.NoMemory (halt-is c.in-Err-answer_text.halt c.from-in-Err-answer_text.result halt.NoMemory c.from-in-Err-answer_text.ensures (ap halt_for is))
-    (λ e. cc) (λ e. cc) (g.S.Source.left c.args.source.now) (g.S.Source.left c.answer_text.new.source) c.in-Err-answer_text.ensures.stops)
+    (λ e. cc) (λ e. cc) (g.S.Source.left c.args.source.now) (g.S.Source.left c.answer_text.new.source) (err-at c.answer_text.result _ c.in-Err-answer_text.halt c.in-Err-answer_text.is c.answer_text.ensures.stops))
 
 pub returns-in-Err-answer_text-clause-taken : goal.returns-in-Err-answer_text-clause-taken
 returns-in-Err-answer_text-clause-taken g c = λ which history log.
@@ -213,21 +214,21 @@ returns-in-Err-answer_text-clause-taken g c = λ which history log.
     (c.openings_follow.ensures.carries c.args.disk.now c.open_log.new.disk c.in-Ok.store (g.K.Sink.holds c.args.sink.now) c.in-Ok.ensures.later.tells c.in-Ok.ensures.left c.in-Ok.ensures.durable c.in-Ok.ensures.any_moment)
     history (c.openings_follow.ensures.history c.args.disk.now history c.in-Ok.store log c.in-Ok.ensures.recovered)
     (g.S.Source.left c.args.source.now) (g.S.Source.left c.answer_text.new.source) whole_parts
-    (c.in-Err-answer_text.ensures.taken (elim which [
-      | inl is ↦ inl (ap (λ (x : Halt). Err x) (halt-is c.in-Err-answer_text.halt c.from-in-Err-answer_text.result halt.Source c.from-in-Err-answer_text.ensures (ap halt_for is)))
-      | inr is ↦ inr (ap (λ (x : Halt). Err x) (halt-is c.in-Err-answer_text.halt c.from-in-Err-answer_text.result halt.Long c.from-in-Err-answer_text.ensures (ap halt_for is)))
+    (c.answer_text.ensures.taken (elim which [
+      | inl is ↦ inl (c.in-Err-answer_text.is ∙ ap (λ (x : Halt). Err x) (halt-is c.in-Err-answer_text.halt c.from-in-Err-answer_text.result halt.Source c.from-in-Err-answer_text.ensures (ap halt_for is)))
+      | inr is ↦ inr (c.in-Err-answer_text.is ∙ ap (λ (x : Halt). Err x) (halt-is c.in-Err-answer_text.halt c.from-in-Err-answer_text.result halt.Long c.from-in-Err-answer_text.ensures (ap halt_for is)))
     ]))
 
 pub returns-in-Err-answer_text-clause-differs : goal.returns-in-Err-answer_text-clause-differs
 returns-in-Err-answer_text-clause-differs g c = λ d is history log.
     let why : c.in-Err-answer_text.halt ≡ halt.Differs d = (halt-is c.in-Err-answer_text.halt c.from-in-Err-answer_text.result (halt.Differs d) c.from-in-Err-answer_text.ensures (ap halt_for is)) in
-    let err = ap (λ (x : Halt). Err x) why in (
-      subst (λ h. IsNoRun h d) (c.openings_follow.ensures.history c.args.disk.now history c.in-Ok.store log c.in-Ok.ensures.recovered) (c.in-Err-answer_text.ensures.blames d err),
+    let err = c.in-Err-answer_text.is ∙ ap (λ (x : Halt). Err x) why in (
+      subst (λ h. IsNoRun h d) (c.openings_follow.ensures.history c.args.disk.now history c.in-Ok.store log c.in-Ok.ensures.recovered) (c.answer_text.ensures.blames d err),
       Finds-opened g.D.Disk _ told c.openings_follow.ensures.behind c.halts_follow.ensures.behind c.args.disk.now c.open_log.new.disk c.answer_text.new.disk
           (g.K.Sink.holds c.args.sink.now) (g.K.Sink.holds c.answer_text.new.sink) _ _ c.in-Ok.store.entries
           (c.openings_follow.ensures.carries c.args.disk.now c.open_log.new.disk c.in-Ok.store (g.K.Sink.holds c.args.sink.now) c.in-Ok.ensures.later.tells c.in-Ok.ensures.left c.in-Ok.ensures.durable c.in-Ok.ensures.any_moment)
           history (c.openings_follow.ensures.history c.args.disk.now history c.in-Ok.store log c.in-Ok.ensures.recovered)
-          (g.S.Source.left c.args.source.now) (g.S.Source.left c.answer_text.new.source) (c.in-Err-answer_text.ensures.finds d err),
+          (g.S.Source.left c.args.source.now) (g.S.Source.left c.answer_text.new.source) (c.answer_text.ensures.finds d err),
     )
 
 pub returns-in-Err-answer_text-clause-rests : goal.returns-in-Err-answer_text-clause-rests
@@ -235,4 +236,26 @@ returns-in-Err-answer_text-clause-rests g c = λ not_disk not_memory history was
     c.openings_follow.ensures.rests_behind c.args.disk.now c.open_log.new.disk c.answer_text.new.disk c.in-Ok.store.entries history (g.K.Sink.holds c.args.sink.now)
     (c.openings_follow.ensures.history c.args.disk.now history c.in-Ok.store (rest-log g.D.Disk c.args.disk.now history was) c.in-Ok.ensures.recovered)
     (c.openings_follow.ensures.carries c.args.disk.now c.open_log.new.disk c.in-Ok.store (g.K.Sink.holds c.args.sink.now) c.in-Ok.ensures.later.tells c.in-Ok.ensures.left c.in-Ok.ensures.durable c.in-Ok.ensures.any_moment)
-    (c.in-Err-answer_text.ensures.still_rests (λ is. not_disk (c.from-in-Err-answer_text.ensures ∙ ap status_of is)) (λ is. not_memory (c.from-in-Err-answer_text.ensures ∙ ap status_of is))) was
+    ((err-at c.answer_text.result _ c.in-Err-answer_text.halt c.in-Err-answer_text.is c.answer_text.ensures.still_rests) (λ is. not_disk (c.from-in-Err-answer_text.ensures ∙ ap status_of is)) (λ is. not_memory (c.from-in-Err-answer_text.ensures ∙ ap status_of is))) was
+
+pub returns-in-Ok-answer_text-clause-read : goal.returns-in-Ok-answer_text-clause-read
+returns-in-Ok-answer_text-clause-read g c = λ is. ok-at c.answer_text.result _ _ c.in-Ok-answer_text.is c.answer_text.ensures.read
+
+pub returns-in-Ok-answer_text-clause-short : goal.returns-in-Ok-answer_text-clause-short
+returns-in-Ok-answer_text-clause-short g c = λ is. ok-at c.answer_text.result _ _ c.in-Ok-answer_text.is c.answer_text.ensures.short
+
+pub returns-in-Err-answer_text-clause-source : goal.returns-in-Err-answer_text-clause-source
+returns-in-Err-answer_text-clause-source g c = λ is. c.answer_text.ensures.source (c.in-Err-answer_text.is ∙ ap (λ (x : Halt). Err x) (halt-is c.in-Err-answer_text.halt c.from-in-Err-answer_text.result halt.Source c.from-in-Err-answer_text.ensures (ap halt_for is)))
+
+pub returns-in-Err-answer_text-clause-sink : goal.returns-in-Err-answer_text-clause-sink
+returns-in-Err-answer_text-clause-sink g c = λ is. c.answer_text.ensures.sink (c.in-Err-answer_text.is ∙ ap (λ (x : Halt). Err x) (halt-is c.in-Err-answer_text.halt c.from-in-Err-answer_text.result halt.Sink c.from-in-Err-answer_text.ensures (ap halt_for is)))
+
+pub returns-in-Err-answer_text-clause-early : goal.returns-in-Err-answer_text-clause-early
+returns-in-Err-answer_text-clause-early g c = λ is. c.answer_text.ensures.early (c.in-Err-answer_text.is ∙ ap (λ (x : Halt). Err x) (halt-is c.in-Err-answer_text.halt c.from-in-Err-answer_text.result halt.Source c.from-in-Err-answer_text.ensures (ap halt_for is)))
+
+pub returns-in-Err-answer_text-clause-long : goal.returns-in-Err-answer_text-clause-long
+returns-in-Err-answer_text-clause-long g c = λ is. c.answer_text.ensures.long (c.in-Err-answer_text.is ∙ ap (λ (x : Halt). Err x) (halt-is c.in-Err-answer_text.halt c.from-in-Err-answer_text.result halt.Long c.from-in-Err-answer_text.ensures (ap halt_for is)))
+
+pub returns-in-Err-answer_text-clause-numbers : goal.returns-in-Err-answer_text-clause-numbers
+returns-in-Err-answer_text-clause-numbers g c =
+    numbers-of c.in-Err-answer_text.halt c.from-in-Err-answer_text.result c.from-in-Err-answer_text.ensures (λ log payload is. c.answer_text.ensures.full log payload (c.in-Err-answer_text.is ∙ ap (λ (x : Halt). Err x) is))

@@ -19,8 +19,8 @@ returns-in_err-leg-clause-stops g c =
     let choices = g.C.Chooser.choices in
     err-same c.from_residual.result why _ c.from_residual.ensures.1
     (c.points_follow.ensures.stops (runs.run (machine_of c.args.store.now.entries) c.args.count) (run_from c.args.count (begun (machine_of l.store.entries) l.left))
-    (around (choices c.args.chooser.now) c.args.answers.now c.args.steps.now) (around (choices l.chooser) l.answers l.steps) (around (choices n.chooser) n.answers n.steps) 0 0 c.args.disk.now l.disk n.disk c.args.store.now l.store
-    (g.K.Sink.holds c.args.sink.now) (g.K.Sink.holds l.sink) (g.K.Sink.holds n.sink) why l.invariant.so_far (c.in_err-leg.ensures.stops c.args.count))
+    (around (choices c.args.outside.now.chooser.now) c.args.outside.now.answers.now c.args.outside.now.steps.now) (around (choices l.outside.chooser.now) l.outside.answers.now l.outside.steps.now) (around (choices n.outside.chooser.now) n.outside.answers.now n.outside.steps.now) 0 0 c.args.outside.now.disk.now l.outside.disk.now n.outside.disk.now c.args.store.now l.store
+    (g.K.Sink.holds c.args.outside.now.sink.now) (g.K.Sink.holds l.outside.sink.now) (g.K.Sink.holds n.outside.sink.now) why l.invariant.so_far (c.in_err-leg.ensures.stops c.args.count))
 
 pub loop-end-preserved : goal.loop-end-preserved
 loop-end-preserved g c =
@@ -32,12 +32,11 @@ loop-end-preserved g c =
       ready = e.ready;
       so_far =
           c.points_follow.ensures.advances (runs.run (machine_of c.args.store.now.entries) c.args.count) (run_from c.args.count (begun (machine_of l.store.entries) l.left)) (run_from c.args.count (begun (machine_of n.store.entries) (l.left - c.in_ok-leg.leg.ran)))
-          (around (choices c.args.chooser.now) c.args.answers.now c.args.steps.now) (around (choices l.chooser) l.answers l.steps) (around (choices n.chooser) n.answers n.steps) 0 0 c.args.disk.now l.disk n.disk c.args.store.now l.store n.store
-          (g.K.Sink.holds c.args.sink.now) (g.K.Sink.holds l.sink) (g.K.Sink.holds n.sink) l.invariant.so_far (e.advances c.args.count);
+          (around (choices c.args.outside.now.chooser.now) c.args.outside.now.answers.now c.args.outside.now.steps.now) (around (choices l.outside.chooser.now) l.outside.answers.now l.outside.steps.now) (around (choices n.outside.chooser.now) n.outside.answers.now n.outside.steps.now) 0 0 c.args.outside.now.disk.now l.outside.disk.now n.outside.disk.now c.args.store.now l.store n.store
+          (g.K.Sink.holds c.args.outside.now.sink.now) (g.K.Sink.holds l.outside.sink.now) (g.K.Sink.holds n.outside.sink.now) l.invariant.so_far (e.advances c.args.count);
       ended = subst (λ o. IfSome o (λ e. ends (begun (machine_of n.store.entries) (l.left - c.in_ok-leg.leg.ran)) ≡ Some e)) (sym c.run_end-end.ensures) (told-some _ _ e.end);
       within = omega (arith, l.invariant.within);
-      later = c.causes_follow.ensures.later c.args.disk.now l.disk n.disk l.invariant.later c.run_leg.ensures.later;
-      faults = c.causes_follow.ensures.falls _ _ _ l.invariant.faults c.run_leg.ensures.faults;
+      goes_on = c.goings_follow.ensures.later c.args.outside.now l.outside n.outside l.invariant.goes_on c.run_leg.ensures.goes_on;
     }
 
 pub returns-clause-advances : goal.returns-clause-advances
@@ -50,10 +49,10 @@ returns-clause-advances g c =
     on_ok_weaker c.print_ran.result
     (λ put.
     c.points_follow.ensures.advances (runs.run (machine_of c.args.store.now.entries) c.args.count) (run_from c.args.count (begun (machine_of l.store.entries) l.left)) finished
-    (around (choices c.args.chooser.now) c.args.answers.now c.args.steps.now) (around (choices l.chooser) l.answers l.steps) (around (choices l.chooser) l.answers l.steps) 0 0 c.args.disk.now l.disk l.disk c.args.store.now l.store l.store
-    (holds c.args.sink.now) (holds l.sink) (holds c.print_ran.new.sink) l.invariant.so_far
-    (Advances-end g.A.Answers.answers c.args.count (machine_of l.store.entries) l.left end (around (choices l.chooser) l.answers l.steps) _ ended
-    (Carries-text IsRun g.D.Disk c.effects_follow.ensures.follow l.disk l.store (holds l.sink) (holds c.print_ran.new.sink) _ l.invariant.so_far.carries.stays_open put)))
+    (around (choices c.args.outside.now.chooser.now) c.args.outside.now.answers.now c.args.outside.now.steps.now) (around (choices l.outside.chooser.now) l.outside.answers.now l.outside.steps.now) (around (choices l.outside.chooser.now) l.outside.answers.now l.outside.steps.now) 0 0 c.args.outside.now.disk.now l.outside.disk.now l.outside.disk.now c.args.store.now l.store l.store
+    (holds c.args.outside.now.sink.now) (holds l.outside.sink.now) (holds c.print_ran.new.sink) l.invariant.so_far
+    (Advances-end g.A.Answers.answers c.args.count (machine_of l.store.entries) l.left end (around (choices l.outside.chooser.now) l.outside.answers.now l.outside.steps.now) _ ended
+    (Carries-text IsRun g.D.Disk c.effects_follow.ensures.follow l.outside.disk.now l.store (holds l.outside.sink.now) (holds c.print_ran.new.sink) _ l.invariant.so_far.carries.stays_open put)))
     c.print_ran.ensures.ok
 
 pub returns-clause-stops : goal.returns-clause-stops
@@ -66,16 +65,23 @@ returns-clause-stops g c =
     IfErr-weaker c.print_ran.result _ _
     (λ why put.
     c.points_follow.ensures.stops (runs.run (machine_of c.args.store.now.entries) c.args.count) (run_from c.args.count (begun (machine_of l.store.entries) l.left))
-    (around (choices c.args.chooser.now) c.args.answers.now c.args.steps.now) (around (choices l.chooser) l.answers l.steps) (around (choices l.chooser) l.answers l.steps) 0 0 c.args.disk.now l.disk l.disk c.args.store.now l.store
-    (holds c.args.sink.now) (holds l.sink) (holds c.print_ran.new.sink) why l.invariant.so_far
-    (Stops-end IsRun g.D.Disk g.A.Answers.answers c.halts_follow.ensures c.args.count (machine_of l.store.entries) l.left end l.disk l.store.entries (holds l.sink) (holds c.print_ran.new.sink) why (around (choices l.chooser) l.answers l.steps) ended put))
+    (around (choices c.args.outside.now.chooser.now) c.args.outside.now.answers.now c.args.outside.now.steps.now) (around (choices l.outside.chooser.now) l.outside.answers.now l.outside.steps.now) (around (choices l.outside.chooser.now) l.outside.answers.now l.outside.steps.now) 0 0 c.args.outside.now.disk.now l.outside.disk.now l.outside.disk.now c.args.store.now l.store
+    (holds c.args.outside.now.sink.now) (holds l.outside.sink.now) (holds c.print_ran.new.sink) why l.invariant.so_far
+    (Stops-end IsRun g.D.Disk g.A.Answers.answers c.halts_follow.ensures c.args.count (machine_of l.store.entries) l.left end l.outside.disk.now l.store.entries (holds l.outside.sink.now) (holds c.print_ran.new.sink) why (around (choices l.outside.chooser.now) l.outside.answers.now l.outside.steps.now) ended put))
     c.print_ran.ensures.stops
 
+-- putting the last line goes on
 pub returns-clause-cause : goal.returns-clause-cause
 returns-clause-cause g c =
     let l = c.loop-end in
+    let gone = l.invariant.goes_on in
     let causes = c.causes_follow.ensures in
     let faults = g.D.Disk.faults in
     IfErr-weaker c.print_ran.result _ _
-    (λ why cause. causes.cause why (faults c.args.disk.now) (faults l.disk) (faults l.disk) _ _ _ l.invariant.later.never_falls (causes.still (faults l.disk)) l.invariant.faults c.print_ran.ensures.faults (cause (faults l.disk)))
+    (λ why cause. causes.cause why (faults c.args.outside.now.disk.now) (faults l.outside.disk.now) (faults l.outside.disk.now) _ _ _ gone.later.never_falls (causes.still (faults l.outside.disk.now)) gone.faults c.print_ran.ensures.faults (cause (faults l.outside.disk.now)))
     c.print_ran.ensures.cause
+
+pub returns-clause-goes_on : goal.returns-clause-goes_on
+returns-clause-goes_on g c =
+    let gone = c.loop-end.invariant.goes_on in
+    record { later = gone.later; faults = c.causes_follow.ensures.falls _ _ _ gone.faults c.print_ran.ensures.faults; same = record { chooser = gone.same.chooser; answers = gone.same.answers; disk = gone.same.disk; sink = gone.same.sink; steps = gone.same.steps; text = gone.same.text } }

@@ -1,8 +1,7 @@
 -- Some legs of the run were carried out, and the machine is the one behind them.
 use Rattle.std.proofs.Common.{◌≡◌, ◌≤◌, Some, IfSome, length}
-use Rattle.arn_base.specs.Faults.{NeverFalls}
 use Rattle.log_model.specs.Records.{IsRun}
-use Rattle.log_store.specs.Stops.{GoesOn}
+use Rattle.session_effects.specs.Outside.{GoesOnOutside}
 use Rattle.session_effects.specs.Standing.{Carries}
 use Rattle.session_runs.specs.Points.{Advances, around}
 use Rattle.session_runs.specs.Ready.{IsReady, machine_of}
@@ -17,12 +16,11 @@ invariant-loop-end g l =
       ready : IsReady l.machine l.store.entries;
       so_far :
           Advances g.A.Answers.answers (runs.run (machine_of l.fn.store.entries) l.count) (run_from l.count (begun (machine_of l.store.entries) l.left))
-          (around (g.C.Chooser.choices l.fn.chooser) l.fn.answers l.fn.steps) (around (g.C.Chooser.choices l.chooser) l.answers l.steps) 0
-          (Carries IsRun g.D.Disk l.fn.disk l.disk l.fn.store l.store (g.K.Sink.holds l.fn.sink) (g.K.Sink.holds l.sink));
+          (around (g.C.Chooser.choices l.fn.outside.chooser.now) l.fn.outside.answers.now l.fn.outside.steps.now) (around (g.C.Chooser.choices l.outside.chooser.now) l.outside.answers.now l.outside.steps.now) 0
+          (Carries IsRun g.D.Disk l.fn.outside.disk.now l.outside.disk.now l.fn.store l.store (g.K.Sink.holds l.fn.outside.sink.now) (g.K.Sink.holds l.outside.sink.now));
       ended : IfSome l.end (λ e. ends (begun (machine_of l.store.entries) l.left) ≡ Some e);
       within : l.left ≤ l.count;
-      later : GoesOn g.D.Disk.image g.D.Disk.faults l.fn.disk l.disk;
-      faults : NeverFalls (g.K.Sink.faults l.fn.sink) (g.K.Sink.faults l.sink);
+      goes_on : GoesOnOutside g.D.Disk g.K.Sink.faults l.fn.outside l.outside;
     }
 
 abbrev pub decreases-loop-end : goal.decreases-loop-end

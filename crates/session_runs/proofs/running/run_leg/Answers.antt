@@ -27,12 +27,12 @@ returns-in_err-leg-clause-stops g c =
     let history = c.args.store.now.entries in
     let m = machine_of history in
     let cut = c.in_err-leg.ensures.cut m c.requires.ready.is_after.leads in
-    let old = around (g.C.Chooser.choices c.args.chooser.now) c.args.answers.now c.args.steps.now in
+    let old = around (g.C.Chooser.choices c.args.outside.now.chooser.now) c.args.outside.now.answers.now c.args.outside.now.steps.now in
     let new = around (g.C.Chooser.choices c.run_leg.new.chooser) c.run_leg.new.answers c.run_leg.new.steps in
     err-same c.from_residual.result halt.NoMemory _ c.from_residual.ensures.1
     (λ budget.
-    Stops-memory IsRun g.D.Disk g.A.Answers.answers c.halts_follow.ensures budget m c.args.left cut.slices (c.history_laws.ensures.legs (named history) c.args.left [] cut.slices cut.took.in_range) cut.took.open_before c.args.disk.now history (g.K.Sink.holds c.args.sink.now) old new (unanswered cut.lost) cut.is_open cut.picked cut.took.in_range cut.in_range cut.took.replied
-    (cut-executed g.A.Answers.answers m c.args.left c.args.machine.now c.run_leg.new.self old.choices new.choices c.args.answers.now c.run_leg.new.answers c.new-entries.result.items c.run_leg.new.out.items old.steps new.steps cut))
+    Stops-memory IsRun g.D.Disk g.A.Answers.answers c.halts_follow.ensures budget m c.args.left cut.slices (c.history_laws.ensures.legs (named history) c.args.left [] cut.slices cut.took.in_range) cut.took.open_before c.args.outside.now.disk.now history (g.K.Sink.holds c.args.outside.now.sink.now) old new (unanswered cut.lost) cut.is_open cut.picked cut.took.in_range cut.in_range cut.took.replied
+    (cut-executed g.A.Answers.answers m c.args.left c.args.machine.now c.run_leg.new.self old.choices new.choices c.args.outside.now.answers.now c.run_leg.new.answers c.new-entries.result.items c.run_leg.new.out.items old.steps new.steps cut))
 
 nothing : (xs : List Record) → length xs ≡ 0 → xs ≡ []
 nothing [] none = refl
@@ -51,9 +51,9 @@ returns-then-is_empty-clause-ready g c =
     let leg = c.in_ok-leg.leg in
     let entries = c.run_leg.new.out.items in
     let is_leg = c.in_ok-leg.ensures.leg m c.requires.ready.is_after.leads in
-    let old = around (g.C.Chooser.choices c.args.chooser.now) c.args.answers.now c.args.steps.now in
+    let old = around (g.C.Chooser.choices c.args.outside.now.chooser.now) c.args.outside.now.answers.now c.args.outside.now.steps.now in
     let new = around (g.C.Chooser.choices c.run_leg.new.chooser) c.run_leg.new.answers c.run_leg.new.steps in
-    let t : Taken g.A.Answers.answers m c.args.left leg entries old new = taken g.A.Answers.answers laws.legs history c.args.left leg c.args.machine.now c.run_leg.new.self old.choices new.choices c.args.answers.now c.run_leg.new.answers c.new-entries.result.items entries old.steps new.steps is_leg c.new-entries.ensures.items in
+    let t : Taken g.A.Answers.answers m c.args.left leg entries old new = taken g.A.Answers.answers laws.legs history c.args.left leg c.args.machine.now c.run_leg.new.self old.choices new.choices c.args.outside.now.answers.now c.run_leg.new.answers c.new-entries.result.items entries old.steps new.steps is_leg c.new-entries.ensures.items in
     let none : entries ≡ [] = nothing entries (sym c.run_leg.new.out.ok.0 ∙ eqb-true c.run_leg.new.out.len 0 (sym c.is_empty.ensures ∙ c.if-is_empty.true)) in
     let same : history ≡ history ++ entries = sym (ap (λ (x : List Record). history ++ x) none ∙ append-nil history) in
     subst (λ (x : List Record). IsReady c.run_leg.new.self x) (sym same) (ready-recorded laws.named laws.records laws.runs laws.are_run c.args.machine.now c.run_leg.new.self history (map input_of is_leg.slices) c.new-entries.result.items entries c.requires.ready is_leg.took.runs c.new-entries.ensures.items)
@@ -66,15 +66,15 @@ returns-then-is_empty-clause-advances g c budget =
     let leg = c.in_ok-leg.leg in
     let entries = c.run_leg.new.out.items in
     let is_leg = c.in_ok-leg.ensures.leg m c.requires.ready.is_after.leads in
-    let old = around (g.C.Chooser.choices c.args.chooser.now) c.args.answers.now c.args.steps.now in
+    let old = around (g.C.Chooser.choices c.args.outside.now.chooser.now) c.args.outside.now.answers.now c.args.outside.now.steps.now in
     let new = around (g.C.Chooser.choices c.run_leg.new.chooser) c.run_leg.new.answers c.run_leg.new.steps in
-    let t : Taken g.A.Answers.answers m c.args.left leg entries old new = taken g.A.Answers.answers laws.legs history c.args.left leg c.args.machine.now c.run_leg.new.self old.choices new.choices c.args.answers.now c.run_leg.new.answers c.new-entries.result.items entries old.steps new.steps is_leg c.new-entries.ensures.items in
+    let t : Taken g.A.Answers.answers m c.args.left leg entries old new = taken g.A.Answers.answers laws.legs history c.args.left leg c.args.machine.now c.run_leg.new.self old.choices new.choices c.args.outside.now.answers.now c.run_leg.new.answers c.new-entries.result.items entries old.steps new.steps is_leg c.new-entries.ensures.items in
     let none : entries ≡ [] = nothing entries (sym c.run_leg.new.out.ok.0 ∙ eqb-true c.run_leg.new.out.len 0 (sym c.is_empty.ensures ∙ c.if-is_empty.true)) in
     let same : history ≡ history ++ entries = sym (ap (λ (x : List Record). history ++ x) none ∙ append-nil history) in
-    let holds = g.K.Sink.holds c.args.sink.now in
-    let carries : Carries IsRun g.D.Disk c.args.disk.now c.args.disk.now c.args.store.now c.args.store.now holds holds (leg_effects m.events entries) =
-    subst (λ (x : List Record). Carries IsRun g.D.Disk c.args.disk.now c.args.disk.now c.args.store.now c.args.store.now holds holds (leg_effects m.events x)) (sym none)
-    (Carries-none IsRun g.D.Disk c.effects_follow.ensures.follow c.args.disk.now c.args.store.now holds c.requires.open) in
+    let holds = g.K.Sink.holds c.args.outside.now.sink.now in
+    let carries : Carries IsRun g.D.Disk c.args.outside.now.disk.now c.args.outside.now.disk.now c.args.store.now c.args.store.now holds holds (leg_effects m.events entries) =
+    subst (λ (x : List Record). Carries IsRun g.D.Disk c.args.outside.now.disk.now c.args.outside.now.disk.now c.args.store.now c.args.store.now holds holds (leg_effects m.events x)) (sym none)
+    (Carries-none IsRun g.D.Disk c.effects_follow.ensures.follow c.args.outside.now.disk.now c.args.store.now holds c.requires.open) in
     Advances-taken g.A.Answers.answers laws.names laws.begin laws.append history history c.args.left leg entries old new t same budget _ carries
 
 pub returns-then-is_empty-clause-end : goal.returns-then-is_empty-clause-end
@@ -85,9 +85,9 @@ returns-then-is_empty-clause-end g c =
     let leg = c.in_ok-leg.leg in
     let entries = c.run_leg.new.out.items in
     let is_leg = c.in_ok-leg.ensures.leg m c.requires.ready.is_after.leads in
-    let old = around (g.C.Chooser.choices c.args.chooser.now) c.args.answers.now c.args.steps.now in
+    let old = around (g.C.Chooser.choices c.args.outside.now.chooser.now) c.args.outside.now.answers.now c.args.outside.now.steps.now in
     let new = around (g.C.Chooser.choices c.run_leg.new.chooser) c.run_leg.new.answers c.run_leg.new.steps in
-    let t : Taken g.A.Answers.answers m c.args.left leg entries old new = taken g.A.Answers.answers laws.legs history c.args.left leg c.args.machine.now c.run_leg.new.self old.choices new.choices c.args.answers.now c.run_leg.new.answers c.new-entries.result.items entries old.steps new.steps is_leg c.new-entries.ensures.items in
+    let t : Taken g.A.Answers.answers m c.args.left leg entries old new = taken g.A.Answers.answers laws.legs history c.args.left leg c.args.machine.now c.run_leg.new.self old.choices new.choices c.args.outside.now.answers.now c.run_leg.new.answers c.new-entries.result.items entries old.steps new.steps is_leg c.new-entries.ensures.items in
     let none : entries ≡ [] = nothing entries (sym c.run_leg.new.out.ok.0 ∙ eqb-true c.run_leg.new.out.len 0 (sym c.is_empty.ensures ∙ c.if-is_empty.true)) in
     let same : history ≡ history ++ entries = sym (ap (λ (x : List Record). history ++ x) none ∙ append-nil history) in
     ends-taken g.A.Answers.answers laws.names laws.begin laws.append history history c.args.left leg entries old new t same
@@ -100,9 +100,9 @@ returns-then-is_empty-clause-more g c more =
     let leg = c.in_ok-leg.leg in
     let entries = c.run_leg.new.out.items in
     let is_leg = c.in_ok-leg.ensures.leg m c.requires.ready.is_after.leads in
-    let old = around (g.C.Chooser.choices c.args.chooser.now) c.args.answers.now c.args.steps.now in
+    let old = around (g.C.Chooser.choices c.args.outside.now.chooser.now) c.args.outside.now.answers.now c.args.outside.now.steps.now in
     let new = around (g.C.Chooser.choices c.run_leg.new.chooser) c.run_leg.new.answers c.run_leg.new.steps in
-    let t : Taken g.A.Answers.answers m c.args.left leg entries old new = taken g.A.Answers.answers laws.legs history c.args.left leg c.args.machine.now c.run_leg.new.self old.choices new.choices c.args.answers.now c.run_leg.new.answers c.new-entries.result.items entries old.steps new.steps is_leg c.new-entries.ensures.items in
+    let t : Taken g.A.Answers.answers m c.args.left leg entries old new = taken g.A.Answers.answers laws.legs history c.args.left leg c.args.machine.now c.run_leg.new.self old.choices new.choices c.args.outside.now.answers.now c.run_leg.new.answers c.new-entries.result.items entries old.steps new.steps is_leg c.new-entries.ensures.items in
     let none : entries ≡ [] = nothing entries (sym c.run_leg.new.out.ok.0 ∙ eqb-true c.run_leg.new.out.len 0 (sym c.is_empty.ensures ∙ c.if-is_empty.true)) in
     let same : history ≡ history ++ entries = sym (ap (λ (x : List Record). history ++ x) none ∙ append-nil history) in
     more-taken g.A.Answers.answers laws.names laws.begin laws.append history history c.args.left leg entries old new t same more
@@ -120,16 +120,16 @@ returns-in_err-push_outputs-clause-stops g c =
     let leg = c.in_ok-leg.leg in
     let entries = c.run_leg.new.out.items in
     let is_leg = c.in_ok-leg.ensures.leg m c.requires.ready.is_after.leads in
-    let old = around (g.C.Chooser.choices c.args.chooser.now) c.args.answers.now c.args.steps.now in
+    let old = around (g.C.Chooser.choices c.args.outside.now.chooser.now) c.args.outside.now.answers.now c.args.outside.now.steps.now in
     let new = around (g.C.Chooser.choices c.run_leg.new.chooser) c.run_leg.new.answers c.run_leg.new.steps in
-    let t : Taken g.A.Answers.answers m c.args.left leg entries old new = taken g.A.Answers.answers laws.legs history c.args.left leg c.args.machine.now c.run_leg.new.self old.choices new.choices c.args.answers.now c.run_leg.new.answers c.new-entries.result.items entries old.steps new.steps is_leg c.new-entries.ensures.items in
+    let t : Taken g.A.Answers.answers m c.args.left leg entries old new = taken g.A.Answers.answers laws.legs history c.args.left leg c.args.machine.now c.run_leg.new.self old.choices new.choices c.args.outside.now.answers.now c.run_leg.new.answers c.new-entries.result.items entries old.steps new.steps is_leg c.new-entries.ensures.items in
     let some : 0 < length entries = there-are entries (λ none. eqb-false c.run_leg.new.out.len 0 (sym c.is_empty.ensures ∙ c.if-is_empty.false) (c.run_leg.new.out.ok.0 ∙ none)) in
     let some_taken : 0 < length (going_by (fresh m c.args.left) t.slices).entries = subst (λ (x : List Record). 0 < length x) t.are some in
-    let holds = g.K.Sink.holds c.args.sink.now in
+    let holds = g.K.Sink.holds c.args.outside.now.sink.now in
     err-same c.from_residual-in_err-push_outputs.result halt.NoMemory _ c.from_residual-in_err-push_outputs.ensures.1
     (λ budget.
-    Stops-lost IsRun g.D.Disk g.A.Answers.answers c.halts_follow.ensures budget m c.args.left t.slices t.same t.opens c.args.disk.now c.args.disk.now history holds holds halt.NoMemory old new leg.end t.closed some_taken t.picked t.in_range t.replied t.executed
-    (λ more. c.halts_follow.ensures.nothing c.args.disk.now history holds halt.NoMemory _ (inl refl, inl refl)))
+    Stops-lost IsRun g.D.Disk g.A.Answers.answers c.halts_follow.ensures budget m c.args.left t.slices t.same t.opens c.args.outside.now.disk.now c.args.outside.now.disk.now history holds holds halt.NoMemory old new leg.end t.closed some_taken t.picked t.in_range t.replied t.executed
+    (λ more. c.halts_follow.ensures.nothing c.args.outside.now.disk.now history holds halt.NoMemory _ (inl refl, inl refl)))
 
 pub commit-requires-clause-run : goal.commit-requires-clause-run
 commit-requires-clause-run g c =
@@ -139,9 +139,9 @@ commit-requires-clause-run g c =
     let leg = c.in_ok-leg.leg in
     let entries = c.run_leg.new.out.items in
     let is_leg = c.in_ok-leg.ensures.leg m c.requires.ready.is_after.leads in
-    let old = around (g.C.Chooser.choices c.args.chooser.now) c.args.answers.now c.args.steps.now in
+    let old = around (g.C.Chooser.choices c.args.outside.now.chooser.now) c.args.outside.now.answers.now c.args.outside.now.steps.now in
     let new = around (g.C.Chooser.choices c.run_leg.new.chooser) c.run_leg.new.answers c.run_leg.new.steps in
-    let t : Taken g.A.Answers.answers m c.args.left leg entries old new = taken g.A.Answers.answers laws.legs history c.args.left leg c.args.machine.now c.run_leg.new.self old.choices new.choices c.args.answers.now c.run_leg.new.answers c.new-entries.result.items entries old.steps new.steps is_leg c.new-entries.ensures.items in
+    let t : Taken g.A.Answers.answers m c.args.left leg entries old new = taken g.A.Answers.answers laws.legs history c.args.left leg c.args.machine.now c.run_leg.new.self old.choices new.choices c.args.outside.now.answers.now c.run_leg.new.answers c.new-entries.result.items entries old.steps new.steps is_leg c.new-entries.ensures.items in
     λ was. (ready-recorded laws.named laws.records laws.runs laws.are_run c.args.machine.now c.run_leg.new.self history (map input_of is_leg.slices) c.new-entries.result.items entries c.requires.ready is_leg.took.runs c.new-entries.ensures.items).is_run
 
 pub returns-in_err-commit-clause-stops : goal.returns-in_err-commit-clause-stops
@@ -152,18 +152,18 @@ returns-in_err-commit-clause-stops g c =
     let leg = c.in_ok-leg.leg in
     let entries = c.run_leg.new.out.items in
     let is_leg = c.in_ok-leg.ensures.leg m c.requires.ready.is_after.leads in
-    let old = around (g.C.Chooser.choices c.args.chooser.now) c.args.answers.now c.args.steps.now in
+    let old = around (g.C.Chooser.choices c.args.outside.now.chooser.now) c.args.outside.now.answers.now c.args.outside.now.steps.now in
     let new = around (g.C.Chooser.choices c.run_leg.new.chooser) c.run_leg.new.answers c.run_leg.new.steps in
-    let t : Taken g.A.Answers.answers m c.args.left leg entries old new = taken g.A.Answers.answers laws.legs history c.args.left leg c.args.machine.now c.run_leg.new.self old.choices new.choices c.args.answers.now c.run_leg.new.answers c.new-entries.result.items entries old.steps new.steps is_leg c.new-entries.ensures.items in
+    let t : Taken g.A.Answers.answers m c.args.left leg entries old new = taken g.A.Answers.answers laws.legs history c.args.left leg c.args.machine.now c.run_leg.new.self old.choices new.choices c.args.outside.now.answers.now c.run_leg.new.answers c.new-entries.result.items entries old.steps new.steps is_leg c.new-entries.ensures.items in
     let some : 0 < length entries = there-are entries (λ none. eqb-false c.run_leg.new.out.len 0 (sym c.is_empty.ensures ∙ c.if-is_empty.false) (c.run_leg.new.out.ok.0 ∙ none)) in
     let some_taken : 0 < length (going_by (fresh m c.args.left) t.slices).entries = subst (λ (x : List Record). 0 < length x) t.are some in
-    let holds = g.K.Sink.holds c.args.sink.now in
+    let holds = g.K.Sink.holds c.args.outside.now.sink.now in
     let why = c.in_err-commit.field-0.0 in
-    let stopped : (more : List Effect) → StopsBetween IsRun g.D.Disk c.args.disk.now c.commit.new.disk history holds holds why [] (Commits (going_by (fresh m c.args.left) t.slices).entries ∷ more) =
-    λ more. subst (λ (x : List Record). StopsBetween IsRun g.D.Disk c.args.disk.now c.commit.new.disk history holds holds why [] (Commits x ∷ more)) t.are
-    (c.halts_follow.ensures.before c.args.disk.now c.commit.new.disk history holds holds why [] (Commits entries ∷ []) more (c.in_err-commit.ensures.undone holds)) in
+    let stopped : (more : List Effect) → StopsBetween IsRun g.D.Disk c.args.outside.now.disk.now c.commit.new.disk history holds holds why [] (Commits (going_by (fresh m c.args.left) t.slices).entries ∷ more) =
+    λ more. subst (λ (x : List Record). StopsBetween IsRun g.D.Disk c.args.outside.now.disk.now c.commit.new.disk history holds holds why [] (Commits x ∷ more)) t.are
+    (c.halts_follow.ensures.before c.args.outside.now.disk.now c.commit.new.disk history holds holds why [] (Commits entries ∷ []) more (c.in_err-commit.ensures.undone holds)) in
     err-same c.from_residual-in_err-commit.result why _ c.from_residual-in_err-commit.ensures.1
-    (λ budget. Stops-lost IsRun g.D.Disk g.A.Answers.answers c.halts_follow.ensures budget m c.args.left t.slices t.same t.opens c.args.disk.now c.commit.new.disk history holds holds why old new leg.end t.closed some_taken t.picked t.in_range t.replied t.executed stopped)
+    (λ budget. Stops-lost IsRun g.D.Disk g.A.Answers.answers c.halts_follow.ensures budget m c.args.left t.slices t.same t.opens c.args.outside.now.disk.now c.commit.new.disk history holds holds why old new leg.end t.closed some_taken t.picked t.in_range t.replied t.executed stopped)
 
 pub returns-in_err-put_all-clause-stops : goal.returns-in_err-put_all-clause-stops
 returns-in_err-put_all-clause-stops g c =
@@ -173,20 +173,20 @@ returns-in_err-put_all-clause-stops g c =
     let leg = c.in_ok-leg.leg in
     let entries = c.run_leg.new.out.items in
     let is_leg = c.in_ok-leg.ensures.leg m c.requires.ready.is_after.leads in
-    let old = around (g.C.Chooser.choices c.args.chooser.now) c.args.answers.now c.args.steps.now in
+    let old = around (g.C.Chooser.choices c.args.outside.now.chooser.now) c.args.outside.now.answers.now c.args.outside.now.steps.now in
     let new = around (g.C.Chooser.choices c.run_leg.new.chooser) c.run_leg.new.answers c.run_leg.new.steps in
-    let t : Taken g.A.Answers.answers m c.args.left leg entries old new = taken g.A.Answers.answers laws.legs history c.args.left leg c.args.machine.now c.run_leg.new.self old.choices new.choices c.args.answers.now c.run_leg.new.answers c.new-entries.result.items entries old.steps new.steps is_leg c.new-entries.ensures.items in
+    let t : Taken g.A.Answers.answers m c.args.left leg entries old new = taken g.A.Answers.answers laws.legs history c.args.left leg c.args.machine.now c.run_leg.new.self old.choices new.choices c.args.outside.now.answers.now c.run_leg.new.answers c.new-entries.result.items entries old.steps new.steps is_leg c.new-entries.ensures.items in
     let some : 0 < length entries = there-are entries (λ none. eqb-false c.run_leg.new.out.len 0 (sym c.is_empty.ensures ∙ c.if-is_empty.false) (c.run_leg.new.out.ok.0 ∙ none)) in
     let some_taken : 0 < length (going_by (fresh m c.args.left) t.slices).entries = subst (λ (x : List Record). 0 < length x) t.are some in
-    let holds = g.K.Sink.holds c.args.sink.now in
+    let holds = g.K.Sink.holds c.args.outside.now.sink.now in
     let why = c.in_err-put_all.field-0.0 in
     let carried = c.in_ok-commit.ensures.carries holds in
     let text = leg-text c.requires.ready.is_after.leads.events c.events-event.ensures c.as_slice.ensures.value c.clear.ensures.bytes c.in_ok-push_outputs.ensures in
     err-same c.from_residual-in_err-put_all.result why _ c.from_residual-in_err-put_all.ensures.1
     (λ budget.
-    Stops-text IsRun g.D.Disk g.A.Answers.answers c.halts_follow.ensures budget m c.args.left t.slices t.same t.opens laws.begin c.args.disk.now c.commit.new.disk history c.commit.new.store.entries holds (g.K.Sink.holds c.put_all.new.sink) why old new leg.end t.closed some_taken t.picked t.in_range t.replied t.executed
+    Stops-text IsRun g.D.Disk g.A.Answers.answers c.halts_follow.ensures budget m c.args.left t.slices t.same t.opens laws.begin c.args.outside.now.disk.now c.commit.new.disk history c.commit.new.store.entries holds (g.K.Sink.holds c.put_all.new.sink) why old new leg.end t.closed some_taken t.picked t.in_range t.replied t.executed
     (subst (λ (x : List Record). c.commit.new.store.entries ≡ history ++ committed (Commits x ∷ [])) t.are carried.entries)
-    (subst (λ (x : List Record). CarriesOut IsRun g.D.Disk c.args.disk.now c.commit.new.disk history holds holds (Commits x ∷ [])) t.are carried.out)
+    (subst (λ (x : List Record). CarriesOut IsRun g.D.Disk c.args.outside.now.disk.now c.commit.new.disk history holds holds (Commits x ∷ [])) t.are carried.out)
     (subst (λ (x : List ℕ). StopsPut why x holds (g.K.Sink.holds c.put_all.new.sink)) (c.as_bytes.ensures.value ∙ text ∙ ap (outputs_text m.events) t.are) c.in_err-put_all.ensures.stops))
 
 pub returns-clause-ready : goal.returns-clause-ready
@@ -197,10 +197,10 @@ returns-clause-ready g c =
     let leg = c.in_ok-leg.leg in
     let entries = c.run_leg.new.out.items in
     let is_leg = c.in_ok-leg.ensures.leg m c.requires.ready.is_after.leads in
-    let old = around (g.C.Chooser.choices c.args.chooser.now) c.args.answers.now c.args.steps.now in
+    let old = around (g.C.Chooser.choices c.args.outside.now.chooser.now) c.args.outside.now.answers.now c.args.outside.now.steps.now in
     let new = around (g.C.Chooser.choices c.run_leg.new.chooser) c.run_leg.new.answers c.run_leg.new.steps in
-    let t : Taken g.A.Answers.answers m c.args.left leg entries old new = taken g.A.Answers.answers laws.legs history c.args.left leg c.args.machine.now c.run_leg.new.self old.choices new.choices c.args.answers.now c.run_leg.new.answers c.new-entries.result.items entries old.steps new.steps is_leg c.new-entries.ensures.items in
-    let all : c.commit.new.store.entries ≡ history ++ entries = (c.in_ok-commit.ensures.carries (g.K.Sink.holds c.args.sink.now)).entries ∙ ap (λ (x : List Record). history ++ x) (append-nil entries) in
+    let t : Taken g.A.Answers.answers m c.args.left leg entries old new = taken g.A.Answers.answers laws.legs history c.args.left leg c.args.machine.now c.run_leg.new.self old.choices new.choices c.args.outside.now.answers.now c.run_leg.new.answers c.new-entries.result.items entries old.steps new.steps is_leg c.new-entries.ensures.items in
+    let all : c.commit.new.store.entries ≡ history ++ entries = (c.in_ok-commit.ensures.carries (g.K.Sink.holds c.args.outside.now.sink.now)).entries ∙ ap (λ (x : List Record). history ++ x) (append-nil entries) in
     subst (λ (x : List Record). IsReady c.run_leg.new.self x) (sym all) (ready-recorded laws.named laws.records laws.runs laws.are_run c.args.machine.now c.run_leg.new.self history (map input_of is_leg.slices) c.new-entries.result.items entries c.requires.ready is_leg.took.runs c.new-entries.ensures.items)
 
 pub returns-clause-advances : goal.returns-clause-advances
@@ -211,17 +211,17 @@ returns-clause-advances g c budget =
     let leg = c.in_ok-leg.leg in
     let entries = c.run_leg.new.out.items in
     let is_leg = c.in_ok-leg.ensures.leg m c.requires.ready.is_after.leads in
-    let old = around (g.C.Chooser.choices c.args.chooser.now) c.args.answers.now c.args.steps.now in
+    let old = around (g.C.Chooser.choices c.args.outside.now.chooser.now) c.args.outside.now.answers.now c.args.outside.now.steps.now in
     let new = around (g.C.Chooser.choices c.run_leg.new.chooser) c.run_leg.new.answers c.run_leg.new.steps in
-    let t : Taken g.A.Answers.answers m c.args.left leg entries old new = taken g.A.Answers.answers laws.legs history c.args.left leg c.args.machine.now c.run_leg.new.self old.choices new.choices c.args.answers.now c.run_leg.new.answers c.new-entries.result.items entries old.steps new.steps is_leg c.new-entries.ensures.items in
+    let t : Taken g.A.Answers.answers m c.args.left leg entries old new = taken g.A.Answers.answers laws.legs history c.args.left leg c.args.machine.now c.run_leg.new.self old.choices new.choices c.args.outside.now.answers.now c.run_leg.new.answers c.new-entries.result.items entries old.steps new.steps is_leg c.new-entries.ensures.items in
     let some : 0 < length entries = there-are entries (λ none. eqb-false c.run_leg.new.out.len 0 (sym c.is_empty.ensures ∙ c.if-is_empty.false) (c.run_leg.new.out.ok.0 ∙ none)) in
     let some_taken : 0 < length (going_by (fresh m c.args.left) t.slices).entries = subst (λ (x : List Record). 0 < length x) t.are some in
-    let holds = g.K.Sink.holds c.args.sink.now in
+    let holds = g.K.Sink.holds c.args.outside.now.sink.now in
     let carried = c.in_ok-commit.ensures.carries holds in
     let all : c.commit.new.store.entries ≡ history ++ entries = carried.entries ∙ ap (λ (x : List Record). history ++ x) (append-nil entries) in
     let text = leg-text c.requires.ready.is_after.leads.events c.events-event.ensures c.as_slice.ensures.value c.clear.ensures.bytes c.in_ok-push_outputs.ensures in
     Advances-taken g.A.Answers.answers laws.names laws.begin laws.append history c.commit.new.store.entries c.args.left leg entries old new t all budget _
-    (Carries-leg IsRun g.D.Disk c.effects_follow.ensures.follow c.args.disk.now c.commit.new.disk c.args.store.now c.commit.new.store holds (g.K.Sink.holds c.put_all.new.sink) m.events entries c.as_bytes.result.now some (c.as_bytes.ensures.value ∙ text) carried c.in_ok-put_all.ensures.ok)
+    (Carries-leg IsRun g.D.Disk c.effects_follow.ensures.follow c.args.outside.now.disk.now c.commit.new.disk c.args.store.now c.commit.new.store holds (g.K.Sink.holds c.put_all.new.sink) m.events entries c.as_bytes.result.now some (c.as_bytes.ensures.value ∙ text) carried c.in_ok-put_all.ensures.ok)
 
 pub returns-clause-end : goal.returns-clause-end
 returns-clause-end g c =
@@ -231,10 +231,10 @@ returns-clause-end g c =
     let leg = c.in_ok-leg.leg in
     let entries = c.run_leg.new.out.items in
     let is_leg = c.in_ok-leg.ensures.leg m c.requires.ready.is_after.leads in
-    let old = around (g.C.Chooser.choices c.args.chooser.now) c.args.answers.now c.args.steps.now in
+    let old = around (g.C.Chooser.choices c.args.outside.now.chooser.now) c.args.outside.now.answers.now c.args.outside.now.steps.now in
     let new = around (g.C.Chooser.choices c.run_leg.new.chooser) c.run_leg.new.answers c.run_leg.new.steps in
-    let t : Taken g.A.Answers.answers m c.args.left leg entries old new = taken g.A.Answers.answers laws.legs history c.args.left leg c.args.machine.now c.run_leg.new.self old.choices new.choices c.args.answers.now c.run_leg.new.answers c.new-entries.result.items entries old.steps new.steps is_leg c.new-entries.ensures.items in
-    let all : c.commit.new.store.entries ≡ history ++ entries = (c.in_ok-commit.ensures.carries (g.K.Sink.holds c.args.sink.now)).entries ∙ ap (λ (x : List Record). history ++ x) (append-nil entries) in
+    let t : Taken g.A.Answers.answers m c.args.left leg entries old new = taken g.A.Answers.answers laws.legs history c.args.left leg c.args.machine.now c.run_leg.new.self old.choices new.choices c.args.outside.now.answers.now c.run_leg.new.answers c.new-entries.result.items entries old.steps new.steps is_leg c.new-entries.ensures.items in
+    let all : c.commit.new.store.entries ≡ history ++ entries = (c.in_ok-commit.ensures.carries (g.K.Sink.holds c.args.outside.now.sink.now)).entries ∙ ap (λ (x : List Record). history ++ x) (append-nil entries) in
     ends-taken g.A.Answers.answers laws.names laws.begin laws.append history c.commit.new.store.entries c.args.left leg entries old new t all
 
 pub returns-clause-more : goal.returns-clause-more
@@ -245,8 +245,8 @@ returns-clause-more g c more =
     let leg = c.in_ok-leg.leg in
     let entries = c.run_leg.new.out.items in
     let is_leg = c.in_ok-leg.ensures.leg m c.requires.ready.is_after.leads in
-    let old = around (g.C.Chooser.choices c.args.chooser.now) c.args.answers.now c.args.steps.now in
+    let old = around (g.C.Chooser.choices c.args.outside.now.chooser.now) c.args.outside.now.answers.now c.args.outside.now.steps.now in
     let new = around (g.C.Chooser.choices c.run_leg.new.chooser) c.run_leg.new.answers c.run_leg.new.steps in
-    let t : Taken g.A.Answers.answers m c.args.left leg entries old new = taken g.A.Answers.answers laws.legs history c.args.left leg c.args.machine.now c.run_leg.new.self old.choices new.choices c.args.answers.now c.run_leg.new.answers c.new-entries.result.items entries old.steps new.steps is_leg c.new-entries.ensures.items in
-    let all : c.commit.new.store.entries ≡ history ++ entries = (c.in_ok-commit.ensures.carries (g.K.Sink.holds c.args.sink.now)).entries ∙ ap (λ (x : List Record). history ++ x) (append-nil entries) in
+    let t : Taken g.A.Answers.answers m c.args.left leg entries old new = taken g.A.Answers.answers laws.legs history c.args.left leg c.args.machine.now c.run_leg.new.self old.choices new.choices c.args.outside.now.answers.now c.run_leg.new.answers c.new-entries.result.items entries old.steps new.steps is_leg c.new-entries.ensures.items in
+    let all : c.commit.new.store.entries ≡ history ++ entries = (c.in_ok-commit.ensures.carries (g.K.Sink.holds c.args.outside.now.sink.now)).entries ∙ ap (λ (x : List Record). history ++ x) (append-nil entries) in
     more-taken g.A.Answers.answers laws.names laws.begin laws.append history c.commit.new.store.entries c.args.left leg entries old new t all more

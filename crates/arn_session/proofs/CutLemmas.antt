@@ -23,16 +23,17 @@ use Rattle.session_effects.specs.declared.halt.Halt.{Halt}
 use Rattle.session_effects.specs.declared.halt.Halt.TheVariants as halt
 use Rattle.session_runs.specs.Points.{Advances, Stops}
 use Rattle.session_runs.specs.Turns.{finished}
-use Rattle.session_lines.specs.Answering.{FindsNoRun, IsHalted, IsNoRun, IsNotBegun, IsNotMade, IsUntouched, Standpoint, standpoint}
+use Rattle.session_lines.specs.Answering.{FindsNoRun, IsHalted, IsNoRun, IsNotBegun, IsNotMade, IsUntouched}
+use Rattle.session_runs.specs.Standing.{Standpoint, standpoint}
 use Rattle.session_lines.specs.Cost.{cost_of_turn, machine_cost}
 use Rattle.session_lines.specs.Lines.{needs_machine, turn}
 use Rattle.session_model.specs.Questions.{Told}
-use Rattle.session_text.specs.CutOff.{BeginsText, FindsOut, IsBegun}
-use Rattle.session_text.specs.Transcript.{needs_any, total_cost, transcript}
-use Rattle.session_text.proofs.PointLemmas.{Behind, Laws, PickedBy-same, Stops-along, Stops-behind, Stops-dearer, Stops-finished}
-use Rattle.session_text.proofs.Progress.{Advances-more, EachAsks-push, HaveAnswers, Progress, Progress-start, are_taken, costs-more, count_taken, parts-more, text_taken, wholes-more}
-use Rattle.session_text.proofs.TranscriptLemmas.{needs-push, transcript-one}
-use Rattle.session_text.proofs.UseLemmas.{Uses-append, Uses-none}
+use Rattle.arn_session.specs.CutOff.{BeginsText, FindsOut, IsBegun}
+use Rattle.arn_session.specs.Transcript.{needs_any, total_cost, transcript}
+use Rattle.arn_session.proofs.PointLemmas.{Behind, Laws, PickedBy-same, Stops-along, Stops-behind, Stops-dearer, Stops-finished}
+use Rattle.arn_session.proofs.Progress.{Advances-more, EachAsks-push, HaveAnswers, Progress, Progress-start, are_taken, costs-more, count_taken, parts-more, text_taken, wholes-more}
+use Rattle.arn_session.proofs.TranscriptLemmas.{needs-push, transcript-one}
+use Rattle.arn_session.proofs.UseLemmas.{Uses-append, Uses-none}
 
 -- what was taken of a text begins with the bytes that were used
 text_used : (seen more : List ℕ) (reader : ReaderState) (l0 l : Option (List ℕ)) → Uses (seen ++ more) fresh_reader reader l0 l → IfSome l0 (λ text. (rest : List ℕ) × (text ≡ seen ++ rest) × IfSome l (λ left. (beyond : List ℕ) × (rest ≡ beyond ++ left)))
@@ -55,7 +56,7 @@ record Begins (text : List ℕ) (left : Option (List ℕ)) (parts : List Part) :
 
 module _ {D A : Type 0} (d : Ghosts D) (replies : A → Asked → Answered → A → Type 0) (told : Told) where
   -- a command was begun behind others, and halted
-  stops-more : (laws : Laws d replies) (old mid new : Standpoint D A) (parts : List Part) (is_there : Bool) (command : Command) (why : Halt) (n : ℕ) (p : HaveAnswers d replies told parts is_there old mid) (q : Stops IsRun d replies mid.disk new.disk mid.store.entries mid.held new.held why (turn told mid.store.entries command) mid.around new.around n) → Behind d replies (transcript told old.store.entries (p.commands ++ command ∷ [])) old.around new.around (p.cost + n) old.disk new.disk old.store.entries old.held new.held why (all_named p.answered.asks p.answered.slices) (all_named q.asks q.slices ++ all_named q.lost_asks q.lost)
+  pub stops-more : (laws : Laws d replies) (old mid new : Standpoint D A) (parts : List Part) (is_there : Bool) (command : Command) (why : Halt) (n : ℕ) (p : HaveAnswers d replies told parts is_there old mid) (q : Stops IsRun d replies mid.disk new.disk mid.store.entries mid.held new.held why (turn told mid.store.entries command) mid.around new.around n) → Behind d replies (transcript told old.store.entries (p.commands ++ command ∷ [])) old.around new.around (p.cost + n) old.disk new.disk old.store.entries old.held new.held why (all_named p.answered.asks p.answered.slices) (all_named q.asks q.slices ++ all_named q.lost_asks q.lost)
   stops-more laws old mid new parts is_there command why n p q =
       Stops-behind d replies laws (transcript told old.store.entries (p.commands ++ command ∷ [])) (transcript told mid.store.entries (command ∷ [])) old.around mid.around new.around p.cost n old.disk mid.disk new.disk old.store mid.store old.held mid.held new.held why
       (Advances-more d replies told old mid parts is_there p (command ∷ []))

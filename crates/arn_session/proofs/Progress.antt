@@ -20,15 +20,17 @@ use Rattle.session_effects.specs.Effects.{Effect, committed}
 use Rattle.session_effects.specs.Standing.{Carries, IsOpen}
 use Rattle.session_runs.specs.Points.{Advances, Surroundings}
 use Rattle.session_runs.specs.Turns.{Point, Turn, finished}
-use Rattle.session_lines.specs.Answering.{IsAnswered, Standpoint}
+use Rattle.session_lines.specs.Answering.{IsAnswered}
+use Rattle.session_runs.specs.Standing.{Standpoint}
 use Rattle.session_lines.specs.Cost.{cost, cost_of_turn}
 use Rattle.session_lines.specs.Lines.{needs_machine, turn}
 use Rattle.session_model.specs.Questions.{Told}
-use Rattle.session_text.specs.Answers.{Answers, AnswersTaken, TookAtMost, TookFewer}
-use Rattle.session_text.specs.Transcript.{needs_any, total_cost, transcript}
-use Rattle.session_text.proofs.PointLemmas.{Advances-along, Advances-append, Laws, PickedBy-none}
-use Rattle.session_text.proofs.TranscriptLemmas.{commits-none, cost-push, leads-more, needs-push, transcript-one}
-use Rattle.session_text.proofs.UseLemmas.{Uses-append, Uses-none}
+use Rattle.arn_session.specs.Answered.{AnswersParts, AnswersTaken, TookAtMost, TookFewer}
+use Rattle.arn_session.specs.Leaves.{WereAsked}
+use Rattle.arn_session.specs.Transcript.{needs_any, total_cost, transcript}
+use Rattle.arn_session.proofs.PointLemmas.{Advances-along, Advances-append, Laws, PickedBy-none}
+use Rattle.arn_session.proofs.TranscriptLemmas.{commits-none, cost-push, leads-more, needs-push, transcript-one}
+use Rattle.arn_session.proofs.UseLemmas.{Uses-append, Uses-none}
 
 -- one more part asks for this
 pub EachAsks-push : (parts : List Part) (commands : List Command) (part : Part) (command : Command) → EachAsks parts commands → Asks part command → EachAsks (parts ++ part ∷ []) (commands ++ command ∷ [])
@@ -234,7 +236,7 @@ module _ {D A : Type 0} (d : Ghosts D) (replies : A → Asked → Answered → A
         on_run = λ here. run-more is_there h t command p.unmoved p.on_run a.on_run (sym there ∙ here);
       }
 
-  HaveAnswers-answers : (old new : Standpoint D A) (parts : List Part) (is_there : Bool) → HaveAnswers parts is_there old new → Answers replies told old.store.entries parts old.around new.around (CarriesOut IsRun d old.disk new.disk old.store.entries old.held new.held)
+  HaveAnswers-answers : (old new : Standpoint D A) (parts : List Part) (is_there : Bool) → HaveAnswers parts is_there old new → AnswersParts replies told old.store.entries parts old.around new.around (CarriesOut IsRun d old.disk new.disk old.store.entries old.held new.held)
   HaveAnswers-answers old new parts is_there p = record {
     commands = p.commands;
     each_asks = p.each_asks;
@@ -256,9 +258,10 @@ module _ {D A : Type 0} (d : Ghosts D) (replies : A → Asked → Answered → A
   -- a whole text was read and answered
   pub record IsDone (left left' : Option (List ℕ)) (old new : Standpoint D A) : Type 0 where
     pub read : IfSome left (λ text. left' ≡ Some [])
-    pub answered : IfSome left (λ text. Answers replies told old.store.entries (text_parts text) old.around new.around (CarriesOut IsRun d old.disk new.disk old.store.entries old.held new.held))
+    pub answered : IfSome left (λ text. AnswersParts replies told old.store.entries (text_parts text) old.around new.around (CarriesOut IsRun d old.disk new.disk old.store.entries old.held new.held))
     pub short : IfSome left (λ text. length text < 2 ^ 40)
     pub out : (effects : List Effect) × CarriesOut IsRun d old.disk new.disk old.store.entries old.held new.held effects
+    pub asked : WereAsked replies old.around.answers new.around.answers
 
   done_by : (bytes : List ℕ) (parts : List Part) (reader : ReaderState) (l0 l : Option (List ℕ)) (is_there : Bool) (old new : Standpoint D A) → Uses bytes fresh_reader reader l0 l → IsAtEnd reader l → text_parts bytes ≡ parts → HaveAnswers parts is_there old new → IsDone l0 l old new
   done_by bytes parts reader l0 l is_there old new used end are answers =
@@ -266,9 +269,10 @@ module _ {D A : Type 0} (d : Ghosts D) (replies : A → Asked → Answered → A
       let whole = HaveAnswers-answers old new parts is_there answers in
       record {
         read = IfSome_then l0 all (λ text f. f.0);
-        answered = IfSome_then l0 all (λ text f. subst (λ (x : List Part). Answers replies told old.store.entries x old.around new.around (CarriesOut IsRun d old.disk new.disk old.store.entries old.held new.held)) (sym (ap text_parts f.1 ∙ are)) whole);
+        answered = IfSome_then l0 all (λ text f. subst (λ (x : List Part). AnswersParts replies told old.store.entries x old.around new.around (CarriesOut IsRun d old.disk new.disk old.store.entries old.held new.held)) (sym (ap text_parts f.1 ∙ are)) whole);
         short = IfSome_then l0 all (λ text f. omega (arith, ap length f.1, end.short.some_room, count_taken bytes reader l0 l used end.short.used_up));
         out = (answers.answered.effects, answers.answered.carries.out);
+        asked = record { asks = answers.answered.asks; slices = answers.answered.slices; replied = answers.answered.replied };
       }
 
 module _ {D A : Type 0} {d : Ghosts D} {replies : A → Asked → Answered → A → Type 0} {told : Told} where
@@ -313,7 +317,7 @@ module _ {D A : Type 0} {d : Ghosts D} {replies : A → Asked → Answered → A
       record {
         taken = bytes;
         is_taken = are_taken bytes r' l0 l2 (Uses-append p.seen read.bytes fresh_reader r r' l0 l1 l2 p.used read.used) used_up;
-        answered = subst (λ (x : List Part). Answers replies told old.store.entries x old.around new.around (CarriesOut IsRun d old.disk new.disk old.store.entries old.held new.held)) parts (HaveAnswers-answers d replies told old new p.parts is_there p.answers);
+        answered = subst (λ (x : List Part). AnswersParts replies told old.store.entries x old.around new.around (CarriesOut IsRun d old.disk new.disk old.store.entries old.held new.held)) parts (HaveAnswers-answers d replies told old new p.parts is_there p.answers);
       }
 
   pub TookFewer-part : {l0 l1 l2 : Option (List ℕ)} {r r' : ReaderState} {is_there : Bool} {old new : Standpoint D A} → Progress d replies told l0 l1 r is_there old new → ReadsPart r r' l1 l2 → StopsShort r' → TookFewer (2 ^ 40) l0 l2

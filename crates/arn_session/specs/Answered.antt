@@ -12,13 +12,13 @@ use Rattle.session_effects.specs.Effects.{Effect}
 use Rattle.session_runs.specs.Points.{Advances, Surroundings}
 use Rattle.session_runs.specs.Turns.{finished}
 use Rattle.session_model.specs.Questions.{Told}
-use Rattle.session_text.specs.Transcript.{needs_any, total_cost, transcript}
+use Rattle.arn_session.specs.Transcript.{needs_any, total_cost, transcript}
 
 module _ {A : Type 0} (replies : A → Asked → Answered → A → Type 0) (told : Told) (history : List Record) where
   -- These parts and no others were answered by a session that began on a history: all that they ask for was carried out, with slices that
   -- were picked for it, and no more instructions were executed than these and the parts cost. Where one of them needs the machine, the
   -- history is that of a run.
-  pub record Answers (parts : List Part) (old new : Surroundings A) (carried : List Effect → Type 0) : Type 0 where
+  pub record AnswersParts (parts : List Part) (old new : Surroundings A) (carried : List Effect → Type 0) : Type 0 where
     pub commands : List Command
     pub each_asks : EachAsks parts commands
     pub cost : ℕ
@@ -30,7 +30,7 @@ module _ {A : Type 0} (replies : A → Asked → Answered → A → Type 0) (tol
   pub record AnswersTaken (left left' : Option (List ℕ)) (parts : List ℕ → List Part) (old new : Surroundings A) (carried : List Effect → Type 0) : Type 0 where
     pub taken : List ℕ
     pub is_taken : left ≡ option_map (λ rest. taken ++ rest) left'
-    pub answered : Answers (parts taken) old new carried
+    pub answered : AnswersParts (parts taken) old new carried
 
 -- of a told text fewer bytes than so many were taken
 abbrev pub TookFewer : ℕ → Option (List ℕ) → Option (List ℕ) → Type 0

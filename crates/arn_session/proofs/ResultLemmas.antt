@@ -13,3 +13,7 @@ err-at r P e is p = subst (λ x. IfErr x P) is p
 -- a fact of the error that it is
 pub IfErr-is : {T E : Type 0} (r : Result T E) (P : E → Type 0) (e : E) → r ≡ Err e → P e → IfErr r P
 IfErr-is r P e is p = subst (λ x. IfErr x P) (sym is) p
+
+-- a fact of the call that succeeded
+pub ok-at : {T E : Type 0} (r : Result T E) (P : Type 0) (x : T) → r ≡ Ok x → OnOk r P → P
+ok-at r P x is p = subst (λ y. OnOk y P) is p

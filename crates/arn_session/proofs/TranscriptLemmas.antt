@@ -18,8 +18,8 @@ use Rattle.session_lines.specs.Generator.{generator_turn}
 use Rattle.session_lines.specs.Lines.{is_change, line_turn, needs_machine, turn, turn_unless}
 use Rattle.session_lines.specs.Refusals.{generator_refusal, refusal_of}
 use Rattle.session_model.specs.Questions.{Told}
-use Rattle.session_text.specs.Transcript.{asked_costs, history_behind, needs_any, total_cost, transcript, unless_cut_off}
-use Rattle.session_text.proofs.PointLemmas.{behind-behind, behind-finished, committed-append}
+use Rattle.arn_session.specs.Transcript.{asked_costs, history_behind, needs_any, total_cost, transcript, unless_cut_off}
+use Rattle.arn_session.proofs.PointLemmas.{behind-behind, behind-finished, committed-append}
 
 -- the history behind effects and a turn
 history-behind : (history : List Record) (effects : List Effect) (asks : List Ask) (t : Turn) → history_behind (history ++ committed effects) t ≡ history_behind history (behind effects asks t)

@@ -1,0 +1,73 @@
+// Reads a source to its end, and does what each command of its text asks for.
+ghost use Rattle.std.specs.Prelude.{◌≡◌};
+ghost use Rattle.arn_session.specs.Halts.{read_halt_of};
+ghost use Rattle.arn_session.specs.Leaves.{Leaves, scene};
+ghost use Rattle.session_effects.specs.Outside.{IsSame};
+ghost use Rattle.session_effects.specs.Standing.{IsOpen};
+
+use arn_base::{Chooser, Disk, Sink, Source};
+use arn_commands::{Commands, Next, ReadError};
+use guest_devices::Answers;
+use guest_machine::{picks_follow, replies_follow};
+use log_model::named_append;
+use log_store::Store;
+use session_effects::{Halt, Outside, causes_follow, effects_follow, goings_follow, halts_follow};
+use session_lines::{Kept, answer};
+use session_model::Questions;
+use session_runs::MachineRuns;
+use std::alloc::Global;
+use std::sync::ledger::Ledger;
+
+// What ends a session whose next command isn't read.
+fn read_halt(error: ReadError) -> Halt
+    ensures { result ≡ read_halt_of error }
+{
+    match error {
+        ReadError::Source => Halt::Source,
+        ReadError::Long => Halt::Long,
+        ReadError::NoMemory => Halt::NoMemory,
+    }
+}
+
+/// Reads the source to its end, and does what each command of its text asks for on the history of a
+/// log. It takes at most 2^40 bytes of the source.
+pub fn session<Q: Questions + Drop, S: Source, C: Chooser, A: Answers, D: Disk, K: Sink, L: Ledger>(
+    alloc: Global,
+    store: Store,
+    questions: Q,
+    source: &mut S,
+    outside: &mut Outside<C, A, D, K, L>,
+) -> Result<(), Halt>
+    requires open { IsOpen D.Disk store outside.old.disk.now }
+    requires known { Q.knows questions store.entries }
+    ensures leaves { Leaves D.Disk A.answers Q.told store.entries result
+        (scene S.Source C.Chooser K.Sink source.old outside.old)
+        (scene S.Source C.Chooser K.Sink source.new outside.new) }
+    ensures same { IsSame outside.old outside.new }
+{
+    effects_follow::<MachineRuns, D>();
+    halts_follow::<MachineRuns, D>();
+    causes_follow::<D>();
+    goings_follow::<C, A, D, K, L>();
+    named_append();
+    picks_follow();
+    replies_follow::<A>();
+    let mut commands = Commands::new(alloc)?;
+    let mut kept = Kept {
+        alloc,
+        store,
+        machine: None,
+        questions,
+    };
+    loop {
+        let next = match commands.next(source) {
+            Ok(next) => next,
+            Err(error) => return Err(read_halt(error)),
+        };
+        match next {
+            Next::More { command } => answer(&mut kept, command, outside)?,
+            Next::Last { command } => return answer(&mut kept, command, outside),
+            Next::End => return Ok(()),
+        }
+    }
+}

@@ -1,7 +1,0 @@
-mod UseLemmas
-mod ResultLemmas
-mod HaltLemmas
-mod PointLemmas
-mod TranscriptLemmas
-mod Progress
-mod CutLemmas

@@ -1,4 +1,0 @@
-pub mod Transcript
-pub mod Answers
-pub mod CutOff
-pub mod Halts
