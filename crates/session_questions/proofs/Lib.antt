@@ -1,3 +1,4 @@
+mod Compared
 mod Spelled
 mod Counted
 mod Ranges

@@ -54,7 +54,7 @@ use Rattle.session_reports.specs.Files.{file_of}
 use Rattle.session_reports.specs.Processes.{processes_text}
 use Rattle.session_reports.specs.States.{mem_of, regs_of, seen_text}
 use Rattle.state_viewer.specs.Views.{made_of}
-use Rattle.verify_reports.specs.Verify.{VerifiesRuns}
+use Rattle.session_questions.specs.Verify.{VerifiesRuns}
 use Rattle.version_laws.specs.OfRuns.{VersionsAreOfRuns}
 use Rattle.view_laws.specs.OfRuns.{ViewsAreOfRuns, ViewsRun}
 

@@ -1,3 +1,4 @@
+pub mod Verify
 pub mod Asked
 pub mod Generated
 pub mod Counting

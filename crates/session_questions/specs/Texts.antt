@@ -32,7 +32,7 @@ use Rattle.session_reports.specs.States.{show_mem_cost, show_mem_text, show_regs
 use Rattle.session_model.specs.Questions.{Told}
 use Rattle.session_questions.specs.Asked.{event_cost, unless_damaged, unless_refused}
 use Rattle.session_questions.specs.Generated.{generated_cost, generated_text}
-use Rattle.verify_reports.specs.Verify.{verify_text}
+use Rattle.session_questions.specs.Verify.{verify_text}
 
 -- what is printed for a question, and how many instructions are executed for it at most
 pub record Telling : Type 0 where

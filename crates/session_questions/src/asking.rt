@@ -7,6 +7,7 @@ ghost use Rattle.log_store.specs.declared.size.TheConstants.{MOST_LOG};
 ghost use Rattle.session_questions.specs.Texts as texts;
 
 use crate::short::{short_logs_are_countable, short_runs_stand};
+use crate::verify::report_verify;
 use arn_base::{NoMemory, Record, Steps};
 use arn_lines::Question;
 use history_index::{Index, IndexError};
@@ -16,7 +17,6 @@ use session_reports::{report_events, report_groups};
 use std::alloc::Global;
 use std::marker::Model;
 use std::sync::ledger::Ledger;
-use verify_reports::report_verify;
 
 /// Answers questions about a history from its records, and from an index of them.
 #[derive(Debug, Drop)]

@@ -8,6 +8,7 @@ mod short;
 mod shown;
 mod sinks;
 mod sources;
+mod verify;
 
 pub use asking::Asking;
 pub use of_runs::answers_are_of_runs;

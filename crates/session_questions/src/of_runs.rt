@@ -2,9 +2,9 @@
 ghost use Rattle.session_questions.specs.OfRuns.{AnswersAreOfRuns, GeneratedIsOfRuns, RunsAreUndamaged, SinksAreOfRuns, VerifyTellsRuns};
 
 use crate::short::short_runs_have_numbers;
+use crate::verify::verify_tells_runs;
 use log_model::records_are_run;
 use query_laws::{forth_is_of_runs, names_are_of_runs, queries_are_of_runs, states_are_of_runs};
-use verify_reports::verify_tells_runs;
 use version_laws::versions_are_of_runs;
 use view_laws::views_are_of_runs;
 

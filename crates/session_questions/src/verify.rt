@@ -3,7 +3,7 @@ ghost use Rattle.std.specs.Prelude.{◌≡◌, ◌+◌, ◌≤◌, ◌++◌, All
 ghost use Rattle.std.specs.String.{string_bytes};
 ghost use Rattle.guest_machine.specs.Differs.{rebuild_cost};
 ghost use Rattle.result_log.specs.Spelling.{HasSpelling};
-ghost use Rattle.verify_reports.specs.Verify.{difference, verify_text, VerifiesRuns};
+ghost use Rattle.session_questions.specs.Verify.{difference, verify_text, VerifiesRuns};
 
 use arn_base::{Differs, NoMemory, Record, Steps};
 use guest_machine::{Machine, RebuildError, records_compare};

@@ -1,5 +1,5 @@
-use Rattle.verify_reports.proofs.Compared.{made-differs, made-none}
-use Rattle.verify_reports.proofs.verify.find_difference.Goals as goal
+use Rattle.session_questions.proofs.Compared.{made-differs, made-none}
+use Rattle.session_questions.proofs.verify.find_difference.Goals as goal
 
 pub returns-in-None-clause-found : goal.returns-in-None-clause-found
 returns-in-None-clause-found g c =

@@ -12,7 +12,7 @@ use Rattle.guest_machine.specs.Differs.{same_record, spelling_if, IsFirstDiffere
 use Rattle.guest_machine.specs.Laws.{RecordsCompare}
 use Rattle.report_texts.specs.Totals.{verify_line}
 use Rattle.result_log.specs.Spelling.{spelling}
-use Rattle.verify_reports.specs.Verify.{bytes_from, difference, records_from, verify_text}
+use Rattle.session_questions.specs.Verify.{bytes_from, difference, records_from, verify_text}
 
 same-test : (n : ℕ) → (n == n) ≡ true
 same-test n = grind (arith, nat_tests)
