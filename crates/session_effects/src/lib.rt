@@ -10,7 +10,7 @@ mod law;
 mod printing;
 mod runs;
 
-pub use commits::{commit, commit_some};
+pub use commits::commit;
 pub use halt::Halt;
 pub use law::{causes_follow, effects_follow, halts_follow, openings_follow, quiet_follows};
 pub use printing::put_all;
