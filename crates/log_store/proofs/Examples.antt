@@ -1,11 +1,11 @@
 -- Logs at literal bytes.
-use Rattle.std.proofs.Common.{◌≢◌, inl, inr, ℕ, List, [], ◌∷◌, ◌++◌, codes, refl, arith, lit<, lit≤}
+use Rattle.std.proofs.Common.{◌≡◌, ◌≢◌, inl, inr, ℕ, List, [], ◌∷◌, ◌++◌, codes, refl, arith, lit<, lit≤}
 use Rattle.std.specs.Prelude.{All}
 use Rattle.std.proofs.lemmas.List.Elements.{All-nil, All-cons}
 use Rattle.arn_base.specs.declared.records.Record.{Record}
 use Rattle.arn_base.specs.declared.records.Record.TheVariants as entry
 use Rattle.result_log.specs.Spelling.{spelling}
-use Rattle.log_store.specs.Log.{log_name, IsCommit, IsLog, IsSpellable, IsClosedLog}
+use Rattle.log_store.specs.Log.{closed_log, log_name, IsCommit, IsLog, IsSpellable, IsClosedLog}
 use Rattle.log_store.specs.Refused.{IsMisnamed, IsBroken}
 use Rattle.log_store.proofs.Fields.{holds_more}
 
@@ -44,59 +44,59 @@ first = 0x41 ∷ 0x52 ∷ 0x4e ∷ 0x4c ∷ 0x4f ∷ 0x47 ∷ 0x30 ∷ 0x31 ∷ 
 abbrev second : List ℕ
 second = 8 ∷ 0 ∷ 0 ∷ 0 ∷ 1 ∷ 1 ∷ 0x62 ∷ 1 ∷ 0 ∷ 0 ∷ 0 ∷ 0x63 ∷ 0 ∷ []
 
+-- an empty commit has a frame, too
+empty_frame : closed_log ([] ∷ []) ≡ log_name ++ 1 ∷ 0 ∷ 0 ∷ 0 ∷ 0 ∷ 0 ∷ []
+empty_frame = refl
+
 -- the name, the file a with the bytes ab, and a closed gate
 one_file : IsClosedLog (first ++ 0 ∷ []) commit_a
-one_file = record { commits = commit_a ∷ []; are_commits = only_a; are_bytes = refl; are_records = refl }
+one_file = record { commits = commit_a ∷ []; is_closed = record { are_commits = only_a; are_bytes = refl }; are_records = refl }
 
 -- behind a gate of 7 nothing counts
 gate-7 : IsLog (first ++ 7 ∷ second) commit_a
-gate-7 = inr (record {
-  behind = _;
-  is_named = refl;
-  are_frames = record {
-    commits = commit_a ∷ [];
-    end = 7 ∷ second;
-    are_commits = only_a;
-    is_end = inl (λ is_open. omega (arith, is_open));
-    are_bytes = refl;
-    are_records = refl;
-  };
-})
+gate-7 = record {
+  commits = commit_a ∷ [];
+  is_log = inr (record {
+    behind = _;
+    is_named = refl;
+    are_frames = record { end = 7 ∷ second; are_commits = only_a; is_end = inl (λ is_open. omega (arith, is_open)); are_bytes = refl };
+  });
+  are_records = refl;
+}
 
 -- behind a gate of 1 stands another frame
 gate-1 : IsClosedLog (first ++ 1 ∷ second) (file_a ∷ file_b ∷ [])
 gate-1 = record {
   commits = commit_a ∷ commit_b ∷ [];
-  are_commits = All-cons IsCommit commit_a (commit_b ∷ []) is_commit_a (All-cons IsCommit commit_b [] is_commit_b (All-nil IsCommit));
-  are_bytes = refl;
+  is_closed = record {
+    are_commits = All-cons IsCommit commit_a (commit_b ∷ []) is_commit_a (All-cons IsCommit commit_b [] is_commit_b (All-nil IsCommit));
+    are_bytes = refl;
+  };
   are_records = refl;
 }
 
 -- an open gate that is the last byte ends a log
 open_gate_last : IsLog (first ++ 1 ∷ []) commit_a
-open_gate_last = inr (record {
-  behind = _;
-  is_named = refl;
-  are_frames = record {
-    commits = commit_a ∷ [];
-    end = 1 ∷ [];
-    are_commits = only_a;
-    is_end = inr refl;
-    are_bytes = refl;
-    are_records = refl;
-  };
-})
+open_gate_last = record {
+  commits = commit_a ∷ [];
+  is_log = inr (record {
+    behind = _;
+    is_named = refl;
+    are_frames = record { end = 1 ∷ []; are_commits = only_a; is_end = inr refl; are_bytes = refl };
+  });
+  are_records = refl;
+}
 
 -- nine bytes are a fresh log
 fresh_name : IsLog (log_name ++ 1 ∷ []) []
-fresh_name = inl (lit≤ tt, refl)
+fresh_name = record { commits = []; is_log = inl (lit≤ tt, refl); are_records = refl }
 
 fresh_others : IsLog (codes "ARNLOG99") []
-fresh_others = inl (lit≤ tt, refl)
+fresh_others = record { commits = []; is_log = inl (lit≤ tt, refl); are_records = refl }
 
 -- what a store leaves of a fresh log
 no_records : IsClosedLog (log_name ++ 0 ∷ []) []
-no_records = record { commits = []; are_commits = All-nil IsCommit; are_bytes = refl; are_records = refl }
+no_records = record { commits = []; is_closed = record { are_commits = All-nil IsCommit; are_bytes = refl }; are_records = refl }
 
 -- ARNLOG99 00 00 is no log: the byte at place 6 differs
 misnamed : IsMisnamed (codes "ARNLOG99" ++ 0 ∷ 0 ∷ []) 6

@@ -7,9 +7,9 @@ use Rattle.std.proofs.lemmas.List.Elements.{All-head, All-tail}
 use Rattle.arn_base.specs.declared.records.Record.{Record}
 use Rattle.result_log.specs.Laws.{SpelledOneWay}
 use Rattle.result_log.specs.Spelling.{spelling, counted}
-use Rattle.log_store.specs.Log.{log_name, spellings, frame, frames, records_of, IsClosedLog, IsCommit, IsEnd, IsNamedLog, IsSpellable}
+use Rattle.log_store.specs.Log.{closed_log, log_name, spellings, frame, frames, records_of, IsClosedLog, IsClosedLogOf, IsCommit, IsEnd, IsLogOf, IsNamedLog, IsSpellable}
 use Rattle.log_store.specs.Pieces.{IsFound}
-use Rattle.log_store.specs.Laws.{LogsReadOneWay, ClosedAreLogs, BadAreNone}
+use Rattle.log_store.specs.Laws.{ClosedHoldCommits, CommitsReadOneWay, LogsReadOneWay, ClosedAreLogs, BadAreNone}
 use Rattle.log_store.specs.Refused.{BeginsNone, IsBroken, IsCutShort, IsMisnamed, IsMisspelled, IsNoLog}
 use Rattle.log_store.proofs.Fields.{counted-same, length-counted, not_empty, Same}
 use Rattle.log_store.proofs.ReadRecords.{spelling-long}
@@ -86,56 +86,59 @@ no_commits (c ∷ commits) end behind is e le =
     let long = length-counted (spellings c) in
     absurd (omega (arith, size, part, long, le))
 
--- a log of at most nine bytes that has a name holds no records
-pub short_named : (bytes : List ℕ) (records : List Record) → length bytes ≤ 9 → IsNamedLog bytes records → records ≡ []
-short_named bytes records short named =
+-- a log of at most nine bytes that has a name holds no commits
+pub short_named : (bytes : List ℕ) (commits : List (List Record)) → length bytes ≤ 9 → IsNamedLog bytes commits → commits ≡ []
+short_named bytes commits short named =
     let log = named.are_frames in
     let size = ap length named.is_named ∙ length-append log_name named.behind in
-    log.are_records ∙ ap records_of (no_commits log.commits log.end named.behind log.is_end log.are_bytes (omega (arith, size, short)))
+    no_commits commits log.end named.behind log.is_end log.are_bytes (omega (arith, size, short))
 
-pub named-same : SpelledOneWay → (bytes : List ℕ) (first second : List Record) → IsNamedLog bytes first → IsNamedLog bytes second → first ≡ second
+pub named-same : SpelledOneWay → (bytes : List ℕ) (first second : List (List Record)) → IsNamedLog bytes first → IsNamedLog bytes second → first ≡ second
 named-same one bytes first second a b =
     let behind = append_cancel_left log_name a.behind b.behind (sym a.is_named ∙ b.is_named) in
     let fa = a.are_frames in
     let fb = b.are_frames in
-    let same = frames-same one fa.commits fb.commits fa.end fb.end fa.are_commits fb.are_commits fa.is_end fb.is_end
-    (sym fa.are_bytes ∙ behind ∙ fb.are_bytes) in
-    fa.are_records ∙ ap records_of same ∙ sym fb.are_records
+    frames-same one first second fa.end fb.end fa.are_commits fb.are_commits fa.is_end fb.is_end
+    (sym fa.are_bytes ∙ behind ∙ fb.are_bytes)
+
+pub commits_one_way : SpelledOneWay → CommitsReadOneWay
+commits_one_way one bytes first second (inl a) (inl b) = a.1 ∙ sym b.1
+commits_one_way one bytes first second (inl a) (inr b) = a.1 ∙ sym (short_named bytes second a.0 b)
+commits_one_way one bytes first second (inr a) (inl b) = short_named bytes first b.0 a ∙ sym b.1
+commits_one_way one bytes first second (inr a) (inr b) = named-same one bytes first second a b
 
 pub logs_one_way : SpelledOneWay → LogsReadOneWay
-logs_one_way one bytes first second (inl a) (inl b) = a.1 ∙ sym b.1
-logs_one_way one bytes first second (inl a) (inr b) = a.1 ∙ sym (short_named bytes second a.0 b)
-logs_one_way one bytes first second (inr a) (inl b) = short_named bytes first b.0 a ∙ sym b.1
-logs_one_way one bytes first second (inr a) (inr b) = named-same one bytes first second a b
+logs_one_way one bytes first second a b =
+    a.are_records ∙ ap records_of (commits_one_way one bytes a.commits b.commits a.is_log b.is_log) ∙ sym b.are_records
+
+pub closed_commits : ClosedHoldCommits
+closed_commits bytes commits closed = inr (record {
+  behind = frames commits ++ 0 ∷ [];
+  is_named = closed.are_bytes;
+  are_frames = record { end = 0 ∷ []; are_commits = closed.are_commits; is_end = inr refl; are_bytes = refl };
+})
 
 pub closed_logs : ClosedAreLogs
-closed_logs bytes records log = inr (record {
-  behind = frames log.commits ++ 0 ∷ [];
-  is_named = log.are_bytes;
-  are_frames = record {
-    commits = log.commits;
-    end = 0 ∷ [];
-    are_commits = log.are_commits;
-    is_end = inr refl;
-    are_bytes = refl;
-    are_records = log.are_records;
-  };
-})
+closed_logs bytes records log = record {
+  commits = log.commits;
+  is_log = closed_commits bytes log.commits log.is_closed;
+  are_records = log.are_records;
+}
 
 -- what a store left is read up to its last byte
 pub closed_end : SpelledOneWay → (bytes : List ℕ) (entries records : List Record) (end : List ℕ) → IsFound bytes entries end → IsClosedLog bytes records
     → end ≡ 0 ∷ []
 closed_end one bytes entries records end found log =
-    let behind = append_cancel_left log_name (frames found.commits ++ end) (frames log.commits ++ 0 ∷ []) (sym found.are_bytes ∙ log.are_bytes) in
-    let same = frames-same one found.commits log.commits end (0 ∷ []) found.are_commits log.are_commits found.is_end (inr refl) behind in
+    let behind = append_cancel_left log_name (frames found.commits ++ end) (frames log.commits ++ 0 ∷ []) (sym found.are_bytes ∙ log.is_closed.are_bytes) in
+    let same = frames-same one found.commits log.commits end (0 ∷ []) found.are_commits log.is_closed.are_commits found.is_end (inr refl) behind in
     append_cancel_left (frames log.commits) end (0 ∷ []) (ap (λ (cs : List (List Record)). frames cs ++ end) (sym same) ∙ behind)
 
 -- a short one holds nothing
 pub closed_fresh : (bytes : List ℕ) (records : List Record) → length bytes ≤ 9 → IsClosedLog bytes records → bytes ≡ log_name ++ 0 ∷ []
 closed_fresh bytes records short log =
-    let size = ap length log.are_bytes ∙ length-append log_name (frames log.commits ++ 0 ∷ []) in
+    let size = ap length log.is_closed.are_bytes ∙ length-append log_name (frames log.commits ++ 0 ∷ []) in
     let none = no_commits log.commits (0 ∷ []) (frames log.commits ++ 0 ∷ []) (inr refl) refl (omega (arith, size, short)) in
-    log.are_bytes ∙ ap (λ (cs : List (List Record)). log_name ++ (frames cs ++ 0 ∷ [])) none
+    log.is_closed.are_bytes ∙ ap closed_log none
 
 -- something stands behind the open gate of a broken frame
 has_more : (behind : List ℕ) (gate at : ℕ) → IsCutShort gate at behind ⊎ IsMisspelled gate at behind → behind ≢ []
@@ -186,12 +189,15 @@ broken_long bytes at broken =
     omega (arith, size, part, more)
 
 pub broken_no_log : SpelledOneWay → (bytes : List ℕ) (at : ℕ) → IsBroken bytes at → IsNoLog bytes
-broken_no_log one bytes at broken records (inl fresh) = let long = broken_long bytes at broken in let short = fresh.0 in omega (arith, long, short)
-broken_no_log one bytes at broken records (inr named) =
-    let log = named.are_frames in
-    let behind = append_cancel_left log_name named.behind (frames broken.commits ++ 1 ∷ broken.behind) (sym named.is_named ∙ broken.are_bytes) in
-    broken_none one broken.commits log.commits broken.behind log.end _ at broken.are_commits log.are_commits log.is_end broken.cause
-    (sym behind ∙ log.are_bytes)
+broken_no_log one bytes at broken records is = none_of is.commits is.is_log
+  where
+    none_of : (commits : List (List Record)) → ¬ IsLogOf bytes commits
+    none_of commits (inl fresh) = let long = broken_long bytes at broken in let short = fresh.0 in omega (arith, long, short)
+    none_of commits (inr named) =
+        let log = named.are_frames in
+        let behind = append_cancel_left log_name named.behind (frames broken.commits ++ 1 ∷ broken.behind) (sym named.is_named ∙ broken.are_bytes) in
+        broken_none one broken.commits commits broken.behind log.end _ at broken.are_commits log.are_commits log.is_end broken.cause
+        (sym behind ∙ log.are_bytes)
 
 -- a log's name stands at its front
 pub name_stands : (behind : List ℕ) (at : ℕ) → at < length log_name → slice_get (log_name ++ behind) at ≡ slice_get log_name at
@@ -201,9 +207,12 @@ name_stands behind at within =
     ∙ sym (slice_get-get_or log_name at 0 within)
 
 pub misnamed_no_log : (bytes : List ℕ) (at : ℕ) → IsMisnamed bytes at → IsNoLog bytes
-misnamed_no_log bytes at misnamed records (inl fresh) = let long = misnamed.is_long in let short = fresh.0 in omega (arith, long, short)
-misnamed_no_log bytes at misnamed records (inr named) =
-    misnamed.differs (ap (λ (b : List ℕ). slice_get b at) named.is_named ∙ name_stands named.behind at misnamed.is_within)
+misnamed_no_log bytes at misnamed records is = none_of is.commits is.is_log
+  where
+    none_of : (commits : List (List Record)) → ¬ IsLogOf bytes commits
+    none_of commits (inl fresh) = let long = misnamed.is_long in let short = fresh.0 in omega (arith, long, short)
+    none_of commits (inr named) =
+        misnamed.differs (ap (λ (b : List ℕ). slice_get b at) named.is_named ∙ name_stands named.behind at misnamed.is_within)
 
 pub bad_none : SpelledOneWay → BadAreNone
 bad_none one bytes at (inl misnamed) = misnamed_no_log bytes at misnamed

@@ -1,12 +1,14 @@
 -- A log that was read, and what a stop leaves while it is opened.
 use Rattle.std.proofs.Common.{◌≡◌, ◌⊎◌, inl, inr, ℕ, ◌+◌, ◌-◌, ◌<◌, ◌≤◌, List, [], ◌∷◌, ◌++◌, length, take, drop, Option, Some, None, refl, sym, ap, ◌∙◌, subst, append_assoc, length-append, take-append-drop, arith, IfSome}
 use Rattle.std.proofs.lemmas.List.{take_at, drop_at}
+use Rattle.std.proofs.lemmas.List.Elements.{All-nil}
+use Rattle.std.proofs.lemmas.Option.{IfSome_then}
 use Rattle.arn_base.specs.declared.records.Record.{Record}
 use Rattle.arn_base.specs.Disk.{Only}
 use Rattle.log_store.specs.Causes.{IsCauseOf}
-use Rattle.log_store.specs.Stores.{KeepsRecords}
-use Rattle.log_store.specs.Laws.{BadAreNone, LogsReadOneWay}
-use Rattle.log_store.specs.Log.{log_name, frames, IsLog}
+use Rattle.log_store.specs.Stores.{IsBeforeOrAfter, IsLeftBy, KeepsRecords, StoreState}
+use Rattle.log_store.specs.Laws.{BadAreNone, CommitsReadOneWay, LogsReadOneWay}
+use Rattle.log_store.specs.Log.{closed_log, log_name, frames, IsClosedLogOf, IsCommit, IsLog, IsLogOf}
 use Rattle.log_store.specs.Pieces.{EndsWith, IsFound, IsLeft, IsReadErrorOf, IsSameFront}
 use Rattle.log_store.specs.Refused.{IsNoLog}
 use Rattle.log_store.specs.Stops.{LeavesOnly}
@@ -14,19 +16,24 @@ use Rattle.log_store.specs.declared.errors.OpenError.{OpenError}
 use Rattle.log_store.specs.declared.errors.OpenError.TheVariants as opening
 use Rattle.log_store.specs.declared.size.TheConstants.{MOST_LOG}
 use Rattle.log_store.proofs.Adding.{length-closed}
-use Rattle.log_store.proofs.Logs.{ends_log, front_of}
+use Rattle.log_store.proofs.Logs.{ends_log, ends_log_of, front_of}
 use Rattle.log_store.proofs.Moments.{started}
+use Rattle.log_store.proofs.OneWay.{closed_logs, short_named}
+use Rattle.log_store.proofs.Told.{told_weaker}
 
--- a fresh log is one
+-- a fresh log holds nothing
+fresh_log : (bytes : List ℕ) → length bytes ≤ 9 → IsLog bytes []
+fresh_log bytes short = record { commits = []; is_log = inl (short, refl); are_records = refl }
+
+-- and is one
 pub fresh_some : (bytes : List ℕ) → length bytes ≤ 9 → ¬ IsNoLog bytes
-fresh_some bytes short is_none = is_none [] (inl (short, refl))
+fresh_some bytes short is_none = is_none [] (fresh_log bytes short)
 
 -- fresh logs hold no records
 pub kept_fresh : LogsReadOneWay → (told left : List ℕ) → length told ≤ 9 → length left ≤ 9 → KeepsRecords told left
 kept_fresh one told left short is_short =
-    let is_fresh : IsLog told [] = inl (short, refl) in
     record {
-      same = λ records log. inl (is_short, one told records [] log is_fresh);
+      same = λ records log. subst (IsLog left) (sym (one told records [] log (fresh_log told short))) (fresh_log left is_short);
       none = λ is_none. absurd (fresh_some told short is_none);
       no_longer = omega (arith, is_short);
     }
@@ -70,14 +77,32 @@ module _ (bytes : List ℕ) (entries : List Record) (end : List ℕ) (found : Is
     no_longer = omega (arith, kept.no_longer);
   }
 
+  -- the commits of the log are those that were found
+  pub found_same : CommitsReadOneWay → (commits : List (List Record)) → IsLogOf bytes commits → found.commits ≡ commits
+  found_same one commits log = one bytes found.commits commits (ends_log_of found.commits bytes end found.are_commits found.is_end found-front) log
+
+  -- closed, it ends behind these
+  pub found_closes : CommitsReadOneWay → (commits : List (List Record)) → IsLogOf bytes commits → (told : List ℕ) → told ≡ bytes
+      → IsClosedLogOf (take gate told ++ 0 ∷ []) commits
+  found_closes one commits log told same =
+      subst (IsClosedLogOf (take gate told ++ 0 ∷ [])) (found_same one commits log)
+      (record {
+        are_commits = found.are_commits;
+        are_bytes = ap (λ (xs : List ℕ). xs ++ 0 ∷ []) (take-front told same) ∙ append_assoc log_name (frames found.commits) (0 ∷ []);
+      })
+
+  pub found_length : CommitsReadOneWay → (commits : List (List Record)) → IsLogOf bytes commits → gate + 1 ≡ length (closed_log commits)
+  found_length one commits log =
+      let closed = ap (λ (x : List ℕ). length x) (sym (append_assoc log_name (frames found.commits) (0 ∷ []))) ∙ length-closed (front_of found.commits) 0 in
+      omega (arith, length-front, closed, ap (λ (x : List (List Record)). length (closed_log x)) (found_same one commits log))
+
   pub found_left : (told : List ℕ) → told ≡ bytes → IsLeft entries (gate + 1) (take gate told ++ 0 ∷ [])
   found_left told same =
       let is : take gate told ++ 0 ∷ [] ≡ front_of found.commits ++ 0 ∷ [] = ap (λ (xs : List ℕ). xs ++ 0 ∷ []) (take-front told same) in
       record {
         is_log = record {
           commits = found.commits;
-          are_commits = found.are_commits;
-          are_bytes = is ∙ append_assoc log_name (frames found.commits) (0 ∷ []);
+          is_closed = record { are_commits = found.are_commits; are_bytes = is ∙ append_assoc log_name (frames found.commits) (0 ∷ []) };
           are_records = found.are_records;
         };
         is_whole = ap length is ∙ length-closed (front_of found.commits) 0 ∙ ap (λ (n : ℕ). n + 1) (sym length-front);
@@ -113,3 +138,32 @@ pub untouched_if : {D : Type 0} (bytes : List ℕ) (end mid : D) → length byte
     → IsNoLog bytes ⊎ (MOST_LOG < length bytes) → end ≡ mid
 untouched_if bytes end mid short same (inl is_none) = same is_none
 untouched_if bytes end mid short same (inr long) = absurd (omega (arith, short, long))
+
+-- what holds of bytes holds of those that a disk tells, where it tells these
+pub told_is : (o : Option (List ℕ)) (bytes : List ℕ) (P : List ℕ → Type 0) → IfSome o (λ told. told ≡ bytes) → P bytes → IfSome o P
+told_is o bytes P told p = IfSome_then o told (λ is same. subst P (sym same) p)
+
+-- a fresh log has no commits, and is closed so
+pub fresh_none : (bytes : List ℕ) → length bytes ≤ 9 → (commits : List (List Record)) → IsLogOf bytes commits → commits ≡ []
+fresh_none bytes short commits (inl fresh) = fresh.1
+fresh_none bytes short commits (inr named) = short_named bytes commits short named
+
+pub fresh_closes : (commits : List (List Record)) → commits ≡ [] → (new : List ℕ) → new ≡ log_name ++ 0 ∷ [] → IsClosedLogOf new commits
+fresh_closes commits none new is = subst (IsClosedLogOf new) (sym none) (record { are_commits = All-nil IsCommit; are_bytes = is })
+
+-- where nothing was done a stop leaves the log of before
+still_left : (store : StoreState) (old left : List ℕ) (more : List Record) → store.log_len ≤ MOST_LOG → IsLeftBy store old → left ≡ old → IsBeforeOrAfter store.entries more left
+still_left store old left more short is_left same = record {
+  is_log = inl (subst (λ (b : List ℕ). IsLog b store.entries) (sym same) (closed_logs old store.entries is_left.is_log));
+  fits = omega (arith, ap length same, is_left.is_whole, short);
+}
+
+pub told_still : {D : Type 0} (may_leave : D → List ℕ → Type 0) (moment : D → ℕ) (left_since : D → ℕ → List ℕ → Type 0)
+    (o : Option (List ℕ)) (disk : D) (store : StoreState) (more : List Record)
+    → ((bytes : List ℕ) → left_since disk (moment disk) bytes → may_leave disk bytes)
+    → store.log_len ≤ MOST_LOG → IfSome o (IsLeftBy store)
+    → IfSome o (λ old. Only old (may_leave disk) → LeavesOnly moment left_since disk disk (IsBeforeOrAfter store.entries more))
+told_still may_leave moment left_since o disk store more now short left =
+    told_weaker may_leave moment left_since o disk disk (IsLeftBy store) (λ old bytes. bytes ≡ old) (λ old. IsBeforeOrAfter store.entries more) left
+    (told_unmoved may_leave moment left_since o disk (λ old bytes. bytes ≡ old) now (λ old bytes same. same))
+    (λ old bytes is_left same. still_left store old bytes more short is_left same)

@@ -36,13 +36,13 @@ shut_log : (store : StoreState) (now : List ℕ → Type 0) (old : List ℕ) →
 shut_log store now old is_left shut =
     let closed = is_left.is_log in
     let stands : old ++ shut.rest ≡ front_of closed.commits ++ 0 ∷ shut.rest =
-    ap (λ (xs : List ℕ). xs ++ shut.rest) (closed-front closed.commits old closed.are_bytes)
+    ap (λ (xs : List ℕ). xs ++ shut.rest) (closed-front closed.commits old closed.is_closed.are_bytes)
     ∙ append_assoc (front_of closed.commits) (0 ∷ []) shut.rest in
     record {
       left = old ++ shut.rest;
       may_be = shut.stays;
       is_log = subst (IsLog (old ++ shut.rest)) (sym closed.are_records)
-          (unopened_log closed.commits (old ++ shut.rest) closed.are_commits (record { rest = shut.rest; are_bytes = stands }));
+          (unopened_log closed.commits (old ++ shut.rest) closed.is_closed.are_commits (record { rest = shut.rest; are_bytes = stands }));
     }
 
 pub may_leave_log : (store : StoreState) (o : Option (List ℕ)) (now : List ℕ → Type 0) → IfSome o (IsLeftBy store) → IfSome o (MayStayShut now)

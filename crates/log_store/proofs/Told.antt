@@ -10,6 +10,12 @@ pub told_after : (o after : Option (List ℕ)) (change : List ℕ → List ℕ) 
 told_after None after change P Q is p q = subst (λ t. IfSome t Q) (sym is) tt
 told_after (Some old) after change P Q is p q = subst (λ t. IfSome t Q) (sym is) (q old p)
 
+-- the same, where only bytes that have P change so
+pub told_changed : (o after : Option (List ℕ)) (change : List ℕ → List ℕ) (P Q : List ℕ → Type 0) → after ≡ option_map change o
+    → ((old : List ℕ) → P old → Q (change old)) → IfSome o (λ old. P old → IfSome after Q)
+told_changed None after change P Q is q = tt
+told_changed (Some old) after change P Q is q = λ p. subst (λ t. IfSome t Q) (sym is) (q old p)
+
 -- what a stop leaves, said in other words
 pub told_weaker : {D : Type 0} (may_leave : D → List ℕ → Type 0) (moment : D → ℕ) (left_since : D → ℕ → List ℕ → Type 0)
     (o : Option (List ℕ)) (start end : D) (P : List ℕ → Type 0) (Q : List ℕ → List ℕ → Type 0) (R : List ℕ → List ℕ → Type 0)

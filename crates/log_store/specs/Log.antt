@@ -37,28 +37,40 @@ abbrev pub IsEnd : List ℕ → Type 0
 IsEnd [] = ⊥
 IsEnd (gate ∷ behind) = (gate ≢ 1) ⊎ (behind ≡ [])
 
--- the bytes are the frames of commits and an end, and the commits hold these records
-pub record IsFrames (bytes : List ℕ) (records : List Record) : Type 0 where
-  pub commits : List (List Record)
+-- the bytes are the frames of these commits, and an end
+pub record IsFrames (bytes : List ℕ) (commits : List (List Record)) : Type 0 where
   pub end : List ℕ
   pub are_commits : All IsCommit commits
   pub is_end : IsEnd end
   pub are_bytes : bytes ≡ frames commits ++ end
-  pub are_records : records ≡ records_of commits
 
--- the bytes are a log's name, and frames of the records
-pub record IsNamedLog (bytes : List ℕ) (records : List Record) : Type 0 where
+-- the bytes are a log's name, and frames of the commits
+pub record IsNamedLog (bytes : List ℕ) (commits : List (List Record)) : Type 0 where
   pub behind : List ℕ
   pub is_named : bytes ≡ log_name ++ behind
-  pub are_frames : IsFrames behind records
+  pub are_frames : IsFrames behind commits
 
--- The bytes are a log of the records. At most nine bytes are a fresh log, whatever they are.
-abbrev pub IsLog : List ℕ → List Record → Type 0
-IsLog bytes records = ((length bytes ≤ 9) × (records ≡ [])) ⊎ IsNamedLog bytes records
+-- The bytes are a log of the commits. At most nine bytes are a fresh log, of none, whatever they are.
+abbrev pub IsLogOf : List ℕ → List (List Record) → Type 0
+IsLogOf bytes commits = ((length bytes ≤ 9) × (commits ≡ [])) ⊎ IsNamedLog bytes commits
 
--- what a store leaves: a log of the records whose ending gate is 0, and is the last byte
+-- the bytes are a log of commits that hold these records
+pub record IsLog (bytes : List ℕ) (records : List Record) : Type 0 where
+  pub commits : List (List Record)
+  pub is_log : IsLogOf bytes commits
+  pub are_records : records ≡ records_of commits
+
+-- a log of commits whose ending gate is 0, and is the last byte
+abbrev pub closed_log : List (List Record) → List ℕ
+closed_log commits = log_name ++ (frames commits ++ 0 ∷ [])
+
+-- the bytes are such a log, and nothing stands behind its gate
+pub record IsClosedLogOf (bytes : List ℕ) (commits : List (List Record)) : Type 0 where
+  pub are_commits : All IsCommit commits
+  pub are_bytes : bytes ≡ closed_log commits
+
+-- what a store leaves: such a log of commits that hold these records
 pub record IsClosedLog (bytes : List ℕ) (records : List Record) : Type 0 where
   pub commits : List (List Record)
-  pub are_commits : All IsCommit commits
-  pub are_bytes : bytes ≡ log_name ++ (frames commits ++ 0 ∷ [])
+  pub is_closed : IsClosedLogOf bytes commits
   pub are_records : records ≡ records_of commits

@@ -5,7 +5,7 @@ ghost use Rattle.arn_base.specs.Faults.{Rose};
 ghost use Rattle.result_log.specs.Spelling.{HasSpelling};
 ghost use Rattle.log_store.specs.Causes.{IsCauseOf, BlamesBytes};
 ghost use Rattle.log_store.specs.Stores.{KeepsRecords};
-ghost use Rattle.log_store.specs.Log.{IsLog, IsClosedLog, spellings};
+ghost use Rattle.log_store.specs.Log.{IsLog, IsLogOf, IsClosedLog, IsClosedLogOf, closed_log, spellings};
 ghost use Rattle.log_store.specs.Pieces.{IsLeft};
 ghost use Rattle.log_store.specs.Refused.{IsNoLog};
 ghost use Rattle.log_store.specs.Stops.{NothingPending, LeavesOnly, GoesOn};
@@ -38,6 +38,10 @@ pub fn open_bytes<D: Disk>(alloc: Global, disk: &mut D, bytes: &[u8]) -> Result<
         length (spellings opened.entries.items) ≤ opened.log_len) }
     ensures left { IfOk result (λ opened.
         IfSome (D.image disk.new) (IsLeft opened.entries.items opened.log_len)) }
+    ensures shut { OnOk result ((commits : List (List Record)) → IsLogOf bytes.now commits →
+        IfSome (D.image disk.new) (λ told. IsClosedLogOf told commits)) }
+    ensures ends { IfOk result (λ opened. (commits : List (List Record)) →
+        IsLogOf bytes.now commits → opened.log_len ≡ length (closed_log commits)) }
     ensures len { IfOk result (λ opened. (9 ≤ opened.log_len) × (opened.log_len ≤ MOST_LOG)) }
     ensures durable { OnOk result (NothingPending D.image D.may_leave disk.old →
         NothingPending D.image D.may_leave disk.new) }
@@ -69,6 +73,10 @@ fn open_fresh<D: Disk>(alloc: Global, disk: &mut D, bytes: &[u8]) -> Result<Open
         length (spellings opened.entries.items) ≤ opened.log_len) }
     ensures left { IfOk result (λ opened.
         IfSome (D.image disk.new) (IsLeft opened.entries.items opened.log_len)) }
+    ensures shut { OnOk result ((commits : List (List Record)) → IsLogOf bytes.now commits →
+        IfSome (D.image disk.new) (λ told. IsClosedLogOf told commits)) }
+    ensures ends { IfOk result (λ opened. (commits : List (List Record)) →
+        IsLogOf bytes.now commits → opened.log_len ≡ length (closed_log commits)) }
     ensures len { IfOk result (λ opened. opened.log_len ≡ 9) }
     ensures durable { OnOk result (NothingPending D.image D.may_leave disk.old →
         NothingPending D.image D.may_leave disk.new) }
@@ -102,6 +110,10 @@ fn open_named<D: Disk>(alloc: Global, disk: &mut D, bytes: &[u8]) -> Result<Open
         length (spellings opened.entries.items) ≤ opened.log_len) }
     ensures left { IfOk result (λ opened.
         IfSome (D.image disk.new) (IsLeft opened.entries.items opened.log_len)) }
+    ensures shut { OnOk result ((commits : List (List Record)) → IsLogOf bytes.now commits →
+        IfSome (D.image disk.new) (λ told. IsClosedLogOf told commits)) }
+    ensures ends { IfOk result (λ opened. (commits : List (List Record)) →
+        IsLogOf bytes.now commits → opened.log_len ≡ length (closed_log commits)) }
     ensures len { IfOk result (λ opened. (9 ≤ opened.log_len) × (opened.log_len ≤ MOST_LOG)) }
     ensures durable { OnOk result (NothingPending D.image D.may_leave disk.old →
         NothingPending D.image D.may_leave disk.new) }

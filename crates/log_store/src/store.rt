@@ -1,11 +1,11 @@
 // A store of records over a log on a disk.
-ghost use Rattle.std.specs.Prelude.{◌≡◌, ◌⊎◌, ◌+◌, ◌<◌, ◌≤◌, ◌++◌, ℕ, List, All, length, true, false, IfSome, IfOk, IfErr, OnOk, OnErr, IsErrOf, IsTrue};
+ghost use Rattle.std.specs.Prelude.{◌≡◌, ◌⊎◌, ◌+◌, ◌<◌, ◌≤◌, ◌++◌, ◌∷◌, [], ℕ, List, All, length, true, false, IfSome, IfOk, IfErr, OnOk, OnErr, IsErrOf, IsTrue};
 ghost use Rattle.arn_base.specs.Disk.{Only};
 ghost use Rattle.arn_base.specs.Faults.{Rose};
 ghost use Rattle.result_log.specs.Spelling.{HasSpelling};
 ghost use Rattle.log_store.specs.Causes.{IsCauseOf, BlamesBytes};
 ghost use Rattle.log_store.specs.Stores.{IsLeftBy, IsBeforeOrAfter, KeepsRecords, MayLeaveLog};
-ghost use Rattle.log_store.specs.Log.{log_name, spellings, IsLog, IsClosedLog};
+ghost use Rattle.log_store.specs.Log.{log_name, closed_log, spellings, IsLog, IsLogOf, IsClosedLog, IsClosedLogOf};
 ghost use Rattle.log_store.specs.Refused.{IsNoLog};
 ghost use Rattle.log_store.specs.Stops.{NothingPending, LeavesOnly, IsOnlyRead, GoesOn};
 
@@ -59,6 +59,15 @@ impl Store {
             IfSome (D.image disk.old) (λ bytes. IsLog bytes store.entries)) }
         ensures spelled { IfOk result (λ store. All HasSpelling store.entries) }
         ensures left { IfOk result (λ store. IfSome (D.image disk.new) (IsLeftBy store)) }
+
+        // The log has the frames that it had, and ends behind the gate that ended them, now closed.
+        ensures shut { OnOk result ((commits : List (List Record)) →
+            IfSome (D.image disk.old) (λ old. IsLogOf old commits →
+            IfSome (D.image disk.new) (λ new. IsClosedLogOf new commits))) }
+        ensures ends { IfOk result (λ store. (commits : List (List Record)) →
+            IfSome (D.image disk.old) (λ old. IsLogOf old commits →
+            store.log_len ≡ length (closed_log commits))) }
+
         ensures short { OnOk result
             (IfSome (D.image disk.old) (λ bytes. length bytes ≤ MOST_LOG)) }
         ensures usable { IfOk result (λ store. IsTrue store.usable) }
@@ -135,6 +144,13 @@ impl Store {
         ensures added { OnOk result (self.new.entries ≡ self.old.entries ++ entries.items) }
         ensures dropped { OnErr result (self.new.entries ≡ self.old.entries) }
         ensures left { OnOk result (IfSome (D.image disk.new) (IsLeftBy self.new)) }
+
+        // The log has one frame more, and no other byte.
+        ensures framed { OnOk result ((commits : List (List Record)) →
+            IfSome (D.image disk.old) (λ old. IsClosedLogOf old commits →
+            IfSome (D.image disk.new) (λ new. IsClosedLogOf new (commits ++ entries.items ∷ [])))) }
+        ensures longer { OnOk result
+            (self.new.log_len ≡ self.old.log_len + 5 + length (spellings entries.items)) }
         ensures durable { OnOk result (NothingPending D.image D.may_leave disk.new) }
 
         // Where nothing is pending at the start, each stop since then leaves all of the commit or

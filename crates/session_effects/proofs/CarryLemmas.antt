@@ -5,10 +5,11 @@ use Rattle.log_store.specs.Log.{IsLog}
 use Rattle.log_store.specs.Stops.{LeavesOnly}
 use Rattle.log_store.specs.Stores.{MayLeaveLog}
 use Rattle.session_effects.specs.Effects.{Effect, committed, printed}
-use Rattle.session_effects.specs.Carrying.{HoldsLog, IsAtRest, HoldsFirst, HoldsAll, HoldsMore, Keeps, CarriesOut, IsInText, IsAtCommit, IsInCommit, Stopped, StopsAt, StopsBetween, RestsMore}
+use Rattle.session_effects.specs.Carrying.{AddsFrames, HoldsLog, IsAtRest, HoldsFirst, HoldsAll, HoldsMore, Keeps, CarriesOut, IsInText, IsAtCommit, IsInCommit, Stopped, StopsAt, StopsBetween, RestsMore}
 use Rattle.session_effects.specs.declared.halt.Halt.{Halt}
 use Rattle.session_effects.specs.declared.halt.Halt.TheVariants as halt
 use Rattle.session_effects.proofs.EffectLemmas.{printed-append, history-append}
+use Rattle.session_effects.proofs.FrameLemmas.{AddsFrames-append}
 use Rattle.session_effects.proofs.Moments.{leaves-weaker, leaves-joined}
 use Rattle.arn_base.specs.declared.disk.Disk.{Ghosts}
 
@@ -107,6 +108,7 @@ module _ {D : Type 0} (is_run : List Record → Type 0) (d : Ghosts D) where
   CarriesOut-append old mid new history h0 h1 h2 first others a b = record {
     put = held-more h0 h1 h2 _ _ _ a.put b.put (sym (printed-append first others));
     holds_log = λ log. subst (HoldsLog d new) (history-append history first others) (b.holds_log (a.holds_log log));
+    adds = AddsFrames-append d old mid new first others a.adds b.adds;
     rests = λ was. subst (IsAtRest d new) (history-append history first others) (b.rests (a.rests was));
     keeps = λ was. Keeps-append old mid new history first others [] (a.keeps was) (b.keeps (a.rests was));
   }
@@ -125,6 +127,7 @@ module _ {D : Type 0} (is_run : List Record → Type 0) (d : Ghosts D) where
         (sym (append_assoc (printed first) (printed (some ++ b.done)) b.part) ∙ ap (λ (x : List ℕ). x ++ b.part) (sym (printed-append first (some ++ b.done)) ∙ ap printed (sym (append_assoc first some b.done))));
     keeps = λ was. subst (λ (x : List Effect). Keeps is_run d old new history x b.next) (sym (append_assoc first some b.done)) (Keeps-append old mid new history first (some ++ b.done) b.next (a.keeps was) (b.keeps (a.rests was)));
     holds_log = λ none log. subst (HoldsLog d new) (history-append history first (some ++ b.done) ∙ ap (λ (x : List Effect). history ++ committed x) (sym (append_assoc first some b.done))) (b.holds_log none (a.holds_log log));
+    adds = λ none. subst (AddsFrames d old new) (sym (append_assoc first some b.done)) (AddsFrames-append d old mid new first (some ++ b.done) a.adds (b.adds none));
     rests = λ none was. subst (IsAtRest d new) (history-append history first (some ++ b.done) ∙ ap (λ (x : List Effect). history ++ committed x) (sym (append_assoc first some b.done))) (b.rests none (a.rests was));
   }
 
@@ -140,6 +143,7 @@ module _ {D : Type 0} (is_run : List Record → Type 0) (d : Ghosts D) where
     put = s.put ∙ ap (λ (x : List Effect). option_map (λ before. before ++ (printed x ++ s.part)) h0) (append_assoc first some s.done);
     keeps = λ was. subst (λ (x : List Effect). Keeps is_run d old new history x s.next) (append_assoc first some s.done) (s.keeps was);
     holds_log = λ none log. subst (λ (x : List Effect). HoldsLog d new (history ++ committed x)) (append_assoc first some s.done) (s.holds_log none log);
+    adds = λ none. subst (AddsFrames d old new) (append_assoc first some s.done) (s.adds none);
     rests = λ none was. subst (λ (x : List Effect). IsAtRest d new (history ++ committed x)) (append_assoc first some s.done) (s.rests none was);
   }
 
@@ -155,6 +159,7 @@ module _ {D : Type 0} (is_run : List Record → Type 0) (d : Ghosts D) where
     put = s.put;
     keeps = s.keeps;
     holds_log = s.holds_log;
+    adds = s.adds;
     rests = s.rests;
   }
 
@@ -180,6 +185,7 @@ module _ {D : Type 0} (is_run : List Record → Type 0) (d : Ghosts D) where
     put = s.put;
     keeps = s.keeps;
     holds_log = s.holds_log;
+    adds = s.adds;
     rests = s.rests;
   }
 
@@ -191,6 +197,7 @@ module _ {D : Type 0} (is_run : List Record → Type 0) (d : Ghosts D) where
     put = held-more h0 h1 h2 _ _ _ a.put b.put (sym (append_assoc (printed first) (printed done) b.part) ∙ ap (λ (x : List ℕ). x ++ b.part) (sym (printed-append first done)));
     keeps = λ was. Keeps-append old mid new history first done b.next (a.keeps was) (b.keeps (a.rests was));
     holds_log = λ none log. subst (HoldsLog d new) (history-append history first done) (b.holds_log none (a.holds_log log));
+    adds = λ none. AddsFrames-append d old mid new first done a.adds (b.adds none);
     rests = λ none was. subst (IsAtRest d new) (history-append history first done) (b.rests none (a.rests was));
   }
 
@@ -206,6 +213,7 @@ module _ {D : Type 0} (is_run : List Record → Type 0) (d : Ghosts D) where
     put = s.put;
     keeps = s.keeps;
     holds_log = s.holds_log;
+    adds = s.adds;
     rests = s.rests;
   }
 

@@ -11,7 +11,7 @@ use Rattle.log_store.specs.Stops.{LeavesOnly}
 use Rattle.log_store.specs.declared.size.TheConstants.{MOST_LOG}
 use Rattle.log_store.specs.declared.errors.CommitError.{CommitError}
 use Rattle.log_store.specs.declared.errors.CommitError.TheVariants as commit
-use Rattle.session_effects.specs.Effects.{Effect, Commits, commit_of}
+use Rattle.session_effects.specs.Effects.{Effect, Commits}
 use Rattle.session_effects.specs.Carrying.{CarriesOut, IsAtCommit, IsInCommit, Stopped, StopsAt, StopsBetween}
 use Rattle.session_effects.specs.Standing.{Carries}
 use Rattle.session_effects.specs.Halts.{commit_halt_of}
@@ -29,11 +29,6 @@ at_commit entries = record { more = []; is_commit = refl }
 
 in_commit : (entries : List Record) → IsInCommit (Commits entries ∷ []) (Commits entries ∷ [])
 in_commit entries = record { entries = entries; is_at = at_commit entries; is_next = refl }
-
--- the commit of some records
-pub commit_of-some : (entries : List Record) → length entries ≢ 0 → Commits entries ∷ [] ≡ commit_of entries
-commit_of-some [] some = absurd (some refl)
-commit_of-some (entry ∷ entries) some = refl
 
 -- the log is too long for a commit
 pub record IsFull (store : StoreState) (entries : List Record) (log payload : ℕ) : Type 0 where
@@ -77,9 +72,3 @@ module _ {D : Type 0} (is_run : List Record → Type 0) (d : Ghosts D) where
   pub stops-result : {T : Type 0} (result : Result T Halt) (old new : D) (history : List Record) (effects : List Effect) → IfErr result (λ halt. (held : Option (List ℕ)) → StopsBetween is_run d old new history held held halt [] effects) → IfErr result (λ halt. (held : Option (List ℕ)) → StopsAt is_run d old new history held held halt [] effects)
   stops-result (Ok x) old new history effects stops = tt
   stops-result (Err halt) old new history effects stops = λ held. stops-of is_run d old new history held held halt [] effects (stops held)
-
-  -- the commit of some records
-  pub Carries-some : {T : Type 0} (result : Result T Halt) (old new : D) (store store' : StoreState) (entries : List Record) → length entries ≢ 0 → OnOk result ((held : Option (List ℕ)) → Carries is_run d old new store store' held held (Commits entries ∷ [])) → OnOk result ((held : Option (List ℕ)) → Carries is_run d old new store store' held held (commit_of entries))
-  Carries-some (Ok x) old new store store' entries some all = λ held.
-      subst (λ (x : List Effect). Carries is_run d old new store store' held held x) (commit_of-some entries some) (all held)
-  Carries-some (Err e) old new store store' entries some all = tt

@@ -1,6 +1,7 @@
 pub mod FaultLemmas
 pub mod DiskLaws
 pub mod EffectLemmas
+pub mod FrameLemmas
 pub mod Moments
 pub mod CarryLemmas
 pub mod StepLemmas

@@ -3,7 +3,7 @@ use Rattle.std.proofs.Common.{◌≡◌, inl, ℕ, ◌≤◌, ◌++◌, List, []
 use Rattle.arn_base.specs.declared.records.Record.{Record}
 use Rattle.arn_base.specs.Disk.{Only}
 use Rattle.log_store.specs.Log.{IsLog}
-use Rattle.log_store.specs.Laws.{ClosedAreLogs, LogsReadOneWay}
+use Rattle.log_store.specs.Laws.{ClosedAreLogs, ClosedHoldCommits, LogsReadOneWay}
 use Rattle.log_store.specs.Stores.{StoreState, IsLeftBy, KeepsRecords}
 use Rattle.log_store.specs.Stops.{IsOnlyRead, LeavesOnly, NothingPending}
 use Rattle.log_store.specs.declared.size.TheConstants.{MOST_LOG}
@@ -12,7 +12,8 @@ use Rattle.session_effects.specs.Carrying.{HoldsLog, IsAtRest, HoldsFirst, Holds
 use Rattle.session_effects.specs.declared.halt.Halt.{Halt}
 use Rattle.session_effects.proofs.Moments.{leaves-none, leaves-weaker, leaves-joined}
 use Rattle.session_effects.proofs.CarryLemmas.{held-none, CarriesOut-then, StopsAt-behind}
-use Rattle.session_effects.proofs.StepLemmas.{told-at, told-too}
+use Rattle.session_effects.specs.Laws.{ShutsLog}
+use Rattle.session_effects.proofs.FrameLemmas.{AddsFrames-open, told-at, told-too}
 use Rattle.arn_base.specs.declared.disk.Disk.{Ghosts}
 use Rattle.session_effects.proofs.DiskLaws.{OnlyNow, CountsNow, MayStay}
 
@@ -55,13 +56,14 @@ module _ {D : Type 0} (is_run : List Record → Type 0) (d : Ghosts D) where
       leaves-weaker d.moment d.left_since old new (KeepsRecords was.bytes) (HoldsMore is_run history) left (λ bytes k. kept-more is_run history was.bytes bytes was.is_log was.fits k)
 
   -- an opening carries out nothing
-  pub CarriesOut-open : MayStay D d → CountsNow D d → ClosedAreLogs → (old new : D) (store : StoreState) (held : Option (List ℕ)) → is_some (d.image new) ≡ is_some (d.image old) → IfSome (d.image new) (IsLeftBy store) → (NothingPending d.image d.may_leave old → NothingPending d.image d.may_leave new) → IfSome (d.image old) (λ bytes. Only bytes (d.may_leave old) → LeavesOnly d.moment d.left_since old new (KeepsRecords bytes)) → CarriesOut is_run d old new store.entries held held []
-  CarriesOut-open stays counts closed old new store held tells left pending any = record {
+  pub CarriesOut-open : MayStay D d → CountsNow D d → ClosedAreLogs → ClosedHoldCommits → (old new : D) (store : StoreState) (held : Option (List ℕ)) → is_some (d.image new) ≡ is_some (d.image old) → IfSome (d.image new) (IsLeftBy store) → (NothingPending d.image d.may_leave old → NothingPending d.image d.may_leave new) → IfSome (d.image old) (λ bytes. Only bytes (d.may_leave old) → LeavesOnly d.moment d.left_since old new (KeepsRecords bytes)) → ShutsLog d old new → CarriesOut is_run d old new store.entries held held []
+  CarriesOut-open stays counts closed hold old new store held tells left pending any shuts = record {
     put = held-none held;
     holds_log = λ log.
         let told = told-too (d.image new) (d.image old) log.bytes log.is_image tells in
         let is_left = told-at (d.image new) told.0 (IsLeftBy store) told.1 left in
         record { bytes = told.0; is_image = told.1; is_log = subst (IsLog told.0) (sym (append-nil store.entries)) (closed told.0 store.entries is_left.is_log) };
+    adds = AddsFrames-open d hold old new store tells left shuts;
     rests = λ was. at_rest was;
     keeps = λ was.
         let moments = told-at (d.image old) was.bytes (λ bytes. Only bytes (d.may_leave old) → LeavesOnly d.moment d.left_since old new (KeepsRecords bytes)) was.is_image any was.only in

@@ -5,12 +5,13 @@ use Rattle.arn_base.specs.declared.records.Record.{Record}
 use Rattle.log_store.specs.Log.{IsLog}
 use Rattle.log_store.specs.Stores.{MayLeaveLog, StoreState}
 use Rattle.session_effects.specs.Carrying.{HoldsLog, IsAtRest, HoldsFirst, HoldsAll, Keeps, IsAtCommit, IsInCommit, Stopped, StopsBetween}
-use Rattle.session_effects.specs.Effects.{Effect, Commits, Prints, committed, printed}
+use Rattle.session_effects.specs.Effects.{Effect, Commits, Prints, committed, frames_in, printed}
 use Rattle.session_effects.specs.Quiet.{quiet}
 use Rattle.session_effects.specs.Standing.{Carries}
 use Rattle.session_effects.specs.declared.halt.Halt.{Halt}
 use Rattle.session_effects.specs.declared.halt.Halt.TheVariants as halt
 use Rattle.session_effects.proofs.CarryLemmas.{held-none}
+use Rattle.session_effects.proofs.FrameLemmas.{AddsFrames-same}
 use Rattle.session_effects.proofs.Moments.{leaves-weaker}
 
 quiet-append : (first others : List Effect) → quiet (first ++ others) ≡ quiet first ++ quiet others
@@ -22,6 +23,11 @@ quiet-committed : (effects : List Effect) → committed (quiet effects) ≡ comm
 quiet-committed [] = refl
 quiet-committed (Commits entries ∷ effects) = ap (λ (x : List Record). entries ++ x) (quiet-committed effects)
 quiet-committed (Prints text ∷ effects) = quiet-committed effects
+
+quiet-frames : (effects : List Effect) → frames_in (quiet effects) ≡ frames_in effects
+quiet-frames [] = refl
+quiet-frames (Commits entries ∷ effects) = ap (λ (x : List (List Record)). entries ∷ x) (quiet-frames effects)
+quiet-frames (Prints text ∷ effects) = quiet-frames effects
 
 quiet-printed : (effects : List Effect) → printed (quiet effects) ≡ []
 quiet-printed [] = refl
@@ -111,6 +117,7 @@ module _ {D : Type 0} (is_run : List Record → Type 0) (d : Ghosts D) where
     out = record {
       put = held-quiet held (printed (quiet effects)) (quiet-printed effects);
       holds_log = λ log. subst (HoldsLog d new) (same-history s0.entries effects) (c.out.holds_log log);
+      adds = AddsFrames-same d old new effects (quiet effects) (quiet-frames effects) c.out.adds;
       rests = λ was. subst (IsAtRest d new) (same-history s0.entries effects) (c.out.rests was);
       keeps = λ was. Keeps-quiet old new s0.entries effects [] refl (c.out.keeps was);
     };
@@ -124,5 +131,6 @@ module _ {D : Type 0} (is_run : List Record → Type 0) (d : Ghosts D) where
     put = held-quiet held (printed (quiet done) ++ []) (append-nil (printed (quiet done)) ∙ quiet-printed done);
     keeps = λ was. Keeps-quiet old new history done s.next (next-quiet d new why undone s.part s.next s.stopped) (s.keeps was);
     holds_log = λ none log. subst (HoldsLog d new) (same-history history done) (s.holds_log none log);
+    adds = λ none. AddsFrames-same d old new done (quiet done) (quiet-frames done) (s.adds none);
     rests = λ none was. subst (IsAtRest d new) (same-history history done) (s.rests none was);
   }

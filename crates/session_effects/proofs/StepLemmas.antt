@@ -7,28 +7,17 @@ use Rattle.log_store.specs.Laws.{ClosedAreLogs}
 use Rattle.log_store.specs.Stores.{StoreState, IsLeftBy, IsBeforeOrAfter, MayLeaveLog}
 use Rattle.log_store.specs.Stops.{LeavesOnly, NothingPending}
 use Rattle.log_store.specs.declared.size.TheConstants.{MOST_LOG}
-use Rattle.session_effects.specs.Effects.{Effect, Commits, Prints, committed, printed}
-use Rattle.session_effects.specs.Carrying.{HoldsLog, IsAtRest, HoldsFirst, HoldsAll, Keeps, CarriesOut, IsInText, Stopped, StopsAt, StopsBetween}
+use Rattle.session_effects.specs.Effects.{Effect, Commits, Prints, committed, frames_in, printed}
+use Rattle.session_effects.specs.Carrying.{AddsFrames, HoldsLog, IsAtRest, HoldsFirst, HoldsAll, Keeps, CarriesOut, IsInText, Stopped, StopsAt, StopsBetween}
 use Rattle.session_effects.specs.Printing.{PutsFront, StopsPut}
 use Rattle.session_effects.specs.declared.halt.Halt.{Halt}
 use Rattle.session_effects.specs.declared.halt.Halt.TheVariants as halt
 use Rattle.session_effects.proofs.EffectLemmas.{committed-one, printed-one}
+use Rattle.session_effects.proofs.FrameLemmas.{AddsFrames-none, told-at, told-too}
 use Rattle.session_effects.proofs.Moments.{leaves-none, leaves-weaker}
 use Rattle.session_effects.proofs.CarryLemmas.{held-none, stops-of}
 use Rattle.arn_base.specs.declared.disk.Disk.{Ghosts}
 use Rattle.session_effects.proofs.DiskLaws.{OnlyNow, CountsNow, MayStay}
-
--- what is told of an option that is there
-pub told-at : {X : Type 0} (o : Option X) (x : X) (P : X → Type 0) → o ≡ Some x → IfSome o P → P x
-told-at o x P is p = subst (λ t. IfSome t P) is p
-
--- an option that is there where another is
-pub told-too : {X : Type 0} (o was : Option X) (x : X) → was ≡ Some x → is_some o ≡ is_some was → (y : X) × (o ≡ Some y)
-told-too None was x is tells = absurd (no (tells ∙ ap is_some is))
-  where
-    no : false ≡ true → ⊥
-    no is = cc
-told-too (Some y) was x is tells = (y, refl)
 
 -- the same history, with no effect behind it
 none-first : (is_run : List Record → Type 0) (history : List Record) (effects : List Effect) (bytes : List ℕ) → IsLog bytes history → length bytes ≤ MOST_LOG → HoldsFirst is_run history effects bytes
@@ -85,22 +74,23 @@ module _ {D : Type 0} (is_run : List Record → Type 0) (d : Ghosts D) where
       }
 
   -- effects that commit nothing leave the disk as it was
-  CarriesOut-quiet : MayStay D d → OnlyNow D d → (disk : D) (history : List Record) (h0 h1 : Option (List ℕ)) (effects : List Effect) → committed effects ≡ [] → h1 ≡ option_map (λ before. before ++ printed effects) h0 → CarriesOut is_run d disk disk history h0 h1 effects
-  CarriesOut-quiet stays only_now disk history h0 h1 effects none put = record {
+  CarriesOut-quiet : MayStay D d → OnlyNow D d → (disk : D) (history : List Record) (h0 h1 : Option (List ℕ)) (effects : List Effect) → committed effects ≡ [] → frames_in effects ≡ [] → h1 ≡ option_map (λ before. before ++ printed effects) h0 → CarriesOut is_run d disk disk history h0 h1 effects
+  CarriesOut-quiet stays only_now disk history h0 h1 effects none no_frames put = record {
     put = put;
     holds_log = λ log. subst (HoldsLog d disk) (sym (ap (λ (x : List Record). history ++ x) none ∙ append-nil history)) log;
+    adds = AddsFrames-none d disk effects no_frames;
     rests = λ was. subst (IsAtRest d disk) (sym (ap (λ (x : List Record). history ++ x) none ∙ append-nil history)) was;
     keeps = λ was. Keeps-none stays only_now disk history effects [] none was;
   }
 
   -- nothing was carried out
   pub CarriesOut-none : MayStay D d → OnlyNow D d → (disk : D) (history : List Record) (held : Option (List ℕ)) → CarriesOut is_run d disk disk history held held []
-  CarriesOut-none stays only_now disk history held = CarriesOut-quiet stays only_now disk history held held [] refl (held-none held)
+  CarriesOut-none stays only_now disk history held = CarriesOut-quiet stays only_now disk history held held [] refl refl (held-none held)
 
   -- a text was printed
   pub CarriesOut-text : MayStay D d → OnlyNow D d → (disk : D) (history : List Record) (h0 h1 : Option (List ℕ)) (text : List ℕ) → h1 ≡ option_map (λ before. before ++ text) h0 → CarriesOut is_run d disk disk history h0 h1 (Prints text ∷ [])
   CarriesOut-text stays only_now disk history h0 h1 text put =
-      CarriesOut-quiet stays only_now disk history h0 h1 (Prints text ∷ []) refl (put ∙ ap (λ (x : List ℕ). option_map (λ before. before ++ x) h0) (sym (printed-one text)))
+      CarriesOut-quiet stays only_now disk history h0 h1 (Prints text ∷ []) refl refl (put ∙ ap (λ (x : List ℕ). option_map (λ before. before ++ x) h0) (sym (printed-one text)))
 
   -- a disk at rest is at rest behind no effects
   still_rests : (disk : D) (history : List Record) → IsAtRest d disk history → IsAtRest d disk (history ++ [])
@@ -118,6 +108,7 @@ module _ {D : Type 0} (is_run : List Record → Type 0) (d : Ghosts D) where
     put = p.printed;
     keeps = λ was. Keeps-none stays only_now disk history [] [] refl was;
     holds_log = λ none log. still_holds disk history log;
+    adds = λ none. AddsFrames-none d disk [] refl;
     rests = λ none was. still_rests disk history was;
   }
 
@@ -145,6 +136,7 @@ module _ {D : Type 0} (is_run : List Record → Type 0) (d : Ghosts D) where
     put = held-none held;
     keeps = λ was. Keeps-none stays only_now disk history [] [] refl was;
     holds_log = λ none log. still_holds disk history log;
+    adds = λ none. AddsFrames-none d disk [] refl;
     rests = λ none was. still_rests disk history was;
   }
 
@@ -161,8 +153,8 @@ module _ {D : Type 0} (is_run : List Record → Type 0) (d : Ghosts D) where
   }
 
   -- records were committed
-  pub CarriesOut-commit : MayStay D d → CountsNow D d → ClosedAreLogs → (old new : D) (store store' : StoreState) (entries : List Record) (held : Option (List ℕ)) → (is_run store.entries → is_run (store.entries ++ entries)) → store'.entries ≡ store.entries ++ entries → is_some (d.image new) ≡ is_some (d.image old) → IfSome (d.image new) (IsLeftBy store') → NothingPending d.image d.may_leave new → IfSome (d.image old) (λ bytes. Only bytes (d.may_leave old) → LeavesOnly d.moment d.left_since old new (IsBeforeOrAfter store.entries entries)) → CarriesOut is_run d old new store.entries held held (Commits entries ∷ [])
-  CarriesOut-commit stays counts closed old new store store' entries held run added tells left pending any =
+  pub CarriesOut-commit : MayStay D d → CountsNow D d → ClosedAreLogs → (old new : D) (store store' : StoreState) (entries : List Record) (held : Option (List ℕ)) → (is_run store.entries → is_run (store.entries ++ entries)) → store'.entries ≡ store.entries ++ entries → is_some (d.image new) ≡ is_some (d.image old) → IfSome (d.image new) (IsLeftBy store') → NothingPending d.image d.may_leave new → IfSome (d.image old) (λ bytes. Only bytes (d.may_leave old) → LeavesOnly d.moment d.left_since old new (IsBeforeOrAfter store.entries entries)) → AddsFrames d old new (Commits entries ∷ []) → CarriesOut is_run d old new store.entries held held (Commits entries ∷ [])
+  CarriesOut-commit stays counts closed old new store store' entries held run added tells left pending any adds =
       let one : store.entries ++ entries ≡ store.entries ++ committed (Commits entries ∷ []) = ap (λ (x : List Record). store.entries ++ x) (sym (committed-one entries)) in
       record {
         put = held-none held;
@@ -170,6 +162,7 @@ module _ {D : Type 0} (is_run : List Record → Type 0) (d : Ghosts D) where
             let told = told-too (d.image new) (d.image old) log.bytes log.is_image tells in
             let is_left = told-at (d.image new) told.0 (IsLeftBy store') told.1 left in
             record { bytes = told.0; is_image = told.1; is_log = subst (IsLog told.0) (added ∙ one) (closed told.0 store'.entries is_left.is_log) };
+        adds = adds;
         rests = λ was.
             let told = told-too (d.image new) (d.image old) was.bytes was.is_image tells in
             let is_left = told-at (d.image new) told.0 (IsLeftBy store') told.1 left in
@@ -207,5 +200,6 @@ module _ {D : Type 0} (is_run : List Record → Type 0) (d : Ghosts D) where
         (subst (MayLeaveLog (d.may_leave new)) (sym (append-nil history)) (told-at (d.image old) was.bytes (λ _. MayLeaveLog (d.may_leave new) history) was.is_image before))
         moments;
     holds_log = λ none log. absurd (no_commit none);
+    adds = λ none. absurd (no_commit none);
     rests = λ none was. absurd (no_commit none);
   }

@@ -4,11 +4,11 @@ use Rattle.std.specs.Prelude.{◌≡◌, ◌≢◌, ◌⊎◌, ℕ, ◌+◌, ◌
 use Rattle.arn_base.specs.declared.records.Record.{Record}
 use Rattle.arn_base.specs.declared.disk.Disk.{Ghosts}
 use Rattle.arn_base.specs.Disk.{Only}
-use Rattle.log_store.specs.Log.{IsLog, spellings}
+use Rattle.log_store.specs.Log.{IsClosedLogOf, IsLog, IsLogOf, spellings}
 use Rattle.log_store.specs.Stops.{LeavesOnly}
 use Rattle.log_store.specs.Stores.{MayLeaveLog}
 use Rattle.log_store.specs.declared.size.TheConstants.{MOST_LOG}
-use Rattle.session_effects.specs.Effects.{Effect, Commits, Prints, committed, printed}
+use Rattle.session_effects.specs.Effects.{Effect, Commits, Prints, committed, frames_in, printed}
 use Rattle.session_effects.specs.declared.halt.Halt.{Halt}
 use Rattle.session_effects.specs.declared.halt.Halt.TheVariants as halt
 
@@ -18,7 +18,23 @@ pub record HoldsLog {D : Type 0} (d : Ghosts D) (disk : D) (history : List Recor
   pub is_image : d.image disk ≡ Some bytes
   pub is_log : IsLog bytes history
 
--- the same of a log that isn't too long, and nothing is pending: a stop now leaves these bytes
+-- the disk tells that it holds a log of these commits, each in a frame of its own
+pub record HoldsFrames {D : Type 0} (d : Ghosts D) (disk : D) (commits : List (List Record)) : Type 0 where
+  pub bytes : List ℕ
+  pub is_image : d.image disk ≡ Some bytes
+  pub is_log : IsLogOf bytes commits
+
+-- what a disk tells is a log that ends with a closed gate: no byte stands behind it
+abbrev pub IsShut : {D : Type 0} → Ghosts D → D → Type 0
+IsShut d disk = IfSome (d.image disk) (λ bytes. (commits : List (List Record)) × IsClosedLogOf bytes commits)
+
+-- A log has the frames that it had, and behind them one for each commit of the effects. What ended with a closed gate
+-- does so again.
+pub record AddsFrames {D : Type 0} (d : Ghosts D) (old new : D) (effects : List Effect) : Type 0 where
+  pub frames : (commits : List (List Record)) → HoldsFrames d old commits → HoldsFrames d new (commits ++ frames_in effects)
+  pub shut : IsShut d old → IsShut d new
+
+-- the disk holds a log of a history that isn't too long, and nothing is pending: a stop now leaves these bytes
 pub record IsAtRest {D : Type 0} (d : Ghosts D) (disk : D) (history : List Record) : Type 0 where
   pub bytes : List ℕ
   pub is_image : d.image disk ≡ Some bytes
@@ -57,6 +73,7 @@ pub record CarriesOut {D : Type 0} (is_run : List Record → Type 0) (d : Ghosts
     (history : List Record) (held holds : Option (List ℕ)) (effects : List Effect) : Type 0 where
   pub put : holds ≡ option_map (λ before. before ++ printed effects) held
   pub holds_log : HoldsLog d old history → HoldsLog d new (history ++ committed effects)
+  pub adds : AddsFrames d old new effects
   pub rests : IsAtRest d old history → IsAtRest d new (history ++ committed effects)
   pub keeps : IsAtRest d old history → Keeps is_run d old new history effects []
 
@@ -105,6 +122,7 @@ pub record StopsAt {D : Type 0} (is_run : List Record → Type 0) (d : Ghosts D)
   pub put : holds ≡ option_map (λ before. before ++ (printed (first ++ done) ++ part)) held
   pub keeps : IsAtRest d old history → Keeps is_run d old new history (first ++ done) next
   pub holds_log : next ≡ [] → HoldsLog d old history → HoldsLog d new (history ++ committed (first ++ done))
+  pub adds : next ≡ [] → AddsFrames d old new (first ++ done)
   pub rests : next ≡ [] → IsAtRest d old history → IsAtRest d new (history ++ committed (first ++ done))
 
 -- The same, where these effects were carried out, and of those that come next some of the first at most.
@@ -117,6 +135,7 @@ pub record StopsBetween {D : Type 0} (is_run : List Record → Type 0) (d : Ghos
   pub put : holds ≡ option_map (λ before. before ++ (printed done ++ part)) held
   pub keeps : IsAtRest d old history → Keeps is_run d old new history done next
   pub holds_log : next ≡ [] → HoldsLog d old history → HoldsLog d new (history ++ committed done)
+  pub adds : next ≡ [] → AddsFrames d old new done
   pub rests : next ≡ [] → IsAtRest d old history → IsAtRest d new (history ++ committed done)
 
 -- A log of a history, and of more records behind it. Where the history was that of a run, it still is.

@@ -18,6 +18,15 @@ abbrev pub text_of : Effect → List ℕ
 text_of (Commits entries) = []
 text_of (Prints text) = text
 
+-- the frames that an effect adds to the log, by their records: one for a commit, also of no records
+abbrev pub frames_of : Effect → List (List Record)
+frames_of (Commits entries) = entries ∷ []
+frames_of (Prints text) = []
+
+-- all frames that effects add, in order
+abbrev pub frames_in : List Effect → List (List Record)
+frames_in effects = flat_map frames_of effects
+
 -- all records that effects add, in order
 abbrev pub committed : List Effect → List Record
 committed effects = flat_map records_of effects
@@ -25,8 +34,3 @@ committed effects = flat_map records_of effects
 -- all bytes that effects print, in order
 abbrev pub printed : List Effect → List ℕ
 printed effects = flat_map text_of effects
-
--- the commit of records; none where there are no records
-abbrev pub commit_of : List Record → List Effect
-commit_of [] = []
-commit_of (entry ∷ entries) = Commits (entry ∷ entries) ∷ []

@@ -4,7 +4,7 @@ use Rattle.arn_base.specs.declared.records.Record.{Record}
 use Rattle.arn_base.specs.declared.disk.Disk.{Ghosts}
 use Rattle.arn_base.specs.Disk.{Only}
 use Rattle.arn_base.specs.Faults.{NeverFalls}
-use Rattle.log_store.specs.Log.{IsLog}
+use Rattle.log_store.specs.Log.{IsClosedLogOf, IsLog, IsLogOf}
 use Rattle.log_store.specs.Stores.{StoreState, IsLeftBy, KeepsRecords}
 use Rattle.log_store.specs.Stops.{GoesOn, IsOnlyRead, LeavesOnly, NothingPending}
 use Rattle.session_effects.specs.Effects.{Effect, Prints, committed}
@@ -18,6 +18,11 @@ use Rattle.session_effects.specs.declared.halt.Halt.TheVariants as halt
 abbrev pub OpensLog : {D : Type 0} → Ghosts D → D → D → Type 0
 OpensLog d old new = IfSome (d.image old) (λ bytes. Only bytes (d.may_leave old) →
     LeavesOnly d.moment d.left_since old new (KeepsRecords bytes))
+
+-- it has the frames that it had, and ends with a closed gate
+abbrev pub ShutsLog : {D : Type 0} → Ghosts D → D → D → Type 0
+ShutsLog d old new = (commits : List (List Record)) → IfSome (d.image old) (λ was. IsLogOf was commits →
+    IfSome (d.image new) (λ is. IsClosedLogOf is commits))
 
 module _ {D : Type 0} (is_run : List Record → Type 0) (d : Ghosts D) where
   -- nothing is carried out where nothing is done
@@ -95,7 +100,7 @@ module _ {D : Type 0} (is_run : List Record → Type 0) (d : Ghosts D) where
   OpeningCarries = (old new : D) (store : StoreState) (held : Option (List ℕ)) →
       is_some (d.image new) ≡ is_some (d.image old) → IfSome (d.image new) (IsLeftBy store) →
       (NothingPending d.image d.may_leave old → NothingPending d.image d.may_leave new) →
-      OpensLog d old new → CarriesOut is_run d old new store.entries held held []
+      OpensLog d old new → ShutsLog d old new → CarriesOut is_run d old new store.entries held held []
 
   -- an opening that failed leaves the history at any moment
   abbrev pub OpeningKeeps : Type 0

@@ -2,7 +2,7 @@
 ghost use Rattle.std.specs.Prelude.{◌≡◌, ◌++◌, [], ◌∷◌, ℕ, List, Option, All, OnOk, IfErr};
 ghost use Rattle.log_store.specs.Stops.{GoesOn};
 ghost use Rattle.result_log.specs.Spelling.{HasSpelling};
-ghost use Rattle.session_effects.specs.Effects.{Commits, commit_of};
+ghost use Rattle.session_effects.specs.Effects.{Commits};
 ghost use Rattle.session_effects.specs.Carrying.{StopsAt, StopsBetween};
 ghost use Rattle.session_effects.specs.Standing.{Carries, IsCause, IsOpen};
 
@@ -36,29 +36,4 @@ pub fn commit<R: Runs, D: Disk>(
     logs_read_one_way();
     store.commit(disk, entries)?;
     Ok(())
-}
-
-/// The same, where there are some.
-pub fn commit_some<R: Runs, D: Disk>(
-    store: &mut Store,
-    disk: &mut D,
-    entries: Vec<Record>,
-) -> Result<(), Halt>
-    requires open { IsOpen D.Disk store.old disk.old }
-    requires spelled { All HasSpelling entries.items }
-    requires run { R.is_run store.old.entries → R.is_run (store.old.entries ++ entries.items) }
-    ensures carries { OnOk result ((held : Option (List ℕ)) →
-        Carries R.is_run D.Disk disk.old disk.new store.old store.new held held
-        (commit_of entries.items)) }
-    ensures stops { IfErr result (λ halt. (held : Option (List ℕ)) →
-        StopsAt R.is_run D.Disk disk.old disk.new store.old.entries held held halt []
-        (commit_of entries.items)) }
-    ensures cause { IfErr result (λ halt. (faults : ℕ) →
-        IsCause halt (D.faults disk.old) (D.faults disk.new) faults faults) }
-    ensures later { GoesOn D.image D.faults disk.old disk.new }
-{
-    if entries.is_empty() {
-        return Ok(());
-    }
-    commit::<R, D>(store, disk, entries)
 }

@@ -11,7 +11,7 @@ mod outside;
 mod printing;
 mod runs;
 
-pub use commits::{commit, commit_some};
+pub use commits::commit;
 pub use halt::Halt;
 pub use law::{causes_follow, effects_follow, halts_follow, openings_follow, quiet_follows};
 pub use outside::{Outside, goings_follow};

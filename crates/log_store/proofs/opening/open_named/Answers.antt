@@ -2,9 +2,10 @@ use Rattle.std.proofs.Common.{◌≡◌, ◌++◌, ◌∷◌, [], ◌-◌, ◌+�
 use Rattle.std.proofs.lemmas.Option.{IfSome_then}
 use Rattle.std.proofs.lemmas.Result.{err_from_is_err_and}
 use Rattle.log_store.specs.Stores.{KeepsRecords}
+use Rattle.log_store.specs.Log.{IsClosedLogOf}
 use Rattle.log_store.specs.Pieces.{IsLeft, IsSameFront}
 use Rattle.log_store.proofs.OneWay.{closed_end}
-use Rattle.log_store.proofs.Reopening.{bad_cause, found_ends, found_left, found_some, kept_found, kept_same, told_unmoved}
+use Rattle.log_store.proofs.Reopening.{bad_cause, found_closes, found_ends, found_left, found_length, found_some, kept_found, kept_same, told_unmoved}
 use Rattle.log_store.proofs.Sizes.{found-sized}
 use Rattle.log_store.proofs.Spellings.{found_spelled}
 use Rattle.log_store.proofs.Told.{told_after, told_weaker}
@@ -76,3 +77,16 @@ returns-clause-spelled g c =
 pub returns-clause-sized : goal.returns-clause-sized
 returns-clause-sized g c =
     omega (arith, found-sized c.args.bytes.now c.in_ok-found.found.entries.items c.in_ok-found.found.end.now c.in_ok-found.ensures.ok)
+
+pub returns-clause-shut : goal.returns-clause-shut
+returns-clause-shut g c commits log =
+    let end = c.in_ok-found.found.end.now in
+    let gate = length c.args.bytes.now - length end in
+    told_after (g.D.Disk.image c.args.disk.now) _ (λ told. take gate told ++ 0 ∷ []) (λ told. told ≡ c.args.bytes.now) (λ told. IsClosedLogOf told commits)
+    c.in_ok-close_end.ensures.closed c.requires.told
+    (λ told same. found_closes c.args.bytes.now c.in_ok-found.found.entries.items end c.in_ok-found.ensures.ok gate refl c.logs_read_one_way.ensures.commits commits log told same)
+
+pub returns-clause-ends : goal.returns-clause-ends
+returns-clause-ends g c commits log =
+    let end = c.in_ok-found.found.end.now in
+    found_length c.args.bytes.now c.in_ok-found.found.entries.items end c.in_ok-found.ensures.ok (length c.args.bytes.now - length end) refl c.logs_read_one_way.ensures.commits commits log

@@ -1,6 +1,7 @@
 use Rattle.std.proofs.Common.{[], ◌∷◌, Err, ap}
 use Rattle.session_effects.specs.Effects.{Commits}
 use Rattle.session_effects.proofs.CommitLemmas.{Carries-commit, halts-error-result, stops-result}
+use Rattle.session_effects.proofs.FrameLemmas.{AddsFrames-commit}
 use Rattle.session_effects.proofs.StepLemmas.{CarriesOut-commit}
 use Rattle.session_effects.proofs.commits.commit.Goals as goal
 
@@ -26,4 +27,6 @@ returns-clause-carries g c held =
     c.requires.spelled c.in_ok-commit.ensures.usable c.in_ok-commit.ensures.left c.in_ok-commit.ensures.added
     (CarriesOut-commit g.R.Runs.is_run g.D.Disk g.met.D.Disk.reads_may_stay g.met.D.Disk.counts_now c.logs_read_one_way.ensures.closed c.args.disk.now c.commit.new.disk
     c.args.store.now c.commit.new.self c.args.entries.items held c.requires.run c.in_ok-commit.ensures.added c.in_ok-commit.ensures.later.tells c.in_ok-commit.ensures.left c.in_ok-commit.ensures.durable
-    c.in_ok-commit.ensures.any_moment)
+    c.in_ok-commit.ensures.any_moment
+    (AddsFrames-commit g.D.Disk c.logs_read_one_way.ensures.commits c.logs_read_one_way.ensures.closed_commits c.args.disk.now c.commit.new.disk c.args.store.now c.commit.new.self
+    c.args.entries.items c.in_ok-commit.ensures.later.tells c.requires.open.left c.in_ok-commit.ensures.left c.in_ok-commit.ensures.framed))

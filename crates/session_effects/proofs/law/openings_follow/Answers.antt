@@ -5,7 +5,7 @@ pub returns-clause-history : goal.returns-clause-history
 returns-clause-history g c = store-history g.R.Runs.is_run g.D.Disk c.logs_read_one_way.ensures.one
 
 pub returns-clause-carries : goal.returns-clause-carries
-returns-clause-carries g c = CarriesOut-open g.R.Runs.is_run g.D.Disk g.met.D.Disk.reads_may_stay g.met.D.Disk.counts_now c.logs_read_one_way.ensures.closed
+returns-clause-carries g c = CarriesOut-open g.R.Runs.is_run g.D.Disk g.met.D.Disk.reads_may_stay g.met.D.Disk.counts_now c.logs_read_one_way.ensures.closed c.logs_read_one_way.ensures.closed_commits
 
 pub returns-clause-keeps : goal.returns-clause-keeps
 returns-clause-keeps g c = Keeps-open g.R.Runs.is_run g.D.Disk g.met.D.Disk.reads_may_stay g.met.D.Disk.counts_now

@@ -1,9 +1,9 @@
 use Rattle.std.proofs.Common.{rules, ◌≡◌, ◌⊎◌, ◌<◌, ◌≤◌, length, IfSome}
 use Rattle.log_store.specs.Stores.{KeepsRecords}
-use Rattle.log_store.specs.Log.{IsClosedLog}
+use Rattle.log_store.specs.Log.{IsClosedLog, IsClosedLogOf, IsLogOf, closed_log}
 use Rattle.log_store.specs.Refused.{IsNoLog}
 use Rattle.log_store.specs.declared.size.TheConstants.{MOST_LOG}
-use Rattle.log_store.proofs.Reopening.{kept_same, untouched_if}
+use Rattle.log_store.proofs.Reopening.{kept_same, told_is, untouched_if}
 use Rattle.log_store.proofs.Told.{told_read, told_then, told_unchanged}
 use Rattle.log_store.proofs.store.Store.open_log.Goals as goal
 
@@ -55,3 +55,17 @@ returns-clause-closed g c records =
     let told : IfSome (g.D.Disk.image c.args.disk.now) (λ told. told ≡ bytes) = search rules in
     told_unchanged g.D.Disk.image g.D.Disk.may_leave g.D.Disk.moment g.D.Disk.left_since (g.D.Disk.image c.args.disk.now) c.args.disk.now c.load.new.disk
     c.open_bytes.new.disk bytes (λ bytes. IsClosedLog bytes records) told c.load.ensures.read (c.open_bytes.ensures.closed records)
+
+pub returns-clause-shut : goal.returns-clause-shut
+returns-clause-shut g c commits =
+    let bytes = c.as_slice.result.now in
+    let told : IfSome (g.D.Disk.image c.args.disk.now) (λ told. told ≡ bytes) = search rules in
+    told_is (g.D.Disk.image c.args.disk.now) bytes (λ old. IsLogOf old commits → IfSome (g.D.Disk.image c.open_bytes.new.disk) (λ new. IsClosedLogOf new commits)) told
+    (c.in_ok-entries.ensures.shut commits)
+
+pub returns-clause-ends : goal.returns-clause-ends
+returns-clause-ends g c commits =
+    let bytes = c.as_slice.result.now in
+    let told : IfSome (g.D.Disk.image c.args.disk.now) (λ told. told ≡ bytes) = search rules in
+    told_is (g.D.Disk.image c.args.disk.now) bytes (λ old. IsLogOf old commits → c.in_ok-entries.field-0.log_len ≡ length (closed_log commits)) told
+    (c.in_ok-entries.ensures.ends commits)
