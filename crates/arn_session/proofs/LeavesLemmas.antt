@@ -13,7 +13,7 @@ use Rattle.log_store.specs.Stops.{GoesOn, LeavesOnly}
 use Rattle.log_store.specs.Stores.{StoreState}
 use Rattle.log_store.specs.declared.size.TheConstants.{MOST_LOG}
 use Rattle.guest_devices.specs.Answers.{Asked}
-use Rattle.session_effects.specs.Carrying.{CarriesOut, HoldsMore, IsAtRest, RestsMore}
+use Rattle.session_effects.specs.Carrying.{CarriesOut, HoldsMore, IsAtRest, IsShut, RestsMore}
 use Rattle.session_effects.specs.declared.halt.Halt.{Halt}
 use Rattle.session_effects.specs.declared.halt.Halt.TheVariants as halt
 use Rattle.session_lines.specs.Answering.{IsAnswered, IsHalted, IsNoRun}
@@ -70,6 +70,7 @@ module _ {D A : Type 0} (d : Ghosts D) (replies : A → Asked → Answered → A
     pub answered : IfSome old.left (λ text. AnswersParts replies told history (text_parts text) old.stands.around new.stands.around (CarriesOut IsRun d old.stands.disk new.stands.disk history old.stands.held new.stands.held))
     pub short : IfSome old.left (λ text. length text < 2 ^ 40)
     pub rests : IsAtRest d old.stands.disk history → RestsMore d new.stands.disk history
+    pub shuts : IsShut d old.stands.disk → IsShut d new.stands.disk
 
   -- it halted before
   pub record Halts (why : Halt) : Type 0 where
@@ -81,6 +82,7 @@ module _ {D A : Type 0} (d : Ghosts D) (replies : A → Asked → Answered → A
     pub long : why ≡ halt.Long → IfSome old.left (λ text. (2 ^ 40 ≤ length text) × (new.left ≡ Some (drop (2 ^ 40) text)))
     pub taken : (why ≡ halt.Source) ⊎ (why ≡ halt.Long) → AnswersTaken replies told history old.left new.left whole_parts old.stands.around new.stands.around (CarriesOut IsRun d old.stands.disk new.stands.disk history old.stands.held new.stands.held)
     pub still_rests : why ≢ halt.Disk → why ≢ halt.NoMemory → IsAtRest d old.stands.disk history → RestsMore d new.stands.disk history
+    pub still_shuts : why ≢ halt.Disk → why ≢ halt.NoMemory → IsShut d old.stands.disk → IsShut d new.stands.disk
     pub source : why ≡ halt.Source → Rose old.source_faults new.source_faults
     pub sink : why ≡ halt.Sink → Rose old.sink_faults new.sink_faults
     pub disk : why ≡ halt.Disk → Rose (d.faults old.stands.disk) (d.faults new.stands.disk)
@@ -116,6 +118,8 @@ module _ {D A : Type 0} {d : Ghosts D} {replies : A → Asked → Answered → A
     any_moment = e.goes.any_moment;
     rests = e.rests;
     still_rests = tt;
+    shuts = e.shuts;
+    still_shuts = tt;
     source = λ is. absurd (not-ok x halt.Source is);
     sink = λ is. absurd (not-ok x halt.Sink is);
     disk = λ is. absurd (not-ok x halt.Disk is);
@@ -139,6 +143,8 @@ module _ {D A : Type 0} {d : Ghosts D} {replies : A → Asked → Answered → A
     any_moment = h.goes.any_moment;
     rests = tt;
     still_rests = h.still_rests;
+    shuts = tt;
+    still_shuts = h.still_shuts;
     source = λ is. h.source (same-halt why halt.Source is);
     sink = λ is. h.sink (same-halt why halt.Sink is);
     disk = λ is. h.disk (same-halt why halt.Disk is);

@@ -9,11 +9,12 @@ use Rattle.log_model.specs.Records.{IsRun}
 use Rattle.log_store.specs.Causes.{IsCauseOf}
 use Rattle.log_store.specs.Log.{IsLog}
 use Rattle.log_store.specs.Refused.{IsNoLog}
+use Rattle.log_store.specs.Stores.{StoreState, IsLeftBy}
 use Rattle.log_store.specs.declared.errors.OpenError.{OpenError}
 use Rattle.log_store.specs.declared.errors.OpenError.TheVariants as opening
 use Rattle.log_store.specs.declared.size.TheConstants.{MOST_LOG}
 use Rattle.guest_devices.specs.Answers.{Asked}
-use Rattle.session_effects.specs.Carrying.{HoldsLog, IsAtRest, CarriesOut, StopsBetween, RestsMore}
+use Rattle.session_effects.specs.Carrying.{HoldsLog, IsAtRest, IsShut, CarriesOut, StopsBetween, RestsMore}
 use Rattle.session_effects.specs.Effects.{Effect, committed}
 use Rattle.session_effects.specs.Laws.{BehindHalts, OpenedCarries}
 use Rattle.session_effects.specs.declared.halt.Halt.{Halt}
@@ -23,7 +24,7 @@ use Rattle.session_runs.specs.Turns.{Point}
 use Rattle.session_model.specs.Questions.{Told}
 use Rattle.arn_session.specs.Answered.{AnswersParts, AnswersTaken}
 use Rattle.arn_session.specs.Begun.{BeginsOn, FindsOn, standing}
-use Rattle.arn_session.specs.Opening.{IsOpened}
+use Rattle.arn_session.specs.Opening.{HasOpened, IsOpened}
 use Rattle.arn_session.specs.Status.{open_status_of}
 use Rattle.arn_session.specs.declared.status.Status.{Status}
 use Rattle.arn_session.specs.declared.status.Status.TheVariants as status
@@ -41,6 +42,14 @@ not-opened P (Some bytes) history log fits = λ bad. elim bad [
   | inr long ↦ absurd (omega (arith, long, fits))
 ]
 
+-- a log that wasn't opened
+pub never-opened : (error : OpenError) → HasOpened (open_status_of error) → ⊥
+never-opened (opening.TooLong len) has = has
+never-opened (opening.NotLog at) has = has
+never-opened (opening.Malformed at) has = has
+never-opened opening.Disk has = has
+never-opened opening.NoMemory has = has
+
 -- in any case
 pub for-any : (P : Type 0) (o : Option (List ℕ)) (Q : List ℕ → Type 0) → P → IfSome o (λ bytes. Q bytes → P)
 for-any P None Q p = tt
@@ -55,6 +64,10 @@ told-at : {X : Type 0} (o : Option X) (x : X) (P : X → Type 0) → o ≡ Some 
 told-at o x P is p = subst (λ t. IfSome t P) is p
 
 module _ {D : Type 0} (d : Ghosts D) where
+  -- what a store leaves ends with its closed gate
+  pub left-shut : (disk : D) (store : StoreState) → IfSome (d.image disk) (IsLeftBy store) → IsShut d disk
+  left-shut disk store left = IfSome_then (d.image disk) left (λ bytes is. (is.is_log.commits, is.is_log.is_closed))
+
   -- a disk at rest holds a log
   pub rest-log : (disk : D) (history : List Record) → IsAtRest d disk history → HoldsLog d disk history
   rest-log disk history was = record { bytes = was.bytes; is_image = was.is_image; is_log = was.is_log }

@@ -189,6 +189,8 @@ module _ {A B : Type 0} (here : A) (replies : A → Asked → Answered → A →
     any_moment = p.any_moment;
     rests = p.rests;
     still_rests = p.still_rests;
+    shuts = p.shuts;
+    still_shuts = p.still_shuts;
     source = p.source;
     sink = p.sink;
     disk = p.disk;

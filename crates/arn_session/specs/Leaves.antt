@@ -14,7 +14,7 @@ use Rattle.log_store.specs.Stops.{GoesOn, LeavesOnly}
 use Rattle.log_store.specs.declared.size.TheConstants.{MOST_LOG}
 use Rattle.guest_devices.specs.Answers.{Asked}
 use Rattle.guest_machine.specs.Legs.{Ask, Picked, RepliedBy}
-use Rattle.session_effects.specs.Carrying.{CarriesOut, HoldsMore, IsAtRest, RestsMore}
+use Rattle.session_effects.specs.Carrying.{CarriesOut, HoldsMore, IsAtRest, IsShut, RestsMore}
 use Rattle.session_effects.specs.declared.halt.Halt.{Halt}
 use Rattle.session_effects.specs.declared.halt.Halt.TheVariants as halt
 use Rattle.session_effects.specs.declared.outside.Outside.{Outside}
@@ -71,6 +71,9 @@ module _ {D A : Type 0} (d : Ghosts D) (replies : A → Asked → Answered → A
     pub any_moment : IsAtRest d old.stands.disk history → LeavesOnly d.moment d.left_since old.stands.disk new.stands.disk (HoldsMore IsRun history)
     pub rests : OnOk result (IsAtRest d old.stands.disk history → RestsMore d new.stands.disk history)
     pub still_rests : IfErr result (λ why. why ≢ halt.Disk → why ≢ halt.NoMemory → IsAtRest d old.stands.disk history → RestsMore d new.stands.disk history)
+    -- a log that ended with its closed gate does so again
+    pub shuts : OnOk result (IsShut d old.stands.disk → IsShut d new.stands.disk)
+    pub still_shuts : IfErr result (λ why. why ≢ halt.Disk → why ≢ halt.NoMemory → IsShut d old.stands.disk → IsShut d new.stands.disk)
     -- what failed did fail, and what is full has no room
     pub source : IsErrOf result halt.Source → Rose old.source_faults new.source_faults
     pub sink : IsErrOf result halt.Sink → Rose old.sink_faults new.sink_faults

@@ -7,7 +7,7 @@ ghost use Rattle.arn_commands.specs.Parts.{text_parts, whole_parts};
 ghost use Rattle.arn_session.specs.Answered.{AnswersParts, AnswersTaken, TookAtMost, TookFewer};
 ghost use Rattle.arn_session.specs.Begun.{BeginsOn, FindsOn, slots_answer, standing};
 ghost use Rattle.arn_session.specs.Leaves.{Leaves, scene_of};
-ghost use Rattle.arn_session.specs.Opening.{FailsToOpen, HasBegun, IsOpened, NeverBegan};
+ghost use Rattle.arn_session.specs.Opening.{FailsToOpen, HasBegun, HasOpened, IsOpened, NeverBegan};
 ghost use Rattle.arn_session.specs.Status.{NumbersHold, open_status_of};
 ghost use Rattle.arn_session.specs.Words.{AreAccepted};
 ghost use Rattle.history_model.specs.Broken.{first_broken};
@@ -17,10 +17,10 @@ ghost use Rattle.log_store.specs.Refused.{IsNoLog};
 ghost use Rattle.log_store.specs.Stops.{GoesOn, IsOnlyRead, LeavesOnly};
 ghost use Rattle.log_store.specs.declared.errors.OpenError.{OpenError};
 ghost use Rattle.log_store.specs.declared.size.TheConstants.{MOST_LOG};
-ghost use Rattle.session_effects.specs.Carrying.{CarriesOut, HoldsLog, HoldsMore, IsAtRest, Keeps, RestsMore};
+ghost use Rattle.session_effects.specs.Carrying.{CarriesOut, HoldsLog, HoldsMore, IsAtRest, IsShut, Keeps, RestsMore};
 ghost use Rattle.session_effects.specs.Standing.{IsOpen};
 ghost use Rattle.session_lines.specs.Answering.{IsNoRun};
-ghost use Rattle.session_questions.specs.OfRuns.{AnswersAreOfRuns, SinksAreOfRuns, VerifyTellsRuns};
+ghost use Rattle.session_questions.specs.OfRuns.{AnswersAreOfRuns, GeneratedIsOfRuns, RunsAreUndamaged, SinksAreOfRuns, VerifyTellsRuns};
 ghost use Rattle.session_questions.specs.Texts.{told};
 ghost use Rattle.session_runs.specs.Points.{around};
 
@@ -283,6 +283,9 @@ pub fn arnold<S: Source, K: Sink, D: Disk, L: Ledger>(
         IsAtRest D.Disk disk.old history →
         RestsMore D.Disk disk.new history }
 
+    // Nor is any byte behind the log's ending gate, which is closed.
+    ensures shut { HasOpened result → IsShut D.Disk disk.new }
+
     ensures at_most { TookAtMost (2 ^ 40) (S.left source.old) (S.left source.new) }
 
     // The numbers of a status are what they say, also on a disk that tells nothing.
@@ -295,6 +298,10 @@ pub fn arnold<S: Source, K: Sink, D: Disk, L: Ledger>(
     // whole machine relates.
     ensures lineage { AnswersAreOfRuns }
     ensures sinks { SinksAreOfRuns }
+    ensures generated { GeneratedIsOfRuns }
+
+    // And nothing disagrees there that a question asks.
+    ensures undamaged { RunsAreUndamaged }
 
     // And that the records are a run's is printed of a run's records, and of no others.
     ensures verify { VerifyTellsRuns }

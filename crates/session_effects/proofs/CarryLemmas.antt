@@ -5,7 +5,7 @@ use Rattle.log_store.specs.Log.{IsLog}
 use Rattle.log_store.specs.Stops.{LeavesOnly}
 use Rattle.log_store.specs.Stores.{MayLeaveLog}
 use Rattle.session_effects.specs.Effects.{Effect, committed, printed}
-use Rattle.session_effects.specs.Carrying.{AddsFrames, HoldsLog, IsAtRest, HoldsFirst, HoldsAll, HoldsMore, Keeps, CarriesOut, IsInText, IsAtCommit, IsInCommit, Stopped, StopsAt, StopsBetween, RestsMore}
+use Rattle.session_effects.specs.Carrying.{AddsFrames, IsShut, HoldsLog, IsAtRest, HoldsFirst, HoldsAll, HoldsMore, Keeps, CarriesOut, IsInText, IsAtCommit, IsInCommit, Stopped, StopsAt, StopsBetween, RestsMore}
 use Rattle.session_effects.specs.declared.halt.Halt.{Halt}
 use Rattle.session_effects.specs.declared.halt.Halt.TheVariants as halt
 use Rattle.session_effects.proofs.EffectLemmas.{printed-append, history-append}
@@ -231,6 +231,10 @@ module _ {D : Type 0} (is_run : List Record → Type 0) (d : Ghosts D) where
   -- the disk is at rest again
   pub CarriesOut-rests : (old new : D) (history : List Record) (h0 h1 : Option (List ℕ)) (effects : List Effect) → CarriesOut is_run d old new history h0 h1 effects → IsAtRest d old history → RestsMore d new history
   CarriesOut-rests old new history h0 h1 effects c was = record { more = committed effects; at_rest = c.rests was }
+
+  pub StopsAt-shuts : (old new : D) (history : List Record) (h0 h1 : Option (List ℕ)) (why : Halt) (first rest : List Effect) → StopsAt is_run d old new history h0 h1 why first rest → why ≢ halt.Disk → why ≢ halt.NoMemory → IsShut d old → IsShut d new
+  StopsAt-shuts old new history h0 h1 why first rest s not_disk not_memory =
+      (s.adds (Stopped-next d new why s.undone s.part s.next not_disk not_memory s.stopped)).shut
 
   pub StopsAt-rests : (old new : D) (history : List Record) (h0 h1 : Option (List ℕ)) (why : Halt) (first rest : List Effect) → StopsAt is_run d old new history h0 h1 why first rest → why ≢ halt.Disk → why ≢ halt.NoMemory → IsAtRest d old history → RestsMore d new history
   StopsAt-rests old new history h0 h1 why first rest s not_disk not_memory was =

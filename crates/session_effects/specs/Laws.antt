@@ -8,7 +8,7 @@ use Rattle.log_store.specs.Log.{IsClosedLogOf, IsLog, IsLogOf}
 use Rattle.log_store.specs.Stores.{StoreState, IsLeftBy, KeepsRecords}
 use Rattle.log_store.specs.Stops.{GoesOn, IsOnlyRead, LeavesOnly, NothingPending}
 use Rattle.session_effects.specs.Effects.{Effect, Prints, committed}
-use Rattle.session_effects.specs.Carrying.{HoldsLog, HoldsMore, IsAtRest, Keeps, CarriesOut, Stopped, StopsAt, StopsBetween, RestsMore}
+use Rattle.session_effects.specs.Carrying.{IsShut, HoldsLog, HoldsMore, IsAtRest, Keeps, CarriesOut, Stopped, StopsAt, StopsBetween, RestsMore}
 use Rattle.session_effects.specs.Printing.{StopsPut}
 use Rattle.session_effects.specs.Standing.{IsCause}
 use Rattle.session_effects.specs.declared.halt.Halt.{Halt}
@@ -94,6 +94,12 @@ module _ {D : Type 0} (is_run : List Record → Type 0) (d : Ghosts D) where
   StoppedRests = (old new : D) (history : List Record) (h0 h1 : Option (List ℕ)) (why : Halt)
       (first rest : List Effect) → StopsAt is_run d old new history h0 h1 why first rest →
       why ≢ halt.Disk → why ≢ halt.NoMemory → IsAtRest d old history → RestsMore d new history
+
+  -- and a log that ended with its closed gate does so again
+  abbrev pub StoppedShuts : Type 0
+  StoppedShuts = (old new : D) (history : List Record) (h0 h1 : Option (List ℕ)) (why : Halt)
+      (first rest : List Effect) → StopsAt is_run d old new history h0 h1 why first rest →
+      why ≢ halt.Disk → why ≢ halt.NoMemory → IsShut d old → IsShut d new
 
   -- an opening carries out nothing
   abbrev pub OpeningCarries : Type 0

@@ -1,5 +1,5 @@
 // What holds of effects as a whole.
-ghost use Rattle.session_effects.specs.Laws.{CausesFollow, OpeningCarries, OpeningKeeps, OpeningLeaves, OpenedCarries, OpenedStops, OpenedLeaves, OpenedRests, ReadsNothing, HistoryIsStore, EffectsFollow, HaltsFollow, CarriedLeaves, StoppedLeaves, CarriedRests, StoppedRests};
+ghost use Rattle.session_effects.specs.Laws.{CausesFollow, OpeningCarries, OpeningKeeps, OpeningLeaves, OpenedCarries, OpenedStops, OpenedLeaves, OpenedRests, ReadsNothing, HistoryIsStore, EffectsFollow, HaltsFollow, CarriedLeaves, StoppedLeaves, CarriedRests, StoppedRests, StoppedShuts};
 ghost use Rattle.session_effects.specs.Quiet.{QuietFollows};
 
 use crate::runs::Runs;
@@ -16,6 +16,7 @@ pub fn effects_follow<R: Runs, D: Disk>()
     ensures stop_leaves { StoppedLeaves R.is_run D.Disk }
     ensures rests { CarriedRests R.is_run D.Disk }
     ensures stop_rests { StoppedRests R.is_run D.Disk }
+    ensures stop_shuts { StoppedShuts R.is_run D.Disk }
 {}
 
 /// Where effects stop, with what was done and what wasn't.

@@ -17,7 +17,8 @@ use Rattle.arn_session.specs.Status.{status_of}
 use Rattle.arn_session.specs.declared.status.Status.TheVariants as status
 use Rattle.arn_session.specs.declared.status.Damage.TheVariants as damage
 use Rattle.arn_session.proofs.FaultLemmas.{Rose-after}
-use Rattle.arn_session.proofs.OpenLemmas.{rest-log, rests-opened, Begins-opened, Answers-opened, Taken-opened, Finds-opened, log-is-none, not-opened, for-any, with-never, told-both}
+use Rattle.arn_session.specs.Opening.{HasOpened}
+use Rattle.arn_session.proofs.OpenLemmas.{left-shut, never-opened, rest-log, rests-opened, Begins-opened, Answers-opened, Taken-opened, Finds-opened, log-is-none, not-opened, for-any, with-never, told-both}
 use Rattle.arn_session.proofs.ResultLemmas.{err-at, ok-at}
 use Rattle.arn_session.proofs.StatusLemmas.{broken-is, halt_for, halt-is, numbers-of, same-error}
 use Rattle.arn_session.proofs.session.arnold.Goals as goal
@@ -92,7 +93,7 @@ returns-in-Err-Broken-clause-untouched g c =
 
 pub returns-in-Err-Broken-clause-rests : goal.returns-in-Err-Broken-clause-rests
 returns-in-Err-Broken-clause-rests g c = λ not_disk not_memory history was.
-    rests-opened g.D.Disk c.args.disk.now c.open_log.new.disk c.in-Ok.store.entries history (g.K.Sink.holds c.args.sink.now) (c.openings_follow.ensures.history c.args.disk.now history c.in-Ok.store (rest-log g.D.Disk c.args.disk.now history was) c.in-Ok.ensures.recovered) (c.openings_follow.ensures.carries c.args.disk.now c.open_log.new.disk c.in-Ok.store (g.K.Sink.holds c.args.sink.now) c.in-Ok.ensures.later.tells c.in-Ok.ensures.left c.in-Ok.ensures.durable c.in-Ok.ensures.any_moment) was
+    rests-opened g.D.Disk c.args.disk.now c.open_log.new.disk c.in-Ok.store.entries history (g.K.Sink.holds c.args.sink.now) (c.openings_follow.ensures.history c.args.disk.now history c.in-Ok.store (rest-log g.D.Disk c.args.disk.now history was) c.in-Ok.ensures.recovered) (c.openings_follow.ensures.carries c.args.disk.now c.open_log.new.disk c.in-Ok.store (g.K.Sink.holds c.args.sink.now) c.in-Ok.ensures.later.tells c.in-Ok.ensures.left c.in-Ok.ensures.durable c.in-Ok.ensures.any_moment c.in-Ok.ensures.shut) was
 
 pub returns-in-Err-NoMemory-clause-any_moment : goal.returns-in-Err-NoMemory-clause-any_moment
 returns-in-Err-NoMemory-clause-any_moment g c = λ history was.
@@ -116,7 +117,7 @@ pub returns-in-Ok-answer_text-clause-answered : goal.returns-in-Ok-answer_text-c
 returns-in-Ok-answer_text-clause-answered g c = λ is history log.
     Answers-opened g.D.Disk _ told c.openings_follow.ensures.behind c.halts_follow.ensures.behind c.args.disk.now c.open_log.new.disk c.answer_text.new.disk
     (g.K.Sink.holds c.args.sink.now) (g.K.Sink.holds c.answer_text.new.sink) _ _ c.in-Ok.store.entries
-    (c.openings_follow.ensures.carries c.args.disk.now c.open_log.new.disk c.in-Ok.store (g.K.Sink.holds c.args.sink.now) c.in-Ok.ensures.later.tells c.in-Ok.ensures.left c.in-Ok.ensures.durable c.in-Ok.ensures.any_moment)
+    (c.openings_follow.ensures.carries c.args.disk.now c.open_log.new.disk c.in-Ok.store (g.K.Sink.holds c.args.sink.now) c.in-Ok.ensures.later.tells c.in-Ok.ensures.left c.in-Ok.ensures.durable c.in-Ok.ensures.any_moment c.in-Ok.ensures.shut)
     history (c.openings_follow.ensures.history c.args.disk.now history c.in-Ok.store log c.in-Ok.ensures.recovered)
     (g.S.Source.left c.args.source.now) (ok-at c.answer_text.result _ _ c.in-Ok-answer_text.is c.answer_text.ensures.answered)
 
@@ -124,7 +125,7 @@ pub returns-in-Ok-answer_text-clause-any_moment : goal.returns-in-Ok-answer_text
 returns-in-Ok-answer_text-clause-any_moment g c = λ history was.
     c.openings_follow.ensures.leaves_behind c.args.disk.now c.open_log.new.disk c.answer_text.new.disk c.in-Ok.store.entries history (g.K.Sink.holds c.args.sink.now)
     (c.openings_follow.ensures.history c.args.disk.now history c.in-Ok.store (rest-log g.D.Disk c.args.disk.now history was) c.in-Ok.ensures.recovered)
-    (c.openings_follow.ensures.carries c.args.disk.now c.open_log.new.disk c.in-Ok.store (g.K.Sink.holds c.args.sink.now) c.in-Ok.ensures.later.tells c.in-Ok.ensures.left c.in-Ok.ensures.durable c.in-Ok.ensures.any_moment)
+    (c.openings_follow.ensures.carries c.args.disk.now c.open_log.new.disk c.in-Ok.store (g.K.Sink.holds c.args.sink.now) c.in-Ok.ensures.later.tells c.in-Ok.ensures.left c.in-Ok.ensures.durable c.in-Ok.ensures.any_moment c.in-Ok.ensures.shut)
     c.in-Ok.ensures.any_moment c.answer_text.ensures.any_moment was
 
 pub returns-in-Ok-answer_text-clause-opened : goal.returns-in-Ok-answer_text-clause-opened
@@ -149,14 +150,14 @@ pub returns-in-Ok-answer_text-clause-rests : goal.returns-in-Ok-answer_text-clau
 returns-in-Ok-answer_text-clause-rests g c = λ not_disk not_memory history was.
     c.openings_follow.ensures.rests_behind c.args.disk.now c.open_log.new.disk c.answer_text.new.disk c.in-Ok.store.entries history (g.K.Sink.holds c.args.sink.now)
     (c.openings_follow.ensures.history c.args.disk.now history c.in-Ok.store (rest-log g.D.Disk c.args.disk.now history was) c.in-Ok.ensures.recovered)
-    (c.openings_follow.ensures.carries c.args.disk.now c.open_log.new.disk c.in-Ok.store (g.K.Sink.holds c.args.sink.now) c.in-Ok.ensures.later.tells c.in-Ok.ensures.left c.in-Ok.ensures.durable c.in-Ok.ensures.any_moment)
+    (c.openings_follow.ensures.carries c.args.disk.now c.open_log.new.disk c.in-Ok.store (g.K.Sink.holds c.args.sink.now) c.in-Ok.ensures.later.tells c.in-Ok.ensures.left c.in-Ok.ensures.durable c.in-Ok.ensures.any_moment c.in-Ok.ensures.shut)
     (ok-at c.answer_text.result _ _ c.in-Ok-answer_text.is c.answer_text.ensures.rests) was
 
 pub returns-in-Err-answer_text-clause-any_moment : goal.returns-in-Err-answer_text-clause-any_moment
 returns-in-Err-answer_text-clause-any_moment g c = λ history was.
     c.openings_follow.ensures.leaves_behind c.args.disk.now c.open_log.new.disk c.answer_text.new.disk c.in-Ok.store.entries history (g.K.Sink.holds c.args.sink.now)
     (c.openings_follow.ensures.history c.args.disk.now history c.in-Ok.store (rest-log g.D.Disk c.args.disk.now history was) c.in-Ok.ensures.recovered)
-    (c.openings_follow.ensures.carries c.args.disk.now c.open_log.new.disk c.in-Ok.store (g.K.Sink.holds c.args.sink.now) c.in-Ok.ensures.later.tells c.in-Ok.ensures.left c.in-Ok.ensures.durable c.in-Ok.ensures.any_moment)
+    (c.openings_follow.ensures.carries c.args.disk.now c.open_log.new.disk c.in-Ok.store (g.K.Sink.holds c.args.sink.now) c.in-Ok.ensures.later.tells c.in-Ok.ensures.left c.in-Ok.ensures.durable c.in-Ok.ensures.any_moment c.in-Ok.ensures.shut)
     c.in-Ok.ensures.any_moment c.answer_text.ensures.any_moment was
 
 pub returns-in-Err-answer_text-clause-disk : goal.returns-in-Err-answer_text-clause-disk
@@ -175,7 +176,7 @@ pub returns-in-Err-answer_text-clause-cut : goal.returns-in-Err-answer_text-clau
 returns-in-Err-answer_text-clause-cut g c = λ is history log.
     Begins-opened g.D.Disk _ told c.openings_follow.ensures.behind c.halts_follow.ensures.behind c.args.disk.now c.open_log.new.disk c.answer_text.new.disk
     (g.K.Sink.holds c.args.sink.now) (g.K.Sink.holds c.answer_text.new.sink) _ _ c.in-Ok.store.entries
-    (c.openings_follow.ensures.carries c.args.disk.now c.open_log.new.disk c.in-Ok.store (g.K.Sink.holds c.args.sink.now) c.in-Ok.ensures.later.tells c.in-Ok.ensures.left c.in-Ok.ensures.durable c.in-Ok.ensures.any_moment)
+    (c.openings_follow.ensures.carries c.args.disk.now c.open_log.new.disk c.in-Ok.store (g.K.Sink.holds c.args.sink.now) c.in-Ok.ensures.later.tells c.in-Ok.ensures.left c.in-Ok.ensures.durable c.in-Ok.ensures.any_moment c.in-Ok.ensures.shut)
     history (c.openings_follow.ensures.history c.args.disk.now history c.in-Ok.store log c.in-Ok.ensures.recovered)
     c.in-Err-answer_text.halt halt.Sink (halt-is c.in-Err-answer_text.halt c.from-in-Err-answer_text.result halt.Sink c.from-in-Err-answer_text.ensures (ap halt_for is))
     (λ e. cc) (λ e. cc) (g.S.Source.left c.args.source.now) (g.S.Source.left c.answer_text.new.source) (err-at c.answer_text.result _ c.in-Err-answer_text.halt c.in-Err-answer_text.is c.answer_text.ensures.stops)
@@ -184,7 +185,7 @@ pub returns-in-Err-answer_text-clause-stopped : goal.returns-in-Err-answer_text-
 returns-in-Err-answer_text-clause-stopped g c = λ is history log. inr (
     Begins-opened g.D.Disk _ told c.openings_follow.ensures.behind c.halts_follow.ensures.behind c.args.disk.now c.open_log.new.disk c.answer_text.new.disk
     (g.K.Sink.holds c.args.sink.now) (g.K.Sink.holds c.answer_text.new.sink) _ _ c.in-Ok.store.entries
-    (c.openings_follow.ensures.carries c.args.disk.now c.open_log.new.disk c.in-Ok.store (g.K.Sink.holds c.args.sink.now) c.in-Ok.ensures.later.tells c.in-Ok.ensures.left c.in-Ok.ensures.durable c.in-Ok.ensures.any_moment)
+    (c.openings_follow.ensures.carries c.args.disk.now c.open_log.new.disk c.in-Ok.store (g.K.Sink.holds c.args.sink.now) c.in-Ok.ensures.later.tells c.in-Ok.ensures.left c.in-Ok.ensures.durable c.in-Ok.ensures.any_moment c.in-Ok.ensures.shut)
     history (c.openings_follow.ensures.history c.args.disk.now history c.in-Ok.store log c.in-Ok.ensures.recovered)
     c.in-Err-answer_text.halt halt.Disk (halt-is c.in-Err-answer_text.halt c.from-in-Err-answer_text.result halt.Disk c.from-in-Err-answer_text.ensures (ap halt_for is))
     (λ e. cc) (λ e. cc) (g.S.Source.left c.args.source.now) (g.S.Source.left c.answer_text.new.source) (err-at c.answer_text.result _ c.in-Err-answer_text.halt c.in-Err-answer_text.is c.answer_text.ensures.stops))
@@ -193,7 +194,7 @@ pub returns-in-Err-answer_text-clause-full : goal.returns-in-Err-answer_text-cla
 returns-in-Err-answer_text-clause-full g c = λ at payload is history log.
     Begins-opened g.D.Disk _ told c.openings_follow.ensures.behind c.halts_follow.ensures.behind c.args.disk.now c.open_log.new.disk c.answer_text.new.disk
     (g.K.Sink.holds c.args.sink.now) (g.K.Sink.holds c.answer_text.new.sink) _ _ c.in-Ok.store.entries
-    (c.openings_follow.ensures.carries c.args.disk.now c.open_log.new.disk c.in-Ok.store (g.K.Sink.holds c.args.sink.now) c.in-Ok.ensures.later.tells c.in-Ok.ensures.left c.in-Ok.ensures.durable c.in-Ok.ensures.any_moment)
+    (c.openings_follow.ensures.carries c.args.disk.now c.open_log.new.disk c.in-Ok.store (g.K.Sink.holds c.args.sink.now) c.in-Ok.ensures.later.tells c.in-Ok.ensures.left c.in-Ok.ensures.durable c.in-Ok.ensures.any_moment c.in-Ok.ensures.shut)
     history (c.openings_follow.ensures.history c.args.disk.now history c.in-Ok.store log c.in-Ok.ensures.recovered)
     c.in-Err-answer_text.halt (halt.Full at payload) (halt-is c.in-Err-answer_text.halt c.from-in-Err-answer_text.result (halt.Full at payload) c.from-in-Err-answer_text.ensures (ap halt_for is))
     (λ e. cc) (λ e. cc) (g.S.Source.left c.args.source.now) (g.S.Source.left c.answer_text.new.source) (err-at c.answer_text.result _ c.in-Err-answer_text.halt c.in-Err-answer_text.is c.answer_text.ensures.stops)
@@ -202,7 +203,7 @@ pub returns-in-Err-answer_text-clause-begun : goal.returns-in-Err-answer_text-cl
 returns-in-Err-answer_text-clause-begun g c = λ is history log. inr (
     Begins-opened g.D.Disk _ told c.openings_follow.ensures.behind c.halts_follow.ensures.behind c.args.disk.now c.open_log.new.disk c.answer_text.new.disk
     (g.K.Sink.holds c.args.sink.now) (g.K.Sink.holds c.answer_text.new.sink) _ _ c.in-Ok.store.entries
-    (c.openings_follow.ensures.carries c.args.disk.now c.open_log.new.disk c.in-Ok.store (g.K.Sink.holds c.args.sink.now) c.in-Ok.ensures.later.tells c.in-Ok.ensures.left c.in-Ok.ensures.durable c.in-Ok.ensures.any_moment)
+    (c.openings_follow.ensures.carries c.args.disk.now c.open_log.new.disk c.in-Ok.store (g.K.Sink.holds c.args.sink.now) c.in-Ok.ensures.later.tells c.in-Ok.ensures.left c.in-Ok.ensures.durable c.in-Ok.ensures.any_moment c.in-Ok.ensures.shut)
     history (c.openings_follow.ensures.history c.args.disk.now history c.in-Ok.store log c.in-Ok.ensures.recovered)
     c.in-Err-answer_text.halt halt.NoMemory (halt-is c.in-Err-answer_text.halt c.from-in-Err-answer_text.result halt.NoMemory c.from-in-Err-answer_text.ensures (ap halt_for is))
     (λ e. cc) (λ e. cc) (g.S.Source.left c.args.source.now) (g.S.Source.left c.answer_text.new.source) (err-at c.answer_text.result _ c.in-Err-answer_text.halt c.in-Err-answer_text.is c.answer_text.ensures.stops))
@@ -211,7 +212,7 @@ pub returns-in-Err-answer_text-clause-taken : goal.returns-in-Err-answer_text-cl
 returns-in-Err-answer_text-clause-taken g c = λ which history log.
     Taken-opened g.D.Disk _ told c.openings_follow.ensures.behind c.halts_follow.ensures.behind c.args.disk.now c.open_log.new.disk c.answer_text.new.disk
     (g.K.Sink.holds c.args.sink.now) (g.K.Sink.holds c.answer_text.new.sink) _ _ c.in-Ok.store.entries
-    (c.openings_follow.ensures.carries c.args.disk.now c.open_log.new.disk c.in-Ok.store (g.K.Sink.holds c.args.sink.now) c.in-Ok.ensures.later.tells c.in-Ok.ensures.left c.in-Ok.ensures.durable c.in-Ok.ensures.any_moment)
+    (c.openings_follow.ensures.carries c.args.disk.now c.open_log.new.disk c.in-Ok.store (g.K.Sink.holds c.args.sink.now) c.in-Ok.ensures.later.tells c.in-Ok.ensures.left c.in-Ok.ensures.durable c.in-Ok.ensures.any_moment c.in-Ok.ensures.shut)
     history (c.openings_follow.ensures.history c.args.disk.now history c.in-Ok.store log c.in-Ok.ensures.recovered)
     (g.S.Source.left c.args.source.now) (g.S.Source.left c.answer_text.new.source) whole_parts
     (c.answer_text.ensures.taken (elim which [
@@ -226,7 +227,7 @@ returns-in-Err-answer_text-clause-differs g c = λ d is history log.
       subst (λ h. IsNoRun h d) (c.openings_follow.ensures.history c.args.disk.now history c.in-Ok.store log c.in-Ok.ensures.recovered) (c.answer_text.ensures.blames d err),
       Finds-opened g.D.Disk _ told c.openings_follow.ensures.behind c.halts_follow.ensures.behind c.args.disk.now c.open_log.new.disk c.answer_text.new.disk
           (g.K.Sink.holds c.args.sink.now) (g.K.Sink.holds c.answer_text.new.sink) _ _ c.in-Ok.store.entries
-          (c.openings_follow.ensures.carries c.args.disk.now c.open_log.new.disk c.in-Ok.store (g.K.Sink.holds c.args.sink.now) c.in-Ok.ensures.later.tells c.in-Ok.ensures.left c.in-Ok.ensures.durable c.in-Ok.ensures.any_moment)
+          (c.openings_follow.ensures.carries c.args.disk.now c.open_log.new.disk c.in-Ok.store (g.K.Sink.holds c.args.sink.now) c.in-Ok.ensures.later.tells c.in-Ok.ensures.left c.in-Ok.ensures.durable c.in-Ok.ensures.any_moment c.in-Ok.ensures.shut)
           history (c.openings_follow.ensures.history c.args.disk.now history c.in-Ok.store log c.in-Ok.ensures.recovered)
           (g.S.Source.left c.args.source.now) (g.S.Source.left c.answer_text.new.source) (c.answer_text.ensures.finds d err),
     )
@@ -235,7 +236,7 @@ pub returns-in-Err-answer_text-clause-rests : goal.returns-in-Err-answer_text-cl
 returns-in-Err-answer_text-clause-rests g c = λ not_disk not_memory history was.
     c.openings_follow.ensures.rests_behind c.args.disk.now c.open_log.new.disk c.answer_text.new.disk c.in-Ok.store.entries history (g.K.Sink.holds c.args.sink.now)
     (c.openings_follow.ensures.history c.args.disk.now history c.in-Ok.store (rest-log g.D.Disk c.args.disk.now history was) c.in-Ok.ensures.recovered)
-    (c.openings_follow.ensures.carries c.args.disk.now c.open_log.new.disk c.in-Ok.store (g.K.Sink.holds c.args.sink.now) c.in-Ok.ensures.later.tells c.in-Ok.ensures.left c.in-Ok.ensures.durable c.in-Ok.ensures.any_moment)
+    (c.openings_follow.ensures.carries c.args.disk.now c.open_log.new.disk c.in-Ok.store (g.K.Sink.holds c.args.sink.now) c.in-Ok.ensures.later.tells c.in-Ok.ensures.left c.in-Ok.ensures.durable c.in-Ok.ensures.any_moment c.in-Ok.ensures.shut)
     ((err-at c.answer_text.result _ c.in-Err-answer_text.halt c.in-Err-answer_text.is c.answer_text.ensures.still_rests) (λ is. not_disk (c.from-in-Err-answer_text.ensures ∙ ap status_of is)) (λ is. not_memory (c.from-in-Err-answer_text.ensures ∙ ap status_of is))) was
 
 pub returns-in-Ok-answer_text-clause-read : goal.returns-in-Ok-answer_text-clause-read
@@ -259,3 +260,21 @@ returns-in-Err-answer_text-clause-long g c = λ is. c.answer_text.ensures.long (
 pub returns-in-Err-answer_text-clause-numbers : goal.returns-in-Err-answer_text-clause-numbers
 returns-in-Err-answer_text-clause-numbers g c =
     numbers-of c.in-Err-answer_text.halt c.from-in-Err-answer_text.result c.from-in-Err-answer_text.ensures (λ log payload is. c.answer_text.ensures.full log payload (c.in-Err-answer_text.is ∙ ap (λ (x : Halt). Err x) is))
+
+pub returns-in-Err-clause-shut : goal.returns-in-Err-clause-shut
+returns-in-Err-clause-shut g c = λ has. absurd (never-opened c.in-Err.error (subst HasOpened c.from.ensures has))
+
+pub returns-in-Err-Broken-clause-shut : goal.returns-in-Err-Broken-clause-shut
+returns-in-Err-Broken-clause-shut g c = λ has. left-shut g.D.Disk c.open_log.new.disk c.in-Ok.store c.in-Ok.ensures.left
+
+pub returns-in-Ok-answer_text-clause-shut : goal.returns-in-Ok-answer_text-clause-shut
+returns-in-Ok-answer_text-clause-shut g c = λ has.
+    (ok-at c.answer_text.result _ _ c.in-Ok-answer_text.is c.answer_text.ensures.shuts)
+    (left-shut g.D.Disk c.open_log.new.disk c.in-Ok.store c.in-Ok.ensures.left)
+
+pub returns-in-Err-answer_text-clause-shut : goal.returns-in-Err-answer_text-clause-shut
+returns-in-Err-answer_text-clause-shut g c = λ has.
+    (err-at c.answer_text.result _ c.in-Err-answer_text.halt c.in-Err-answer_text.is c.answer_text.ensures.still_shuts)
+    (λ is. subst HasOpened (c.from-in-Err-answer_text.ensures ∙ ap status_of is) has)
+    (λ is. subst HasOpened (c.from-in-Err-answer_text.ensures ∙ ap status_of is) has)
+    (left-shut g.D.Disk c.open_log.new.disk c.in-Ok.store c.in-Ok.ensures.left)

@@ -79,6 +79,7 @@ returns-in_err-commands-clause-leaves g c =
         | inr is ↦ absurd (cc is)
       ];
       still_rests = λ not_disk not_memory. absurd (not_memory refl);
+      still_shuts = λ not_disk not_memory. absurd (not_memory refl);
       source = λ is. absurd (cc is);
       sink = λ is. absurd (cc is);
       disk = λ is. absurd (cc is);
@@ -119,6 +120,7 @@ returns-in-Err-clause-leaves g c =
         | inr is ↦ AnswersTaken-part now (c.in-Err.ensures.part (λ none. cc (at_bound is, none))) (c.in-Err.ensures.long (ap (λ (x : ReadError). Err x) (at_bound is))).used_up
       ];
       still_rests = λ not_disk not_memory. c.effects_follow.ensures.rests c.args.outside.now.disk.now c.loop-next.outside.disk.now c.args.store.entries (g.K.Sink.holds c.args.outside.now.sink.now) (g.K.Sink.holds c.loop-next.outside.sink.now) did.effects did.carries.out;
+      still_shuts = λ not_disk not_memory. did.carries.out.adds.shut;
       source = λ is. Rose-after _ _ _ c.loop-next.invariant.source c.next.ensures.faults (c.in-Err.ensures.cause (ap (λ (x : ReadError). Err x) (at_source is)));
       sink = λ is. absurd (read-never-sink c.in-Err.error (sym c.read_halt.ensures ∙ is));
       disk = λ is. absurd (read-never-disk c.in-Err.error (sym c.read_halt.ensures ∙ is));
@@ -159,6 +161,7 @@ returns-in_err-answer-in-More-clause-leaves g c =
         | inr is ↦ absurd (never-long why _ _ _ _ cause is)
       ];
       still_rests = c.effects_follow.ensures.stop_rests c.args.outside.now.disk.now c.answer.new.outside.disk.now c.args.store.entries (g.K.Sink.holds c.args.outside.now.sink.now) (g.K.Sink.holds c.answer.new.outside.sink.now) why [] stop.0 stop.1;
+      still_shuts = c.effects_follow.ensures.stop_shuts c.args.outside.now.disk.now c.answer.new.outside.disk.now c.args.store.entries (g.K.Sink.holds c.args.outside.now.sink.now) (g.K.Sink.holds c.answer.new.outside.sink.now) why [] stop.0 stop.1;
       source = λ is. absurd (never-source why _ _ _ _ cause is);
       sink = λ is. c.causes_follow.ensures.cause halt.Sink _ _ _ _ _ _ c.loop-next.invariant.goes_on.later.never_falls c.answer.ensures.goes_on.later.never_falls c.loop-next.invariant.goes_on.faults c.answer.ensures.goes_on.faults (err-at c.answer.result _ halt.Sink (c.in_err-answer-in-More.was ∙ ap (λ (x : Halt). Err x) is) c.answer.ensures.cause);
       disk = λ is. c.causes_follow.ensures.cause halt.Disk _ _ _ _ _ _ c.loop-next.invariant.goes_on.later.never_falls c.answer.ensures.goes_on.later.never_falls c.loop-next.invariant.goes_on.faults c.answer.ensures.goes_on.faults (err-at c.answer.result _ halt.Disk (c.in_err-answer-in-More.was ∙ ap (λ (x : Halt). Err x) is) c.answer.ensures.cause);
@@ -188,6 +191,7 @@ returns-in-Last-clause-leaves g c =
       answered = done.answered;
       short = done.short;
       rests = c.effects_follow.ensures.rests c.args.outside.now.disk.now c.answer-in-Last.new.outside.disk.now c.args.store.entries (g.K.Sink.holds c.args.outside.now.sink.now) (g.K.Sink.holds c.answer-in-Last.new.outside.sink.now) done.out.0 done.out.1;
+      shuts = done.out.1.adds.shut;
     })
     (λ why was.
     let halted = err-at c.answer-in-Last.result _ why was c.answer-in-Last.ensures.halted in
@@ -212,6 +216,7 @@ returns-in-Last-clause-leaves g c =
         | inr is ↦ absurd (never-long why _ _ _ _ cause is)
       ];
       still_rests = c.effects_follow.ensures.stop_rests c.args.outside.now.disk.now c.answer-in-Last.new.outside.disk.now c.args.store.entries (g.K.Sink.holds c.args.outside.now.sink.now) (g.K.Sink.holds c.answer-in-Last.new.outside.sink.now) why [] stop.0 stop.1;
+      still_shuts = c.effects_follow.ensures.stop_shuts c.args.outside.now.disk.now c.answer-in-Last.new.outside.disk.now c.args.store.entries (g.K.Sink.holds c.args.outside.now.sink.now) (g.K.Sink.holds c.answer-in-Last.new.outside.sink.now) why [] stop.0 stop.1;
       source = λ is. absurd (never-source why _ _ _ _ cause is);
       sink = λ is. c.causes_follow.ensures.cause halt.Sink _ _ _ _ _ _ c.loop-next.invariant.goes_on.later.never_falls c.answer-in-Last.ensures.goes_on.later.never_falls c.loop-next.invariant.goes_on.faults c.answer-in-Last.ensures.goes_on.faults (err-at c.answer-in-Last.result _ halt.Sink (was ∙ ap (λ (x : Halt). Err x) is) c.answer-in-Last.ensures.cause);
       disk = λ is. c.causes_follow.ensures.cause halt.Disk _ _ _ _ _ _ c.loop-next.invariant.goes_on.later.never_falls c.answer-in-Last.ensures.goes_on.later.never_falls c.loop-next.invariant.goes_on.faults c.answer-in-Last.ensures.goes_on.faults (err-at c.answer-in-Last.result _ halt.Disk (was ∙ ap (λ (x : Halt). Err x) is) c.answer-in-Last.ensures.cause);
@@ -236,6 +241,7 @@ returns-in-End-clause-leaves g c =
       answered = done.answered;
       short = done.short;
       rests = c.effects_follow.ensures.rests c.args.outside.now.disk.now c.loop-next.outside.disk.now c.args.store.entries (g.K.Sink.holds c.args.outside.now.sink.now) (g.K.Sink.holds c.loop-next.outside.sink.now) did.effects did.carries.out;
+      shuts = did.carries.out.adds.shut;
     })
 
 pub returns-in_err-answer-in-More-clause-same : goal.returns-in_err-answer-in-More-clause-same

@@ -1,4 +1,4 @@
-use Rattle.session_effects.proofs.CarryLemmas.{CarriesOut-then, StopsAt-then, StopsAt-before, StopsAt-among, CarriesOut-moments, StopsAt-moments, CarriesOut-rests, StopsAt-rests}
+use Rattle.session_effects.proofs.CarryLemmas.{CarriesOut-then, StopsAt-then, StopsAt-before, StopsAt-among, CarriesOut-moments, StopsAt-moments, CarriesOut-rests, StopsAt-rests, StopsAt-shuts}
 use Rattle.session_effects.proofs.StepLemmas.{CarriesOut-none, CarriesOut-text, StopsAt-nothing, StopsAt-text}
 use Rattle.session_effects.proofs.law.effects_follow.Goals as goal
 
@@ -25,3 +25,6 @@ returns-clause-rests g c = CarriesOut-rests g.R.Runs.is_run g.D.Disk
 
 pub returns-clause-stop_rests : goal.returns-clause-stop_rests
 returns-clause-stop_rests g c = StopsAt-rests g.R.Runs.is_run g.D.Disk
+
+pub returns-clause-stop_shuts : goal.returns-clause-stop_shuts
+returns-clause-stop_shuts g c = StopsAt-shuts g.R.Runs.is_run g.D.Disk
