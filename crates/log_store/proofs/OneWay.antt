@@ -130,13 +130,6 @@ closed_end one bytes entries records end found log =
     let same = frames-same one found.commits log.commits end (0 ∷ []) found.are_commits log.are_commits found.is_end (inr refl) behind in
     append_cancel_left (frames log.commits) end (0 ∷ []) (ap (λ (cs : List (List Record)). frames cs ++ end) (sym same) ∙ behind)
 
--- a short one holds nothing
-pub closed_fresh : (bytes : List ℕ) (records : List Record) → length bytes ≤ 9 → IsClosedLog bytes records → bytes ≡ log_name ++ 0 ∷ []
-closed_fresh bytes records short log =
-    let size = ap length log.are_bytes ∙ length-append log_name (frames log.commits ++ 0 ∷ []) in
-    let none = no_commits log.commits (0 ∷ []) (frames log.commits ++ 0 ∷ []) (inr refl) refl (omega (arith, size, short)) in
-    log.are_bytes ∙ ap (λ (cs : List (List Record)). log_name ++ (frames cs ++ 0 ∷ [])) none
-
 -- something stands behind the open gate of a broken frame
 has_more : (behind : List ℕ) (gate at : ℕ) → IsCutShort gate at behind ⊎ IsMisspelled gate at behind → behind ≢ []
 has_more behind gate at (inl short) none = short.has_more none
