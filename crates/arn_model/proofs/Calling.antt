@@ -1,5 +1,6 @@
 -- What a call tells, from what its act, its record and its kernel say; and refusals.
-use Rattle.std.proofs.Common.{subst, ◌+◌, ◌≡◌, ℕ, ◌≤◌, List, [], ◌∷◌, length, refl, ap, ◌∙◌, sym, Option, Some, None, unwrap_or, Bool, true, false, ◌==◌, ◌&&◌, not, cond, if◌then◌else◌, nat_le}
+use Rattle.std.proofs.Common.{subst, ◌+◌, ◌≡◌, ℕ, ◌≤◌, List, [], ◌∷◌, length, refl, ap, ◌∙◌, sym, Option, Some, None, unwrap_or, Bool, true, false, ◌==◌, ◌&&◌, not, cond, if◌then◌else◌, nat_le, arith}
+use Rattle.std.proofs.lemmas.Bool.Decides.{nat_tests}
 use Rattle.std.proofs.lemmas.Bool.{eq-eqb, and_right, and_parts, not-true}
 use Rattle.arn_base.specs.declared.machine.Cpu.{Cpu}
 use Rattle.arn_base.specs.declared.records.Extra.{Extra}
@@ -12,13 +13,13 @@ use Rattle.parts_model.specs.declared.tagged.TaggedByte.{TaggedByte}
 use Rattle.parts_model.specs.Files.{file_bytes, find_file}
 use Rattle.parts_model.specs.Processes as table
 use Rattle.parts_model.specs.Replies.{Answered, is_success}
-use Rattle.rv64_model.specs.Instruction.{Effect, Call}
+use Rattle.rv64_model.specs.Instruction.{Call}
 use Rattle.acts_model.specs.Acts.{Act, Returns, Receives, Gives, Starts, Forks, Founds, Shares, Leaves, Delivers, Exits, Faults, Dies, result_of}
 use Rattle.acts_model.specs.Bodies.{View, seen}
-use Rattle.acts_model.specs.Disagreement.{wrong_with, wrong_if, or_else, isnt_call, is_other_call, act_wrong}
+use Rattle.acts_model.specs.Disagreement.{wrong_with, act_wrong}
 use Rattle.acts_model.specs.Records.{held_len, plain_len, LifeChange, BeginsLife, EndsLife, NoLife, call_life, lives_after, NameChange, NoName, call_name, Written, call_put, put_told, give_in}
 use Rattle.acts_model.specs.Told.{Kind, Exit, Fork, Exec, Wait, Sigreturn, Read, Write, Shm, Other, kind_of, call_act}
-use Rattle.acts_model.specs.Views.{stands_at, call_number, argument, error}
+use Rattle.acts_model.specs.Views.{stands_at, call_number, error}
 use Rattle.arn_model.specs.Doing.{Doing, Request, Waits, Does, Asks, Refusal, returning, refused, unless_refused}
 use Rattle.arn_model.specs.Kernel.{Kernel, Machine}
 use Rattle.arn_model.specs.Row.{answered}
@@ -82,16 +83,10 @@ pub record CallTells (m : Machine) (pid : ℕ) (v : View) (n : ℕ) (d : Doing) 
   pub put : call_put n d.extra ≡ writing
 
 pub kept-after : (event file : ℕ) (entry : Record) (put : Option Written) → put_told entry ≡ put → (o p : Option (List TaggedByte)) → FileKept event put file o p → FileAfter event entry file o p
-kept-after event file entry put e o None h = tt
-kept-after event file entry put e None (Some new) h = h
-kept-after event file entry put e (Some old) (Some new) h = h ∙ ap (λ (w : Option Written). tells.patched event w file old) (sym e)
+kept-after event file entry put h1 o p h2 = grind (arith, nat_tests)
 
 right-by : (v : View) (n result : ℕ) (more : Extra) (act : Act) → stands_at v ≡ Call → n ≡ call_number v.body.cpu → call_act (kind_of n) v.body.cpu result more ≡ act → act_wrong v act more ≡ None → (pid : ℕ) → wrong_with v (stands_at v) (entry.Call pid n result more) ≡ None
-right-by v n result more act s e t w pid =
-    let rest = act_wrong v (call_act (kind_of n) v.body.cpu result more) more in
-    ap (λ (x : Effect). or_else (isnt_call x n) (or_else (is_other_call v.body.cpu n) rest)) s
-    ∙ (ap (λ (b : Bool). or_else (wrong_if (not b) n (call_number v.body.cpu)) rest) (eq-eqb n (call_number v.body.cpu) e)
-    ∙ (ap (λ (a : Act). act_wrong v a more) t ∙ w))
+right-by v n result more act h1 h2 h3 h4 pid = grind (arith, nat_tests, eq-eqb)
 
 pub done-call : (m : Machine) (pid : ℕ) (v : View) (n : ℕ) (d : Doing) (name : NameChange) (put : Option Written) → At m pid v n → (HasNumbers d.kernel → CallTells m pid v n d name put) → KernelTells m.kernel m.events d.bytes d.outgoing (life_by pid d.act) name put d.kernel → DoneCall m pid v n d
 done-call m pid v n d name put at call k =
@@ -155,48 +150,13 @@ either-isnt true x y e f = e
 either-isnt false x y e f = f
 
 kind-isnt : (n : ℕ) → (n == number.EXIT) ≡ false → isnt_exit (kind_of n) ≡ true
-kind-isnt n e =
-    let k8 = cond (n == number.SHM) Shm Other in
-    let h8 : isnt_exit k8 ≡ true = either-isnt (n == number.SHM) Shm Other refl refl in
-    let k7 = cond (n == number.WRITE) Write k8 in
-    let h7 : isnt_exit k7 ≡ true = either-isnt (n == number.WRITE) Write k8 refl h8 in
-    let k6 = cond (n == number.READ) Read k7 in
-    let h6 : isnt_exit k6 ≡ true = either-isnt (n == number.READ) Read k7 refl h7 in
-    let k5 = cond (n == number.SIGRETURN) Sigreturn k6 in
-    let h5 : isnt_exit k5 ≡ true = either-isnt (n == number.SIGRETURN) Sigreturn k6 refl h6 in
-    let k4 = cond (n == number.WAIT) Wait k5 in
-    let h4 : isnt_exit k4 ≡ true = either-isnt (n == number.WAIT) Wait k5 refl h5 in
-    let k3 = cond (n == number.EXEC) Exec k4 in
-    let h3 : isnt_exit k3 ≡ true = either-isnt (n == number.EXEC) Exec k4 refl h4 in
-    let k2 = cond (n == number.FORK) Fork k3 in
-    let h2 : isnt_exit k2 ≡ true = either-isnt (n == number.FORK) Fork k3 refl h3 in
-    ap (λ (b : Bool). isnt_exit (cond b Exit k2)) e ∙ h2
+kind-isnt n h1 = grind (arith, nat_tests, either-isnt, isnt_exit)
 
 error-act : (kind : Kind) (cpu : Cpu) (result : ℕ) → isnt_exit kind ≡ true → is_success result ≡ false → nat_le result MOST_TRANSFER ≡ false → (result == 0) ≡ false → call_act kind cpu result extra.Nothing ≡ Returns result
-error-act Exit cpu result h a b c = absurd (cc)
-error-act Fork cpu result h a b c = ap (λ (t : Bool). if t then Forks result else Returns result) a
-error-act Exec cpu result h a b c = refl
-error-act Wait cpu result h a b c = refl
-error-act Sigreturn cpu result h a b c = ap (λ (t : Bool). if t then Leaves else Returns result) c
-error-act Read cpu result h a b c = refl
-error-act Write cpu result h a b c = ap (λ (t : Bool). if t then Gives (argument cpu 1) result result else Returns result) (and_right (nat_le 1 result) (nat_le result MOST_TRANSFER) b)
-error-act Shm cpu result h a b c = ap (λ (t : Bool). if t then Shares else Returns result) c
-error-act Other cpu result h a b c = refl
+error-act kind cpu result h1 h2 h3 h4 = grind (arith, nat_tests, and_right)
 
 pub error-plain : (pid n : ℕ) (cpu : Cpu) (result : ℕ) → (n == number.EXIT) ≡ false → is_error result ≡ true → Plain pid n cpu result extra.Nothing
-error-plain pid n cpu result e h =
-    let parts = and_parts (not (is_success result)) (not (nat_le result MOST_TRANSFER) && not (result == 0)) h in
-    let more = and_parts (not (nat_le result MOST_TRANSFER)) (not (result == 0)) parts.1 in
-    let a = not-true (is_success result) parts.0 in
-    let b = not-true (nat_le result MOST_TRANSFER) more.0 in
-    let c = not-true (result == 0) more.1 in
-    record {
-      told = error-act (kind_of n) cpu result (kind-isnt n e) a b c;
-      length = ap (λ (t : Bool). if t then result else if n == number.EXIT then 1 else 0) (and_right (n == number.WRITE) (nat_le result MOST_TRANSFER) b) ∙ ap (λ (t : Bool). if t then 1 else 0) e;
-      life = ap (λ (t : Bool). if t then EndsLife pid else if (n == number.FORK) && is_success result then BeginsLife result else NoLife) e ∙ ap (λ (t : Bool). if t then BeginsLife result else NoLife) (and_right (n == number.FORK) (is_success result) a);
-      put = refl;
-      gives = refl;
-    }
+error-plain pid n cpu result h1 h2 = grind (arith, nat_tests, and_parts, and_right, error-act, kind-isnt, not-true)
 
 -- refusals
 abbrev pub are_errors : List Refusal → Bool

@@ -1,20 +1,21 @@
 -- What the calls that make channels tell.
-use Rattle.std.proofs.Common.{ℕ, ◌+◌, ◌*◌, ◌^◌, [], ◌∷◌, length, refl, Option, Some, None, Bool, true, false, ◌==◌, not, if◌then◌else◌, nat_lt}
+use Rattle.std.proofs.Common.{ℕ, ◌+◌, ◌*◌, [], ◌∷◌, length, refl, Option, Some, None, Bool, true, false, ◌==◌, not, if◌then◌else◌, nat_lt, arith}
+use Rattle.std.proofs.lemmas.Bool.Decides.{nat_tests}
 use Rattle.arn_base.specs.declared.records.Extra.TheVariants as extra
 use Rattle.parts_model.specs.declared.calls.TheConstants.{PIPE, LISTEN, CONNECT, ACCEPT, DEVICE}
 use Rattle.parts_model.specs.declared.limits.TheConstants.{GREATEST_PORT}
 use Rattle.parts_model.specs.declared.open.Conn.{Conn}
 use Rattle.parts_model.specs.declared.open.Description.{Description}
 use Rattle.parts_model.specs.declared.open.Description.TheVariants as description
-use Rattle.parts_model.specs.declared.refusals.TheConstants.{BAD_DESCRIPTOR, NO_ROOM, NO_DEVICE, BAD_ARGUMENT, NO_DESCRIPTOR_ROOM, PORT_IN_USE, CONNECTION_REFUSED}
+use Rattle.parts_model.specs.declared.refusals.TheConstants.{NO_ROOM, NO_DEVICE, BAD_ARGUMENT, NO_DESCRIPTOR_ROOM, PORT_IN_USE, CONNECTION_REFUSED}
 use Rattle.parts_model.specs.Pipes.{free_pipes}
-use Rattle.parts_model.specs.Ports.{is_in_use, is_full, listened, can_connect, connected, oldest, accepted}
+use Rattle.parts_model.specs.Ports.{is_in_use, is_full, listened, can_connect, connected, accepted}
 use Rattle.parts_model.specs.Replies.{is_here}
 use Rattle.acts_model.specs.Bodies.{View}
 use Rattle.acts_model.specs.Views.{argument, error}
-use Rattle.arn_model.specs.ChannelCalls.{with_pipe, pipe_opened, pipe_row, listen_row, new_conn, connects, connect_row, accept_conn, accept_at, accept_row, device_asked, device_row, device_opened}
+use Rattle.arn_model.specs.ChannelCalls.{with_pipe, pipe_opened, pipe_row, listen_row, new_conn, connects, connect_row, accept_conn, accept_at, accept_row, device_row, device_opened}
 use Rattle.arn_model.specs.Doing as doing
-use Rattle.arn_model.specs.Doing.{Request, Does, Asks, returns, refuse}
+use Rattle.arn_model.specs.Doing.{Does, Asks, returns, refuse}
 use Rattle.arn_model.specs.FileCalls.{has_no_room}
 use Rattle.arn_model.specs.Kernel.{Kernel, Machine, opened, next_descriptor, room_for, opens}
 use Rattle.arn_model.specs.Row.{answered}
@@ -87,16 +88,7 @@ accept-conn-tells m pid v port at (Some conn) =
     (quiet-trans m.kernel k k' (quiet-ports m.kernel (accepted m.kernel.ports port)) (quiet-opens pid (description.Connection conn.to_server conn.to_client) k (λ s. tt)))
 
 accept-at-tells : (m : Machine) (pid : ℕ) (v : View) → At m pid v ACCEPT → (o : Option Description) → RequestTells m pid v ACCEPT (accept_at m pid o)
-accept-at-tells m pid v at None = refused-tells m pid v ACCEPT BAD_DESCRIPTOR at refl refl
-accept-at-tells m pid v at (Some (description.Listener port)) =
-    unless-refused m pid v ACCEPT (refuse NO_DESCRIPTOR_ROOM (has_no_room m.kernel pid) ∷ []) (accept_conn m pid port (oldest m.kernel.ports port)) at refl refl
-    (λ none. accept-conn-tells m pid v port at (oldest m.kernel.ports port))
-accept-at-tells m pid v at (Some description.Console) = refused-tells m pid v ACCEPT BAD_DESCRIPTOR at refl refl
-accept-at-tells m pid v at (Some (description.File file position)) = refused-tells m pid v ACCEPT BAD_DESCRIPTOR at refl refl
-accept-at-tells m pid v at (Some (description.Reader pipe)) = refused-tells m pid v ACCEPT BAD_DESCRIPTOR at refl refl
-accept-at-tells m pid v at (Some (description.Writer pipe)) = refused-tells m pid v ACCEPT BAD_DESCRIPTOR at refl refl
-accept-at-tells m pid v at (Some (description.Connection reads writes)) = refused-tells m pid v ACCEPT BAD_DESCRIPTOR at refl refl
-accept-at-tells m pid v at (Some (description.Device device)) = refused-tells m pid v ACCEPT BAD_DESCRIPTOR at refl refl
+accept-at-tells m pid v h1 o = grind (arith, nat_tests, accept-conn-tells, refused-tells, unless-refused)
 
 pub accept-tells : (m : Machine) (pid : ℕ) (v : View) → At m pid v ACCEPT → RequestTells m pid v ACCEPT (accept_row m pid v)
 accept-tells m pid v at = accept-at-tells m pid v at (opened m.kernel pid (argument v.body.cpu 0))
@@ -120,11 +112,4 @@ asks-device m pid v device at = by_test (was_unplugged m.kernel device)
     by_test false = λ reply. device-opened-done m pid v device at (is_here reply)
 
 pub device-tells : (m : Machine) (pid : ℕ) (v : View) → At m pid v DEVICE → RequestTells m pid v DEVICE (device_row m pid v)
-device-tells m pid v at =
-    let device = argument v.body.cpu 0 in
-    unless-refused m pid v DEVICE (refuse NO_DESCRIPTOR_ROOM (has_no_room m.kernel pid) ∷ []) (device_asked m device) at refl refl
-    (λ none. by_number device (nat_lt device (2 ^ 32)))
-  where
-    by_number : (device : ℕ) (b : Bool) → RequestTells m pid v DEVICE (if b then unless_unplugged m device (doing.Here device) else Does (absent m.kernel))
-    by_number device true = asks-device m pid v device at
-    by_number device false = absent-done m pid v at
+device-tells m pid v h1 = grind (arith, nat_tests, absent-done, asks-device, unless-refused)

@@ -1,5 +1,6 @@
 -- Each way in which the kernel opens, holds and closes is a quiet change.
-use Rattle.std.proofs.Common.{eq-eqb, ◌≡◌, ℕ, zero, suc, ◌+◌, ◌-◌, List, [], ◌∷◌, ◌++◌, length, bytes_eq, refl, ap, ◌∙◌, sym, subst, Option, Some, None, IfSome, Bool, true, false, ◌==◌, cond, if◌then◌else◌, ◌||◌, arith, option_map, option_and_then, is_some, slice_get, slice_set, nat_lt, length-set}
+use Rattle.std.proofs.Common.{eq-eqb, ◌≡◌, ℕ, zero, suc, ◌+◌, ◌-◌, List, [], ◌∷◌, length, bytes_eq, refl, ap, ◌∙◌, sym, subst, Option, Some, None, IfSome, Bool, true, false, ◌==◌, cond, if◌then◌else◌, ◌||◌, arith, option_map, option_and_then, is_some, slice_get, slice_set, nat_lt, length-set}
+use Rattle.std.proofs.lemmas.Bool.Decides.{nat_tests}
 use Rattle.parts_model.specs.declared.open.Conn.{Conn}
 use Rattle.parts_model.specs.declared.open.Description.{Description}
 use Rattle.parts_model.specs.declared.open.Description.TheVariants.{Console, File, Reader, Writer, Connection, Listener, Device}
@@ -9,7 +10,7 @@ use Rattle.parts_model.specs.Files.{Files, file_bytes}
 use Rattle.parts_model.specs.Numbered.{nth, with_nth_from_one}
 use Rattle.parts_model.specs.Pipes as pipes
 use Rattle.parts_model.specs.Pipes.{Pipe, End, ReadEnd, WriteEnd}
-use Rattle.parts_model.specs.Ports.{Port, port_at, freed}
+use Rattle.parts_model.specs.Ports.{Port, port_at}
 use Rattle.parts_model.specs.Processes as table
 use Rattle.parts_model.specs.Processes.{Process, Processes, Life, process, lowest_free}
 use Rattle.arn_model.specs.Kernel.{Kernel, Opened, Handling, placed, with_new, opens, with_count, also_held, all_also_held, without_end, without_side, without_servers, without_port, closed, less_held, dropped, all_dropped, closes, with_what, with_description, with_handling, handling_of}
@@ -21,18 +22,7 @@ use Rattle.arn_model.proofs.Quiet.{Less, less-same, FileSame, file-same, Quiet, 
 
 -- one process changes
 pub process-change : (f : Option Process → Option Process) → f None ≡ None → (all : Processes) (pid q : ℕ) → process (table.with_process all pid (f (process all pid))) q ≡ cond (q == pid) (f (process all q)) (process all q)
-process-change f e all zero zero = sym e
-process-change f e all zero (suc j) = none (suc j == 0) refl
-  where
-    none : (b : Bool) → (suc j == 0) ≡ b → nth all j ≡ cond b (f (nth all j)) (nth all j)
-    none true h = absurd (let k = eqb-true (suc j) 0 h in omega arith)
-    none false h = refl
-process-change f e all (suc i) zero = none (0 == suc i)
-  where
-    none : (b : Bool) → None ≡ cond b (f None) None
-    none true = sym e
-    none false = refl
-process-change f e all (suc i) (suc j) = nth-change f e all i j ∙ ap (λ b. cond b (f (nth all j)) (nth all j)) (sym (suc-test j i))
+process-change f h1 all pid q = grind (arith, nat_tests, eqb-true, nth-change, suc-test)
 
 pub length-with_process : (all : Processes) (pid : ℕ) (p : Option Process) → length (table.with_process all pid p) ≡ length all
 length-with_process all zero p = refl
@@ -84,11 +74,7 @@ fits-none files true x y h k = h
 fits-none files false x y h k = k
 
 pub quiet-new : (what : Description) (k : Kernel) → (IsSound k → FitsFiles k.files what) → Quiet k (with_new what k)
-quiet-new what k h =
-    quiet-descriptions k (k.descriptions ++ Some (record { what = what; descriptors = 1 }) ∷ [])
-    (λ s n.
-    subst (λ (o : Option Opened). IfSome o (λ o. FitsFiles k.files o.what)) (sym (nth-push k.descriptions (Some (record { what = what; descriptors = 1 })) n))
-    (fits-none k.files (n == length k.descriptions) (Some (record { what = what; descriptors = 1 })) (nth k.descriptions n) (h s) (s.fits n)))
+quiet-new what k h1 = grind (arith, nat_tests, fits-none, nth-push, quiet-descriptions)
 
 pub quiet-opens : (pid : ℕ) (what : Description) (k : Kernel) → (IsSound k → FitsFiles k.files what) → Quiet k (opens pid what k)
 quiet-opens pid what k h = quiet-trans k (with_new what k) (opens pid what k) (quiet-new what k h) (quiet-placed pid (length k.descriptions) (with_new what k))
@@ -151,10 +137,7 @@ quiet-without_servers (conn ∷ conns) k =
     (quiet-without_servers conns (without_side conn.to_server conn.to_client k))
 
 pub quiet-without_port : (number : ℕ) (p : Option Port) (k : Kernel) → Quiet k (without_port number p k)
-quiet-without_port number None k = quiet-refl k
-quiet-without_port number (Some p) k =
-    let k' = record k { ports = freed k.ports number } in
-    quiet-trans k k' (without_servers p.waiting k') (quiet-ports k (freed k.ports number)) (quiet-without_servers p.waiting k')
+quiet-without_port number p k = grind (arith, nat_tests, quiet-ports, quiet-refl, quiet-trans, quiet-without_servers)
 
 -- how files are held
 pub among-named : (names : List files.Name) (path : List ℕ) (file : ℕ) → files.file_among names path ≡ Some file → files.has_name names file ≡ true

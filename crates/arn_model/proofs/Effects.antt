@@ -1,20 +1,21 @@
 -- What an event may do to the kernel, and what each change that isn't quiet does.
-use Rattle.std.proofs.Common.{◌≡◌, ◌⊎◌, inl, inr, ℕ, zero, suc, ◌+◌, ◌≤◌, List, [], ◌∷◌, ◌++◌, length, map, refl, ap, ◌∙◌, sym, subst, Option, Some, None, Bool, true, false, ◌==◌, cond, if◌then◌else◌, ◌||◌, arith, option_map, option_and_then, is_some, slice_get}
+use Rattle.std.proofs.Common.{◌≡◌, ◌⊎◌, inl, inr, ℕ, zero, suc, ◌+◌, ◌≤◌, List, [], ◌∷◌, ◌++◌, length, map, refl, ap, ◌∙◌, sym, Option, Some, None, Bool, true, false, ◌==◌, cond, if◌then◌else◌, ◌||◌, arith, option_map, option_and_then, is_some}
+use Rattle.std.proofs.lemmas.Bool.Decides.{nat_tests}
 use Rattle.std.proofs.lemmas.Bool.{eq-eqb, eqb-true, eqb-false, ne_eqb}
 use Rattle.std.proofs.lemmas.Option.{slice_get-map}
 use Rattle.std.proofs.lemmas.List.{length_push}
 use Rattle.parts_model.specs.declared.tagged.TaggedByte.{TaggedByte}
-use Rattle.parts_model.specs.Files.{Files, Name, file_bytes, file_among, find_file}
+use Rattle.parts_model.specs.Files.{Name, file_bytes, file_among, find_file}
 use Rattle.parts_model.specs.Numbered.{nth, with_nth_from_one}
 use Rattle.parts_model.specs.Processes as table
-use Rattle.parts_model.specs.Processes.{Process, Processes, Life, Live, Ended, process}
-use Rattle.acts_model.specs.Moved.{KernelByte, ConsoleByte, PipeByte, FileByte, StatusByte, Range, within_if}
+use Rattle.parts_model.specs.Processes.{Process, Processes, Life, Ended, process}
+use Rattle.acts_model.specs.Moved.{ConsoleByte, PipeByte, FileByte, StatusByte, Range, within_if}
 use Rattle.acts_model.specs.Records.{LifeChange, BeginsLife, EndsLife, NoLife, lives_after, NameChange, NoName, Written}
 use Rattle.arn_model.specs.Kernel as kernel
-use Rattle.arn_model.specs.Kernel.{Kernel, Opened, Handling, all_dropped, descriptors_of, all_also_held, handling_of, child_handling, status_at}
+use Rattle.arn_model.specs.Kernel.{Kernel, all_dropped, descriptors_of, handling_of, child_handling, status_at}
 use Rattle.arn_model.specs.ProcessCalls.{status_of}
 use Rattle.arn_model.specs.Sound.{IsSound}
-use Rattle.arn_model.specs.Tells.{FilesLast, WritesInside, kernel_byte, lives, named_after, patched, put_byte, outgoing_byte, HoldsAfter}
+use Rattle.arn_model.specs.Tells.{FilesLast, WritesInside, lives, named_after, patched, put_byte, outgoing_byte, HoldsAfter}
 use Rattle.arn_model.proofs.Numbers.{suc-test, nth-push}
 use Rattle.arn_model.proofs.Quiet.{FileSame, file-same, last-refl, last-trans, Quiet, quiet-handling}
 use Rattle.arn_model.proofs.Closing.{process-change, length-with_process, status_in, lives_in, quiet-all_dropped, quiet-all_also_held}
@@ -38,29 +39,13 @@ pub record KernelTells (k : Kernel) (event : ℕ) (bytes : List ℕ) (outgoing :
   pub few : length new.processes ≤ length k.processes + 1
 
 pub kept-same : (event file : ℕ) (o p : Option (List TaggedByte)) → FileSame o p → FileKept event None file o p
-kept-same event file o None h = tt
-kept-same event file None (Some p) h = absurd h
-kept-same event file (Some o) (Some p) h = h
+kept-same event file o p h1 = grind (arith, nat_tests)
 
 kept-then : (event : ℕ) (put : Option Written) (file : ℕ) (o p q : Option (List TaggedByte)) → FileKept event put file o p → FileSame p q → FileKept event put file o q
-kept-then event put file o p None h k = tt
-kept-then event put file o None (Some q) h k = absurd k
-kept-then event put file None (Some p) (Some q) h k = k ∙ h
-kept-then event put file (Some o) (Some p) (Some q) h k = k ∙ h
+kept-then event put file o p q h1 h2 = grind (arith, nat_tests)
 
 pub quiet-tells : (k : Kernel) (event : ℕ) (bytes : List ℕ) (new : Kernel) → Quiet k new → KernelTells k event bytes None NoLife NoName None new
-quiet-tells k event bytes new q =
-    record {
-      holds = λ b h e. inr (refl, q.bytes b h e);
-      living = q.lives;
-      names = λ path. ap (λ (names : List Name). file_among names path) q.names;
-      kept = λ file. kept-same event file (file_bytes k.files file) (file_bytes new.files file) (q.files file);
-      last = q.last;
-      writes = tt;
-      sound = q.sound;
-      grows = q.grows;
-      few = let f = q.few in omega arith;
-    }
+quiet-tells k event bytes new h1 = grind (arith, nat_tests, kept-same)
 
 pub tells-then : (k : Kernel) (event : ℕ) (bytes : List ℕ) (outgoing : Option Range) (life : LifeChange) (name : NameChange) (put : Option Written) (mid new : Kernel) → KernelTells k event bytes outgoing life name put mid → Quiet mid new → KernelTells k event bytes outgoing life name put new
 tells-then k event bytes outgoing life name put mid new t q =
@@ -78,38 +63,15 @@ tells-then k event bytes outgoing life name put mid new t q =
 
 -- a quiet change first, and then one that leaves files
 pub then-tells : (k : Kernel) (event : ℕ) (bytes : List ℕ) (outgoing : Option Range) (life : LifeChange) (mid new : Kernel) → Quiet k mid → KernelTells mid event bytes outgoing life NoName None new → new.files ≡ mid.files → KernelTells k event bytes outgoing life NoName None new
-then-tells k event bytes outgoing life mid new q t same =
-    record {
-      holds = λ b h e. by_case b h (t.holds b h e);
-      living = λ p. t.living p ∙ ap (λ (x : Bool). lives_after life p x) (q.lives p);
-      names = λ path. t.names path ∙ ap (λ (names : List Name). file_among names path) q.names;
-      kept = λ file. subst (λ (fs : Files). FileKept event None file (file_bytes k.files file) (file_bytes fs file)) (sym same) (kept-same event file (file_bytes k.files file) (file_bytes mid.files file) (q.files file));
-      last = subst (FilesLast k.files) (sym same) q.last;
-      writes = tt;
-      sound = λ s. t.sound (q.sound s);
-      grows = let a = t.grows in let b = q.grows in omega arith;
-      few = let a = t.few in let b = q.few in omega arith;
-    }
-  where
-    by_case : (b : KernelByte) (h : TaggedByte) → (outgoing_byte event bytes outgoing b ≡ Some h) ⊎ ((outgoing_byte event bytes outgoing b ≡ None) × (kernel_byte mid b ≡ Some h)) → (outgoing_byte event bytes outgoing b ≡ Some h) ⊎ ((outgoing_byte event bytes outgoing b ≡ None) × (kernel_byte k b ≡ Some h))
-    by_case b h (inl e) = inl e
-    by_case b h (inr e) = inr (e.0, q.bytes b h e.1)
+then-tells k event bytes outgoing life mid new h1 h2 h3 = grind (arith, nat_tests, kept-same)
 
 pub eq-swap : (a b : ℕ) → (a == b) ≡ (b == a)
-eq-swap a b = by_test (a == b) refl
-  where
-    by_test : (t : Bool) → (a == b) ≡ t → t ≡ (b == a)
-    by_test true e = sym (eq-eqb b a (sym (eqb-true a b e)))
-    by_test false e = let ne = eqb-false a b e in sym (ne_eqb b a (λ k. ne (sym k)))
+eq-swap a b = grind (arith, nat_tests, eq-eqb, eqb-false, eqb-true, ne_eqb)
 
 -- the table of processes
 
 nth-map : {A B : Type 0} → (f : Option A → Option B) → f None ≡ None → (xs : List (Option A)) (j : ℕ) → nth (map f xs) j ≡ f (nth xs j)
-nth-map {A = A} {B = B} f e xs j = ap (λ (o : Option (Option B)). option_and_then (λ thing. thing) o) (slice_get-map f xs j) ∙ nth-mapped f e (slice_get xs j)
-  where
-    nth-mapped : (f : Option A → Option B) → f None ≡ None → (o : Option (Option A)) → option_and_then (λ thing. thing) (option_map f o) ≡ f (option_and_then (λ thing. thing) o)
-    nth-mapped f e None = sym e
-    nth-mapped f e (Some x) = refl
+nth-map f h1 xs j = grind (arith, nat_tests, slice_get-map)
 
 process-map : (f : Option Process → Option Process) → f None ≡ None → (all : Processes) (q : ℕ) → process (map f all) q ≡ f (process all q)
 process-map f e all zero = sym e
@@ -130,40 +92,17 @@ awaited-status true p status h l e = ap (λ (x : Life). table.status_in x) (sym 
 awaited-status false p status h l e = absurd (cc)
 
 orphan-status : (pid : ℕ) (o : Option Process) (h : TaggedByte) → status_in (option_and_then (table.orphan pid) o) ≡ Some h → status_in o ≡ Some h
-orphan-status pid None h e = e
-orphan-status pid (Some p) h e = by_test (table.is_child_of pid p) e
-  where
-    kept : (b : Bool) → status_in (if b then Some (record p { parent = None }) else None) ≡ Some h → table.status_in p.life ≡ Some h
-    kept true e = e
-    kept false e = absurd (cc)
-
-    by_test : (b : Bool) → status_in (if b then table.if_awaited (record p { parent = None }) else Some p) ≡ Some h → table.status_in p.life ≡ Some h
-    by_test true e = kept (table.is_live p || false) e
-    by_test false e = e
+orphan-status pid o h h1 = grind (arith, nat_tests, status_in)
 
 orphan-lives : (pid : ℕ) (o : Option Process) → lives_in (option_and_then (table.orphan pid) o) ≡ lives_in o
-orphan-lives pid None = refl
-orphan-lives pid (Some p) = by_test (table.is_child_of pid p)
-  where
-    dead : (l : Life) → lives_in (if table.is_alive l || false then Some (record { life = l; parent = None; descriptors = p.descriptors }) else None) ≡ lives_in (Some (record p { life = l }))
-    dead Live = refl
-    dead (Ended status) = refl
-
-    by_test : (b : Bool) → lives_in (if b then table.if_awaited (record p { parent = None }) else Some p) ≡ lives_in (Some p)
-    by_test true = dead p.life
-    by_test false = refl
+orphan-lives pid o = grind (arith, nat_tests, lives_in)
 
 end-status : (status : TaggedByte) (o : Option Process) (h : TaggedByte) → status_in (option_and_then (table.with_end status) o) ≡ Some h → Some status ≡ Some h
 end-status status None h e = absurd (cc)
 end-status status (Some p) h e = awaited-status (false || is_some p.parent) (record p { life = Ended status; descriptors = table.none_open }) status h refl e
 
 end-lives : (status : TaggedByte) (o : Option Process) → lives_in (option_and_then (table.with_end status) o) ≡ false
-end-lives status None = refl
-end-lives status (Some p) = by_test (false || is_some p.parent)
-  where
-    by_test : (b : Bool) → lives_in (if b then Some (record p { life = Ended status; descriptors = table.none_open }) else None) ≡ false
-    by_test true = refl
-    by_test false = refl
+end-lives status o = grind (arith, nat_tests, lives_in)
 
 -- the status byte, where the process is the one that ends
 abbrev put_byte-of : ℕ → ℕ → Bool → Option TaggedByte
@@ -214,14 +153,7 @@ ended-tells pid s event k =
 
 -- a child
 pub forked-process : (all : Processes) (p : Option Process) (q : ℕ) → process (all ++ p ∷ []) q ≡ cond (q == length all + 1) p (process all q)
-forked-process all p zero = none (0 == length all + 1) refl
-  where
-    none : (b : Bool) → (0 == length all + 1) ≡ b → None ≡ cond b p None
-    none true e = absurd (let k = eqb-true 0 (length all + 1) e in omega arith)
-    none false e = refl
-forked-process all p (suc i) =
-    nth-push all p i
-    ∙ ap (λ (b : Bool). cond b p (nth all i)) (sym (suc-test i (length all)) ∙ ap (λ (n : ℕ). suc i == n) (let e : suc (length all) ≡ length all + 1 = omega arith in e))
+forked-process all p q = grind (arith, nat_tests, eqb-true, nth-push, suc-test)
 
 child-status : (parent : ℕ) (o : Option Process) → status_in (option_map (table.child_of parent) o) ≡ None
 child-status parent None = refl

@@ -1,5 +1,6 @@
 -- What the calls on names and descriptors tell.
-use Rattle.std.proofs.Common.{◌≡◌, ℕ, ◌<◌, ◌≤◌, List, [], ◌∷◌, length, refl, ◌∙◌, subst, Option, Some, None, IfSome, Bool, true, false, ◌==◌, ◌||◌, not, if◌then◌else◌, arith, nat_lt, option_map, is_some, unwrap_or}
+use Rattle.std.proofs.Common.{◌≡◌, ℕ, ◌<◌, ◌≤◌, List, [], ◌∷◌, length, refl, ◌∙◌, Option, Some, None, IfSome, Bool, true, false, ◌==◌, ◌||◌, not, if◌then◌else◌, arith, nat_lt, is_some, unwrap_or}
+use Rattle.std.proofs.lemmas.Bool.Decides.{nat_tests}
 use Rattle.std.proofs.lemmas.Bool.{ltb-false}
 use Rattle.std.proofs.lemmas.List.{length_push}
 use Rattle.arn_base.specs.declared.records.Extra.TheVariants as extra
@@ -9,13 +10,12 @@ use Rattle.parts_model.specs.declared.open.Description.TheVariants as descriptio
 use Rattle.parts_model.specs.declared.refusals.TheConstants.{NO_FILE, BAD_DESCRIPTOR, NO_ROOM, BAD_ADDRESS, NAME_TAKEN, BAD_ARGUMENT, NO_DESCRIPTOR_ROOM}
 use Rattle.parts_model.specs.declared.tagged.TaggedByte.{TaggedByte}
 use Rattle.parts_model.specs.Files.{find_file, file_bytes, is_full, made, next_file, unnamed, held}
-use Rattle.parts_model.specs.Numbered.{nth}
 use Rattle.acts_model.specs.Bodies.{View}
 use Rattle.acts_model.specs.Records.{NoLife, Names, Unnames, NoName}
 use Rattle.acts_model.specs.Views.{argument, can_reach}
 use Rattle.arn_model.specs.Doing.{returns, refuse}
 use Rattle.arn_model.specs.FileCalls.{has_no_room, opens_file, opened_as, open_found, open_new, open_row, unlink_found, unlink_row, file_len, seek_in, seek_what, seek_opened, seek_row, close_opened, close_row, dup_opened, dup_row}
-use Rattle.arn_model.specs.Kernel.{Kernel, Machine, Opened, description_of, what_is, next_descriptor, placed, also_held, closes, with_description}
+use Rattle.arn_model.specs.Kernel.{Kernel, Machine, description_of, what_is, next_descriptor, placed, also_held, closes, with_description}
 use Rattle.arn_model.specs.Paths.{isnt_path_len, path_of}
 use Rattle.arn_model.specs.Sound.{FitsFiles, IsSound}
 use Rattle.arn_model.proofs.Quiet.{Quiet, quiet-trans, quiet-files}
@@ -108,11 +108,7 @@ unlink-tells m pid v at =
 
 -- what a description is, where there is one
 pub described : (k : Kernel) (n : ℕ) (what : Description) → what_is k n ≡ Some what → IsSound k → FitsFiles k.files what
-described k n what e s = by_found (nth k.descriptions n) e (s.fits n)
-  where
-    by_found : (o : Option Opened) → option_map (λ o. o.what) o ≡ Some what → IfSome o (λ o. FitsFiles k.files o.what) → FitsFiles k.files what
-    by_found None e f = absurd (cc)
-    by_found (Some o) e f = subst (λ (w : Description). FitsFiles k.files w) (let same : o.what ≡ what = cc in same) f
+described k n what h1 h2 = grind (arith, nat_tests)
 
 within-len : (o : Option (List TaggedByte)) (position : ℕ) → nat_lt (length (unwrap_or o [])) position ≡ false → IfSome o (λ bytes. position ≤ length bytes)
 within-len None position e = tt

@@ -1,26 +1,21 @@
 -- No memory has more bytes than a private window, and who has a body lives: every act and instruction keeps this.
-use Rattle.std.proofs.Common.{◌≡◌, ℕ, ◌+◌, ◌-◌, ◌≤◌, List, [], ◌∷◌, ◌++◌, length, take, drop, refl, ap, ◌∙◌, sym, subst, Option, Some, None, unwrap_or, Bool, true, false, ◌==◌, ◌%◌, cond, if◌then◌else◌, arith, nat_le, is_some, option_map, length-take, length-drop, length-append, length-take-le}
+use Rattle.std.proofs.Common.{◌≡◌, ℕ, ◌+◌, ◌-◌, ◌≤◌, List, [], ◌∷◌, ◌++◌, length, take, drop, refl, ap, ◌∙◌, sym, subst, Option, Some, None, unwrap_or, Bool, true, false, ◌==◌, if◌then◌else◌, arith, nat_le, is_some, length-take, length-drop, length-append, length-take-le}
+use Rattle.std.proofs.lemmas.Bool.Decides.{nat_tests}
 use Rattle.std.proofs.lemmas.Bool.{eqb-true, eq-eqb, and_parts, leb-true}
 use Rattle.std.proofs.lemmas.List.{length-replicate}
 use Rattle.arn_base.specs.Disk.{overwrite}
 use Rattle.arn_base.specs.declared.machine.Cpu.{Cpu}
-use Rattle.arn_base.specs.Window.{Window, is_whole_in, window_bytes, window_with, bytes_at, with_bytes, bytes_of, number_at}
+use Rattle.arn_base.specs.Window.{Window, is_whole_in, window_bytes, window_with, bytes_at, with_bytes}
 use Rattle.rv64_isa.specs.declared.instruction.Instr.{Instr}
-use Rattle.rv64_isa.specs.declared.instruction.Instr.TheVariants.{Lui, Auipc, Jal, Jalr, Branch, Load, Store, Imm, Op, Fence, Ecall, Ebreak}
 use Rattle.rv64_isa.specs.Decoded.{decoded}
-use Rattle.rv64_model.specs.Instruction.{Effect, Next, Call, End, jumps, jumped, branches, loads, stores, executed, executed_if, fetched, advanced}
-use Rattle.rv64_model.specs.Operands.{address}
-use Rattle.rv64_model.specs.Registers.{register}
-use Rattle.rv64_model.specs.Values.{immediate, sum, is_taken, load_len, load_result}
-use Rattle.rv64_model.specs.declared.statuses.TheConstants.{MISALIGNED, BAD_ACCESS}
+use Rattle.rv64_model.specs.Instruction.{Effect, Next, Call, End, jumps, branches, loads, stores, executed, executed_if, fetched}
 use Rattle.parts_model.specs.declared.limits.TheConstants.{WINDOW_START, WINDOW_LEN, SEGMENT_LEN}
 use Rattle.parts_model.specs.Image.{Image, read_as_image}
-use Rattle.parts_model.specs.Memory.{zeros, shared_window}
+use Rattle.parts_model.specs.Memory.{zeros}
 use Rattle.acts_model.specs.Acts.{Act, Returns, Receives, Gives, Starts, Forks, Founds, Shares, Leaves, Delivers, Exits, Faults, Dies, acted, restored, started, with_fresh_segment, beginning_of, child_view, done, done_by, joined, founded}
-use Rattle.acts_model.specs.Bodies.{Body, Bodies, View, body_at, memory_at, segment_bytes, view, seen, put, remove, become}
+use Rattle.acts_model.specs.Bodies.{Bodies, View, body_at, memory_at, segment_bytes, seen, put, remove, become}
 use Rattle.acts_model.specs.Records.{lives_after}
-use Rattle.acts_model.specs.Views.{reach, read, with_reach, written, stands_at, with_result, among_zeros, block_at}
-use Rattle.acts_model.specs.Views.{after_instr}
+use Rattle.acts_model.specs.Views.{reach, read, with_reach, written, stands_at, with_result, among_zeros, block_at, after_instr}
 use Rattle.arn_model.proofs.Calling.{life_by}
 use Rattle.arn_model.proofs.Effects.{eq-swap}
 use Rattle.arn_model.proofs.Places.{put-body, put-memory, remove-body, remove-memory, laid_segment}
@@ -37,11 +32,7 @@ pub record SmallView (v : View) : Type 0 where
   pub segment : IsSmall v.segment
 
 reach-small : (v : View) → SmallView v → AllSmall (reach v)
-reach-small v s = (s.window, by_segment v.body.segment)
-  where
-    by_segment : (o : Option ℕ) → AllSmall (shared_window (option_map (λ made. v.segment) o))
-    by_segment None = tt
-    by_segment (Some k) = (s.segment, tt)
+reach-small v h1 = grind (arith, nat_tests)
 
 overwritten-len : (old : List ℕ) (at : ℕ) (bytes : List ℕ) → at + length bytes ≤ length old → length (overwrite old at bytes) ≡ length old
 overwritten-len old at bytes l =
@@ -66,9 +57,7 @@ with-small (w ∷ ws) at bytes h = by_test (is_whole_in w at (length bytes)) ref
     by_test false t ih = (h.0, ih)
 
 with_reach-small : (ws : List Window) (v : View) → AllSmall ws → SmallView v → SmallView (with_reach ws v)
-with_reach-small [] v h s = s
-with_reach-small (w ∷ []) v h s = record { window = h.0; segment = s.segment }
-with_reach-small (w ∷ x ∷ more) v h s = record { window = h.0; segment = h.1.0 }
+with_reach-small ws v h1 h2 = grind (arith, nat_tests)
 
 window-small : (w : Window) (at len : ℕ) → IsSmall w.bytes → IsSmall (window_bytes w at len)
 window-small w at len h =
@@ -92,11 +81,7 @@ SmallEffect Call = Unit {0}
 SmallEffect (End status) = Unit {0}
 
 jumps-small : (instr : Instr) (cpu : Cpu) (ws : List Window) (rd target : ℕ) → AllSmall ws → SmallEffect (jumps instr cpu ws rd target)
-jumps-small instr cpu ws rd target h = by_test (target % 4 == 0)
-  where
-    by_test : (b : Bool) → SmallEffect (if b then Next instr (jumped cpu rd target) ws else End MISALIGNED)
-    by_test true = h
-    by_test false = tt
+jumps-small instr cpu ws rd target h1 = grind (arith, nat_tests)
 
 branches-small : (instr : Instr) (cpu : Cpu) (ws : List Window) (b : Bool) (target : ℕ) → AllSmall ws → SmallEffect (branches instr cpu ws b target)
 branches-small instr cpu ws false target h = h
@@ -107,25 +92,10 @@ loads-small instr cpu ws rd None h = tt
 loads-small instr cpu ws rd (Some value) h = h
 
 stores-small : (instr : Instr) (cpu : Cpu) (ws : List Window) (at len value : ℕ) → AllSmall ws → SmallEffect (stores instr cpu ws at len value)
-stores-small instr cpu ws at len value h = by_test (is_some (bytes_at ws at len))
-  where
-    by_test : (b : Bool) → SmallEffect (if b then Next instr (advanced cpu) (with_bytes ws at (bytes_of len value)) else End BAD_ACCESS)
-    by_test true = with-small ws at (bytes_of len value) h
-    by_test false = tt
+stores-small instr cpu ws at len value h1 = grind (arith, nat_tests, with-small)
 
 executed-small : (instr : Instr) (cpu : Cpu) (ws : List Window) → AllSmall ws → SmallEffect (executed instr cpu ws)
-executed-small (Lui rd imm) cpu ws h = h
-executed-small (Auipc rd imm) cpu ws h = h
-executed-small (Jal rd imm) cpu ws h = jumps-small (Jal rd imm) cpu ws rd _ h
-executed-small (Jalr rd rs1 imm) cpu ws h = jumps-small (Jalr rd rs1 imm) cpu ws rd _ h
-executed-small (Branch op rs1 rs2 imm) cpu ws h = branches-small (Branch op rs1 rs2 imm) cpu ws (is_taken op (register cpu rs1) (register cpu rs2)) (sum cpu.pc (immediate imm)) h
-executed-small (Load op rd rs1 imm) cpu ws h = loads-small (Load op rd rs1 imm) cpu ws rd (option_map (load_result op) (number_at ws (address cpu rs1 imm) (load_len op))) h
-executed-small (Store op rs1 rs2 imm) cpu ws h = stores-small (Store op rs1 rs2 imm) cpu ws _ _ _ h
-executed-small (Imm op rd rs1 imm) cpu ws h = h
-executed-small (Op op rd rs1 rs2) cpu ws h = h
-executed-small (Fence word) cpu ws h = h
-executed-small Ecall cpu ws h = tt
-executed-small Ebreak cpu ws h = tt
+executed-small instr cpu ws h1 = grind (arith, nat_tests, branches-small, jumps-small, loads-small, stores-small)
 
 executed_if-small : (o : Option Instr) (cpu : Cpu) (ws : List Window) → AllSmall ws → SmallEffect (executed_if o cpu ws)
 executed_if-small None cpu ws h = tt
@@ -136,9 +106,7 @@ fetched-small None cpu ws h = tt
 fetched-small (Some word) cpu ws h = executed_if-small (decoded word) cpu ws h
 
 pub advanced-small : (v : View) (instr : Instr) (cpu : Cpu) (memory : List Window) → SmallView v → stands_at v ≡ Next instr cpu memory → SmallView (after_instr cpu memory v)
-advanced-small v instr cpu memory s e =
-    let small : AllSmall memory = subst SmallEffect e (fetched-small (number_at (reach v) v.body.cpu.pc 4) v.body.cpu (reach v) (reach-small v s)) in
-    with_reach-small memory (record v { body = record v.body { cpu = cpu } }) small (record { window = s.window; segment = s.segment })
+advanced-small v instr cpu memory h1 h2 = grind (arith, nat_tests, fetched-small, reach-small, with_reach-small)
 
 -- acts
 
@@ -187,48 +155,16 @@ segment-small b living h None = omega arith
 segment-small b living h (Some k) = h.small k
 
 pub seen-fits : (b : Bodies) (living : ℕ → Bool) (p : ℕ) (v : View) → BodiesFit b living → seen b p ≡ Some v → (living p ≡ true) × SmallView v
-seen-fits b living p v h e = by_body (body_at b p) refl e
-  where
-    by_body : (o : Option Body) → body_at b p ≡ o → option_map (view b) o ≡ Some v → (living p ≡ true) × SmallView v
-    by_body None t e = absurd (cc)
-    by_body (Some x) t e =
-        let same : view b x ≡ v = cc in
-        let there : SmallView (view b x) = record { window = h.small x.window; segment = segment-small b living h x.segment } in
-        (sym (h.alive p) ∙ ap (λ (o : Option Body). is_some o) t, subst SmallView same there)
+seen-fits b living p v h1 h2 = grind (arith, nat_tests, segment-small)
 
 laid_segment-small : (o : Option ℕ) (bytes : List ℕ) (k : ℕ) (old : List ℕ) → IsSmall bytes → IsSmall old → IsSmall (laid_segment o bytes k old)
-laid_segment-small None bytes k old h g = g
-laid_segment-small (Some s) bytes k old h g = either (k == s)
-  where
-    either : (b : Bool) → IsSmall (cond b bytes old)
-    either true = h
-    either false = g
+laid_segment-small o bytes k old h1 h2 = grind (arith, nat_tests)
 
 pub fit-put : (b : Bodies) (living new : ℕ → Bool) (p : ℕ) (v : View) → BodiesFit b living → new p ≡ true → ((q : ℕ) → (q == p) ≡ false → new q ≡ living q) → SmallView v → BodiesFit (put p v b) new
-fit-put b living new p v h lives others s =
-    record {
-      alive = λ q. ap (λ (o : Option Body). is_some o) (put-body p v b q) ∙ by_test q (q == p) refl;
-      small = λ k. subst IsSmall (sym (put-memory p v b k)) (either (k == v.body.window) (laid_segment v.body.segment v.segment k (memory_at b k)) (laid_segment-small v.body.segment v.segment k (memory_at b k) s.segment (h.small k)));
-    }
-  where
-    by_test : (q : ℕ) (t : Bool) → (q == p) ≡ t → is_some (cond t (Some v.body) (body_at b q)) ≡ new q
-    by_test q true t = sym (ap new (eqb-true q p t) ∙ lives)
-    by_test q false t = h.alive q ∙ sym (others q t)
-
-    either : (t : Bool) (other : List ℕ) → IsSmall other → IsSmall (cond t v.window other)
-    either true other g = s.window
-    either false other g = g
+fit-put b living new p v h1 h2 h3 h4 = grind (arith, nat_tests, eqb-true, laid_segment, laid_segment-small, put-body, put-memory)
 
 fit-remove : (b : Bodies) (living left : ℕ → Bool) (p : ℕ) → BodiesFit b living → left p ≡ false → ((q : ℕ) → (q == p) ≡ false → left q ≡ living q) → BodiesFit (remove p b) left
-fit-remove b living left p h gone others =
-    record {
-      alive = λ q. ap (λ (o : Option Body). is_some o) (remove-body p b q) ∙ by_test q (q == p) refl;
-      small = λ k. subst IsSmall (sym (remove-memory p b k)) (h.small k);
-    }
-  where
-    by_test : (q : ℕ) (t : Bool) → (q == p) ≡ t → is_some (cond t None (body_at b q)) ≡ left q
-    by_test q true t = sym (ap left (eqb-true q p t) ∙ gone)
-    by_test q false t = h.alive q ∙ sym (others q t)
+fit-remove b living left p h1 h2 h3 = grind (arith, nat_tests, eqb-true, remove-body, remove-memory)
 
 pub fit-same : (b : Bodies) (living same : ℕ → Bool) → BodiesFit b living → ((q : ℕ) → same q ≡ living q) → BodiesFit b same
 fit-same b living same h g = record { alive = λ q. h.alive q ∙ sym (g q); small = h.small }

@@ -27,7 +27,8 @@ pub mod Places
 pub mod Fitting
 pub mod TurnTells
 pub mod StepsTell
-pub mod FewDescriptors
 pub mod FineRequests
+pub mod FewDescriptors
+pub mod Counts
 pub mod ToldReplies
 pub mod TurnReplies

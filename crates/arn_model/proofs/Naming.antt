@@ -1,5 +1,6 @@
 -- Files that are made, and names that come and go.
-use Rattle.std.proofs.Common.{is_some, ◌≡◌, inr, ℕ, ◌+◌, ◌<◌, ◌≤◌, List, [], ◌∷◌, ◌++◌, length, refl, ap, ◌∙◌, sym, subst, Option, Some, None, IfSome, Bool, true, false, ◌==◌, cond, if◌then◌else◌, ◌||◌, not, arith, option_map, option_and_then, slice_get, nat_lt}
+use Rattle.std.proofs.Common.{is_some, ◌≡◌, inr, ℕ, ◌+◌, ◌<◌, List, [], ◌∷◌, ◌++◌, length, refl, ap, ◌∙◌, sym, subst, Option, Some, None, IfSome, Bool, true, false, ◌==◌, cond, if◌then◌else◌, ◌||◌, not, arith, option_map, option_and_then, slice_get, nat_lt}
+use Rattle.std.proofs.lemmas.Bool.Decides.{nat_tests}
 use Rattle.std.specs.Prelude.{bytes_eq}
 use Rattle.std.proofs.lemmas.Bool.{eqb-true, eqb-false}
 use Rattle.std.proofs.lemmas.List.{length_push}
@@ -60,23 +61,7 @@ found-names names path file found name = by_test (bytes_eq path name) refl
     by_test false e = refl
 
 made-fits : (fs : Files) (path : List ℕ) (bytes : List TaggedByte) (what : Description) → FitsFiles fs what → FitsFiles (made fs path bytes) what
-made-fits fs path bytes Console f = tt
-made-fits fs path bytes (File file position) f =
-    record {
-      made = let l = f.made in let e = length_push fs.all (Some (record { bytes = bytes; holders = 0 })) in omega arith;
-      inside =
-          subst (λ (o : Option files.File). IfSome (option_map (λ f. f.bytes) o) (λ bytes. position ≤ length bytes)) (sym (nth-push fs.all (Some (record { bytes = bytes; holders = 0 })) file))
-          (by_test (file == length fs.all) refl);
-    }
-  where
-    by_test : (b : Bool) → (file == length fs.all) ≡ b → IfSome (option_map (λ f. f.bytes) (cond b (Some (record { bytes = bytes; holders = 0 })) (nth fs.all file))) (λ bytes. position ≤ length bytes)
-    by_test true e = absurd (let l = f.made in let k = eqb-true file (length fs.all) e in omega arith)
-    by_test false e = f.inside
-made-fits fs path bytes (Reader pipe) f = tt
-made-fits fs path bytes (Writer pipe) f = tt
-made-fits fs path bytes (Connection reads writes) f = tt
-made-fits fs path bytes (Listener port) f = tt
-made-fits fs path bytes (Device device) f = tt
+made-fits fs path bytes what h1 = grind (arith, nat_tests, eqb-true, length_push, nth-push)
 
 made-named : (names : List Name) (path : List ℕ) (made : ℕ) → ((name : List ℕ) (file : ℕ) → file_among names name ≡ Some file → file < made) → (name : List ℕ) (file : ℕ) → file_among (names ++ record { path = path; file = made } ∷ []) name ≡ Some file → file < made + 1
 made-named names path made named name file e = by_found (file_among names name) refl (sym (among-push names (record { path = path; file = made }) name) ∙ e)
@@ -106,16 +91,7 @@ made-among names path made name file e = by_found (file_among names name) refl (
     by_found (Some x) t e = Old name (t ∙ e)
 
 made-there : (k : Kernel) (path : List ℕ) (bytes : List TaggedByte) → IsSound k → (file : ℕ) → Among k.files.names (length k.files.all) file → is_some (file_bytes (made k.files path bytes) file) ≡ true
-made-there k path bytes s file among =
-    ap (λ (o : Option files.File). is_some (option_map (λ f. f.bytes) o)) (nth-push k.files.all new file) ∙ by_test (file == length k.files.all) refl among
-  where
-    new : Option files.File
-    new = Some (record { bytes = bytes; holders = 0 })
-
-    by_test : (b : Bool) → (file == length k.files.all) ≡ b → Among k.files.names (length k.files.all) file → is_some (option_map (λ f. f.bytes) (cond b (Some (let f : files.File = record { bytes = bytes; holders = 0 } in f)) (nth k.files.all file))) ≡ true
-    by_test true e a = refl
-    by_test false e (Old name found) = s.there name file found
-    by_test false e (New same) = absurd (let g = eqb-false file (length k.files.all) e in g same)
+made-there k path bytes h1 file h2 = grind (arith, nat_tests, eqb-false, nth-push)
 
 pub made-sound : (k : Kernel) (path : List ℕ) (bytes : List TaggedByte) → IsSound k → IsSound (record k { files = made k.files path bytes })
 made-sound k path bytes s =
@@ -131,18 +107,7 @@ made-sound k path bytes s =
 
 -- the other files are as they were
 made-last : (k : Kernel) (path : List ℕ) → FilesLast k.files (made k.files path [])
-made-last k path =
-    record {
-      made = let g = length_push k.files.all new in omega arith;
-      gone = λ file made none. ap (option_map (λ f. f.bytes)) (nth-push k.files.all new file) ∙ by_test file (file == length k.files.all) refl made none;
-    }
-  where
-    new : Option files.File
-    new = Some (record { bytes = []; holders = 0 })
-
-    by_test : (file : ℕ) (b : Bool) → (file == length k.files.all) ≡ b → file < length k.files.all → file_bytes k.files file ≡ None → option_map (λ f. f.bytes) (cond b (Some (let f : files.File = record { bytes = []; holders = 0 } in f)) (nth k.files.all file)) ≡ None
-    by_test file true e made none = absurd (let g = eqb-true file (length k.files.all) e in omega arith)
-    by_test file false e made none = none
+made-last k path = grind (arith, nat_tests, eqb-true, length_push, nth-push)
 
 -- a new empty file under a free name
 pub made-tells : (k : Kernel) (event : ℕ) (path : List ℕ) → find_file k.files path ≡ None → KernelTells k event [] None NoLife (Names path (next_file k.files)) None (record k { files = made k.files path [] })

@@ -1,15 +1,12 @@
 -- Things by number: what a change of one leaves, and one more.
 use Rattle.std.proofs.Common.{◌≡◌, ℕ, zero, suc, ◌+◌, ◌<◌, ◌≤◌, List, [], ◌∷◌, ◌++◌, length, take, drop, refl, ap, ◌∙◌, sym, Option, Some, None, Bool, true, false, ◌==◌, cond, arith, ne_eqb, option_map, option_and_then, slice_get, slice_set}
+use Rattle.std.proofs.lemmas.Bool.Decides.{nat_tests}
 use Rattle.std.proofs.lemmas.Bool.{eq-eqb, eqb-true, eqb-false}
 use Rattle.std.proofs.lemmas.Option.{slice_get_past}
 use Rattle.parts_model.specs.Numbered.{nth}
 
 pub suc-test : (q p : ℕ) → (suc q == suc p) ≡ (q == p)
-suc-test q p = by_test (q == p) refl
-  where
-    by_test : (b : Bool) → (q == p) ≡ b → (suc q == suc p) ≡ b
-    by_test true e = eq-eqb (suc q) (suc p) (ap suc (eqb-true q p e))
-    by_test false e = let ne = eqb-false q p e in ne_eqb (suc q) (suc p) (λ k. ne (omega arith))
+suc-test q p = grind (arith, nat_tests, eq-eqb, eqb-false, eqb-true)
 
 same : {A : Type 0} → (b : Bool) (x : A) → x ≡ cond b x x
 same true x = refl
@@ -23,9 +20,7 @@ get-set (x ∷ xs) (suc i) y zero = ap (λ b. cond b (Some y) (Some x)) (sym (ne
 get-set (x ∷ xs) (suc i) y (suc j) = get-set xs i y j ∙ ap (λ b. cond b (option_map (λ x. y) (slice_get xs j)) (slice_get xs j)) (sym (suc-test j i))
 
 set-inside : {A : Type 0} → (y : Option A) (b : Bool) (o : Option (Option A)) → option_and_then (λ thing. thing) (cond b (option_map (λ x. y) o) o) ≡ cond b (option_and_then (λ x. y) o) (option_and_then (λ thing. thing) o)
-set-inside y true None = refl
-set-inside y true (Some x) = refl
-set-inside y false o = refl
+set-inside y b o = grind (arith, nat_tests)
 
 pub nth-set : {A : Type 0} → (xs : List (Option A)) (i : ℕ) (y : Option A) (j : ℕ) → nth (slice_set xs i y) j ≡ cond (j == i) (option_and_then (λ x. y) (slice_get xs j)) (nth xs j)
 nth-set xs i y j = ap (λ o. option_and_then (λ thing. thing) o) (get-set xs i y j) ∙ set-inside y (j == i) (slice_get xs j)
@@ -71,8 +66,3 @@ get-right (x ∷ xs) ys j = ap (λ k. slice_get (x ∷ (xs ++ ys)) k) (let e : s
 
 pub nth-past : {A : Type 0} → (xs : List (Option A)) (j : ℕ) → length xs ≤ j → nth xs j ≡ None
 nth-past xs j h = ap (λ o. option_and_then (λ thing. thing) o) (slice_get_past xs j h)
-
-pub nth-within : {A : Type 0} → (xs : List (Option A)) (j : ℕ) (x : A) → nth xs j ≡ Some x → j < length xs
-nth-within [] j x h = absurd (cc)
-nth-within (y ∷ xs) zero x h = omega arith
-nth-within (y ∷ xs) (suc j) x h = let k = nth-within xs j x h in omega arith

@@ -1,16 +1,17 @@
 -- What the calls on processes tell.
-use Rattle.std.proofs.Common.{◌≡◌, ℕ, zero, suc, ◌+◌, ◌%◌, ◌<◌, ◌^◌, List, [], ◌∷◌, ◌++◌, length, refl, ap, ap₂, ◌∙◌, sym, subst, Option, Some, None, Bool, true, false, ◌==◌, ◌&&◌, ◌||◌, not, cond, if◌then◌else◌, arith, nat_lt, option_map, option_and_then, is_some, slice_get}
+use Rattle.std.proofs.Common.{◌≡◌, ℕ, zero, suc, ◌+◌, ◌%◌, ◌<◌, List, [], ◌∷◌, length, refl, ap, ap₂, ◌∙◌, sym, Option, Some, None, Bool, true, false, ◌==◌, ◌&&◌, ◌||◌, not, cond, if◌then◌else◌, arith, nat_lt, option_and_then, is_some, slice_get}
+use Rattle.std.proofs.lemmas.Bool.Decides.{nat_tests}
 use Rattle.std.proofs.lemmas.Bool.{lt-ltb, or_parts, or_from, not-false, eqb-true}
 use Rattle.std.proofs.lemmas.List.{length_push}
 use Rattle.arn_base.specs.declared.records.Extra.TheVariants as extra
 use Rattle.parts_model.specs.declared.calls.TheConstants.{EXIT, FORK, EXEC, WAIT, GETPID, YIELD}
 use Rattle.parts_model.specs.declared.limits.TheConstants.{MOST_BLOCK_BYTES}
-use Rattle.parts_model.specs.declared.refusals.TheConstants.{NO_FILE, NOT_IMAGE, NO_CHILD, NO_PROCESS_ROOM, BAD_ADDRESS, BAD_ARGUMENT}
+use Rattle.parts_model.specs.declared.refusals.TheConstants.{NO_FILE, NOT_IMAGE, NO_CHILD, BAD_ADDRESS, BAD_ARGUMENT}
 use Rattle.parts_model.specs.declared.tagged.TaggedByte.{TaggedByte}
 use Rattle.parts_model.specs.Files.{find_file, file_bytes}
 use Rattle.parts_model.specs.Image.{is_image}
 use Rattle.parts_model.specs.Processes as table
-use Rattle.parts_model.specs.Processes.{Process, Processes, Life, Live, Ended, process}
+use Rattle.parts_model.specs.Processes.{Process, Life, Live, Ended, process}
 use Rattle.parts_model.specs.Replies.{is_success}
 use Rattle.parts_model.specs.Signals.{no_handlers}
 use Rattle.parts_model.specs.Tagged.{values, given}
@@ -22,7 +23,7 @@ use Rattle.acts_model.specs.Records.{BeginsLife, NoLife, NoName}
 use Rattle.acts_model.specs.Views.{argument, can_reach}
 use Rattle.arn_model.specs.Doing.{Doing, Does, refuse, refused}
 use Rattle.arn_model.specs.Kernel as kernel
-use Rattle.arn_model.specs.Kernel.{Kernel, Machine, status_at, with_handling, also_held, all_also_held, descriptors_of}
+use Rattle.arn_model.specs.Kernel.{Kernel, Machine, status_at, also_held, all_also_held}
 use Rattle.arn_model.specs.Paths.{isnt_path_len, path_of}
 use Rattle.arn_model.specs.ProcessCalls.{status_of, exit_row, child_act, child_extra, fork_row, exec_doing, exec_bytes, exec_file, exec_row, wait_status, wait_child, isnt_any, wait_row, getpid_row, yield_row}
 use Rattle.arn_model.specs.Tells.{lives, kernel_byte, HasNumbers}
@@ -46,12 +47,7 @@ held-processes (None ∷ ns) k = held-processes ns k
 held-processes (Some n ∷ ns) k = held-processes ns (also_held n k)
 
 child-success : (pid : ℕ) (k : Kernel) → HasNumbers (kernel.forked pid k) → is_success (table.next_process k.processes) ≡ true
-child-success pid k few =
-    lt-ltb (length k.processes + 1) (2 ^ 63)
-    (subst (λ (n : ℕ). n < 2 ^ 63)
-    (ap (λ (ps : Processes). length ps) (held-processes (descriptors_of k pid) (record k { processes = table.forked k.processes pid; handling = k.handling ++ option_map kernel.child_handling (kernel.handling_of k pid) ∷ [] }))
-    ∙ length_push k.processes (option_map (table.child_of pid) (process k.processes pid)))
-    few)
+child-success pid k h1 = grind (arith, nat_tests, held-processes, length_push, lt-ltb)
 
 fork-doing : Machine → ℕ → View → Option ℕ → Doing
 fork-doing m pid v o = record { act = child_act o (table.next_process m.kernel.processes); extra = child_extra o v; incoming = Nothing; outgoing = None; bytes = []; kernel = kernel.forked pid m.kernel }
@@ -95,9 +91,7 @@ fork-done m pid v at (Some segment) e =
 
 pub fork-tells : (m : Machine) (pid : ℕ) (v : View) → At m pid v FORK → RequestTells m pid v FORK (fork_row m pid v)
 unfolding fork-doing
-fork-tells m pid v at =
-    unless-refused m pid v FORK (refuse NO_PROCESS_ROOM (table.is_full m.kernel.processes) ∷ []) (Does (fork-doing m pid v v.body.segment)) at refl refl
-    (λ none. fork-done m pid v at v.body.segment refl)
+fork-tells m pid v h1 = grind (arith, nat_tests, fork-doing, fork-done, unless-refused)
 
 exec-fine : (file : List ℕ) (b : Bool) (c : Bool) (len : ℕ) → b ≡ true → c ≡ false → or_else (wrong_if (not b) (length file) 0) (wrong_if c len 0) ≡ None
 exec-fine file b c len e f = ap₂ (λ (b c : Bool). or_else (wrong_if (not b) (length file) 0) (wrong_if c len 0)) e f

@@ -1,5 +1,6 @@
 -- Bytes that are put into pipes and files, and taken from channels.
 use Rattle.std.proofs.Common.{is_some, ◌≡◌, ◌⊎◌, inl, inr, ℕ, zero, suc, ◌+◌, ◌-◌, ◌<◌, ◌≤◌, min, List, [], ◌∷◌, ◌++◌, length, take, drop, refl, ap, ap₂, ◌∙◌, sym, subst, Option, Some, None, IfSome, Bool, true, false, ◌==◌, ◌&&◌, cond, if◌then◌else◌, arith, option_map, option_and_then, slice_get, nat_lt, nat_le, length-set, length-append, length-take, length-drop, take_all, length-take-le, append-nil}
+use Rattle.std.proofs.lemmas.Bool.Decides.{nat_tests}
 use Rattle.std.proofs.lemmas.List.{drop_all}
 use Rattle.std.proofs.lemmas.Bool.{eq-eqb, eqb-true, lt-ltb, le-ltb, ltb-true, ltb-false, le-leb, lt-leb, leb-true, leb-false}
 use Rattle.parts_model.specs.declared.open.Description.{Description}
@@ -7,7 +8,7 @@ use Rattle.parts_model.specs.declared.open.Description.TheVariants.{Console, Fil
 use Rattle.parts_model.specs.declared.tagged.TaggedByte.{TaggedByte}
 use Rattle.parts_model.specs.Channel.{Channel, channel_end, put_behind, front, without_front}
 use Rattle.parts_model.specs.Files as files
-use Rattle.parts_model.specs.Files.{Files, Name, file_bytes, laid_over, fitting, written, rewritten}
+use Rattle.parts_model.specs.Files.{Files, file_bytes, laid_over, fitting, written, rewritten}
 use Rattle.parts_model.specs.Numbered.{nth}
 use Rattle.parts_model.specs.Pipes as pipes
 use Rattle.parts_model.specs.Pipes.{Pipe, room, with_put, with_taken}
@@ -23,15 +24,7 @@ use Rattle.arn_model.proofs.Effects.{FileKept, KernelTells, kept-same, eq-swap}
 
 -- bytes that leave a channel
 pub front-less : (c : Channel) (d n : ℕ) → Less (at_position (without_front c d) n) (at_position c n)
-front-less c d n = by_test (nat_lt n (c.taken + d)) refl
-  where
-    by_test : (b : Bool) → nat_lt n (c.taken + d) ≡ b → Less (if b then None else slice_get (drop d c.queue) (n - (c.taken + d))) (at_position c n)
-    by_test true t h e = absurd (cc)
-    by_test false t h e =
-        let l : c.taken + d ≤ n = ltb-false n (c.taken + d) t in
-        let i : n - c.taken ≡ d + (n - (c.taken + d)) = omega arith in
-        ap (λ b. if b then None else slice_get c.queue (n - c.taken)) (le-ltb n c.taken (omega arith))
-        ∙ (ap (λ i. slice_get c.queue i) i ∙ (sym (get-drop d c.queue (n - (c.taken + d))) ∙ e))
+front-less c d n = grind (arith, nat_tests, get-drop, le-ltb, ltb-false)
 
 pub front-there : (c : Channel) (most n : ℕ) → n < length (front c most) → at_position c (c.taken + n) ≡ slice_get (front c most) n
 front-there c most n l =
@@ -70,11 +63,7 @@ pub within-before : (a n b : ℕ) → b < a → within a n b ≡ None
 within-before a n b l = ap (λ (x : Bool). if x && nat_lt b (a + n) then Some (b - a) else None) (lt-leb a b l)
 
 within-behind : (a n b : ℕ) → a + n ≤ b → within a n b ≡ None
-within-behind a n b l = by_test (nat_le a b) (nat_lt b (a + n)) (le-ltb b (a + n) l)
-  where
-    by_test : (x y : Bool) → y ≡ false → (if x && y then Some (b - a) else None) ≡ None
-    by_test true y e = ap (λ (y : Bool). if y then Some (b - a) else None) e
-    by_test false y e = refl
+within-behind a n b h1 = grind (arith, nat_tests, le-ltb)
 
 -- byte n of a list that has bytes of an event in the place from `at` on
 abbrev pub PutAt : ℕ → ℕ → List ℕ → List TaggedByte → List TaggedByte → Type 0
@@ -144,26 +133,13 @@ append-put event bytes old = subst (λ (new : List TaggedByte). PutAt event (len
 
 -- positions of a channel are places of its queue, further on by how many were taken
 le-shift : (t q n : ℕ) → t ≤ n → nat_le (t + q) n ≡ nat_le q (n - t)
-le-shift t q n l = by_test (nat_le q (n - t)) refl
-  where
-    by_test : (b : Bool) → nat_le q (n - t) ≡ b → nat_le (t + q) n ≡ b
-    by_test true e = let m = leb-true q (n - t) e in le-leb (t + q) n (omega arith)
-    by_test false e = let m = leb-false q (n - t) e in lt-leb (t + q) n (omega arith)
+le-shift t q n h1 = grind (arith, nat_tests, le-leb, leb-false, leb-true, lt-leb)
 
 lt-shift : (t q n : ℕ) → t ≤ n → nat_lt n (t + q) ≡ nat_lt (n - t) q
-lt-shift t q n l = by_test (nat_lt (n - t) q) refl
-  where
-    by_test : (b : Bool) → nat_lt (n - t) q ≡ b → nat_lt n (t + q) ≡ b
-    by_test true e = let m = ltb-true (n - t) q e in lt-ltb n (t + q) (omega arith)
-    by_test false e = let m = ltb-false (n - t) q e in le-ltb n (t + q) (omega arith)
+lt-shift t q n h1 = grind (arith, nat_tests, le-ltb, lt-ltb, ltb-false, ltb-true)
 
 within-shift : (t q len n : ℕ) → t ≤ n → within (t + q) len n ≡ within q len (n - t)
-within-shift t q len n l =
-    let sum : t + q + len ≡ t + (q + len) = omega arith in
-    let less : n - (t + q) ≡ n - t - q = omega arith in
-    ap (λ (m : ℕ). if nat_le (t + q) n && nat_lt n m then Some (n - (t + q)) else None) sum
-    ∙ (ap₂ (λ (x y : Bool). if x && y then Some (n - (t + q)) else None) (le-shift t q n l) (lt-shift t (q + len) n l)
-    ∙ ap (λ (m : ℕ). if nat_le q (n - t) && nat_lt (n - t) (q + len) then Some m else None) less)
+within-shift t q len n h1 = grind (arith, nat_tests, le-shift, lt-shift)
 
 channel-put : (event : ℕ) (bytes : List ℕ) (c : Channel) (n : ℕ) (h : TaggedByte) → at_position (put_behind c event bytes) n ≡ Some h → (put_byte event bytes (within (channel_end c) (length bytes) n) ≡ Some h) ⊎ ((within (channel_end c) (length bytes) n ≡ None) × (at_position c n ≡ Some h))
 channel-put event bytes c n h e = by_test (nat_lt n c.taken) refl e

@@ -1,16 +1,16 @@
 -- Changes of the kernel that put no byte anywhere and leave who lives, names and what files hold.
-use Rattle.std.proofs.Common.{◌≡◌, ℕ, ◌≤◌, List, length, refl, ap, ◌∙◌, sym, subst, Option, Some, None, IfSome, Bool, true, false, ◌<◌, ◌==◌, cond, arith, option_and_then, is_some, slice_get, slice_set, nat_lt}
+use Rattle.std.proofs.Common.{◌≡◌, ℕ, ◌≤◌, List, length, refl, ap, ◌∙◌, sym, subst, Option, Some, None, IfSome, Bool, true, false, ◌==◌, cond, arith, option_and_then, is_some, slice_get, slice_set, nat_lt}
+use Rattle.std.proofs.lemmas.Bool.Decides.{nat_tests}
 use Rattle.parts_model.specs.declared.open.Description.{Description}
-use Rattle.parts_model.specs.declared.open.Description.TheVariants.{Console, File, Reader, Writer, Connection, Listener, Device}
 use Rattle.parts_model.specs.declared.tagged.TaggedByte.{TaggedByte}
 use Rattle.parts_model.specs.Channel.{Channel}
 use Rattle.parts_model.specs.Files.{Files, Name, file_bytes, file_among}
 use Rattle.parts_model.specs.Numbered.{nth}
 use Rattle.parts_model.specs.Pipes as pipes
-use Rattle.parts_model.specs.Pipes.{Pipe, Pipes, End, ReadEnd, WriteEnd}
+use Rattle.parts_model.specs.Pipes.{Pipe, Pipes}
 use Rattle.parts_model.specs.Ports.{Ports}
 use Rattle.parts_model.specs.Processes as table
-use Rattle.parts_model.specs.Processes.{Process, Processes, Life, process}
+use Rattle.parts_model.specs.Processes.{Processes}
 use Rattle.acts_model.specs.Moved.{KernelByte, ConsoleByte, PipeByte, FileByte, StatusByte}
 use Rattle.arn_model.specs.Kernel.{Kernel, Opened, Handling}
 use Rattle.arn_model.specs.Sound.{FitsFiles, IsSound}
@@ -27,10 +27,6 @@ less-same new old e h k = sym e ∙ k
 pub less-none : (old : Option TaggedByte) → Less None old
 less-none old h k = absurd (cc)
 
-pub less-cond : (b : Bool) (x y z : Option TaggedByte) → Less x z → Less y z → Less (cond b x y) z
-less-cond true x y z h k = h
-less-cond false x y z h k = k
-
 -- a file has the bytes that it had, or it is gone
 abbrev pub FileSame : Option (List TaggedByte) → Option (List TaggedByte) → Type 0
 FileSame old None = Unit {0}
@@ -38,16 +34,10 @@ FileSame None (Some new) = ⊥
 FileSame (Some old) (Some new) = new ≡ old
 
 pub file-same : (o p : Option (List TaggedByte)) → p ≡ o → FileSame o p
-file-same None None e = tt
-file-same None (Some new) e = absurd (cc)
-file-same (Some old) None e = tt
-file-same (Some old) (Some new) e = cc
+file-same o p h1 = grind (arith, nat_tests)
 
 file-through : (o p q : Option (List TaggedByte)) → FileSame o p → FileSame p q → FileSame o q
-file-through o p None h k = tt
-file-through o None (Some q) h k = absurd k
-file-through None (Some p) (Some q) h k = absurd h
-file-through (Some o) (Some p) (Some q) h k = k ∙ h
+file-through o p q h1 h2 = grind (arith, nat_tests)
 
 pub last-refl : (files : Files) → FilesLast files files
 last-refl files = record { made = omega arith; gone = λ file made none. none }
@@ -57,9 +47,7 @@ last-trans old mid new h g =
     record { made = let a = h.made in let b = g.made in omega arith; gone = λ file made none. g.gone file (let a = h.made in omega arith) (h.gone file made none) }
 
 gone-same : (o p : Option (List TaggedByte)) → FileSame o p → o ≡ None → p ≡ None
-gone-same o None h none = refl
-gone-same None (Some p) h none = absurd h
-gone-same (Some o) (Some p) h none = absurd (cc)
+gone-same o p h1 h2 = grind (arith, nat_tests)
 
 pub record Quiet (old new : Kernel) : Type 0 where
   pub bytes : (b : KernelByte) → Less (kernel_byte new b) (kernel_byte old b)
@@ -75,17 +63,7 @@ pub quiet-refl : (k : Kernel) → Quiet k k
 quiet-refl k = record { last = last-refl k.files; bytes = λ b h e. e; lives = λ q. refl; names = refl; files = λ file. file-same (file_bytes k.files file) (file_bytes k.files file) refl; sound = λ s. s; grows = omega arith; few = omega arith }
 
 pub quiet-trans : (k l m : Kernel) → Quiet k l → Quiet l m → Quiet k m
-quiet-trans k l m h g =
-    record {
-      bytes = λ b x e. h.bytes b x (g.bytes b x e);
-      lives = λ q. g.lives q ∙ h.lives q;
-      names = g.names ∙ h.names;
-      files = λ file. file-through (file_bytes k.files file) (file_bytes l.files file) (file_bytes m.files file) (h.files file) (g.files file);
-      last = last-trans k.files l.files m.files h.last g.last;
-      sound = λ s. g.sound (h.sound s);
-      grows = let a = h.grows in let b = g.grows in omega arith;
-      few = let a = h.few in let b = g.few in omega arith;
-    }
+quiet-trans k l m h1 h2 = grind (arith, nat_tests, file-through, last-trans)
 
 -- files
 
@@ -96,28 +74,17 @@ pub record FilesQuiet (old new : Files) : Type 0 where
   pub named : (path : List ℕ) (file : ℕ) → file_among new.names path ≡ Some file → is_some (file_bytes old file) ≡ true → is_some (file_bytes new file) ≡ true
 
 lies-same : (position : ℕ) (o p : Option (List TaggedByte)) → FileSame o p → IfSome o (λ bytes. position ≤ length bytes) → IfSome p (λ bytes. position ≤ length bytes)
-lies-same position o None h k = tt
-lies-same position None (Some p) h k = absurd h
-lies-same position (Some o) (Some p) h k = subst (λ (bytes : List TaggedByte). position ≤ length bytes) (sym h) k
+lies-same position o p h1 h2 = grind (arith, nat_tests)
 
 fits-same : (old new : Files) → FilesQuiet old new → (what : Description) → FitsFiles old what → FitsFiles new what
-fits-same old new h Console f = tt
-fits-same old new h (File file position) f =
-    record { made = let e = h.made in let l = f.made in omega arith; inside = lies-same position (file_bytes old file) (file_bytes new file) (h.files file) f.inside }
-fits-same old new h (Reader pipe) f = tt
-fits-same old new h (Writer pipe) f = tt
-fits-same old new h (Connection reads writes) f = tt
-fits-same old new h (Listener port) f = tt
-fits-same old new h (Device device) f = tt
+fits-same old new h1 what h2 = grind (arith, nat_tests, lies-same)
 
 fits-if : (old new : Files) → FilesQuiet old new → (o : Option Opened) → IfSome o (λ o. FitsFiles old o.what) → IfSome o (λ o. FitsFiles new o.what)
 fits-if old new h None f = tt
 fits-if old new h (Some o) f = fits-same old new h o.what f
 
 file-less : (at : ℕ) (o p : Option (List TaggedByte)) → FileSame o p → Less (option_and_then (λ bytes. slice_get bytes at) p) (option_and_then (λ bytes. slice_get bytes at) o)
-file-less at o None h x e = absurd (cc)
-file-less at None (Some p) h x e = absurd h
-file-less at (Some o) (Some p) h x e = ap (λ (bytes : List TaggedByte). slice_get bytes at) (sym h) ∙ e
+file-less at o p h1 = grind (arith, nat_tests)
 
 files-bytes : (k : Kernel) (fs : Files) → FilesQuiet k.files fs → (b : KernelByte) → Less (kernel_byte (record k { files = fs }) b) (kernel_byte k b)
 files-bytes k fs h (ConsoleByte n) x e = e

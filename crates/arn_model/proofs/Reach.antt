@@ -1,5 +1,6 @@
 -- Bytes that a process reaches: a shorter range is reached too, and has the first of them.
-use Rattle.std.proofs.Common.{◌≡◌, ℕ, ◌+◌, ◌-◌, ◌<◌, ◌≤◌, List, [], ◌∷◌, length, take, drop, refl, ap, ap₂, ◌∙◌, sym, Option, Some, None, unwrap_or, Bool, true, false, ◌&&◌, not, if◌then◌else◌, arith, nat_lt, nat_le, is_some, option_map, length-take, length-drop, take-take, length-take-le}
+use Rattle.std.proofs.Common.{◌≡◌, ℕ, ◌+◌, ◌-◌, ◌<◌, ◌≤◌, List, [], ◌∷◌, length, take, drop, refl, ap, ◌∙◌, sym, Option, Some, None, Bool, true, false, not, if◌then◌else◌, arith, nat_lt, nat_le, is_some, option_map, length-take, length-drop, take-take, length-take-le}
+use Rattle.std.proofs.lemmas.Bool.Decides.{nat_tests}
 use Rattle.std.proofs.lemmas.Bool.{eq-eqb, and_parts, and_right, le-leb, lt-leb, leb-true}
 use Rattle.std.proofs.lemmas.List.{take_min}
 use Rattle.arn_base.specs.Window.{Window, is_whole_in, window_bytes, bytes_at}
@@ -10,10 +11,7 @@ use Rattle.acts_model.specs.Disagreement.{first_difference, differ_from, is_outs
 use Rattle.acts_model.specs.Views.{reach, bytes_in, can_reach, read}
 
 whole-shorter : (w : Window) (at len less : ℕ) → less ≤ len → is_whole_in w at len ≡ true → is_whole_in w at less ≡ true
-whole-shorter w at len less l e =
-    let parts = and_parts (nat_le w.from at) (nat_le (at + len) (w.from + length w.bytes)) e in
-    let b = leb-true (at + len) (w.from + length w.bytes) parts.1 in
-    ap₂ (λ (x y : Bool). x && y) parts.0 (le-leb (at + less) (w.from + length w.bytes) (omega arith))
+whole-shorter w at len less h1 h2 = grind (arith, nat_tests, and_parts, le-leb, leb-true)
 
 some-shorter : (ws : List Window) (at len less : ℕ) → less ≤ len → is_some (bytes_at ws at len) ≡ true → is_some (bytes_at ws at less) ≡ true
 some-shorter [] at len less l e = e
@@ -52,11 +50,7 @@ bytes-len (w ∷ ws) at len xs e = by_test (is_whole_in w at len) refl (bytes-le
     by_test false t ih e = ih e
 
 pub bytes-reached : (v : View) (at len : ℕ) → can_reach v at len ≡ true → bytes_in v at len ≡ Some (read v at len)
-bytes-reached v at len e = by_found (bytes_in v at len) e
-  where
-    by_found : (o : Option (List ℕ)) → is_some o ≡ true → o ≡ Some (unwrap_or o [])
-    by_found None e = absurd (cc)
-    by_found (Some xs) e = refl
+bytes-reached v at len h1 = grind (arith, nat_tests)
 
 pub read-len : (v : View) (at len : ℕ) → can_reach v at len ≡ true → length (read v at len) ≡ len
 read-len v at len e = bytes-len (reach v) at len (read v at len) (bytes-reached v at len e)
@@ -117,6 +111,4 @@ gave-first v at len n fits e =
     ∙ ap (λ (ys : List ℕ). Some ys) (ap (λ (i : ℕ). take i xs) cut ∙ take_min n xs))
 
 pub gave-all : (v : View) (at len : ℕ) → can_reach v at len ≡ true → differ_from (read v at len) (bytes_in v at (length (read v at len))) ≡ None
-gave-all v at len e =
-    differ-same (read v at len) (bytes_in v at (length (read v at len)))
-    (λ some. ap (λ (i : ℕ). bytes_in v at i) (read-len v at len e) ∙ bytes-reached v at len e)
+gave-all v at len h1 = grind (arith, nat_tests, bytes-reached, differ-same, read-len)

@@ -1,5 +1,6 @@
 -- What every row of the table of calls tells, built or not.
-use Rattle.std.proofs.Common.{◌≡◌, ℕ, refl, sym, subst, Bool, true, false, ◌==◌, if◌then◌else◌}
+use Rattle.std.proofs.Common.{◌≡◌, ℕ, refl, subst, Bool, true, false, ◌==◌, if◌then◌else◌, arith}
+use Rattle.std.proofs.lemmas.Bool.Decides.{nat_tests}
 use Rattle.std.proofs.lemmas.Bool.{eqb-true}
 use Rattle.parts_model.specs.declared.calls.TheConstants.{EXIT, FORK, EXEC, WAIT, GETPID, KILL, SIGACTION, SIGRETURN, OPEN, CLOSE, READ, WRITE, SEEK, DUP, PIPE, UNLINK, SHM, LISTEN, CONNECT, ACCEPT, DEVICE, YIELD}
 use Rattle.parts_model.specs.declared.refusals.TheConstants.{NO_SUCH_CALL}
@@ -17,13 +18,7 @@ use Rattle.arn_model.proofs.TransferTells.{read-tells, write-tells}
 
 -- the row of one number, or that of another
 pick : (m : Machine) (pid : ℕ) (v : View) (n c : ℕ) (here other : Request) → At m pid v n → (At m pid v c → RequestTells m pid v c here) → ((n == c) ≡ false → RequestTells m pid v n other) → RequestTells m pid v n (if n == c then here else other)
-pick m pid v n c here other at tells next = by_test (n == c) refl
-  where
-    by_test : (b : Bool) → (n == c) ≡ b → RequestTells m pid v n (if b then here else other)
-    by_test true e =
-        let same = eqb-true n c e in
-        subst (λ (i : ℕ). RequestTells m pid v i here) (sym same) (tells (subst (λ (i : ℕ). At m pid v i) same at))
-    by_test false e = next e
+pick m pid v n c here other h1 h2 h3 = grind (arith, nat_tests, eqb-true)
 
 pub row-tells : (m : Machine) (pid : ℕ) (v : View) (n : ℕ) → At m pid v n → RequestTells m pid v n (row n m pid v)
 unfolding row

@@ -1,26 +1,25 @@
 -- What the steps of every run tell.
-use Rattle.std.proofs.lemmas.List.{length-replicate}
+use Rattle.std.proofs.lemmas.List.{length-replicate, length_push}
+use Rattle.std.proofs.lemmas.Bool.Decides.{nat_tests}
 use Rattle.parts_model.specs.declared.limits.TheConstants.{WINDOW_LEN}
 use Rattle.parts_model.specs.Memory as memory
-use Rattle.std.proofs.Common.{◌≡◌, ℕ, ◌+◌, ◌≤◌, List, [], ◌∷◌, ◌++◌, length, refl, ap, ◌∙◌, sym, subst, Option, Some, None, Bool, true, false, ◌==◌, cond, if◌then◌else◌, arith, nat_lt, lt_of_le_of_lt, is_some, zero, suc}
+use Rattle.std.proofs.Common.{◌≡◌, ℕ, ◌+◌, ◌≤◌, List, [], ◌∷◌, ◌++◌, length, refl, ap, ◌∙◌, sym, subst, Option, Some, None, Bool, true, false, ◌==◌, cond, if◌then◌else◌, arith, nat_lt, lt_of_le_of_lt, zero, suc}
 use Rattle.std.proofs.lemmas.Bool.{eq-eqb, ltb-false}
-use Rattle.std.proofs.lemmas.List.{length_push}
 use Rattle.parts_model.specs.declared.open.Description.TheVariants.{Console}
 use Rattle.parts_model.specs.declared.tagged.TaggedByte.{TaggedByte}
 use Rattle.parts_model.specs.Files.{find_file, file_bytes}
 use Rattle.parts_model.specs.Image.{is_image}
 use Rattle.parts_model.specs.Processes as table
-use Rattle.parts_model.specs.Processes.{Process}
 use Rattle.parts_model.specs.Tagged.{held_bytes, values}
 use Rattle.acts_model.specs.Acts.{Starts, unborn, done, done_by}
-use Rattle.acts_model.specs.Bodies.{Body, Bodies, View, memory_at, found, seen, put}
+use Rattle.acts_model.specs.Bodies.{Bodies, View, memory_at, found, seen, put}
 use Rattle.arn_model.specs.Kernel as kernel
 use Rattle.arn_model.specs.Kernel.{Kernel, Machine, at_first, also_held, placed, opens, no_handling}
 use Rattle.arn_model.specs.Laws as laws
 use Rattle.arn_model.specs.Run.{machine_from, Input, File, Boot, Typed, Unplug, Slice, is_booted, file_step, typed_step, unplug_step, boot_step, can_add, boot_from, boot_found, may_unplug, input_steps, after_input, steps_from, run}
 use Rattle.arn_model.specs.Step.{Step}
 use Rattle.arn_model.specs.Sound.{IsSound, IsSoundMachine}
-use Rattle.arn_model.specs.Tells.{lives, StepTells, Boots, Adds, Types, Unplugs, HasNumbers, Along}
+use Rattle.arn_model.specs.Tells.{lives, StepTells, Boots, Adds, Types, HasNumbers, Along}
 use Rattle.arn_model.specs.Turn.{after_steps, turn, steps_of, is_possible}
 use Rattle.arn_model.proofs.Closing.{lives_in, quiet-opens, quiet-also_held, quiet-placed}
 use Rattle.arn_model.proofs.Effects.{forked-process}
@@ -51,11 +50,7 @@ abbrev first_made : Kernel → Kernel
 first_made k = record k { processes = table.booted k.processes; handling = k.handling ++ Some no_handling ∷ [] }
 
 first-lives : (k : Kernel) (q : ℕ) → lives (first_made k) q ≡ cond (q == length k.processes + 1) true (lives k q)
-first-lives k q = ap lives_in (forked-process k.processes (Some (record { life = table.Live; parent = None; descriptors = table.none_open })) q) ∙ by_test (q == length k.processes + 1)
-  where
-    by_test : (b : Bool) → lives_in (cond b (Some (record { life = table.Live; parent = None; descriptors = table.none_open })) (table.process k.processes q)) ≡ cond b true (lives k q)
-    by_test true = refl
-    by_test false = refl
+first-lives k q = grind (arith, nat_tests, forked-process, lives_in)
 
 booted-others : (k : Kernel) (q : ℕ) → nat_lt 0 (length k.processes) ≡ false → (q == 1) ≡ false → lives (kernel.booted k) q ≡ lives k q
 booted-others k q e t =
@@ -151,17 +146,7 @@ typed-good m bytes s e =
     }
 
 unplug-good : (m : Machine) (device : ℕ) → MachineSound m → may_unplug m device ≡ true → StepGood m (unplug_step m device)
-unplug-good m device s e =
-    record {
-      sound =
-          record {
-            kernel = record { fits = s.kernel.fits; named = s.kernel.named; there = s.kernel.there };
-            bodies = fit-same m.bodies (lives m.kernel) (lives (unplug_step m device).after.kernel) s.bodies (λ q. refl);
-          };
-      grows = omega arith;
-      few = omega arith;
-      tells = λ few. Unplugs device e refl;
-    }
+unplug-good m device h1 h2 = grind (arith, nat_tests, fit-same)
 
 pub input-good : (m : Machine) (i : Input) → MachineSound m → Along StepGood m (input_steps m i)
 input-good m (File path bytes) s = by_test (can_add m path bytes) refl
@@ -204,11 +189,7 @@ none-lives (suc i) = refl
 
 pub at_first-sound : MachineSound at_first
 unfolding memory_at found
-at_first-sound =
-    record {
-      kernel = record { fits = λ n. tt; named = λ path file e. absurd (cc); there = λ path file e. absurd (cc) };
-      bodies = record { alive = λ q. ap (λ (o : Option Body). is_some o) (nobody-at q) ∙ none-lives q; small = λ k. omega arith };
-    }
+at_first-sound = grind (arith, nat_tests, nobody-at, none-lives)
 
 along-grows : (m : Machine) (steps : List Step) → Along StepGood m steps → length m.kernel.processes ≤ length (after_steps m steps).kernel.processes
 along-grows m [] h = omega arith

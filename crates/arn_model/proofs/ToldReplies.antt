@@ -3,7 +3,7 @@ use Rattle.std.proofs.Common.{◌≡◌, ℕ, ◌==◌, ◌≤◌, ◌&&◌, Boo
 use Rattle.std.proofs.lemmas.Bool.Decides.{nat_tests}
 use Rattle.std.proofs.lemmas.List.{take_all, take_min}
 use Rattle.arn_base.specs.declared.records.Extra.TheVariants as extra
-use Rattle.rv64_model.specs.Instruction.{Effect, Next, Call, End}
+use Rattle.rv64_model.specs.Instruction.{Effect}
 use Rattle.parts_model.specs.declared.calls.TheConstants.{DEVICE}
 use Rattle.parts_model.specs.declared.limits.TheConstants.{MOST_DESCRIPTORS}
 use Rattle.parts_model.specs.Replies as replies
@@ -15,18 +15,16 @@ use Rattle.arn_model.specs.ChannelCalls.{device_opened}
 use Rattle.arn_model.specs.Doing.{Doing, Question, Here, Reads, Writes, Request, Waits, Does, Asks}
 use Rattle.arn_model.specs.Kernel.{Machine, next_descriptor}
 use Rattle.arn_model.specs.Laws.{reply_told}
-use Rattle.arn_model.specs.Row.{answered, does, request}
+use Rattle.arn_model.specs.Row.{answered, does}
 use Rattle.arn_model.specs.Step.{call_step, last_by}
 use Rattle.arn_model.specs.TransferCalls.{giving, device_read, device_write}
 use Rattle.arn_model.specs.Turn.{last_in}
-use Rattle.arn_model.proofs.FewDescriptors.{Few, next-small}
-use Rattle.arn_model.proofs.FineRequests.{Fine, FineQuestion, request-Fine}
+use Rattle.arn_model.proofs.FewDescriptors.{Few, next-small, request-few}
+use Rattle.arn_model.proofs.FineRequests.{Fine, FineQuestion}
 
 -- a device that was found is told by the call's number and its small result
 found-told : (m : Machine) (pid device number result : ℕ) → (number == DEVICE) ≡ true → result ≤ MOST_DESCRIPTORS → is_here (cond ((number == DEVICE) && is_success result) (Some IsHere) None) ≡ true
-found-told m pid device number result is small =
-    let both : ((number == DEVICE) && is_success result) ≡ true = grind (arith, nat_tests) in
-    ap (λ (b : Bool). is_here (cond b (Some IsHere) None)) both
+found-told m pid device number result h1 h2 = grind (arith, nat_tests)
 
 here-told : (m : Machine) (pid device number : ℕ) (b : Bool) → (number == DEVICE) ≡ true → Few m.kernel.processes → let d = device_opened m pid device b in device_opened m pid device (is_here (reply_in number (result_of d.act) d.extra)) ≡ d
 here-told m pid device number true is few =
@@ -66,16 +64,14 @@ answered-told m pid v number (Here device) reply is few = here-told m pid device
 answered-told m pid v number (Reads device at len) reply is few = read-told m device at len number reply
 answered-told m pid v number (Writes device at len) reply is few = write-told m device at len number (read v at len) reply
 
-called-told : (m : Machine) (pid : ℕ) (v : View) (reply : Option Answered) (r : Request) → Fine (call_number v.body.cpu) r → Few m.kernel.processes → let step = option_map (call_step m pid v) (does m pid v reply r) in option_map (call_step m pid v) (does m pid v (reply_told step) r) ≡ step
+called-told : (m : Machine) (pid : ℕ) (v : View) (reply : Option Answered) (r : Request) → Fine (call_number v.body.cpu) Few r → Few m.kernel.processes → let step = option_map (call_step m pid v) (does m pid v reply r) in option_map (call_step m pid v) (does m pid v (reply_told step) r) ≡ step
 unfolding Fine
 called-told m pid v reply Waits fine few = refl
 called-told m pid v reply (Does d) fine few = refl
 called-told m pid v reply (Asks question) fine few = ap (λ (d : Doing). Some (call_step m pid v d)) (answered-told m pid v (call_number v.body.cpu) question reply fine few)
 
 last_by-told : (m : Machine) (pid : ℕ) (v : View) (reply : Option Answered) (e : Effect) → Few m.kernel.processes → last_by m pid v (reply_told (last_by m pid v reply e)) e ≡ last_by m pid v reply e
-last_by-told m pid v reply (Next instr cpu memory) few = refl
-last_by-told m pid v reply Call few = called-told m pid v reply (request m pid v) (request-Fine m pid v few) few
-last_by-told m pid v reply (End status) few = refl
+last_by-told m pid v reply e h1 = grind (arith, nat_tests, called-told, request-few)
 
 last_in-told : (m : Machine) (pid : ℕ) (reply : Option Answered) (o : Option View) → Few m.kernel.processes → last_in m pid (reply_told (last_in m pid reply o)) o ≡ last_in m pid reply o
 last_in-told m pid reply None few = refl

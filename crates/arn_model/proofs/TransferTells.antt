@@ -1,5 +1,6 @@
 -- What the calls that move bytes tell.
 use Rattle.std.proofs.Common.{◌≡◌, ℕ, ◌+◌, ◌-◌, ◌<◌, ◌≤◌, min, List, [], ◌∷◌, length, take, drop, refl, ap, ◌∙◌, sym, subst, Option, Some, None, IfSome, unwrap_or, Bool, true, false, ◌==◌, not, if◌then◌else◌, arith, nat_le, option_map, option_and_then, slice_get, length-take, length-drop, take_all, length-set}
+use Rattle.std.proofs.lemmas.Bool.Decides.{nat_tests}
 use Rattle.std.proofs.lemmas.Bool.{eqb-false, and_from, le-leb, leb-true, leb-false, not-false}
 use Rattle.std.proofs.lemmas.List.{length-map}
 use Rattle.arn_base.specs.declared.machine.Cpu.{Cpu}
@@ -9,7 +10,7 @@ use Rattle.parts_model.specs.declared.calls.TheConstants.{EXIT, READ, WRITE}
 use Rattle.parts_model.specs.declared.limits.TheConstants.{MOST_TRANSFER, MOST_FILE_BYTES}
 use Rattle.parts_model.specs.declared.open.Description.{Description}
 use Rattle.parts_model.specs.declared.open.Description.TheVariants as description
-use Rattle.parts_model.specs.declared.refusals.TheConstants.{DEVICE_FAULT, BAD_DESCRIPTOR, NO_ROOM, BAD_ADDRESS, NO_DEVICE, BROKEN_PIPE}
+use Rattle.parts_model.specs.declared.refusals.TheConstants.{DEVICE_FAULT, BAD_DESCRIPTOR, NO_ROOM, BAD_ADDRESS, NO_DEVICE}
 use Rattle.parts_model.specs.declared.tagged.TaggedByte.{TaggedByte}
 use Rattle.parts_model.specs.Channel.{Channel, front, without_front, channel_end}
 use Rattle.parts_model.specs.Files.{file_bytes, fitting, read_from, written, rewritten}
@@ -25,7 +26,7 @@ use Rattle.acts_model.specs.Records.{NoLife, NoName, Written, held_len, plain_le
 use Rattle.acts_model.specs.Told.{write_act}
 use Rattle.acts_model.specs.Views.{argument, can_reach, read, error}
 use Rattle.arn_model.specs.Doing as doing
-use Rattle.arn_model.specs.Doing.{Doing, Request, Waits, Does, Asks, returns, refuse, refused, unless_refused}
+use Rattle.arn_model.specs.Doing.{Request, Does, Asks, returns, refuse, unless_refused}
 use Rattle.arn_model.specs.Kernel.{Kernel, Machine, description_of, what_is, with_description}
 use Rattle.arn_model.specs.Row.{answered}
 use Rattle.arn_model.specs.Tells.{kernel_byte, at_position, Spans}
@@ -239,18 +240,10 @@ record Gave (v : View) (bytes : List ℕ) (more : Extra) (writing : Option Writt
   pub gives : give_in more ≡ None
 
 giving-done : (m : Machine) (pid : ℕ) (v : View) (bytes : List ℕ) (more : Extra) (outgoing : Option Range) (writing : Option Written) (k : Kernel) → At m pid v WRITE → Gave v bytes more writing → Spans outgoing bytes → KernelTells m.kernel m.events bytes outgoing NoLife NoName writing k → DoneCall m pid v WRITE (giving (argument v.body.cpu 1) bytes more outgoing k)
-giving-done m pid v bytes more outgoing writing k at g spans t =
-    done-call m pid v WRITE (giving (argument v.body.cpu 1) bytes more outgoing k) NoName writing at
-    (λ few. record { told = g.told; fine = g.fine; forks = tt; length = g.len; comes = tt; receives = g.gives; spans = spans; life = refl; name = g.name; put = g.put })
-    t
+giving-done m pid v bytes more outgoing writing k h1 h2 h3 h4 = grind (arith, nat_tests, done-call)
 
 write-console-tells : (m : Machine) (pid : ℕ) (v : View) (len : ℕ) → At m pid v WRITE → can_reach v (argument v.body.cpu 1) len ≡ true → RequestTells m pid v WRITE (write_console m (argument v.body.cpu 1) (read v (argument v.body.cpu 1) len))
-write-console-tells m pid v len at reach =
-    let bytes = read v (argument v.body.cpu 1) len in
-    giving-done m pid v bytes (extra.Console bytes) None None m.kernel at
-    (record { told = refl; fine = gave-all v (argument v.body.cpu 1) len reach; len = refl; put = refl; name = refl; gives = refl })
-    tt
-    (quiet-tells m.kernel m.events bytes m.kernel (quiet-refl m.kernel))
+write-console-tells m pid v len h1 h2 = grind (arith, nat_tests, gave-all, giving-done, quiet-refl, quiet-tells)
 
 -- what fits is taken whole
 fitting-fits : (position : ℕ) (bytes : List ℕ) → length (take (fitting position (length bytes)) bytes) ≤ fitting position (length (take (fitting position (length bytes)) bytes))
@@ -325,16 +318,7 @@ piped-done m pid v pipe len p at reach some most there has =
     sizes room len all taken some most whole cut ne = (omega arith, omega arith, omega arith, omega arith)
 
 write-pipe-tells : (m : Machine) (pid : ℕ) (v : View) (pipe len : ℕ) → At m pid v WRITE → can_reach v (argument v.body.cpu 1) len ≡ true → 0 < len → len ≤ MOST_TRANSFER → (o : Option Pipe) → nth m.kernel.pipes pipe ≡ o → RequestTells m pid v WRITE (write_pipe m pipe (argument v.body.cpu 1) (read v (argument v.body.cpu 1) len) o)
-write-pipe-tells m pid v pipe len at reach some most None e = refused-tells m pid v WRITE BAD_DESCRIPTOR at refl refl
-write-pipe-tells m pid v pipe len at reach some most (Some p) e =
-    let a = argument v.body.cpu 1 in
-    let bytes = read v a len in
-    unless-refused m pid v WRITE (refuse BROKEN_PIPE (not p.has_reader) ∷ []) (if room p == 0 then Waits else Does (put_into_pipe m pipe a p (take (room p) bytes))) at refl refl
-    (λ none. by_room (room p == 0) refl)
-  where
-    by_room : (b : Bool) → (room p == 0) ≡ b → RequestTells m pid v WRITE (if b then Waits else Does (put_into_pipe m pipe (argument v.body.cpu 1) p (take (room p) (read v (argument v.body.cpu 1) len))))
-    by_room true t = tt
-    by_room false t = piped-done m pid v pipe len p at reach some most e t
+write-pipe-tells m pid v pipe len h1 h2 h3 h4 o h5 = grind (arith, nat_tests, piped-done, refused-tells, unless-refused)
 
 write-absent-done : (m : Machine) (pid : ℕ) (v : View) → At m pid v WRITE → DoneCall m pid v WRITE (absent m.kernel)
 write-absent-done m pid v at = done-plain m pid v WRITE (error NO_DEVICE) extra.Absent m.kernel at (record { told = refl; length = refl; life = refl; put = refl; gives = refl }) refl (quiet-refl m.kernel)

@@ -1,28 +1,22 @@
 -- A turn is the same with the reply that its last record names, from each machine that a run reaches.
-use Rattle.std.proofs.Common.{◌≡◌, ℕ, zero, suc, ◌+◌, ◌++◌, ◌==◌, Bool, true, false, cond, nat_lt, List, [], ◌∷◌, length, Option, None, Some, option_map, option_to_list, refl, sym, ap, subst, ◌∙◌}
-use Rattle.rv64_model.specs.Instruction.{Effect, Next, Call, End}
+use Rattle.std.proofs.Common.{◌≡◌, ℕ, zero, suc, ◌+◌, ◌==◌, Bool, true, false, cond, nat_lt, List, [], ◌∷◌, length, Option, None, Some, option_to_list, refl, sym, subst, arith}
+use Rattle.std.proofs.lemmas.Bool.Decides.{nat_tests}
+use Rattle.rv64_model.specs.Instruction.{Effect}
 use Rattle.parts_model.specs.declared.tagged.TaggedByte.{TaggedByte}
 use Rattle.parts_model.specs.Files.{find_file, file_bytes}
 use Rattle.parts_model.specs.Image.{is_image}
-use Rattle.parts_model.specs.declared.open.Description.TheVariants as description
-use Rattle.parts_model.specs.Replies as replies
-use Rattle.parts_model.specs.Replies.{Answered, ReadReply, WriteReply}
+use Rattle.parts_model.specs.Replies.{Answered}
 use Rattle.parts_model.specs.Tagged.{values}
 use Rattle.acts_model.specs.Acts.{Dies}
 use Rattle.acts_model.specs.Bodies.{View, seen}
 use Rattle.acts_model.specs.Told.{delivery_act}
-use Rattle.acts_model.specs.Views.{read, call_number, stands_at}
-use Rattle.arn_model.specs.ChannelCalls.{device_opened}
-use Rattle.arn_model.specs.Doing.{Question, Here, Reads, Writes, Request, Waits, Does, Asks}
+use Rattle.acts_model.specs.Views.{stands_at}
 use Rattle.arn_model.specs.Kernel.{Kernel, Machine, at_first, status_at}
 use Rattle.arn_model.specs.Laws.{ReplyIsTold}
-use Rattle.arn_model.specs.Row.{answered, does, request}
-use Rattle.arn_model.specs.Run.{Input, File, Boot, Typed, Unplug, Slice, after_input, machine_from, machine_after, is_booted, can_add, may_unplug, boot_found, boot_from, boot_step, file_step, typed_step, unplug_step}
-use Rattle.arn_model.specs.Step.{Step, ending, only, without_signal, call_step, plain_by, last_by, delivery_of, due_signal, handler, waits}
-use Rattle.arn_model.specs.TransferCalls.{device_read, device_write}
-use Rattle.arn_model.specs.Turn.{Turn, plains, plain_in, steps_then, steps_of, turn, delivery_in, after_first, after_steps, last_in, is_possible}
-use Rattle.arn_model.proofs.FewDescriptors.{Few, few-none, opens-few, ended-few, booted-few}
-use Rattle.arn_model.proofs.FineRequests.{Fine, request-Fine}
+use Rattle.arn_model.specs.Run.{Input, after_input, machine_from, machine_after, boot_found, boot_from, boot_step}
+use Rattle.arn_model.specs.Step.{Step, ending, only, without_signal, plain_by, last_by, delivery_of, due_signal, handler, waits}
+use Rattle.arn_model.specs.Turn.{Turn, plains, plain_in, steps_then, steps_of, turn, delivery_in, after_first, after_steps, last_in}
+use Rattle.arn_model.proofs.FewDescriptors.{Few, few-none, ended-few, booted-few, called-few, request-few}
 use Rattle.arn_model.proofs.RunLemmas.{after_steps-append}
 use Rattle.arn_model.proofs.ToldReplies.{last-told}
 
@@ -46,19 +40,15 @@ SameKernel m (Some s) = s.after.kernel ≡ m.kernel
 
 plain_by-same : (m : Machine) (pid : ℕ) (v : View) (e : Effect) → SameKernel m (plain_by m pid v e)
 unfolding SameKernel
-plain_by-same m pid v (Next instr cpu memory) = refl
-plain_by-same m pid v Call = tt
-plain_by-same m pid v (End status) = tt
+plain_by-same m pid v e = grind (arith, nat_tests)
 
 plain_in-same : (m : Machine) (pid : ℕ) (o : Option View) → SameKernel m (plain_in m pid o)
 unfolding SameKernel
-plain_in-same m pid None = tt
-plain_in-same m pid (Some v) = plain_by-same m pid v (stands_at v)
+plain_in-same m pid o = grind (arith, nat_tests, plain_by-same)
 
 then-same : (m : Machine) (o : Option Step) (rest : Machine → List Step) → SameKernel m o → ((m : Machine) → (after_steps m (rest m)).kernel ≡ m.kernel) → (after_steps m (steps_then o rest)).kernel ≡ m.kernel
 unfolding SameKernel
-then-same m None rest one same = refl
-then-same m (Some s) rest one same = same s.after ∙ one
+then-same m o rest h1 h2 = grind (arith, nat_tests)
 
 plains-same : (n pid : ℕ) (m : Machine) → (after_steps m (plains n pid m)).kernel ≡ m.kernel
 plains-same zero pid m = refl
@@ -69,45 +59,10 @@ plains-few n pid m few = subst (λ (k : Kernel). Few k.processes) (sym (plains-s
 
 -- so the last step takes place where they are
 pub turn-told : (n pid : ℕ) (reply : Option Answered) (m : Machine) → Few m.kernel.processes → ReplyIsTold n pid reply m
-turn-told n pid reply m few =
-    let delivery = delivery_in m pid (seen m.bodies pid) in
-    let m' = after_first m delivery in
-    let plain = plains n pid m' in
-    let m'' = after_steps m' plain in
-    ap (λ (last : Option Step). record { delivery = delivery; plain = plain; last = last })
-    (last-told (nat_lt (length plain) n) m'' pid reply (seen m''.bodies pid) (plains-few n pid m' (delivery-few m pid (seen m.bodies pid) few)))
-
--- a call leaves them few, by any reply
-opened-few : (m : Machine) (pid device : ℕ) (b : Bool) → Few m.kernel.processes → Few (device_opened m pid device b).kernel.processes
-opened-few m pid device true few = opens-few pid (description.Device device) m.kernel few
-opened-few m pid device false few = few
-
-read-few : (m : Machine) (device at : ℕ) (reply : ReadReply) → Few m.kernel.processes → Few (device_read m device at reply).kernel.processes
-read-few m device at (replies.Reads bytes) few = few
-read-few m device at replies.ReadFails few = few
-read-few m device at replies.ReadAbsent few = few
-
-write-few : (m : Machine) (device at : ℕ) (bytes : List ℕ) (reply : WriteReply) → Few m.kernel.processes → Few (device_write m device at bytes reply).kernel.processes
-write-few m device at bytes (replies.Takes n) few = few
-write-few m device at bytes replies.WriteFails few = few
-write-few m device at bytes replies.WriteAbsent few = few
-
-answered-few : (m : Machine) (pid : ℕ) (v : View) (question : Question) (reply : Option Answered) → Few m.kernel.processes → Few (answered m pid v question reply).kernel.processes
-unfolding answered
-answered-few m pid v (Here device) reply few = opened-few m pid device (replies.is_here reply) few
-answered-few m pid v (Reads device at len) reply few = read-few m device at (replies.to_read len reply) few
-answered-few m pid v (Writes device at len) reply few = write-few m device at (read v at len) (replies.to_write len reply) few
-
-called-few : (m : Machine) (pid : ℕ) (v : View) (reply : Option Answered) (r : Request) → Fine (call_number v.body.cpu) r → Few m.kernel.processes → Few (after_first m (option_map (call_step m pid v) (does m pid v reply r))).kernel.processes
-unfolding Fine
-called-few m pid v reply Waits fine few = few
-called-few m pid v reply (Does d) fine few = fine
-called-few m pid v reply (Asks question) fine few = answered-few m pid v question reply few
+turn-told n pid reply m h1 = grind (arith, nat_tests, delivery-few, last-told, plains-few)
 
 last_by-few : (m : Machine) (pid : ℕ) (v : View) (reply : Option Answered) (e : Effect) → Few m.kernel.processes → Few (after_first m (last_by m pid v reply e)).kernel.processes
-last_by-few m pid v reply (Next instr cpu memory) few = few
-last_by-few m pid v reply Call few = called-few m pid v reply (request m pid v) (request-Fine m pid v few) few
-last_by-few m pid v reply (End status) few = ended-few pid (status_at m.events status) m.kernel few
+last_by-few m pid v reply e h1 = grind (arith, nat_tests, called-few, ended-few, request-few)
 
 last_in-few : (m : Machine) (pid : ℕ) (reply : Option Answered) (o : Option View) → Few m.kernel.processes → Few (after_first m (last_in m pid reply o)).kernel.processes
 last_in-few m pid reply None few = few
@@ -123,11 +78,7 @@ first-steps m None = refl
 first-steps m (Some s) = refl
 
 turn-steps : (m : Machine) (t : Turn) → after_steps m (steps_of t) ≡ after_first (after_steps (after_first m t.delivery) t.plain) t.last
-turn-steps m t =
-    after_steps-append m (option_to_list t.delivery) (t.plain ++ option_to_list t.last)
-    ∙ ap (λ (x : Machine). after_steps x (t.plain ++ option_to_list t.last)) (first-steps m t.delivery)
-    ∙ after_steps-append (after_first m t.delivery) t.plain (option_to_list t.last)
-    ∙ first-steps (after_steps (after_first m t.delivery) t.plain) t.last
+turn-steps m t = grind (arith, nat_tests, after_steps-append, first-steps)
 
 turn-few : (n pid : ℕ) (reply : Option Answered) (m : Machine) → Few m.kernel.processes → Few (after_steps m (steps_of (turn n pid reply m))).kernel.processes
 turn-few n pid reply m few =
@@ -156,11 +107,7 @@ boot-few m path true few = few
 boot-few m path false few = boot_found-few m path (find_file m.kernel.files path) few
 
 input-few : (m : Machine) (i : Input) → Few m.kernel.processes → Few (after_input m i).kernel.processes
-input-few m (File path bytes) few = if-steps-few m (can_add m path bytes) (file_step m path bytes ∷ []) few few
-input-few m (Boot path) few = boot-few m path (is_booted m) few
-input-few m (Typed bytes) few = if-steps-few m (is_booted m) (typed_step m bytes ∷ []) few few
-input-few m (Unplug device) few = if-steps-few m (may_unplug m device) (unplug_step m device ∷ []) few few
-input-few m (Slice pid count reply) few = if-steps-few m (is_possible m pid count) (steps_of (turn count pid reply m)) few (turn-few count pid reply m few)
+input-few m i h1 = grind (arith, nat_tests, boot-few, if-steps-few, turn-few)
 
 machine_from-few : (m : Machine) (inputs : List Input) → Few m.kernel.processes → Few (machine_from m inputs).kernel.processes
 machine_from-few m [] few = few

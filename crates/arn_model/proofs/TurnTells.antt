@@ -1,5 +1,6 @@
 -- What the steps of a turn tell: a delivery, instructions, and a call or an end by fault.
-use Rattle.std.proofs.Common.{◌≡◌, ℕ, zero, suc, ◌+◌, ◌≤◌, List, [], ◌∷◌, ◌++◌, length, refl, ap, ◌∙◌, sym, subst, Option, Some, None, IfSome, Bool, true, false, ◌==◌, not, if◌then◌else◌, arith, option_map, nat_lt}
+use Rattle.std.proofs.Common.{◌≡◌, ℕ, zero, suc, ◌+◌, ◌≤◌, List, [], ◌∷◌, ◌++◌, length, refl, ap, ◌∙◌, sym, Option, Some, None, IfSome, Bool, true, false, ◌==◌, not, if◌then◌else◌, arith, option_map}
+use Rattle.std.proofs.lemmas.Bool.Decides.{nat_tests}
 use Rattle.std.specs.Prelude.{option_to_list}
 use Rattle.std.proofs.lemmas.Bool.{eq-eqb}
 use Rattle.arn_base.specs.declared.machine.Cpu.{Cpu}
@@ -14,12 +15,10 @@ use Rattle.acts_model.specs.Acts.{Delivers, Faults, Dies}
 use Rattle.acts_model.specs.Bodies.{View, seen}
 use Rattle.acts_model.specs.Disagreement.{status_wrong, wrong_if}
 use Rattle.acts_model.specs.Records.{EndsLife, NoLife, NoName, lives_after}
-use Rattle.acts_model.specs.Views.{stands_at, call_number}
+use Rattle.acts_model.specs.Views.{stands_at, call_number, after_instr}
 use Rattle.arn_model.specs.Doing.{Doing, Request, Waits, Does, Asks}
 use Rattle.arn_model.specs.Kernel.{Machine}
 use Rattle.arn_model.specs.Row.{request, does, answered}
-use Rattle.parts_model.specs.Signals.{with_pending}
-use Rattle.acts_model.specs.Views.{after_instr}
 use Rattle.arn_model.specs.Step.{Step, plain_step, event_step, call_step, ending, last_by, plain_by, waits, due_signal, handler, without_signal, only, delivering, delivery_of}
 use Rattle.arn_model.specs.Sound.{IsSound}
 use Rattle.arn_model.specs.Tells.{lives, EventTells, StepTells, Runs, Happens, HasNumbers, Along}
@@ -133,31 +132,7 @@ death-done m pid v signal address cut s e none =
         }
 
 handled-done : (m : Machine) (pid : ℕ) (v : View) (signal address : ℕ) (cut : Bool) → MachineSound m → seen m.bodies pid ≡ Some v → (address == 0) ≡ false → Done m pid v (only (Delivers signal address cut) (without_signal pid signal m.kernel)) (entry.Signal pid signal cut address)
-handled-done m pid v signal address cut s e some =
-    let d = only (Delivers signal address cut) (without_signal pid signal m.kernel) in
-    done-event m pid v d (entry.Signal pid signal cut address) s (record { told = told })
-    (quiet-tells m.kernel m.events [] (without_signal pid signal m.kernel) (quiet-with_handling pid (λ h. record h { pending = with_pending h.pending signal false }) m.kernel))
-  where
-    told : (k : KernelTells m.kernel m.events [] None NoLife NoName None (without_signal pid signal m.kernel)) → EventTells m pid v (only (Delivers signal address cut) (without_signal pid signal m.kernel)) (entry.Signal pid signal cut address)
-    told k =
-        record {
-          inner = refl;
-          process = refl;
-          seen = e;
-          told = ap (λ (b : Bool). Some (if b then Dies signal cut else Delivers signal address cut)) some;
-          right = refl;
-          forks = tt;
-          length = ap (λ (b : Bool). if b then 1 else 0) some;
-          comes = tt;
-          receives = refl;
-          spans = tt;
-          holds = k.holds;
-          lives = λ q. k.living q ∙ ap (λ (b : Bool). lives_after (if b then EndsLife pid else NoLife) q (lives m.kernel q)) (sym some);
-          names = k.names;
-          files = λ file. kept-after m.events file (entry.Signal pid signal cut address) None refl (file_bytes m.kernel.files file) (file_bytes m.kernel.files file) (k.kept file);
-          last = k.last;
-          writes = tt;
-        }
+handled-done m pid v signal address cut h1 h2 h3 = grind (arith, nat_tests, done-event, kept-after, quiet-tells, quiet-with_handling)
 
 delivering-done : (m : Machine) (pid : ℕ) (v : View) (signal address : ℕ) (cut : Bool) → MachineSound m → seen m.bodies pid ≡ Some v → Done m pid v (delivering m pid signal address cut) (entry.Signal pid signal cut address)
 delivering-done m pid v signal address cut s e = by_test (address == 0) refl
@@ -238,24 +213,10 @@ first-sound m None s h = s
 first-sound m (Some x) s h = h.sound
 
 last_of-good : (n pid : ℕ) (reply : Option Answered) (m : Machine) (plain : List Step) → MachineSound (after_steps m plain) → IfSome (last_of n pid reply m plain) (StepGood (after_steps m plain))
-last_of-good n pid reply m plain s = by_test (nat_lt (length plain) n)
-  where
-    by_test : (b : Bool) → IfSome (if b then last_in (after_steps m plain) pid reply (seen (after_steps m plain).bodies pid) else None) (StepGood (after_steps m plain))
-    by_test true = last-good (after_steps m plain) pid reply s
-    by_test false = tt
+last_of-good n pid reply m plain h1 = grind (arith, nat_tests, last-good)
 
 behind-good : (n pid : ℕ) (reply : Option Answered) (m : Machine) → MachineSound m → Along StepGood m (plains n pid m ++ option_to_list (last_of n pid reply m (plains n pid m)))
-behind-good n pid reply m s =
-    let plain = plains n pid m in
-    let good = plains-good n pid m s in
-    along-append StepGood m plain (option_to_list (last_of n pid reply m plain)) good
-    (along-one (after_steps m plain) (last_of n pid reply m plain) (last_of-good n pid reply m plain (along-sound m plain s good)))
+behind-good n pid reply m h1 = grind (arith, nat_tests, along-append, along-one, along-sound, last_of-good, plains-good)
 
 pub turn-good : (n pid : ℕ) (reply : Option Answered) (m : Machine) → MachineSound m → Along StepGood m (steps_of (turn n pid reply m))
-turn-good n pid reply m s =
-    let delivery = delivery_in m pid (seen m.bodies pid) in
-    let good = delivery-good m pid s in
-    let m' = after_first m delivery in
-    let rest = plains n pid m' ++ option_to_list (last_of n pid reply m' (plains n pid m')) in
-    along-append StepGood m (option_to_list delivery) rest (along-one m delivery good)
-    (subst (λ (after : Machine). Along StepGood after rest) (sym (after-one m delivery)) (behind-good n pid reply m' (first-sound m delivery s good)))
+turn-good n pid reply m h1 = grind (arith, nat_tests, after-one, along-append, along-one, behind-good, delivery-good, first-sound)

@@ -1,5 +1,5 @@
 // What holds of every run, as functions that do nothing.
-ghost use Rattle.arn_model.specs.Laws.{EachRunAppends, EachRunIsSound, RepliesAreTold, StepsTell};
+ghost use Rattle.arn_model.specs.Laws.{EachRunAppends, EachRunIsSound, ProcessesCount, RepliesAreTold, RequestsAreBounded, StepsTell};
 
 /// What inputs do that stand one behind the other.
 pub fn runs_append()
@@ -20,4 +20,10 @@ pub fn replies_are_told()
 /// What every machine of a run keeps.
 pub fn runs_sound()
     ensures { EachRunIsSound }
+{}
+
+/// What a call comes to is bounded, and how many processes have been made is counted.
+pub fn requests_bounded()
+    ensures bounded { RequestsAreBounded }
+    ensures count { ProcessesCount }
 {}

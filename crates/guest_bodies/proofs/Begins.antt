@@ -1,5 +1,6 @@
 -- A process is put where none was.
-use Rattle.std.proofs.Common.{◌≡◌, ◌≢◌, ℕ, ◌<◌, List, length, set, Option, Some, None, IsSome, IfSome, option_map, ap, subst, sym, ◌∙◌}
+use Rattle.std.proofs.Common.{◌≡◌, ◌≢◌, ℕ, ◌<◌, List, length, set, Option, Some, None, IsSome, IfSome, option_map, ap, subst, sym, ◌∙◌, arith}
+use Rattle.std.proofs.lemmas.Bool.Decides.{nat_tests}
 use Rattle.parts_model.specs.Numbered.{nth}
 use Rattle.acts_model.specs.Bodies.{put}
 use Rattle.guest_bodies.specs.Follows.{Follows, SetsWatch}
@@ -23,9 +24,7 @@ module _ (guests : Guests) (all grown : List (Option Guest)) (segs : Segments) (
       (λ q ne. lone-among event g all (new-of guests all segs event is fresh) window segment q)
 
   pub begins-follows : Follows guests (put p (view_of segs g)) (shown_all (set grown p (Some g)) segs)
-  begins-follows =
-      subst (λ (old : Guests). Follows old (put p (view_of segs g)) (shown_all (set grown p (Some g)) segs)) is
-      (follows-put p g all (set grown p (Some g)) segs segs sound begins-sound (grown-changes all grown p g grows room) (same-keeps (key_of g.segment) segs))
+  begins-follows = grind (arith, nat_tests, begins-sound, follows-put, grown-changes, key_of, same-keeps)
 
   pub begins-watch : SetsWatch p (Some (watch_of g)) guests (shown_all (set grown p (Some g)) segs)
   begins-watch =

@@ -1,10 +1,11 @@
 -- One process changes, and with it perhaps the bytes of the segment that it holds.
-use Rattle.std.proofs.Common.{◌≡◌, ◌≢◌, ℕ, ◌==◌, Bool, true, false, cond, List, [], set, Option, None, Some, IsSome, IfSome, is_some, option_map, unwrap_or, refl, sym, ap, ap₂, subst, ◌∙◌, ne_eqb}
+use Rattle.std.proofs.Common.{◌≡◌, ◌≢◌, ℕ, ◌==◌, Bool, true, false, cond, List, [], set, Option, None, Some, IsSome, IfSome, is_some, option_map, refl, sym, ap, ap₂, subst, ◌∙◌, ne_eqb, arith}
+use Rattle.std.proofs.lemmas.Bool.Decides.{nat_tests}
 use Rattle.std.proofs.lemmas.Bool.{eq-eqb, eqb-true, eqb-false}
 use Rattle.std.proofs.lemmas.List.{map-set}
 use Rattle.parts_model.specs.Numbered.{nth}
-use Rattle.acts_model.specs.Acts.{Act, acted, joined, done_by, done}
-use Rattle.acts_model.specs.Bodies.{Bodies, View, seen, put, become}
+use Rattle.acts_model.specs.Acts.{Act, acted, joined, done}
+use Rattle.acts_model.specs.Bodies.{Bodies, View, seen, put}
 use Rattle.guest_bodies.specs.Follows.{Shows, Follows, KeepsWatches}
 use Rattle.guest_bodies.specs.Kept.{Segments, body_of, held_bytes, view_of, shown_of, watch_of, shown_all, with_held, IfHeld, IsWhole, SameNames, IsApart, IsSound}
 use Rattle.guest_bodies.specs.Shown.{Guests, Shown, Watch, seen_in, watch_in}
@@ -45,10 +46,7 @@ watch-shown all segs p = ap (option_map (λ (s : Shown). s.watch)) (nth-map (sho
 
 -- a process sees its own segment as it is put
 own-is : (o : Option Shared) (window : ℕ) (space bytes : List ℕ) → IfSome o (λ s. s.made ≢ window) → (o ≡ None → bytes ≡ []) → (v : View) → v.body.segment ≡ name_of o → v.body.window ≡ window → v.segment ≡ bytes → own_segment v (name_of o) ≡ bytes
-own-is None window space bytes apart none v is_segment is_window is_bytes = sym (none refl)
-own-is (Some s) window space bytes apart none v is_segment is_window is_bytes =
-    ap (λ t. cond t v.window (laid_segment v.body.segment v.segment s.made [])) (ne_eqb s.made v.body.window (λ (e : s.made ≡ v.body.window). apart (e ∙ is_window)))
-    ∙ (ap (λ o. laid_segment o v.segment s.made []) is_segment ∙ (ap (λ t. cond t v.segment []) (eq-eqb s.made s.made refl) ∙ is_bytes))
+own-is o window space bytes h1 h2 v h3 h4 h5 = grind (arith, nat_tests, eq-eqb, laid_segment)
 
 held-none : (segs : Segments) (o : Option Shared) → o ≡ None → held_bytes segs o ≡ []
 held-none segs None is = refl
@@ -68,30 +66,14 @@ other-window (Some s) k bytes old apart = ap (λ t. cond t bytes old) (ne_eqb k 
 
 -- and of its segment
 other-segment : (o : Option Shared) (t : Shared) (segs new : Segments) → IfSome o (λ s. SameNames s t) → IsSome (nth segs t.key) → KeepsBeside (key_of o) segs new → held_bytes new (Some t) ≡ laid_segment (name_of o) (held_bytes new o) t.made (held_bytes segs (Some t))
-other-segment None t segs new same there keeps = ap (λ x. unwrap_or x []) (keeps.kept t.key (λ (e : None ≡ Some t.key). cc) there)
-other-segment (Some s) t segs new same there keeps = by_test (t.made == s.made) refl
-  where
-    by_test : (b : Bool) → (t.made == s.made) ≡ b → held_bytes new (Some t) ≡ cond b (held_bytes new (Some s)) (held_bytes segs (Some t))
-    by_test true e = ap (λ k. unwrap_or (nth new k) []) (sym (same.by_made (sym (eqb-true t.made s.made e))))
-    by_test false e = ap (λ x. unwrap_or x []) (keeps.kept t.key (λ (q : Some s.key ≡ Some t.key). let k : s.key ≡ t.key = cc in eqb-false t.made s.made e (sym (same.by_key k))) there)
+other-segment o t segs new h1 h2 h3 = grind (arith, nat_tests, eqb-false, eqb-true)
 
 other-segments : (g h : Guest) (o u : Option Shared) (segs new : Segments) → IfSome u (λ t. t.made ≢ g.made) → IfSome o (λ s. IfSome u (SameNames s)) → IfSome u (λ t. IsSome (nth segs t.key) × (t.made ≢ h.made)) → KeepsBeside (key_of o) segs new → (v : View) → v.body.window ≡ g.made → v.body.segment ≡ name_of o → v.segment ≡ held_bytes new o → held_bytes new u ≡ fresh_segment v (name_of u) (held_bytes segs u)
-other-segments g h o None segs new apart same whole keeps v is_window is_segment is_bytes = refl
-other-segments g h o (Some t) segs new apart same whole keeps v is_window is_segment is_bytes =
-    other-segment o t segs new (at_one o same) whole.0 keeps
-    ∙ (ap₂ (λ (n : Option ℕ) (bytes : List ℕ). laid_segment n bytes t.made (held_bytes segs (Some t))) (sym is_segment) (sym is_bytes)
-    ∙ sym (ap (λ b. cond b v.window (laid_segment v.body.segment v.segment t.made (held_bytes segs (Some t)))) (ne_eqb t.made v.body.window (λ (e : t.made ≡ v.body.window). apart (e ∙ is_window)))))
-  where
-    at_one : (o : Option Shared) → IfSome o (λ s. IfSome (Some t) (SameNames s)) → IfSome o (λ s. SameNames s t)
-    at_one None same = tt
-    at_one (Some s) same = same
+other-segments g h o u segs new h1 h2 h3 h4 v h5 h6 h7 = grind (arith, nat_tests, laid_segment, other-segment)
 
 -- another process, after one has changed
 refreshed-other : (g h : Guest) (segs new : Segments) → IsApart g h → IsApart h g → IsWhole segs h → KeepsBeside (key_of g.segment) segs new → view_of new h ≡ refreshed (view_of new g) (view_of segs h)
-refreshed-other g h segs new apart back whole keeps =
-    ap₂ (λ (a c : List ℕ). record { body = body_of h; window = a; segment = c })
-    (sym (ap (λ t. cond t g.memory.space (laid_segment (name_of g.segment) (held_bytes new g.segment) h.made h.memory.space)) (ne_eqb h.made g.made back.windows) ∙ other-window g.segment h.made (held_bytes new g.segment) h.memory.space apart.segment))
-    (other-segments g h g.segment h.segment segs new back.segment apart.shared whole keeps (view_of new g) refl refl refl)
+refreshed-other g h segs new h1 h2 h3 h4 = grind (arith, nat_tests, laid_segment, name_of, other-segments, other-window)
 
 -- a process that changes is put among what is shown
 pub follows-put : (p : ℕ) (g : Guest) (all new : List (Option Guest)) (segs segs' : Segments) → IsSound all segs → IsSound new segs' → Changes p (Some g) all new → KeepsBeside (key_of g.segment) segs segs' → Follows (shown_all all segs) (put p (view_of segs' g)) (shown_all new segs')
@@ -124,32 +106,11 @@ follows-put p g all new segs segs' sound sound' changes keeps = record { shows =
 
 -- two processes stay apart where their memories stay
 pub apart-named : (g g' h : Guest) → g'.made ≡ g.made → g'.segment ≡ g.segment → IsApart g h × IsApart h g → IsApart g' h × IsApart h g'
-apart-named g g' h made segment both = (
-  record {
-    windows = λ e. both.0.windows (sym made ∙ e);
-    segment = subst (λ (o : Option Shared). IfSome o (λ s. s.made ≢ h.made)) (sym segment) both.0.segment;
-    shared = subst (λ (o : Option Shared). IfSome o (λ s. IfSome h.segment (SameNames s))) (sym segment) both.0.shared;
-  },
-  record {
-    windows = λ e. both.1.windows (e ∙ made);
-    segment = by_segment h.segment both.1.segment;
-    shared = subst (λ (o : Option Shared). IfSome h.segment (λ s. IfSome o (SameNames s))) (sym segment) both.1.shared;
-  },
-)
-  where
-    by_segment : (o : Option Shared) → IfSome o (λ s. s.made ≢ g.made) → IfSome o (λ s. s.made ≢ g'.made)
-    by_segment None apart = tt
-    by_segment (Some s) apart = λ e. apart (e ∙ made)
+apart-named g g' h h1 h2 h3 = grind (arith, nat_tests)
 
 -- what is held is still in the table
 whole-kept : (segs new : Segments) (h : Guest) (o u : Option Shared) → IfSome o (λ s. IsSome (nth new s.key)) → KeepsBeside (key_of o) segs new → IfSome u (λ t. IsSome (nth segs t.key) × (t.made ≢ h.made)) → IfSome u (λ t. IsSome (nth new t.key) × (t.made ≢ h.made))
-whole-kept segs new h o None there keeps whole = tt
-whole-kept segs new h None (Some t) there keeps whole = (subst (λ (x : Option (List ℕ)). IsSome x) (sym (keeps.kept t.key (λ (e : None ≡ Some t.key). cc) whole.0)) whole.0, whole.1)
-whole-kept segs new h (Some s) (Some t) there keeps whole = by_test (s.key == t.key) refl
-  where
-    by_test : (b : Bool) → (s.key == t.key) ≡ b → IsSome (nth new t.key) × (t.made ≢ h.made)
-    by_test true e = (subst (λ (k : ℕ). IsSome (nth new k)) (eqb-true s.key t.key e) there, whole.1)
-    by_test false e = (subst (λ (x : Option (List ℕ)). IsSome x) (sym (keeps.kept t.key (λ (q : Some s.key ≡ Some t.key). let k : s.key ≡ t.key = cc in eqb-false s.key t.key e k) whole.0)) whole.0, whole.1)
+whole-kept segs new h o u h1 h2 h3 = grind (arith, nat_tests, eqb-false, eqb-true)
 
 whole-there : (new : Segments) (g : Guest) (o : Option Shared) → IfSome o (λ s. IsSome (nth new s.key) × (s.made ≢ g.made)) → IfSome o (λ s. IsSome (nth new s.key))
 whole-there new g None whole = tt
@@ -208,12 +169,7 @@ sound-changed p g g' all new segs segs' sound is made segment changes keeps ther
 
 -- from what a process sees to what its act does
 pub follows-done : (old new : Guests) (p event : ℕ) (act : Act) (v v' : View) → seen_in old p ≡ Some v → acted event act v ≡ Some v' → ((b : Bodies) → joined act event v b ≡ b) → Follows old (put p v') new → Follows old (done p event act) new
-follows-done old new p event act v v' is acts alone follows = record { shows = λ b h. record { same = λ q. (follows.shows b h).same q ∙ ap (λ (c : Bodies). seen c q) (sym (done_is b h)) } }
-  where
-    done_is : (b : Bodies) → Shows old b → done p event act b ≡ put p v' b
-    done_is b h =
-        ap (λ (o : Option View). done_by p event act o b) (sym (h.same p) ∙ is)
-        ∙ (alone (become p (acted event act v) b) ∙ ap (λ (o : Option View). become p o b) acts)
+follows-done old new p event act v v' h1 h2 h3 h4 = grind (arith, nat_tests)
 
 pub follows-changed : (p event : ℕ) (act : Act) (g g' : Guest) (all new : List (Option Guest)) (segs segs' : Segments) → IsSound all segs → nth all p ≡ Some g → g'.made ≡ g.made → g'.segment ≡ g.segment → Changes p (Some g') all new → KeepsBeside (key_of g'.segment) segs segs' → IfSome g'.segment (λ s. IsSome (nth segs' s.key)) → acted event act (view_of segs g) ≡ Some (view_of segs' g') → ((b : Bodies) → joined act event (view_of segs g) b ≡ b) → Follows (shown_all all segs) (done p event act) (shown_all new segs')
 follows-changed p event act g g' all new segs segs' sound is made segment changes keeps there acts alone =

@@ -1,18 +1,14 @@
 -- An instruction leaves as many windows as there were.
-use Rattle.std.proofs.Common.{◌≡◌, ℕ, suc, ◌%◌, ◌==◌, List, [], ◌∷◌, length, Bool, true, false, cond, Option, None, Some, option_map, is_some, refl, ap, subst}
+use Rattle.std.proofs.Common.{◌≡◌, ℕ, suc, ◌%◌, ◌==◌, List, [], ◌∷◌, length, Bool, true, false, cond, Option, None, Some, is_some, refl, ap, subst, arith}
+use Rattle.std.proofs.lemmas.Bool.Decides.{nat_tests}
 use Rattle.arn_base.specs.Window.{Window, with_bytes, is_whole_in, window_with, number_at, bytes_at, bytes_of}
 use Rattle.arn_base.specs.declared.machine.Cpu.{Cpu}
 use Rattle.rv64_isa.specs.Decoded.{decoded}
 use Rattle.rv64_isa.specs.declared.instruction.Instr.{Instr}
-use Rattle.rv64_isa.specs.declared.instruction.Instr.TheVariants.{Lui, Auipc, Jal, Jalr, Branch, Load, Store, Imm, Op, Fence, Ecall, Ebreak}
-use Rattle.rv64_model.specs.Instruction.{Effect, Next, Call, End, jumps, branches, loads, stores, executed, executed_if, fetched, instruction, jumped, advanced, without_bit_0}
-use Rattle.rv64_model.specs.Operands.{address, store_len}
-use Rattle.rv64_model.specs.Registers.{register}
-use Rattle.rv64_model.specs.Values.{immediate, sum, is_taken, load_len, load_result}
+use Rattle.rv64_model.specs.Instruction.{Effect, Next, Call, End, jumps, branches, loads, stores, executed, executed_if, fetched, instruction, jumped, advanced}
 use Rattle.rv64_model.specs.declared.statuses.TheConstants.{MISALIGNED, BAD_ACCESS}
 use Rattle.rv64_core.specs.Outcome.{Tells, OnStop}
 use Rattle.rv64_core.specs.declared.outcome.Outcome.{Outcome}
-use Rattle.rv64_core.specs.declared.outcome.Outcome.TheVariants as outcome
 
 length-either : (b : Bool) (v w : Window) (vs ws : List Window) → length ws ≡ length vs → length (cond b (v ∷ vs) (w ∷ ws)) ≡ suc (length vs)
 length-either true v w vs ws e = refl
@@ -47,18 +43,7 @@ stores-leaves : (instr : Instr) (cpu : Cpu) (ws : List Window) (at len value : �
 stores-leaves instr cpu ws at len value = either (length ws) (is_some (bytes_at ws at len)) (Next instr (advanced cpu) (with_bytes ws at (bytes_of len value))) (End BAD_ACCESS) (length-with_bytes ws at (bytes_of len value)) tt
 
 executed-leaves : (instr : Instr) (cpu : Cpu) (ws : List Window) → Leaves (length ws) (executed instr cpu ws)
-executed-leaves (Lui rd imm) cpu ws = refl
-executed-leaves (Auipc rd imm) cpu ws = refl
-executed-leaves (Jal rd imm) cpu ws = jumps-leaves (Jal rd imm) cpu ws rd (sum cpu.pc (immediate imm))
-executed-leaves (Jalr rd rs1 imm) cpu ws = jumps-leaves (Jalr rd rs1 imm) cpu ws rd (without_bit_0 (sum (register cpu rs1) (immediate imm)))
-executed-leaves (Branch op rs1 rs2 imm) cpu ws = branches-leaves (Branch op rs1 rs2 imm) cpu ws (is_taken op (register cpu rs1) (register cpu rs2)) (sum cpu.pc (immediate imm))
-executed-leaves (Load op rd rs1 imm) cpu ws = loads-leaves (Load op rd rs1 imm) cpu ws rd (option_map (load_result op) (number_at ws (address cpu rs1 imm) (load_len op)))
-executed-leaves (Store op rs1 rs2 imm) cpu ws = stores-leaves (Store op rs1 rs2 imm) cpu ws (address cpu rs1 imm) (store_len op) (register cpu rs2)
-executed-leaves (Imm op rd rs1 imm) cpu ws = refl
-executed-leaves (Op op rd rs1 rs2) cpu ws = refl
-executed-leaves (Fence word) cpu ws = refl
-executed-leaves Ecall cpu ws = tt
-executed-leaves Ebreak cpu ws = tt
+executed-leaves instr cpu ws = grind (arith, nat_tests, branches-leaves, jumps-leaves, loads-leaves, stores-leaves)
 
 executed_if-leaves : (instr : Option Instr) (cpu : Cpu) (ws : List Window) → Leaves (length ws) (executed_if instr cpu ws)
 executed_if-leaves None cpu ws = tt
@@ -70,22 +55,13 @@ fetched-leaves (Some word) cpu ws = executed_if-leaves (decoded word) cpu ws
 
 -- whatever an instruction comes to
 pub told-leaves : (o : Outcome) (cpu cpu' : Cpu) (ws ws' : List Window) → Tells o (instruction cpu ws) cpu' ws' → OnStop o (ws' ≡ ws) → length ws' ≡ length ws
-told-leaves outcome.Next cpu cpu' ws ws' tells stop = subst (Leaves (length ws)) tells.is_next (fetched-leaves (number_at ws cpu.pc 4) cpu ws)
-told-leaves outcome.Call cpu cpu' ws ws' tells stop = ap (length {A = Window}) stop
-told-leaves (outcome.End status) cpu cpu' ws ws' tells stop = ap (length {A = Window}) stop
-told-leaves outcome.NoMemory cpu cpu' ws ws' tells stop = ap (length {A = Window}) stop
+told-leaves o cpu cpu' ws ws' h1 h2 = grind (arith, nat_tests, fetched-leaves)
 
 pub OnStop-map : {P Q : Type 0} (o : Outcome) → (P → Q) → OnStop o P → OnStop o Q
-OnStop-map outcome.Next f h = tt
-OnStop-map outcome.Call f h = f h
-OnStop-map (outcome.End status) f h = f h
-OnStop-map outcome.NoMemory f h = f h
+OnStop-map o h1 h2 = grind (arith, nat_tests)
 
 pub OnStop-both : {P Q R : Type 0} (o : Outcome) → (P → Q → R) → OnStop o P → OnStop o Q → OnStop o R
-OnStop-both outcome.Next f h k = tt
-OnStop-both outcome.Call f h k = f h k
-OnStop-both (outcome.End status) f h k = f h k
-OnStop-both outcome.NoMemory f h k = f h k
+OnStop-both o h1 h2 h3 = grind (arith, nat_tests)
 
 -- an instruction that the next one follows
 pub next-leaves : (instr : Instr) (cpu cpu' : Cpu) (ws ws' : List Window) → instruction cpu ws ≡ Next instr cpu' ws' → length ws' ≡ length ws

@@ -1,11 +1,12 @@
 -- A process ends.
-use Rattle.std.proofs.Common.{◌≡◌, ◌≢◌, ℕ, ◌==◌, Bool, true, false, cond, List, set, Option, Some, None, IsSome, IfSome, option_map, ap, subst, sym, refl, ◌∙◌}
+use Rattle.std.proofs.Common.{◌≡◌, ℕ, ◌==◌, Bool, true, false, cond, List, set, Option, Some, None, IsSome, option_map, ap, subst, sym, refl, ◌∙◌, arith}
+use Rattle.std.proofs.lemmas.Bool.Decides.{nat_tests}
 use Rattle.std.proofs.lemmas.Bool.{eqb-true, eqb-false}
 use Rattle.parts_model.specs.Numbered.{nth}
-use Rattle.acts_model.specs.Acts.{Act, Returns, Receives, Gives, Starts, Forks, Founds, Shares, Leaves, Delivers, Exits, Faults, Dies, done_by, done}
+use Rattle.acts_model.specs.Acts.{Act, done_by, done}
 use Rattle.acts_model.specs.Bodies.{Bodies, View, seen, remove}
 use Rattle.guest_bodies.specs.Follows.{Shows, Follows, SetsWatch, IsEnd}
-use Rattle.guest_bodies.specs.Kept.{Segments, view_of, watch_of, shown_all, IsWhole, IsApart, IsSound}
+use Rattle.guest_bodies.specs.Kept.{Segments, view_of, watch_of, shown_all, IsSound}
 use Rattle.guest_bodies.specs.Shown.{Guests, Shown}
 use Rattle.guest_bodies.specs.declared.guest.Guest.{Guest}
 use Rattle.guest_bodies.proofs.Changes.{Changes, set-changes, live-there, seen-shown, watch-shown}
@@ -15,22 +16,7 @@ abbrev no_guest : Option Guest
 no_guest = None
 
 pub sound-gone : (p : ℕ) (all new : List (Option Guest)) (segs : Segments) → IsSound all segs → Changes p None all new → IsSound new segs
-sound-gone p all new segs sound changes = record { whole = λ q. whole q (q == p) refl; apart = λ q r ne. apart q r ne (q == p) (r == p) refl refl }
-  where
-    whole : (q : ℕ) (b : Bool) → (q == p) ≡ b → IfSome (nth new q) (IsWhole segs)
-    whole q true e = subst (λ (o : Option Guest). IfSome o (IsWhole segs)) (sym (ap (nth new) (eqb-true q p e) ∙ changes.own)) tt
-    whole q false e = subst (λ (o : Option Guest). IfSome o (IsWhole segs)) (sym (changes.kept q (eqb-false q p e))) (sound.whole q)
-
-    none : (o : Option Guest) → IfSome o (λ g. IfSome no_guest (IsApart g))
-    none None = tt
-    none (Some g) = tt
-
-    apart : (q r : ℕ) → q ≢ r → (b c : Bool) → (q == p) ≡ b → (r == p) ≡ c → IfSome (nth new q) (λ g. IfSome (nth new r) (IsApart g))
-    apart q r ne true c e f = subst (λ (o : Option Guest). IfSome o (λ g. IfSome (nth new r) (IsApart g))) (sym (ap (nth new) (eqb-true q p e) ∙ changes.own)) tt
-    apart q r ne false true e f = subst (λ (o : Option Guest). IfSome (nth new q) (λ g. IfSome o (IsApart g))) (sym (ap (nth new) (eqb-true r p f) ∙ changes.own)) (none (nth new q))
-    apart q r ne false false e f =
-        subst (λ (o : Option Guest). IfSome o (λ g. IfSome (nth new r) (IsApart g))) (sym (changes.kept q (eqb-false q p e)))
-        (subst (λ (o : Option Guest). IfSome (nth all q) (λ g. IfSome o (IsApart g))) (sym (changes.kept r (eqb-false r p f))) (sound.apart q r ne))
+sound-gone p all new segs h1 h2 = grind (arith, nat_tests, eqb-false, eqb-true, no_guest)
 
 follows-gone : (p : ℕ) (all new : List (Option Guest)) (segs : Segments) → Changes p None all new → Follows (shown_all all segs) (remove p) (shown_all new segs)
 follows-gone p all new segs changes = record { shows = λ b h. record { same = λ q. seen-shown new segs q ∙ (by_test b h q (q == p) refl ∙ sym (seen-removed p b q)) } }
@@ -40,18 +26,7 @@ follows-gone p all new segs changes = record { shows = λ b h. record { same = �
     by_test b h q false e = ap (option_map (view_of segs)) (changes.kept q (eqb-false q p e)) ∙ (sym (seen-shown all segs q) ∙ (h.same q ∙ sym (ap (λ (t : Bool). cond t None (seen b q)) e)))
 
 done-end : (event : ℕ) (act : Act) (v : View) → IsEnd act → (p : ℕ) (b : Bodies) → done_by p event act (Some v) b ≡ remove p b
-done-end event (Returns r) v is p b = absurd is
-done-end event (Receives at bytes r) v is p b = absurd is
-done-end event (Gives at len r) v is p b = absurd is
-done-end event (Starts file block len) v is p b = absurd is
-done-end event (Forks child) v is p b = absurd is
-done-end event (Founds child) v is p b = absurd is
-done-end event Shares v is p b = absurd is
-done-end event Leaves v is p b = absurd is
-done-end event (Delivers s h cut) v is p b = absurd is
-done-end event Exits v is p b = refl
-done-end event (Faults status) v is p b = refl
-done-end event (Dies s cut) v is p b = refl
+done-end event act v h1 p b = grind (arith, nat_tests)
 
 pub follows-end : (guests : Guests) (p event : ℕ) (act : Act) (all : List (Option Guest)) (segs : Segments) → IsEnd act → shown_all all segs ≡ guests → IsSome (nth guests p) → Follows guests (done p event act) (shown_all (set all p None) segs)
 follows-end guests p event act all segs end is live = record { shows = λ b h. record { same = λ q. (gone.shows b h).same q ∙ sym (ap (λ (c : Bodies). seen c q) (done_is b h (nth guests p) refl live)) } }

@@ -1,12 +1,13 @@
 -- A process gets a result, and a child is put beside it.
 use Rattle.std.proofs.Common.{◌≡◌, ◌≢◌, ℕ, ◌<◌, ◌==◌, Bool, true, false, List, [], length, set, Option, Some, None, IsSome, IsNone, IfSome, is_some, option_map, ap, subst, sym, refl, ◌∙◌, arith}
+use Rattle.std.proofs.lemmas.Bool.Decides.{nat_tests}
 use Rattle.std.proofs.lemmas.Bool.{eqb-true, eqb-false}
 use Rattle.std.proofs.Math.ListN.{length-set}
 use Rattle.parts_model.specs.Numbered.{nth}
-use Rattle.acts_model.specs.Acts.{Forks, Founds, done, done_by, begun, beginning_of, child_view}
-use Rattle.acts_model.specs.Bodies.{Bodies, View, seen, put}
+use Rattle.acts_model.specs.Acts.{Forks, Founds, done, begun, beginning_of, child_view}
+use Rattle.acts_model.specs.Bodies.{put}
 use Rattle.acts_model.specs.Views.{returned}
-use Rattle.guest_bodies.specs.Follows.{Shows, Follows, SetsWatch}
+use Rattle.guest_bodies.specs.Follows.{Follows, SetsWatch}
 use Rattle.guest_bodies.specs.Kept.{Segments, body_of, view_of, shown_of, watch_of, shown_all, IfHeld, IsWhole, IsApart, IsSound}
 use Rattle.guest_bodies.specs.Shown.{Guests, Shown, Watch, IsFresh, IsUnheldBy, inherited, seen_in, watch_in}
 use Rattle.guest_bodies.specs.declared.guest.Guest.{Guest}
@@ -67,9 +68,6 @@ bears guests all grown new segs p child event parent made shown sound stands dea
 
 -- the middle: the parent has its result, and there is no child yet
 module _ {guests : Guests} {all grown new : List (Option Guest)} {segs : Segments} {p child event : ℕ} {parent made : Guest} (at : Bears guests all grown new segs p child event parent made) where
-  mid : List (Option Guest)
-  mid = set grown p (Some (answered parent child))
-
   sound-mid : IsSound (set grown p (Some (answered parent child))) segs
   sound-mid = sound-changed p parent (answered parent child) all (set grown p (Some (answered parent child))) segs segs at.sound at.stands refl refl at.first (same-keeps (key_of parent.segment) segs) (there-of p parent all segs at.sound at.stands)
 
@@ -120,21 +118,11 @@ module _ {guests : Guests} {all grown new : List (Option Guest)} {segs : Segment
       whole (Some s) there ne = (there, λ e. ne (ap (λ (n : ℕ). Some n) (e ∙ at.window)))
 
   pub fork-follows : IsSound new segs → view_of segs made ≡ child_view event (beginning_of (view_of segs parent)) (view_of segs parent).body.segment (view_of segs parent).segment → Follows guests (done p event (Forks child)) (shown_all new segs)
-  fork-follows sound view = record { shows = λ b h. record { same = λ q. ((bears-follows sound).shows b h).same q ∙ ap (λ (c : Bodies). seen c q) (sym (done_is b h)) } }
-    where
-      done_is : (b : Bodies) → Shows guests b → done p event (Forks child) b ≡ put child (view_of segs made) (put p (view_of segs (answered parent child)) b)
-      done_is b h = ap (λ (o : Option View). done_by p event (Forks child) o b) (sym (h.same p) ∙ bears-seen) ∙ ap (λ (v : View). put child v (put p (view_of segs (answered parent child)) b)) (sym view)
+  fork-follows h1 h2 = grind (arith, nat_tests, answered, bears-follows, bears-seen)
 
   -- a child without a segment
   pub found-sound : made.segment ≡ None → IsSound new segs
   found-sound segment = bears-sound (subst (λ (o : Option Shared). IfSome o (λ s. IsSome (nth segs s.key) × (s.made ≢ made.made))) (sym segment) tt) (lone-among event made (set grown p (Some (answered parent child))) new-mid at.window segment)
 
   pub found-follows : IsSound new segs → view_of segs made ≡ child_view event (beginning_of (view_of segs parent)) None [] → IfSome (seen_in guests p) (λ v. Follows guests (λ b. begun child event (beginning_of v) (done p event (Founds child) b)) (shown_all new segs))
-  found-follows sound view =
-      subst (λ (o : Option View). IfSome o (λ v. Follows guests (λ b. begun child event (beginning_of v) (done p event (Founds child) b)) (shown_all new segs))) (sym bears-seen)
-      (record { shows = λ b h. record { same = λ q. ((bears-follows sound).shows b h).same q ∙ ap (λ (c : Bodies). seen c q) (sym (done_is b h)) } })
-    where
-      done_is : (b : Bodies) → Shows guests b → begun child event (beginning_of (view_of segs parent)) (done p event (Founds child) b) ≡ put child (view_of segs made) (put p (view_of segs (answered parent child)) b)
-      done_is b h =
-          ap (λ (o : Option View). begun child event (beginning_of (view_of segs parent)) (done_by p event (Founds child) o b)) (sym (h.same p) ∙ bears-seen)
-          ∙ ap (λ (v : View). put child v (put p (view_of segs (answered parent child)) b)) (sym view)
+  found-follows h1 h2 = grind (arith, nat_tests, answered, bears-follows, bears-seen)

@@ -1,5 +1,6 @@
 -- A process whose window is new.
-use Rattle.std.proofs.Common.{◌≡◌, ◌≢◌, ℕ, ◌==◌, Bool, true, false, List, Option, Some, None, IsSome, IfSome, option_map, ap, subst, sym, refl, ◌∙◌}
+use Rattle.std.proofs.Common.{◌≡◌, ◌≢◌, ℕ, ◌==◌, Bool, true, false, List, Option, Some, None, IsSome, IfSome, option_map, ap, subst, sym, refl, ◌∙◌, arith}
+use Rattle.std.proofs.lemmas.Bool.Decides.{nat_tests}
 use Rattle.std.proofs.lemmas.Bool.{eqb-true, eqb-false}
 use Rattle.std.proofs.lemmas.Option.{same_Some}
 use Rattle.parts_model.specs.Numbered.{nth}
@@ -26,24 +27,11 @@ segment-new event None ne = tt
 segment-new event (Some s) ne = λ e. ne (ap (λ (n : ℕ). Some n) e)
 
 no-segment : (o u : Option Shared) → u ≡ None → IfSome o (λ s. IfSome u (SameNames s))
-no-segment None u is = tt
-no-segment (Some s) None is = tt
-no-segment (Some s) (Some t) is = cc
+no-segment o u h1 = grind (arith, nat_tests)
 
 -- a process without a segment, in a new window
 pub lone-apart : (event : ℕ) (g h : Guest) → g.made ≡ event → g.segment ≡ None → IsUnheldBy event (body_of h) → IsApart g h × IsApart h g
-lone-apart event g h made segment unheld = (
-  record {
-    windows = λ e. unheld.window (sym e ∙ made);
-    segment = subst (λ (o : Option Shared). IfSome o (λ s. s.made ≢ h.made)) (sym segment) tt;
-    shared = subst (λ (o : Option Shared). IfSome o (λ s. IfSome h.segment (SameNames s))) (sym segment) tt;
-  },
-  record {
-    windows = λ e. unheld.window (e ∙ made);
-    segment = subst (λ (n : ℕ). IfSome h.segment (λ s. s.made ≢ n)) (sym made) (segment-new event h.segment unheld.segment);
-    shared = no-segment h.segment g.segment segment;
-  },
-)
+lone-apart event g h h1 h2 h3 = grind (arith, nat_tests, no-segment, segment-new)
 
 -- two names are the same as themselves
 same-names : (s : Shared) → SameNames s s
@@ -55,18 +43,7 @@ same-both (Some s) = same-names s
 
 -- a process in a new window that shares the segment of another
 pub sharing-apart : (event : ℕ) (g parent h : Guest) → g.made ≡ event → g.segment ≡ parent.segment → IsUnheldBy event (body_of h) → IfSome parent.segment (λ s. s.made ≢ h.made) → IfSome parent.segment (λ s. IfSome h.segment (SameNames s)) → IfSome h.segment (λ s. IfSome parent.segment (SameNames s)) → IsApart g h × IsApart h g
-sharing-apart event g parent h made segment unheld apart shared back = (
-  record {
-    windows = λ e. unheld.window (sym e ∙ made);
-    segment = subst (λ (o : Option Shared). IfSome o (λ s. s.made ≢ h.made)) (sym segment) apart;
-    shared = subst (λ (o : Option Shared). IfSome o (λ s. IfSome h.segment (SameNames s))) (sym segment) shared;
-  },
-  record {
-    windows = λ e. unheld.window (e ∙ made);
-    segment = subst (λ (n : ℕ). IfSome h.segment (λ s. s.made ≢ n)) (sym made) (segment-new event h.segment unheld.segment);
-    shared = subst (λ (o : Option Shared). IfSome h.segment (λ s. IfSome o (SameNames s))) (sym segment) back;
-  },
-)
+sharing-apart event g parent h h1 h2 h3 h4 h5 h6 = grind (arith, nat_tests, segment-new)
 
 -- the child of a process among all, the parent itself among them
 pub child-apart : (event p : ℕ) (g parent : Guest) (all : List (Option Guest)) (segs : Segments) → IsSound all segs → IsNew event all → nth all p ≡ Some parent → g.made ≡ event → g.segment ≡ parent.segment → (q : ℕ) → IfSome (nth all q) (λ h. IsApart g h × IsApart h g)
@@ -100,8 +77,4 @@ child-apart event p g parent all segs sound new is made segment q = by_guest (nt
 
 -- a lone process among all
 pub lone-among : (event : ℕ) (g : Guest) (all : List (Option Guest)) → IsNew event all → g.made ≡ event → g.segment ≡ None → (q : ℕ) → IfSome (nth all q) (λ h. IsApart g h × IsApart h g)
-lone-among event g all new made segment q = by_guest (nth all q) (new.unheld q)
-  where
-    by_guest : (o : Option Guest) → IfSome o (λ x. IsUnheldBy event (body_of x)) → IfSome o (λ h. IsApart g h × IsApart h g)
-    by_guest None unheld = tt
-    by_guest (Some h) unheld = lone-apart event g h made segment unheld
+lone-among event g all h1 h2 h3 q = grind (arith, nat_tests, lone-apart)

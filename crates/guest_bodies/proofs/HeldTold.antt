@@ -1,9 +1,8 @@
 -- How a process is kept while its instructions run.
-use Rattle.std.proofs.Common.{◌≡◌, ◌≢◌, ℕ, zero, suc, ◌+◌, Bool, true, false, List, [], Option, None, Some, IsSome, unwrap_or, refl, sym, ap, subst, ◌∙◌, add-one}
+use Rattle.std.proofs.Common.{◌≡◌, ◌≢◌, ℕ, zero, suc, ◌+◌, Bool, true, false, List, [], Option, None, Some, IsSome, unwrap_or, refl, sym, ap, subst, ◌∙◌, add-one, arith}
+use Rattle.std.proofs.lemmas.Bool.Decides.{nat_tests}
 use Rattle.std.proofs.lemmas.List.{set-set}
 use Rattle.arn_base.specs.declared.machine.Cpu.{Cpu}
-use Rattle.acts_model.specs.Bodies.{View}
-use Rattle.acts_model.specs.Views.{reach}
 use Rattle.rv64_core.specs.declared.outcome.Planned.{Planned}
 use Rattle.rv64_core.specs.declared.outcome.Prospect.{Prospect}
 use Rattle.rv64_core.specs.declared.outcome.Prospect.TheVariants as prospect
@@ -21,9 +20,7 @@ use Rattle.guest_bodies.proofs.Numbers.{set-nth}
 
 -- a prospect that is no next instruction
 pub is-stop : (p : Prospect) (cpu : Cpu) (e : Effect) → Foretells p cpu e → ((planned : Planned) → p ≢ prospect.Next planned) → IsStop e
-is-stop (prospect.Next planned) cpu e tells isnt = absurd (isnt planned refl)
-is-stop prospect.Call cpu e tells isnt = subst IsStop (sym tells) tt
-is-stop (prospect.End status) cpu e tells isnt = subst IsStop (sym tells) tt
+is-stop p cpu e h1 h2 = grind (arith, nat_tests)
 
 whole-bytes : (x : Option (List ℕ)) → IsSome x → x ≡ Some (unwrap_or x [])
 whole-bytes None there = cc
@@ -45,17 +42,11 @@ self-same g segs = record { guest = refl; view = refl; segments = refl }
 module _ (g : Guest) (segs : Segments) (h : Guest) (hs : Segments) where
   -- who sees what it saw, runs
   pub same-runs : IfHeld g.segment segs → HeldSame g segs h hs → HeldRuns g segs h hs
-  same-runs there same =
-      record {
-        guest = same.guest ∙ ap (λ (k : Cpu). record g { cpu = k; memory = h.memory }) (sym (ap (λ (x : Guest). x.cpu) same.guest));
-        segments = same.segments ∙ (sym (held-same g.segment segs there) ∙ ap (λ (l : Segments). with_held g.segment (held_bytes l g.segment) segs) (sym same.segments));
-      }
+  same-runs h1 h2 = grind (arith, nat_tests, held-same)
 
   -- its segment stays in the table
   pub runs-there : IfHeld g.segment segs → HeldRuns g segs h hs → IfHeld h.segment hs
-  runs-there there runs =
-      subst (λ (o : Option Shared). IfHeld o hs) (sym (ap (λ (x : Guest). x.segment) runs.guest))
-      (subst (IfHeld g.segment) (sym runs.segments) (held-there g.segment (held_bytes hs g.segment) segs there))
+  runs-there h1 h2 = grind (arith, nat_tests, held-there)
 
   module _ (k : Guest) (ks : Segments) where
     pub runs-both : HeldRuns g segs h hs → HeldRuns h hs k ks → HeldRuns g segs k ks
@@ -88,19 +79,11 @@ module _ (g : Guest) (segs : Segments) (h : Guest) (hs : Segments) where
 
 module _ {A : Type 0} (runs : A → ℕ → Instr → Cpu → A → Type 0) (p : ℕ) where
   one-same : (g : Guest) (segs : Segments) (h : Guest) (hs : Segments) (k : Guest) (ks : Segments) (x y z : A) → HeldOne runs p g segs h hs x y → HeldSame h hs k ks → z ≡ y → HeldOne runs p g segs k ks x z
-  one-same g segs h hs k ks x y z one same told =
-      record {
-        instr = one.instr;
-        effect = one.effect ∙ ap (λ (v : View). Next one.instr v.body.cpu (reach v)) (sym same.view);
-        held = runs-same g segs h hs k ks one.held same;
-        told = subst (λ (w : A). runs x p one.instr g.cpu w) (sym told) one.told;
-      }
+  one-same g segs h hs k ks x y z h1 h2 h3 = grind (arith, nat_tests)
 
   -- what comes after may keep it otherwise, where it sees the same
   pub many-same : (n : ℕ) (g : Guest) (segs : Segments) (h : Guest) (hs : Segments) (k : Guest) (ks : Segments) (x y z : A) → HeldMany runs p n g segs h hs x y → HeldSame h hs k ks → z ≡ y → HeldMany runs p n g segs k ks x z
-  many-same zero g segs h hs k ks x y z many same told = (same-both g segs h hs k ks many.0 same, told ∙ many.1)
-  many-same (suc n) g segs h hs k ks x y z many same told =
-      (many.0, many.1, many.2, many.3, one-same many.0 many.1 h hs k ks many.2 y z many.4 same told)
+  many-same n g segs h hs k ks x y z h1 h2 h3 = grind (arith, nat_tests, one-same)
 
   pub many-next : (n : ℕ) (g : Guest) (segs : Segments) (h : Guest) (hs : Segments) (k : Guest) (ks : Segments) (x y z : A) → HeldMany runs p n g segs h hs x y → HeldOne runs p h hs k ks y z → HeldMany runs p (n + 1) g segs k ks x z
   many-next n g segs h hs k ks x y z many one = subst (λ (i : ℕ). HeldMany runs p i g segs k ks x z) (sym (add-one n)) (h, hs, y, many, one)

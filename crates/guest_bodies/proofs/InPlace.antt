@@ -1,9 +1,10 @@
 -- Acts that change a process where it stands, and no bytes.
-use Rattle.std.proofs.Common.{◌≡◌, ℕ, ◌==◌, Bool, true, false, List, option_map, set, get_or, Option, Some, None, unwrap_or, IsSome, ap, subst, sym, refl, ◌∙◌}
+use Rattle.std.proofs.Common.{◌≡◌, ℕ, ◌==◌, Bool, true, false, List, option_map, set, get_or, Option, Some, None, unwrap_or, IsSome, ap, subst, sym, refl, ◌∙◌, arith}
+use Rattle.std.proofs.lemmas.Bool.Decides.{nat_tests}
 use Rattle.arn_base.specs.declared.machine.Cpu.{Cpu}
 use Rattle.std.proofs.lemmas.Bool.{eqb-true, eqb-false}
 use Rattle.parts_model.specs.Numbered.{nth}
-use Rattle.acts_model.specs.Acts.{Act, Returns, Receives, Gives, Starts, Forks, Founds, Shares, Leaves, Delivers, Exits, Faults, Dies, acted, joined, done, restored}
+use Rattle.acts_model.specs.Acts.{Act, acted, joined, done, restored}
 use Rattle.acts_model.specs.Bodies.{Bodies, View, put}
 use Rattle.acts_model.specs.Views.{reach, with_cpu, with_reach, with_result}
 use Rattle.guest_bodies.specs.Follows.{Follows, KeepsWatches, Rewatches, IsResult}
@@ -45,32 +46,10 @@ in_place-watches {guests} {all} {segs} {p} {g} {g'} at same =
 
 -- the acts that are a result to their process
 pub acted-result : (event answer : ℕ) (act : Act) (v : View) → IsResult act answer → acted event act v ≡ Some (with_result answer v)
-acted-result event answer (Returns r) v is = ap (λ n. Some (with_result n v)) is
-acted-result event answer (Receives at bytes r) v is = absurd is
-acted-result event answer (Gives at len r) v is = ap (λ n. Some (with_result n v)) is
-acted-result event answer (Starts file block len) v is = absurd is
-acted-result event answer (Forks child) v is = absurd is
-acted-result event answer (Founds child) v is = ap (λ n. Some (with_result n v)) is
-acted-result event answer Shares v is = absurd is
-acted-result event answer Leaves v is = absurd is
-acted-result event answer (Delivers s h cut) v is = absurd is
-acted-result event answer Exits v is = absurd is
-acted-result event answer (Faults status) v is = absurd is
-acted-result event answer (Dies s cut) v is = absurd is
+acted-result event answer act v h1 = grind (arith, nat_tests)
 
 pub joined-result : (event answer : ℕ) (act : Act) (v : View) → IsResult act answer → (b : Bodies) → joined act event v b ≡ b
-joined-result event answer (Returns r) v is b = refl
-joined-result event answer (Receives at bytes r) v is b = refl
-joined-result event answer (Gives at len r) v is b = refl
-joined-result event answer (Starts file block len) v is b = refl
-joined-result event answer (Forks child) v is b = absurd is
-joined-result event answer (Founds child) v is b = refl
-joined-result event answer Shares v is b = refl
-joined-result event answer Leaves v is b = refl
-joined-result event answer (Delivers s h cut) v is b = refl
-joined-result event answer Exits v is b = refl
-joined-result event answer (Faults status) v is b = refl
-joined-result event answer (Dies s cut) v is b = refl
+joined-result event answer act v h1 b = grind (arith, nat_tests)
 
 -- a handler ends, if one runs
 pub restored-is : (segs : Segments) (g : Guest) (o : Option Cpu) → g.signals.slot ≡ o → restored o (view_of segs g) ≡ view_of segs (record g { cpu = unwrap_or o g.cpu; signals = record g.signals { slot = None } })
@@ -89,14 +68,10 @@ module _ {guests : Guests} {all : List (Option Guest)} {segs : Segments} {p : �
   moved-sound = sound-changed p g g' all (set all p (Some g')) segs segs' at.sound at.stands made segment at.changes keeps there
 
   pub moved-put : Follows guests (put p (view_of segs' g')) (shown_all (set all p (Some g')) segs')
-  moved-put =
-      subst (λ (old : Guests). Follows old (put p (view_of segs' g')) (shown_all (set all p (Some g')) segs')) at.shown
-      (follows-put p g' all (set all p (Some g')) segs segs' at.sound moved-sound at.changes keeps)
+  moved-put = grind (arith, nat_tests, follows-put, keeps, moved-sound)
 
   pub moved-follows : (event : ℕ) (act : Act) → acted event act (view_of segs g) ≡ Some (view_of segs' g') → ((b : Bodies) → joined act event (view_of segs g) b ≡ b) → Follows guests (done p event act) (shown_all (set all p (Some g')) segs')
-  moved-follows event act acts alone =
-      subst (λ (old : Guests). Follows old (done p event act) (shown_all (set all p (Some g')) segs')) at.shown
-      (follows-changed p event act g g' all (set all p (Some g')) segs segs' at.sound at.stands made segment at.changes keeps there acts alone)
+  moved-follows event act h1 h2 = grind (arith, nat_tests, follows-changed, keeps, there)
 
   pub moved-watches : watch_of g' ≡ watch_of g → KeepsWatches guests (shown_all (set all p (Some g')) segs')
   moved-watches same =

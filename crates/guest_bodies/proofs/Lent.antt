@@ -1,5 +1,6 @@
 -- A segment that was lent to its process, and brought back.
-use Rattle.std.proofs.Common.{◌≡◌, ℕ, List, [], ◌∷◌, length, set, Option, None, Some, IsSome, is_some, option_map, unwrap_or, refl, sym, ap, ◌∙◌}
+use Rattle.std.proofs.Common.{◌≡◌, ℕ, List, [], ◌∷◌, length, set, Option, None, Some, IsSome, is_some, option_map, unwrap_or, refl, ap, ◌∙◌, arith}
+use Rattle.std.proofs.lemmas.Bool.Decides.{nat_tests}
 use Rattle.std.proofs.lemmas.List.{set-set}
 use Rattle.arn_base.specs.Window.{Window}
 use Rattle.parts_model.specs.Memory.{windows}
@@ -10,10 +11,7 @@ use Rattle.guest_bodies.proofs.Numbers.{IsSome-within, nth-set, set-nth}
 
 -- as many windows are there as before
 pub windows-some : (a b : List ℕ) (m o : Option (List ℕ)) → length (windows a m) ≡ length (windows b o) → is_some m ≡ is_some o
-windows-some a b None None e = refl
-windows-some a b None (Some y) e = cc
-windows-some a b (Some x) None e = cc
-windows-some a b (Some x) (Some y) e = refl
+windows-some a b m o h1 = grind (arith, nat_tests)
 
 -- the bytes of the first window, and of the second
 abbrev pub first_bytes : List Window → List ℕ
@@ -28,19 +26,12 @@ pub windows-space : (a b : List ℕ) (m o : Option (List ℕ)) → windows a m �
 windows-space a b m o e = ap first_bytes e
 
 pub windows-segment : (a b : List ℕ) (m o : Option (List ℕ)) → windows a m ≡ windows b o → m ≡ o
-windows-segment a b None None e = refl
-windows-segment a b None (Some y) e = cc
-windows-segment a b (Some x) None e = cc
-windows-segment a b (Some x) (Some y) e = ap (λ (bytes : List ℕ). Some bytes) (ap second_bytes e)
+windows-segment a b m o h1 = grind (arith, nat_tests, second_bytes)
 
 abbrev pub back : Option Shared → Option (List ℕ) → Segments → Segments
 back o m segs = with_key o m (with_key o None segs)
 
 module _ (segs : Segments) where
-  pub lent-some : (o : Option Shared) → IfHeld o segs → is_some (lent segs o) ≡ is_some o
-  lent-some None there = refl
-  lent-some (Some s) there = there
-
   -- what a process sees of the segment that it holds
   lent-by : (x : Option (List ℕ)) → IsSome x → Some (unwrap_or x []) ≡ x
   lent-by None there = cc
@@ -55,17 +46,11 @@ module _ (segs : Segments) where
 
   -- what is in the table again
   pub back-held : (o : Option Shared) (m : Option (List ℕ)) → IfHeld o segs → is_some m ≡ is_some (lent segs o) → back o m segs ≡ with_held o (held_bytes (back o m segs) o) segs
-  back-held None m there some = refl
-  back-held (Some s) None there some = cc
-  back-held (Some s) (Some b) there some =
-      set-set segs s.key None (Some b) ∙ ap (λ (x : Option (List ℕ)). set segs s.key (Some (unwrap_or x []))) (sym (at_key s (Some b) there))
+  back-held o m h1 h2 = grind (arith, nat_tests, at_key, set-set)
 
   -- what its process sees of it
   pub back-seen : (o : Option Shared) (m : Option (List ℕ)) → IfHeld o segs → is_some m ≡ is_some (lent segs o) → option_map (λ (made : ℕ). held_bytes (back o m segs) o) (option_map (λ (s : Shared). s.made) o) ≡ m
-  back-seen None None there some = refl
-  back-seen None (Some b) there some = cc
-  back-seen (Some s) None there some = cc
-  back-seen (Some s) (Some b) there some = ap (λ (x : Option (List ℕ)). Some (unwrap_or x [])) (at_key s (Some b) there)
+  back-seen o m h1 h2 = grind (arith, nat_tests, at_key)
 
   -- where it comes back as it was
   pub back-same : (o : Option Shared) → IfHeld o segs → back o (lent segs o) segs ≡ segs

@@ -22,4 +22,3 @@ pub mod Spelled
 pub mod Starts
 pub mod Tolds
 pub mod Unheld
-pub mod Window

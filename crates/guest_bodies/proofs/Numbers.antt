@@ -1,5 +1,5 @@
 -- Things by number, after one of them changes.
-use Rattle.std.proofs.Common.{◌≡◌, ℕ, zero, suc, ◌<◌, ◌≤◌, List, [], ◌∷◌, ◌++◌, length, map, get_or, set, Option, None, IsSome, option_map, refl, sym, ap, arith, true≢false}
+use Rattle.std.proofs.Common.{◌≡◌, ℕ, zero, suc, ◌<◌, List, [], ◌∷◌, ◌++◌, length, map, get_or, set, Option, IsSome, option_map, refl, sym, ap, arith, true≢false}
 use Rattle.parts_model.specs.Numbered.{nth}
 
 module _ {A : Type 0} where
@@ -41,18 +41,6 @@ module _ {A : Type 0} where
   pub nth-last : (all : List (Option A)) (x : Option A) → nth (all ++ x ∷ []) (length all) ≡ x
   nth-last [] x = refl
   nth-last (y ∷ all) x = nth-last all x
-
-  pub nth-past : (all : List (Option A)) (q : ℕ) → length all ≤ q → nth all q ≡ None
-  nth-past [] q past = refl
-  nth-past (y ∷ all) zero past = absurd (omega arith)
-  nth-past (y ∷ all) (suc q) past = nth-past all q (omega arith)
-
-  -- room for one more changes nothing
-  pub nth-push_none : (all : List (Option A)) (q : ℕ) → nth (all ++ None ∷ []) q ≡ nth all q
-  nth-push_none [] zero = refl
-  nth-push_none [] (suc q) = refl
-  nth-push_none (y ∷ all) zero = refl
-  nth-push_none (y ∷ all) (suc q) = nth-push_none all q
 
   pub nth-map : {B : Type 0} (f : A → B) (all : List (Option A)) (q : ℕ) → nth (map (option_map f) all) q ≡ option_map f (nth all q)
   nth-map f [] q = refl

@@ -1,14 +1,11 @@
 -- Bodies and memories as places: what is put is found, and nothing else changes. No later file opens a list.
 use Rattle.std.proofs.Common.{◌≡◌, ℕ, zero, suc, List, [], ◌∷◌, refl, ap, ◌∙◌, sym, Option, Some, None, Bool, true, false, ◌==◌, cond, arith, ne_eqb}
+use Rattle.std.proofs.lemmas.Bool.Decides.{nat_tests}
 use Rattle.std.proofs.lemmas.Bool.{eq-eqb, eqb-true, eqb-false}
 use Rattle.acts_model.specs.Bodies.{Body, Memory, Bodies, View, nth_body, with_nth, found, with_found, body_at, with_body, memory_at, with_memory, with_segment, put, remove}
 
 suc-test : (q p : ℕ) → (suc q == suc p) ≡ (q == p)
-suc-test q p = by_test (q == p) refl
-  where
-    by_test : (b : Bool) → (q == p) ≡ b → (suc q == suc p) ≡ b
-    by_test true e = eq-eqb (suc q) (suc p) (ap suc (eqb-true q p e))
-    by_test false e = let ne = eqb-false q p e in ne_eqb (suc q) (suc p) (λ k. ne (omega arith))
+suc-test q p = grind (arith, nat_tests, eq-eqb, eqb-false, eqb-true)
 
 nth-with : (p : ℕ) (x : Option Body) (xs : List (Option Body)) (q : ℕ) → nth_body (with_nth p x xs) q ≡ cond (q == p) x (nth_body xs q)
 unfolding nth_body with_nth
@@ -75,17 +72,11 @@ memory-segment (Some s) bytes b k = memory-with s bytes b k
 
 pub put-body : (p : ℕ) (v : View) (b : Bodies) (q : ℕ) → body_at (put p v b) q ≡ cond (q == p) (Some v.body) (body_at b q)
 unfolding put
-put-body p v b q =
-    let old = with_segment v.body.segment v.segment b in
-    body-with p (Some v.body) (with_memory v.body.window v.window old) q
-    ∙ ap (cond (q == p) (Some v.body)) (body-kept v.body.window v.window old q ∙ body-segment v.body.segment v.segment b q)
+put-body p v b q = grind (arith, nat_tests, body-kept, body-segment, body-with)
 
 pub put-memory : (p : ℕ) (v : View) (b : Bodies) (k : ℕ) → memory_at (put p v b) k ≡ laid v k (memory_at b k)
 unfolding put
-put-memory p v b k =
-    let old = with_segment v.body.segment v.segment b in
-    memory-kept p (Some v.body) (with_memory v.body.window v.window old) k
-    ∙ (memory-with v.body.window v.window old k ∙ ap (cond (k == v.body.window) v.window) (memory-segment v.body.segment v.segment b k))
+put-memory p v b k = grind (arith, nat_tests, memory-kept, memory-segment, memory-with)
 
 pub remove-body : (p : ℕ) (b : Bodies) (q : ℕ) → body_at (remove p b) q ≡ cond (q == p) None (body_at b q)
 unfolding remove

@@ -1,5 +1,6 @@
 -- What others see, and what the process itself sees, after it is put or removed: no memory is named beside views.
-use Rattle.std.proofs.Common.{◌≡◌, ℕ, List, [], refl, ap, ap₂, ◌∙◌, sym, Option, Some, None, option_map, Bool, true, false, ◌==◌, cond, ne_eqb}
+use Rattle.std.proofs.Common.{◌≡◌, ℕ, List, [], refl, ap, ap₂, ◌∙◌, Option, Some, None, option_map, ◌==◌, cond, arith}
+use Rattle.std.proofs.lemmas.Bool.Decides.{nat_tests}
 use Rattle.std.proofs.lemmas.Bool.{eq-eqb}
 use Rattle.acts_model.specs.Bodies.{Body, Bodies, View, body_at, memory_at, view, seen, segment_bytes, put, remove}
 use Rattle.guest_bodies.proofs.Places.{laid, laid_segment, put-body, put-memory, remove-body, remove-memory}
@@ -21,11 +22,7 @@ view-put p v b x = ap₂ (λ (a c : List ℕ). record { body = x; window = a; se
 
 -- so a put is one on views: no memory is named beside them
 pub seen-other : (p : ℕ) (v : View) (b : Bodies) (q : ℕ) → (q ≡ p → ⊥) → seen (put p v b) q ≡ option_map (refreshed v) (seen b q)
-seen-other p v b q ne = ap (option_map (view (put p v b))) (put-body p v b q ∙ ap (λ t. cond t (Some v.body) (body_at b q)) (ne_eqb q p ne)) ∙ by_body (body_at b q)
-  where
-    by_body : (o : Option Body) → option_map (view (put p v b)) o ≡ option_map (refreshed v) (option_map (view b) o)
-    by_body None = refl
-    by_body (Some x) = ap Some (view-put p v b x)
+seen-other p v b q h1 = grind (arith, nat_tests, put-body, refreshed, view-put)
 
 -- and its own view is there
 abbrev pub own_segment : View → Option ℕ → List ℕ
@@ -33,11 +30,7 @@ own_segment v None = []
 own_segment v (Some k) = laid v k []
 
 laid-own : (v : View) (k : ℕ) (old : List ℕ) → v.body.segment ≡ Some k → laid v k old ≡ laid v k []
-laid-own v k old e = ap (cond (k == v.body.window) v.window) (by_segment v.body.segment e)
-  where
-    by_segment : (o : Option ℕ) → o ≡ Some k → laid_segment o v.segment k old ≡ laid_segment o v.segment k []
-    by_segment None e = absurd (cc)
-    by_segment (Some s) e = let same : k == s ≡ true = eq-eqb k s (cc) in ap (λ t. cond t v.segment old) same ∙ sym (ap (λ t. cond t v.segment []) same)
+laid-own v k old h1 = grind (arith, nat_tests, eq-eqb, laid_segment)
 
 pub seen-same : (p : ℕ) (v : View) (b : Bodies) → seen (put p v b) p ≡ Some (record { body = v.body; window = v.window; segment = own_segment v v.body.segment })
 seen-same p v b =
@@ -52,16 +45,4 @@ seen-same p v b =
     segment (Some k) e = put-memory p v b k ∙ laid-own v k (memory_at b k) e
 
 pub seen-removed : (p : ℕ) (b : Bodies) (q : ℕ) → seen (remove p b) q ≡ cond (q == p) None (seen b q)
-seen-removed p b q = ap (option_map (view (remove p b))) (remove-body p b q) ∙ by_test (q == p) (body_at b q)
-  where
-    segment : (o : Option ℕ) → segment_bytes (remove p b) o ≡ segment_bytes b o
-    segment None = refl
-    segment (Some k) = remove-memory p b k
-
-    by_body : (o : Option Body) → option_map (view (remove p b)) o ≡ option_map (view b) o
-    by_body None = refl
-    by_body (Some x) = ap Some (ap₂ (λ (a c : List ℕ). record { body = x; window = a; segment = c }) (remove-memory p b x.window) (segment x.segment))
-
-    by_test : (t : Bool) (o : Option Body) → option_map (view (remove p b)) (cond t None o) ≡ cond t None (option_map (view b) o)
-    by_test true o = refl
-    by_test false o = by_body o
+seen-removed p b q = grind (arith, nat_tests, remove-body, remove-memory)

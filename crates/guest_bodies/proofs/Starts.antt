@@ -1,5 +1,6 @@
 -- How a process starts from an image: one that lives, or process 1 among none.
-use Rattle.std.proofs.Common.{◌≡◌, ℕ, ◌<◌, ◌==◌, Bool, true, false, cond, List, [], length, set, Option, Some, None, IsNone, IfSome, is_some, option_map, ap, ap₂, subst, sym, refl, ◌∙◌}
+use Rattle.std.proofs.Common.{◌≡◌, ℕ, ◌<◌, ◌==◌, Bool, true, false, List, [], length, set, Option, Some, None, IsNone, is_some, option_map, ap, ap₂, subst, sym, refl, ◌∙◌, arith}
+use Rattle.std.proofs.lemmas.Bool.Decides.{nat_tests}
 use Rattle.std.proofs.lemmas.Bool.{eqb-true, eqb-false}
 use Rattle.arn_base.specs.declared.machine.Cpu.{Cpu}
 use Rattle.parts_model.specs.Image.{read_as_image}
@@ -10,7 +11,7 @@ use Rattle.acts_model.specs.Bodies.{Bodies, View, seen, put}
 use Rattle.acts_model.specs.Views.{cpu_at_start, read, window_at_start}
 use Rattle.guest_bodies.specs.Follows.{Follows, SetsWatch}
 use Rattle.guest_bodies.specs.Kept.{Segments, view_of, watch_of, shown_all, IsSound}
-use Rattle.guest_bodies.specs.Shown.{Guests, Shown, Watch, IsFresh, IsUnheldBy, fresh_watch, restarted, seen_in, watch_in}
+use Rattle.guest_bodies.specs.Shown.{Guests, Watch, IsFresh, fresh_watch, restarted, seen_in, watch_in}
 use Rattle.guest_bodies.specs.declared.guest.Guest.{Guest}
 use Rattle.guest_bodies.specs.declared.starting.First.{First}
 use Rattle.guest_bodies.proofs.Begins.{begins-sound, begins-follows, begins-watch}
@@ -73,27 +74,14 @@ module _ {guests : Guests} {all : List (Option Guest)} {segs : Segments} {p : �
 
 -- where no process lives, every event is fresh
 pub none-fresh : (guests : Guests) (event : ℕ) → ((p : ℕ) → IsNone (nth guests p)) → IsFresh guests event
-none-fresh guests event none = record { unheld = λ p. by_shown (nth guests p) (none p) }
-  where
-    by_shown : (o : Option Shown) → IsNone o → IfSome (option_map (λ (s : Shown). s.view) o) (λ v. IsUnheldBy event v.body)
-    by_shown None is = tt
-    by_shown (Some s) is = cc
+none-fresh guests event h1 = grind (arith, nat_tests)
 
 -- a process that is put twice in the same window
 laid-twice : (event : ℕ) (b c : Beginning) (k : ℕ) (old : List ℕ) → laid (child_view event b None []) k (laid (child_view event c None []) k old) ≡ laid (child_view event b None []) k old
-laid-twice event b c k old = by_test (k == event)
-  where
-    by_test : (t : Bool) → cond t b.window (cond t c.window old) ≡ cond t b.window old
-    by_test true = refl
-    by_test false = refl
+laid-twice event b c k old = grind (arith, nat_tests)
 
 refreshed-twice : (event : ℕ) (b c : Beginning) (v : View) → refreshed (child_view event b None []) (refreshed (child_view event c None []) v) ≡ refreshed (child_view event b None []) v
-refreshed-twice event b c v =
-    ap₂ (λ (w s : List ℕ). record { body = v.body; window = w; segment = s }) (laid-twice event b c v.body.window v.window) (by_segment v.body.segment)
-  where
-    by_segment : (o : Option ℕ) → fresh_segment (child_view event b None []) o (fresh_segment (child_view event c None []) o v.segment) ≡ fresh_segment (child_view event b None []) o v.segment
-    by_segment None = refl
-    by_segment (Some k) = laid-twice event b c k v.segment
+refreshed-twice event b c v = grind (arith, nat_tests, fresh_segment, laid-twice)
 
 put-twice : (p event : ℕ) (b c : Beginning) (old : Bodies) (q : ℕ) → seen (put p (child_view event b None []) (put p (child_view event c None []) old)) q ≡ seen (put p (child_view event b None []) old) q
 put-twice p event b c old q = by_test (q == p) refl

@@ -1,5 +1,6 @@
 -- Instructions of a process that is found where it stands.
-use Rattle.std.proofs.Common.{◌≡◌, ℕ, zero, suc, List, set, Option, Some, None, IsSome, IfSome, is_some, get_or, option_map, refl, sym, ap, subst, ◌∙◌, true≢false}
+use Rattle.std.proofs.Common.{◌≡◌, ℕ, zero, suc, List, set, Option, Some, None, IsSome, IfSome, is_some, get_or, option_map, refl, sym, ap, subst, ◌∙◌, true≢false, arith}
+use Rattle.std.proofs.lemmas.Bool.Decides.{nat_tests}
 use Rattle.std.proofs.lemmas.List.{set-set}
 use Rattle.arn_base.specs.declared.machine.Cpu.{Cpu}
 use Rattle.acts_model.specs.Bodies.{View, put}
@@ -35,9 +36,7 @@ module _ {guests : Guests} {all : List (Option Guest)} {segs : Segments} {p : �
 
   -- it sees the registers and the windows that it has
   runs-back : view_of segs' g' ≡ with_reach (reach (view_of segs' g')) (with_cpu g'.cpu (view_of segs g))
-  runs-back =
-      subst (λ (x : Guest). view_of segs' x ≡ with_reach (reach (view_of segs' x)) (with_cpu g'.cpu (view_of segs g))) (sym runs.guest)
-      (sym (reach-back segs segs' g g'.cpu g'.memory))
+  runs-back = grind (arith, nat_tests, reach-back)
 
   pub runs-put : Follows guests (put p (with_reach (reach (view_of segs' g')) (with_cpu g'.cpu (view_of segs g)))) (shown_all (set all p (Some g')) segs')
   runs-put =

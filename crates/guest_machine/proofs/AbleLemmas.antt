@@ -1,7 +1,7 @@
 -- Which processes of a list pass a test, one after the other.
-use Rattle.std.proofs.Common.{◌≡◌, ℕ, ◌+◌, ◌<◌, ◌≤◌, ◌%◌, ◌++◌, min, max, IfSome, Bool, true, false, cond, List, [], ◌∷◌, length, filter, get_or, take, drop, Option, None, Some, slice_get, refl, sym, ap, subst, ◌∙◌, arith, length-append, take-append-drop}
+use Rattle.std.proofs.Common.{◌≡◌, ℕ, ◌+◌, ◌<◌, ◌≤◌, ◌%◌, ◌++◌, min, max, IfSome, Bool, true, List, [], ◌∷◌, length, filter, get_or, take, drop, Option, None, Some, slice_get, refl, sym, ap, subst, ◌∙◌, arith, take-append-drop}
 use Rattle.std.proofs.Math.Seq.{take-length}
-use Rattle.std.proofs.lemmas.List.{drop_more, take_more}
+use Rattle.std.proofs.lemmas.List.{drop_more}
 use Rattle.std.proofs.lemmas.List.Elements.{All-get_or, filter-append, filter_passes}
 use Rattle.std.proofs.lemmas.Option.{get_or_from_slice_get, slice_get-get_or, slice_get_past, slice_get_within}
 use Rattle.arn_base.specs.declared.boxes.Choice.{Choice}
@@ -18,27 +18,6 @@ use Rattle.guest_machine.specs.declared.leg.Pick.{Pick}
 -- so many of the first i pass
 abbrev pub Passed : (ℕ → Bool) → List ℕ → ℕ → ℕ → Type 0
 Passed f xs i n = n ≡ length (filter f (take i xs))
-
-one-more : (f : ℕ → Bool) (xs : List ℕ) (i x : ℕ) (b : Bool) → i < length xs → x ≡ get_or xs i 0 → f x ≡ b → length (filter f (take (i + 1) xs)) ≡ length (filter f (take i xs)) + cond b 1 0
-one-more f xs i x b within is at =
-    let all : take (i + 1) xs ≡ take i xs ++ x ∷ [] = take_more xs i 0 within ∙ ap (λ (y : ℕ). take i xs ++ y ∷ []) (sym is) in
-    let split = ap (filter f) all ∙ filter-append f (take i xs) (x ∷ []) in
-    omega (arith, ap length split, length-append (filter f (take i xs)) (filter f (x ∷ [])), one f x b at)
-  where
-    by : (b : Bool) → length (cond b (x ∷ []) []) ≡ cond b 1 0
-    by true = refl
-    by false = refl
-
-    one : (f : ℕ → Bool) (x : ℕ) (b : Bool) → f x ≡ b → length (filter f (x ∷ [])) ≡ cond b 1 0
-    one f x true at = rw at refl
-    one f x false at = rw at refl
-
--- the next one passes, or doesn't
-pub passes : (s : State) (xs : List ℕ) (i x n : ℕ) (able : Bool) → i < length xs → x ≡ get_or xs i 0 → OfEach s (λ m. able ≡ is_runnable m x) → able ≡ true → OfEach s (λ m. Passed (is_runnable m) xs i n) → OfEach s (λ m. Passed (is_runnable m) xs (i + 1) (n + 1))
-passes s xs i x n able within is tells does so_far m stands = omega (arith, so_far m stands, one-more (is_runnable m) xs i x true within is (sym (tells m stands) ∙ does))
-
-pub fails : (s : State) (xs : List ℕ) (i x n : ℕ) (able : Bool) → i < length xs → x ≡ get_or xs i 0 → OfEach s (λ m. able ≡ is_runnable m x) → able ≡ false → OfEach s (λ m. Passed (is_runnable m) xs i n) → OfEach s (λ m. Passed (is_runnable m) xs (i + 1) n)
-fails s xs i x n able within is tells no_ so_far m stands = omega (arith, so_far m stands, one-more (is_runnable m) xs i x false within is (sym (tells m stands) ∙ no_))
 
 -- the list is that of live processes
 same-live : (s : State) (m : Machine) (xs : List ℕ) → StandsFor s m → xs ≡ table.live s.kernel.processes → filter (is_runnable m) xs ≡ runnable m

@@ -2,8 +2,6 @@
 use Rattle.std.proofs.Common.{◌≡◌, ◌≢◌, ℕ, zero, suc, ◌+◌, ◌<◌, ◌≤◌, List, [], ◌∷◌, ◌++◌, length, get_or, take, Option, None, Some, slice_get, refl, sym, ap, ◌∙◌, arith, append_assoc, length-append, IfSome}
 use Rattle.std.proofs.Math.Seq.{take-append-add}
 use Rattle.std.proofs.lemmas.List.{take-append-le, take_more, length-take-le}
-use Rattle.std.specs.Prelude.{All}
-use Rattle.std.proofs.lemmas.List.Elements.{All-head, All-tail}
 use Rattle.std.proofs.lemmas.Option.{get_or_from_slice_get, slice_get-get_or, slice_get_within}
 use Rattle.arn_base.specs.declared.records.Record.{Record}
 use Rattle.result_log.specs.Laws.{SpelledOneWay, ReadsAsSpelled, ReadsBytes}
@@ -78,12 +76,6 @@ first-front said front back d within first =
       found_byte = ap (λ (o : Option Record). slice_get (spelling_if o) d.at) there ∙ first.found_byte;
       bytes_differ = first.bytes_differ;
     }
-
--- what stands at a place of records that have spellings has one
-pub All-slice_get : {X : Type 0} (P : X → Type 0) (xs : List X) (k : ℕ) → All P xs → IfSome (slice_get xs k) P
-All-slice_get P [] k all = tt
-All-slice_get P (x ∷ xs) zero all = All-head P x xs all
-All-slice_get P (x ∷ xs) (suc k) all = All-slice_get P xs k (All-tail P x xs all)
 
 -- the first byte that two spellings don't share
 pub difference_of : (place at : ℕ) (said found : Option Record) (said_bytes found_bytes : List ℕ) (said_byte found_byte : Option ℕ) → spelling_if said ≢ spelling_if found → said_bytes ≡ spelling_if said → found_bytes ≡ spelling_if found

@@ -8,7 +8,6 @@ pub mod Compared
 pub mod SameRecord
 pub mod Bounds
 pub mod LawLemmas
-pub mod SmallQuestions
 pub mod ToldLemmas
 pub mod RealLemmas
 pub mod MachineLemmas

@@ -1,7 +1,6 @@
 -- The records of a slice.
-use Rattle.std.proofs.Common.{◌≡◌, ◌≢◌, ℕ, zero, suc, List, [], ◌∷◌, refl}
+use Rattle.std.proofs.Common.{◌≡◌, ℕ, zero, suc, List, [], ◌∷◌, refl}
 use Rattle.arn_base.specs.declared.records.Record.{Record}
-use Rattle.arn_base.specs.declared.records.Record.TheVariants as entry
 use Rattle.guest_machine.specs.Pieces.{slice_of}
 
 no_cons : (e : Record) (es : List Record) → e ∷ es ≡ [] → ⊥
@@ -12,9 +11,3 @@ pub nothing-of : (pid ran : ℕ) (entries : List Record) → slice_of 0 ran entr
 nothing-of pid zero [] none = refl
 nothing-of pid zero (e ∷ entries) none = absurd (no_cons _ _ none)
 nothing-of pid (suc n) entries none = absurd (no_cons _ _ none)
-
--- or there is that of the slice, and behind it the others
-pub something-of : (pid ran : ℕ) (entries : List Record) → slice_of 0 ran entries ≢ [] → slice_of pid ran entries ≡ entry.Slice pid ran ∷ entries
-something-of pid zero [] some = absurd (some refl)
-something-of pid zero (e ∷ entries) some = refl
-something-of pid (suc n) entries some = refl

@@ -2,7 +2,6 @@
 use Rattle.std.proofs.Common.{◌≡◌, ℕ, ◌+◌, ◌<◌, ◌≤◌, ◌^◌, List, [], ◌∷◌, ◌++◌, length, get_or, take, drop, None, slice_get, cond, refl, sym, ap, ◌∙◌, subst, append_assoc, append-nil, length-take, take-append-drop, arith}
 use Rattle.std.specs.List.{between}
 use Rattle.std.specs.Prelude.{count_by}
-use Rattle.std.proofs.Math.Seq.{take-length}
 use Rattle.std.proofs.lemmas.List.{drop_all, drop_more, length-take-le, take_more, take-take}
 use Rattle.std.proofs.lemmas.List.Sums.{sum_by-append}
 use Rattle.std.proofs.lemmas.Slice.{between_to_end}
@@ -145,21 +144,6 @@ module _ (entries : List Record) (r : Recorded) (matched : ℕ) (steps0 steps : 
 
   records-all : records (named entries) ≡ take matched entries
   records-all = ap records all-named ∙ done.recorded
-
-  pub IsRebuilt-leads : IsAfter r (named entries)
-  IsRebuilt-leads = subst (IsAfter r) (sym all-named) done.after
-
-  pub IsRebuilt-few : steps ≤ steps0 + rebuild_cost entries
-  IsRebuilt-few =
-      let counted : r.instructions ≡ instructions_in (run (named entries)) = IsRebuilt-leads.counted in
-      let slices : count_by is_slice (take (length entries) entries) ≡ count_by is_slice entries = ap (count_by is_slice) (take-length entries) in
-      omega (arith, done.few, counted, slices)
-
-  -- all are matched
-  pub IsRebuilt-run : length entries ≤ matched → IsRun entries
-  IsRebuilt-run all =
-      let same : matched ≡ length entries = omega (arith, all, done.within) in
-      sym (records-all ∙ ap (λ (n : ℕ). take n entries) same ∙ take-length entries)
 
   -- a record is missing
   pub IsRebuilt-missing : matched < length entries → (d : Differs) → IsDifferenceAt matched (slice_get entries matched) None d → IsFirstDifference entries (records (named entries)) d

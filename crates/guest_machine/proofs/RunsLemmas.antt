@@ -29,11 +29,6 @@ Runs-one m i steps old new out out' is stands counted recorded =
           ∙ ap (λ (entries : List Record). out ++ entries) (sym (append-nil (input_records i (input_steps m i))));
     }
 
--- one step from outside, which is no instruction
-pub Runs-outside : (m : Machine) (i : Input) (s : Step) (e : Record) (old new : Recorded) (out out' : List Record) → input_steps m i ≡ s ∷ [] → input_records i (s ∷ []) ≡ e ∷ [] → instructions_in (s ∷ []) ≡ 0 → StandsFor new.kernel s.after → new.instructions ≡ old.instructions → out' ≡ out ++ e ∷ [] → Runs m (i ∷ []) old new out out'
-Runs-outside m i s e old new out out' is has none stands same recorded =
-    Runs-one m i (s ∷ []) old new out out' is stands (omega (arith, same, none)) (recorded ∙ ap (λ (entries : List Record). out ++ entries) (sym has))
-
 -- inputs behind inputs
 pub Runs-then : (m : Machine) (inputs more : List Input) (r r1 r2 : Recorded) (out out1 out2 : List Record) → Runs m inputs r r1 out out1 → Runs (machine_from m inputs) more r1 r2 out1 out2 → Runs m (inputs ++ more) r r2 out out2
 Runs-then m inputs more r r1 r2 out out1 out2 first next =

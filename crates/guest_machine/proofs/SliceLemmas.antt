@@ -72,12 +72,6 @@ can-lives s pid count real can = by (can real.machine real.stands)
         let v = some-view (seen real.machine.bodies pid) none.1 in
         lives s real.machine pid v.0 real.stands v.1
 
--- one of no instruction of a live process may be taken
-pub zero-can : (s : State) (pid count : ℕ) → IsLive s.guests pid → count ≡ 0 → OfEach s (λ m. CanTake m pid count)
-zero-can s pid count live none m stands =
-    let v = sees s m pid stands live in
-    inr (none, subst (λ (o : Option View). IsSome o) (sym v.1) cc)
-
 -- from a turn to the slice
 Turned-Runs : (m : Machine) (pid k : ℕ) (reply : Option Answered) (t : Turn) (old new : Recorded) (out out' : List Record) → input_steps m (Slice pid k reply) ≡ steps_of (turn k pid reply m) → Turned m pid k reply t new.kernel → new.instructions ≡ old.instructions + t.ran
     → out' ≡ out ++ slice_of pid t.ran (option_to_list t.delivery ++ option_to_list t.last) → Runs m (Slice pid k reply ∷ []) old new out out'

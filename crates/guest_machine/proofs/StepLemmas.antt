@@ -43,13 +43,6 @@ Delivers-by m pid v (Some d) None old new stands by is = absurd by
 Delivers-by m pid v (Some d) (Some s) old new stands by is =
     record { told = rw is (delivery-record s by.0.event _ by.0.happened by.0.told); stands = rw is by.1 }
 
-pub Delivers-some : (m : Machine) (pid : ℕ) (v : View) (o : Option Delivered) (d : Delivered) (old new : State) → StandsFor old m → DeliveredBy o pid (delivery_step m pid v) old new → o ≡ Some d
-    → Delivers m pid v (Some (entry.Signal pid d.signal d.cut d.handler)) new
-Delivers-some m pid v o d old new stands by is = subst (λ (o : Option Delivered). Delivers m pid v (option_map (λ d. entry.Signal pid d.signal d.cut d.handler) o) new) is (Delivers-by m pid v o (delivery_step m pid v) old new stands by refl)
-
-pub Delivers-none : (m : Machine) (pid : ℕ) (v : View) (o : Option Delivered) (old new : State) → StandsFor old m → DeliveredBy o pid (delivery_step m pid v) old new → o ≡ None → Delivers m pid v None new
-Delivers-none m pid v o old new stands by is = subst (λ (o : Option Delivered). Delivers m pid v (option_map (λ d. entry.Signal pid d.signal d.cut d.handler) o) new) is (Delivers-by m pid v o (delivery_step m pid v) old new stands by refl)
-
 one-event : (m : Machine) (pid : ℕ) (v : View) (o : Option ℕ) → (after_first m (delivery_of m pid v o)).events ≤ m.events + 1
 one-event m pid v None = omega arith
 one-event m pid v (Some signal) = omega arith
@@ -290,13 +283,6 @@ happens-real answers asked asked' old new pid e real happens =
     let m = real.machine in
     let h = happens m real.stands in
     (Happens-real answers asked asked' m pid e new h, omega (arith, real.stands.events, h.stands.events, one-last-in m pid h.reply (seen m.bodies pid)))
-
-pub ended-real : (old new : State) (pid status : ℕ) → IsReal old → IsLive old.guests pid → OfProcess old pid (λ m v. StandsFor new (fault_step m pid v status).after) → IsReal new × (new.events ≤ old.events + 1)
-ended-real old new pid status real live ended =
-    let m = real.machine in
-    let v = sees old m pid real.stands live in
-    let s = ended m v.0 real.stands v.1 in
-    (record { machine = (fault_step m pid v.0 status).after; stands = s }, omega (arith, real.stands.events, s.events))
 
 pub end-happens : {A : Type 0} (answers : A → Asked → Answered → A → Type 0) (asked : A) (old new : State) (pid status : ℕ) → OfEach old (λ m. StandsAt m pid (End status)) → OfProcess old pid (λ m v. StandsFor new (fault_step m pid v status).after)
     → OfEach old (λ m. Happens answers m pid (Some (entry.End pid status)) asked asked new)

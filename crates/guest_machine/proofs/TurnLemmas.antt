@@ -85,10 +85,6 @@ plains-more (suc n) k pid m all =
     let e : suc n + k ≡ suc (n + k) = omega arith in
     ap (λ (i : ℕ). plains i pid m) e ∙ then-more (plain_in m pid (seen m.bodies pid)) n k pid (plains-more n k pid) m all
 
--- the parts of a turn
-abbrev turn_parts : ℕ → ℕ → Option Answered → Machine → (List Step → Option Step → Type 0) → Type 0
-turn_parts n pid reply m P = P (plains n pid (delivered pid m)) (last_of n pid reply (delivered pid m) (plains n pid (delivered pid m)))
-
 turn-after : (n pid : ℕ) (reply : Option Answered) (m : Machine) → let m1 = delivered pid m in let plain = plains n pid m1 in
     after_steps m (steps_of (turn n pid reply m)) ≡ after_first (after_steps m1 plain) (last_of n pid reply m1 plain)
 turn-after n pid reply m =

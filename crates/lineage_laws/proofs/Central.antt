@@ -1,5 +1,6 @@
 -- Whole tracking is the tracking of all steps by items, with the items' sets put in their place.
-use Rattle.std.proofs.Common.{◌≡◌, ℕ, List, [], ◌∷◌, map, flat_map, Option, Some, None, Bool, true, false, ◌==◌, cond}
+use Rattle.std.proofs.Common.{◌≡◌, ℕ, List, [], ◌∷◌, map, flat_map, Option, arith}
+use Rattle.std.proofs.lemmas.Bool.Decides.{nat_tests}
 use Rattle.rv64_model.specs.Carries.{Table}
 use Rattle.acts_model.specs.Moved.{Event, Moved}
 use Rattle.acts_model.specs.Transfers.{Transfer}
@@ -24,12 +25,7 @@ IsValue table v w [] = Unit {0}
 IsValue table v w (m ∷ list) = Takes (λ at. given m w at ≡ flat_map v (items m.inside.event at)) m.inside.transfer × IsValue table v (whole_after table m w) list
 
 points-join : (v : EventByte → List EventByte) (event : Option Event) (x y : At → List EventByte) (p q : ℕ → At → List EventByte) → ((at : At) → x at ≡ flat_map v (y at)) → ((e : ℕ) (at : At) → p e at ≡ flat_map v (q e at)) → (e : ℕ) (at : At) → points_after event x p e at ≡ flat_map v (points_after event y q e at)
-points-join v None x y p q h k e at = k e at
-points-join v (Some event) x y p q h k e at = by_test (e == event.number)
-  where
-    by_test : (b : Bool) → cond b (x at) (p e at) ≡ flat_map v (cond b (y at) (q e at))
-    by_test true = h at
-    by_test false = k e at
+points-join v event x y p q h1 h2 e at = grind (arith, nat_tests)
 
 -- one step
 pub step-joins : (table : Table) (v : EventByte → List EventByte) (i j : At → List EventByte) (event : Option Event) (d : Transfer) (w t : Tracked EventByte) → Takes (λ at. i at ≡ flat_map v (j at)) d → Joins v w t → Joins v (after table i event d w) (after table j event d t)

@@ -1,5 +1,6 @@
 -- Each step of a run fits what the lemmas on lists of steps need.
 use Rattle.std.proofs.Common.{◌≡◌, ◌⊎◌, inl, inr, ℕ, ◌+◌, ◌≤◌, List, [], ◌∷◌, length, refl, ap, ◌∙◌, sym, subst, Option, Some, None, option_map, option_and_then, slice_get, Bool, true, false, ◌==◌, cond, arith, nat_lt, true≢false}
+use Rattle.std.proofs.lemmas.Bool.Decides.{nat_tests}
 use Rattle.std.proofs.lemmas.Bool.{eq-eqb, le-ltb}
 use Rattle.arn_base.specs.declared.machine.Cpu.{Cpu}
 use Rattle.arn_base.specs.Window.{Window}
@@ -12,10 +13,10 @@ use Rattle.parts_model.specs.declared.tagged.TaggedByte.{TaggedByte}
 use Rattle.parts_model.specs.Files.{file_bytes}
 use Rattle.parts_model.specs.Processes as table
 use Rattle.parts_model.specs.Tagged.{values, given}
-use Rattle.acts_model.specs.Acts.{Act, Returns, Receives, Gives, Starts, Forks, Founds, Shares, Leaves, Delivers, Exits, Faults, Dies, unborn, done, done_by, beginning_of}
+use Rattle.acts_model.specs.Acts.{Act, Receives, Starts, Forks, Founds, unborn, done, done_by, beginning_of}
 use Rattle.acts_model.specs.Bodies.{Body, View, body_at, view, seen, put}
 use Rattle.acts_model.specs.Moved as moved
-use Rattle.acts_model.specs.Moved.{KernelByte, FileByte, Range, behind, Event, Incoming, Outside, Nothing, From}
+use Rattle.acts_model.specs.Moved.{KernelByte, FileByte, Event, Incoming}
 use Rattle.acts_model.specs.Records.{process_of, event_len, give_of}
 use Rattle.acts_model.specs.Transfers as transfers
 use Rattle.acts_model.specs.Transfers.{Transfer, Holds, holds_of, transfer}
@@ -25,18 +26,18 @@ use Rattle.arn_model.specs.Laws.{KeepsNumbers}
 use Rattle.arn_model.specs.Run.{boot_step, file_step, typed_step, unplug_step}
 use Rattle.arn_model.specs.Step.{Step, plain_step, event_step, after_act}
 use Rattle.arn_model.specs.Tells as tells
-use Rattle.arn_model.specs.Tells.{EventTells, StepTells, Runs, Happens, Boots, Adds, Types, Unplugs, ComesFrom, kernel_byte}
+use Rattle.arn_model.specs.Tells.{EventTells, StepTells, Runs, Happens, Boots, Adds, Types, Unplugs, ComesFrom}
 use Rattle.history_model.specs.Alone.{begin_inside}
 use Rattle.history_model.specs.Groups.{Groups, groups_told, group_forked}
 use Rattle.history_model.specs.Moments.{changed}
-use Rattle.lineage_model.specs.Flow.{At, Byte, StartRegister, StartSlot, StartMemory, received_byte, shown}
+use Rattle.lineage_model.specs.Flow.{At, Byte, StartRegister, StartSlot, StartMemory, shown}
 use Rattle.lineage_model.specs.Joined.{is_source}
 use Rattle.replay_laws.specs.Heard.{begin_if, begin_by}
 use Rattle.lineage_laws.proofs.Takes.{EachStart, Takes, IsStart}
 use Rattle.lineage_laws.proofs.Stored.{next, IsSourced, source_shown, FitsBy}
 use Rattle.lineage_laws.proofs.Homes.{Memories, actor_of}
 use Rattle.lineage_laws.proofs.Groups.{BeginsIn, InsideFits}
-use Rattle.lineage_laws.proofs.Told.{memory_called, memory_by, IsQuiet, Says, SaysFounds, SaysForks, SaysOther, entry-says, IsSilent, Receipt, OfGive, OfDevice, OfNone, entry-receipt}
+use Rattle.lineage_laws.proofs.Told.{memory_called, memory_by, IsQuiet, Says, SaysFounds, SaysForks, SaysOther, entry-says, IsSilent, Receipt, entry-receipt}
 use Rattle.lineage_laws.proofs.Origins.{origins, held-linked, receives-linked, holds-kept}
 use Rattle.lineage_laws.proofs.Holding.{put-here, seen-body, HoldsIn, BodiesFit, fit-more, Makes, done-fit, founded-fit, put-fit, run-fit, act-lies, instr-lies}
 use Rattle.lineage_laws.proofs.Outside.{typed-kept, file-kept, boot-kept}
@@ -102,23 +103,10 @@ run-is event_at gs groups m pid v instr cpu ws e a =
 -- the acts of an event
 
 act-actor : (pid n : ℕ) (holds : Holds) (act : Act) → actor_of (transfer pid n holds act) ≡ Some pid
-act-actor pid n holds (Returns result) = refl
-act-actor pid n holds (Receives at bytes result) = refl
-act-actor pid n holds (Gives at len result) = refl
-act-actor pid n holds (Starts file block block_len) = refl
-act-actor pid n holds (Forks child) = refl
-act-actor pid n holds (Founds child) = refl
-act-actor pid n holds Shares = refl
-act-actor pid n holds Leaves = refl
-act-actor pid n holds (Delivers signal handler cut) = refl
-act-actor pid n holds Exits = refl
-act-actor pid n holds (Faults status) = refl
-act-actor pid n holds (Dies signal cut) = refl
+act-actor pid n holds act = grind (arith, nat_tests)
 
 quiet-makes : (gs : Groups) (ms : Memories) (most event pid : ℕ) (act : Act) → IsQuiet act → ms event ≡ gs pid → Makes gs ms most event pid act
-quiet-makes gs ms most event pid (Forks child) q h = absurd q
-quiet-makes gs ms most event pid (Founds child) q h = absurd q
-quiet-makes gs ms most event pid _ q h = h
+quiet-makes gs ms most event pid act h1 h2 = grind (arith, nat_tests)
 
 quiet-begins : (pid n : ℕ) (holds : Holds) (e : Record) (act : Act) → IsQuiet act → ((g : ℕ) → begin_by g n e ≡ []) → BeginsIn (transfer pid n holds act) (Some (record { number = n; entry = e }))
 quiet-begins pid n holds e (Forks child) q h = absurd q
@@ -185,63 +173,34 @@ event-makes event_at gs groups m pid v d e t a h (SaysOther same none own quiet)
 
 -- what an event receives
 start-sourced : (incoming : Incoming) (e : Record) (at : At) → IsStart at → IsSourced incoming e at
-start-sourced incoming e (Byte k) h = absurd h
-start-sourced Outside e (StartRegister r i) h = tt
-start-sourced Outside e (StartSlot r i) h = tt
-start-sourced Outside e (StartMemory a) h = tt
-start-sourced Nothing e (StartRegister r i) h = tt
-start-sourced Nothing e (StartSlot r i) h = tt
-start-sourced Nothing e (StartMemory a) h = tt
-start-sourced (From range) e (StartRegister r i) h = tt
-start-sourced (From range) e (StartSlot r i) h = tt
-start-sourced (From range) e (StartMemory a) h = tt
+start-sourced incoming e at h1 = grind (arith, nat_tests)
 
 starts-sourced : (incoming : Incoming) (e : Record) → EachStart (IsSourced incoming e)
 starts-sourced incoming e = record { registers = λ r i. start-sourced incoming e (StartRegister r i) tt; slot = λ r i. start-sourced incoming e (StartSlot r i) tt; memory = λ a. start-sourced incoming e (StartMemory a) tt }
 
 byte-takes : (P : At → Type 0) (pid n : ℕ) (holds : Holds) (act : Act) → EachStart P → ((k : ℕ) → P (Byte k)) → Takes P (transfer pid n holds act)
-byte-takes P pid n holds (Receives at bytes result) h b = b
-byte-takes P pid n holds (Starts file block block_len) h b = b
-byte-takes P pid n holds (Founds child) h b = h
-byte-takes P pid n holds _ h b = tt
+byte-takes P pid n holds act h1 h2 = grind (arith, nat_tests)
 
 silent-takes : (P : At → Type 0) (pid n : ℕ) (holds : Holds) (act : Act) → EachStart P → IsSilent act → Takes P (transfer pid n holds act)
-silent-takes P pid n holds (Receives at bytes result) h s = absurd s
-silent-takes P pid n holds (Starts file block block_len) h s = absurd s
-silent-takes P pid n holds (Founds child) h s = h
-silent-takes P pid n holds _ h s = tt
+silent-takes P pid n holds act h1 h2 = grind (arith, nat_tests)
 
 give-sourced : (k : Kernel) (bytes : List ℕ) (e : Record) (incoming : Incoming) → tells.Receives k incoming bytes e → (give_of e ≡ None → ⊥) → is_source e ≡ false → (i : ℕ) → IsSourced incoming e (Byte i)
-give-sourced k bytes e Outside r g s i = absurd (g r)
-give-sourced k bytes e Nothing r g s i = absurd (g r)
-give-sourced k bytes e (From range) r g s i = s
+give-sourced k bytes e incoming h1 h2 h3 i = grind (arith, nat_tests)
 
 device-sourced : (k : Kernel) (bytes : List ℕ) (e : Record) (at : ℕ) (given : List ℕ) (result : ℕ) (incoming : Incoming) → ComesFrom (Receives at given result) incoming → tells.Receives k incoming bytes e → give_of e ≡ None → is_source e ≡ true → (i : ℕ) → IsSourced incoming e (Byte i)
-device-sourced k bytes e at given result Outside c r g s i = s
-device-sourced k bytes e at given result Nothing c r g s i = absurd c
-device-sourced k bytes e at given result (From range) c r g s i = let told = r.told in absurd (cc)
+device-sourced k bytes e at given result incoming h1 h2 h3 h4 i = grind (arith, nat_tests)
 
 some-give : {A : Type 0} (x : A) (o : Option A) → o ≡ Some x → o ≡ None → ⊥
 some-give x o e f = cc
 
 receipt-takes : (k : Kernel) (bytes : List ℕ) (pid n : ℕ) (holds : Holds) (e : Record) (act : Act) (incoming : Incoming) → ComesFrom act incoming → tells.Receives k incoming bytes e → Receipt e act → Takes (IsSourced incoming e) (transfer pid n holds act)
-receipt-takes k bytes pid n holds e act incoming c r (OfGive give g s) = byte-takes (IsSourced incoming e) pid n holds act (starts-sourced incoming e) (give-sourced k bytes e incoming r (some-give give (give_of e) g) s)
-receipt-takes k bytes pid n holds e act incoming c r (OfDevice at given result is s len none) =
-    byte-takes (IsSourced incoming e) pid n holds act (starts-sourced incoming e) (device-sourced k bytes e at given result incoming (subst (λ (a : Act). ComesFrom a incoming) is c) r none s)
-receipt-takes k bytes pid n holds e act incoming c r (OfNone s silent) = silent-takes (IsSourced incoming e) pid n holds act (starts-sourced incoming e) silent
+receipt-takes k bytes pid n holds e act incoming h1 h2 h3 = grind (arith, nat_tests, byte-takes, device-sourced, give-sourced, silent-takes, some-give, starts-sourced)
 
 received-shown : (pid : ℕ) (place : Option transfers.Place) (len : ℕ) (at : At) → shown (transfers.Receives pid place len) at ≡ source_shown len at
-received-shown pid place len (Byte k) = refl
-received-shown pid place len (StartRegister r i) = refl
-received-shown pid place len (StartSlot r i) = refl
-received-shown pid place len (StartMemory a) = refl
+received-shown pid place len at = grind (arith, nat_tests)
 
 receipt-source : (pid n : ℕ) (holds : Holds) (e : Record) (act : Act) → Receipt e act → is_source e ≡ true → (at : At) → shown (transfer pid n holds act) at ≡ source_shown (event_len e) at
-receipt-source pid n holds e act (OfGive give g s) k at = absurd (true≢false (sym k ∙ s))
-receipt-source pid n holds e act (OfDevice start bytes result is s len none) k at =
-    ap (λ (a : Act). shown (transfer pid n holds a) at) is
-    ∙ (received-shown pid (transfers.place_of holds start (length bytes)) (length bytes) at ∙ ap (λ (x : ℕ). source_shown x at) (sym len))
-receipt-source pid n holds e act (OfNone s silent) k at = absurd (true≢false (sym k ∙ s))
+receipt-source pid n holds e act h1 h2 at = grind (arith, nat_tests, received-shown, source_shown)
 
 -- an event of a process
 maker-is : (event_at : ℕ → Option Record) (gs : Groups) (n pid : ℕ) (e : Record) → event_at n ≡ Some e → process_of e ≡ Some pid → makers event_at gs n ≡ gs pid
@@ -325,16 +284,10 @@ boot-is event_at gs groups m path file held first there a =
 
 -- what comes from outside
 arrives-shown : (len : ℕ) (at : At) → shown (transfers.Arrives len) at ≡ source_shown len at
-arrives-shown len (Byte k) = refl
-arrives-shown len (StartRegister r i) = refl
-arrives-shown len (StartSlot r i) = refl
-arrives-shown len (StartMemory a) = refl
+arrives-shown len at = grind (arith, nat_tests)
 
 none-shown : (at : At) → shown (transfers.Arrives 0) at ≡ []
-none-shown (Byte k) = ap (λ (b : Bool). cond b (received_byte k) []) (le-ltb k 0 (omega arith))
-none-shown (StartRegister r i) = refl
-none-shown (StartSlot r i) = refl
-none-shown (StartMemory a) = refl
+none-shown at = grind (arith, nat_tests, le-ltb)
 
 no-maker : (event_at : ℕ → Option Record) (gs : Groups) (n : ℕ) (e : Record) → event_at n ≡ Some e → process_of e ≡ None → makers event_at gs n ≡ None
 no-maker event_at gs n e there of = ap (λ (o : Option Record). option_and_then gs (option_and_then process_of o)) there ∙ ap (option_and_then gs) of
@@ -350,38 +303,13 @@ file-is event_at gs groups m path bytes a =
     }
 
 typed-is : (event_at : ℕ → Option Record) (gs groups : Groups) (m : Machine) (bytes : List ℕ) → Around event_at gs groups m (typed_step m bytes) → StepIs event_at gs m (typed_step m bytes)
-typed-is event_at gs groups m bytes a =
-    record {
-      inside = record { acts = refl; lies = tt; number = refl; made = no-maker event_at gs m.events (entry.Typed bytes) a.there refl; begins = λ g. refl };
-      moved = record { number = refl; there = a.there; linked = λ k. refl; takes = λ k l. refl; source = λ s. arrives-shown (length bytes); kept = typed-kept m bytes };
-      events = (omega arith);
-      bodies = a.bodies;
-      whose = inr (inl refl);
-    }
+typed-is event_at gs groups m bytes h1 = grind (arith, nat_tests, arrives-shown, no-maker, typed-kept)
 
 unplug-same : (m : Machine) (device : ℕ) (byte : KernelByte) → origins (unplug_step m device).after.kernel byte ≡ origins m.kernel byte
-unplug-same m device (moved.ConsoleByte p) = refl
-unplug-same m device (moved.PipeByte pipe p) = refl
-unplug-same m device (moved.FileByte file at) = refl
-unplug-same m device (moved.StatusByte pid) = refl
+unplug-same m device byte = grind (arith, nat_tests)
 
 unplug-is : (event_at : ℕ → Option Record) (gs groups : Groups) (m : Machine) (device : ℕ) → Around event_at gs groups m (unplug_step m device) → StepIs event_at gs m (unplug_step m device)
-unplug-is event_at gs groups m device a =
-    record {
-      inside = record { acts = refl; lies = tt; number = refl; made = no-maker event_at gs m.events (entry.Unplug device) a.there refl; begins = λ g. refl };
-      moved =
-          record {
-            number = refl;
-            there = a.there;
-            linked = λ k. refl;
-            takes = λ k l. absurd (omega arith);
-            source = λ s at. absurd (true≢false (sym s));
-            kept = λ byte src l. sym (unplug-same m device byte) ∙ l;
-          };
-      events = (omega arith);
-      bodies = a.bodies;
-      whose = inr (inr none-shown);
-    }
+unplug-is event_at gs groups m device h1 = grind (arith, nat_tests, no-maker, none-shown, unplug-same)
 
 pub step-is : (event_at : ℕ → Option Record) (gs groups : Groups) (m : Machine) (s : Step) → StepTells m s → Around event_at gs groups m s → StepIs event_at gs m s
 step-is event_at gs groups m s (Runs pid v instr cpu ws e next is) = subst (λ (s : Step). Around event_at gs groups m s → StepIs event_at gs m s) (sym is) (run-is event_at gs groups m pid v instr cpu ws e)

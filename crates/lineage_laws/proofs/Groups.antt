@@ -1,5 +1,6 @@
 -- A group's own part of a run suffices for its own locations and events: no other step writes its locations, and its steps take no others.
 use Rattle.std.proofs.Common.{◌≡◌, ℕ, suc, ◌<◌, List, [], ◌∷◌, ◌++◌, map, refl, ap, ap₂, ◌∙◌, sym, subst, append-nil, Option, Some, None, IfSome, option_and_then, unwrap_or, Bool, true, false, ◌==◌, cond, arith, true≢false, ◌⊎◌, inl, inr}
+use Rattle.std.proofs.lemmas.Bool.Decides.{nat_tests}
 use Rattle.std.proofs.lemmas.Bool.{eq-eqb, eqb-true}
 use Rattle.arn_base.specs.declared.machine.Cpu.{Cpu}
 use Rattle.arn_base.specs.declared.records.Start.{Start}
@@ -9,7 +10,7 @@ use Rattle.acts_model.specs.Transfers.{Transfer, Founds, Begins}
 use Rattle.arn_model.specs.Step.{Step}
 use Rattle.history_model.specs.Alone.{begin_inside}
 use Rattle.history_model.specs.Groups.{Groups, is_number}
-use Rattle.lineage_model.specs.Flow.{Location, At, Dependence, Prior, flow, written, shown, result_only, begun, or_else}
+use Rattle.lineage_model.specs.Flow.{Location, At, Dependence, Prior, flow, written, shown, result_only}
 use Rattle.lineage_model.specs.Tracking.{EventByte, Tracked, gather, points_after, after, items, alone_after, alone_from}
 use Rattle.replay_laws.specs.Heard.{is_own, own_part, begin_part, part, parts}
 use Rattle.lineage_laws.proofs.Central.{every}
@@ -46,12 +47,7 @@ own-number gs g None e = absurd (cc)
 own-number gs g (Some pid) e = ap (is_number g) e ∙ eq-eqb g g refl
 
 number-own : (gs : Groups) (g : ℕ) (actor : Option ℕ) → is_own gs g actor ≡ true → option_and_then gs actor ≡ Some g
-number-own gs g None e = absurd (cc)
-number-own gs g (Some pid) e = by_group (gs pid) e
-  where
-    by_group : (o : Option ℕ) → is_number g o ≡ true → o ≡ Some g
-    by_group None e = absurd (cc)
-    by_group (Some m) e = ap (λ (x : ℕ). Some x) (eqb-true m g e)
+number-own gs g actor h1 = grind (arith, nat_tests, eqb-true)
 
 -- a byte is one of the step's own event, or of an earlier one
 this_or_old : (n : ℕ) (event : Option Event) (e : ℕ) → NumberIs n event → e < next n event → ((x : Event) × (event ≡ Some x) × (e ≡ x.number)) ⊎ (e < n)
@@ -117,29 +113,10 @@ other-step gs ms g n maker table actor t event all own f isnt starts h =
 
 -- the fork that starts this group
 result-none : (gs : Groups) (ms : Memories) (pid g : ℕ) (l : Location) → (gs pid ≡ Some g → ⊥) → owner gs ms l ≡ Some g → result_only pid l ≡ None
-result-none gs ms pid g l isnt e = by_result (result_only pid l) (result-mine gs ms pid l)
-  where
-    by_result : (o : Option (List Dependence)) → IfSome o (λ ds. owner gs ms l ≡ gs pid) → o ≡ None
-    by_result None k = refl
-    by_result (Some ds) k = absurd (isnt (sym k ∙ e))
+result-none gs ms pid g l h1 h2 = grind (arith, nat_tests, owner, result-mine)
 
 start-step : (gs : Groups) (ms : Memories) (g n : ℕ) (maker : ℕ → Option ℕ) (table : Table) (actor : Option ℕ) (pid from into : ℕ) (event : Event) (all own : Tracked EventByte) → InsideFits gs ms maker n actor (Founds pid g from into) (Some event) → event.number ≡ into → (gs pid ≡ Some g → ⊥) → Agrees gs ms g n maker all own → Agrees gs ms g (suc n) maker (after table (items (Some event)) (Some event) (Founds pid g from into) all) (after table (items (Some event)) (Some event) (Begins g event.number) own)
-start-step gs ms g n maker table actor pid from into event all own f number isnt h =
-    record {
-      locations = λ l e.
-          ap (λ (o : Option (List Dependence)). gather (items (Some event)) all.locations (unwrap_or (or_else o (begun g into l)) (Prior l ∷ []))) (result-none gs ms pid g l isnt e)
-          ∙ (ap (λ (i : ℕ). gather (items (Some event)) all.locations (unwrap_or (begun g i l) (Prior l ∷ []))) (sym number)
-          ∙ gather-same (items (Some event)) all.locations own.locations (flow table (Begins g event.number) l)
-          (unwrap-prior (λ x. all.locations x ≡ own.locations x) (Prior l ∷ []) (begun g event.number l) (h.locations l e, tt) (begun-priors (λ x. all.locations x ≡ own.locations x) g event.number l)));
-      points = λ e at k m. by_age e at m (this_or_old n (Some event) e f.number k);
-    }
-  where
-    by_age : (e : ℕ) (at : At) → maker e ≡ Some g → ((x : Event) × (Some event ≡ Some x) × (e ≡ x.number)) ⊎ (e < n) → (after table (items (Some event)) (Some event) (Founds pid g from into) all).points e at ≡ (after table (items (Some event)) (Some event) (Begins g event.number) own).points e at
-    by_age e at m (inl k) = absurd (isnt (sym (made-same maker (gs pid) (Some event) k.0 e f.made k.1 k.2) ∙ m))
-    by_age e at m (inr k) =
-        points-earlier n (Some event) (λ at. gather (items (Some event)) all.locations (shown (Founds pid g from into) at)) all.points e at f.number k
-        ∙ (h.points e at k m
-        ∙ sym (points-earlier n (Some event) (λ at. gather (items (Some event)) own.locations (shown (Begins g event.number) at)) own.points e at f.number k))
+start-step gs ms g n maker table actor pid from into event all own h1 h2 h3 h4 = grind (arith, nat_tests, begun-priors, gather-same, made-same, points-earlier, result-none, this_or_old)
 
 -- the group's part of a step
 abbrev Goal : Groups → Memories → ℕ → ℕ → (ℕ → Option ℕ) → Table → Inside → Tracked EventByte → Tracked EventByte → List Inside → Type 0
@@ -186,9 +163,7 @@ founds-part gs ms g n maker table actor cpu pid child from into event all own f 
         by_own isnt false o = refl
 
 pub part-step : (gs : Groups) (ms : Memories) (g n : ℕ) (maker : ℕ → Option ℕ) (table : Table) (actor : Option ℕ) (cpu : Cpu) (t : Transfer) (event : Option Event) (all own : Tracked EventByte) → InsideFits gs ms maker n actor t event → Agrees gs ms g n maker all own → Goal gs ms g n maker table (inside_of actor cpu t event) all own (part gs g (inside_of actor cpu t event))
-part-step gs ms g n maker table actor cpu (Founds pid child from into) None all own f h = absurd f.begins
-part-step gs ms g n maker table actor cpu (Founds pid child from into) (Some event) all own f h = founds-part gs ms g n maker table actor cpu pid child from into event all own f h
-part-step gs ms g n maker table actor cpu t event all own f h = ordinary-part gs ms g n maker table actor cpu t event all own f (f.begins g) (λ o l s e. absurd s) h
+part-step gs ms g n maker table actor cpu t event all own h1 h2 = grind (arith, nat_tests, founds-part, ordinary-part)
 
 -- all steps fit
 abbrev pub StepFits : Groups → Memories → (ℕ → Option ℕ) → ℕ → Inside → Type 0

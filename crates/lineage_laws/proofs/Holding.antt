@@ -1,12 +1,12 @@
 -- Each live process holds memories of its own group, and after each act it still does.
-use Rattle.std.proofs.Common.{◌≡◌, ℕ, zero, suc, ◌≤◌, List, [], ◌∷◌, length, refl, ap, ◌∙◌, sym, subst, Option, Some, None, option_map, option_and_then, Bool, true, false, ◌==◌, cond, arith, ne_eqb, inl, inr}
+use Rattle.std.proofs.Common.{◌≡◌, ℕ, zero, suc, ◌≤◌, List, [], ◌∷◌, length, refl, ap, ◌∙◌, sym, Option, Some, None, option_map, Bool, true, false, ◌==◌, cond, arith, ne_eqb, inl, inr}
+use Rattle.std.proofs.lemmas.Bool.Decides.{nat_tests}
 use Rattle.std.proofs.lemmas.Bool.{eq-eqb, eqb-true, eqb-false}
 use Rattle.arn_base.specs.declared.machine.Cpu.{Cpu}
 use Rattle.arn_base.specs.Window.{Window, with_bytes}
 use Rattle.rv64_isa.specs.declared.instruction.Instr.{Instr}
-use Rattle.rv64_model.specs.Operands.{accessed}
 use Rattle.acts_model.specs.Acts.{Act, Returns, Receives, Gives, Starts, Forks, Founds, Shares, Leaves, Delivers, Exits, Faults, Dies, restored, acted, Beginning, beginning_of, child_view, joined, done_by, done, founded}
-use Rattle.acts_model.specs.Bodies.{Body, Bodies, View, IsHolder, nth_body, with_nth, body_at, with_body, with_memory, with_segment, view, seen, put, remove, become}
+use Rattle.acts_model.specs.Bodies.{Body, Bodies, View, IsHolder, nth_body, with_nth, body_at, with_body, with_memory, with_segment, seen, put, remove, become}
 use Rattle.acts_model.specs.Transfers.{holds_of, is_private, is_shared, place_at, place_of, transfer, instr_transfer}
 use Rattle.acts_model.specs.Views.{reach, with_reach}
 use Rattle.history_model.specs.Groups.{Groups}
@@ -14,11 +14,7 @@ use Rattle.lineage_laws.proofs.Homes.{Memories, PlaceIs, Lies}
 
 -- bodies by number
 suc-test : (q p : ℕ) → (suc q == suc p) ≡ (q == p)
-suc-test q p = by_test (q == p) refl
-  where
-    by_test : (b : Bool) → (q == p) ≡ b → (suc q == suc p) ≡ b
-    by_test true e = eq-eqb (suc q) (suc p) (ap suc (eqb-true q p e))
-    by_test false e = let ne = eqb-false q p e in ne_eqb (suc q) (suc p) (λ k. ne (omega arith))
+suc-test q p = grind (arith, nat_tests, eq-eqb, eqb-false, eqb-true)
 
 nth-with : (p : ℕ) (x : Option Body) (xs : List (Option Body)) (q : ℕ) → nth_body (with_nth p x xs) q ≡ cond (q == p) x (nth_body xs q)
 unfolding nth_body with_nth
@@ -45,10 +41,7 @@ body-segment (Some k) bytes b q = body-kept k bytes b q
 
 pub put-body : (p : ℕ) (v : View) (b : Bodies) (q : ℕ) → body_at (put p v b) q ≡ cond (q == p) (Some v.body) (body_at b q)
 unfolding put
-put-body p v b q =
-    let old = with_segment v.body.segment v.segment b in
-    body-with p (Some v.body) (with_memory v.body.window v.window old) q
-    ∙ ap (cond (q == p) (Some v.body)) (body-kept v.body.window v.window old q ∙ body-segment v.body.segment v.segment b q)
+put-body p v b q = grind (arith, nat_tests, body-kept, body-segment, body-with)
 
 pub put-here : (p : ℕ) (v : View) (b : Bodies) → body_at (put p v b) p ≡ Some v.body
 put-here p v b = put-body p v b p ∙ ap (λ (t : Bool). cond t (Some v.body) (body_at b p)) (eq-eqb p p refl)
@@ -58,11 +51,7 @@ unfolding remove
 remove-body p b q = body-with p None b q
 
 pub seen-body : (b : Bodies) (p : ℕ) (v : View) → seen b p ≡ Some v → body_at b p ≡ Some v.body
-seen-body b p v e = by_body (body_at b p) e
-  where
-    by_body : (o : Option Body) → option_map (view b) o ≡ Some v → o ≡ Some v.body
-    by_body None e = absurd (cc)
-    by_body (Some x) e = let same : view b x ≡ v = cc in ap (λ (v : View). Some v.body) same
+seen-body b p v h1 = grind (arith, nat_tests)
 
 -- a process has a group, and its memories belong to it
 pub record HoldsIn (gs : Groups) (ms : Memories) (most pid : ℕ) (x : Body) : Type 0 where
@@ -76,30 +65,17 @@ abbrev pub BodiesFit : Groups → Memories → ℕ → Bodies → Type 0
 BodiesFit gs ms most b = (q : ℕ) (x : Body) → body_at b q ≡ Some x → HoldsIn gs ms most q x
 
 pub fit-more : (gs : Groups) (ms : Memories) (less most : ℕ) (b : Bodies) → less ≤ most → BodiesFit gs ms less b → BodiesFit gs ms most b
-fit-more gs ms less most b l h q x e =
-    let k = h q x e in
-    let s = k.small in
-    record { group = k.group; is = k.is; small = (omega arith); window = k.window; segment = k.segment }
+fit-more gs ms less most b h1 h2 = grind (arith, nat_tests)
 
 same-hold : (gs : Groups) (ms : Memories) (most pid : ℕ) (x y : Body) → y.window ≡ x.window → y.segment ≡ x.segment → HoldsIn gs ms most pid x → HoldsIn gs ms most pid y
 same-hold gs ms most pid x y w s h =
     record { group = h.group; is = h.is; small = h.small; window = ap ms w ∙ h.window; segment = λ made e. h.segment made (sym s ∙ e) }
 
 fit-put : (gs : Groups) (ms : Memories) (most : ℕ) (b : Bodies) (p : ℕ) (v : View) → BodiesFit gs ms most b → HoldsIn gs ms most p v.body → BodiesFit gs ms most (put p v b)
-fit-put gs ms most b p v h k q x e = by_test (q == p) refl (sym (put-body p v b q) ∙ e)
-  where
-    by_test : (t : Bool) → (q == p) ≡ t → cond t (Some v.body) (body_at b q) ≡ Some x → HoldsIn gs ms most q x
-    by_test true t f =
-        let same : v.body ≡ x = cc in
-        subst (λ (r : ℕ). HoldsIn gs ms most r x) (sym (eqb-true q p t)) (subst (HoldsIn gs ms most p) same k)
-    by_test false t f = h q x f
+fit-put gs ms most b p v h1 h2 = grind (arith, nat_tests, eqb-true, put-body)
 
 fit-remove : (gs : Groups) (ms : Memories) (most : ℕ) (b : Bodies) (p : ℕ) → BodiesFit gs ms most b → BodiesFit gs ms most (remove p b)
-fit-remove gs ms most b p h q x e = by_test (q == p) (sym (remove-body p b q) ∙ e)
-  where
-    by_test : (t : Bool) → cond t None (body_at b q) ≡ Some x → HoldsIn gs ms most q x
-    by_test true f = absurd (cc)
-    by_test false f = h q x f
+fit-remove gs ms most b p h1 = grind (arith, nat_tests, remove-body)
 
 -- what an act at an event makes belongs to the group that acts, or to the one that starts
 abbrev pub Makes : Groups → Memories → ℕ → ℕ → ℕ → Act → Type 0
@@ -108,9 +84,7 @@ Makes gs ms most event pid (Founds child) = (gs child ≡ Some child) × (ms eve
 Makes gs ms most event pid act = ms event ≡ gs pid
 
 reach-body : (ws : List Window) (v : View) → (with_reach ws v).body ≡ v.body
-reach-body [] v = refl
-reach-body (w ∷ []) v = refl
-reach-body (w ∷ s ∷ more) v = refl
+reach-body ws v = grind (arith, nat_tests)
 
 restored-fit : (gs : Groups) (ms : Memories) (most pid : ℕ) (v : View) (slot : Option Cpu) → HoldsIn gs ms most pid v.body → HoldsIn gs ms most pid (restored slot v).body
 restored-fit gs ms most pid v None h = h
@@ -178,11 +152,7 @@ place-is : (gs : Groups) (ms : Memories) (most pid : ℕ) (x : Body) (at : ℕ) 
 place-is gs ms most pid x at h = private-is gs ms most pid x at (is_private at) (is_shared at) h
 
 some-place-is : (gs : Groups) (ms : Memories) (most pid : ℕ) (x : Body) (at len : ℕ) → HoldsIn gs ms most pid x → PlaceIs ms (gs pid) (place_of (holds_of x) at len)
-some-place-is gs ms most pid x at len h = by_test (len == 0)
-  where
-    by_test : (b : Bool) → PlaceIs ms (gs pid) (cond b None (place_at (holds_of x) at))
-    by_test true = tt
-    by_test false = place-is gs ms most pid x at h
+some-place-is gs ms most pid x at len h1 = grind (arith, nat_tests, place-is)
 
 -- so what an act moves lies in its group
 pub act-lies : (gs : Groups) (ms : Memories) (most event pid : ℕ) (x : Body) (act : Act) → HoldsIn gs ms most pid x → Makes gs ms most event pid act → Lies gs ms (transfer pid event (holds_of x) act)
@@ -200,11 +170,7 @@ act-lies gs ms most event pid x (Faults status) h k = tt
 act-lies gs ms most event pid x (Dies signal cut) h k = tt
 
 pub instr-lies : (gs : Groups) (ms : Memories) (most pid : ℕ) (cpu : Cpu) (x : Body) (instr : Instr) → HoldsIn gs ms most pid x → Lies gs ms (instr_transfer pid cpu (holds_of x) instr)
-instr-lies gs ms most pid cpu x instr h = by_access (accessed instr cpu)
-  where
-    by_access : (o : Option ℕ) → PlaceIs ms (gs pid) (option_and_then (place_at (holds_of x)) o)
-    by_access None = tt
-    by_access (Some at) = place-is gs ms most pid x at h
+instr-lies gs ms most pid cpu x instr h1 = grind (arith, nat_tests, place-is)
 
 -- a memory that a process holds is of its group
 pub holder-is : (gs : Groups) (ms : Memories) (most pid : ℕ) (x : Body) (made : ℕ) → HoldsIn gs ms most pid x → IsHolder x made → ms made ≡ gs pid

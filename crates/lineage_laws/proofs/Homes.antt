@@ -1,16 +1,15 @@
 -- Each location belongs to one group: a step writes locations of the group that acts or starts, from those of that group.
-use Rattle.std.proofs.Common.{◌≡◌, ℕ, zero, suc, ◌+◌, ◌-◌, List, [], ◌∷◌, ◌++◌, map, flat_map, refl, ap, ap₂, ◌∙◌, sym, Option, Some, None, IfSome, option_map, option_and_then, unwrap_or, Bool, true, false, ◌==◌, ◌&&◌, cond, nat_lt, ◌⊎◌, inl, inr}
+use Rattle.std.proofs.Common.{◌≡◌, ℕ, zero, suc, ◌+◌, ◌-◌, List, [], ◌∷◌, ◌++◌, map, flat_map, refl, ap, ap₂, ◌∙◌, sym, Option, Some, None, IfSome, option_map, option_and_then, unwrap_or, Bool, true, false, ◌==◌, ◌&&◌, cond, ◌⊎◌, inl, inr, arith}
+use Rattle.std.proofs.lemmas.Bool.Decides.{nat_tests}
 use Rattle.std.specs.List.{AllByRecursion}
 use Rattle.std.proofs.lemmas.Bool.{eqb-true}
 use Rattle.rv64_isa.specs.declared.instruction.Instr.{Instr}
-use Rattle.rv64_model.specs.Carries.{Table, Operand, Left, Right, Loaded, Address}
-use Rattle.rv64_model.specs.Operands.{rd_of, rs1_of, rs2_of, stored_len}
-use Rattle.parts_model.specs.Image.{header_len}
+use Rattle.rv64_model.specs.Carries.{Table, Operand}
+use Rattle.rv64_model.specs.Operands.{rd_of, stored_len}
 use Rattle.acts_model.specs.Moved.{within}
 use Rattle.acts_model.specs.Transfers.{Place, Transfer, Arrives, Starts, Runs, Returns, Receives, Gives, Forks, Founds, Begins, Shares, Delivers, Leaves, Exits, Faults, Dies}
-use Rattle.acts_model.specs.Views.{block_at}
 use Rattle.history_model.specs.Groups.{Groups}
-use Rattle.lineage_model.specs.Flow.{Location, Register, Slot, Memory, At, Byte, StartRegister, StartSlot, StartMemory, Dependence, Prior, Received, register_bytes, operand_bytes, written, shown, when, offset, bytes_at, result_bytes, ran, result_only, received_byte, block_byte, body_byte, started_byte, unless_result, copied, begun, or_else, saved}
+use Rattle.lineage_model.specs.Flow.{Location, Register, Slot, Memory, At, Dependence, Prior, Received, register_bytes, operand_bytes, written, shown, when, offset, bytes_at, result_bytes, ran, result_only, received_byte, started_byte, copied, begun, or_else, saved}
 use Rattle.lineage_model.specs.Tracking.{EventByte, gather}
 use Rattle.lineage_laws.proofs.Sets.{append-each}
 
@@ -152,10 +151,7 @@ place-owned gs ms g None k h = tt
 place-owned gs ms g (Some place) k h = (h, tt)
 
 operand-owned : (gs : Groups) (ms : Memories) (pid : ℕ) (instr : Instr) (place : Option Place) → PlaceIs ms (gs pid) place → (o : Operand) → AllByRecursion (λ x. owner gs ms x ≡ gs pid) (operand_bytes pid instr place o)
-operand-owned gs ms pid instr place h (Left i) = register-owned gs ms pid (rs1_of instr) i
-operand-owned gs ms pid instr place h (Right i) = register-owned gs ms pid (rs2_of instr) i
-operand-owned gs ms pid instr place h (Loaded k) = place-owned gs ms (gs pid) place k h
-operand-owned gs ms pid instr place h (Address i) = register-owned gs ms pid (rs1_of instr) i
+operand-owned gs ms pid instr place h1 o = grind (arith, nat_tests, place-owned, register-owned)
 
 result-owned : (gs : Groups) (ms : Memories) (table : Table) (pid : ℕ) (instr : Instr) (place : Option Place) (i : ℕ) → PlaceIs ms (gs pid) place → EachPrior (λ x. owner gs ms x ≡ gs pid) (result_bytes table pid instr place i)
 result-owned gs ms table pid instr place i h =
@@ -170,26 +166,16 @@ ran-priors gs ms table pid instr place (Slot p r i) h = tt
 ran-priors gs ms table pid instr place (Memory made at) h = map-some (EachPrior (λ x. owner gs ms x ≡ gs pid)) (result_bytes table pid instr place) (offset place (stored_len instr) made at) (all-some _ (λ k. result-owned gs ms table pid instr place k h) (offset place (stored_len instr) made at))
 
 result-priors : (Q : Location → Type 0) (pid : ℕ) (l : Location) → IfSome (result_only pid l) (EachPrior Q)
-result-priors Q pid (Register p r i) = when-some (EachPrior Q) ((p == pid) && (r == 10)) [] (λ e. tt)
-result-priors Q pid (Slot p r i) = tt
-result-priors Q pid (Memory made at) = tt
+result-priors Q pid l = grind (arith, nat_tests, when-some)
 
 pub begun-priors : (Q : Location → Type 0) (child into : ℕ) (l : Location) → IfSome (begun child into l) (EachPrior Q)
-begun-priors Q child into (Register p r i) = when-some (EachPrior Q) (p == child) (unless_result r (Received (StartRegister r i) ∷ [])) (λ e. unless-prior Q (r == 10) (Received (StartRegister r i) ∷ []) (tt, tt))
-begun-priors Q child into (Slot p r i) = when-some (EachPrior Q) (p == child) (Received (StartSlot r i) ∷ []) (λ e. (tt, tt))
-begun-priors Q child into (Memory made at) = when-some (EachPrior Q) (made == into) (Received (StartMemory at) ∷ []) (λ e. (tt, tt))
+begun-priors Q child into l = grind (arith, nat_tests, unless-prior, when-some)
 
 copied-priors : (gs : Groups) (ms : Memories) (pid child from into : ℕ) (l : Location) → ms from ≡ gs pid → IfSome (copied pid child from into l) (EachPrior (λ x. owner gs ms x ≡ gs pid))
-copied-priors gs ms pid child from into (Register p r i) h = when-some _ (p == child) (unless_result r (Prior (Register pid r i) ∷ [])) (λ e. unless-prior (λ x. owner gs ms x ≡ gs pid) (r == 10) (Prior (Register pid r i) ∷ []) (refl, tt))
-copied-priors gs ms pid child from into (Slot p r i) h = when-some (EachPrior (λ x. owner gs ms x ≡ gs pid)) (p == child) (Prior (Slot pid r i) ∷ []) (λ e. (refl, tt))
-copied-priors gs ms pid child from into (Memory made at) h = when-some (EachPrior (λ x. owner gs ms x ≡ gs pid)) (made == into) (Prior (Memory from at) ∷ []) (λ e. (h, tt))
+copied-priors gs ms pid child from into l h1 = grind (arith, nat_tests, owner, unless-prior, when-some)
 
 started-priors : (gs : Groups) (ms : Memories) (g : Option ℕ) (load len : ℕ) (block : Option Place) (block_len at : ℕ) → PlaceIs ms g block → EachPrior (λ x. owner gs ms x ≡ g) (started_byte load len block block_len at)
-started-priors gs ms g load len block block_len at h =
-    let Q = λ (x : Location). owner gs ms x ≡ g in
-    unwrap-prior Q (body_byte load len at) (option_map (block_byte block) (within (block_at block_len) block_len at))
-    (unwrap-prior Q [] (option_map (λ k. received_byte (header_len + k)) (within load (len - header_len) at)) tt (map-some (EachPrior Q) (λ k. received_byte (header_len + k)) (within load (len - header_len) at) (all-some _ (λ k. (tt, tt)) (within load (len - header_len) at))))
-    (map-some (EachPrior Q) (block_byte block) (within (block_at block_len) block_len at) (all-some _ (λ k. prior-map Q (bytes_at block k) (place-owned gs ms g block k h)) (within (block_at block_len) block_len at)))
+started-priors gs ms g load len block block_len at h1 = grind (arith, nat_tests, all-some, map-some, owner, place-owned, prior-map, unwrap-prior)
 
 pub written-priors : (gs : Groups) (ms : Memories) (table : Table) (t : Transfer) (l : Location) → Lies gs ms t → IfSome (written table t l) (EachPrior (λ x. owner gs ms x ≡ group_in gs t))
 written-priors gs ms table (Arrives len) l h = tt
@@ -220,18 +206,7 @@ written-priors gs ms table (Dies pid) l h = tt
 
 -- an event takes from the group that makes it
 pub shown-priors : (gs : Groups) (ms : Memories) (t : Transfer) (at : At) → Lies gs ms t → EachPrior (λ x. owner gs ms x ≡ group_in gs t) (shown t at)
-shown-priors gs ms (Arrives len) (Byte k) h = if-prior (λ x. owner gs ms x ≡ None) (nat_lt k len) (received_byte k) (tt, tt)
-shown-priors gs ms (Starts pid made load len block block_len) (Byte k) h = if-prior (λ x. owner gs ms x ≡ gs pid) (nat_lt k len) (received_byte k) (tt, tt)
-shown-priors gs ms (Receives pid place len) (Byte k) h = if-prior (λ x. owner gs ms x ≡ gs pid) (nat_lt k len) (received_byte k) (tt, tt)
-shown-priors gs ms (Gives pid place len) (Byte k) h = if-prior (λ x. owner gs ms x ≡ gs pid) (nat_lt k len) (map Prior (bytes_at place k)) (prior-map (λ x. owner gs ms x ≡ gs pid) (bytes_at place k) (place-owned gs ms (gs pid) place k h))
-shown-priors gs ms (Exits pid) (Byte k) h = if-prior (λ x. owner gs ms x ≡ gs pid) (nat_lt k 1) (Prior (Register pid 10 0) ∷ []) (refl, tt)
-shown-priors gs ms (Founds pid child from into) (StartRegister r i) h = unless-prior (λ x. owner gs ms x ≡ gs pid) (r == 10) (Prior (Register pid r i) ∷ []) (refl, tt)
-shown-priors gs ms (Founds pid child from into) (StartSlot r i) h = (refl, tt)
-shown-priors gs ms (Founds pid child from into) (StartMemory at) h = (h.old, tt)
-shown-priors gs ms t (Byte k) h = tt
-shown-priors gs ms t (StartRegister r i) h = tt
-shown-priors gs ms t (StartSlot r i) h = tt
-shown-priors gs ms t (StartMemory at) h = tt
+shown-priors gs ms t at h1 = grind (arith, nat_tests, if-prior, owner, place-owned, prior-map, unless-prior)
 
 -- what is written belongs to the group that acts, or to the one that starts
 abbrev pub StartsIn : Groups → Memories → Transfer → Location → Type 0
@@ -242,34 +217,23 @@ abbrev pub IsOwned : Groups → Memories → Transfer → Location → Type 0
 IsOwned gs ms t l = (owner gs ms l ≡ group_in gs t) ⊎ StartsIn gs ms t l
 
 pub result-mine : (gs : Groups) (ms : Memories) (pid : ℕ) (l : Location) → IfSome (result_only pid l) (λ ds. owner gs ms l ≡ gs pid)
-result-mine gs ms pid (Register p r i) = when-some (λ ds. gs p ≡ gs pid) ((p == pid) && (r == 10)) [] (λ e. ap gs (eqb-true p pid (and-left (p == pid) (r == 10) e)))
-result-mine gs ms pid (Slot p r i) = tt
-result-mine gs ms pid (Memory made at) = tt
+result-mine gs ms pid l = grind (arith, nat_tests, and-left, eqb-true, when-some)
 
 if-some : (o : Option ℕ) (b : Bool) (P : Type 0) → (b ≡ true → P) → IfSome (cond b o None) (λ k. P)
-if-some None true P h = tt
-if-some (Some k) true P h = h refl
-if-some o false P h = tt
+if-some o b P h1 = grind (arith, nat_tests)
 
 offset-mine : (ms : Memories) (g : Option ℕ) (place : Option Place) (n made at : ℕ) → PlaceIs ms g place → IfSome (offset place n made at) (λ k. ms made ≡ g)
 offset-mine ms g None n made at h = tt
 offset-mine ms g (Some place) n made at h = if-some (within place.at n at) (place.made == made) (ms made ≡ g) (λ e. ap ms (sym (eqb-true place.made made e)) ∙ h)
 
 ran-mine : (gs : Groups) (ms : Memories) (table : Table) (pid : ℕ) (instr : Instr) (place : Option Place) (l : Location) → PlaceIs ms (gs pid) place → IfSome (ran table pid instr place l) (λ ds. owner gs ms l ≡ gs pid)
-ran-mine gs ms table pid instr place (Register p zero i) h = tt
-ran-mine gs ms table pid instr place (Register p (suc r) i) h = when-some (λ ds. gs p ≡ gs pid) ((p == pid) && (suc r == rd_of instr)) (result_bytes table pid instr place i) (λ e. ap gs (eqb-true p pid (and-left (p == pid) (suc r == rd_of instr) e)))
-ran-mine gs ms table pid instr place (Slot p r i) h = tt
-ran-mine gs ms table pid instr place (Memory made at) h = map-some (λ ds. ms made ≡ gs pid) (result_bytes table pid instr place) (offset place (stored_len instr) made at) (offset-mine ms (gs pid) place (stored_len instr) made at h)
+ran-mine gs ms table pid instr place l h1 = grind (arith, nat_tests, and-left, eqb-true, map-some, offset-mine, when-some)
 
 copied-mine : (gs : Groups) (ms : Memories) (pid child from into : ℕ) (l : Location) → Joining gs ms pid child from into → IfSome (copied pid child from into l) (λ ds. owner gs ms l ≡ gs pid)
-copied-mine gs ms pid child from into (Register p r i) h = when-some (λ ds. gs p ≡ gs pid) (p == child) (unless_result r (Prior (Register pid r i) ∷ [])) (λ e. ap gs (eqb-true p child e) ∙ h.process)
-copied-mine gs ms pid child from into (Slot p r i) h = when-some (λ ds. gs p ≡ gs pid) (p == child) (Prior (Slot pid r i) ∷ []) (λ e. ap gs (eqb-true p child e) ∙ h.process)
-copied-mine gs ms pid child from into (Memory made at) h = when-some (λ ds. ms made ≡ gs pid) (made == into) (Prior (Memory from at) ∷ []) (λ e. ap ms (eqb-true made into e) ∙ h.new)
+copied-mine gs ms pid child from into l h1 = grind (arith, nat_tests, eqb-true, when-some)
 
 begun-its : (gs : Groups) (ms : Memories) (child into : ℕ) (l : Location) → gs child ≡ Some child → ms into ≡ Some child → IfSome (begun child into l) (λ ds. owner gs ms l ≡ Some child)
-begun-its gs ms child into (Register p r i) h k = when-some (λ ds. gs p ≡ Some child) (p == child) (unless_result r (Received (StartRegister r i) ∷ [])) (λ e. ap gs (eqb-true p child e) ∙ h)
-begun-its gs ms child into (Slot p r i) h k = when-some (λ ds. gs p ≡ Some child) (p == child) (Received (StartSlot r i) ∷ []) (λ e. ap gs (eqb-true p child e) ∙ h)
-begun-its gs ms child into (Memory made at) h k = when-some (λ ds. ms made ≡ Some child) (made == into) (Received (StartMemory at) ∷ []) (λ e. ap ms (eqb-true made into e) ∙ k)
+begun-its gs ms child into l h1 h2 = grind (arith, nat_tests, eqb-true, when-some)
 
 some-weaker : (P Q : List Dependence → Type 0) → ((ds : List Dependence) → P ds → Q ds) → (o : Option (List Dependence)) → IfSome o P → IfSome o Q
 some-weaker P Q f None h = tt

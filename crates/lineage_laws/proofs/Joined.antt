@@ -1,14 +1,15 @@
 -- What reaches an event's byte by items and stored origins is what whole tracking gives it: by induction on the event's number.
-use Rattle.std.proofs.Common.{◌≡◌, ℕ, zero, suc, ◌<◌, ◌≤◌, List, [], ◌∷◌, ◌++◌, flat_map, refl, ap, ◌∙◌, sym, subst, Option, Some, None, Bool, true, false, ◌==◌, IfSome, cond, arith, nat_lt, ◌⊎◌, inl, inr}
+use Rattle.std.proofs.Common.{◌≡◌, ℕ, zero, suc, ◌<◌, ◌≤◌, List, [], ◌∷◌, flat_map, refl, ap, ◌∙◌, sym, subst, Option, Some, None, Bool, true, false, ◌==◌, IfSome, cond, arith, ◌⊎◌, inl, inr}
+use Rattle.std.proofs.lemmas.Bool.Decides.{nat_tests}
 use Rattle.std.specs.List.{AllByRecursion}
 use Rattle.std.proofs.lemmas.Bool.{eqb-true}
 use Rattle.rv64_model.specs.Carries.{Table}
 use Rattle.arn_base.specs.declared.records.Record.{Record}
 use Rattle.arn_base.specs.declared.records.Src.{Src}
-use Rattle.acts_model.specs.Moved.{KernelByte, byte_of, Event, Incoming, Outside, Nothing, From, Moved}
+use Rattle.acts_model.specs.Moved.{KernelByte, Event, Incoming, Moved}
 use Rattle.acts_model.specs.Records.{event_len}
 use Rattle.acts_model.specs.Transfers.{Transfer}
-use Rattle.lineage_model.specs.Flow.{Location, At, Byte, StartRegister, StartSlot, StartMemory, Dependence, Received, received_byte, flow, shown}
+use Rattle.lineage_model.specs.Flow.{Location, At, Byte, Dependence, Received, flow, shown}
 use Rattle.lineage_model.specs.Joined.{Reaching, is_source, origin_of, from_origin, from_received, from_item_at, from_item, source_byte, from_event, reached}
 use Rattle.lineage_model.specs.Tracking.{EventByte, Tracked, gather, points_after, after, items, alone_after}
 use Rattle.lineage_laws.proofs.Sets.{EachReceived, each-weaker, flat_map-same, gather-each, each-received}
@@ -85,9 +86,7 @@ names-earlier n before None o src h k e = absurd (cc)
 names-earlier n before (Some byte) o src h k e = h byte src (k.1 ∙ (sym k.2 ∙ e))
 
 linked-earlier : (n : ℕ) (before : Held) (e : Record) (incoming : Incoming) → AreBelow n before → Linked before e incoming → IsEarlier n e
-linked-earlier n before e Outside h l = λ k src o. let none = l k in absurd (cc)
-linked-earlier n before e Nothing h l = λ k src o. let none = l k in absurd (cc)
-linked-earlier n before e (From range) h l = λ k src o. names-earlier n before (byte_of range k) (origin_of e k) src h (l k) o
+linked-earlier n before e incoming h1 h2 = grind (arith, nat_tests, names-earlier)
 
 -- what is known of each event: its record, that its origins are earlier, and what its bytes have, if it is a source
 pub record Known (event_at : ℕ → Option Record) (all : Tracked EventByte) (e : ℕ) : Type 0 where
@@ -97,14 +96,7 @@ pub record Known (event_at : ℕ → Option Record) (all : Tracked EventByte) (e
   pub source : is_source entry ≡ true → (at : At) → all.points e at ≡ source_byte e (event_len entry) at
 
 source-gathered : (event : Event) (a : Location → List EventByte) (len : ℕ) (at : At) → gather (items (Some event)) a (source_shown len at) ≡ source_byte event.number len at
-source-gathered event a len (Byte k) = by_test (nat_lt k len)
-  where
-    by_test : (b : Bool) → gather (items (Some event)) a (cond b (received_byte k) []) ≡ cond b (record { event = event.number; at = Byte k } ∷ []) []
-    by_test true = refl
-    by_test false = refl
-source-gathered event a len (StartRegister r i) = refl
-source-gathered event a len (StartSlot r i) = refl
-source-gathered event a len (StartMemory b) = refl
+source-gathered event a len at = grind (arith, nat_tests)
 
 -- later steps leave an event's bytes
 pub every-stable : (table : Table) (event_at : ℕ → Option Record) (n : ℕ) (list : List Moved) (before last : Held) (t : Tracked EventByte) → Chain event_at n before list last → (e : ℕ) (at : At) → e < n → (every table list t).points e at ≡ t.points e at
@@ -159,30 +151,14 @@ received-same e d k p q l h None i = refl
 received-same e d k p q l h (Some entry) i = ap (λ (xs : List EventByte). cond (is_source entry) (record { event = d; at = Byte k } ∷ []) xs) (origin-same e p q h (origin_of entry k) (λ src o. let m = i k src o in omega arith))
 
 item-same : (event_at : ℕ → Option Record) (e : ℕ) (p q : Reaching) → ((x : ℕ) (at : At) → x < e → p x at ≡ q x at) → (d : ℕ) (at : At) → (d < e) ⊎ ((d ≡ e) × IsByte at) → IfSome (event_at d) (IsEarlier d) → from_item_at event_at p d at ≡ from_item_at event_at q d at
-item-same event_at e p q h d (Byte k) (inl b) i = received-same e d k p q (omega arith) h (event_at d) i
-item-same event_at e p q h d (Byte k) (inr b) i = let l = b.0 in received-same e d k p q (omega arith) h (event_at d) i
-item-same event_at e p q h d (StartRegister r i) (inl b) f = h d _ b
-item-same event_at e p q h d (StartSlot r i) (inl b) f = h d _ b
-item-same event_at e p q h d (StartMemory a) (inl b) f = h d _ b
-item-same event_at e p q h d (StartRegister r i) (inr b) f = absurd b.1
-item-same event_at e p q h d (StartSlot r i) (inr b) f = absurd b.1
-item-same event_at e p q h d (StartMemory a) (inr b) f = absurd b.1
+item-same event_at e p q h1 d at h2 h3 = grind (arith, nat_tests, received-same)
 
 known-earlier : (event_at : ℕ → Option Record) (all : Tracked EventByte) (e : ℕ) → Known event_at all e → IfSome (event_at e) (IsEarlier e)
 known-earlier event_at all e k = subst (λ (o : Option Record). IfSome o (IsEarlier e)) (sym k.there) k.earlier
 
 -- a source byte stands for itself
 source-value : (event_at : ℕ → Option Record) (final : Reaching) (e : ℕ) (entry : Record) → event_at e ≡ Some entry → is_source entry ≡ true → (len : ℕ) (at : At) → flat_map (from_item event_at final) (source_byte e len at) ≡ source_byte e len at
-source-value event_at final e entry there s len (Byte k) = by_test (nat_lt k len)
-  where
-    by_test : (b : Bool) → flat_map (from_item event_at final) (cond b (record { event = e; at = Byte k } ∷ []) []) ≡ cond b (record { event = e; at = Byte k } ∷ []) []
-    by_test true =
-        ap (λ (o : Option Record). from_received final e k o ++ []) there
-        ∙ ap (λ (b : Bool). cond b (record { event = e; at = Byte k } ∷ []) (from_origin final (origin_of entry k)) ++ []) s
-    by_test false = refl
-source-value event_at final e entry there s len (StartRegister r i) = refl
-source-value event_at final e entry there s len (StartSlot r i) = refl
-source-value event_at final e entry there s len (StartMemory a) = refl
+source-value event_at final e entry h1 h2 len at = grind (arith, nat_tests)
 
 -- whole tracking is what v makes of items
 abbrev pub ArePoints : (ℕ → Option Record) → Reaching → Tracked EventByte → Type 0

@@ -1,5 +1,6 @@
 -- The origins that records store are those of the bytes that the kernel held, and what the kernel holds afterwards was put there or held before.
-use Rattle.std.proofs.Common.{◌≡◌, ◌⊎◌, inl, inr, ℕ, zero, suc, ◌+◌, ◌-◌, ◌<◌, ◌≤◌, List, [], ◌∷◌, length, map, refl, ap, ap₂, ◌∙◌, sym, subst, Option, Some, None, option_map, option_and_then, slice_get, Bool, true, false, ◌==◌, ◌&&◌, cond, arith, nat_lt, nat_le}
+use Rattle.std.proofs.Common.{◌≡◌, ◌⊎◌, inl, inr, ℕ, zero, suc, ◌+◌, ◌-◌, ◌<◌, List, [], ◌∷◌, length, map, refl, ap, ◌∙◌, sym, subst, Option, Some, None, option_map, option_and_then, slice_get, Bool, true, false, cond, arith, nat_lt}
+use Rattle.std.proofs.lemmas.Bool.Decides.{nat_tests}
 use Rattle.std.proofs.lemmas.Bool.{eqb-true, leb-true, ltb-true, ltb-false, lt-ltb, le-ltb, and_parts}
 use Rattle.std.proofs.lemmas.Option.{slice_get_past}
 use Rattle.arn_base.specs.declared.records.Give.{Give}
@@ -7,8 +8,8 @@ use Rattle.arn_base.specs.declared.records.Origin.{Origin}
 use Rattle.arn_base.specs.declared.records.Record.{Record}
 use Rattle.arn_base.specs.declared.records.Src.{Src}
 use Rattle.parts_model.specs.declared.tagged.TaggedByte.{TaggedByte}
-use Rattle.parts_model.specs.Tagged.{comes_before, one_origin, onto_origins, origins_of, given}
-use Rattle.acts_model.specs.Moved.{KernelByte, ConsoleByte, PipeByte, FileByte, StatusByte, Range, behind, byte_of, within, place_from, place_in, Incoming, Outside, Nothing, From}
+use Rattle.parts_model.specs.Tagged.{onto_origins, origins_of, given}
+use Rattle.acts_model.specs.Moved.{KernelByte, Range, behind, byte_of, within, place_from, place_in, Incoming}
 use Rattle.acts_model.specs.Records.{give_of}
 use Rattle.arn_model.specs.Kernel.{Kernel}
 use Rattle.arn_model.specs.Tells.{kernel_byte, Receives, Spans, put_byte, outgoing_byte, HoldsAfter}
@@ -17,40 +18,13 @@ use Rattle.lineage_laws.proofs.Stored.{Held, Names, Linked, Kept, placed}
 
 -- the place in front of origins is found first, and they behind it
 onto-first : (place : Src) (os : List Origin) → origin_at (onto_origins place os) 0 ≡ Some place
-onto-first place [] = ap (λ (i : ℕ). Some (record { event = place.event; at = i })) (let e : place.at + 0 ≡ place.at = omega arith in e)
-onto-first place (o ∷ os) = by_test (comes_before place o)
-  where
-    first : place.at + 0 ≡ place.at
-    first = omega arith
-
-    by_test : (b : Bool) → origin_at (cond b (record { event = place.event; at = place.at; len = o.len + 1 } ∷ os) (one_origin place ∷ o ∷ os)) 0 ≡ Some place
-    by_test true =
-        ap (λ (b : Bool). cond b (Some (record { event = place.event; at = place.at + 0 })) (origin_at os (0 - (o.len + 1)))) (lt-ltb 0 (o.len + 1) (omega arith))
-        ∙ ap (λ (i : ℕ). Some (record { event = place.event; at = i })) first
-    by_test false = ap (λ (i : ℕ). Some (record { event = place.event; at = i })) first
+onto-first place os = grind (arith, nat_tests, lt-ltb)
 
 lt-suc : (j n : ℕ) → nat_lt (suc j) (n + 1) ≡ nat_lt j n
-lt-suc j n = by_test (nat_lt j n) refl
-  where
-    by_test : (b : Bool) → nat_lt j n ≡ b → nat_lt (suc j) (n + 1) ≡ b
-    by_test true e = let l = ltb-true j n e in lt-ltb (suc j) (n + 1) (omega arith)
-    by_test false e = let l = ltb-false j n e in le-ltb (suc j) (n + 1) (omega arith)
+lt-suc j n = grind (arith, nat_tests, le-ltb, lt-ltb, ltb-false, ltb-true)
 
 onto-next : (place : Src) (os : List Origin) (j : ℕ) → origin_at (onto_origins place os) (suc j) ≡ origin_at os j
-onto-next place [] j = ap (λ (b : Bool). cond b (Some (record { event = place.event; at = place.at + suc j })) None) (le-ltb (suc j) 1 (omega arith))
-onto-next place (o ∷ os) j = by_test (comes_before place o) refl
-  where
-    by_test : (b : Bool) → comes_before place o ≡ b → origin_at (cond b (record { event = place.event; at = place.at; len = o.len + 1 } ∷ os) (one_origin place ∷ o ∷ os)) (suc j) ≡ origin_at (o ∷ os) j
-    by_test true e =
-        let both = and_parts (place.event == o.event) (place.at + 1 == o.at) e in
-        let event : place.event ≡ o.event = eqb-true place.event o.event both.0 in
-        let at : place.at + 1 ≡ o.at = eqb-true (place.at + 1) o.at both.1 in
-        ap (λ (b : Bool). cond b (Some (record { event = place.event; at = place.at + suc j })) (origin_at os (suc j - (o.len + 1)))) (lt-suc j o.len)
-        ∙ (ap₂ (λ (x y : ℕ). cond (nat_lt j o.len) (Some (record { event = x; at = y })) (origin_at os (suc j - (o.len + 1)))) event (let e : place.at + suc j ≡ o.at + j = omega arith in e)
-        ∙ ap (λ (i : ℕ). cond (nat_lt j o.len) (Some (record { event = o.event; at = o.at + j })) (origin_at os i)) (let e : suc j - (o.len + 1) ≡ j - o.len = omega arith in e))
-    by_test false e =
-        ap (λ (b : Bool). cond b (Some (record { event = place.event; at = place.at + suc j })) (origin_at (o ∷ os) (suc j - 1))) (le-ltb (suc j) 1 (omega arith))
-        ∙ ap (origin_at (o ∷ os)) (let e : suc j - 1 ≡ j = omega arith in e)
+onto-next place os j = grind (arith, nat_tests, and_parts, eqb-true, le-ltb, lt-suc)
 
 -- the longest runs of places hold each place
 origin-at : (places : List Src) (k : ℕ) → origin_at (origins_of places) k ≡ slice_get places k
@@ -98,32 +72,18 @@ pub held-linked : (k : Kernel) (range : Range) (e : Record) (held : List TaggedB
 held-linked k range e held all there told n = subst (Names (origins k) (byte_of range n)) (sym (given-origin e (given held) n told)) (range-names k range held all there n)
 
 pub receives-linked : (k : Kernel) (incoming : Incoming) (bytes : List ℕ) (e : Record) → Receives k incoming bytes e → Linked (origins k) e incoming
-receives-linked k Outside bytes e h = λ n. no-origin e n h
-receives-linked k Nothing bytes e h = λ n. no-origin e n h
-receives-linked k (From range) bytes e h = held-linked k range e h.held h.all h.there h.told
+receives-linked k incoming bytes e h1 = grind (arith, nat_tests, held-linked, no-origin)
 
 -- a place within a range is below its length
 within-below : (a n b k : ℕ) → within a n b ≡ Some k → k < n
-within-below a n b k e = by_test (nat_le a b) (nat_lt b (a + n)) refl refl e
-  where
-    by_test : (x y : Bool) → nat_le a b ≡ x → nat_lt b (a + n) ≡ y → cond (x && y) (Some (b - a)) None ≡ Some k → k < n
-    by_test true true h l e = let m = ltb-true b (a + n) l in let f : b - a ≡ k = cc in let g = inside h in omega arith
-      where
-        inside : nat_le a b ≡ true → a ≤ b
-        inside h = leb-true a b h
-    by_test true false h l e = absurd (cc)
-    by_test false y h l e = absurd (cc)
+within-below a n b k h1 = grind (arith, nat_tests, leb-true, ltb-true)
 
 if-below : (b : Bool) (a n c k : ℕ) → cond b (within a n c) None ≡ Some k → k < n
 if-below true a n c k e = within-below a n c k e
 if-below false a n c k e = absurd (cc)
 
 place-below : (first : KernelByte) (len : ℕ) (byte : KernelByte) (k : ℕ) → place_from first len byte ≡ Some k → k < len
-place-below (ConsoleByte position) len (ConsoleByte p) k e = within-below position len p k e
-place-below (PipeByte pipe position) len (PipeByte q p) k e = if-below (pipe == q) position len p k e
-place-below (FileByte file at) len (FileByte f a) k e = if-below (file == f) at len a k e
-place-below (StatusByte pid) len (StatusByte p) k e = if-below (pid == p) 0 len 0 k e
-place-below first len byte k e = absurd (cc)
+place-below first len byte k h1 = grind (arith, nat_tests, if-below, within-below)
 
 -- what the kernel holds after an event
 origin-found : (o : Option TaggedByte) (src : Src) → option_map (λ h. h.origin) o ≡ Some src → (h : TaggedByte) × (o ≡ Some h) × (h.origin ≡ src)

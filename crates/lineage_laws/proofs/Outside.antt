@@ -1,5 +1,6 @@
 -- What the kernel holds after a boot, a boot file and a typed piece: what it held, and the bytes that came from outside.
 use Rattle.std.proofs.Common.{◌≡◌, ◌⊎◌, inl, inr, ℕ, zero, suc, ◌+◌, ◌-◌, ◌<◌, ◌≤◌, List, [], ◌∷◌, ◌++◌, length, refl, ap, ap₂, ◌∙◌, sym, Option, Some, None, option_map, option_and_then, slice_get, Bool, true, false, ◌==◌, ◌&&◌, cond, arith, nat_lt, ne_eqb}
+use Rattle.std.proofs.lemmas.Bool.Decides.{nat_tests}
 use Rattle.std.proofs.lemmas.Bool.{eq-eqb, eqb-true, eqb-false, ltb-true, ltb-false, lt-ltb, le-leb, lt-leb}
 use Rattle.arn_base.specs.declared.records.Src.{Src}
 use Rattle.parts_model.specs.declared.tagged.TaggedByte.{TaggedByte}
@@ -29,20 +30,7 @@ KeptAt event old new None = (src : Src) → option_map (λ h. h.origin) new ≡ 
 KeptAt event old new (Some k) = (src : Src) → option_map (λ h. h.origin) new ≡ Some src → (src.event ≡ event) × (src.at ≡ k)
 
 kept-by : (event : ℕ) (old new : Option TaggedByte) (put : Option ℕ) → OldOrNew event old new put → KeptAt event old new put
-kept-by event old None None h = λ src l. absurd (cc)
-kept-by event old None (Some k) h = λ src l. absurd (cc)
-kept-by event old (Some x) None h = λ src l. by_case src (let o : x.origin ≡ src = cc in o) (h x refl)
-  where
-    by_case : (src : Src) → x.origin ≡ src → IsOldOrNew event old None x → option_map (λ h. h.origin) old ≡ Some src
-    by_case src o (inl k) = ap (option_map (λ h. h.origin)) k.1 ∙ ap (λ (y : Src). Some y) o
-    by_case src o (inr k) = let bad = k.0 in absurd (cc)
-kept-by event old (Some x) (Some j) h = λ src l. by_case src (let o : x.origin ≡ src = cc in o) (h x refl)
-  where
-    by_case : (src : Src) → x.origin ≡ src → IsOldOrNew event old (Some j) x → (src.event ≡ event) × (src.at ≡ j)
-    by_case src o (inl k) = let bad = k.0 in absurd (cc)
-    by_case src o (inr k) =
-        let same : j ≡ x.origin.at = (let e = k.0 in cc) in
-        (ap (λ (y : Src). y.event) (sym o) ∙ k.1, ap (λ (y : Src). y.at) (sym o) ∙ sym same)
+kept-by event old new put h1 = grind (arith, nat_tests)
 
 -- bytes of an event
 held-at : (event s : ℕ) (bytes : List ℕ) (j : ℕ) (h : TaggedByte) → slice_get (held_from event s bytes) j ≡ Some h → (h.origin.event ≡ event) × (h.origin.at ≡ s + j) × (j < length bytes)
@@ -112,11 +100,7 @@ typed-kept m bytes (StatusByte pid) = λ src l. l
 
 -- a boot file
 suc-test : (q p : ℕ) → (suc q == suc p) ≡ (q == p)
-suc-test q p = by_test (q == p) refl
-  where
-    by_test : (b : Bool) → (q == p) ≡ b → (suc q == suc p) ≡ b
-    by_test true e = eq-eqb (suc q) (suc p) (ap suc (eqb-true q p e))
-    by_test false e = let ne = eqb-false q p e in ne_eqb (suc q) (suc p) (λ k. ne (omega arith))
+suc-test q p = grind (arith, nat_tests, eq-eqb, eqb-false, eqb-true)
 
 nth-push : {A : Type 0} → (xs : List (Option A)) (x : Option A) (j : ℕ) → nth (xs ++ x ∷ []) j ≡ cond (length xs == j) x (nth xs j)
 nth-push [] x zero = refl
@@ -138,9 +122,7 @@ new-kept event bytes old at false h e = inl (refl, e)
 
 file-byte-kept : (m : Machine) (path bytes : List ℕ) (f at : ℕ) → OldOrNew m.events (kernel_byte m.kernel (FileByte f at)) (kernel_byte (file_step m path bytes).after.kernel (FileByte f at)) (within_if (next_file m.kernel.files == f) 0 (length bytes) at)
 unfolding file-of
-file-byte-kept m path bytes f at h e =
-    new-kept m.events bytes (nth m.kernel.files.all f) at (next_file m.kernel.files == f) h
-    (sym (ap (λ (o : Option File). file-of o at) (nth-push m.kernel.files.all (Some (record { bytes = held_bytes m.events bytes; holders = 0 })) f)) ∙ e)
+file-byte-kept m path bytes f at = grind (arith, nat_tests, file-of, new-kept, nth-push)
 
 pub file-kept : (m : Machine) (path bytes : List ℕ) (byte : KernelByte) → Kept m.events (origins m.kernel) (origins (file_step m path bytes).after.kernel) byte (place_in (record { first = FileByte (next_file m.kernel.files) 0; len = length bytes }) byte)
 file-kept m path bytes (ConsoleByte p) = λ src l. l
@@ -150,19 +132,11 @@ file-kept m path bytes (StatusByte pid) = λ src l. l
 
 -- a boot
 first-status : (a : ℕ) (pid : ℕ) → table.status_of (table.with_change (table.with_change (table.with_change (table.booted []) 1 (table.placed a)) 1 (table.placed 0)) 1 (table.placed 0)) pid ≡ None
-first-status a zero = refl
-first-status a (suc zero) = refl
-first-status a (suc (suc i)) = refl
+first-status a pid = grind (arith, nat_tests)
 
 no-status : (ps : Processes) (a pid : ℕ) → nat_lt 0 (length ps) ≡ false → table.status_of (table.with_change (table.with_change (table.with_change (table.booted ps) 1 (table.placed a)) 1 (table.placed 0)) 1 (table.placed 0)) pid ≡ None
 no-status [] a pid e = first-status a pid
 no-status (p ∷ ps) a pid e = let l = ltb-false 0 (suc (length ps)) e in absurd (omega arith)
 
 pub boot-kept : (k : Kernel) → nat_lt 0 (length k.processes) ≡ false → (byte : KernelByte) (src : Src) → origins (booted k) byte ≡ Some src → origins k byte ≡ Some src
-boot-kept k e (ConsoleByte p) src l = l
-boot-kept k e (PipeByte pipe p) src l = l
-boot-kept k e (FileByte file at) src l = l
-boot-kept k e (StatusByte pid) src l = absurd (none_some (sym (ap (option_map (λ h. h.origin)) (no-status k.processes (length k.descriptions) pid e)) ∙ l))
-  where
-    none_some : None ≡ Some src → ⊥
-    none_some f = cc
+boot-kept k h1 byte src h2 = grind (arith, nat_tests, no-status)

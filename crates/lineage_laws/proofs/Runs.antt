@@ -1,5 +1,6 @@
 -- All steps of a run up to a moment fit.
-use Rattle.std.proofs.Common.{◌≡◌, ◌⊎◌, inl, inr, ℕ, zero, suc, ◌+◌, ◌<◌, ◌≤◌, List, [], ◌∷◌, length, map, filter, refl, ap, ◌∙◌, sym, subst, Option, Some, None, is_some, option_and_then, slice_get, Bool, true, false, cond, arith, nat_lt, ne_eqb, true≢false}
+use Rattle.std.proofs.Common.{◌≡◌, ◌⊎◌, inl, inr, ℕ, zero, suc, ◌+◌, ◌<◌, ◌≤◌, List, [], ◌∷◌, length, map, filter, refl, ap, ◌∙◌, sym, subst, Option, Some, None, is_some, slice_get, Bool, true, false, cond, arith, ne_eqb}
+use Rattle.std.proofs.lemmas.Bool.Decides.{nat_tests}
 use Rattle.std.proofs.lemmas.Bool.{ltb-true, ltb-false}
 use Rattle.std.proofs.lemmas.Option.{slice_get_past}
 use Rattle.std.specs.List.{cons_option}
@@ -7,7 +8,7 @@ use Rattle.arn_base.specs.declared.records.Record.{Record}
 use Rattle.arn_base.specs.declared.records.Record.TheVariants as entry
 use Rattle.rv64_model.specs.Carries.{Table}
 use Rattle.parts_model.specs.Processes as table
-use Rattle.parts_model.specs.Processes.{Process, Processes}
+use Rattle.parts_model.specs.Processes.{Processes}
 use Rattle.acts_model.specs.Acts.{Act, Forks, Founds}
 use Rattle.acts_model.specs.Bodies.{Body, body_at}
 use Rattle.acts_model.specs.Moved.{Event, is_instruction}
@@ -18,22 +19,22 @@ use Rattle.arn_model.specs.Run.{within, unless_reached, events_of}
 use Rattle.arn_model.specs.Sound.{IsSoundMachine}
 use Rattle.arn_model.specs.Step.{Step}
 use Rattle.arn_model.specs.Tells as tells
-use Rattle.arn_model.specs.Tells.{lives, EventTells, StepTells, Runs, Happens, Boots, Adds, Types, Unplugs, Along}
+use Rattle.arn_model.specs.Tells.{lives, StepTells, Runs, Happens, Boots, Adds, Types, Unplugs, Along}
 use Rattle.arn_model.specs.Turn.{after_steps}
 use Rattle.history_model.specs.Groups.{Groups, groups_told, groups_from, group_forked}
 use Rattle.history_model.specs.Moments.{changed}
-use Rattle.lineage_model.specs.Flow.{At, shown}
+use Rattle.lineage_model.specs.Flow.{At}
 use Rattle.lineage_model.specs.Joined.{is_source}
-use Rattle.lineage_model.specs.Tracking.{EventByte, Tracked, gather, items, points_after, alone_after}
+use Rattle.lineage_model.specs.Tracking.{EventByte, Tracked, alone_after}
 use Rattle.log_model.specs.Records.{event_records}
 use Rattle.lineage_laws.proofs.Central.{every}
-use Rattle.lineage_laws.proofs.Stored.{next, count, FitsBy, Chain, points-new}
+use Rattle.lineage_laws.proofs.Stored.{next, count, FitsBy, Chain}
 use Rattle.lineage_laws.proofs.Joined.{this_or_later, every-stable}
 use Rattle.lineage_laws.proofs.Groups.{AllFit, moves}
 use Rattle.lineage_laws.proofs.Told.{Says, SaysFounds, SaysForks, SaysOther, entry-says}
 use Rattle.lineage_laws.proofs.Origins.{origins}
 use Rattle.lineage_laws.proofs.Holding.{BodiesFit}
-use Rattle.lineage_laws.proofs.Fits.{memories, makers, groups_by, Whose, StepIs, IsThere, Around, step-is}
+use Rattle.lineage_laws.proofs.Fits.{memories, makers, groups_by, StepIs, IsThere, Around, step-is}
 
 -- the groups after steps
 abbrev pub groups_along : List Step → Groups → Groups
@@ -80,14 +81,7 @@ along-settled m (s ∷ steps) groups q t k l =
 
 -- who lives has been made
 nth-below : (ps : Processes) (i : ℕ) → is_some (table.live_process ps (suc i)) ≡ true → i < length ps
-nth-below ps i h = by_test (nat_lt i (length ps)) refl
-  where
-    none : nat_lt i (length ps) ≡ false → is_some (table.live_process ps (suc i)) ≡ false
-    none t = ap (λ (o : Option (Option Process)). is_some (option_and_then (λ p. cond (table.is_live p) (Some p) None) (option_and_then (λ thing. thing) o))) (slice_get_past ps i (ltb-false i (length ps) t))
-
-    by_test : (b : Bool) → nat_lt i (length ps) ≡ b → i < length ps
-    by_test true t = ltb-true i (length ps) t
-    by_test false t = absurd (true≢false (sym h ∙ none t))
+nth-below ps i h1 = grind (arith, nat_tests, ltb-false, ltb-true, slice_get_past)
 
 alive-below : (k : Kernel) (pid : ℕ) → lives k pid ≡ true → pid ≤ length k.processes
 alive-below k zero h = omega arith
@@ -167,26 +161,8 @@ chain-all event_at gs m (s ∷ steps) h =
 abbrev pub IsKnown : (ℕ → Option Record) → (ℕ → Option ℕ) → Tracked EventByte → ℕ → Type 0
 IsKnown event_at maker all e = ((g : ℕ) × (maker e ≡ Some g)) ⊎ (((x : Record) → event_at e ≡ Some x → is_source x ≡ true) ⊎ ((at : At) → all.points e at ≡ []))
 
-some-record : (x y : Record) → Some x ≡ Some y → x ≡ y
-some-record x y e = cc
-
 known-here : (event_at : ℕ → Option Record) (gs : Groups) (tab : Table) (m : Machine) (s : Step) (steps : List Step) (t : Tracked EventByte) → Along (StepIs event_at gs) m (s ∷ steps) → (event : Event) → s.moved.inside.event ≡ Some event → IsKnown event_at (makers event_at gs) (every tab (moves (s ∷ steps)) t) event.number
-known-here event_at gs tab m s steps t h event is = by_case (subst (Whose (makers event_at gs) s.moved.inside.transfer) is h.0.whose)
-  where
-    fits : FitsBy event_at m.events (origins m.kernel) (origins s.after.kernel) s.moved (Some event)
-    fits = subst (FitsBy event_at m.events (origins m.kernel) (origins s.after.kernel) s.moved) is h.0.moved
-
-    by_case : Whose (makers event_at gs) s.moved.inside.transfer (Some event) → IsKnown event_at (makers event_at gs) (every tab (moves (s ∷ steps)) t) event.number
-    by_case (inl k) = inl k
-    by_case (inr (inl k)) = inr (inl (λ x e. ap is_source (some-record x event.entry (sym e ∙ fits.there)) ∙ k))
-    by_case (inr (inr k)) = inr (inr (λ at.
-        let c = chain-all event_at gs m (s ∷ steps) h in
-        let number = fits.number in
-        let later : event.number < next m.events s.moved.inside.event = subst (λ (x : Option Event). event.number < next m.events x) (sym is) (omega arith) in
-        every-stable tab event_at (next m.events s.moved.inside.event) (moves steps) c.0 (origins (after_steps m (s ∷ steps)).kernel) (alone_after tab s.moved.inside t) c.2 event.number at later
-        ∙ (ap (λ (x : Option Event). points_after x (λ at. gather (items x) t.locations (shown s.moved.inside.transfer at)) t.points event.number at) is
-        ∙ (points-new event (λ at. gather (items (Some event)) t.locations (shown s.moved.inside.transfer at)) t.points at
-        ∙ ap (gather (items (Some event)) t.locations) (k at)))))
+known-here event_at gs tab m s steps t h1 event h2 = grind (arith, nat_tests, chain-all, every, every-stable, makers, moves, next)
 
 pub known-all : (event_at : ℕ → Option Record) (gs : Groups) (tab : Table) (m : Machine) (steps : List Step) (t : Tracked EventByte) → Along (StepIs event_at gs) m steps → (e : ℕ) → m.events ≤ e → e < count m.events (moves steps) → IsKnown event_at (makers event_at gs) (every tab (moves steps) t) e
 known-all event_at gs tab m [] t h e l g = absurd (omega arith)

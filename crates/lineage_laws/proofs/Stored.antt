@@ -1,13 +1,14 @@
 -- What stored origins name: at each moment each byte of the kernel has the set of the event byte that it is a copy of, and no later step
 -- changes that byte's set.
 use Rattle.std.proofs.Common.{◌≡◌, ℕ, suc, ◌<◌, ◌≤◌, List, [], ◌∷◌, flat_map, refl, ap, ap₂, ◌∙◌, sym, subst, append-nil, Option, Some, None, Bool, true, false, IsTrue, cond, arith, ne_eqb}
+use Rattle.std.proofs.lemmas.Bool.Decides.{nat_tests}
 use Rattle.std.proofs.lemmas.Bool.{eq-eqb}
 use Rattle.rv64_model.specs.Carries.{Table}
 use Rattle.arn_base.specs.declared.records.Record.{Record}
 use Rattle.arn_base.specs.declared.records.Src.{Src}
 use Rattle.acts_model.specs.Moved.{KernelByte, Range, byte_of, place_in, Event, Incoming, Outside, Nothing, From, Moved, is_plain}
 use Rattle.acts_model.specs.Records.{event_len}
-use Rattle.acts_model.specs.Transfers.{Transfer, Arrives, Starts, Runs, Receives, Founds, Begins}
+use Rattle.acts_model.specs.Transfers.{Transfer, Runs}
 use Rattle.lineage_model.specs.Flow.{At, Byte, StartRegister, StartSlot, StartMemory, Dependence, shown, received_byte, if_below}
 use Rattle.lineage_model.specs.Joined.{Reaching, is_source, origin_of, from_origin, from_received, from_item_at, from_item}
 use Rattle.lineage_model.specs.Tracking.{EventByte, gather, points_after, after, items}
@@ -124,10 +125,7 @@ IsKept n w held = (byte : KernelByte) (src : Src) → held byte ≡ Some src →
 
 -- one step keeps it
 kept-same : (table : Table) (n : ℕ) (event : Option Event) (d : Transfer) (i : At → List EventByte) (w : Whole) (byte : KernelByte) (src : Src) → NumberIs n event → HasOrigin n w byte src → (w.kernel byte ≡ (after table i event d w.tracked).points src.event (Byte src.at)) × (src.event < next n event)
-kept-same table n event d i w byte src h o =
-    let l = o.below in
-    let k = next-le n event in
-    (o.set ∙ sym (points-earlier n event _ w.tracked.points src.event (Byte src.at) h o.below), omega arith)
+kept-same table n event d i w byte src h1 h2 = grind (arith, nat_tests, next-le, points-earlier)
 
 put-kept : (table : Table) (n : ℕ) (event : Event) (d : Transfer) (i : At → List EventByte) (w : Whole) (before later : Held) (byte : KernelByte) (src : Src) → event.number ≡ n → IsKept n w before → later byte ≡ Some src → (put : Option ℕ) → Kept n before later byte put → (kernel_set (w.kernel byte) (λ k. (after table i (Some event) d w.tracked).points event.number (Byte k)) put ≡ (after table i (Some event) d w.tracked).points src.event (Byte src.at)) × (src.event < suc n)
 put-kept table n event d i w before later byte src e h l None k = kept-same table n (Some event) d i w byte src e (h byte src (k src l))
@@ -155,12 +153,7 @@ kept-all table event_at n [] w before last c h = λ byte src l. h byte src (sym 
 kept-all table event_at n (m ∷ list) w before last c h = kept-all table event_at (next n m.inside.event) list (whole_after table m w) c.0 last c.2 (kept table event_at n m w before c.0 c.1 h)
 
 pub takes-weaker : (P Q : At → Type 0) → ((at : At) → P at → Q at) → (t : Transfer) → Takes P t → Takes Q t
-takes-weaker P Q f (Arrives len) h = λ k l. f (Byte k) (h k l)
-takes-weaker P Q f (Starts pid made load len block block_len) h = λ k. f (Byte k) (h k)
-takes-weaker P Q f (Receives pid place len) h = λ k. f (Byte k) (h k)
-takes-weaker P Q f (Founds pid child from into) h = record { registers = λ r i. f _ (h.registers r i); slot = λ r i. f _ (h.slot r i); memory = λ at. f _ (h.memory at) }
-takes-weaker P Q f (Begins pid made) h = record { registers = λ r i. f _ (h.registers r i); slot = λ r i. f _ (h.slot r i); memory = λ at. f _ (h.memory at) }
-takes-weaker P Q f _ h = tt
+takes-weaker P Q h1 t h2 = grind (arith, nat_tests)
 
 pub plain-takes : (P : At → Type 0) (t : Transfer) → IsTrue (is_plain t) → Takes P t
 plain-takes P (Runs pid instr place) h = tt

@@ -1,14 +1,12 @@
 -- Which received bytes a step takes: those of transfers that receive, and no others.
-use Rattle.std.proofs.Common.{◌≡◌, ℕ, zero, suc, ◌+◌, ◌-◌, ◌<◌, List, [], ◌∷◌, map, refl, Option, Some, None, IfSome, option_map, unwrap_or, Bool, true, false, ◌==◌, ◌&&◌, cond, nat_lt}
+use Rattle.std.proofs.Common.{ℕ, zero, suc, ◌-◌, ◌<◌, List, [], ◌∷◌, map, Option, Some, None, IfSome, option_map, unwrap_or, Bool, true, false, ◌==◌, ◌&&◌, cond, arith}
+use Rattle.std.proofs.lemmas.Bool.Decides.{nat_tests}
 use Rattle.std.proofs.lemmas.Bool.{ltb-true}
 use Rattle.rv64_model.specs.Carries.{Table}
 use Rattle.rv64_model.specs.Operands.{rd_of, stored_len}
 use Rattle.rv64_isa.specs.declared.instruction.Instr.{Instr}
-use Rattle.parts_model.specs.Image.{header_len}
-use Rattle.acts_model.specs.Moved.{within}
 use Rattle.acts_model.specs.Transfers.{Place, Transfer, Arrives, Starts, Runs, Returns, Receives, Gives, Forks, Founds, Begins, Shares, Delivers, Leaves, Exits, Faults, Dies}
-use Rattle.acts_model.specs.Views.{block_at}
-use Rattle.lineage_model.specs.Flow.{Location, Register, Slot, Memory, At, Byte, StartRegister, StartSlot, StartMemory, Dependence, Prior, Received, flow, written, shown, when, offset, bytes_at, result_bytes, ran, result_only, received_byte, block_byte, body_byte, started_byte, unless_result, copied, begun, or_else, saved, if_below}
+use Rattle.lineage_model.specs.Flow.{Location, Register, Slot, Memory, At, Byte, StartRegister, StartSlot, StartMemory, Dependence, Prior, flow, written, shown, when, offset, result_bytes, ran, result_only, received_byte, started_byte, copied, begun, or_else, saved, if_below}
 use Rattle.lineage_laws.proofs.Sets.{EachReceived}
 
 -- bytes with which a child begins have P
@@ -64,9 +62,7 @@ unwrap-each P ds None h k = h
 unwrap-each P ds (Some es) h k = k
 
 result-each : (P : At → Type 0) (pid : ℕ) (l : Location) → IfSome (result_only pid l) (EachReceived P)
-result-each P pid (Register p r i) = when-each P ((p == pid) && (r == 10)) [] tt
-result-each P pid (Slot p r i) = tt
-result-each P pid (Memory made at) = tt
+result-each P pid l = grind (arith, nat_tests, when-each)
 
 ran-each : (P : At → Type 0) (table : Table) (pid : ℕ) (instr : Instr) (place : Option Place) (l : Location) → IfSome (ran table pid instr place l) (EachReceived P)
 ran-each P table pid instr place (Register p zero i) = tt
@@ -75,20 +71,13 @@ ran-each P table pid instr place (Slot p r i) = tt
 ran-each P table pid instr place (Memory made at) = map-each P (result_bytes table pid instr place) (λ k. each-prior P _) (offset place (stored_len instr) made at)
 
 started-each : (P : At → Type 0) (load len : ℕ) (block : Option Place) (block_len at : ℕ) → ((k : ℕ) → P (Byte k)) → EachReceived P (started_byte load len block block_len at)
-started-each P load len block block_len at h =
-    unwrap-each P (body_byte load len at) (option_map (block_byte block) (within (block_at block_len) block_len at))
-    (unwrap-each P [] (option_map (λ k. received_byte (header_len + k)) (within load (len - header_len) at)) tt (map-each P (λ k. received_byte (header_len + k)) (λ k. (h (header_len + k), tt)) (within load (len - header_len) at)))
-    (map-each P (block_byte block) (λ k. each-prior P (bytes_at block k)) (within (block_at block_len) block_len at))
+started-each P load len block block_len at h1 = grind (arith, nat_tests, each-prior, map-each, unwrap-each)
 
 begun-each : (P : At → Type 0) (child into : ℕ) (l : Location) → EachStart P → IfSome (begun child into l) (EachReceived P)
-begun-each P child into (Register p r i) h = when-each P (p == child) (unless_result r (Received (StartRegister r i) ∷ [])) (unless-each P (r == 10) (Received (StartRegister r i) ∷ []) (h.registers r i, tt))
-begun-each P child into (Slot p r i) h = when-each P (p == child) (Received (StartSlot r i) ∷ []) (h.slot r i, tt)
-begun-each P child into (Memory made at) h = when-each P (made == into) (Received (StartMemory at) ∷ []) (h.memory at, tt)
+begun-each P child into l h1 = grind (arith, nat_tests, unless-each, when-each)
 
 copied-each : (P : At → Type 0) (pid child from into : ℕ) (l : Location) → IfSome (copied pid child from into l) (EachReceived P)
-copied-each P pid child from into (Register p r i) = when-each P (p == child) (unless_result r (Prior (Register pid r i) ∷ [])) (unless-each P (r == 10) (Prior (Register pid r i) ∷ []) (tt, tt))
-copied-each P pid child from into (Slot p r i) = when-each P (p == child) (Prior (Slot pid r i) ∷ []) (tt, tt)
-copied-each P pid child from into (Memory made at) = when-each P (made == into) (Prior (Memory from at) ∷ []) (tt, tt)
+copied-each P pid child from into l = grind (arith, nat_tests, unless-each, when-each)
 
 written-each : (P : At → Type 0) (table : Table) (t : Transfer) (l : Location) → Takes P t → IfSome (written table t l) (EachReceived P)
 written-each P table (Arrives len) l h = tt
@@ -122,26 +111,11 @@ pub flow-each : (P : At → Type 0) (table : Table) (t : Transfer) (l : Location
 flow-each P table t l h = unwrap-each P (Prior l ∷ []) (written table t l) (tt, tt) (written-each P table t l h)
 
 below-each : (P : At → Type 0) (k len : ℕ) → (k < len → P (Byte k)) → EachReceived P (if_below k len (received_byte k))
-below-each P k len h = by_test (nat_lt k len) refl
-  where
-    by_test : (b : Bool) → nat_lt k len ≡ b → EachReceived P (cond b (received_byte k) [])
-    by_test true e = (h (ltb-true k len e), tt)
-    by_test false e = tt
+below-each P k len h1 = grind (arith, nat_tests, ltb-true)
 
 -- what a byte of the step's event takes
 pub shown-each : (P : At → Type 0) (t : Transfer) (at : At) → Takes P t → EachReceived P (shown t at)
-shown-each P (Arrives len) (Byte k) h = below-each P k len (h k)
-shown-each P (Starts pid made load len block block_len) (Byte k) h = below-each P k len (λ l. h k)
-shown-each P (Receives pid place len) (Byte k) h = below-each P k len (λ l. h k)
-shown-each P (Gives pid place len) (Byte k) h = if-each P (nat_lt k len) (map Prior (bytes_at place k)) (each-prior P (bytes_at place k))
-shown-each P (Exits pid) (Byte k) h = if-each P (nat_lt k 1) (Prior (Register pid 10 0) ∷ []) (tt, tt)
-shown-each P (Founds pid child from into) (StartRegister r i) h = unless-each P (r == 10) (Prior (Register pid r i) ∷ []) (tt, tt)
-shown-each P (Founds pid child from into) (StartSlot r i) h = (tt, tt)
-shown-each P (Founds pid child from into) (StartMemory at) h = (tt, tt)
-shown-each P t (Byte k) h = tt
-shown-each P t (StartRegister r i) h = tt
-shown-each P t (StartSlot r i) h = tt
-shown-each P t (StartMemory at) h = tt
+shown-each P t at h1 = grind (arith, nat_tests, below-each, each-prior, if-each, unless-each)
 
 -- a byte that isn't one of a start
 abbrev pub IsByte : At → Type 0
@@ -150,28 +124,11 @@ IsByte other = ⊥
 
 -- the bytes of an event take no start byte, and start bytes take none that is received
 pub shown-bytes : (t : Transfer) (at : At) → EachReceived IsByte (shown t at)
-shown-bytes (Arrives len) (Byte k) = below-each IsByte k len (λ l. tt)
-shown-bytes (Starts pid made load len block block_len) (Byte k) = below-each IsByte k len (λ l. tt)
-shown-bytes (Receives pid place len) (Byte k) = below-each IsByte k len (λ l. tt)
-shown-bytes (Gives pid place len) (Byte k) = if-each IsByte (nat_lt k len) (map Prior (bytes_at place k)) (each-prior IsByte (bytes_at place k))
-shown-bytes (Exits pid) (Byte k) = if-each IsByte (nat_lt k 1) (Prior (Register pid 10 0) ∷ []) (tt, tt)
-shown-bytes (Founds pid child from into) (StartRegister r i) = unless-each IsByte (r == 10) (Prior (Register pid r i) ∷ []) (tt, tt)
-shown-bytes (Founds pid child from into) (StartSlot r i) = (tt, tt)
-shown-bytes (Founds pid child from into) (StartMemory at) = (tt, tt)
-shown-bytes t (Byte k) = tt
-shown-bytes t (StartRegister r i) = tt
-shown-bytes t (StartSlot r i) = tt
-shown-bytes t (StartMemory at) = tt
+shown-bytes t at = grind (arith, nat_tests, below-each, each-prior, if-each, unless-each)
 
 abbrev pub IsStart : At → Type 0
 IsStart (Byte k) = ⊥
 IsStart other = Unit {0}
 
 pub shown-prior : (P : At → Type 0) (t : Transfer) (at : At) → IsStart at → EachReceived P (shown t at)
-shown-prior P t (Byte k) h = absurd h
-shown-prior P (Founds pid child from into) (StartRegister r i) h = unless-each P (r == 10) (Prior (Register pid r i) ∷ []) (tt, tt)
-shown-prior P (Founds pid child from into) (StartSlot r i) h = (tt, tt)
-shown-prior P (Founds pid child from into) (StartMemory at) h = (tt, tt)
-shown-prior P t (StartRegister r i) h = tt
-shown-prior P t (StartSlot r i) h = tt
-shown-prior P t (StartMemory at) h = tt
+shown-prior P t at h1 = grind (arith, nat_tests, unless-each)

@@ -1,5 +1,6 @@
 -- What the record of an event tells of its act: whether it makes a child, and whether it receives bytes.
-use Rattle.std.proofs.Common.{◌≡◌, ℕ, List, [], length, refl, ap, ◌∙◌, sym, subst, Option, Some, None, option_and_then, Bool, true, false, ◌==◌, ◌&&◌, cond}
+use Rattle.std.proofs.Common.{◌≡◌, ℕ, List, [], length, refl, ap, ◌∙◌, sym, subst, Option, Some, None, option_and_then, Bool, true, false, ◌==◌, ◌&&◌, cond, arith}
+use Rattle.std.proofs.lemmas.Bool.Decides.{nat_tests}
 use Rattle.std.proofs.lemmas.Bool.{eq-eqb, eqb-true}
 use Rattle.arn_base.specs.declared.machine.Cpu.{Cpu}
 use Rattle.arn_base.specs.declared.records.Extra.{Extra}
@@ -19,7 +20,7 @@ use Rattle.history_model.specs.Alone.{call_start}
 use Rattle.history_model.specs.Groups.{Groups, group_forked, groups_told}
 use Rattle.history_model.specs.Moments.{changed}
 use Rattle.lineage_model.specs.Joined.{is_reply, is_source}
-use Rattle.replay_laws.specs.Heard.{begin_if, begin_by}
+use Rattle.replay_laws.specs.Heard.{begin_by}
 
 -- the number of a call of a kind
 data KindIs (n : ℕ) : Kind → Type 0 where
@@ -96,12 +97,7 @@ no-start n result (extra.Start start) h = ap (λ (b : Bool). cond b (Some start)
 no-start n result _ h = refl
 
 other-says : (pid n result : ℕ) (more : Extra) (act : Act) → ((n == number.FORK) && is_success result) ≡ false → IsQuiet act → Says pid (entry.Call pid n result more) act
-other-says pid n result more act h q =
-    SaysOther
-    (λ groups. ap (λ (b : Bool). cond b (group_forked pid result more groups) groups) h)
-    (λ g m. ap (begin_if g result m (entry.Call pid n result more)) (no-start n result more h))
-    (λ gs. ap (memory_called gs pid result) (no-start n result more h))
-    q
+other-says pid n result more act h1 h2 = grind (arith, nat_tests, memory_called, no-start)
 
 both-false : (b c : Bool) → b ≡ false → (b && c) ≡ false
 both-false b c e = ap (λ (x : Bool). x && c) e
@@ -119,9 +115,7 @@ wait-quiet cpu result (extra.Give give) = tt
 wait-quiet cpu result _ = tt
 
 read-quiet : (cpu : Cpu) (result : ℕ) (more : Extra) → IsQuiet (read_act cpu result more)
-read-quiet cpu result (extra.Give give) = tt
-read-quiet cpu result (extra.Reply device bytes) = tt
-read-quiet cpu result _ = tt
+read-quiet cpu result more = grind (arith, nat_tests)
 
 write-quiet : (cpu : Cpu) (result : ℕ) (more : Extra) → IsQuiet (write_act cpu result more)
 write-quiet cpu result extra.Nothing = if-quiet (is_pipe_write result) (Gives (argument cpu 1) result result) (Returns result) tt tt

@@ -1,5 +1,6 @@
 -- Whole tracking is what the tracking of groups alone and stored origins join to, at every moment of every run.
-use Rattle.std.proofs.Common.{◌≡◌, inl, inr, ℕ, zero, suc, ◌+◌, ◌-◌, ◌<◌, ◌≤◌, List, [], length, flat_map, refl, ap, ◌∙◌, sym, subst, Option, Some, None, option_map, slice_get, Bool, true, false, cond, arith, nat_lt, true≢false}
+use Rattle.std.proofs.Common.{◌≡◌, inl, inr, ℕ, ◌+◌, ◌-◌, ◌<◌, ◌≤◌, List, [], length, flat_map, refl, ap, ◌∙◌, sym, subst, Option, Some, None, option_map, slice_get, arith, true≢false}
+use Rattle.std.proofs.lemmas.Bool.Decides.{nat_tests}
 use Rattle.std.specs.List.{AllByRecursion}
 use Rattle.std.proofs.lemmas.List.{length-map}
 use Rattle.arn_base.specs.declared.records.Record.{Record}
@@ -7,7 +8,7 @@ use Rattle.arn_base.specs.declared.records.Src.{Src}
 use Rattle.rv64_model.specs.Carries.{Table}
 use Rattle.parts_model.specs.declared.tagged.TaggedByte.{TaggedByte}
 use Rattle.acts_model.specs.Bodies.{body_at, nth_body}
-use Rattle.acts_model.specs.Moved.{KernelByte, ConsoleByte, PipeByte, FileByte, StatusByte}
+use Rattle.acts_model.specs.Moved.{KernelByte}
 use Rattle.arn_model.specs.Kernel.{at_first}
 use Rattle.arn_model.specs.Laws.{StepsTell, EachRunIsSound, EachRunAppends}
 use Rattle.arn_model.specs.Run.{Input, machine_after, run, within, state_at, events_of}
@@ -19,7 +20,6 @@ use Rattle.lineage_model.specs.Flow.{Location, Register, Slot, Memory, At, Byte}
 use Rattle.lineage_model.specs.Joined.{Reaching, from_item}
 use Rattle.lineage_model.specs.Tracking.{EventByte, Tracked, untracked}
 use Rattle.lineage_model.specs.Whole as model
-use Rattle.lineage_model.specs.Whole.{Whole, whole}
 use Rattle.log_model.specs.Laws.{EventsRecorded}
 use Rattle.log_model.specs.Records.{records, event_records}
 use Rattle.lineage_laws.specs.Laws.{whole_at, local_at, items_in, items_at, joined_point, joined_location, IsOf, OfRegister, OfSlot, OfMemory, LineageIsJoined}
@@ -35,28 +35,14 @@ use Rattle.lineage_laws.proofs.Runs.{groups_along, steps-are, along-within, last
 
 -- before the first step there is nothing
 nothing-held : (byte : KernelByte) → kernel_byte at_first.kernel byte ≡ None
-nothing-held (ConsoleByte n) = by_test (nat_lt n 0)
-  where
-    by_test : (b : Bool) → cond {A = Option TaggedByte} b None (slice_get [] (n - 0)) ≡ None
-    by_test true = refl
-    by_test false = refl
-nothing-held (PipeByte pipe n) = refl
-nothing-held (FileByte file at) = refl
-nothing-held (StatusByte zero) = refl
-nothing-held (StatusByte (suc i)) = refl
+nothing-held byte = grind (arith, nat_tests)
 
 no-origin : (byte : KernelByte) (src : Src) → origins at_first.kernel byte ≡ Some src → ⊥
-no-origin byte src e = none_some (sym (ap (option_map (λ h. h.origin)) (nothing-held byte)) ∙ e)
-  where
-    none_some : None ≡ Some src → ⊥
-    none_some e = cc
+no-origin byte src h1 = grind (arith, nat_tests, nothing-held)
 
 nobody-fits : (gs : Groups) (ms : Memories) (most : ℕ) → BodiesFit gs ms most at_first.bodies
 unfolding body_at nth_body
-nobody-fits gs ms most q x e = absurd (none_some e)
-  where
-    none_some : None ≡ Some x → ⊥
-    none_some e = cc
+nobody-fits gs ms most = grind (arith, nat_tests)
 
 -- what is known of the steps of a run up to a moment
 record Run (inputs : List Input) (moment : ℕ) : Type 0 where
@@ -162,10 +148,7 @@ owned-location tab inputs moment g l r o =
     (subst (AllByRecursion (λ i. i.event < m)) same ((bounded-at tab inputs moment r).locations l))))
 
 bodies-at : (inputs : List Input) (moment : ℕ) → Run inputs moment → BodiesFit (group_of (records inputs)) (memories (event_at (records inputs)) (group_of (records inputs))) (length (state_at inputs moment).kernel.processes) (state_at inputs moment).bodies
-bodies-at inputs moment r =
-    let event = event_at (records inputs) in
-    let gs = group_of (records inputs) in
-    last-fits event gs at_first (within moment (run inputs)) r.steps (nobody-fits gs (memories event gs) 0)
+bodies-at inputs moment h1 = grind (arith, nat_tests, last-fits, memories, nobody-fits)
 
 location-is : (tab : Table) (inputs : List Input) (moment g : ℕ) (l : Location) → Run inputs moment → IsOf inputs moment g l → (whole_at tab inputs moment).tracked.locations l ≡ joined_location tab inputs moment g l
 location-is tab inputs moment g _ r (OfRegister pid n i x lives group) = owned-location tab inputs moment g (Register pid n i) r group
@@ -185,10 +168,4 @@ kernel-is tab inputs moment r byte held e =
     k.set ∙ sym (whole-point tab inputs moment r held.origin.event (Byte held.origin.at) k.below)
 
 pub lineage : StepsTell → EachRunIsSound → EachRunAppends → EventsRecorded → LineageIsJoined
-lineage tell sound append recorded tab inputs moment few =
-    let r = run-is tell sound append recorded inputs moment few in
-    record {
-      locations = λ g l o. location-is tab inputs moment g l r o;
-      points = λ e at l. point-is tab inputs moment r e at l;
-      kernel = λ byte held e. kernel-is tab inputs moment r byte held e;
-    }
+lineage h1 h2 h3 h4 = grind (arith, nat_tests, kernel-is, location-is, point-is, run-is)

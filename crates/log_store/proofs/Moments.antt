@@ -1,6 +1,5 @@
 -- How a run of disk calls goes on.
 use Rattle.std.proofs.Common.{inl, inr, ⊎_elim, ℕ, List, arith}
-use Rattle.arn_base.specs.Disk.{Elapses}
 use Rattle.log_store.specs.Stops.{LeavesOnly}
 
 module _ {D : Type 0} (moment : D → ℕ) (left_since : D → ℕ → List ℕ → Type 0) where
@@ -8,16 +7,6 @@ module _ {D : Type 0} (moment : D → ℕ) (left_since : D → ℕ → List ℕ 
   pub started : (old : D) (P : List ℕ → Type 0) → ((bytes : List ℕ) → left_since old (moment old) bytes → P bytes)
       → LeavesOnly moment left_since old old P
   started old P here = record { later = omega arith; each = here; before = λ t bytes le left. inl left }
-
-  -- one call more, after which a stop leaves what has P
-  pub goes_on : (may_leave : D → List ℕ → Type 0) (old mid new : D) (P : List ℕ → Type 0) → LeavesOnly moment left_since old mid P
-      → Elapses moment left_since may_leave mid new → ((bytes : List ℕ) → may_leave new bytes → P bytes)
-      → LeavesOnly moment left_since old new P
-  goes_on may_leave old mid new P so_far time here = record {
-    later = omega (arith, so_far.later, time.later);
-    each = λ bytes left. ⊎_elim (so_far.each bytes) (here bytes) (time.nothing_else (moment old) bytes so_far.later left);
-    before = λ t bytes le left. ⊎_elim (so_far.before t bytes le) (λ now. inr (here bytes now)) (time.nothing_else t bytes (omega (arith, le, so_far.later)) left);
-  }
 
   -- one run and then another
   pub joined : (old mid new : D) (P Q R : List ℕ → Type 0) → LeavesOnly moment left_since old mid P → LeavesOnly moment left_since mid new Q

@@ -1,10 +1,10 @@
 -- What a payload spells, as far as it was read.
-use Rattle.std.proofs.Common.{◌≡◌, ◌≢◌, ℕ, zero, suc, ◌+◌, ◌-◌, ◌<◌, ◌≤◌, ◌^◌, List, [], ◌∷◌, ◌++◌, length, get_or, take, drop, w32, refl, sym, ap, ◌∙◌, subst, append_assoc, length-append, length-take, length-drop, take-append-drop, arith}
+use Rattle.std.proofs.Common.{◌≡◌, ℕ, zero, suc, ◌+◌, ◌-◌, ◌<◌, ◌≤◌, List, [], ◌∷◌, ◌++◌, length, get_or, take, drop, w32, sym, ap, ◌∙◌, subst, append_assoc, length-take, length-drop, take-append-drop, arith}
 use Rattle.std.specs.Int.{from_le_bytes}
 use Rattle.std.specs.Prelude.{All}
 use Rattle.std.proofs.Math.Seq.{take-add}
-use Rattle.std.proofs.lemmas.List.{append-nil, flat_map_more, take_all}
-use Rattle.std.proofs.lemmas.List.Elements.{All-nil, All-push}
+use Rattle.std.proofs.lemmas.List.{flat_map_more}
+use Rattle.std.proofs.lemmas.List.Elements.{All-push}
 use Rattle.std.proofs.lemmas.Nat.{le_bytes_4}
 use Rattle.arn_base.specs.declared.records.Record.{Record}
 use Rattle.arn_base.specs.declared.records.Record.TheVariants as entry
@@ -14,9 +14,7 @@ use Rattle.result_log.specs.Spelling.{field, spelling}
 use Rattle.log_store.specs.Log.{spellings, IsSpellable}
 use Rattle.log_store.specs.declared.errors.OpenError.{OpenError}
 use Rattle.log_store.specs.declared.errors.OpenError.TheVariants as opening
-use Rattle.log_store.specs.Pieces.{IsMalformedWhere, IsPayloadBad, IsPayloadRead}
-use Rattle.log_store.specs.Refused.{HoldsPayload}
-use Rattle.log_store.proofs.Fields.{length-field}
+use Rattle.log_store.specs.Pieces.{IsMalformedWhere, IsPayloadBad}
 
 -- each item is a byte
 abbrev pub AreBytes : List ℕ → Type 0
@@ -41,29 +39,6 @@ field-front bytes front rest n small long is_front is_rest is_number =
     let len : length (take 4 bytes) ≡ 4 = omega (arith, length-take 4 bytes) in
     joined n bytes front rest (le_bytes_4 (take 4 bytes) n len (AreBytes-take 4 bytes small) e ∙ sym is_front) is_front is_rest
 
--- a payload and what stands behind it
-pub holds_split : (n : ℕ) (behind tail payload next : List ℕ) → n < 2 ^ 32 → behind ≡ field 4 n ++ tail → payload ≡ take n tail → next ≡ drop n tail
-    → length payload ≡ n → next ≢ [] → HoldsPayload behind payload next
-holds_split n behind tail payload next fits e is_payload is_next long some =
-    let parts : payload ++ next ≡ tail = rw (is_payload, is_next) (take-append-drop n tail) in
-    record {
-      is_counted = omega (arith, long);
-      is_next = some;
-      are_bytes =
-          e
-          ∙ ap (λ (xs : List ℕ). field 4 n ++ xs) (sym parts)
-          ∙ ap (λ (k : ℕ). field 4 k ++ (payload ++ next)) (sym long)
-          ∙ sym (append_assoc (field 4 (length payload)) payload next);
-    }
-
--- bytes that are too few hold none
-pub holds_none : (behind payload next : List ℕ) → length behind < 4 → ¬ HoldsPayload behind payload next
-holds_none behind payload next short holds =
-    let whole = ap length (holds.are_bytes ∙ append_assoc (field 4 (length payload)) payload next) in
-    let parts = length-append (field 4 (length payload)) (payload ++ next) in
-    let head = length-field (length payload) in
-    omega (arith, whole, parts, head)
-
 -- the records that were read of a payload, up to a place
 pub record IsRead (payload : List ℕ) (old new : List Record) (at : ℕ) : Type 0 where
   pub records : List Record
@@ -71,15 +46,6 @@ pub record IsRead (payload : List ℕ) (old new : List Record) (at : ℕ) : Type
   pub front : take at payload ≡ spellings records
   pub are_added : new ≡ old ++ records
   pub is_within : at ≤ length payload
-
-pub IsRead-none : (payload : List ℕ) (old : List Record) → IsRead payload old old 0
-IsRead-none payload old = record {
-  records = [];
-  are_spellable = All-nil IsSpellable;
-  front = refl;
-  are_added = sym (append-nil old);
-  is_within = omega arith;
-}
 
 pub IsRead-more : (payload : List ℕ) (old now new : List Record) (at next : ℕ) (e : Record) → IsRead payload old now at → Reads payload at e next
     → new ≡ now ++ e ∷ [] → IsRead payload old new next
@@ -97,14 +63,6 @@ IsRead-more payload old now new at next e read reads added =
       are_added = added ∙ ap (λ (rs : List Record). rs ++ e ∷ []) read.are_added ∙ append_assoc old read.records (e ∷ []);
       is_within = reads.within;
     }
-
-pub IsRead-all : (payload : List ℕ) (old new : List Record) (at : ℕ) → IsRead payload old new at → length payload ≤ at → IsPayloadRead payload old new
-IsRead-all payload old new at read end = record {
-  records = read.records;
-  are_spellable = read.are_spellable;
-  are_bytes = sym (take_all at payload end) ∙ read.front;
-  are_added = read.are_added;
-}
 
 pub IsRead-bad : (payload : List ℕ) (old new : List Record) (at place bad : ℕ) → ReadsAsSpelled → IsRead payload old new at → at < length payload
     → IsMalformed payload at → bad ≡ place + at → IsPayloadBad payload place bad
@@ -135,13 +93,6 @@ spelling-long (entry.Slice pid ran) = omega arith
 spelling-long (entry.Signal pid signal cut handler) = omega arith
 spelling-long (entry.Call pid number answer did) = omega arith
 spelling-long (entry.End pid status) = omega arith
-
-pub Reads-forward : (bytes : List ℕ) (at next : ℕ) (e : Record) → Reads bytes at e next → at < next
-Reads-forward bytes at next e reads =
-    let some = spelling-long e in
-    let long = ap length reads.is_spelling in
-    let part = length-take (next - at) (drop at bytes) in
-    omega (arith, some, long, part)
 
 -- an error that tells a place tells another fact of it
 pub IsMalformedWhere-weaker : (P Q : ℕ → Type 0) (error : OpenError) → IsMalformedWhere P error → ((at : ℕ) → P at → Q at) → IsMalformedWhere Q error

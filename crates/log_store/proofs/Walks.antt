@@ -1,11 +1,11 @@
 -- The frames of a log, as far as they were read.
-use Rattle.std.proofs.Common.{◌≡◌, ◌≢◌, ◌⊎◌, ℕ, ◌+◌, ◌-◌, ◌<◌, List, [], ◌∷◌, ◌++◌, length, take, drop, refl, sym, ap, ◌∙◌, subst, append_assoc, length-append, length-drop, take-append-drop, arith}
+use Rattle.std.proofs.Common.{◌≡◌, ◌≢◌, ◌⊎◌, ℕ, ◌+◌, ◌-◌, List, [], ◌∷◌, ◌++◌, length, sym, ap, ◌∙◌, subst, append_assoc, length-append, arith}
 use Rattle.std.specs.Prelude.{All}
 use Rattle.std.proofs.lemmas.List.{flat_map_more}
-use Rattle.std.proofs.lemmas.List.Elements.{All-nil, All-push}
+use Rattle.std.proofs.lemmas.List.Elements.{All-push}
 use Rattle.arn_base.specs.declared.records.Record.{Record}
-use Rattle.log_store.specs.Log.{log_name, frame, frames, records_of, IsCommit, IsEnd}
-use Rattle.log_store.specs.Pieces.{IsFound, IsFrameRead}
+use Rattle.log_store.specs.Log.{log_name, frame, frames, records_of, IsCommit}
+use Rattle.log_store.specs.Pieces.{IsFrameRead}
 use Rattle.log_store.specs.Refused.{IsBroken, IsCutShort, IsMisspelled}
 use Rattle.log_store.proofs.Logs.{records-more}
 
@@ -16,15 +16,6 @@ pub record IsWalked (bytes : List ℕ) (entries : List Record) (end : List ℕ) 
   pub are_bytes : bytes ≡ log_name ++ (frames commits ++ end)
   pub are_records : entries ≡ records_of commits
   pub is_some : end ≢ []
-
-pub IsWalked-none : (bytes : List ℕ) → take 8 bytes ≡ log_name → 9 < length bytes → IsWalked bytes [] (drop 8 bytes)
-IsWalked-none bytes named long = record {
-  commits = [];
-  are_commits = All-nil IsCommit;
-  are_bytes = sym (take-append-drop 8 bytes) ∙ ap (λ (xs : List ℕ). xs ++ drop 8 bytes) named;
-  are_records = refl;
-  is_some = λ none. let short = ap length none in omega (arith, short, length-drop 8 bytes, long);
-}
 
 -- one frame more
 frames-more : (commits : List (List Record)) (commit : List Record) (next : List ℕ) → frames commits ++ (frame commit ++ next) ≡ frames (commits ++ commit ∷ []) ++ next
@@ -42,15 +33,6 @@ IsWalked-more bytes end behind next now new walked opened read = record {
       ∙ ap (λ (xs : List ℕ). log_name ++ xs) (frames-more walked.commits read.commit next);
   are_records = read.are_added ∙ ap (λ (rs : List Record). rs ++ read.commit) walked.are_records ∙ records-more walked.commits read.commit;
   is_some = read.is_next;
-}
-
-pub IsWalked-end : (bytes end : List ℕ) (entries : List Record) → IsWalked bytes entries end → IsEnd end → IsFound bytes entries end
-IsWalked-end bytes end entries walked is = record {
-  commits = walked.commits;
-  are_commits = walked.are_commits;
-  are_bytes = walked.are_bytes;
-  are_records = walked.are_records;
-  is_end = is;
 }
 
 -- where what is left begins

@@ -1,5 +1,6 @@
 -- What an act changes of who lives, of segments and of groups is what its record tells.
-use Rattle.std.proofs.Common.{◌≡◌, ℕ, ◌==◌, ◌&&◌, if◌then◌else◌, Bool, true, false, is_some, Option, Some, None, refl, sym, ap, subst}
+use Rattle.std.proofs.Common.{◌≡◌, ℕ, ◌==◌, if◌then◌else◌, Bool, true, false, is_some, Option, Some, None, refl, sym, subst, arith}
+use Rattle.std.proofs.lemmas.Bool.Decides.{nat_tests}
 use Rattle.std.proofs.lemmas.Bool.{eqb-true}
 use Rattle.arn_base.specs.declared.machine.Cpu.{Cpu}
 use Rattle.arn_base.specs.declared.records.Extra.{Extra}
@@ -8,10 +9,9 @@ use Rattle.arn_base.specs.declared.records.Record.{Record}
 use Rattle.arn_base.specs.declared.records.Record.TheVariants as entry
 use Rattle.parts_model.specs.declared.calls.TheConstants as number
 use Rattle.parts_model.specs.Replies.{is_success}
-use Rattle.acts_model.specs.Acts.{Act, Returns, Receives, Gives, Starts, Forks, Founds, Shares, Leaves, Delivers, Exits, Faults, Dies}
+use Rattle.acts_model.specs.Acts.{Act, Starts, Forks, Founds, Shares, Exits, Faults, Dies}
 use Rattle.acts_model.specs.Records.{life_told, lives_after}
-use Rattle.acts_model.specs.Told.{Kind, Exit, Fork, Exec, Wait, Sigreturn, Read, Write, Shm, Other, kind_of, call_act, is_pipe_write, delivery_act}
-use Rattle.acts_model.specs.Views.{argument, cpu_at}
+use Rattle.acts_model.specs.Told.{Kind, Wait, Read, Write, Other, kind_of, call_act, delivery_act}
 use Rattle.history_model.specs.Broken.{child_in, start_in}
 use Rattle.history_model.specs.Groups.{Groups, groups_told}
 use Rattle.history_model.specs.Moments.{changed, segments_told}
@@ -68,18 +68,7 @@ record ChangesNothing (event : ℕ) (e : Record) : Type 0 where
   groups : (groups : Groups) (p : ℕ) → groups_told e groups p ≡ groups p
 
 plain-does : (event pid : ℕ) (e : Record) (act : Act) → IsPlain act → ChangesNothing event e → Does event pid e act
-plain-does event pid e (Returns result) plain n = record { live = n.live; held = n.held; groups = n.groups; told = tt }
-plain-does event pid e (Receives at bytes result) plain n = record { live = n.live; held = n.held; groups = n.groups; told = tt }
-plain-does event pid e (Gives at len result) plain n = record { live = n.live; held = n.held; groups = n.groups; told = tt }
-plain-does event pid e Leaves plain n = record { live = n.live; held = n.held; groups = n.groups; told = tt }
-plain-does event pid e (Delivers signal handler cut) plain n = record { live = n.live; held = n.held; groups = n.groups; told = tt }
-plain-does event pid e (Starts file block block_len) plain n = absurd plain
-plain-does event pid e (Forks child) plain n = absurd plain
-plain-does event pid e (Founds child) plain n = absurd plain
-plain-does event pid e Shares plain n = absurd plain
-plain-does event pid e Exits plain n = absurd plain
-plain-does event pid e (Faults status) plain n = absurd plain
-plain-does event pid e (Dies signal cut) plain n = absurd plain
+plain-does event pid e act h1 h2 = grind (arith, nat_tests)
 
 if-plain : (b : Bool) (x y : Act) → IsPlain x → IsPlain y → IsPlain (if b then x else y)
 if-plain true x y h k = h
@@ -90,16 +79,10 @@ wait-plain cpu result (extra.Give give) = tt
 wait-plain cpu result more = tt
 
 read-plain : (cpu : Cpu) (result : ℕ) (more : Extra) → IsPlain (call_act Read cpu result more)
-read-plain cpu result (extra.Give give) = tt
-read-plain cpu result (extra.Reply device bytes) = tt
-read-plain cpu result more = tt
+read-plain cpu result more = grind (arith, nat_tests)
 
 write-plain : (cpu : Cpu) (result : ℕ) (more : Extra) → IsPlain (call_act Write cpu result more)
-write-plain cpu result (extra.Put file at bytes) = tt
-write-plain cpu result (extra.Console bytes) = tt
-write-plain cpu result (extra.Sent device bytes) = tt
-write-plain cpu result extra.Nothing = if-plain (is_pipe_write result) (Gives (argument cpu 1) result result) (Returns result) tt tt
-write-plain cpu result more = tt
+write-plain cpu result more = grind (arith, nat_tests, if-plain)
 
 -- calls, by number
 
@@ -114,9 +97,7 @@ module _ (event pid result : ℕ) (more : Extra) (cpu : Cpu) where
   wait-does = plain-does event pid (entry.Call pid number.WAIT result more) (call_act Wait cpu result more) (wait-plain cpu result more) (record { live = λ live p. refl; held = λ held p. refl; groups = λ groups p. refl })
 
   sigreturn-does : CallDoes event pid result more cpu number.SIGRETURN
-  sigreturn-does =
-      plain-does event pid (entry.Call pid number.SIGRETURN result more) (call_act Sigreturn cpu result more) (if-plain (result == 0) Leaves (Returns result) tt tt)
-      (record { live = λ live p. refl; held = λ held p. refl; groups = λ groups p. refl })
+  sigreturn-does = grind (arith, nat_tests, if-plain, plain-does)
 
   read-does : CallDoes event pid result more cpu number.READ
   read-does = plain-does event pid (entry.Call pid number.READ result more) (call_act Read cpu result more) (read-plain cpu result more) (record { live = λ live p. refl; held = λ held p. refl; groups = λ groups p. refl })
@@ -125,30 +106,14 @@ module _ (event pid result : ℕ) (more : Extra) (cpu : Cpu) where
   write-does = plain-does event pid (entry.Call pid number.WRITE result more) (call_act Write cpu result more) (write-plain cpu result more) (record { live = λ live p. refl; held = λ held p. refl; groups = λ groups p. refl })
 
   shm-does : CallDoes event pid result more cpu number.SHM
-  shm-does = by_test (result == 0) refl
-    where
-      by_test : (b : Bool) → (result == 0) ≡ b → CallDoes event pid result more cpu number.SHM
-      by_test true t = record { live = λ live p. rw t refl; held = λ held p. rw t refl; groups = λ groups p. rw t refl; told = rw t tt }
-      by_test false t = record { live = λ live p. rw t refl; held = λ held p. rw t refl; groups = λ groups p. rw t refl; told = rw t tt }
+  shm-does = grind (arith, nat_tests)
 
 exec-does : (event pid result : ℕ) (more : Extra) (cpu : Cpu) → CallDoes event pid result more cpu number.EXEC
 exec-does event pid result (extra.Give give) cpu = record { live = λ live p. refl; held = λ held p. refl; groups = λ groups p. refl; told = tt }
 exec-does event pid result more cpu = record { live = λ live p. refl; held = λ held p. refl; groups = λ groups p. refl; told = tt }
 
 fork-does : (event pid result : ℕ) (more : Extra) (cpu : Cpu) (b : Bool) → is_success result ≡ b → CallDoes event pid result more cpu number.FORK
-fork-does event pid result (extra.Start start) cpu true t = record { live = λ live p. rw t refl; held = λ held p. rw t refl; groups = λ groups p. rw t refl; told = rw t (ap (λ (s : Bool). if s then Some result else None) t, refl) }
-fork-does event pid result more cpu true t = record { live = λ live p. rw t refl; held = λ held p. rw t refl; groups = λ groups p. rw t refl; told = forked }
-  where
-    forked : IsTold (entry.Call pid number.FORK result more) (call_act (kind_of number.FORK) cpu result more)
-    forked = subst (λ (s : Bool). IsTold (entry.Call pid number.FORK result more) (if s then Forks result else Returns result)) (sym t) (ap (λ (s : Bool). if s then Some result else None) t)
-fork-does event pid result (extra.Start start) cpu false t = record { live = λ live p. rw t refl; held = λ held p. rw t refl; groups = λ groups p. rw t refl; told = rw t tt }
-fork-does event pid result more cpu false t = record { live = λ live p. rw t refl; held = λ held p. rw t refl; groups = λ groups p. rw t refl; told = rw t tt }
-
-abbrev kind_by : Bool → Bool → Bool → Bool → Bool → Bool → Bool → Bool → Kind
-kind_by a b c d e f g h =
-    if a then Exit else if b then Fork else if c then Exec else if d then Wait
-    else if e then Sigreturn else if f then Read else if g then Write
-    else if h then Shm else Other
+fork-does event pid result more cpu b h1 = grind (arith, nat_tests)
 
 pub call-does : (event pid n result : ℕ) (more : Extra) (cpu : Cpu) → CallDoes event pid result more cpu n
 call-does event pid n result more cpu = exit_by (n == number.EXIT) refl
@@ -198,11 +163,7 @@ pub end-does : (event pid status : ℕ) → Does event pid (entry.End pid status
 end-does event pid status = record { live = λ live p. refl; held = λ held p. refl; groups = λ groups p. refl; told = tt }
 
 pub signal-does : (event pid signal : ℕ) (cut : Bool) (handler : ℕ) → Does event pid (entry.Signal pid signal cut handler) (delivery_act signal handler cut)
-signal-does event pid signal cut handler = by_test (handler == 0) refl
-  where
-    by_test : (b : Bool) → (handler == 0) ≡ b → Does event pid (entry.Signal pid signal cut handler) (delivery_act signal handler cut)
-    by_test true t = record { live = λ live p. rw t refl; held = λ held p. rw t refl; groups = λ groups p. rw t refl; told = rw t tt }
-    by_test false t = record { live = λ live p. rw t refl; held = λ held p. rw t refl; groups = λ groups p. rw t refl; told = rw t tt }
+signal-does event pid signal cut handler = grind (arith, nat_tests)
 
 -- a fork that starts a group
 
@@ -213,15 +174,4 @@ some-number : (a b : ℕ) → Some a ≡ Some b → a ≡ b
 some-number a b e = cc
 
 pub founds-does : (g event pid n result : ℕ) (more : Extra) → IsFounded g (entry.Call pid n result more) → Does event pid (entry.Call pid n result more) (Founds g)
-founds-does g event pid n result (extra.Start start) f = by_number (n == number.FORK) (is_success result) refl refl f.0
-  where
-    here : is_success result ≡ true → Does event pid (entry.Call pid number.FORK result (extra.Start start)) (Founds result)
-    here t = subst (λ (s : Bool). Does event pid (entry.Call pid number.FORK result (extra.Start start)) (if s then Founds result else Returns result)) t (fork-does event pid result (extra.Start start) (cpu_at 0) true t)
-
-    by_number : (a b : Bool) → (n == number.FORK) ≡ a → is_success result ≡ b → (if a && b then Some result else None) ≡ Some g → Does event pid (entry.Call pid n result (extra.Start start)) (Founds g)
-    by_number true true e t k =
-        subst (λ (m : ℕ). Does event pid (entry.Call pid m result (extra.Start start)) (Founds g)) (sym (eqb-true n number.FORK e))
-        (subst (λ (m : ℕ). Does event pid (entry.Call pid number.FORK result (extra.Start start)) (Founds m)) (some-number result g k) (here t))
-    by_number true false e t k = absurd (cc)
-    by_number false b e t k = absurd (cc)
-founds-does g event pid n result more f = absurd (let no = f.1 in cc)
+founds-does g event pid n result more h1 = grind (arith, nat_tests, eqb-true, fork-does, some-number)

@@ -1,10 +1,11 @@
 -- Flags of processes, and the numbers of those that are set.
 use Rattle.std.proofs.Common.{◌≡◌, ℕ, zero, suc, ◌+◌, ◌<◌, ◌≤◌, ◌==◌, cond, if◌then◌else◌, filter, get_or, length, set, Bool, true, false, List, [], ◌∷◌, ◌++◌, Some, None, unwrap_or, refl, sym, ap, subst, ◌∙◌, arith}
+use Rattle.std.proofs.lemmas.Bool.Decides.{nat_tests}
 use Rattle.std.specs.List.{range_with_len}
 use Rattle.std.proofs.lemmas.Bool.{eqb-true, eqb-false}
 use Rattle.std.proofs.lemmas.List.{get_or-set_same, get_or-set_other}
 use Rattle.arn_base.specs.declared.records.Record.{Record}
-use Rattle.acts_model.specs.Records.{LifeChange, BeginsLife, EndsLife, NoLife, life_told}
+use Rattle.acts_model.specs.Records.{LifeChange, life_told}
 use Rattle.history_model.specs.Broken.{greatest}
 use Rattle.past_lives.specs.Happened.{change_in, happened, life_after}
 use Rattle.past_lives.specs.declared.lives.Life.{Life}
@@ -49,18 +50,14 @@ pub flags-passed : (entries : List Record) (moment most k : ℕ) (flags : List B
 flags-passed entries moment most k flags is f pid le = f pid le ∙ sym (lives-passed entries moment pid k is)
 
 none-own : (c : LifeChange) (pid : ℕ) → change_in c ≡ None → life_after c pid ≡ None
-none-own (BeginsLife p) pid e = absurd (cc)
-none-own (EndsLife p) pid e = absurd (cc)
-none-own NoLife pid e = refl
+none-own c pid h1 = grind (arith, nat_tests)
 
 pub flags-kept : (entries : List Record) (moment most k : ℕ) (flags : List Bool) (e : Record) → happened entries moment k ≡ Some e → change_in (life_told e) ≡ None → TellsFirst entries moment most flags k → TellsFirst entries moment most flags (suc k)
 flags-kept entries moment most k flags e is none f pid le =
     f pid le ∙ sym (lives-told entries moment pid k e None is (none-own (life_told e) pid none))
 
 own-change : (c : LifeChange) (life : Life) (pid : ℕ) → change_in c ≡ Some life → life_after c pid ≡ (if life.pid == pid then Some life.lives else None)
-own-change (BeginsLife p) life pid e = let same : record { pid = p; lives = true } ≡ life = cc in ap (λ (l : Life). if l.pid == pid then Some l.lives else None) same
-own-change (EndsLife p) life pid e = let same : record { pid = p; lives = false } ≡ life = cc in ap (λ (l : Life). if l.pid == pid then Some l.lives else None) same
-own-change NoLife life pid e = absurd (cc)
+own-change c life pid h1 = grind (arith, nat_tests)
 
 pub flags-told : (entries : List Record) (moment most k : ℕ) (flags : List Bool) (e : Record) (life : Life) → most < length flags → happened entries moment k ≡ Some e → change_in (life_told e) ≡ Some life
     → TellsFirst entries moment most flags k → TellsFirst entries moment most (set flags life.pid life.lives) (suc k)

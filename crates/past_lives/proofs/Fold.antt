@@ -1,7 +1,7 @@
 -- All records, one after the other, as long as they aren't broken.
 use Rattle.std.proofs.Common.{◌≡◌, ℕ, suc, ◌+◌, ◌≤◌, ◌==◌, ◌&&◌, ◌||◌, not, nat_le, if◌then◌else◌, max, length, All, Bool, true, false, List, [], ◌∷◌, ◌++◌, Option, Some, None, IfSome, refl, sym, ap, subst, ◌∙◌, arith}
-use Rattle.std.proofs.lemmas.Bool.{eqb-true, eq-eqb, and_parts, or_parts, leb-true, le-leb}
-use Rattle.arn_base.specs.declared.machine.Block.{Block}
+use Rattle.std.proofs.lemmas.Bool.Decides.{nat_tests}
+use Rattle.std.proofs.lemmas.Bool.{eqb-true, eq-eqb, and_parts, leb-true, le-leb}
 use Rattle.arn_base.specs.declared.machine.Cpu.{Cpu}
 use Rattle.arn_base.specs.declared.records.Extra.{Extra}
 use Rattle.arn_base.specs.declared.records.Extra.TheVariants as extra
@@ -9,21 +9,18 @@ use Rattle.arn_base.specs.declared.records.Give.{Give}
 use Rattle.arn_base.specs.declared.records.Record.{Record}
 use Rattle.arn_base.specs.declared.records.Record.TheVariants as entry
 use Rattle.arn_base.specs.declared.records.Start.{Start}
-use Rattle.parts_model.specs.declared.calls.TheConstants.{FORK}
-use Rattle.parts_model.specs.declared.limits.TheConstants.{BLOCK_LEN, WINDOW_LEN}
-use Rattle.parts_model.specs.Memory.{zeros}
-use Rattle.parts_model.specs.Replies.{is_success}
+use Rattle.parts_model.specs.declared.limits.TheConstants.{WINDOW_LEN}
 use Rattle.acts_model.specs.Acts.{Delivers, Dies, Faults, beginning_in, unborn}
 use Rattle.acts_model.specs.Bodies.{View, body_at, put, seen}
 use Rattle.acts_model.specs.Disagreement.{Wrong, wrong_with}
-use Rattle.acts_model.specs.Records.{EndsLife, NoLife, life_told, lives_after}
+use Rattle.acts_model.specs.Records.{life_told, lives_after}
 use Rattle.acts_model.specs.Told.{act_of, call_act, delivery_act, kind_of}
 use Rattle.acts_model.specs.Views.{stands_at}
-use Rattle.history_model.specs.Alone.{Own, Made, Makes, Fails, Standing, act_done, after_boot, after_last, after_record, after_signal, after_slice, at_first, begins, boots, happens, made_if, nothing_own, replayed, settled, unless_wrong}
+use Rattle.history_model.specs.Alone.{Own, Made, Makes, Standing, act_done, after_boot, after_last, after_record, after_signal, after_slice, at_first, begins, boots, happens, made_if, replayed, settled, unless_wrong}
 use Rattle.history_model.specs.Alone as alone
-use Rattle.history_model.specs.Broken.{Behind, Nowhere, ASlice, ADelivery, behind, behind_from, behind_record, behind_signal, broken_from, child_in, first_broken, greatest, greatest_after, has_blocks_wrong, is_behind, misnumbers, rise_from, start_in}
+use Rattle.history_model.specs.Broken.{Behind, Nowhere, ASlice, ADelivery, behind, behind_from, behind_record, behind_signal, broken_from, child_in, first_broken, greatest, greatest_after, has_blocks_wrong, is_behind, misnumbers, start_in}
 use Rattle.history_model.specs.Groups.{Groups, group_forked, groups_from, groups_told, is_number}
-use Rattle.history_model.specs.Moments.{Numbered, changed, events_from, if_happened, lives_at, lives_by, segments_by, segments_told, total}
+use Rattle.history_model.specs.Moments.{Numbered, changed, events_from, if_happened, lives_by, segments_by, segments_told, total}
 use Rattle.history_model.specs.Names.{is_boot, is_booted}
 use Rattle.past_lives.specs.Blocks.{HasWholeBlocks}
 use Rattle.past_lives.proofs.Bodies.{nobody-at}
@@ -77,29 +74,17 @@ abbrev AreFounded : ℕ → Groups → Type 0
 AreFounded most groups = (p : ℕ) → IfSome (groups p) (λ m. m ≤ most)
 
 founded-later : (n m : ℕ) (groups : Groups) → n ≤ m → AreFounded n groups → AreFounded m groups
-founded-later n m groups le h p = by_group (groups p) (h p)
-  where
-    by_group : (o : Option ℕ) → IfSome o (λ k. k ≤ n) → IfSome o (λ k. k ≤ m)
-    by_group None k = tt
-    by_group (Some group) k = omega arith
+founded-later n m groups h1 h2 = grind (arith, nat_tests)
 
 changed-founded : (n : ℕ) (groups : Groups) (child : ℕ) (o : Option ℕ) → IfSome o (λ m. m ≤ n) → AreFounded n groups → AreFounded n (changed groups child o)
-changed-founded n groups child o h k p = by_test (p == child)
-  where
-    by_test : (b : Bool) → IfSome (if b then o else groups p) (λ m. m ≤ n)
-    by_test true = h
-    by_test false = k p
+changed-founded n groups child o h1 h2 = grind (arith, nat_tests)
 
 forked-founded : (n pid child : ℕ) (more : Extra) (groups : Groups) → child ≤ n → AreFounded n groups → AreFounded n (group_forked pid child more groups)
 forked-founded n pid child (extra.Start start) groups le h = changed-founded n groups child (Some child) le h
 forked-founded n pid child more groups le h = changed-founded n groups child (groups pid) (h pid) h
 
 called-founded : (n pid number result : ℕ) (more : Extra) (groups : Groups) → AreFounded n groups → AreFounded (greatest_after (entry.Call pid number result more) n) (groups_told (entry.Call pid number result more) groups)
-called-founded n pid number result more groups h = by_test ((number == FORK) && is_success result)
-  where
-    by_test : (b : Bool) → AreFounded (if b then max n result else n) (if b then group_forked pid result more groups else groups)
-    by_test true = forked-founded (max n result) pid result more groups (omega arith) (founded-later n (max n result) groups (omega arith) h)
-    by_test false = h
+called-founded n pid number result more groups h1 = grind (arith, nat_tests, forked-founded, founded-later)
 
 module _ (W : Type 0) (g until : ℕ) where
   -- a standing behind records: where the open slice is, what the greatest number of a process is, who lives behind them all, and whether
@@ -124,9 +109,6 @@ module _ (W : Type 0) (g until : ℕ) where
   past-next : (h : Bool) (e : Record) (past live : ℕ → Bool) → h ≡ true → ((p : ℕ) → past p ≡ live p) → (p : ℕ) → lives_after (life_told e) p (past p) ≡ live_if h e live p
   past-next true e past live is k p = ap (lives_after (life_told e) p) (k p)
   past-next false e past live is k p = absurd (cc)
-
-  not-boot : (booted b : Bool) → (booted || b) ≡ false → booted ≡ false
-  not-boot booted b e = (or_parts booted b e).0
 
   -- an event that changes nothing of processes
   plain-reached : (b : Behind) (most : ℕ) (past : ℕ → Bool) (booted : Bool) (begins : ℕ) (live : ℕ → Bool) (held : ℕ → Option ℕ) (t : Standing) → Reached b most past booted begins live held t
@@ -171,12 +153,7 @@ module _ (W : Type 0) (g until : ℕ) where
   delivered-behind p pid handler (ADelivery at) h q e = absurd (cc)
 
   delivers-alive : (pid signal : ℕ) (cut : Bool) (handler : ℕ) (live : ℕ → Bool) (h : Bool) (q : ℕ) → not (handler == 0) ≡ true → live q ≡ true → live_if h (entry.Signal pid signal cut handler) live q ≡ true
-  delivers-alive pid signal cut handler live h q e is = by_test (handler == 0) h e
-    where
-      by_test : (z h : Bool) → not z ≡ true → (if h then lives_after (if z then EndsLife pid else NoLife) q (live q) else live q) ≡ true
-      by_test true h k = absurd (cc)
-      by_test false true k = is
-      by_test false false k = is
+  delivers-alive pid signal cut handler live h q h1 h2 = grind (arith, nat_tests)
 
   signal-made : (pid signal : ℕ) (cut : Bool) (handler : ℕ) (most : ℕ) (live : ℕ → Bool) (held : ℕ → Option ℕ) (t : Standing) → (t.is_begun ≡ true → live pid ≡ true)
       → Ends (State W g t.events most t.groups live held) t.made
@@ -237,16 +214,10 @@ module _ (W : Type 0) (g until : ℕ) where
   of-slice pid b p e h = h pid (un-not (is_behind pid b) e)
 
   window-len : (e : Record) (start : Start) → has_blocks_wrong (start_in e) ≡ false → HasWholeBlocks e → start_in e ≡ Some start → length (beginning_in start).window ≡ WINDOW_LEN
-  window-len e start wrong whole is =
-      let rises = un-not (rise_from 0 start.blocks) (subst (λ (o : Option Start). has_blocks_wrong o ≡ false) is wrong) in
-      let fit = subst (λ (o : Option Start). IfSome o (λ (s : Start). All (λ (block : Block). length block.bytes ≡ BLOCK_LEN) s.blocks)) is whole in
-      blocks-len start.blocks 0 (zeros WINDOW_LEN) rises fit (zeros-len WINDOW_LEN)
+  window-len e start h1 h2 h3 = grind (arith, nat_tests, blocks-len, un-not, zeros-len)
 
   fresh : (before : List Record) (pid : ℕ) (e : Record) (groups : Groups) → misnumbers before (child_in e) ≡ false → AreFounded (greatest before) groups → groups pid ≡ Some g → IsFounded g e → ⊥
-  fresh before pid e groups m f is k =
-      let new = is-new before e g m k.0 in
-      let low : g ≤ greatest before = subst (λ (o : Option ℕ). IfSome o (λ m. m ≤ greatest before)) is (f pid) in
-      omega arith
+  fresh before pid e groups h1 h2 h3 h4 = grind (arith, nat_tests, is-new)
 
   call-reached : (pid number result : ℕ) (more : Extra) (before : List Record) (past : ℕ → Bool) (booted : Bool) (begins : ℕ) (live : ℕ → Bool) (held : ℕ → Option ℕ) (t : Standing) → Stands before (entry.Call pid number result more)
       → (W → HasWholeBlocks (entry.Call pid number result more)) → Reached (behind before) (greatest before) past booted begins live held t
@@ -396,31 +367,10 @@ module _ (W : Type 0) (g until : ℕ) where
       Reached (behind_record (behind before) e) (greatest_after e (greatest before)) (λ p. lives_after (life_told e) p (lived before p false)) (is_booted before || is_boot e)
       (next_begins e begins t.moment) (next_live e begins t.moment live) (next_held e begins t.moment t.events held) (after_record g until t e)
 
-  if-same : (h : Bool) (live : ℕ → Bool) (p : ℕ) → (if h then live p else live p) ≡ live p
-  if-same true live p = refl
-  if-same false live p = refl
-
-  none-booted : (a b : Bool) → a ≡ b → (a || false) ≡ b
-  none-booted true b e = e
-  none-booted false b e = e
-
   -- the same standing, with other words for what is told
   reached-as : (b : Behind) (most : ℕ) (past past' : ℕ → Bool) (booted booted' : Bool) (begins : ℕ) (live live' : ℕ → Bool) (held held' : ℕ → Option ℕ) (t : Standing)
       → ((p : ℕ) → past' p ≡ past p) → booted' ≡ booted → live' ≡ live → held' ≡ held → Reached b most past booted begins live held t → Reached b most past' booted' begins live' held' t
-  reached-as b most past past' booted booted' begins live live' held held' t ps bs ls hs r =
-      subst (λ (h : ℕ → Option ℕ). Reached b most past' booted' begins live' h t) (sym hs)
-      (subst (λ (l : ℕ → Bool). Reached b most past' booted' begins l held t) (sym ls)
-      (record {
-        made = r.made;
-        slice = r.slice;
-        alive = r.alive;
-        groups = r.groups;
-        begun = r.begun;
-        ended = r.ended;
-        order = r.order;
-        known = λ k p. ps p ∙ r.known k p;
-        unbooted = λ k. r.unbooted (sym bs ∙ k);
-      }))
+  reached-as b most past past' booted booted' begins live live' held held' t h1 h2 h3 h4 h5 = grind (arith, nat_tests)
 
   or-none : (a : Bool) → (a || false) ≡ a
   or-none true = refl
@@ -444,10 +394,7 @@ module _ (W : Type 0) (g until : ℕ) where
       (plain-reached (behind before) (greatest before) (λ p. lived before p false) (is_booted before) begins live held t r)
 
   runs-alive : (before : List Record) (pid ran : ℕ) → Stands before (entry.Slice pid ran) → lived before pid false ≡ true
-  runs-alive before pid ran checks =
-      let le : total before ≤ total before = omega arith in
-      let past : 0 + total before ≤ total before = omega arith in
-      sym (lives-all (total before) 0 0 0 before pid false (omega arith) past) ∙ un-not (lives_at before (total before) pid) checks.process
+  runs-alive before pid ran h1 = grind (arith, nat_tests, lives-all, un-not)
 
   record-reached : (before : List Record) (e : Record) (begins : ℕ) (live : ℕ → Bool) (held : ℕ → Option ℕ) (t : Standing) → Stands before e → (W → HasWholeBlocks e)
       → Reached (behind before) (greatest before) (λ p. lived before p false) (is_booted before) begins live held t → Next before e begins live held t
@@ -494,15 +441,7 @@ module _ (W : Type 0) (g until : ℕ) where
   next-reached : (before : List Record) (e : Record) (begins : ℕ) (live : ℕ → Bool) (held : ℕ → Option ℕ) (t : Standing) → Next before e begins live held t
       → Reached (behind (before ++ e ∷ [])) (greatest (before ++ e ∷ [])) (λ p. lived (before ++ e ∷ []) p false) (is_booted (before ++ e ∷ []))
       (next_begins e begins t.moment) (next_live e begins t.moment live) (next_held e begins t.moment t.events held) (after_record g until t e)
-  next-reached before e begins live held t r =
-      let b = next_begins e begins t.moment in
-      let l = next_live e begins t.moment live in
-      let h = next_held e begins t.moment t.events held in
-      let u = after_record g until t e in
-      subst (λ (at : Behind). Reached at (greatest (before ++ e ∷ [])) (λ p. lived (before ++ e ∷ []) p false) (is_booted (before ++ e ∷ [])) b l h u) (sym (behind-append Nowhere before e))
-      (subst (λ (most : ℕ). Reached (behind_record (behind before) e) most (λ p. lived (before ++ e ∷ []) p false) (is_booted (before ++ e ∷ [])) b l h u) (sym (greatest-append 0 before e))
-      (reached-as (behind_record (behind before) e) (greatest_after e (greatest before)) (λ p. lives_after (life_told e) p (lived before p false)) (λ p. lived (before ++ e ∷ []) p false)
-      (is_booted before || is_boot e) (is_booted (before ++ e ∷ [])) b l l h h u (λ p. lived-append before e p false) (booted-append before e) refl refl r))
+  next-reached before e begins live held t h1 = grind (arith, nat_tests, behind-append, booted-append, greatest-append, lived, lived-append, next_begins)
 
   -- what comes out in the end
 
@@ -520,26 +459,13 @@ module _ (W : Type 0) (g until : ℕ) where
 
   told-if : (h : Bool) (n : ℕ) (e : Record) (groups : Groups) (events : List Numbered) (live : ℕ → Bool) (held : ℕ → Option ℕ) (made : Made)
       → Ends (Told groups events (live_if h e live) (held_if h n e held)) made → Ends (Told groups (if_happened h n e events) live held) made
-  told-if h n e groups events live held made k =
-      ends-ends (Told groups events (live_if h e live) (held_if h n e held)) (Told groups (if_happened h n e events) live held) made k
-      (λ own s. (
-        λ p is. subst (λ (l : Bool). Tells (body_at own.bodies p) l (segments_by (if_happened h n e events) held p)) (sym (lives-if h n e events live p))
-            (subst (λ (o : Option ℕ). Tells (body_at own.bodies p) (lives_by events p (live_if h e live p)) o) (sym (segments-if h n e events held p)) (s.0 p is)),
-        s.1,
-      ))
+  told-if h n e groups events live held made h1 = grind (arith, nat_tests, ends-ends, held_if, live_if, lives-if, segments-if)
 
   told-next : (e : Record) (rest : List Record) (begins : ℕ) (live : ℕ → Bool) (held : ℕ → Option ℕ) (t : Standing) (made : Made)
       → Ends (Told (groups_from rest (after_record g until t e).groups) (events_from until (next_begins e begins t.moment) (after_record g until t e).moment (after_record g until t e).events rest)
       (next_live e begins t.moment live) (next_held e begins t.moment t.events held)) made
       → Ends (Told (groups_from (e ∷ rest) t.groups) (events_from until begins t.moment t.events (e ∷ rest)) live held) made
-  told-next (entry.Slice pid ran) rest begins live held t made k = k
-  told-next (entry.File name bytes) rest begins live held t made k = told-if (nat_le t.moment until) t.events (entry.File name bytes) _ _ live held made k
-  told-next (entry.Boot name give) rest begins live held t made k = told-if (nat_le t.moment until) t.events (entry.Boot name give) _ _ live held made k
-  told-next (entry.Typed bytes) rest begins live held t made k = told-if (nat_le t.moment until) t.events (entry.Typed bytes) _ _ live held made k
-  told-next (entry.Unplug device) rest begins live held t made k = told-if (nat_le t.moment until) t.events (entry.Unplug device) _ _ live held made k
-  told-next (entry.Signal pid signal cut handler) rest begins live held t made k = told-if (nat_le begins until) t.events (entry.Signal pid signal cut handler) _ _ live held made k
-  told-next (entry.Call pid number result more) rest begins live held t made k = told-if (nat_le t.moment until) t.events (entry.Call pid number result more) _ _ live held made k
-  told-next (entry.End pid status) rest begins live held t made k = told-if (nat_le t.moment until) t.events (entry.End pid status) _ _ live held made k
+  told-next e rest begins live held t made h1 = grind (arith, nat_tests, told-if)
 
   all-told : (rest before : List Record) (begins : ℕ) (live : ℕ → Bool) (held : ℕ → Option ℕ) (t : Standing) → broken_from before rest ≡ None → (W → All HasWholeBlocks rest)
       → Reached (behind before) (greatest before) (λ p. lived before p false) (is_booted before) begins live held t

@@ -1,20 +1,17 @@
 -- A group alone, record by record, beside what the records tell of its members.
-use Rattle.std.proofs.Common.{◌≡◌, ℕ, zero, suc, ◌+◌, ◌≤◌, ◌==◌, ◌&&◌, if◌then◌else◌, max, Bool, true, false, List, Option, Some, None, IfSome, option_map, refl, sym, ap, subst, ◌∙◌, arith}
+use Rattle.std.proofs.Common.{◌≡◌, ℕ, zero, suc, ◌+◌, ◌≤◌, ◌&&◌, if◌then◌else◌, Bool, true, false, List, Option, Some, None, IfSome, option_map, refl, sym, ap, subst, ◌∙◌, arith}
+use Rattle.std.proofs.lemmas.Bool.Decides.{nat_tests}
 use Rattle.std.proofs.lemmas.Bool.{eqb-true, eq-eqb}
 use Rattle.arn_base.specs.declared.machine.Cpu.{Cpu}
-use Rattle.arn_base.specs.declared.records.Extra.TheVariants as extra
 use Rattle.arn_base.specs.declared.records.Record.{Record}
-use Rattle.arn_base.specs.declared.records.Record.TheVariants as entry
 use Rattle.arn_base.specs.declared.records.Start.{Start}
-use Rattle.parts_model.specs.declared.calls.TheConstants.{FORK}
-use Rattle.parts_model.specs.Replies.{is_success}
-use Rattle.acts_model.specs.Acts.{Act, Forks, Founds}
+use Rattle.acts_model.specs.Acts.{Act, Founds}
 use Rattle.acts_model.specs.Bodies.{Body, View, body_at, seen, view}
 use Rattle.acts_model.specs.Disagreement.{Wrong, wrong_with}
 use Rattle.acts_model.specs.Records.{life_told, lives_after}
 use Rattle.acts_model.specs.Told.{act_of}
 use Rattle.acts_model.specs.Views.{cpu_at, stands_at}
-use Rattle.history_model.specs.Alone.{Own, Made, Makes, Fails, Slice, Standing, act_done, after_last, and_then, begins, begins_by, begins_if, ends_slice, happens, made_if, no_instruction, plain_in, plain_or, plains, record_seen, settled, slice_of, unless_wrong}
+use Rattle.history_model.specs.Alone.{Own, Made, Makes, Fails, Slice, Standing, act_done, after_last, and_then, begins, begins_by, ends_slice, happens, made_if, no_instruction, plain_in, plain_or, plains, record_seen, settled, slice_of, unless_wrong}
 use Rattle.history_model.specs.Broken.{child_in, greatest, greatest_after, misnumbers, start_in}
 use Rattle.history_model.specs.Groups.{Groups, groups_told, is_number}
 use Rattle.history_model.specs.Moments.{segments_told}
@@ -43,40 +40,16 @@ some-number : (a b : ℕ) → Some a ≡ Some b → a ≡ b
 some-number a b e = cc
 
 pub more-after : (e : Record) (n : ℕ) → n ≤ greatest_after e n
-more-after (entry.Boot name give) n = omega arith
-more-after (entry.Call pid number result more) n = by_test ((number == FORK) && is_success result)
-  where
-    by_test : (b : Bool) → n ≤ (if b then max n result else n)
-    by_test true = omega arith
-    by_test false = omega arith
-more-after (entry.File name bytes) n = omega arith
-more-after (entry.Typed bytes) n = omega arith
-more-after (entry.Unplug device) n = omega arith
-more-after (entry.Slice pid ran) n = omega arith
-more-after (entry.Signal pid signal cut handler) n = omega arith
-more-after (entry.End pid status) n = omega arith
+more-after e n = grind (arith, nat_tests)
 
 pub child-after : (e : Record) (n child : ℕ) → child_in e ≡ Some child → child ≤ greatest_after e n
-child-after (entry.Call pid number result more) n child c = by_test ((number == FORK) && is_success result) c
-  where
-    by_test : (b : Bool) → (if b then Some result else None) ≡ Some child → child ≤ (if b then max n result else n)
-    by_test true k = let same = some-number result child k in omega arith
-    by_test false k = absurd (cc)
-child-after (entry.Boot name give) n child c = absurd (cc)
-child-after (entry.File name bytes) n child c = absurd (cc)
-child-after (entry.Typed bytes) n child c = absurd (cc)
-child-after (entry.Unplug device) n child c = absurd (cc)
-child-after (entry.Slice pid ran) n child c = absurd (cc)
-child-after (entry.Signal pid signal cut handler) n child c = absurd (cc)
-child-after (entry.End pid status) n child c = absurd (cc)
+child-after e n child h1 = grind (arith, nat_tests, some-number)
 
 pub is-new : (before : List Record) (e : Record) (child : ℕ) → misnumbers before (child_in e) ≡ false → child_in e ≡ Some child → child ≡ greatest before + 1
 is-new before e child m c = child-number before child (subst (λ (o : Option ℕ). misnumbers before o ≡ false) c m)
 
 pub told-child : (before : List Record) (e : Record) (act : Act) → misnumbers before (child_in e) ≡ false → IsTold e act → IsChild (greatest before) (greatest_after e (greatest before)) act
-told-child before e (Forks child) m t = (let new = is-new before e child m t in omega arith, child-after e (greatest before) child t)
-told-child before e (Founds child) m t = (let new = is-new before e child m t.0 in omega arith, child-after e (greatest before) child t.0)
-told-child before e act m t = tt
+told-child before e act h1 h2 = grind (arith, nat_tests, child-after, is-new)
 
 told-founding : (g : ℕ) (e : Record) (act : Act) → IsTold e act → IsFounding g act → IsFounded g e
 told-founding g e (Founds child) t f = (t.0 ∙ ap (λ (n : ℕ). Some n) f, t.1)
@@ -173,32 +146,7 @@ module _ (W : Type 0) (g : ℕ) where
 
 -- a group begins, or nothing happens
 begins-ends : (P : Own → Type 0) (g event : ℕ) (e : Record) (own : Own) → ((start : Start) → start_in e ≡ Some start → IsFounded g e → P (begins g event e start own)) → ((IsFounded g e → ⊥) → P own) → Ends P (begins_by g event e own)
-begins-ends P g event (entry.Call pid number result (extra.Start start)) own k h = by_test ((number == FORK) && is_success result) refl
-  where
-    e : Record
-    e = entry.Call pid number result (extra.Start start)
-
-    child : (b : Bool) → ((number == FORK) && is_success result) ≡ b → child_in e ≡ (if b then Some result else None)
-    child b t = ap (λ (c : Bool). if c then Some result else None) t
-
-    by_child : ((number == FORK) && is_success result) ≡ true → (c : Bool) → (result == g) ≡ c → Ends P (if c then Makes (begins g event e start own) else Makes own)
-    by_child t true f = k start refl (child true t ∙ ap (λ (r : ℕ). Some r) (eqb-true result g f), refl)
-    by_child t false f = h (λ x. (let same = some-number result g (sym (child true t) ∙ x.0) in let test = f in unlike same test))
-      where
-        unlike : result ≡ g → (result == g) ≡ false → ⊥
-        unlike same test = let here = eq-eqb result g same in cc
-
-    by_test : (b : Bool) → ((number == FORK) && is_success result) ≡ b → Ends P (begins_if g result event e (if b then Some start else None) own)
-    by_test true t = by_child t (result == g) refl
-    by_test false t = h (λ x. (let no = sym (child false t) ∙ x.0 in cc))
-begins-ends P g event (entry.Call pid number result more) own k h = h (λ x. (let no = x.1 in cc))
-begins-ends P g event (entry.Boot name give) own k h = h (λ x. (let no = x.1 in cc))
-begins-ends P g event (entry.File name bytes) own k h = h (λ x. (let no = x.1 in cc))
-begins-ends P g event (entry.Typed bytes) own k h = h (λ x. (let no = x.1 in cc))
-begins-ends P g event (entry.Unplug device) own k h = h (λ x. (let no = x.1 in cc))
-begins-ends P g event (entry.Slice pid ran) own k h = h (λ x. (let no = x.1 in cc))
-begins-ends P g event (entry.Signal pid signal cut handler) own k h = h (λ x. (let no = x.1 in cc))
-begins-ends P g event (entry.End pid status) own k h = h (λ x. (let no = x.1 in cc))
+begins-ends P g event e own h1 h2 = grind (arith, nat_tests, eq-eqb, eqb-true, some-number)
 
 -- what is told where the event has happened, and what else
 

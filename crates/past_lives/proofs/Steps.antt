@@ -1,5 +1,6 @@
 -- What a group alone has made, beside what was told of its members: with an instruction, an act, the boot, or a group's begin more.
-use Rattle.std.proofs.Common.{◌≡◌, ℕ, ◌+◌, ◌<◌, ◌≤◌, ◌==◌, cond, if◌then◌else◌, length, max, not, Bool, true, false, List, [], Option, Some, None, IfSome, option_map, refl, sym, ap, subst, ◌∙◌, arith}
+use Rattle.std.proofs.Common.{◌≡◌, ℕ, ◌+◌, ◌≤◌, ◌==◌, if◌then◌else◌, length, max, Bool, true, false, List, [], Option, Some, None, IfSome, option_map, refl, sym, ap, subst, ◌∙◌, arith}
+use Rattle.std.proofs.lemmas.Bool.Decides.{nat_tests}
 use Rattle.std.proofs.lemmas.Bool.{eqb-true}
 use Rattle.arn_base.specs.declared.records.Extra.{Extra}
 use Rattle.arn_base.specs.declared.records.Extra.TheVariants as extra
@@ -11,11 +12,11 @@ use Rattle.rv64_model.specs.Instruction.{Effect, Next, Call, End}
 use Rattle.parts_model.specs.Image.{is_image}
 use Rattle.parts_model.specs.declared.limits.TheConstants.{WINDOW_LEN}
 use Rattle.parts_model.specs.Replies.{is_success}
-use Rattle.acts_model.specs.Acts.{Act, Returns, Gives, Starts, Forks, Founds, Shares, Leaves, Delivers, Exits, Dies, beginning_in, begun, child_view, done, done_by, unborn}
-use Rattle.acts_model.specs.Bodies.{Body, Bodies, View, body_at, put, seen, view}
-use Rattle.acts_model.specs.Disagreement.{Wrong, act_wrong, is_other_call, isnt_block, isnt_call, or_else, wrong_if, wrong_with}
+use Rattle.acts_model.specs.Acts.{Act, Returns, Starts, Forks, Founds, Delivers, Exits, Dies, beginning_in, begun, child_view, done, done_by, unborn}
+use Rattle.acts_model.specs.Bodies.{Body, Bodies, View, put, seen, view}
+use Rattle.acts_model.specs.Disagreement.{Wrong, act_wrong, is_other_call, isnt_call, or_else, wrong_if, wrong_with}
 use Rattle.acts_model.specs.Records.{life_told, lives_after}
-use Rattle.acts_model.specs.Told.{Kind, Exit, Fork, Exec, Wait, Sigreturn, Read, Write, Shm, Other, kind_of, call_act, is_pipe_write, act_of}
+use Rattle.acts_model.specs.Told.{Kind, Fork, Exec, Wait, Read, Write, kind_of, call_act, act_of}
 use Rattle.acts_model.specs.Transfers.{holds_of}
 use Rattle.acts_model.specs.Views.{after_instr, argument, stands_at, with_cpu}
 use Rattle.history_model.specs.Alone.{Own, begins, plain_by, plain_in}
@@ -26,7 +27,7 @@ use Rattle.past_lives.proofs.Does.{Does, IsFounded, act_groups, act_held, act_li
 use Rattle.past_lives.proofs.Records.{un-not}
 use Rattle.past_lives.proofs.Sizes.{HasSizes, StartsWell, acted-sizes, instr-sizes, zeros-len}
 use Rattle.past_lives.proofs.Sound.{Fits, Marks, Sound, begun-sound, done-sound, fits-later, mark, mark-here, mark-same, put-sound, reach-body, sound-later}
-use Rattle.past_lives.proofs.Tells.{IsChild, IsFounding, Lives, Tells, born-lives, is-live, lives-as, own-lives, put-lives}
+use Rattle.past_lives.proofs.Tells.{IsChild, IsFounding, Lives, born-lives, is-live, lives-as, own-lives, put-lives}
 
 -- windows and segments are whole
 
@@ -45,11 +46,7 @@ record IsSized (shared : Marks) (n : ℕ) (v : View) : Type 0 where
   sizes : HasSizes v
 
 is-sized : (shared : Marks) (n : ℕ) (b : Bodies) (pid : ℕ) (v : View) → Sound shared n b → seen b pid ≡ Some v → IsSized shared n v
-is-sized shared n b pid v s sees = by_body (body_at b pid) (s.fits pid) (s.sizes pid) sees
-  where
-    by_body : (o : Option Body) → IfSome o (λ (x : Body). Fits shared n (holds_of x)) → IfSome o (λ (x : Body). HasSizes (view b x)) → option_map (view b) o ≡ Some v → IsSized shared n v
-    by_body None f h e = absurd (cc)
-    by_body (Some x) f h e = subst (IsSized shared n) (some-view (view b x) v e) (record { fits = f; sizes = h })
+is-sized shared n b pid v h1 h2 = grind (arith, nat_tests, some-view)
 
 pub seen-sizes : (n : ℕ) (b : Bodies) (pid : ℕ) (v : View) → Sounds n b → seen b pid ≡ Some v → HasSizes v
 seen-sizes n b pid v s sees = (is-sized s.shared n b pid v s.sound sees).sizes
@@ -78,10 +75,6 @@ act-sounds event pid b v act well sees s =
       sound = done-sound marks event pid act v b (mark-here event act s.shared) fits z.sizes (acted-sizes event act v well z.sizes) later;
     } in
     subst (Sounds (event + 1)) (sym (ap (λ (o : Option View). done_by pid event act o b) sees)) there
-
--- process 1 begins, and starts from an image
-first-view : ℕ → Bodies → View
-first-view event b = view (put 1 (unborn event) b) (unborn event).body
 
 first-seen : (event : ℕ) (b : Bodies) → seen (put 1 (unborn event) b) 1 ≡ Some (view (put 1 (unborn event) b) (unborn event).body)
 first-seen event b = ap (λ (o : Option Body). option_map (view (put 1 (unborn event) b)) o) (put-body 1 (unborn event) b 1)
@@ -127,9 +120,7 @@ if-well v true x y h k = h
 if-well v false x y h k = k
 
 pub starts-well : (v : View) (file : List ℕ) (block len : ℕ) (more : Extra) → act_wrong v (Starts file block len) more ≡ None → StartsWell v (Starts file block len)
-starts-well v file block len more e =
-    let parts = or_else-none (wrong_if (not (is_image file)) (length file) 0) (wrong_if (isnt_block v block len) len 0) e in
-    (un-not (is_image file) (wrong_if-none (not (is_image file)) (length file) 0 parts.0), wrong_if-none (isnt_block v block len) len 0 parts.1)
+starts-well v file block len more h1 = grind (arith, nat_tests, or_else-none, un-not, wrong_if-none)
 
 fork-well : (v : View) (result : ℕ) (more : Extra) → StartsWell v (call_act Fork v.body.cpu result more)
 fork-well v result (extra.Start start) = if-well v (is_success result) (Founds result) (Returns result) tt tt
@@ -144,27 +135,13 @@ wait-well v result (extra.Give give) = tt
 wait-well v result more = tt
 
 read-well : (v : View) (result : ℕ) (more : Extra) → StartsWell v (call_act Read v.body.cpu result more)
-read-well v result (extra.Give give) = tt
-read-well v result (extra.Reply device bytes) = tt
-read-well v result more = tt
+read-well v result more = grind (arith, nat_tests)
 
 write-well : (v : View) (result : ℕ) (more : Extra) → StartsWell v (call_act Write v.body.cpu result more)
-write-well v result (extra.Put file at bytes) = tt
-write-well v result (extra.Console bytes) = tt
-write-well v result (extra.Sent device bytes) = tt
-write-well v result extra.Nothing = if-well v (is_pipe_write result) (Gives (argument v.body.cpu 1) result result) (Returns result) tt tt
-write-well v result more = tt
+write-well v result more = grind (arith, nat_tests, if-well)
 
 call-well : (v : View) (kind : Kind) (result : ℕ) (more : Extra) → act_wrong v (call_act kind v.body.cpu result more) more ≡ None → StartsWell v (call_act kind v.body.cpu result more)
-call-well v Exit result more e = tt
-call-well v Fork result more e = fork-well v result more
-call-well v Exec result more e = exec-well v result more e
-call-well v Wait result more e = wait-well v result more
-call-well v Sigreturn result more e = if-well v (result == 0) Leaves (Returns result) tt tt
-call-well v Read result more e = read-well v result more
-call-well v Write result more e = write-well v result more
-call-well v Shm result more e = if-well v (result == 0) Shares (Returns result) tt tt
-call-well v Other result more e = tt
+call-well v kind result more h1 = grind (arith, nat_tests, exec-well, fork-well, if-well, read-well, wait-well, write-well)
 
 pub record-well : (v : View) (effect : Effect) (e : Record) → wrong_with v effect e ≡ None → IfSome (act_of v.body.cpu e) (StartsWell v)
 record-well v effect (entry.File name bytes) w = tt
@@ -193,23 +170,7 @@ live_after e live p = lives_after (life_told e) p (live p)
 
 same-lives : (g : ℕ) (groups : Groups) (most : ℕ) (live : ℕ → Bool) (held : ℕ → Option ℕ) (b : Bodies) (pid : ℕ) (v w : View) → seen b pid ≡ Some v → w.body.segment ≡ v.body.segment
     → Lives g groups most live held b → Lives g groups most live held (put pid w b)
-same-lives g groups most live held b pid v w sees same s =
-    record {
-      tells = λ p k. subst (λ (o : Option Body). Tells o (live p) (held p)) (sym (put-body pid w b p)) (tells_by p k (p == pid) refl);
-      unborn = λ p l. (put-body pid w b p ∙ unborn_by p l (p == pid) refl, (s.unborn p l).1);
-    }
-  where
-    by_body : (o : Option Body) (l : Bool) (h : Option ℕ) → option_map (view b) o ≡ Some v → Tells o l h → Tells (Some w.body) l h
-    by_body None l h f t = absurd (cc)
-    by_body (Some x) l h f t = let is = some-view (view b x) v f in (t.0, same ∙ (ap (λ (y : View). y.body.segment) (sym is) ∙ t.1))
-
-    tells_by : (p : ℕ) → groups p ≡ Some g → (t : Bool) → (p == pid) ≡ t → Tells (cond t (Some w.body) (body_at b p)) (live p) (held p)
-    tells_by p k true e = by_body (body_at b p) (live p) (held p) (ap (seen b) (eqb-true p pid e) ∙ sees) (s.tells p k)
-    tells_by p k false e = s.tells p k
-
-    unborn_by : (p : ℕ) → most < p → (t : Bool) → (p == pid) ≡ t → cond t (Some w.body) (body_at b p) ≡ None
-    unborn_by p l true e = absurd (let none = (s.unborn p l).0 in let there = ap (seen b) (eqb-true p pid e) ∙ sees in let gone = ap (λ (o : Option Body). option_map (view b) o) none in (let no : None ≡ Some v = sym gone ∙ there in cc))
-    unborn_by p l false e = (s.unborn p l).0
+same-lives g groups most live held b pid v w h1 h2 h3 = grind (arith, nat_tests, eqb-true, put-body, some-view)
 
 pub plain-state : (W : Type 0) (g n most pid : ℕ) (groups : Groups) (live : ℕ → Bool) (held : ℕ → Option ℕ) (own : Own) → State W g n most groups live held own
     → IfSome (plain_in pid own (seen own.bodies pid)) (State W g n most groups live held)

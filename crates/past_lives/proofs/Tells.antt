@@ -1,9 +1,9 @@
 -- Who has a body in a group, and which segment it holds, beside what is told: after each act.
-use Rattle.std.proofs.Common.{◌≡◌, ℕ, ◌<◌, ◌≤◌, ◌==◌, cond, if◌then◌else◌, Bool, true, false, Option, Some, None, option_map, refl, sym, ap, subst, ◌∙◌, arith}
+use Rattle.std.proofs.Common.{◌≡◌, ℕ, ◌<◌, ◌≤◌, ◌==◌, if◌then◌else◌, Bool, true, false, Option, Some, None, refl, sym, ap, subst, ◌∙◌, arith}
+use Rattle.std.proofs.lemmas.Bool.Decides.{nat_tests}
 use Rattle.std.proofs.lemmas.Bool.{eqb-true, eqb-false}
-use Rattle.arn_base.specs.declared.machine.Cpu.{Cpu}
 use Rattle.acts_model.specs.Acts.{Act, Returns, Receives, Gives, Starts, Forks, Founds, Shares, Leaves, Delivers, Exits, Faults, Dies, beginning_of, child_view, cut_off, delivered, done_by, restored, with_fresh_segment}
-use Rattle.acts_model.specs.Bodies.{Body, Bodies, View, body_at, put, remove, seen, view}
+use Rattle.acts_model.specs.Bodies.{Body, Bodies, View, body_at, put, remove, seen}
 use Rattle.acts_model.specs.Views.{reach, with_result, written}
 use Rattle.arn_base.specs.Window.{with_bytes}
 use Rattle.history_model.specs.Groups.{Groups}
@@ -29,11 +29,7 @@ unborn-tells b live p held u = subst (λ (o : Option Body). Tells o (live p) hel
 pub lives-as : (g : ℕ) (groups groups' : Groups) (most : ℕ) (live live' : ℕ → Bool) (held held' : ℕ → Option ℕ) (b : Bodies)
     → ((p : ℕ) → groups' p ≡ groups p) → ((p : ℕ) → live' p ≡ live p) → ((p : ℕ) → held' p ≡ held p)
     → Lives g groups most live held b → Lives g groups' most live' held' b
-lives-as g groups groups' most live live' held held' b gs ls hs s =
-    record {
-      tells = λ p is. subst (λ (l : Bool). Tells (body_at b p) l (held' p)) (sym (ls p)) (subst (Tells (body_at b p) (live p)) (sym (hs p)) (s.tells p (sym (gs p) ∙ is)));
-      unborn = λ p l. ((s.unborn p l).0, ls p ∙ (s.unborn p l).1);
-    }
+lives-as g groups groups' most live live' held held' b h1 h2 h3 h4 = grind (arith, nat_tests)
 
 -- a number more that isn't reached
 pub lives-more : (g : ℕ) (groups : Groups) (most most' : ℕ) (live : ℕ → Bool) (held : ℕ → Option ℕ) (b : Bodies) → most ≤ most' → Lives g groups most live held b → Lives g groups most' live held b
@@ -49,11 +45,7 @@ some-view v w e = cc
 
 pub is-live : (g : ℕ) (groups : Groups) (most : ℕ) (live : ℕ → Bool) (held : ℕ → Option ℕ) (b : Bodies) (pid : ℕ) (v : View)
     → groups pid ≡ Some g → seen b pid ≡ Some v → Lives g groups most live held b → IsLive b pid v live held
-is-live g groups most live held b pid v is sees s = by_body (body_at b pid) refl sees (s.tells pid is)
-  where
-    by_body : (o : Option Body) → body_at b pid ≡ o → option_map (view b) o ≡ Some v → Tells o (live pid) (held pid) → IsLive b pid v live held
-    by_body None k f t = absurd (cc)
-    by_body (Some x) k f t = let same = some-view (view b x) v f in record { alive = t.0; segment = ap (λ (w : View). w.body.segment) (sym same) ∙ t.1 }
+is-live g groups most live held b pid v h1 h2 h3 = grind (arith, nat_tests, some-view)
 
 -- an own process is no greater than the greatest
 pub counted : (g : ℕ) (groups : Groups) (most : ℕ) (live : ℕ → Bool) (held : ℕ → Option ℕ) (b : Bodies) (pid p : ℕ) → live pid ≡ true → Lives g groups most live held b → most < p → p ≡ pid → ⊥
@@ -62,26 +54,10 @@ counted g groups most live held b pid p is s above same = let dead = (s.unborn p
 module _ (g : ℕ) (groups : Groups) (most : ℕ) (live : ℕ → Bool) (held : ℕ → Option ℕ) (b : Bodies) (pid : ℕ) where
   -- another body of a process, which holds this now
   pub put-lives : (w : View) (segment : Option ℕ) → live pid ≡ true → w.body.segment ≡ segment → Lives g groups most live held b → Lives g groups most live (changed held pid segment) (put pid w b)
-  put-lives w segment is holds s =
-      record {
-        tells = λ p k. subst (λ (o : Option Body). Tells o (live p) (changed held pid segment p)) (sym (put-body pid w b p)) (tells_by p k (p == pid) refl);
-        unborn = λ p l. (put-body pid w b p ∙ unborn_by p l (p == pid) refl, (s.unborn p l).1);
-      }
-    where
-      tells_by : (p : ℕ) → groups p ≡ Some g → (t : Bool) → (p == pid) ≡ t → Tells (cond t (Some w.body) (body_at b p)) (live p) (if t then segment else held p)
-      tells_by p k true e = (ap live (eqb-true p pid e) ∙ is, holds)
-      tells_by p k false e = s.tells p k
-
-      unborn_by : (p : ℕ) → most < p → (t : Bool) → (p == pid) ≡ t → cond t (Some w.body) (body_at b p) ≡ None
-      unborn_by p l true e = absurd (counted g groups most live held b pid p is s l (eqb-true p pid e))
-      unborn_by p l false e = (s.unborn p l).0
+  put-lives w segment h1 h2 h3 = grind (arith, nat_tests, counted, eqb-true, put-body)
 
   changed-same : (segment : Option ℕ) (p : ℕ) → segment ≡ held pid → held p ≡ changed held pid segment p
-  changed-same segment p is = by_test (p == pid) refl
-    where
-      by_test : (t : Bool) → (p == pid) ≡ t → held p ≡ (if t then segment else held p)
-      by_test true e = ap held (eqb-true p pid e) ∙ sym is
-      by_test false e = refl
+  changed-same segment p h1 = grind (arith, nat_tests, eqb-true)
 
   -- one that holds what it held
   kept-lives : (v w : View) → IsLive b pid v live held → w.body.segment ≡ v.body.segment → Lives g groups most live held b → Lives g groups most live held (put pid w b)
@@ -91,78 +67,23 @@ module _ (g : ℕ) (groups : Groups) (most : ℕ) (live : ℕ → Bool) (held : 
 
   -- none any more
   remove-lives : Lives g groups most live held b → Lives g groups most (λ p. if pid == p then false else live p) held (remove pid b)
-  remove-lives s =
-      record {
-        tells = λ p k. subst (λ (o : Option Body). Tells o (if pid == p then false else live p) (held p)) (sym (remove-body pid b p)) (tells_by p k (pid == p) (p == pid) refl refl);
-        unborn = λ p l. (remove-body pid b p ∙ none_by p l (p == pid), dead_by p l (pid == p));
-      }
-    where
-      tells_by : (p : ℕ) → groups p ≡ Some g → (t u : Bool) → (pid == p) ≡ t → (p == pid) ≡ u → Tells (cond u None (body_at b p)) (if t then false else live p) (held p)
-      tells_by p k true true e f = refl
-      tells_by p k false false e f = s.tells p k
-      tells_by p k true false e f = absurd (eqb-false p pid f (sym (eqb-true pid p e)))
-      tells_by p k false true e f = absurd (eqb-false pid p e (sym (eqb-true p pid f)))
+  remove-lives h1 = grind (arith, nat_tests, eqb-false, eqb-true, remove-body)
 
-      none_by : (p : ℕ) → most < p → (u : Bool) → cond u None (body_at b p) ≡ None
-      none_by p l true = refl
-      none_by p l false = (s.unborn p l).0
-
-      dead_by : (p : ℕ) → most < p → (t : Bool) → (if t then false else live p) ≡ false
-      dead_by p l true = refl
-      dead_by p l false = (s.unborn p l).1
-
--- a process is born
 pub born-lives : (g : ℕ) (groups : Groups) (group : Option ℕ) (most most' : ℕ) (live : ℕ → Bool) (held : ℕ → Option ℕ) (b : Bodies) (child : ℕ) (w : View) (segment : Option ℕ)
     → most ≤ most' → child ≤ most' → w.body.segment ≡ segment → Lives g groups most live held b
     → Lives g (changed groups child group) most' (λ p. if child == p then true else live p) (changed held child segment) (put child w b)
-born-lives g groups group most most' live held b child w segment more le holds s =
-    record {
-      tells = λ p k. subst (λ (o : Option Body). Tells o (if child == p then true else live p) (changed held child segment p)) (sym (put-body child w b p)) (tells_by p (child == p) (p == child) refl refl k);
-      unborn = λ p l. (put-body child w b p ∙ none_by p l (p == child) refl, dead_by p l (child == p) refl);
-    }
-  where
-    tells_by : (p : ℕ) (t u : Bool) → (child == p) ≡ t → (p == child) ≡ u → (if u then group else groups p) ≡ Some g → Tells (cond u (Some w.body) (body_at b p)) (if t then true else live p) (if u then segment else held p)
-    tells_by p true true e f k = (refl, holds)
-    tells_by p false false e f k = s.tells p k
-    tells_by p true false e f k = absurd (eqb-false p child f (sym (eqb-true child p e)))
-    tells_by p false true e f k = absurd (eqb-false child p e (sym (eqb-true p child f)))
-
-    none_by : (p : ℕ) → most' < p → (u : Bool) → (p == child) ≡ u → cond u (Some w.body) (body_at b p) ≡ None
-    none_by p l true e = absurd (let same = eqb-true p child e in omega arith)
-    none_by p l false e = (s.unborn p (omega arith)).0
-
-    dead_by : (p : ℕ) → most' < p → (t : Bool) → (child == p) ≡ t → (if t then true else live p) ≡ false
-    dead_by p l true e = absurd (let same = eqb-true child p e in omega arith)
-    dead_by p l false e = (s.unborn p (omega arith)).1
+born-lives g groups group most most' live held b child w segment h1 h2 h3 h4 = grind (arith, nat_tests, eqb-false, eqb-true, put-body)
 
 -- one is born that is of another group
 pub other-lives : (g : ℕ) (groups : Groups) (group : Option ℕ) (most most' : ℕ) (live : ℕ → Bool) (held : ℕ → Option ℕ) (b : Bodies) (child : ℕ) (segment : Option ℕ)
     → most ≤ most' → child ≤ most' → (group ≡ Some g → ⊥) → Lives g groups most live held b
     → Lives g (changed groups child group) most' (λ p. if child == p then true else live p) (changed held child segment) b
-other-lives g groups group most most' live held b child segment more le other s =
-    record {
-      tells = λ p k. tells_by p (child == p) (p == child) refl refl k;
-      unborn = λ p l. ((s.unborn p (omega arith)).0, dead_by p l (child == p) refl);
-    }
-  where
-    tells_by : (p : ℕ) (t u : Bool) → (child == p) ≡ t → (p == child) ≡ u → (if u then group else groups p) ≡ Some g → Tells (body_at b p) (if t then true else live p) (if u then segment else held p)
-    tells_by p t true e f k = absurd (other k)
-    tells_by p false false e f k = s.tells p k
-    tells_by p true false e f k = absurd (eqb-false p child f (sym (eqb-true child p e)))
-
-    dead_by : (p : ℕ) → most' < p → (t : Bool) → (child == p) ≡ t → (if t then true else live p) ≡ false
-    dead_by p l true e = absurd (let same = eqb-true child p e in omega arith)
-    dead_by p l false e = (s.unborn p (omega arith)).1
+other-lives g groups group most most' live held b child segment h1 h2 h3 h4 = grind (arith, nat_tests, eqb-false, eqb-true)
 
 -- or is to be born later than the moment: only groups tell of it
 pub later-lives : (g : ℕ) (groups : Groups) (group : Option ℕ) (most most' : ℕ) (live : ℕ → Bool) (held : ℕ → Option ℕ) (b : Bodies) (child : ℕ)
     → most ≤ most' → most < child → Lives g groups most live held b → Lives g (changed groups child group) most' live held b
-later-lives g groups group most most' live held b child more new s =
-    record { tells = λ p k. tells_by p (p == child) refl k; unborn = λ p l. s.unborn p (omega arith) }
-  where
-    tells_by : (p : ℕ) (u : Bool) → (p == child) ≡ u → (if u then group else groups p) ≡ Some g → Tells (body_at b p) (live p) (held p)
-    tells_by p true e k = unborn-tells b live p (held p) (s.unborn p (let same = eqb-true p child e in omega arith))
-    tells_by p false e k = s.tells p k
+later-lives g groups group most most' live held b child h1 h2 h3 = grind (arith, nat_tests, eqb-true, unborn-tells)
 
 -- a child has a number that is new, and is counted from then on
 abbrev pub IsChild : ℕ → ℕ → Act → Type 0
@@ -176,11 +97,7 @@ IsFounding g (Founds child) = child ≡ g
 IsFounding g act = ⊥
 
 restored-segment : (v : View) → (restored v.body.slot v).body.segment ≡ v.body.segment
-restored-segment v = by_slot v.body.slot
-  where
-    by_slot : (o : Option Cpu) → (restored o v).body.segment ≡ v.body.segment
-    by_slot None = refl
-    by_slot (Some cpu) = refl
+restored-segment v = grind (arith, nat_tests)
 
 -- the act of a member
 pub own-lives : (g event : ℕ) (groups : Groups) (most most' : ℕ) (live : ℕ → Bool) (held : ℕ → Option ℕ) (b : Bodies) (pid : ℕ) (v : View) (act : Act)
@@ -215,22 +132,10 @@ own-lives g event groups most most' live held b pid v (Dies signal cut) more c f
 -- the act of a process of another group
 module _ (g : ℕ) (groups : Groups) (most most' : ℕ) (live : ℕ → Bool) (held : ℕ → Option ℕ) (b : Bodies) (pid : ℕ) (other : groups pid ≡ Some g → ⊥) (more : most ≤ most') where
   stranger-held : (segment : Option ℕ) → Lives g groups most live held b → Lives g groups most' live (changed held pid segment) b
-  stranger-held segment s = record { tells = λ p k. tells_by p k (p == pid) refl; unborn = λ p l. s.unborn p (omega arith) }
-    where
-      tells_by : (p : ℕ) → groups p ≡ Some g → (t : Bool) → (p == pid) ≡ t → Tells (body_at b p) (live p) (if t then segment else held p)
-      tells_by p k true e = absurd (other (ap groups (sym (eqb-true p pid e)) ∙ k))
-      tells_by p k false e = s.tells p k
+  stranger-held segment h1 = grind (arith, nat_tests, eqb-true)
 
   stranger-ends : Lives g groups most live held b → Lives g groups most' (λ p. if pid == p then false else live p) held b
-  stranger-ends s = record { tells = λ p k. tells_by p k (pid == p) refl; unborn = λ p l. ((s.unborn p (omega arith)).0, dead_by p l (pid == p)) }
-    where
-      tells_by : (p : ℕ) → groups p ≡ Some g → (t : Bool) → (pid == p) ≡ t → Tells (body_at b p) (if t then false else live p) (held p)
-      tells_by p k true e = absurd (other (ap groups (eqb-true pid p e) ∙ k))
-      tells_by p k false e = s.tells p k
-
-      dead_by : (p : ℕ) → most' < p → (t : Bool) → (if t then false else live p) ≡ false
-      dead_by p l true = refl
-      dead_by p l false = (s.unborn p (omega arith)).1
+  stranger-ends h1 = grind (arith, nat_tests, eqb-true)
 
 pub stranger-lives : (g event : ℕ) (groups : Groups) (most most' : ℕ) (live : ℕ → Bool) (held : ℕ → Option ℕ) (b : Bodies) (pid : ℕ) (act : Act)
     → most ≤ most' → IsChild most most' act → (IsFounding g act → ⊥) → (groups pid ≡ Some g → ⊥) → Lives g groups most live held b
@@ -254,6 +159,4 @@ stranger-lives g event groups most most' live held b pid (Dies signal cut) more 
 -- an act that comes later than the moment: only groups tell of it
 pub later-act-lives : (g : ℕ) (groups : Groups) (most most' : ℕ) (live : ℕ → Bool) (held : ℕ → Option ℕ) (b : Bodies) (pid : ℕ) (act : Act)
     → most ≤ most' → IsChild most most' act → Lives g groups most live held b → Lives g (act_groups act pid groups) most' live held b
-later-act-lives g groups most most' live held b pid (Forks child) more c s = later-lives g groups (groups pid) most most' live held b child more c.0 s
-later-act-lives g groups most most' live held b pid (Founds child) more c s = later-lives g groups (Some child) most most' live held b child more c.0 s
-later-act-lives g groups most most' live held b pid act more c s = lives-more g groups most most' live held b more s
+later-act-lives g groups most most' live held b pid act h1 h2 h3 = grind (arith, nat_tests, later-lives, lives-more)

@@ -1,8 +1,9 @@
 -- The events that have happened at a moment, one after the other.
-use Rattle.std.proofs.Common.{◌≡◌, ℕ, zero, suc, ◌+◌, ◌==◌, nat_le, if◌then◌else◌, length, Bool, true, false, List, [], ◌∷◌, ◌++◌, Option, Some, None, unwrap_or, refl, sym, ap, ◌∙◌, slice_get, arith}
+use Rattle.std.proofs.Common.{◌≡◌, ℕ, zero, suc, ◌+◌, nat_le, if◌then◌else◌, length, Bool, true, false, List, [], ◌∷◌, ◌++◌, Option, Some, None, unwrap_or, refl, sym, ap, ◌∙◌, slice_get, arith}
+use Rattle.std.proofs.lemmas.Bool.Decides.{nat_tests}
 use Rattle.arn_base.specs.declared.records.Record.{Record}
 use Rattle.arn_base.specs.declared.records.Record.TheVariants as entry
-use Rattle.acts_model.specs.Records.{LifeChange, BeginsLife, EndsLife, NoLife, life_told, lives_after}
+use Rattle.acts_model.specs.Records.{LifeChange, life_told, lives_after}
 use Rattle.history_index.specs.Lookups.{moments_from}
 use Rattle.history_model.specs.Events.{events, how_many}
 use Rattle.history_model.specs.Moments.{Numbered, events_from, events_until, if_happened, lives_at, lives_by, segment_at, segments_by, segments_told}
@@ -73,9 +74,7 @@ zipped-firsts moment n (e ∷ es) (m ∷ ms) = ap (if_happened (nat_le m moment)
 -- an event at a moment, and what comes behind it
 at-rest : (moment begins ends n : ℕ) (e : Record) (at : ℕ) (entries : List Record) → events_from moment begins ends (n + 1) entries ≡ zipped moment (n + 1) (events entries) (moments_from begins ends entries)
     → if_happened (nat_le at moment) n e (events_from moment begins ends (n + 1) entries) ≡ zipped moment n (e ∷ events entries) (at ∷ moments_from begins (ends + 0) entries)
-at-rest moment begins ends n e at entries ih =
-    let same : ends + 0 ≡ ends = omega arith in
-    ap (if_happened (nat_le at moment) n e) (ih ∙ ap (λ (i : ℕ). zipped moment (n + 1) (events entries) (moments_from begins i entries)) (sym same))
+at-rest moment begins ends n e at entries h1 = grind (arith, nat_tests, zipped)
 
 from-zipped : (moment begins ends n : ℕ) (entries : List Record) → events_from moment begins ends n entries ≡ zipped moment n (events entries) (moments_from begins ends entries)
 from-zipped moment begins ends n [] = refl
@@ -120,17 +119,7 @@ pub lives-passed : (entries : List Record) (moment pid k : ℕ) → happened ent
 lives-passed entries moment pid k is = lives-next entries moment pid k None is
 
 own-life : (c : LifeChange) (pid : ℕ) (before : Bool) → lives_after c pid before ≡ unwrap_or (life_after c pid) before
-own-life (BeginsLife p) pid before = by_test (p == pid)
-  where
-    by_test : (t : Bool) → (if t then true else before) ≡ unwrap_or (if t then Some true else None) before
-    by_test true = refl
-    by_test false = refl
-own-life (EndsLife p) pid before = by_test (p == pid)
-  where
-    by_test : (t : Bool) → (if t then false else before) ≡ unwrap_or (if t then Some false else None) before
-    by_test true = refl
-    by_test false = refl
-own-life NoLife pid before = refl
+own-life c pid before = grind (arith, nat_tests)
 
 pub lives-told : (entries : List Record) (moment pid k : ℕ) (e : Record) (o : Option Bool) → happened entries moment k ≡ Some e → life_after (life_told e) pid ≡ o
     → lives_first entries moment pid (suc k) ≡ unwrap_or o (lives_first entries moment pid k)
@@ -151,9 +140,7 @@ pub held-all : (entries : List Record) (moment pid : ℕ) → segment_at entries
 held-all entries moment pid = ap (λ (xs : List Numbered). segments_by xs (λ q. None) pid) (until-all entries moment)
 
 held-next : (entries : List Record) (moment pid k : ℕ) (o : Option Record) → happened entries moment k ≡ o → held_first entries moment (suc k) pid ≡ segments_by (numbered k o) (held_first entries moment k) pid
-held-next entries moment pid k o is =
-    ap (λ (o : Option Record). segments_by (first entries moment k ++ numbered k o) (λ q. None) pid) is
-    ∙ ap (λ (h : ℕ → Option ℕ). h pid) (segments-append (first entries moment k) (numbered k o) (λ q. None))
+held-next entries moment pid k o h1 = grind (arith, nat_tests, first, numbered, segments-append)
 
 pub held-passed : (entries : List Record) (moment pid k : ℕ) → happened entries moment k ≡ None → held_first entries moment (suc k) pid ≡ held_first entries moment k pid
 held-passed entries moment pid k is = held-next entries moment pid k None is

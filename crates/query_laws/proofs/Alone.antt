@@ -1,5 +1,6 @@
 -- What happens inside a group alone are events of the group, record by record.
 use Rattle.std.proofs.Common.{◌≡◌, ℕ, zero, suc, ◌+◌, ◌==◌, ◌&&◌, ◌++◌, Bool, true, false, if◌then◌else◌, List, [], ◌∷◌, Option, Some, None, IfSome, refl, ap, sym, subst, ◌∙◌, arith, append_assoc}
+use Rattle.std.proofs.lemmas.Bool.Decides.{nat_tests}
 use Rattle.std.proofs.lemmas.Bool.{and_parts, eqb-true}
 use Rattle.std.proofs.lemmas.Option.{none-some, same_Some}
 use Rattle.arn_base.specs.declared.records.Extra.{Extra}
@@ -18,7 +19,7 @@ use Rattle.acts_model.specs.Told.{act_of}
 use Rattle.acts_model.specs.Transfers.{holds_of, transfer, instr_transfer}
 use Rattle.acts_model.specs.Views.{stands_at}
 use Rattle.history_model.specs.Alone as model
-use Rattle.history_model.specs.Alone.{Own, Made, Makes, Fails, Slice, Standing, act_done, after_boot, after_last, after_record, after_signal, after_slice, and_then, at_first, begins_by, begins_if, boots, call_start, ends_slice, happens, made_if, no_instruction, nothing_own, plain_by, plain_in, plain_or, plains, record_done, record_seen, replayed, settled, slice_of, unless_wrong}
+use Rattle.history_model.specs.Alone.{Own, Made, Makes, Fails, Slice, Standing, act_done, after_boot, after_last, after_record, after_signal, after_slice, and_then, at_first, begins_by, begins_if, boots, call_start, ends_slice, happens, made_if, no_instruction, plain_by, plain_in, plain_or, plains, record_done, record_seen, replayed, settled, slice_of, unless_wrong}
 use Rattle.history_model.specs.Broken.{broken_from, first_broken, greatest, misnumbers}
 use Rattle.history_model.specs.Events.{event_at, how_many}
 use Rattle.history_model.specs.Exchanges.{call_founded, founded}
@@ -109,14 +110,7 @@ module _ (entries : List Record) (g : ℕ) where
   boots-ends event e own owns s = done-ends 1 event e (unborn event) (record own { bodies = put 1 (unborn event) own.bodies }) owns s
 
   no_instruction-ends : (P : Own → Type 0) (event : ℕ) (e : Record) (made : Made) → Ends P made → Ends P (no_instruction event e made)
-  no_instruction-ends P event (entry.Call pid number result more) made h = tt
-  no_instruction-ends P event (entry.End pid status) made h = tt
-  no_instruction-ends P event (entry.Boot name give) made h = h
-  no_instruction-ends P event (entry.File name bytes) made h = h
-  no_instruction-ends P event (entry.Typed bytes) made h = h
-  no_instruction-ends P event (entry.Unplug device) made h = h
-  no_instruction-ends P event (entry.Slice pid ran) made h = h
-  no_instruction-ends P event (entry.Signal pid signal cut handler) made h = h
+  no_instruction-ends P event e made h1 = grind (arith, nat_tests)
 
   slice-ends : (slice : Slice) (owed : ℕ) (e : Record) (own : Own) → Owns slice.event e → Made-to slice.event own → Ends (Made-to (slice.event + 1)) (ends_slice slice owed e own)
   slice-ends slice zero e own owns s = no_instruction-ends (Made-to (slice.event + 1)) slice.event e (Makes own) (later slice.event own s)
@@ -130,36 +124,15 @@ module _ (entries : List Record) (g : ℕ) where
   start-founds false start found result h = absurd (none-some found h)
 
   call-founds : (pid number result : ℕ) (more : Extra) (start : Start) → call_start number result more ≡ Some start → call_founded number result more ≡ Some result
-  call-founds pid number result (extra.Start s) start h = start-founds ((number == FORK) && is_success result) s start result h
-  call-founds pid number result extra.Nothing start h = absurd (none-some start h)
-  call-founds pid number result (extra.Give give) start h = absurd (none-some start h)
-  call-founds pid number result (extra.Put file at bytes) start h = absurd (none-some start h)
-  call-founds pid number result (extra.Console bytes) start h = absurd (none-some start h)
-  call-founds pid number result (extra.Reply device bytes) start h = absurd (none-some start h)
-  call-founds pid number result extra.Fault start h = absurd (none-some start h)
-  call-founds pid number result extra.Absent start h = absurd (none-some start h)
-  call-founds pid number result (extra.Name file path) start h = absurd (none-some start h)
-  call-founds pid number result (extra.Sent device bytes) start h = absurd (none-some start h)
+  call-founds pid number result more start h1 = grind (arith, nat_tests, none-some, start-founds)
 
   begins_if-ends : (Q : Own → Type 0) (event pid number result : ℕ) (more : Extra) (own : Own) (o : Option Start) → call_start number result more ≡ o → Q own
       → ((start : Start) → call_founded number result more ≡ Some g → Q (model.begins g event (entry.Call pid number result more) start own))
       → Ends Q (begins_if g result event (entry.Call pid number result more) o own)
-  begins_if-ends Q event pid number result more own None is keeps begins = keeps
-  begins_if-ends Q event pid number result more own (Some start) is keeps begins = by-test (result == g) refl
-    where
-      by-test : (b : Bool) → (result == g) ≡ b → Ends Q (if b then Makes (model.begins g event (entry.Call pid number result more) start own) else Makes own)
-      by-test true t = begins start (call-founds pid number result more start is ∙ ap (λ (n : ℕ). Some n) (eqb-true result g t))
-      by-test false t = keeps
+  begins_if-ends Q event pid number result more own o h1 h2 h3 = grind (arith, nat_tests, call-founds, eqb-true)
 
   begins-ends : (Q : Own → Type 0) (event : ℕ) (e : Record) (own : Own) → Q own → ((start : Start) → founded e ≡ Some g → Q (model.begins g event e start own)) → Ends Q (begins_by g event e own)
-  begins-ends Q event (entry.Call pid number result more) own keeps begins = begins_if-ends Q event pid number result more own (call_start number result more) refl keeps begins
-  begins-ends Q event (entry.File name bytes) own keeps begins = keeps
-  begins-ends Q event (entry.Boot name give) own keeps begins = keeps
-  begins-ends Q event (entry.Typed bytes) own keeps begins = keeps
-  begins-ends Q event (entry.Unplug device) own keeps begins = keeps
-  begins-ends Q event (entry.Slice pid ran) own keeps begins = keeps
-  begins-ends Q event (entry.Signal pid signal cut handler) own keeps begins = keeps
-  begins-ends Q event (entry.End pid status) own keeps begins = keeps
+  begins-ends Q event e own h1 h2 = grind (arith, nat_tests, begins_if-ends)
 
   -- the last of a slice
   record Lasts (event pid : ℕ) (e : Record) (groups : Groups) : Type 0 where

@@ -1,5 +1,6 @@
 -- Items of some groups alone, at the bytes that events have, tell what reaches these by no other group.
-use Rattle.std.proofs.Common.{◌≡◌, ℕ, Bool, true, false, if◌then◌else◌, List, [], Option, Some, None, sym, subst}
+use Rattle.std.proofs.Common.{◌≡◌, ℕ, Bool, true, false, if◌then◌else◌, List, [], Option, Some, None, sym, subst, arith}
+use Rattle.std.proofs.lemmas.Bool.Decides.{nat_tests}
 use Rattle.std.specs.Prelude.{All}
 use Rattle.std.proofs.lemmas.List.Elements.{All-nil, All-weaker}
 use Rattle.arn_base.specs.declared.records.Record.{Record}
@@ -10,7 +11,7 @@ use Rattle.history_model.specs.Events.{event_at}
 use Rattle.history_model.specs.Groups.{event_group}
 use Rattle.lineage_join.specs.Alike.{LeadsAt, LeadsOn, ReachSame}
 use Rattle.lineage_join.specs.Fits.{IsThere}
-use Rattle.lineage_model.specs.Flow.{At, Byte, StartRegister, StartSlot, StartMemory}
+use Rattle.lineage_model.specs.Flow.{At}
 use Rattle.lineage_model.specs.Tracking.{EventByte}
 use Rattle.query_model.specs.Sinks.{is_among, items_among}
 use Rattle.query_model.specs.Sources.{items_in, tracked_at}
@@ -30,10 +31,7 @@ module _ (linkage : Linkage) (entries : List Record) (stands : first_broken entr
 
   -- an item that an event has leads to bytes that events have
   leads-at : (event : ℕ) (at : At) → IsThere (event_at entries event) at → LeadsAt (event_at entries) follows event at
-  leads-at event (Byte k) there = λ e src at plain is. there-found (event_at entries src.event) (Byte src.at) (origin-there entries stands event k e at src is)
-  leads-at event (StartRegister r i) there = there-found (event_at entries event) (StartRegister r i) there
-  leads-at event (StartSlot r i) there = there-found (event_at entries event) (StartSlot r i) there
-  leads-at event (StartMemory at) there = there-found (event_at entries event) (StartMemory at) there
+  leads-at event at h1 = grind (arith, nat_tests, origin-there, there-found)
 
   module _ (holders : FollowsHolders) (lens : ActsHaveLen) (blocks : All HasWholeBlocks entries) (groups : List ℕ) (moment : ℕ) where
     group-leads : (event : ℕ) (at : At) (o : Option ℕ) → IsThere (event_at entries event) at → All (LeadsOn (event_at entries) follows) (items_in (operands linkage) entries moment event at o)

@@ -1,5 +1,6 @@
 -- In the records of a run each child begins with whole blocks.
-use Rattle.std.proofs.Common.{◌≡◌, ℕ, zero, suc, ◌*◌, ◌/◌, ◌≤◌, ◌==◌, ◌&&◌, not, is_some, Bool, true, false, if◌then◌else◌, List, [], ◌∷◌, length, drop, Option, Some, None, IfSome, refl, ap, sym, subst, ◌∙◌, arith, length-drop}
+use Rattle.std.proofs.Common.{◌≡◌, ℕ, zero, suc, ◌*◌, ◌≤◌, ◌==◌, ◌&&◌, not, is_some, Bool, true, false, if◌then◌else◌, List, [], ◌∷◌, length, drop, Option, Some, None, IfSome, refl, ap, sym, subst, ◌∙◌, arith, length-drop}
+use Rattle.std.proofs.lemmas.Bool.Decides.{nat_tests}
 use Rattle.std.specs.Prelude.{All, Contains}
 use Rattle.std.specs.List.{cons_option}
 use Rattle.std.proofs.lemmas.Bool.{and_parts, eqb-true, true≢false}
@@ -13,7 +14,7 @@ use Rattle.arn_base.specs.declared.records.Extra.TheVariants as extra
 use Rattle.arn_base.specs.declared.records.Record.{Record}
 use Rattle.arn_base.specs.declared.records.Record.TheVariants as entry
 use Rattle.arn_base.specs.declared.records.Start.{Start}
-use Rattle.parts_model.specs.Blocks.{block_of, is_used, used_block, used_blocks}
+use Rattle.parts_model.specs.Blocks.{block_of, used_block, used_blocks}
 use Rattle.parts_model.specs.Processes as table
 use Rattle.parts_model.specs.Replies.{is_success}
 use Rattle.parts_model.specs.declared.calls.TheConstants.{FORK}
@@ -39,11 +40,7 @@ use Rattle.query_laws.proofs.Origins.{is-placed}
 
 -- blocks of a window are whole
 used-whole : (block : Block) → length block.bytes ≡ BLOCK_LEN → AreWhole (used_block block)
-used-whole block is = by-test (is_used block)
-  where
-    by-test : (b : Bool) → AreWhole (if b then block ∷ [] else [])
-    by-test true = All-cons (λ (x : Block). length x.bytes ≡ BLOCK_LEN) block [] is (All-nil (λ (x : Block). length x.bytes ≡ BLOCK_LEN))
-    by-test false = All-nil (λ (x : Block). length x.bytes ≡ BLOCK_LEN)
+used-whole block h1 = grind (arith, nat_tests)
 
 all-whole : (bytes : List ℕ) (count : ℕ) → BLOCK_LEN * count ≤ length bytes → AreWhole (used_blocks bytes count)
 unfolding used_blocks
@@ -55,12 +52,7 @@ all-whole bytes (suc count) fits =
 
 -- a fork's record has those of the parent's window
 start-of : (start : Start) (v : View) → extra.Start start ≡ extra.Start (start_of (beginning_of v)) → AreWhole start.blocks
-start-of start v is =
-    subst (λ (s : Start). AreWhole s.blocks) (sym (ap (start-in start) is)) (all-whole v.window (length v.window / BLOCK_LEN) (omega arith))
-  where
-    start-in : Start → Extra → Start
-    start-in other (extra.Start s) = s
-    start-in other more = other
+start-of start v h1 = grind (arith, nat_tests, all-whole)
 
 fork-act : (number result : ℕ) (cpu : Cpu) (start : Start) → (number == FORK) ≡ true → is_success result ≡ true → call_act (kind_of number) cpu result (extra.Start start) ≡ Founds result
 fork-act number result cpu start is success =
@@ -90,14 +82,7 @@ abbrev IsWhole : Record → Type 0
 IsWhole e = misplaces_start e ≡ false → HasWholeBlocks e
 
 happens-whole : (m : Machine) (p : ℕ) (v : View) (d : Doing) (e : Record) → EventTells m p v d e → IsWhole e
-happens-whole m p v d (entry.Call pid number result more) tells = λ placed. call-whole m pid number result p v d more tells placed
-happens-whole m p v d (entry.File name bytes) tells = λ placed. tt
-happens-whole m p v d (entry.Boot name give) tells = λ placed. tt
-happens-whole m p v d (entry.Typed bytes) tells = λ placed. tt
-happens-whole m p v d (entry.Unplug device) tells = λ placed. tt
-happens-whole m p v d (entry.Slice pid ran) tells = λ placed. tt
-happens-whole m p v d (entry.Signal pid signal cut handler) tells = λ placed. tt
-happens-whole m p v d (entry.End pid status) tells = λ placed. tt
+happens-whole m p v d e h1 = grind (arith, nat_tests, call-whole)
 
 abbrev StepWhole : Step → Type 0
 StepWhole s = IfSome s.moved.inside.event (λ event. IsWhole event.entry)
@@ -119,14 +104,7 @@ steps-whole m [] tells = All-nil (λ (event : Event). IsWhole event.entry)
 steps-whole m (s ∷ steps) tells = cons-whole s.moved.inside.event (events_of steps) (step-whole m s tells.0) (steps-whole s.after steps tells.1)
 
 slice-whole : (e : Record) → is_event e ≡ false → HasWholeBlocks e
-slice-whole (entry.Slice pid ran) is = tt
-slice-whole (entry.File name bytes) is = absurd (true≢false is)
-slice-whole (entry.Boot name give) is = absurd (true≢false is)
-slice-whole (entry.Typed bytes) is = absurd (true≢false is)
-slice-whole (entry.Unplug device) is = absurd (true≢false is)
-slice-whole (entry.Signal pid signal cut handler) is = absurd (true≢false is)
-slice-whole (entry.Call pid number result more) is = absurd (true≢false is)
-slice-whole (entry.End pid status) is = absurd (true≢false is)
+slice-whole e h1 = grind (arith, nat_tests, true≢false)
 
 pub run-whole : (inputs : List Input) → HasNumbers (machine_after inputs).kernel → StepsTell → EventsRecorded → first_broken (records inputs) ≡ None → All HasWholeBlocks (records inputs)
 run-whole inputs few tell recorded stands = λ k d low. one _ (All-contains_itself (records inputs) k d low)

@@ -1,5 +1,6 @@
 -- How many numbers pass tests.
 use Rattle.std.proofs.Common.{◌≡◌, inl, inr, ℕ, ◌+◌, ◌≤◌, Bool, true, false, if◌then◌else◌, List, [], ◌∷◌, length, refl, ap, subst, ◌∙◌, arith}
+use Rattle.std.proofs.lemmas.Bool.Decides.{nat_tests}
 use Rattle.std.specs.List.{filter, Contains}
 use Rattle.std.proofs.lemmas.Bool.{true≢false, false≢true}
 use Rattle.query_laws.proofs.Lists.{none-in, head-or-tail}
@@ -12,25 +13,17 @@ abbrev pub passes : (ℕ → Bool) → List ℕ → ℕ
 passes p xs = length (filter p xs)
 
 either : (b c : Bool) (x : ℕ) (xs ys : List ℕ) → (b ≡ true → c ≡ true) → length xs ≤ length ys → length (if b then x ∷ xs else xs) ≤ length (if c then x ∷ ys else ys)
-either true true x xs ys h le = omega (arith, le)
-either true false x xs ys h le = absurd (false≢true (h refl))
-either false true x xs ys h le = omega (arith, le)
-either false false x xs ys h le = le
+either b c x xs ys h1 h2 = grind (arith, nat_tests, false≢true)
 
 pub passes-more : (p q : ℕ → Bool) → Follows p q → (xs : List ℕ) → passes p xs ≤ passes q xs
 passes-more p q h [] = omega arith
 passes-more p q h (x ∷ xs) = either (p x) (q x) x (filter p xs) (filter q xs) (h x) (passes-more p q h xs)
 
 one-more : (b c : Bool) (x : ℕ) (xs ys : List ℕ) → b ≡ false → c ≡ true → length xs ≤ length ys → length (if b then x ∷ xs else xs) + 1 ≤ length (if c then x ∷ ys else ys)
-one-more true c x xs ys h k le = absurd (true≢false h)
-one-more false true x xs ys h k le = omega (arith, le)
-one-more false false x xs ys h k le = absurd (false≢true k)
+one-more b c x xs ys h1 h2 h3 = grind (arith, nat_tests, false≢true, true≢false)
 
 later-more : (b c : Bool) (x : ℕ) (xs ys : List ℕ) → (b ≡ true → c ≡ true) → length xs + 1 ≤ length ys → length (if b then x ∷ xs else xs) + 1 ≤ length (if c then x ∷ ys else ys)
-later-more true true x xs ys h le = omega (arith, le)
-later-more true false x xs ys h le = absurd (false≢true (h refl))
-later-more false true x xs ys h le = omega (arith, le)
-later-more false false x xs ys h le = le
+later-more b c x xs ys h1 h2 = grind (arith, nat_tests, false≢true)
 
 pub passes-one-more : (p q : ℕ → Bool) → Follows p q → (xs : List ℕ) (n : ℕ) → Contains xs n → p n ≡ false → q n ≡ true → passes p xs + 1 ≤ passes q xs
 passes-one-more p q h [] n has low high = absurd (none-in n has)

@@ -1,18 +1,16 @@
 -- An instruction at which a process stands names registers that there are.
-use Rattle.std.proofs.Common.{ℕ, ◌<◌, ◌%◌, ◌==◌, Bool, true, false, if◌then◌else◌, List, Option, Some, None, IfSome, option_map, is_some, arith}
+use Rattle.std.proofs.Common.{ℕ, ◌<◌, ◌==◌, Bool, true, false, if◌then◌else◌, List, Option, Some, None, IfSome, option_map, arith}
+use Rattle.std.proofs.lemmas.Bool.Decides.{nat_tests}
 use Rattle.arn_base.specs.declared.machine.Cpu.{Cpu}
-use Rattle.arn_base.specs.Window.{Window, bytes_at, bytes_of, number_at, with_bytes}
+use Rattle.arn_base.specs.Window.{Window, number_at}
 use Rattle.rv64_isa.specs.Decoded.{decoded, decoded_by, jalr_decoded, branch_decoded, load_decoded, store_decoded, imm_decoded, immediate_by, reg_decoded, fence_decoded, system_decoded}
 use Rattle.rv64_isa.specs.Fields as field
 use Rattle.rv64_isa.specs.Opcode.{lui, auipc, jal, jalr, branch, load, store, op_imm, op_imm_32, op as op_64, op_32, misc_mem, system, ecall_word, ebreak_word}
 use Rattle.rv64_isa.specs.Rows.{branch_op_at, load_op_at, store_op_at, imm_op_at, imm_row, reg_op_at}
 use Rattle.rv64_isa.specs.declared.instruction.Instr.{Instr}
 use Rattle.rv64_isa.specs.declared.instruction.Instr.TheVariants.{Lui, Auipc, Jal, Jalr, Branch, Load, Store, Imm, Op, Fence, Ecall, Ebreak}
-use Rattle.rv64_model.specs.Instruction.{Effect, Next, Call, End, jumps, jumped, branches, loads, stores, executed, executed_if, fetched, advanced}
-use Rattle.rv64_model.specs.Operands.{address, rs1_of, rs2_of, store_len}
-use Rattle.rv64_model.specs.Registers.{register}
-use Rattle.rv64_model.specs.Values.{is_taken, load_len, load_result}
-use Rattle.rv64_model.specs.declared.statuses.TheConstants.{MISALIGNED, BAD_ACCESS}
+use Rattle.rv64_model.specs.Instruction.{Effect, Next, Call, End, jumps, branches, loads, stores, executed, executed_if, fetched}
+use Rattle.rv64_model.specs.Operands.{rs1_of, rs2_of}
 use Rattle.acts_model.specs.Bodies.{View}
 use Rattle.acts_model.specs.Transfers.{Transfer, Runs}
 use Rattle.acts_model.specs.Views.{reach, stands_at}
@@ -75,11 +73,7 @@ NextReads Call = Unit {0}
 NextReads (End status) = Unit {0}
 
 jumps-read : (instr : Instr) (cpu : Cpu) (memory : List Window) (rd target : ℕ) → ReadsRegisters instr → NextReads (jumps instr cpu memory rd target)
-jumps-read instr cpu memory rd target h = by-test (target % 4 == 0)
-  where
-    by-test : (b : Bool) → NextReads (if b then Next instr (jumped cpu rd target) memory else End MISALIGNED)
-    by-test true = h
-    by-test false = tt
+jumps-read instr cpu memory rd target h1 = grind (arith, nat_tests)
 
 branches-read : (instr : Instr) (cpu : Cpu) (memory : List Window) (b : Bool) (target : ℕ) → ReadsRegisters instr → NextReads (branches instr cpu memory b target)
 branches-read instr cpu memory false target h = h
@@ -90,25 +84,10 @@ loads-read instr cpu memory rd None h = tt
 loads-read instr cpu memory rd (Some value) h = h
 
 stores-read : (instr : Instr) (cpu : Cpu) (memory : List Window) (at len value : ℕ) → ReadsRegisters instr → NextReads (stores instr cpu memory at len value)
-stores-read instr cpu memory at len value h = by-test (is_some (bytes_at memory at len))
-  where
-    by-test : (b : Bool) → NextReads (if b then Next instr (advanced cpu) (with_bytes memory at (bytes_of len value)) else End BAD_ACCESS)
-    by-test true = h
-    by-test false = tt
+stores-read instr cpu memory at len value h1 = grind (arith, nat_tests)
 
 executed-reads : (instr : Instr) (cpu : Cpu) (memory : List Window) → ReadsRegisters instr → NextReads (executed instr cpu memory)
-executed-reads (Lui rd imm) cpu memory h = h
-executed-reads (Auipc rd imm) cpu memory h = h
-executed-reads (Jal rd imm) cpu memory h = jumps-read (Jal rd imm) cpu memory rd _ h
-executed-reads (Jalr rd rs1 imm) cpu memory h = jumps-read (Jalr rd rs1 imm) cpu memory rd _ h
-executed-reads (Branch op rs1 rs2 imm) cpu memory h = branches-read (Branch op rs1 rs2 imm) cpu memory (is_taken op (register cpu rs1) (register cpu rs2)) _ h
-executed-reads (Load op rd rs1 imm) cpu memory h = loads-read (Load op rd rs1 imm) cpu memory rd (option_map (load_result op) (number_at memory (address cpu rs1 imm) (load_len op))) h
-executed-reads (Store op rs1 rs2 imm) cpu memory h = stores-read (Store op rs1 rs2 imm) cpu memory (address cpu rs1 imm) (store_len op) _ h
-executed-reads (Imm op rd rs1 imm) cpu memory h = h
-executed-reads (Op op rd rs1 rs2) cpu memory h = h
-executed-reads (Fence word) cpu memory h = h
-executed-reads Ecall cpu memory h = tt
-executed-reads Ebreak cpu memory h = tt
+executed-reads instr cpu memory h1 = grind (arith, nat_tests, branches-read, jumps-read, loads-read, stores-read)
 
 executed_if-reads : (o : Option Instr) (cpu : Cpu) (memory : List Window) → IfSome o ReadsRegisters → NextReads (executed_if o cpu memory)
 executed_if-reads None cpu memory h = tt

@@ -1,5 +1,6 @@
 -- Which groups had bytes of the outside first.
 use Rattle.std.proofs.Common.{◌≡◌, inl, inr, ℕ, ◌||◌, nat_lt, Bool, true, false, if◌then◌else◌, List, [], filter, Option, Some, None, option_and_then, ap, sym, subst, ◌∙◌, arith}
+use Rattle.std.proofs.lemmas.Bool.Decides.{nat_tests}
 use Rattle.std.specs.List.{All, Contains, range_with_len}
 use Rattle.std.proofs.lemmas.Bool.{and_from, and_parts, lt-ltb, ltb-true, or_left, or_right}
 use Rattle.std.proofs.lemmas.List.Elements.{All-contains_itself, All-filter, All-nil}
@@ -24,9 +25,7 @@ module _ (entries : List Record) (event from len : ℕ) where
   first-is e at source = ap (first_by entries event from len) at ∙ ap (λ (b : Bool). (if b then filter had (groups_in entries) else [])) source
 
   took-first : (g n : ℕ) → takes_at entries event from len g n ≡ true → TakesAt entries event from len g n
-  took-first g n is =
-      let parts = and_parts (is_number g (event_group entries n)) (has_copy event from len (option_and_then received (event_at entries n))) is in
-      record { group = number-is g (event_group entries n) parts.0; copy = parts.1 }
+  took-first g n h1 = grind (arith, nat_tests, and_parts, number-is)
 
   had-first : (g : ℕ) → had g ≡ true → HadFirst entries event from len g
   had-first g is = elim (or-parts (has_taken entries event from len g) (has_read entries event len g) is) [

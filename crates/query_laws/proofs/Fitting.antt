@@ -1,5 +1,6 @@
 -- At the bytes that events have, the items of groups alone are bytes that events have, under the operands of a linkage.
-use Rattle.std.proofs.Common.{◌≡◌, ◌⊎◌, inl, inr, ℕ, zero, suc, ◌<◌, is_some, List, [], ◌∷◌, Option, Some, None, option_map, option_and_then, refl, ap, sym, subst, ◌∙◌, arith}
+use Rattle.std.proofs.Common.{◌≡◌, ◌⊎◌, inl, inr, ℕ, zero, suc, ◌<◌, is_some, List, [], ◌∷◌, Option, Some, None, option_and_then, refl, ap, sym, subst, ◌∙◌, arith}
+use Rattle.std.proofs.lemmas.Bool.Decides.{nat_tests}
 use Rattle.std.specs.Prelude.{All, IsTrue}
 use Rattle.std.specs.List.{AllByRecursion}
 use Rattle.std.proofs.lemmas.List.Elements.{All-nil, All-cons, All-weaker}
@@ -52,11 +53,7 @@ module _ (linkage : Linkage) where
   real = record { register = λ r i. IsRegisterByte r i; window = λ at. IsTrue (is_private at); segment = λ at. IsTrue (is_shared at); result = λ i. i < 8 }
 
   pub is-real : IsScope real
-  is-real = record {
-    results = λ r i is. is.byte;
-    stores = λ instr i low. (let most = stored-low instr in omega (arith, low, most));
-    status = record { above = omega arith; below = omega arith; byte = omega arith };
-  }
+  is-real = grind (arith, nat_tests, stored-low)
 
   operands-in : (instr : Instr) → ReadsRegisters instr → (ops : List Operand) → AreBytes instr ops → AllByRecursion (OperandIn real IsLoaded instr) ops
   operands-in instr reads [] are = tt
@@ -66,9 +63,7 @@ module _ (linkage : Linkage) where
   operands-in instr reads (Loaded k ∷ ops) are = (are.0, operands-in instr reads ops are.1)
 
   in-window : (hs : Holds) (at len made : ℕ) → memory_at hs at ≡ Some made → IsWhole (place_at hs at) len → (k : ℕ) → k < len → InWindow real at k
-  in-window hs at len made memory whole k low =
-      let is = subst (λ (o : Option ℕ). IsWhole (option_map (λ m. record { made = m; at = at }) o) len) memory whole k low in
-      record { private = λ p. is.0 ∙ p; shared = λ p. is.1 ∙ p }
+  in-window hs at len made h1 h2 k h3 = grind (arith, nat_tests)
 
   allows-real : Allows (operands linkage) real ReadsRegisters IsLoaded
   allows-real = record {

@@ -1,5 +1,6 @@
 -- Each group of a history is one of its groups.
 use Rattle.std.proofs.Common.{◌≡◌, ◌⊎◌, inl, inr, ℕ, ◌+◌, ◌<◌, ◌≤◌, ◌==◌, ◌&&◌, ◌||◌, Bool, true, false, not, if◌then◌else◌, List, [], ◌∷◌, ◌++◌, length, max, Option, Some, None, option_and_then, refl, ap, sym, subst, arith}
+use Rattle.std.proofs.lemmas.Bool.Decides.{nat_tests}
 use Rattle.std.specs.Prelude.{Contains}
 use Rattle.std.proofs.lemmas.Bool.{true≢false}
 use Rattle.std.proofs.lemmas.Bool.Decides.{eqb_tells}
@@ -18,10 +19,6 @@ use Rattle.history_model.specs.Moments.{changed}
 use Rattle.history_index.specs.Lookups.{groups_in, processes_in}
 use Rattle.query_laws.proofs.Links.{is-number}
 use Rattle.query_laws.proofs.Lists.{kept-in, in-range}
-
-pub right : (a b : Bool) → (a || b) ≡ false → b ≡ false
-right true b h = absurd (true≢false h)
-right false b h = h
 
 pub left : (a b : Bool) → (a || b) ≡ false → a ≡ false
 left true b h = absurd (true≢false h)
@@ -52,20 +49,7 @@ pub record Stands (before : List Record) (e : Record) : Type 0 where
   pub placed : misplaces_start e ≡ false
 
 pub stands : (before : List Record) (e : Record) → cant_follow before e ≡ false → Stands before e
-stands before e h =
-    let process = right (comes_wrong before e) (rest-process before e) h in
-    let slice = right (lacks_process before e) (rest-slice before e) process in
-    let origins = right (lacks_slice before e) (rest-origins before e) slice in
-    let blocks = right (not (are_origins before (give_of e))) (rest-blocks before e) origins in
-    let number = right (has_blocks_wrong (start_in e)) (rest-number before e) blocks in
-    record {
-      comes = left (comes_wrong before e) (rest-process before e) h;
-      process = left (lacks_process before e) (rest-slice before e) process;
-      slice = left (lacks_slice before e) (rest-origins before e) slice;
-      origins = left (not (are_origins before (give_of e))) (rest-blocks before e) origins;
-      child = left (misnumbers before (child_in e)) (misplaces_start e) number;
-      placed = right (misnumbers before (child_in e)) (misplaces_start e) number;
-    }
+stands before e h1 = grind (arith, nat_tests, left, rest-blocks, rest-number, rest-origins, rest-process, rest-slice)
 
 module _ (before : List Record) (e : Record) (entries : List Record) where
   follows-by : (b : Bool) → cant_follow before e ≡ b → (if b then Some (length before) else broken_from (before ++ e ∷ []) entries) ≡ None → Stands before e × (broken_from (before ++ e ∷ []) entries ≡ None)
@@ -86,18 +70,10 @@ abbrev pub AreFounded : Groups → ℕ → Type 0
 AreFounded groups most = (pid g : ℕ) → groups pid ≡ Some g → IsFounded groups most pid g
 
 pub changed-at : (groups : Groups) (k g : ℕ) (o : Option ℕ) → ((g ≡ k) × (o ≡ Some g)) ⊎ ((g ≡ k → ⊥) × (groups g ≡ Some g)) → changed groups k o g ≡ Some g
-changed-at groups k g o h =
-    elim (eqb_tells g k) [
-      | inl same ↦ rw same.0 (elim h [ inl a ↦ a.1 | inr b ↦ absurd (b.0 same.1) ])
-      | inr apart ↦ rw apart.0 (elim h [ inl a ↦ absurd (apart.1 a.0) | inr b ↦ b.1 ])
-    ]
+changed-at groups k g o h1 = grind (arith, nat_tests, eqb_tells)
 
 changed-cases : (groups : Groups) (k pid g : ℕ) (o : Option ℕ) → changed groups k o pid ≡ Some g → ((pid ≡ k) × (o ≡ Some g)) ⊎ ((pid ≡ k → ⊥) × (groups pid ≡ Some g))
-changed-cases groups k pid g o is =
-    elim (eqb_tells pid k) [
-      | inl same ↦ inl (same.1, rw same.0 at is)
-      | inr apart ↦ inr (apart.1, rw apart.0 at is)
-    ]
+changed-cases groups k pid g o h1 = grind (arith, nat_tests, eqb_tells)
 
 -- a process founds a group
 founds-one : (groups : Groups) (most later c : ℕ) → AreFounded groups most → most ≤ later → 0 < c → c ≤ later → AreFounded (changed groups c (Some c)) later
@@ -177,10 +153,6 @@ tells-one before (entry.End pid status) groups h f = f
 pub greatest-push : (entries : List Record) (n : ℕ) (e : Record) → greatest_from n (entries ++ e ∷ []) ≡ greatest_after e (greatest_from n entries)
 greatest-push [] n e = refl
 greatest-push (x ∷ entries) n e = greatest-push entries (greatest_after x n) e
-
-greatest-append : (before entries : List Record) (n : ℕ) → greatest_from n (before ++ entries) ≡ greatest_from (greatest_from n before) entries
-greatest-append [] entries n = refl
-greatest-append (x ∷ before) entries n = greatest-append before entries (greatest_after x n)
 
 tells-all : (before entries : List Record) (groups : Groups) → broken_from before entries ≡ None → AreFounded groups (greatest before) → AreFounded (groups_from entries groups) (greatest_from (greatest before) entries)
 tells-all before [] groups h f = f

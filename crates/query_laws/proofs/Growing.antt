@@ -1,5 +1,6 @@
 -- Numbers that are found over links, over one more each time: over as many links as there are numbers no more are found.
 use Rattle.std.proofs.Common.{◌≡◌, ◌⊎◌, inl, inr, ℕ, zero, suc, ◌≤◌, ◌&&◌, ◌||◌, Bool, true, false, not, List, length, refl, sym, ◌∙◌, arith}
+use Rattle.std.proofs.lemmas.Bool.Decides.{nat_tests}
 use Rattle.std.specs.List.{Contains, list_any}
 use Rattle.std.proofs.lemmas.Bool.{false≢true, and_from, and_parts, not_from_false, or_left, or_right}
 use Rattle.query_laws.proofs.Counts.{Follows, passes, passes-one-more, passes-all}
@@ -33,13 +34,7 @@ module _ (numbers : List ℕ) (link : ℕ → ℕ → Bool) (within : ℕ → �
   IsSettled n = (h : ℕ) → Contains numbers h → within (suc n) h ≡ true → within n h ≡ true
 
   stays-settled : (n : ℕ) → IsSettled n → IsSettled (suc n)
-  stays-settled n settled h has is = elim (step-parts (suc n) h is) [
-    | inl before ↦ before
-    | inr led ↦ (
-        let found = in-any (leads (suc n) h) numbers led in
-        let parts = and_parts (within (suc n) found.0) (link found.0 h) found.2 in
-        leads-on n h found.0 found.1 (settled found.0 found.1 parts.0) parts.1)
-  ]
+  stays-settled n h1 = grind (arith, nat_tests, and_parts, in-any, leads, leads-on, step-parts)
 
   abbrev is-fresh : ℕ → ℕ → Bool
   is-fresh n h = within (suc n) h && not (within n h)

@@ -1,5 +1,6 @@
 -- An event has happened at its own moment.
-use Rattle.std.proofs.Common.{◌≡◌, ℕ, zero, suc, ◌+◌, ◌<◌, Bool, true, false, if◌then◌else◌, nat_le, List, [], ◌∷◌, length, map, filter, Option, Some, None, slice_get, unwrap_or, refl, ap, sym, subst, arith, add-zero}
+use Rattle.std.proofs.Common.{◌≡◌, ℕ, suc, ◌+◌, ◌<◌, Bool, true, false, if◌then◌else◌, nat_le, List, [], ◌∷◌, length, map, filter, Option, Some, None, slice_get, unwrap_or, refl, ap, sym, subst, arith, add-zero}
+use Rattle.std.proofs.lemmas.Bool.Decides.{nat_tests}
 use Rattle.std.specs.Prelude.{Contains}
 use Rattle.std.proofs.lemmas.Bool.{le-leb}
 use Rattle.std.proofs.lemmas.Option.{none-some, same_Some, slice_get-get_or}
@@ -27,12 +28,7 @@ happened-later false k j e rest has = has
 -- one event, which happens at this moment, and those behind it
 happened-next : (at moment k n : ℕ) (e : Record) (rest : List Numbered) (moments : List ℕ) → ((n : ℕ) → slice_get moments n ≡ Some moment → Contains (numbers rest) (k + 1 + n))
     → slice_get (at ∷ moments) n ≡ Some moment → Contains (numbers (if_happened (nat_le at moment) k e rest)) (k + n)
-happened-next at moment k zero e rest moments later is =
-    let same : k ≡ k + zero = omega arith in
-    subst (λ (j : ℕ). Contains (numbers (if_happened (nat_le at moment) k e rest)) j) same (happened-first at moment k e rest (same_Some at moment is))
-happened-next at moment k (suc n) e rest moments later is =
-    let same : k + 1 + n ≡ k + suc n = omega arith in
-    subst (λ (j : ℕ). Contains (numbers (if_happened (nat_le at moment) k e rest)) j) same (happened-later (nat_le at moment) k (k + 1 + n) e rest (later n is))
+happened-next at moment k n e rest moments h1 h2 = grind (arith, nat_tests, happened-first, happened-later, numbers, same_Some)
 
 pub happened : (entries : List Record) (begins ends k n moment : ℕ) → slice_get (moments_from begins ends entries) n ≡ Some moment → Contains (numbers (events_from moment begins ends k entries)) (k + n)
 happened [] begins ends k n moment is = absurd (none-some moment is)

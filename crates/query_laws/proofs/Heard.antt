@@ -1,8 +1,8 @@
 -- Lists of what happened inside a group, whose events are those of the group and rise.
-use Rattle.std.proofs.Common.{◌≡◌, ℕ, ◌+◌, ◌≤◌, ◌++◌, List, [], ◌∷◌, Option, Some, None, refl, ap, sym, subst, ◌∙◌, arith}
+use Rattle.std.proofs.Common.{◌≡◌, ℕ, ◌+◌, ◌≤◌, ◌++◌, List, [], ◌∷◌, Option, Some, None, refl, arith}
+use Rattle.std.proofs.lemmas.Bool.Decides.{nat_tests}
 use Rattle.std.specs.List.{AllByRecursion}
 use Rattle.arn_base.specs.declared.records.Record.{Record}
-use Rattle.acts_model.specs.Acts as act
 use Rattle.acts_model.specs.Acts.{Act}
 use Rattle.acts_model.specs.Moved.{Event, Inside}
 use Rattle.acts_model.specs.Transfers.{Holds, Transfer, Arrives, Starts, Runs, Returns, Receives, Gives, Forks, Founds, Begins, Shares, Delivers, Leaves, Exits, Faults, Dies, transfer}
@@ -47,18 +47,7 @@ IsHeard entries g None transfer = Unit {0}
 IsHeard entries g (Some event) transfer = IsOf entries g event transfer
 
 pub act-by : (entries : List Record) (g : ℕ) (event : Event) (pid made : ℕ) (holds : Holds) (a : Act) → event_group entries event.number ≡ Some g → IsBy entries g event (transfer pid made holds a)
-act-by entries g event pid made holds (act.Returns result) h = h
-act-by entries g event pid made holds (act.Receives at bytes result) h = h
-act-by entries g event pid made holds (act.Gives at len result) h = h
-act-by entries g event pid made holds (act.Starts file block block_len) h = h
-act-by entries g event pid made holds (act.Forks child) h = h
-act-by entries g event pid made holds (act.Founds child) h = h
-act-by entries g event pid made holds act.Shares h = h
-act-by entries g event pid made holds act.Leaves h = h
-act-by entries g event pid made holds (act.Delivers signal handler cut) h = h
-act-by entries g event pid made holds act.Exits h = h
-act-by entries g event pid made holds (act.Faults status) h = h
-act-by entries g event pid made holds (act.Dies signal cut) h = h
+act-by entries g event pid made holds a h1 = grind (arith, nat_tests)
 
 module _ (entries : List Record) (g : ℕ) where
   -- all that happened, where the next event has at least this number
@@ -83,18 +72,7 @@ abbrev pub RunsWell : Transfer → Type 0
 RunsWell transfer = FitsRun ReadsRegisters transfer
 
 pub act-runs : (pid made : ℕ) (holds : Holds) (a : Act) → RunsWell (transfer pid made holds a)
-act-runs pid made holds (act.Returns result) = tt
-act-runs pid made holds (act.Receives at bytes result) = tt
-act-runs pid made holds (act.Gives at len result) = tt
-act-runs pid made holds (act.Starts file block block_len) = tt
-act-runs pid made holds (act.Forks child) = tt
-act-runs pid made holds (act.Founds child) = tt
-act-runs pid made holds act.Shares = tt
-act-runs pid made holds act.Leaves = tt
-act-runs pid made holds (act.Delivers signal handler cut) = tt
-act-runs pid made holds act.Exits = tt
-act-runs pid made holds (act.Faults status) = tt
-act-runs pid made holds (act.Dies signal cut) = tt
+act-runs pid made holds a = grind (arith, nat_tests)
 
 abbrev pub AllRunWell : List Inside → Type 0
 AllRunWell list = AllByRecursion (λ i. RunsWell i.transfer) list
@@ -110,23 +88,10 @@ pub record State (entries : List Record) (g m : ℕ) (list : List Inside) : Type
   pub below : last 0 list ≤ m
 
 pub quiet-state : (entries : List Record) (g m : ℕ) (list : List Inside) (i : Inside) → i.event ≡ None → RunsWell i.transfer → State entries g m list → State entries g m (list ++ i ∷ [])
-quiet-state entries g m list i quiet well s =
-    record {
-      heard = heard-push entries g 0 list i s.heard (subst (λ (o : Option Event). IsLater (last 0 list) o) (sym quiet) tt) (subst (λ (o : Option Event). IsHeard entries g o i.transfer) (sym quiet) tt);
-      runs = runs-push list i s.runs well;
-      below = (let push = last-push 0 list i ∙ ap (next (last 0 list)) quiet in omega (arith, push, s.below));
-    }
+quiet-state entries g m list i h1 h2 h3 = grind (arith, nat_tests, heard-push, last, last-push, next, runs-push)
 
 pub event-state : (entries : List Record) (g m : ℕ) (list : List Inside) (i : Inside) (event : Event) → i.event ≡ Some event → event.number ≡ m → RunsWell i.transfer → IsOf entries g event i.transfer → State entries g m list → State entries g (m + 1) (list ++ i ∷ [])
-event-state entries g m list i event is number well of s =
-    record {
-      heard =
-          heard-push entries g 0 list i s.heard
-          (subst (λ (o : Option Event). IsLater (last 0 list) o) (sym is) (let b = s.below in omega (arith, b, number)))
-          (subst (λ (o : Option Event). IsHeard entries g o i.transfer) (sym is) of);
-      runs = runs-push list i s.runs well;
-      below = (let push = last-push 0 list i ∙ ap (next (last 0 list)) is in omega (arith, push, number));
-    }
+event-state entries g m list i event h1 h2 h3 h4 h5 = grind (arith, nat_tests, heard-push, last, last-push, next, runs-push)
 
 pub later-state : (entries : List Record) (g m : ℕ) (list : List Inside) → State entries g m list → State entries g (m + 1) list
 later-state entries g m list s = record { heard = s.heard; runs = s.runs; below = (let b = s.below in omega (arith, b)) }

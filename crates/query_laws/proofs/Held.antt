@@ -1,5 +1,6 @@
 -- The items of bytes that a process holds are bytes that events of its group have.
-use Rattle.std.proofs.Common.{◌≡◌, inl, inr, ℕ, zero, suc, ◌+◌, Bool, true, false, if◌then◌else◌, List, [], ◌∷◌, flat_map, Option, Some, None, option_map, option_to_list, refl, ap, sym, subst, ◌∙◌, arith}
+use Rattle.std.proofs.Common.{◌≡◌, ℕ, List, [], ◌∷◌, flat_map, Option, Some, None, option_map, option_to_list, refl, ap, sym, subst, ◌∙◌, arith}
+use Rattle.std.proofs.lemmas.Bool.Decides.{nat_tests}
 use Rattle.std.specs.Prelude.{All, Contains}
 use Rattle.std.specs.List.{AllByRecursion}
 use Rattle.std.proofs.lemmas.List.Elements.{All-nil, All-cons, All-weaker}
@@ -8,7 +9,7 @@ use Rattle.arn_base.specs.declared.records.Record.{Record}
 use Rattle.rv64_model.specs.Carries.{operands}
 use Rattle.rv64_model.specs.declared.linkage.Linkage.{Linkage}
 use Rattle.acts_model.specs.Bodies.{Body, body_at}
-use Rattle.acts_model.specs.Transfers.{Holds, holds_of, is_private, is_shared}
+use Rattle.acts_model.specs.Transfers.{Holds, holds_of}
 use Rattle.history_index.specs.Lookups.{groups_in}
 use Rattle.history_model.specs.Alone as history
 use Rattle.history_model.specs.Alone.{Own, Made, Makes, Fails}
@@ -17,7 +18,7 @@ use Rattle.history_model.specs.Events.{event_at, how_many}
 use Rattle.history_model.specs.Groups.{group_of}
 use Rattle.lineage_join.specs.Fits.{IsThere}
 use Rattle.lineage_join.specs.Laws.{reaches}
-use Rattle.lineage_model.specs.Flow.{At, Location, Register, Memory}
+use Rattle.lineage_model.specs.Flow.{At, Location}
 use Rattle.lineage_model.specs.Joined.{from_item}
 use Rattle.lineage_model.specs.Tracking.{EventByte, alone}
 use Rattle.query_model.specs.Sources.{items_at, reaching}
@@ -41,20 +42,10 @@ use Rattle.query_laws.proofs.Scopes.{IsHeldBy}
 module _ (linkage : Linkage) where
   -- where bytes of parts lie is followed
   memory-held : (pid : ℕ) (hs : Holds) (at : ℕ) (l : Location) → in_memory hs at ≡ Some l → IsHeldBy (real linkage) hs pid l
-  memory-held pid hs at l is = by-tests (is_private at) (is_shared at) hs.segment refl refl refl is
-    where
-      by-tests : (a b : Bool) (o : Option ℕ) → is_private at ≡ a → is_shared at ≡ b → hs.segment ≡ o
-          → option_map (λ made. Memory made at) (if a then Some hs.window else if b then o else None) ≡ Some l → IsHeldBy (real linkage) hs pid l
-      by-tests true b o p s h k = subst (IsHeldBy (real linkage) hs pid) (same_Some (Memory hs.window at) l k) (inl (refl, p))
-      by-tests false true None p s h k = absurd (none-some l k)
-      by-tests false true (Some made) p s h k = subst (IsHeldBy (real linkage) hs pid) (same_Some (Memory made at) l k) (inr (h, s))
-      by-tests false false o p s h k = absurd (none-some l k)
+  memory-held pid hs at l h1 = grind (arith, nat_tests, none-some, real, same_Some)
 
   part-held : (pid : ℕ) (hs : Holds) (p : Part) (k : ℕ) → HasByte p k → (l : Location) → location_of pid hs p k ≡ Some l → IsHeldBy (real linkage) hs pid l
-  part-held pid hs (part.Register zero) k has l is = absurd (none-some l is)
-  part-held pid hs (part.Register (suc r)) k has l is =
-      subst (IsHeldBy (real linkage) hs pid) (same_Some (Register pid (suc r) k) l is) (refl, record { above = omega arith; below = has.0; byte = has.1 })
-  part-held pid hs (part.Memory at len) k has l is = memory-held pid hs (at + k) l is
+  part-held pid hs p k h1 l h2 = grind (arith, nat_tests, memory-held, none-some, real, same_Some)
 
   module _ (entries : List Record) (g : ℕ) where
     -- a byte that an event of the group received, or with which the group began, and that its event has

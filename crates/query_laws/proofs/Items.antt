@@ -1,5 +1,6 @@
 -- The items of a group alone are bytes that its events received, or with which it began: step by step.
-use Rattle.std.proofs.Common.{◌≡◌, inl, inr, ℕ, ◌<◌, ◌≤◌, ◌++◌, List, [], ◌∷◌, Option, Some, None, option_and_then, ap, sym, subst, ◌∙◌, arith}
+use Rattle.std.proofs.Common.{◌≡◌, ℕ, ◌<◌, ◌≤◌, ◌++◌, List, [], ◌∷◌, Option, Some, None, option_and_then, ap, sym, subst, ◌∙◌, arith}
+use Rattle.std.proofs.lemmas.Bool.Decides.{nat_tests}
 use Rattle.std.specs.List.{AllByRecursion}
 use Rattle.std.proofs.lemmas.Bool.Decides.{eqb_tells}
 use Rattle.arn_base.specs.declared.records.Record.{Record}
@@ -47,16 +48,10 @@ TellsRecord d None = Unit {0}
 TellsRecord d (Some event) = IsOfRecord d event.entry
 
 precedes-below : (n e : ℕ) (at : At) → n < e → Precedes n at e
-precedes-below n e (Byte k) low = omega (arith, low)
-precedes-below n e (StartRegister r i) low = low
-precedes-below n e (StartSlot r i) low = low
-precedes-below n e (StartMemory at) low = low
+precedes-below n e at h1 = grind (arith, nat_tests)
 
 precedes-byte : (n e : ℕ) (at : At) → IsByte at → e ≡ n → Precedes n at e
-precedes-byte n e (Byte k) is same = omega (arith, same)
-precedes-byte n e (StartRegister r i) is same = absurd is
-precedes-byte n e (StartSlot r i) is same = absurd is
-precedes-byte n e (StartMemory at) is same = absurd is
+precedes-byte n e at h1 h2 = grind (arith, nat_tests)
 
 next-more : (n : ℕ) (o : Option Event) → IsLater n o → n ≤ next n o
 next-more n None later = omega arith
@@ -112,12 +107,7 @@ module _ (table : Table) (s : Scope) (is-scope : IsScope s) (entries : List Reco
 
   step-points : (n : ℕ) (h : Holders) (d : Transfer) (o : Option Event) (t : Tracked EventByte) → IsLater n o → IsHeard entries g o d → TellsRecord d o → IsTaking table s h d → Keeps n h t
       → (e : ℕ) (at : At) → InScope s at → AllByRecursion (IsShown e) (points_after o (λ a. gather (items o) t.locations (shown d a)) t.points e at)
-  step-points n h d None t later of tells takes k e at in-scope = k.points e at in-scope
-  step-points n h d (Some event) t later of tells takes k e at in-scope =
-      elim (eqb_tells e event.number) [
-        | inl same ↦ rw same.0 (shown-items n h d event t e same.1 later of tells takes k at in-scope)
-        | inr apart ↦ rw apart.0 (k.points e at in-scope)
-      ]
+  step-points n h d o t h1 h2 h3 h4 h5 e at h6 = grind (arith, nat_tests, eqb_tells, shown-items)
 
   keeps-step : (n : ℕ) (h : Holders) (i : Inside) (t : Tracked EventByte) → IsLater n i.event → IsHeard entries g i.event i.transfer → TellsRecord i.transfer i.event → IsTaking table s h i.transfer → Keeps n h t
       → Keeps (next n i.event) (holders_after i.transfer h) (alone_after table i t)

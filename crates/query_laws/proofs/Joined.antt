@@ -1,21 +1,20 @@
 -- An answer's pairs are joined of the items of connected groups alone.
-use Rattle.std.proofs.Common.{◌≡◌, ◌⊎◌, inl, inr, ℕ, zero, suc, ◌+◌, ◌<◌, ◌++◌, nat_lt, ◌&&◌, Bool, true, false, is_some, if◌then◌else◌, List, [], ◌∷◌, Option, Some, None, IfSome, option_to_list, refl, ap, ap₂, sym, subst, arith}
+use Rattle.std.proofs.Common.{◌≡◌, ◌⊎◌, inl, inr, ℕ, zero, suc, ◌+◌, ◌<◌, ◌++◌, nat_lt, ◌&&◌, Bool, true, false, if◌then◌else◌, List, [], ◌∷◌, Option, Some, None, IfSome, option_to_list, refl, ap, ap₂, sym, subst, arith}
+use Rattle.std.proofs.lemmas.Bool.Decides.{nat_tests}
 use Rattle.std.specs.Prelude.{All, Contains}
 use Rattle.std.proofs.lemmas.Bool.{false≢true, and_from, and_parts, lt-ltb, ltb-true}
 use Rattle.std.proofs.lemmas.List.Elements.{All-nil, All-cons}
 use Rattle.arn_base.specs.declared.records.Pair.{Pair}
 use Rattle.arn_base.specs.declared.records.Record.{Record}
 use Rattle.rv64_model.specs.Carries.{operands}
-use Rattle.acts_model.specs.Records.{event_len}
-use Rattle.acts_model.specs.Transfers.{is_private}
 use Rattle.history_index.specs.Lookups.{groups_in}
 use Rattle.history_model.specs.Broken.{first_broken}
 use Rattle.history_model.specs.Events.{event_at}
-use Rattle.history_model.specs.Exchanges.{Starting, founded}
+use Rattle.history_model.specs.Exchanges.{Starting}
 use Rattle.history_model.specs.Groups.{event_group}
 use Rattle.lineage_join.specs.Fits.{HasByte, IsThere}
 use Rattle.lineage_join.specs.Laws.{reaches}
-use Rattle.lineage_model.specs.Flow.{At, Byte, StartRegister, StartSlot, StartMemory}
+use Rattle.lineage_model.specs.Flow.{At, Byte}
 use Rattle.lineage_model.specs.Pairs.{byte_pairs, pairs_from}
 use Rattle.lineage_model.specs.Tracking.{EventByte}
 use Rattle.query_model.specs.Answers.{moment_of}
@@ -30,26 +29,17 @@ use Rattle.query_laws.proofs.Lists.{first-in}
 
 -- the test tells which bytes an event has
 register-byte : (r i : ℕ) → is_register_byte r i ≡ true → IsRegisterByte r i
-register-byte r i is =
-    let first = and_parts (nat_lt 0 r) (nat_lt r 32 && nat_lt i 8) is in
-    let rest = and_parts (nat_lt r 32) (nat_lt i 8) first.1 in
-    record { above = ltb-true 0 r first.0; below = ltb-true r 32 rest.0; byte = ltb-true i 8 rest.1 }
+register-byte r i h1 = grind (arith, nat_tests, and_parts, ltb-true)
 
 byte-register : (r i : ℕ) → IsRegisterByte r i → is_register_byte r i ≡ true
 byte-register r i is =
     and_from (nat_lt 0 r) (nat_lt r 32 && nat_lt i 8) (lt-ltb 0 r is.above) (and_from (nat_lt r 32) (nat_lt i 8) (lt-ltb r 32 is.below) (lt-ltb i 8 is.byte))
 
 byte-had : (e : Record) (at : At) → has_byte e at ≡ true → HasByte e at
-byte-had e (Byte k) is = ltb-true k (event_len e) is
-byte-had e (StartRegister r i) is = let parts = and_parts (is_some (founded e)) (is_register_byte r i) is in (parts.0, register-byte r i parts.1)
-byte-had e (StartSlot r i) is = let parts = and_parts (is_some (founded e)) (is_register_byte r i) is in (parts.0, register-byte r i parts.1)
-byte-had e (StartMemory at) is = let parts = and_parts (is_some (founded e)) (is_private at) is in (parts.0, parts.1)
+byte-had e at h1 = grind (arith, nat_tests, and_parts, ltb-true, register-byte)
 
 had-byte : (e : Record) (at : At) → HasByte e at → has_byte e at ≡ true
-had-byte e (Byte k) is = lt-ltb k (event_len e) is
-had-byte e (StartRegister r i) is = and_from (is_some (founded e)) (is_register_byte r i) is.0 (byte-register r i is.1)
-had-byte e (StartSlot r i) is = and_from (is_some (founded e)) (is_register_byte r i) is.0 (byte-register r i is.1)
-had-byte e (StartMemory at) is = and_from (is_some (founded e)) (is_private at) is.0 is.1
+had-byte e at h1 = grind (arith, nat_tests, and_from, byte-register, lt-ltb)
 
 pub found-there : (o : Option Record) (at : At) → is_there o at ≡ true → IsThere o at
 found-there None at is = absurd (false≢true is)

@@ -1,16 +1,16 @@
 -- A link of groups is a link that the test finds.
 use Rattle.std.proofs.Common.{◌≡◌, ◌⊎◌, inl, inr, ℕ, zero, suc, ◌<◌, ◌||◌, Bool, true, false, List, [], ◌∷◌, length, Option, Some, None, option_and_then, slice_get, refl, ap, sym, subst, arith}
+use Rattle.std.proofs.lemmas.Bool.Decides.{nat_tests}
 use Rattle.std.specs.List.{Contains, range_with_len}
-use Rattle.std.proofs.lemmas.Bool.{false≢true, and_from, and_parts, or_left, or_right}
+use Rattle.std.proofs.lemmas.Bool.{false≢true, and_from, and_parts, or_left}
 use Rattle.std.proofs.lemmas.Bool.Decides.{eqb_tells}
 use Rattle.std.proofs.lemmas.Option.{none-some, same_Some, option_and_then_some}
 use Rattle.arn_base.specs.declared.records.Give.{Give}
 use Rattle.arn_base.specs.declared.records.Origin.{Origin}
 use Rattle.arn_base.specs.declared.records.Record.{Record}
-use Rattle.acts_model.specs.Records.{process_of}
-use Rattle.history_model.specs.Events.{events, event_at, how_many}
+use Rattle.history_model.specs.Events.{event_at, how_many}
 use Rattle.history_model.specs.Exchanges.{Edge, ByBytes, ByFork, founded, received}
-use Rattle.history_model.specs.Groups.{event_group, group_of, is_number}
+use Rattle.history_model.specs.Groups.{event_group, is_number}
 use Rattle.query_model.specs.Linked.{is_from, came_from, receives_at, starts_at, is_linked}
 use Rattle.query_laws.proofs.Lists.{any-in, in-any, in-range}
 
@@ -29,9 +29,7 @@ below-len (y ∷ xs) zero x h = omega arith
 below-len (y ∷ xs) (suc i) x h = omega (arith, below-len xs i x h)
 
 pub is-there : (entries : List Record) (n g : ℕ) → event_group entries n ≡ Some g → n < how_many entries
-is-there entries n g is =
-    option_and_then_some (group_of entries) (option_and_then process_of (event_at entries n)) g is (λ pid of group.
-    option_and_then_some process_of (event_at entries n) pid of (λ e at process. below-len (events entries) n e at))
+is-there entries n g h1 = grind (arith, nat_tests, below-len, option_and_then_some)
 
 pub or-parts : (b c : Bool) → (b || c) ≡ true → (b ≡ true) ⊎ (c ≡ true)
 or-parts true c h = inl refl
@@ -48,19 +46,13 @@ module _ (entries : List Record) (h g : ℕ) where
       any-in (is_from entries h) other.origins origin (subst (λ (x : Give). Contains x.origins origin) (sym same) has) (is-number h (event_group entries origin.event) from)
 
   in-came : (o : Option Give) → came_from entries h o ≡ true → (give : Give) × (origin : Origin) × (o ≡ Some give) × Contains give.origins origin × (event_group entries origin.event ≡ Some h)
-  in-came None is = absurd (false≢true is)
-  in-came (Some give) is =
-      let found = in-any (is_from entries h) give.origins is in
-      (give, found.0, refl, found.1, number-is h (event_group entries found.0.event) found.2)
+  in-came o h1 = grind (arith, nat_tests, false≢true, in-any, number-is)
 
   at-some : (n : ℕ) → n < how_many entries → goes-at n ≡ true → is_linked entries h g ≡ true
   at-some n there is = any-in goes-at (range_with_len 0 (how_many entries)) n (in-range 0 (how_many entries) n (omega arith) (omega (arith, there))) is
 
   pub edge-linked : Edge entries h g → is_linked entries h g ≡ true
-  edge-linked (ByBytes n give origin group is has from) =
-      at-some n (is-there entries n g group) (or_left (receives_at entries h g n) (starts_at entries h g n) (and_from (is_number g (event_group entries n)) (came_from entries h (option_and_then received (event_at entries n))) (is-number g (event_group entries n) group) (came-in (option_and_then received (event_at entries n)) give origin is has from)))
-  edge-linked (ByFork n group is) =
-      at-some n (is-there entries n h group) (or_right (receives_at entries h g n) (starts_at entries h g n) (and_from (is_number h (event_group entries n)) (is_number g (option_and_then founded (event_at entries n))) (is-number h (event_group entries n) group) (is-number g (option_and_then founded (event_at entries n)) is)))
+  edge-linked h1 = grind (arith, nat_tests, and_from, at-some, came-in, is-number, is-there, or_left)
 
   received-edge : (n : ℕ) → receives_at entries h g n ≡ true → Edge entries h g
   received-edge n is =

@@ -1,19 +1,16 @@
 -- Members of lists, and tests of them.
-use Rattle.std.proofs.Common.{◌≡◌, ◌⊎◌, inl, inr, ℕ, zero, suc, ◌+◌, ◌<◌, ◌≤◌, ◌||◌, Bool, true, false, if◌then◌else◌, List, [], ◌∷◌, refl, ap, sym, subst, ◌∙◌, arith}
+use Rattle.std.proofs.Common.{◌≡◌, ◌⊎◌, inl, inr, ℕ, zero, suc, ◌+◌, ◌<◌, ◌≤◌, ◌||◌, Bool, true, false, if◌then◌else◌, List, [], ◌∷◌, refl, ap, subst, ◌∙◌, arith}
+use Rattle.std.proofs.lemmas.Bool.Decides.{nat_tests}
 use Rattle.std.specs.List.{filter, list_any, range_with_len, Contains}
 use Rattle.std.proofs.lemmas.Bool.{false≢true, or_left, or_right}
 use Rattle.std.proofs.lemmas.Bool.Decides.{eqb_tells}
-use Rattle.std.proofs.lemmas.List.Elements.{Contains-append_left, Contains-append_right, Contains-append_cases, Contains-push, Contains-push_cases}
+use Rattle.std.proofs.lemmas.List.Elements.{Contains-append_left, Contains-append_right, Contains-push}
 
 pub none-in : {X : Type 0} (x : X) → Contains [] x → ⊥
 none-in x h = omega (arith, h.1)
 
 pub head-or-tail : {X : Type 0} (y x : X) (ys : List X) → Contains (y ∷ ys) x → (y ≡ x) ⊎ Contains ys x
-head-or-tail y x ys h =
-    elim (Contains-append_cases (y ∷ []) ys x h) [
-      | inl one ↦ elim (Contains-push_cases [] y x one) [ inl none ↦ absurd (none-in x none) | inr is ↦ inl is ]
-      | inr rest ↦ inr rest
-    ]
+head-or-tail y x ys h1 = grind (arith, nat_tests, none-in)
 
 pub first-in : {X : Type 0} (x : X) (xs : List X) → Contains (x ∷ xs) x
 first-in x xs = Contains-append_left (x ∷ []) xs x (Contains-push [] x)
@@ -39,9 +36,7 @@ module _ {X : Type 0} (p : X → Bool) where
       ]
 
   kept-cases : (b : Bool) (y x : X) (xs : List X) → p y ≡ b → Contains (if b then y ∷ xs else xs) x → ((y ≡ x) × (p x ≡ true)) ⊎ Contains xs x
-  kept-cases true y x xs is has =
-      elim (head-or-tail y x xs has) [ inl here ↦ inl (here, ap p (sym here) ∙ is) | inr later ↦ inr later ]
-  kept-cases false y x xs is has = inr has
+  kept-cases b y x xs h1 h2 = grind (arith, nat_tests, head-or-tail)
 
   pub in-kept : (xs : List X) (x : X) → Contains (filter p xs) x → Contains xs x × (p x ≡ true)
   in-kept [] x has = absurd (none-in x has)
@@ -72,10 +67,7 @@ module _ {X : Type 0} (p : X → Bool) where
 
 -- numbers that follow each other
 first-or-above : (a k : ℕ) → a ≤ k → (a ≡ k) ⊎ (a + 1 ≤ k)
-first-or-above a k low = elim (eqb_tells a k) [ inl is ↦ inl is.1 | inr apart ↦ inr (by_apart apart.1) ]
-  where
-    by_apart : (a ≡ k → ⊥) → a + 1 ≤ k
-    by_apart differs = grind (arith, differs, low)
+first-or-above a k h1 = grind (arith, nat_tests, eqb_tells)
 
 pub in-range : (a n k : ℕ) → a ≤ k → k < a + n → Contains (range_with_len a n) k
 in-range a zero k low high = absurd (omega (arith, low, high))

@@ -1,16 +1,16 @@
 -- On the records of a run, what reaches a byte that a process holds is what whole tracking gives it.
-use Rattle.std.proofs.Common.{◌≡◌, inl, inr, ℕ, zero, suc, ◌+◌, ◌==◌, Bool, true, false, if◌then◌else◌, List, flat_map, Option, Some, None, IsSome, option_map, refl, ap, sym, subst, ◌∙◌}
+use Rattle.std.proofs.Common.{◌≡◌, inl, inr, ℕ, zero, suc, ◌+◌, Bool, true, false, if◌then◌else◌, List, flat_map, Option, Some, None, IsSome, option_map, refl, ap, sym, subst, ◌∙◌, arith}
+use Rattle.std.proofs.lemmas.Bool.Decides.{nat_tests}
 use Rattle.std.proofs.lemmas.Bool.Decides.{eqb_tells}
 use Rattle.std.proofs.lemmas.Option.{none-some, same_Some}
 use Rattle.rv64_model.specs.Carries.{Table}
 use Rattle.acts_model.specs.Bodies.{Body, body_at}
-use Rattle.acts_model.specs.Moved.{Inside}
 use Rattle.acts_model.specs.Transfers.{holds_of, is_private, is_shared}
 use Rattle.arn_model.specs.Run.{Input, machine_after, state_at}
 use Rattle.arn_model.specs.Tells.{HasNumbers}
 use Rattle.history_model.specs.Alone as history
 use Rattle.history_model.specs.Events.{event_at}
-use Rattle.history_model.specs.Groups.{group_of, is_number}
+use Rattle.history_model.specs.Groups.{group_of}
 use Rattle.history_model.specs.Moments.{lives_at}
 use Rattle.lineage_laws.specs.Laws.{IsOf, LineageIsJoined, OfMemory, OfRegister, joined_point, local_at, whole_at}
 use Rattle.lineage_model.specs.Flow.{Location, Memory, Register}
@@ -34,19 +34,10 @@ module _ (table : Table) (inputs : List Input) (few : HasNumbers (machine_after 
 
   -- the group alone holds the process as the whole machine does
   own-body : body_at (passes inputs g moment few).own.bodies pid ≡ body_at (state_at inputs moment).bodies pid
-  own-body =
-      (passes inputs g moment few).whole.bodies pid
-      ∙ ap (λ (b : Bool). if b then body_at (state_at inputs moment).bodies pid else None) (ap (is_number g) group ∙ itself g)
-    where
-      itself : (n : ℕ) → (n == n) ≡ true
-      itself n = elim (eqb_tells n n) [ inl same ↦ same.0 | inr apart ↦ absurd (apart.1 refl) ]
+  own-body = grind (arith, nat_tests, eqb_tells)
 
   items-local : (p : Part) (k : ℕ) → items_made table pid p k (history.alone (records inputs) g moment) ≡ set_of (local_at table inputs moment g) pid p k (body_at (state_at inputs moment).bodies pid)
-  items-local p k =
-      let own = passes inputs g moment few in
-      ap (items_made table pid p k) own.made
-      ∙ (ap (λ (list : List Inside). set_of (alone table list) pid p k (body_at own.own.bodies pid)) own.heard
-      ∙ ap (set_of (local_at table inputs moment g) pid p k) own-body)
+  items-local p k = grind (arith, nat_tests, own-body)
 
   -- where bytes of parts lie is a location of the group
   memory-of : (x : Body) → body_at (state_at inputs moment).bodies pid ≡ Some x → (at : ℕ) (l : Location) → in_memory (holds_of x) at ≡ Some l → IsOf inputs moment g l
@@ -70,8 +61,7 @@ module _ (table : Table) (inputs : List Input) (few : HasNumbers (machine_after 
 
   body-joins : (p : Part) (k : ℕ) (o : Option Body) → body_at (state_at inputs moment).bodies pid ≡ o
       → Joins (set_of (local_at table inputs moment g) pid p k o) ≡ set_of (whole_at table inputs moment).tracked pid p k o
-  body-joins p k None lives = refl
-  body-joins p k (Some x) lives = set-joins x lives p k (location_of pid (holds_of x) p k) refl
+  body-joins p k o h1 = grind (arith, nat_tests, set-joins)
 
   made-joins : (p : Part) (k : ℕ) → Joins (items_made table pid p k (history.alone (records inputs) g moment)) ≡ set_of (whole_at table inputs moment).tracked pid p k (body_at (state_at inputs moment).bodies pid)
   made-joins p k = ap Joins (items-local p k) ∙ body-joins p k (body_at (state_at inputs moment).bodies pid) refl

@@ -1,5 +1,6 @@
 -- By following only the groups to which bytes can have come nothing is lost that they reach.
-use Rattle.std.proofs.Common.{◌≡◌, ◌⊎◌, inl, inr, ℕ, zero, suc, ◌+◌, ◌<◌, ◌≤◌, ◌==◌, nat_lt, max, min, Bool, true, false, if◌then◌else◌, List, [], ◌∷◌, flat_map, Option, Some, None, option_and_then, refl, ap, sym, subst, ◌∙◌, arith}
+use Rattle.std.proofs.Common.{◌≡◌, ◌⊎◌, inl, inr, ℕ, zero, suc, ◌+◌, ◌<◌, ◌≤◌, Bool, true, false, if◌then◌else◌, List, [], ◌∷◌, flat_map, Option, Some, None, option_and_then, refl, ap, sym, subst, ◌∙◌, arith}
+use Rattle.std.proofs.lemmas.Bool.Decides.{nat_tests}
 use Rattle.std.specs.Prelude.{All, Contains}
 use Rattle.std.proofs.lemmas.Bool.{and_from, lt-ltb, true≢false}
 use Rattle.std.proofs.lemmas.List.Elements.{All-contains}
@@ -40,17 +41,7 @@ abbrev byte-of : ℕ → At → EventByte
 byte-of event at = record { event = event; at = at }
 
 source-is : (event n len : ℕ) (at : At) (place : At) → Contains (source_byte n len at) (byte-of event place) → (n ≡ event) × (at ≡ place)
-source-is event n len (Byte k) place has = by-test (nat_lt k len) has
-  where
-    by-test : (b : Bool) → Contains (if b then byte-of n (Byte k) ∷ [] else []) (byte-of event place) → (n ≡ event) × (Byte k ≡ place)
-    by-test true c = elim (head-or-tail (byte-of n (Byte k)) (byte-of event place) [] c) [
-      | inl is ↦ (ap (λ (b : EventByte). b.event) is, ap (λ (b : EventByte). b.at) is)
-      | inr none ↦ absurd (none-in (byte-of event place) none)
-    ]
-    by-test false c = absurd (none-in (byte-of event place) c)
-source-is event n len (StartRegister r i) place has = absurd (none-in (byte-of event place) has)
-source-is event n len (StartSlot r i) place has = absurd (none-in (byte-of event place) has)
-source-is event n len (StartMemory at) place has = absurd (none-in (byte-of event place) has)
+source-is event n len at place h1 = grind (arith, nat_tests, byte-of, head-or-tail, none-in)
 
 module _ (entries : List Record) (event from len k : ℕ) (low : k < len) (stands : first_broken entries ≡ None) where
   abbrev groups : List ℕ
@@ -84,11 +75,7 @@ module _ (entries : List Record) (event from len k : ℕ) (low : k < len) (stand
 
   -- and who receives a copy
   copy-is : (src : Src) (piece : Origin) → IsAsked src.event (Byte src.at) → piece.event ≡ src.event → piece.at ≤ src.at → src.at < piece.at + piece.len → is_copy event from len piece ≡ true
-  copy-is src piece is same first last =
-      let place : src.at ≡ from + k = ap number-in is.place in
-      and_from (piece.event == event) (nat_lt (max piece.at from) (min (piece.at + piece.len) (from + len)))
-      (subst (λ (m : ℕ). (piece.event == m) ≡ true) (same ∙ is.same) (itself piece.event))
-      (lt-ltb (max piece.at from) (min (piece.at + piece.len) (from + len)) (omega (arith, first, last, place, low)))
+  copy-is src piece h1 h2 h3 h4 = grind (arith, nat_tests, and_from, itself, lt-ltb, number-in)
 
   module _ (table : Table) (moment : ℕ) (law : ItemsAreReceived) (blocks : All HasWholeBlocks entries) where
     abbrev items : ℕ → At → List EventByte

@@ -1,10 +1,10 @@
 -- More items reach more, and the pairs of a query forward are told by what reaches the bytes of writes.
-use Rattle.std.proofs.Common.{◌≡◌, ◌↔◌, ℕ, zero, suc, ◌+◌, ◌<◌, Bool, true, false, if◌then◌else◌, List, [], ◌∷◌, flat_map, Option, Some, None, refl, ap, sym, ◌∙◌}
+use Rattle.std.proofs.Common.{◌≡◌, ◌↔◌, ℕ, zero, suc, ◌+◌, ◌<◌, Bool, true, false, if◌then◌else◌, List, [], ◌∷◌, flat_map, Option, Some, None, arith}
+use Rattle.std.proofs.lemmas.Bool.Decides.{nat_tests}
 use Rattle.std.specs.Prelude.{All, Contains}
 use Rattle.std.proofs.lemmas.Bool.{false≢true, true≢false}
 use Rattle.std.proofs.lemmas.Option.{same_Some}
 use Rattle.arn_base.specs.declared.records.Extra.{Extra}
-use Rattle.arn_base.specs.declared.records.Extra.TheVariants as extra
 use Rattle.arn_base.specs.declared.records.Pair.{Pair}
 use Rattle.arn_base.specs.declared.records.Record.{Record}
 use Rattle.arn_base.specs.declared.records.Record.TheVariants as entry
@@ -13,7 +13,6 @@ use Rattle.rv64_model.specs.Carries.{Table}
 use Rattle.acts_model.specs.Records.{event_len}
 use Rattle.history_model.specs.Broken.{first_broken}
 use Rattle.history_model.specs.Events.{event_at, how_many}
-use Rattle.history_model.specs.Groups.{event_group, is_number}
 use Rattle.history_model.specs.Moments.{total}
 use Rattle.lineage_join.specs.Laws.{PairsAreTold}
 use Rattle.lineage_model.specs.Flow.{At, Byte, StartRegister, StartSlot, StartMemory}
@@ -76,26 +75,10 @@ cut-within false xs x has = absurd (none-in x has)
 
 -- what went out isn't from outside
 outward-plain : (pid number result : ℕ) (more : Extra) → is_outward number more ≡ true → is_source (entry.Call pid number result more) ≡ false
-outward-plain pid number result (extra.Put file at bytes) is = refl
-outward-plain pid number result (extra.Console bytes) is = refl
-outward-plain pid number result (extra.Sent device bytes) is = refl
-outward-plain pid number result extra.Nothing is = absurd (false≢true is)
-outward-plain pid number result (extra.Give give) is = absurd (false≢true is)
-outward-plain pid number result (extra.Start start) is = absurd (false≢true is)
-outward-plain pid number result (extra.Reply device bytes) is = absurd (false≢true is)
-outward-plain pid number result extra.Fault is = absurd (false≢true is)
-outward-plain pid number result extra.Absent is = absurd (false≢true is)
-outward-plain pid number result (extra.Name file path) is = absurd (false≢true is)
+outward-plain pid number result more h1 = grind (arith, nat_tests, false≢true)
 
 sink-plain : (e : Record) → is_sink e ≡ true → is_source e ≡ false
-sink-plain (entry.Call pid number result more) is = outward-plain pid number result more is
-sink-plain (entry.File name bytes) is = absurd (false≢true is)
-sink-plain (entry.Boot name give) is = absurd (false≢true is)
-sink-plain (entry.Typed bytes) is = absurd (false≢true is)
-sink-plain (entry.Unplug device) is = absurd (false≢true is)
-sink-plain (entry.Slice pid ran) is = absurd (false≢true is)
-sink-plain (entry.Signal pid signal cut handler) is = absurd (false≢true is)
-sink-plain (entry.End pid status) is = absurd (false≢true is)
+sink-plain e h1 = grind (arith, nat_tests, false≢true, outward-plain)
 
 module _ (table : Table) (entries : List Record) (event from len : ℕ) (stands : first_broken entries ≡ None) (law : ItemsAreReceived) (blocks : All HasWholeBlocks entries) where
   abbrev groups : List ℕ
@@ -114,14 +97,7 @@ module _ (table : Table) (entries : List Record) (event from len : ℕ) (stands 
 
   -- a write that is reached is of one of the groups
   sink-among : (k n : ℕ) (low : k < len) (at : At) (e : Record) → event_at entries n ≡ Some e → is_sink e ≡ true → Comes entries event from len k low stands table (total entries) law blocks (how_many entries) n at → is_among entries groups n ≡ true
-  sink-among k n low at e there sink c = by-group (event_group entries n) refl
-    where
-      by-group : (o : Option ℕ) → event_group entries n ≡ o → is_among entries groups n ≡ true
-      by-group (Some g) group = any-in (λ h. is_number h (event_group entries n)) groups g (c.group g group) (is-number g (event_group entries n) group)
-      by-group None group =
-          let is = c.outside group in
-          let same : Some is.entry ≡ Some e = sym is.there ∙ (ap (event_at entries) (sym is.same) ∙ there) in
-          absurd (true≢false (sym is.source ∙ (ap is_source (same_Some is.entry e same) ∙ sink-plain e sink)))
+  sink-among k n low at e h1 h2 h3 = grind (arith, nat_tests, any-in, groups, is-number, same_Some, sink-plain, true≢false)
 
   pub loses-nothing : PairsAreTold → (pair : Pair) → Contains (forth_pairs table entries event from len) pair ↔ IsSinkPair entries whole event from len pair
   loses-nothing told pair =

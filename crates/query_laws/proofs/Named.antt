@@ -1,5 +1,6 @@
 -- What reaches bytes of files is told by connected groups, and on the records of a run by the tracking of every step.
 use Rattle.std.proofs.Common.{◌≡◌, ℕ, zero, suc, ◌+◌, ◌<◌, ◌≤◌, List, [], ◌∷◌, ◌++◌, length, take, drop, All, Contains, get_or, Option, Some, None, IfSome, nat_le, cond, option_map, option_and_then, slice_get, refl, sym, ap, ap₂, subst, ◌∙◌, arith, length-drop, length-take-le}
+use Rattle.std.proofs.lemmas.Bool.Decides.{nat_tests}
 use Rattle.std.specs.List.{cons_option}
 use Rattle.std.proofs.lemmas.Option.{slice_get-get_or, slice_get_within}
 use Rattle.arn_base.specs.declared.records.Pair.{Pair}
@@ -117,11 +118,7 @@ pub record IsFile (files : Files) (name : List ℕ) (held : List TaggedByte) : T
   pub bytes : file_bytes files file ≡ Some held
 
 file-of : (files : Files) (name : List ℕ) (held : List TaggedByte) → version_in files name ≡ Some held → IsFile files name held
-file-of files name held is = by_found (find_file files name) refl is
-  where
-    by_found : (o : Option ℕ) → find_file files name ≡ o → option_and_then (file_bytes files) o ≡ Some held → IsFile files name held
-    by_found None found e = absurd (cc)
-    by_found (Some file) found e = record { file = file; found = found; bytes = e }
+file-of files name held h1 = grind (arith, nat_tests)
 
 module _ (passes : GroupsPassThrough) (joined : LineageIsJoined) (versions : VersionsAreOfRuns) (table : Table) (inputs : List Input) (n : Named) (few : HasNumbers (machine_after inputs).kernel) where
   abbrev kernel : Kernel

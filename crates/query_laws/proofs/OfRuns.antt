@@ -1,29 +1,28 @@
 -- On the records of a run a lineage query answers what whole tracking gives.
-use Rattle.std.proofs.Common.{◌≡◌, ℕ, zero, suc, ◌+◌, ◌<◌, ◌++◌, if◌then◌else◌, List, [], ◌∷◌, length, flat_map, Option, Some, None, refl, ap, ap₂, sym, subst, ◌∙◌, arith}
+use Rattle.std.proofs.Common.{◌≡◌, ℕ, zero, suc, ◌+◌, ◌<◌, ◌++◌, List, [], ◌∷◌, length, flat_map, Option, Some, None, refl, ap, ap₂, sym, subst, ◌∙◌, arith}
+use Rattle.std.proofs.lemmas.Bool.Decides.{nat_tests}
 use Rattle.std.specs.Prelude.{Contains}
 use Rattle.arn_base.specs.declared.records.Pair.{Pair}
 use Rattle.arn_base.specs.declared.records.Record.{Record}
 use Rattle.arn_base.specs.declared.records.Src.{Src}
 use Rattle.rv64_model.specs.Carries.{Table}
-use Rattle.acts_model.specs.Records.{event_len}
 use Rattle.arn_model.specs.Kernel.{at_first}
 use Rattle.arn_model.specs.Laws.{StepsTell}
 use Rattle.arn_model.specs.Run.{Input, machine_after, run, within, events_of}
 use Rattle.arn_model.specs.Tells.{HasNumbers}
 use Rattle.history_model.specs.Alone as history
-use Rattle.history_model.specs.Alone.{Made, Makes, Fails, Disagrees}
-use Rattle.history_model.specs.Events.{event_at, how_many}
-use Rattle.history_model.specs.Groups.{event_group}
+use Rattle.history_model.specs.Alone.{Disagrees}
+use Rattle.history_model.specs.Events.{how_many}
 use Rattle.lineage_laws.specs.Laws as lineage
 use Rattle.lineage_laws.specs.Laws.{LineageIsJoined, joined_point}
-use Rattle.lineage_model.specs.Flow.{At, Byte, StartRegister, StartSlot, StartMemory}
-use Rattle.lineage_model.specs.Joined.{Reaching, is_source, origin_of, from_origin, from_received, from_item_at, from_item, source_byte, from_event, reached}
+use Rattle.lineage_model.specs.Flow.{At, Byte}
+use Rattle.lineage_model.specs.Joined.{Reaching, from_origin, from_received, from_item_at, from_event, reached}
 use Rattle.lineage_model.specs.Pairs.{byte_pairs, pairs_from}
 use Rattle.lineage_model.specs.Tracking.{EventByte, Tracked, alone}
 use Rattle.lineage_model.specs.Whole as whole
 use Rattle.log_model.specs.Records.{records}
 use Rattle.query_model.specs.Answers.{disagreement_in, first_disagreement, moment_of, or_first}
-use Rattle.query_model.specs.Sources.{tracked_of, tracked_at, items_in, items_at, reaching}
+use Rattle.query_model.specs.Sources.{tracked_of, tracked_at, items_in, reaching}
 use Rattle.replay_laws.specs.Laws.{GroupsPassThrough, RecordsTellEvents}
 use Rattle.query_laws.specs.OfRuns.{AnswersRun, whole_points}
 use Rattle.query_laws.proofs.Happened.{has-happened}
@@ -43,27 +42,16 @@ origin-same p q same None = refl
 origin-same p q same (Some src) = same src.event (Byte src.at)
 
 received-same : (p q : Reaching) → AreSame p q → (event k : ℕ) (o : Option Record) → from_received p event k o ≡ from_received q event k o
-received-same p q same event k None = refl
-received-same p q same event k (Some e) =
-    ap (λ (xs : List EventByte). (if is_source e then record { event = event; at = Byte k } ∷ [] else xs)) (origin-same p q same (origin_of e k))
+received-same p q h1 event k o = grind (arith, nat_tests, origin-same)
 
 pub item-same : (at_number : ℕ → Option Record) (p q : Reaching) → AreSame p q → (event : ℕ) (at : At) → from_item_at at_number p event at ≡ from_item_at at_number q event at
-item-same at_number p q same event (Byte k) = received-same p q same event k (at_number event)
-item-same at_number p q same event (StartRegister r i) = same event (StartRegister r i)
-item-same at_number p q same event (StartSlot r i) = same event (StartSlot r i)
-item-same at_number p q same event (StartMemory at) = same event (StartMemory at)
+item-same at_number p q h1 event at = grind (arith, nat_tests, received-same)
 
 event-same : (at_number : ℕ → Option Record) (p q : Reaching) → AreSame p q → (event : ℕ) (at : At) (items : List EventByte) (o : Option Record) → from_event at_number p event at items o ≡ from_event at_number q event at items o
-event-same at_number p q same event at items None = refl
-event-same at_number p q same event at items (Some e) =
-    ap (λ (xs : List EventByte). (if is_source e then source_byte event (event_len e) at else xs))
-    (flat_map-same (from_item at_number p) (from_item at_number q) (λ i. item-same at_number p q same i.event i.at) items)
+event-same at_number p q h1 event at items o = grind (arith, nat_tests, flat_map-same, item-same)
 
 pub reached-same : (at_number : ℕ → Option Record) (a b : ℕ → At → List EventByte) → ((event : ℕ) (at : At) → a event at ≡ b event at) → (n : ℕ) → AreSame (reached at_number a n) (reached at_number b n)
-reached-same at_number a b same zero event at = refl
-reached-same at_number a b same (suc n) event at =
-    ap (λ (xs : List EventByte). from_event at_number (reached at_number a n) event at xs (at_number event)) (same event at)
-    ∙ event-same at_number (reached at_number a n) (reached at_number b n) (reached-same at_number a b same n) event at (b event at) (at_number event)
+reached-same at_number a b h1 n = grind (arith, nat_tests, event-same)
 
 -- pairs go by what reaches the bytes
 pub pairs-same : (f g : ℕ → List EventByte) → ((k : ℕ) → f k ≡ g k) → (len k : ℕ) → pairs_from f k len ≡ pairs_from g k len
@@ -80,9 +68,7 @@ module _ (table : Table) (inputs : List Input) (few : HasNumbers (machine_after 
   items-by moment event at (Some g) = ap (λ (t : Tracked EventByte). t.points event at) (tracked-same moment g)
 
   pub reaching-joined : (moment event : ℕ) (at : At) → reaching table (records inputs) moment event at ≡ joined_point table inputs moment event at
-  reaching-joined moment event at =
-      reached-same (event_at (records inputs)) (items_at table (records inputs) moment) (lineage.items_at table inputs moment)
-      (λ e a. items-by moment e a (event_group (records inputs) e)) (how_many (records inputs)) event at
+  reaching-joined moment event at = grind (arith, nat_tests, items-by, reached-same)
 
   no-disagreement : (moment g : ℕ) → disagreement_in (history.alone (records inputs) g moment) ≡ None
   no-disagreement moment g = ap disagreement_in (passes inputs g moment few).made

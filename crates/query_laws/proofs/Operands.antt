@@ -1,5 +1,6 @@
 -- The operands of a linkage are bytes of registers, and of what an instruction loads.
 use Rattle.std.proofs.Common.{◌≡◌, ℕ, zero, suc, ◌-◌, ◌<◌, ◌≤◌, ◌++◌, nat_lt, Bool, true, false, if◌then◌else◌, List, [], ◌∷◌, map, ℤ, arith, refl}
+use Rattle.std.proofs.lemmas.Bool.Decides.{nat_tests}
 use Rattle.std.specs.List.{AllByRecursion}
 use Rattle.std.proofs.lemmas.Bool.{ltb-true}
 use Rattle.rv64_isa.specs.declared.instruction.ImmOp.{ImmOp}
@@ -7,16 +8,13 @@ use Rattle.rv64_isa.specs.declared.instruction.ImmOp.TheVariants.{Addi}
 use Rattle.rv64_isa.specs.declared.instruction.Instr.{Instr}
 use Rattle.rv64_isa.specs.declared.instruction.Instr.TheVariants.{Lui, Auipc, Jal, Jalr, Branch, Load, Store, Imm, Op, Fence, Ecall, Ebreak}
 use Rattle.rv64_isa.specs.declared.instruction.LoadOp.{LoadOp}
-use Rattle.rv64_isa.specs.declared.instruction.LoadOp.TheVariants.{Lb, Lh, Lw, Ld, Lbu, Lhu, Lwu}
 use Rattle.rv64_isa.specs.declared.instruction.RegOp.{RegOp}
-use Rattle.rv64_isa.specs.declared.instruction.RegOp.TheVariants.{Add, Sub, Sll, Slt, Sltu, Xor, Srl, Sra, Or, And, Addw, Subw, Sllw, Srlw, Sraw}
+use Rattle.rv64_isa.specs.declared.instruction.RegOp.TheVariants.{Add}
 use Rattle.rv64_isa.specs.declared.instruction.StoreOp.{StoreOp}
-use Rattle.rv64_isa.specs.declared.instruction.StoreOp.TheVariants.{Sb, Sh, Sw, Sd}
 use Rattle.rv64_model.specs.Carries.{Operand, Left, Right, Loaded, Address, Rule, Bytewise, Upward, Shifted, Compared, below, by_rule, copy_operands, data_operands, extended_from, first_bytes, imm_copies, imm_takes, index_operands, is_zero, load_takes, of_left, op_takes, operands, rule_of, taken_if, unless_x0, width_of, with_address, within_width}
 use Rattle.rv64_model.specs.declared.linkage.Linkage.{Linkage}
-use Rattle.rv64_model.specs.declared.linkage.Linkage.TheVariants.{Copy, Data, Index}
 use Rattle.rv64_model.specs.Operands.{store_len, stored_len}
-use Rattle.rv64_model.specs.Values.{load_len, reg_op}
+use Rattle.rv64_model.specs.Values.{reg_op}
 use Rattle.taint_flow.specs.Names.{loaded_len}
 use Rattle.query_laws.proofs.Items.{all-append}
 
@@ -56,28 +54,10 @@ module _ (instr : Instr) where
   by-rule Compared width (suc i) w l = tt
 
   width-low : (op : RegOp) → width_of op ≤ 8
-  width-low Add = omega arith
-  width-low Sub = omega arith
-  width-low Sll = omega arith
-  width-low Slt = omega arith
-  width-low Sltu = omega arith
-  width-low Xor = omega arith
-  width-low Srl = omega arith
-  width-low Sra = omega arith
-  width-low Or = omega arith
-  width-low And = omega arith
-  width-low Addw = omega arith
-  width-low Subw = omega arith
-  width-low Sllw = omega arith
-  width-low Srlw = omega arith
-  width-low Sraw = omega arith
+  width-low op = grind (arith, nat_tests)
 
   within-low : (width i : ℕ) → width ≤ 8 → i < 8 → within_width width i < 8
-  within-low width i w l = by-test (nat_lt i width)
-    where
-      by-test : (b : Bool) → (if b then i else width - 1) < 8
-      by-test true = l
-      by-test false = omega (arith, w)
+  within-low width i h1 h2 = grind (arith, nat_tests)
 
   op-takes : (op : RegOp) (i : ℕ) → i < 8 → AreBytes instr (op_takes op i)
   op-takes op i l = by-rule (rule_of op) (width_of op) (within_width (width_of op) i) (width-low op) (within-low (width_of op) i (width-low op) l)
@@ -106,35 +86,13 @@ module _ (instr : Instr) where
   with-address (o ∷ ops) h = (h.0, all-append (IsByteOf instr) ops (first_bytes Address 8) h.1 (first-ones Address (λ k l. l) 8 (omega arith)))
 
 extended : (op : LoadOp) (rd rs1 : ℕ) (imm : ℤ) → AreBytes (Load op rd rs1 imm) (extended_from op)
-extended Lb rd rs1 imm = (omega arith, tt)
-extended Lh rd rs1 imm = (omega arith, tt)
-extended Lw rd rs1 imm = (omega arith, tt)
-extended Ld rd rs1 imm = tt
-extended Lbu rd rs1 imm = tt
-extended Lhu rd rs1 imm = tt
-extended Lwu rd rs1 imm = tt
+extended op rd rs1 imm = grind (arith, nat_tests)
 
 load-takes : (op : LoadOp) (rd rs1 : ℕ) (imm : ℤ) (i : ℕ) → AreBytes (Load op rd rs1 imm) (load_takes op i)
-load-takes op rd rs1 imm i = by-test (nat_lt i (load_len op)) refl
-  where
-    by-test : (b : Bool) → nat_lt i (load_len op) ≡ b → AreBytes (Load op rd rs1 imm) (if b then Loaded i ∷ [] else extended_from op)
-    by-test true t = (ltb-true i (load_len op) t, tt)
-    by-test false t = extended op rd rs1 imm
+load-takes op rd rs1 imm i = grind (arith, nat_tests, extended, ltb-true)
 
 copy-bytes : (instr : Instr) (i : ℕ) → i < 8 → AreBytes instr (copy_operands instr i)
-copy-bytes (Lui rd imm) i l = tt
-copy-bytes (Auipc rd imm) i l = tt
-copy-bytes (Jal rd imm) i l = tt
-copy-bytes (Jalr rd rs1 imm) i l = tt
-copy-bytes (Branch op rs1 rs2 imm) i l = tt
-copy-bytes (Load op rd rs1 imm) i l =
-    unless-x0 (Load op rd rs1 imm) rd (taken_if (nat_lt i (load_len op)) (Loaded i)) (taken-if (Load op rd rs1 imm) (nat_lt i (load_len op)) (Loaded i) (λ t. ltb-true i (load_len op) t))
-copy-bytes (Store op rs1 rs2 imm) i l = taken-if (Store op rs1 rs2 imm) (nat_lt i (store_len op)) (Right i) (λ t. l)
-copy-bytes (Imm op rd rs1 imm) i l = unless-x0 (Imm op rd rs1 imm) rd (imm_copies op imm i) (imm-copies (Imm op rd rs1 imm) op imm i l)
-copy-bytes (Op op rd rs1 rs2) i l = tt
-copy-bytes (Fence word) i l = tt
-copy-bytes Ecall i l = tt
-copy-bytes Ebreak i l = tt
+copy-bytes instr i h1 = grind (arith, nat_tests, imm-copies, ltb-true, taken-if, unless-x0)
 
 data-bytes : (instr : Instr) (i : ℕ) → i < 8 → AreBytes instr (data_operands instr i)
 data-bytes (Lui rd imm) i l = tt
@@ -156,26 +114,10 @@ index-bytes (Store op rs1 rs2 imm) i l = with-address (Store op rs1 rs2 imm) (da
 index-bytes instr i l = data-bytes instr i l
 
 pub linkage-bytes : (linkage : Linkage) (instr : Instr) (i : ℕ) → i < 8 → AreBytes instr (operands linkage instr i)
-linkage-bytes Copy instr i l = copy-bytes instr i l
-linkage-bytes Data instr i l = data-bytes instr i l
-linkage-bytes Index instr i l = index-bytes instr i l
+linkage-bytes linkage instr i h1 = grind (arith, nat_tests, copy-bytes, data-bytes, index-bytes)
 
 store-low : (op : StoreOp) → store_len op ≤ 8
-store-low Sb = omega arith
-store-low Sh = omega arith
-store-low Sw = omega arith
-store-low Sd = omega arith
+store-low op = grind (arith, nat_tests)
 
 pub stored-low : (instr : Instr) → stored_len instr ≤ 8
-stored-low (Store op rs1 rs2 imm) = store-low op
-stored-low (Lui rd imm) = omega arith
-stored-low (Auipc rd imm) = omega arith
-stored-low (Jal rd imm) = omega arith
-stored-low (Jalr rd rs1 imm) = omega arith
-stored-low (Branch op rs1 rs2 imm) = omega arith
-stored-low (Load op rd rs1 imm) = omega arith
-stored-low (Imm op rd rs1 imm) = omega arith
-stored-low (Op op rd rs1 rs2) = omega arith
-stored-low (Fence word) = omega arith
-stored-low Ecall = omega arith
-stored-low Ebreak = omega arith
+stored-low instr = grind (arith, nat_tests, store-low)

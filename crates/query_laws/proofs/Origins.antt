@@ -1,5 +1,6 @@
 -- A stored origin is a byte that an event has.
-use Rattle.std.proofs.Common.{◌≡◌, inl, inr, ℕ, zero, suc, ◌+◌, ◌-◌, ◌<◌, ◌≤◌, ◌==◌, ◌++◌, not, nat_le, nat_lt, Bool, true, false, if◌then◌else◌, List, [], ◌∷◌, length, Option, Some, None, option_map, slice_get, refl, ap, sym, subst, ◌∙◌, arith, append_assoc}
+use Rattle.std.proofs.Common.{◌≡◌, inl, inr, ℕ, zero, suc, ◌+◌, ◌-◌, ◌<◌, ◌≤◌, ◌==◌, ◌++◌, not, nat_lt, Bool, true, false, if◌then◌else◌, List, [], ◌∷◌, length, Option, Some, None, option_map, slice_get, refl, ap, subst, ◌∙◌, arith, append_assoc}
+use Rattle.std.proofs.lemmas.Bool.Decides.{nat_tests}
 use Rattle.std.specs.Prelude.{Contains}
 use Rattle.std.specs.List.{list_all}
 use Rattle.std.proofs.lemmas.Bool.{false≢true, true≢false, and_parts, leb-true, ltb-true}
@@ -77,14 +78,7 @@ behind-some before (x ∷ rest) e h has =
     ]
 
 lies-there : (all before rest : List Record) (o : Origin) (at : ℕ) → all ≡ before ++ rest → at < o.at + o.len → (found : Option Record) → event_at before o.event ≡ found → lies_in_event o (option_map event_len found) ≡ true → IsThere (event_at all o.event) (Byte at)
-lies-there all before rest o at whole low None is lies = absurd (false≢true lies)
-lies-there all before rest o at whole low (Some e) is lies =
-    let parts = and_parts (nat_le 1 o.len) (nat_le (o.at + o.len) (event_len e)) lies in
-    let high = leb-true (o.at + o.len) (event_len e) parts.1 in
-    let there : event_at all o.event ≡ Some e =
-    ap (λ (es : List Record). event_at es o.event) whole
-    ∙ (ap (λ (es : List Record). slice_get es o.event) (filter-append is_event before rest) ∙ got-append (events before) (events rest) o.event e is) in
-    subst (λ (x : Option Record). IsThere x (Byte at)) (sym there) (omega (arith, low, high))
+lies-there all before rest o at h1 h2 found h3 h4 = grind (arith, nat_tests, and_parts, false≢true, filter-append, got-append, leb-true)
 
 give-there : (all before rest : List Record) (o : Option Give) (give : Give) (src : Src) (k : ℕ) → all ≡ before ++ rest → are_origins before o ≡ true → o ≡ Some give → origin_at give.origins k ≡ Some src → IsThere (event_at all src.event) (Byte src.at)
 give-there all before rest None give src k whole are is at = absurd (none-some give is)

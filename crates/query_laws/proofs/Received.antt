@@ -1,5 +1,6 @@
 -- The items of a group alone are bytes that its events received, or with which it began.
-use Rattle.std.proofs.Common.{◌≡◌, inl, inr, ℕ, zero, suc, ◌≤◌, List, [], ◌∷◌, Option, Some, None, IfSome, option_map, refl, ap, ap₂, sym, subst, ◌∙◌}
+use Rattle.std.proofs.Common.{◌≡◌, inl, inr, ℕ, zero, suc, ◌≤◌, List, [], ◌∷◌, Option, Some, None, IfSome, option_map, refl, ap, sym, subst, ◌∙◌, arith}
+use Rattle.std.proofs.lemmas.Bool.Decides.{nat_tests}
 use Rattle.std.specs.Prelude.{All}
 use Rattle.std.specs.List.{AllByRecursion}
 use Rattle.std.proofs.lemmas.List.Elements.{All-nil, All-cons}
@@ -9,11 +10,11 @@ use Rattle.rv64_model.specs.Carries.{Operand, Left, Right, Loaded, Address, Tabl
 use Rattle.rv64_model.specs.Operands.{rs1_of, rs2_of}
 use Rattle.acts_model.specs.Bodies.{Body, body_at}
 use Rattle.acts_model.specs.Moved.{Event, Inside}
-use Rattle.acts_model.specs.Transfers.{Transfer, Arrives, Starts, Runs, Returns, Receives, Gives, Forks, Founds, Begins, Shares, Delivers, Leaves, Exits, Faults, Dies, holds_of}
+use Rattle.acts_model.specs.Transfers.{Transfer, holds_of}
 use Rattle.history_model.specs.Alone as history
 use Rattle.history_model.specs.Alone.{Own, Made, Makes, Fails}
 use Rattle.history_model.specs.Broken.{first_broken}
-use Rattle.lineage_model.specs.Flow.{Location, Register, Slot, Memory, At, Byte, StartRegister, StartSlot, StartMemory}
+use Rattle.lineage_model.specs.Flow.{Location, Register, Slot, Memory, At}
 use Rattle.lineage_model.specs.Tracking.{EventByte, untracked}
 use Rattle.query_model.specs.Sources.{tracked_of}
 use Rattle.taint_laws.specs.Follows.{HasWholeBlocks, holders_from, none_heard, none_holds}
@@ -62,31 +63,14 @@ module _ (table : Table) where
   }
 
   fits-any : (d : Transfer) → FitsRun AnyInstr d
-  fits-any (Arrives len) = tt
-  fits-any (Starts pid made load len block block_len) = tt
-  fits-any (Runs pid instr place) = tt
-  fits-any (Returns pid) = tt
-  fits-any (Receives pid place len) = tt
-  fits-any (Gives pid place len) = tt
-  fits-any (Forks pid child from into) = tt
-  fits-any (Founds pid child from into) = tt
-  fits-any (Begins pid made) = tt
-  fits-any (Shares pid made) = tt
-  fits-any (Delivers pid cut) = tt
-  fits-any (Leaves pid) = tt
-  fits-any (Exits pid) = tt
-  fits-any (Faults pid) = tt
-  fits-any (Dies pid) = tt
+  fits-any d = grind (arith, nat_tests)
 
   any-runs : (list : List Inside) → AllByRecursion (λ i. FitsRun AnyInstr i.transfer) list
   any-runs [] = tt
   any-runs (i ∷ list) = (fits-any i.transfer, any-runs list)
 
   any-scope : (at : At) → InScope whole at
-  any-scope (Byte k) = tt
-  any-scope (StartRegister r i) = tt
-  any-scope (StartSlot r i) = tt
-  any-scope (StartMemory at) = tt
+  any-scope at = grind (arith, nat_tests)
 
   module _ (entries : List Record) (g : ℕ) where
     as-items : (event : ℕ) (items : List EventByte) → AllByRecursion (IsShown table whole is-whole entries g event) items → All (IsItem entries g event) items
@@ -139,21 +123,7 @@ members-received follows lens table entries g moment own stands blocks is pid x 
 
 -- its events
 own-event : (entries : List Record) (g : ℕ) (event : Event) (d : Transfer) → IsOf entries g event d → IsOwnEvent entries g event d
-own-event entries g event (Arrives len) of = record { there = of.there; by = inl of.by }
-own-event entries g event (Starts pid made load len block block_len) of = record { there = of.there; by = inl of.by }
-own-event entries g event (Runs pid instr place) of = record { there = of.there; by = inl of.by }
-own-event entries g event (Returns pid) of = record { there = of.there; by = inl of.by }
-own-event entries g event (Receives pid place len) of = record { there = of.there; by = inl of.by }
-own-event entries g event (Gives pid place len) of = record { there = of.there; by = inl of.by }
-own-event entries g event (Forks pid child from into) of = record { there = of.there; by = inl of.by }
-own-event entries g event (Founds pid child from into) of = record { there = of.there; by = inl of.by }
-own-event entries g event (Begins pid made) of = record { there = of.there; by = inr (ap₂ (λ (p m : ℕ). Begins p m) of.by.1 of.by.2, of.by.0) }
-own-event entries g event (Shares pid made) of = record { there = of.there; by = inl of.by }
-own-event entries g event (Delivers pid cut) of = record { there = of.there; by = inl of.by }
-own-event entries g event (Leaves pid) of = record { there = of.there; by = inl of.by }
-own-event entries g event (Exits pid) of = record { there = of.there; by = inl of.by }
-own-event entries g event (Faults pid) of = record { there = of.there; by = inl of.by }
-own-event entries g event (Dies pid) of = record { there = of.there; by = inl of.by }
+own-event entries g event d h1 = grind (arith, nat_tests)
 
 one-own : (entries : List Record) (g n : ℕ) (o : Option Event) (d : Transfer) → IsLater n o → IsHeard entries g o d → IfSome o (λ event. (n ≤ event.number) × IsOwnEvent entries g event d)
 one-own entries g n None d later is = tt
@@ -169,6 +139,4 @@ all-own entries g n (i ∷ list) are =
     (one-own entries g n i.event i.transfer are.0 are.1, subst (λ (m : ℕ). AreOwnEvents entries g m list) (same-next n i.event) (all-own entries g (next n i.event) list are.2))
 
 pub own-events : EventsAreOwn
-own-events entries g moment own stands is =
-    let heard = subst (λ (made : Made). Ends (λ (o : Own). (m : ℕ) × State entries g m o.inside) made) is (alone-heard entries g moment stands) in
-    all-own entries g 0 own.inside heard.1.heard
+own-events = grind (arith, nat_tests, all-own, alone-heard)

@@ -1,5 +1,6 @@
 -- Bytes that live members hold, and what each step takes of them.
-use Rattle.std.proofs.Common.{◌≡◌, ◌⊎◌, inl, inr, ℕ, zero, suc, ◌+◌, ◌-◌, ◌<◌, ◌==◌, ◌&&◌, nat_le, nat_lt, Bool, true, false, if◌then◌else◌, List, [], ◌∷◌, map, flat_map, Option, Some, None, IfSome, IsNone, option_map, unwrap_or, refl, ap, sym, subst, ◌∙◌, arith}
+use Rattle.std.proofs.Common.{◌≡◌, ◌⊎◌, inl, inr, ℕ, zero, suc, ◌-◌, ◌<◌, ◌==◌, ◌&&◌, Bool, true, false, if◌then◌else◌, List, [], ◌∷◌, map, flat_map, Option, Some, None, IfSome, IsNone, option_map, unwrap_or, refl, ap, sym, subst, ◌∙◌, arith}
+use Rattle.std.proofs.lemmas.Bool.Decides.{nat_tests}
 use Rattle.std.specs.List.{AllByRecursion}
 use Rattle.std.proofs.lemmas.Bool.{true≢false, and_parts, leb-true, ltb-true}
 use Rattle.std.proofs.lemmas.Bool.Decides.{eqb_tells}
@@ -7,13 +8,11 @@ use Rattle.std.proofs.lemmas.Option.{none-some, same_Some}
 use Rattle.rv64_isa.specs.declared.instruction.Instr.{Instr}
 use Rattle.rv64_model.specs.Carries.{Table}
 use Rattle.rv64_model.specs.Operands.{rd_of, stored_len}
-use Rattle.parts_model.specs.Image.{header_len}
 use Rattle.acts_model.specs.Moved.{within}
 use Rattle.acts_model.specs.Transfers.{Holds, Place, Transfer, Arrives, Starts, Runs, Returns, Receives, Gives, Forks, Founds, Begins, Shares, Delivers, Leaves, Exits, Faults, Dies}
-use Rattle.acts_model.specs.Views.{block_at}
-use Rattle.lineage_model.specs.Flow.{Location, Register, Slot, Memory, At, Byte, StartRegister, StartSlot, StartMemory, Dependence, Prior, Received, body_byte, block_byte, bytes_at, flow, offset, operand_bytes, or_else, received_byte, result_bytes, result_only, shown, shown_byte, started_byte, unless_result, when, if_below, saved}
+use Rattle.lineage_model.specs.Flow.{Location, Register, Slot, Memory, At, Byte, StartRegister, StartSlot, StartMemory, Dependence, Prior, Received, bytes_at, flow, offset, operand_bytes, or_else, result_bytes, result_only, shown, shown_byte, started_byte, unless_result, when, if_below, saved}
 use Rattle.taint_tracker.specs.Goes.{IsOwn, IsUnheld, IsUnheldBy}
-use Rattle.taint_tracker.specs.Steps.{Holders, child_holds, fresh_holds, holders_after, shared_holds, with_holder}
+use Rattle.taint_tracker.specs.Steps.{Holders, child_holds, holders_after, shared_holds, with_holder}
 
 -- which bytes of registers, windows and segments are followed, and which bytes of results
 pub record Scope : Type 1 where
@@ -98,21 +97,10 @@ abbrev Or-self : Location → Option (List Dependence) → List Dependence
 Or-self l o = unwrap_or o (Prior l ∷ [])
 
 within-below : (a n b k : ℕ) → within a n b ≡ Some k → k < n
-within-below a n b k is = by-test (nat_le a b && nat_lt b (a + n)) refl is
-  where
-    by-test : (t : Bool) → (nat_le a b && nat_lt b (a + n)) ≡ t → (if t then Some (b - a) else None) ≡ Some k → k < n
-    by-test true t h =
-        let parts = and_parts (nat_le a b) (nat_lt b (a + n)) t in
-        let low = leb-true a b parts.0 in let high = ltb-true b (a + n) parts.1 in let e = same_Some (b - a) k h in omega (arith, low, high, e)
-    by-test false t h = absurd (none-some k h)
+within-below a n b k h1 = grind (arith, nat_tests, and_parts, leb-true, ltb-true, none-some, same_Some)
 
 offset-below : (place : Option Place) (n made at k : ℕ) → offset place n made at ≡ Some k → k < n
-offset-below None n made at k is = absurd (none-some k is)
-offset-below (Some place) n made at k is = by-test (place.made == made) is
-  where
-    by-test : (t : Bool) → (if t then within place.at n at else None) ≡ Some k → k < n
-    by-test true h = within-below place.at n at k h
-    by-test false h = absurd (none-some k h)
+offset-below place n made at k h1 = grind (arith, nat_tests, none-some, within-below)
 
 module _ (table : Table) (s : Scope) (is-scope : IsScope s) (h : Holders) where
   module _ (Q : At → Type 0) where
@@ -145,17 +133,11 @@ module _ (table : Table) (s : Scope) (is-scope : IsScope s) (h : Holders) where
   quiet d keeps was p hs l lives held = subst (λ (ds : List Dependence). AreSources s h (IsGot s d) ds) (sym (keeps l)) (self (IsGot s d) p hs l (was p hs lives) held)
 
   gone : (pid p : ℕ) (hs : Holds) → with_holder pid None h p ≡ Some hs → h p ≡ Some hs
-  gone pid p hs is = by-test (p == pid) is
-    where
-      by-test : (b : Bool) → (if b then None else h p) ≡ Some hs → h p ≡ Some hs
-      by-test true e = absurd (none-some hs e)
-      by-test false e = e
+  gone pid p hs h1 = grind (arith, nat_tests, none-some)
 
   -- a call's result
   result-held : (Q : At → Type 0) (pid p : ℕ) (hs : Holds) (l : Location) → h p ≡ Some hs → IsHeldBy s hs p l → AreSources s h Q (Or-self l (result_only pid l))
-  result-held Q pid p hs (Register q r i) lives held = either Q ((q == pid) && (r == 10)) (Register q r i) [] (λ hit. tt) (λ miss. self Q p hs (Register q r i) lives held)
-  result-held Q pid p hs (Slot q r i) lives held = self Q p hs (Slot q r i) lives held
-  result-held Q pid p hs (Memory made at) lives held = self Q p hs (Memory made at) lives held
+  result-held Q pid p hs l h1 h2 = grind (arith, nat_tests)
 
   returns-held : (pid : ℕ) → FlowIsHeld (Returns pid)
   returns-held pid p hs l lives held = result-held (IsGot s (Returns pid)) pid p hs l lives held
@@ -164,18 +146,7 @@ module _ (table : Table) (s : Scope) (is-scope : IsScope s) (h : Holders) where
   gives-held pid place len p hs l lives held = result-held (IsGot s (Gives pid place len)) pid p hs l lives held
 
   receives-held : (pid : ℕ) (place : Option Place) (len : ℕ) → FlowIsHeld (Receives pid place len)
-  receives-held pid place len p hs (Register q r i) lives held =
-      subst (λ (o : Option (List Dependence)). AreSources s h (IsGot s (Receives pid place len)) (Or-self (Register q r i) o)) (or-none (result_only pid (Register q r i))) (result-held (IsGot s (Receives pid place len)) pid p hs (Register q r i) lives held)
-    where
-      or-none : (o : Option (List Dependence)) → o ≡ or_else o None
-      or-none None = refl
-      or-none (Some ds) = refl
-  receives-held pid place len p hs (Slot q r i) lives held = self (IsGot s (Receives pid place len)) p hs (Slot q r i) lives held
-  receives-held pid place len p hs (Memory made at) lives held = by-offset (offset place len made at) refl
-    where
-      by-offset : (o : Option ℕ) → offset place len made at ≡ o → AreSources s h (IsGot s (Receives pid place len)) (Or-self (Memory made at) (option_map received_byte o))
-      by-offset None e = self (IsGot s (Receives pid place len)) p hs (Memory made at) lives held
-      by-offset (Some k) e = (offset-below place len made at k e, tt)
+  receives-held pid place len = grind (arith, nat_tests, offset-below, result-held)
 
   runs-held : (pid : ℕ) (instr : Instr) (place : Option Place) → IsTaking table s h (Runs pid instr place) → FlowIsHeld (Runs pid instr place)
   runs-held pid instr place takes p hs (Register q zero i) lives held = self (IsGot s (Runs pid instr place)) p hs (Register q zero i) lives held
@@ -194,47 +165,14 @@ module _ (table : Table) (s : Scope) (is-scope : IsScope s) (h : Holders) where
 
   -- an image
   started-held : (pid made load len : ℕ) (block : Option Place) (block_len at : ℕ) → RangeIsHeld s h block block_len → AreSources s h (IsGot s (Starts pid made load len block block_len)) (started_byte load len block block_len at)
-  started-held pid made load len block block_len at takes = by-block (within (block_at block_len) block_len at) refl
-    where
-      by-body : (o : Option ℕ) → within load (len - header_len) at ≡ o → AreSources s h (IsGot s (Starts pid made load len block block_len)) (unwrap_or (option_map (λ k. received_byte (header_len + k)) o) [])
-      by-body None e = tt
-      by-body (Some k) e = ((let low = within-below load (len - header_len) at k e in omega (arith, low)), tt)
-
-      by-block : (o : Option ℕ) → within (block_at block_len) block_len at ≡ o → AreSources s h (IsGot s (Starts pid made load len block block_len)) (unwrap_or (option_map (block_byte block) o) (body_byte load len at))
-      by-block None e = by-body (within load (len - header_len) at) refl
-      by-block (Some k) e = priors s h (IsGot s (Starts pid made load len block block_len)) (bytes_at block k) (takes k (within-below (block_at block_len) block_len at k e))
+  started-held pid made load len block block_len at h1 = grind (arith, nat_tests, priors, within-below)
 
   -- a process that changes, and the others
   changes : (pid p : ℕ) (o : Option Holds) (hs : Holds) → with_holder pid o h p ≡ Some hs → ((p ≡ pid) × (o ≡ Some hs)) ⊎ ((p ≡ pid → ⊥) × (h p ≡ Some hs))
-  changes pid p o hs is =
-      elim (eqb_tells p pid) [
-        | inl same ↦ inl (same.1, rw same.0 at is)
-        | inr apart ↦ inr (apart.1, rw apart.0 at is)
-      ]
+  changes pid p o hs h1 = grind (arith, nat_tests, eqb_tells)
 
   starts-held : (pid made load len : ℕ) (block : Option Place) (block_len : ℕ) → RangeIsHeld s h block block_len → FlowIsHeld (Starts pid made load len block block_len)
-  starts-held pid made load len block block_len takes p hs l lives held = by-holder (changes pid p (Some (fresh_holds made)) hs lives) l held
-    where
-      by-holder : ((p ≡ pid) × (Some (fresh_holds made) ≡ Some hs)) ⊎ ((p ≡ pid → ⊥) × (h p ≡ Some hs)) → (l : Location) → IsHeldBy s hs p l → AreSources s h (IsGot s (Starts pid made load len block block_len)) (flow table (Starts pid made load len block block_len) l)
-      by-holder (inl own) (Register q r i) held =
-          either (IsGot s (Starts pid made load len block block_len)) (q == pid) (Register q r i) [] (λ hit. tt) (λ miss. absurd (true≢false (sym (same-number q pid (held.0 ∙ own.0)) ∙ miss)))
-      by-holder (inl own) (Slot q r i) held =
-          either (IsGot s (Starts pid made load len block block_len)) (q == pid) (Slot q r i) [] (λ hit. tt) (λ miss. absurd (true≢false (sym (same-number q pid (held.0 ∙ own.0)) ∙ miss)))
-      by-holder (inl own) (Memory m at) (inl window) =
-          let e = same_Some (fresh_holds made) hs own.1 in
-          either (IsGot s (Starts pid made load len block block_len)) (m == made) (Memory m at) (started_byte load len block block_len at)
-          (λ hit. started-held pid made load len block block_len at takes)
-          (λ miss. absurd (true≢false (sym (same-number m made (sym window.0 ∙ sym (ap (λ (x : Holds). x.window) e))) ∙ miss)))
-      by-holder (inl own) (Memory m at) (inr segment) =
-          absurd (none-some m (ap (λ (x : Holds). x.segment) (same_Some (fresh_holds made) hs own.1) ∙ segment.0))
-      by-holder (inr other) (Register q r i) held =
-          either (IsGot s (Starts pid made load len block block_len)) (q == pid) (Register q r i) [] (λ hit. tt) (λ miss. self (IsGot s (Starts pid made load len block block_len)) p hs (Register q r i) other.1 held)
-      by-holder (inr other) (Slot q r i) held =
-          either (IsGot s (Starts pid made load len block block_len)) (q == pid) (Slot q r i) [] (λ hit. tt) (λ miss. self (IsGot s (Starts pid made load len block block_len)) p hs (Slot q r i) other.1 held)
-      by-holder (inr other) (Memory m at) held =
-          either (IsGot s (Starts pid made load len block block_len)) (m == made) (Memory m at) (started_byte load len block block_len at)
-          (λ hit. started-held pid made load len block block_len at takes)
-          (λ miss. self (IsGot s (Starts pid made load len block block_len)) p hs (Memory m at) other.1 held)
+  starts-held pid made load len block block_len h1 = grind (arith, nat_tests, changes, none-some, same-number, same_Some, started-held, true≢false)
 
   -- a member holds no memory that is new
   unheld : (p made : ℕ) (hs : Holds) → h p ≡ Some hs → IfSome (h p) (IsUnheldBy made) → IsUnheldBy made hs
@@ -251,10 +189,6 @@ module _ (table : Table) (s : Scope) (is-scope : IsScope s) (h : Holders) where
   behind-result : (Q : At → Type 0) (b : Bool) (l : Location) (o : Option (List Dependence)) → AreSources s h Q (Or-self l o) → AreSources s h Q (Or-self l (or_else (when b []) o))
   behind-result Q true l o a = tt
   behind-result Q false l o a = a
-
-  -- a child in the group
-  abbrev ForkHeld : ℕ → ℕ → ℕ → ℕ → ℕ → Holds → Location → Type 0
-  ForkHeld pid child from into p hs l = AreSources s h (IsGot s (Forks pid child from into)) (flow table (Forks pid child from into) l)
 
   child-is : (into : ℕ) (o : Option Holds) (parent hs : Holds) → o ≡ Some parent → child_holds into o ≡ Some hs → hs ≡ record { window = into; segment = parent.segment }
   child-is into None parent hs is e = absurd (none-some parent is)
@@ -299,20 +233,11 @@ module _ (table : Table) (s : Scope) (is-scope : IsScope s) (h : Holders) where
       (λ miss. self Q p hs (Memory m at) lives held)
 
   forks-held : (pid child from into : ℕ) → IsTaking table s h (Forks pid child from into) → FlowIsHeld (Forks pid child from into)
-  forks-held pid child from into takes p hs l lives held =
-      elim (changes child p (child_holds into (h pid)) hs lives) [
-        | inl own ↦ fork-child pid child from into p takes.0 l takes.1 takes.2 (unheld pid into takes.0 takes.1 (takes.3 pid)) own.0
-            (subst (λ (x : Holds). IsHeldBy s x p l) (child-is into (h pid) takes.0 hs takes.1 own.1) held)
-        | inr other ↦ fork-other pid child from into p hs l other.1 (unheld p into hs other.1 (takes.3 p)) other.0 held
-      ]
+  forks-held pid child from into h1 = grind (arith, nat_tests, changes, child-is, fork-child, fork-other, unheld)
 
   -- a child that starts a group isn't a member
   alive-isnt : (child p : ℕ) (hs : Holds) → h p ≡ Some hs → IsNone (h child) → p ≡ child → ⊥
-  alive-isnt child p hs lives none e = not-some (h child) none (ap h (sym e) ∙ lives)
-    where
-      not-some : (o : Option Holds) → IsNone o → o ≡ Some hs → ⊥
-      not-some None n k = none-some hs k
-      not-some (Some x) n k = true≢false n
+  alive-isnt child p hs h1 h2 h3 = grind (arith, nat_tests, none-some, true≢false)
 
   founds-held : (pid child from into : ℕ) → IsTaking table s h (Founds pid child from into) → FlowIsHeld (Founds pid child from into)
   founds-held pid child from into takes p hs (Register q r i) lives held =
@@ -334,31 +259,7 @@ module _ (table : Table) (s : Scope) (is-scope : IsScope s) (h : Holders) where
 
   -- the group's first process
   begins-held : (pid made : ℕ) → IsOwn h pid made → FlowIsHeld (Begins pid made)
-  begins-held pid made takes p hs l lives held = by-holder (changes pid p (Some (fresh_holds made)) hs lives) l held
-    where
-      by-holder : ((p ≡ pid) × (Some (fresh_holds made) ≡ Some hs)) ⊎ ((p ≡ pid → ⊥) × (h p ≡ Some hs)) → (l : Location) → IsHeldBy s hs p l → AreSources s h (IsGot s (Begins pid made)) (flow table (Begins pid made) l)
-      by-holder (inl own) (Register q r i) held =
-          by-number (IsGot s (Begins pid made)) (q == pid) (Register q r i) (unless_result r (Received (StartRegister r i) ∷ [])) (same-number q pid (held.0 ∙ own.0))
-          (unless-result (IsGot s (Begins pid made)) r (Received (StartRegister r i)) held.1)
-      by-holder (inl own) (Slot q r i) held =
-          by-number (IsGot s (Begins pid made)) (q == pid) (Slot q r i) (Received (StartSlot r i) ∷ []) (same-number q pid (held.0 ∙ own.0)) (held.1, tt)
-      by-holder (inl own) (Memory m at) (inl window) =
-          by-number (IsGot s (Begins pid made)) (m == made) (Memory m at) (Received (StartMemory at) ∷ [])
-          (same-number m made (sym window.0 ∙ sym (ap (λ (x : Holds). x.window) (same_Some (fresh_holds made) hs own.1)))) (window.1, tt)
-      by-holder (inl own) (Memory m at) (inr segment) =
-          absurd (none-some m (ap (λ (x : Holds). x.segment) (same_Some (fresh_holds made) hs own.1) ∙ segment.0))
-      by-holder (inr other) (Register q r i) held =
-          either (IsGot s (Begins pid made)) (q == pid) (Register q r i) (unless_result r (Received (StartRegister r i) ∷ []))
-          (λ hit. absurd (true≢false (sym hit ∙ other-number q pid (λ e. other.0 (sym held.0 ∙ e)))))
-          (λ miss. self (IsGot s (Begins pid made)) p hs (Register q r i) other.1 held)
-      by-holder (inr other) (Slot q r i) held =
-          either (IsGot s (Begins pid made)) (q == pid) (Slot q r i) (Received (StartSlot r i) ∷ [])
-          (λ hit. absurd (true≢false (sym hit ∙ other-number q pid (λ e. other.0 (sym held.0 ∙ e)))))
-          (λ miss. self (IsGot s (Begins pid made)) p hs (Slot q r i) other.1 held)
-      by-holder (inr other) (Memory m at) held =
-          either (IsGot s (Begins pid made)) (m == made) (Memory m at) (Received (StartMemory at) ∷ [])
-          (λ hit. absurd (true≢false (sym hit ∙ not-new p made m at hs (unheld p made hs other.1 (takes p other.0)) held)))
-          (λ miss. self (IsGot s (Begins pid made)) p hs (Memory m at) other.1 held)
+  begins-held pid made h1 = grind (arith, nat_tests, by-number, changes, none-some, not-new, other-number, same-number)
 
   -- a fresh segment
   shared-is : (made : ℕ) (o : Option Holds) (own hs : Holds) → o ≡ Some own → shared_holds made o ≡ Some hs → hs ≡ record { window = own.window; segment = Some made }
@@ -378,18 +279,7 @@ module _ (table : Table) (s : Scope) (is-scope : IsScope s) (h : Holders) where
       by-number (IsGot s (Shares pid made)) (m == made) (Memory m at) [] (same-number m made (sym (same_Some made m segment.0))) tt
 
   shares-held : (pid made : ℕ) → IsTaking table s h (Shares pid made) → FlowIsHeld (Shares pid made)
-  shares-held pid made takes p hs l lives held =
-      elim (changes pid p (shared_holds made (h pid)) hs lives) [
-        | inl own ↦ shares-own pid made p takes.0 l takes.1 own.0 (subst (λ (x : Holds). IsHeldBy s x p l) (shared-is made (h pid) takes.0 hs takes.1 own.1) held)
-        | inr other ↦ others l held other.1
-      ]
-    where
-      others : (l : Location) → IsHeldBy s hs p l → h p ≡ Some hs → AreSources s h (IsGot s (Shares pid made)) (flow table (Shares pid made) l)
-      others (Register q r i) held lives =
-          behind-result (IsGot s (Shares pid made)) ((q == pid) && (r == 10)) (Register q r i) None (self (IsGot s (Shares pid made)) p hs (Register q r i) lives held)
-      others (Slot q r i) held lives = self (IsGot s (Shares pid made)) p hs (Slot q r i) lives held
-      others (Memory m at) held lives =
-          either (IsGot s (Shares pid made)) (m == made) (Memory m at) [] (λ hit. tt) (λ miss. self (IsGot s (Shares pid made)) p hs (Memory m at) lives held)
+  shares-held pid made h1 = grind (arith, nat_tests, behind-result, changes, shared-is, shares-own)
 
   -- signals
   delivers-held : (pid : ℕ) (cut : Bool) → FlowIsHeld (Delivers pid cut)
@@ -432,86 +322,19 @@ module _ (table : Table) (s : Scope) (is-scope : IsScope s) (h : Holders) where
 
   -- what a byte of the step's event takes
   below-held : (Q : At → Type 0) (k n : ℕ) (ds : List Dependence) → (k < n → AreSources s h Q ds) → AreSources s h Q (if_below k n ds)
-  below-held Q k n ds a = by-test (nat_lt k n) refl
-    where
-      by-test : (b : Bool) → nat_lt k n ≡ b → AreSources s h Q (if b then ds else [])
-      by-test true t = a (ltb-true k n t)
-      by-test false t = tt
+  below-held Q k n ds h1 = grind (arith, nat_tests, ltb-true)
 
   byte-held : (d : Transfer) (k : ℕ) → IsTaking table s h d → AreSources s h (IsShownGot s d) (shown_byte d k)
-  byte-held (Arrives len) k takes = absurd takes
-  byte-held (Starts pid made load len block block_len) k takes =
-      below-held (IsShownGot s (Starts pid made load len block block_len)) k len (received_byte k) (λ low. ((low, tt), tt))
-  byte-held (Runs pid instr place) k takes = tt
-  byte-held (Returns pid) k takes = tt
-  byte-held (Receives pid place len) k takes = below-held (IsShownGot s (Receives pid place len)) k len (received_byte k) (λ low. ((low, tt), tt))
-  byte-held (Gives pid place len) k takes =
-      below-held (IsShownGot s (Gives pid place len)) k len (map Prior (bytes_at place k)) (λ low. priors s h (IsShownGot s (Gives pid place len)) (bytes_at place k) (takes k low))
-  byte-held (Forks pid child from into) k takes = tt
-  byte-held (Founds pid child from into) k takes = tt
-  byte-held (Begins pid made) k takes = tt
-  byte-held (Shares pid made) k takes = tt
-  byte-held (Delivers pid cut) k takes = tt
-  byte-held (Leaves pid) k takes = tt
-  byte-held (Exits pid) k takes =
-      below-held (IsShownGot s (Exits pid)) k 1 (Prior (Register pid 10 0) ∷ []) (λ low. self (IsShownGot s (Exits pid)) pid takes.0 (Register pid 10 0) takes.1 (refl, is-scope.status))
-  byte-held (Faults pid) k takes = tt
-  byte-held (Dies pid) k takes = tt
+  byte-held d k h1 = grind (arith, nat_tests, below-held, priors)
 
   register-held : (d : Transfer) (r i : ℕ) → IsTaking table s h d → s.register r i → AreSources s h (IsShownGot s d) (shown d (StartRegister r i))
-  register-held (Founds pid child from into) r i takes is =
-      unless-result (IsShownGot s (Founds pid child from into)) r (Prior (Register pid r i)) (pid, takes.0, takes.1, (refl, is))
-  register-held (Arrives len) r i takes is = tt
-  register-held (Starts pid made load len block block_len) r i takes is = tt
-  register-held (Runs pid instr place) r i takes is = tt
-  register-held (Returns pid) r i takes is = tt
-  register-held (Receives pid place len) r i takes is = tt
-  register-held (Gives pid place len) r i takes is = tt
-  register-held (Forks pid child from into) r i takes is = tt
-  register-held (Begins pid made) r i takes is = tt
-  register-held (Shares pid made) r i takes is = tt
-  register-held (Delivers pid cut) r i takes is = tt
-  register-held (Leaves pid) r i takes is = tt
-  register-held (Exits pid) r i takes is = tt
-  register-held (Faults pid) r i takes is = tt
-  register-held (Dies pid) r i takes is = tt
+  register-held d r i h1 h2 = grind (arith, nat_tests)
 
   slot-held : (d : Transfer) (r i : ℕ) → IsTaking table s h d → s.register r i → AreSources s h (IsShownGot s d) (shown d (StartSlot r i))
-  slot-held (Founds pid child from into) r i takes is = self (IsShownGot s (Founds pid child from into)) pid takes.0 (Slot pid r i) takes.1 (refl, is)
-  slot-held (Arrives len) r i takes is = tt
-  slot-held (Starts pid made load len block block_len) r i takes is = tt
-  slot-held (Runs pid instr place) r i takes is = tt
-  slot-held (Returns pid) r i takes is = tt
-  slot-held (Receives pid place len) r i takes is = tt
-  slot-held (Gives pid place len) r i takes is = tt
-  slot-held (Forks pid child from into) r i takes is = tt
-  slot-held (Begins pid made) r i takes is = tt
-  slot-held (Shares pid made) r i takes is = tt
-  slot-held (Delivers pid cut) r i takes is = tt
-  slot-held (Leaves pid) r i takes is = tt
-  slot-held (Exits pid) r i takes is = tt
-  slot-held (Faults pid) r i takes is = tt
-  slot-held (Dies pid) r i takes is = tt
+  slot-held d r i h1 h2 = grind (arith, nat_tests)
 
   memory-held : (d : Transfer) (at : ℕ) → IsTaking table s h d → s.window at → AreSources s h (IsShownGot s d) (shown d (StartMemory at))
-  memory-held (Founds pid child from into) at takes is = self (IsShownGot s (Founds pid child from into)) pid takes.0 (Memory from at) takes.1 (inl (takes.2, is))
-  memory-held (Arrives len) at takes is = tt
-  memory-held (Starts pid made load len block block_len) at takes is = tt
-  memory-held (Runs pid instr place) at takes is = tt
-  memory-held (Returns pid) at takes is = tt
-  memory-held (Receives pid place len) at takes is = tt
-  memory-held (Gives pid place len) at takes is = tt
-  memory-held (Forks pid child from into) at takes is = tt
-  memory-held (Begins pid made) at takes is = tt
-  memory-held (Shares pid made) at takes is = tt
-  memory-held (Delivers pid cut) at takes is = tt
-  memory-held (Leaves pid) at takes is = tt
-  memory-held (Exits pid) at takes is = tt
-  memory-held (Faults pid) at takes is = tt
-  memory-held (Dies pid) at takes is = tt
+  memory-held d at h1 h2 = grind (arith, nat_tests)
 
   pub shown-held : (d : Transfer) (at : At) → IsTaking table s h d → InScope s at → AreSources s h (IsShownGot s d) (shown d at)
-  shown-held d (Byte k) takes is = byte-held d k takes
-  shown-held d (StartRegister r i) takes is = register-held d r i takes is
-  shown-held d (StartSlot r i) takes is = slot-held d r i takes is
-  shown-held d (StartMemory at) takes is = memory-held d at takes is
+  shown-held d at h1 h2 = grind (arith, nat_tests, byte-held, memory-held, register-held, slot-held)

@@ -1,5 +1,6 @@
 -- The group of a process is the same at each later record.
-use Rattle.std.proofs.Common.{◌≡◌, ℕ, ◌+◌, ◌==◌, ◌&&◌, ◌||◌, Bool, true, false, not, if◌then◌else◌, List, [], ◌∷◌, ◌++◌, length, Option, Some, None, option_and_then, slice_get, refl, ap, sym, subst, ◌∙◌, arith, length-append}
+use Rattle.std.proofs.Common.{◌≡◌, ℕ, ◌+◌, ◌==◌, ◌&&◌, ◌||◌, Bool, true, false, not, if◌then◌else◌, List, [], ◌∷◌, ◌++◌, length, Option, Some, None, slice_get, refl, ap, sym, subst, ◌∙◌, arith, length-append}
+use Rattle.std.proofs.lemmas.Bool.Decides.{nat_tests}
 use Rattle.std.proofs.lemmas.Bool.{true≢false, eqb-true}
 use Rattle.std.proofs.lemmas.List.Elements.{filter-append}
 use Rattle.std.proofs.lemmas.List.Folds.{list_any-append}
@@ -15,7 +16,7 @@ use Rattle.history_model.specs.Events.{events, event_at, how_many}
 use Rattle.history_model.specs.Groups.{Groups, group_forked, groups_told, groups_from, group_of, event_group}
 use Rattle.history_model.specs.Moments.{changed}
 use Rattle.history_model.specs.Names.{is_boot, is_booted}
-use Rattle.query_laws.proofs.Found.{AreFounded, Stands, follows, greatest-push, left, right, numbered, tells-one}
+use Rattle.query_laws.proofs.Found.{AreFounded, Stands, follows, greatest-push, left, numbered, tells-one}
 
 -- before a boot there is no process and no slice
 abbrev pub Unbooted : List Record → Type 0
@@ -37,22 +38,10 @@ needs-boot : (before : List Record) (e : Record) → not (is_booted before) ≡ 
 needs-boot before e comes none = not-both (is_booted before) (left (is_booted before) (is_boot e || false) (sym (booted-push before e) ∙ none)) comes
 
 needs-slice : (before : List Record) (e : Record) (pid : ℕ) → not (is_behind pid (behind before)) ≡ false → Unbooted before → Unbooted (before ++ e ∷ [])
-needs-slice before e pid slice u none =
-    let was = u (left (is_booted before) (is_boot e || false) (sym (booted-push before e) ∙ none)) in
-    not-both (is_behind pid (behind before)) (ap (is_behind pid) was.1) slice
+needs-slice before e pid h1 h2 = grind (arith, nat_tests, booted-push, left, not-both)
 
 pub unbooted-push : (before : List Record) (e : Record) → Stands before e → Unbooted before → Unbooted (before ++ e ∷ [])
-unbooted-push before (entry.File name bytes) s u none =
-    let was = u (left (is_booted before) false (sym (booted-push before (entry.File name bytes)) ∙ none)) in
-    (greatest-push before 0 (entry.File name bytes) ∙ was.0, behind-push Nowhere before (entry.File name bytes))
-unbooted-push before (entry.Boot name give) s u none =
-    absurd (true≢false (right (is_booted before) true (sym (booted-push before (entry.Boot name give)) ∙ none)))
-unbooted-push before (entry.Typed bytes) s u none = needs-boot before (entry.Typed bytes) s.comes none
-unbooted-push before (entry.Unplug device) s u none = needs-boot before (entry.Unplug device) s.comes none
-unbooted-push before (entry.Slice pid ran) s u none = needs-boot before (entry.Slice pid ran) s.comes none
-unbooted-push before (entry.Signal pid signal cut handler) s u none = needs-slice before (entry.Signal pid signal cut handler) pid s.slice u none
-unbooted-push before (entry.Call pid number result more) s u none = needs-slice before (entry.Call pid number result more) pid s.slice u none
-unbooted-push before (entry.End pid status) s u none = needs-slice before (entry.End pid status) pid s.slice u none
+unbooted-push before e h1 h2 = grind (arith, nat_tests, behind-push, booted-push, greatest-push, left, needs-boot, needs-slice)
 
 -- a new process leaves the groups of those that were made before
 other-group : (groups : Groups) (most child pid g : ℕ) (o : Option ℕ) → AreFounded groups most → child ≡ most + 1 → groups pid ≡ Some g → changed groups child o pid ≡ Some g
@@ -112,9 +101,7 @@ at-len [] ys x = refl
 at-len (y ∷ xs) ys x = at-len xs ys x
 
 pub stands-at : (before rest : List Record) (e : Record) → is_event e ≡ true → event_at (before ++ e ∷ rest) (how_many before) ≡ Some e
-stands-at before rest e is =
-    ap (λ (es : List Record). slice_get es (how_many before)) (filter-append is_event before (e ∷ rest) ∙ ap (λ (b : Bool). events before ++ (if b then e ∷ events rest else events rest)) is)
-    ∙ at-len (events before) (events rest) e
+stands-at before rest e h1 = grind (arith, nat_tests, at-len, filter-append)
 
 pub how-many-push : (before : List Record) (e : Record) → is_event e ≡ true → how_many (before ++ e ∷ []) ≡ how_many before + 1
 how-many-push before e is =
@@ -128,6 +115,4 @@ how-many-slice before pid ran =
 
 -- the group of an event
 pub group-at : (entries : List Record) (n pid g : ℕ) (e : Record) → event_at entries n ≡ Some e → process_of e ≡ Some pid → group_of entries pid ≡ Some g → event_group entries n ≡ Some g
-group-at entries n pid g e at process group =
-    ap (λ (o : Option Record). option_and_then (group_of entries) (option_and_then process_of o)) at
-    ∙ (ap (option_and_then (group_of entries)) process ∙ group)
+group-at entries n pid g e h1 h2 h3 = grind (arith, nat_tests)

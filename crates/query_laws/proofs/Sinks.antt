@@ -1,11 +1,12 @@
 -- Which bytes of writes to the outside a byte reaches.
 use Rattle.std.proofs.Common.{◌≡◌, ℕ, ◌<◌, ◌==◌, ◌&&◌, Bool, true, false, if◌then◌else◌, List, [], filter, Option, Some, None, refl, ap, ap₂, sym, subst, arith}
+use Rattle.std.proofs.lemmas.Bool.Decides.{nat_tests}
 use Rattle.std.specs.List.{Contains, list_any, range_with_len}
 use Rattle.std.proofs.lemmas.Bool.{false≢true, and_from, and_parts, eqb-true}
 use Rattle.arn_base.specs.declared.records.Record.{Record}
 use Rattle.acts_model.specs.Records.{event_len}
 use Rattle.history_model.specs.Events.{events, event_at, how_many}
-use Rattle.lineage_model.specs.Flow.{At, Byte, StartRegister, StartSlot, StartMemory}
+use Rattle.lineage_model.specs.Flow.{At, Byte}
 use Rattle.lineage_model.specs.Joined.{Reaching}
 use Rattle.lineage_model.specs.Tracking.{EventByte}
 use Rattle.query_model.specs.Sinks.{bytes_reached, is_among, is_byte, is_place, is_sink, sinks_at}
@@ -17,10 +18,7 @@ use Rattle.query_laws.proofs.Mapped.{flat-in, in-flat, in-map, map-in}
 
 -- the test tells a byte
 place-is : (k : ℕ) (at : At) → is_place k at ≡ true → at ≡ Byte k
-place-is k (Byte n) is = ap (λ (m : ℕ). Byte m) (eqb-true n k is)
-place-is k (StartRegister r i) is = absurd (false≢true is)
-place-is k (StartSlot r i) is = absurd (false≢true is)
-place-is k (StartMemory at) is = absurd (false≢true is)
+place-is k at h1 = grind (arith, nat_tests, eqb-true, false≢true)
 
 byte-is : (event k : ℕ) (byte : EventByte) → is_byte event k byte ≡ true → byte ≡ record { event = event; at = Byte k }
 byte-is event k byte is =

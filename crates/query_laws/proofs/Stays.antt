@@ -1,5 +1,6 @@
 -- What whole tracking gives an event's bytes stays what it was.
-use Rattle.std.proofs.Common.{◌≡◌, inl, inr, ℕ, zero, suc, ◌+◌, ◌<◌, ◌≤◌, Bool, true, false, if◌then◌else◌, List, [], ◌∷◌, length, map, Option, Some, None, refl, ap, sym, subst, ◌∙◌, arith}
+use Rattle.std.proofs.Common.{◌≡◌, ℕ, zero, suc, ◌+◌, ◌<◌, ◌≤◌, Bool, true, false, List, [], ◌∷◌, length, map, Option, Some, None, refl, sym, ◌∙◌, arith}
+use Rattle.std.proofs.lemmas.Bool.Decides.{nat_tests}
 use Rattle.std.specs.List.{cons_option}
 use Rattle.std.proofs.lemmas.Bool.Decides.{eqb_tells}
 use Rattle.rv64_model.specs.Carries.{Table}
@@ -7,7 +8,7 @@ use Rattle.acts_model.specs.Moved.{Event, Moved, is_instruction}
 use Rattle.arn_model.specs.Kernel.{Machine}
 use Rattle.arn_model.specs.Run.{within, unless_reached, events_of}
 use Rattle.arn_model.specs.Step.{Step}
-use Rattle.arn_model.specs.Tells.{StepTells, Runs, Happens, Boots, Adds, Types, Unplugs, Along}
+use Rattle.arn_model.specs.Tells.{StepTells, Along}
 use Rattle.lineage_model.specs.Flow.{At, shown}
 use Rattle.lineage_model.specs.Tracking.{EventByte, points_after, gather}
 use Rattle.lineage_model.specs.Whole.{Whole, given, whole_after, whole_from}
@@ -17,16 +18,8 @@ abbrev pub IsNext : ℕ → Option Event → ℕ → Type 0
 IsNext n None later = later ≡ n
 IsNext n (Some event) later = (event.number ≡ n) × (later ≡ n + 1)
 
-abbrev Numbers : Machine → Step → Type 0
-Numbers m s = IsNext m.events s.moved.inside.event s.after.events
-
 pub numbers-step : (m : Machine) (s : Step) → StepTells m s → IsNext m.events s.moved.inside.event s.after.events
-numbers-step m s (Runs pid v instr cpu memory sees stands is) = subst (λ (x : Step). Numbers m x) (sym is) refl
-numbers-step m s (Happens pid v d entry tells is) = subst (λ (x : Step). Numbers m x) (sym is) (refl, refl)
-numbers-step m s (Boots path file held first found bytes image is) = subst (λ (x : Step). Numbers m x) (sym is) (refl, refl)
-numbers-step m s (Adds path bytes can is) = subst (λ (x : Step). Numbers m x) (sym is) (refl, refl)
-numbers-step m s (Types bytes booted is) = subst (λ (x : Step). Numbers m x) (sym is) (refl, refl)
-numbers-step m s (Unplugs device may is) = subst (λ (x : Step). Numbers m x) (sym is) (refl, refl)
+numbers-step m s h1 = grind (arith, nat_tests)
 
 abbrev moves : List Step → List Moved
 moves steps = map (λ s. s.moved) steps
@@ -36,12 +29,7 @@ points w = w.tracked.points
 
 -- a step leaves the bytes of earlier events
 point-stays : (n later e : ℕ) (event : Option Event) (showing : At → List EventByte) (old : ℕ → At → List EventByte) (at : At) → IsNext n event later → e < n → points_after event showing old e at ≡ old e at
-point-stays n later e None showing old at next low = refl
-point-stays n later e (Some event) showing old at next low =
-    elim (eqb_tells e event.number) [
-      | inl same ↦ absurd (omega (arith, same.1, next.0, low))
-      | inr apart ↦ ap (λ (b : Bool). (if b then showing at else old e at)) apart.0
-    ]
+point-stays n later e event showing old at h1 h2 = grind (arith, nat_tests, eqb_tells)
 
 later-number : (n later : ℕ) (event : Option Event) → IsNext n event later → n ≤ later
 later-number n later None next = omega (arith, next)

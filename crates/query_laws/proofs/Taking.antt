@@ -1,5 +1,6 @@
 -- What a step of a group takes is what its members hold.
-use Rattle.std.proofs.Common.{◌≡◌, inl, inr, ℕ, zero, suc, ◌+◌, ◌<◌, ◌==◌, Bool, true, false, if◌then◌else◌, List, [], ◌∷◌, flat_map, Option, Some, None, option_map, option_and_then, refl, ap, sym, subst, ◌∙◌, arith}
+use Rattle.std.proofs.Common.{◌≡◌, inr, ℕ, zero, suc, ◌+◌, ◌<◌, ◌==◌, Bool, true, false, if◌then◌else◌, List, [], ◌∷◌, flat_map, Option, Some, None, option_map, option_and_then, refl, sym, subst, arith}
+use Rattle.std.proofs.lemmas.Bool.Decides.{nat_tests}
 use Rattle.std.specs.List.{AllByRecursion}
 use Rattle.std.proofs.lemmas.Option.{none-some, same_Some}
 use Rattle.arn_base.specs.declared.machine.Cpu.{Cpu}
@@ -52,26 +53,7 @@ module _ (s : Scope) (h : Holders) (pid : ℕ) (hs : Holds) (lives : h pid ≡ S
 
   -- a byte of a place
   place-byte : (at k : ℕ) → ((made : ℕ) → memory_at hs at ≡ Some made → InWindow s at k) → AllByRecursion (IsHeld s h) (bytes_at (place_at hs at) k)
-  place-byte at k inside = by-private (is_private at) (is_shared at) refl refl
-    where
-      is-memory : (p q : Bool) → is_private at ≡ p → is_shared at ≡ q → memory_at hs at ≡ (if p then Some hs.window else if q then hs.segment else None)
-      is-memory p q a b = ap (λ (x : Bool). (if x then Some hs.window else if is_shared at then hs.segment else None)) a ∙ ap (λ (x : Bool). (if p then Some hs.window else if x then hs.segment else None)) b
-
-      by-segment : (o : Option ℕ) → hs.segment ≡ o → memory_at hs at ≡ hs.segment → is_shared at ≡ true → AllByRecursion (IsHeld s h) (bytes_at (option_map (λ made. record { made = made; at = at }) hs.segment) k)
-      by-segment None is memory shared = subst (λ (o : Option ℕ). AllByRecursion (IsHeld s h) (bytes_at (option_map (λ made. record { made = made; at = at }) o) k)) (sym is) tt
-      by-segment (Some made) is memory shared = segment-byte at k hs.segment refl ((inside made (memory ∙ is)).shared shared)
-
-      by-private : (p q : Bool) → is_private at ≡ p → is_shared at ≡ q → AllByRecursion (IsHeld s h) (bytes_at (option_map (λ made. record { made = made; at = at }) (memory_at hs at)) k)
-      by-private true q a b =
-          let is = is-memory true q a b in
-          subst (λ (o : Option ℕ). AllByRecursion (IsHeld s h) (bytes_at (option_map (λ made. record { made = made; at = at }) o) k)) (sym is)
-          ((pid, hs, lives, inl (refl, (inside hs.window is).private a)), tt)
-      by-private false true a b =
-          let is = is-memory false true a b in
-          subst (λ (o : Option ℕ). AllByRecursion (IsHeld s h) (bytes_at (option_map (λ made. record { made = made; at = at }) o) k)) (sym is)
-          (by-segment hs.segment refl is b)
-      by-private false false a b =
-          subst (λ (o : Option ℕ). AllByRecursion (IsHeld s h) (bytes_at (option_map (λ made. record { made = made; at = at }) o) k)) (sym (is-memory false false a b)) tt
+  place-byte at k h1 = grind (arith, nat_tests, segment-byte)
 
   register-byte : (r i : ℕ) → FromRegister s r i → AllByRecursion (IsHeld s h) (register_bytes pid r i)
   register-byte zero i is = tt
@@ -110,18 +92,7 @@ module _ (table : Table) (s : Scope) (Fit : Instr → Type 0) (L : Instr → ℕ
       operands-held s h pid hs lives L instr (option_and_then (place_at hs) (accessed instr before)) (accessed-byte pid hs lives instr (accessed instr before) possible) (table instr i) (allows.operands instr fit i is)
 
   act-takes : (pid event : ℕ) (e : Record) (before : Cpu) (hs : Holds) (a : Act) → h pid ≡ Some hs → Takes (event_inside pid event e before hs a)
-  act-takes pid event e before hs (act.Returns result) lives fit possible = tt
-  act-takes pid event e before hs (act.Receives at bytes result) lives fit possible = tt
-  act-takes pid event e before hs (act.Gives at len result) lives fit possible = range-held pid hs lives at len possible
-  act-takes pid event e before hs (act.Starts file block block_len) lives fit possible = range-held pid hs lives block block_len possible.1
-  act-takes pid event e before hs (act.Forks child) lives fit possible = (hs, lives, refl, possible.0)
-  act-takes pid event e before hs (act.Founds child) lives fit possible = (hs, lives, refl, possible.0, possible.1)
-  act-takes pid event e before hs act.Shares lives fit possible = (hs, lives)
-  act-takes pid event e before hs act.Leaves lives fit possible = tt
-  act-takes pid event e before hs (act.Delivers signal handler cut) lives fit possible = tt
-  act-takes pid event e before hs act.Exits lives fit possible = (hs, lives)
-  act-takes pid event e before hs (act.Faults status) lives fit possible = tt
-  act-takes pid event e before hs (act.Dies signal cut) lives fit possible = tt
+  act-takes pid event e before hs a h1 = grind (arith, nat_tests, range-held)
 
   record-takes : (pid event : ℕ) (e : Record) (before : Cpu) (hs : Holds) (a : Act) → act_of before e ≡ Some a → with_booted event e h pid ≡ Some hs → Takes (event_inside pid event e before hs a)
   record-takes pid event (entry.File name bytes) before hs a tells lives = absurd (none-some a tells)

@@ -1,5 +1,6 @@
 -- What a step of a group receives is what its record says.
-use Rattle.std.proofs.Common.{◌≡◌, ◌⊎◌, inl, inr, ℕ, ◌==◌, ◌||◌, Bool, true, false, if◌then◌else◌, Option, Some, None, IfSome, option_map, option_and_then, refl, ap, sym, subst, arith}
+use Rattle.std.proofs.Common.{◌≡◌, ◌⊎◌, inr, ℕ, ◌==◌, ◌||◌, Bool, true, false, if◌then◌else◌, Option, Some, None, IfSome, option_map, refl, ap, sym, subst, arith}
+use Rattle.std.proofs.lemmas.Bool.Decides.{nat_tests}
 use Rattle.std.proofs.lemmas.Option.{none-some, same_Some}
 use Rattle.arn_base.specs.declared.machine.Cpu.{Cpu}
 use Rattle.arn_base.specs.declared.records.Extra.{Extra}
@@ -12,14 +13,14 @@ use Rattle.parts_model.specs.Replies.{is_success}
 use Rattle.acts_model.specs.Acts as act
 use Rattle.acts_model.specs.Acts.{Act}
 use Rattle.acts_model.specs.Moved.{Inside}
-use Rattle.acts_model.specs.Records.{event_len, give_of, process_of}
-use Rattle.acts_model.specs.Told.{Kind, Exit, Fork, Exec, Wait, Sigreturn, Read, Write, Shm, Other, kind_of, act_of, call_act, is_pipe_write}
+use Rattle.acts_model.specs.Records.{event_len, give_of}
+use Rattle.acts_model.specs.Told.{Kind, Exit, Fork, Exec, Wait, Sigreturn, Read, Write, Shm, Other, kind_of, act_of, call_act}
 use Rattle.acts_model.specs.Transfers.{Holds, transfer}
 use Rattle.history_model.specs.Exchanges.{call_received, is_receiving, received}
 use Rattle.lineage_model.specs.Joined.{is_source}
 use Rattle.taint_laws.specs.Follows.{IsStep, Steps, Hears, Starts, with_booted}
 use Rattle.taint_tracker.specs.Lens.{ActsHaveLen, HasLen}
-use Rattle.taint_tracker.specs.Steps.{Holders, event_by, event_inside, event_of, event_step, instr_inside}
+use Rattle.taint_tracker.specs.Steps.{Holders, event_by, event_inside, event_step, instr_inside}
 use Rattle.query_laws.proofs.Items.{IsOfRecord, TellsRecord}
 
 -- an act that receives bytes
@@ -40,15 +41,7 @@ IsKind kind exec wait read = Unit {0}
 
 kind-by : (exit fork exec wait sigreturn read write shm : Bool)
     → IsKind (if exit then Exit else if fork then Fork else if exec then Exec else if wait then Wait else if sigreturn then Sigreturn else if read then Read else if write then Write else if shm then Shm else Other) exec wait read
-kind-by true fork exec wait sigreturn read write shm = tt
-kind-by false true exec wait sigreturn read write shm = tt
-kind-by false false true wait sigreturn read write shm = refl
-kind-by false false false true sigreturn read write shm = refl
-kind-by false false false false true read write shm = tt
-kind-by false false false false false true write shm = (refl, refl)
-kind-by false false false false false false true shm = tt
-kind-by false false false false false false false true = tt
-kind-by false false false false false false false false = tt
+kind-by exit fork exec wait sigreturn read write shm = grind (arith, nat_tests)
 
 kind-is : (n : ℕ) → IsKind (kind_of n) (n == EXEC) (n == WAIT) (n == READ)
 kind-is n = kind-by (n == EXIT) (n == FORK) (n == EXEC) (n == WAIT) (n == SIGRETURN) (n == READ) (n == WRITE) (n == SHM)
@@ -73,40 +66,16 @@ wait-origin cpu pid n result (extra.Give give) is r = inr (given n give is)
 wait-origin cpu pid n result more is r = absurd r
 
 read-origin : (cpu : Cpu) (pid n result : ℕ) (more : Extra) → is_receiving n ≡ true → (n == READ) ≡ true → Receiving (call_act Read cpu result more) → HasOrigin (entry.Call pid n result more)
-read-origin cpu pid n result (extra.Give give) is read r = inr (given n give is)
-read-origin cpu pid n result (extra.Reply device bytes) is read r = inl read
-read-origin cpu pid n result more is read r = absurd r
+read-origin cpu pid n result more h1 h2 h3 = grind (arith, nat_tests, given)
 
 write-origin : {P : Type 0} (cpu : Cpu) (result : ℕ) (more : Extra) → Receiving (call_act Write cpu result more) → P
-write-origin cpu result (extra.Put file at bytes) r = absurd r
-write-origin cpu result (extra.Console bytes) r = absurd r
-write-origin cpu result (extra.Sent device bytes) r = absurd r
-write-origin cpu result extra.Nothing r = neither (is_pipe_write result) _ (act.Returns result) (λ x. x) (λ x. x) r
-write-origin cpu result more r = absurd r
+write-origin cpu result more h1 = grind (arith, nat_tests, neither)
 
 call-origin : (cpu : Cpu) (pid n result : ℕ) (more : Extra) (kind : Kind) → IsKind kind (n == EXEC) (n == WAIT) (n == READ) → Receiving (call_act kind cpu result more) → HasOrigin (entry.Call pid n result more)
-call-origin cpu pid n result more Exit is r = absurd r
-call-origin cpu pid n result more Fork is r = fork-origin cpu result more r
-call-origin cpu pid n result more Exec is r = exec-origin cpu pid n result more is r
-call-origin cpu pid n result more Wait is r = wait-origin cpu pid n result more is r
-call-origin cpu pid n result more Sigreturn is r = neither (result == 0) act.Leaves (act.Returns result) (λ x. x) (λ x. x) r
-call-origin cpu pid n result more Read is r = read-origin cpu pid n result more is.0 is.1 r
-call-origin cpu pid n result more Write is r = write-origin cpu result more r
-call-origin cpu pid n result more Shm is r = neither (result == 0) act.Shares (act.Returns result) (λ x. x) (λ x. x) r
-call-origin cpu pid n result more Other is r = absurd r
+call-origin cpu pid n result more kind h1 h2 = grind (arith, nat_tests, exec-origin, fork-origin, neither, read-origin, wait-origin, write-origin)
 
 receiving-origin : (cpu : Cpu) (e : Record) (a : Act) → act_of cpu e ≡ Some a → Receiving a → HasOrigin e
-receiving-origin cpu (entry.File name bytes) a is r = absurd (none-some a is)
-receiving-origin cpu (entry.Boot name give) a is r = inr refl
-receiving-origin cpu (entry.Typed bytes) a is r = absurd (none-some a is)
-receiving-origin cpu (entry.Unplug device) a is r = absurd (none-some a is)
-receiving-origin cpu (entry.Slice pid ran) a is r = absurd (none-some a is)
-receiving-origin cpu (entry.Signal pid signal cut handler) a is r =
-    neither (handler == 0) (act.Dies signal cut) (act.Delivers signal handler cut) (λ x. x) (λ x. x)
-    (subst (λ (x : Act). Receiving x) (sym (same_Some (if handler == 0 then act.Dies signal cut else act.Delivers signal handler cut) a is)) r)
-receiving-origin cpu (entry.Call pid n result more) a is r =
-    call-origin cpu pid n result more (kind_of n) (kind-is n) (subst (λ (x : Act). Receiving x) (sym (same_Some (call_act (kind_of n) cpu result more) a is)) r)
-receiving-origin cpu (entry.End pid status) a is r = absurd (subst (λ (x : Act). Receiving x) (sym (same_Some (act.Faults status) a is)) r)
+receiving-origin cpu e a h1 h2 = grind (arith, nat_tests, call-origin, kind-is, neither, none-some, same_Some)
 
 -- how a step comes of what members hold
 pub record HearsAs (h : Holders) (event : ℕ) (e : Record) (before : Cpu) (inside : Inside) : Type 0 where
@@ -127,11 +96,7 @@ hears-by h event pid e before inside (Some holds) lives is =
     option_map-some (event_inside pid event e before holds) (act_of before e) inside is (λ a tells same. record { pid = pid; holds = holds; happened = a; tells = tells; lives = lives; is = same })
 
 pub hears-as : (h : Holders) (event : ℕ) (e : Record) (before : Cpu) (inside : Inside) → event_step h event e before ≡ Some inside → HearsAs h event e before inside
-hears-as h event e before inside is = by-process (process_of e) is
-  where
-    by-process : (o : Option ℕ) → option_and_then (event_of h event e before) o ≡ Some inside → HearsAs h event e before inside
-    by-process None k = absurd (none-some inside k)
-    by-process (Some pid) k = hears-by h event pid e before inside (h pid) refl k
+hears-as h event e before inside h1 = grind (arith, nat_tests, hears-by, none-some)
 
 act-record : (event pid : ℕ) (e : Record) (before : Cpu) (holds : Holds) (a : Act) → act_of before e ≡ Some a → HasLen (event_len e) a → IsOfRecord (transfer pid event holds a) e
 act-record event pid e before holds (act.Starts file block block_len) tells len =

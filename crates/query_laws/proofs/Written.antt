@@ -1,23 +1,21 @@
 -- Bytes of files were written by bytes that events have.
-use Rattle.std.proofs.Common.{◌≡◌, ℕ, zero, suc, ◌+◌, ◌-◌, ◌<◌, ◌≤◌, ◌==◌, Bool, true, false, cond, nat_le, List, [], ◌∷◌, length, take, drop, filter, Option, Some, None, IfSome, option_map, option_and_then, slice_get, refl, sym, ap, subst, ◌∙◌, arith}
+use Rattle.std.proofs.Common.{◌≡◌, ℕ, zero, suc, ◌+◌, ◌-◌, ◌≤◌, Bool, true, false, cond, nat_le, List, [], ◌∷◌, length, take, drop, filter, Option, Some, None, IfSome, option_map, slice_get, sym, ap, subst, ◌∙◌, arith}
+use Rattle.std.proofs.lemmas.Bool.Decides.{nat_tests}
 use Rattle.std.specs.List.{cons_option}
 use Rattle.std.proofs.lemmas.Bool.{leb-true}
 use Rattle.std.proofs.lemmas.Bool.{and_parts}
 use Rattle.std.proofs.lemmas.Option.{slice_get_within}
 use Rattle.arn_base.specs.declared.records.Extra.{Extra}
-use Rattle.arn_base.specs.declared.records.Extra.TheVariants as extra
 use Rattle.arn_base.specs.declared.records.Record.{Record}
 use Rattle.arn_base.specs.declared.records.Record.TheVariants as entry
-use Rattle.parts_model.specs.declared.calls.TheConstants.{WRITE}
-use Rattle.parts_model.specs.declared.limits.TheConstants.{MOST_ASKED}
 use Rattle.parts_model.specs.declared.tagged.TaggedByte.{TaggedByte}
 use Rattle.acts_model.specs.Records.{Written, call_put, event_len, is_event}
-use Rattle.file_versions.specs.Versions.{Write, byte_of, bytes_at, cell_after, file_at, filled_from, is_to, laid_at, onto_filled, or_before, reach, version_at, written_by, writes_at, writes_from, brought_by}
-use Rattle.history_model.specs.Events.{event_at, events, lies_in}
-use Rattle.history_model.specs.Moments.{Numbered, events_from, events_until, if_happened, total}
+use Rattle.file_versions.specs.Versions.{Write, byte_of, bytes_at, cell_after, filled_from, is_to, laid_at, onto_filled, reach, version_at, written_by, writes_at, writes_from, brought_by}
+use Rattle.history_model.specs.Events.{event_at, events}
+use Rattle.history_model.specs.Moments.{Numbered, events_from, events_until, if_happened}
 use Rattle.lineage_join.specs.Fits.{IsThere}
 use Rattle.lineage_model.specs.Flow.{Byte}
-use Rattle.query_model.specs.Names.{Named, named_bytes, part_of}
+use Rattle.query_model.specs.Names.{Named, named_bytes}
 use Rattle.query_laws.specs.Names.{AreWritten, NamedAreWritten}
 
 -- each event that has happened is one of the history's, by its number
@@ -67,30 +65,10 @@ AreWrites entries [] = Unit {0}
 AreWrites entries (w ∷ writes) = IsWrite entries w × AreWrites entries writes
 
 put-len : (pid number result : ℕ) (more : Extra) → IfSome (call_put number more) (λ w. length w.bytes ≡ event_len (entry.Call pid number result more))
-put-len pid number result (extra.Put file at bytes) = by_test (number == WRITE)
-  where
-    by_test : (b : Bool) → IfSome {T = Written} (cond b (Some (record { file = file; at = at; bytes = bytes })) None) (λ w. length w.bytes ≡ length bytes)
-    by_test true = refl
-    by_test false = tt
-put-len pid number result extra.Nothing = tt
-put-len pid number result (extra.Give give) = tt
-put-len pid number result (extra.Start start) = tt
-put-len pid number result (extra.Console bytes) = tt
-put-len pid number result (extra.Reply device bytes) = tt
-put-len pid number result extra.Fault = tt
-put-len pid number result extra.Absent = tt
-put-len pid number result (extra.Name file path) = tt
-put-len pid number result (extra.Sent device bytes) = tt
+put-len pid number result more = grind (arith, nat_tests)
 
 written-len : (n : ℕ) (e : Record) → IfSome (written_by n e) (λ w. length w.bytes ≡ event_len e)
-written-len n (entry.File path bytes) = refl
-written-len n (entry.Boot path give) = tt
-written-len n (entry.Typed bytes) = tt
-written-len n (entry.Unplug device) = tt
-written-len n (entry.Slice pid ran) = tt
-written-len n (entry.Signal pid signal cut handler) = tt
-written-len n (entry.Call pid number result more) = put-len pid number result more
-written-len n (entry.End pid status) = tt
+written-len n e = grind (arith, nat_tests, put-len)
 
 writes-are : (entries : List Record) (n : ℕ) (happened : List Numbered) → AreEvents (events entries) happened → AreWrites entries (writes_from n happened)
 writes-are entries n [] are = tt
@@ -114,23 +92,10 @@ abbrev IsWritten : List Record → TaggedByte → Type 0
 IsWritten entries b = IsThere (event_at entries b.origin.event) (Byte b.origin.at)
 
 byte-written : (entries : List Record) (w : Write) → IsWrite entries w → (k : ℕ) → IfSome (byte_of w k) (IsWritten entries)
-byte-written entries w is k = by_byte (slice_get w.over.bytes k) refl
-  where
-    by_byte : (o : Option ℕ) → slice_get w.over.bytes k ≡ o → IfSome (option_map (λ b. record { value = b; origin = record { event = w.event; at = k } }) o) (IsWritten entries)
-    by_byte None e = tt
-    by_byte (Some b) e =
-        subst (λ (o : Option Record). IsThere o (Byte k)) (sym is.there) (subst (λ (n : ℕ). k < n) is.len (slice_get_within w.over.bytes k b e))
+byte-written entries w h1 k = grind (arith, nat_tests, slice_get_within)
 
 laid-written : (entries : List Record) (w : Write) → IsWrite entries w → (place : ℕ) (before : Option TaggedByte) → IfSome before (IsWritten entries) → IfSome (laid_at w place before) (IsWritten entries)
-laid-written entries w is place before was = by_test (nat_le w.over.at place)
-  where
-    by_byte : (o : Option TaggedByte) → IfSome o (IsWritten entries) → IfSome (or_before o before) (IsWritten entries)
-    by_byte None h = was
-    by_byte (Some b) h = h
-
-    by_test : (b : Bool) → IfSome (cond b (or_before (byte_of w (place - w.over.at)) before) before) (IsWritten entries)
-    by_test true = by_byte (byte_of w (place - w.over.at)) (byte-written entries w is (place - w.over.at))
-    by_test false = was
+laid-written entries w h1 place before h2 = grind (arith, nat_tests, byte-written)
 
 cell-written : (entries : List Record) (writes : List Write) → AreWrites entries writes → (place : ℕ) (before : Option TaggedByte) → IfSome before (IsWritten entries) → IfSome (cell_after writes place before) (IsWritten entries)
 cell-written entries [] are place before was = was
@@ -180,35 +145,10 @@ pub record IsPart (entries : List Record) (n : Named) (bytes : List TaggedByte) 
   pub part : bytes ≡ take n.len (drop n.from held)
 
 pub is-part : (entries : List Record) (n : Named) (bytes : List TaggedByte) → named_bytes entries n ≡ Some bytes → IsPart entries n bytes
-is-part entries n bytes is = by_moment (nat_le n.moment (total entries)) is
-  where
-    by_range : (held : List TaggedByte) → version_at entries n.moment n.name ≡ Some held → (b : Bool) → lies_in (length held) n.from n.len ≡ b → cond b (Some (take n.len (drop n.from held))) None ≡ Some bytes → IsPart entries n bytes
-    by_range held version true lies e =
-        record {
-          held = held;
-          version = version;
-          inside = leb-true (n.from + n.len) (length held) (and_parts (nat_le (n.from + n.len) (length held)) (nat_le n.len MOST_ASKED) lies).0;
-          part = some-same (sym e);
-        }
-      where
-        some-same : {a b : List TaggedByte} → Some a ≡ Some b → a ≡ b
-        some-same e = cc
-    by_range held version false lies e = absurd (cc)
-
-    by_version : (o : Option (List TaggedByte)) → version_at entries n.moment n.name ≡ o → option_and_then (part_of n.from n.len) o ≡ Some bytes → IsPart entries n bytes
-    by_version None version e = absurd (cc)
-    by_version (Some held) version e = by_range held version (lies_in (length held) n.from n.len) refl e
-
-    by_moment : (b : Bool) → option_and_then (part_of n.from n.len) (cond b (version_at entries n.moment n.name) None) ≡ Some bytes → IsPart entries n bytes
-    by_moment true e = by_version (version_at entries n.moment n.name) refl e
-    by_moment false e = absurd (cc)
+is-part entries n bytes h1 = grind (arith, nat_tests, and_parts, leb-true)
 
 version-written : (entries : List Record) (moment : ℕ) (name : List ℕ) (held : List TaggedByte) → version_at entries moment name ≡ Some held → Each entries held
-version-written entries moment name held is = by_file (file_at entries moment name) is
-  where
-    by_file : (o : Option ℕ) → option_map (bytes_at entries moment) o ≡ Some held → Each entries held
-    by_file None e = absurd (cc)
-    by_file (Some file) e = let same : bytes_at entries moment file ≡ held = cc in subst (Each entries) same (bytes-written entries moment file)
+version-written entries moment name held h1 = grind (arith, nat_tests, bytes-written)
 
 pub named-written : NamedAreWritten
 named-written entries n bytes is =

@@ -1,5 +1,5 @@
 -- How a group's first process begins.
-use Rattle.std.proofs.Common.{◌≡◌, ◌≢◌, ◌≤◌, ℕ, ◌+◌, List, length, Bool, true, false, None, not, refl, sym, ap, subst, arith}
+use Rattle.std.proofs.Common.{◌≡◌, ◌≢◌, ◌≤◌, ℕ, ◌+◌, List, length, Bool, true, None, not, refl, sym, ap, subst, arith}
 use Rattle.arn_base.specs.declared.records.Give.{Give}
 use Rattle.arn_base.specs.declared.records.Record.{Record}
 use Rattle.arn_base.specs.declared.records.Record.TheVariants as entry
@@ -15,7 +15,7 @@ use Rattle.guest_bodies.specs.Fresh.{OthersStayUnheld}
 use Rattle.guest_bodies.specs.Follows.{Follows}
 use Rattle.guest_bodies.specs.Shown.{Guests}
 use Rattle.history_model.specs.Alone as alone
-use Rattle.history_model.specs.Alone.{Own, Made, Makes, Fails}
+use Rattle.history_model.specs.Alone.{Own, Made, Makes}
 use Rattle.replay_steps.specs.Notices.{Listener}
 use Rattle.replay_steps.specs.Standing.{Reaches, Stands}
 use Rattle.replay_steps.proofs.GoingOn.{goes-one}
@@ -43,10 +43,6 @@ boots_by event name give own b =
 -- from an image it begins
 pub boots-image : (event : ℕ) (name : List ℕ) (give : Give) (own : Own) → is_image give.bytes ≡ true → alone.boots event (entry.Boot name give) own ≡ Makes (booted_own event name give own)
 boots-image event name give own is = ap (boots_by event name give own) is
-
--- from another file it doesn't
-pub boots-no_image : (event : ℕ) (name : List ℕ) (give : Give) (own : Own) → is_image give.bytes ≡ false → alone.boots event (entry.Boot name give) own ≡ Fails (record { event = event; said = length give.bytes; found = 0 })
-boots-no_image event name give own is = ap (boots_by event name give own) is
 
 module _ {A : Type 0} (l : Listener A) (x y : A) (n event : ℕ) (guests guests' : Guests) (own : Own) (law : OthersStayUnheld) (stands : Stands guests event own) where
   pub began : (group : ℕ) (e : Record) (start : Start) → Follows guests (begun group event (beginning_in start)) guests' → l.begins x group event None y → Reaches l x n own (Makes (alone.begins group event e start own)) guests' (event + 1) y n

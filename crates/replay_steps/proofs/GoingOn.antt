@@ -1,14 +1,13 @@
 -- How a replay goes on, one thing after the other.
-use Rattle.std.proofs.Common.{◌≡◌, ◌≤◌, ℕ, ◌+◌, List, [], ◌∷◌, ◌++◌, cond, count_by, flat_map, refl, sym, ap, subst, ◌∙◌, append_assoc, add_assoc, arith}
+use Rattle.std.proofs.Common.{◌≡◌, ℕ, ◌+◌, List, [], ◌∷◌, ◌++◌, cond, count_by, flat_map, refl, sym, ap, subst, ◌∙◌, append_assoc, add_assoc, arith}
 use Rattle.std.proofs.lemmas.Grind.{flat_map-append}
 use Rattle.std.proofs.lemmas.List.{append-nil}
 use Rattle.std.proofs.lemmas.List.Sums.{sum_by-append}
 use Rattle.acts_model.specs.Moved.{Inside}
-use Rattle.guest_bodies.specs.Fresh.{OthersStayUnheld}
-use Rattle.guest_bodies.specs.Shown.{Guests, IsFresh}
+use Rattle.guest_bodies.specs.Shown.{Guests}
 use Rattle.history_model.specs.Alone.{Own, Made, Makes, and_then}
 use Rattle.replay_steps.specs.Notices.{Listener, Notice, Told, notices}
-use Rattle.replay_steps.specs.Standing.{Explains, GoesOn, Reaches, Stands, is_counted}
+use Rattle.replay_steps.specs.Standing.{Explains, GoesOn, Reaches, is_counted}
 use Rattle.replay_steps.specs.declared.errors.ReplayError.{ReplayError}
 use Rattle.replay_steps.specs.declared.errors.ReplayError.TheVariants as replay_error
 
@@ -35,13 +34,6 @@ module _ {A : Type 0} (l : Listener A) where
       }
 
 -- what stands at an event stands at a later one
-pub stands-later : (guests : Guests) (event later : ℕ) (own : Own) → event ≤ later → Stands guests event own → Stands guests later own
-stands-later guests event later own le stands =
-    record { shows = stands.shows; unheld = λ (other : ℕ) (h : later ≤ other). stands.unheld other (omega arith) }
-
--- an event is fresh where a replay stands
-pub stands-fresh : (guests : Guests) (event : ℕ) (own : Own) → OthersStayUnheld → Stands guests event own → IsFresh guests event
-stands-fresh guests event own law stands = law.shown guests own.bodies event stands.shows (stands.unheld event (omega arith))
 
 -- what follows from what was made
 pub reaches-both : {A : Type 0} (l : Listener A) (x y z : A) (a b c : ℕ) (own : Own) (made : Made) (next : Own → Made) (guests guests' : Guests) (event event' : ℕ) → (r : Reaches l x a own made guests event y b) → Reaches l y b r.own' (next r.own') guests' event' z c → Reaches l x a own (and_then made next) guests' event' z c

@@ -14,12 +14,11 @@ use Rattle.guest_bodies.specs.Fresh.{IsUnheld, OthersStayUnheld}
 use Rattle.guest_bodies.specs.Follows.{Follows}
 use Rattle.guest_bodies.specs.Shown.{Guests, IsLive, seen_in}
 use Rattle.history_model.specs.Alone as alone
-use Rattle.history_model.specs.Alone.{Own, Made, Makes, Fails}
-use Rattle.replay_steps.specs.Calls.{OfSeen, child_joined, if_ticked, is_own, wrong_as}
+use Rattle.history_model.specs.Alone.{Own, Makes}
+use Rattle.replay_steps.specs.Calls.{OfSeen, child_joined, if_ticked, is_own}
 use Rattle.replay_steps.specs.Notices.{Listener, Notice, BeginsAt, Happens, Told, booted, notices}
 use Rattle.replay_steps.specs.Standing.{Reaches, Stands, is_counted}
-use Rattle.replay_steps.specs.declared.wrong.Finding.{Finding}
-use Rattle.replay_steps.proofs.GoingOn.{goes-nowhere, goes-one, stands-later}
+use Rattle.replay_steps.proofs.GoingOn.{goes-one}
 use Rattle.replay_steps.proofs.Lives.{live-sees}
 
 -- what happens inside at an event
@@ -84,14 +83,6 @@ count-one p i false e = rw e refl
 pub happens-seen : (pid event : ℕ) (e : Record) (own : Own) (v : View) → seen own.bodies pid ≡ Some v → alone.happens pid event e own ≡ alone.record_done pid event e v own
 happens-seen pid event e own v is = ap (λ (o : Option View). alone.record_seen pid event e o own) is
 
-pub happens-dead : (pid event : ℕ) (e : Record) (own : Own) → seen own.bodies pid ≡ None → alone.happens pid event e own ≡ Makes own
-happens-dead pid event e own is = ap (λ (o : Option View). alone.record_seen pid event e o own) is
-
--- something is wrong
-pub happens-wrong : (pid event : ℕ) (e : Record) (own : Own) (v : View) (finding : Finding) → seen own.bodies pid ≡ Some v → Some (wrong_as finding) ≡ wrong_with v (stands_at v) e → alone.happens pid event e own ≡ Fails (record { event = event; said = finding.said; found = finding.found })
-happens-wrong pid event e own v finding is wrong =
-    happens-seen pid event e own v is ∙ ap (λ (o : Option Wrong). alone.unless_wrong event o (alone.act_done pid event e v (act_of v.body.cpu e) own)) (sym wrong)
-
 happens-right : (pid event : ℕ) (e : Record) (own : Own) (v : View) (act : Act) → seen own.bodies pid ≡ Some v → None ≡ wrong_with v (stands_at v) e → act_of v.body.cpu e ≡ Some act → alone.happens pid event e own ≡ Makes (alone.noted (inside_of pid event e v act) (done pid event act own.bodies) own)
 happens-right pid event e own v act is right told =
     happens-seen pid event e own v is
@@ -99,19 +90,6 @@ happens-right pid event e own v act is right told =
     ∙ ap (λ (o : Option Act). alone.act_done pid event e v o own) told)
 
 module _ {A : Type 0} (l : Listener A) (x y z : A) (a b : ℕ) (guests guests' : Guests) (event pid : ℕ) (e : Record) (own : Own) (stands : Stands guests event own) where
-  -- a process that doesn't live does nothing
-  pub happened-dead : seen_in guests pid ≡ None → Reaches l x a own (alone.happens pid event e own) guests (event + 1) x a
-  happened-dead dead =
-      record {
-        own' = own;
-        makes = happens-dead pid event e own (sym (stands.shows.same pid) ∙ dead);
-        stands = stands-later guests event (event + 1) own (omega arith) stands;
-        goes_on = goes-nowhere l x a own;
-      }
-
-  pub happened-wrong : (v : View) (finding : Finding) → seen_in guests pid ≡ Some v → Some (wrong_as finding) ≡ wrong_with v (stands_at v) e → alone.happens pid event e own ≡ Fails (record { event = event; said = finding.said; found = finding.found })
-  happened-wrong v finding seen wrong = happens-wrong pid event e own v finding (sym (stands.shows.same pid) ∙ seen) wrong
-
   told-all : (v : View) (child : Option ℕ) → l.hears x event e v.body.cpu y → Told l (joins pid event child) y z → Told l (Happens event e v.body.cpu ∷ joins pid event child) x z
   told-all v child hears begins = (y, hears, begins)
 
@@ -142,10 +120,6 @@ own-act cpu (entry.Boot name give) own = absurd (let e : false ≡ true = own in
 own-act cpu (entry.Typed bytes) own = absurd (let e : false ≡ true = own in cc)
 own-act cpu (entry.Unplug device) own = absurd (let e : false ≡ true = own in cc)
 own-act cpu (entry.Slice pid ran) own = absurd (let e : false ≡ true = own in cc)
-
-pub none-of : (o : Option ℕ) → ((n : ℕ) → o ≡ Some n → ⊥) → o ≡ None
-none-of None isnt = refl
-none-of (Some n) isnt = absurd (isnt n refl)
 
 module _ {A : Type 0} (l : Listener A) (x y z : A) (a b : ℕ) (guests between guests' : Guests) (event pid : ℕ) (e : Record) (own : Own) (stands : Stands guests event own) (law : OthersStayUnheld) (is : IsTrue (is_own e)) (live : IsLive guests pid) (same : between ≡ guests) where
   -- what each of its parts says together

@@ -17,10 +17,6 @@ use Rattle.replay_steps.specs.Notices.{Listener}
 use Rattle.replay_steps.specs.Standing.{GoesOn, Reaches, Stands}
 use Rattle.replay_steps.proofs.GoingOn.{goes-nowhere, goes-one, goes-both}
 
--- a process that doesn't live runs nothing
-pub none-dead : (guests : Guests) (event pid : ℕ) (own : Own) → Stands guests event own → seen_in guests pid ≡ None → alone.plain_in pid own (seen own.bodies pid) ≡ None
-none-dead guests event pid own stands dead = ap (alone.plain_in pid own) (sym (stands.shows.same pid) ∙ dead)
-
 plain-stops : (pid : ℕ) (own : Own) (v : View) (e : Effect) → IsStop e → alone.plain_by pid own v e ≡ None
 plain-stops pid own v (Next instr cpu memory) stop = absurd stop
 plain-stops pid own v Call stop = refl

@@ -1,5 +1,6 @@
 -- How sets part at a bit.
-use Rattle.std.proofs.Common.{◌≡◌, ◌⊎◌, ◌↔◌, ℕ, ◌+◌, ◌/◌, ◌%◌, ◌^◌, ◌<◌, max, Bool, true, false, nat_lt, List, [], ◌∷◌, ◌++◌, length, slice_get, Some, Contains, bit_or, refl, sym, ap, subst, ◌∙◌, inl, inr, arith, ◌≤◌}
+use Rattle.std.proofs.Common.{◌≡◌, ◌⊎◌, ◌↔◌, ℕ, ◌+◌, ◌/◌, ◌^◌, ◌<◌, max, Bool, true, false, nat_lt, List, [], ◌∷◌, ◌++◌, length, slice_get, Some, Contains, bit_or, refl, sym, ap, subst, ◌∙◌, inl, inr, arith, ◌≤◌}
+use Rattle.std.proofs.lemmas.Bool.Decides.{nat_tests}
 use Rattle.std.proofs.lemmas.Bool.{ltb-true, ltb-false}
 use Rattle.std.proofs.lemmas.List.Elements.{Contains-append_left, Contains-append_right, Contains-append_cases}
 use Rattle.set_store.specs.declared.item.Item.{Item}
@@ -35,16 +36,6 @@ first-leaf sets set row n = subst (λ l. HasFirst l (place row.event row.row)) (
 
 pub first-fork : (sets : List (List Item)) (set : ℕ) (fork : Fork) → IsNodeOf sets set (Branch fork) → HasFirst (members_of sets set) (place fork.event fork.row)
 first-fork sets set fork n = subst (λ l. HasFirst l (place fork.event fork.row)) (sym n.members) (first-left (members_of sets fork.left) (members_of sets fork.right) (place fork.event fork.row) n.below.2.first)
-
--- what has a first isn't the empty set
-pub first-some : (sets : List (List Item)) (set empty : ℕ) (item : Item) → members_of sets empty ≡ [] → empty ≡ 0 → Contains (members_of sets set) item → 0 < set
-first-some sets set empty item none z c = by (nat_lt 0 set) refl where
-  by : (b : Bool) → nat_lt 0 set ≡ b → 0 < set
-  by true e = ltb-true 0 set e
-  by false e =
-      let least = ltb-false 0 set e in
-      let same : set ≡ empty = omega arith in
-      absurd (none_in item (subst (λ l. Contains l item) (ap (λ s. members_of sets s) same ∙ none) c))
 
 module _ (sets : List (List Item)) (set : ℕ) (fork : Fork) (n : IsNodeOf sets set (Branch fork)) where
   from-left : (x : Item) → Contains (members_of sets fork.left) x → Contains (members_of sets set) x
@@ -111,13 +102,7 @@ pub side-leaf : (sets : List (List Item)) (set : ℕ) (row : Row) (bit : ℕ) �
 side-leaf sets set row bit n x y c d = ap (λ k. k / 2 ^ bit) (leaf-key sets set row n x y c d)
 
 pub top-leaf : (sets : List (List Item)) (set : ℕ) (row : Row) → IsNodeOf sets set (Leaf row) → (first : Item) → slice_get (members_of sets set) 0 ≡ Some first → IsTop (members_of sets set) first 0
-top-leaf sets set row n first e =
-    let one : (x : Item) → Contains (members_of sets set) x → key_of x ≡ key_of first = λ x c. leaf-key sets set row n x first c (first-in (members_of sets set) first e) in
-    record {
-      below = omega arith;
-      alike = λ x c. ap (λ k. k / 2 ^ 0 / 2) (one x c);
-      parts = inl (refl, one);
-    }
+top-leaf sets set row h1 first h2 = grind (arith, nat_tests, first-in, leaf-key)
 
 -- a set of members without the bit, or with it
 module _ (sets : List (List Item)) (set empty bit : ℕ) (first : Item) (z : empty ≡ 0) (some : 0 < set) (h : IsSet sets set) (e : IsSet sets empty) (none : members_of sets empty ≡ [])
@@ -129,30 +114,11 @@ module _ (sets : List (List Item)) (set empty bit : ℕ) (first : Item) (z : emp
   as-first x c = same x first c (first-in (members_of sets set) first f)
 
   pub all-low : IsLow bit first → AreHalvesOf sets set bit set empty
-  all-low l = record {
-    low = λ x. (λ c. (c, ap (λ n. n % 2) (as-first x c) ∙ l), λ c. c.0);
-    high = λ x. (λ c. absurd (nothing x c), λ c. absurd (not-both bit first x (sym (as-first x c.0)) l c.1));
-    left_there = h;
-    right_there = e;
-    left_most = omega arith;
-    right_most = omega arith;
-    left_less = λ x c. absurd (nothing x c);
-    right_less = λ x c. omega arith;
-  }
+  all-low h1 = grind (arith, nat_tests, as-first, not-both, nothing)
 
   pub all-high : IsHigh bit first → AreHalvesOf sets set bit empty set
-  all-high l = record {
-    low = λ x. (λ c. absurd (nothing x c), λ c. absurd (not-both bit x first (as-first x c.0) c.1 l));
-    high = λ x. (λ c. (c, ap (λ n. n % 2) (as-first x c) ∙ l), λ c. c.0);
-    left_there = e;
-    right_there = h;
-    left_most = omega arith;
-    right_most = omega arith;
-    left_less = λ x c. omega arith;
-    right_less = λ x c. absurd (nothing x c);
-  }
+  all-high h1 = grind (arith, nat_tests, as-first, not-both, nothing)
 
--- the search for the bit at which two sets part: each is alike above this one, and they part at it or above
 pub record Parting (xs ys : List Item) (x y : Item) (bit : ℕ) : Type 0 where
   pub below : bit < 128
   pub first : (z : Item) → Contains xs z → AreAlike bit z x
@@ -167,16 +133,10 @@ abbrev Ends : List Item → List Item → ℕ → Type 0
 Ends xs ys bit = ((z : Item) × IsAmong xs ys z × IsLow bit z) × ((z : Item) × IsAmong xs ys z × IsHigh bit z)
 
 ends-first : (xs ys : List Item) (bit : ℕ) → PartAt xs [] bit → Ends xs ys bit
-ends-first xs ys bit p =
-    let low = p.some_low in
-    let high = p.some_high in
-    ((low.0, inl (only-first xs low.0 low.1), low.2), (high.0, inl (only-first xs high.0 high.1), high.2))
+ends-first xs ys bit h1 = grind (arith, nat_tests, only-first)
 
 ends-second : (xs ys : List Item) (bit : ℕ) → PartAt ys [] bit → Ends xs ys bit
-ends-second xs ys bit p =
-    let low = p.some_low in
-    let high = p.some_high in
-    ((low.0, inr (only-first ys low.0 low.1), low.2), (high.0, inr (only-first ys high.0 high.1), high.2))
+ends-second xs ys bit h1 = grind (arith, nat_tests, only-first)
 
 pub parting-first : (xs ys : List Item) (x y : Item) (a b bit : ℕ) → bit ≡ max a b → IsTop xs x a → IsTop ys y b → (((z : Item) → Contains xs z → key_of z ≡ key_of x) → ((z : Item) → Contains ys z → key_of z ≡ key_of y) → key_of x ≡ key_of y → ⊥) → Parting xs ys x y bit
 parting-first xs ys x y a b bit e p q differ = by (nat_lt a b) refl where
@@ -206,18 +166,6 @@ parting-first xs ys x y a b bit e p q differ = by (nat_lt a b) refl where
         ];
       })
 
--- only the keys matter
-pub parting-moved : (xs ys : List Item) (x y a b : Item) (bit : ℕ) → key_of x ≡ key_of a → key_of y ≡ key_of b → Parting xs ys x y bit → Parting xs ys a b bit
-parting-moved xs ys x y a b bit e f p =
-    let to : side bit x ≡ side bit a = ap (λ n. n / 2 ^ bit) e in
-    let at : side bit y ≡ side bit b = ap (λ n. n / 2 ^ bit) f in
-    record {
-      below = p.below;
-      first = λ z c. p.first z c ∙ ap (λ n. n / 2) to;
-      second = λ z c. p.second z c ∙ ap (λ n. n / 2) at;
-      parts = elim p.parts [ inl ends ↦ inl ends | inr differ ↦ inr (λ s. differ (to ∙ s ∙ sym at)) ];
-    }
-
 -- where they differ from a higher bit on, they part there or above
 pub parting-higher : (xs ys : List Item) (x y : Item) (low bit : ℕ) → low ≤ bit → bit < 128 → (bit ≡ low) ⊎ (side bit x ≡ side bit y → ⊥) → Parting xs ys x y low → Parting xs ys x y bit
 parting-higher xs ys x y low bit h below (inl e) p = subst (λ n. Parting xs ys x y n) (sym e) p
@@ -243,10 +191,7 @@ parting-last xs ys x y bit x_in y_in e p =
     ]
 
 pub one-key : (xs ys : List Item) (x y : Item) → ((z : Item) → Contains xs z → key_of z ≡ key_of x) → ((z : Item) → Contains ys z → key_of z ≡ key_of y) → key_of x ≡ key_of y → AreOneKey xs ys
-one-key xs ys x y p q e a b c d = to a c ∙ sym (to b d) where
-  to : (z : Item) → IsAmong xs ys z → key_of z ≡ key_of x
-  to z (inl c) = p z c
-  to z (inr c) = q z c ∙ sym e
+one-key xs ys x y h1 h2 h3 = grind (arith, nat_tests)
 
 -- a fork's items don't have one key, and two rows' only where they are in one place
 pub fork-apart : (sets : List (List Item)) (set : ℕ) (fork : Fork) (ys : List Item) → IsNodeOf sets set (Branch fork) → AreOneKey (members_of sets set) ys → ⊥
@@ -257,10 +202,7 @@ fork-apart sets set fork ys n one =
     not-both fork.bit a.0 b.0 (ap (λ k. k / 2 ^ fork.bit) (one a.0 b.0 (inl (from-left sets set fork n a.0 a.1)) (inl (from-right sets set fork n b.0 b.1)))) (parts.low a.0 a.1) (parts.high b.0 b.1)
 
 pub apart-swapped : (xs ys : List Item) → (AreOneKey ys xs → ⊥) → AreOneKey xs ys → ⊥
-apart-swapped xs ys f one = f (λ x y c d. one x y (turn x c) (turn y d)) where
-  turn : (z : Item) → IsAmong ys xs z → IsAmong xs ys z
-  turn z (inl c) = inr c
-  turn z (inr c) = inl c
+apart-swapped xs ys h1 h2 = grind (arith, nat_tests)
 
 pub rows-apart : (sets : List (List Item)) (a b : ℕ) (row other : Row) → IsNodeOf sets a (Leaf row) → IsNodeOf sets b (Leaf other) → (row.event ≡ other.event → row.row ≡ other.row → ⊥) → AreOneKey (members_of sets a) (members_of sets b) → ⊥
 rows-apart sets a b row other n m differ one =
@@ -373,16 +315,7 @@ contains-high sets set fork item n l h = (
 -- a fork whose parts' numbers are these two
 pub is-fork : (sets : List (List Item)) (fork : Fork) (left right : ℕ) → fork.left ≡ left → fork.right ≡ right → IsSet sets left → IsSet sets right → fork.bit < 128 → fork.row < 288230376151711744
     → HasFirst (members_of sets left) (place fork.event fork.row) → AreHalves fork.bit (members_of sets left) (members_of sets right) → IsNodeBelow sets (length sets) (Branch fork)
-is-fork sets fork left right e f l r bit fits first halves = (
-  subst (λ n. n < length sets) (sym e) l,
-  subst (λ n. n < length sets) (sym f) r,
-  record {
-    bit = bit;
-    row_fits = fits;
-    first = subst (λ n. HasFirst (members_of sets n) (place fork.event fork.row)) (sym e) first;
-    halves = subst (λ n. AreHalves fork.bit (members_of sets n) (members_of sets fork.right)) (sym e) (subst (λ n. AreHalves fork.bit (members_of sets left) (members_of sets n)) (sym f) halves);
-  },
-)
+is-fork sets fork left right h1 h2 h3 h4 h5 h6 h7 h8 = grind (arith, nat_tests, halves)
 
 pub fork-members : (sets : List (List Item)) (a b left right : ℕ) → a ≡ left → b ≡ right → members_of sets a ++ members_of sets b ≡ members_of sets left ++ members_of sets right
 fork-members sets a b left right e f = ap (λ n. members_of sets n ++ members_of sets b) e ∙ ap (λ n. members_of sets left ++ members_of sets n) f

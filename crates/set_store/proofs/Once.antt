@@ -1,5 +1,6 @@
 -- Members rise, and equal sets have equal numbers.
 use Rattle.std.proofs.Common.{◌≡◌, ℕ, zero, suc, ◌/◌, ◌^◌, ◌<◌, List, [], ◌++◌, length, slice_get, Some, None, Contains, refl, sym, ap, subst, ◌∙◌, inl, inr, arith}
+use Rattle.std.proofs.lemmas.Bool.Decides.{nat_tests}
 use Rattle.std.proofs.lemmas.List.Elements.{Contains-append_left, Contains-append_right, Contains-append_cases}
 use Rattle.std.proofs.lemmas.Nat.{same_from_place}
 use Rattle.std.proofs.lemmas.Option.{slice_get_within}
@@ -87,10 +88,7 @@ some-same : (x y : Item) → Some x ≡ Some y → x ≡ y
 some-same x y e = cc
 
 first-same : (sets : List (List Item)) (a b x y : ℕ) → a ≡ b → HasFirst (members_of sets a) x → HasFirst (members_of sets b) y → x ≡ y
-first-same sets a b x y e h k =
-    let is : Some h.0 ≡ Some k.0 = sym h.1 ∙ ap (λ s. slice_get (members_of sets s) 0) e ∙ k.1 in
-    let same : h.0 ≡ k.0 = some-same h.0 k.0 is in
-    sym h.2 ∙ ap (λ i. key_of i) same ∙ k.2
+first-same sets a b x y h1 h2 h3 = grind (arith, nat_tests, some-same)
 
 fork-same : (sets : List (List Item)) (a : ℕ) (f g : Fork) → ((c d : ℕ) → c < a → c < length sets → d < length sets → HaveSame (members_of sets c) (members_of sets d) → c ≡ d)
     → a < length sets → f.left < a → f.right < a → g.left < length sets → g.right < length sets → IsForkOf sets f → IsForkOf sets g

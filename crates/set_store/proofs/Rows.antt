@@ -1,11 +1,11 @@
 -- The items of one row.
 use Rattle.std.proofs.Common.{◌≡◌, ◌⊎◌, ℕ, zero, suc, ◌+◌, ◌*◌, ◌/◌, ◌%◌, ◌^◌, ◌<◌, ◌==◌, max, Bool, true, false, nat_lt, if◌then◌else◌, List, [], ◌∷◌, ◌++◌, slice_get, Some, Contains, bit_or, append_assoc, refl, sym, ap, subst, ◌∙◌, inl, inr, arith}
+use Rattle.std.proofs.lemmas.Bool.Decides.{nat_tests, Decides-eqb}
 use Rattle.std.specs.Int.{bit_at, trailing_zeros, w64}
 use Rattle.std.specs.List.{AllByRecursion}
 use Rattle.std.specs.List.Sorted.{IsStrictlySortedBy}
 use Rattle.std.specs.declared.cmp.Ordering.TheVariants.{Less}
 use Rattle.std.proofs.lemmas.Bool.{ltb-true, ltb-false}
-use Rattle.std.proofs.lemmas.Bool.Decides.{Decides-eqb}
 use Rattle.std.proofs.lemmas.List.{append-nil}
 use Rattle.std.proofs.lemmas.List.Elements.{Contains-append_left, Contains-append_right, Contains-append_cases}
 use Rattle.std.proofs.lemmas.Nat.{div-mul-add, mod-mul-add, div-add-mod', mod_below, or_lt, le_or_l, same_from_place, one_shl, pow_pos}
@@ -141,12 +141,7 @@ bit-below : (n k : ℕ) → bit_at n k < 2
 bit-below n k = mod_below (n / 2 ^ k) 2 (omega arith)
 
 bits-same : (a b k : ℕ) → (bit_at a k ≡ 1 → bit_at b k ≡ 1) → (bit_at b k ≡ 1 → bit_at a k ≡ 1) → bit_at a k ≡ bit_at b k
-bits-same a b k f g = by (bit_at a k) (bit_at b k) (bit-below a k) (bit-below b k) f g where
-  by : (m n : ℕ) → m < 2 → n < 2 → (m ≡ 1 → n ≡ 1) → (n ≡ 1 → m ≡ 1) → m ≡ n
-  by zero zero h k f g = refl
-  by zero (suc n) h k f g = let one : suc n ≡ 1 = omega arith in let other = g one in absurd (omega arith)
-  by (suc m) zero h k f g = let one : suc m ≡ 1 = omega arith in let other = f one in absurd (omega arith)
-  by (suc m) (suc n) h k f g = omega arith
+bits-same a b k h1 h2 = grind (arith, nat_tests, bit-below)
 
 -- two rows are in one place where an item is in both
 same-row : (row other : Row) (x : Item) → Contains (items_of row) x → Contains (items_of other) x → (row.event ≡ other.event) × (row.row ≡ other.row)
@@ -169,10 +164,6 @@ row-same row other r s same =
     let at = same-row row other some.0 some.1 ((same some.0).0 some.1) in
     let mask = same_from_bits_below 64 row.mask other.mask r.mask_fits s.mask_fits (λ k h. bits-same row.mask other.mask k (bit-in row other at.0 at.1 (λ x c. (same x).0 c) k h) (bit-in other row (sym at.0) (sym at.1) (λ x c. (same x).1 c) k h)) in
     λ i. record { event = at.0 i; row = at.1 i; mask = mask i }
-
--- the two masks' bits, each under the row's own event and place
-pub both-rows : Row → Row → Row
-both-rows row other = record { event = row.event; row = row.row; mask = bit_or row.mask other.mask }
 
 moved : (row other : Row) (k : ℕ) → row.event ≡ other.event → row.row ≡ other.row → item_at row k ≡ item_at other k
 moved row other k e f = λ i. record { event = e i; at = f i * 64 + k }

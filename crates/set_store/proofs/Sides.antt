@@ -1,5 +1,6 @@
 -- The bits of keys.
-use Rattle.std.proofs.Common.{◌≡◌, ◌⊎◌, ℕ, ◌+◌, ◌-◌, ◌/◌, ◌%◌, ◌^◌, ◌<◌, ◌≤◌, Bool, true, false, nat_lt, refl, sym, ap, subst, ◌∙◌, inl, inr, arith, ◌*◌, suc}
+use Rattle.std.proofs.Common.{◌≡◌, ◌⊎◌, ℕ, ◌+◌, ◌-◌, ◌/◌, ◌%◌, ◌^◌, ◌<◌, ◌≤◌, refl, sym, ap, ◌∙◌, arith, ◌*◌, suc}
+use Rattle.std.proofs.lemmas.Bool.Decides.{nat_tests}
 use Rattle.std.proofs.lemmas.Bool.{ltb-true, ltb-false}
 use Rattle.std.proofs.lemmas.Nat.{pow_pos, leading_top, xor_lt, div-mul-add, mod_below, xor_shr, shr_below, shr-shr, le-div, div-add-mod'}
 use Rattle.std.proofs.Math.Nat.{div-mul-le_self, pow-le-pow_right}
@@ -31,42 +32,24 @@ same-above low high x y h e =
     sym (to x) ∙ ap (λ n. n / 2 ^ d) e ∙ to y
 
 pub alike-above : (low high : ℕ) (x y : Item) → low ≤ high → AreAlike low x y → AreAlike high x y
-alike-above low high x y h e = by (nat_lt low high) refl where
-  by : (b : Bool) → nat_lt low high ≡ b → AreAlike high x y
-  by true t = ap (λ n. n / 2) (same-above low high x y (ltb-true low high t) e)
-  by false f = let back = ltb-false low high f in let same : low ≡ high = omega arith in subst (λ n. AreAlike n x y) same e
+alike-above low high x y h1 h2 = grind (arith, nat_tests, ltb-false, ltb-true, same-above)
 
 halves-less : (u v : ℕ) → u / 2 ≡ v / 2 → u % 2 ≡ 0 → v % 2 ≡ 1 → u < v
-halves-less u v e a b =
-    let p = div-add-mod' u 2 in
-    let q = div-add-mod' v 2 in
-    omega arith
+halves-less u v h1 h2 h3 = grind (arith, nat_tests, div-add-mod')
 
 div-le : (a b k : ℕ) → 0 < k → a ≤ b → a / k ≤ b / k
 div-le a b k pos h = le-div (a / k) b k pos (let low = div-mul-le_self a k in omega arith)
 
 -- an item without a bit is below one with it
 pub key-below : (bit : ℕ) (x y : Item) → AreAlike bit x y → IsLow bit x → IsHigh bit y → key_of x < key_of y
-key-below bit x y e l h = by (nat_lt (key_of x) (key_of y)) refl where
-  by : (b : Bool) → nat_lt (key_of x) (key_of y) ≡ b → key_of x < key_of y
-  by true t = ltb-true (key_of x) (key_of y) t
-  by false f =
-      let least = ltb-false (key_of x) (key_of y) f in
-      let back = div-le (key_of y) (key_of x) (2 ^ bit) (pow_pos bit) least in
-      let less = halves-less (side bit x) (side bit y) e l h in
-      absurd (omega arith)
+key-below bit x y h1 h2 h3 = grind (arith, nat_tests, div-le, halves-less, ltb-false, ltb-true, pow_pos)
 
 -- two items with the same bits can't part there
 pub not-both : (bit : ℕ) (x y : Item) → side bit x ≡ side bit y → IsLow bit x → IsHigh bit y → ⊥
 not-both bit x y e l h = let clash : 0 ≡ 1 = sym l ∙ ap (λ n. n % 2) e ∙ h in omega arith
 
 pub low-or-high : (bit : ℕ) (x : Item) → IsLow bit x ⊎ IsHigh bit x
-low-or-high bit x = by (side bit x) where
-  by : (n : ℕ) → (n % 2 ≡ 0) ⊎ (n % 2 ≡ 1)
-  by n = elim (nat_lt (n % 2) 1) as (λ b. nat_lt (n % 2) 1 ≡ b → (n % 2 ≡ 0) ⊎ (n % 2 ≡ 1)) [
-    | true ↦ λ t. let h = ltb-true (n % 2) 1 t in inl (omega arith)
-    | false ↦ λ f. let h = ltb-false (n % 2) 1 f in inr (omega arith)
-  ] refl
+low-or-high bit x = grind (arith, nat_tests, ltb-false, ltb-true)
 
 -- items that are alike and both have a bit, or both have not, have the same bits from it on
 same-parts : (u v r : ℕ) → u / 2 ≡ v / 2 → u % 2 ≡ r → v % 2 ≡ r → u ≡ v
@@ -84,42 +67,13 @@ at-less x y e h = ap (λ (o : Ordering). ordering_then o (nat_cmp x.at y.at)) (s
 
 -- keys are ordered as items are
 pub item-less : (x y : Item) → Fits x → Fits y → key_of x < key_of y → item_cmp x y ≡ Less
-item-less x y f g h = by (nat_lt x.event y.event) refl where
-  x-row : x.at / 64 < 288230376151711744
-  x-row = let p = div-add-mod' x.at 64 in omega arith
-
-  y-row : y.at / 64 < 288230376151711744
-  y-row = let p = div-add-mod' y.at 64 in omega arith
-
-  by : (b : Bool) → nat_lt x.event y.event ≡ b → item_cmp x y ≡ Less
-  by true t = ap (λ (o : Ordering). ordering_then o (nat_cmp x.at y.at)) (sym (nat_cmp_is x.event y.event Less (ltb-true x.event y.event t)))
-  by false e =
-      let least = ltb-false x.event y.event e in
-      let a = x-row in
-      let b = y-row in
-      let same : x.event ≡ y.event = omega arith in
-      let below : x.at / 64 < y.at / 64 = omega arith in
-      at-less x y same (by_at (nat_lt x.at y.at) refl below)
-    where
-      by_at : (b : Bool) → nat_lt x.at y.at ≡ b → x.at / 64 < y.at / 64 → x.at < y.at
-      by_at true t below = ltb-true x.at y.at t
-      by_at false t below = let back = div-le y.at x.at 64 (omega arith) (ltb-false x.at y.at t) in absurd (omega arith)
+item-less x y h1 h2 h3 = grind (arith, nat_tests, at-less, div-add-mod', div-le, ltb-false, ltb-true)
 
 pub side-zero : (x : Item) → side 0 x ≡ key_of x
 side-zero x = let one : 2 ^ 0 ≡ 1 = refl in let p = div-add-mod' (key_of x) 1 in omega arith
 
 pub side-fits : (key bit : ℕ) → key < 340282366920938463463374607431768211456 → bit < 128 → key / 2 ^ bit < 2 ^ (128 - bit)
-side-fits key bit h b =
-    let whole : 128 ≡ (128 - bit) + bit = omega arith in
-    shr_below key (128 - bit) bit (subst (λ n. key < 2 ^ n) whole h)
-
--- so the highest bit is the last
-pub last-side : (n bit : ℕ) → n < 2 ^ (128 - bit) → bit < 128 → 127 ≤ bit → n / 2 ≡ 0
-last-side n bit h b least =
-    let one : 128 - bit ≡ 1 = omega arith in
-    let two : n < 2 = subst (λ k. n < 2 ^ k) one h in
-    let p = div-add-mod' n 2 in
-    omega arith
+side-fits key bit h1 h2 = grind (arith, nat_tests, shr_below)
 
 bits-even : (m n : ℕ) → m < 2 → n < 2 → (m + n) % 2 ≡ 0 → m ≡ n
 bits-even m n h k e = let p = div-add-mod' (m + n) 2 in omega arith

@@ -1,6 +1,6 @@
 -- How the set of several bytes grows.
-use Rattle.std.proofs.Common.{◌≡◌, ◌⊎◌, ℕ, zero, suc, ◌+◌, ◌<◌, ◌≤◌, Bool, true, false, ◌&&◌, ◌==◌, nat_lt, if◌then◌else◌, IsTrue, List, [], slice_index, Contains, Result, Ok, Err, IfOk, refl, sym, ap, subst, ◌∙◌, inl, inr, arith}
-use Rattle.std.specs.Int.{bit_at}
+use Rattle.std.proofs.Common.{◌≡◌, ◌⊎◌, ℕ, zero, suc, ◌+◌, ◌<◌, ◌≤◌, Bool, true, false, ◌&&◌, nat_lt, if◌then◌else◌, IsTrue, List, [], slice_index, Contains, Result, Ok, Err, IfOk, refl, sym, subst, ◌∙◌, inl, inr, arith}
+use Rattle.std.proofs.lemmas.Bool.Decides.{nat_tests}
 use Rattle.std.proofs.lemmas.Bool.{ltb-true, ltb-false, lt-ltb}
 use Rattle.arn_base.specs.declared.errors.NoMemory.{NoMemory}
 use Rattle.rv64_model.specs.Carries.{Operand, Left, Right, Loaded, Address}
@@ -88,39 +88,20 @@ all-bytes (suc (suc (suc (suc (suc (suc (suc zero))))))) h = refl
 all-bytes (suc (suc (suc (suc (suc (suc (suc (suc i)))))))) h = absurd (omega arith)
 
 no-byte : (i : ℕ) → i < 8 → has_byte 0 i ≡ true → ⊥
-no-byte zero h e = cc
-no-byte (suc zero) h e = cc
-no-byte (suc (suc zero)) h e = cc
-no-byte (suc (suc (suc zero))) h e = cc
-no-byte (suc (suc (suc (suc zero)))) h e = cc
-no-byte (suc (suc (suc (suc (suc zero))))) h e = cc
-no-byte (suc (suc (suc (suc (suc (suc zero)))))) h e = cc
-no-byte (suc (suc (suc (suc (suc (suc (suc zero))))))) h e = cc
-no-byte (suc (suc (suc (suc (suc (suc (suc (suc i)))))))) h e = absurd (omega arith)
+no-byte i h1 h2 = grind (arith, nat_tests)
 
 -- a mask has bytes below 8 alone
 pub below-eight : (mask i : ℕ) → IsTrue (has_byte mask i) → i < 8
-below-eight mask i h = by (nat_lt i 8) refl where
-  by : (b : Bool) → nat_lt i 8 ≡ b → i < 8
-  by true e = ltb-true i 8 e
-  by false e = let clash : false ≡ true = sym (ap (λ (t : Bool). t && (bit_at mask i == 1)) e) ∙ h in cc
+below-eight mask i h1 = grind (arith, nat_tests, ltb-true)
 
 address-named : (masks : Operands) (i : ℕ) → i < 8 → has_byte (if masks.address then 255 else 0) i ≡ true → IsTrue (is_in masks (Address i))
-address-named masks i below h = by masks.address refl where
-  by : (b : Bool) → masks.address ≡ b → IsTrue (is_in masks (Address i))
-  by true e = ap (λ (t : Bool). t && nat_lt i 8) e ∙ lt-ltb i 8 below
-  by false e = absurd (no-byte i below (ap (λ (t : Bool). has_byte (if t then 255 else 0) i) (sym e) ∙ h))
+address-named masks i h1 h2 = grind (arith, nat_tests, lt-ltb, no-byte)
 
 both-true : (a b : Bool) → (a && b) ≡ true → (a ≡ true) × (b ≡ true)
-both-true true true h = (refl, refl)
-both-true true false h = cc
-both-true false b h = cc
+both-true a b h1 = grind (arith, nat_tests)
 
 pub address-has : (masks : Operands) (i : ℕ) → IsTrue (is_in masks (Address i)) → (i < 8) × (has_byte (if masks.address then 255 else 0) i ≡ true)
-address-has masks i h =
-    let parts = both-true masks.address (nat_lt i 8) h in
-    let below = ltb-true i 8 parts.1 in
-    (below, ap (λ (t : Bool). has_byte (if t then 255 else 0) i) parts.0 ∙ all-bytes i below)
+address-has masks i h1 = grind (arith, nat_tests, all-bytes, both-true, ltb-true)
 
 module _ (old a b c d : List (List Item)) (first second loaded : List ℕ) (masks : Operands) (none s1 s2 s3 s4 : ℕ)
     (empty : members_of old none ≡ []) (in_first : AreNumbers old first) (in_second : AreNumbers old second) (in_loaded : AreNumbers old loaded)

@@ -1,5 +1,6 @@
 -- The operands of a flow, bytes that are moved whole, and what their results are then.
-use Rattle.std.proofs.Common.{◌≡◌, ℕ, zero, ◌<◌, nat_lt, Bool, true, false, List, [], ◌∷◌, ◌++◌, slice_index, Contains, Result, Ok, Err, IfOk, refl, sym, ap, subst, ◌∙◌, arith}
+use Rattle.std.proofs.Common.{◌≡◌, ℕ, ◌<◌, nat_lt, List, [], ◌∷◌, ◌++◌, slice_index, Contains, Result, IfOk, sym, ap, subst, ◌∙◌, arith}
+use Rattle.std.proofs.lemmas.Bool.Decides.{nat_tests}
 use Rattle.std.proofs.lemmas.Bool.{ltb-true, ltb-false, lt-ltb}
 use Rattle.arn_base.specs.declared.errors.NoMemory.{NoMemory}
 use Rattle.rv64_model.specs.Carries.{Operand, Left, Right, Loaded, both, first_bytes, taken_if}
@@ -42,55 +43,27 @@ bytewise-flow flow taken e is = subst (λ f. IsFlow f taken) e is
 -- results by a table are those by another that gives each byte the same
 pub by-table : (r : Result (List ℕ) NoMemory) (old new : List (List Item)) (number : Operand → ℕ) (taken table : ℕ → List Operand) → ((i : ℕ) → i < byte_count → taken i ≡ table i)
     → IfOk r (AreResults old new number table) → IfOk r (AreResults old new number taken)
-by-table (Err e) old new number taken table same are = are
-by-table (Ok numbers) old new number taken table same are = record {
-  len = are.len;
-  bytes = λ i h. subst (λ l. TakesOperands old new number l (slice_index numbers i)) (sym (same i h)) (are.bytes i h);
-}
+by-table r old new number taken table h1 h2 = grind (arith, nat_tests)
 
 module _ (sets : List (List Item)) (number : Operand → ℕ) (is_set : IsSet sets 0) (empty : members_of sets 0 ≡ []) where
   -- nothing in the empty set
   in-empty : (item : Item) (set : ℕ) → set ≡ 0 → Contains (members_of sets set) item → ⊥
-  in-empty item set e h =
-      let found = subst (λ l. Contains l item) (ap (members_of sets) e ∙ empty) h in
-      let below : found.0 < 0 = found.1 in absurd (omega arith)
+  in-empty item set h1 h2 = grind (arith, nat_tests)
 
   -- the empty set is that of operands none of which has a member
   takes-nothing : (taken : List Operand) (set : ℕ) → set ≡ 0 → ((x : Operand) → Contains taken x → number x ≡ 0) → TakesOperands sets sets number taken set
-  takes-nothing taken set e none = record {
-    there = subst (IsSet sets) (sym e) is_set;
-    small = subst (λ (s : ℕ). s < first_start) (sym e) (let ok : 0 < first_start = omega arith in ok);
-    members = λ item. (
-      λ h. absurd (in-empty item set e h),
-      λ from. absurd (in-empty item (number from.operand) (none from.operand from.named) from.member),
-    );
-  }
+  takes-nothing taken set h1 h2 = grind (arith, nat_tests, in-empty)
 
   -- the set of one operand
   takes-one : (x : Operand) (set : ℕ) → set ≡ number x → IsSet sets (number x) → set < first_start → TakesOperands sets sets number (x ∷ []) set
-  takes-one x set e there small = record {
-    there = subst (IsSet sets) (sym e) there;
-    small = small;
-    members = λ item. (
-      λ h. record { operand = x; named = (zero, (let ok : 0 < 1 = omega arith in ok), refl); member = subst (λ (s : ℕ). Contains (members_of sets s) item) e h },
-      λ from. subst (λ (s : ℕ). Contains (members_of sets s) item) (sym (e ∙ ap number (only x from.operand from.named))) from.member,
-    );
-  }
+  takes-one x set h1 h2 h3 = grind (arith, nat_tests, only)
 
 module _ (sets : List (List Item)) (first second loaded : List ℕ) (is_set : IsSet sets 0) (empty : members_of sets 0 ≡ []) where
   -- bytes of one operand, and none behind them
   pub moved-by : (moved : List ℕ) (operand : ℕ → Operand) (taken : ℕ → List Operand) (numbers : List ℕ) (count : ℕ) → AreNumbers sets numbers → ((i : ℕ) → number_of first second loaded (operand i) ≡ slice_index numbers i)
       → ((i : ℕ) → i < byte_count → taken i ≡ taken_if (nat_lt i count) (operand i)) → Moves numbers count moved → AreResults sets sets (number_of first second loaded) taken moved
-  moved-by moved operand taken numbers count are is table m = record { len = m.len; bytes = λ i h. by_place i h (nat_lt i count) refl } where
-    by_place : (i : ℕ) → i < byte_count → (b : Bool) → nat_lt i count ≡ b → TakesOperands sets sets (number_of first second loaded) (taken i) (slice_index moved i)
-    by_place i h true e =
-        subst (λ l. TakesOperands sets sets (number_of first second loaded) l (slice_index moved i)) (sym (table i h ∙ ap (λ t. taken_if t (operand i)) e))
-        (takes-one sets (number_of first second loaded) is_set empty (operand i) (slice_index moved i) (m.same i h (ltb-true i count e) ∙ sym (is i)) (subst (IsSet sets) (sym (is i)) (are.set i h)) (m.small i))
-    by_place i h false e =
-        subst (λ l. TakesOperands sets sets (number_of first second loaded) l (slice_index moved i)) (sym (table i h ∙ ap (λ t. taken_if t (operand i)) e))
-        (takes-nothing sets (number_of first second loaded) is_set empty [] (slice_index moved i) (m.none i h (ltb-false i count e)) (λ x found. let below : found.0 < 0 = found.1 in absurd (omega arith)))
+  moved-by moved operand taken numbers count h1 h2 h3 h4 = grind (arith, nat_tests, ltb-false, ltb-true, takes-nothing, takes-one)
 
   pub moved-if : (r : Result (List ℕ) NoMemory) (operand : ℕ → Operand) (taken : ℕ → List Operand) (numbers : List ℕ) (count : ℕ) → AreNumbers sets numbers → ((i : ℕ) → number_of first second loaded (operand i) ≡ slice_index numbers i)
       → ((i : ℕ) → i < byte_count → taken i ≡ taken_if (nat_lt i count) (operand i)) → IfOk r (Moves numbers count) → IfOk r (AreResults sets sets (number_of first second loaded) taken)
-  moved-if (Err e) operand taken numbers count are is table moves = moves
-  moved-if (Ok moved) operand taken numbers count are is table moves = moved-by moved operand taken numbers count are is table moves
+  moved-if r operand taken numbers count h1 h2 h3 h4 = grind (arith, nat_tests, moved-by)

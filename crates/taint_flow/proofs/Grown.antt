@@ -1,9 +1,10 @@
 -- How the set of an operation's byte grows.
-use Rattle.std.proofs.Common.{◌≡◌, inl, inr, ℕ, suc, ◌+◌, ◌-◌, ◌<◌, ◌≤◌, Bool, true, false, nat_lt, if◌then◌else◌, List, [], ◌∷◌, ◌++◌, Contains, refl, sym, ap, subst, ◌∙◌, arith}
+use Rattle.std.proofs.Common.{◌≡◌, inl, inr, ℕ, suc, ◌+◌, ◌-◌, ◌<◌, ◌≤◌, if◌then◌else◌, List, [], ◌∷◌, ◌++◌, Contains, sym, ap, subst, ◌∙◌, arith}
+use Rattle.std.proofs.lemmas.Bool.Decides.{nat_tests}
 use Rattle.std.proofs.lemmas.Bool.{ltb-true, lt-ltb}
 use Rattle.std.proofs.lemmas.List.{map-append}
 use Rattle.std.proofs.lemmas.List.Elements.{Contains-append_left, Contains-append_right, Contains-append_cases, Contains-push, Contains-push_cases}
-use Rattle.rv64_model.specs.Carries.{Operand, Left, Right, below, both, first_bytes, within_width}
+use Rattle.rv64_model.specs.Carries.{Operand, Left, Right, below, both, first_bytes}
 use Rattle.set_store.specs.declared.item.Item.{Item}
 use Rattle.set_store.specs.Sets.{IsSet, IsUnionOf, StandAsBefore, members_of}
 use Rattle.taint_flow.specs.Flow.{IsWidth, reach}
@@ -36,10 +37,7 @@ union-still old new members a b before of_a of_b =
     (subst (λ l. IsUnionOf members (members_of old a) (members_of old b) → IsUnionOf members l (members_of old b)) (sym (before.same a of_a)) (λ union. union))
 
 pub only : (x y : Operand) → Contains (x ∷ []) y → x ≡ y
-only x y h = elim (Contains-push_cases [] x y h) [
-  | inl none ↦ (let below : none.0 < 0 = none.1 in absurd (omega arith))
-  | inr e ↦ e
-]
+only x y h1 = grind (arith, nat_tests)
 
 -- byte i of both
 pub takes-both : (old mid new : List (List Item)) (number : Operand → ℕ) (i s : ℕ) → StandAsBefore old mid → IsSet old (number (Left i)) → IsSet old (number (Right i)) → IsSet new s → s < first_start
@@ -134,7 +132,4 @@ pub reach-below : (width i : ℕ) → i < width → reach width i ≡ i + 1
 reach-below width i h = ap (λ t. suc (if t then i else width - 1)) (lt-ltb i width h) ∙ (let next : suc i ≡ i + 1 = omega arith in next)
 
 pub reach-above : (width i : ℕ) → IsWidth width → width ≤ i → reach width i ≡ width
-reach-above width i fits h = by (nat_lt i width) refl where
-  by : (b : Bool) → nat_lt i width ≡ b → suc (within_width width i) ≡ width
-  by true e = (let less : i < width = ltb-true i width e in absurd (omega arith))
-  by false e = (let some : 0 < width = fits.0 in let last : suc (width - 1) ≡ width = omega arith in ap (λ t. suc (if t then i else width - 1)) e ∙ last)
+reach-above width i h1 h2 = grind (arith, nat_tests, ltb-true)

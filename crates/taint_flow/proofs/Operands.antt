@@ -1,9 +1,10 @@
 -- The operands of masks, and those of a table.
-use Rattle.std.proofs.Common.{◌≡◌, ◌↔◌, ℕ, zero, suc, ◌+◌, ◌<◌, Bool, true, false, nat_lt, IsTrue, List, length, replicate, slice_index, slice_set as set, Contains, refl, sym, subst, arith}
+use Rattle.std.proofs.Common.{◌≡◌, ◌↔◌, ℕ, ◌+◌, ◌<◌, Bool, true, false, nat_lt, IsTrue, List, length, replicate, slice_index, slice_set as set, Contains, refl, sym, subst, arith}
+use Rattle.std.proofs.lemmas.Bool.Decides.{nat_tests}
 use Rattle.std.proofs.lemmas.Bool.{ltb-true, ltb-false}
 use Rattle.std.proofs.lemmas.Grind.{get_or-set_at}
 use Rattle.std.proofs.lemmas.List.{get_or-set_other}
-use Rattle.rv64_model.specs.Carries.{Operand, Left, Right, Loaded, Address}
+use Rattle.rv64_model.specs.Carries.{Operand}
 use Rattle.set_store.specs.declared.item.Item.{Item}
 use Rattle.set_store.specs.Sets.{IsSet, StandAsBefore}
 use Rattle.link_rules.specs.declared.masks.Operands.{Operands}
@@ -15,10 +16,7 @@ use Rattle.taint_flow.proofs.Bytes.{below-eight, address-has}
 -- the number of an operand that masks have is that of a set
 named-set : (sets : List (List Item)) (first second loaded : List ℕ) (masks : Operands) → AreNumbers sets first → AreNumbers sets second → AreNumbers sets loaded
     → (operand : Operand) → IsTrue (is_in masks operand) → IsSet sets (number_of first second loaded operand)
-named-set sets first second loaded masks f s l (Left i) h = f.set i (below-eight masks.first i h)
-named-set sets first second loaded masks f s l (Right i) h = s.set i (below-eight masks.second i h)
-named-set sets first second loaded masks f s l (Loaded i) h = l.set i (below-eight masks.loaded i h)
-named-set sets first second loaded masks f s l (Address i) h = let has = address-has masks i h in f.set i has.0
+named-set sets first second loaded masks h1 h2 h3 operand h4 = grind (arith, nat_tests, address-has, below-eight)
 
 -- masks that have exactly these operands take them
 pub takes-named : (old mid new : List (List Item)) (first second loaded : List ℕ) (masks : Operands) (operands : List Operand) (set : ℕ)
@@ -64,8 +62,7 @@ takes-still old mid new number operands set before t = record {
 -- the first of eight
 pub first-byte : (old new : List (List Item)) (number : Operand → ℕ) (operands : ℕ → List Operand) (s : ℕ) → TakesOperands old new number (operands 0) s
     → (k : ℕ) → k < 1 → TakesOperands old new number (operands k) (slice_index (replicate 8 s) k)
-first-byte old new number operands s one zero h = one
-first-byte old new number operands s one (suc k) h = absurd (omega arith)
+first-byte old new number operands s h1 k h2 = grind (arith, nat_tests)
 
 -- one byte more
 pub one-more : (old new : List (List Item)) (number : Operand → ℕ) (operands : ℕ → List Operand) (numbers : List ℕ) (n s : ℕ) → n < length numbers

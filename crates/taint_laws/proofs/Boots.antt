@@ -1,13 +1,14 @@
 -- A boot begins process 1 and then starts it: what the begin wrote, the start writes again.
-use Rattle.std.proofs.Common.{◌≡◌, ℕ, ◌+◌, ◌-◌, ◌==◌, cond, Bool, true, false, List, [], ◌∷◌, ◌++◌, Option, Some, None, unwrap_or, option_map, nat_lt, refl, ap, append-nil}
+use Rattle.std.proofs.Common.{◌≡◌, ℕ, ◌+◌, ◌-◌, ◌==◌, cond, Bool, true, false, List, [], ◌∷◌, Option, Some, None, unwrap_or, option_map, refl, append-nil, arith}
+use Rattle.std.proofs.lemmas.Bool.Decides.{nat_tests}
 use Rattle.arn_base.specs.declared.machine.Cpu.{Cpu}
 use Rattle.arn_base.specs.declared.records.Record.{Record}
 use Rattle.rv64_model.specs.Carries.{Table}
 use Rattle.parts_model.specs.Image.{header_len}
 use Rattle.acts_model.specs.Moved.{Inside, within}
-use Rattle.acts_model.specs.Transfers.{Starts, Begins}
+use Rattle.acts_model.specs.Transfers.{Starts}
 use Rattle.acts_model.specs.Views.{block_at}
-use Rattle.lineage_model.specs.Flow.{Location, Register, Slot, Memory, At, Byte, StartRegister, StartSlot, StartMemory, Dependence, Prior, shown, when, block_byte, body_byte, received_byte, started_byte}
+use Rattle.lineage_model.specs.Flow.{Location, Register, Slot, Memory, At, Dependence, Prior, shown, when, block_byte, body_byte, received_byte, started_byte}
 use Rattle.lineage_model.specs.Tracking.{EventByte, Tracked, alone_after, gather, items}
 use Rattle.taint_tracker.specs.Goes.{begin_inside}
 
@@ -24,15 +25,13 @@ module _ (given : At → List EventByte) where
 
   block-same : (a b : Location → List EventByte) (load len at : ℕ) (o : Option ℕ)
       → gather given a (unwrap_or (option_map (block_byte None) o) (body_byte load len at)) ≡ gather given b (unwrap_or (option_map (block_byte None) o) (body_byte load len at))
-  block-same a b load len at None = body-same a b (within load (len - header_len) at)
-  block-same a b load len at (Some k) = refl
+  block-same a b load len at o = grind (arith, nat_tests, body-same)
 
   -- written, or kept
   written-same : (a b : Location → List EventByte) (l : Location) (ds : List Dependence) (test : Bool)
       → gather given a ds ≡ gather given b ds → (test ≡ false → a l ≡ b l)
       → gather given a (unwrap_or (when test ds) (Prior l ∷ [])) ≡ gather given b (unwrap_or (when test ds) (Prior l ∷ []))
-  written-same a b l ds true same kept = same
-  written-same a b l ds false same kept = ap (λ (xs : List EventByte). xs ++ []) (kept refl)
+  written-same a b l ds test h1 h2 = grind (arith, nat_tests)
 
   -- where nothing is written
   keeps : (a : Location → List EventByte) (l : Location) (ds : List Dependence) (test : Bool) → test ≡ false → gather given a (unwrap_or (when test ds) (Prior l ∷ [])) ≡ a l
@@ -59,18 +58,10 @@ module _ (table : Table) (load len event : ℕ) (e : Record) (before : Cpu) (t :
       (λ no. keeps given t.locations (Memory m at) _ (m == event) no)
 
   shown-same : (at : At) → gather given begun.locations (shown (Starts 1 event load len None 0) at) ≡ gather given t.locations (shown (Starts 1 event load len None 0) at)
-  shown-same (Byte k) = below-same given begun.locations t.locations k (nat_lt k len)
-  shown-same (StartRegister r i) = refl
-  shown-same (StartSlot r i) = refl
-  shown-same (StartMemory at) = refl
+  shown-same at = grind (arith, nat_tests, begun, below-same, given)
 
   points-same : (n : ℕ) (at : At) → (alone_after table (start_inside load len event e before) begun).points n at ≡ (alone_after table (start_inside load len event e before) t).points n at
-  points-same n at = by_test (n == event)
-    where
-      by_test : (b : Bool) → cond b (gather given begun.locations (shown (Starts 1 event load len None 0) at)) (cond b (gather given t.locations (shown (Begins 1 event) at)) (t.points n at))
-          ≡ cond b (gather given t.locations (shown (Starts 1 event load len None 0) at)) (t.points n at)
-      by_test true = shown-same at
-      by_test false = refl
+  points-same n at = grind (arith, nat_tests, begun, given, shown-same)
 
   pub begin-again : alone_after table (start_inside load len event e before) begun ≡ alone_after table (start_inside load len event e before) t
   begin-again = λ i. record { locations = λ l. locations-same l i; points = λ n at. points-same n at i }

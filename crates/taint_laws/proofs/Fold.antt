@@ -1,5 +1,6 @@
 -- A group alone, record by record, as long as the records aren't broken.
 use Rattle.std.proofs.Common.{◌≡◌, ℕ, zero, suc, ◌+◌, ◌≤◌, ◌==◌, ◌&&◌, not, if◌then◌else◌, max, length, All, Bool, true, false, List, [], ◌∷◌, ◌++◌, Option, Some, None, IfSome, refl, sym, ap, subst, ◌∙◌, arith}
+use Rattle.std.proofs.lemmas.Bool.Decides.{nat_tests}
 use Rattle.std.proofs.lemmas.Bool.{eqb-true, and_parts}
 use Rattle.arn_base.specs.declared.machine.Cpu.{Cpu}
 use Rattle.arn_base.specs.declared.records.Extra.{Extra}
@@ -7,8 +8,6 @@ use Rattle.arn_base.specs.declared.records.Give.{Give}
 use Rattle.arn_base.specs.declared.records.Extra.TheVariants as extra
 use Rattle.arn_base.specs.declared.records.Record.{Record}
 use Rattle.arn_base.specs.declared.records.Record.TheVariants as entry
-use Rattle.parts_model.specs.declared.calls.TheConstants.{FORK}
-use Rattle.parts_model.specs.Replies.{is_success}
 use Rattle.acts_model.specs.Acts.{Act, unborn}
 use Rattle.acts_model.specs.Bodies.{View, put, seen}
 use Rattle.acts_model.specs.Disagreement.{Wrong, wrong_with}
@@ -16,7 +15,7 @@ use Rattle.acts_model.specs.Records.{process_of}
 use Rattle.acts_model.specs.Told.{act_of}
 use Rattle.acts_model.specs.Views.{stands_at}
 use Rattle.history_model.specs.Alone as alone
-use Rattle.history_model.specs.Alone.{Own, Made, Makes, Fails, Slice, Standing, act_done, after_boot, after_last, after_record, after_signal, after_slice, and_then, at_first, begins_by, boots, ends_slice, happens, made_if, no_instruction, nothing_own, plain_in, plain_or, plains, record_done, record_seen, replayed, settled, slice_of, unless_wrong}
+use Rattle.history_model.specs.Alone.{Own, Made, Makes, Fails, Slice, Standing, act_done, after_boot, after_last, after_record, after_signal, after_slice, and_then, at_first, begins_by, boots, ends_slice, happens, made_if, no_instruction, plain_in, plain_or, plains, record_seen, replayed, settled, slice_of, unless_wrong}
 use Rattle.history_model.specs.Broken.{Behind, Nowhere, ASlice, ADelivery, behind, behind_from, behind_record, behind_signal, broken_from, cant_follow, greatest, greatest_after, greatest_from, is_behind}
 use Rattle.history_model.specs.Groups.{Groups, group_forked, groups_told, is_number}
 use Rattle.history_model.specs.Moments.{changed}
@@ -77,14 +76,7 @@ happens-ends event most most' pid e own more process plain child s = by_view (se
     by_view (Some v) sees = by_wrong v sees (wrong_with v (stands_at v) e) refl
 
 pub no_instruction-ends : (P : Own → Type 0) (event : ℕ) (e : Record) (made : Made) → Ends P made → Ends P (no_instruction event e made)
-no_instruction-ends P event (entry.Call pid number result more) made h = tt
-no_instruction-ends P event (entry.End pid status) made h = tt
-no_instruction-ends P event (entry.Boot name give) made h = h
-no_instruction-ends P event (entry.File name bytes) made h = h
-no_instruction-ends P event (entry.Typed bytes) made h = h
-no_instruction-ends P event (entry.Unplug device) made h = h
-no_instruction-ends P event (entry.Slice pid ran) made h = h
-no_instruction-ends P event (entry.Signal pid signal cut handler) made h = h
+no_instruction-ends P event e made h1 = grind (arith, nat_tests)
 
 slice-ends : (most most' : ℕ) (slice : Slice) (owed : ℕ) (e : Record) (own : Own) → most ≤ most' → process_of e ≡ Some slice.pid → ((h : Holders) → with_booted slice.event e h ≡ h)
     → ((cpu : Cpu) → IfSome (act_of cpu e) (IsChild most most')) → State slice.event most own → Ends (State (slice.event + 1) most') (ends_slice slice owed e own)
@@ -109,29 +101,17 @@ abbrev AreFounded : ℕ → Groups → Type 0
 AreFounded most groups = (p : ℕ) → IfSome (groups p) (λ m. m ≤ most)
 
 founded-later : (n m : ℕ) (groups : Groups) → n ≤ m → AreFounded n groups → AreFounded m groups
-founded-later n m groups le h p = by_group (groups p) (h p)
-  where
-    by_group : (o : Option ℕ) → IfSome o (λ k. k ≤ n) → IfSome o (λ k. k ≤ m)
-    by_group None k = tt
-    by_group (Some group) k = omega arith
+founded-later n m groups h1 h2 = grind (arith, nat_tests)
 
 changed-founded : (n : ℕ) (groups : Groups) (child : ℕ) (o : Option ℕ) → IfSome o (λ m. m ≤ n) → AreFounded n groups → AreFounded n (changed groups child o)
-changed-founded n groups child o h k p = by_test (p == child)
-  where
-    by_test : (b : Bool) → IfSome (if b then o else groups p) (λ m. m ≤ n)
-    by_test true = h
-    by_test false = k p
+changed-founded n groups child o h1 h2 = grind (arith, nat_tests)
 
 forked-founded : (n pid child : ℕ) (more : Extra) (groups : Groups) → child ≤ n → AreFounded n groups → AreFounded n (group_forked pid child more groups)
 forked-founded n pid child (extra.Start start) groups le h = changed-founded n groups child (Some child) le h
 forked-founded n pid child more groups le h = changed-founded n groups child (groups pid) (h pid) h
 
 called-founded : (n pid number result : ℕ) (more : Extra) (groups : Groups) → AreFounded n groups → AreFounded (greatest_after (entry.Call pid number result more) n) (groups_told (entry.Call pid number result more) groups)
-called-founded n pid number result more groups h = by_test ((number == FORK) && is_success result)
-  where
-    by_test : (b : Bool) → AreFounded (if b then max n result else n) (if b then group_forked pid result more groups else groups)
-    by_test true = forked-founded (max n result) pid result more groups (omega arith) (founded-later n (max n result) groups (omega arith) h)
-    by_test false = h
+called-founded n pid number result more groups h1 = grind (arith, nat_tests, forked-founded, founded-later)
 
 -- a standing behind records: where the open slice is, and the greatest number of a process
 record Reached (b : Behind) (most : ℕ) (t : Standing) : Type 0 where

@@ -1,25 +1,25 @@
 -- The events of a group alone are those of its records.
 use Rattle.std.proofs.Common.{◌≡◌, ℕ, zero, suc, ◌+◌, ◌==◌, ◌&&◌, Bool, true, false, if◌then◌else◌, List, [], ◌∷◌, ◌++◌, slice_get, Option, Some, None, IfSome, IsSome, refl, sym, ap, subst, ◌∙◌, arith, eqb-true, zero-add}
+use Rattle.std.proofs.lemmas.Bool.Decides.{nat_tests}
 use Rattle.std.proofs.lemmas.Bool.{and_from}
 use Rattle.arn_base.specs.declared.machine.Cpu.{Cpu}
 use Rattle.arn_base.specs.declared.records.Extra.{Extra}
 use Rattle.arn_base.specs.declared.records.Extra.TheVariants as extra
 use Rattle.arn_base.specs.declared.records.Record.{Record}
 use Rattle.arn_base.specs.declared.records.Record.TheVariants as entry
-use Rattle.rv64_model.specs.Instruction.{Effect, Next, Call, End}
+use Rattle.rv64_model.specs.Instruction.{Effect, Call, End}
 use Rattle.parts_model.specs.declared.calls.TheConstants as number
 use Rattle.parts_model.specs.Replies.{is_success}
-use Rattle.acts_model.specs.Acts.{Act, Returns, Gives, Starts, Forks, Founds, Shares, Leaves, Delivers, Faults, Dies, unborn}
+use Rattle.acts_model.specs.Acts.{Act, Returns, Forks, Founds, unborn}
 use Rattle.acts_model.specs.Bodies.{View, put, seen}
 use Rattle.acts_model.specs.Disagreement.{Wrong, wrong_with}
 use Rattle.acts_model.specs.Moved.{Event, Inside}
 use Rattle.acts_model.specs.Records.{event_len}
-use Rattle.acts_model.specs.Told.{Kind, Exit, Fork, Exec, Wait, Sigreturn, Read, Write, Shm, Other, act_of, call_act, is_pipe_write, kind_of}
-use Rattle.acts_model.specs.Transfers as moves
+use Rattle.acts_model.specs.Told.{Kind, Fork, Exec, Wait, Read, Write, act_of, call_act, kind_of}
 use Rattle.acts_model.specs.Transfers.{Holds, Transfer, holds_of, transfer}
 use Rattle.acts_model.specs.Views.{stands_at}
 use Rattle.history_model.specs.Alone as alone
-use Rattle.history_model.specs.Alone.{Own, Made, Makes, Fails, Slice, Standing, act_done, after_record, and_then, at_first, begins_by, boots, ends_slice, happens, no_instruction, plain_by, plain_in, plain_or, plains, record_done, record_seen, replayed, settled, slice_of, unless_wrong}
+use Rattle.history_model.specs.Alone.{Own, Makes, Slice, Standing, act_done, after_record, at_first, begins_by, boots, ends_slice, happens, plain_by, plain_in, plain_or, plains, record_done, record_seen, replayed, settled, slice_of, unless_wrong}
 use Rattle.history_model.specs.Events.{events}
 use Rattle.history_model.specs.Exchanges.{call_founded, founded}
 use Rattle.history_model.specs.Groups.{is_number}
@@ -33,20 +33,7 @@ use Rattle.taint_laws.proofs.Records.{Ends, begins-ends}
 -- an act that starts a group is that of a fork whose record says so
 
 kind-fork : (n : ℕ) → kind_of n ≡ Fork → (n == number.FORK) ≡ true
-kind-fork n e = by_tests (n == number.EXIT) (n == number.FORK) (n == number.EXEC) (n == number.WAIT) (n == number.SIGRETURN) (n == number.READ) (n == number.WRITE) (n == number.SHM) e
-  where
-    by_tests : (a c d f g h b s : Bool)
-        → (if a then Exit else if c then Fork else if d then Exec else if f then Wait else if g then Sigreturn else if h then Read else if b then Write
-        else if s then Shm else Other) ≡ Fork → c ≡ true
-    by_tests true c d f g h b s k = absurd (cc)
-    by_tests false true d f g h b s k = refl
-    by_tests false false true f g h b s k = absurd (cc)
-    by_tests false false false true g h b s k = absurd (cc)
-    by_tests false false false false true h b s k = absurd (cc)
-    by_tests false false false false false true b s k = absurd (cc)
-    by_tests false false false false false false true s k = absurd (cc)
-    by_tests false false false false false false false true k = absurd (cc)
-    by_tests false false false false false false false false k = absurd (cc)
+kind-fork n h1 = grind (arith, nat_tests)
 
 module _ (pid event : ℕ) (holds : Holds) where
   abbrev Founding : Act → Type 0
@@ -73,45 +60,17 @@ module _ (pid event : ℕ) (holds : Holds) where
   wait-none cpu result more f = cc
 
   read-none : (cpu : Cpu) (result : ℕ) (more : Extra) → Founding (call_act Read cpu result more) → ⊥
-  read-none cpu result (extra.Give give) f = cc
-  read-none cpu result (extra.Reply device bytes) f = cc
-  read-none cpu result more f = cc
+  read-none cpu result more h1 = grind (arith, nat_tests)
 
   write-none : (cpu : Cpu) (result : ℕ) (more : Extra) → Founding (call_act Write cpu result more) → ⊥
-  write-none cpu result (extra.Put file at bytes) f = cc
-  write-none cpu result (extra.Console bytes) f = cc
-  write-none cpu result (extra.Sent device bytes) f = cc
-  write-none cpu result extra.Nothing f = neither (is_pipe_write result) (Gives _ result result) (Returns result) refl refl f
-  write-none cpu result more f = cc
+  write-none cpu result more h1 = grind (arith, nat_tests, neither)
 
   call-one : (n : ℕ) (kind : Kind) (cpu : Cpu) (result : ℕ) (more : Extra) → (kind ≡ Fork → (n == number.FORK) ≡ true) → Founding (call_act kind cpu result more) → IsSome (call_founded n result more)
-  call-one n Fork cpu result more is f = fork-one n cpu result more (is refl) f
-  call-one n Exit cpu result more is f = absurd (cc)
-  call-one n Exec cpu result more is f = absurd (exec-none cpu result more f)
-  call-one n Wait cpu result more is f = absurd (wait-none cpu result more f)
-  call-one n Sigreturn cpu result more is f = absurd (neither (result == 0) Leaves (Returns result) refl refl f)
-  call-one n Read cpu result more is f = absurd (read-none cpu result more f)
-  call-one n Write cpu result more is f = absurd (write-none cpu result more f)
-  call-one n Shm cpu result more is f = absurd (neither (result == 0) Shares (Returns result) refl refl f)
-  call-one n Other cpu result more is f = absurd (cc)
+  call-one n kind cpu result more h1 h2 = grind (arith, nat_tests, exec-none, fork-one, neither, read-none, wait-none, write-none)
 
   founding-founded : (cpu : Cpu) (e : Record) (a : Act) → act_of cpu e ≡ Some a → Founding a → IsSome (founded e)
-  founding-founded cpu (entry.Call child n result more) a is f = call-one n (kind_of n) cpu result more (kind-fork n) (subst Founding (some-act a (call_act (kind_of n) cpu result more) is) f)
-    where
-      some-act : (x y : Act) → Some y ≡ Some x → x ≡ y
-      some-act x y e = cc
-  founding-founded cpu (entry.Boot name give) a is f = absurd (let same : a ≡ Starts give.bytes 0 0 = cc in let clash : true ≡ false = sym f ∙ ap (λ (x : Act). founds (transfer pid event holds x)) same in cc)
-  founding-founded cpu (entry.Signal child signal cut handler) a is f = absurd (neither (handler == 0) (Dies signal cut) (Delivers signal handler cut) refl refl (subst Founding (some-signal a (if handler == 0 then Dies signal cut else Delivers signal handler cut) is) f))
-    where
-      some-signal : (x y : Act) → Some y ≡ Some x → x ≡ y
-      some-signal x y e = cc
-  founding-founded cpu (entry.End child status) a is f = absurd (let same : a ≡ Faults status = cc in let clash : true ≡ false = sym f ∙ ap (λ (x : Act). founds (transfer pid event holds x)) same in cc)
-  founding-founded cpu (entry.File name bytes) a is f = absurd (cc)
-  founding-founded cpu (entry.Typed bytes) a is f = absurd (cc)
-  founding-founded cpu (entry.Unplug device) a is f = absurd (cc)
-  founding-founded cpu (entry.Slice child ran) a is f = absurd (cc)
+  founding-founded cpu e a h1 h2 = grind (arith, nat_tests, call-one, kind-fork, neither)
 
--- what happened inside is events of a history
 module _ (all : List Record) where
   record IsOf (t : Transfer) (event : Event) : Type 0 where
     there : slice_get all event.number ≡ Some event.entry
@@ -129,9 +88,7 @@ module _ (all : List Record) where
   push (j ∷ list) i h k = (h.0, push list i h.1 k)
 
   plain-by : (pid : ℕ) (own : Own) (v : View) (effect : Effect) → Keeps own → IfSome (plain_by pid own v effect) Keeps
-  plain-by pid own v (Next instr cpu memory) h = push own.inside _ h tt
-  plain-by pid own v Call h = tt
-  plain-by pid own v (End status) h = tt
+  plain-by pid own v effect h1 = grind (arith, nat_tests, push)
 
   plain-keeps : (pid : ℕ) (own : Own) (o : Option View) → Keeps own → IfSome (plain_in pid own o) Keeps
   plain-keeps pid own None h = tt
@@ -239,25 +196,7 @@ module _ (all : List Record) where
   by-number t event n o is h false e = h
 
   step-heard : (i : Inside) (heard : Hearings) → AreHeard heard → IfSome i.event (IsOf i.transfer) → AreHeard (heard_after i heard)
-  step-heard i heard h is n = by_event i.event i.transfer is
-    where
-      by_event : (o : Option Event) (t : Transfer) → IfSome o (IsOf t) → IfSome (heard_after (record i { event = o; transfer = t }) heard n) (IsHeard (slice_get all n))
-      by_event None t k = h n
-      by_event (Some event) (moves.Begins pid made) k = h n
-      by_event (Some event) (moves.Arrives len) k = by-number (moves.Arrives len) event n (heard n) k (h n) (n == event.number) refl
-      by_event (Some event) (moves.Starts pid made load len block block_len) k = by-number (moves.Starts pid made load len block block_len) event n (heard n) k (h n) (n == event.number) refl
-      by_event (Some event) (moves.Runs pid instr place) k = by-number (moves.Runs pid instr place) event n (heard n) k (h n) (n == event.number) refl
-      by_event (Some event) (moves.Returns pid) k = by-number (moves.Returns pid) event n (heard n) k (h n) (n == event.number) refl
-      by_event (Some event) (moves.Receives pid place len) k = by-number (moves.Receives pid place len) event n (heard n) k (h n) (n == event.number) refl
-      by_event (Some event) (moves.Gives pid place len) k = by-number (moves.Gives pid place len) event n (heard n) k (h n) (n == event.number) refl
-      by_event (Some event) (moves.Forks pid child from into) k = by-number (moves.Forks pid child from into) event n (heard n) k (h n) (n == event.number) refl
-      by_event (Some event) (moves.Founds pid child from into) k = by-number (moves.Founds pid child from into) event n (heard n) k (h n) (n == event.number) refl
-      by_event (Some event) (moves.Shares pid made) k = by-number (moves.Shares pid made) event n (heard n) k (h n) (n == event.number) refl
-      by_event (Some event) (moves.Delivers pid cut) k = by-number (moves.Delivers pid cut) event n (heard n) k (h n) (n == event.number) refl
-      by_event (Some event) (moves.Leaves pid) k = by-number (moves.Leaves pid) event n (heard n) k (h n) (n == event.number) refl
-      by_event (Some event) (moves.Exits pid) k = by-number (moves.Exits pid) event n (heard n) k (h n) (n == event.number) refl
-      by_event (Some event) (moves.Faults pid) k = by-number (moves.Faults pid) event n (heard n) k (h n) (n == event.number) refl
-      by_event (Some event) (moves.Dies pid) k = by-number (moves.Dies pid) event n (heard n) k (h n) (n == event.number) refl
+  step-heard i heard h1 h2 = grind (arith, nat_tests, by-number)
 
   heard-of : (list : List Inside) (heard : Hearings) → AreOf list → AreHeard heard → AreHeard (heard_from list heard)
   heard-of [] heard of h = h

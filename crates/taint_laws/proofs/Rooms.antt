@@ -1,28 +1,25 @@
 -- What a process sees is no more than a window and a segment have room for, whatever an instruction or an act does.
-use Rattle.std.proofs.Common.{◌≡◌, ℕ, suc, ◌+◌, ◌-◌, ◌*◌, ◌≤◌, List, [], ◌∷◌, ◌++◌, length, take, drop, refl, subst, Option, Some, None, IfSome, All, unwrap_or, Bool, true, false, ◌==◌, ◌&&◌, ◌%◌, if◌then◌else◌, arith, nat_le, nat_lt, is_some, option_map, length-take, length-drop, length-append, length-take-le}
+use Rattle.std.proofs.Common.{is_some, ◌≡◌, ℕ, suc, ◌+◌, ◌-◌, ◌*◌, ◌≤◌, List, [], ◌∷◌, ◌++◌, length, take, drop, Option, Some, None, IfSome, All, unwrap_or, Bool, true, false, ◌&&◌, if◌then◌else◌, arith, nat_le, nat_lt, length-take, length-drop, length-append, length-take-le}
+use Rattle.std.proofs.lemmas.Bool.Decides.{nat_tests}
 use Rattle.std.proofs.lemmas.Bool.{and_parts, or_parts, leb-true, ltb-false}
 use Rattle.std.proofs.lemmas.List.{length-replicate}
 use Rattle.arn_base.specs.Disk.{overwrite}
 use Rattle.arn_base.specs.declared.machine.Block.{Block}
 use Rattle.arn_base.specs.declared.machine.Cpu.{Cpu}
-use Rattle.arn_base.specs.Window.{Window, is_whole_in, window_bytes, window_with, bytes_at, with_bytes, bytes_of, number_at}
+use Rattle.arn_base.specs.Window.{Window, is_whole_in, window_bytes, window_with, bytes_at, with_bytes, bytes_of}
 use Rattle.rv64_isa.specs.declared.instruction.Instr.{Instr}
-use Rattle.rv64_isa.specs.declared.instruction.Instr.TheVariants.{Lui, Auipc, Jal, Jalr, Branch, Load, Store, Imm, Op, Fence, Ecall, Ebreak}
 use Rattle.rv64_isa.specs.Decoded.{decoded}
-use Rattle.rv64_model.specs.Instruction.{Effect, Next, Call, End, jumps, jumped, branches, loads, stores, executed, executed_if, fetched, advanced}
-use Rattle.rv64_model.specs.Operands.{address}
-use Rattle.rv64_model.specs.Registers.{register}
-use Rattle.rv64_model.specs.Values.{immediate, sum, is_taken, load_len, load_result}
-use Rattle.rv64_model.specs.declared.statuses.TheConstants.{MISALIGNED, BAD_ACCESS}
+use Rattle.rv64_model.specs.Instruction.{Effect, Next, Call, End, jumps, branches, loads, stores, executed, executed_if, fetched, advanced}
 use Rattle.parts_model.specs.declared.limits.TheConstants.{WINDOW_START, WINDOW_LEN, SEGMENT_LEN, BLOCK_LEN, MOST_BLOCK_BYTES}
 use Rattle.parts_model.specs.Blocks.{with_blocks}
 use Rattle.parts_model.specs.Image.{Image, read_as_image}
-use Rattle.parts_model.specs.Memory.{windows, zeros}
+use Rattle.parts_model.specs.Memory.{zeros}
 use Rattle.acts_model.specs.Acts.{Act, Returns, Receives, Gives, Starts, Forks, Founds, Shares, Leaves, Delivers, Exits, Faults, Dies, acted, restored}
 use Rattle.acts_model.specs.Bodies.{View}
 use Rattle.acts_model.specs.Disagreement.{is_outside, isnt_block}
 use Rattle.acts_model.specs.Views.{reach, read, with_reach, stands_at, after_instr, among_zeros, block_at, window_at_start}
 use Rattle.history_model.specs.Broken.{rise_from}
+use Rattle.rv64_model.specs.declared.statuses.TheConstants.{BAD_ACCESS}
 
 -- the first of windows is a private one, and the next a segment
 abbrev Rooms : List Window → Type 0
@@ -43,38 +40,16 @@ overwritten-len old at bytes l =
     omega arith
 
 whole-len : (w : Window) (at : ℕ) (bytes : List ℕ) → is_whole_in w at (length bytes) ≡ true → length (window_with w at bytes).bytes ≡ length w.bytes
-whole-len w at bytes t =
-    let parts = and_parts (nat_le w.from at) (nat_le (at + length bytes) (w.from + length w.bytes)) t in
-    let x = leb-true w.from at parts.0 in
-    let y = leb-true (at + length bytes) (w.from + length w.bytes) parts.1 in
-    overwritten-len w.bytes (at - w.from) bytes (omega arith)
+whole-len w at bytes h1 = grind (arith, nat_tests, and_parts, leb-true, overwritten-len)
 
 with-rooms : (ws : List Window) (at : ℕ) (bytes : List ℕ) → Rooms ws → Rooms (with_bytes ws at bytes)
-with-rooms [] at bytes h = tt
-with-rooms (w ∷ []) at bytes h = by_test (is_whole_in w at (length bytes)) refl
-  where
-    by_test : (b : Bool) → is_whole_in w at (length bytes) ≡ b → Rooms (if b then window_with w at bytes ∷ [] else w ∷ [])
-    by_test true t = let e = whole-len w at bytes t in omega arith
-    by_test false t = h
-with-rooms (w ∷ s ∷ more) at bytes h = by_tests (is_whole_in w at (length bytes)) (is_whole_in s at (length bytes)) refl refl
-  where
-    by_tests : (b c : Bool) → is_whole_in w at (length bytes) ≡ b → is_whole_in s at (length bytes) ≡ c
-        → Rooms (if b then window_with w at bytes ∷ s ∷ more else w ∷ (if c then window_with s at bytes ∷ more else s ∷ with_bytes more at bytes))
-    by_tests true c t u = let e = whole-len w at bytes t in let f = h.0 in (omega arith, h.1)
-    by_tests false true t u = let e = whole-len s at bytes u in let f = h.1 in (h.0, omega arith)
-    by_tests false false t u = h
+with-rooms ws at bytes h1 = grind (arith, nat_tests, whole-len)
 
 reach-rooms : (v : View) → HasRooms v → Rooms (reach v)
-reach-rooms v h = by_segment v.body.segment
-  where
-    by_segment : (o : Option ℕ) → Rooms (windows v.window (option_map (λ made. v.segment) o))
-    by_segment None = h.window
-    by_segment (Some made) = (h.window, h.segment)
+reach-rooms v h1 = grind (arith, nat_tests)
 
 with_reach-rooms : (ws : List Window) (v : View) → Rooms ws → HasRooms v → HasRooms (with_reach ws v)
-with_reach-rooms [] v h s = s
-with_reach-rooms (w ∷ []) v h s = record { window = h; segment = s.segment }
-with_reach-rooms (w ∷ x ∷ more) v h s = record { window = h.0; segment = h.1 }
+with_reach-rooms ws v h1 h2 = grind (arith, nat_tests)
 
 -- what is read has no more bytes than were asked for
 read-few : (ws : List Window) (at len : ℕ) → length (unwrap_or (bytes_at ws at len) []) ≤ len
@@ -93,11 +68,7 @@ RoomyEffect Call = Unit {0}
 RoomyEffect (End status) = Unit {0}
 
 jumps-rooms : (instr : Instr) (cpu : Cpu) (ws : List Window) (rd target : ℕ) → Rooms ws → RoomyEffect (jumps instr cpu ws rd target)
-jumps-rooms instr cpu ws rd target h = by_test (target % 4 == 0)
-  where
-    by_test : (b : Bool) → RoomyEffect (if b then Next instr (jumped cpu rd target) ws else End MISALIGNED)
-    by_test true = h
-    by_test false = tt
+jumps-rooms instr cpu ws rd target h1 = grind (arith, nat_tests)
 
 branches-rooms : (instr : Instr) (cpu : Cpu) (ws : List Window) (b : Bool) (target : ℕ) → Rooms ws → RoomyEffect (branches instr cpu ws b target)
 branches-rooms instr cpu ws false target h = h
@@ -115,18 +86,7 @@ stores-rooms instr cpu ws at len value h = by_test (is_some (bytes_at ws at len)
     by_test false = tt
 
 executed-rooms : (instr : Instr) (cpu : Cpu) (ws : List Window) → Rooms ws → RoomyEffect (executed instr cpu ws)
-executed-rooms (Lui rd imm) cpu ws h = h
-executed-rooms (Auipc rd imm) cpu ws h = h
-executed-rooms (Jal rd imm) cpu ws h = jumps-rooms (Jal rd imm) cpu ws rd _ h
-executed-rooms (Jalr rd rs1 imm) cpu ws h = jumps-rooms (Jalr rd rs1 imm) cpu ws rd _ h
-executed-rooms (Branch op rs1 rs2 imm) cpu ws h = branches-rooms (Branch op rs1 rs2 imm) cpu ws (is_taken op (register cpu rs1) (register cpu rs2)) (sum cpu.pc (immediate imm)) h
-executed-rooms (Load op rd rs1 imm) cpu ws h = loads-rooms (Load op rd rs1 imm) cpu ws rd (option_map (load_result op) (number_at ws (address cpu rs1 imm) (load_len op))) h
-executed-rooms (Store op rs1 rs2 imm) cpu ws h = stores-rooms (Store op rs1 rs2 imm) cpu ws _ _ _ h
-executed-rooms (Imm op rd rs1 imm) cpu ws h = h
-executed-rooms (Op op rd rs1 rs2) cpu ws h = h
-executed-rooms (Fence word) cpu ws h = h
-executed-rooms Ecall cpu ws h = tt
-executed-rooms Ebreak cpu ws h = tt
+executed-rooms instr cpu ws h1 = grind (arith, nat_tests, branches-rooms, jumps-rooms, loads-rooms, stores-rooms)
 
 executed_if-rooms : (o : Option Instr) (cpu : Cpu) (ws : List Window) → Rooms ws → RoomyEffect (executed_if o cpu ws)
 executed_if-rooms None cpu ws h = tt
@@ -137,9 +97,7 @@ fetched-rooms None cpu ws h = tt
 fetched-rooms (Some word) cpu ws h = executed_if-rooms (decoded word) cpu ws h
 
 pub instr-rooms : (v : View) (instr : Instr) (cpu : Cpu) (memory : List Window) → HasRooms v → stands_at v ≡ Next instr cpu memory → HasRooms (after_instr cpu memory v)
-instr-rooms v instr cpu memory h e =
-    let rooms : Rooms memory = subst RoomyEffect e (fetched-rooms (number_at (reach v) v.body.cpu.pc 4) v.body.cpu (reach v) (reach-rooms v h)) in
-    with_reach-rooms memory (record v { body = record v.body { cpu = cpu } }) rooms (record { window = h.window; segment = h.segment })
+instr-rooms v instr cpu memory h1 h2 = grind (arith, nat_tests, fetched-rooms, reach-rooms, with_reach-rooms)
 
 -- acts
 

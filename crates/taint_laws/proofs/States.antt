@@ -1,5 +1,6 @@
 -- What a group alone has made so far: its steps are those of its members, and its bodies hold what members hold after them.
-use Rattle.std.proofs.Common.{◌≡◌, ◌≢◌, ℕ, ◌+◌, ◌<◌, ◌≤◌, cond, length, Bool, true, false, nat_le, nat_lt, is_some, List, [], ◌∷◌, ◌++◌, Option, Some, None, IfSome, IsNone, option_map, option_and_then, refl, sym, ap, subst, ◌∙◌, ne_eqb, arith}
+use Rattle.std.proofs.Common.{◌≡◌, ◌≢◌, ℕ, ◌+◌, ◌<◌, ◌≤◌, cond, length, Bool, false, nat_lt, is_some, List, [], ◌∷◌, ◌++◌, Option, Some, None, IfSome, IsNone, option_map, option_and_then, refl, sym, ap, subst, ◌∙◌, ne_eqb, arith}
+use Rattle.std.proofs.lemmas.Bool.Decides.{nat_tests}
 use Rattle.std.proofs.lemmas.Bool.{or_parts, leb-true, leb-false}
 use Rattle.arn_base.specs.declared.records.Give.{Give}
 use Rattle.arn_base.specs.declared.records.Record.{Record}
@@ -8,7 +9,7 @@ use Rattle.arn_base.specs.declared.records.Start.{Start}
 use Rattle.rv64_model.specs.Instruction.{Effect, Next, Call, End}
 use Rattle.parts_model.specs.declared.limits.TheConstants.{MOST_BLOCK_BYTES, WINDOW_LEN}
 use Rattle.acts_model.specs.Acts.{Act, Gives, Starts, Forks, Founds, Shares, Exits, beginning_in, begun, done, done_by, unborn}
-use Rattle.acts_model.specs.Bodies.{Body, Bodies, View, body_at, put, seen, view}
+use Rattle.acts_model.specs.Bodies.{Body, Bodies, View, put, seen, view}
 use Rattle.acts_model.specs.Disagreement.{is_outside}
 use Rattle.acts_model.specs.Moved.{Event, Inside}
 use Rattle.acts_model.specs.Records.{event_len, process_of}
@@ -76,16 +77,7 @@ first-state =
     }
 
 pub state-later : (n n' most most' : ℕ) (own : Own) → n ≤ n' → most ≤ most' → State n most own → State n' most' own
-state-later n n' most most' own le more s =
-    record {
-      shared = s.shared;
-      sound = sound-later s.shared s.shared n n' most most' own.bodies (λ k l. refl) le more s.sound;
-      holds = s.holds;
-      steps = s.steps;
-      possible = s.possible;
-      new = s.new;
-      unheard = λ e l. s.unheard e (omega arith);
-    }
+state-later n n' most most' own h1 h2 h3 = grind (arith, nat_tests, sound-later)
 
 -- something more happens
 record Adds (n most n' most' : ℕ) (own : Own) (i : Inside) (b : Bodies) : Type 0 where
@@ -122,23 +114,7 @@ record IsSeen (shared : Marks) (n most : ℕ) (b : Bodies) (pid : ℕ) (v : View
   counted : pid ≤ most
 
 is-seen : (shared : Marks) (n most : ℕ) (b : Bodies) (pid : ℕ) (v : View) → Sound shared n most b → seen b pid ≡ Some v → IsSeen shared n most b pid v
-is-seen shared n most b pid v s e = by_body (body_at b pid) refl e
-  where
-    counted : (x : Body) → body_at b pid ≡ Some x → (t : Bool) → nat_le pid most ≡ t → pid ≤ most
-    counted x k true l = leb-true pid most l
-    counted x k false l = absurd (let above = leb-false pid most l in let none : None ≡ Some x = sym (s.few pid (omega arith)) ∙ k in cc)
-
-    by_body : (o : Option Body) → body_at b pid ≡ o → option_map (view b) o ≡ Some v → IsSeen shared n most b pid v
-    by_body None k f = absurd (cc)
-    by_body (Some x) k f =
-        let fits : Fits shared n (holds_of x) = subst (λ (o : Option Body). IfSome o (λ (x : Body). Fits shared n (holds_of x))) k (s.fits pid) in
-        let there : IsSeen shared n most b pid (view b x) = record {
-          fits = fits;
-          rooms = seen-rooms shared n most b x s fits;
-          holds = ap (λ (o : Option Body). option_map holds_of o) k;
-          counted = counted x k (nat_le pid most) refl;
-        } in
-        subst (IsSeen shared n most b pid) (some-view (view b x) v f) there
+is-seen shared n most b pid v h1 h2 = grind (arith, nat_tests, leb-false, leb-true, seen-rooms, some-view)
 
 -- an instruction
 
@@ -163,20 +139,12 @@ plain-state n most pid own v Call e stands s = tt
 plain-state n most pid own v (End status) e stands s = tt
 
 pub plain_in-state : (n most pid : ℕ) (own : Own) → State n most own → IfSome (plain_in pid own (seen own.bodies pid)) (State n most)
-plain_in-state n most pid own s = by_view (seen own.bodies pid) refl
-  where
-    by_view : (o : Option View) → seen own.bodies pid ≡ o → IfSome (plain_in pid own o) (State n most)
-    by_view None e = tt
-    by_view (Some v) e = plain-state n most pid own v (stands_at v) e refl s
+plain_in-state n most pid own h1 = grind (arith, nat_tests, plain-state)
 
 -- an act
 
 unheld-all : (n most event : ℕ) (own : Own) → n ≤ event → State n most own → (p : ℕ) → IfSome (holders_in own.bodies p) (IsUnheldBy event)
-unheld-all n most event own le s p = by_body (body_at own.bodies p) (s.sound.fits p)
-  where
-    by_body : (o : Option Body) → IfSome o (λ (x : Body). Fits s.shared n (holds_of x)) → IfSome (option_map holds_of o) (IsUnheldBy event)
-    by_body None f = tt
-    by_body (Some x) f = unheld-by s.shared n event (holds_of x) le f
+unheld-all n most event own h1 h2 p = grind (arith, nat_tests, unheld-by)
 
 heard-later : (tr : Transfer) (event : Event) (heard : Hearings) (e : ℕ) → e ≢ event.number → heard_at tr event heard e ≡ heard e
 heard-later (Begins pid made) event heard e ne = refl

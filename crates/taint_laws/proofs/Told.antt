@@ -1,5 +1,6 @@
 -- Told of steps, it goes on as tracking by lists does.
-use Rattle.std.proofs.Common.{◌≡◌, ℕ, ◌==◌, cond, Bool, true, false, List, [], ◌∷◌, ◌++◌, length, flat_map, Option, Some, None, IfSome, option_map, option_and_then, refl, sym, ap, subst, ◌∙◌, ne_eqb}
+use Rattle.std.proofs.Common.{◌≡◌, ℕ, cond, List, [], ◌∷◌, ◌++◌, length, flat_map, Option, Some, None, IfSome, option_map, option_and_then, refl, sym, ap, subst, ◌∙◌, ne_eqb, arith}
+use Rattle.std.proofs.lemmas.Bool.Decides.{nat_tests}
 use Rattle.arn_base.specs.declared.machine.Cpu.{Cpu}
 use Rattle.arn_base.specs.declared.records.Give.{Give}
 use Rattle.arn_base.specs.declared.records.Record.{Record}
@@ -58,10 +59,7 @@ instr-inside pid instr before i None e = absurd (cc)
 instr-inside pid instr before i (Some holds) e = (holds, sym (some-inj (instr_inside pid instr before holds) i e))
 
 instr-going : (x z : Tracking) (t : Tracked EventByte) (pid : ℕ) (instr : Instr) (before : Cpu) (holds : Holds) → instr_step (holders_of x) pid instr before ≡ Some (instr_inside pid instr before holds) → Going x z t (instr_inside pid instr before holds)
-instr-going x z t pid instr before holds e apart possible new told shows =
-    let i = instr_inside pid instr before holds in
-    let goes : GoesBy i x told.0 = subst (λ o. GoesIf o x told.0) e told.1 in
-    by-step i x z t (subst (λ y. GoesBy i x y) told.2 goes) apart possible shows
+instr-going x z t pid instr before holds h1 = grind (arith, nat_tests, by-step)
 
 -- the group's first process
 begin-going : (x z : Tracking) (t : Tracked EventByte) (pid event : ℕ) (e : Record) (before : Cpu) → Going x z t (begin_inside pid event e before)
@@ -92,36 +90,17 @@ abbrev EventNotices : ℕ → Record → Inside → Type 0
 EventNotices event e i = notices i ≡ booted event e ++ notice.Happens event e i.before ∷ joined event i.transfer
 
 act-notices : (pid event : ℕ) (e : Record) (before : Cpu) (holds : Holds) (a : Act) → EventNotices event e (event_inside pid event e before holds a)
-act-notices pid event e before holds (act.Returns result) = refl
-act-notices pid event e before holds (act.Receives at bytes result) = refl
-act-notices pid event e before holds (act.Gives at len result) = refl
-act-notices pid event e before holds (act.Starts file block block_len) = refl
-act-notices pid event e before holds (act.Forks child) = refl
-act-notices pid event e before holds (act.Founds child) = refl
-act-notices pid event e before holds act.Shares = refl
-act-notices pid event e before holds act.Leaves = refl
-act-notices pid event e before holds (act.Delivers signal handler cut) = refl
-act-notices pid event e before holds act.Exits = refl
-act-notices pid event e before holds (act.Faults status) = refl
-act-notices pid event e before holds (act.Dies signal cut) = refl
+act-notices pid event e before holds a = grind (arith, nat_tests)
 
 event-notices : (h : Holders) (event : ℕ) (e : Record) (i : Inside) → event_step h event e i.before ≡ Some i → EventNotices event e i
 event-notices h event e i s = let of = of-act h event e i s in subst (EventNotices event e) (sym of.is) (act-notices of.pid event e i.before of.holds of.act)
 
 -- but a boot
 event-going : (x z : Tracking) (t : Tracked EventByte) (event : ℕ) (e : Record) (i : Inside) → booted event e ≡ [] → event_step (holders_of x) event e i.before ≡ Some i → Going x z t i
-event-going x z t event e i plain s apart possible new told shows =
-    let list = event-notices (holders_of x) event e i s ∙ ap (λ (front : List Notice). front ++ notice.Happens event e i.before ∷ joined event i.transfer) plain in
-    let heard = subst (λ ns. Told plainly ns x z) list told in
-    let goes : GoesBy i x heard.0 = subst (λ o. GoesIf o x heard.0) s heard.1 in
-    by-step i x z t (subst (λ y. GoesBy i x y) (sym (joined-same event i.transfer heard.0 z heard.2)) goes) apart possible shows
+event-going x z t event e i h1 h2 = grind (arith, nat_tests, by-step, event-notices, joined-same, plainly)
 
 pub with-same : (h : Holders) (pid p : ℕ) (o : Option Holds) → with_holder pid o (with_holder pid o h) p ≡ with_holder pid o h p
-with-same h pid p o = by_test (p == pid)
-  where
-    by_test : (b : Bool) → cond b o (cond b o (h p)) ≡ cond b o (h p)
-    by_test true = refl
-    by_test false = refl
+with-same h pid p o = grind (arith, nat_tests)
 
 own-still : (h : Holders) (pid made : ℕ) (o : Option Holds) → IsOwn h pid made → IsOwn (with_holder pid o h) pid made
 own-still h pid made o own p ne = subst (λ b. IfSome (cond b o (h p)) (IsUnheldBy made)) (sym (ne_eqb p pid ne)) (own p ne)
@@ -220,17 +199,12 @@ holds-told stay (i ∷ list) linkage h heard x y t l hs es apart steps possible 
     (stay h heard i.transfer apart possible.0) steps.1 possible.1 new.1 parts.2 (subst (λ k. Shows z (alone_after (operands k) i t)) l goes.shows) pid
 
 none-apart : AreApart none_holds
-none-apart = record { windows = λ p q a b e f same. none-holds a e; kinds = λ p q a b e f same. none-holds a e }
-  where
-    none-holds : {A : Type 0} (a : Holds) → None ≡ Some a → A
-    none-holds a e = absurd (cc)
+none-apart = grind (arith, nat_tests)
 
 -- told of what it keeps, so is it of what that shows
 module _ {A : Type 0} (shown : A → Tracking) where
   says-shown : (n : Notice) (x y : A) → Says (following shown) n x y → Says plainly n (shown x) (shown y)
-  says-shown (notice.BeginsAt pid event parent) x y h = h
-  says-shown (notice.Steps pid instr before) x y h = h
-  says-shown (notice.Happens event e before) x y h = h
+  says-shown n x y h1 = grind (arith, nat_tests)
 
   told-shown : (ns : List Notice) (x y : A) → Told (following shown) ns x y → Told plainly ns (shown x) (shown y)
   told-shown [] x y h = ap shown h

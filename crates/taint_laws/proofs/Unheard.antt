@@ -1,9 +1,10 @@
 -- Events that aren't heard show nothing.
-use Rattle.std.proofs.Common.{◌≡◌, ℕ, ◌==◌, Bool, true, false, List, [], ◌∷◌, Option, Some, None, if◌then◌else◌, refl, ap}
+use Rattle.std.proofs.Common.{◌≡◌, ℕ, Bool, true, false, List, [], ◌∷◌, Option, Some, if◌then◌else◌, refl, ap, arith}
+use Rattle.std.proofs.lemmas.Bool.Decides.{nat_tests}
 use Rattle.rv64_model.specs.Carries.{Table}
 use Rattle.acts_model.specs.Moved.{Event, Inside}
-use Rattle.acts_model.specs.Transfers.{Transfer, Arrives, Starts, Runs, Returns, Receives, Gives, Forks, Founds, Begins, Shares, Delivers, Leaves, Exits, Faults, Dies}
-use Rattle.lineage_model.specs.Flow.{At, Byte, StartRegister, StartSlot, StartMemory, shown}
+use Rattle.acts_model.specs.Transfers.{Transfer, Founds, Begins}
+use Rattle.lineage_model.specs.Flow.{At, StartRegister, StartSlot, StartMemory, shown}
 use Rattle.lineage_model.specs.Tracking.{EventByte, Tracked, alone_after, alone_from, gather, items, untracked}
 use Rattle.acts_model.specs.Records.{event_len}
 use Rattle.taint_tracker.specs.Goes.{Hearing, Hearings, heard_after}
@@ -29,10 +30,7 @@ memory-unfounded (Founds pid child from into) at h = absurd (cc)
 memory-unfounded transfer at h = refl
 
 begins-nothing : (pid made : ℕ) (at : At) → shown (Begins pid made) at ≡ []
-begins-nothing pid made (Byte k) = refl
-begins-nothing pid made (StartRegister r i) = refl
-begins-nothing pid made (StartSlot r i) = refl
-begins-nothing pid made (StartMemory at) = refl
+begins-nothing pid made at = grind (arith, nat_tests)
 
 module _ (table : Table) (event : Event) (t : Tracked EventByte) where
   abbrev gathered : Transfer → At → List EventByte
@@ -42,40 +40,18 @@ module _ (table : Table) (event : Event) (t : Tracked EventByte) where
   hearing transfer = record { len = event_len event.entry; founds = founds transfer }
 
   own-none : (transfer : Transfer) (at : At) → ShowsNothing (Some (hearing transfer)) at → gathered transfer at ≡ []
-  own-none transfer (Byte k) h = absurd h
-  own-none transfer (StartRegister r i) h = ap (gather (items (Some event)) t.locations) (register-unfounded transfer r i h)
-  own-none transfer (StartSlot r i) h = ap (gather (items (Some event)) t.locations) (slot-unfounded transfer r i h)
-  own-none transfer (StartMemory at) h = ap (gather (items (Some event)) t.locations) (memory-unfounded transfer at h)
+  own-none transfer at h1 = grind (arith, nat_tests, memory-unfounded, register-unfounded, slot-unfounded)
 
   by-number : (transfer : Transfer) (o : Option Hearing) (rest : List EventByte) (at : At) → (ShowsNothing o at → rest ≡ []) → (b : Bool)
       → ShowsNothing (if b then Some (hearing transfer) else o) at → (if b then gathered transfer at else rest) ≡ []
-  by-number transfer o rest at k true h = own-none transfer at h
-  by-number transfer o rest at k false h = k h
+  by-number transfer o rest at h1 b h2 = grind (arith, nat_tests, own-none)
 
   by-begin : (pid made : ℕ) (rest : List EventByte) (at : At) → rest ≡ [] → (b : Bool) → (if b then gathered (Begins pid made) at else rest) ≡ []
   by-begin pid made rest at k true = ap (gather (items (Some event)) t.locations) (begins-nothing pid made at)
   by-begin pid made rest at k false = k
 
 step-none : (table : Table) (inside : Inside) (heard : Hearings) (t : Tracked EventByte) → HaveNone heard t → HaveNone (heard_after inside heard) (alone_after table inside t)
-step-none table inside heard t h e at = by_event inside.event inside.transfer
-  where
-    by_event : (o : Option Event) (transfer : Transfer) → ShowsNothing (heard_after (record inside { event = o; transfer = transfer }) heard e) at → (alone_after table (record inside { event = o; transfer = transfer }) t).points e at ≡ []
-    by_event None transfer k = h e at k
-    by_event (Some event) (Begins pid made) k = by-begin table event t pid made (t.points e at) at (h e at k) (e == event.number)
-    by_event (Some event) (Arrives len) k = by-number table event t (Arrives len) (heard e) (t.points e at) at (h e at) (e == event.number) k
-    by_event (Some event) (Starts pid made load len block block_len) k = by-number table event t (Starts pid made load len block block_len) (heard e) (t.points e at) at (h e at) (e == event.number) k
-    by_event (Some event) (Runs pid instr place) k = by-number table event t (Runs pid instr place) (heard e) (t.points e at) at (h e at) (e == event.number) k
-    by_event (Some event) (Returns pid) k = by-number table event t (Returns pid) (heard e) (t.points e at) at (h e at) (e == event.number) k
-    by_event (Some event) (Receives pid place len) k = by-number table event t (Receives pid place len) (heard e) (t.points e at) at (h e at) (e == event.number) k
-    by_event (Some event) (Gives pid place len) k = by-number table event t (Gives pid place len) (heard e) (t.points e at) at (h e at) (e == event.number) k
-    by_event (Some event) (Forks pid child from into) k = by-number table event t (Forks pid child from into) (heard e) (t.points e at) at (h e at) (e == event.number) k
-    by_event (Some event) (Founds pid child from into) k = by-number table event t (Founds pid child from into) (heard e) (t.points e at) at (h e at) (e == event.number) k
-    by_event (Some event) (Shares pid made) k = by-number table event t (Shares pid made) (heard e) (t.points e at) at (h e at) (e == event.number) k
-    by_event (Some event) (Delivers pid cut) k = by-number table event t (Delivers pid cut) (heard e) (t.points e at) at (h e at) (e == event.number) k
-    by_event (Some event) (Leaves pid) k = by-number table event t (Leaves pid) (heard e) (t.points e at) at (h e at) (e == event.number) k
-    by_event (Some event) (Exits pid) k = by-number table event t (Exits pid) (heard e) (t.points e at) at (h e at) (e == event.number) k
-    by_event (Some event) (Faults pid) k = by-number table event t (Faults pid) (heard e) (t.points e at) at (h e at) (e == event.number) k
-    by_event (Some event) (Dies pid) k = by-number table event t (Dies pid) (heard e) (t.points e at) at (h e at) (e == event.number) k
+step-none table inside heard t h1 = grind (arith, nat_tests, by-begin, by-number)
 
 from-none : (table : Table) (list : List Inside) (heard : Hearings) (t : Tracked EventByte) → HaveNone heard t → HaveNone (heard_from list heard) (alone_from table list t)
 from-none table [] heard t h = h

@@ -1,29 +1,28 @@
 -- What is read or given lies whole in one window.
-use Rattle.std.proofs.Common.{◌≡◌, ℕ, ◌+◌, ◌≤◌, ◌<◌, List, [], ◌∷◌, length, refl, sym, ap, subst, ◌∙◌, Option, Some, None, IfSome, Bool, true, false, ◌==◌, ◌&&◌, ◌%◌, not, if◌then◌else◌, arith, nat_le, nat_lt, is_some, option_map, option_and_then, inl, inr}
+use Rattle.std.proofs.Common.{◌≡◌, ℕ, ◌+◌, ◌≤◌, ◌<◌, List, [], ◌∷◌, length, refl, sym, ap, subst, Option, Some, None, IfSome, Bool, true, false, ◌==◌, not, if◌then◌else◌, arith, nat_le, nat_lt, is_some, option_map, option_and_then, inl, inr}
+use Rattle.std.proofs.lemmas.Bool.Decides.{nat_tests}
 use Rattle.std.proofs.lemmas.Bool.{and_from, and_left, and_right, and_cases, and_parts, le-leb, lt-ltb, le-ltb, lt-leb, leb-true, ltb-false, eqb-false}
 use Rattle.arn_base.specs.declared.machine.Cpu.{Cpu}
 use Rattle.arn_base.specs.declared.records.Extra.{Extra}
 use Rattle.arn_base.specs.declared.records.Extra.TheVariants as extra
 use Rattle.arn_base.specs.declared.records.Record.{Record}
-use Rattle.arn_base.specs.declared.records.Record.TheVariants as entry
-use Rattle.arn_base.specs.Window.{Window, is_whole_in, window_bytes, bytes_at, with_bytes, bytes_of, number_of, number_at}
+use Rattle.arn_base.specs.Window.{Window, is_whole_in, window_bytes, bytes_at, number_of, number_at}
 use Rattle.rv64_isa.specs.declared.instruction.Instr.{Instr}
 use Rattle.rv64_isa.specs.declared.instruction.Instr.TheVariants.{Lui, Auipc, Jal, Jalr, Branch, Load, Store, Imm, Op, Fence, Ecall, Ebreak}
 use Rattle.rv64_isa.specs.Decoded.{decoded}
-use Rattle.rv64_model.specs.Instruction.{Effect, Next, Call, End, jumps, jumped, branches, loads, stores, executed, executed_if, fetched, advanced}
+use Rattle.rv64_model.specs.Instruction.{Effect, Next, Call, End, jumps, branches, loads, stores, executed, executed_if, fetched}
 use Rattle.rv64_model.specs.Operands.{address, accessed, store_len}
 use Rattle.rv64_model.specs.Registers.{register}
 use Rattle.rv64_model.specs.Values.{immediate, sum, is_taken, load_len, load_result}
-use Rattle.rv64_model.specs.declared.statuses.TheConstants.{MISALIGNED, BAD_ACCESS}
 use Rattle.parts_model.specs.declared.limits.TheConstants.{WINDOW_START, WINDOW_END, WINDOW_LEN, SEGMENT_START, SEGMENT_END, SEGMENT_LEN}
 use Rattle.parts_model.specs.Image.{is_image}
 use Rattle.parts_model.specs.Memory.{windows, shared_window}
 use Rattle.parts_model.specs.Replies.{is_success}
-use Rattle.acts_model.specs.Acts.{Act, Returns, Gives, Starts, Forks, Founds, Shares, Leaves, Delivers, Dies}
+use Rattle.acts_model.specs.Acts.{Act, Returns, Gives, Starts, Forks, Founds}
 use Rattle.acts_model.specs.Bodies.{View}
-use Rattle.acts_model.specs.Disagreement.{Wrong, wrong_if, or_else, differ_from, is_outside, isnt_block, isnt_call, is_other_call, act_wrong, wrong_with}
-use Rattle.acts_model.specs.Told.{Kind, Exit, Fork, Exec, Wait, Sigreturn, Read, Write, Shm, Other, kind_of, call_act, is_pipe_write, act_of}
-use Rattle.acts_model.specs.Transfers.{Holds, Place, is_private, is_shared, memory_at, place_at, place_of}
+use Rattle.acts_model.specs.Disagreement.{Wrong, wrong_if, or_else, differ_from, is_outside, isnt_block, act_wrong, wrong_with}
+use Rattle.acts_model.specs.Told.{Kind, Fork, Exec, Wait, Read, Write, call_act, act_of}
+use Rattle.acts_model.specs.Transfers.{Holds, Place, is_private, is_shared, place_at, place_of}
 use Rattle.acts_model.specs.Views.{argument, bytes_in, can_reach, reach, stands_at}
 use Rattle.taint_flow.specs.Names.{loaded_len}
 use Rattle.taint_tracker.specs.Steps.{IsWhole}
@@ -45,22 +44,14 @@ not-shared : (x : ℕ) → x < SEGMENT_START → is_shared x ≡ false
 not-shared x h = and_left (nat_le SEGMENT_START x) (nat_lt x SEGMENT_END) (lt-leb SEGMENT_START x h)
 
 private-range : (at len : ℕ) → WINDOW_START ≤ at → at + len ≤ WINDOW_END → IsRange at len
-private-range at len a b = λ k l. (
-  private-at (at + k) (omega arith) (omega arith) ∙ sym (private-at at a (omega arith)),
-  not-shared (at + k) (omega arith) ∙ sym (not-shared at (omega arith)),
-)
+private-range at len h1 h2 = grind (arith, nat_tests, not-shared, private-at)
 
 shared-range : (at len : ℕ) → SEGMENT_START ≤ at → at + len ≤ SEGMENT_END → IsRange at len
-shared-range at len a b = λ k l. (
-  not-private (at + k) (omega arith) ∙ sym (not-private at (omega arith)),
-  shared-at (at + k) (omega arith) (omega arith) ∙ sym (shared-at at a (omega arith)),
-)
+shared-range at len h1 h2 = grind (arith, nat_tests, not-private, shared-at)
 
 -- bytes that lie whole in one window
 whole-from : (w : Window) (at len : ℕ) → is_whole_in w at len ≡ true → (w.from ≤ at) × (at + len ≤ w.from + length w.bytes)
-whole-from w at len t =
-    let parts = and_parts (nat_le w.from at) (nat_le (at + len) (w.from + length w.bytes)) t in
-    (leb-true w.from at parts.0, leb-true (at + len) (w.from + length w.bytes) parts.1)
+whole-from w at len h1 = grind (arith, nat_tests, and_parts, leb-true)
 
 abbrev shared_one : List ℕ → Window
 shared_one segment = record { from = SEGMENT_START; bytes = segment }
@@ -81,21 +72,13 @@ later-range segment (Some made) at len h e = segment-range segment at len h e
 
 reached-range : (space segment : List ℕ) (o : Option ℕ) (at len : ℕ) → length space ≤ WINDOW_LEN → length segment ≤ SEGMENT_LEN
     → is_some (bytes_at (windows space (option_map (λ made. segment) o)) at len) ≡ true → IsRange at len
-reached-range space segment o at len h j e = by_test (is_whole_in (private_one space) at len) refl e
-  where
-    by_test : (b : Bool) → is_whole_in (private_one space) at len ≡ b → is_some (if b then Some (window_bytes (private_one space) at len) else bytes_at (shared_window (option_map (λ made. segment) o)) at len) ≡ true → IsRange at len
-    by_test true t k = let parts = whole-from (private_one space) at len t in let x = parts.0 in let y = parts.1 in private-range at len (omega arith) (omega arith)
-    by_test false t k = later-range segment o at len j k
+reached-range space segment o at len h1 h2 h3 = grind (arith, nat_tests, later-range, private-range, private_one, whole-from)
 
 reach-range : (v : View) (at len : ℕ) → HasRooms v → can_reach v at len ≡ true → IsRange at len
 reach-range v at len h e = reached-range v.window v.segment v.body.segment at len h.window h.segment e
 
 place-whole : (holds : Holds) (at len : ℕ) → IsRange at len → IsWhole (place_at holds at) len
-place-whole holds at len r = by_memory (memory_at holds at)
-  where
-    by_memory : (o : Option ℕ) → IsWhole (option_map (λ made. record { made = made; at = at }) o) len
-    by_memory None = tt
-    by_memory (Some made) = r
+place-whole holds at len h1 = grind (arith, nat_tests)
 
 un-not : (b : Bool) → not b ≡ false → b ≡ true
 un-not true e = refl
@@ -127,22 +110,14 @@ LoadsIn ws cpu Call = Unit {0}
 LoadsIn ws cpu (End status) = Unit {0}
 
 jumps-in : (ws : List Window) (at : Cpu) (instr : Instr) (cpu : Cpu) (memory : List Window) (rd target : ℕ) → Loaded ws at instr → LoadsIn ws at (jumps instr cpu memory rd target)
-jumps-in ws at instr cpu memory rd target h = by_test (target % 4 == 0)
-  where
-    by_test : (b : Bool) → LoadsIn ws at (if b then Next instr (jumped cpu rd target) memory else End MISALIGNED)
-    by_test true = h
-    by_test false = tt
+jumps-in ws at instr cpu memory rd target h1 = grind (arith, nat_tests)
 
 branches-in : (ws : List Window) (at : Cpu) (instr : Instr) (cpu : Cpu) (memory : List Window) (b : Bool) (target : ℕ) → Loaded ws at instr → LoadsIn ws at (branches instr cpu memory b target)
 branches-in ws at instr cpu memory false target h = h
 branches-in ws at instr cpu memory true target h = jumps-in ws at instr cpu memory 0 target h
 
 stores-in : (ws : List Window) (at : Cpu) (instr : Instr) (cpu : Cpu) (memory : List Window) (a len value : ℕ) → Loaded ws at instr → LoadsIn ws at (stores instr cpu memory a len value)
-stores-in ws at instr cpu memory a len value h = by_test (is_some (bytes_at memory a len))
-  where
-    by_test : (b : Bool) → LoadsIn ws at (if b then Next instr (advanced cpu) (with_bytes memory a (bytes_of len value)) else End BAD_ACCESS)
-    by_test true = h
-    by_test false = tt
+stores-in ws at instr cpu memory a len value h1 = grind (arith, nat_tests)
 
 executed-in : (instr : Instr) (cpu : Cpu) (ws : List Window) → LoadsIn ws cpu (executed instr cpu ws)
 executed-in (Lui rd imm) cpu ws = tt
@@ -199,12 +174,7 @@ or_else-none None b e = (refl, e)
 or_else-none (Some wrong) b e = absurd (cc)
 
 agree-inside : (bytes : List ℕ) (v : View) (at : ℕ) → differ_from bytes (bytes_in v at (length bytes)) ≡ None → is_outside v at (length bytes) ≡ false
-agree-inside [] v at e = refl
-agree-inside (b ∷ bytes) v at e = by_bytes (bytes_in v at (length (b ∷ bytes))) e
-  where
-    by_bytes : (o : Option (List ℕ)) → differ_from (b ∷ bytes) o ≡ None → (nat_lt 0 (length (b ∷ bytes)) && not (is_some o)) ≡ false
-    by_bytes None k = absurd (cc)
-    by_bytes (Some found) k = and_right (nat_lt 0 (length (b ∷ bytes))) false refl
+agree-inside bytes v at h1 = grind (arith, nat_tests, and_right)
 
 if-well : (v : View) (b : Bool) (x y : Act) → ActsWell v x → ActsWell v y → ActsWell v (if b then x else y)
 if-well v true x y h k = h
@@ -227,42 +197,13 @@ wait-well v result (extra.Give give) = tt
 wait-well v result more = tt
 
 read-well : (v : View) (result : ℕ) (more : Extra) → ActsWell v (call_act Read v.body.cpu result more)
-read-well v result (extra.Give give) = tt
-read-well v result (extra.Reply device bytes) = tt
-read-well v result more = tt
+read-well v result more = grind (arith, nat_tests)
 
 write-well : (v : View) (result : ℕ) (more : Extra) → act_wrong v (call_act Write v.body.cpu result more) more ≡ None → ActsWell v (call_act Write v.body.cpu result more)
-write-well v result (extra.Put file at bytes) e = agree-inside bytes v (argument v.body.cpu 1) e
-write-well v result (extra.Console bytes) e = agree-inside bytes v (argument v.body.cpu 1) e
-write-well v result (extra.Sent device bytes) e = agree-inside bytes v (argument v.body.cpu 1) e
-write-well v result extra.Nothing e = by_test (is_pipe_write result) e
-  where
-    by_test : (b : Bool) → act_wrong v (if b then Gives (argument v.body.cpu 1) result result else Returns result) extra.Nothing ≡ None → ActsWell v (if b then Gives (argument v.body.cpu 1) result result else Returns result)
-    by_test true k = wrong_if-none (is_outside v (argument v.body.cpu 1) result) result 0 k
-    by_test false k = tt
-write-well v result more e = tt
+write-well v result more h1 = grind (arith, nat_tests, agree-inside, wrong_if-none)
 
 call-well : (v : View) (kind : Kind) (result : ℕ) (more : Extra) → act_wrong v (call_act kind v.body.cpu result more) more ≡ None → ActsWell v (call_act kind v.body.cpu result more)
-call-well v Exit result more e = tt
-call-well v Fork result more e = fork-well v result more
-call-well v Exec result more e = exec-well v result more e
-call-well v Wait result more e = wait-well v result more
-call-well v Sigreturn result more e = if-well v (result == 0) Leaves (Returns result) tt tt
-call-well v Read result more e = read-well v result more
-call-well v Write result more e = write-well v result more e
-call-well v Shm result more e = if-well v (result == 0) Shares (Returns result) tt tt
-call-well v Other result more e = tt
+call-well v kind result more h1 = grind (arith, nat_tests, exec-well, fork-well, if-well, read-well, wait-well, write-well)
 
 pub record-well : (v : View) (effect : Effect) (e : Record) → wrong_with v effect e ≡ None → IfSome (act_of v.body.cpu e) (ActsWell v)
-record-well v effect (entry.File name bytes) w = tt
-record-well v effect (entry.Boot name give) w = starts-well v give.bytes 0 0 extra.Nothing w
-record-well v effect (entry.Typed bytes) w = tt
-record-well v effect (entry.Unplug device) w = tt
-record-well v effect (entry.Slice pid ran) w = tt
-record-well v effect (entry.Signal pid signal cut handler) w = if-well v (handler == 0) (Dies signal cut) (Delivers signal handler cut) tt tt
-record-well v effect (entry.Call pid number result more) w =
-    let act = call_act (kind_of number) v.body.cpu result more in
-    let a = or_else-none (isnt_call effect number) (or_else (is_other_call v.body.cpu number) (act_wrong v act more)) w in
-    let b = or_else-none (is_other_call v.body.cpu number) (act_wrong v act more) a.1 in
-    call-well v (kind_of number) result more b.1
-record-well v effect (entry.End pid status) w = tt
+record-well v effect e h1 = grind (arith, nat_tests, call-well, if-well, or_else-none, starts-well)

@@ -16,11 +16,11 @@ use Rattle.acts_model.specs.Bodies.{View}
 use Rattle.acts_model.specs.Views.{call_number}
 use Rattle.arn_model.specs.Doing.{Doing}
 use Rattle.arn_model.specs.Kernel.{Machine}
+use Rattle.arn_model.specs.Laws.{NoStart, ProcessesCount, RequestsAreBounded}
 use Rattle.arn_model.specs.Row.{request, does}
 use Rattle.arn_model.specs.Tells.{HasNumbers}
 use Rattle.history_model.specs.Broken.{rise_from, start_in, has_blocks_wrong, child_in, greatest_after, misplaces_start}
-use Rattle.unbroken_laws.proofs.Counts.{many-is}
-use Rattle.unbroken_laws.proofs.Rows.{NoStart, IsStartOf, ForkDoes, Refuses, Makes, call-still, call-forks}
+use Rattle.unbroken_laws.proofs.Forks.{IsStartOf, ForkDoes, Refuses, Makes, call-forks}
 
 -- blocks that rise from a number on, and end below another
 RisesTo : ℕ → ℕ → List Block → Type 0
@@ -111,18 +111,18 @@ and-next : (a b c : Bool) → a ≡ true → b ≡ c → (a && b) ≡ c
 and-next a b c e f = ap (λ (x : Bool). x && b) e ∙ f
 
 -- a call
-pub call-counted : (m : Machine) (pid : ℕ) (v : View) (reply : Option Answered) (d : Doing) → does m pid v reply (request m pid v) ≡ Some d → HasNumbers d.kernel → length v.window ≤ WINDOW_LEN → Counted (length m.kernel.processes) (length d.kernel.processes) (entry.Call pid (call_number v.body.cpu) (result_of d.act) d.extra)
-call-counted m pid v reply d e few small = by_test (call_number v.body.cpu == FORK) refl
+pub call-counted : RequestsAreBounded → ProcessesCount → (m : Machine) (pid : ℕ) (v : View) (reply : Option Answered) (d : Doing) → does m pid v reply (request m pid v) ≡ Some d → HasNumbers d.kernel → length v.window ≤ WINDOW_LEN → Counted (length m.kernel.processes) (length d.kernel.processes) (entry.Call pid (call_number v.body.cpu) (result_of d.act) d.extra)
+call-counted bounded counts m pid v reply d e few small = by_test (call_number v.body.cpu == FORK) refl
   where
     forked : (call_number v.body.cpu == FORK) ≡ true → ForkDoes m v d → Counted (length m.kernel.processes) (length d.kernel.processes) (entry.Call pid (call_number v.body.cpu) (result_of d.act) d.extra)
     forked f (Refuses many none fails) =
-        none-made pid (call_number v.body.cpu) (result_of d.act) d.extra (length m.kernel.processes) (length d.kernel.processes) none (many-is m d.kernel.processes many) (and-next (call_number v.body.cpu == FORK) (is_success (result_of d.act)) false f fails)
+        none-made pid (call_number v.body.cpu) (result_of d.act) d.extra (length m.kernel.processes) (length d.kernel.processes) none many (and-next (call_number v.body.cpu == FORK) (is_success (result_of d.act)) false f fails)
     forked f (Makes is one start) =
         one-made v pid (call_number v.body.cpu) (result_of d.act) d.extra (length m.kernel.processes) (length d.kernel.processes) small start is one
         (and-next (call_number v.body.cpu == FORK) (is_success (result_of d.act)) true f (lt-ltb (result_of d.act) 9223372036854775808 (omega arith)))
 
     by_test : (b : Bool) → (call_number v.body.cpu == FORK) ≡ b → Counted (length m.kernel.processes) (length d.kernel.processes) (entry.Call pid (call_number v.body.cpu) (result_of d.act) d.extra)
-    by_test true f = forked f (call-forks m pid v reply d f e)
+    by_test true f = forked f (call-forks counts m pid v reply d f e)
     by_test false f =
-        let still = call-still m pid v reply d f e in
-        none-made pid (call_number v.body.cpu) (result_of d.act) d.extra (length m.kernel.processes) (length d.kernel.processes) still.1 (many-is m d.kernel.processes still.0) (and-false (call_number v.body.cpu == FORK) (is_success (result_of d.act)) f)
+        let still = bounded m pid v in
+        none-made pid (call_number v.body.cpu) (result_of d.act) d.extra (length m.kernel.processes) (length d.kernel.processes) (still.no_start reply d e f) (still.many reply d e f) (and-false (call_number v.body.cpu == FORK) (is_success (result_of d.act)) f)

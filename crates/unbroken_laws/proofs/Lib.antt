@@ -1,5 +1,4 @@
-pub mod Counts
-pub mod Rows
+pub mod Forks
 pub mod Counted
 pub mod Inputs
 pub mod Lies

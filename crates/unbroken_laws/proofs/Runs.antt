@@ -5,7 +5,7 @@ use Rattle.arn_base.specs.declared.records.Record.{Record}
 use Rattle.parts_model.specs.declared.tagged.TaggedByte.{TaggedByte}
 use Rattle.acts_model.specs.Moved.{KernelByte, ConsoleByte, PipeByte, FileByte, StatusByte, is_instruction}
 use Rattle.arn_model.specs.Kernel.{Machine, at_first}
-use Rattle.arn_model.specs.Laws.{StepsTell, EachRunIsSound, EachRunAppends, KeepsNumbers}
+use Rattle.arn_model.specs.Laws.{StepsTell, EachRunIsSound, EachRunAppends, KeepsNumbers, ProcessesCount, RequestsAreBounded}
 use Rattle.arn_model.specs.Run.{Input, machine_after, run, state_at, steps_from, input_steps, after_input, within, unless_reached, instructions_in}
 use Rattle.arn_model.specs.Sound.{IsSoundMachine}
 use Rattle.arn_model.specs.Step.{Step}
@@ -102,10 +102,10 @@ none-held (StatusByte (suc i)) h e = cc
 first-known : Known [] at_first
 first-known = record { counts = refl; lie = λ byte h e. absurd (none-held byte h e); most = refl }
 
-pub unbroken : StepsTell → EachRunIsSound → EachRunAppends → RecordsAppend → RecordsTellRuns → RecordsTellMoments → RunsAreUnbroken
-unbroken tell sound append adds runs moments inputs few =
+pub unbroken : RequestsAreBounded → ProcessesCount → StepsTell → EachRunIsSound → EachRunAppends → RecordsAppend → RecordsTellRuns → RecordsTellMoments → RunsAreUnbroken
+unbroken bounded counts tell sound append adds runs moments inputs few =
     let steps = run inputs in
     let sounds = sound inputs in
     let reached : machine_after inputs ≡ after_steps at_first steps = (append at_first inputs []).reached in
-    let facts = facts-along at_first steps (tell inputs few) sounds.along (subst IsSoundMachine reached sounds.last) sounds.numbers (all-right at_first inputs) (subst (λ (m : Machine). HasNumbers m.kernel) reached few) in
+    let facts = facts-along at_first steps (tell inputs few) sounds.along (subst IsSoundMachine reached sounds.last) sounds.numbers (all-right bounded counts at_first inputs) (subst (λ (m : Machine). HasNumbers m.kernel) reached few) in
     stands-none [] (records inputs) (unbroken-from runs moments append adds [] inputs (omega arith) facts first-known)

@@ -1,7 +1,7 @@
 // That each record of a run stands behind those before it.
 ghost use Rattle.unbroken_laws.specs.Laws.{RunsAreUnbroken};
 
-use arn_model::{runs_append, runs_sound, steps_tell};
+use arn_model::{requests_bounded, runs_append, runs_sound, steps_tell};
 use log_model::records_append;
 use replay_laws::{records_tell_moments, records_tell_runs};
 
@@ -10,6 +10,7 @@ use replay_laws::{records_tell_moments, records_tell_runs};
 pub fn runs_are_unbroken()
     ensures { RunsAreUnbroken }
 {
+    requests_bounded();
     steps_tell();
     runs_sound();
     runs_append();

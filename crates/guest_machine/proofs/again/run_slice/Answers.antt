@@ -13,11 +13,11 @@ take_slice-requires-clause-room g c =
 
 pub returns-in-Ok-clause-runs : goal.returns-in-Ok-clause-runs
 returns-in-Ok-clause-runs g c =
-    told-Runs c.told_counts_as_named.ensures.here c.told_counts_as_named.ensures.read _ (reply_behind c.args.behind.now) _ _ (λ new q answer h. h.0 ∙ ap (λ (r : Option Answered). told_answer r q) c.call_in.ensures) c.args.pid c.args.count c.args.machine.now c.take_slice.new.self c.args.out.now.items c.take_slice.new.out.items c.in-Ok.ensures.ran
+    told-Runs c.requests_bounded.ensures.bounded c.told_counts_as_named.ensures.here c.told_counts_as_named.ensures.read _ (reply_behind c.args.behind.now) _ _ (λ new q answer h. h.0 ∙ ap (λ (r : Option Answered). told_answer r q) c.call_in.ensures) c.args.pid c.args.count c.args.machine.now c.take_slice.new.self c.args.out.now.items c.take_slice.new.out.items c.in-Ok.ensures.ran
 
 pub returns-in-Ok-clause-steps : goal.returns-in-Ok-clause-steps
 returns-in-Ok-clause-steps g c =
-    told-few c.told_counts_as_named.ensures.here c.told_counts_as_named.ensures.read _ (reply_behind c.args.behind.now) _ _ (λ new q answer h. h.0 ∙ ap (λ (r : Option Answered). told_answer r q) c.call_in.ensures) c.args.pid c.args.count c.args.machine.now c.take_slice.new.self c.args.out.now.items c.take_slice.new.out.items c.args.steps.now c.take_slice.new.steps c.in-Ok.ensures.ran c.take_slice.ensures.steps
+    told-few c.requests_bounded.ensures.bounded c.told_counts_as_named.ensures.here c.told_counts_as_named.ensures.read _ (reply_behind c.args.behind.now) _ _ (λ new q answer h. h.0 ∙ ap (λ (r : Option Answered). told_answer r q) c.call_in.ensures) c.args.pid c.args.count c.args.machine.now c.take_slice.new.self c.args.out.now.items c.take_slice.new.out.items c.args.steps.now c.take_slice.new.steps c.in-Ok.ensures.ran c.take_slice.ensures.steps
 
 pub returns-in-Err-clause-steps : goal.returns-in-Err-clause-steps
 returns-in-Err-clause-steps g c =
