@@ -1,4 +1,9 @@
+pub mod Counts
 pub mod FileForms
 pub mod NameForms
 pub mod Numbers
-pub mod Tagging
+pub mod Rows
+pub mod RunForms
+pub mod RunReads
+pub mod RunWrites
+pub mod Sources

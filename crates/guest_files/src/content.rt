@@ -1,59 +1,39 @@
 // The bytes of one file, and how many hold it.
 ghost use Rattle.std.specs.Prelude.{◌≡◌, ◌+◌, ◌≤◌, ◌<◌, ◌^◌, ◌↔◌, length, IfOk, IfErr, OnOk, OnErr, Err, [], nat_lt};
 ghost use Rattle.parts_model.specs.declared.limits.TheConstants.{MOST_FILE_BYTES};
-ghost use Rattle.parts_model.specs.Files.{fitting, read_from, rewritten, without_holder};
+ghost use Rattle.parts_model.specs.Files.{fitting, laid_over, read_from, rewritten, without_holder};
 ghost use Rattle.parts_model.specs.Tagged.{given, held_bytes};
 ghost use Rattle.guest_files.specs.Errors.{IsWriteError};
 
 use crate::FileError;
-use arn_base::{Give, NoMemory, Src};
-use guest_give::give_of;
-use parts_model::TaggedByte;
+use crate::runs::Runs;
+use arn_base::{Bytes, Give, NoMemory};
 use parts_model::limits::MOST_FILE_BYTES;
 use std::alloc::Global;
 use std::marker::Model;
 
-const UNWRITTEN: TaggedByte = TaggedByte {
-    value: 0,
-    origin: Src { event: 0, at: 0 },
-};
-
 const MOST_BYTES: usize = MOST_FILE_BYTES as usize;
 
-/// The bytes of a file, and how many descriptions stand for it.
+/// The bytes of a file in one row, the event byte of each, and how many descriptions stand for it.
 #[derive(Drop)]
 pub struct Content {
-    bytes: Vec<TaggedByte>,
+    bytes: Vec<u8>,
+    runs: Runs,
     holders: u32,
 }
 
 impl Model for Content {
-    ghost use Rattle.std.specs.Prelude.{◌≤◌, length};
-    ghost use Rattle.parts_model.specs.declared.limits.TheConstants.{MOST_FILE_BYTES};
     ghost use Rattle.parts_model.specs.Files.{File};
+    ghost use Rattle.guest_files.specs.Runs.{IsRow, tagged};
 
     ghost Value = { File };
 
-    ghost view = { λ content. record { bytes = content.bytes.items; holders = content.holders } };
+    ghost view = { λ content. record {
+      bytes = tagged content.bytes.items content.runs;
+      holders = content.holders;
+    } };
 
-    ghost invariant = { λ content. length content.bytes.items ≤ MOST_FILE_BYTES };
-}
-
-// Writes bytes of an event, the first of them byte 0, over as many others.
-fn tag_over(held: &mut [TaggedByte], bytes: &[u8], event: u64)
-    requires same { length held.old ≡ length bytes.now }
-    requires few { length bytes.now < 2 ^ 32 }
-    ensures { held.new ≡ held_bytes event bytes.now }
-{
-    for (place, byte) in bytes.iter().enumerate() {
-        held[place] = TaggedByte {
-            value: *byte,
-            origin: Src {
-                event,
-                at: place as u32,
-            },
-        };
-    }
+    ghost invariant = { λ content. IsRow content.bytes.items content.runs };
 }
 
 impl Content {
@@ -63,6 +43,7 @@ impl Content {
     {
         Content {
             bytes: Vec::new(alloc),
+            runs: Runs::new(alloc),
             holders: 0,
         }
     }
@@ -78,12 +59,9 @@ impl Content {
         if bytes.len() > MOST_BYTES {
             return Err(FileError::TooLong);
         }
-        let mut held = vec![in alloc; UNWRITTEN; bytes.len()]?;
-        tag_over(&mut held, bytes, event);
-        Ok(Content {
-            bytes: held,
-            holders: 0,
-        })
+        let mut content = Content::new(alloc);
+        content.lay(0, bytes, event)?;
+        Ok(content)
     }
 
     pub fn len(&self) -> u32
@@ -121,7 +99,11 @@ impl Content {
         ensures few_origins { IfOk result (λ give. length give.origins ≤ max) }
     {
         let count = max.min(self.bytes.len() - at);
-        give_of(*self.bytes.allocator(), &self.bytes[at..at + count])
+        let end = at + count;
+        Ok(Give {
+            bytes: Bytes::from_slice(*self.bytes.allocator(), &self.bytes[at..end])?,
+            origins: self.runs.origins(at as u32, end as u32)?,
+        })
     }
 
     /// Writes the bytes of an event at a place, as many as fit, and answers how many.
@@ -134,15 +116,42 @@ impl Content {
         ensures answers { IfErr result IsWriteError }
         ensures err { OnErr result (self.new ≡ self.old) }
     {
-        let len = self.bytes.len();
-        if at == MOST_BYTES && !bytes.is_empty() {
+        let room = self.room(at);
+        if room == 0 && !bytes.is_empty() {
             return Err(FileError::TooLong);
         }
-        let count = bytes.len().min(MOST_BYTES - at);
-        if at + count > len {
-            self.bytes.resize(at + count, UNWRITTEN)?;
-        }
-        tag_over(&mut self.bytes[at..at + count], &bytes[..count], event);
+        let count = bytes.len().min(room);
+        self.lay(at, &bytes[..count], event)?;
         Ok(count as u32)
+    }
+
+    // How many bytes there may be from a place on: those that are there, and as many as the file
+    // can grow.
+    fn room(&self, at: usize) -> usize
+        requires { at ≤ length self.now.bytes }
+        ensures { at + result ≡ MOST_FILE_BYTES }
+    {
+        let there = self.bytes.len() - at;
+        there + (MOST_BYTES - self.bytes.len())
+    }
+
+    // Writes the bytes of an event at a place.
+    fn lay(&mut self, at: usize, bytes: &[u8], event: u64) -> Result<(), NoMemory>
+        requires within { at ≤ length self.old.bytes }
+        requires fits { at + length bytes.now ≤ MOST_FILE_BYTES }
+        ensures laid { OnOk result (self.new ≡ record self.old {
+          bytes = laid_over self.old.bytes at (held_bytes event bytes.now);
+        }) }
+        ensures err { OnErr result (self.new ≡ self.old) }
+    {
+        let len = self.bytes.len();
+        let end = at + bytes.len();
+        self.bytes.resize(len.max(end), 0)?;
+        if let Err(error) = self.runs.lay(at as u32, bytes.len() as u32, event) {
+            self.bytes.truncate(len);
+            return Err(error);
+        }
+        self.bytes[at..end].copy_from_slice(bytes);
+        Ok(())
     }
 }

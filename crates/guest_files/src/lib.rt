@@ -5,6 +5,7 @@ mod content;
 mod errors;
 mod files;
 mod names;
+mod runs;
 
 pub use errors::FileError;
 pub use files::Files;
