@@ -18,13 +18,13 @@ pub record Still (until : ℕ) (own : Own) (t : Standing) : Type 0 where
   pub made : t.made ≡ Makes own
 
 pub still-settles : (until : ℕ) (own : Own) (t : Standing) → Still until own t → Settles t own
-still-settles until own t h event = ap₂ (λ (b : Made) (k : ℕ). and_then b (alone.plains (slice_at t.pid t.ran event) 0 k)) h.made h.owed
+still-settles until own t h event end_event = ap₂ (λ (b : Made) (k : ℕ). and_then b (alone.plains (slice_at t.pid t.ran event end_event) 0 k)) h.made h.owed
 
 -- where nothing is owed, what is settled has been made
 pub made-settled : (own : Own) (t : Standing) → t.owed ≡ 0 → Settles t own → t.made ≡ Makes own
-made-settled own t e h = by_made t.made (ap (λ (k : ℕ). and_then t.made (alone.plains (slice_at t.pid t.ran 0) 0 k)) (sym e) ∙ h 0)
+made-settled own t e h = by_made t.made (ap (λ (k : ℕ). and_then t.made (alone.plains (slice_at t.pid t.ran 0 0) 0 k)) (sym e) ∙ h 0 0)
   where
-    by_made : (b : Made) → and_then b (alone.plains (slice_at t.pid t.ran 0) 0 0) ≡ Makes own → b ≡ Makes own
+    by_made : (b : Made) → and_then b (alone.plains (slice_at t.pid t.ran 0 0) 0 0) ≡ Makes own → b ≡ Makes own
     by_made (Makes o) k = k
     by_made (Fails d) k = k
 
@@ -35,7 +35,7 @@ slice-still g until p ran own t late h =
       ended = lt-leb (t.moment + ran) until (omega arith);
       owed = by_test (is_number g (t.groups p));
       late = omega arith;
-      made = h t.events;
+      made = h t.events t.end_event;
     }
   where
     by_test : (b : Bool) → cond b (min ran (until - t.moment)) 0 ≡ 0
