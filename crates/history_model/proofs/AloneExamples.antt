@@ -1,5 +1,5 @@
 -- What a group alone makes of records, at literal values.
-use Rattle.std.proofs.Common.{◌≡◌, ℕ, ◌==◌, List, [], ◌∷◌, ◌++◌, Option, Some, None, option_map, cond, true, length, refl}
+use Rattle.std.proofs.Common.{◌≡◌, ℕ, ◌==◌, List, [], ◌∷◌, ◌++◌, Option, Some, None, option_map, cond, true, false, length, refl}
 use Rattle.arn_base.specs.declared.machine.Cpu.{Cpu}
 use Rattle.arn_base.specs.declared.records.Extra.TheVariants as extra
 use Rattle.arn_base.specs.declared.records.Record.{Record}
@@ -34,6 +34,7 @@ standing =
       owed = 0;
       pid = 1;
       ran = 0;
+      end_event = 4;
     }
 
 -- what the group is at a moment, after these records
@@ -128,3 +129,28 @@ not-yet = refl
 numbers-all : fails (after 99 (entry.Typed (7 ∷ []) ∷ entry.Slice 2 3 ∷ entry.Call 2 22 0 extra.Nothing ∷ entry.Slice 1 2 ∷ entry.Call 1 22 1 extra.Nothing ∷ [])) ≡ Some (record { event = 6; said = 22; found = 5 })
 unfolding after standing bodies decoding.decoded_by nth_body with_nth found with_found body_at with_body memory_at with_memory put remove
 numbers-all = refl
+
+-- So it is where nothing but the count decides what is owed: the number is that of the event that would have ended the slice, and no record behind it changes that.
+-- The slice is cut off at the moment, and so is its call
+cut-off : fails (after 12 (entry.Slice 1 3 ∷ entry.Call 1 5 1 extra.Nothing ∷ [])) ∷ fails (after 12 (entry.Slice 1 3 ∷ entry.Call 1 5 1 extra.Nothing ∷ entry.Slice 2 3 ∷ entry.Call 2 22 0 extra.Nothing ∷ [])) ∷ []
+    ≡ Some (record { event = 4; said = 3; found = 1 }) ∷ Some (record { event = 4; said = 3; found = 1 }) ∷ []
+unfolding after standing bodies decoding.decoded_by nth_body with_nth found with_found body_at with_body memory_at with_memory put remove
+cut-off = refl
+
+cut-off-end : fails (after 12 (entry.Slice 1 3 ∷ entry.End 1 132 ∷ entry.Typed (7 ∷ []) ∷ [])) ≡ Some (record { event = 4; said = 3; found = 1 })
+unfolding after standing bodies decoding.decoded_by nth_body with_nth found with_found body_at with_body memory_at with_memory put remove
+cut-off-end = refl
+
+-- it has no record of its own, but bytes are typed then, or a device is unplugged
+before-outside : fails (after 99 (entry.Slice 1 2 ∷ entry.Typed (7 ∷ []) ∷ [])) ∷ fails (after 99 (entry.Slice 1 2 ∷ entry.Unplug 0 ∷ [])) ∷ [] ≡ Some (record { event = 4; said = 2; found = 1 }) ∷ Some (record { event = 4; said = 2; found = 1 }) ∷ []
+unfolding after standing bodies decoding.decoded_by nth_body with_nth found with_found body_at with_body memory_at with_memory put remove
+before-outside = refl
+
+-- a delivery comes before that event: one that ends the process, whose slice counts instructions, and one that a handler takes
+behind-fatal : fails (after 99 (entry.Slice 1 2 ∷ entry.Signal 1 9 false 0 ∷ entry.Typed (7 ∷ []) ∷ [])) ≡ Some (record { event = 5; said = 2; found = 0 })
+unfolding after standing bodies decoding.decoded_by nth_body with_nth found with_found body_at with_body memory_at with_memory put remove
+behind-fatal = refl
+
+behind-delivery : fails (after 12 (entry.Slice 1 3 ∷ entry.Signal 1 2 false 0x10000 ∷ entry.Call 1 5 1 extra.Nothing ∷ entry.Typed (7 ∷ []) ∷ [])) ≡ Some (record { event = 5; said = 3; found = 1 })
+unfolding after standing bodies decoding.decoded_by nth_body with_nth found with_found body_at with_body memory_at with_memory put remove
+behind-delivery = refl

@@ -58,15 +58,17 @@ abbrev pub plain_in : ℕ → Own → Option View → Option Own
 plain_in pid own None = None
 plain_in pid own (Some v) = plain_by pid own v (stands_at v)
 
--- The slice at hand: its process, its count, and the number of the next event, by which a disagreement is named
+-- The slice at hand: its process, its count, the number of the next event, and that of the event that ends the slice, or would if it had one.
+-- By the latter a disagreement of its instructions is named, so that it is the same whatever stands behind the slice.
 pub record Slice : Type 0 where
   pub pid : ℕ
   pub ran : ℕ
   pub event : ℕ
+  pub end_event : ℕ
 
 -- the count says more instructions than the next ones follow
 abbrev pub plain_or : Slice → ℕ → Option Own → (Own → Made) → Made
-plain_or slice done None goes_on = Fails (record { event = slice.event; said = slice.ran; found = done })
+plain_or slice done None goes_on = Fails (record { event = slice.end_event; said = slice.ran; found = done })
 plain_or slice done (Some own) goes_on = goes_on own
 
 -- so many instructions of a slice, of which so many were run before
@@ -138,9 +140,19 @@ abbrev pub begins_by : ℕ → ℕ → Record → Own → Made
 begins_by g event (entry.Call pid number result more) own = begins_if g result event (entry.Call pid number result more) (call_start number result more) own
 begins_by g event other own = Makes own
 
--- Where a replay stands. The moment is that behind the slice at hand; `is_begun` and `is_ended` say whether the slice's begin and end are
--- reached; and `owed` counts the instructions of the slice that are still to be run, which the next record decides: a call or an end by
--- fault runs all but the last, and the next slice all.
+-- Where a replay stands. When each part changes:
+--
+-- `made`        with what a record tells, and with the next slice or the records' end, which run what is owed
+-- `groups`      with a boot and with a fork that makes a child
+-- `events`      with each event: the number of the next one
+-- `moment`      with a slice: the moment behind it
+-- `is_begun`,
+-- `is_ended`    with a slice: whether its begin and its end come up to the moment until which the group is replayed
+-- `owed`        with a slice: how many of its instructions are still to be run. A call or an end by fault that isn't cut off runs
+--               all but the last and does the last itself, so that none is owed
+-- `pid`, `ran`  with a slice: its process and its count
+-- `end_event`   with a slice, and with its delivery: the number that the next event has then. No other record changes it, also no
+--               call or end by fault that is cut off
 pub record Standing : Type 0 where
   pub made : Made
   pub groups : Groups
@@ -151,6 +163,7 @@ pub record Standing : Type 0 where
   pub owed : ℕ
   pub pid : ℕ
   pub ran : ℕ
+  pub end_event : ℕ
 
 abbrev pub at_first : Standing
 at_first =
@@ -164,10 +177,11 @@ at_first =
       owed = 0;
       pid = 0;
       ran = 0;
+      end_event = 0;
     }
 
 abbrev pub slice_of : Standing → Slice
-slice_of t = record { pid = t.pid; ran = t.ran; event = t.events }
+slice_of t = record { pid = t.pid; ran = t.ran; event = t.events; end_event = t.end_event }
 
 -- what is owed has been run
 abbrev pub settled : Standing → Made
@@ -191,6 +205,7 @@ after_slice g until pid ran t =
       owed = if is_number g (t.groups pid) then min ran (until - t.moment) else 0;
       pid = pid;
       ran = ran;
+      end_event = t.events;
     }
 
 -- a delivery, at the begin of its slice
@@ -199,6 +214,7 @@ after_signal g pid e t =
     record t {
       made = made_if (t.is_begun && is_number g (t.groups pid)) t.made (happens pid t.events e);
       events = t.events + 1;
+      end_event = t.events + 1;
     }
 
 -- a call or an end by fault, at the end of its slice: of the group's own process, and perhaps of another that starts the group

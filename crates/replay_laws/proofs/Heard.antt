@@ -58,12 +58,12 @@ parts-append gs g (s ∷ steps) more =
 abbrev pub mine : Groups → ℕ → ℕ → Bool
 mine gs g p = is_number g (gs p)
 
-abbrev pub slice_at : ℕ → ℕ → ℕ → Slice
-slice_at p ran event = record { pid = p; ran = ran; event = event }
+abbrev pub slice_at : ℕ → ℕ → ℕ → ℕ → Slice
+slice_at p ran event end_event = record { pid = p; ran = ran; event = event; end_event = end_event }
 
 -- the group alone runs so many instructions of p from there, whatever its slice counts
 abbrev pub RunsTo : ℕ → ℕ → Own → Own → Type 0
-RunsTo p k o own = (ran event before : ℕ) → alone.plains (slice_at p ran event) before k o ≡ Makes own
+RunsTo p k o own = (ran event end_event before : ℕ) → alone.plains (slice_at p ran event end_event) before k o ≡ Makes own
 
 -- steps that lead from m, in the whole machine and in the group alone, where k instructions are run
 pub record PlainTo (g : ℕ) (owner : ℕ → Owner) (gs : Groups) (p k : ℕ) (m : Machine) (o : Own) (steps : List Step) : Type 0 where
@@ -73,11 +73,11 @@ pub record PlainTo (g : ℕ) (owner : ℕ → Owner) (gs : Groups) (p k : ℕ) (
   pub inside : own.inside ≡ o.inside ++ parts gs g steps
 
 no-plain : (g : ℕ) (owner : ℕ → Owner) (gs : Groups) (p : ℕ) (m : Machine) (o : Own) → JointAt g owner gs m o.bodies → PlainTo g owner gs p 0 m o []
-no-plain g owner gs p m o h = record { own = o; runs = λ ran event before. by_test (mine gs g p) ran event before; joint = h; inside = sym (append-nil o.inside) }
+no-plain g owner gs p m o h = record { own = o; runs = λ ran event end_event before. by_test (mine gs g p) ran event end_event before; joint = h; inside = sym (append-nil o.inside) }
   where
     by_test : (t : Bool) → RunsTo p (cond t 0 0) o o
-    by_test true ran event before = refl
-    by_test false ran event before = refl
+    by_test true ran event end_event before = refl
+    by_test false ran event end_event before = refl
 
 -- what the group alone has after an instruction of p
 abbrev ran_inside : ℕ → View → Instr → Inside
@@ -94,7 +94,7 @@ more-plain : (g : ℕ) (owner : ℕ → Owner) (gs : Groups) (p k : ℕ) (m : Ma
 more-plain g owner gs p k m v instr cpu memory o steps e next h to =
     record {
       own = to.own;
-      runs = λ ran event before. by_test ran event before (mine gs g p) refl (to.runs ran event (suc before)) (to.runs ran event before);
+      runs = λ ran event end_event before. by_test ran event end_event before (mine gs g p) refl (to.runs ran event end_event (suc before)) (to.runs ran event end_event before);
       joint = to.joint;
       inside = to.inside ∙ (ap (λ xs. xs ++ parts gs g steps) (inside-if (mine gs g p) (ran_inside p v instr) (put p (after_instr cpu memory v) o.bodies) o)
           ∙ (append_assoc o.inside (own_part (mine gs g p) (ran_inside p v instr)) (parts gs g steps)
@@ -104,9 +104,9 @@ more-plain g owner gs p k m v instr cpu memory o steps e next h to =
     once : gs p ≡ Some g → plain_in p o (seen o.bodies p) ≡ Some (noted_ran p v instr cpu memory o)
     once of = ap (plain_in p o) (same-seen g gs m.bodies o.bodies p h.agrees of ∙ e) ∙ ap (plain_by p o v) next
 
-    by_test : (ran event before : ℕ) (t : Bool) → is_number g (gs p) ≡ t → alone.plains (slice_at p ran event) (suc before) (cond t k 0) (cond t (noted_ran p v instr cpu memory o) o) ≡ Makes to.own → alone.plains (slice_at p ran event) before (cond t k 0) (cond t (noted_ran p v instr cpu memory o) o) ≡ Makes to.own → alone.plains (slice_at p ran event) before (cond t (suc k) 0) o ≡ Makes to.own
-    by_test ran event before true is run same = ap (λ (x : Option Own). plain_or (slice_at p ran event) before x (alone.plains (slice_at p ran event) (suc before) k)) (once (number-true g (gs p) is)) ∙ run
-    by_test ran event before false is run same = same
+    by_test : (ran event end_event before : ℕ) (t : Bool) → is_number g (gs p) ≡ t → alone.plains (slice_at p ran event end_event) (suc before) (cond t k 0) (cond t (noted_ran p v instr cpu memory o) o) ≡ Makes to.own → alone.plains (slice_at p ran event end_event) before (cond t k 0) (cond t (noted_ran p v instr cpu memory o) o) ≡ Makes to.own → alone.plains (slice_at p ran event end_event) before (cond t (suc k) 0) o ≡ Makes to.own
+    by_test ran event end_event before true is run same = ap (λ (x : Option Own). plain_or (slice_at p ran event end_event) before x (alone.plains (slice_at p ran event end_event) (suc before) k)) (once (number-true g (gs p) is)) ∙ run
+    by_test ran event end_event before false is run same = same
 
 ran-joint : (g : ℕ) (owner : ℕ → Owner) (gs : Groups) (m : Machine) (p : ℕ) (v : View) (instr : Instr) (cpu : Cpu) (memory : List Window) (o : Own) → seen m.bodies p ≡ Some v → stands_at v ≡ Next instr cpu memory → JointAt g owner gs m o.bodies → JointAt g owner gs (plain_step m p v instr cpu memory).after (own_ran g gs p v instr cpu memory o).bodies
 ran-joint g owner gs m p v instr cpu memory o e next h =

@@ -71,7 +71,7 @@ inputs-later g until own (i ∷ inputs) m t h = by_input (takes m i) (λ m t h. 
         let same : made_if (t.is_ended && (g == 1)) t.made (boots t.events r) ≡ t.made = ap (λ (b : Bool). made_if (b && (g == 1)) t.made (boots t.events r)) h.ended in
         subst Goal (sym is)
         (subst (λ (rs : List Record). Settles (replayed g until t (rs ++ records_from s.after inputs)) own) (sym (told (s ∷ [])))
-        (rest s.after (after_boot g r t) (record { late = h.late; ended = h.ended; settled = λ event. ap (λ (x : Made). and_then x (alone.plains (record { pid = t.pid; ran = t.ran; event = event }) 0 t.owed)) same ∙ h.settled event })))
+        (rest s.after (after_boot g r t) (record { late = h.late; ended = h.ended; settled = λ event end_event. ap (λ (x : Made). and_then x (alone.plains (record { pid = t.pid; ran = t.ran; event = event; end_event = end_event }) 0 t.owed)) same ∙ h.settled event end_event })))
     by_input (Turns pid count reply v is told sees) rest =
         subst (λ (rs : List Record). Settles (replayed g until t (rs ++ records_from (after_steps m (input_steps m i)) inputs)) own) (sym (told (input_steps m i))) (slice pid (input_steps m i) rest)
 
@@ -178,7 +178,7 @@ boot-goes g gs until now i inputs m t h ended idle early go path file held told 
     let h' : Stood g gs now t' s.after = record {
       owner = changed h.owner m.events (Private 1);
       own = own';
-      settled = λ event. ap₂ (λ (x : Made) (k : ℕ). and_then x (alone.plains (record { pid = t.pid; ran = t.ran; event = event }) 0 k)) made (idle first);
+      settled = λ event end_event. ap₂ (λ (x : Made) (k : ℕ). and_then x (alone.plains (record { pid = t.pid; ran = t.ran; event = event; end_event = end_event }) 0 k)) made (idle first);
       joint = joint';
       events = ap (λ (k : ℕ). k + 1) h.events;
       moment = h.moment;
@@ -291,7 +291,7 @@ nobody-joint : (g : ℕ) (owner : ℕ → Owner) (gs : Groups) → Joint g owner
 nobody-joint g owner gs = grind (arith, nat_tests, nobody-at)
 
 first-stood : (g : ℕ) (gs : Groups) → Stood g gs 0 alone.at_first at_first
-first-stood g gs = record { owner = λ k. Private 0; own = nothing_own; settled = λ event. refl; joint = nobody-joint g (λ k. Private 0) gs; events = refl; moment = refl }
+first-stood g gs = record { owner = λ k. Private 0; own = nothing_own; settled = λ event end_event. refl; joint = nobody-joint g (λ k. Private 0) gs; events = refl; moment = refl }
 
 pub passes : StepsTell → EachRunIsSound → EachRunAppends → GroupsPassThrough
 unfolding first-stood
@@ -308,7 +308,7 @@ passes tell sound append inputs g moment few =
     let t = replayed g moment alone.at_first (records inputs) in
     record {
       own = e.own;
-      made = e.is t.events;
+      made = e.is t.events t.end_event;
       whole = record { bodies = j.agrees.bodies; views = λ p of. same-seen g gs (state_at inputs moment).bodies e.own.bodies p j.agrees of };
       heard = e.inside ∙ ap (λ (k : ℕ). parts gs g (within k all)) zero_off;
     }

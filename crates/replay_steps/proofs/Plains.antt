@@ -72,7 +72,7 @@ pub record Halfway {A : Type 0} (l : Listener A) (x : A) (before : ℕ) (own : O
 plains-next : (slice : alone.Slice) (at n : ℕ) (own own' : Own) → alone.plain_in slice.pid own (seen own.bodies slice.pid) ≡ Some own' → alone.plains slice at (suc n) own ≡ alone.plains slice (suc at) n own'
 plains-next slice at n own own' is = ap (λ (o : Option Own). alone.plain_or slice at o (alone.plains slice (suc at) n)) is
 
-plains-stop : (slice : alone.Slice) (at n : ℕ) (own : Own) → alone.plain_in slice.pid own (seen own.bodies slice.pid) ≡ None → alone.plains slice at (suc n) own ≡ Fails (record { event = slice.event; said = slice.ran; found = at })
+plains-stop : (slice : alone.Slice) (at n : ℕ) (own : Own) → alone.plain_in slice.pid own (seen own.bodies slice.pid) ≡ None → alone.plains slice at (suc n) own ≡ Fails (record { event = slice.end_event; said = slice.ran; found = at })
 plains-stop slice at n own is = ap (λ (o : Option Own). alone.plain_or slice at o (alone.plains slice (suc at) n)) is
 
 module _ {A : Type 0} (l : Listener A) (x : A) (a : ℕ) (own : Own) (slice : alone.Slice) (count : ℕ) where
@@ -91,7 +91,7 @@ module _ {A : Type 0} (l : Listener A) (x : A) (a : ℕ) (own : Own) (slice : al
         goes_on = goes-both l x y z a b d own half.own' ran.own' half.goes_on ran.goes_on;
       }
 
-  pub halfway-stop : (at event : ℕ) (guests : Guests) (y : A) (b : ℕ) → at < count → (half : Halfway l x a own slice count at guests event y b) → alone.plain_in slice.pid half.own' (seen half.own'.bodies slice.pid) ≡ None → alone.plains slice 0 count own ≡ Fails (record { event = slice.event; said = slice.ran; found = at })
+  pub halfway-stop : (at event : ℕ) (guests : Guests) (y : A) (b : ℕ) → at < count → (half : Halfway l x a own slice count at guests event y b) → alone.plain_in slice.pid half.own' (seen half.own'.bodies slice.pid) ≡ None → alone.plains slice 0 count own ≡ Fails (record { event = slice.end_event; said = slice.ran; found = at })
   halfway-stop at event guests y b lt half stops =
       let left : count - at ≡ suc (count - (at + 1)) = omega arith in
       half.same ∙ (ap (λ (n : ℕ). alone.plains slice at n half.own') left ∙ plains-stop slice at (count - (at + 1)) half.own' stops)
@@ -128,7 +128,7 @@ module _ {A : Type 0} (l : Listener A) (x : A) (a : ℕ) (own : Own) (slice : al
       (halfway-end n event guests' y (a + n) le ge (halfway-told n event guests guests' y le law stands told))
 
   -- fewer, where the process stops
-  pub told-fewer : (n event : ℕ) (guests guests' : Guests) (y : A) → n < count → OthersStayUnheld → Stands guests event own → ToldMany l.runs slice.pid n guests guests' x y → IfSome (seen_in guests' slice.pid) (λ (v : View). IsStop (stands_at v)) → alone.plains slice 0 count own ≡ Fails (record { event = slice.event; said = slice.ran; found = n })
+  pub told-fewer : (n event : ℕ) (guests guests' : Guests) (y : A) → n < count → OthersStayUnheld → Stands guests event own → ToldMany l.runs slice.pid n guests guests' x y → IfSome (seen_in guests' slice.pid) (λ (v : View). IsStop (stands_at v)) → alone.plains slice 0 count own ≡ Fails (record { event = slice.end_event; said = slice.ran; found = n })
   told-fewer n event guests guests' y less law stands told stop =
       let half : Halfway l x a own slice count n guests' event y (a + n) = halfway-told n event guests guests' y (omega (arith, less)) law stands told in
       halfway-stop n event guests' y (a + n) less half (none-stops guests' event slice.pid half.own' half.stands stop)

@@ -12,21 +12,24 @@ use arn_base::Steps;
 use guest_bodies::{Bodies, others_stay_unheld};
 use std::sync::ledger::Ledger;
 
-/// A slice: its process, its count, and the number of the event that comes next.
+/// A slice: its process, its count, the number of the event that comes next, and that of the event
+/// that ends the slice, or would if it had one.
 #[derive(Clone, Copy)]
 pub struct Turn {
     pub pid: u32,
     pub ran: u32,
     pub event: u64,
+    pub end_event: u64,
 }
 
 impl Turn {
     // Fewer instructions than the slice counts are followed by the next one.
     fn stops_after(&self, found: u32) -> Disagrees
-        ensures { result ≡ record { event = self.now.event; said = self.now.ran; found = found } }
+        ensures { result ≡
+            record { event = self.now.end_event; said = self.now.ran; found = found } }
     {
         Disagrees {
-            event: self.event,
+            event: self.end_event,
             said: u64::from(self.ran),
             found: u64::from(found),
         }

@@ -32,6 +32,7 @@ standing g moment p made =
       owed = p.owed;
       pid = p.turn.pid;
       ran = p.turn.ran;
+      end_event = p.turn.end_event;
     }
 
 and-true : (a b : Bool) → b ≡ true → (a && b) ≡ a
@@ -123,6 +124,7 @@ begun-of g until s made flag =
       owed = if flag then min s.ran (until - s.moment) else 0;
       pid = s.pid;
       ran = s.ran;
+      end_event = s.event;
     }
 
 begins : (g until : ℕ) (s : SliceAt) (made : Made) → alone.after_slice g until s.pid s.ran (before_slice g made s) ≡ standing g (s.moment + s.ran) (part_of until s) made

@@ -69,6 +69,7 @@ part-of g until p r made flag events moment =
       owed = if flag then min r (until - moment) else 0;
       pid = p;
       ran = r;
+      end_event = events;
     }
 
 starts-part : (g until p r place : ℕ) (t : Standing) (made : Made) → made ≡ settled t → is_number g (t.groups p) ≡ true
@@ -204,6 +205,7 @@ own-record g until b n t (entry.Signal pid signal cut handler) f is isnt member 
       made = alone.made_if (t.is_begun && flag) t.made (alone.happens pid t.events (entry.Signal pid signal cut handler));
       groups = own_groups g;
       events = t.events + 1;
+      end_event = t.events + 1;
     }) (same-test g g refl ∙ sym (member pid (not-true (is_behind pid b) f.slice)))
 own-record g until b n t (entry.Call pid number r more) f is isnt member = own-last g until pid t (entry.Call pid number r more) (member pid (not-true (is_behind pid b) f.slice))
 own-record g until b n t (entry.End pid status) f is isnt member = own-last g until pid t (entry.End pid status) (member pid (not-true (is_behind pid b) f.slice))

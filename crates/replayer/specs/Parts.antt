@@ -8,13 +8,14 @@ use Rattle.history_model.specs.Alone as alone
 use Rattle.history_model.specs.Alone.{Own, Made, Makes}
 use Rattle.history_model.specs.Groups.{group_of}
 use Rattle.replay_steps.specs.Plain.{slice_of}
+use Rattle.replay_steps.specs.declared.plain.Turn.{Turn}
 use Rattle.replayer.specs.declared.parts.Part.{Part}
 
 -- before its first instruction
 abbrev pub part_of : ℕ → SliceAt → Part
 part_of until s =
     record {
-      turn = record { pid = s.pid; ran = s.ran; event = s.event };
+      turn = record { pid = s.pid; ran = s.ran; event = s.event; end_event = s.event };
       owed = min s.ran (until - s.moment);
       is_begun = nat_le s.moment until;
       is_ended = nat_le (s.moment + s.ran) until;
@@ -26,11 +27,19 @@ owed_after p (entry.Call pid number result more) = if p.is_ended then 0 else p.o
 owed_after p (entry.End pid status) = if p.is_ended then 0 else p.owed
 owed_after p e = p.owed
 
+-- which event ends the slice then, or would: behind a delivery the next one
+abbrev pub end_after : Turn → Record → ℕ
+end_after turn (entry.Signal pid signal cut handler) = turn.event + 1
+end_after turn e = turn.end_event
+
 -- behind a record
+abbrev pub turn_after : Turn → Record → Turn
+turn_after turn e = record { pid = turn.pid; ran = turn.ran; event = turn.event + 1; end_event = end_after turn e }
+
 abbrev pub part_after : Part → Record → Part
 part_after p e =
     record {
-      turn = record { pid = p.turn.pid; ran = p.turn.ran; event = p.turn.event + 1 };
+      turn = turn_after p.turn e;
       owed = owed_after p e;
       is_begun = p.is_begun;
       is_ended = p.is_ended;

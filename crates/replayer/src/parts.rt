@@ -13,7 +13,7 @@ ghost use Rattle.replay_steps.specs.Calls.{ChildIsFree, child_joined, if_ticked,
 ghost use Rattle.replay_steps.specs.Notices.{Listener};
 ghost use Rattle.replay_steps.specs.Plain.{slice_of};
 ghost use Rattle.replay_steps.specs.Standing.{Explains, GainsOnly, IsStanding, KeepsLives, Reaches, Stands};
-ghost use Rattle.replayer.specs.Parts.{LivesIn, made_after, part_after, part_len, part_made, part_of};
+ghost use Rattle.replayer.specs.Parts.{LivesIn, made_after, part_after, part_len, part_made, part_of, turn_after};
 
 use crate::ReplayError;
 use acts_model::Observer;
@@ -59,6 +59,7 @@ impl Part {
             pid: at.pid,
             ran: at.ran,
             event: at.event,
+            end_event: at.event,
         };
         Part {
             turn,
@@ -168,6 +169,17 @@ impl Part {
         }
     }
 
+    // Counts an event behind the slice: a delivery comes before the event that ends it.
+    fn count(&mut self, entry: &Record)
+        requires room { self.old.turn.event + 1 < 2 ^ 64 }
+        ensures { self.new ≡ record self.old { turn = turn_after self.old.turn entry.now } }
+    {
+        self.turn.event += 1;
+        if matches!(entry, Record::Signal { .. }) {
+            self.turn.end_event = self.turn.event;
+        }
+    }
+
     // Takes the record of an event behind the slice.
     fn take<O: Observer, L: Ledger>(
         &mut self,
@@ -192,7 +204,7 @@ impl Part {
         ensures paid { OnOk result (steps.new + self.new.owed ≤ steps.old + self.old.owed) }
     {
         self.happen(bodies, entry, observer, steps)?;
-        self.turn.event += 1;
+        self.count(entry);
         Ok(())
     }
 
