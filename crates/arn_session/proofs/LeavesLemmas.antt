@@ -28,7 +28,7 @@ use Rattle.arn_session.proofs.PointLemmas.{Laws}
 use Rattle.arn_session.proofs.Progress.{HaveAnswers}
 use Rattle.arn_session.proofs.SlotLemmas.{Begins-seen, Finds-seen}
 
-module _ {D A : Type 0} {d : Ghosts D} {replies : A → Asked → Answered → A → Type 0} {told : Told} where
+module _ {D A : Type 0} (d : Ghosts D) (replies : A → Asked → Answered → A → Type 0) (told : Told) where
   -- the store over the disk doesn't matter where a session begins
   pub begins-on : (here : A) (old new : Standing D A) (store : StoreState) (why : Halt) (l left : Option (List ℕ)) → IfSome l (λ text. (s : StoreState) → BeginsText d replies told (standpoint old.disk store old.held old.around) (standpoint new.disk s new.held new.around) why text left) → IfSome l (λ text. BeginsOn d replies told store.entries old new why text left)
   begins-on here old new store why l left all =
@@ -38,12 +38,14 @@ module _ {D A : Type 0} {d : Ghosts D} {replies : A → Asked → Answered → A
   finds-on here old new store l left all =
       IfSome_then l all (λ text b. Finds-seen here replies replies (λ a. a) (λ a asked answer a' p. p) d told old new store (store_of []) text left (b (store_of [])))
 
+-- who isn't asked is the same
+pub asked-none : {A : Type 0} (replies : A → Asked → Answered → A → Type 0) (now : A) → WereAsked replies now now
+asked-none replies now = record { asks = []; slices = []; replied = (refl, refl) }
+
+module _ {D A : Type 0} {d : Ghosts D} {replies : A → Asked → Answered → A → Type 0} {told : Told} where
   -- who answers was asked by slices, before a command and for it
   pub asked-before : {parts : List Part} {is_there : Bool} {old new : Standpoint D A} → HaveAnswers d replies told parts is_there old new → WereAsked replies old.around.answers new.around.answers
   asked-before p = record { asks = p.answered.asks; slices = p.answered.slices; replied = p.answered.replied }
-
-  pub asked-none : (replies' : A → Asked → Answered → A → Type 0) (now : A) → WereAsked replies' now now
-  asked-none replies' now = record { asks = []; slices = []; replied = (refl, refl) }
 
   pub asked-halted : {parts : List Part} {is_there : Bool} {old mid new : Standpoint D A} {command : Command} {why : Halt} (laws : Laws d replies) → HaveAnswers d replies told parts is_there old mid → IsHalted d replies told is_there why command mid new → WereAsked replies old.around.answers new.around.answers
   asked-halted {parts = parts} {is_there = is_there} {old = old} {mid = mid} {new = new} {command = command} {why = why} laws p b =
@@ -88,21 +90,22 @@ module _ {D A : Type 0} (d : Ghosts D) (replies : A → Asked → Answered → A
     pub disk : why ≡ halt.Disk → Rose (d.faults old.stands.disk) (d.faults new.stands.disk)
     pub full : (log payload : ℕ) → why ≡ halt.Full log payload → MOST_LOG < log + 5 + payload
 
+-- what an error of a result is
+not-ok : (x : Unit {0}) (why : Halt) → IsErrOf (Ok x) why → ⊥
+not-ok x why is = cc is
+
+same-halt : (a b : Halt) → IsErrOf {T = Unit {0}} (Err a) b → a ≡ b
+same-halt a b is = cc is
+
+either-halt : (a : Halt) → IsErrOf {T = Unit {0}} (Err a) halt.Source ⊎ IsErrOf {T = Unit {0}} (Err a) halt.Long → (a ≡ halt.Source) ⊎ (a ≡ halt.Long)
+either-halt a (inl is) = inl (same-halt a halt.Source is)
+either-halt a (inr is) = inr (same-halt a halt.Long is)
+
+never-taken : {P : Type 0} (x : Unit {0}) → IsErrOf (Ok x) halt.Source ⊎ IsErrOf (Ok x) halt.Long → P
+never-taken x (inl is) = absurd (not-ok x halt.Source is)
+never-taken x (inr is) = absurd (not-ok x halt.Long is)
+
 module _ {D A : Type 0} {d : Ghosts D} {replies : A → Asked → Answered → A → Type 0} {told : Told} {history : List Record} {old new : Scene D A} where
-  not-ok : (x : Unit {0}) (why : Halt) → IsErrOf (Ok x) why → ⊥
-  not-ok x why is = cc is
-
-  same-halt : (a b : Halt) → IsErrOf (Err a) b → a ≡ b
-  same-halt a b is = cc is
-
-  either-halt : (a : Halt) → IsErrOf (Err a) halt.Source ⊎ IsErrOf (Err a) halt.Long → (a ≡ halt.Source) ⊎ (a ≡ halt.Long)
-  either-halt a (inl is) = inl (same-halt a halt.Source is)
-  either-halt a (inr is) = inr (same-halt a halt.Long is)
-
-  never-taken : {P : Type 0} (x : Unit {0}) → IsErrOf (Ok x) halt.Source ⊎ IsErrOf (Ok x) halt.Long → P
-  never-taken x (inl is) = absurd (not-ok x halt.Source is)
-  never-taken x (inr is) = absurd (not-ok x halt.Long is)
-
   pub leaves-done : (x : Unit {0}) → Ends d replies told history old new → Leaves d replies told history (Ok x) old new
   leaves-done x e = record {
     read = e.read;

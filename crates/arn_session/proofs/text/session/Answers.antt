@@ -68,7 +68,7 @@ returns-in_err-commands-clause-leaves g c =
         asked = asked-none _ c.args.outside.now.answers.now;
       };
       stops = λ not_source not_long.
-          begins-on c.args.outside.now.answers.now (standing c.args.outside.now.disk.now (g.K.Sink.holds c.args.outside.now.sink.now) (around (g.C.Chooser.choices c.args.outside.now.chooser.now) c.args.outside.now.answers.now c.args.outside.now.steps.now)) (standing c.args.outside.now.disk.now (g.K.Sink.holds c.args.outside.now.sink.now) (around (g.C.Chooser.choices c.args.outside.now.chooser.now) c.args.outside.now.answers.now c.args.outside.now.steps.now)) c.args.store halt.NoMemory (g.S.Source.left c.args.source.now) (g.S.Source.left c.args.source.now)
+          begins-on g.D.Disk g.A.Answers.answers g.Q.Questions.told c.args.outside.now.answers.now (standing c.args.outside.now.disk.now (g.K.Sink.holds c.args.outside.now.sink.now) (around (g.C.Chooser.choices c.args.outside.now.chooser.now) c.args.outside.now.answers.now c.args.outside.now.steps.now)) (standing c.args.outside.now.disk.now (g.K.Sink.holds c.args.outside.now.sink.now) (around (g.C.Chooser.choices c.args.outside.now.chooser.now) c.args.outside.now.answers.now c.args.outside.now.steps.now)) c.args.store halt.NoMemory (g.S.Source.left c.args.source.now) (g.S.Source.left c.args.source.now)
           (BeginsText-none g.Q.Questions.told (g.S.Source.left c.args.source.now) (standpoint disk c.args.store held (around (g.C.Chooser.choices c.args.outside.now.chooser.now) c.args.outside.now.answers.now c.args.outside.now.steps.now)) laws halt.NoMemory tt c.requires.«open»);
       blames = λ at is. absurd (cc is);
       finds = λ at is. absurd (cc is);
@@ -108,7 +108,7 @@ returns-in-Err-clause-leaves g c =
       stops =
           subst (λ (h : Halt). h ≢ halt.Source → h ≢ halt.Long → IfSome l (λ text. BeginsOn g.D.Disk g.A.Answers.answers g.Q.Questions.told c.args.store.entries (standing c.args.outside.now.disk.now (g.K.Sink.holds c.args.outside.now.sink.now) (around (g.C.Chooser.choices c.args.outside.now.chooser.now) c.args.outside.now.answers.now c.args.outside.now.steps.now)) (standing c.loop-next.outside.disk.now (g.K.Sink.holds c.loop-next.outside.sink.now) (around (g.C.Chooser.choices c.loop-next.outside.chooser.now) c.loop-next.outside.answers.now c.loop-next.outside.steps.now)) h text left)) (sym c.read_halt.ensures)
           (memory-was (λ (h : Halt). IfSome l (λ text. BeginsOn g.D.Disk g.A.Answers.answers g.Q.Questions.told c.args.store.entries (standing c.args.outside.now.disk.now (g.K.Sink.holds c.args.outside.now.sink.now) (around (g.C.Chooser.choices c.args.outside.now.chooser.now) c.args.outside.now.answers.now c.args.outside.now.steps.now)) (standing c.loop-next.outside.disk.now (g.K.Sink.holds c.loop-next.outside.sink.now) (around (g.C.Chooser.choices c.loop-next.outside.chooser.now) c.loop-next.outside.answers.now c.loop-next.outside.steps.now)) h text left)) c.in-Err.error
-          (begins-on c.args.outside.now.answers.now (standing c.args.outside.now.disk.now (g.K.Sink.holds c.args.outside.now.sink.now) (around (g.C.Chooser.choices c.args.outside.now.chooser.now) c.args.outside.now.answers.now c.args.outside.now.steps.now)) (standing c.loop-next.outside.disk.now (g.K.Sink.holds c.loop-next.outside.sink.now) (around (g.C.Chooser.choices c.loop-next.outside.chooser.now) c.loop-next.outside.answers.now c.loop-next.outside.steps.now)) c.args.store halt.NoMemory l left (BeginsText-before laws halt.NoMemory tt now c.next.ensures.used)));
+          (begins-on g.D.Disk g.A.Answers.answers g.Q.Questions.told c.args.outside.now.answers.now (standing c.args.outside.now.disk.now (g.K.Sink.holds c.args.outside.now.sink.now) (around (g.C.Chooser.choices c.args.outside.now.chooser.now) c.args.outside.now.answers.now c.args.outside.now.steps.now)) (standing c.loop-next.outside.disk.now (g.K.Sink.holds c.loop-next.outside.sink.now) (around (g.C.Chooser.choices c.loop-next.outside.chooser.now) c.loop-next.outside.answers.now c.loop-next.outside.steps.now)) c.args.store halt.NoMemory l left (BeginsText-before laws halt.NoMemory tt now c.next.ensures.used)));
       blames = λ at is. absurd (read-finds-none c.in-Err.error at (sym c.read_halt.ensures ∙ is));
       finds = λ at is. absurd (read-finds-none c.in-Err.error at (sym c.read_halt.ensures ∙ is));
       early = λ is. TookFewer-part now (c.in-Err.ensures.part (λ none. cc (at_source is, none))) (c.in-Err.ensures.source (ap (λ (x : ReadError). Err x) (at_source is)));
@@ -149,10 +149,10 @@ returns-in_err-answer-in-More-clause-leaves g c =
         later = gone.later;
         asked = asked-halted laws now.answers halted;
       };
-      stops = λ not_source not_long. begins-on c.args.outside.now.answers.now (standing c.args.outside.now.disk.now (g.K.Sink.holds c.args.outside.now.sink.now) (around (g.C.Chooser.choices c.args.outside.now.chooser.now) c.args.outside.now.answers.now c.args.outside.now.steps.now)) (standing c.answer.new.outside.disk.now (g.K.Sink.holds c.answer.new.outside.sink.now) (around (g.C.Chooser.choices c.answer.new.outside.chooser.now) c.answer.new.outside.answers.now c.answer.new.outside.steps.now)) c.args.store why l left (BeginsText-whole laws now read halted);
+      stops = λ not_source not_long. begins-on g.D.Disk g.A.Answers.answers g.Q.Questions.told c.args.outside.now.answers.now (standing c.args.outside.now.disk.now (g.K.Sink.holds c.args.outside.now.sink.now) (around (g.C.Chooser.choices c.args.outside.now.chooser.now) c.args.outside.now.answers.now c.args.outside.now.steps.now)) (standing c.answer.new.outside.disk.now (g.K.Sink.holds c.answer.new.outside.sink.now) (around (g.C.Chooser.choices c.answer.new.outside.chooser.now) c.answer.new.outside.answers.now c.answer.new.outside.steps.now)) c.args.store why l left (BeginsText-whole laws now read halted);
       blames = λ at is. blames-first now.answers (err-at c.answer.result _ (halt.Differs at) (c.in_err-answer-in-More.was ∙ ap (λ (x : Halt). Err x) is) c.answer.ensures.blames);
       finds = λ at is.
-          finds-on c.args.outside.now.answers.now (standing c.args.outside.now.disk.now (g.K.Sink.holds c.args.outside.now.sink.now) (around (g.C.Chooser.choices c.args.outside.now.chooser.now) c.args.outside.now.answers.now c.args.outside.now.steps.now)) (standing c.answer.new.outside.disk.now (g.K.Sink.holds c.answer.new.outside.sink.now) (around (g.C.Chooser.choices c.answer.new.outside.chooser.now) c.answer.new.outside.answers.now c.answer.new.outside.steps.now)) c.args.store l left
+          finds-on g.D.Disk g.A.Answers.answers g.Q.Questions.told c.args.outside.now.answers.now (standing c.args.outside.now.disk.now (g.K.Sink.holds c.args.outside.now.sink.now) (around (g.C.Chooser.choices c.args.outside.now.chooser.now) c.args.outside.now.answers.now c.args.outside.now.steps.now)) (standing c.answer.new.outside.disk.now (g.K.Sink.holds c.answer.new.outside.sink.now) (around (g.C.Chooser.choices c.answer.new.outside.chooser.now) c.answer.new.outside.answers.now c.answer.new.outside.steps.now)) c.args.store l left
           (FindsOut-whole now read (err-at c.answer.result _ (halt.Differs at) (c.in_err-answer-in-More.was ∙ ap (λ (x : Halt). Err x) is) c.answer.ensures.blames));
       early = λ is. absurd (never-source why _ _ _ _ cause is);
       long = λ is. absurd (never-long why _ _ _ _ cause is);
@@ -204,10 +204,10 @@ returns-in-Last-clause-leaves g c =
         later = gone.later;
         asked = asked-halted laws now.answers halted;
       };
-      stops = λ not_source not_long. begins-on c.args.outside.now.answers.now (standing c.args.outside.now.disk.now (g.K.Sink.holds c.args.outside.now.sink.now) (around (g.C.Chooser.choices c.args.outside.now.chooser.now) c.args.outside.now.answers.now c.args.outside.now.steps.now)) (standing c.answer-in-Last.new.outside.disk.now (g.K.Sink.holds c.answer-in-Last.new.outside.sink.now) (around (g.C.Chooser.choices c.answer-in-Last.new.outside.chooser.now) c.answer-in-Last.new.outside.answers.now c.answer-in-Last.new.outside.steps.now)) c.args.store why l left (BeginsText-last laws now read halted);
+      stops = λ not_source not_long. begins-on g.D.Disk g.A.Answers.answers g.Q.Questions.told c.args.outside.now.answers.now (standing c.args.outside.now.disk.now (g.K.Sink.holds c.args.outside.now.sink.now) (around (g.C.Chooser.choices c.args.outside.now.chooser.now) c.args.outside.now.answers.now c.args.outside.now.steps.now)) (standing c.answer-in-Last.new.outside.disk.now (g.K.Sink.holds c.answer-in-Last.new.outside.sink.now) (around (g.C.Chooser.choices c.answer-in-Last.new.outside.chooser.now) c.answer-in-Last.new.outside.answers.now c.answer-in-Last.new.outside.steps.now)) c.args.store why l left (BeginsText-last laws now read halted);
       blames = λ at is. blames-first now.answers (err-at c.answer-in-Last.result _ (halt.Differs at) (was ∙ ap (λ (x : Halt). Err x) is) c.answer-in-Last.ensures.blames);
       finds = λ at is.
-          finds-on c.args.outside.now.answers.now (standing c.args.outside.now.disk.now (g.K.Sink.holds c.args.outside.now.sink.now) (around (g.C.Chooser.choices c.args.outside.now.chooser.now) c.args.outside.now.answers.now c.args.outside.now.steps.now)) (standing c.answer-in-Last.new.outside.disk.now (g.K.Sink.holds c.answer-in-Last.new.outside.sink.now) (around (g.C.Chooser.choices c.answer-in-Last.new.outside.chooser.now) c.answer-in-Last.new.outside.answers.now c.answer-in-Last.new.outside.steps.now)) c.args.store l left
+          finds-on g.D.Disk g.A.Answers.answers g.Q.Questions.told c.args.outside.now.answers.now (standing c.args.outside.now.disk.now (g.K.Sink.holds c.args.outside.now.sink.now) (around (g.C.Chooser.choices c.args.outside.now.chooser.now) c.args.outside.now.answers.now c.args.outside.now.steps.now)) (standing c.answer-in-Last.new.outside.disk.now (g.K.Sink.holds c.answer-in-Last.new.outside.sink.now) (around (g.C.Chooser.choices c.answer-in-Last.new.outside.chooser.now) c.answer-in-Last.new.outside.answers.now c.answer-in-Last.new.outside.steps.now)) c.args.store l left
           (FindsOut-last now read (err-at c.answer-in-Last.result _ (halt.Differs at) (was ∙ ap (λ (x : Halt). Err x) is) c.answer-in-Last.ensures.blames));
       early = λ is. absurd (never-source why _ _ _ _ cause is);
       long = λ is. absurd (never-long why _ _ _ _ cause is);
