@@ -3,7 +3,7 @@ ghost use Rattle.std.specs.Prelude.{◌≡◌};
 ghost use Rattle.arn_session.specs.Status.{code_of};
 
 use arn_base::Differs;
-use log_store::OpenError;
+use log_store::{MOST_LOG, OpenError};
 use session_effects::Halt;
 use std::fmt;
 
@@ -67,16 +67,19 @@ impl fmt::Display for Status {
     fn fmt<W: fmt::Write>(&self, f: &mut fmt::Formatter<W>) -> fmt::Result {
         match self {
             Status::Done => f.write_str("done"),
-            Status::Usage => f.write_str("usage: arnold LOG"),
+            Status::Usage => f.write_str(
+                "usage: arnold LOG, where LOG is the path of the log, in UTF-8 and without - in front",
+            ),
             Status::Disk => f.write_str("the disk failed"),
             Status::Damaged(damage) => damage.fmt(f),
             Status::NoMemory => f.write_str("out of memory"),
             Status::Source => f.write_str("the source failed"),
             Status::Sink => f.write_str("the sink failed"),
-            Status::Full { log, payload } => {
-                write!(f, "the log of {log} bytes has no room for {payload} more")
-            }
-            Status::Long => f.write_str("the source is too long"),
+            Status::Full { log, payload } => write!(
+                f,
+                "the log has {log} of at most {MOST_LOG} bytes, and a commit of {payload} doesn't fit",
+            ),
+            Status::Long => f.write_str("the source has 2^40 bytes or more, and no more are read"),
         }
     }
 }
@@ -84,15 +87,26 @@ impl fmt::Display for Status {
 impl fmt::Display for Damage {
     fn fmt<W: fmt::Write>(&self, f: &mut fmt::Formatter<W>) -> fmt::Result {
         match self {
-            Damage::TooLong { len } => write!(f, "the log has {len} bytes, which is too many"),
-            Damage::NotLog { at } => write!(f, "the byte at {at} is not that of a log"),
-            Damage::Malformed { at } => write!(f, "no frame or no record stands at {at}"),
-            Damage::Broken { place } => write!(f, "record {place} can't stand where it does"),
+            Damage::TooLong { len } => {
+                write!(f, "it has {len} bytes, and a log at most {MOST_LOG}")
+            }
+            Damage::NotLog { at: 6 | 7 } => {
+                f.write_str("it is a log of another version, and not of ARNLOG01")
+            }
+            Damage::NotLog { at } => {
+                write!(f, "it is no log: byte {at} differs from the name ARNLOG01")
+            }
+            Damage::Malformed { at } => {
+                write!(f, "it is damaged: at byte {at} is no frame or no record")
+            }
+            Damage::Broken { place } => {
+                write!(f, "its record {place} can't follow those before it")
+            }
             Damage::Differs(differs) => {
                 let Differs { place, at, .. } = differs;
                 write!(
                     f,
-                    "record {place} is not that of a run from its byte {at} on"
+                    "its record {place} differs from byte {at} on from what the inputs give"
                 )
             }
         }

@@ -7,7 +7,7 @@ use Rattle.arn_base.specs.Disk.{Torn, Cut, Follows, NoLess, NoMore, Only, Elapse
 use Rattle.log_disk.specs.Crash.{Held, Crash, durable}
 use Rattle.log_disk.specs.InMemory.{InMemory, Fused, Makes, changed, moment_of, LeftSince}
 use Rattle.log_disk.specs.Steps.{span, written_to, cut_to}
-use Rattle.log_disk.proofs.CrashLemmas.{Follows-written, Follows-cut, NoLess-cut, NoLess-written, NoMore-durable, Crash-durable, Torn-overwrite, Torn-self, Cut-self, Cut-take}
+use Rattle.log_disk.proofs.CrashLemmas.{Follows-written, Follows-cut, NoMore-durable, Crash-durable, Torn-overwrite, Torn-self, Cut-self, Cut-take}
 
 -- a call that succeeds makes this change, and one that doesn't changes nothing
 pub record Does (result : Result (Unit {0}) Stop) (next : Held) (old new : InMemory) : Type 0 where

@@ -2,6 +2,7 @@
 //! file of the host.
 #![tactic(auto)]
 
+mod failure;
 mod file_disk;
 mod fuse;
 mod fuse_disk;
@@ -12,6 +13,7 @@ mod mem_disk;
 mod past;
 mod ranges;
 
+pub use failure::{Attempt, Failure};
 pub use file_disk::FileDisk;
 pub use fuse_disk::FuseDisk;
 pub use mem_disk::MemDisk;

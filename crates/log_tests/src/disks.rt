@@ -3,7 +3,7 @@ ghost use Rattle.log_disk.specs.InMemory.{fresh};
 
 use crate::same::assert_same;
 use arn_base::{Bytes, Disk, Failed, NoMemory, Numbers, Stop};
-use log_disk::{FileDisk, FuseDisk, MemDisk};
+use log_disk::{Attempt, FileDisk, FuseDisk, MemDisk};
 use std::alloc::Global;
 use std::fs;
 use std::process::Abort;
@@ -155,6 +155,14 @@ fn a_fuse_fails_the_calls_that_are_listed(rt: HostRuntime) -> Result<(), Fail> {
     Ok(())
 }
 
+/// What failed last.
+fn failed(disk: &FileDisk<HostRuntime>) -> Option<Attempt> {
+    match disk.failure() {
+        Some(failure) => Some(failure.attempt),
+        None => None,
+    }
+}
+
 const FOLDER: &str = "log_disk_test";
 
 #[test]
@@ -163,6 +171,7 @@ fn a_file_keeps_what_is_written(rt: HostRuntime) -> Result<(), Fail> {
     let path = String::from_str(rt.alloc(), "log_disk_test/log")?;
     let mut disk = FileDisk::new(rt, path);
     assert_same(&rt, disk.len(), Err(Failed));
+    assert_same(&rt, failed(&disk), Some(Attempt::Open));
     fs::create_dir(&rt, FOLDER)?;
     assert_same(&rt, disk.len(), Ok(0));
     assert_same(&rt, disk.write(0, b"abcdef"), Ok(()));
@@ -178,5 +187,29 @@ fn a_file_keeps_what_is_written(rt: HostRuntime) -> Result<(), Fail> {
     let text = fs::read_to_string(&rt, "log_disk_test/log")?;
     assert_same(&rt, text.as_str(), "aBC");
     fs::remove_dir_all(&rt, FOLDER)?;
+    Ok(())
+}
+
+/// The second of two disks over one file finds it locked by the first.
+fn assert_locked(
+    rt: &impl Abort,
+    mut first: FileDisk<HostRuntime>,
+    mut second: FileDisk<HostRuntime>,
+) {
+    assert_same(rt, first.len(), Ok(0));
+    assert_same(rt, second.len(), Err(Failed));
+    assert_same(rt, failed(&second), Some(Attempt::Lock));
+}
+
+const LOCKED: &str = "log_disk_locked";
+
+#[test]
+fn a_file_is_one_disks(rt: HostRuntime) -> Result<(), Fail> {
+    let _ = fs::remove_dir_all(&rt, LOCKED);
+    fs::create_dir(&rt, LOCKED)?;
+    let path = String::from_str(rt.alloc(), "log_disk_locked/log")?;
+    let first = FileDisk::new(rt.clone()?, path.clone()?);
+    assert_locked(&rt, first, FileDisk::new(rt.clone()?, path));
+    fs::remove_dir_all(&rt, LOCKED)?;
     Ok(())
 }
