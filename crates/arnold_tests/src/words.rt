@@ -1,3 +1,5 @@
+use crate::same::assert_same;
+use arn_base::Differs;
 use arn_session::{Damage, Status, WordsError, read_words};
 use std::alloc::{AllocError, Global};
 use std::test::Fail;
@@ -36,27 +38,69 @@ fn words(rt: HostRuntime) -> Result<(), Fail> {
     Ok(())
 }
 
+const FULL: Status = Status::Full {
+    log: 268_435_000,
+    payload: 452,
+};
+
+const OTHERWISE: Differs = Differs {
+    place: 22,
+    at: 5,
+    said: Some(22),
+    found: Some(12),
+};
+
+/// Statuses, and the codes and texts of each.
+const STATUSES: &[(Status, u8, &str)] = &[
+    (Status::Done, 0, "done"),
+    (Status::Usage, 2, "usage: arnold LOG, where LOG is the path of the log, in UTF-8 and without - in front"),
+    (Status::Disk, 3, "the disk failed"),
+    (
+        Status::Damaged(Damage::TooLong { len: 268_435_457 }),
+        4,
+        "it has 268435457 bytes, and a log at most 268435456",
+    ),
+    (
+        Status::Damaged(Damage::NotLog { at: 6 }),
+        4,
+        "it is a log of another version, and not of ARNLOG01",
+    ),
+    (
+        Status::Damaged(Damage::NotLog { at: 0 }),
+        4,
+        "it is no log: byte 0 differs from the name ARNLOG01",
+    ),
+    (
+        Status::Damaged(Damage::Malformed { at: 8 }),
+        4,
+        "it is damaged: at byte 8 is no frame or no record",
+    ),
+    (
+        Status::Damaged(Damage::Broken { place: 2 }),
+        4,
+        "its record 2 can't follow those before it",
+    ),
+    (
+        Status::Damaged(Damage::Differs(OTHERWISE)),
+        4,
+        "its record 22 differs from byte 5 on from what the inputs give",
+    ),
+    (Status::NoMemory, 5, "out of memory"),
+    (Status::Source, 6, "the source failed"),
+    (Status::Sink, 7, "the sink failed"),
+    (
+        FULL,
+        8,
+        "the log has 268435000 of at most 268435456 bytes, and a commit of 452 doesn't fit",
+    ),
+    (Status::Long, 9, "the source has 2^40 bytes or more, and no more are read"),
+];
+
 #[test]
-fn codes(rt: HostRuntime) {
-    let codes = [
-        (Status::Done, 0),
-        (Status::Usage, 2),
-        (Status::Disk, 3),
-        (Status::Damaged(Damage::NotLog { at: 6 }), 4),
-        (Status::Damaged(Damage::Broken { place: 2 }), 4),
-        (Status::NoMemory, 5),
-        (Status::Source, 6),
-        (Status::Sink, 7),
-        (
-            Status::Full {
-                log: 268_435_000,
-                payload: 452,
-            },
-            8,
-        ),
-        (Status::Long, 9),
-    ];
-    for (status, code) in codes {
-        assert_eq!(rt; status.code(), code);
+fn codes_and_texts(rt: HostRuntime) -> Result<(), Fail> {
+    for (status, code, wanted) in STATUSES {
+        let text = status.to_string(rt.alloc())?;
+        assert_same(&rt, (status.code(), text.as_str()), (*code, *wanted));
     }
+    Ok(())
 }

@@ -5,6 +5,8 @@
 #[cfg(test)]
 mod commands;
 #[cfg(test)]
+mod errors;
+#[cfg(test)]
 mod histories;
 #[cfg(test)]
 mod lines;

@@ -57,6 +57,14 @@ fn jumps_and_upper_immediates(rt: HostRuntime) -> Result<(), Fail> {
     Ok(())
 }
 
+// The first word of the example session's program.
+#[test]
+fn a_first_word(rt: HostRuntime) -> Result<(), Fail> {
+    let (op, rd, rs1) = (ImmOp::Addi, reg(17)?, reg(0)?);
+    let imm = 11;
+    check(&rt, 0x00b0_0893, Instr::Imm { op, rd, rs1, imm })
+}
+
 #[test]
 fn branches(rt: HostRuntime) -> Result<(), Fail> {
     let (rs1, rs2) = (reg(31)?, reg(30)?);

@@ -40,8 +40,10 @@ fn check(rt: &impl Abort, alloc: Global, memo: u32) -> Result<(), Fail> {
     let both = union(rt, &mut sets, b, a)?;
     assert!(rt; has(&sets, both, &[FIRST, SECOND])?);
     assert!(rt; contains(&sets, both, SECOND) && !contains(&sets, a, SECOND));
-    // Another pair, and then the first again, which a memo of one has dropped.
+    // Two pairs in turn: a memo of one has dropped each of them before it is asked again.
     for (first, second, wanted) in [
+        (a, both, both),
+        (a, b, both),
         (a, both, both),
         (a, b, both),
         (a, a, a),
@@ -53,6 +55,9 @@ fn check(rt: &impl Abort, alloc: Global, memo: u32) -> Result<(), Fail> {
     }
     assert!(rt; single(&mut sets, FIRST)? == a);
     assert!(rt; has(&sets, empty, &[])?);
+    assert!(rt; has(&sets, both, &[FIRST, SECOND])?);
+    // The empty set, two of one member, and their union.
+    assert!(rt; sets.len() == 4);
     Ok(())
 }
 

@@ -4,6 +4,8 @@
 #[cfg(test)]
 mod disks;
 #[cfg(test)]
+mod errors;
+#[cfg(test)]
 mod gives;
 #[cfg(test)]
 mod records;

@@ -404,7 +404,7 @@ pub const BESIDE_PRINTS: &str = "\
     groups 3\n";
 
 /// A child connects to a port and sends what was typed, and its parent keeps it in a file and writes it.
-const SERVED: &str = "\
+pub const SERVED: &str = "\
     asm p\n\
     li a7, 18; li a0, 80; ecall\n\
     li a7, 2; ecall; beq a0, zero, client\n\
@@ -429,7 +429,7 @@ const SERVED: &str = "\
     back copy name 46 log 0 3\n";
 
 /// What is printed for that.
-const SERVED_PRINTS: &str = "\
+pub const SERVED_PRINTS: &str = "\
     event 0\n\
     event 1\n\
     event 2\n\

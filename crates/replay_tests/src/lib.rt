@@ -2,6 +2,8 @@
 #![tactic(auto)]
 
 #[cfg(test)]
+mod errors;
+#[cfg(test)]
 mod fixtures;
 #[cfg(test)]
 mod lookups;
@@ -11,5 +13,7 @@ mod replays;
 mod same;
 #[cfg(test)]
 mod states;
+#[cfg(test)]
+mod versions;
 #[cfg(test)]
 mod views;

@@ -25,9 +25,8 @@ pub enum Schedule {
     Round,
     /// By chance, from a seed.
     Seeded(u64),
-    /// Twice the first process up to its next call, then the one in this place, and from then on the
-    /// first one for one instruction at a time.
-    Third(u32),
+    /// By these choices, and from then on the first process for one instruction at a time.
+    Script(&'static [Choice]),
 }
 
 /// A text, how a source gives it, which calls fail, and the schedule.
@@ -88,11 +87,6 @@ fn owned(alloc: Global, words: &[&str]) -> Result<Vec<String>, NoMemory>
     Ok(made)
 }
 
-/// As many instructions as come before the next call.
-fn goes_on(index: u32) -> Choice {
-    Choice { index, count: 100 }
-}
-
 fn run_over<D: Disk, L: Ledger>(
     alloc: Global,
     words: &[String],
@@ -117,10 +111,9 @@ fn run_over<D: Disk, L: Ledger>(
     let mut chooser: Box<dyn Chooser> = match script.schedule {
         Schedule::Round => Box::new(alloc, RoundChooser::new(SLICE))?,
         Schedule::Seeded(seed) => Box::new(alloc, SeededChooser::new(seed))?,
-        Schedule::Third(index) => Box::new(
-            alloc,
-            ScriptChooser::new(vec![in alloc; goes_on(0), goes_on(0), goes_on(index)]?),
-        )?,
+        Schedule::Script(choices) => {
+            Box::new(alloc, ScriptChooser::new(Vec::from_slice(alloc, choices)?))?
+        }
     };
     let mut devices: Vec<Option<Box<dyn Device>>> = Vec::new(alloc);
     let status = arnold(
