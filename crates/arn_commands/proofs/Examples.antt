@@ -2,8 +2,8 @@
 use Rattle.std.proofs.Common.{◌≡◌, ℕ, Bool, List, [], ◌∷◌, ◌++◌, flat_map, true, false, option_map, None, Some, refl, codes}
 use Rattle.std.specs.Fmt.{digits}
 use Rattle.arn_lines.specs.declared.line.Line.TheVariants as line
-use Rattle.gen_texts.specs.Program as generator
-use Rattle.gen_texts.specs.Program.{rest}
+use Rattle.generator.specs.Program as generator
+use Rattle.generator.specs.Program.{rest}
 use Rattle.guest_asm.specs.Assembled.{fault_of, image_of_text}
 use Rattle.arn_commands.specs.declared.command.Command.{Command}
 use Rattle.arn_commands.specs.declared.command.Command.TheVariants.{Says, Faulty}

@@ -8,8 +8,8 @@ use Rattle.arn_lines.specs.Grammar.{Reads}
 use Rattle.guest_asm.specs.Assembled.{Fault, fault_of, image_of_text}
 use Rattle.arn_commands.specs.declared.command.Command.{Command}
 use Rattle.arn_commands.specs.declared.command.Command.TheVariants.{PassedOver, TooLong, Unreadable, Says, Faulty, Generates}
-use Rattle.gen_texts.specs.Program as generator
-use Rattle.gen_texts.specs.Typed.{typed_bytes}
+use Rattle.generator.specs.Program as generator
+use Rattle.generator.specs.Typed.{typed_bytes}
 use Rattle.arn_commands.specs.Lines.{line_feed}
 use Rattle.arn_commands.specs.Parts.{Part, Alone, Block}
 

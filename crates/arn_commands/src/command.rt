@@ -9,7 +9,7 @@ ghost use Rattle.arn_commands.specs.Sizes.{Fits};
 
 use arn_base::{Bytes, NoMemory};
 use arn_lines::{Line, LineReading, read_line};
-use gen_texts::{program, typed};
+use generator::{program, typed};
 use guest_asm::{AsmError, assemble};
 use std::alloc::Global;
 

@@ -23,10 +23,10 @@ use Rattle.session_effects.specs.declared.halt.Halt.{Halt}
 use Rattle.session_effects.specs.declared.halt.Halt.TheVariants as halt
 use Rattle.session_runs.specs.Points.{Advances, Stops}
 use Rattle.session_runs.specs.Turns.{finished}
-use Rattle.session_lines.specs.Answering.{FindsNoRun, IsHalted, IsNoRun, IsNotBegun, IsNotMade, IsUntouched}
+use Rattle.session_commands.specs.Answering.{FindsNoRun, IsHalted, IsNoRun, IsNotBegun, IsNotMade, IsUntouched}
 use Rattle.session_runs.specs.Standing.{Standpoint, standpoint}
-use Rattle.session_lines.specs.Cost.{cost_of_turn, machine_cost}
-use Rattle.session_lines.specs.Lines.{needs_machine, turn}
+use Rattle.session_commands.specs.Cost.{cost_of_turn, machine_cost}
+use Rattle.session_commands.specs.Lines.{needs_machine, turn}
 use Rattle.session_model.specs.Questions.{Told}
 use Rattle.arn_session.specs.CutOff.{BeginsText, FindsOut, IsBegun}
 use Rattle.arn_session.specs.Transcript.{needs_any, total_cost, transcript}

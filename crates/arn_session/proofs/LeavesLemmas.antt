@@ -16,7 +16,7 @@ use Rattle.guest_devices.specs.Answers.{Asked}
 use Rattle.session_effects.specs.Carrying.{CarriesOut, HoldsMore, IsAtRest, IsShut, RestsMore}
 use Rattle.session_effects.specs.declared.halt.Halt.{Halt}
 use Rattle.session_effects.specs.declared.halt.Halt.TheVariants as halt
-use Rattle.session_lines.specs.Answering.{IsAnswered, IsHalted, IsNoRun}
+use Rattle.session_commands.specs.Answering.{IsAnswered, IsHalted, IsNoRun}
 use Rattle.session_runs.specs.Standing.{Standpoint, standpoint}
 use Rattle.session_model.specs.Questions.{Told}
 use Rattle.arn_session.specs.Answered.{AnswersParts, AnswersTaken, TookAtMost, TookFewer}

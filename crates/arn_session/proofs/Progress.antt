@@ -20,10 +20,10 @@ use Rattle.session_effects.specs.Effects.{Effect, committed}
 use Rattle.session_effects.specs.Standing.{Carries, IsOpen}
 use Rattle.session_runs.specs.Points.{Advances, Surroundings}
 use Rattle.session_runs.specs.Turns.{Point, Turn, finished}
-use Rattle.session_lines.specs.Answering.{IsAnswered}
+use Rattle.session_commands.specs.Answering.{IsAnswered}
 use Rattle.session_runs.specs.Standing.{Standpoint}
-use Rattle.session_lines.specs.Cost.{cost, cost_of_turn}
-use Rattle.session_lines.specs.Lines.{needs_machine, turn}
+use Rattle.session_commands.specs.Cost.{cost, cost_of_turn}
+use Rattle.session_commands.specs.Lines.{needs_machine, turn}
 use Rattle.session_model.specs.Questions.{Told}
 use Rattle.arn_session.specs.Answered.{AnswersParts, AnswersTaken, TookAtMost, TookFewer}
 use Rattle.arn_session.specs.Leaves.{WereAsked}

@@ -13,10 +13,10 @@ use Rattle.guest_machine.specs.Differs.{rebuild_cost}
 use Rattle.guest_machine.specs.Legs.{Ask, Picked}
 use Rattle.session_effects.specs.Effects.{Effect, committed}
 use Rattle.session_runs.specs.Turns.{Point, Turn, behind, finished, followed_by}
-use Rattle.session_lines.specs.Cost.{asked_cost, cost_of_turn}
-use Rattle.session_lines.specs.Generator.{generator_turn}
-use Rattle.session_lines.specs.Lines.{is_change, line_turn, needs_machine, turn, turn_unless}
-use Rattle.session_lines.specs.Refusals.{generator_refusal, refusal_of}
+use Rattle.session_commands.specs.Cost.{asked_cost, cost_of_turn}
+use Rattle.session_commands.specs.Generator.{generator_turn}
+use Rattle.session_commands.specs.Lines.{is_change, line_turn, needs_machine, turn, turn_unless}
+use Rattle.session_commands.specs.Refusals.{generator_refusal, refusal_of}
 use Rattle.session_model.specs.Questions.{Told}
 use Rattle.arn_session.specs.Transcript.{asked_costs, history_behind, needs_any, total_cost, transcript, unless_cut_off}
 use Rattle.arn_session.proofs.PointLemmas.{behind-behind, behind-finished, committed-append}

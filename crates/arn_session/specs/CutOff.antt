@@ -14,7 +14,7 @@ use Rattle.session_effects.specs.declared.halt.Halt.{Halt}
 use Rattle.session_runs.specs.Points.{Advances, Stops}
 use Rattle.session_runs.specs.Turns.{finished}
 use Rattle.session_runs.specs.Standing.{Standpoint}
-use Rattle.session_lines.specs.Lines.{needs_machine}
+use Rattle.session_commands.specs.Lines.{needs_machine}
 use Rattle.session_model.specs.Questions.{Told}
 use Rattle.arn_session.specs.Transcript.{needs_any, total_cost, transcript}
 

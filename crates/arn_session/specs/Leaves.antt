@@ -18,7 +18,7 @@ use Rattle.session_effects.specs.Carrying.{CarriesOut, HoldsMore, IsAtRest, IsSh
 use Rattle.session_effects.specs.declared.halt.Halt.{Halt}
 use Rattle.session_effects.specs.declared.halt.Halt.TheVariants as halt
 use Rattle.session_effects.specs.declared.outside.Outside.{Outside}
-use Rattle.session_lines.specs.Answering.{IsNoRun}
+use Rattle.session_commands.specs.Answering.{IsNoRun}
 use Rattle.session_runs.specs.Points.{Surroundings, around}
 use Rattle.session_model.specs.Questions.{Told}
 use Rattle.arn_session.specs.Answered.{AnswersParts, AnswersTaken, TookAtMost, TookFewer}

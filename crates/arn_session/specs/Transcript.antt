@@ -7,8 +7,8 @@ use Rattle.guest_machine.specs.Differs.{rebuild_cost}
 use Rattle.guest_machine.specs.Legs.{Picked}
 use Rattle.session_effects.specs.Effects.{committed, printed}
 use Rattle.session_runs.specs.Turns.{Point, Turn, finished, followed_by}
-use Rattle.session_lines.specs.Cost.{asked_cost}
-use Rattle.session_lines.specs.Lines.{needs_machine, turn}
+use Rattle.session_commands.specs.Cost.{asked_cost}
+use Rattle.session_commands.specs.Lines.{needs_machine, turn}
 use Rattle.session_model.specs.Questions.{Told}
 
 -- the history behind a turn

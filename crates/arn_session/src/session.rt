@@ -19,7 +19,7 @@ ghost use Rattle.log_store.specs.declared.errors.OpenError.{OpenError};
 ghost use Rattle.log_store.specs.declared.size.TheConstants.{MOST_LOG};
 ghost use Rattle.session_effects.specs.Carrying.{CarriesOut, HoldsLog, HoldsMore, IsAtRest, IsShut, Keeps, RestsMore};
 ghost use Rattle.session_effects.specs.Standing.{IsOpen};
-ghost use Rattle.session_lines.specs.Answering.{IsNoRun};
+ghost use Rattle.session_commands.specs.Answering.{IsNoRun};
 ghost use Rattle.session_questions.specs.OfRuns.{AnswersAreOfRuns, GeneratedIsOfRuns, RunsAreUndamaged, SinksAreOfRuns, VerifyTellsRuns};
 ghost use Rattle.session_questions.specs.Texts.{told};
 ghost use Rattle.session_runs.specs.Points.{around};

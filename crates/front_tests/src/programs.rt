@@ -1,5 +1,5 @@
 use crate::same::assert_same;
-use gen_texts::{program, typed};
+use generator::{program, typed};
 use guest_asm::{AsmError, assemble};
 use rv64_isa::{BranchOp, ImmOp, Instr, LoadOp, Reg, RegOp, StoreOp, decode};
 use std::alloc::{AllocError, Global};

@@ -8,8 +8,8 @@ use Rattle.arn_model.specs.Doing.{Request}
 use Rattle.arn_model.specs.Kernel.{Machine}
 use Rattle.arn_model.specs.Row.{request}
 use Rattle.guest_bodies.specs.Shown.{seen_in}
-use Rattle.guest_args.specs.Calls.{ComesTo}
-use Rattle.guest_args.specs.Standing.{can_wait}
+use Rattle.guest_requests.specs.Calls.{ComesTo}
+use Rattle.guest_requests.specs.Standing.{can_wait}
 use Rattle.guest_calls.specs.Acted.{Carried}
 use Rattle.guest_calls.specs.State.{State, StandsFor, OfProcess}
 use Rattle.guest_calls.specs.declared.outcomes.Done.{Done}

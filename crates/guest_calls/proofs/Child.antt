@@ -12,7 +12,7 @@ use Rattle.guest_bodies.specs.Follows.{Follows, SetsWatch}
 use Rattle.guest_bodies.specs.Shown.{Guests, Shown, Watch, inherited, seen_in, watch_in}
 use Rattle.guest_resources.specs.Resources.{Resources, Changes, with_resources}
 use Rattle.guest_calls.specs.Forks.{HasChild, with_child}
-use Rattle.guest_args.specs.Tables.{handlings}
+use Rattle.guest_requests.specs.Tables.{handlings}
 use Rattle.guest_calls.specs.Kept.{IsFull, IsKept, IsPast, IsSound, state_of}
 use Rattle.guest_calls.specs.State.{OfProcess}
 use Rattle.guest_calls.specs.declared.kernel.Kernel.TheInside.{Inside}

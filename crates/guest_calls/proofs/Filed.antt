@@ -22,9 +22,9 @@ use Rattle.guest_resources.specs.Resources.{Resources, Changes, with_resources}
 use Rattle.guest_calls.specs.Acted.{Acted, Carried}
 use Rattle.guest_calls.specs.Kept.{state_of}
 use Rattle.guest_calls.specs.State.{State, OfProcess}
-use Rattle.guest_args.specs.Transfers.{reading_at, writing_at}
+use Rattle.guest_requests.specs.Transfers.{reading_at, writing_at}
 use Rattle.guest_calls.specs.declared.kernel.Kernel.TheInside.{Inside}
-use Rattle.guest_args.specs.declared.reading.Place.{Place}
+use Rattle.guest_requests.specs.declared.reading.Place.{Place}
 use Rattle.guest_calls.proofs.Carries.{acted-after}
 use Rattle.guest_calls.proofs.Stands.{machine_with, of_process, acted-stands, at-seen}
 use Rattle.guest_calls.proofs.Watches.{handlings-same}

@@ -15,7 +15,7 @@ use Rattle.arn_model.specs.Step.{without_signal}
 use Rattle.guest_bodies.specs.Follows.{Shows, Follows, KeepsWatches, Rewatches, SetsWatch}
 use Rattle.guest_bodies.specs.Shown.{Guests, Shown, Watch, seen_in, signals_in, signals_of, watch_in}
 use Rattle.guest_calls.specs.Acted.{Acted}
-use Rattle.guest_args.specs.Tables.{handlings}
+use Rattle.guest_requests.specs.Tables.{handlings}
 use Rattle.guest_calls.specs.Kept.{IsFull, IsKept, IsPast, IsSound, state_of}
 use Rattle.guest_calls.specs.State.{State}
 use Rattle.guest_calls.specs.declared.kernel.Kernel.TheInside.{Inside}

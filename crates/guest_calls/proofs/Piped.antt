@@ -25,7 +25,7 @@ use Rattle.guest_pipes.specs.Answers.{holds}
 use Rattle.guest_calls.specs.Acted.{Acted, Carried}
 use Rattle.guest_calls.specs.Kept.{state_of}
 use Rattle.guest_calls.specs.State.{State, OfProcess}
-use Rattle.guest_args.specs.Transfers.{CanDrain, CanPour, draining, pouring}
+use Rattle.guest_requests.specs.Transfers.{CanDrain, CanPour, draining, pouring}
 use Rattle.guest_calls.specs.declared.kernel.Kernel.TheInside.{Inside}
 use Rattle.guest_calls.proofs.Carries.{acted-after}
 use Rattle.guest_calls.proofs.Stands.{machine_with, of_process, acted-stands}

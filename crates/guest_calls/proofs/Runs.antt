@@ -18,7 +18,7 @@ use Rattle.arn_model.specs.Step.{due_in, due_signal, handler, waits, delivering,
 use Rattle.guest_bodies.specs.Follows.{Shows, KeepsWatches, Ran}
 use Rattle.guest_bodies.specs.Shown.{Guests, Shown, seen_in, signals_in, signals_of, watch_in}
 use Rattle.guest_calls.specs.Acted.{Acted}
-use Rattle.guest_args.specs.Tables.{handling}
+use Rattle.guest_requests.specs.Tables.{handling}
 use Rattle.guest_calls.specs.Kept.{IsKept, state_of}
 use Rattle.guest_calls.specs.State.{State, OfProcess}
 use Rattle.guest_calls.specs.Steps.{DeliveredBy, Stepped}

@@ -7,7 +7,7 @@ use Rattle.arn_model.specs.Kernel.{Machine}
 use Rattle.arn_model.specs.Step.{after_act}
 use Rattle.guest_bodies.specs.Follows.{Shows}
 use Rattle.guest_bodies.specs.Shown.{seen_in}
-use Rattle.guest_args.specs.Tables.{OfTables, Tables}
+use Rattle.guest_requests.specs.Tables.{OfTables, Tables}
 use Rattle.guest_calls.specs.Acted.{Acted}
 use Rattle.guest_calls.specs.State.{State, StandsFor, OfProcess, Becomes}
 use Rattle.guest_calls.specs.Tables.{tables_in}

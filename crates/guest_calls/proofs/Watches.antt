@@ -4,7 +4,7 @@ use Rattle.parts_model.specs.Numbered.{nth, nth_from_one, with_nth_from_one}
 use Rattle.arn_model.specs.Kernel.{Handling, child_handling}
 use Rattle.guest_bodies.specs.Follows.{KeepsWatches, Rewatches, SetsWatch}
 use Rattle.guest_bodies.specs.Shown.{Guests, Shown, Watch, inherited, watch_in}
-use Rattle.guest_args.specs.Tables.{handling, handlings, handlings_from}
+use Rattle.guest_requests.specs.Tables.{handling, handlings, handlings_from}
 
 abbrev handling_in : Guests → ℕ → Option Handling
 handling_in guests p = option_map handling (watch_in guests p)

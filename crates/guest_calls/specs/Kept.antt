@@ -9,7 +9,7 @@ use Rattle.arn_model.specs.Kernel.{Opened}
 use Rattle.guest_bodies.specs.Follows.{Shows}
 use Rattle.guest_bodies.specs.Fresh.{IsUnheld}
 use Rattle.guest_bodies.specs.Shown.{Guests}
-use Rattle.guest_args.specs.Tables.{tables_of}
+use Rattle.guest_requests.specs.Tables.{tables_of}
 use Rattle.guest_calls.specs.State.{State}
 use Rattle.guest_calls.specs.declared.kernel.Kernel.TheInside.{Inside}
 

@@ -1,5 +1,5 @@
 -- The tables of a state, to be read.
-use Rattle.guest_args.specs.Tables.{Tables}
+use Rattle.guest_requests.specs.Tables.{Tables}
 use Rattle.guest_calls.specs.State.{State}
 
 abbrev pub tables_in : State → Tables

@@ -8,9 +8,9 @@ ghost use Rattle.guest_calls.specs.Starts.{Begins, BootedFrom, HasNoImage, first
 use crate::kernel::Kernel;
 use crate::outcomes::BootError;
 use arn_base::{Give, NoMemory};
-use guest_args::is_image;
 use guest_bodies::others_stay_unheld;
 use guest_procs::{ProcError, Procs};
+use guest_requests::is_image;
 use guest_resources::Descriptions;
 use std::alloc::Global;
 

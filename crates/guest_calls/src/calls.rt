@@ -4,7 +4,7 @@ ghost use Rattle.acts_model.specs.Views.{call_number, stands_at};
 ghost use Rattle.rv64_model.specs.Instruction.{Call};
 ghost use Rattle.arn_model.specs.Row.{is_waiting, request};
 ghost use Rattle.guest_bodies.specs.Shown.{IsLive, seen_in};
-ghost use Rattle.guest_args.specs.Standing.{can_wait};
+ghost use Rattle.guest_requests.specs.Standing.{can_wait};
 ghost use Rattle.guest_calls.specs.Acted.{Carried};
 ghost use Rattle.guest_calls.specs.Fits.{IsShort};
 ghost use Rattle.guest_calls.specs.State.{IsNext, OfProcess};
@@ -13,8 +13,8 @@ ghost use Rattle.guest_calls.specs.Steps.{Performed};
 use crate::kernel::Kernel;
 use crate::outcomes::{CallStop, Done};
 use arn_base::NoMemory;
-use guest_args::{calls_come_to_rows, error, others_are_ready};
 use guest_devices::Answers;
+use guest_requests::{calls_come_to_rows, error, others_are_ready};
 use parts_model::calls::{
     ACCEPT, CLOSE, CONNECT, DUP, EXEC, EXIT, FORK, GETPID, LISTEN, OPEN, PIPE, READ, SEEK, UNLINK,
     WAIT, WRITE, YIELD,

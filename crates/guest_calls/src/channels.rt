@@ -16,7 +16,7 @@ ghost use Rattle.guest_calls.specs.State.{OfProcess};
 use crate::kernel::Kernel;
 use crate::outcomes::{CallStop, Done};
 use arn_base::{Extra, NoMemory};
-use guest_args::{Accepting, error};
+use guest_requests::{Accepting, error};
 use parts_model::limits::GREATEST_PORT;
 use parts_model::refusals::{
     BAD_ARGUMENT, CONNECTION_REFUSED, NO_DESCRIPTOR_ROOM, NO_ROOM, PORT_IN_USE,

@@ -11,7 +11,7 @@ ghost use Rattle.guest_calls.specs.State.{OfProcess};
 use crate::kernel::Kernel;
 use crate::outcomes::Done;
 use arn_base::{Extra, NoMemory};
-use guest_args::error;
+use guest_requests::error;
 use parts_model::limits::MOST_DESCRIPTORS;
 use parts_model::refusals::{BAD_DESCRIPTOR, NO_DESCRIPTOR_ROOM};
 

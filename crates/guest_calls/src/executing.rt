@@ -16,8 +16,8 @@ ghost use Rattle.guest_calls.specs.State.{OfProcess};
 use crate::kernel::Kernel;
 use crate::outcomes::Done;
 use arn_base::{Extra, NoMemory};
-use guest_args::{error, is_image, lacks_block, path, path_refusal};
 use guest_bodies::others_stay_unheld;
+use guest_requests::{error, is_image, lacks_block, path, path_refusal};
 use parts_model::limits::MOST_BLOCK_BYTES;
 use parts_model::refusals::{BAD_ADDRESS, NO_FILE, NOT_IMAGE};
 

@@ -15,8 +15,8 @@ ghost use Rattle.guest_calls.specs.State.{OfProcess};
 use crate::kernel::Kernel;
 use crate::outcomes::Done;
 use arn_base::{Bytes, Extra, NoMemory};
-use guest_args::{error, path, path_refusal};
 use guest_files::FileError;
+use guest_requests::{error, path, path_refusal};
 use guest_resources::OpenFile;
 use parts_model::Description;
 use parts_model::refusals::{

@@ -14,8 +14,8 @@ ghost use Rattle.guest_calls.specs.State.{OfProcess};
 use crate::kernel::Kernel;
 use crate::outcomes::Done;
 use arn_base::{Extra, NoMemory};
-use guest_args::error;
 use guest_bodies::{Bodies, others_stay_unheld};
+use guest_requests::error;
 use parts_model::refusals::NO_PROCESS_ROOM;
 
 // A process makes a child: in its own group where it holds a segment, else one that starts a group.

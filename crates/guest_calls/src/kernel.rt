@@ -9,11 +9,11 @@ ghost use Rattle.guest_calls.specs.State.{Becomes, IsNext, state_first};
 ghost use Rattle.guest_calls.specs.Tables.{tables_in};
 
 use arn_base::NoMemory;
-use guest_args::Tables;
 use guest_bodies::Bodies;
 use guest_channels::Channels;
 use guest_files::FileError;
 use guest_procs::Procs;
+use guest_requests::Tables;
 use guest_resources::{Console, Resources};
 use std::alloc::Global;
 use std::marker::Model;

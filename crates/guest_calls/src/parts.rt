@@ -14,8 +14,8 @@ ghost use Rattle.guest_calls.specs.State.{OfProcess};
 use crate::kernel::Kernel;
 use crate::outcomes::Done;
 use arn_base::Extra;
-use guest_args::{argument, call_number};
 use guest_bodies::others_stay_unheld;
+use guest_requests::{argument, call_number};
 
 impl Kernel {
     /// The number of the call at which a process stands.

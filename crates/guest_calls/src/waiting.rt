@@ -5,7 +5,7 @@ ghost use Rattle.arn_model.specs.ProcessCalls.{wait_row};
 ghost use Rattle.arn_model.specs.Row.{is_waiting};
 ghost use Rattle.guest_bodies.specs.Shown.{IsLive};
 ghost use Rattle.guest_procs.specs.Answers.{lowest_ended};
-ghost use Rattle.guest_args.specs.Waits.{collecting};
+ghost use Rattle.guest_requests.specs.Waits.{collecting};
 ghost use Rattle.guest_calls.specs.Acted.{Carried};
 ghost use Rattle.guest_calls.specs.Fits.{IsShort};
 ghost use Rattle.guest_calls.specs.State.{OfProcess};
@@ -13,9 +13,9 @@ ghost use Rattle.guest_calls.specs.State.{OfProcess};
 use crate::kernel::Kernel;
 use crate::outcomes::{CallStop, Done};
 use arn_base::{Extra, NoMemory};
-use guest_args::{Waiting, status_of};
 use guest_give::give_of;
 use guest_procs::Ended;
+use guest_requests::{Waiting, status_of};
 
 impl Kernel {
     /// The call `wait(address)`.

@@ -8,7 +8,7 @@ use Rattle.arn_lines.specs.declared.line.Aspect.TheVariants as aspect
 use Rattle.arn_lines.specs.declared.line.Question.TheVariants as question
 use Rattle.arn_lines.specs.declared.line.Sought.TheVariants as sought
 use Rattle.arn_lines.specs.Texts.{damaged_text}
-use Rattle.gen_texts.specs.Sums.{gen_text}
+use Rattle.generator.specs.Sums.{gen_text}
 use Rattle.parts_model.specs.declared.calls.TheConstants.{WRITE}
 use Rattle.rv64_model.specs.declared.linkage.Linkage.TheVariants.{Copy, Data}
 use Rattle.session_questions.specs.Generated.{generated_cost, generated_text, writes}

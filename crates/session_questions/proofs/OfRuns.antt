@@ -44,7 +44,7 @@ use Rattle.query_model.specs.States.{process_groups}
 use Rattle.query_model.specs.declared.held.Held.{Held}
 use Rattle.query_model.specs.declared.held.Part.{Part}
 use Rattle.query_model.specs.declared.held.Part.TheVariants as part
-use Rattle.gen_texts.specs.Sums.{gen_text, written}
+use Rattle.generator.specs.Sums.{gen_text, written}
 use Rattle.session_questions.specs.Asked.{unless_damaged, unless_refused}
 use Rattle.session_questions.specs.Generated.{Write, generated_text, pairs_of, unless_one_refused, writes}
 use Rattle.session_questions.specs.OfRuns.{living, run_back_text, run_bytes_text, run_forth_text, run_generated_text, run_held_text, run_named_text, run_pairs, run_pairs_of, run_show_text, run_sources_text, run_text, unless_one_long}

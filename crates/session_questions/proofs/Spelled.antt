@@ -14,7 +14,7 @@ use Rattle.acts_model.specs.Records.{event_len, held_len, is_nothing, plain_len}
 use Rattle.result_log.specs.Spelling.{counted, extra_fields, field, give_fields, named, origins_fields, spelling}
 use Rattle.schedule_log.specs.Fields.{flag_field}
 use Rattle.history_index.specs.Indexes.{AreCountable}
-use Rattle.gen_texts.specs.Sums.{to_console, written, written_by}
+use Rattle.generator.specs.Sums.{to_console, written, written_by}
 use Rattle.log_store.specs.Log.{spellings}
 use Rattle.log_store.specs.declared.size.TheConstants.{MOST_LOG}
 

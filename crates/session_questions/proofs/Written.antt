@@ -5,7 +5,7 @@ use Rattle.std.proofs.lemmas.List.{drop_more}
 use Rattle.std.proofs.lemmas.List.Sums.{sum_by-append}
 use Rattle.acts_model.specs.Records.{is_event}
 use Rattle.arn_base.specs.declared.records.Record.{Record}
-use Rattle.gen_texts.specs.Sums.{written_by}
+use Rattle.generator.specs.Sums.{written_by}
 use Rattle.replay_steps.specs.declared.errors.QueryError.{QueryError}
 use Rattle.session_questions.specs.Asked.{event_cost, unless_refused}
 use Rattle.session_questions.specs.Counting.{AreAnswered, IsRefused}

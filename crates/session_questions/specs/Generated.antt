@@ -5,7 +5,7 @@ use Rattle.arn_base.specs.declared.records.Record.{Record}
 use Rattle.rv64_model.specs.Carries.{operands}
 use Rattle.rv64_model.specs.declared.linkage.Linkage.TheVariants.{Data}
 use Rattle.acts_model.specs.Records.{is_event}
-use Rattle.gen_texts.specs.Sums.{gen_text, written, written_by}
+use Rattle.generator.specs.Sums.{gen_text, written, written_by}
 use Rattle.query_model.specs.Answers.{event_pairs}
 use Rattle.session_questions.specs.Asked.{event_cost, unless_refused}
 

@@ -17,7 +17,7 @@ use Rattle.arn_lines.specs.declared.line.Sought.TheVariants as sought
 use Rattle.arn_lines.specs.Texts.{refusal_text}
 use Rattle.arn_model.specs.Run.{Input, state_at}
 use Rattle.arn_model.specs.Tells.{lives}
-use Rattle.gen_texts.specs.Sums.{gen_text, written}
+use Rattle.generator.specs.Sums.{gen_text, written}
 use Rattle.history_index.specs.Lookups.{processes_in}
 use Rattle.history_model.specs.Events.{event_at, is_range}
 use Rattle.lineage_model.specs.Flow.{Byte}

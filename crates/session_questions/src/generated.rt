@@ -1,7 +1,7 @@
 // What the generator did.
 ghost use Rattle.std.specs.Prelude.{◌≡◌, ◌+◌, ◌≤◌, ◌++◌, IfErr, IfOk, OnOk, length, string_bytes};
 ghost use Rattle.acts_model.specs.Records as records;
-ghost use Rattle.gen_texts.specs.Sums.{written_by};
+ghost use Rattle.generator.specs.Sums.{written_by};
 ghost use Rattle.history_index.specs.Indexes.{Indexes, AreCountable};
 ghost use Rattle.log_store.specs.Log.{spellings};
 ghost use Rattle.log_store.specs.declared.size.TheConstants.{MOST_LOG};
@@ -12,7 +12,7 @@ use crate::Asking;
 use crate::short::short_logs_are_countable;
 use crate::sources::target;
 use arn_base::{NoMemory, Record, Steps};
-use gen_texts::{push_gen, written_by, written_sum};
+use generator::{push_gen, written_by, written_sum};
 use query_engine::QueryError;
 use rv64_model::Linkage;
 use session_reports::push_error;

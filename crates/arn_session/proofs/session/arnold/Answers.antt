@@ -11,7 +11,7 @@ use Rattle.log_store.specs.declared.size.TheConstants.{MOST_LOG}
 use Rattle.session_effects.specs.Carrying.{IsAtRest}
 use Rattle.session_effects.specs.declared.halt.Halt.{Halt}
 use Rattle.session_effects.specs.declared.halt.Halt.TheVariants as halt
-use Rattle.session_lines.specs.Answering.{IsNoRun}
+use Rattle.session_commands.specs.Answering.{IsNoRun}
 use Rattle.session_questions.specs.Texts.{told}
 use Rattle.arn_session.specs.Status.{status_of}
 use Rattle.arn_session.specs.declared.status.Status.TheVariants as status

@@ -4,7 +4,7 @@ use Rattle.arn_base.specs.Faults.{NeverFalls}
 use Rattle.arn_commands.specs.declared.reader.TheConstants.{MOST_TAKEN}
 use Rattle.session_effects.specs.Outside.{GoesOnOutside}
 use Rattle.session_effects.specs.Standing.{IsOpen}
-use Rattle.session_lines.specs.Kept.{IsSound}
+use Rattle.session_commands.specs.Kept.{IsSound}
 use Rattle.session_runs.specs.Standing.{standing}
 use Rattle.arn_session.proofs.Progress.{Progress}
 use Rattle.arn_session.proofs.text.session.Given as goal

@@ -5,7 +5,7 @@ use Rattle.arn_model.specs.Doing.{Request}
 use Rattle.arn_model.specs.Row.{is_waiting}
 use Rattle.arn_model.specs.TransferCalls.{read_row, write_row}
 use Rattle.guest_calls.specs.declared.outcomes.CallStop.TheVariants as stop
-use Rattle.guest_args.specs.Standing.{can_wait}
+use Rattle.guest_requests.specs.Standing.{can_wait}
 use Rattle.guest_calls.proofs.Called.{called, carried-calls, ready-number}
 use Rattle.arn_model.specs.ProcessCalls.{wait_row}
 use Rattle.guest_calls.proofs.Requests.{ended-ready, errs-otherwise}

@@ -8,7 +8,7 @@ use Rattle.guest_channels.specs.Channels.{Channels}
 use Rattle.guest_calls.specs.Acted.{Carried}
 use Rattle.guest_calls.specs.Kept.{state_of}
 use Rattle.guest_calls.specs.State.{State, OfProcess}
-use Rattle.guest_args.specs.Transfers.{CanDrain, draining}
+use Rattle.guest_requests.specs.Transfers.{CanDrain, draining}
 use Rattle.guest_calls.proofs.Carries.{carried-same}
 use Rattle.guest_calls.proofs.Past.{past-acted}
 use Rattle.guest_calls.proofs.Pieces.{body-sound}

@@ -11,7 +11,7 @@ use Rattle.guest_pipes.specs.Answers.{holds}
 use Rattle.guest_calls.specs.Acted.{Carried}
 use Rattle.guest_calls.specs.Kept.{state_of}
 use Rattle.guest_calls.specs.State.{State, OfProcess}
-use Rattle.guest_args.specs.Transfers.{CanPour, pouring}
+use Rattle.guest_requests.specs.Transfers.{CanPour, pouring}
 use Rattle.guest_calls.proofs.Carries.{carried-same}
 use Rattle.guest_calls.proofs.Piped.{poured-carried, pouring-first}
 use Rattle.guest_calls.proofs.Stands.{at-seen, machine_with}

@@ -8,7 +8,7 @@ use Rattle.guest_bodies.specs.Shown.{seen_in}
 use Rattle.guest_resources.specs.Resources.{Changes}
 use Rattle.guest_calls.specs.Kept.{state_of}
 use Rattle.guest_calls.specs.State.{State}
-use Rattle.guest_args.specs.Transfers.{writing_at}
+use Rattle.guest_requests.specs.Transfers.{writing_at}
 use Rattle.guest_calls.proofs.Carries.{carried-same}
 use Rattle.guest_calls.proofs.Filed.{full-write, put-carried, put_at}
 use Rattle.guest_calls.proofs.Stands.{machine_with}

@@ -3,7 +3,7 @@ use Rattle.parts_model.specs.declared.open.Description.{Description}
 use Rattle.parts_model.specs.declared.open.Description.TheVariants.{File}
 use Rattle.arn_model.specs.FileCalls.{seek_in, seek_what}
 use Rattle.arn_model.specs.Kernel.{what_is}
-use Rattle.guest_args.specs.Tables.{Tables}
+use Rattle.guest_requests.specs.Tables.{Tables}
 use Rattle.guest_calls.proofs.Carries.{carried-same}
 use Rattle.guest_calls.proofs.Stands.{machine_with}
 use Rattle.guest_calls.proofs.kernel.Kernel.seek_description.Goals as goal

@@ -13,7 +13,7 @@ use Rattle.guest_bodies.specs.Follows.{Follows}
 use Rattle.guest_calls.specs.Acted.{Acted, Carried}
 use Rattle.guest_calls.specs.Kept.{state_of}
 use Rattle.guest_calls.specs.State.{State}
-use Rattle.guest_args.specs.Transfers.{taking}
+use Rattle.guest_requests.specs.Transfers.{taking}
 use Rattle.guest_calls.proofs.Pieces.{taken-acted}
 use Rattle.guest_calls.proofs.Stands.{of_process, acted-stands}
 use Rattle.guest_calls.proofs.Past.{past-acted}

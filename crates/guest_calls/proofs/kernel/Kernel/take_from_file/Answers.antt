@@ -5,7 +5,7 @@ use Rattle.guest_bodies.specs.Follows.{Follows}
 use Rattle.guest_calls.specs.Acted.{Carried}
 use Rattle.guest_calls.specs.Kept.{state_of}
 use Rattle.guest_calls.specs.State.{State, OfProcess}
-use Rattle.guest_args.specs.Transfers.{reading_at}
+use Rattle.guest_requests.specs.Transfers.{reading_at}
 use Rattle.guest_calls.proofs.Filed.{filed-carried}
 use Rattle.parts_model.specs.Numbered.{nth}
 use Rattle.guest_calls.proofs.Past.{past-acted}

@@ -1,5 +1,5 @@
 use Rattle.std.proofs.Common.{◌∙◌, ℕ, ◌+◌, drop, ap, arith, refl, sym}
-use Rattle.gen_texts.specs.Sums.{written_by}
+use Rattle.generator.specs.Sums.{written_by}
 use Rattle.session_questions.specs.Counting.{IsRefused}
 use Rattle.session_questions.specs.Generated.{writes_cost, write_of, writes, writes_from}
 use Rattle.session_questions.proofs.Written.{cost-goes-on, err-same, goes-on, goes-on-as-it-is, next-event, next-slice, stops}

@@ -1,5 +1,0 @@
-use Rattle.guest_args.proofs.Rows.{come-to-rows}
-use Rattle.guest_args.proofs.law.calls_come_to_rows.Goals as goal
-
-pub returns : goal.returns
-returns c = come-to-rows

@@ -1,0 +1,125 @@
+-- Literal examples of what commands do, and why lines are refused.
+use Rattle.std.proofs.Common.{◌≡◌, ℕ, [], ◌∷◌, List, Option, None, Some, Bool, false, true, refl, arith}
+use Rattle.arn_base.specs.declared.boxes.Choice.{Choice}
+use Rattle.arn_base.specs.declared.records.Record.{Record}
+use Rattle.arn_base.specs.declared.records.Record.TheVariants as entry
+use Rattle.log_store.specs.Stores.{StoreState}
+use Rattle.arn_lines.specs.declared.answer.Refusal.TheVariants.{NoBoot, NoBooted, NoAsm, NoName, NoImage, NoLong}
+use Rattle.arn_lines.specs.declared.line.Line.TheVariants as line
+use Rattle.arn_lines.specs.declared.line.Question.{Question}
+use Rattle.arn_lines.specs.Texts.{refusal_text}
+use Rattle.arn_commands.specs.declared.command.Command.TheVariants.{PassedOver, TooLong, Says, Generates}
+use Rattle.session_effects.specs.Effects.{Prints}
+use Rattle.session_effects.specs.declared.halt.Halt.TheVariants as halt
+use Rattle.session_runs.specs.Points.{around}
+use Rattle.session_commands.specs.Answering.{IsNotBegun}
+use Rattle.session_runs.specs.Standing.{Standpoint, standpoint}
+use Rattle.session_commands.specs.Generator.{gen_name}
+use Rattle.session_commands.specs.Lines.{needs_machine, turn}
+use Rattle.session_commands.specs.Refusals.{fault_refusal, generator_refusal, refusal_of}
+use Rattle.session_model.specs.Questions.{Told}
+
+-- a history that brought a file `a` of one byte, and one that booted behind it
+a_file : List Record
+a_file = entry.File (97 ∷ []) (1 ∷ []) ∷ []
+
+a_boot : List Record
+a_boot = entry.File (97 ∷ []) (1 ∷ []) ∷ entry.Boot (97 ∷ []) (record { bytes = []; origins = [] }) ∷ []
+
+-- nothing runs before a boot, and nothing is typed
+runs_early : refusal_of [] (line.Run 5) ≡ Some NoBoot
+runs_early = refl
+
+types_early : refusal_of [] (line.Type (104 ∷ [])) ≡ Some NoBoot
+types_early = refl
+
+-- behind it nothing is brought, and nothing boots again
+brings_late : refusal_of a_boot (line.File (98 ∷ []) []) ≡ Some NoBooted
+unfolding a_boot
+brings_late = refl
+
+boots_again : refusal_of a_boot (line.Boot (97 ∷ [])) ≡ Some NoBooted
+unfolding a_boot
+boots_again = refl
+
+-- a name is brought once; one that wasn't can't be booted from, and neither can one byte
+brings_twice : refusal_of a_file (line.File (97 ∷ []) []) ≡ Some NoName
+unfolding a_file
+brings_twice = refl
+
+brings_another : refusal_of a_file (line.File (98 ∷ []) []) ≡ None
+unfolding a_file
+brings_another = refl
+
+boots_nothing : refusal_of a_file (line.Boot (98 ∷ [])) ≡ Some NoName
+unfolding a_file
+boots_nothing = refl
+
+boots_a_byte : refusal_of a_file (line.Boot (97 ∷ [])) ≡ Some NoImage
+unfolding a_file
+boots_a_byte = refl
+
+-- a question isn't refused
+asks : (q : Question) → refusal_of [] (line.Asks q) ≡ None
+asks q = refl
+
+-- a faulty program is told before a boot alone
+faulty_early : fault_refusal [] 7 ≡ NoAsm 7
+faulty_early = refl
+
+faulty_late : fault_refusal a_boot 7 ≡ NoBooted
+unfolding a_boot
+faulty_late = refl
+
+-- the generator's file is brought before a boot, once
+generates_late : generator_refusal a_boot ≡ Some NoBooted
+unfolding a_boot
+generates_late = refl
+
+generates_twice : generator_refusal (entry.File gen_name [] ∷ []) ≡ Some NoName
+generates_twice = refl
+
+generates_late_why : (told : Told) → (turn told a_boot (Generates [] [] 1) []).effects ≡ Prints (refusal_text NoBooted) ∷ []
+unfolding a_boot
+generates_late_why told = refl
+
+generates_by_machine : needs_machine a_file (Generates [] [] 1) ≡ true
+unfolding a_file
+generates_by_machine = refl
+
+-- a refused line prints why, commits nothing and needs no machine
+prints_why : (told : Told) → (turn told [] (Says (line.Run 5)) []).effects ≡ Prints (refusal_text NoBoot) ∷ []
+prints_why told = refl
+
+needs_none : needs_machine [] (Says (line.Run 5)) ≡ false
+needs_none = refl
+
+needs_one : needs_machine a_boot (Says (line.Run 5)) ≡ true
+unfolding a_boot
+needs_one = refl
+
+-- an empty line does nothing, and one that is too long is refused
+passes_over : (told : Told) → (turn told a_file PassedOver []).effects ≡ []
+passes_over told = refl
+
+too_long : (told : Told) → (turn told [] TooLong []).effects ≡ Prints (refusal_text NoLong) ∷ []
+too_long told = refl
+
+-- a question's answer is printed, and takes no slice
+answers : (told : Told) (q : Question) → (turn told [] (Says (line.Asks q)) []).effects ≡ Prints (told.text [] q) ∷ []
+answers told q = refl
+
+-- no machine was made where memory ran out and nothing was done
+not_begun : {D A : Type 0} (at : Standpoint D A) → IsNotBegun halt.NoMemory true at at
+not_begun at = record {
+  not_made = tt;
+  untouched = record { disk = refl; store = refl; held = refl; choices = λ k. refl; answers = refl };
+  executed = omega arith;
+}
+
+-- a sink keeps none from being made, and where it is there nothing is run for it
+begun_by_sink : {D A : Type 0} (is_there : Bool) (old new : Standpoint D A) → IsNotBegun halt.Sink is_there old new → ⊥
+begun_by_sink is_there old new p = p.not_made
+
+begun_by_steps : {D A : Type 0} (disk : D) (store : StoreState) (choices : ℕ → Option Choice) (answers : A) → IsNotBegun halt.NoMemory true (standpoint disk store None (around choices answers 5)) (standpoint disk store None (around choices answers 6)) → ⊥
+begun_by_steps disk store choices answers p = omega (arith, p.executed)

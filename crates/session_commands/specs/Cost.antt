@@ -1,0 +1,43 @@
+-- A bound on the instructions that are executed to answer a command, beside those of the slices that it takes.
+use Rattle.std.specs.Prelude.{ℕ, ◌+◌, ◌++◌, Bool, if◌then◌else◌, List, is_none}
+use Rattle.arn_base.specs.declared.records.Record.{Record}
+use Rattle.guest_machine.specs.Differs.{rebuild_cost}
+use Rattle.arn_lines.specs.declared.line.Line.{Line}
+use Rattle.arn_lines.specs.declared.line.Line.TheVariants as line
+use Rattle.arn_commands.specs.declared.command.Command.{Command}
+use Rattle.arn_commands.specs.declared.command.Command.TheVariants.{PassedOver, TooLong, Unreadable, Says, Faulty, Generates}
+use Rattle.session_effects.specs.Effects.{committed}
+use Rattle.session_runs.specs.Turns.{Turn}
+use Rattle.session_commands.specs.Lines.{needs_machine}
+use Rattle.session_commands.specs.Refusals.{generator_refusal}
+use Rattle.session_model.specs.Questions.{Told}
+
+-- a question costs what is told of it
+abbrev pub line_cost : Told → List Record → Line → ℕ
+line_cost told history (line.File name bytes) = 0
+line_cost told history (line.Boot name) = 0
+line_cost told history (line.Type bytes) = 0
+line_cost told history (line.Run count) = 0
+line_cost told history (line.Asks question) = told.cost history question
+
+-- what a command costs beside what it needs the machine for, by the history before and behind it
+abbrev pub asked_cost : Told → List Record → List Record → Command → ℕ
+asked_cost told history behind PassedOver = 0
+asked_cost told history behind TooLong = 0
+asked_cost told history behind Unreadable = 0
+asked_cost told history behind (Says l) = line_cost told history l
+asked_cost told history behind (Faulty at) = 0
+asked_cost told history behind (Generates image typed processes) = if is_none (generator_refusal history) then told.generated_cost behind else 0
+
+-- where the machine isn't there yet, it is made by running the history again
+abbrev pub machine_cost : Bool → List Record → ℕ
+machine_cost is_there history = if is_there then 0 else rebuild_cost history
+
+-- a command, where the machine is there or isn't yet
+abbrev pub cost : Told → Bool → List Record → List Record → Command → ℕ
+cost told is_there history behind command =
+    (if needs_machine history command then machine_cost is_there history else 0) + asked_cost told history behind command
+
+-- the same of what it does by the slices to come
+abbrev pub cost_of_turn : Told → Bool → List Record → Command → Turn → ℕ
+cost_of_turn told is_there history command t = cost told is_there history (history ++ committed t.effects) command
