@@ -1,19 +1,24 @@
 -- Windows keep their lengths, whatever an instruction or an act does.
-use Rattle.std.proofs.Common.{◌≡◌, ℕ, suc, ◌+◌, ◌-◌, ◌*◌, ◌≤◌, List, [], ◌∷◌, ◌++◌, length, take, drop, replicate, ◌∙◌, Option, Some, None, IfSome, All, unwrap_or, Bool, true, false, ◌&&◌, if◌then◌else◌, arith, nat_le, nat_lt, length-take, length-drop, length-append, length-take-le}
-use Rattle.std.proofs.lemmas.Bool.Decides.{nat_tests}
+use Rattle.std.proofs.Common.{◌≡◌, ℕ, suc, ◌+◌, ◌-◌, ◌*◌, ◌≤◌, List, [], ◌∷◌, ◌++◌, length, take, drop, replicate, refl, ◌∙◌, subst, Option, Some, None, IfSome, All, unwrap_or, Bool, true, false, ◌==◌, ◌&&◌, ◌%◌, if◌then◌else◌, arith, nat_le, nat_lt, is_some, option_map, length-take, length-drop, length-append, length-take-le}
+use Rattle.std.specs.Prelude.{bytes_eq}
 use Rattle.std.proofs.lemmas.Bool.{and_parts, or_parts, leb-true, ltb-false}
 use Rattle.std.proofs.lemmas.List.{length-replicate}
 use Rattle.arn_base.specs.Disk.{overwrite}
 use Rattle.arn_base.specs.declared.machine.Block.{Block}
 use Rattle.arn_base.specs.declared.machine.Cpu.{Cpu}
-use Rattle.arn_base.specs.Window.{Window, is_whole_in, window_bytes, window_with, bytes_at, with_bytes}
+use Rattle.arn_base.specs.Window.{Window, is_whole_in, window_bytes, window_with, bytes_at, with_bytes, bytes_of, number_at}
 use Rattle.rv64_isa.specs.declared.instruction.Instr.{Instr}
+use Rattle.rv64_isa.specs.declared.instruction.Instr.TheVariants.{Lui, Auipc, Jal, Jalr, Branch, Load, Store, Imm, Op, Fence, Ecall, Ebreak}
 use Rattle.rv64_isa.specs.Decoded.{decoded}
-use Rattle.rv64_model.specs.Instruction.{Effect, Next, Call, End, jumps, branches, loads, stores, executed, executed_if, fetched}
+use Rattle.rv64_model.specs.Instruction.{Effect, Next, Call, End, jumps, jumped, branches, loads, stores, executed, executed_if, fetched, advanced}
+use Rattle.rv64_model.specs.Operands.{address}
+use Rattle.rv64_model.specs.Registers.{register}
+use Rattle.rv64_model.specs.Values.{immediate, sum, is_taken, load_len, load_result}
+use Rattle.rv64_model.specs.declared.statuses.TheConstants.{MISALIGNED, BAD_ACCESS}
 use Rattle.parts_model.specs.declared.limits.TheConstants.{WINDOW_START, WINDOW_END, WINDOW_LEN, SEGMENT_LEN, BLOCK_LEN, MOST_BLOCK_BYTES}
 use Rattle.parts_model.specs.Blocks.{with_blocks}
-use Rattle.parts_model.specs.Image.{Image, fits_window, is_image, read_as_image}
-use Rattle.parts_model.specs.Memory.{zeros}
+use Rattle.parts_model.specs.Image.{Image, image_name, header_len, can_enter, fits_window, is_image, read_as_image}
+use Rattle.parts_model.specs.Memory.{windows, zeros}
 use Rattle.acts_model.specs.Acts.{Act, Returns, Receives, Gives, Starts, Forks, Founds, Shares, Leaves, Delivers, Exits, Faults, Dies, acted, restored}
 use Rattle.acts_model.specs.Bodies.{View}
 use Rattle.acts_model.specs.Disagreement.{is_outside, isnt_block}
@@ -39,20 +44,42 @@ overwritten-len old at bytes l =
     omega arith
 
 whole-len : (w : Window) (at : ℕ) (bytes : List ℕ) → is_whole_in w at (length bytes) ≡ true → length (window_with w at bytes).bytes ≡ length w.bytes
-whole-len w at bytes h1 = grind (arith, nat_tests, and_parts, leb-true, overwritten-len)
+whole-len w at bytes t =
+    let parts = and_parts (nat_le w.from at) (nat_le (at + length bytes) (w.from + length w.bytes)) t in
+    let x = leb-true w.from at parts.0 in
+    let y = leb-true (at + length bytes) (w.from + length w.bytes) parts.1 in
+    overwritten-len w.bytes (at - w.from) bytes (omega arith)
 
 with-sizes : (ws : List Window) (at : ℕ) (bytes : List ℕ) → Sizes ws → Sizes (with_bytes ws at bytes)
-with-sizes ws at bytes h1 = grind (arith, nat_tests, whole-len)
+with-sizes [] at bytes h = tt
+with-sizes (w ∷ []) at bytes h = by_test (is_whole_in w at (length bytes)) refl
+  where
+    by_test : (b : Bool) → is_whole_in w at (length bytes) ≡ b → Sizes (if b then window_with w at bytes ∷ [] else w ∷ [])
+    by_test true t = whole-len w at bytes t ∙ h
+    by_test false t = h
+with-sizes (w ∷ s ∷ more) at bytes h = by_tests (is_whole_in w at (length bytes)) (is_whole_in s at (length bytes)) refl refl
+  where
+    by_tests : (b c : Bool) → is_whole_in w at (length bytes) ≡ b → is_whole_in s at (length bytes) ≡ c
+        → Sizes (if b then window_with w at bytes ∷ s ∷ more else w ∷ (if c then window_with s at bytes ∷ more else s ∷ with_bytes more at bytes))
+    by_tests true c t u = (whole-len w at bytes t ∙ h.0, h.1)
+    by_tests false true t u = (h.0, whole-len s at bytes u ∙ h.1)
+    by_tests false false t u = h
 
 reach-sizes : (v : View) → HasSizes v → Sizes (reach v)
-reach-sizes v h1 = grind (arith, nat_tests)
+reach-sizes v h = by_segment v.body.segment h.segment
+  where
+    by_segment : (o : Option ℕ) → IfSome o (λ made. length v.segment ≡ SEGMENT_LEN) → Sizes (windows v.window (option_map (λ made. v.segment) o))
+    by_segment None k = h.window
+    by_segment (Some made) k = (h.window, k)
 
 any-segment : (o : Option ℕ) (bytes : List ℕ) → length bytes ≡ SEGMENT_LEN → IfSome o (λ made. length bytes ≡ SEGMENT_LEN)
 any-segment None bytes e = tt
 any-segment (Some made) bytes e = e
 
 with_reach-sizes : (ws : List Window) (v : View) → Sizes ws → HasSizes v → HasSizes (with_reach ws v)
-with_reach-sizes ws v h1 h2 = grind (arith, nat_tests, any-segment)
+with_reach-sizes [] v h s = s
+with_reach-sizes (w ∷ []) v h s = record { window = h; segment = s.segment }
+with_reach-sizes (w ∷ x ∷ more) v h s = record { window = h.0; segment = any-segment v.body.segment x.bytes h.1 }
 
 -- what is read has no more bytes than were asked for
 read-few : (ws : List Window) (at len : ℕ) → length (unwrap_or (bytes_at ws at len) []) ≤ len
@@ -71,7 +98,11 @@ SizedEffect Call = Unit {0}
 SizedEffect (End status) = Unit {0}
 
 jumps-sizes : (instr : Instr) (cpu : Cpu) (ws : List Window) (rd target : ℕ) → Sizes ws → SizedEffect (jumps instr cpu ws rd target)
-jumps-sizes instr cpu ws rd target h1 = grind (arith, nat_tests)
+jumps-sizes instr cpu ws rd target h = by_test (target % 4 == 0)
+  where
+    by_test : (b : Bool) → SizedEffect (if b then Next instr (jumped cpu rd target) ws else End MISALIGNED)
+    by_test true = h
+    by_test false = tt
 
 branches-sizes : (instr : Instr) (cpu : Cpu) (ws : List Window) (b : Bool) (target : ℕ) → Sizes ws → SizedEffect (branches instr cpu ws b target)
 branches-sizes instr cpu ws false target h = h
@@ -82,10 +113,25 @@ loads-sizes instr cpu ws rd None h = tt
 loads-sizes instr cpu ws rd (Some value) h = h
 
 stores-sizes : (instr : Instr) (cpu : Cpu) (ws : List Window) (at len value : ℕ) → Sizes ws → SizedEffect (stores instr cpu ws at len value)
-stores-sizes instr cpu ws at len value h1 = grind (arith, nat_tests, with-sizes)
+stores-sizes instr cpu ws at len value h = by_test (is_some (bytes_at ws at len))
+  where
+    by_test : (b : Bool) → SizedEffect (if b then Next instr (advanced cpu) (with_bytes ws at (bytes_of len value)) else End BAD_ACCESS)
+    by_test true = with-sizes ws at (bytes_of len value) h
+    by_test false = tt
 
 executed-sizes : (instr : Instr) (cpu : Cpu) (ws : List Window) → Sizes ws → SizedEffect (executed instr cpu ws)
-executed-sizes instr cpu ws h1 = grind (arith, nat_tests, branches-sizes, jumps-sizes, loads-sizes, stores-sizes)
+executed-sizes (Lui rd imm) cpu ws h = h
+executed-sizes (Auipc rd imm) cpu ws h = h
+executed-sizes (Jal rd imm) cpu ws h = jumps-sizes (Jal rd imm) cpu ws rd _ h
+executed-sizes (Jalr rd rs1 imm) cpu ws h = jumps-sizes (Jalr rd rs1 imm) cpu ws rd _ h
+executed-sizes (Branch op rs1 rs2 imm) cpu ws h = branches-sizes (Branch op rs1 rs2 imm) cpu ws (is_taken op (register cpu rs1) (register cpu rs2)) (sum cpu.pc (immediate imm)) h
+executed-sizes (Load op rd rs1 imm) cpu ws h = loads-sizes (Load op rd rs1 imm) cpu ws rd (option_map (load_result op) (number_at ws (address cpu rs1 imm) (load_len op))) h
+executed-sizes (Store op rs1 rs2 imm) cpu ws h = stores-sizes (Store op rs1 rs2 imm) cpu ws _ _ _ h
+executed-sizes (Imm op rd rs1 imm) cpu ws h = h
+executed-sizes (Op op rd rs1 rs2) cpu ws h = h
+executed-sizes (Fence word) cpu ws h = h
+executed-sizes Ecall cpu ws h = tt
+executed-sizes Ebreak cpu ws h = tt
 
 executed_if-sizes : (o : Option Instr) (cpu : Cpu) (ws : List Window) → Sizes ws → SizedEffect (executed_if o cpu ws)
 executed_if-sizes None cpu ws h = tt
@@ -96,7 +142,9 @@ fetched-sizes None cpu ws h = tt
 fetched-sizes (Some word) cpu ws h = executed_if-sizes (decoded word) cpu ws h
 
 pub instr-sizes : (v : View) (instr : Instr) (cpu : Cpu) (memory : List Window) → HasSizes v → stands_at v ≡ Next instr cpu memory → HasSizes (after_instr cpu memory v)
-instr-sizes v instr cpu memory h1 h2 = grind (arith, nat_tests, fetched-sizes, reach-sizes, with_reach-sizes)
+instr-sizes v instr cpu memory h e =
+    let sizes : Sizes memory = subst SizedEffect e (fetched-sizes (number_at (reach v) v.body.cpu.pc 4) v.body.cpu (reach v) (reach-sizes v h)) in
+    with_reach-sizes memory (record v { body = record v.body { cpu = cpu } }) sizes (record { window = h.window; segment = h.segment })
 
 -- acts
 
@@ -106,7 +154,11 @@ StartsWell v (Starts file block len) = (is_image file ≡ true) × (isnt_block v
 StartsWell v act = Unit {0}
 
 image-fits : (file : List ℕ) → is_image file ≡ true → fits_window (read_as_image file) ≡ true
-image-fits file h1 = grind (arith, nat_tests, and_parts)
+image-fits file e =
+    let image = read_as_image file in
+    let a = and_parts (nat_le header_len (length file)) (bytes_eq (take 8 file) image_name && (can_enter image.entry && fits_window image)) e in
+    let b = and_parts (bytes_eq (take 8 file) image_name) (can_enter image.entry && fits_window image) a.1 in
+    (and_parts (can_enter image.entry) (fits_window image) b.1).1
 
 among-len : (len offset : ℕ) (bytes : List ℕ) → offset + length bytes ≤ len → length (among_zeros len offset bytes) ≡ len
 among-len len offset bytes l =
