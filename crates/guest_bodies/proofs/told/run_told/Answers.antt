@@ -1,5 +1,5 @@
 use Rattle.std.proofs.Common.{refl, arith}
-use Rattle.guest_bodies.proofs.HeldTold.{many-next, many-same, runs-there, same-runs, self-same, step-no, step-yes}
+use Rattle.guest_bodies.proofs.HeldTold.{many-next, many-same, runs-both, runs-there, same-runs, self-same, step-no, step-yes}
 use Rattle.guest_bodies.proofs.told.run_told.Goals as goal
 
 pub loop-ran-init : goal.loop-ran-init
