@@ -1,9 +1,11 @@
 // Reads a source to its end, and does what each command of its text asks for.
-ghost use Rattle.std.specs.Prelude.{◌≡◌};
+ghost use Rattle.std.specs.Prelude.{◌≡◌, false, is_some};
+ghost use Rattle.arn_commands.specs.Reader.{fresh_reader};
 ghost use Rattle.arn_session.specs.Halts.{read_halt_of};
 ghost use Rattle.arn_session.specs.Leaves.{Leaves, scene};
 ghost use Rattle.session_effects.specs.Outside.{IsSame};
 ghost use Rattle.session_effects.specs.Standing.{IsOpen};
+ghost use Rattle.session_commands.specs.Kept.{IsSound};
 
 use arn_base::{Chooser, Disk, Sink, Source};
 use arn_commands::{Commands, Next, ReadError};
@@ -29,6 +31,43 @@ fn read_halt(error: ReadError) -> Halt
     }
 }
 
+// Reads the source to its end, and does what each command asks for on what is kept of a history. It owns
+// nothing: what it is lent is dropped in one place, and not at each of its ends.
+fn answer_all<Q: Questions, S: Source, C: Chooser, A: Answers, D: Disk, K: Sink, L: Ledger>(
+    kept: &mut Kept<Q>,
+    commands: &mut Commands,
+    source: &mut S,
+    outside: &mut Outside<C, A, D, K, L>,
+) -> Result<(), Halt>
+    requires open { IsOpen D.Disk kept.old.store outside.old.disk.now }
+    requires sound { IsSound Q.knows kept.old.machine kept.old.questions kept.old.store.entries }
+    requires bare { is_some kept.old.machine ≡ false }
+    requires fresh { commands.old ≡ fresh_reader }
+    ensures leaves { Leaves D.Disk A.answers Q.told kept.old.store.entries result
+        (scene S.Source C.Chooser K.Sink source.old outside.old)
+        (scene S.Source C.Chooser K.Sink source.new outside.new) }
+    ensures same { IsSame outside.old outside.new }
+{
+    effects_follow::<MachineRuns, D>();
+    halts_follow::<MachineRuns, D>();
+    causes_follow::<D>();
+    goings_follow::<C, A, D, K, L>();
+    named_append();
+    picks_follow();
+    replies_follow::<A>();
+    loop {
+        let next = match commands.next(source) {
+            Ok(next) => next,
+            Err(error) => return Err(read_halt(error)),
+        };
+        match next {
+            Next::More { command } => answer(kept, command, outside)?,
+            Next::Last { command } => return answer(kept, command, outside),
+            Next::End => return Ok(()),
+        }
+    }
+}
+
 /// Reads the source to its end, and does what each command of its text asks for on the history of a
 /// log. It takes at most 2^40 bytes of the source.
 pub fn session<Q: Questions + Drop, S: Source, C: Chooser, A: Answers, D: Disk, K: Sink, L: Ledger>(
@@ -47,7 +86,6 @@ pub fn session<Q: Questions + Drop, S: Source, C: Chooser, A: Answers, D: Disk, 
 {
     effects_follow::<MachineRuns, D>();
     halts_follow::<MachineRuns, D>();
-    causes_follow::<D>();
     goings_follow::<C, A, D, K, L>();
     named_append();
     picks_follow();
@@ -59,15 +97,5 @@ pub fn session<Q: Questions + Drop, S: Source, C: Chooser, A: Answers, D: Disk, 
         machine: None,
         questions,
     };
-    loop {
-        let next = match commands.next(source) {
-            Ok(next) => next,
-            Err(error) => return Err(read_halt(error)),
-        };
-        match next {
-            Next::More { command } => answer(&mut kept, command, outside)?,
-            Next::Last { command } => return answer(&mut kept, command, outside),
-            Next::End => return Ok(()),
-        }
-    }
+    answer_all(&mut kept, &mut commands, source, outside)
 }

@@ -7,7 +7,7 @@ use Rattle.session_effects.specs.Standing.{IsOpen}
 use Rattle.session_commands.specs.Kept.{IsSound}
 use Rattle.session_runs.specs.Standing.{standing}
 use Rattle.arn_session.proofs.Progress.{Progress}
-use Rattle.arn_session.proofs.text.session.Given as goal
+use Rattle.arn_session.proofs.text.answer_all.Given as goal
 
 abbrev pub invariant-loop-next : goal.invariant-loop-next
 invariant-loop-next g l =
