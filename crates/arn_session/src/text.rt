@@ -31,8 +31,8 @@ fn read_halt(error: ReadError) -> Halt
     }
 }
 
-// Reads the source to its end, and does what each command asks for on what is kept of a history. It owns
-// nothing: what it is lent is dropped in one place, and not at each of its ends.
+// Reads the source to its end, and does what each command asks for on what is kept of a history. It
+// owns nothing: what it is lent is dropped in one place, and not at each of its ends.
 fn answer_all<Q: Questions, S: Source, C: Chooser, A: Answers, D: Disk, K: Sink, L: Ledger>(
     kept: &mut Kept<Q>,
     commands: &mut Commands,
