@@ -1,4 +1,4 @@
-use Rattle.guest_bodies.proofs.Lone.{first-live, first-fresh, first-alone}
+use Rattle.machine_tests.proofs.Lone.{first-live, first-fresh, first-alone}
 use Rattle.machine_tests.proofs.bodies.begun.Goals as goal
 
 pub returns-clause-live : goal.returns-clause-live
