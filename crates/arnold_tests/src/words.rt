@@ -53,7 +53,11 @@ const OTHERWISE: Differs = Differs {
 /// Statuses, and the codes and texts of each.
 const STATUSES: &[(Status, u8, &str)] = &[
     (Status::Done, 0, "done"),
-    (Status::Usage, 2, "usage: arnold LOG, where LOG is the path of the log, in UTF-8 and without - in front"),
+    (
+        Status::Usage,
+        2,
+        "usage: arnold LOG, where LOG is the path of the log, in UTF-8 and without - in front",
+    ),
     (Status::Disk, 3, "the disk failed"),
     (
         Status::Damaged(Damage::TooLong { len: 268_435_457 }),
@@ -93,7 +97,11 @@ const STATUSES: &[(Status, u8, &str)] = &[
         8,
         "the log has 268435000 of at most 268435456 bytes, and a commit of 452 doesn't fit",
     ),
-    (Status::Long, 9, "the source has 2^40 bytes or more, and no more are read"),
+    (
+        Status::Long,
+        9,
+        "the source has 2^40 bytes or more, and no more are read",
+    ),
 ];
 
 #[test]

@@ -1,4 +1,0 @@
-use Rattle.program_tests.proofs.engines.ran.Given as goal
-
-abbrev pub ghosts-ran_counted : goal.ghosts-ran_counted
-ghosts-ran_counted a = record { name = a.blank.name; parts = a.blank.parts }
