@@ -77,7 +77,7 @@ impl fmt::Display for Status {
             Status::Sink => f.write_str("the sink failed"),
             Status::Full { log, payload } => write!(
                 f,
-                "the log has {log} of at most {MOST_LOG} bytes, and a commit of {payload} doesn't fit",
+                "the log of {log} bytes has no room for {payload} more, with {MOST_LOG} at most",
             ),
             Status::Long => f.write_str("the source has 2^40 bytes or more, and no more are read"),
         }
@@ -88,25 +88,29 @@ impl fmt::Display for Damage {
     fn fmt<W: fmt::Write>(&self, f: &mut fmt::Formatter<W>) -> fmt::Result {
         match self {
             Damage::TooLong { len } => {
-                write!(f, "it has {len} bytes, and a log at most {MOST_LOG}")
+                write!(
+                    f,
+                    "it has {len} bytes, which is too many: a log has at most {MOST_LOG}"
+                )
             }
-            Damage::NotLog { at: 6 | 7 } => {
-                f.write_str("it is a log of another version, and not of ARNLOG01")
-            }
-            Damage::NotLog { at } => {
-                write!(f, "it is no log: byte {at} differs from the name ARNLOG01")
-            }
+            Damage::NotLog { at } => write!(
+                f,
+                "its byte {at} is not that of a log of this version, which begins with ARNLOG01"
+            ),
             Damage::Malformed { at } => {
-                write!(f, "it is damaged: at byte {at} is no frame or no record")
+                write!(
+                    f,
+                    "at its byte {at} is no frame or no record: it is damaged"
+                )
             }
             Damage::Broken { place } => {
-                write!(f, "its record {place} can't follow those before it")
+                write!(f, "its record {place} can't stand behind those before it")
             }
             Damage::Differs(differs) => {
                 let Differs { place, at, .. } = differs;
                 write!(
                     f,
-                    "its record {place} differs from byte {at} on from what the inputs give"
+                    "its record {place} is not that of a run from its byte {at} on"
                 )
             }
         }

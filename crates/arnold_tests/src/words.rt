@@ -62,32 +62,32 @@ const STATUSES: &[(Status, u8, &str)] = &[
     (
         Status::Damaged(Damage::TooLong { len: 268_435_457 }),
         4,
-        "it has 268435457 bytes, and a log at most 268435456",
+        "it has 268435457 bytes, which is too many: a log has at most 268435456",
     ),
     (
         Status::Damaged(Damage::NotLog { at: 6 }),
         4,
-        "it is a log of another version, and not of ARNLOG01",
+        "its byte 6 is not that of a log of this version, which begins with ARNLOG01",
     ),
     (
         Status::Damaged(Damage::NotLog { at: 0 }),
         4,
-        "it is no log: byte 0 differs from the name ARNLOG01",
+        "its byte 0 is not that of a log of this version, which begins with ARNLOG01",
     ),
     (
         Status::Damaged(Damage::Malformed { at: 8 }),
         4,
-        "it is damaged: at byte 8 is no frame or no record",
+        "at its byte 8 is no frame or no record: it is damaged",
     ),
     (
         Status::Damaged(Damage::Broken { place: 2 }),
         4,
-        "its record 2 can't follow those before it",
+        "its record 2 can't stand behind those before it",
     ),
     (
         Status::Damaged(Damage::Differs(OTHERWISE)),
         4,
-        "its record 22 differs from byte 5 on from what the inputs give",
+        "its record 22 is not that of a run from its byte 5 on",
     ),
     (Status::NoMemory, 5, "out of memory"),
     (Status::Source, 6, "the source failed"),
@@ -95,7 +95,7 @@ const STATUSES: &[(Status, u8, &str)] = &[
     (
         FULL,
         8,
-        "the log has 268435000 of at most 268435456 bytes, and a commit of 452 doesn't fit",
+        "the log of 268435000 bytes has no room for 452 more, with 268435456 at most",
     ),
     (
         Status::Long,
