@@ -28,26 +28,6 @@ const OTHER_ORIGIN: Change = Change {
     to: *b"\x01\0\0\0\0\0\0\0\0\0\0\0\x18\0\0\0\x03\0\0\0",
 };
 
-/// The slice of process 1 in record 13 counts four instructions, where three come up to its write,
-/// event 7.
-const LONGER_SLICE: Change = Change {
-    from: *b"\x05\x01\0\0\0\x03\0\0\0\x07\x01\0\0\0\x0c\0\0\0\0\0",
-    to: *b"\x05\x01\0\0\0\x04\0\0\0\x07\x01\0\0\0\x0c\0\0\0\0\0",
-};
-
-/// In the place of that write 17 bytes are typed.
-const TYPED_BEHIND: Change = Change {
-    from: *b"\x07\x01\0\0\0\x0c\0\0\0\0\0\0\0\x03\0\0\0\0\0\0",
-    to: *b"\x03\x11\0\0\0\x0c\0\0\0\0\0\0\0\x03\0\0\0\0\0\0",
-};
-
-/// In the place of its exit, event 9, process 1 dies by signal 9, in a slice that counts four
-/// instructions, and two bytes are typed.
-const DEAD_IN_SLICE: Change = Change {
-    from: *b"\x07\x01\0\0\0\x01\0\0\0\0\0\0\0\0\0\0\0\0\0\0",
-    to: *b"\x06\x01\0\0\0\x09\0\0\0\0\0\0\0\0\0\x03\x02\0\0\0",
-};
-
 /// Five bytes stand in a call's record before its number.
 const OTHER_NUMBER: Damage = Damage::Differs(Differs {
     place: 22,
@@ -64,7 +44,7 @@ struct Trial {
     prints: &'static str,
 }
 
-const TRIALS: [Trial; 6] = [
+const TRIALS: [Trial; 3] = [
     Trial {
         change: OTHER_CALL,
         text: "verify\nback copy event 11 0 1\nback copy event 7 0 3\n",
@@ -85,24 +65,6 @@ const TRIALS: [Trial; 6] = [
         status: Status::Done,
         prints: "verify differs 17 33 0 7\n\
             pair 0 24 0\npair 0 25 1\npair 0 26 2\nback pairs 3 instructions 32 groups 1 3\n",
-    },
-    Trial {
-        change: LONGER_SLICE,
-        text: "show 1021 regs 1\nshow 1022 regs 1\n",
-        status: Status::Done,
-        prints: "damaged 7 4 2\ndamaged 7 4 2\n",
-    },
-    Trial {
-        change: TYPED_BEHIND,
-        text: "show 1021 regs 1\nback copy event 9 0 0\n",
-        status: Status::Done,
-        prints: "damaged 7 3 2\ndamaged 7 3 2\n",
-    },
-    Trial {
-        change: DEAD_IN_SLICE,
-        text: "forth copy 2 0 3\n",
-        status: Status::Done,
-        prints: "damaged 10 4 0\n",
     },
 ];
 
