@@ -12,7 +12,7 @@ use Rattle.lineage_model.specs.Flow.{At, Byte, StartRegister, StartSlot, StartMe
 use Rattle.lineage_model.specs.Joined.{Reaching, is_source, origin_of, from_origin, from_item, from_event, source_byte}
 use Rattle.lineage_model.specs.Tracking.{EventByte}
 use Rattle.set_store.specs.declared.item.Item.{Item}
-use Rattle.taint_tracker.specs.Shown.{AreItems, item_of}
+use Rattle.taint_state.specs.Shown.{AreItems, item_of}
 use Rattle.lineage_join.specs.declared.wait.Kind.TheVariants as kind
 use Rattle.lineage_join.specs.declared.wait.Wait.{Wait}
 use Rattle.lineage_join.specs.Fits.{IsThere, Precedes, Fits, AllFit}

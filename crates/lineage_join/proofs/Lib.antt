@@ -10,6 +10,4 @@ pub mod Stands
 pub mod Follow
 pub mod Steps
 pub mod Turns
-pub mod Alike
-pub mod Named
 pub mod Same

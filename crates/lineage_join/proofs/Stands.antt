@@ -14,7 +14,7 @@ use Rattle.history_model.specs.Exchanges.{founded}
 use Rattle.lineage_model.specs.Flow.{At, Byte, StartRegister, StartSlot, StartMemory}
 use Rattle.lineage_model.specs.Joined.{Reaching, is_source, origin_of, from_origin, from_received, from_item_at}
 use Rattle.lineage_model.specs.Tracking.{EventByte}
-use Rattle.taint_tracker.specs.Shown.{IsRegisterByte, byte_of_register, register_bytes, place_of}
+use Rattle.taint_state.specs.Shown.{IsRegisterByte, byte_of_register, register_bytes, place_of}
 use Rattle.lineage_join.specs.declared.wait.Kind.TheVariants as kind
 use Rattle.lineage_join.specs.Fits.{IsThere}
 use Rattle.lineage_join.specs.Places.{start_at}

@@ -12,7 +12,7 @@ use Rattle.lineage_model.specs.Flow.{At, Byte, StartRegister, StartSlot, StartMe
 use Rattle.lineage_model.specs.Joined.{Reaching, is_source, origin_of, from_origin, from_received, from_item_at, from_item, source_byte, from_event, reached}
 use Rattle.lineage_model.specs.Tracking.{EventByte}
 use Rattle.lineage_join.specs.Fits.{Precedes, Fits, AllFit}
-use Rattle.lineage_join.specs.Laws.{GoesByItems}
+use Rattle.lineage_join.specs.Laws.{reaches}
 use Rattle.lineage_join.proofs.Earlier.{AreEarlier, earlier}
 
 pub flat_map-fit : {A : Type 0} (P : A → Type 0) (f g : A → List EventByte) → ((x : A) → P x → f x ≡ g x) → (xs : List A) → All P xs → flat_map f xs ≡ flat_map g xs
@@ -83,5 +83,7 @@ module _ (entries : List Record) (stands : first_broken entries ≡ None) where
           | inr h ↦ event-agrees event at (by (suc n)) (by n) (λ d b k. stable event (suc n) n (omega arith) (omega arith) d b k) (items event at) (fit event at) (event_at entries event)
         ]
 
-pub goes : GoesByItems
+-- what reaches a byte of an event is what its items stand for
+pub goes : (entries : List Record) (items : ℕ → At → List EventByte) → first_broken entries ≡ None → AllFit entries items → (event : ℕ) (at : At)
+    → reaches entries items event at ≡ from_event (event_at entries) (reaches entries items) event at (items event at) (event_at entries event)
 goes entries items stands fit event at = sym (unfolds entries stands items fit (how_many entries) event at refl)

@@ -1,5 +1,5 @@
--- Answers of groups with the same members lead to the same source bytes.
-use Rattle.std.specs.Prelude.{◌≡◌, ◌↔◌, ℕ, Bool, IsTrue, false, List, All, Contains, Option, Some}
+-- Answers of groups that are the same lead to the same source bytes.
+use Rattle.std.specs.Prelude.{◌≡◌, ℕ, Bool, IsTrue, false, List, All, Option, Some}
 use Rattle.arn_base.specs.declared.records.Record.{Record}
 use Rattle.arn_base.specs.declared.records.Src.{Src}
 use Rattle.history_model.specs.Events.{event_at}
@@ -7,10 +7,6 @@ use Rattle.lineage_model.specs.Flow.{At, Byte}
 use Rattle.lineage_model.specs.Joined.{is_source, origin_of}
 use Rattle.lineage_model.specs.Tracking.{EventByte}
 use Rattle.lineage_join.specs.Laws.{reaches}
-
--- the same members, in whatever order
-abbrev pub HaveSameBytes : List EventByte → List EventByte → Type 0
-HaveSameBytes bytes others = (byte : EventByte) → Contains bytes byte ↔ Contains others byte
 
 -- what a received byte is a copy of is followed, and so is a byte with which a child began
 abbrev pub LeadsAt : (ℕ → Option Record) → (ℕ → At → Bool) → ℕ → At → Type 0
@@ -21,17 +17,6 @@ LeadsAt event_at follows event at = IsTrue (follows event at)
 -- an item leads to bytes that are followed
 abbrev pub LeadsOn : (ℕ → Option Record) → (ℕ → At → Bool) → EventByte → Type 0
 LeadsOn event_at follows item = LeadsAt event_at follows item.event item.at
-
--- of all bytes that are followed these answers have the same members, and lead to bytes that are followed
-pub record AreAlike (entries : List Record) (follows : ℕ → At → Bool) (items others : ℕ → At → List EventByte) : Type 0 where
-  pub same : (event : ℕ) (at : At) → IsTrue (follows event at) → HaveSameBytes (items event at) (others event at)
-  pub leads : (event : ℕ) (at : At) → IsTrue (follows event at) → All (LeadsOn (event_at entries) follows) (items event at)
-
--- The source bytes that they lead to are the same.
-abbrev pub ReachAlike : Type 0
-ReachAlike =
-    (entries : List Record) (follows : ℕ → At → Bool) (items others : ℕ → At → List EventByte) → AreAlike entries follows items others
-    → (event : ℕ) (at : At) → IsTrue (follows event at) → HaveSameBytes (reaches entries items event at) (reaches entries others event at)
 
 -- of all bytes that are followed these answers are the same, and lead to bytes that are followed
 pub record AreSame (entries : List Record) (follows : ℕ → At → Bool) (items others : ℕ → At → List EventByte) : Type 0 where

@@ -7,7 +7,7 @@ use Rattle.history_model.specs.Events.{event_at}
 use Rattle.history_model.specs.Exchanges.{founded}
 use Rattle.lineage_model.specs.Joined.{Reaching, from_item}
 use Rattle.lineage_model.specs.Tracking.{EventByte}
-use Rattle.taint_tracker.specs.Shown.{item_of}
+use Rattle.taint_state.specs.Shown.{item_of}
 use Rattle.lineage_join.specs.declared.demand.Demand.{Demand}
 use Rattle.lineage_join.specs.declared.demand.Demand.TheVariants as demand
 use Rattle.lineage_join.specs.Fits.{IsThere}

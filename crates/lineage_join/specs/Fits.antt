@@ -7,7 +7,7 @@ use Rattle.history_model.specs.Events.{event_at}
 use Rattle.history_model.specs.Exchanges.{founded}
 use Rattle.lineage_model.specs.Flow.{At, Byte, StartRegister, StartSlot, StartMemory}
 use Rattle.lineage_model.specs.Tracking.{EventByte}
-use Rattle.taint_tracker.specs.Shown.{IsRegisterByte}
+use Rattle.taint_state.specs.Shown.{IsRegisterByte}
 
 -- an event has this byte: one of its own, or, where it is a fork that started a group, one with which the child began
 abbrev pub HasByte : Record → At → Type 0

@@ -15,12 +15,6 @@ use Rattle.lineage_join.specs.Rising.{IsRising, ArePairs}
 abbrev pub reaches : List Record → (ℕ → At → List EventByte) → Reaching
 reaches entries items = reached (event_at entries) items (how_many entries)
 
--- it is what the event's items stand for
-abbrev pub GoesByItems : Type 0
-GoesByItems =
-    (entries : List Record) (items : ℕ → At → List EventByte) → first_broken entries ≡ None → AllFit entries items → (event : ℕ) (at : At)
-    → reaches entries items event at ≡ from_event (event_at entries) (reaches entries items) event at (items event at) (event_at entries event)
-
 -- a rising list of exactly these pairs is the one that answers
 abbrev pub PairsAreOne : Type 0
 PairsAreOne = (sources : ℕ → List EventByte) (len : ℕ) (pairs : List Pair) → IsRising pairs → ArePairs sources len pairs → pairs ≡ pairs_from sources 0 len

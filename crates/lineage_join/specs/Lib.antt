@@ -6,4 +6,3 @@ pub mod Waits
 pub mod Hits
 pub mod Asked
 pub mod Alike
-pub mod Named

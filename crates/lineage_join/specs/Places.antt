@@ -1,7 +1,7 @@
 -- Bytes of events by numbers.
 use Rattle.std.specs.Prelude.{ℕ, ◌+◌, ◌-◌, ◌/◌, ◌%◌, nat_lt, if◌then◌else◌}
 use Rattle.lineage_model.specs.Flow.{At, Byte, StartRegister, StartSlot, StartMemory}
-use Rattle.taint_tracker.specs.Shown.{register_bytes}
+use Rattle.taint_state.specs.Shown.{register_bytes}
 use Rattle.lineage_join.specs.declared.demand.Place.{Place}
 use Rattle.lineage_join.specs.declared.demand.Place.TheVariants as place
 

@@ -13,10 +13,7 @@ mod wait;
 
 pub use demand::{Demand, Place};
 pub use found::Found;
-pub use law::{
-    fitting_are_named, goes_by_items, items_name, numbers_stand, pairs_are_one, pairs_are_told,
-    reach_alike, reach_same,
-};
+pub use law::{numbers_stand, pairs_are_one, pairs_are_told, reach_same};
 pub use locals::Locals;
 pub use pairs::join;
 pub use told::{is_source, record_at};

@@ -1,6 +1,6 @@
 // The answers of single groups.
 ghost use Rattle.taint_tracker.specs.Items.{listed};
-ghost use Rattle.taint_tracker.specs.Shown.{AreItems};
+ghost use Rattle.taint_state.specs.Shown.{AreItems};
 ghost use Rattle.lineage_join.specs.Places.{at_of};
 
 use crate::demand::Place;

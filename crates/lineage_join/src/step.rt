@@ -5,7 +5,7 @@ ghost use Rattle.history_model.specs.Events.{event_at};
 ghost use Rattle.lineage_model.specs.Flow.{Byte};
 ghost use Rattle.lineage_model.specs.Joined.{is_source, origin_of, source_byte};
 ghost use Rattle.lineage_join.specs.Fits.{AllFit};
-ghost use Rattle.taint_tracker.specs.Shown.{AreItems};
+ghost use Rattle.taint_state.specs.Shown.{AreItems};
 ghost use Rattle.lineage_join.specs.Laws.{reaches};
 ghost use Rattle.lineage_join.specs.Places.{at_of};
 ghost use Rattle.lineage_join.specs.Waits.{HasAlso, HasBoth, HasPairs, IsFollowed, IsNumbered, IsStepped, from_wait, origin_waits, own_bytes, wait_of};

@@ -3,7 +3,7 @@ use Rattle.std.proofs.Common.{◌≡◌, ◌⊎◌, inl, inr, ℕ, Bool, true, f
 use Rattle.std.proofs.lemmas.Map.Lookups.{exact_unsigned}
 use Rattle.std.specs.BTreeMap.{is_at}
 use Rattle.std.specs.Map.{lookup}
-use Rattle.taint_tracker.specs.Kept.{Kept}
+use Rattle.taint_state.specs.Kept.{Kept}
 use Rattle.query_engine.specs.Follows.{Follows}
 use Rattle.query_engine.specs.Following.{Following, IsFollowing}
 

@@ -16,8 +16,8 @@ use Rattle.lineage_model.specs.Tracking.{EventByte}
 use Rattle.parts_model.specs.declared.limits.TheConstants.{MOST_ASKED}
 use Rattle.query_model.specs.Sources.{items_in, tracked_at}
 use Rattle.taint_laws.specs.Follows.{HasWholeBlocks}
-use Rattle.taint_tracker.specs.Kept.{Kept}
-use Rattle.taint_tracker.specs.Shown.{IsRegisterByte}
+use Rattle.taint_state.specs.Kept.{Kept}
+use Rattle.taint_state.specs.Shown.{IsRegisterByte}
 use Rattle.query_engine.specs.Following.{Following, HasFollowed, IsOf, has_byte, is_register_byte, is_there, items_by, items_followed, items_kept, tracker_of}
 use Rattle.query_laws.specs.Fitting.{AreOfBytes, ItemsFit}
 use Rattle.query_engine.proofs.Locals.{is-register}

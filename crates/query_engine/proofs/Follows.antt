@@ -15,8 +15,8 @@ use Rattle.replayer.specs.Bounds.{RunsBefore, ran_before}
 use Rattle.replayer.specs.Replays.{Replays}
 use Rattle.taint_laws.specs.Follows.{HasWholeBlocks}
 use Rattle.taint_laws.specs.Laws.{FollowsHolders, ToldHears, ToldHolds, ToldShows, following}
-use Rattle.taint_tracker.specs.Goes.{nothing_tracked}
-use Rattle.taint_tracker.specs.Kept.{Kept, shown}
+use Rattle.taint_state.specs.Goes.{nothing_tracked}
+use Rattle.taint_state.specs.Kept.{Kept, shown}
 use Rattle.query_engine.specs.Follows.{Explains, Follows}
 
 module _ (entries : List Record) (unbroken : first_broken entries ≡ None) (g until : ℕ) (x y : Kept) (n m : ℕ) (guests : Guests) (r : Replays (following shown) x n (history.alone entries g until) guests y m) where

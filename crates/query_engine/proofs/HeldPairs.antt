@@ -15,7 +15,7 @@ use Rattle.lineage_join.specs.declared.demand.Demand.TheVariants as demand
 use Rattle.lineage_model.specs.Joined.{Reaching, from_item}
 use Rattle.lineage_model.specs.Pairs.{pairs_from}
 use Rattle.lineage_model.specs.Tracking.{EventByte}
-use Rattle.taint_tracker.specs.Shown.{AreItems, item_of}
+use Rattle.taint_state.specs.Shown.{AreItems, item_of}
 use Rattle.query_model.specs.declared.held.Held.{Held}
 use Rattle.query_engine.specs.Following.{Following}
 use Rattle.query_engine.specs.States.{held_demands, item_demand, told_at}

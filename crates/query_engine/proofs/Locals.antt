@@ -19,15 +19,15 @@ use Rattle.lineage_model.specs.Tracking.{alone}
 use Rattle.query_model.specs.Sources.{tracked_of}
 use Rattle.taint_laws.specs.Follows.{heard_from, none_heard}
 use Rattle.taint_laws.specs.Laws.{HearsEvents, IsHeard, IsHearingOf, ShowsNothing, UnheardHaveNone}
-use Rattle.taint_tracker.specs.Kept.{Kept, shown}
-use Rattle.taint_tracker.specs.Asked as asked
+use Rattle.taint_state.specs.Kept.{Kept, shown}
+use Rattle.taint_state.specs.Asked as asked
 use Rattle.taint_tracker.specs.Items.{listed}
 use Rattle.taint_tracker.specs.declared.items.KeptItems.{KeptItems}
-use Rattle.taint_tracker.specs.Asked.{answer, event_answer, start_answer, where_true}
-use Rattle.taint_tracker.specs.Goes.{Hearing, hearing_of, hearings_of}
-use Rattle.taint_tracker.specs.Shown.{AreItems, Heard, IsRegisterByte, Shows, ShowsHeard, Tracking}
-use Rattle.taint_tracker.specs.declared.point.Point.{Point}
-use Rattle.taint_tracker.specs.declared.point.Point.TheVariants as point
+use Rattle.taint_state.specs.Asked.{answer, event_answer, start_answer, where_true}
+use Rattle.taint_state.specs.Goes.{Hearing, hearing_of, hearings_of}
+use Rattle.taint_state.specs.Shown.{AreItems, Heard, IsRegisterByte, Shows, ShowsHeard, Tracking}
+use Rattle.taint_state.specs.declared.point.Point.{Point}
+use Rattle.taint_state.specs.declared.point.Point.TheVariants as point
 use Rattle.query_engine.specs.Following.{Following, IsIndexed, has_byte, is_register_byte, is_there, items_by, items_followed, items_kept, point_of, tracker_of}
 use Rattle.query_engine.specs.Follows.{Follows}
 

@@ -14,9 +14,9 @@ use Rattle.query_model.specs.States.{HasByte, in_memory, in_register, items_amon
 use Rattle.query_model.specs.declared.held.Held.{Held}
 use Rattle.query_model.specs.declared.held.Part.{Part}
 use Rattle.query_model.specs.declared.held.Part.TheVariants as part
-use Rattle.taint_tracker.specs.Asked.{answer, memory_answer, register_answer, register_items, where_true}
-use Rattle.taint_tracker.specs.Kept.{Kept, shown}
-use Rattle.taint_tracker.specs.Shown.{AreItems, Member, ShowsMember, Tracking}
+use Rattle.taint_state.specs.Asked.{answer, memory_answer, register_answer, register_items, where_true}
+use Rattle.taint_state.specs.Kept.{Kept, shown}
+use Rattle.taint_state.specs.Shown.{AreItems, Member, ShowsMember, Tracking}
 use Rattle.query_engine.specs.Follows.{Follows}
 use Rattle.query_engine.specs.Following.{Following, IsFollowing, tracker_of}
 use Rattle.query_engine.specs.States.{point_in, told_at, told_by, told_of}

@@ -25,7 +25,7 @@ use Rattle.lineage_model.specs.Tracking.{EventByte}
 use Rattle.query_laws.specs.Forth.{AreAmong, IsReached, SinksAreReached}
 use Rattle.query_model.specs.Sinks.{is_among, is_sink, pairs_among, reaching_among, sinks_reached}
 use Rattle.query_model.specs.Sources.{items_in, tracked_at}
-use Rattle.taint_tracker.specs.Kept.{Kept}
+use Rattle.taint_state.specs.Kept.{Kept}
 use Rattle.query_engine.specs.Demands.{byte_demands}
 use Rattle.query_engine.specs.Following.{Following, HasFollowed, HasOnly, IsOf, items_by, items_followed, items_kept, tracker_of}
 use Rattle.query_engine.specs.Reached.{IsOutBefore, IsOutPair, IsPairAt, IsPairOf, IsTurned, TurnsOne, goes_out, is_asked}

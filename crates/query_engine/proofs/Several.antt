@@ -11,7 +11,7 @@ use Rattle.query_model.specs.Answers.{disagreement_in, first_disagreement, or_fi
 use Rattle.replay_steps.specs.declared.errors.QueryError.{QueryError}
 use Rattle.replay_steps.specs.declared.errors.QueryError.TheVariants as error
 use Rattle.replayer.specs.Bounds.{ran_before}
-use Rattle.taint_tracker.specs.Kept.{Kept}
+use Rattle.taint_state.specs.Kept.{Kept}
 use Rattle.query_engine.specs.Asked.{ran_in}
 use Rattle.query_engine.specs.Follows.{Explains, Follows}
 use Rattle.query_engine.specs.Following.{Adds, AddsOnly, Following, HasFollowed, HasOnly, IsOf, tracker_of}

@@ -18,9 +18,9 @@ use Rattle.lineage_model.specs.Tracking.{EventByte}
 use Rattle.lineage_join.specs.declared.demand.Place.{Place}
 use Rattle.lineage_join.specs.declared.demand.Place.TheVariants as place
 use Rattle.query_model.specs.Sources.{tracked_at}
-use Rattle.taint_tracker.specs.declared.point.Point.{Point}
-use Rattle.taint_tracker.specs.declared.point.Point.TheVariants as point
-use Rattle.taint_tracker.specs.Kept.{Kept}
+use Rattle.taint_state.specs.declared.point.Point.{Point}
+use Rattle.taint_state.specs.declared.point.Point.TheVariants as point
+use Rattle.taint_state.specs.Kept.{Kept}
 use Rattle.query_engine.specs.Follows.{Follows}
 
 -- what is kept of groups, by number

@@ -10,10 +10,10 @@ use Rattle.replay_steps.specs.Standing.{disagreement}
 use Rattle.replay_steps.specs.declared.errors.QueryError.{QueryError}
 use Rattle.replay_steps.specs.declared.errors.QueryError.TheVariants as error
 use Rattle.taint_laws.specs.Follows.{heard_from, holders_in, none_heard}
-use Rattle.taint_tracker.specs.Goes.{hearings_of}
-use Rattle.taint_tracker.specs.Kept.{Kept, shown}
-use Rattle.taint_tracker.specs.Shown.{Shows}
-use Rattle.taint_tracker.specs.Steps.{holders_of}
+use Rattle.taint_state.specs.Goes.{hearings_of}
+use Rattle.taint_state.specs.Kept.{Kept, shown}
+use Rattle.taint_state.specs.Shown.{Shows}
+use Rattle.taint_state.specs.Steps.{holders_of}
 
 -- what is kept of a group up to a moment: its records agree, each byte has the items that it has in the group alone, its live processes are
 -- members with the memories that they hold, and its events were heard

@@ -16,10 +16,10 @@ use Rattle.query_model.specs.declared.held.Part.{Part}
 use Rattle.query_model.specs.declared.held.Part.TheVariants as part
 use Rattle.replay_steps.specs.declared.errors.QueryError.{QueryError}
 use Rattle.replay_steps.specs.declared.errors.QueryError.TheVariants as error
-use Rattle.taint_tracker.specs.Asked.{answer}
-use Rattle.taint_tracker.specs.Kept.{Kept, shown}
-use Rattle.taint_tracker.specs.declared.point.Point.{Point}
-use Rattle.taint_tracker.specs.declared.point.Point.TheVariants as point
+use Rattle.taint_state.specs.Asked.{answer}
+use Rattle.taint_state.specs.Kept.{Kept, shown}
+use Rattle.taint_state.specs.declared.point.Point.{Point}
+use Rattle.taint_state.specs.declared.point.Point.TheVariants as point
 use Rattle.query_engine.specs.Following.{Following, tracker_of}
 use Rattle.query_engine.specs.Follows.{Explains}
 use Rattle.query_engine.specs.declared.engine.Answer.{Answer}

@@ -8,7 +8,7 @@ ghost use Rattle.query_engine.specs.Following.{Adds, AddsOnly, HasOnly, IsFollow
 ghost use Rattle.query_engine.specs.States.{told_by};
 ghost use Rattle.query_engine.specs.Following as following;
 ghost use Rattle.taint_tracker.specs.Items.{listed};
-ghost use Rattle.taint_tracker.specs.Shown.{AreItems};
+ghost use Rattle.taint_state.specs.Shown.{AreItems};
 
 use arn_base::{NoMemory, Record};
 use history_index::Index;

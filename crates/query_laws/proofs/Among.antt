@@ -17,7 +17,7 @@ use Rattle.query_model.specs.Sinks.{is_among, items_among}
 use Rattle.query_model.specs.Sources.{items_in, tracked_at}
 use Rattle.taint_laws.specs.Follows.{HasWholeBlocks}
 use Rattle.taint_laws.specs.Laws.{FollowsHolders}
-use Rattle.taint_tracker.specs.Lens.{ActsHaveLen}
+use Rattle.taint_state.specs.Lens.{ActsHaveLen}
 use Rattle.query_laws.specs.Forth.{ReachingIsAmong}
 use Rattle.query_laws.specs.Joined.{is_there}
 use Rattle.query_laws.specs.Received.{IsItem}

@@ -19,7 +19,7 @@ use Rattle.lineage_model.specs.Joined.{Reaching, is_source, origin_at, origin_of
 use Rattle.lineage_model.specs.Tracking.{EventByte}
 use Rattle.query_model.specs.Linked.{groups_back}
 use Rattle.query_model.specs.Sources.{items_in, items_at, tracked_at}
-use Rattle.query_laws.specs.Received.{HasTaken, IsReceivedBy, IsItem, ItemsAreReceived, IsConnected, ReachingIsConnected}
+use Rattle.query_laws.specs.Received.{HasTaken, IsReceivedBy, IsItem, ItemsAreReceived, IsConnected}
 use Rattle.query_laws.proofs.Asked.{connected}
 use Rattle.query_laws.proofs.Origins.{origin-piece}
 
@@ -104,9 +104,3 @@ module _ (entries : List Record) (from : List ℕ) (stands : first_broken entrie
       reached-same (suc n) event at asks =
           ap (λ (xs : List EventByte). from_event (event_at entries) (reached (event_at entries) items n) event at xs (event_at entries event)) (agree event at asks)
           ∙ event-same (reached (event_at entries) items n) (reached (event_at entries) (items_at table entries moment) n) (reached-same n) event at asks (event_at entries event)
-
-pub connected-reaching : ItemsAreReceived → ReachingIsConnected
-connected-reaching law table entries from moment items stands whole groups agree event at asked =
-    reached-same entries from stands groups (λ event at. Unit {0}) (λ event k e is src o. tt) table moment
-    (λ g event at there. All-weaker (IsItem entries g event) (λ item. IsItem entries g event item × Unit {0}) (λ item is. (is, tt)) ((tracked_at table entries moment g).points event at) (law table entries g moment stands whole event at))
-    items (λ event at asks. agree event at asks.0) (how_many entries) event at (asked, tt)

@@ -24,9 +24,9 @@ use Rattle.query_model.specs.Sources.{items_in, items_at, tracked_of, tracked_at
 use Rattle.taint_flow.specs.Names.{loaded_len}
 use Rattle.taint_laws.specs.Follows.{HasWholeBlocks, holders_from, none_heard, none_holds}
 use Rattle.taint_laws.specs.Laws.{FollowsHolders}
-use Rattle.taint_tracker.specs.Lens.{ActsHaveLen}
-use Rattle.taint_tracker.specs.Shown.{IsRegisterByte}
-use Rattle.taint_tracker.specs.Steps.{IsWhole}
+use Rattle.taint_state.specs.Lens.{ActsHaveLen}
+use Rattle.taint_state.specs.Shown.{IsRegisterByte}
+use Rattle.taint_state.specs.Steps.{IsWhole}
 use Rattle.query_laws.specs.Fitting.{ItemsFit, ReachingIsOfBytes}
 use Rattle.query_laws.specs.Received.{IsItem, IsReceivedBy, HasTaken}
 use Rattle.query_laws.proofs.Alone.{Ends, alone-heard}

@@ -27,7 +27,7 @@ use Rattle.query_model.specs.declared.held.Part.{Part}
 use Rattle.query_model.specs.declared.held.Part.TheVariants as part
 use Rattle.taint_laws.specs.Follows.{HasWholeBlocks}
 use Rattle.taint_laws.specs.Laws.{FollowsHolders}
-use Rattle.taint_tracker.specs.Lens.{ActsHaveLen}
+use Rattle.taint_state.specs.Lens.{ActsHaveLen}
 use Rattle.query_laws.specs.Received.{IsConnected, IsReceivedBy}
 use Rattle.query_laws.specs.States.{HeldIsOfBytes, HeldItemsAreThere}
 use Rattle.query_laws.proofs.Connected.{flat_map-all, item-same, reached-same}

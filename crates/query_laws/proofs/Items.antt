@@ -13,8 +13,8 @@ use Rattle.lineage_join.specs.Fits.{Precedes}
 use Rattle.lineage_model.specs.Flow.{Location, At, Byte, StartRegister, StartSlot, StartMemory, Dependence, Prior, Received, flow, shown}
 use Rattle.lineage_model.specs.Tracking.{EventByte, Tracked, alone_after, alone_from, gather, items, points_after}
 use Rattle.taint_laws.specs.Follows.{AreSteps, IsStep, holders_from}
-use Rattle.taint_tracker.specs.Goes.{ArePossible, Hearings, IsPossible, heard_after}
-use Rattle.taint_tracker.specs.Steps.{Holders, holders_after}
+use Rattle.taint_state.specs.Goes.{ArePossible, Hearings, IsPossible, heard_after}
+use Rattle.taint_state.specs.Steps.{Holders, holders_after}
 use Rattle.query_laws.specs.Received.{TakesByte, HasTaken, IsReceivedBy}
 use Rattle.query_laws.proofs.Heard.{AreHeard, IsHeard, IsLater, IsOf, last, next}
 use Rattle.query_laws.proofs.Scopes.{Scope, IsScope, IsHeld, AreSources, IsGot, IsByte, IsShownGot, InScope, IsTaking, flow-held, shown-held}

@@ -4,7 +4,6 @@ use Rattle.std.proofs.lemmas.Bool.Decides.{nat_tests}
 use Rattle.std.specs.Prelude.{All, Contains}
 use Rattle.std.proofs.lemmas.Bool.{false≢true, and_from, and_parts, lt-ltb, ltb-true}
 use Rattle.std.proofs.lemmas.List.Elements.{All-nil, All-cons}
-use Rattle.arn_base.specs.declared.records.Pair.{Pair}
 use Rattle.arn_base.specs.declared.records.Record.{Record}
 use Rattle.rv64_model.specs.Carries.{operands}
 use Rattle.history_index.specs.Lookups.{groups_in}
@@ -19,12 +18,9 @@ use Rattle.lineage_model.specs.Pairs.{byte_pairs, pairs_from}
 use Rattle.lineage_model.specs.Tracking.{EventByte}
 use Rattle.query_model.specs.Answers.{moment_of}
 use Rattle.query_model.specs.Linked.{groups_back}
-use Rattle.query_model.specs.Sources.{items_at, reaching}
-use Rattle.taint_tracker.specs.Shown.{IsRegisterByte}
-use Rattle.query_laws.specs.Fitting.{ReachingIsOfBytes}
-use Rattle.query_laws.specs.Joined.{ItemsAreCut, PairsAreJoined, has_byte, is_register_byte, is_there}
+use Rattle.taint_state.specs.Shown.{IsRegisterByte}
+use Rattle.query_laws.specs.Joined.{has_byte, is_register_byte, is_there}
 use Rattle.query_laws.proofs.Asked.{connected}
-use Rattle.query_laws.proofs.Found.{event-is-of}
 use Rattle.query_laws.proofs.Lists.{first-in}
 
 -- the test tells which bytes an event has
@@ -49,35 +45,7 @@ pub there-found : (o : Option Record) (at : At) → IsThere o at → is_there o 
 there-found None at is = absurd is
 there-found (Some e) at is = had-byte e at is
 
-cut-by : (items : List EventByte) (o : Option Record) (at : At) (b : Bool) → is_there o at ≡ b → ((if b then items else []) ≡ []) ⊎ (IsThere o at × ((if b then items else []) ≡ items))
-cut-by items o at true is = inr (found-there o at is, refl)
-cut-by items o at false is = inl refl
-
-pub cut : ItemsAreCut
-cut table entries moment = record {
-  of_bytes = λ event at. cut-by (items_at table entries moment event at) (event_at entries event) at (is_there (event_at entries event) at) refl;
-  same = λ event at there. ap (λ (b : Bool). (if b then items_at table entries moment event at else [])) (there-found (event_at entries event) at there);
-}
-
--- pairs go by what reaches their bytes
-pairs-below : (f g : ℕ → List EventByte) (len k : ℕ) → ((j : ℕ) → j < k + len → f j ≡ g j) → pairs_from f k len ≡ pairs_from g k len
-pairs-below f g zero k same = refl
-pairs-below f g (suc len) k same =
-    ap₂ (λ (xs ys : List Pair). xs ++ ys) (ap (byte_pairs k) (same k (omega arith))) (pairs-below f g len (k + 1) (λ j low. same j (omega (arith, low))))
-
 -- the event's own group is asked
-own-groups : (entries : List Record) (event : ℕ) (o : Option ℕ) → first_broken entries ≡ None → event_group entries event ≡ o → All (Contains (groups_in entries)) (option_to_list o)
-own-groups entries event None stands is = All-nil (Contains (groups_in entries))
-own-groups entries event (Some g) stands is = All-cons (Contains (groups_in entries)) g [] (event-is-of entries stands event g is) (All-nil (Contains (groups_in entries)))
-
 pub own-asked : (entries : List Record) (o : Option ℕ) → first_broken entries ≡ None → All (Contains (groups_in entries)) (option_to_list o) → IfSome o (Contains (groups_back entries (option_to_list o)))
 own-asked entries None stands groups = tt
 own-asked entries (Some g) stands groups = ((connected entries (g ∷ []) stands groups).members g).1 (Starting g (first-in g []))
-
-pub joined : ReachingIsOfBytes → PairsAreJoined
-joined law linkage entries event e from len items stands blocks at inside agree =
-    let asks = option_to_list (event_group entries event) in
-    let groups = own-groups entries event (event_group entries event) stands refl in
-    pairs-below (λ k. reaching (operands linkage) entries (moment_of entries event) event (Byte (from + k))) (λ k. reaches entries items event (Byte (from + k))) len 0
-    (λ j low. sym (law linkage entries asks (moment_of entries event) items stands blocks groups agree event (Byte (from + j)) (own-asked entries (event_group entries event) stands groups)
-    (subst (λ (o : Option Record). IsThere o (Byte (from + j))) (sym at) (omega (arith, low, inside)))))

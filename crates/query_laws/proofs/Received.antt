@@ -19,8 +19,7 @@ use Rattle.lineage_model.specs.Tracking.{EventByte, untracked}
 use Rattle.query_model.specs.Sources.{tracked_of}
 use Rattle.taint_laws.specs.Follows.{HasWholeBlocks, holders_from, none_heard, none_holds}
 use Rattle.taint_laws.specs.Laws.{FollowsHolders}
-use Rattle.taint_tracker.specs.Lens.{ActsHaveLen}
-use Rattle.query_laws.specs.OwnEvents.{AreOwnEvents, EventsAreOwn, IsInBody, IsOwnEvent, MembersReceived, next_number}
+use Rattle.taint_state.specs.Lens.{ActsHaveLen}
 use Rattle.query_laws.specs.Received.{IsItem, IsReceivedBy, ItemsAreReceived}
 use Rattle.query_laws.proofs.Alone.{Ends, alone-heard}
 use Rattle.query_laws.proofs.Decoded.{FitsRun}
@@ -91,24 +90,6 @@ module _ (table : Table) where
       own-items : (own : Own) → history.alone entries g moment ≡ Makes own → (event : ℕ) (at : At) → All (IsItem entries g event) ((tracked_of table (Makes own)).points event at)
       own-items own is event at = as-items event ((tracked_of table (Makes own)).points event at) ((own-keeps own is).points event at (any-scope at))
 
-      -- a byte that a member holds
-      in-body : (pid : ℕ) (x : Body) (location : Location) → IsInBody pid x location → IsHeldBy whole (holds_of x) pid location
-      in-body pid x (Register p r i) is = (is, tt)
-      in-body pid x (Slot p r i) is = (is, tt)
-      in-body pid x (Memory made at) (inl window) = inl (window, tt)
-      in-body pid x (Memory made at) (inr segment) = inr (segment, tt)
-
-      before-received : (n : ℕ) (items : List EventByte) → AllByRecursion (IsBefore table whole is-whole entries g n) items → All (λ item. IsReceivedBy entries g item.event item.at) items
-      before-received n [] are = All-nil (λ item. IsReceivedBy entries g item.event item.at)
-      before-received n (item ∷ items) are = All-cons (λ item. IsReceivedBy entries g item.event item.at) item items are.0.0.0 (before-received n items are.1)
-
-      member-items : (own : Own) → history.alone entries g moment ≡ Makes own → (pid : ℕ) (x : Body) (location : Location) → body_at own.bodies pid ≡ Some x → IsInBody pid x location
-          → All (λ item. IsReceivedBy entries g item.event item.at) ((tracked_of table (Makes own)).locations location)
-      member-items own is pid x location lives in-it =
-          let f = follows entries g moment own stands blocks is in
-          let holds = sym (f.holds pid) ∙ ap (option_map holds_of) lives in
-          before-received (last 0 own.inside) ((tracked_of table (Makes own)).locations location) ((own-keeps own is).locations location (pid, holds_of x, holds, in-body pid x location in-it))
-
       made-items : (made : Made) → history.alone entries g moment ≡ made → (event : ℕ) (at : At) → All (IsItem entries g event) ((tracked_of table made).points event at)
       made-items (Makes own) is event at = own-items own is event at
       made-items (Fails disagrees) is event at = All-nil (IsItem entries g event)
@@ -116,27 +97,3 @@ module _ (table : Table) where
 pub received-items : FollowsHolders → ActsHaveLen → ItemsAreReceived
 received-items follows lens table entries g moment stands blocks event at =
     made-items table entries g follows lens moment stands blocks (history.alone entries g moment) refl event at
-
-pub members-received : FollowsHolders → ActsHaveLen → MembersReceived
-members-received follows lens table entries g moment own stands blocks is pid x location lives in-it =
-    member-items table entries g follows lens moment stands blocks own is pid x location lives in-it
-
--- its events
-own-event : (entries : List Record) (g : ℕ) (event : Event) (d : Transfer) → IsOf entries g event d → IsOwnEvent entries g event d
-own-event entries g event d h1 = grind (arith, nat_tests)
-
-one-own : (entries : List Record) (g n : ℕ) (o : Option Event) (d : Transfer) → IsLater n o → IsHeard entries g o d → IfSome o (λ event. (n ≤ event.number) × IsOwnEvent entries g event d)
-one-own entries g n None d later is = tt
-one-own entries g n (Some event) d later is = (later, own-event entries g event d is)
-
-same-next : (n : ℕ) (o : Option Event) → next n o ≡ next_number n o
-same-next n None = refl
-same-next n (Some event) = refl
-
-all-own : (entries : List Record) (g n : ℕ) (list : List Inside) → AreHeard entries g n list → AreOwnEvents entries g n list
-all-own entries g n [] are = tt
-all-own entries g n (i ∷ list) are =
-    (one-own entries g n i.event i.transfer are.0 are.1, subst (λ (m : ℕ). AreOwnEvents entries g m list) (same-next n i.event) (all-own entries g (next n i.event) list are.2))
-
-pub own-events : EventsAreOwn
-own-events = grind (arith, nat_tests, all-own, alone-heard)

@@ -11,8 +11,8 @@ use Rattle.rv64_model.specs.Operands.{rd_of, stored_len}
 use Rattle.acts_model.specs.Moved.{within}
 use Rattle.acts_model.specs.Transfers.{Holds, Place, Transfer, Arrives, Starts, Runs, Returns, Receives, Gives, Forks, Founds, Begins, Shares, Delivers, Leaves, Exits, Faults, Dies}
 use Rattle.lineage_model.specs.Flow.{Location, Register, Slot, Memory, At, Byte, StartRegister, StartSlot, StartMemory, Dependence, Prior, Received, bytes_at, flow, offset, operand_bytes, or_else, result_bytes, result_only, shown, shown_byte, started_byte, unless_result, when, if_below, saved}
-use Rattle.taint_tracker.specs.Goes.{IsOwn, IsUnheld, IsUnheldBy}
-use Rattle.taint_tracker.specs.Steps.{Holders, child_holds, holders_after, shared_holds, with_holder}
+use Rattle.taint_state.specs.Goes.{IsOwn, IsUnheld, IsUnheldBy}
+use Rattle.taint_state.specs.Steps.{Holders, child_holds, holders_after, shared_holds, with_holder}
 
 -- which bytes of registers, windows and segments are followed, and which bytes of results
 pub record Scope : Type 1 where

@@ -17,8 +17,8 @@ use Rattle.acts_model.specs.Transfers.{Holds, Place, is_private, is_shared, memo
 use Rattle.lineage_model.specs.Flow.{bytes_at, operand_bytes, register_bytes}
 use Rattle.taint_flow.specs.Names.{loaded_len}
 use Rattle.taint_laws.specs.Follows.{IsStep, Steps, Hears, Starts, with_booted}
-use Rattle.taint_tracker.specs.Goes.{Hearings, IsPossible}
-use Rattle.taint_tracker.specs.Steps.{Holders, IsWhole, event_inside, instr_inside}
+use Rattle.taint_state.specs.Goes.{Hearings, IsPossible}
+use Rattle.taint_state.specs.Steps.{Holders, IsWhole, event_inside, instr_inside}
 use Rattle.query_laws.proofs.Decoded.{FitsRun}
 use Rattle.query_laws.proofs.Items.{all-append}
 use Rattle.query_laws.proofs.Scopes.{Scope, IsHeld, IsTaking, RangeIsHeld}

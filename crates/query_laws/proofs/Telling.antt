@@ -19,8 +19,8 @@ use Rattle.acts_model.specs.Transfers.{Holds, transfer}
 use Rattle.history_model.specs.Exchanges.{call_received, is_receiving, received}
 use Rattle.lineage_model.specs.Joined.{is_source}
 use Rattle.taint_laws.specs.Follows.{IsStep, Steps, Hears, Starts, with_booted}
-use Rattle.taint_tracker.specs.Lens.{ActsHaveLen, HasLen}
-use Rattle.taint_tracker.specs.Steps.{Holders, event_by, event_inside, event_step, instr_inside}
+use Rattle.taint_state.specs.Lens.{ActsHaveLen, HasLen}
+use Rattle.taint_state.specs.Steps.{Holders, event_by, event_inside, event_step, instr_inside}
 use Rattle.query_laws.proofs.Items.{IsOfRecord, TellsRecord}
 
 -- an act that receives bytes

@@ -2,7 +2,6 @@ pub mod Laws
 pub mod OfRuns
 pub mod Received
 pub mod Fitting
-pub mod OwnEvents
 pub mod Joined
 pub mod Forth
 pub mod ForthOfRuns

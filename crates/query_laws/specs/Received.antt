@@ -47,12 +47,3 @@ ItemsAreReceived =
 -- the event has no group, or is of one of the connected ones
 abbrev pub IsConnected : List Record → List ℕ → ℕ → Type 0
 IsConnected entries from event = IfSome (event_group entries event) (Contains (groups_back entries from))
-
--- The items of connected groups alone tell what reaches the bytes of their events.
-abbrev pub ReachingIsConnected : Type 0
-ReachingIsConnected =
-    (table : Table) (entries : List Record) (from : List ℕ) (moment : ℕ) (items : ℕ → At → List EventByte)
-    → first_broken entries ≡ None → All HasWholeBlocks entries → All (Contains (groups_in entries)) from
-    → ((event : ℕ) (at : At) → IsConnected entries from event → items event at ≡ items_at table entries moment event at)
-    → (event : ℕ) (at : At) → IsConnected entries from event
-    → reached (event_at entries) items (how_many entries) event at ≡ reaching table entries moment event at

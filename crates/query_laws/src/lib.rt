@@ -12,13 +12,10 @@ mod names;
 mod states;
 
 pub use forth::{
-    first_are_told, forth_is_connected, forth_is_of_runs, forth_is_one, forth_loses_nothing,
-    reaching_is_among, sinks_are_reached,
+    first_are_told, forth_is_of_runs, forth_is_one, reaching_is_among, sinks_are_reached,
 };
 pub use law::{
-    events_are_own, groups_are_connected, groups_are_one, items_are_cut, items_are_received,
-    items_fit, members_received, pairs_are_joined, queries_are_of_runs, reaching_is_connected,
-    reaching_is_of_bytes,
+    groups_are_connected, groups_are_one, items_fit, queries_are_of_runs, reaching_is_of_bytes,
 };
 pub use names::{named_are_written, names_are_of_runs, written_is_of_bytes};
 pub use states::{held_is_of_bytes, held_items_are_there, states_are_of_runs};

@@ -5,7 +5,7 @@ use lineage_laws::lineage_is_joined;
 use past_lives::lives_have_groups;
 use replay_laws::groups_pass_through;
 use taint_laws::follows_holders;
-use taint_tracker::acts_have_len;
+use taint_state::acts_have_len;
 use unbroken_laws::runs_are_unbroken;
 
 /// On records that can be indexed the items of each byte that a process holds at a moment are bytes that

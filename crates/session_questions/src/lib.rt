@@ -12,4 +12,3 @@ mod verify;
 
 pub use asking::Asking;
 pub use of_runs::answers_are_of_runs;
-pub use short::{short_logs_are_countable, short_runs_have_numbers, short_runs_stand};

@@ -10,7 +10,7 @@ use Rattle.acts_model.specs.Transfers.{Starts}
 use Rattle.acts_model.specs.Views.{block_at}
 use Rattle.lineage_model.specs.Flow.{Location, Register, Slot, Memory, At, Dependence, Prior, shown, when, block_byte, body_byte, received_byte, started_byte}
 use Rattle.lineage_model.specs.Tracking.{EventByte, Tracked, alone_after, gather, items}
-use Rattle.taint_tracker.specs.Goes.{begin_inside}
+use Rattle.taint_state.specs.Goes.{begin_inside}
 
 -- process 1 starts at an event, without a block
 abbrev pub start_inside : ℕ → ℕ → ℕ → Record → Cpu → Inside

@@ -19,7 +19,7 @@ use Rattle.history_model.specs.Alone.{Own, Made, Makes, Fails, Slice, Standing, 
 use Rattle.history_model.specs.Broken.{Behind, Nowhere, ASlice, ADelivery, behind, behind_from, behind_record, behind_signal, broken_from, cant_follow, greatest, greatest_after, greatest_from, is_behind}
 use Rattle.history_model.specs.Groups.{Groups, group_forked, groups_told, is_number}
 use Rattle.history_model.specs.Moments.{changed}
-use Rattle.taint_tracker.specs.Steps.{Holders}
+use Rattle.taint_state.specs.Steps.{Holders}
 use Rattle.taint_laws.specs.Follows.{HasWholeBlocks, with_booted}
 use Rattle.taint_laws.specs.Laws.{Followed}
 use Rattle.taint_laws.proofs.Records.{Ends, begins-ends, can-follow, child-after, child-number, more-after, record-child, start-room, un-not}

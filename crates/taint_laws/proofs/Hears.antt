@@ -23,8 +23,8 @@ use Rattle.history_model.specs.Alone.{Own, Makes, Slice, Standing, act_done, aft
 use Rattle.history_model.specs.Events.{events}
 use Rattle.history_model.specs.Exchanges.{call_founded, founded}
 use Rattle.history_model.specs.Groups.{is_number}
-use Rattle.taint_tracker.specs.Goes.{Hearing, Hearings, heard_after}
-use Rattle.taint_tracker.specs.Steps.{founds}
+use Rattle.taint_state.specs.Goes.{Hearing, Hearings, heard_after}
+use Rattle.taint_state.specs.Steps.{founds}
 use Rattle.taint_laws.specs.Follows.{heard_from, none_heard}
 use Rattle.taint_laws.specs.Laws.{HearsEvents, IsHeard}
 use Rattle.taint_laws.proofs.Fold.{and_then-ends, made_if-ends, no_instruction-ends}

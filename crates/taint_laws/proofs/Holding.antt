@@ -8,7 +8,7 @@ use Rattle.acts_model.specs.Acts.{Act, Starts, Shares, acted, done_by, restored}
 use Rattle.acts_model.specs.Bodies.{Bodies, View, put, remove}
 use Rattle.acts_model.specs.Transfers.{Holds, holds_of, transfer}
 use Rattle.acts_model.specs.Views.{with_reach, after_instr, with_cpu}
-use Rattle.taint_tracker.specs.Steps.{Holders, fresh_holds, holders_after, with_holder}
+use Rattle.taint_state.specs.Steps.{Holders, fresh_holds, holders_after, with_holder}
 use Rattle.taint_laws.specs.Follows.{holders_in}
 use Rattle.taint_laws.proofs.Places.{put-body, remove-body}
 

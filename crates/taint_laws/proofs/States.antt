@@ -17,8 +17,8 @@ use Rattle.acts_model.specs.Told.{act_of}
 use Rattle.acts_model.specs.Transfers.{Holds, Transfer, Begins, holds_of, instr_transfer, transfer}
 use Rattle.acts_model.specs.Views.{after_instr, stands_at}
 use Rattle.history_model.specs.Alone.{Own, begins, begin_inside, noted, nothing_own, plain_by, plain_in}
-use Rattle.taint_tracker.specs.Goes.{ArePossible, Hearings, IsPossible, IsUnheldBy, heard_after, heard_at}
-use Rattle.taint_tracker.specs.Steps.{Holders, event_by, event_inside, event_of, event_step, founds, fresh_holds, holders_after, instr_inside, with_holder}
+use Rattle.taint_state.specs.Goes.{ArePossible, Hearings, IsPossible, IsUnheldBy, heard_after, heard_at}
+use Rattle.taint_state.specs.Steps.{Holders, event_by, event_inside, event_of, event_step, founds, fresh_holds, holders_after, instr_inside, with_holder}
 use Rattle.taint_laws.specs.Follows as follows
 use Rattle.taint_laws.specs.Follows.{AreNew, AreSteps, IsNew, IsStep, heard_from, holders_from, holders_in, none_heard, none_holds, with_booted}
 use Rattle.taint_laws.specs.Laws.{Followed}

@@ -18,9 +18,9 @@ use Rattle.acts_model.specs.Transfers.{Holds, Transfer, Forks}
 use Rattle.lineage_model.specs.Tracking.{EventByte, Tracked, alone_after, alone_from, untracked}
 use Rattle.replay_steps.specs.Notices as notice
 use Rattle.replay_steps.specs.Notices.{Notice, Listener, Says, Told, notices, booted, joined}
-use Rattle.taint_tracker.specs.Goes.{AreApart, ArePossible, GoesBy, GoesIf, Hearings, IsOwn, IsPossible, IsUnheldBy, StayApart, begin_inside, heard_after, hearings_of}
-use Rattle.taint_tracker.specs.Shown.{Shows, Tracking}
-use Rattle.taint_tracker.specs.Steps.{Holders, event_by, event_inside, event_of, event_step, fresh_holds, holders_after, holders_of, instr_inside, instr_step, with_holder}
+use Rattle.taint_state.specs.Goes.{AreApart, ArePossible, GoesBy, GoesIf, Hearings, IsOwn, IsPossible, IsUnheldBy, StayApart, begin_inside, heard_after, hearings_of}
+use Rattle.taint_state.specs.Shown.{Shows, Tracking}
+use Rattle.taint_state.specs.Steps.{Holders, event_by, event_inside, event_of, event_step, fresh_holds, holders_after, holders_of, instr_inside, instr_step, with_holder}
 use Rattle.taint_laws.specs.Follows.{AreNew, AreSteps, IsNew, IsStep, heard_from, holders_from, none_heard, none_holds, Steps, Hears, Starts as StartsGroup, with_booted}
 use Rattle.taint_laws.specs.Laws.{ToldHears, ToldHolds, ToldShows, following}
 use Rattle.taint_laws.proofs.Boots.{begin-again, start_inside}

@@ -7,8 +7,8 @@ use Rattle.acts_model.specs.Transfers.{Transfer, Founds, Begins}
 use Rattle.lineage_model.specs.Flow.{At, StartRegister, StartSlot, StartMemory, shown}
 use Rattle.lineage_model.specs.Tracking.{EventByte, Tracked, alone_after, alone_from, gather, items, untracked}
 use Rattle.acts_model.specs.Records.{event_len}
-use Rattle.taint_tracker.specs.Goes.{Hearing, Hearings, heard_after}
-use Rattle.taint_tracker.specs.Steps.{founds}
+use Rattle.taint_state.specs.Goes.{Hearing, Hearings, heard_after}
+use Rattle.taint_state.specs.Steps.{founds}
 use Rattle.taint_laws.specs.Follows.{heard_from, none_heard}
 use Rattle.taint_laws.specs.Laws.{ShowsNothing, UnheardHaveNone}
 

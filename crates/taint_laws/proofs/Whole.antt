@@ -25,7 +25,7 @@ use Rattle.acts_model.specs.Told.{Kind, Fork, Exec, Wait, Read, Write, call_act,
 use Rattle.acts_model.specs.Transfers.{Holds, Place, is_private, is_shared, place_at, place_of}
 use Rattle.acts_model.specs.Views.{argument, bytes_in, can_reach, reach, stands_at}
 use Rattle.taint_flow.specs.Names.{loaded_len}
-use Rattle.taint_tracker.specs.Steps.{IsWhole}
+use Rattle.taint_state.specs.Steps.{IsWhole}
 use Rattle.taint_laws.proofs.Rooms.{HasRooms}
 
 abbrev IsRange : ℕ → ℕ → Type 0

@@ -11,8 +11,8 @@ use Rattle.acts_model.specs.Bodies.{Bodies, body_at}
 use Rattle.acts_model.specs.Moved.{Event, Inside}
 use Rattle.acts_model.specs.Transfers.{holds_of}
 use Rattle.history_model.specs.Broken.{start_in}
-use Rattle.taint_tracker.specs.Goes.{Hearings, begin_inside, heard_after}
-use Rattle.taint_tracker.specs.Steps.{Holders, event_step, fresh_holds, holders_after, instr_step, with_holder}
+use Rattle.taint_state.specs.Goes.{Hearings, begin_inside, heard_after}
+use Rattle.taint_state.specs.Steps.{Holders, event_step, fresh_holds, holders_after, instr_step, with_holder}
 
 -- nobody lives, and no event was heard
 abbrev pub none_holds : Holders

@@ -13,9 +13,9 @@ use Rattle.history_model.specs.Exchanges.{founded}
 use Rattle.lineage_model.specs.Flow.{At, Byte}
 use Rattle.lineage_model.specs.Tracking as tracking
 use Rattle.replay_steps.specs.Notices.{Listener, Told, notices}
-use Rattle.taint_tracker.specs.Goes.{ArePossible, Hearing, TakesBegin, TakesInstr, TakesEvent, hearings_of, nothing_tracked}
-use Rattle.taint_tracker.specs.Shown.{Shows, Tracking}
-use Rattle.taint_tracker.specs.Steps.{holders_of}
+use Rattle.taint_state.specs.Goes.{ArePossible, Hearing, TakesBegin, TakesInstr, TakesEvent, hearings_of, nothing_tracked}
+use Rattle.taint_state.specs.Shown.{Shows, Tracking}
+use Rattle.taint_state.specs.Steps.{holders_of}
 use Rattle.taint_laws.specs.Follows.{AreNew, AreSteps, HasWholeBlocks, heard_from, holders_from, holders_in, none_heard, none_holds}
 
 -- the steps are those of members, are possible, are events that weren't heard before, and come to what the bodies hold

@@ -1,9 +1,9 @@
 // What holds of groups alone, for who follows their members.
-ghost use Rattle.taint_tracker.specs.Kept.{shown};
-ghost use Rattle.taint_tracker.specs.Shown.{Tracking};
+ghost use Rattle.taint_state.specs.Kept.{shown};
+ghost use Rattle.taint_state.specs.Shown.{Tracking};
 ghost use Rattle.taint_laws.specs.Laws.{FollowsHolders, HearsEvents, ToldHears, ToldHolds, ToldShows, UnheardHaveNone};
 
-use taint_tracker::stays_apart;
+use taint_state::stays_apart;
 
 /// What happens inside a group alone is what its members do, by what they hold, and is possible.
 pub fn follows_holders()

@@ -1,12 +1,12 @@
 -- What a tracker shows, which has nothing to tell once a step failed.
 use Rattle.std.specs.Prelude.{◌≡◌, Bool, if◌then◌else◌, [], None}
 use Rattle.rv64_model.specs.declared.linkage.Linkage.{Linkage}
-use Rattle.taint_tracker.specs.declared.group.Group.{Group}
-use Rattle.taint_tracker.specs.declared.point.Point.{Point}
-use Rattle.taint_tracker.specs.Asked.{answer}
-use Rattle.taint_tracker.specs.Groups.{kept_of}
-use Rattle.taint_tracker.specs.Kept.{Kept}
-use Rattle.taint_tracker.specs.Shown.{Tracking}
+use Rattle.taint_group.specs.declared.group.Group.{Group}
+use Rattle.taint_state.specs.declared.point.Point.{Point}
+use Rattle.taint_state.specs.Asked.{answer}
+use Rattle.taint_group.specs.Groups.{kept_of}
+use Rattle.taint_state.specs.Kept.{Kept}
+use Rattle.taint_state.specs.Shown.{Tracking}
 
 -- no member, no event
 abbrev pub nothing_kept : Linkage → Kept

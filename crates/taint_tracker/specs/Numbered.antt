@@ -4,11 +4,11 @@ use Rattle.parts_model.specs.declared.limits.TheConstants.{SEGMENT_START, WINDOW
 use Rattle.parts_model.specs.Numbered.{nth}
 use Rattle.acts_model.specs.Transfers.{is_private, is_shared}
 use Rattle.taint_pages.specs.Rows.{byte_in}
-use Rattle.taint_tracker.specs.declared.point.Point.{Point}
-use Rattle.taint_tracker.specs.declared.point.Point.TheVariants as point
-use Rattle.taint_tracker.specs.Asked.{where_true}
-use Rattle.taint_tracker.specs.Kept.{Kept, KeptHeard, KeptMember, KeptStart, heard_among}
-use Rattle.taint_tracker.specs.Shown.{register_bytes}
+use Rattle.taint_state.specs.declared.point.Point.{Point}
+use Rattle.taint_state.specs.declared.point.Point.TheVariants as point
+use Rattle.taint_state.specs.Asked.{where_true}
+use Rattle.taint_state.specs.Kept.{Kept, KeptHeard, KeptMember, KeptStart, heard_among}
+use Rattle.taint_state.specs.Shown.{register_bytes}
 
 -- of an event
 abbrev pub event_number : ℕ → KeptHeard → Option ℕ

@@ -1,5 +1,5 @@
 // The items of bytes of which one may ask.
-ghost use Rattle.std.specs.Prelude.{◌≡◌, ◌<◌, ◌+◌, ◌-◌, ◌/◌, ◌%◌, ◌==◌, ◌&&◌, nat_lt, slice_get, slice_index, if◌then◌else◌, [], Option, Some, None, option_map, option_and_then};
+ghost use Rattle.std.specs.Prelude.{◌≡◌, ◌<◌, ◌+◌, ◌-◌, ◌/◌, ◌%◌, ◌==◌, ◌&&◌, nat_lt, length, slice_index, if◌then◌else◌, [], Option, Some, None, option_map, option_and_then};
 ghost use Rattle.acts_model.specs.Transfers.{is_private, is_shared};
 ghost use Rattle.parts_model.specs.declared.limits.TheConstants as limits;
 ghost use Rattle.parts_model.specs.Numbered.{nth};
@@ -7,22 +7,23 @@ ghost use Rattle.taint_flow.specs.Starts.{IsRaw, items_of};
 ghost use Rattle.taint_members.specs.Access.{HoldsKey, held_numbers};
 ghost use Rattle.taint_members.specs.declared.member.Shared.{Shared};
 ghost use Rattle.taint_pages.specs.Rows.{byte_in};
-ghost use Rattle.taint_tracker.specs.Asked.{answer, where_true};
-ghost use Rattle.taint_tracker.specs.Groups.{IsSoundGroup, heard_of, kept_heard, kept_of, kept_start, latest_first};
-ghost use Rattle.taint_tracker.specs.Held.{kept_member};
+ghost use Rattle.taint_state.specs.Asked.{answer, where_true};
+ghost use Rattle.taint_group.specs.Groups.{IsSoundGroup, heard_of, kept_of};
+ghost use Rattle.taint_state.specs.RunsShow.{kept_member};
 ghost use Rattle.taint_tracker.specs.Items.{listed};
-ghost use Rattle.taint_tracker.specs.Kept.{heard_among, shown};
+ghost use Rattle.taint_state.specs.Heard.{kept_child, kept_heard, kept_start};
+ghost use Rattle.taint_state.specs.Kept.{heard_among, shown};
 ghost use Rattle.taint_tracker.specs.Numbered as numbers;
 
-use crate::group::{ChildStart, Group, HeardEvent};
 use crate::items::KeptItems;
-use crate::point::Point;
 use parts_model::limits::{SEGMENT_END, SEGMENT_START, WINDOW_END, WINDOW_START};
 use rv64_isa::Reg;
 use set_store::{Item, Sets};
 use taint_flow::FIRST_START;
+use taint_group::Group;
 use taint_members::{MemberSets, Shared};
 use taint_pages::{Row, SetNumbers};
+use taint_state::{ChildStart, HeardEvent, Point};
 
 /// How many bytes 31 registers have.
 const REGISTER_BYTES: u64 = 248;
@@ -45,15 +46,25 @@ fn lent(sets: &Sets, begun: u64, number: u32) -> KeptItems<'_>
     }
 }
 
+/// The number at a place, if there is one.
+fn number_at(numbers: &[u32], place: usize) -> Option<u32>
+    ensures { result ≡
+        where_true (nat_lt place (length numbers.now)) (slice_index numbers.now place) }
+{
+    if place < numbers.len() {
+        Some(numbers[place])
+    } else {
+        None
+    }
+}
+
 /// The number of a byte of an event.
 fn event_number(heard: &HeardEvent, at: u32) -> Option<u32>
     ensures { result ≡ numbers.event_number at (kept_heard heard.now) }
 {
-    let place = at as usize;
-    if place < heard.numbers.len() {
-        Some(heard.numbers[place])
-    } else {
-        None
+    match &heard.moved {
+        Some(moved) => number_at(moved.numbers.as_slice(), at as usize),
+        None => None,
     }
 }
 
@@ -93,12 +104,22 @@ fn start_number(start: &ChildStart, at: u64) -> Option<u32>
     }
 }
 
+/// The number of a byte with which a child began that may be there.
+fn child_number(child: &Option<Box<ChildStart>>, at: u64) -> Option<u32>
+    ensures { result ≡ option_and_then (numbers.start_number at) (option_map kept_child child.now) }
+{
+    match child {
+        Some(start) => start_number(start, at),
+        None => None,
+    }
+}
+
 /// The number of a byte with which the child of a fork began, if the fork started a group.
 fn fork_number(heard: &HeardEvent, at: u64) -> Option<u32>
     ensures { result ≡ numbers.fork_number at (kept_heard heard.now) }
 {
-    match &heard.start {
-        Some(start) => start_number(start, at),
+    match &heard.moved {
+        Some(moved) => child_number(&moved.start, at),
         None => None,
     }
 }
@@ -141,79 +162,81 @@ fn register_number(row: &Row, reg: u8, byte: u8) -> Option<u32>
     }
 }
 
-impl Group {
-    /// The member of a number.
-    fn member(&self, pid: u32) -> Option<&MemberSets>
-        ensures { option_map (λ member. member.now) result ≡ nth self.now.members.items pid }
-    {
-        match self.members.get(pid as usize) {
-            Some(Some(member)) => Some(member),
-            _ => None,
-        }
+/// The member of a number.
+fn member(group: &Group, pid: u32) -> Option<&MemberSets>
+    ensures { option_map (λ member. member.now) result ≡ nth group.now.members.items pid }
+{
+    match group.members.get(pid as usize) {
+        Some(Some(member)) => Some(member),
+        _ => None,
     }
+}
 
-    fn event_byte(&self, event: u64, at: u32) -> Option<u32>
-        ensures { result ≡ option_and_then (numbers.event_number at)
-            (heard_among (heard_of self.now) event) }
-    {
-        match self.heard.find(event) {
-            Some(heard) => event_number(heard, at),
-            None => None,
-        }
+/// The number of a byte of an event of a member.
+fn event_byte(group: &Group, event: u64, at: u32) -> Option<u32>
+    ensures { result ≡ option_and_then (numbers.event_number at)
+        (heard_among (heard_of group.now) event) }
+{
+    match group.heard.find(event) {
+        Some(heard) => event_number(heard, at),
+        None => None,
     }
+}
 
-    fn start_byte(&self, event: u64, at: u64) -> Option<u32>
-        ensures { result ≡ option_and_then (numbers.fork_number at)
-            (heard_among (heard_of self.now) event) }
-    {
-        match self.heard.find(event) {
-            Some(heard) => fork_number(heard, at),
-            None => None,
-        }
+/// The number of a byte with which the child of a member's fork began.
+fn start_byte(group: &Group, event: u64, at: u64) -> Option<u32>
+    ensures { result ≡ option_and_then (numbers.fork_number at)
+        (heard_among (heard_of group.now) event) }
+{
+    match group.heard.find(event) {
+        Some(heard) => fork_number(heard, at),
+        None => None,
     }
+}
 
-    fn memory_byte(&self, pid: u32, at: u64) -> Option<u32>
-        requires sound { IsSoundGroup self.now }
-        ensures { result ≡ option_and_then (numbers.memory_number at)
-            (option_map (kept_member self.now.segments.items) (nth self.now.members.items pid)) }
-    {
-        match self.member(pid) {
-            Some(member) => memory_number(member, self.segments.as_slice(), at),
-            None => None,
-        }
+/// The number of a byte of a member's memories.
+fn memory_byte(group: &Group, pid: u32, at: u64) -> Option<u32>
+    requires sound { IsSoundGroup group.now }
+    ensures { result ≡ option_and_then (numbers.memory_number at)
+        (option_map (kept_member group.now.segments.items) (nth group.now.members.items pid)) }
+{
+    match member(group, pid) {
+        Some(member) => memory_number(member, group.segments.as_slice(), at),
+        None => None,
     }
+}
 
-    fn register_byte(&self, pid: u32, reg: u8, byte: u8) -> Option<u32>
-        ensures { result ≡ option_and_then (numbers.register_number reg byte)
-            (option_map (kept_member self.now.segments.items) (nth self.now.members.items pid)) }
-    {
-        match self.member(pid) {
-            Some(member) => register_number(&member.registers, reg, byte),
-            None => None,
-        }
+/// The number of a byte of a member's registers.
+fn register_byte(group: &Group, pid: u32, reg: u8, byte: u8) -> Option<u32>
+    ensures { result ≡ option_and_then (numbers.register_number reg byte)
+        (option_map (kept_member group.now.segments.items) (nth group.now.members.items pid)) }
+{
+    match member(group, pid) {
+        Some(member) => register_number(&member.registers, reg, byte),
+        None => None,
     }
+}
 
-    /// The number of a byte, if the group has such a byte.
-    fn number(&self, point: Point) -> Option<u32>
-        requires sound { IsSoundGroup self.now }
-        ensures { result ≡ numbers.point_number (kept_of self.now) point }
-    {
-        match point {
-            Point::Event { event, at } => self.event_byte(event, at),
-            Point::Start { event, at } => self.start_byte(event, at),
-            Point::Mem { pid, at } => self.memory_byte(pid, at),
-            Point::Reg { pid, reg, byte } => self.register_byte(pid, reg, byte),
-        }
+/// The number of a byte, if the group has such a byte.
+fn number(group: &Group, point: Point) -> Option<u32>
+    requires sound { IsSoundGroup group.now }
+    ensures { result ≡ numbers.point_number (kept_of group.now) point }
+{
+    match point {
+        Point::Event { event, at } => event_byte(group, event, at),
+        Point::Start { event, at } => start_byte(group, event, at),
+        Point::Mem { pid, at } => memory_byte(group, pid, at),
+        Point::Reg { pid, reg, byte } => register_byte(group, pid, reg, byte),
     }
+}
 
-    /// The items of a byte, none where the group has no such byte.
-    pub fn local(&self, point: Point) -> Option<KeptItems<'_>>
-        requires sound { IsSoundGroup self.now }
-        ensures { option_map listed result ≡ answer (shown (kept_of self.now)) point }
-    {
-        match self.number(point) {
-            Some(number) => Some(lent(&self.sets, self.rules.begun, number)),
-            None => None,
-        }
+/// The items of a byte, none where the group has no such byte.
+pub fn local(group: &Group, point: Point) -> Option<KeptItems<'_>>
+    requires sound { IsSoundGroup group.now }
+    ensures { option_map listed result ≡ answer (shown (kept_of group.now)) point }
+{
+    match number(group, point) {
+        Some(number) => Some(lent(&group.sets, group.rules.begun, number)),
+        None => None,
     }
 }

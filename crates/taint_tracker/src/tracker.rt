@@ -1,20 +1,21 @@
 // Who follows a group.
 ghost use Rattle.std.specs.Prelude.{◌≡◌, IfOk, IsErr, OnErr, OnOk, option_map};
-ghost use Rattle.taint_tracker.specs.Asked.{answer};
+ghost use Rattle.taint_state.specs.Asked.{answer};
 ghost use Rattle.taint_tracker.specs.Followed.{HasNoByte, IsLost};
-ghost use Rattle.taint_tracker.specs.Goes.{TakesBegin, TakesEvent, TakesInstr, nothing_tracked};
+ghost use Rattle.taint_state.specs.Goes.{TakesBegin, TakesEvent, TakesInstr, nothing_tracked};
 ghost use Rattle.taint_tracker.specs.Items.{listed};
-ghost use Rattle.taint_tracker.specs.Kept.{shown};
+ghost use Rattle.taint_state.specs.Kept.{shown};
 
-use crate::group::Group;
+use crate::answers::local;
 use crate::items::KeptItems;
-use crate::point::Point;
 use acts_model::Observer;
 use arn_base::{Cpu, NoMemory, Record};
 use rv64_isa::Instr;
 use rv64_model::Linkage;
 use std::alloc::Global;
 use std::marker::Model;
+use taint_group::Group;
+use taint_state::Point;
 
 /// Follows one group. A step that fails leaves nothing to tell: from then on each call fails.
 #[derive(Drop)]
@@ -26,8 +27,8 @@ pub struct Tracker {
 impl Model for Tracker {
     ghost use Rattle.std.specs.Prelude.{◌≡◌, false};
     ghost use Rattle.taint_tracker.specs.Followed.{kept_unless};
-    ghost use Rattle.taint_tracker.specs.Groups.{IsSoundGroup};
-    ghost use Rattle.taint_tracker.specs.Kept.{Kept};
+    ghost use Rattle.taint_group.specs.Groups.{IsSoundGroup};
+    ghost use Rattle.taint_state.specs.Kept.{Kept};
 
     ghost Value = { Kept };
 
@@ -45,22 +46,22 @@ impl Tracker {
         Ok(Tracker { group, lost: false })
     }
 
-    /// The items of a byte of the group so far. None where the group has no such byte, and of each byte
-    /// once a step failed.
+    /// The items of a byte of the group so far. None where the group has no such byte, and of each
+    /// byte once a step failed.
     pub fn local(&self, point: Point) -> Option<KeptItems<'_>>
         ensures { option_map listed result ≡ answer (shown self.now) point }
     {
         if self.lost {
             None
         } else {
-            self.group.local(point)
+            local(&self.group, point)
         }
     }
 }
 
 impl Observer for Tracker {
-    ghost use Rattle.taint_tracker.specs.Goes.{TakesBegin, TakesEvent, TakesInstr};
-    ghost use Rattle.taint_tracker.specs.Kept.{shown};
+    ghost use Rattle.taint_state.specs.Goes.{TakesBegin, TakesEvent, TakesInstr};
+    ghost use Rattle.taint_state.specs.Kept.{shown};
 
     ghost begins = { λ x pid event parent y. TakesBegin (shown x) pid event parent (shown y) };
 

@@ -1,6 +1,6 @@
 use Rattle.std.proofs.Common.{ap, arith, subst, sym, List, ◌≡◌, ◌≤◌}
 use Rattle.set_store.specs.declared.item.Item.{Item}
-use Rattle.taint_tracker.specs.Shown.{AreItems}
+use Rattle.taint_state.specs.Shown.{AreItems}
 use Rattle.history_model.specs.Events.{event_at}
 use Rattle.lineage_model.specs.Flow.{Byte}
 use Rattle.lineage_join.specs.Laws.{reaches}

@@ -1,7 +1,7 @@
 use Rattle.std.proofs.Common.{List, sym, subst}
 use Rattle.std.proofs.lemmas.Result.{IfOk-weaker}
 use Rattle.set_store.specs.declared.item.Item.{Item}
-use Rattle.taint_tracker.specs.Shown.{AreItems}
+use Rattle.taint_state.specs.Shown.{AreItems}
 use Rattle.lineage_join.specs.Places.{at_of}
 use Rattle.lineage_join.proofs.step.items_of.Goals as goal
 

@@ -1,4 +1,4 @@
-use Rattle.taint_tracker.specs.Kept.{shown}
+use Rattle.taint_state.specs.Kept.{shown}
 use Rattle.taint_laws.proofs.Told.{told-holds}
 use Rattle.taint_laws.proofs.law.told_holds.Goals as goal
 

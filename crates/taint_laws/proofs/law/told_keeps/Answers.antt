@@ -1,4 +1,4 @@
-use Rattle.taint_tracker.specs.Kept.{shown}
+use Rattle.taint_state.specs.Kept.{shown}
 use Rattle.taint_laws.proofs.Told.{told-shows}
 use Rattle.taint_laws.proofs.law.told_keeps.Goals as goal
 

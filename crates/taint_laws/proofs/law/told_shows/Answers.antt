@@ -1,4 +1,4 @@
-use Rattle.taint_tracker.specs.Shown.{Tracking}
+use Rattle.taint_state.specs.Shown.{Tracking}
 use Rattle.taint_laws.proofs.Told.{told-shows}
 use Rattle.taint_laws.proofs.law.told_shows.Goals as goal
 

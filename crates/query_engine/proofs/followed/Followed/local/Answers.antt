@@ -2,7 +2,7 @@ use Rattle.std.proofs.Common.{List, [], Option, option_map, unwrap_or, sym, subs
 use Rattle.lineage_join.specs.Places.{at_of}
 use Rattle.set_store.specs.declared.item.Item.{Item}
 use Rattle.taint_tracker.specs.Items.{listed}
-use Rattle.taint_tracker.specs.Shown.{AreItems}
+use Rattle.taint_state.specs.Shown.{AreItems}
 use Rattle.query_engine.specs.Following.{Following, items_followed}
 use Rattle.query_engine.proofs.Locals.{local-told}
 use Rattle.query_engine.proofs.followed.Followed.local.Goals as goal

@@ -1,8 +1,8 @@
 use Rattle.std.proofs.Common.{◌≡◌, ◌∙◌, ℕ, false, Option, Some, None, is_some, sym, subst}
-use Rattle.taint_tracker.specs.Goes.{TakesBegin}
-use Rattle.taint_tracker.specs.Groups.{kept_of}
-use Rattle.taint_tracker.specs.Kept.{Kept, shown}
-use Rattle.taint_tracker.proofs.Happening.{kept-now}
+use Rattle.taint_state.specs.Goes.{TakesBegin}
+use Rattle.taint_group.specs.Groups.{kept_of}
+use Rattle.taint_state.specs.Kept.{Kept, shown}
+use Rattle.taint_tracker.proofs.Following.{kept-now}
 use Rattle.taint_tracker.proofs.tracker.TrackerObserver.begin.Goals as goal
 
 none-of : (o : Option ℕ) → is_some o ≡ false → None ≡ o

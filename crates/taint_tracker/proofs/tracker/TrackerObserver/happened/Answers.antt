@@ -1,8 +1,8 @@
 use Rattle.std.proofs.Common.{subst}
-use Rattle.taint_tracker.specs.Goes.{TakesEvent}
-use Rattle.taint_tracker.specs.Groups.{kept_of}
-use Rattle.taint_tracker.specs.Kept.{Kept, shown}
-use Rattle.taint_tracker.proofs.Happening.{kept-now}
+use Rattle.taint_state.specs.Goes.{TakesEvent}
+use Rattle.taint_group.specs.Groups.{kept_of}
+use Rattle.taint_state.specs.Kept.{Kept, shown}
+use Rattle.taint_tracker.proofs.Following.{kept-now}
 use Rattle.taint_tracker.proofs.tracker.TrackerObserver.happened.Goals as goal
 
 pub returns-clause-takes : goal.returns-clause-takes

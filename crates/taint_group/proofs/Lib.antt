@@ -1,0 +1,13 @@
+pub mod Tables
+pub mod Changes
+pub mod Changing
+pub mod HeldShown
+pub mod TablesFork
+pub mod TablesForking
+pub mod TablesReceive
+pub mod TablesReceiving
+pub mod Groups
+pub mod Turning
+pub mod Joining
+pub mod Sharing
+pub mod Happening

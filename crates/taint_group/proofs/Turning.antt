@@ -1,0 +1,143 @@
+-- One member of a group changes, and an event is heard.
+use Rattle.std.proofs.Common.{◌≡◌, ◌⊎◌, inl, ℕ, zero, suc, ◌≤◌, ◌<◌, List, [], ◌∷◌, length, slice_index_or, Option, Some, None, IfSome, IsSomeAnd, option_map, refl, sym, subst, ap, ◌∙◌, arith}
+use Rattle.parts_model.specs.Numbered.{nth}
+use Rattle.set_store.specs.declared.item.Item.{Item}
+use Rattle.set_store.specs.Sets.{StandAsBefore}
+use Rattle.acts_model.specs.Moved.{Inside}
+use Rattle.taint_members.specs.Access.{held_numbers}
+use Rattle.taint_members.specs.declared.member.MemberSets.{MemberSets}
+use Rattle.taint_members.specs.declared.member.Shared.{Shared}
+use Rattle.taint_steps.specs.Table.{Tables}
+use Rattle.taint_steps.specs.declared.taking.Rules.{Rules}
+use Rattle.taint_group.proofs.Changes.{HoldsSame}
+use Rattle.taint_group.proofs.Changing.{tables-change}
+use Rattle.taint_state.specs.Events.{Becomes, Hears, StartsTo}
+use Rattle.taint_state.specs.EventsShow.{Follows}
+use Rattle.taint_group.specs.Groups.{ReturnsAs, ReturnsIn, ReturnsOne}
+use Rattle.taint_state.specs.Heard.{kept_child}
+use Rattle.taint_state.specs.Kept.{Kept, KeptHeard, KeptMember}
+use Rattle.taint_state.specs.RunsShow.{kept_member}
+use Rattle.taint_group.specs.Tables.{AreKeyed, AreSoundTables, kept_in}
+use Rattle.taint_group.specs.Turns.{ChangesIn, ChangesOne, Ends, FoundsFrom, LivesAs, StartsAs}
+use Rattle.std.specs.Global.{Box}
+use Rattle.taint_state.specs.declared.heard.ChildStart.{ChildStart}
+use Rattle.taint_state.specs.declared.heard.HeardEvent.{HeardEvent}
+use Rattle.taint_group.proofs.Groups.{tables_with}
+
+pub nth-place : {X : Type 0} (xs : List (Option X)) (k : ℕ) (d : Option X) → k < length xs → nth xs k ≡ slice_index_or xs k d
+nth-place [] k d h = absurd (omega arith)
+nth-place (x ∷ xs) zero d h = refl
+nth-place (x ∷ xs) (suc k) d h = nth-place xs k d (omega arith)
+
+pub nth-past : {X : Type 0} (xs : List (Option X)) (k : ℕ) → length xs ≤ k → nth xs k ≡ None
+nth-past [] k h = refl
+nth-past (x ∷ xs) zero h = absurd (omega arith)
+nth-past (x ∷ xs) (suc k) h = nth-past xs k (omega arith)
+
+-- what holds of the entry holds of the member of its number
+pub of-place : {X : Type 0} (P : Option X → Type 0) (xs : List (Option X)) (k : ℕ) (d : Option X) → k < length xs → P (slice_index_or xs k d) → P (nth xs k)
+of-place P xs k d below h = subst P (sym (nth-place xs k d below)) h
+
+-- and what holds where there is none
+pub of-none : {X : Type 0} (P : Option X → Type 0) (xs : List (Option X)) (k : ℕ) → length xs ≤ k → P None → P (nth xs k)
+of-none P xs k past h = subst P (sym (nth-past xs k past)) h
+
+-- sets stand as they stand
+pub stand-still : (sets : List (List Item)) → StandAsBefore sets sets
+stand-still sets = record { there = λ set h. h; same = λ set h. refl }
+
+-- who ends holds nothing
+pub ends-hold : (old : MemberSets) (new : Option MemberSets) → Ends old new → HoldsSame new (Some old)
+ends-hold old new e = subst (λ o. HoldsSame o (Some old)) (sym e) tt
+
+-- what is kept goes on where a member of sound tables changes
+pub changes-go : (As : MemberSets → Option MemberSets → Type 0) (inside : MemberSets → Inside) (rules : Rules) (pid : ℕ) (event : KeptHeard) (members after : List (Option MemberSets)) (segments : List (List ℕ)) (sets new : List (List Item)) (heard then : List KeptHeard)
+    → Hears event heard then → AreSoundTables rules heard (tables_with members segments sets) → StandAsBefore sets new → ((o : MemberSets) (m : Option MemberSets) → As o m → HoldsSame m (Some o))
+    → ((o : MemberSets) → nth members pid ≡ Some o → (m : Option MemberSets) → As o m
+    → Becomes pid (kept_member segments o) (option_map (kept_member segments) m) event (kept_in rules heard (tables_with members segments sets)) (kept_in rules then (tables_with after segments new))
+    → Follows (inside o) (kept_in rules heard (tables_with members segments sets)) (kept_in rules then (tables_with after segments new)))
+    → ChangesIn As pid members after
+    → IfSome (nth members pid) (λ o.
+    Follows (inside o) (kept_in rules heard (tables_with members segments sets)) (kept_in rules then (tables_with after segments new)) × AreKeyed (tables_with after segments new))
+changes-go As inside rules pid event members after segments sets new heard then hears sound stand holds show step = of (nth members pid) refl step
+  where
+    x : Tables
+    x = tables_with members segments sets
+
+    y : Tables
+    y = tables_with after segments new
+
+    of : (o : Option MemberSets) → nth members pid ≡ o → IfSome o (ChangesOne As pid members after)
+        → IfSome o (λ old. Follows (inside old) (kept_in rules heard x) (kept_in rules then y) × AreKeyed y)
+    of None is one = tt
+    of (Some old) is one =
+        let changed = tables-change rules heard then pid old one.new event x y sound hears (record {
+          was = is;
+          members = one.members;
+          segments = refl;
+          sets = stand;
+          holds = holds old one.new one.becomes;
+        }) in (show old is one.new one.becomes changed.becomes, changed.keyed)
+
+-- the same where the tables stand elsewhere
+pub changes-group : (As : MemberSets → Option MemberSets → Type 0) (inside : MemberSets → Inside) (rules : Rules) (pid : ℕ) (event : KeptHeard) (members was now after : List (Option MemberSets)) (segments : List (List ℕ)) (sets new : List (List Item)) (heard then : List KeptHeard)
+    → was ≡ members → after ≡ now → Hears event heard then → AreSoundTables rules heard (tables_with members segments sets) → StandAsBefore sets new
+    → ((o : MemberSets) (m : Option MemberSets) → As o m → HoldsSame m (Some o))
+    → ((o : MemberSets) → nth members pid ≡ Some o → (m : Option MemberSets) → As o m
+    → Becomes pid (kept_member segments o) (option_map (kept_member segments) m) event (kept_in rules heard (tables_with members segments sets)) (kept_in rules then (tables_with now segments new))
+    → Follows (inside o) (kept_in rules heard (tables_with members segments sets)) (kept_in rules then (tables_with now segments new)))
+    → ChangesIn As pid was now
+    → IfSome (nth members pid) (λ o.
+    Follows (inside o) (kept_in rules heard (tables_with members segments sets)) (kept_in rules then (tables_with after segments new)) × AreKeyed (tables_with after segments new))
+changes-group As inside rules pid event members was now after segments sets new heard then same later hears sound stand holds show step =
+    subst (λ (z : List (Option MemberSets)). IfSome (nth members pid) (λ o. Follows (inside o) (kept_in rules heard (tables_with members segments sets)) (kept_in rules then (tables_with z segments new)) × AreKeyed (tables_with z segments new)))
+    (sym later)
+    (changes-go As inside rules pid event members now segments sets new heard then hears sound stand holds show (subst (λ z. ChangesIn As pid z now) same step))
+
+-- who lives on holds what it held, or nothing
+pub lives-hold : (As : MemberSets → MemberSets → Type 0) → ((o n : MemberSets) → As o n → (n.segment ≡ o.segment) ⊎ (n.segment ≡ None)) → (o : MemberSets) (m : Option MemberSets) → LivesAs As o m → HoldsSame m (Some o)
+lives-hold As same o None lives = absurd lives
+lives-hold As same o (Some n) lives = same o n lives
+
+-- who ends becomes none
+pub becomes-none : (pid : ℕ) (k : KeptMember) (segments : List (List ℕ)) (m : Option MemberSets) (event : KeptHeard) (x y : Kept) → m ≡ None → Becomes pid k (option_map (kept_member segments) m) event x y → Becomes pid k None event x y
+becomes-none pid k segments m event x y e h = subst (λ z. Becomes pid k (option_map (kept_member segments) z) event x y) e h
+
+-- who lives on becomes another
+pub becomes-some : {Q : Type 0} (As : MemberSets → MemberSets → Type 0) (o : MemberSets) (m : Option MemberSets) (pid : ℕ) (k : KeptMember) (segments : List (List ℕ)) (event : KeptHeard) (x y : Kept) → LivesAs As o m
+    → Becomes pid k (option_map (kept_member segments) m) event x y → ((n : MemberSets) → As o n → Becomes pid k (Some (kept_member segments n)) event x y → Q) → Q
+becomes-some As o None pid k segments event x y lives becomes next = absurd lives
+becomes-some As o (Some n) pid k segments event x y lives becomes next = next n lives becomes
+
+-- a fact of the member of a number, where the table stands elsewhere
+pub of-member : (P : MemberSets → Type 0) (members was : List (Option MemberSets)) (pid : ℕ) (o : MemberSets) → was ≡ members → nth members pid ≡ Some o → IfSome (nth was pid) P → P o
+of-member P members was pid o same is h = subst (λ z. IfSome z P) (ap (λ l. nth l pid) same ∙ is) h
+
+-- a call's return, as one of the changes
+pub returns-change : (pid : ℕ) (before after : List (Option MemberSets)) → ReturnsIn pid before after → ChangesIn (LivesAs ReturnsAs) pid before after
+returns-change pid before after returns = of (nth before pid) returns
+  where
+    of : (o : Option MemberSets) → IfSome o (ReturnsOne pid before after) → IfSome o (ChangesOne (LivesAs ReturnsAs) pid before after)
+    of None h = tt
+    of (Some old) one = record { new = Some one.new; becomes = one.becomes; members = one.members }
+
+pub returned-holds : (o : MemberSets) (m : Option MemberSets) → LivesAs ReturnsAs o m → HoldsSame m (Some o)
+returned-holds = lives-hold ReturnsAs (λ o n to. inl (ap (λ (m : MemberSets). m.segment) to.others))
+
+-- the child that starts a group is there
+pub becomes-child : {Q : Type 0} (o : MemberSets) (start : Option (Box ChildStart)) (pid : ℕ) (k : KeptMember) (m : Option KeptMember) (event : ℕ) (numbers : List ℕ) (x y : Kept) → IsSomeAnd start (FoundsFrom o)
+    → Becomes pid k m (record { event = event; numbers = numbers; start = option_map kept_child start }) x y
+    → ((s : Box ChildStart) → FoundsFrom o s → Becomes pid k m (record { event = event; numbers = numbers; start = Some (kept_child s) }) x y → Q) → Q
+becomes-child o None pid k m event numbers x y founds becomes next = absurd founds
+becomes-child o (Some s) pid k m event numbers x y founds becomes next = next s founds becomes
+
+-- what starts anew is kept so
+pub started-to : (segments : List (List ℕ)) (event load : ℕ) (numbers : List ℕ) (block block_len : ℕ) (old new : MemberSets) → StartsAs segments event load numbers block block_len old new
+    → StartsTo event load numbers block block_len (kept_member segments old) (kept_member segments new)
+started-to segments event load numbers block block_len old new to = record {
+  holds = ap (λ made. record { window = made; segment = option_map (λ (shared : Shared). shared.made) new.segment }) to.made ∙ ap (λ (o : Option Shared). record { window = event; segment = option_map (λ (shared : Shared). shared.made) o }) to.segment;
+  registers = to.registers;
+  slot = to.slot;
+  window = to.window;
+  segment = ap (λ (o : Option Shared). held_numbers o segments) to.segment;
+}

@@ -1,0 +1,5 @@
+pub mod Tables
+pub mod Groups
+pub mod Moves
+pub mod Turns
+pub mod Does

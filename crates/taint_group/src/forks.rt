@@ -1,0 +1,59 @@
+// A child that joins the group.
+ghost use Rattle.std.specs.Prelude.{IfOk, OnOk};
+ghost use Rattle.acts_model.specs.Transfers.{Forks, Holds};
+ghost use Rattle.parts_model.specs.Numbered.{nth};
+ghost use Rattle.taint_group.specs.Groups.{IsSoundGroup};
+ghost use Rattle.taint_group.specs.Moves.{HasChild, MayPlace};
+ghost use Rattle.taint_group.specs.Turns.{StepsFrom};
+
+use crate::group::{Group, return_member};
+use crate::places::place;
+use arn_base::NoMemory;
+use taint_events::empty;
+use taint_members::MemberSets;
+use taint_state::forks_show;
+
+/// The child of the member of a number, if there is one.
+fn child_of(
+    members: &[Option<MemberSets>],
+    pid: u32,
+    event: u64,
+) -> Result<Option<MemberSets>, NoMemory>
+    ensures { IfOk result (HasChild event (nth members.now pid)) }
+{
+    match members.get(pid as usize) {
+        Some(Some(member)) => Ok(Some(member.child(event)?)),
+        _ => Ok(None),
+    }
+}
+
+/// A member that may begin does so at a number.
+fn may_place(
+    members: &mut Vec<Option<MemberSets>>,
+    pid: u32,
+    member: Option<MemberSets>,
+) -> Result<(), NoMemory>
+    ensures { OnOk result (MayPlace pid member members.old.items members.new.items) }
+{
+    match member {
+        Some(member) => place(members, pid, member),
+        None => Ok(()),
+    }
+}
+
+impl Group {
+    /// A live member makes a child in the group, in the place of a member that may be there. After
+    /// an error nothing is known of what is kept.
+    pub fn forks(&mut self, pid: u32, child: u32, event: u64, len: usize) -> Result<(), NoMemory>
+        requires sound { IsSoundGroup self.old }
+        ensures { OnOk result (StepsFrom (λ (holds : Holds). Forks pid child holds.window event)
+            pid event len self.old self.new) }
+    {
+        forks_show();
+        let numbers = empty(*self.members.allocator(), len)?;
+        let kid = child_of(self.members.as_slice(), pid, event)?;
+        return_member(self.members.as_mut_slice(), pid);
+        may_place(&mut self.members, child, kid)?;
+        self.heard.hear(event, numbers)
+    }
+}

@@ -1,0 +1,85 @@
+// Events of a group.
+ghost use Rattle.std.specs.Prelude.{◌≡◌, IfOk, OnOk, is_some};
+ghost use Rattle.parts_model.specs.Numbered.{nth};
+ghost use Rattle.taint_state.specs.declared.deeds.Deed.TheVariants as did;
+ghost use Rattle.taint_group.specs.Does.{DoesStep};
+ghost use Rattle.taint_state.specs.Goes.{TakesEvent};
+ghost use Rattle.taint_group.specs.Groups.{IsSoundGroup, kept_of};
+ghost use Rattle.taint_state.specs.Kept.{shown};
+
+use crate::group::Group;
+use arn_base::{Cpu, NoMemory, Record};
+use taint_state::{Deed, acts_have_len, deed_of, event_len, process_of};
+
+/// The number of a process. 2^32 or more count as want of memory.
+fn narrow_pid(number: u64) -> Result<u32, NoMemory>
+    ensures { IfOk result (λ pid. pid ≡ number) }
+{
+    if number < 1 << 32 {
+        Ok(number as u32)
+    } else {
+        Err(NoMemory)
+    }
+}
+
+impl Group {
+    /// Whether a member of this number lives.
+    fn is_live(&self, pid: u32) -> bool
+        ensures { result ≡ is_some (nth self.now.members.items pid) }
+    {
+        matches!(self.members.get(pid as usize), Some(Some(_)))
+    }
+
+    /// A live member makes a child in the group. A number of a process that is 2^32 or more counts
+    /// as want of memory.
+    fn joins(&mut self, pid: u32, child: u64, event: u64, len: usize) -> Result<(), NoMemory>
+        requires sound { IsSoundGroup self.old }
+        ensures { OnOk result
+            (DoesStep (did.Forks child) pid event len self.old self.new) }
+    {
+        let child = narrow_pid(child)?;
+        self.forks(pid, child, event, len)
+    }
+
+    /// A live member does this at an event of so many bytes.
+    fn step(&mut self, pid: u32, event: u64, deed: Deed, len: usize) -> Result<(), NoMemory>
+        requires sound { IsSoundGroup self.old }
+        ensures { OnOk result (DoesStep deed pid event len self.old self.new) }
+    {
+        match deed {
+            Deed::Returns => self.returns(pid, event, len),
+            Deed::Receives { at } => self.receives(pid, event, at, len),
+            Deed::Gives { at } => self.gives(pid, event, at, len),
+            Deed::Starts(layout) => self.starts(pid, event, len, layout),
+            Deed::Forks { child } => self.joins(pid, child, event, len),
+            Deed::Founds => self.founds(pid, event, len),
+            Deed::Shares => self.shares(pid, event, len),
+            Deed::Leaves => self.leaves(pid, event, len),
+            Deed::Delivers { cut } => self.delivers(pid, cut, event, len),
+            Deed::Exits => self.exits(pid, event, len),
+            Deed::Faults => self.faults(pid, event, len),
+            Deed::Dies => self.dies(pid, event, len),
+        }
+    }
+
+    /// An event happens, with the registers before it. One of no live member changes nothing. After
+    /// an error nothing is known of what is kept.
+    pub fn happened(&mut self, event: u64, entry: &Record, before: &Cpu) -> Result<(), NoMemory>
+        requires sound { IsSoundGroup self.old }
+        ensures takes { OnOk result (TakesEvent (shown (kept_of self.old))
+            event entry.now before.now (shown (kept_of self.new))) }
+        ensures sound { OnOk result (IsSoundGroup self.new) }
+    {
+        acts_have_len();
+        let Some(pid) = process_of(entry) else {
+            return Ok(());
+        };
+        let Some(deed) = deed_of(before, entry) else {
+            return Ok(());
+        };
+        if !self.is_live(pid) {
+            return Ok(());
+        }
+        self.step(pid, event, deed, event_len(entry) as usize)
+    }
+}

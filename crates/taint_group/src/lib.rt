@@ -1,0 +1,18 @@
+//! Follows each step of a group's members in tables: of members by number, of segments by key, and
+//! of events.
+#![tactic(auto)]
+
+mod begin;
+mod ends;
+mod forks;
+mod founds;
+mod gives;
+mod group;
+mod happens;
+mod places;
+mod receives;
+mod shares;
+mod starts;
+mod turns;
+
+pub use group::Group;

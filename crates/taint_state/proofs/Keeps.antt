@@ -1,0 +1,215 @@
+-- What is kept stays sound by an instruction.
+use Rattle.std.proofs.Common.{◌≡◌, ◌≢◌, ℕ, ◌+◌, ◌-◌, ◌<◌, ◌==◌, ◌&&◌, nat_lt, Bool, true, false, if◌then◌else◌, List, [], length, take, slice_index, slice_index_or, Option, Some, None, IfSome, option_map, refl, sym, subst, ap, ◌∙◌, inl, inr, ◌⊎◌, ◌≤◌, arith}
+use Rattle.std.proofs.lemmas.Bool.{eqb-true, eqb-false, ltb-true, ltb-false}
+use Rattle.std.proofs.lemmas.List.{get_or-take, length-take-le}
+use Rattle.std.proofs.lemmas.Grind.{common_steps}
+use Rattle.arn_base.specs.declared.machine.Cpu.{Cpu}
+use Rattle.rv64_isa.specs.declared.instruction.Instr.{Instr}
+use Rattle.rv64_model.specs.Operands.{accessed, rd_of, stored_len}
+use Rattle.parts_model.specs.declared.limits.TheConstants.{WINDOW_START, SEGMENT_START}
+use Rattle.parts_model.specs.Numbered.{nth}
+use Rattle.set_store.specs.declared.item.Item.{Item}
+use Rattle.set_store.specs.Sets.{IsSet, StandAsBefore}
+use Rattle.acts_model.specs.Transfers.{is_private, is_shared}
+use Rattle.taint_flow.specs.Gathered.{first_start}
+use Rattle.taint_members.specs.Access.{ByTest, Segments, WritesHeld, held_numbers}
+use Rattle.taint_members.specs.declared.member.MemberSets.{MemberSets}
+use Rattle.taint_members.specs.declared.member.Shared.{Shared}
+use Rattle.taint_pages.specs.Pages.{Puts}
+use Rattle.taint_pages.specs.Rows.{byte_in}
+use Rattle.taint_steps.specs.Running.{StoresSegment, StoresWindow}
+use Rattle.taint_state.specs.Kept.{Kept, KeptHeard, KeptMember, KeptStart, heard_among}
+use Rattle.taint_state.specs.RunsShow.{RunsIn, RunsKeep, is_same, sees}
+use Rattle.taint_state.specs.Sound.{AreRawIn, AreSetsOfRow, IsSound, IsSoundHeard, IsSoundMember, IsSoundStart}
+use Rattle.taint_state.proofs.Reach.{stored-few}
+use Rattle.taint_state.proofs.Runs.{after_kept, heard-same, if-some, kept-after, own, same-made, was_kept}
+
+-- sets that were added to
+
+row-grows : (old new : List (List Item)) (row : List ℕ) → StandAsBefore old new → AreSetsOfRow old row → AreSetsOfRow new row
+row-grows old new row stand h = λ r i is. (stand.there (byte_in row r i) (h r i is).0, (h r i is).1)
+
+memory-grows : (old new : List (List Item)) (l : List ℕ) → StandAsBefore old new → AreRawIn old l → AreRawIn new l
+memory-grows old new l stand h = λ k small. stand.there (slice_index l k) (h k small)
+
+pub member-grows : (old new : List (List Item)) (m : KeptMember) → StandAsBefore old new → IsSoundMember old m → IsSoundMember new m
+member-grows old new m stand h = record {
+  registers = row-grows old new m.registers stand h.registers;
+  slot = row-grows old new m.slot stand h.slot;
+  window = memory-grows old new m.window stand h.window;
+  segment = memory-grows old new m.segment stand h.segment;
+  window_whole = h.window_whole;
+  segment_whole = h.segment_whole;
+  unheld = h.unheld;
+}
+
+start-grows : (old new : List (List Item)) (s : Option KeptStart) → StandAsBefore old new → IfSome s (IsSoundStart old) → IfSome s (IsSoundStart new)
+start-grows old new None stand h = tt
+start-grows old new (Some s) stand h = record {
+  registers = row-grows old new s.registers stand h.registers;
+  slot = row-grows old new s.slot stand h.slot;
+  window = memory-grows old new s.window stand h.window;
+}
+
+pub heard-grows : (old new : List (List Item)) (o : Option KeptHeard) → StandAsBefore old new → IfSome o (IsSoundHeard old) → IfSome o (IsSoundHeard new)
+heard-grows old new None stand h = tt
+heard-grows old new (Some heard) stand h = record {
+  numbers = λ k. (stand.there (slice_index heard.numbers k) (h.numbers k).0, (h.numbers k).1);
+  start = start-grows old new heard.start stand h.start;
+}
+
+module _ (sets : List (List Item)) (numbers : List ℕ) (len : ℕ) (eight : length numbers ≡ 8) (few : len ≤ 8) (each : (i : ℕ) → i < 8 → IsSet sets (slice_index numbers i)) (zero_set : IsSet sets 0) where
+  puts-sound : (at : ℕ) (old new : List ℕ) → Puts at (take len numbers) old new → AreRawIn sets old → AreRawIn sets new
+  puts-sound at old new puts h k small = by_test (nat_lt k at) (nat_lt k (at + len)) (nat_lt k (length old)) refl refl refl
+    where
+      count : length (take len numbers) ≡ len
+      count = length-take-le len numbers (omega arith)
+
+      as-before : (k < at) ⊎ (at + length (take len numbers) ≤ k) → IsSet sets (slice_index new k)
+      as-before out = let e = puts.kept k out in subst (IsSet sets) (sym e) (h k (omega arith))
+
+      behind : length new ≤ k → slice_index new k ≡ 0
+      behind out = grind (arith, common_steps)
+
+      by_test : (a b c : Bool) → nat_lt k at ≡ a → nat_lt k (at + len) ≡ b → nat_lt k (length old) ≡ c → IsSet sets (slice_index new k)
+      by_test true b c p q r = as-before (inl (ltb-true k at p))
+      by_test false false c p q r = let far = ltb-false k (at + len) q in let size = count in as-before (inr (omega arith))
+      by_test false true true p q r =
+          let low = ltb-false k at p in
+          let high = ltb-true k (at + len) q in
+          let inside = ltb-true k (length old) r in
+          let size = count in
+          let place : at + (k - at) ≡ k = omega arith in
+          subst (IsSet sets) (sym (ap (slice_index new) (sym place) ∙ puts.put (k - at) (omega arith) (omega arith) ∙ get_or-take len numbers (k - at) 0 (omega arith))) (each (k - at) (omega arith))
+      by_test false true false p q r =
+          let out = ltb-false k (length old) r in
+          let same = puts.len in
+          subst (IsSet sets) (sym (behind (omega arith))) zero_set
+
+  window-sound : (acc : Option ℕ) (m n : MemberSets) → StoresWindow acc (take len numbers) m n → AreRawIn sets m.window → AreRawIn sets n.window
+  window-sound None m n s h = subst (AreRawIn sets) (sym s) h
+  window-sound (Some at) m n s h = by_test (is_private at) s
+    where
+      by_test : (b : Bool) → ByTest b (Puts (at - WINDOW_START) (take len numbers) m.window n.window) (n.window ≡ m.window) → AreRawIn sets n.window
+      by_test true s = puts-sound (at - WINDOW_START) m.window n.window s h
+      by_test false s = subst (AreRawIn sets) (sym s) h
+
+  window-len : (acc : Option ℕ) (m n : MemberSets) → StoresWindow acc (take len numbers) m n → length n.window ≡ length m.window
+  window-len None m n s = ap length s
+  window-len (Some at) m n s = by_test (is_private at) s
+    where
+      by_test : (b : Bool) → ByTest b (Puts (at - WINDOW_START) (take len numbers) m.window n.window) (n.window ≡ m.window) → length n.window ≡ length m.window
+      by_test true s = s.len
+      by_test false s = ap length s
+
+  segment-sound : (acc : Option ℕ) (segment : Option Shared) (old new : Segments) → StoresSegment acc (take len numbers) segment old new
+      → AreRawIn sets (held_numbers segment old) → AreRawIn sets (held_numbers segment new) × (length (held_numbers segment new) ≡ length (held_numbers segment old))
+  segment-sound acc None old new s h = (h, refl)
+  segment-sound None (Some shared) old new s h = (subst (λ l. AreRawIn sets (slice_index_or l shared.key [])) (sym s) h, ap (λ l. length (slice_index_or l shared.key [])) s)
+  segment-sound (Some at) (Some shared) old new s h = by_test (is_shared at) s
+    where
+      by_test : (b : Bool) → ByTest b (WritesHeld at (take len numbers) (Some shared) old new) (new ≡ old)
+          → AreRawIn sets (held_numbers (Some shared) new) × (length (held_numbers (Some shared) new) ≡ length (held_numbers (Some shared) old))
+      by_test true s = (puts-sound (at - SEGMENT_START) (slice_index_or old shared.key []) (slice_index_or new shared.key []) s.one h, s.one.len)
+      by_test false s = (subst (λ l. AreRawIn sets (slice_index_or l shared.key [])) (sym s) h, ap (λ l. length (slice_index_or l shared.key [])) s)
+
+none-made : (a b : Option ℕ) → is_same a b ≡ true → b ≢ None
+none-made None b s = absurd (cc)
+none-made (Some k) None s = absurd (cc)
+none-made (Some k) (Some j) s = λ e. cc
+
+module _ (pid : ℕ) (instr : Instr) (before : Cpu) (x y : Kept) (sound : IsSound x) (ran : RunsIn pid instr before x y) where
+  abbrev taken : List ℕ
+  taken = ran.runs.numbers
+
+  each-set : (i : ℕ) → i < 8 → IsSet y.sets (slice_index taken i) × (slice_index taken i < first_start)
+  each-set i b = let one = ran.runs.takes.results.bytes i b in (one.there, one.small)
+
+  abbrev ours : IsSoundMember x.sets (was_kept pid instr before x y sound ran)
+  ours = own pid instr before x y sound ran
+
+  eight : length taken ≡ 8
+  eight = ran.runs.takes.results.len
+
+  registers-sound : AreSetsOfRow y.sets ran.changed.registers
+  registers-sound r i is = by_test ((r == rd_of instr) && nat_lt 0 r) (byte_in ran.changed.registers r i) (ran.runs.register r i is.byte)
+    where
+      by_test : (b : Bool) (v : ℕ) → v ≡ (if b then slice_index taken i else byte_in ran.member.registers r i) → IsSet y.sets v × (v < first_start)
+      by_test true v e = subst (λ n. IsSet y.sets n × (n < first_start)) (sym e) (each-set i is.byte)
+      by_test false v e =
+          let there = ours.registers r i is in
+          subst (λ n. IsSet y.sets n × (n < first_start)) (sym e) (ran.stand.there (byte_in ran.member.registers r i) there.0, there.1)
+
+  set-at : (i : ℕ) → i < 8 → IsSet y.sets (slice_index taken i)
+  set-at i h = (each-set i h).0
+
+  zero-set : IsSet y.sets 0
+  zero-set = ran.stand.there 0 sound.zero
+
+  segment-written : AreRawIn y.sets (held_numbers ran.member.segment ran.written) × (length (held_numbers ran.member.segment ran.written) ≡ length (held_numbers ran.member.segment ran.segments))
+  segment-written =
+      segment-sound y.sets taken (stored_len instr) eight (stored-few instr) set-at zero-set (accessed instr before) ran.member.segment ran.segments ran.written ran.runs.segment
+      (memory-grows x.sets y.sets (held_numbers ran.member.segment ran.segments) ran.stand ours.segment)
+
+  none-held : (s : Option Shared) → option_map (λ (u : Shared). u.made) s ≡ None → held_numbers s ran.written ≡ []
+  none-held None e = refl
+  none-held (Some shared) e = absurd (cc)
+
+  runner-sound : IsSoundMember y.sets (after_kept pid instr before x y sound ran)
+  runner-sound = record {
+    registers = registers-sound;
+    slot = row-grows x.sets y.sets ran.member.slot ran.stand ours.slot;
+    window =
+        window-sound y.sets taken (stored_len instr) eight (stored-few instr) set-at zero-set (accessed instr before) ran.member ran.changed ran.runs.window (memory-grows x.sets y.sets ran.member.window ran.stand ours.window);
+    segment = segment-written.0;
+    window_whole = window-len y.sets taken (stored_len instr) eight (stored-few instr) set-at zero-set (accessed instr before) ran.member ran.changed ran.runs.window ∙ ours.window_whole;
+    segment_whole = λ made e. segment-written.1 ∙ ours.segment_whole made e;
+    unheld = λ e. none-held ran.member.segment e;
+  }
+
+  abbrev after_this : KeptMember
+  after_this = after_kept pid instr before x y sound ran
+
+  other-sound : (other : KeptMember) → IsSoundMember x.sets other → IsSoundMember y.sets (sees after_this other)
+  other-sound other h = by_test (is_same after_this.holds.segment other.holds.segment) refl
+    where
+      grown : IsSoundMember y.sets other
+      grown = member-grows x.sets y.sets other ran.stand h
+
+      by_test : (b : Bool) → is_same after_this.holds.segment other.holds.segment ≡ b → IsSoundMember y.sets (if b then record other { segment = after_this.segment } else other)
+      by_test true e = record {
+        registers = grown.registers;
+        slot = grown.slot;
+        window = grown.window;
+        segment = runner-sound.segment;
+        window_whole = grown.window_whole;
+        segment_whole = λ made held. runner-sound.segment_whole made (same-made after_this.holds.segment other.holds.segment made e held);
+        unheld = λ held. absurd (none-made after_this.holds.segment other.holds.segment e held);
+      }
+      by_test false e = grown
+
+  members-sound : (q : ℕ) → IfSome (nth y.members q) (IsSoundMember y.sets)
+  members-sound q = by_test (q == pid) refl
+    where
+      by_other : (o : Option KeptMember) → IfSome o (IsSoundMember x.sets) → IfSome (option_map (sees after_this) o) (IsSoundMember y.sets)
+      by_other None h = tt
+      by_other (Some other) h = other-sound other h
+
+      by_test : (b : Bool) → (q == pid) ≡ b → IfSome (nth y.members q) (IsSoundMember y.sets)
+      by_test true e =
+          if-some (IsSoundMember y.sets) (nth y.members q) after_this (ap (nth y.members) (eqb-true q pid e) ∙ ran.is ∙ ap Some (kept-after pid instr before x y sound ran)) runner-sound
+      by_test false e =
+          subst (λ o. IfSome o (IsSoundMember y.sets)) (sym (ran.others q (eqb-false q pid e) ∙ ap (λ k. option_map (sees k) (nth x.members q)) (kept-after pid instr before x y sound ran)))
+          (by_other (nth x.members q) (sound.members q))
+
+  keeps : IsSound y
+  keeps = record {
+    zero = zero-set;
+    empty = ran.stand.same 0 sound.zero ∙ sound.empty;
+    members = members-sound;
+    heard = λ event.
+        subst (λ l. IfSome (heard_among l event) (IsSoundHeard y.sets)) (sym (heard-same pid instr before x y sound ran)) (heard-grows x.sets y.sets (heard_among x.heard event) ran.stand (sound.heard event));
+  }
+
+pub runs-keep : RunsKeep
+runs-keep = λ pid instr before x y sound ran. keeps pid instr before x y sound ran

@@ -1,0 +1,23 @@
+mod Worked
+pub mod Result
+pub mod Results
+pub mod Reach
+pub mod Taken
+pub mod Written
+pub mod Runs
+pub mod Keeps
+pub mod Flows
+pub mod Goings
+pub mod Calls
+pub mod EndsShown
+pub mod Reading
+pub mod Segments
+pub mod Forking
+pub mod Receiving
+pub mod Received
+pub mod StartingShown
+pub mod BeginningShown
+pub mod Keeping
+pub mod Lying
+pub mod LensShown
+pub mod Ordered

@@ -1,0 +1,157 @@
+-- What the numbers of an instruction's operands show.
+use Rattle.std.proofs.Common.{◌≡◌, ℕ, zero, suc, ◌+◌, ◌-◌, ◌<◌, ◌≤◌, ◌&&◌, nat_le, nat_lt, Bool, true, false, if◌then◌else◌, IsTrue, List, [], ◌∷◌, ◌++◌, slice_index, flat_map, Option, Some, None, option_map, option_and_then, refl, sym, subst, ap, ◌∙◌, arith}
+use Rattle.std.proofs.lemmas.Bool.{leb-true, ltb-true, lt-ltb}
+use Rattle.arn_base.specs.declared.machine.Cpu.{Cpu}
+use Rattle.rv64_isa.specs.declared.instruction.Instr.{Instr}
+use Rattle.rv64_model.specs.Carries.{Operand, Left, Right, Loaded, Address, operands}
+use Rattle.rv64_model.specs.Operands.{accessed, rs1_of, rs2_of}
+use Rattle.parts_model.specs.declared.limits.TheConstants.{WINDOW_START, WINDOW_END, SEGMENT_START, SEGMENT_END}
+use Rattle.set_store.specs.declared.item.Item.{Item}
+use Rattle.set_store.specs.Sets.{IsSet, StandAsBefore, members_of}
+use Rattle.acts_model.specs.Transfers.{Holds, Place, is_private, is_shared, place_at}
+use Rattle.lineage_model.specs.Flow.{Memory, Register, bytes_at, operand_bytes, register_bytes}
+use Rattle.lineage_model.specs.Tracking.{EventByte, Tracked}
+use Rattle.taint_flow.specs.Gathered.{first_start, number_of}
+use Rattle.taint_flow.specs.Names.{loaded_len}
+use Rattle.taint_flow.specs.Starts as starts
+use Rattle.taint_flow.specs.Starts.{AreResolved, IsRaw}
+use Rattle.taint_members.specs.Access.{Segments, held_numbers, number_at}
+use Rattle.taint_members.specs.declared.member.MemberSets.{MemberSets}
+use Rattle.taint_members.specs.declared.member.Shared.{Shared}
+use Rattle.taint_pages.specs.Rows.{byte_in}
+use Rattle.taint_steps.specs.Taking.{IsRead, IsRegister, Takes}
+use Rattle.taint_state.specs.Kept.{Kept, items_of, shown_member}
+use Rattle.taint_state.proofs.Result.{OperandsShow}
+use Rattle.taint_state.specs.RunsShow.{kept_member}
+use Rattle.taint_state.specs.Shown.{AreItems, IsRegisterByte, ShowsMember}
+use Rattle.taint_state.specs.Sound.{IsSound, IsSoundMember}
+use Rattle.taint_state.specs.Steps.{IsWhole}
+use Rattle.taint_state.proofs.Reach.{InReach, all-reach, each-contains, loaded-few}
+
+pub append-none : {X : Type 0} (xs : List X) → xs ++ [] ≡ xs
+append-none [] = refl
+append-none (x ∷ xs) = ap (λ l. x ∷ l) (append-none xs)
+
+pub both-true : (a b : Bool) → (a && b) ≡ true → (a ≡ true) × (b ≡ true)
+both-true true true h = (refl, refl)
+both-true true false h = cc
+both-true false b h = cc
+
+pub private-range : (at : ℕ) → is_private at ≡ true → (WINDOW_START ≤ at) × (at < WINDOW_END)
+private-range at h =
+    let p = both-true (nat_le WINDOW_START at) (nat_lt at WINDOW_END) h in (leb-true WINDOW_START at p.0, ltb-true at WINDOW_END p.1)
+
+pub shared-range : (at : ℕ) → is_shared at ≡ true → (SEGMENT_START ≤ at) × (at < SEGMENT_END)
+shared-range at h =
+    let p = both-true (nat_le SEGMENT_START at) (nat_lt at SEGMENT_END) h in (leb-true SEGMENT_START at p.0, ltb-true at SEGMENT_END p.1)
+
+pub true-is : (b : Bool) → b ≡ true → IsTrue b
+true-is b e = e
+
+-- what a number of a set shows
+pub items-small : (sets : List (List Item)) (begun n : ℕ) → n < first_start → starts.items_of sets begun n ≡ members_of sets n
+items-small sets begun n h = ap (λ (b : Bool). if b then members_of sets n else record { event = begun; at = n - first_start } ∷ []) (lt-ltb n first_start h)
+
+pub move : (a b : List Item) (bytes : List EventByte) → a ≡ b → AreItems b bytes → AreItems a bytes
+move a b bytes e h = subst (λ l. AreItems l bytes) (sym e) h
+
+pub move-bytes : (a : List Item) (b c : List EventByte) → b ≡ c → AreItems a c → AreItems a b
+move-bytes a b c e h = subst (λ l. AreItems a l) (sym e) h
+
+none-items : AreItems [] []
+none-items = λ item. (λ h. h, λ h. h)
+
+module _ (x : Kept) (sound : IsSound x) (pid : ℕ) (m : MemberSets) (segments : Segments) (own : IsSoundMember x.sets (kept_member segments m)) (t : Tracked EventByte)
+    (shows : ShowsMember pid t (shown_member x (kept_member segments m))) where
+  abbrev holds : Holds
+  holds = (kept_member segments m).holds
+
+  zero-shows : (n : ℕ) → n ≡ 0 → AreItems (members_of x.sets n) []
+  zero-shows n e = move (members_of x.sets n) [] [] (ap (members_of x.sets) e ∙ sound.empty) none-items
+
+  -- the number of a byte of a register that an instruction names is that of a set of these
+  register-is : (numbers : List ℕ) (r i : ℕ) → IsRegister m.registers r numbers → i < 8
+      → AreItems (members_of x.sets (slice_index numbers i)) (flat_map t.locations (register_bytes pid r i)) × IsSet x.sets (slice_index numbers i)
+  register-is numbers zero i is b =
+      let none = is.bytes i b in (
+        zero-shows (slice_index numbers i) none,
+        subst (IsSet x.sets) (sym none) sound.zero,
+      )
+  register-is numbers (suc r) i is b =
+      let same = is.1.bytes i b in
+      let number = byte_in m.registers (suc r) i in
+      let bytes = t.locations (Register pid (suc r) i) in
+      let place : IsRegisterByte (suc r) i = record { above = omega arith; below = is.0; byte = b } in
+      let there = own.registers (suc r) i place in (
+        move-bytes (members_of x.sets (slice_index numbers i)) (bytes ++ []) bytes (append-none bytes)
+            (move (members_of x.sets (slice_index numbers i)) (items_of x number) bytes (ap (members_of x.sets) same ∙ sym (items-small x.sets x.begun number there.1)) (shows.registers (suc r) i place)),
+        subst (IsSet x.sets) (sym same) there.0,
+      )
+
+  -- the same in sets that were added to
+  register-shows : (mid : List (List Item)) (numbers : List ℕ) (r i : ℕ) → StandAsBefore x.sets mid → IsRegister m.registers r numbers → i < 8
+      → AreItems (members_of mid (slice_index numbers i)) (flat_map t.locations (register_bytes pid r i))
+  register-shows mid numbers r i stand is b =
+      let there = register-is numbers r i is b in
+      move (members_of mid (slice_index numbers i)) (members_of x.sets (slice_index numbers i)) (flat_map t.locations (register_bytes pid r i)) (stand.same (slice_index numbers i) there.1) there.0
+
+  zero-items : (n : ℕ) → n ≡ 0 → AreItems (items_of x n) []
+  zero-items n e = move (items_of x n) (members_of x.sets n) [] (items-small x.sets x.begun n (omega arith)) (zero-shows n e)
+
+  abbrev at_place : ℕ → ℕ → Place
+  at_place a made = record { made = made; at = a }
+
+  abbrev memory_by : ℕ → Bool → Bool → Option Shared → Option Place
+  memory_by a b c s = option_map (at_place a) (if b then Some m.made else if c then option_map (λ (shared : Shared). shared.made) s else None)
+
+  abbrev number_by : ℕ → ℕ → Bool → Bool → Option Shared → ℕ
+  number_by a k b c s = if b then slice_index m.window (a - WINDOW_START + k) else if c then slice_index (held_numbers s segments) (a - SEGMENT_START + k) else 0
+
+  -- byte k from an address on
+  memory-shows : (a len k : ℕ) → IsWhole (place_at holds a) len → k < len → AreItems (items_of x (number_at m segments a k)) (flat_map t.locations (bytes_at (place_at holds a) k))
+  memory-shows a len k whole h = by_place (is_private a) (is_shared a) m.segment refl refl refl whole
+    where
+      one-byte : (n j : ℕ) (made : ℕ) → n ≡ j → AreItems (items_of x j) (t.locations (Memory made (a + k))) → AreItems (items_of x n) (t.locations (Memory made (a + k)) ++ [])
+      one-byte n j made e s =
+          move-bytes (items_of x n) (t.locations (Memory made (a + k)) ++ []) (t.locations (Memory made (a + k))) (append-none (t.locations (Memory made (a + k))))
+          (move (items_of x n) (items_of x j) (t.locations (Memory made (a + k))) (ap (items_of x) e) s)
+
+      by_place : (b c : Bool) (s : Option Shared) → is_private a ≡ b → is_shared a ≡ c → m.segment ≡ s → IsWhole (memory_by a b c s) len
+          → AreItems (items_of x (number_by a k b c s)) (flat_map t.locations (bytes_at (memory_by a b c s) k))
+      by_place true c s p q e whole =
+          let range = private-range a p in
+          one-byte (slice_index m.window (a - WINDOW_START + k)) (slice_index m.window (a + k - WINDOW_START)) m.made (ap (slice_index m.window) (omega arith))
+          (shows.window (a + k) (true-is (is_private (a + k)) ((whole k h).0 ∙ p)))
+      by_place false true None p q e whole = zero-items (slice_index [] (a - SEGMENT_START + k)) refl
+      by_place false true (Some shared) p q e whole =
+          let range = shared-range a q in
+          let numbers = held_numbers (Some shared) segments in
+          one-byte (slice_index numbers (a - SEGMENT_START + k)) (slice_index numbers (a + k - SEGMENT_START)) shared.made (ap (slice_index numbers) (omega arith))
+          (subst (λ v. AreItems (items_of x (slice_index (held_numbers v segments) (a + k - SEGMENT_START))) (t.locations (Memory shared.made (a + k)))) e
+          (shows.segment shared.made (a + k) (ap (λ v. option_map (λ (u : Shared). u.made) v) e) (true-is (is_shared (a + k)) ((whole k h).1 ∙ q))))
+      by_place false false s p q e whole = zero-items 0 refl
+
+  read-shows : (acc : Option ℕ) (len k : ℕ) (raw : List ℕ) → IsRead acc len m segments raw → IsWhole (option_and_then (place_at holds) acc) len → k < len
+      → AreItems (items_of x (slice_index raw k)) (flat_map t.locations (bytes_at (option_and_then (place_at holds) acc) k))
+  read-shows None len k raw read whole h = zero-items (slice_index raw k) (read.zeros k (omega arith))
+  read-shows (Some a) len k raw read whole h =
+      let place = place_at holds a in
+      move (items_of x (slice_index raw k)) (items_of x (number_at m segments a k)) (flat_map t.locations (bytes_at place k)) (ap (items_of x) (read.bytes k h)) (memory-shows a len k whole h)
+
+  -- what each operand's number shows
+  pub operands-show : (instr : Instr) (before : Cpu) (new : List (List Item)) (numbers : List ℕ) (takes : Takes x.sets new (record { linkage = x.linkage; begun = x.begun }) instr before m segments numbers) (i : ℕ)
+      → i < 8 → IsWhole (option_and_then (place_at holds) (accessed instr before)) (loaded_len instr)
+      → OperandsShow takes.mid (number_of takes.first takes.second takes.loaded) t.locations pid instr (option_and_then (place_at holds) (accessed instr before)) (operands x.linkage instr i)
+  operands-show instr before new numbers takes i b whole operand c =
+      by_operand operand (each-contains (InReach (loaded_len instr)) (operands x.linkage instr i) operand c (all-reach x.linkage instr i b))
+    where
+      by_operand : (o : Operand) → InReach (loaded_len instr) o
+          → AreItems (members_of takes.mid (number_of takes.first takes.second takes.loaded o)) (flat_map t.locations (operand_bytes pid instr (option_and_then (place_at holds) (accessed instr before)) o))
+      by_operand (Left j) h = register-shows takes.mid takes.first (rs1_of instr) j takes.stand takes.of_first h
+      by_operand (Right j) h = register-shows takes.mid takes.second (rs2_of instr) j takes.stand takes.of_second h
+      by_operand (Address j) h = register-shows takes.mid takes.first (rs1_of instr) j takes.stand takes.of_first h
+      by_operand (Loaded k) h =
+          let few = loaded-few instr in
+          let resolved = takes.resolved.all k (omega arith) in
+          move (members_of takes.mid (slice_index takes.loaded k)) (items_of x (slice_index takes.raw k)) (flat_map t.locations (bytes_at (option_and_then (place_at holds) (accessed instr before)) k)) resolved.members
+          (read-shows (accessed instr before) (loaded_len instr) k takes.raw takes.read whole h)

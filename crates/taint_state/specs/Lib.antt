@@ -1,0 +1,12 @@
+pub mod Shown
+pub mod Steps
+pub mod Goes
+pub mod Asked
+pub mod Kept
+pub mod Sound
+pub mod RunsShow
+pub mod Events
+pub mod EventsShow
+pub mod Lens
+pub mod Heard
+pub mod Deeds

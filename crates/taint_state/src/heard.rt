@@ -1,0 +1,139 @@
+// The events of a group by number.
+ghost use Rattle.std.specs.Prelude.{◌≡◌, ◌==◌, [], true, IfErr, IfOk, OnOk, length, option_map};
+ghost use Rattle.taint_state.specs.Events.{Hears, plain_heard};
+ghost use Rattle.taint_state.specs.Heard.{HasMoved, IsGapFor, IsPlaceOf, heard_in, kept_child, kept_heard};
+ghost use Rattle.taint_state.specs.Kept.{heard_among};
+
+use arn_base::NoMemory;
+use std::alloc::Global;
+use std::marker::Model;
+use taint_pages::{Row, SetNumbers};
+
+/// The bytes with which a child began that started a group.
+#[derive(Debug, Drop)]
+pub struct ChildStart {
+    pub registers: Row,
+    pub slot: Row,
+    pub window: SetNumbers,
+}
+
+/// What an event moved: the sets of its bytes, and what a child began with.
+#[derive(Debug, Drop)]
+pub struct Moved {
+    pub numbers: Vec<u32>,
+    pub start: Option<Box<ChildStart>>,
+}
+
+/// An event of a member. One that moved nothing takes no more than this.
+#[derive(Debug, Drop)]
+pub struct HeardEvent {
+    pub event: u64,
+    pub moved: Option<Box<Moved>>,
+}
+
+/// The events that were heard, the latest of each number, by rising numbers.
+#[derive(Drop)]
+pub struct HeardEvents {
+    list: Vec<HeardEvent>,
+}
+
+impl Model for HeardEvents {
+    ghost use Rattle.std.specs.Prelude.{List};
+    ghost use Rattle.taint_state.specs.Heard.{AreInOrder};
+    ghost use Rattle.taint_state.specs.declared.heard.HeardEvent.{HeardEvent};
+
+    ghost Value = { List HeardEvent };
+
+    ghost view = { λ e. e.list.items };
+
+    ghost invariant = { λ e. AreInOrder e.list.items };
+}
+
+/// What an event moved with these bytes and this child, if it moved anything.
+fn keep_moved(
+    alloc: Global,
+    numbers: Vec<u32>,
+    start: Option<Box<ChildStart>>,
+) -> Result<Option<Box<Moved>>, NoMemory>
+    ensures { IfOk result (HasMoved numbers.items (option_map kept_child start)) }
+{
+    if numbers.is_empty() && start.is_none() {
+        Ok(None)
+    } else {
+        Ok(Some(Box::new(alloc, Moved { numbers, start })?))
+    }
+}
+
+impl HeardEvents {
+    /// None was heard.
+    pub fn new(alloc: Global) -> HeardEvents
+        ensures { result ≡ [] }
+    {
+        HeardEvents {
+            list: Vec::new(alloc),
+        }
+    }
+
+    /// None was heard.
+    pub fn is_empty(&self) -> bool
+        ensures { result ≡ true → self.now ≡ [] }
+    {
+        self.list.is_empty()
+    }
+
+    /// The place of an event, or the one at which it would be.
+    fn search(&self, event: u64) -> Result<usize, usize>
+        ensures found { IfOk result (IsPlaceOf self.now event) }
+        ensures missing { IfErr result (IsGapFor self.now event) }
+    {
+        self.list.binary_search_by_key(&event, |heard| heard.event)
+    }
+
+    /// The event of a number.
+    pub fn find(&self, event: u64) -> Option<&HeardEvent>
+        ensures { option_map (λ heard. kept_heard heard.now) result ≡
+            heard_among (heard_in self.now) event }
+    {
+        match self.search(event) {
+            Ok(place) => Some(&self.list[place]),
+            Err(_) => None,
+        }
+    }
+
+    /// An event is heard, in the place of one that had its number.
+    fn put(&mut self, heard: HeardEvent) -> Result<(), NoMemory>
+        ensures { OnOk result
+            (Hears (kept_heard heard) (heard_in self.old) (heard_in self.new)) }
+    {
+        match self.search(heard.event) {
+            Ok(place) => {
+                self.list[place] = heard;
+                Ok(())
+            }
+            Err(place) => Ok(self.list.insert(place, heard)?),
+        }
+    }
+
+    /// An event is heard whose bytes have these sets.
+    pub fn hear(&mut self, event: u64, numbers: Vec<u32>) -> Result<(), NoMemory>
+        ensures { OnOk result
+            (Hears (plain_heard event numbers.items) (heard_in self.old) (heard_in self.new)) }
+    {
+        self.hear_child(event, numbers, None)
+    }
+
+    /// A fork is heard whose child may have started a group with these bytes.
+    pub fn hear_child(
+        &mut self,
+        event: u64,
+        numbers: Vec<u32>,
+        start: Option<Box<ChildStart>>,
+    ) -> Result<(), NoMemory>
+        ensures { OnOk result (Hears
+            (record { event = event; numbers = numbers.items; start = option_map kept_child start })
+            (heard_in self.old) (heard_in self.new)) }
+    {
+        let moved = keep_moved(*self.list.allocator(), numbers, start)?;
+        self.put(HeardEvent { event, moved })
+    }
+}

@@ -1,0 +1,19 @@
+//! What is kept of each byte of a group, what that shows, and what it becomes by each step: as the
+//! definition of tracking by lists says.
+#![tactic(auto)]
+
+mod deeds;
+mod heard;
+mod law;
+mod point;
+mod told;
+
+pub use deeds::{Deed, Layout, deed_of};
+pub use heard::{ChildStart, HeardEvent, HeardEvents, Moved};
+pub use law::{
+    acts_have_len, begins_show, delivers_show, dies_show, exits_show, faults_show, forks_show,
+    founds_show, gives_show, leaves_show, receives_show, returns_show, runs_keep, runs_show,
+    shares_show, starts_show, stays_apart,
+};
+pub use point::Point;
+pub use told::{event_len, process_of};

@@ -1,5 +1,0 @@
-use Rattle.taint_tracker.proofs.LensShown.{acts-have-len}
-use Rattle.taint_tracker.proofs.law.acts_have_len.Goals as goal
-
-pub returns : goal.returns
-returns c = acts-have-len
