@@ -1,14 +1,12 @@
 -- What is joined goes by items, and is told by its members and their order.
-use Rattle.std.specs.Prelude.{◌≡◌, ℕ, List, None}
+use Rattle.std.specs.Prelude.{◌≡◌, ℕ, List}
 use Rattle.arn_base.specs.declared.records.Pair.{Pair}
 use Rattle.arn_base.specs.declared.records.Record.{Record}
-use Rattle.history_model.specs.Broken.{first_broken}
 use Rattle.history_model.specs.Events.{event_at, how_many}
 use Rattle.lineage_model.specs.Flow.{At}
-use Rattle.lineage_model.specs.Joined.{Reaching, from_event, reached}
+use Rattle.lineage_model.specs.Joined.{Reaching, reached}
 use Rattle.lineage_model.specs.Tracking.{EventByte}
 use Rattle.lineage_model.specs.Pairs.{pairs_from}
-use Rattle.lineage_join.specs.Fits.{AllFit}
 use Rattle.lineage_join.specs.Rising.{IsRising, ArePairs}
 
 -- what reaches a byte of an event of a history, where bytes of events have these items in their groups

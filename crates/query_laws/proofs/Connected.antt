@@ -2,7 +2,7 @@
 use Rattle.std.proofs.Common.{◌≡◌, ◌⊎◌, inl, inr, ℕ, zero, suc, ◌++◌, Bool, true, false, if◌then◌else◌, List, [], ◌∷◌, flat_map, Option, Some, None, IfSome, option_and_then, refl, ap, ap₂, sym, ◌∙◌}
 use Rattle.std.specs.Prelude.{All, Contains}
 use Rattle.std.proofs.lemmas.Bool.{true≢false}
-use Rattle.std.proofs.lemmas.List.Elements.{All-head, All-tail, All-weaker}
+use Rattle.std.proofs.lemmas.List.Elements.{All-head, All-tail}
 use Rattle.std.proofs.lemmas.Option.{option_and_then_some}
 use Rattle.arn_base.specs.declared.records.Give.{Give}
 use Rattle.arn_base.specs.declared.records.Record.{Record}
@@ -11,7 +11,7 @@ use Rattle.rv64_model.specs.Carries.{Table}
 use Rattle.acts_model.specs.Records.{event_len, give_of}
 use Rattle.history_index.specs.Lookups.{groups_in}
 use Rattle.history_model.specs.Broken.{first_broken}
-use Rattle.history_model.specs.Events.{event_at, how_many}
+use Rattle.history_model.specs.Events.{event_at}
 use Rattle.history_model.specs.Exchanges.{Backward, Edge, ByBytes, ByFork, founded, received}
 use Rattle.history_model.specs.Groups.{event_group}
 use Rattle.lineage_model.specs.Flow.{At, Byte, StartRegister, StartSlot, StartMemory}
@@ -19,7 +19,7 @@ use Rattle.lineage_model.specs.Joined.{Reaching, is_source, origin_at, origin_of
 use Rattle.lineage_model.specs.Tracking.{EventByte}
 use Rattle.query_model.specs.Linked.{groups_back}
 use Rattle.query_model.specs.Sources.{items_in, items_at, tracked_at}
-use Rattle.query_laws.specs.Received.{HasTaken, IsReceivedBy, IsItem, ItemsAreReceived, IsConnected}
+use Rattle.query_laws.specs.Received.{HasTaken, IsReceivedBy, IsItem, IsConnected}
 use Rattle.query_laws.proofs.Asked.{connected}
 use Rattle.query_laws.proofs.Origins.{origin-piece}
 

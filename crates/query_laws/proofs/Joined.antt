@@ -1,22 +1,14 @@
 -- An answer's pairs are joined of the items of connected groups alone.
-use Rattle.std.proofs.Common.{◌≡◌, ◌⊎◌, inl, inr, ℕ, zero, suc, ◌+◌, ◌<◌, ◌++◌, nat_lt, ◌&&◌, Bool, true, false, if◌then◌else◌, List, [], ◌∷◌, Option, Some, None, IfSome, option_to_list, refl, ap, ap₂, sym, subst, arith}
+use Rattle.std.proofs.Common.{◌≡◌, ℕ, nat_lt, ◌&&◌, true, false, List, [], ◌∷◌, Option, Some, None, IfSome, option_to_list, arith}
 use Rattle.std.proofs.lemmas.Bool.Decides.{nat_tests}
 use Rattle.std.specs.Prelude.{All, Contains}
 use Rattle.std.proofs.lemmas.Bool.{false≢true, and_from, and_parts, lt-ltb, ltb-true}
-use Rattle.std.proofs.lemmas.List.Elements.{All-nil, All-cons}
 use Rattle.arn_base.specs.declared.records.Record.{Record}
-use Rattle.rv64_model.specs.Carries.{operands}
 use Rattle.history_index.specs.Lookups.{groups_in}
 use Rattle.history_model.specs.Broken.{first_broken}
-use Rattle.history_model.specs.Events.{event_at}
 use Rattle.history_model.specs.Exchanges.{Starting}
-use Rattle.history_model.specs.Groups.{event_group}
 use Rattle.lineage_join.specs.Fits.{HasByte, IsThere}
-use Rattle.lineage_join.specs.Laws.{reaches}
-use Rattle.lineage_model.specs.Flow.{At, Byte}
-use Rattle.lineage_model.specs.Pairs.{byte_pairs, pairs_from}
-use Rattle.lineage_model.specs.Tracking.{EventByte}
-use Rattle.query_model.specs.Answers.{moment_of}
+use Rattle.lineage_model.specs.Flow.{At}
 use Rattle.query_model.specs.Linked.{groups_back}
 use Rattle.taint_state.specs.Shown.{IsRegisterByte}
 use Rattle.query_laws.specs.Joined.{has_byte, is_register_byte, is_there}

@@ -1,5 +1,5 @@
 -- The items of a group alone are bytes that its events received, or with which it began.
-use Rattle.std.proofs.Common.{◌≡◌, inl, inr, ℕ, zero, suc, ◌≤◌, List, [], ◌∷◌, Option, Some, None, IfSome, option_map, refl, ap, sym, subst, ◌∙◌, arith}
+use Rattle.std.proofs.Common.{◌≡◌, ℕ, zero, suc, List, [], ◌∷◌, None, refl, subst, arith}
 use Rattle.std.proofs.lemmas.Bool.Decides.{nat_tests}
 use Rattle.std.specs.Prelude.{All}
 use Rattle.std.specs.List.{AllByRecursion}
@@ -8,24 +8,23 @@ use Rattle.arn_base.specs.declared.records.Record.{Record}
 use Rattle.rv64_isa.specs.declared.instruction.Instr.{Instr}
 use Rattle.rv64_model.specs.Carries.{Operand, Left, Right, Loaded, Address, Table}
 use Rattle.rv64_model.specs.Operands.{rs1_of, rs2_of}
-use Rattle.acts_model.specs.Bodies.{Body, body_at}
-use Rattle.acts_model.specs.Moved.{Event, Inside}
-use Rattle.acts_model.specs.Transfers.{Transfer, holds_of}
+use Rattle.acts_model.specs.Moved.{Inside}
+use Rattle.acts_model.specs.Transfers.{Transfer}
 use Rattle.history_model.specs.Alone as history
 use Rattle.history_model.specs.Alone.{Own, Made, Makes, Fails}
 use Rattle.history_model.specs.Broken.{first_broken}
-use Rattle.lineage_model.specs.Flow.{Location, Register, Slot, Memory, At}
+use Rattle.lineage_model.specs.Flow.{At}
 use Rattle.lineage_model.specs.Tracking.{EventByte, untracked}
 use Rattle.query_model.specs.Sources.{tracked_of}
 use Rattle.taint_laws.specs.Follows.{HasWholeBlocks, holders_from, none_heard, none_holds}
 use Rattle.taint_laws.specs.Laws.{FollowsHolders}
 use Rattle.taint_state.specs.Lens.{ActsHaveLen}
-use Rattle.query_laws.specs.Received.{IsItem, IsReceivedBy, ItemsAreReceived}
+use Rattle.query_laws.specs.Received.{IsItem, ItemsAreReceived}
 use Rattle.query_laws.proofs.Alone.{Ends, alone-heard}
 use Rattle.query_laws.proofs.Decoded.{FitsRun}
-use Rattle.query_laws.proofs.Heard.{AreHeard, IsHeard, IsLater, IsOf, State, last, next}
-use Rattle.query_laws.proofs.Items.{IsBefore, IsShown, Keeps, all-keep}
-use Rattle.query_laws.proofs.Scopes.{Scope, IsScope, InScope, IsHeldBy}
+use Rattle.query_laws.proofs.Heard.{State, last}
+use Rattle.query_laws.proofs.Items.{IsShown, Keeps, all-keep}
+use Rattle.query_laws.proofs.Scopes.{Scope, IsScope, InScope}
 use Rattle.query_laws.proofs.Taking.{Allows, FromRegister, OperandIn, step-takes}
 use Rattle.query_laws.proofs.Telling.{tells-record}
 

@@ -3,17 +3,16 @@ use Rattle.std.specs.Prelude.{◌≡◌, ◌⊎◌, ℕ, ◌<◌, true, List, Al
 use Rattle.arn_base.specs.declared.records.Record.{Record}
 use Rattle.rv64_model.specs.Carries.{Table}
 use Rattle.acts_model.specs.Records.{event_len, give_of}
-use Rattle.history_index.specs.Lookups.{groups_in}
 use Rattle.history_model.specs.Broken.{first_broken}
-use Rattle.history_model.specs.Events.{event_at, how_many}
+use Rattle.history_model.specs.Events.{event_at}
 use Rattle.history_model.specs.Exchanges.{founded, received}
 use Rattle.history_model.specs.Groups.{event_group}
 use Rattle.lineage_join.specs.Fits.{Precedes}
 use Rattle.lineage_model.specs.Flow.{At, Byte, StartRegister, StartSlot, StartMemory}
-use Rattle.lineage_model.specs.Joined.{is_source, reached}
+use Rattle.lineage_model.specs.Joined.{is_source}
 use Rattle.lineage_model.specs.Tracking.{EventByte}
 use Rattle.query_model.specs.Linked.{groups_back}
-use Rattle.query_model.specs.Sources.{items_at, reaching, tracked_at}
+use Rattle.query_model.specs.Sources.{tracked_at}
 use Rattle.taint_laws.specs.Follows.{HasWholeBlocks}
 
 -- the record's event has byte k, which came from outside, or is received with its origin

@@ -8,7 +8,7 @@ use Rattle.taint_steps.specs.declared.taking.Rules.{Rules}
 use Rattle.taint_state.specs.Events.{Becomes, Begins}
 use Rattle.taint_state.specs.Kept.{KeptHeard}
 use Rattle.taint_state.specs.RunsShow.{kept_member}
-use Rattle.taint_group.specs.Tables.{AreKeyed, AreSoundTables, kept_in}
+use Rattle.taint_group.specs.Tables.{AreKeyed, kept_in}
 
 -- who lives holds the segment that was held before, or none
 abbrev pub HoldsSame : Option MemberSets → Option MemberSets → Type 0

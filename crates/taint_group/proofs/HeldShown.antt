@@ -3,7 +3,7 @@ use Rattle.std.proofs.Common.{◌≡◌, ◌≢◌, ◌↔◌, ℕ, ◌-◌, ◌
 use Rattle.std.proofs.lemmas.Bool.{eqb-true, eqb-false}
 use Rattle.parts_model.specs.declared.limits.TheConstants.{SEGMENT_START}
 use Rattle.acts_model.specs.Transfers.{is_shared}
-use Rattle.taint_members.specs.Access.{ByTest, Segments, WritesKey, WritesSegment, held_numbers}
+use Rattle.taint_members.specs.Access.{ByTest, Segments, held_numbers}
 use Rattle.taint_members.specs.Access as access
 use Rattle.taint_members.specs.declared.member.MemberSets.{MemberSets}
 use Rattle.taint_members.specs.declared.member.Shared.{Shared}

@@ -8,7 +8,7 @@ use Rattle.taint_steps.specs.declared.taking.Rules.{Rules}
 use Rattle.taint_state.specs.Events.{BecomesTwo}
 use Rattle.taint_state.specs.Kept.{KeptHeard}
 use Rattle.taint_state.specs.RunsShow.{kept_member}
-use Rattle.taint_group.specs.Tables.{AreKeyed, AreSoundTables, kept_in}
+use Rattle.taint_group.specs.Tables.{AreKeyed, kept_in}
 
 -- the member becomes another, and a child begins; both hold the segment that it held
 pub record TablesSplit (pid child : ℕ) (old new kid : MemberSets) (x y : Tables) : Type 0 where

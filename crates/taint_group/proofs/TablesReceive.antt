@@ -9,7 +9,7 @@ use Rattle.taint_state.specs.Events.{BecomesShared, ReceivesTo}
 use Rattle.taint_group.specs.Moves.{Receives}
 use Rattle.taint_state.specs.RunsShow.{kept_member}
 use Rattle.taint_state.specs.Kept.{KeptHeard}
-use Rattle.taint_group.specs.Tables.{AreKeyed, AreSoundTables, kept_in}
+use Rattle.taint_group.specs.Tables.{AreKeyed, kept_in}
 
 -- bytes of these numbers are written at an address of a member
 pub record TablesTake (pid at : ℕ) (numbers : List ℕ) (old new : MemberSets) (x y : Tables) : Type 0 where

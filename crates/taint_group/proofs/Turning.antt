@@ -21,7 +21,6 @@ use Rattle.taint_group.specs.Tables.{AreKeyed, AreSoundTables, kept_in}
 use Rattle.taint_group.specs.Turns.{ChangesIn, ChangesOne, Ends, FoundsFrom, LivesAs, StartsAs}
 use Rattle.std.specs.Global.{Box}
 use Rattle.taint_state.specs.declared.heard.ChildStart.{ChildStart}
-use Rattle.taint_state.specs.declared.heard.HeardEvent.{HeardEvent}
 use Rattle.taint_group.proofs.Groups.{tables_with}
 
 pub nth-place : {X : Type 0} (xs : List (Option X)) (k : ℕ) (d : Option X) → k < length xs → nth xs k ≡ slice_index_or xs k d

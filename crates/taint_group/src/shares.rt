@@ -1,7 +1,6 @@
 // A fresh segment.
-ghost use Rattle.std.specs.Prelude.{◌≡◌, ◌≤◌, ℕ, length, IfOk, IfSome, OnOk};
+ghost use Rattle.std.specs.Prelude.{◌≡◌, ◌≤◌, length, IfOk, OnOk};
 ghost use Rattle.acts_model.specs.Transfers.{Holds, Shares};
-ghost use Rattle.parts_model.specs.Numbered.{nth};
 ghost use Rattle.taint_group.specs.Groups.{IsSoundGroup};
 ghost use Rattle.taint_group.specs.Moves.{AreHeldOnce, IsFreshSegment, IsKeyBy, PutsSegment, SharesAs, held_key};
 ghost use Rattle.taint_group.specs.Turns.{ChangesEntry, ChangesIn, LivesAs, StepsFrom};

@@ -6,7 +6,7 @@ use Rattle.parts_model.specs.Numbered.{nth}
 use Rattle.parts_model.specs.declared.limits.TheConstants.{WINDOW_START}
 use Rattle.set_store.specs.Sets.{members_of}
 use Rattle.acts_model.specs.Transfers.{Holds, Begins, is_private}
-use Rattle.lineage_model.specs.Flow.{At, StartRegister, StartSlot, StartMemory, Register, Slot, Memory, Dependence, Received, unless_result, when}
+use Rattle.lineage_model.specs.Flow.{StartRegister, StartSlot, StartMemory, Register, Slot, Memory, Received, unless_result, when}
 use Rattle.lineage_model.specs.Flow as flow_of
 use Rattle.lineage_model.specs.Tracking.{EventByte, Tracked, gather}
 use Rattle.taint_events.specs.Beginning.{BeginsRegisters, first_number}

@@ -14,7 +14,6 @@ use Rattle.lineage_model.specs.Tracking.{EventByte, Tracked}
 use Rattle.taint_flow.specs.Gathered.{first_start, number_of}
 use Rattle.taint_flow.specs.Names.{loaded_len}
 use Rattle.taint_flow.specs.Starts as starts
-use Rattle.taint_flow.specs.Starts.{AreResolved, IsRaw}
 use Rattle.taint_members.specs.Access.{Segments, held_numbers, number_at}
 use Rattle.taint_members.specs.declared.member.MemberSets.{MemberSets}
 use Rattle.taint_members.specs.declared.member.Shared.{Shared}

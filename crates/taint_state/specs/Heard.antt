@@ -1,5 +1,5 @@
 -- The events of a group, as they are kept.
-use Rattle.std.specs.Prelude.{◌≡◌, ℕ, ◌<◌, ◌≤◌, List, [], map, length, slice_index_or, Option, None, Some, option_and_then, option_map}
+use Rattle.std.specs.Prelude.{◌≡◌, ℕ, ◌<◌, ◌≤◌, List, [], map, length, slice_index_or, Option, None, Some, option_map}
 use Rattle.std.specs.Global.{Box}
 use Rattle.taint_state.specs.declared.heard.ChildStart.{ChildStart}
 use Rattle.taint_state.specs.declared.heard.HeardEvent.{HeardEvent}

@@ -1,5 +1,5 @@
 // What events do to what is kept of members, as their records tell.
-ghost use Rattle.std.specs.Prelude.{◌≡◌, ◌<◌, length, slice_index, option_map};
+ghost use Rattle.std.specs.Prelude.{◌≡◌, ◌<◌, slice_index, option_map};
 ghost use Rattle.acts_model.specs.Told.{act_of, call_act, delivery_act, exec_act, fork_act, kind_of, read_act, wait_act, write_act};
 ghost use Rattle.acts_model.specs.Told as told;
 ghost use Rattle.acts_model.specs.Views.{argument as argument_of};

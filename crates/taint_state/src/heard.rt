@@ -1,5 +1,5 @@
 // The events of a group by number.
-ghost use Rattle.std.specs.Prelude.{◌≡◌, ◌==◌, [], true, IfErr, IfOk, OnOk, length, option_map};
+ghost use Rattle.std.specs.Prelude.{◌≡◌, [], true, IfErr, IfOk, OnOk, option_map};
 ghost use Rattle.taint_state.specs.Events.{Hears, plain_heard};
 ghost use Rattle.taint_state.specs.Heard.{HasMoved, IsGapFor, IsPlaceOf, heard_in, kept_child, kept_heard};
 ghost use Rattle.taint_state.specs.Kept.{heard_among};

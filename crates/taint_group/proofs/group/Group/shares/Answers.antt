@@ -1,4 +1,4 @@
-use Rattle.std.proofs.Common.{[], subst, arith}
+use Rattle.std.proofs.Common.{subst, arith}
 use Rattle.parts_model.specs.Numbered.{nth}
 use Rattle.taint_group.specs.Groups.{heard_of}
 use Rattle.taint_state.specs.Heard.{heard_in}

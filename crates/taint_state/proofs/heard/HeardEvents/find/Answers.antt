@@ -1,6 +1,6 @@
-use Rattle.std.proofs.Common.{sym, subst, ap, ◌∙◌, Some, arith}
+use Rattle.std.proofs.Common.{sym, subst, arith}
 use Rattle.std.proofs.lemmas.List.{get_or_default}
-use Rattle.taint_state.specs.Heard.{AreInOrder, kept_heard}
+use Rattle.taint_state.specs.Heard.{AreInOrder}
 use Rattle.taint_state.proofs.Ordered.{found-nowhere, found-there, none_heard}
 use Rattle.taint_state.proofs.heard.HeardEvents.find.Goals as goal
 

@@ -1,4 +1,4 @@
-use Rattle.std.proofs.Common.{subst, arith}
+use Rattle.std.proofs.Common.{subst}
 use Rattle.taint_state.specs.Heard.{AreInOrder}
 use Rattle.taint_state.proofs.Ordered.{insert-hears, insert-in-order, set-hears, set-in-order}
 use Rattle.taint_state.proofs.heard.HeardEvents.put.Goals as goal
