@@ -49,7 +49,7 @@ line-fits text (line.Type bytes) short is =
     let whole = ap length is.is_text in
     omega (arith, size, whole, short, length-append (codes "type ") is.hex)
 line-fits text (line.Run count) short is = is.at_most
-line-fits text (line.Asks asked) short is = tt
+line-fits text l short is = tt
 
 -- an image fits
 pub is_image-fits : (file : List ℕ) → is_image file ≡ true → length file ≤ MOST_FILE_BYTES

@@ -9,13 +9,13 @@ use Rattle.arn_lines.specs.declared.line.TheConstants.{MOST_RUN}
 use Rattle.arn_commands.specs.declared.command.Command.{Command}
 use Rattle.arn_commands.specs.declared.command.Command.TheVariants.{PassedOver, TooLong, Unreadable, Says, Faulty, Generates}
 
--- names, files, pieces and linkages that the machine takes
+-- names, files, pieces and counts that the machine takes; a line that brings none of them fits
 abbrev pub LineFits : Line → Type 0
 LineFits (line.File name bytes) = IsTrue (is_name name) × (length bytes ≤ MOST_FILE_BYTES)
 LineFits (line.Boot name) = IsTrue (is_name name)
 LineFits (line.Type bytes) = length bytes < 2 ^ 32
 LineFits (line.Run count) = count ≤ MOST_RUN
-LineFits (line.Asks asked) = Unit {0}
+LineFits l = Unit {0}
 
 -- an image that the machine takes as a file and boots
 pub record IsBootable (image : List ℕ) : Type 0 where

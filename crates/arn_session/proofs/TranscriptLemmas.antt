@@ -15,8 +15,9 @@ use Rattle.session_effects.specs.Effects.{Effect, committed}
 use Rattle.session_runs.specs.Turns.{Point, Turn, behind, finished, followed_by}
 use Rattle.session_commands.specs.Cost.{asked_cost, cost_of_turn}
 use Rattle.session_commands.specs.Generator.{generator_turn}
-use Rattle.session_commands.specs.Lines.{is_change, line_turn, needs_machine, turn, turn_unless}
-use Rattle.session_commands.specs.Refusals.{generator_refusal, refusal_of}
+use Rattle.session_commands.specs.Lines.{needs_machine, turn, turn_unless}
+use Rattle.session_commands.specs.Refusals.{generator_refusal}
+use Rattle.session_commands.specs.Rows.{row_of}
 use Rattle.session_model.specs.Questions.{Told}
 use Rattle.arn_session.specs.Transcript.{asked_costs, history_behind, needs_any, total_cost, transcript, unless_cut_off}
 use Rattle.arn_session.proofs.PointLemmas.{behind-behind, behind-finished, committed-append}
@@ -115,13 +116,13 @@ module _ (told : Told) where
       omega (arith, once, before, after, costs rest, asked-push history there commands command taken effects asks is leads rest)
 
   -- a command that doesn't need the machine commits nothing
-  commits-unless : (history : List Record) (l : Line) (why : Option Refusal) (slices : List Picked) → (is_change l && is_none why) ≡ false → committed (turn_unless why (line_turn told history l) slices).effects ≡ []
+  commits-unless : (history : List Record) (l : Line) (why : Option Refusal) (slices : List Picked) → ((row_of history l).needs_machine && is_none why) ≡ false → committed (turn_unless why ((row_of history l).turn told) slices).effects ≡ []
   commits-unless history l (Some why) slices isnt = refl
   commits-unless history (line.File name bytes) None slices isnt = absurd (false≢true (sym isnt))
   commits-unless history (line.Boot name) None slices isnt = absurd (false≢true (sym isnt))
   commits-unless history (line.Type bytes) None slices isnt = absurd (false≢true (sym isnt))
   commits-unless history (line.Run count) None slices isnt = absurd (false≢true (sym isnt))
-  commits-unless history (line.Asks question) None slices isnt = refl
+  commits-unless history l None slices isnt = refl
 
   commits-refused : (point : Point) (why : Option Refusal) (slices : List Picked) → is_none why ≡ false → committed (turn_unless why point slices).effects ≡ []
   commits-refused point (Some why) slices isnt = refl
@@ -131,6 +132,6 @@ module _ (told : Told) where
   commits-none history PassedOver slices isnt = refl
   commits-none history TooLong slices isnt = refl
   commits-none history Unreadable slices isnt = refl
-  commits-none history (Says l) slices isnt = commits-unless history l (refusal_of history l) slices isnt
+  commits-none history (Says l) slices isnt = commits-unless history l (row_of history l).refusal slices isnt
   commits-none history (Faulty at) slices isnt = refl
   commits-none history (Generates image typed processes) slices isnt = commits-refused (generator_turn told history image typed processes) (generator_refusal history) slices isnt

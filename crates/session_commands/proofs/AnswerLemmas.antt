@@ -1,5 +1,5 @@
 -- Answers to commands, and where they halt.
-use Rattle.std.proofs.Common.{◌≡◌, inl, inr, ℕ, ◌+◌, ◌≤◌, ◌++◌, Bool, true, false, List, [], Option, option_map, Result, Ok, Err, IfErr, OnOk, refl, sym, ◌∙◌, subst, arith}
+use Rattle.std.proofs.Common.{◌≡◌, inl, inr, ℕ, ◌+◌, ◌≤◌, ◌++◌, Bool, true, false, List, [], Option, None, Some, option_map, Result, Ok, Err, IfErr, OnOk, refl, sym, ap, ◌∙◌, subst, append-nil, arith}
 use Rattle.std.proofs.lemmas.Bool.{false≢true}
 use Rattle.std.specs.Prelude.{◌||◌}
 use Rattle.arn_base.specs.declared.boxes.Choice.{Choice}
@@ -13,7 +13,7 @@ use Rattle.guest_devices.specs.Answers.{Asked}
 use Rattle.arn_commands.specs.declared.command.Command.{Command}
 use Rattle.session_effects.specs.Carrying.{StopsBetween}
 use Rattle.session_effects.specs.Laws.{EffectsFollow, HaltsFollow}
-use Rattle.session_effects.specs.Printing.{StopsPut}
+use Rattle.session_effects.specs.Printing.{PutsFront, StopsPut}
 use Rattle.session_effects.specs.Standing.{IsCause, IsOpen}
 use Rattle.session_effects.specs.declared.halt.Halt.{Halt}
 use Rattle.session_effects.specs.declared.halt.Halt.TheVariants as halt
@@ -69,6 +69,11 @@ disk-cause (halt.Differs d) d0 d1 s0 s1 causes = absurd (causes 0)
 pub err-both : {T : Type 0} (result : Result T Halt) (P Q R : Halt → Type 0) → ((why : Halt) → P why → Q why → R why) → IfErr result P → IfErr result Q → IfErr result R
 err-both (Ok x) P Q R then p q = tt
 err-both (Err why) P Q R then p q = then why p q
+
+-- nothing was put of a text
+pub put-nothing : (text : List ℕ) (held : Option (List ℕ)) → PutsFront text held held
+put-nothing text None = record { put = []; left = text; are_bytes = refl; printed = refl }
+put-nothing text (Some before) = record { put = []; left = text; are_bytes = refl; printed = ap (λ (x : List ℕ). Some x) (sym (append-nil before)) }
 
 pub not-made-cause : (why : Halt) (d0 d1 s0 s1 : ℕ) → IsNotMade why → IsLineCause why d0 d1 s0 s1
 not-made-cause halt.NoMemory d0 d1 s0 s1 is = tt

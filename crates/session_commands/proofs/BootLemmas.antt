@@ -19,14 +19,13 @@ use Rattle.arn_model.specs.Run.{Input, File, Boot, boot_found, boot_from, boot_s
 use Rattle.arn_model.specs.Step.{Step}
 use Rattle.arn_model.specs.Turn.{after_steps}
 use Rattle.arn_lines.specs.declared.answer.Refusal.TheVariants.{NoBoot, NoBooted, NoImage}
-use Rattle.arn_lines.specs.declared.line.Line.TheVariants as line
 use Rattle.history_model.specs.Names as names
 use Rattle.history_model.specs.Names.{brought_from}
 use Rattle.log_model.specs.Laws.{NamedRunsAgain, RecordsAppend}
 use Rattle.log_model.specs.Records.{IsRun, event_records, named, records, records_from}
 use Rattle.replay_laws.specs.Laws.{TellsRun, named_bytes}
 use Rattle.session_runs.specs.Ready.{machine_of}
-use Rattle.session_commands.specs.Refusals.{file_refusal, refusal_of, refused_if}
+use Rattle.session_commands.specs.Refusals.{boot_refusal, bring_refusal, early_refusal, file_refusal, refused_if}
 use Rattle.session_commands.proofs.AnswerLemmas.{or-true}
 use Rattle.session_commands.proofs.TellLemmas.{IsBrought, accepted-boot, accepted-file}
 
@@ -71,21 +70,21 @@ module _ (history : List Record) (t : TellsRun (named history)) (is_run : IsRun 
   none-booted none = sym t.booted ∙ ap names.is_booted (sym is_run) ∙ none
 
   -- a file that isn't refused is recorded
-  records-file : (bytes : List ℕ) → refusal_of history (line.File name bytes) ≡ None → IsTrue (is_name name) → length bytes ≤ MOST_FILE_BYTES → records_from (machine_of history) (File name bytes ∷ []) ≡ entry.File name bytes ∷ []
+  records-file : (bytes : List ℕ) → bring_refusal history name ≡ None → IsTrue (is_name name) → length bytes ≤ MOST_FILE_BYTES → records_from (machine_of history) (File name bytes ∷ []) ≡ entry.File name bytes ∷ []
   records-file bytes accepted is_named fits =
-      let a = accepted-file history name bytes accepted in
+      let a = accepted-file history name accepted in
       let none = none-booted a.0 in
       let free : is_free (machine_of history).kernel.files name ≡ true = sym (t.may_bring none name) ∙ ap (λ (h : List Record). names.may_bring h name) (sym is_run) ∙ a.1 in
       let can : can_add (machine_of history) name bytes ≡ true = and-all (run.is_booted (machine_of history)) (is_free (machine_of history).kernel.files name) (is_name name) (nat_le (length bytes) MOST_FILE_BYTES) none free is_named (le-leb (length bytes) MOST_FILE_BYTES fits) in
       ap (λ (b : Bool). event_records (if b then file_step (machine_of history) name bytes ∷ [] else []) ++ []) can
 
   -- where it is an image it may be booted
-  pub accepts-boot : (bytes : List ℕ) → refusal_of history (line.File name bytes) ≡ None → IsTrue (is_name name) → length bytes ≤ MOST_FILE_BYTES → IsTrue (is_image bytes) → refusal_of (history ++ records_from (machine_of history) (File name bytes ∷ [])) (line.Boot name) ≡ None
+  pub accepts-boot : (bytes : List ℕ) → bring_refusal history name ≡ None → IsTrue (is_name name) → length bytes ≤ MOST_FILE_BYTES → IsTrue (is_image bytes) → boot_refusal (history ++ records_from (machine_of history) (File name bytes ∷ [])) name ≡ None
   accepts-boot bytes accepted is_named fits image =
       let there : List Record = history ++ entry.File name bytes ∷ [] in
-      ap (λ (r : List Record). refusal_of (history ++ r) (line.Boot name)) (records-file bytes accepted is_named fits)
+      ap (λ (r : List Record). boot_refusal (history ++ r) name) (records-file bytes accepted is_named fits)
       ∙ boots-image (names.is_booted there) (names.brought there name) bytes
-      (list_any-append names.is_boot history (entry.File name bytes ∷ []) ∙ or-false (names.is_booted history) false (accepted-file history name bytes accepted).0 refl)
+      (list_any-append names.is_boot history (entry.File name bytes ∷ []) ∙ or-false (names.is_booted history) false (accepted-file history name accepted).0 refl)
       (brought-last history name bytes None) image
 
   -- a boot that isn't refused is recorded
@@ -103,7 +102,7 @@ module _ (history : List Record) (t : TellsRun (named history)) (is_run : IsRun 
   boots-found None bytes is image = absurd cc
   boots-found (Some file) bytes is image = boots-file file (file_bytes (machine_of history).kernel.files file) bytes is image
 
-  records-boot : refusal_of history (line.Boot name) ≡ None → list_any names.is_boot (records_from (machine_of history) (Boot name ∷ [])) ≡ true
+  records-boot : boot_refusal history name ≡ None → list_any names.is_boot (records_from (machine_of history) (Boot name ∷ [])) ≡ true
   records-boot accepted =
       let a = accepted-boot history name accepted in
       let none = none-booted a.0 in
@@ -113,8 +112,8 @@ module _ (history : List Record) (t : TellsRun (named history)) (is_run : IsRun 
       ∙ boots-found (find_file (machine_of history).kernel.files name) file.bytes holds file.image
 
   -- behind it bytes may be typed
-  pub accepts-type : (bytes : List ℕ) → refusal_of history (line.Boot name) ≡ None → refusal_of (history ++ records_from (machine_of history) (Boot name ∷ [])) (line.Type bytes) ≡ None
-  accepts-type bytes accepted =
+  pub accepts-type : boot_refusal history name ≡ None → early_refusal (history ++ records_from (machine_of history) (Boot name ∷ [])) ≡ None
+  accepts-type accepted =
       let booted : names.is_booted (history ++ records_from (machine_of history) (Boot name ∷ [])) ≡ true =
       list_any-append names.is_boot history (records_from (machine_of history) (Boot name ∷ []))
       ∙ sym (or-true (names.is_booted history) (list_any names.is_boot (records_from (machine_of history) (Boot name ∷ []))) (records-boot accepted)) in

@@ -1,6 +1,6 @@
 -- Points from which a session goes on where instructions were executed before it.
-use Rattle.std.proofs.Common.{◌≡◌, inl, ℕ, ◌+◌, ◌≤◌, ◌++◌, Bool, true, List, [], Option, None, IfSome, Result, Ok, Err, OnOk, IfErr, IsErrAnd, refl, sym, ap, ◌∙◌, subst, take, length, length-append, arith, ◌||◌}
-use Rattle.std.specs.Prelude.{IsSome, is_some}
+use Rattle.std.proofs.Common.{◌≡◌, inl, ℕ, ◌+◌, ◌≤◌, ◌++◌, Bool, true, List, [], Option, Some, None, IfSome, Result, Ok, Err, OnOk, IfErr, IsErrAnd, refl, sym, ap, ◌∙◌, subst, take, length, length-append, arith, ◌||◌}
+use Rattle.std.specs.Prelude.{is_some}
 use Rattle.std.proofs.Math.Seq.{take-append_seam}
 use Rattle.arn_base.specs.declared.boxes.Choice.{Choice}
 use Rattle.arn_base.specs.declared.disk.Disk.{Ghosts}
@@ -12,8 +12,6 @@ use Rattle.guest_devices.specs.Answers.{Asked}
 use Rattle.guest_machine.specs.Recorded.{Recorded}
 use Rattle.arn_commands.specs.declared.command.Command.TheVariants.{Says}
 use Rattle.arn_lines.specs.declared.line.Line.{Line}
-use Rattle.arn_lines.specs.declared.line.Line.TheVariants as line
-use Rattle.arn_lines.specs.declared.line.Question.{Question}
 use Rattle.session_effects.specs.Effects.{Effect}
 use Rattle.session_effects.specs.Laws.{HaltsFollow}
 use Rattle.session_effects.specs.Standing.{Carries}
@@ -26,10 +24,10 @@ use Rattle.session_runs.specs.Turns.{Point, finished}
 use Rattle.session_commands.specs.Answering.{IsAnswered, IsHalted}
 use Rattle.session_runs.specs.Standing.{standpoint}
 use Rattle.session_commands.specs.Cost.{cost, machine_cost}
-use Rattle.session_commands.specs.Kept.{IsSound}
-use Rattle.session_commands.specs.Lines.{is_change, line_turn, turn}
-use Rattle.session_commands.specs.Refusals.{refusal_of}
-use Rattle.session_commands.proofs.LineLemmas.{cost-ask, cost-change, still-finished, turn-line}
+use Rattle.session_commands.specs.Kept.{IsSound, IsThere}
+use Rattle.session_commands.specs.Lines.{turn}
+use Rattle.session_commands.specs.Rows.{row_of}
+use Rattle.session_commands.proofs.LineLemmas.{cost-machine, still-finished, turn-line}
 use Rattle.session_commands.proofs.TurnLemmas.{Stops-nothing}
 use Rattle.session_commands.proofs.AnswerLemmas.{or-true}
 use Rattle.session_model.specs.Questions.{Told}
@@ -100,20 +98,36 @@ pub err-same : {T : Type 0} (result : Result T Halt) (why : Halt) (P : Halt → 
 err-same (Ok x) why P is p = tt
 err-same (Err halt) why P is p = subst P (sym is) p
 
--- a line that is no question is a change
-pub is-change : (l : Line) → ((q : Question) → l ≡ line.Asks q → ⊥) → is_change l ≡ true
-is-change (line.File name bytes) other = refl
-is-change (line.Boot name) other = refl
-is-change (line.Type bytes) other = refl
-is-change (line.Run count) other = refl
-is-change (line.Asks q) other = absurd (other q refl)
-
 -- the machine is there where one was needed
-pub some-there : (o : Option Recorded) (b n : Bool) → IsSome o → n ≡ true → is_some o ≡ (b || n)
+pub some-there : (o : Option Recorded) (b n : Bool) → is_some o ≡ true → n ≡ true → is_some o ≡ (b || n)
 some-there o b n some needs = some ∙ or-true b n needs
 
-pub ask-costs : (told : Told) (is_there : Bool) (history : List Record) (l : Line) (q : Question) → l ≡ line.Asks q → (behind : List Record) → told.cost history q ≤ cost told is_there history behind (Says l)
-ask-costs told is_there history l q is behind = subst (λ (x : Line). told.cost history q ≤ cost told is_there history behind (Says x)) (sym is) (cost-ask told is_there history behind q)
+-- a machine that is there belongs to the records of a run
+pub there-some : (o : Option Recorded) (history : List Record) → IsThere o history → is_some o ≡ true
+there-some None history there = absurd there
+there-some (Some m) history there = refl
+
+pub there-ready : (o : Option Recorded) (history : List Record) → IsThere o history → IfSome o (λ r. IsReady r history)
+there-ready None history there = tt
+there-ready (Some m) history there = there
+
+pub there-run : (o : Option Recorded) (history : List Record) → IsThere o history → IsRun history
+there-run None history there = absurd there
+there-run (Some m) history there = there.is_run
+
+-- what is kept is sound where the machine is there
+pub sound-there : {Q : Type 0} (knows : Q → List Record → Type 0) (m m' : Option Recorded) (q : Q) (s s' : StoreState) → IsThere m s.entries → m' ≡ m → s' ≡ s → knows q s.entries → IsSound knows m' q s'.entries
+sound-there knows m m' q s s' there same_machine same_store known =
+    subst (λ (x : StoreState). IsSound knows m' q x.entries) (sym same_store)
+    (record {
+      machine = subst (λ (o : Option Recorded). IfSome o (λ r. IsReady r s.entries)) (sym same_machine) (there-ready m s.entries there);
+      questions = known;
+    })
+
+-- what holds of each where a call succeeded holds of all
+pub OnOk-each : {T A : Type 0} (P : A → Type 0) (result : Result T Halt) → ((a : A) → OnOk result (P a)) → OnOk result ((a : A) → P a)
+OnOk-each P (Ok x) each = each
+OnOk-each P (Err e) each = tt
 
 -- what is kept stays sound where a question was answered
 pub sound-asked : {Q : Type 0} (knows : Q → List Record → Type 0) (m m' : Option Recorded) (q q' : Q) (s s' : StoreState) → IsSound knows m q s.entries → m' ≡ m → s' ≡ s → knows q' s.entries → IsSound knows m' q' s'.entries
@@ -124,9 +138,9 @@ sound-asked knows m m' q q' s s' sound same_machine same_store known =
       questions = known;
     })
 
-module _ {D A : Type 0} (d : Ghosts D) (replies : A → Asked → Answered → A → Type 0) (told : Told) (is_there : Bool) (l : Line) (store : StoreState) (change : is_change l ≡ true) (accepted : refusal_of store.entries l ≡ None) where
+module _ {D A : Type 0} (d : Ghosts D) (replies : A → Asked → Answered → A → Type 0) (told : Told) (is_there : Bool) (l : Line) (store : StoreState) (needs : (row_of store.entries l).needs_machine ≡ true) (accepted : (row_of store.entries l).refusal ≡ None) where
   -- a change was carried out
-  pub answered-change : {T : Type 0} (result : Result T Halt) (disk disk' : D) (store' : StoreState) (h0 h1 : Option (List ℕ)) (old new : Surroundings A) → OnOk result (IsRun store.entries) → OnOk result (Advances replies (line_turn told store.entries l) finished old new (machine_cost is_there store.entries) (Carries IsRun d disk disk' store store' h0 h1)) → OnOk result (IsAnswered d replies told is_there (Says l) (standpoint disk store h0 old) (standpoint disk' store' h1 new))
+  pub answered-change : {T : Type 0} (result : Result T Halt) (disk disk' : D) (store' : StoreState) (h0 h1 : Option (List ℕ)) (old new : Surroundings A) → OnOk result (IsRun store.entries) → OnOk result (Advances replies ((row_of store.entries l).turn told) finished old new (machine_cost is_there store.entries) (Carries IsRun d disk disk' store store' h0 h1)) → OnOk result (IsAnswered d replies told is_there (Says l) (standpoint disk store h0 old) (standpoint disk' store' h1 new))
   answered-change (Ok x) disk disk' store' h0 h1 old new is_run p = record {
     advances =
         subst (λ (from : Point). Advances replies from finished old new (cost told is_there store.entries store'.entries (Says l)) (Carries IsRun d disk disk' store store' h0 h1)) (sym (turn-line told store.entries l accepted))
@@ -141,7 +155,7 @@ module _ {D A : Type 0} (d : Ghosts D) (replies : A → Asked → Answered → A
           picked = p.picked;
           in_range = p.in_range;
           replied = p.replied;
-          executed = omega (arith, p.executed, cost-change told is_there store.entries store'.entries l change accepted);
+          executed = omega (arith, p.executed, cost-machine told is_there store.entries store'.entries l needs accepted);
         });
     on_run = λ needed. is_run;
   }
@@ -149,28 +163,28 @@ module _ {D A : Type 0} (d : Ghosts D) (replies : A → Asked → Answered → A
 
   module _ (halts : HaltsFollow IsRun d) (points : PointsFollow IsRun d replies) (choices : ℕ → Option Choice) (answers : A) (steps mid : ℕ) (cheap : mid ≤ steps + machine_cost is_there store.entries) where
     -- with the machine, which was made before
-    pub advances-changed : (disk disk' : D) (there store' behind : StoreState) (h0 h1 : Option (List ℕ)) (new : Surroundings A) → there ≡ store → behind ≡ store' → Advances replies (line_turn told there.entries l) finished (around choices answers mid) new 0 (Carries IsRun d disk disk' there store' h0 h1) → Advances replies (line_turn told store.entries l) finished (around choices answers steps) new (machine_cost is_there store.entries) (Carries IsRun d disk disk' store behind h0 h1)
+    pub advances-changed : (disk disk' : D) (there store' behind : StoreState) (h0 h1 : Option (List ℕ)) (new : Surroundings A) → there ≡ store → behind ≡ store' → Advances replies ((row_of there.entries l).turn told) finished (around choices answers mid) new 0 (Carries IsRun d disk disk' there store' h0 h1) → Advances replies ((row_of store.entries l).turn told) finished (around choices answers steps) new (machine_cost is_there store.entries) (Carries IsRun d disk disk' store behind h0 h1)
     advances-changed disk disk' there store' behind h0 h1 new same same_behind p =
-        Advances-later replies choices answers (line_turn told store.entries l) finished steps mid 0 (machine_cost is_there store.entries) new (Carries IsRun d disk disk' store behind h0 h1) (omega (arith, cheap))
-        (subst (λ (s : StoreState). Advances replies (line_turn told store.entries l) finished (around choices answers mid) new 0 (Carries IsRun d disk disk' store s h0 h1)) (sym same_behind)
-        (subst (λ (s : StoreState). Advances replies (line_turn told s.entries l) finished (around choices answers mid) new 0 (Carries IsRun d disk disk' s store' h0 h1)) same p))
+        Advances-later replies choices answers ((row_of store.entries l).turn told) finished steps mid 0 (machine_cost is_there store.entries) new (Carries IsRun d disk disk' store behind h0 h1) (omega (arith, cheap))
+        (subst (λ (s : StoreState). Advances replies ((row_of store.entries l).turn told) finished (around choices answers mid) new 0 (Carries IsRun d disk disk' store s h0 h1)) (sym same_behind)
+        (subst (λ (s : StoreState). Advances replies ((row_of s.entries l).turn told) finished (around choices answers mid) new 0 (Carries IsRun d disk disk' s store' h0 h1)) same p))
 
     -- it halted somewhere
-    pub halted-changed : (disk disk' : D) (there store' : StoreState) (h0 h1 : Option (List ℕ)) (why : Halt) (new : Surroundings A) → there ≡ store → IsRun store.entries → Stops IsRun d replies disk disk' there.entries h0 h1 why (line_turn told there.entries l) (around choices answers mid) new 0 → IsHalted d replies told is_there why (Says l) (standpoint disk store h0 (around choices answers steps)) (standpoint disk' store' h1 new)
+    pub halted-changed : (disk disk' : D) (there store' : StoreState) (h0 h1 : Option (List ℕ)) (why : Halt) (new : Surroundings A) → there ≡ store → IsRun store.entries → Stops IsRun d replies disk disk' there.entries h0 h1 why ((row_of there.entries l).turn told) (around choices answers mid) new 0 → IsHalted d replies told is_there why (Says l) (standpoint disk store h0 (around choices answers steps)) (standpoint disk' store' h1 new)
     halted-changed disk disk' there store' h0 h1 why new same is_run q = record {
       beside = machine_cost is_there store.entries;
       stops =
-          Stops-later replies choices answers IsRun d disk disk' store.entries h0 h1 why (line_turn told store.entries l) (turn told store.entries (Says l)) steps mid (machine_cost is_there store.entries) new (turn-line told store.entries l accepted) cheap
-          (subst (λ (s : StoreState). Stops IsRun d replies disk disk' s.entries h0 h1 why (line_turn told s.entries l) (around choices answers mid) new 0) same q);
-      costs = cost-change told is_there store.entries store.entries l change accepted;
+          Stops-later replies choices answers IsRun d disk disk' store.entries h0 h1 why ((row_of store.entries l).turn told) (turn told store.entries (Says l)) steps mid (machine_cost is_there store.entries) new (turn-line told store.entries l accepted) cheap
+          (subst (λ (s : StoreState). Stops IsRun d replies disk disk' s.entries h0 h1 why ((row_of s.entries l).turn told) (around choices answers mid) new 0) same q);
+      costs = cost-machine told is_there store.entries store.entries l needs accepted;
       on_run = λ needed. inl is_run;
     }
 
     -- memory ran out behind all of it
-    pub halted-unheard : (disk disk' : D) (there store' behind : StoreState) (h0 h1 : Option (List ℕ)) (choices' : ℕ → Option Choice) (answers' : A) (steps' : ℕ) → there ≡ store → IsRun store.entries → Advances replies (line_turn told there.entries l) finished (around choices answers mid) (around choices' answers' steps') 0 (Carries IsRun d disk disk' there store' h0 h1) → IsHalted d replies told is_there halt.NoMemory (Says l) (standpoint disk store h0 (around choices answers steps)) (standpoint disk' behind h1 (around choices' answers' steps'))
+    pub halted-unheard : (disk disk' : D) (there store' behind : StoreState) (h0 h1 : Option (List ℕ)) (choices' : ℕ → Option Choice) (answers' : A) (steps' : ℕ) → there ≡ store → IsRun store.entries → Advances replies ((row_of there.entries l).turn told) finished (around choices answers mid) (around choices' answers' steps') 0 (Carries IsRun d disk disk' there store' h0 h1) → IsHalted d replies told is_there halt.NoMemory (Says l) (standpoint disk store h0 (around choices answers steps)) (standpoint disk' behind h1 (around choices' answers' steps'))
     halted-unheard disk disk' there store' behind h0 h1 choices' answers' steps' same is_run p =
         halted-changed disk disk' there behind h0 h1 halt.NoMemory (around choices' answers' steps') same is_run
-        (Stops-last IsRun d replies halts points (line_turn told there.entries l) (around choices answers mid) choices' answers' steps' disk disk' there store' h0 h1 p)
+        (Stops-last IsRun d replies halts points ((row_of there.entries l).turn told) (around choices answers mid) choices' answers' steps' disk disk' there store' h0 h1 p)
 
 -- what questions know of the records from before
 pub heard-before : (Q : Type 0) (knows : Q → List Record → Type 0) (q q' : Q) (store there new : StoreState) (before entries more : List Record) (known : ℕ) → knows q store.entries → q' ≡ q → there ≡ store → before ≡ there.entries → known ≡ length before → entries ≡ new.entries → new.entries ≡ there.entries ++ more → knows q' (take known entries)

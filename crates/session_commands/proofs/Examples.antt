@@ -16,7 +16,8 @@ use Rattle.session_commands.specs.Answering.{IsNotBegun}
 use Rattle.session_runs.specs.Standing.{Standpoint, standpoint}
 use Rattle.session_commands.specs.Generator.{gen_name}
 use Rattle.session_commands.specs.Lines.{needs_machine, turn}
-use Rattle.session_commands.specs.Refusals.{fault_refusal, generator_refusal, refusal_of}
+use Rattle.session_commands.specs.Refusals.{fault_refusal, generator_refusal}
+use Rattle.session_commands.specs.Rows.{row_of}
 use Rattle.session_model.specs.Questions.{Told}
 
 -- a history that brought a file `a` of one byte, and one that booted behind it
@@ -27,40 +28,40 @@ a_boot : List Record
 a_boot = entry.File (97 ∷ []) (1 ∷ []) ∷ entry.Boot (97 ∷ []) (record { bytes = []; origins = [] }) ∷ []
 
 -- nothing runs before a boot, and nothing is typed
-runs_early : refusal_of [] (line.Run 5) ≡ Some NoBoot
+runs_early : (row_of [] (line.Run 5)).refusal ≡ Some NoBoot
 runs_early = refl
 
-types_early : refusal_of [] (line.Type (104 ∷ [])) ≡ Some NoBoot
+types_early : (row_of [] (line.Type (104 ∷ []))).refusal ≡ Some NoBoot
 types_early = refl
 
 -- behind it nothing is brought, and nothing boots again
-brings_late : refusal_of a_boot (line.File (98 ∷ []) []) ≡ Some NoBooted
+brings_late : (row_of a_boot (line.File (98 ∷ []) [])).refusal ≡ Some NoBooted
 unfolding a_boot
 brings_late = refl
 
-boots_again : refusal_of a_boot (line.Boot (97 ∷ [])) ≡ Some NoBooted
+boots_again : (row_of a_boot (line.Boot (97 ∷ []))).refusal ≡ Some NoBooted
 unfolding a_boot
 boots_again = refl
 
 -- a name is brought once; one that wasn't can't be booted from, and neither can one byte
-brings_twice : refusal_of a_file (line.File (97 ∷ []) []) ≡ Some NoName
+brings_twice : (row_of a_file (line.File (97 ∷ []) [])).refusal ≡ Some NoName
 unfolding a_file
 brings_twice = refl
 
-brings_another : refusal_of a_file (line.File (98 ∷ []) []) ≡ None
+brings_another : (row_of a_file (line.File (98 ∷ []) [])).refusal ≡ None
 unfolding a_file
 brings_another = refl
 
-boots_nothing : refusal_of a_file (line.Boot (98 ∷ [])) ≡ Some NoName
+boots_nothing : (row_of a_file (line.Boot (98 ∷ []))).refusal ≡ Some NoName
 unfolding a_file
 boots_nothing = refl
 
-boots_a_byte : refusal_of a_file (line.Boot (97 ∷ [])) ≡ Some NoImage
+boots_a_byte : (row_of a_file (line.Boot (97 ∷ []))).refusal ≡ Some NoImage
 unfolding a_file
 boots_a_byte = refl
 
 -- a question isn't refused
-asks : (q : Question) → refusal_of [] (line.Asks q) ≡ None
+asks : (q : Question) → (row_of [] (line.Asks q)).refusal ≡ None
 asks q = refl
 
 -- a faulty program is told before a boot alone

@@ -38,6 +38,7 @@ use Rattle.session_commands.specs.Cost.{cost, machine_cost}
 use Rattle.session_commands.specs.Generator.{event_commits, gen_from, gen_inputs, gen_name, gen_run, generator_turn}
 use Rattle.session_commands.specs.Lines.{needs_machine, turn, turn_unless}
 use Rattle.session_commands.specs.Refusals.{generator_refusal}
+use Rattle.session_commands.proofs.AnswerLemmas.{put-nothing}
 use Rattle.session_commands.proofs.ChangeLemmas.{Advances-later, Stops-later}
 use Rattle.session_commands.proofs.LineLemmas.{plain-boot, plain-file, plain-typed}
 use Rattle.session_commands.proofs.QuietLemmas.{AllPlain, AreCommitted, commits-are, plain-append, plain-committed, plain-done, plain-next}
@@ -278,8 +279,4 @@ module _ {D A : Type 0} (d : Ghosts D) (replies : A → Asked → Answered → A
         → IsHalted d replies told is_there halt.NoMemory (Generates image typed processes) (standpoint disk store held (around choices answers steps)) (standpoint disk' s2 holds (around choices' answers' steps'))
     halted-unheard disk disk' there s1 s2 held holds choices' answers' steps' same is_run p =
         halted-told disk disk' there s1 s2 held holds holds halt.NoMemory choices' answers' steps' steps' same is_run p (omega arith)
-        (record { put = []; left = told.generated s1.entries processes; are_bytes = refl; printed = put_nothing holds })
-      where
-        put_nothing : (o : Option (List ℕ)) → o ≡ option_map (λ before. before ++ []) o
-        put_nothing None = refl
-        put_nothing (Some before) = ap (λ (x : List ℕ). Some x) (sym (append-nil before))
+        (put-nothing (told.generated s1.entries processes) holds)

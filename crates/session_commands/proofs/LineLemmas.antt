@@ -1,6 +1,7 @@
 -- What commands do that are refused, that print, or that become an event.
-use Rattle.std.proofs.Common.{◌≡◌, ◌⊎◌, ◌≤◌, inl, inr, ℕ, ◌++◌, Bool, true, false, List, [], ◌∷◌, Option, Some, None, refl, ap, ◌∙◌, append-nil, arith}
+use Rattle.std.proofs.Common.{◌≡◌, ◌⊎◌, ◌≤◌, inl, inr, sym, ℕ, ◌++◌, Bool, true, false, List, [], ◌∷◌, Option, Some, None, refl, ap, ◌∙◌, append-nil, arith}
 use Rattle.std.specs.Prelude.{◌&&◌, if◌then◌else◌, is_none}
+use Rattle.std.proofs.lemmas.Bool.{false≢true}
 use Rattle.arn_base.specs.declared.records.Record.{Record}
 use Rattle.parts_model.specs.Files.{find_file, file_bytes}
 use Rattle.parts_model.specs.Image.{is_image}
@@ -13,7 +14,6 @@ use Rattle.arn_lines.specs.declared.answer.Refusal.{Refusal}
 use Rattle.arn_lines.specs.declared.answer.RunEnd.{RunEnd}
 use Rattle.arn_lines.specs.declared.line.Line.{Line}
 use Rattle.arn_lines.specs.declared.line.Line.TheVariants as line
-use Rattle.arn_lines.specs.declared.line.Question.{Question}
 use Rattle.arn_lines.specs.Texts.{event_text, refusal_text}
 use Rattle.arn_commands.specs.declared.command.Command.TheVariants.{Says}
 use Rattle.session_effects.specs.Carrying.{IsAtCommit}
@@ -23,8 +23,11 @@ use Rattle.session_runs.specs.Ready.{machine_of}
 use Rattle.session_runs.specs.Runs.{begun, ended, ends, run, unless_ended}
 use Rattle.session_runs.specs.Turns.{Point, cut_off, does, finished, prints}
 use Rattle.session_commands.specs.Cost.{cost, machine_cost}
-use Rattle.session_commands.specs.Lines.{event_effects, is_change, line_turn, needs_machine, turn, turn_unless}
-use Rattle.session_commands.specs.Refusals.{refusal_of}
+use Rattle.session_commands.specs.Events.{event_effects, input_of}
+use Rattle.session_commands.specs.Lines.{needs_machine, turn, turn_unless}
+use Rattle.session_commands.specs.Rows.{LineTells, row_of}
+use Rattle.session_commands.specs.declared.events.Given.{Given}
+use Rattle.session_commands.specs.declared.events.Given.TheVariants as given
 use Rattle.session_commands.proofs.TurnLemmas.{IsStill, first-commit, no-commit, none-next, still-does}
 use Rattle.session_model.specs.Questions.{Told}
 
@@ -66,6 +69,11 @@ plain-boot m path = boot-plain m path (find_file m.kernel.files path) (is_booted
 pub plain-typed : (m : Machine) (bytes : List ℕ) → IsPlain (records_from m (Typed bytes ∷ []))
 plain-typed m bytes = typed-plain m bytes (is_booted m)
 
+pub plain-given : (m : Machine) (g : Given) → IsPlain (records_from m (input_of g ∷ []))
+plain-given m (given.File name bytes) = plain-file m name.now bytes.now
+plain-given m (given.Boot name) = plain-boot m name.now
+plain-given m (given.Typed bytes) = plain-typed m bytes.now
+
 -- no slice is taken where they are committed
 pub plain-effects : (m : Machine) (i : Input) → IsPlain (records_from m (i ∷ [])) → IsPlain (committed (event_effects m i))
 plain-effects m i plain =
@@ -95,38 +103,74 @@ still-run m count = record { asks = no_asks (ends (begun m count)); left = none_
     no_names (Some end) entries at = absurd (no-commit _ entries [] at)
 
 -- without slices no line asks for one
-pub still-line : (told : Told) (history : List Record) (l : Line) → IsStill (line_turn told history l)
+pub still-line : (told : Told) (history : List Record) (l : Line) → IsStill ((row_of history l).turn told)
 still-line told history (line.File name bytes) = still-event (machine_of history) (File name bytes) _ refl (plain-file (machine_of history) name bytes)
 still-line told history (line.Boot name) = still-event (machine_of history) (Boot name) _ refl (plain-boot (machine_of history) name)
 still-line told history (line.Type bytes) = still-event (machine_of history) (Typed bytes) _ refl (plain-typed (machine_of history) bytes)
 still-line told history (line.Run count) = still-run (machine_of history) count
-still-line told history (line.Asks question) = still-text (told.text history question)
+still-line told history l = still-text _
+
+-- a line that needs no machine prints a text, and does nothing else
+pub record IsText (told : Told) (history : List Record) (l : Line) : Type 0 where
+  pub text : List ℕ
+  pub is : LineTells told history l text
+
+pub text-line : (told : Told) (history : List Record) (l : Line) → (row_of history l).needs_machine ≡ false → IsText told history l
+text-line told history (line.File name bytes) none = absurd (false≢true (sym none))
+text-line told history (line.Boot name) none = absurd (false≢true (sym none))
+text-line told history (line.Type bytes) none = absurd (false≢true (sym none))
+text-line told history (line.Run count) none = absurd (false≢true (sym none))
+text-line told history l none = record { text = _; is = refl }
+
+-- texts that are all that a line prints are one
+pub text-same : (told : Told) (history : List Record) (l : Line) (text other : List ℕ) → LineTells told history l text → LineTells told history l other → text ≡ other
+text-same told history l text other a b =
+    let e : Prints text ∷ [] ≡ Prints other ∷ [] = ap (λ (p : Point). (p []).effects) (sym a ∙ b) in
+    cc
+
+-- no other line needs the machine, and none of the others is refused
+pub others-need-none : (history : List Record) (l : Line) → ((name bytes : List ℕ) → l ≡ line.File name bytes → ⊥) → ((name : List ℕ) → l ≡ line.Boot name → ⊥) → ((bytes : List ℕ) → l ≡ line.Type bytes → ⊥) → ((count : ℕ) → l ≡ line.Run count → ⊥) → (row_of history l).needs_machine ≡ false
+others-need-none history (line.File name bytes) file boot typed run = absurd (file name bytes refl)
+others-need-none history (line.Boot name) file boot typed run = absurd (boot name refl)
+others-need-none history (line.Type bytes) file boot typed run = absurd (typed bytes refl)
+others-need-none history (line.Run count) file boot typed run = absurd (run count refl)
+others-need-none history l file boot typed run = refl
+
+pub others-are-answered : (history : List Record) (l : Line) → ((name bytes : List ℕ) → l ≡ line.File name bytes → ⊥) → ((name : List ℕ) → l ≡ line.Boot name → ⊥) → ((bytes : List ℕ) → l ≡ line.Type bytes → ⊥) → ((count : ℕ) → l ≡ line.Run count → ⊥) → (row_of history l).refusal ≡ None
+others-are-answered history (line.File name bytes) file boot typed run = absurd (file name bytes refl)
+others-are-answered history (line.Boot name) file boot typed run = absurd (boot name refl)
+others-are-answered history (line.Type bytes) file boot typed run = absurd (typed bytes refl)
+others-are-answered history (line.Run count) file boot typed run = absurd (run count refl)
+others-are-answered history l file boot typed run = refl
 
 pub still-finished : IsStill finished
 still-finished = record { asks = refl; left = inr refl; names = λ entries at. absurd (none-next entries at) }
 
 -- a refused line prints why; one that isn't goes on
-pub turn-refused : (told : Told) (history : List Record) (l : Line) (why : Refusal) → refusal_of history l ≡ Some why → turn told history (Says l) ≡ prints (refusal_text why)
-turn-refused told history l why is = ap (λ (o : Option Refusal). turn_unless o (line_turn told history l)) is
+pub turn-refused : (told : Told) (history : List Record) (l : Line) (why : Refusal) → (row_of history l).refusal ≡ Some why → turn told history (Says l) ≡ prints (refusal_text why)
+turn-refused told history l why is = ap (λ (o : Option Refusal). turn_unless o ((row_of history l).turn told)) is
 
-pub turn-line : (told : Told) (history : List Record) (l : Line) → refusal_of history l ≡ None → turn told history (Says l) ≡ line_turn told history l
-turn-line told history l is = ap (λ (o : Option Refusal). turn_unless o (line_turn told history l)) is
+pub turn-line : (told : Told) (history : List Record) (l : Line) → (row_of history l).refusal ≡ None → turn told history (Says l) ≡ (row_of history l).turn told
+turn-line told history l is = ap (λ (o : Option Refusal). turn_unless o ((row_of history l).turn told)) is
 
 and-false : (b : Bool) → (b && false) ≡ false
 and-false true = refl
 and-false false = refl
 
-pub needs-refused : (history : List Record) (l : Line) (why : Refusal) → refusal_of history l ≡ Some why → needs_machine history (Says l) ≡ false
-needs-refused history l why is = ap (λ (o : Option Refusal). is_change l && is_none o) is ∙ and-false (is_change l)
+pub needs-refused : (history : List Record) (l : Line) (why : Refusal) → (row_of history l).refusal ≡ Some why → needs_machine history (Says l) ≡ false
+needs-refused history l why is = ap (λ (o : Option Refusal). (row_of history l).needs_machine && is_none o) is ∙ and-false (row_of history l).needs_machine
 
-pub needs-change : (history : List Record) (l : Line) → is_change l ≡ true → refusal_of history l ≡ None → needs_machine history (Says l) ≡ true
-needs-change history l change is = ap (λ (b : Bool). b && is_none (refusal_of history l)) change ∙ ap (λ (o : Option Refusal). true && is_none o) is
+pub needs-none : (history : List Record) (l : Line) → (row_of history l).needs_machine ≡ false → needs_machine history (Says l) ≡ false
+needs-none history l none = ap (λ (b : Bool). b && is_none (row_of history l).refusal) none
+
+pub needs-one : (history : List Record) (l : Line) → (row_of history l).needs_machine ≡ true → (row_of history l).refusal ≡ None → needs_machine history (Says l) ≡ true
+needs-one history l needs is = ap (λ (b : Bool). b && is_none (row_of history l).refusal) needs ∙ ap (λ (o : Option Refusal). true && is_none o) is
 
 -- what a line costs, whatever the history behind it
-pub cost-change : (told : Told) (is_there : Bool) (history behind : List Record) (l : Line) → is_change l ≡ true → refusal_of history l ≡ None → machine_cost is_there history ≤ cost told is_there history behind (Says l)
-cost-change told is_there history behind l change is =
-    let e : (if needs_machine history (Says l) then machine_cost is_there history else 0) ≡ machine_cost is_there history = ap (λ (b : Bool). if b then machine_cost is_there history else 0) (needs-change history l change is) in
+pub cost-machine : (told : Told) (is_there : Bool) (history behind : List Record) (l : Line) → (row_of history l).needs_machine ≡ true → (row_of history l).refusal ≡ None → machine_cost is_there history ≤ cost told is_there history behind (Says l)
+cost-machine told is_there history behind l needs is =
+    let e : (if needs_machine history (Says l) then machine_cost is_there history else 0) ≡ machine_cost is_there history = ap (λ (b : Bool). if b then machine_cost is_there history else 0) (needs-one history l needs is) in
     omega (arith, e)
 
-pub cost-ask : (told : Told) (is_there : Bool) (history behind : List Record) (q : Question) → told.cost history q ≤ cost told is_there history behind (Says (line.Asks q))
-cost-ask told is_there history behind q = omega arith
+pub cost-told : (told : Told) (is_there : Bool) (history behind : List Record) (l : Line) → (row_of history l).cost told ≤ cost told is_there history behind (Says l)
+cost-told told is_there history behind l = omega arith

@@ -1,5 +1,5 @@
 -- Events that are committed without their numbers.
-use Rattle.std.proofs.Common.{◌≡◌, ◌≢◌, ℕ, ◌++◌, List, [], ◌∷◌, Option, filter_map, refl, sym, ap, ◌∙◌, subst, append_assoc, append-nil}
+use Rattle.std.proofs.Common.{◌≡◌, ◌≢◌, ℕ, ◌++◌, List, [], ◌∷◌, Option, None, filter_map, refl, sym, ap, ◌∙◌, subst, append_assoc, append-nil}
 use Rattle.std.proofs.lemmas.Grind.{flat_map-append}
 use Rattle.std.proofs.lemmas.List.Elements.{filter_map-append}
 use Rattle.arn_base.specs.declared.disk.Disk.{Ghosts}
@@ -13,7 +13,6 @@ use Rattle.log_store.specs.Stores.{StoreState}
 use Rattle.session_effects.specs.Carrying.{IsAtCommit, StopsBetween}
 use Rattle.session_effects.specs.Effects.{Effect, Commits, Prints, committed, records_of}
 use Rattle.session_effects.specs.Laws.{EffectsFollow, HaltsFollow}
-use Rattle.session_effects.specs.Quiet.{QuietFollows, quiet}
 use Rattle.session_effects.specs.Standing.{Carries, IsCause}
 use Rattle.session_effects.specs.declared.halt.Halt.{Halt}
 use Rattle.session_effects.specs.declared.halt.Halt.TheVariants as halt
@@ -21,7 +20,6 @@ use Rattle.session_runs.specs.Points.{slice_in, slices_in}
 use Rattle.session_runs.specs.Ready.{machine_of}
 use Rattle.session_commands.specs.Answering.{HaltsIn}
 use Rattle.session_commands.specs.Generator.{event_commits}
-use Rattle.session_commands.specs.Lines.{event_effects}
 use Rattle.session_commands.proofs.AnswerLemmas.{never-rose}
 use Rattle.session_commands.proofs.BootLemmas.{machine-more}
 use Rattle.session_commands.proofs.LineLemmas.{IsPlain}
@@ -30,15 +28,6 @@ use Rattle.session_commands.proofs.TurnLemmas.{first-commit, no-commit, none-nex
 -- a sink that never fails makes nothing halt, and what does halt has its cause whatever sink there is
 pub not-sink : (why : Halt) (d0 d1 : ℕ) → IsCause why d0 d1 0 0 → why ≢ halt.Sink
 not-sink why d0 d1 cause is = never-rose (subst (λ (x : Halt). IsCause x d0 d1 0 0) is cause)
-
-pub quiet-cause : (why : Halt) (d0 d1 faults : ℕ) → IsCause why d0 d1 0 0 → IsCause why d0 d1 faults faults
-quiet-cause halt.NoMemory d0 d1 faults is = tt
-quiet-cause halt.Source d0 d1 faults is = absurd is
-quiet-cause halt.Sink d0 d1 faults is = absurd (not-sink halt.Sink d0 d1 is refl)
-quiet-cause halt.Long d0 d1 faults is = absurd is
-quiet-cause halt.Disk d0 d1 faults is = is
-quiet-cause (halt.Full log payload) d0 d1 faults is = is
-quiet-cause (halt.Differs d) d0 d1 faults is = absurd is
 
 -- commits behind others
 pub commits-append : (m : Machine) (inputs more : List Input) → event_commits m (inputs ++ more) ≡ event_commits m inputs ++ event_commits (machine_from m inputs) more
@@ -52,11 +41,6 @@ commits-are m (i ∷ inputs) =
     let first : List Record = input_records i (input_steps m i) in
     ap (λ (x : List Record). x ++ committed (event_commits (after_input m i) inputs)) (append-nil first) ∙ ap (λ (x : List Record). first ++ x) (commits-are (after_input m i) inputs)
 
-quiet-append : (effects more : List Effect) → quiet (effects ++ more) ≡ quiet effects ++ quiet more
-quiet-append [] more = refl
-quiet-append (Commits entries ∷ effects) more = ap (λ (x : List Effect). Commits entries ∷ x) (quiet-append effects more)
-quiet-append (Prints text ∷ effects) more = quiet-append effects more
-
 -- Inputs became events whose records were committed, and nothing was put: so it looks from any sink.
 pub record AreCommitted {D : Type 0} (d : Ghosts D) (old new : D) (s0 s1 : StoreState) (inputs : List Input) : Type 0 where
   pub carries : (held : Option (List ℕ)) → Carries IsRun d old new s0 s1 held held (event_commits (machine_of s0.entries) inputs)
@@ -64,15 +48,15 @@ pub record AreCommitted {D : Type 0} (d : Ghosts D) (old new : D) (s0 s1 : Store
 
 module _ {D : Type 0} (d : Ghosts D) where
   -- the history behind an event
-  pub entries-behind : (old new : D) (s0 s1 : StoreState) (h0 h1 : Option (List ℕ)) (m : Machine) (i : Input) → Carries IsRun d old new s0 s1 h0 h1 (event_effects m i) → s1.entries ≡ s0.entries ++ records_from m (i ∷ [])
-  entries-behind old new s0 s1 h0 h1 m i carries = carries.entries ∙ ap (λ (x : List Record). s0.entries ++ x) (append-nil (records_from m (i ∷ [])))
+  pub entries-behind : (old new : D) (s0 s1 : StoreState) (held : Option (List ℕ)) (m : Machine) (i : Input) → Carries IsRun d old new s0 s1 held held (event_commits m (i ∷ [])) → s1.entries ≡ s0.entries ++ records_from m (i ∷ [])
+  entries-behind old new s0 s1 held m i carries = carries.entries ∙ ap (λ (x : List Record). s0.entries ++ x) (append-nil (records_from m (i ∷ [])))
 
   -- one event
-  pub committed-one : QuietFollows IsRun d → RecordsAppend → NamedRunsAgain → EachRunAppends → (old new : D) (s0 s1 : StoreState) (h0 h1 : Option (List ℕ)) (i : Input) → IsRun s0.entries → Carries IsRun d old new s0 s1 h0 h1 (event_effects (machine_of s0.entries) i) → AreCommitted d old new s0 s1 (i ∷ [])
-  committed-one follow append again runs old new s0 s1 h0 h1 i is_run carries = record {
-    carries = λ held. follow.carries old new s0 s1 h0 h1 held (event_effects (machine_of s0.entries) i) carries;
+  pub committed-one : RecordsAppend → NamedRunsAgain → EachRunAppends → (old new : D) (s0 s1 : StoreState) (i : Input) → IsRun s0.entries → ((held : Option (List ℕ)) → Carries IsRun d old new s0 s1 held held (event_commits (machine_of s0.entries) (i ∷ []))) → AreCommitted d old new s0 s1 (i ∷ [])
+  committed-one append again runs old new s0 s1 i is_run carries = record {
+    carries = carries;
     leads =
-        ap machine_of (entries-behind old new s0 s1 h0 h1 (machine_of s0.entries) i carries)
+        ap machine_of (entries-behind old new s0 s1 None (machine_of s0.entries) i (carries None))
         ∙ machine-more append again runs s0.entries is_run (i ∷ []);
   }
 
@@ -96,15 +80,6 @@ module _ {D : Type 0} (d : Ghosts D) where
             });
         leads = b.leads ∙ ap (λ (x : Machine). machine_from x more) a.leads ∙ sym (runs m inputs more).machine;
       }
-
-  -- one that halts
-  pub halts-one : QuietFollows IsRun d → (old new : D) (history : List Record) (h0 h1 held : Option (List ℕ)) (why : Halt) (m : Machine) (i : Input) → why ≢ halt.Sink → HaltsIn (StopsBetween IsRun d old new history h0 h1 why) (event_effects m i) → HaltsIn (StopsBetween IsRun d old new history held held why) (event_commits m (i ∷ []))
-  halts-one follow old new history h0 h1 held why m i other h = record {
-    done = quiet h.done;
-    undone = quiet h.undone;
-    are_effects = ap quiet h.are_effects ∙ quiet-append h.done h.undone;
-    stopped = follow.halts old new history h0 h1 held why h.done h.undone other h.stopped;
-  }
 
   -- one that halts before others
   pub halts-before : HaltsFollow IsRun d → (old new : D) (history : List Record) (held : Option (List ℕ)) (why : Halt) (m : Machine) (inputs more : List Input) → HaltsIn (StopsBetween IsRun d old new history held held why) (event_commits m inputs) → HaltsIn (StopsBetween IsRun d old new history held held why) (event_commits m (inputs ++ more))

@@ -4,12 +4,11 @@ use Rattle.arn_base.specs.declared.records.Record.{Record}
 use Rattle.arn_model.specs.Run.{Input}
 use Rattle.log_model.specs.Laws.{RecordsAreRun}
 use Rattle.log_model.specs.Records.{records, records_from, named, IsRun}
-use Rattle.arn_lines.specs.Texts.{event_text}
 use Rattle.guest_machine.specs.Laws.{NamedFollow, RecordsFollow, RunsFollow, RecordsLeaveRoom}
 use Rattle.guest_machine.specs.Recorded.{Recorded, Runs, IsAfter, HasRoom, OfEach}
-use Rattle.session_effects.specs.Effects.{Commits, Prints}
 use Rattle.session_runs.specs.Ready.{IsReady, machine_of}
-use Rattle.session_commands.specs.Lines.{event_effects}
+use Rattle.session_commands.specs.Events.{IsEvent}
+use Rattle.session_commands.specs.declared.events.Event.{Event}
 
 -- it still belongs to them after more inputs, with the records of these
 ready-more : NamedFollow → RecordsFollow → RunsFollow → RecordsAreRun → (r r' : Recorded) (history : List Record) (more : List Input) (out out' : List Record) → IsReady r history → Runs (machine_of history) more r r' out out' → IsReady r' (history ++ records_from (machine_of history) more)
@@ -38,8 +37,9 @@ pub room-for : RecordsLeaveRoom → (r : Recorded) (history : List Record) (even
 room-for leave_room r history events instructions ready few at_most within =
     leave_room r (named history) events instructions ready.is_after (subst (λ (x : List Record). length x < 2 ^ 63) ready.is_run few) at_most within
 
--- an event's commit and number are the effects of its input
-pub event-effects : (r r' : Recorded) (history : List Record) (i : Input) (out entries : List Record) (event : ℕ) → IsReady r history → OfEach r.kernel (λ m. Runs m (i ∷ []) r r' out entries) → out ≡ [] → event ≡ r.kernel.events → Commits entries ∷ Prints (event_text event) ∷ [] ≡ event_effects (machine_of history) i
-event-effects r r' history i out entries event ready runs none is =
-    ap (λ (x : List Record). Commits x ∷ Prints (event_text event) ∷ []) (recorded-alone r r' history (i ∷ []) out entries none (runs (machine_of history) ready.is_after.leads))
-    ∙ ap (λ (n : ℕ). Commits (records_from (machine_of history) (i ∷ [])) ∷ Prints (event_text n) ∷ []) (is ∙ ready.is_after.leads.events)
+-- an event with the records that an input's run adds is that input's
+pub event-made : (r r' : Recorded) (history : List Record) (i : Input) (out : List Record) (event : Event) → IsReady r history → OfEach r.kernel (λ m. Runs m (i ∷ []) r r' out event.entries.items) → out ≡ [] → event.number ≡ r.kernel.events → IsEvent (machine_of history) i event
+event-made r r' history i out event ready runs none is = record {
+  is_number = is ∙ ready.is_after.leads.events;
+  are_records = recorded-alone r r' history (i ∷ []) out event.entries.items none (runs (machine_of history) ready.is_after.leads);
+}

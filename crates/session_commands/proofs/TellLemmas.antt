@@ -16,13 +16,12 @@ use Rattle.history_model.specs.Names as names
 use Rattle.log_model.specs.Records.{named}
 use Rattle.replay_laws.specs.Laws.{RecordsTellRuns, TellsRun, named_bytes}
 use Rattle.arn_lines.specs.declared.answer.Refusal.TheVariants.{NoBoot, NoBooted, NoImage, NoName}
-use Rattle.arn_lines.specs.declared.line.Line.TheVariants as line
 use Rattle.guest_machine.specs.Laws.{RecordsLeaveRoom}
 use Rattle.guest_machine.specs.Recorded.{HasRoom, Recorded, has_process}
 use Rattle.guest_machine.specs.declared.errors.MachineError.{MachineError}
 use Rattle.guest_machine.specs.declared.errors.MachineError.TheVariants as fails
 use Rattle.session_runs.specs.Ready.{IsReady}
-use Rattle.session_commands.specs.Refusals.{file_refusal, refusal_of, refused_if}
+use Rattle.session_commands.specs.Refusals.{boot_refusal, bring_refusal, early_refusal, file_refusal, refused_if}
 use Rattle.session_commands.proofs.ReadyLemmas.{room-for}
 
 -- the records tell whether the machine has a process, and until then its files
@@ -58,8 +57,8 @@ by-file true c is = absurd cc
 by-file false true is = (refl, refl)
 by-file false false is = absurd cc
 
-pub accepted-file : (history : List Record) (name bytes : List ℕ) → refusal_of history (line.File name bytes) ≡ None → (names.is_booted history ≡ false) × (names.may_bring history name ≡ true)
-accepted-file history name bytes is = by-file (names.is_booted history) (names.may_bring history name) is
+pub accepted-file : (history : List Record) (name : List ℕ) → bring_refusal history name ≡ None → (names.is_booted history ≡ false) × (names.may_bring history name ≡ true)
+accepted-file history name is = by-file (names.is_booted history) (names.may_bring history name) is
 
 -- an image was brought
 pub record IsBrought (o : Option (List ℕ)) : Type 0 where
@@ -76,7 +75,7 @@ by-boot true o is = absurd cc
 by-boot false None is = absurd cc
 by-boot false (Some bytes) is = (refl, record { bytes = bytes; are = refl; image = by-image (read_as_image bytes) (is_image bytes) is })
 
-pub accepted-boot : (history : List Record) (name : List ℕ) → refusal_of history (line.Boot name) ≡ None → (names.is_booted history ≡ false) × IsBrought (names.brought history name)
+pub accepted-boot : (history : List Record) (name : List ℕ) → boot_refusal history name ≡ None → (names.is_booted history ≡ false) × IsBrought (names.brought history name)
 accepted-boot history name is = by-boot (names.is_booted history) (names.brought history name) is
 
 -- a process was made
@@ -84,8 +83,8 @@ by-booted : (b : Bool) → refused_if (not b) NoBoot ≡ None → b ≡ true
 by-booted true is = refl
 by-booted false is = absurd cc
 
-accepted-type : (history : List Record) (bytes : List ℕ) → refusal_of history (line.Type bytes) ≡ None → names.is_booted history ≡ true
-accepted-type history bytes is = by-booted (names.is_booted history) is
+accepted-type : (history : List Record) → early_refusal history ≡ None → names.is_booted history ≡ true
+accepted-type history is = by-booted (names.is_booted history) is
 
 -- what a file is named by has bytes
 found-none : (files : Files) (name : List ℕ) → IsNone (find_file files name) → named_bytes files name ≡ None
@@ -108,18 +107,18 @@ pub record IsUnfit (files : Files) (name : List ℕ) : Type 0 where
   pub no_image : is_image (values held) ≡ false
 
 -- a file that may be brought is refused for want of memory alone
-pub file-added : {T : Type 0} (result : Result T MachineError) (e : MachineError) (r : Recorded) (history : List Record) (name bytes : List ℕ) → IsTold r history → refusal_of history (line.File name bytes) ≡ None → result ≡ Err e
+pub file-added : {T : Type 0} (result : Result T MachineError) (e : MachineError) (r : Recorded) (history : List Record) (name : List ℕ) → IsTold r history → bring_refusal history name ≡ None → result ≡ Err e
     → (result ≡ Err fails.Booted → IsTrue (has_process r.kernel)) → (result ≡ Err fails.NoName → is_free r.kernel.kernel.files name ≡ false) → IfErr result (λ e. (e ≡ fails.Booted) ⊎ (e ≡ fails.NoName) ⊎ (e ≡ fails.NoMemory)) → e ≡ fails.NoMemory
-file-added result e r history name bytes told accepted is booted no_name only = elim (subst (λ x. IfErr x (λ e. (e ≡ fails.Booted) ⊎ (e ≡ fails.NoName) ⊎ (e ≡ fails.NoMemory))) is only) [
-  | inl first ↦ absurd (false≢true (sym (accepted-file history name bytes accepted).0 ∙ told.booted ∙ booted (is ∙ ap (λ (x : MachineError). Err x) first)))
+file-added result e r history name told accepted is booted no_name only = elim (subst (λ x. IfErr x (λ e. (e ≡ fails.Booted) ⊎ (e ≡ fails.NoName) ⊎ (e ≡ fails.NoMemory))) is only) [
+  | inl first ↦ absurd (false≢true (sym (accepted-file history name accepted).0 ∙ told.booted ∙ booted (is ∙ ap (λ (x : MachineError). Err x) first)))
   | inr more ↦ elim more [
-    | inl second ↦ absurd (false≢true (sym (no_name (is ∙ ap (λ (x : MachineError). Err x) second)) ∙ sym (told.free (accepted-file history name bytes accepted).0 name) ∙ (accepted-file history name bytes accepted).1))
+    | inl second ↦ absurd (false≢true (sym (no_name (is ∙ ap (λ (x : MachineError). Err x) second)) ∙ sym (told.free (accepted-file history name accepted).0 name) ∙ (accepted-file history name accepted).1))
     | inr third ↦ third
   ]
 ]
 
 -- and so is a boot from an image that was brought
-pub boot-begun : {T : Type 0} (result : Result T MachineError) (e : MachineError) (r : Recorded) (history : List Record) (name : List ℕ) → IsTold r history → refusal_of history (line.Boot name) ≡ None → result ≡ Err e
+pub boot-begun : {T : Type 0} (result : Result T MachineError) (e : MachineError) (r : Recorded) (history : List Record) (name : List ℕ) → IsTold r history → boot_refusal history name ≡ None → result ≡ Err e
     → (result ≡ Err fails.Booted → IsTrue (has_process r.kernel)) → (result ≡ Err fails.NoName → IsNone (find_file r.kernel.kernel.files name)) → (result ≡ Err fails.NotImage → IsUnfit r.kernel.kernel.files name) → IfErr result (λ e. (e ≢ fails.NotBooted) × (e ≢ fails.NoDevice)) → e ≡ fails.NoMemory
 boot-begun result e r history name told accepted is booted no_name not_image only = by e is (subst (λ x. IfErr x (λ e. (e ≢ fails.NotBooted) × (e ≢ fails.NoDevice))) is only)
   where
@@ -146,9 +145,9 @@ boot-begun result e r history name told accepted is booted no_name not_image onl
     by fails.NoMemory is only = refl
 
 -- and a typed piece where a process was made
-pub piece-typed : {T : Type 0} (result : Result T MachineError) (e : MachineError) (r : Recorded) (history : List Record) (bytes : List ℕ) → IsTold r history → refusal_of history (line.Type bytes) ≡ None → result ≡ Err e
+pub piece-typed : {T : Type 0} (result : Result T MachineError) (e : MachineError) (r : Recorded) (history : List Record) → IsTold r history → early_refusal history ≡ None → result ≡ Err e
     → (result ≡ Err fails.NotBooted → has_process r.kernel ≡ false) → IfErr result (λ e. (e ≡ fails.NotBooted) ⊎ (e ≡ fails.NoMemory)) → e ≡ fails.NoMemory
-piece-typed result e r history bytes told accepted is not_booted only = elim (subst (λ x. IfErr x (λ e. (e ≡ fails.NotBooted) ⊎ (e ≡ fails.NoMemory))) is only) [
-  | inl first ↦ absurd (false≢true (sym (not_booted (is ∙ ap (λ (x : MachineError). Err x) first)) ∙ sym told.booted ∙ accepted-type history bytes accepted))
+piece-typed result e r history told accepted is not_booted only = elim (subst (λ x. IfErr x (λ e. (e ≡ fails.NotBooted) ⊎ (e ≡ fails.NoMemory))) is only) [
+  | inl first ↦ absurd (false≢true (sym (not_booted (is ∙ ap (λ (x : MachineError). Err x) first)) ∙ sym told.booted ∙ accepted-type history accepted))
   | inr second ↦ second
 ]

@@ -2,30 +2,21 @@
 use Rattle.std.specs.Prelude.{ℕ, ◌+◌, ◌++◌, Bool, if◌then◌else◌, List, is_none}
 use Rattle.arn_base.specs.declared.records.Record.{Record}
 use Rattle.guest_machine.specs.Differs.{rebuild_cost}
-use Rattle.arn_lines.specs.declared.line.Line.{Line}
-use Rattle.arn_lines.specs.declared.line.Line.TheVariants as line
 use Rattle.arn_commands.specs.declared.command.Command.{Command}
 use Rattle.arn_commands.specs.declared.command.Command.TheVariants.{PassedOver, TooLong, Unreadable, Says, Faulty, Generates}
 use Rattle.session_effects.specs.Effects.{committed}
 use Rattle.session_runs.specs.Turns.{Turn}
 use Rattle.session_commands.specs.Lines.{needs_machine}
 use Rattle.session_commands.specs.Refusals.{generator_refusal}
+use Rattle.session_commands.specs.Rows.{row_of}
 use Rattle.session_model.specs.Questions.{Told}
-
--- a question costs what is told of it
-abbrev pub line_cost : Told → List Record → Line → ℕ
-line_cost told history (line.File name bytes) = 0
-line_cost told history (line.Boot name) = 0
-line_cost told history (line.Type bytes) = 0
-line_cost told history (line.Run count) = 0
-line_cost told history (line.Asks question) = told.cost history question
 
 -- what a command costs beside what it needs the machine for, by the history before and behind it
 abbrev pub asked_cost : Told → List Record → List Record → Command → ℕ
 asked_cost told history behind PassedOver = 0
 asked_cost told history behind TooLong = 0
 asked_cost told history behind Unreadable = 0
-asked_cost told history behind (Says l) = line_cost told history l
+asked_cost told history behind (Says l) = (row_of history l).cost told
 asked_cost told history behind (Faulty at) = 0
 asked_cost told history behind (Generates image typed processes) = if is_none (generator_refusal history) then told.generated_cost behind else 0
 

@@ -1,5 +1,7 @@
 pub mod Refusals
 pub mod Generator
+pub mod Events
+pub mod Rows
 pub mod Lines
 pub mod Cost
 pub mod Kept

@@ -1,5 +1,5 @@
 // What commands do.
-ghost use Rattle.std.specs.Prelude.{◌≡◌, ◌||◌, ◌+◌, ◌≤◌, ◌++◌, ℕ, All, None, OnOk, IfErr, IsSome, IsTrue, is_some, option_map};
+ghost use Rattle.std.specs.Prelude.{◌≡◌, ◌||◌, ◌+◌, ◌≤◌, ◌++◌, ℕ, List, [], All, None, OnOk, IfErr, false, is_some, option_map, string_bytes, true};
 ghost use Rattle.arn_base.specs.Faults.{NeverFalls};
 ghost use Rattle.arn_commands.specs.Sizes.{Fits, LineFits};
 ghost use Rattle.arn_commands.specs.declared.command.Command.TheVariants.{Says};
@@ -10,23 +10,24 @@ ghost use Rattle.session_effects.specs.Printing.{StopsPut};
 ghost use Rattle.session_effects.specs.Standing.{IsCause, IsOpen};
 ghost use Rattle.session_commands.specs.Answering.{BlamesRightly, IsAnswered, IsHalted, IsLineCause};
 ghost use Rattle.session_commands.specs.Cost.{machine_cost};
-ghost use Rattle.session_commands.specs.Kept.{IsSound};
-ghost use Rattle.session_commands.specs.Lines.{is_change, line_turn, needs_machine};
-ghost use Rattle.session_commands.specs.Refusals.{refusal_of as refusal_by};
+ghost use Rattle.session_commands.specs.Kept.{IsSound, IsThere};
+ghost use Rattle.session_commands.specs.Lines.{needs_machine};
+ghost use Rattle.session_commands.specs.Rows.{LineTells, row_of};
 ghost use Rattle.session_model.specs.Questions.{Told};
 ghost use Rattle.session_runs.specs.Ready.{IsReady};
 ghost use Rattle.session_runs.specs.Standing.{HaltsBehind, Proceeds, standing};
 ghost use Rattle.session_runs.specs.Turns.{finished};
 
-use crate::events::{add_file, boot, type_in};
+use crate::events::{Given, add_event};
 use crate::generating::answer_generator;
 use crate::kept::Kept;
 use crate::printing::print_refusal;
-use crate::ready::{return_machine, take_machine};
-use crate::refusals::{fault_refusal, refusal_of};
-use arn_base::{Chooser, Disk, Sink, Steps};
+use crate::ready::{make_machine, tell_questions};
+use crate::refusals::fault_refusal;
+use crate::rows::{needs_machine, refusal_of};
+use arn_base::{Chooser, Disk, NoMemory, Sink, Steps};
 use arn_commands::Command;
-use arn_lines::{Line, Question, Refusal};
+use arn_lines::{Line, Refusal};
 use guest_devices::Answers;
 use guest_machine::Machine;
 use log_store::{Store, store_is_short};
@@ -76,7 +77,7 @@ pub fn answer<Q: Questions, C: Chooser, A: Answers, D: Disk, K: Sink, L: Ledger>
         Command::PassedOver => Ok(()),
         Command::TooLong => print_refusal(outside.text, Refusal::NoLong, outside.sink),
         Command::Unreadable => print_refusal(outside.text, Refusal::NoLine, outside.sink),
-        Command::Says { line } => answer_line(kept, line, outside),
+        Command::Says { line } => answer_line(kept, &line, outside),
         Command::Faulty { at } => {
             let why = fault_refusal(kept.store.entries(), at);
             print_refusal(outside.text, why, outside.sink)
@@ -95,28 +96,28 @@ pub fn answer<Q: Questions, C: Chooser, A: Answers, D: Disk, K: Sink, L: Ledger>
 // Does what a line of the grammar says.
 fn answer_line<Q: Questions, C: Chooser, A: Answers, D: Disk, K: Sink, L: Ledger>(
     kept: &mut Kept<Q>,
-    line: Line,
+    line: &Line,
     outside: &mut Outside<C, A, D, K, L>,
 ) -> Result<(), Halt>
     requires open { IsOpen D.Disk kept.old.store outside.old.disk.now }
     requires sound { IsSound Q.knows kept.old.machine kept.old.questions kept.old.store.entries }
-    requires fits { LineFits line }
+    requires fits { LineFits line.now }
 
     ensures sound { OnOk result
         (IsSound Q.knows kept.new.machine kept.new.questions kept.new.store.entries) }
     ensures there { OnOk result (is_some kept.new.machine ≡
-        is_some kept.old.machine || needs_machine kept.old.store.entries (Says line)) }
+        is_some kept.old.machine || needs_machine kept.old.store.entries (Says line.now)) }
     ensures answered { OnOk result
-        (IsAnswered D.Disk A.answers Q.told (is_some kept.old.machine) (Says line)
+        (IsAnswered D.Disk A.answers Q.told (is_some kept.old.machine) (Says line.now)
         (standing C.choices K.holds kept.old.store outside.old)
         (standing C.choices K.holds kept.new.store outside.new)) }
 
     ensures halted { IfErr result (λ halt.
-        IsHalted D.Disk A.answers Q.told (is_some kept.old.machine) halt (Says line)
+        IsHalted D.Disk A.answers Q.told (is_some kept.old.machine) halt (Says line.now)
         (standing C.choices K.holds kept.old.store outside.old)
         (standing C.choices K.holds kept.new.store outside.new)) }
     ensures blames { IfErr result (λ halt.
-        BlamesRightly (is_some kept.old.machine) halt (Says line)
+        BlamesRightly (is_some kept.old.machine) halt (Says line.now)
         (standing C.choices K.holds kept.old.store outside.old)
         (standing C.choices K.holds kept.new.store outside.new)) }
     ensures cause { IfErr result (λ halt. IsLineCause halt
@@ -127,75 +128,105 @@ fn answer_line<Q: Questions, C: Chooser, A: Answers, D: Disk, K: Sink, L: Ledger
 {
     effects_follow::<MachineRuns, D>();
     halts_follow::<MachineRuns, D>();
-    points_follow::<MachineRuns, D, A>();
-    if let Some(why) = refusal_of(kept.store.entries(), &line) {
+    if let Some(why) = refusal_of(kept.store.entries(), line) {
         return print_refusal(outside.text, why, outside.sink);
     }
-    match &line {
-        Line::Asks { question } => {
-            ask(kept, question, outside.text, outside.sink, outside.steps)
-        }
-        _ => change(kept, line, outside),
+    if needs_machine(line) {
+        return change(kept, line, outside);
     }
+    tell(kept, line, outside.text, outside.sink, outside.steps)
 }
 
-// Prints the answer to a question.
-fn ask<Q: Questions, K: Sink, L: Ledger>(
+// Prints what a line tells that needs no machine.
+fn tell<Q: Questions, K: Sink, L: Ledger>(
     kept: &mut Kept<Q>,
-    question: &Question,
+    line: &Line,
     text: &mut String,
     sink: &mut K,
     steps: &mut Steps<L>,
 ) -> Result<(), Halt>
     requires known { Q.knows kept.old.questions kept.old.store.entries }
     requires spelled { All HasSpelling kept.old.store.entries }
+    requires needless { (row_of kept.old.store.entries line.now).needs_machine ≡ false }
     ensures known { OnOk result (Q.knows kept.new.questions kept.old.store.entries) }
     ensures store { kept.new.store ≡ kept.old.store }
     ensures machine { kept.new.machine ≡ kept.old.machine }
-    ensures ok { OnOk result (K.holds sink.new ≡ option_map (λ held.
-        held ++ (Q.told).text kept.old.store.entries question.now) (K.holds sink.old)) }
-    ensures stops { IfErr result (λ halt. StopsPut halt
-        ((Q.told).text kept.old.store.entries question.now) (K.holds sink.old) (K.holds sink.new)) }
+    ensures ok { OnOk result ((told : List ℕ) →
+        LineTells Q.told kept.old.store.entries line.now told →
+        K.holds sink.new ≡ option_map (λ held. held ++ told) (K.holds sink.old)) }
+    ensures stops { IfErr result (λ halt. (told : List ℕ) →
+        LineTells Q.told kept.old.store.entries line.now told →
+        StopsPut halt told (K.holds sink.old) (K.holds sink.new)) }
     ensures cause { IfErr result (λ halt. (faults : ℕ) →
         IsCause halt faults faults (K.faults sink.old) (K.faults sink.new)) }
     ensures faults { NeverFalls (K.faults sink.old) (K.faults sink.new) }
-    ensures steps { steps.new ≤ steps.old + (Q.told).cost kept.old.store.entries question.now }
+    ensures steps { steps.new ≤ steps.old +
+        (row_of kept.old.store.entries line.now).cost Q.told }
 {
-    store_is_short(&kept.store);
     text.clear();
-    kept.questions
-        .answer(kept.store.entries(), question, text, steps)?;
+    push_told(kept, line, text, steps)?;
     put_all(sink, text.as_bytes())
+}
+
+// Puts behind a text what a line tells that needs no machine.
+fn push_told<Q: Questions, L: Ledger>(
+    kept: &mut Kept<Q>,
+    line: &Line,
+    text: &mut String,
+    steps: &mut Steps<L>,
+) -> Result<(), NoMemory>
+    requires known { Q.knows kept.old.questions kept.old.store.entries }
+    requires spelled { All HasSpelling kept.old.store.entries }
+    requires needless { (row_of kept.old.store.entries line.now).needs_machine ≡ false }
+    requires empty { string_bytes text.old ≡ [] }
+    ensures known { OnOk result (Q.knows kept.new.questions kept.old.store.entries) }
+    ensures store { kept.new.store ≡ kept.old.store }
+    ensures machine { kept.new.machine ≡ kept.old.machine }
+    ensures told { OnOk result
+        (LineTells Q.told kept.old.store.entries line.now (string_bytes text.new)) }
+    ensures steps { steps.new ≤ steps.old +
+        (row_of kept.old.store.entries line.now).cost Q.told }
+{
+    match line {
+        Line::Asks { question } => {
+            store_is_short(&kept.store);
+            kept.questions
+                .answer(kept.store.entries(), question, text, steps)
+        }
+        Line::File { .. } | Line::Boot { .. } | Line::Type { .. } | Line::Run { .. } => {
+            unreachable!()
+        }
+    }
 }
 
 // Does what a line says that isn't refused and goes on with the machine.
 fn change<Q: Questions, C: Chooser, A: Answers, D: Disk, K: Sink, L: Ledger>(
     kept: &mut Kept<Q>,
-    line: Line,
+    line: &Line,
     outside: &mut Outside<C, A, D, K, L>,
 ) -> Result<(), Halt>
     requires open { IsOpen D.Disk kept.old.store outside.old.disk.now }
     requires sound { IsSound Q.knows kept.old.machine kept.old.questions kept.old.store.entries }
-    requires fits { LineFits line }
-    requires change { IsTrue (is_change line) }
-    requires accepted { refusal_by kept.old.store.entries line ≡ None }
+    requires fits { LineFits line.now }
+    requires needs { (row_of kept.old.store.entries line.now).needs_machine ≡ true }
+    requires accepted { (row_of kept.old.store.entries line.now).refusal ≡ None }
 
     ensures sound { OnOk result
         (IsSound Q.knows kept.new.machine kept.new.questions kept.new.store.entries) }
-    ensures there { OnOk result (IsSome kept.new.machine) }
+    ensures there { OnOk result (is_some kept.new.machine ≡ true) }
     ensures on_run { OnOk result (IsRun kept.old.store.entries) }
-    ensures advances { OnOk result
-        (Proceeds D.Disk A.answers (line_turn Q.told kept.old.store.entries line) finished
+    ensures advances { OnOk result (Proceeds D.Disk A.answers
+        ((row_of kept.old.store.entries line.now).turn Q.told) finished
         (machine_cost (is_some kept.old.machine) kept.old.store.entries)
         (standing C.choices K.holds kept.old.store outside.old)
         (standing C.choices K.holds kept.new.store outside.new)) }
 
     ensures halted { IfErr result (λ halt.
-        IsHalted D.Disk A.answers Q.told (is_some kept.old.machine) halt (Says line)
+        IsHalted D.Disk A.answers Q.told (is_some kept.old.machine) halt (Says line.now)
         (standing C.choices K.holds kept.old.store outside.old)
         (standing C.choices K.holds kept.new.store outside.new)) }
     ensures blames { IfErr result (λ halt.
-        BlamesRightly (is_some kept.old.machine) halt (Says line)
+        BlamesRightly (is_some kept.old.machine) halt (Says line.now)
         (standing C.choices K.holds kept.old.store outside.old)
         (standing C.choices K.holds kept.new.store outside.new)) }
     ensures cause { IfErr result (λ halt. IsLineCause halt
@@ -207,75 +238,84 @@ fn change<Q: Questions, C: Chooser, A: Answers, D: Disk, K: Sink, L: Ledger>(
     effects_follow::<MachineRuns, D>();
     halts_follow::<MachineRuns, D>();
     points_follow::<MachineRuns, D, A>();
-    let mut machine = take_machine(kept, outside.steps)?;
+    make_machine(kept, outside.steps)?;
     let known = kept.store.entries().len();
-    carry_out(kept.alloc, &mut kept.store, &mut machine, line, outside)?;
-    return_machine(kept, machine, known)?;
+    carry_out(kept, line, outside)?;
+    tell_questions(kept, known)?;
     Ok(())
 }
 
+// Lends the machine to a line.
+fn carry_out<Q: Questions, C: Chooser, A: Answers, D: Disk, K: Sink, L: Ledger>(
+    kept: &mut Kept<Q>,
+    line: &Line,
+    outside: &mut Outside<C, A, D, K, L>,
+) -> Result<(), Halt>
+    requires open { IsOpen D.Disk kept.old.store outside.old.disk.now }
+    requires there { IsThere kept.old.machine kept.old.store.entries }
+    requires fits { LineFits line.now }
+    requires needs { (row_of kept.old.store.entries line.now).needs_machine ≡ true }
+    requires accepted { (row_of kept.old.store.entries line.now).refusal ≡ None }
+    ensures there { OnOk result (IsThere kept.new.machine kept.new.store.entries) }
+    ensures questions { kept.new.questions ≡ kept.old.questions }
+    ensures advances { (told : Told) → OnOk result (Proceeds D.Disk A.answers
+        ((row_of kept.old.store.entries line.now).turn told) finished 0
+        (standing C.choices K.holds kept.old.store outside.old)
+        (standing C.choices K.holds kept.new.store outside.new)) }
+    ensures stops { (told : Told) → IfErr result (λ halt. HaltsBehind D.Disk A.answers halt
+        ((row_of kept.old.store.entries line.now).turn told) 0
+        (standing C.choices K.holds kept.old.store outside.old)
+        (standing C.choices K.holds kept.new.store outside.new)) }
+    ensures cause { IfErr result (λ halt.
+        IsCauseOutside D.Disk K.faults halt outside.old outside.new) }
+    ensures goes_on { GoesOnOutside D.Disk K.faults outside.old outside.new }
+{
+    match &mut kept.machine {
+        Some(machine) => go_on(kept.alloc, &mut kept.store, machine, line, outside),
+        None => unreachable!(),
+    }
+}
+
 // Goes on with the machine as a line says.
-fn carry_out<C: Chooser, A: Answers, D: Disk, K: Sink, L: Ledger>(
+fn go_on<C: Chooser, A: Answers, D: Disk, K: Sink, L: Ledger>(
     alloc: Global,
     store: &mut Store,
     machine: &mut Machine,
-    line: Line,
+    line: &Line,
     outside: &mut Outside<C, A, D, K, L>,
 ) -> Result<(), Halt>
     requires open { IsOpen D.Disk store.old outside.old.disk.now }
     requires ready { IsReady machine.old store.old.entries }
-    requires fits { LineFits line }
-    requires change { IsTrue (is_change line) }
-    requires accepted { refusal_by store.old.entries line ≡ None }
+    requires fits { LineFits line.now }
+    requires needs { (row_of store.old.entries line.now).needs_machine ≡ true }
+    requires accepted { (row_of store.old.entries line.now).refusal ≡ None }
     ensures ready { OnOk result (IsReady machine.new store.new.entries) }
-    ensures advances { (told : Told) → OnOk result (
-        Proceeds D.Disk A.answers (line_turn told store.old.entries line) finished 0
+    ensures advances { (told : Told) → OnOk result (Proceeds D.Disk A.answers
+        ((row_of store.old.entries line.now).turn told) finished 0
         (standing C.choices K.holds store.old outside.old)
         (standing C.choices K.holds store.new outside.new)) }
-    ensures stops { (told : Told) → IfErr result (λ halt.
-        HaltsBehind D.Disk A.answers halt (line_turn told store.old.entries line) 0
+    ensures stops { (told : Told) → IfErr result (λ halt. HaltsBehind D.Disk A.answers halt
+        ((row_of store.old.entries line.now).turn told) 0
         (standing C.choices K.holds store.old outside.old)
         (standing C.choices K.holds store.new outside.new)) }
     ensures cause { IfErr result (λ halt.
         IsCauseOutside D.Disk K.faults halt outside.old outside.new) }
     ensures goes_on { GoesOnOutside D.Disk K.faults outside.old outside.new }
 {
-    effects_follow::<MachineRuns, D>();
-    halts_follow::<MachineRuns, D>();
-    points_follow::<MachineRuns, D, A>();
     match line {
         Line::File { name, bytes } => {
             let (name, bytes) = (name.as_slice(), bytes.as_slice());
-            add_file(
-                alloc,
-                store,
-                machine,
-                name,
-                bytes,
-                outside.disk,
-                outside.text,
-                outside.sink,
-            )
+            add_event(alloc, store, machine, &Given::File { name, bytes }, outside)
         }
-        Line::Boot { name } => boot(
-            alloc,
-            store,
-            machine,
-            name.as_slice(),
-            outside.disk,
-            outside.text,
-            outside.sink,
-        ),
-        Line::Type { bytes } => type_in(
-            alloc,
-            store,
-            machine,
-            bytes.as_slice(),
-            outside.disk,
-            outside.text,
-            outside.sink,
-        ),
-        Line::Run { count } => run(alloc, store, machine, count, outside),
-        Line::Asks { .. } => unreachable!(),
+        Line::Boot { name } => {
+            let name = name.as_slice();
+            add_event(alloc, store, machine, &Given::Boot { name }, outside)
+        }
+        Line::Type { bytes } => {
+            let bytes = bytes.as_slice();
+            add_event(alloc, store, machine, &Given::Typed { bytes }, outside)
+        }
+        Line::Run { count } => run(alloc, store, machine, *count, outside),
+        _ => unreachable!(),
     }
 }

@@ -1,5 +1,5 @@
 // The generator: its program is brought as a file, booted and run on bytes that are typed.
-ghost use Rattle.std.specs.Prelude.{◌≡◌, ◌||◌, ◌+◌, ◌<◌, ◌≤◌, ◌^◌, ◌++◌, ℕ, List, Option, All, None, OnOk, IfErr, IsSome, is_some, length, option_map};
+ghost use Rattle.std.specs.Prelude.{◌≡◌, ◌||◌, ◌+◌, ◌<◌, ◌≤◌, ◌^◌, ◌++◌, [], ◌∷◌, ℕ, List, Option, All, None, OnOk, IfErr, is_some, length, option_map, true};
 ghost use Rattle.arn_base.specs.Faults.{NeverFalls};
 ghost use Rattle.arn_commands.specs.Sizes.{IsBootable};
 ghost use Rattle.arn_commands.specs.declared.command.Command.TheVariants.{Generates};
@@ -12,8 +12,9 @@ ghost use Rattle.session_effects.specs.Outside.{GoesOnOutside};
 ghost use Rattle.session_effects.specs.Printing.{StopsPut};
 ghost use Rattle.session_effects.specs.Standing.{Carries, IsCause, IsOpen};
 ghost use Rattle.session_commands.specs.Answering.{BlamesRightly, HaltsIn, IsAnswered, IsHalted, IsLineCause};
+ghost use Rattle.session_commands.specs.Events.{GivenFits, given_refusal, input_of};
 ghost use Rattle.session_commands.specs.Generator.{event_commits, gen_inputs, gen_run, generator_turn};
-ghost use Rattle.session_commands.specs.Kept.{IsSound};
+ghost use Rattle.session_commands.specs.Kept.{IsSound, IsThere};
 ghost use Rattle.session_commands.specs.Lines.{needs_machine};
 ghost use Rattle.session_commands.specs.Refusals.{generator_refusal as generator_refusal_by};
 ghost use Rattle.session_model.specs.Questions.{Told};
@@ -21,10 +22,10 @@ ghost use Rattle.session_runs.specs.Ready.{IsReady, machine_of};
 ghost use Rattle.session_runs.specs.Standing.{HaltsBehind, Proceeds, standing};
 ghost use Rattle.session_runs.specs.Turns.{prints};
 
-use crate::events::{add_file, boot, type_in};
+use crate::events::{Given, make_event};
 use crate::kept::Kept;
 use crate::printing::print_refusal;
-use crate::ready::{return_machine, take_machine};
+use crate::ready::{make_machine, tell_questions};
 use crate::refusals::generator_refusal;
 use arn_base::{Chooser, Disk, Sink, Steps, Stop};
 use arn_lines::MOST_RUN;
@@ -35,7 +36,7 @@ use log_model::{named_append, named_runs_again, records_append};
 use log_store::{Store, store_is_short};
 use replay_laws::records_tell_runs;
 use session_effects::{
-    Halt, Outside, causes_follow, effects_follow, halts_follow, put_all, quiet_follows,
+    Halt, Outside, causes_follow, commit, effects_follow, halts_follow, put_all,
 };
 use session_model::Questions;
 use session_runs::{
@@ -118,7 +119,7 @@ fn generate<Q: Questions, C: Chooser, A: Answers, D: Disk, K: Sink, L: Ledger>(
 
     ensures sound { OnOk result
         (IsSound Q.knows kept.new.machine kept.new.questions kept.new.store.entries) }
-    ensures there { OnOk result (IsSome kept.new.machine) }
+    ensures there { OnOk result (is_some kept.new.machine ≡ true) }
     ensures answered { OnOk result
         (IsAnswered D.Disk A.answers Q.told (is_some kept.old.machine) (Generates image.now typed.now processes)
         (standing C.choices K.holds kept.old.store outside.old)
@@ -142,17 +143,10 @@ fn generate<Q: Questions, C: Chooser, A: Answers, D: Disk, K: Sink, L: Ledger>(
     halts_follow::<MachineRuns, D>();
     points_follow::<MachineRuns, D, A>();
     causes_follow::<D>();
-    let mut machine = take_machine(kept, outside.steps)?;
+    make_machine(kept, outside.steps)?;
     let known = kept.store.entries().len();
-    perform(
-        kept.alloc,
-        &mut kept.store,
-        &mut machine,
-        image,
-        typed,
-        outside,
-    )?;
-    return_machine(kept, machine, known)?;
+    perform(kept, image, typed, outside)?;
+    tell_questions(kept, known)?;
     tell(kept, processes, outside.text, outside.sink, outside.steps)
 }
 
@@ -185,8 +179,43 @@ fn tell<Q: Questions, K: Sink, L: Ledger>(
     put_all(sink, text.as_bytes())
 }
 
+// Lends the machine to the generator.
+fn perform<Q: Questions, C: Chooser, A: Answers, D: Disk, K: Sink, L: Ledger>(
+    kept: &mut Kept<Q>,
+    image: &[u8],
+    typed: &[u8],
+    outside: &mut Outside<C, A, D, K, L>,
+) -> Result<(), Halt>
+    requires open { IsOpen D.Disk kept.old.store outside.old.disk.now }
+    requires there { IsThere kept.old.machine kept.old.store.entries }
+    requires image { IsBootable image.now }
+    requires typed { length typed.now < 2 ^ 32 }
+    requires accepted { generator_refusal_by kept.old.store.entries ≡ None }
+    ensures there { OnOk result (IsThere kept.new.machine kept.new.store.entries) }
+    ensures questions { kept.new.questions ≡ kept.old.questions }
+    ensures advances { (told : Told) (processes : ℕ) → OnOk result (
+        Proceeds D.Disk A.answers
+        (generator_turn told kept.old.store.entries image.now typed.now processes)
+        (prints (told.generated kept.new.store.entries processes)) 0
+        (standing C.choices K.holds kept.old.store outside.old)
+        (standing C.choices K.holds kept.new.store outside.new)) }
+    ensures stops { (told : Told) (processes : ℕ) → IfErr result (λ halt.
+        HaltsBehind D.Disk A.answers halt
+        (generator_turn told kept.old.store.entries image.now typed.now processes) 0
+        (standing C.choices K.holds kept.old.store outside.old)
+        (standing C.choices K.holds kept.new.store outside.new)) }
+    ensures cause { IfErr result (λ halt. (faults : ℕ) → IsCause halt
+        (D.faults outside.old.disk.now) (D.faults outside.new.disk.now) faults faults) }
+    ensures goes_on { GoesOnOutside D.Disk K.faults outside.old outside.new }
+{
+    match &mut kept.machine {
+        Some(machine) => { perform_on(kept.alloc, &mut kept.store, machine, image, typed, outside) }
+        None => unreachable!(),
+    }
+}
+
 // Commits the generator's events, and runs it: none of that is printed.
-fn perform<C: Chooser, A: Answers, D: Disk, K: Sink, L: Ledger>(
+fn perform_on<C: Chooser, A: Answers, D: Disk, K: Sink, L: Ledger>(
     alloc: Global,
     store: &mut Store,
     machine: &mut Machine,
@@ -219,15 +248,7 @@ fn perform<C: Chooser, A: Answers, D: Disk, K: Sink, L: Ledger>(
     points_follow::<MachineRuns, D, A>();
     causes_follow::<D>();
     named_append();
-    commit_events(
-        alloc,
-        store,
-        machine,
-        image,
-        typed,
-        outside.disk,
-        outside.text,
-    )?;
+    commit_events(alloc, store, machine, image, typed, outside.disk)?;
     run_quietly(alloc, store, machine, outside)
 }
 
@@ -239,7 +260,6 @@ fn commit_events<D: Disk>(
     image: &[u8],
     typed: &[u8],
     disk: &mut D,
-    text: &mut String,
 ) -> Result<(), Halt>
     requires open { IsOpen D.Disk store.old disk.old }
     requires ready { IsReady machine.old store.old.entries }
@@ -261,28 +281,50 @@ fn commit_events<D: Disk>(
 {
     effects_follow::<MachineRuns, D>();
     halts_follow::<MachineRuns, D>();
-    quiet_follows::<MachineRuns, D>();
     causes_follow::<D>();
     history_laws();
     records_tell_runs();
     runs_sound();
     records_append();
     named_runs_again();
-    let mut silence = Silence;
     count_records(store);
-    add_file(
-        alloc,
-        store,
-        machine,
-        b"gen",
-        image,
-        disk,
-        text,
-        &mut silence,
-    )?;
+    let program = Given::File {
+        name: b"gen",
+        bytes: image,
+    };
+    commit_event(alloc, store, machine, &program, disk)?;
     count_records(store);
-    boot(alloc, store, machine, b"gen", disk, text, &mut silence)?;
-    type_in(alloc, store, machine, typed, disk, text, &mut silence)
+    commit_event(alloc, store, machine, &Given::Boot { name: b"gen" }, disk)?;
+    commit_event(alloc, store, machine, &Given::Typed { bytes: typed }, disk)
+}
+
+// Makes an event of what is given, and commits its records.
+fn commit_event<D: Disk>(
+    alloc: Global,
+    store: &mut Store,
+    machine: &mut Machine,
+    given: &Given<'_>,
+    disk: &mut D,
+) -> Result<(), Halt>
+    requires open { IsOpen D.Disk store.old disk.old }
+    requires ready { IsReady machine.old store.old.entries }
+    requires fits { GivenFits given.now }
+    requires accepted { given_refusal store.old.entries given.now ≡ None }
+    ensures ready { OnOk result (IsReady machine.new store.new.entries) }
+    ensures carries { (held : Option (List ℕ)) → OnOk result (
+        Carries IsRun D.Disk disk.old disk.new store.old store.new held held
+        (event_commits (machine_of store.old.entries) (input_of given.now ∷ []))) }
+    ensures stops { (held : Option (List ℕ)) → IfErr result (λ halt. HaltsIn
+        (StopsBetween IsRun D.Disk disk.old disk.new store.old.entries held held halt)
+        (event_commits (machine_of store.old.entries) (input_of given.now ∷ []))) }
+    ensures cause { IfErr result (λ halt. (faults : ℕ) →
+        IsCause halt (D.faults disk.old) (D.faults disk.new) faults faults) }
+    ensures later { GoesOn D.image D.faults disk.old disk.new }
+{
+    effects_follow::<MachineRuns, D>();
+    halts_follow::<MachineRuns, D>();
+    let event = make_event(alloc, store, machine, given)?;
+    commit::<MachineRuns, D>(store, disk, event.entries)
 }
 
 // Runs the generator, which is booted: each leg is committed, and nothing is printed.

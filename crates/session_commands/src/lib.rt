@@ -10,6 +10,7 @@ mod names;
 mod printing;
 mod ready;
 mod refusals;
+mod rows;
 
 pub use answering::answer;
 pub use kept::Kept;

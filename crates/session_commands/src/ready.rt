@@ -1,12 +1,11 @@
 // The machine of a history, there when a command needs it.
-ghost use Rattle.std.specs.Prelude.{◌≡◌, ◌+◌, ◌≤◌, All, is_some, length, take, IfOk, IfErr, None, OnOk, Some};
+ghost use Rattle.std.specs.Prelude.{◌≡◌, ◌+◌, ◌≤◌, All, is_some, length, take, IfErr, None, OnOk};
 ghost use Rattle.log_model.specs.Records.{IsRun};
 ghost use Rattle.result_log.specs.Spelling.{HasSpelling};
 ghost use Rattle.session_commands.specs.Answering.{BlamesRecords, IsNotMade};
 ghost use Rattle.session_commands.specs.Cost.{machine_cost};
 ghost use Rattle.session_commands.specs.Halts.{rebuild_halt_of};
-ghost use Rattle.session_commands.specs.Kept.{IsSound};
-ghost use Rattle.session_runs.specs.Ready.{IsReady};
+ghost use Rattle.session_commands.specs.Kept.{IsSound, IsThere};
 
 use crate::kept::Kept;
 use arn_base::{NoMemory, Steps};
@@ -26,15 +25,15 @@ pub fn rebuild_halt(error: RebuildError) -> Halt
     }
 }
 
-/// Takes the machine out of what is kept; where it isn't there yet, it is made by running what the
-/// records name.
-pub fn take_machine<Q: Questions, L: Ledger>(
+/// Sees to it that the machine is there: where it isn't yet, it is made by running what the records
+/// name.
+pub fn make_machine<Q: Questions, L: Ledger>(
     kept: &mut Kept<Q>,
     steps: &mut Steps<L>,
-) -> Result<Machine, Halt>
+) -> Result<(), Halt>
     requires sound { IsSound Q.knows kept.old.machine kept.old.questions kept.old.store.entries }
     requires spelled { All HasSpelling kept.old.store.entries }
-    ensures ready { IfOk result (λ machine. IsReady machine kept.old.store.entries) }
+    ensures there { OnOk result (IsThere kept.new.machine kept.old.store.entries) }
     ensures store { kept.new.store ≡ kept.old.store }
     ensures questions { kept.new.questions ≡ kept.old.questions }
     ensures not_made { IfErr result IsNotMade }
@@ -43,27 +42,27 @@ pub fn take_machine<Q: Questions, L: Ledger>(
     ensures steps { steps.new ≤ steps.old +
         machine_cost (is_some kept.old.machine) kept.old.store.entries }
 {
-    match kept.machine.take() {
-        Some(machine) => Ok(machine),
-        None => { Machine::rebuild(kept.alloc, kept.store.entries(), steps).map_err(rebuild_halt) }
+    if kept.machine.is_some() {
+        return Ok(());
+    }
+    match Machine::rebuild(kept.alloc, kept.store.entries(), steps) {
+        Ok(machine) => {
+            kept.machine = Some(machine);
+            Ok(())
+        }
+        Err(error) => Err(rebuild_halt(error)),
     }
 }
 
-/// Puts the machine back after a change, and hands the records from `known` on to who answers questions.
-pub fn return_machine<Q: Questions>(
-    kept: &mut Kept<Q>,
-    machine: Machine,
-    known: usize,
-) -> Result<(), NoMemory>
+/// Hands the records from `known` on to who answers questions.
+pub fn tell_questions<Q: Questions>(kept: &mut Kept<Q>, known: usize) -> Result<(), NoMemory>
     requires inside { known ≤ length kept.old.store.entries }
     requires run { IsRun kept.old.store.entries }
     requires known { Q.knows kept.old.questions (take known kept.old.store.entries) }
-    ensures machine { OnOk result (kept.new.machine ≡ Some machine) }
     ensures questions { OnOk result (Q.knows kept.new.questions kept.old.store.entries) }
+    ensures machine { kept.new.machine ≡ kept.old.machine }
     ensures store { kept.new.store ≡ kept.old.store }
 {
     store_is_short(&kept.store);
-    kept.questions.extend(kept.store.entries(), known)?;
-    kept.machine = Some(machine);
-    Ok(())
+    kept.questions.extend(kept.store.entries(), known)
 }

@@ -1,12 +1,27 @@
 // Why lines are refused.
-ghost use Rattle.std.specs.Prelude.{◌≡◌, [], option_map};
-ghost use Rattle.arn_lines.specs.declared.line.Line.TheVariants as line;
-ghost use Rattle.session_commands.specs.Refusals.{refusal_of as refusal_by, fault_refusal as fault_refusal_by, generator_refusal as generator_refusal_by, file_refusal, refused_if};
+ghost use Rattle.std.specs.Prelude.{◌≡◌, option_map};
+ghost use Rattle.session_commands.specs.Refusals.{boot_refusal, bring_refusal, early_refusal, fault_refusal, file_refusal, generator_refusal, refused_if};
 
 use crate::names::{brought, is_booted, may_bring};
 use arn_base::Record;
-use arn_lines::{Line, Refusal};
+use arn_lines::Refusal;
 use guest_image::parse;
+
+fn refused_if(refused: bool, why: Refusal) -> Option<Refusal>
+    ensures { result ≡ refused_if refused why }
+{
+    if refused { Some(why) } else { None }
+}
+
+/// Why a file is refused that is brought under this name, if it is.
+pub fn bring_refusal(entries: &[Record], name: &[u8]) -> Option<Refusal>
+    ensures { result ≡ bring_refusal entries.now name.now }
+{
+    if is_booted(entries) {
+        return Some(Refusal::NoBooted);
+    }
+    refused_if(!may_bring(entries, name), Refusal::NoName)
+}
 
 // Why a boot from these bytes is refused, if it is.
 fn file_refusal(file: Option<&[u8]>) -> Option<Refusal>
@@ -18,37 +33,26 @@ fn file_refusal(file: Option<&[u8]>) -> Option<Refusal>
     }
 }
 
-// Why a file is refused that is brought under this name, if it is.
-fn bring_refusal(entries: &[Record], name: &[u8]) -> Option<Refusal>
-    ensures { result ≡ refusal_by entries.now (line.File name.now []) }
+/// Why a boot from the file of this name is refused, if it is.
+pub fn boot_refusal(entries: &[Record], name: &[u8]) -> Option<Refusal>
+    ensures { result ≡ boot_refusal entries.now name.now }
 {
     if is_booted(entries) {
         return Some(Refusal::NoBooted);
     }
-    refused_if(!may_bring(entries, name), Refusal::NoName)
+    file_refusal(brought(entries, name))
 }
 
-/// Why a line is refused, if it is. The line and the records of the history tell, and no machine is
-/// needed.
-pub fn refusal_of(entries: &[Record], line: &Line) -> Option<Refusal>
-    ensures { result ≡ refusal_by entries.now line.now }
+/// Why something is refused that comes behind the boot alone, if it is.
+pub fn early_refusal(entries: &[Record]) -> Option<Refusal>
+    ensures { result ≡ early_refusal entries.now }
 {
-    match line {
-        Line::File { name, .. } => bring_refusal(entries, name.as_slice()),
-        Line::Boot { name } => {
-            if is_booted(entries) {
-                return Some(Refusal::NoBooted);
-            }
-            file_refusal(brought(entries, name.as_slice()))
-        }
-        Line::Type { .. } | Line::Run { .. } => refused_if(!is_booted(entries), Refusal::NoBoot),
-        Line::Asks { .. } => None,
-    }
+    refused_if(!is_booted(entries), Refusal::NoBoot)
 }
 
 /// Why a block is refused whose program has a fault on this line.
 pub fn fault_refusal(entries: &[Record], at: u64) -> Refusal
-    ensures { result ≡ fault_refusal_by entries.now at }
+    ensures { result ≡ fault_refusal entries.now at }
 {
     if is_booted(entries) {
         Refusal::NoBooted
@@ -59,13 +63,7 @@ pub fn fault_refusal(entries: &[Record], at: u64) -> Refusal
 
 /// Why the generator is refused, if it is.
 pub fn generator_refusal(entries: &[Record]) -> Option<Refusal>
-    ensures { result ≡ generator_refusal_by entries.now }
+    ensures { result ≡ generator_refusal entries.now }
 {
     bring_refusal(entries, b"gen")
-}
-
-fn refused_if(refused: bool, why: Refusal) -> Option<Refusal>
-    ensures { result ≡ refused_if refused why }
-{
-    if refused { Some(why) } else { None }
 }

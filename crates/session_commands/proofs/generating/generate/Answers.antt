@@ -1,4 +1,4 @@
-use Rattle.std.proofs.Common.{List, length, ap, is_some, refl, subst, sym, arith}
+use Rattle.std.proofs.Common.{List, length, ap, ◌∙◌, is_some, refl, subst, sym, arith}
 use Rattle.std.specs.Prelude.{All}
 use Rattle.arn_base.specs.declared.records.Record.{Record}
 use Rattle.arn_commands.specs.declared.command.Command.TheVariants.{Generates}
@@ -9,19 +9,20 @@ use Rattle.session_effects.specs.declared.halt.Halt.TheVariants as halt
 use Rattle.session_runs.specs.Points.{around}
 use Rattle.session_runs.specs.Standing.{standpoint}
 use Rattle.session_commands.specs.Lines.{turn}
-use Rattle.session_commands.proofs.AnswerLemmas.{cause-blames, disk-cause, err-both, halted-not-made, text-cause}
-use Rattle.session_commands.proofs.ChangeLemmas.{err-same, few-known, heard-before}
+use Rattle.std.proofs.lemmas.Result.{on_ok_weaker}
+use Rattle.session_commands.proofs.AnswerLemmas.{OnOk-always, cause-blames, disk-cause, err-both, halted-not-made, text-cause}
+use Rattle.session_commands.proofs.ChangeLemmas.{err-same, few-known, heard-before, sound-there, there-run, there-some}
 use Rattle.session_commands.proofs.GeneratedLemmas.{advances-kept, answered-told, cost-made, halted-told, halted-unheard, halted-untold, still-generator, turn-generator}
 use Rattle.session_commands.proofs.TurnLemmas.{IsStill}
 use Rattle.session_commands.proofs.generating.generate.Goals as goal
 
-pub returns-in_err-machine-clause-halted : goal.returns-in_err-machine-clause-halted
-returns-in_err-machine-clause-halted g c =
-    let why = c.in_err-machine.field-0.0 in
+pub returns-in_err-make_machine-clause-halted : goal.returns-in_err-make_machine-clause-halted
+returns-in_err-make_machine-clause-halted g c =
+    let why = c.in_err-make_machine.field-0.0 in
     let still : IsStill (turn g.Q.Questions.told c.args.kept.now.store.entries (Generates c.args.image.now c.args.typed.now c.args.processes)) =
     subst IsStill (sym (turn-generator g.Q.Questions.told c.args.kept.now.store.entries c.args.image.now c.args.typed.now c.args.processes c.requires.accepted)) (still-generator g.Q.Questions.told c.args.kept.now.store.entries c.args.image.now c.args.typed.now c.args.processes) in
     err-same c.from_residual.result why _ c.from_residual.ensures.1
-    (halted-not-made g.D.Disk g.A.Answers.answers g.Q.Questions.told (is_some c.args.kept.now.machine) (Generates c.args.image.now c.args.typed.now c.args.processes) (g.C.Chooser.choices c.args.outside.now.chooser.now) c.args.outside.now.answers.now c.halts_follow.ensures why c.args.outside.now.disk.now c.args.kept.now.store c.take_machine.new.kept.store (g.K.Sink.holds c.args.outside.now.sink.now) c.args.outside.now.steps.now c.take_machine.new.steps c.in_err-machine.ensures.not_made c.take_machine.ensures.store still c.take_machine.ensures.steps
+    (halted-not-made g.D.Disk g.A.Answers.answers g.Q.Questions.told (is_some c.args.kept.now.machine) (Generates c.args.image.now c.args.typed.now c.args.processes) (g.C.Chooser.choices c.args.outside.now.chooser.now) c.args.outside.now.answers.now c.halts_follow.ensures why c.args.outside.now.disk.now c.args.kept.now.store c.make_machine.new.kept.store (g.K.Sink.holds c.args.outside.now.sink.now) c.args.outside.now.steps.now c.make_machine.new.steps c.in_err-make_machine.ensures.not_made c.make_machine.ensures.store still c.make_machine.ensures.steps
     (λ behind. cost-made g.Q.Questions.told c.args.kept.now.store.entries c.args.image.now c.args.typed.now c.args.processes (is_some c.args.kept.now.machine) behind c.requires.accepted))
 
 pub returns-in_err-perform-clause-halted : goal.returns-in_err-perform-clause-halted
@@ -29,40 +30,40 @@ returns-in_err-perform-clause-halted g c =
     let why = c.in_err-perform.field-0.0 in
     let n = c.perform.new in
     err-same c.from_residual-in_err-perform.result why _ c.from_residual-in_err-perform.ensures.1
-    (halted-untold g.D.Disk g.A.Answers.answers g.Q.Questions.told (is_some c.args.kept.now.machine) c.args.image.now c.args.typed.now c.args.processes c.args.kept.now.store c.requires.accepted (g.C.Chooser.choices c.args.outside.now.chooser.now) c.args.outside.now.answers.now c.args.outside.now.steps.now c.take_machine.new.steps c.take_machine.ensures.steps c.halts_follow.ensures c.args.outside.now.disk.now n.outside.disk.now c.take_machine.new.kept.store n.store (g.K.Sink.holds c.args.outside.now.sink.now) (g.K.Sink.holds n.outside.sink.now) why (around (g.C.Chooser.choices n.outside.chooser.now) n.outside.answers.now n.outside.steps.now) c.take_machine.ensures.store c.in_ok-machine.ensures.ready.is_run
+    (halted-untold g.D.Disk g.A.Answers.answers g.Q.Questions.told (is_some c.args.kept.now.machine) c.args.image.now c.args.typed.now c.args.processes c.args.kept.now.store c.requires.accepted (g.C.Chooser.choices c.args.outside.now.chooser.now) c.args.outside.now.answers.now c.args.outside.now.steps.now c.make_machine.new.steps c.make_machine.ensures.steps c.halts_follow.ensures c.args.outside.now.disk.now n.outside.disk.now c.make_machine.new.kept.store n.kept.store (g.K.Sink.holds c.args.outside.now.sink.now) (g.K.Sink.holds n.outside.sink.now) why (around (g.C.Chooser.choices n.outside.chooser.now) n.outside.answers.now n.outside.steps.now) c.make_machine.ensures.store (there-run c.make_machine.new.kept.machine c.args.kept.now.store.entries c.in_ok-make_machine.ensures.there)
     (c.in_err-perform.ensures.stops g.Q.Questions.told c.args.processes))
 
 pub returns-in_err-perform-clause-blames : goal.returns-in_err-perform-clause-blames
 returns-in_err-perform-clause-blames g c =
     let why = c.in_err-perform.field-0.0 in
     err-same c.from_residual-in_err-perform.result why _ c.from_residual-in_err-perform.ensures.1
-    (cause-blames (is_some c.args.kept.now.machine) (Generates c.args.image.now c.args.typed.now c.args.processes) why _ _ _ _ (standpoint c.args.outside.now.disk.now c.args.kept.now.store (g.K.Sink.holds c.args.outside.now.sink.now) (around (g.C.Chooser.choices c.args.outside.now.chooser.now) c.args.outside.now.answers.now c.args.outside.now.steps.now)) (standpoint c.perform.new.outside.disk.now c.perform.new.store (g.K.Sink.holds c.perform.new.outside.sink.now) (around (g.C.Chooser.choices c.perform.new.outside.chooser.now) c.perform.new.outside.answers.now c.perform.new.outside.steps.now)) (c.in_err-perform.ensures.cause 0))
+    (cause-blames (is_some c.args.kept.now.machine) (Generates c.args.image.now c.args.typed.now c.args.processes) why _ _ _ _ (standpoint c.args.outside.now.disk.now c.args.kept.now.store (g.K.Sink.holds c.args.outside.now.sink.now) (around (g.C.Chooser.choices c.args.outside.now.chooser.now) c.args.outside.now.answers.now c.args.outside.now.steps.now)) (standpoint c.perform.new.outside.disk.now c.perform.new.kept.store (g.K.Sink.holds c.perform.new.outside.sink.now) (around (g.C.Chooser.choices c.perform.new.outside.chooser.now) c.perform.new.outside.answers.now c.perform.new.outside.steps.now)) (c.in_err-perform.ensures.cause 0))
 
 pub returns-in_err-perform-clause-cause : goal.returns-in_err-perform-clause-cause
 returns-in_err-perform-clause-cause g c =
     let why = c.in_err-perform.field-0.0 in
     err-same c.from_residual-in_err-perform.result why _ c.from_residual-in_err-perform.ensures.1 (disk-cause why _ _ _ _ c.in_err-perform.ensures.cause)
 
-pub returns-in_err-return_machine-clause-halted : goal.returns-in_err-return_machine-clause-halted
-returns-in_err-return_machine-clause-halted g c =
+pub returns-in_err-tell_questions-clause-halted : goal.returns-in_err-tell_questions-clause-halted
+returns-in_err-tell_questions-clause-halted g c =
     let n = c.perform.new in
-    err-same c.from_residual-in_err-return_machine.result halt.NoMemory _ c.from_residual-in_err-return_machine.ensures.1
-    (halted-unheard g.D.Disk g.A.Answers.answers g.Q.Questions.told (is_some c.args.kept.now.machine) c.args.image.now c.args.typed.now c.args.processes c.args.kept.now.store c.requires.accepted (g.C.Chooser.choices c.args.outside.now.chooser.now) c.args.outside.now.answers.now c.args.outside.now.steps.now c.take_machine.new.steps c.take_machine.ensures.steps c.halts_follow.ensures c.args.outside.now.disk.now n.outside.disk.now c.take_machine.new.kept.store n.store c.return_machine.new.kept.store (g.K.Sink.holds c.args.outside.now.sink.now) (g.K.Sink.holds n.outside.sink.now) (g.C.Chooser.choices n.outside.chooser.now) n.outside.answers.now n.outside.steps.now c.take_machine.ensures.store c.in_ok-machine.ensures.ready.is_run
+    err-same c.from_residual-in_err-tell_questions.result halt.NoMemory _ c.from_residual-in_err-tell_questions.ensures.1
+    (halted-unheard g.D.Disk g.A.Answers.answers g.Q.Questions.told (is_some c.args.kept.now.machine) c.args.image.now c.args.typed.now c.args.processes c.args.kept.now.store c.requires.accepted (g.C.Chooser.choices c.args.outside.now.chooser.now) c.args.outside.now.answers.now c.args.outside.now.steps.now c.make_machine.new.steps c.make_machine.ensures.steps c.halts_follow.ensures c.args.outside.now.disk.now n.outside.disk.now c.make_machine.new.kept.store n.kept.store c.tell_questions.new.kept.store (g.K.Sink.holds c.args.outside.now.sink.now) (g.K.Sink.holds n.outside.sink.now) (g.C.Chooser.choices n.outside.chooser.now) n.outside.answers.now n.outside.steps.now c.make_machine.ensures.store (there-run c.make_machine.new.kept.machine c.args.kept.now.store.entries c.in_ok-make_machine.ensures.there)
     (c.in_ok-perform.ensures.advances g.Q.Questions.told c.args.processes))
 
 pub returns-clause-answered : goal.returns-clause-answered
 returns-clause-answered g c =
     let n = c.perform.new in
-    answered-told g.D.Disk g.A.Answers.answers g.Q.Questions.told (is_some c.args.kept.now.machine) c.args.image.now c.args.typed.now c.args.processes c.args.kept.now.store c.requires.accepted (g.C.Chooser.choices c.args.outside.now.chooser.now) c.args.outside.now.answers.now c.args.outside.now.steps.now c.take_machine.new.steps c.take_machine.ensures.steps c.effects_follow.ensures.follow c.points_follow.ensures c.tell.result c.args.outside.now.disk.now n.outside.disk.now c.take_machine.new.kept.store c.return_machine.new.kept.store c.tell.new.kept.store (g.K.Sink.holds c.args.outside.now.sink.now) (g.K.Sink.holds n.outside.sink.now) (g.K.Sink.holds c.tell.new.sink) (g.C.Chooser.choices n.outside.chooser.now) n.outside.answers.now n.outside.steps.now c.tell.new.steps c.take_machine.ensures.store c.tell.ensures.store c.in_ok-machine.ensures.ready.is_run
-    (advances-kept g.D.Disk g.A.Answers.answers g.Q.Questions.told (is_some c.args.kept.now.machine) c.args.image.now c.args.typed.now c.args.processes c.args.kept.now.store c.requires.accepted (g.C.Chooser.choices c.args.outside.now.chooser.now) c.args.outside.now.answers.now c.args.outside.now.steps.now c.take_machine.new.steps c.take_machine.ensures.steps c.args.outside.now.disk.now n.outside.disk.now c.take_machine.new.kept.store n.store c.return_machine.new.kept.store (g.K.Sink.holds c.args.outside.now.sink.now) (g.K.Sink.holds n.outside.sink.now) (around (g.C.Chooser.choices n.outside.chooser.now) n.outside.answers.now n.outside.steps.now) c.return_machine.ensures.store
+    answered-told g.D.Disk g.A.Answers.answers g.Q.Questions.told (is_some c.args.kept.now.machine) c.args.image.now c.args.typed.now c.args.processes c.args.kept.now.store c.requires.accepted (g.C.Chooser.choices c.args.outside.now.chooser.now) c.args.outside.now.answers.now c.args.outside.now.steps.now c.make_machine.new.steps c.make_machine.ensures.steps c.effects_follow.ensures.follow c.points_follow.ensures c.tell.result c.args.outside.now.disk.now n.outside.disk.now c.make_machine.new.kept.store c.tell_questions.new.kept.store c.tell.new.kept.store (g.K.Sink.holds c.args.outside.now.sink.now) (g.K.Sink.holds n.outside.sink.now) (g.K.Sink.holds c.tell.new.sink) (g.C.Chooser.choices n.outside.chooser.now) n.outside.answers.now n.outside.steps.now c.tell.new.steps c.make_machine.ensures.store c.tell.ensures.store (there-run c.make_machine.new.kept.machine c.args.kept.now.store.entries c.in_ok-make_machine.ensures.there)
+    (advances-kept g.D.Disk g.A.Answers.answers g.Q.Questions.told (is_some c.args.kept.now.machine) c.args.image.now c.args.typed.now c.args.processes c.args.kept.now.store c.requires.accepted (g.C.Chooser.choices c.args.outside.now.chooser.now) c.args.outside.now.answers.now c.args.outside.now.steps.now c.make_machine.new.steps c.make_machine.ensures.steps c.args.outside.now.disk.now n.outside.disk.now c.make_machine.new.kept.store n.kept.store c.tell_questions.new.kept.store (g.K.Sink.holds c.args.outside.now.sink.now) (g.K.Sink.holds n.outside.sink.now) (around (g.C.Chooser.choices n.outside.chooser.now) n.outside.answers.now n.outside.steps.now) c.tell_questions.ensures.store
     (c.in_ok-perform.ensures.advances g.Q.Questions.told c.args.processes)) c.tell.ensures.steps c.tell.ensures.ok
 
 pub returns-clause-halted : goal.returns-clause-halted
 returns-clause-halted g c =
     let n = c.perform.new in
     err-both c.tell.result _ _ _
-    (λ why put again. halted-told g.D.Disk g.A.Answers.answers g.Q.Questions.told (is_some c.args.kept.now.machine) c.args.image.now c.args.typed.now c.args.processes c.args.kept.now.store c.requires.accepted (g.C.Chooser.choices c.args.outside.now.chooser.now) c.args.outside.now.answers.now c.args.outside.now.steps.now c.take_machine.new.steps c.take_machine.ensures.steps c.halts_follow.ensures c.args.outside.now.disk.now n.outside.disk.now c.take_machine.new.kept.store c.return_machine.new.kept.store c.tell.new.kept.store (g.K.Sink.holds c.args.outside.now.sink.now) (g.K.Sink.holds n.outside.sink.now) (g.K.Sink.holds c.tell.new.sink) why (g.C.Chooser.choices n.outside.chooser.now) n.outside.answers.now n.outside.steps.now c.tell.new.steps c.take_machine.ensures.store c.in_ok-machine.ensures.ready.is_run
-    (advances-kept g.D.Disk g.A.Answers.answers g.Q.Questions.told (is_some c.args.kept.now.machine) c.args.image.now c.args.typed.now c.args.processes c.args.kept.now.store c.requires.accepted (g.C.Chooser.choices c.args.outside.now.chooser.now) c.args.outside.now.answers.now c.args.outside.now.steps.now c.take_machine.new.steps c.take_machine.ensures.steps c.args.outside.now.disk.now n.outside.disk.now c.take_machine.new.kept.store n.store c.return_machine.new.kept.store (g.K.Sink.holds c.args.outside.now.sink.now) (g.K.Sink.holds n.outside.sink.now) (around (g.C.Chooser.choices n.outside.chooser.now) n.outside.answers.now n.outside.steps.now) c.return_machine.ensures.store
+    (λ why put again. halted-told g.D.Disk g.A.Answers.answers g.Q.Questions.told (is_some c.args.kept.now.machine) c.args.image.now c.args.typed.now c.args.processes c.args.kept.now.store c.requires.accepted (g.C.Chooser.choices c.args.outside.now.chooser.now) c.args.outside.now.answers.now c.args.outside.now.steps.now c.make_machine.new.steps c.make_machine.ensures.steps c.halts_follow.ensures c.args.outside.now.disk.now n.outside.disk.now c.make_machine.new.kept.store c.tell_questions.new.kept.store c.tell.new.kept.store (g.K.Sink.holds c.args.outside.now.sink.now) (g.K.Sink.holds n.outside.sink.now) (g.K.Sink.holds c.tell.new.sink) why (g.C.Chooser.choices n.outside.chooser.now) n.outside.answers.now n.outside.steps.now c.tell.new.steps c.make_machine.ensures.store (there-run c.make_machine.new.kept.machine c.args.kept.now.store.entries c.in_ok-make_machine.ensures.there)
+    (advances-kept g.D.Disk g.A.Answers.answers g.Q.Questions.told (is_some c.args.kept.now.machine) c.args.image.now c.args.typed.now c.args.processes c.args.kept.now.store c.requires.accepted (g.C.Chooser.choices c.args.outside.now.chooser.now) c.args.outside.now.answers.now c.args.outside.now.steps.now c.make_machine.new.steps c.make_machine.ensures.steps c.args.outside.now.disk.now n.outside.disk.now c.make_machine.new.kept.store n.kept.store c.tell_questions.new.kept.store (g.K.Sink.holds c.args.outside.now.sink.now) (g.K.Sink.holds n.outside.sink.now) (around (g.C.Chooser.choices n.outside.chooser.now) n.outside.answers.now n.outside.steps.now) c.tell_questions.ensures.store
     (c.in_ok-perform.ensures.advances g.Q.Questions.told c.args.processes)) c.tell.ensures.steps put)
     c.tell.ensures.stops c.tell.ensures.stops
 
@@ -79,22 +80,37 @@ returns-clause-goes_on g c =
     let gone = c.perform.ensures.goes_on in
     record { later = gone.later; faults = c.causes_follow.ensures.falls _ _ _ gone.faults c.tell.ensures.faults; same = record { chooser = gone.same.chooser; answers = gone.same.answers; disk = gone.same.disk; sink = gone.same.sink; steps = gone.same.steps; text = gone.same.text } }
 
-pub return_machine-requires-clause-inside : goal.return_machine-requires-clause-inside
-return_machine-requires-clause-inside g c =
+pub tell_questions-requires-clause-inside : goal.tell_questions-requires-clause-inside
+tell_questions-requires-clause-inside g c =
     let p = c.in_ok-perform.ensures.advances g.Q.Questions.told c.args.processes in
     omega (
       arith,
-      few-known c.take_machine.new.kept.store.entries c.perform.new.store.entries (committed p.effects) p.carries.entries,
+      few-known c.make_machine.new.kept.store.entries c.perform.new.kept.store.entries (committed p.effects) p.carries.entries,
       ap (λ (x : List Record). length x) c.entries-known.ensures,
     )
 
-pub return_machine-requires-clause-known : goal.return_machine-requires-clause-known
-return_machine-requires-clause-known g c =
+pub tell_questions-requires-clause-known : goal.tell_questions-requires-clause-known
+tell_questions-requires-clause-known g c =
     let p = c.in_ok-perform.ensures.advances g.Q.Questions.told c.args.processes in
-    heard-before _ g.Q.Questions.knows c.args.kept.now.questions c.take_machine.new.kept.questions c.args.kept.now.store c.take_machine.new.kept.store c.perform.new.store c.entries-known.result.now c.perform.new.store.entries (committed p.effects) (length c.entries-known.result.now)
-    c.requires.sound.questions c.take_machine.ensures.questions c.take_machine.ensures.store c.entries-known.ensures refl refl p.carries.entries
+    heard-before _ g.Q.Questions.knows c.args.kept.now.questions c.perform.new.kept.questions c.args.kept.now.store c.make_machine.new.kept.store c.perform.new.kept.store c.entries-known.result.now c.perform.new.kept.store.entries (committed p.effects) (length c.entries-known.result.now)
+    c.requires.sound.questions (c.perform.ensures.questions ∙ c.make_machine.ensures.questions) c.make_machine.ensures.store c.entries-known.ensures refl refl p.carries.entries
 
 pub tell-requires-clause-spelled : goal.tell-requires-clause-spelled
 tell-requires-clause-spelled g c =
-    subst (λ (s : StoreState). All HasSpelling s.entries) (sym c.return_machine.ensures.store)
+    subst (λ (s : StoreState). All HasSpelling s.entries) (sym c.tell_questions.ensures.store)
     (c.in_ok-perform.ensures.advances g.Q.Questions.told c.args.processes).carries.stays_open.spelled
+
+pub returns-clause-sound : goal.returns-clause-sound
+returns-clause-sound g c =
+    on_ok_weaker c.tell.result
+    (λ known. sound-there g.Q.Questions.knows c.perform.new.kept.machine c.tell.new.kept.machine c.tell.new.kept.questions c.perform.new.kept.store c.tell.new.kept.store c.in_ok-perform.ensures.there (c.tell.ensures.machine ∙ c.tell_questions.ensures.machine) (c.tell.ensures.store ∙ c.tell_questions.ensures.store)
+    (subst (λ (s : StoreState). g.Q.Questions.knows c.tell.new.kept.questions s.entries) c.tell_questions.ensures.store known))
+    c.tell.ensures.known
+
+pub returns-clause-there : goal.returns-clause-there
+returns-clause-there g c =
+    OnOk-always c.tell.result
+    (ap is_some (c.tell.ensures.machine ∙ c.tell_questions.ensures.machine) ∙ there-some c.perform.new.kept.machine c.perform.new.kept.store.entries c.in_ok-perform.ensures.there)
+
+pub tell_questions-requires-clause-run : goal.tell_questions-requires-clause-run
+tell_questions-requires-clause-run g c = there-run c.perform.new.kept.machine c.perform.new.kept.store.entries c.in_ok-perform.ensures.there

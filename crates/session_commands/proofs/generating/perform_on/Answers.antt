@@ -8,7 +8,7 @@ use Rattle.session_commands.proofs.AnswerLemmas.{err-both}
 use Rattle.session_commands.proofs.ChangeLemmas.{err-same}
 use Rattle.session_commands.proofs.GeneratedLemmas.{Advances-events, Stops-events, plain-events}
 use Rattle.session_commands.proofs.QuietLemmas.{AreCommitted}
-use Rattle.session_commands.proofs.generating.perform.Goals as goal
+use Rattle.session_commands.proofs.generating.perform_on.Goals as goal
 
 pub returns-in_err-commit_events-clause-stops : goal.returns-in_err-commit_events-clause-stops
 returns-in_err-commit_events-clause-stops g c told processes =

@@ -1,0 +1,43 @@
+-- What is given to the machine from outside, and the event that it becomes.
+use Rattle.std.specs.Prelude.{◌≡◌, ◌<◌, ◌≤◌, ◌^◌, List, [], ◌∷◌, Option, length, IsTrue}
+use Rattle.arn_base.specs.declared.records.Record.{Record}
+use Rattle.parts_model.specs.declared.limits.TheConstants.{MOST_FILE_BYTES}
+use Rattle.parts_model.specs.Files.{is_name}
+use Rattle.arn_model.specs.Kernel.{Machine}
+use Rattle.arn_model.specs.Run as run
+use Rattle.arn_model.specs.Run.{Input}
+use Rattle.log_model.specs.Records.{records_from}
+use Rattle.arn_lines.specs.declared.answer.Refusal.{Refusal}
+use Rattle.arn_lines.specs.Texts.{event_text}
+use Rattle.session_effects.specs.Effects.{Effect, Commits, Prints}
+use Rattle.session_commands.specs.declared.events.Event.{Event}
+use Rattle.session_commands.specs.declared.events.Given.{Given}
+use Rattle.session_commands.specs.declared.events.Given.TheVariants as given
+use Rattle.session_commands.specs.Refusals.{boot_refusal, bring_refusal, early_refusal}
+
+-- an input becomes an event: its records are committed, and then its number is printed
+abbrev pub event_effects : Machine → Input → List Effect
+event_effects m i = Commits (records_from m (i ∷ [])) ∷ Prints (event_text m.events) ∷ []
+
+-- what is given, as the input of a run that it is
+abbrev pub input_of : Given → Input
+input_of (given.File name bytes) = run.File name.now bytes.now
+input_of (given.Boot name) = run.Boot name.now
+input_of (given.Typed bytes) = run.Typed bytes.now
+
+-- names, files and pieces that the machine takes
+abbrev pub GivenFits : Given → Type 0
+GivenFits (given.File name bytes) = IsTrue (is_name name.now) × (length bytes.now ≤ MOST_FILE_BYTES)
+GivenFits (given.Boot name) = IsTrue (is_name name.now)
+GivenFits (given.Typed bytes) = length bytes.now < 2 ^ 32
+
+-- why it is refused on a history, if it is
+abbrev pub given_refusal : List Record → Given → Option Refusal
+given_refusal history (given.File name bytes) = bring_refusal history name.now
+given_refusal history (given.Boot name) = boot_refusal history name.now
+given_refusal history (given.Typed bytes) = early_refusal history
+
+-- the event that an input makes of a machine
+pub record IsEvent (m : Machine) (i : Input) (event : Event) : Type 0 where
+  pub is_number : event.number ≡ m.events
+  pub are_records : event.entries.items ≡ records_from m (i ∷ [])
