@@ -13,7 +13,7 @@ use Rattle.acts_model.specs.Records.{Written, event_len}
 use Rattle.file_versions.specs.declared.told.Before.{Before}
 use Rattle.file_versions.specs.Versions.{Write, byte_of, or_before, laid_at, cell_after, reach, onto_filled, filled_from, bytes_after, bytes_at, version_at, written_by}
 use Rattle.file_versions.specs.Cells.{IsCounted}
-use Rattle.file_versions.specs.Tables.{WriteAt, writes_in, with_record, is_until, named_until, writes_until, Tables, TellsFiles}
+use Rattle.file_versions.specs.Tables.{WriteAt, writes_in, with_record, file_until, is_until, writes_until, Tables, TellsFiles}
 
 abbrev pub IsShort : Write → Type 0
 IsShort w = length w.over.bytes < 2 ^ 32
@@ -107,6 +107,6 @@ version-of : (t : Tables) (entries : List Record) (m : ℕ) (file : Option ℕ) 
 version-of t entries m None tells = refl
 version-of t entries m (Some f) tells = ap (λ (writes : List Write). Some (bytes_after writes)) (tells.writes m f)
 
-pub version-told : (t : Tables) (entries : List Record) (m : ℕ) (name : List ℕ) (items : List TaggedByte) → TellsFiles t entries → held_of t m (named_until m name t.names None) ≡ Some items → version_at entries m name ≡ Some items
+pub version-told : (t : Tables) (entries : List Record) (m : ℕ) (name : List ℕ) (items : List TaggedByte) → TellsFiles t entries → held_of t m (file_until m name t.names) ≡ Some items → version_at entries m name ≡ Some items
 version-told t entries m name items tells is =
-    ap (option_map (bytes_at entries m)) (sym (tells.names m name)) ∙ sym (version-of t entries m (named_until m name t.names None) tells) ∙ is
+    ap (option_map (bytes_at entries m)) (sym (tells.names m name)) ∙ sym (version-of t entries m (file_until m name t.names) tells) ∙ is

@@ -11,7 +11,7 @@ use Rattle.history_model.specs.Moments.{Numbered, events_from, ran_in, total}
 use Rattle.history_model.specs.Names.{named_by, named_from}
 use Rattle.file_versions.specs.declared.told.Before.{Before}
 use Rattle.file_versions.specs.Versions.{Write, brought_by, written_by, writes_from, is_to}
-use Rattle.file_versions.specs.Tables.{NameAt, WriteAt, Tables, TellsFiles, nothing_before, with_record, name_changed, name_in, names_in, writes_in, name_after, named_until, is_until, writes_until}
+use Rattle.file_versions.specs.Tables.{NameAt, WriteAt, Tables, TellsFiles, nothing_before, with_record, name_changed, name_in, names_in, writes_in, name_after, named_until, file_until, is_until, writes_until}
 use Rattle.file_versions.proofs.Counted.{IsShortAt, writes-short}
 
 -- an event is there, or not
@@ -280,11 +280,11 @@ writes-told m file b begins (e ∷ entries) before =
         written-past m file b (e ∷ entries) (grind (arith, nat_tests))
         ∙ sym (ap (filter (is_to file)) (nothing-written b.files (events_from m begins b.ran b.events (e ∷ entries)) (only-deliveries m begins b.ran b.events (e ∷ entries) (grind (arith, nat_tests)))))
 
-pub tells-files : (t : Tables) (entries : List Record) → All (λ e. event_len e < 2 ^ 32) entries → t.total ≡ total entries → t.names ≡ names_in nothing_before entries → t.writes ≡ writes_in nothing_before entries → TellsFiles t entries
+pub tells-files : (t : Tables) (entries : List Record) → All (λ e. event_len e < 2 ^ 32) entries → t.total ≡ total entries → ((m : ℕ) (name : List ℕ) → file_until m name t.names ≡ named_until m name (names_in nothing_before entries) None) → t.writes ≡ writes_in nothing_before entries → TellsFiles t entries
 tells-files t entries short all names writes =
     record {
       total = all;
-      names = λ m name. ap (λ (ns : List NameAt). named_until m name ns None) names ∙ names-told m name nothing_before 0 entries None (omega arith);
+      names = λ m name. names m name ∙ names-told m name nothing_before 0 entries None (omega arith);
       short = subst (All IsShortAt) (sym writes) (writes-short nothing_before entries short);
       writes = λ m file. ap (writes_until m file) writes ∙ writes-told m file nothing_before 0 entries (omega arith);
     }

@@ -3,3 +3,4 @@ pub mod Enough
 pub mod Happened
 pub mod Runs
 pub mod Counted
+pub mod Named

@@ -1,7 +1,10 @@
 // Which file a name stands for, from a moment on.
-ghost use Rattle.std.specs.Prelude.{◌≡◌, None};
-ghost use Rattle.file_versions.specs.Tables.{name_after, named_until};
+ghost use Rattle.std.specs.Prelude.{◌≡◌, ℕ, [], List, None, OnOk};
+ghost use Rattle.file_versions.specs.Tables.{changed_after, file_after, file_until, name_after};
 
+use arn_base::NoMemory;
+use indexmap::IndexMap;
+use std::alloc::Global;
 use std::marker::Model;
 
 /// A name stands for a file, or for none.
@@ -26,12 +29,21 @@ impl<'a> Naming<'a> {
     {
         Naming { moment, path, file }
     }
+}
 
-    /// The file that a name stands for after the change, if it was done by a moment.
-    fn after(&self, moment: u64, name: &[u8], before: Option<u32>) -> Option<u32>
-        ensures { result ≡ name_after moment name.now self.now before }
+/// The file that a name stands for from a moment on, if it stands for one.
+#[derive(Clone, Copy, Debug, PartialEq, Eq)]
+pub struct Change {
+    pub moment: u64,
+    pub file: Option<u32>,
+}
+
+impl Change {
+    /// The file after the change, if it was done by a moment.
+    fn after(self, moment: u64, before: Option<u32>) -> Option<u32>
+        ensures { result ≡ changed_after moment self before }
     {
-        if self.moment <= moment && self.path == name {
+        if self.moment <= moment {
             self.file
         } else {
             before
@@ -39,13 +51,64 @@ impl<'a> Naming<'a> {
     }
 }
 
-/// The file that a name stands for at a moment.
-pub fn find(names: &[Naming], moment: u64, name: &[u8]) -> Option<u32>
-    ensures { result ≡ named_until moment name.now names.now None }
+/// The file after changes that were done by a moment.
+fn last_file(changes: &[Change], moment: u64) -> Option<u32>
+    ensures { result ≡ file_after moment changes.now None }
 {
     let mut file = None;
-    for naming in names {
-        file = naming.after(moment, name, file);
+    for change in changes {
+        file = change.after(moment, file);
     }
     file
+}
+
+/// Names, each with its changes in their order.
+#[derive(Drop)]
+pub struct Names<'a> {
+    changes: IndexMap<&'a [u8], Vec<Change>>,
+}
+
+impl<'a> Model for Names<'a> {
+    ghost use Rattle.std.specs.Prelude.{List};
+    ghost use Rattle.file_versions.specs.Tables.{NameChanges};
+    ghost use Rattle.file_versions.specs.Kept.{names_of};
+
+    ghost Value = { List NameChanges };
+
+    ghost view = { λ names. names_of names.changes.entries };
+}
+
+impl<'a> Names<'a> {
+    pub fn new(alloc: Global) -> Names<'a>
+        ensures { result ≡ [] }
+    {
+        Names {
+            changes: IndexMap::new(alloc),
+        }
+    }
+
+    /// Adds a change of a name behind those that it has.
+    pub fn add(&mut self, naming: &Naming<'a>) -> Result<(), NoMemory>
+        ensures { (moment : ℕ) (name : List ℕ) → OnOk result (file_until moment name self.new
+            ≡ name_after moment name naming.now (file_until moment name self.old)) }
+    {
+        let Naming { moment, path, file } = *naming;
+        let change = Change { moment, file };
+        match self.changes.get_mut(path) {
+            Some(changes) => changes.push(change)?,
+            None => {
+                let changes = vec![in *self.changes.allocator(); change]?;
+                self.changes.insert(path, changes)?;
+            }
+        }
+        Ok(())
+    }
+
+    /// The file that a name stands for at a moment.
+    pub fn find(&self, moment: u64, name: &[u8]) -> Option<u32>
+        ensures { result ≡ file_until moment name.now self.now }
+    {
+        let changes = self.changes.get(name)?;
+        last_file(changes.as_slice(), moment)
+    }
 }

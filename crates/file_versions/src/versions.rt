@@ -1,14 +1,14 @@
 // The versions of files.
-ghost use Rattle.std.specs.Prelude.{◌≡◌, ◌<◌, ◌≤◌, ◌^◌, ◌↔◌, ◌++◌, [], List, None, Some, Err, map, option_map, option_to_list, IfOk, OnOk};
+ghost use Rattle.std.specs.Prelude.{◌≡◌, ◌<◌, ◌≤◌, ◌^◌, ◌↔◌, ◌++◌, ℕ, [], List, None, Some, Err, map, option_map, option_to_list, IfOk, OnOk};
 ghost use Rattle.acts_model.specs.Records.{event_len};
 ghost use Rattle.arn_base.specs.declared.records.Record.{Record};
 ghost use Rattle.history_index.specs.Indexes.{AreCountable, Indexes};
 ghost use Rattle.history_model.specs.Moments.{total};
 ghost use Rattle.parts_model.specs.Tagged.{origins_of, values};
 ghost use Rattle.file_versions.specs.Versions.{bytes_after, file_at, version_at};
-ghost use Rattle.file_versions.specs.Tables.{name_in, named_until, write_in, writes_until, TellsFiles};
+ghost use Rattle.file_versions.specs.Tables.{file_until, name_in, named_until, write_in, writes_until, TellsFiles};
 
-use crate::names::{self, Naming};
+use crate::names::Names;
 use crate::told::Before;
 use crate::writes::{self, Writing};
 use crate::{VersionError, give};
@@ -19,10 +19,10 @@ use std::alloc::Global;
 use std::marker::Model;
 
 /// What the records of a history tell of files.
-#[derive(Debug, Drop)]
+#[derive(Drop)]
 pub struct Versions<'a> {
     total: u64,
-    names: Vec<Naming<'a>>,
+    names: Names<'a>,
     writes: Vec<Writing<'a>>,
 }
 
@@ -31,7 +31,7 @@ impl<'a> Model for Versions<'a> {
 
     ghost Value = { Tables };
 
-    ghost view = { λ s. record { total = s.total; names = s.names.items; writes = s.writes.items } };
+    ghost view = { λ s. record { total = s.total; names = s.names; writes = s.writes.items } };
 }
 
 impl<'a> Versions<'a> {
@@ -41,7 +41,7 @@ impl<'a> Versions<'a> {
     {
         Versions {
             total,
-            names: Vec::new(alloc),
+            names: Names::new(alloc),
             writes: Vec::new(alloc),
         }
     }
@@ -49,13 +49,16 @@ impl<'a> Versions<'a> {
     /// Adds what a record tells of files.
     fn add(&mut self, before: Before, entry: &'a Record) -> Result<(), NoMemory>
         requires short { event_len entry.now < 2 ^ 32 }
-        ensures ok { OnOk result (self.new ≡ record self.old {
-          names = self.old.names ++ option_to_list (name_in before entry.now);
-          writes = self.old.writes ++ option_to_list (write_in before entry.now);
-        }) }
+        ensures total { OnOk result (self.new.total ≡ self.old.total) }
+        ensures names { (moment : ℕ) (name : List ℕ) → OnOk result
+            (file_until moment name self.new.names
+            ≡ named_until moment name (option_to_list (name_in before entry.now))
+            (file_until moment name self.old.names)) }
+        ensures writes { OnOk result (self.new.writes ≡
+            self.old.writes ++ option_to_list (write_in before entry.now)) }
     {
         if let Some(naming) = before.naming(entry) {
-            self.names.push(naming)?;
+            self.names.add(&naming)?;
         }
         if let Some(writing) = before.writing(entry) {
             self.writes.push(writing)?;
@@ -67,15 +70,15 @@ impl<'a> Versions<'a> {
     fn held(&self, path: &[u8], moment: u64) -> Result<Vec<TaggedByte>, VersionError>
         ensures ok { IfOk result (λ held. option_map
             (λ file. bytes_after (writes_until moment file self.now.writes))
-            (named_until moment path.now self.now.names None) ≡ Some held.items) }
+            (file_until moment path.now self.now.names) ≡ Some held.items) }
         ensures no_moment { (result ≡ Err VersionError.NoMoment) ↔ (self.now.total < moment) }
         ensures no_file { (result ≡ Err VersionError.NoFile) ↔
-            ((moment ≤ self.now.total) × (named_until moment path.now self.now.names None ≡ None)) }
+            ((moment ≤ self.now.total) × (file_until moment path.now self.now.names ≡ None)) }
     {
         if moment > self.total {
             return Err(VersionError::NoMoment);
         }
-        match names::find(self.names.as_slice(), moment, path) {
+        match self.names.find(moment, path) {
             Some(file) => {
                 let alloc = *self.writes.allocator();
                 Ok(writes::bytes(alloc, self.writes.as_slice(), moment, file)?)

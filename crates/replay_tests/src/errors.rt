@@ -4,7 +4,6 @@ use file_versions::VersionError;
 use guest_calls::{BootError, CallStop};
 use history_index::IndexError;
 use replayer::{Disagrees, QueryError, ReplayError};
-use state_viewer::ViewError;
 use std::fmt::Display;
 use std::process::Abort;
 use std::test::Fail;
@@ -48,11 +47,6 @@ const QUERIES: &[Shown<QueryError>] = &[
     (QueryError::NoMemory, "out of memory"),
 ];
 
-const VIEWS: &[Shown<ViewError>] = &[
-    (ViewError::NoMoment, "no such moment"),
-    (ViewError::NoMemory, "out of memory"),
-];
-
 const VERSIONS: &[Shown<VersionError>] = &[
     (VersionError::NoMoment, "the history has no such moment"),
     (VersionError::NoFile, "no file has this name then"),
@@ -82,6 +76,5 @@ fn histories_show_why(rt: HostRuntime) -> Result<(), Fail> {
     assert_shown(&rt, INDEXES)?;
     assert_shown(&rt, REPLAYS)?;
     assert_shown(&rt, QUERIES)?;
-    assert_shown(&rt, VIEWS)?;
     assert_shown(&rt, VERSIONS)
 }

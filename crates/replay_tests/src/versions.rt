@@ -1,10 +1,11 @@
-// Which events wrote the bytes of a file.
+// What a file holds, and which events wrote its bytes.
 use crate::fixtures::{booted, call, slice, with};
 use crate::same::assert_same;
-use arn_base::{Bytes, Extra, NoMemory, Origin, Origins, Record};
+use arn_base::{Bytes, Extra, NoMemory, Origin, Record};
 use file_versions::{VersionError, Versions};
 use history_index::{Index, are_countable};
 use parts_model::calls::{UNLINK, WRITE};
+use state_viewer::file;
 use std::alloc::Global;
 use std::process::Abort;
 use std::test::Fail;
@@ -32,18 +33,13 @@ fn history(alloc: Global) -> Result<Vec<Record>, NoMemory> {
     with(entries, unlink(alloc, b"p")?)
 }
 
-// Where the bytes of the file `p` come from at a moment, by records that 32 bits count.
-fn origins(
-    rt: &impl Abort,
-    entries: &Vec<Record>,
-    moment: u64,
-) -> Result<Result<Origins, VersionError>, Fail> {
+// What records tell of files, if 32 bits count them.
+fn versions<'a>(rt: &impl Abort, entries: &'a Vec<Record>) -> Result<Versions<'a>, Fail> {
     let alloc = *entries.allocator();
     let entries = entries.as_slice();
     assert!(rt; are_countable(entries));
     let index = Index::build(alloc, entries)?;
-    let versions = Versions::build(alloc, entries, &index)?;
-    Ok(versions.origins(b"p", moment))
+    Ok(Versions::build(alloc, entries, &index)?)
 }
 
 // Both bytes of the file as it was brought, and the first of them.
@@ -72,7 +68,7 @@ const ADDED: Origin = Origin {
     len: 2,
 };
 
-// Moments, and where the bytes come from then.
+// Moments, and where the bytes of the file `p` come from then.
 const VERSIONS: &[(u64, &[Origin])] = &[
     (0, &[BROUGHT]),
     (4, &[BROUGHT]),
@@ -84,13 +80,30 @@ const VERSIONS: &[(u64, &[Origin])] = &[
 #[test]
 fn a_version_has_the_origins_of_its_writes(rt: HostRuntime) -> Result<(), Fail> {
     let entries = history(rt.alloc())?;
+    let versions = versions(&rt, &entries)?;
     for (moment, wanted) in VERSIONS {
-        let found = origins(&rt, &entries, *moment)??;
+        let found = versions.origins(b"p", *moment)?;
         assert_same(&rt, (*moment, found.as_slice()), (*moment, *wanted));
     }
     for (moment, wanted) in [(9, VersionError::NoFile), (10, VersionError::NoMoment)] {
-        let found = origins(&rt, &entries, moment)?;
+        let found = versions.origins(b"p", moment);
         assert_same(&rt, (moment, found.err()), (moment, Some(wanted)));
     }
+    Ok(())
+}
+
+// Moments, and the bytes of the file `p` then.
+const CONTENTS: &[(u64, &[u8])] = &[(4, b"12"), (5, b"1x"), (8, b"1xyz")];
+
+#[test]
+fn a_file_is_shown(rt: HostRuntime) -> Result<(), Fail> {
+    let entries = history(rt.alloc())?;
+    let versions = versions(&rt, &entries)?;
+    for (moment, wanted) in CONTENTS {
+        let held = file(&versions, *moment, b"p")?;
+        assert_same(&rt, (*moment, held.as_slice()), (*moment, *wanted));
+    }
+    let gone = file(&versions, 9, b"p");
+    assert_same(&rt, gone.err(), Some(VersionError::NoFile));
     Ok(())
 }

@@ -3,7 +3,7 @@ use crate::fixtures::{LOOP, forked};
 use crate::same::assert_same;
 use arn_base::{Numbers, Record};
 use history_index::{Index, IndexError, are_countable};
-use state_viewer::{ViewError, processes};
+use state_viewer::{VersionError, processes};
 use std::process::Abort;
 use std::test::Fail;
 
@@ -12,7 +12,7 @@ fn living(
     rt: &impl Abort,
     entries: &Vec<Record>,
     moment: u64,
-) -> Result<Result<Numbers, ViewError>, IndexError> {
+) -> Result<Result<Numbers, VersionError>, IndexError> {
     let alloc = *entries.allocator();
     let entries = entries.as_slice();
     assert!(rt; are_countable(entries));
@@ -29,6 +29,6 @@ fn a_child_begins_behind_its_fork(rt: HostRuntime) -> Result<(), Fail> {
     let behind = living(&rt, &entries, 4)??;
     assert_same(&rt, behind.as_slice(), [1, 2].as_slice());
     let later = living(&rt, &entries, 5)?;
-    assert_same(&rt, later.err(), Some(ViewError::NoMoment));
+    assert_same(&rt, later.err(), Some(VersionError::NoMoment));
     Ok(())
 }

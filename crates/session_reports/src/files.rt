@@ -6,9 +6,10 @@ ghost use Rattle.session_reports.specs.Files.{show_file_text};
 
 use arn_base::{NoMemory, Record};
 use arn_lines::{Refusal, push_refusal};
-use file_versions::{VersionError, Versions};
+use file_versions::Versions;
 use history_index::Index;
 use report_texts::push_file;
+use state_viewer::{VersionError, file};
 
 /// Appends the bytes of the file that has a name at a moment. A name that no file has then is refused,
 /// and so is a moment that isn't in the history.
@@ -26,10 +27,9 @@ pub fn report_file(
     ensures err { OnErr result (string_bytes text.new ≡ string_bytes text.old) }
 {
     let versions = Versions::build(*text.allocator(), entries, index)?;
-    match versions.content(name, moment) {
+    match file(&versions, moment, name) {
         Ok(bytes) => push_file(text, bytes.as_slice()),
-        Err(VersionError::NoMoment) => push_refusal(text, Refusal::NoPoint),
-        Err(VersionError::NoFile) => push_refusal(text, Refusal::NoPoint),
+        Err(VersionError::NoMoment | VersionError::NoFile) => push_refusal(text, Refusal::NoPoint),
         Err(VersionError::NoMemory) => Err(NoMemory),
     }
 }

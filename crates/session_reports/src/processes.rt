@@ -8,7 +8,7 @@ use arn_base::{NoMemory, Record};
 use arn_lines::{Refusal, push_refusal};
 use history_index::Index;
 use report_texts::{push_proc, push_procs};
-use state_viewer::{ViewError, processes};
+use state_viewer::{VersionError, processes};
 use std::alloc::Global;
 
 fn push_one(
@@ -90,7 +90,7 @@ pub fn report_procs(
 {
     match processes(*text.allocator(), entries, index, moment) {
         Ok(live) => push_living(text, entries, index, live.as_slice()),
-        Err(ViewError::NoMoment) => push_refusal(text, Refusal::NoPoint),
-        Err(ViewError::NoMemory) => Err(NoMemory),
+        Err(VersionError::NoMoment | VersionError::NoFile) => push_refusal(text, Refusal::NoPoint),
+        Err(VersionError::NoMemory) => Err(NoMemory),
     }
 }

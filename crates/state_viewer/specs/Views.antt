@@ -4,6 +4,8 @@ use Rattle.arn_base.specs.declared.machine.Cpu.{Cpu}
 use Rattle.arn_base.specs.declared.records.Record.{Record}
 use Rattle.acts_model.specs.Bodies.{seen}
 use Rattle.acts_model.specs.Views.{bytes_in}
+use Rattle.file_versions.specs.declared.errors.VersionError.{VersionError}
+use Rattle.file_versions.specs.declared.errors.VersionError.TheVariants as version
 use Rattle.history_model.specs.Alone.{Own, Made, Makes, Fails, alone, nothing_own}
 use Rattle.history_model.specs.Groups.{group_of}
 use Rattle.past_lives.specs.Members.{is_member, is_memory_range}
@@ -11,8 +13,6 @@ use Rattle.replay_steps.specs.Standing.{disagreement}
 use Rattle.replay_steps.specs.declared.errors.QueryError.{QueryError}
 use Rattle.replay_steps.specs.declared.errors.QueryError.TheVariants as error
 use Rattle.replayer.specs.Bounds.{ran_before}
-use Rattle.state_viewer.specs.declared.errors.ViewError.{ViewError}
-use Rattle.state_viewer.specs.declared.errors.ViewError.TheVariants as view
 
 -- what a group alone makes up to a moment, if there is a group
 abbrev pub made_by : List Record → ℕ → Option ℕ → Made
@@ -56,7 +56,8 @@ abbrev pub RunsNothing : QueryError → ℕ → ℕ → Type 0
 RunsNothing error.NoPoint before after = after ≡ before
 RunsNothing other before after = Unit {0}
 
--- the moment isn't in the history, or memory ran out
-abbrev pub Refuses : Bool → ViewError → Type 0
-Refuses is_there view.NoMoment = is_there ≡ false
-Refuses is_there view.NoMemory = is_there ≡ true
+-- the moment isn't in the history, or memory ran out; no file is asked for
+abbrev pub Refuses : Bool → VersionError → Type 0
+Refuses is_there version.NoMoment = is_there ≡ false
+Refuses is_there version.NoFile = ⊥
+Refuses is_there version.NoMemory = is_there ≡ true

@@ -1,12 +1,13 @@
-//! What processes were at a moment of a history: which lived, and the registers and the bytes of one,
-//! by a replay of its group alone.
+//! What processes and files were at a moment of a history: which processes lived, the registers and the
+//! bytes of one, by a replay of its group alone, and the bytes of a file.
 #![tactic(auto)]
 
-mod errors;
+mod files;
 mod replays;
 mod silent;
 mod views;
 
-pub use errors::ViewError;
+pub use file_versions::VersionError;
+pub use files::file;
 pub use replayer::QueryError;
 pub use views::{memory, processes, registers};

@@ -6,9 +6,9 @@ ghost use Rattle.history_index.specs.Indexes.{AreCountable, Indexes};
 ghost use Rattle.past_lives.specs.Members.{is_member, is_memory_range, is_moment, live_at as live_at_of};
 ghost use Rattle.state_viewer.specs.Views.{Explains, HasMemory, HasRegisters, Refuses, RunsNothing, made_of, ran_of};
 
-use crate::ViewError;
 use crate::replays::group_at;
 use arn_base::{Bytes, Cpu, NoMemory, Numbers, Record, Steps};
+use file_versions::VersionError;
 use history_index::Index;
 use past_lives::{
     is_member as lives_at, is_memory_range as has_range, live_at, lives_have_groups,
@@ -114,7 +114,7 @@ pub fn processes(
     entries: &[Record],
     index: &Index,
     moment: u64,
-) -> Result<Numbers, ViewError>
+) -> Result<Numbers, VersionError>
     requires countable { AreCountable entries.now }
     requires indexed { Indexes index.now entries.now }
     ensures moment { IfOk result (λ _. is_moment entries.now moment ≡ true) }
@@ -122,7 +122,7 @@ pub fn processes(
     ensures err { IfErr result (Refuses (is_moment entries.now moment)) }
 {
     if moment > index.total() {
-        return Err(ViewError::NoMoment);
+        return Err(VersionError::NoMoment);
     }
     Ok(live_at(alloc, entries, index, moment)?)
 }
