@@ -1,8 +1,8 @@
 -- Answers on the records of a run.
-use Rattle.std.proofs.Common.{◌≡◌, ◌∙◌, ℕ, zero, suc, ◌<◌, ◌≤◌, ◌&&◌, nat_le, nat_lt, Bool, true, false, if◌then◌else◌, List, [], ◌∷◌, length, filter, Option, Some, None, is_some, refl, sym, ap, arith, sum_by}
+use Rattle.std.proofs.Common.{◌≡◌, ◌∙◌, ℕ, zero, suc, ◌<◌, ◌≤◌, ◌&&◌, nat_le, nat_lt, Bool, true, false, if◌then◌else◌, List, [], ◌∷◌, ◌++◌, length, filter, Option, Some, None, is_some, refl, sym, ap, ap₂, arith, sum_by}
 use Rattle.std.proofs.lemmas.List.Elements.{All-cons, All-head, All-nil, All-tail}
 use Rattle.std.proofs.lemmas.List.Sums.{sum_by-cons}
-use Rattle.std.specs.List.{All, sum}
+use Rattle.std.specs.List.{All, flat_map, range_with_len, sum}
 use Rattle.std.specs.Prelude.{◌↔◌, Contains, slice_get}
 use Rattle.acts_model.specs.Bodies.{View, seen}
 use Rattle.arn_base.specs.declared.records.Pair.{Pair}
@@ -18,11 +18,11 @@ use Rattle.arn_lines.specs.declared.line.Question.TheVariants as question
 use Rattle.arn_lines.specs.Texts.{refusal_text}
 use Rattle.arn_lines.specs.declared.line.Sought.{Sought}
 use Rattle.arn_lines.specs.declared.line.Sought.TheVariants as sought
-use Rattle.arn_model.specs.Run.{Input, state_at}
+use Rattle.arn_model.specs.Run.{Input, machine_after, state_at}
 use Rattle.arn_model.specs.Tells.{lives}
-use Rattle.history_index.specs.Lookups.{processes_in}
+use Rattle.history_index.specs.Lookups.{groups_in, members_of, processes_in}
 use Rattle.history_model.specs.Alone.{Disagrees, Made}
-use Rattle.history_model.specs.Events.{event_at, events, is_range}
+use Rattle.history_model.specs.Events.{event_at, events, how_many, is_range}
 use Rattle.history_model.specs.Moments.{lives_at, segment_at, total}
 use Rattle.log_model.specs.Laws.{RecordsAreRun}
 use Rattle.log_model.specs.Records.{records}
@@ -45,17 +45,21 @@ use Rattle.query_model.specs.declared.held.Held.{Held}
 use Rattle.query_model.specs.declared.held.Part.{Part}
 use Rattle.query_model.specs.declared.held.Part.TheVariants as part
 use Rattle.generator.specs.Sums.{gen_text, written}
+use Rattle.report_texts.specs.Totals.{events_line, group_line, groups_line}
 use Rattle.session_questions.specs.Asked.{unless_damaged, unless_refused}
 use Rattle.session_questions.specs.Generated.{Write, generated_text, pairs_of, unless_one_refused, writes}
-use Rattle.session_questions.specs.OfRuns.{living, run_back_text, run_bytes_text, run_forth_text, run_generated_text, run_held_text, run_named_text, run_pairs, run_pairs_of, run_show_text, run_sources_text, run_text, unless_one_long}
+use Rattle.session_questions.specs.OfRuns.{living, run_back_text, run_bytes_text, run_event_text, run_first_events, run_forth_text, run_generated_text, run_group_text, run_groups_text, run_held_text, run_named_text, run_pairs, run_pairs_of, run_show_text, run_sources_text, run_text, unless_one_long}
 use Rattle.session_questions.specs.Short.{ShortRunsHaveNumbers}
 use Rattle.session_questions.specs.Texts.{answer_text, back_telling, bytes_answer, event_telling, forth_telling, held_telling, held_text, named_telling, question_text, show_telling, sinks_text, sources_text, written_text}
+use Rattle.session_reports.specs.Events.{event_text, event_there, events_text}
 use Rattle.session_reports.specs.Files.{file_of}
+use Rattle.session_reports.specs.Groups.{group_text, groups_text}
 use Rattle.session_reports.specs.Processes.{processes_text}
 use Rattle.session_reports.specs.States.{mem_of, regs_of, seen_text}
 use Rattle.state_viewer.specs.Views.{made_of}
 use Rattle.session_questions.specs.Verify.{VerifiesRuns}
 use Rattle.version_laws.specs.OfRuns.{VersionsAreOfRuns}
+use Rattle.view_laws.specs.Counts.{CountsAreOfRuns}
 use Rattle.view_laws.specs.OfRuns.{ViewsAreOfRuns, ViewsRun}
 
 -- an event that has bytes is there
@@ -95,7 +99,12 @@ filter-same : (f g : ℕ → Bool) (xs : List ℕ) → ((x : ℕ) → f x ≡ g 
 filter-same f g [] same = refl
 filter-same f g (x ∷ xs) same = ap (λ (b : Bool). if b then x ∷ filter f xs else filter f xs) (same x) ∙ ap (λ (rest : List ℕ). if g x then x ∷ rest else rest) (filter-same f g xs same)
 
-module _ (numbers : ShortRunsHaveNumbers) (queries : QueriesAreOfRuns) (states : StatesAreOfRuns) (names : NamesAreOfRuns) (sinks : ForthIsOfRuns) (views : ViewsAreOfRuns) (versions : VersionsAreOfRuns) (verified : VerifiesRuns) (own : RecordsAreRun) (inputs : List Input) (short : length (spellings (records inputs)) ≤ MOST_LOG) where
+-- and the same lines print the same
+flat-same : (f g : ℕ → List ℕ) → ((x : ℕ) → f x ≡ g x) → (xs : List ℕ) → flat_map f xs ≡ flat_map g xs
+flat-same f g same [] = refl
+flat-same f g same (x ∷ xs) = ap₂ (λ (first rest : List ℕ). first ++ rest) (same x) (flat-same f g same xs)
+
+module _ (numbers : ShortRunsHaveNumbers) (queries : QueriesAreOfRuns) (states : StatesAreOfRuns) (names : NamesAreOfRuns) (sinks : ForthIsOfRuns) (views : ViewsAreOfRuns) (versions : VersionsAreOfRuns) (verified : VerifiesRuns) (own : RecordsAreRun) (counted : CountsAreOfRuns) (inputs : List Input) (short : length (spellings (records inputs)) ≤ MOST_LOG) where
   answers : (linkage : Linkage) → AnswersRun (operands linkage) inputs
   answers linkage = queries (operands linkage) inputs (numbers inputs short)
 
@@ -159,12 +168,26 @@ module _ (numbers : ShortRunsHaveNumbers) (queries : QueriesAreOfRuns) (states :
       if-same (is_moment (records inputs) moment) _ _ (refusal_text NoPoint) (λ is.
       ap (processes_text (records inputs)) (filter-same (lives_at (records inputs) moment) (lives (state_at inputs moment).kernel) (processes_in (records inputs)) (λ pid. (seen-by moment pid).lives)))
 
+  of-groups : groups_text (records inputs) ≡ run_groups_text inputs
+  of-groups =
+      ap (λ (lines : List ℕ). lines ++ groups_line (length (groups_in (records inputs))))
+      (flat-same (group_text (records inputs)) (run_group_text inputs)
+      (λ group. ap (group_line group (length (members_of (records inputs) group))) ((counted inputs (numbers inputs short)).counts group))
+      (groups_in (records inputs)))
+
+  of-events : events_text (records inputs) ≡ run_first_events inputs (machine_after inputs).events
+  of-events =
+      let run = counted inputs (numbers inputs short) in
+      ap (λ (lines : List ℕ). lines ++ events_line (how_many (records inputs)))
+      (flat-same (event_text (records inputs)) (run_event_text inputs) (λ n. ap₂ (event_there n) (run.moments n) (run.entries n)) (range_with_len 0 (how_many (records inputs))))
+      ∙ ap (run_first_events inputs) run.events
+
   pub of-runs : (q : Question) → question_text (records inputs) q ≡ run_text inputs q
   of-runs (question.Show moment a) = of-show moment a
   of-runs (question.Back linkage bytes) = of-back linkage bytes
   of-runs (question.Forth linkage event from len) = of-forth linkage event from len
-  of-runs question.Groups = refl
-  of-runs question.Events = refl
+  of-runs question.Groups = of-groups
+  of-runs question.Events = of-events
   of-runs question.Verify = (verified (records inputs)).1 (own inputs)
 
   pub sunk : (linkage : Linkage) (event from len : ℕ) (pair : Pair)

@@ -1,6 +1,6 @@
 -- What is printed for a question on the records of a run.
-use Rattle.std.specs.Prelude.{◌≡◌, ◌↔◌, ℕ, ◌+◌, ◌≤◌, if◌then◌else◌, List, [], ◌∷◌, Contains, filter, length, sum_by, Option, Some, None}
-use Rattle.std.specs.List.{sum}
+use Rattle.std.specs.Prelude.{◌≡◌, ◌↔◌, ℕ, ◌+◌, ◌≤◌, if◌then◌else◌, List, [], ◌∷◌, ◌++◌, Contains, filter, flat_map, length, sum_by, Option, Some, None}
+use Rattle.std.specs.List.{range_with_len, sum}
 use Rattle.arn_base.specs.declared.records.Pair.{Pair}
 use Rattle.arn_base.specs.declared.records.Record.{Record}
 use Rattle.rv64_model.specs.Carries.{Table, operands}
@@ -15,10 +15,10 @@ use Rattle.arn_lines.specs.declared.line.Question.TheVariants as question
 use Rattle.arn_lines.specs.declared.line.Sought.{Sought}
 use Rattle.arn_lines.specs.declared.line.Sought.TheVariants as sought
 use Rattle.arn_lines.specs.Texts.{refusal_text}
-use Rattle.arn_model.specs.Run.{Input, state_at}
+use Rattle.arn_model.specs.Run.{Input, machine_after, state_at}
 use Rattle.arn_model.specs.Tells.{lives}
 use Rattle.generator.specs.Sums.{gen_text, written}
-use Rattle.history_index.specs.Lookups.{processes_in}
+use Rattle.history_index.specs.Lookups.{groups_in, members_of, processes_in}
 use Rattle.history_model.specs.Events.{event_at, is_range}
 use Rattle.lineage_model.specs.Flow.{Byte}
 use Rattle.lineage_model.specs.Pairs.{pairs_from}
@@ -38,13 +38,15 @@ use Rattle.query_model.specs.Names.{Named, written_groups}
 use Rattle.query_model.specs.Sinks.{forth_pairs}
 use Rattle.query_model.specs.States.{part_len, process_groups}
 use Rattle.query_model.specs.declared.held.Held.{Held}
-use Rattle.report_texts.specs.Totals.{verify_line}
+use Rattle.report_texts.specs.Totals.{events_line, group_line, groups_line, verify_line}
 use Rattle.session_questions.specs.Generated.{Write, generated_text, writes}
-use Rattle.session_questions.specs.Texts.{answer_text, question_text, sinks_text, telling}
+use Rattle.session_questions.specs.Texts.{answer_text, question_text, sinks_text}
+use Rattle.session_reports.specs.Events.{event_there}
 use Rattle.session_reports.specs.Files.{file_of}
 use Rattle.session_reports.specs.Processes.{processes_text}
 use Rattle.session_reports.specs.States.{mem_of, regs_of}
 use Rattle.version_laws.specs.OfRuns.{version_in}
+use Rattle.view_laws.specs.Counts.{done_by, happened_at, recorded_at}
 
 -- the pairs of bytes of an event, by the tracking of every step of the whole machine
 abbrev pub run_pairs : Table → List Input → ℕ → ℕ → ℕ → List Pair
@@ -100,13 +102,29 @@ run_show_text inputs moment (aspect.File name) =
 run_show_text inputs moment aspect.Processes =
     if is_moment (records inputs) moment then processes_text (records inputs) (living inputs moment) else refusal_text NoPoint
 
--- each question; the records themselves tell groups and events, and they are a run's
+-- a group, with the number of its processes and how many instructions they did in the run
+abbrev pub run_group_text : List Input → ℕ → List ℕ
+run_group_text inputs group = group_line group (length (members_of (records inputs) group)) (done_by inputs group)
+
+-- each group, in order of number, and behind them how many there are
+abbrev pub run_groups_text : List Input → List ℕ
+run_groups_text inputs = flat_map (run_group_text inputs) (groups_in (records inputs)) ++ groups_line (length (groups_in (records inputs)))
+
+-- an event, with how many instructions the run had done when it had happened
+abbrev pub run_event_text : List Input → ℕ → List ℕ
+run_event_text inputs n = event_there n (happened_at inputs n) (recorded_at inputs n)
+
+-- so many events, in order, and behind them how many there are
+abbrev pub run_first_events : List Input → ℕ → List ℕ
+run_first_events inputs many = flat_map (run_event_text inputs) (range_with_len 0 many) ++ events_line many
+
+-- each question
 abbrev pub run_text : List Input → Question → List ℕ
 run_text inputs (question.Show moment shown) = run_show_text inputs moment shown
 run_text inputs (question.Back linkage bytes) = run_back_text inputs linkage bytes
 run_text inputs (question.Forth linkage event from len) = run_forth_text (operands linkage) inputs event from len
-run_text inputs question.Groups = (telling (records inputs) question.Groups).text
-run_text inputs question.Events = (telling (records inputs) question.Events).text
+run_text inputs question.Groups = run_groups_text inputs
+run_text inputs question.Events = run_first_events inputs (machine_after inputs).events
 run_text inputs question.Verify = verify_line None
 
 -- so it is for every question on the records of a run that are those of a log
