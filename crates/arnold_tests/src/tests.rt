@@ -318,6 +318,7 @@ fn a_failing_sink_holds_what_came_before(rt: HostRuntime) -> Result<(), Fail> {
     let printed = printed_within(rt.alloc(), EXCHANGES, text.len())?;
     for call in 0..1_000 {
         if ends_at_sink(&rt, text.as_str(), printed.as_str(), call)? {
+            assert!(rt; call > 0, "a sink that failed was asked again");
             return Ok(());
         }
     }
@@ -583,6 +584,9 @@ fn assert_crashes_keep(
     Ok(())
 }
 
+/// How many calls of the disk the opening and three commits take.
+const LEAST_CALLS: u32 = 16;
+
 /// What is printed before this call of the disk: the opening takes four calls, and so does each
 /// commit, of which the first three print a line each.
 fn printed_before(alloc: Global, call: u32) -> Result<String, NoMemory> {
@@ -622,6 +626,7 @@ fn a_failing_disk_keeps_what_was_printed(rt: HostRuntime) -> Result<(), Fail> {
     let whole = log_of(alloc, disk.bytes())?;
     for call in 0..1_000 {
         if ends_at_disk(&rt, typed.as_str(), &whole, call)? {
+            assert!(rt; call >= LEAST_CALLS, "a disk that failed was asked again");
             return Ok(());
         }
     }
