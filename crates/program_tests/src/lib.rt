@@ -6,6 +6,8 @@ mod calls;
 #[cfg(test)]
 mod changed;
 #[cfg(test)]
+mod engines;
+#[cfg(test)]
 mod given;
 #[cfg(test)]
 mod handing;
