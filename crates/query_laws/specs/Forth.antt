@@ -19,7 +19,13 @@ use Rattle.query_model.specs.Forth.{first_groups, groups_forth, has_copy}
 use Rattle.query_model.specs.Sinks.{is_among, is_sink, items_among, reaching_among, sinks_reached}
 use Rattle.taint_laws.specs.Follows.{HasWholeBlocks}
 
--- one list names the groups that can have received bytes from these, rising: those that are asked
+-- the groups that are asked are those that can have received bytes from these, rising
+abbrev pub ForthIsConnected : Type 0
+ForthIsConnected =
+    (entries : List Record) (from : List ℕ) → first_broken entries ≡ None → All (Contains (groups_in entries)) from
+    → Lists (groups_forth entries from) (Forth entries from)
+
+-- and there is one such list
 abbrev pub ForthIsOne : Type 0
 ForthIsOne =
     (entries : List Record) (from groups : List ℕ) → first_broken entries ≡ None → All (Contains (groups_in entries)) from

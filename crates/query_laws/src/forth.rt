@@ -1,5 +1,5 @@
 // What holds of a query forward.
-ghost use Rattle.query_laws.specs.Forth.{FirstAreTold, ForthIsOne, ReachingIsAmong, SinksAreReached};
+ghost use Rattle.query_laws.specs.Forth.{FirstAreTold, ForthIsConnected, ForthIsOne, ReachingIsAmong, SinksAreReached};
 ghost use Rattle.query_laws.specs.ForthOfRuns.{ForthIsOfRuns, ForthLosesNothing};
 
 use crate::law::{items_are_received, queries_are_of_runs};
@@ -11,6 +11,12 @@ use replay_laws::{groups_pass_through, records_tell_events};
 use taint_laws::follows_holders;
 use taint_state::acts_have_len;
 use unbroken_laws::runs_are_unbroken;
+
+/// The groups that a query forward asks are those that can have received bytes from the given ones, each
+/// once, in rising order.
+pub fn forth_is_connected()
+    ensures { ForthIsConnected }
+{}
 
 /// No other list names these groups, each once, in rising order.
 pub fn forth_is_one()

@@ -12,7 +12,8 @@ mod names;
 mod states;
 
 pub use forth::{
-    first_are_told, forth_is_of_runs, forth_is_one, reaching_is_among, sinks_are_reached,
+    first_are_told, forth_is_connected, forth_is_of_runs, forth_is_one, reaching_is_among,
+    sinks_are_reached,
 };
 pub use law::{
     groups_are_connected, groups_are_one, items_fit, queries_are_of_runs, reaching_is_of_bytes,
