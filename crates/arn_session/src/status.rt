@@ -5,42 +5,56 @@ ghost use Rattle.arn_session.specs.Status.{code_of};
 use arn_base::Differs;
 use log_store::{MOST_LOG, OpenError};
 use session_effects::Halt;
-use std::fmt;
+use thiserror::Error;
 
 /// How a session ends.
-#[derive(Clone, Copy, Debug, PartialEq, Eq)]
+#[derive(Clone, Copy, Debug, PartialEq, Eq, Error)]
 pub enum Status {
     /// The source was read to its end, and every line was answered.
+    #[error("done")]
     Done,
     /// The words aren't accepted.
+    #[error("usage: arnold LOG, where LOG is the path of the log, in UTF-8 and without - in front")]
     Usage,
     /// The disk failed.
+    #[error("the disk failed")]
     Disk,
     /// The log isn't that of a run.
+    #[error(transparent)]
     Damaged(Damage),
+    #[error("out of memory")]
     NoMemory,
     /// The source failed.
+    #[error("the source failed")]
     Source,
     /// The sink failed.
+    #[error("the sink failed")]
     Sink,
     /// The log of `log` bytes has no room for a commit whose records' spellings have `payload` bytes.
+    #[error("the log of {log} bytes has no room for {payload} more, with {MOST_LOG} at most")]
     Full { log: u64, payload: u64 },
     /// As many bytes were taken as a session takes at most.
+    #[error("the source has 2^40 bytes or more, and no more are read")]
     Long,
 }
 
 /// Why a log isn't that of a run. Places and lengths are in bytes from the start of the log.
-#[derive(Clone, Copy, Debug, PartialEq, Eq)]
+#[derive(Clone, Copy, Debug, PartialEq, Eq, Error)]
 pub enum Damage {
     /// It has more bytes than a log may have.
+    #[error("it has {len} bytes, which is too many: a log has at most {MOST_LOG}")]
     TooLong { len: u64 },
     /// The byte at this place is the first that differs from the name of a log.
+    #[error("its byte {at} is not that of a log of this version, which begins with ARNLOG01")]
     NotLog { at: u64 },
     /// At this place stands the gate of a frame that isn't whole, or no record where one is due.
+    #[error("at its byte {at} is no frame or no record: it is damaged")]
     Malformed { at: u64 },
     /// The record at this place, counted from 0, can't stand behind those before it.
+    #[error("its record {place} can't stand behind those before it")]
     Broken { place: u64 },
     /// Its records aren't those of the inputs that they name.
+    #[error("its record {} is not that of a run from its byte {} on", .0.place, .0.at)]
     Differs(Differs),
 }
 
@@ -59,60 +73,6 @@ impl Status {
             Status::Sink => 7,
             Status::Full { .. } => 8,
             Status::Long => 9,
-        }
-    }
-}
-
-impl fmt::Display for Status {
-    fn fmt<W: fmt::Write>(&self, f: &mut fmt::Formatter<W>) -> fmt::Result {
-        match self {
-            Status::Done => f.write_str("done"),
-            Status::Usage => f.write_str(
-                "usage: arnold LOG, where LOG is the path of the log, in UTF-8 and without - in front",
-            ),
-            Status::Disk => f.write_str("the disk failed"),
-            Status::Damaged(damage) => damage.fmt(f),
-            Status::NoMemory => f.write_str("out of memory"),
-            Status::Source => f.write_str("the source failed"),
-            Status::Sink => f.write_str("the sink failed"),
-            Status::Full { log, payload } => write!(
-                f,
-                "the log of {log} bytes has no room for {payload} more, with {MOST_LOG} at most",
-            ),
-            Status::Long => f.write_str("the source has 2^40 bytes or more, and no more are read"),
-        }
-    }
-}
-
-impl fmt::Display for Damage {
-    fn fmt<W: fmt::Write>(&self, f: &mut fmt::Formatter<W>) -> fmt::Result {
-        match self {
-            Damage::TooLong { len } => {
-                write!(
-                    f,
-                    "it has {len} bytes, which is too many: a log has at most {MOST_LOG}"
-                )
-            }
-            Damage::NotLog { at } => write!(
-                f,
-                "its byte {at} is not that of a log of this version, which begins with ARNLOG01"
-            ),
-            Damage::Malformed { at } => {
-                write!(
-                    f,
-                    "at its byte {at} is no frame or no record: it is damaged"
-                )
-            }
-            Damage::Broken { place } => {
-                write!(f, "its record {place} can't stand behind those before it")
-            }
-            Damage::Differs(differs) => {
-                let Differs { place, at, .. } = differs;
-                write!(
-                    f,
-                    "its record {place} is not that of a run from its byte {at} on"
-                )
-            }
         }
     }
 }
