@@ -17,8 +17,8 @@ use Rattle.guest_calls.specs.State.{State, StandsFor}
 use Rattle.guest_machine.specs.Pieces.{slice_of}
 use Rattle.guest_machine.specs.Recorded.{IsReal, OfEach, Recorded, Runs}
 use Rattle.guest_machine.specs.Slices.{Begun, CanTake, IsCut, RanSlice, Unbegun}
-use Rattle.guest_machine.specs.Turns.{Took, TookPart, TookWhole, Turned}
-use Rattle.guest_machine.specs.declared.turn.Turn.{Turn}
+use Rattle.guest_machine.specs.Turns.{Takes, Took, TookPart, TookWhole, Turn, Turned}
+use Rattle.guest_machine.specs.declared.turn.Taken.{Taken}
 use Rattle.guest_machine.proofs.RunsLemmas.{Runs-none, Runs-one}
 use Rattle.guest_machine.proofs.TurnLemmas.{lives, sees}
 use Rattle.guest_machine.proofs.TurnParts.{turn-slice}
@@ -109,25 +109,35 @@ cut-slice answers asked asked' cut m pid count t old new out out' stands live ca
     }
 
 -- and its devices weren't asked
-pub cut-unasked : {A : Type 0} (answers : A → Asked → Answered → A → Type 0) (asked asked' : A) (cut : Bool) (pid count : ℕ) (t : Turn) (old new : State) → IsReal old → cut ≡ true → OfEach old (λ m. Took cut answers m pid count t asked asked' new) → asked' ≡ asked
-cut-unasked answers asked asked' cut pid count t old new real is took = (part-of answers asked asked' cut real.machine pid count t new is (took real.machine real.stands)).unasked
+pub cut-unasked : {A : Type 0} (answers : A → Asked → Answered → A → Type 0) (asked asked' : A) (taken : Taken) (pid count : ℕ) (old new : State) (out out' : List Record) → IsReal old → taken.cut ≡ true → OfEach old (λ m. Takes answers m pid count taken asked asked' new out out') → asked' ≡ asked
+cut-unasked answers asked asked' taken pid count old new out out' real is takes =
+    let t = takes real.machine real.stands in
+    (part-of answers asked asked' taken.cut real.machine pid count t.parts new is t.took).unasked
 
 -- nothing was done
 pub unbegun : (m : Machine) (pid count : ℕ) (r : Recorded) (out : List Record) → StandsFor r.kernel m → IsCut m pid count r r out out
 unbegun m pid count r out stands = record { inputs = []; part = Unbegun; runs = Runs-none m r out stands }
 
--- the same of a whole machine
-pub slice-whole : {A : Type 0} (answers : A → Asked → Answered → A → Type 0) (asked asked' : A) (cut : Bool) (pid count : ℕ) (t : Turn) (k : State) (i : ℕ) (old new : Recorded) (out out' : List Record) → record { kernel = k; instructions = i } ≡ old → IsLive old.kernel.guests pid → OfEach old.kernel (λ m. CanTake m pid count) → cut ≡ false
-    → OfEach k (λ m. Took cut answers m pid count t asked asked' new.kernel) → new.instructions ≡ i + t.ran → out' ≡ out ++ slice_of pid t.ran (option_to_list t.delivery ++ option_to_list t.last) → OfEach old.kernel (λ m. RanSlice answers m pid count asked asked' old new out out')
-slice-whole answers asked asked' cut pid count t k i old new out out' same live can whole took counted recorded m stands =
-    let stands' : StandsFor k m = subst (λ (r : Recorded). StandsFor r.kernel m) (sym same) stands in
-    whole-slice answers asked asked' cut m pid count t old new out out' stands live (can m stands) whole (took m stands') (counted ∙ ap (λ (r : Recorded). r.instructions + t.ran) same) recorded
+-- what stands behind the records of before stands behind the same records
+kept-behind : (pid : ℕ) (t : Turn) (out out1 out' : List Record) → out1 ≡ out → out' ≡ out1 ++ slice_of pid t.ran (option_to_list t.delivery ++ option_to_list t.last) → out' ≡ out ++ slice_of pid t.ran (option_to_list t.delivery ++ option_to_list t.last)
+kept-behind pid t out out1 out' same kept = kept ∙ ap (λ (entries : List Record). entries ++ slice_of pid t.ran (option_to_list t.delivery ++ option_to_list t.last)) same
 
-pub slice-cut : {A : Type 0} (answers : A → Asked → Answered → A → Type 0) (asked asked' : A) (cut : Bool) (pid count : ℕ) (t : Turn) (k : State) (i : ℕ) (old new : Recorded) (out out' : List Record) → record { kernel = k; instructions = i } ≡ old → IsLive old.kernel.guests pid → OfEach old.kernel (λ m. CanTake m pid count) → cut ≡ true
-    → OfEach k (λ m. Took cut answers m pid count t asked asked' new.kernel) → new.instructions ≡ i + t.ran → out' ≡ out ++ slice_of pid t.ran (option_to_list t.delivery ++ option_to_list t.last) → OfEach old.kernel (λ m. IsCut m pid count old new out out')
-slice-cut answers asked asked' cut pid count t k i old new out out' same live can is took counted recorded m stands =
+-- the same of a whole machine
+pub slice-whole : {A : Type 0} (answers : A → Asked → Answered → A → Type 0) (asked asked' : A) (taken : Taken) (pid count : ℕ) (k : State) (i : ℕ) (old new : Recorded) (out out1 out' : List Record) → record { kernel = k; instructions = i } ≡ old → IsLive old.kernel.guests pid → OfEach old.kernel (λ m. CanTake m pid count) → taken.cut ≡ false
+    → OfEach k (λ m. Takes answers m pid count taken asked asked' new.kernel out1 out') → new.instructions ≡ i + taken.ran → out1 ≡ out → OfEach old.kernel (λ m. RanSlice answers m pid count asked asked' old new out out')
+slice-whole answers asked asked' taken pid count k i old new out out1 out' same live can whole takes counted before m stands =
     let stands' : StandsFor k m = subst (λ (r : Recorded). StandsFor r.kernel m) (sym same) stands in
-    cut-slice answers asked asked' cut m pid count t old new out out' stands live (can m stands) is (took m stands') (counted ∙ ap (λ (r : Recorded). r.instructions + t.ran) same) recorded
+    let t = takes m stands' in
+    let ran : new.instructions ≡ i + t.parts.ran = omega (arith, counted, t.ran) in
+    whole-slice answers asked asked' taken.cut m pid count t.parts old new out out' stands live (can m stands) whole t.took (ran ∙ ap (λ (r : Recorded). r.instructions + t.parts.ran) same) (kept-behind pid t.parts out out1 out' before t.kept)
+
+pub slice-cut : {A : Type 0} (answers : A → Asked → Answered → A → Type 0) (asked asked' : A) (taken : Taken) (pid count : ℕ) (k : State) (i : ℕ) (old new : Recorded) (out out1 out' : List Record) → record { kernel = k; instructions = i } ≡ old → IsLive old.kernel.guests pid → OfEach old.kernel (λ m. CanTake m pid count) → taken.cut ≡ true
+    → OfEach k (λ m. Takes answers m pid count taken asked asked' new.kernel out1 out') → new.instructions ≡ i + taken.ran → out1 ≡ out → OfEach old.kernel (λ m. IsCut m pid count old new out out')
+slice-cut answers asked asked' taken pid count k i old new out out1 out' same live can is takes counted before m stands =
+    let stands' : StandsFor k m = subst (λ (r : Recorded). StandsFor r.kernel m) (sym same) stands in
+    let t = takes m stands' in
+    let ran : new.instructions ≡ i + t.parts.ran = omega (arith, counted, t.ran) in
+    cut-slice answers asked asked' taken.cut m pid count t.parts old new out out' stands live (can m stands) is t.took (ran ∙ ap (λ (r : Recorded). r.instructions + t.parts.ran) same) (kept-behind pid t.parts out out1 out' before t.kept)
 
 pub real-of : (k : State) (i : ℕ) (r : Recorded) → record { kernel = k; instructions = i } ≡ r → IsReal k → IsReal r.kernel
 real-of k i r same real = subst (λ (x : Recorded). IsReal x.kernel) same real

@@ -17,8 +17,7 @@ use Rattle.guest_bodies.specs.Shown.{Guests, IsLive, Shown, seen_in}
 use Rattle.guest_devices.specs.Answers.{Asked}
 use Rattle.guest_calls.specs.State.{State, StandsFor}
 use Rattle.guest_machine.specs.Slices.{RepliesIf, RepliesOf, delivered}
-use Rattle.guest_machine.specs.Turns.{Finishes, Happens, StopsAt, TookPart, TookWhole, Turned}
-use Rattle.guest_machine.specs.declared.turn.Turn.{Turn}
+use Rattle.guest_machine.specs.Turns.{Finishes, Happens, StopsAt, TookPart, TookWhole, Turn, Turned}
 use Rattle.guest_machine.proofs.Appends.{after_steps-append, event_records-append}
 use Rattle.guest_machine.proofs.TurnParts.{delivery-instructions, last-counted, plains-instructions, plains-records}
 

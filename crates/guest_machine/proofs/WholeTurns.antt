@@ -15,8 +15,7 @@ use Rattle.guest_devices.specs.Answers.{Asked}
 use Rattle.guest_calls.specs.State.{OfProcess, State, StandsFor}
 use Rattle.guest_machine.specs.Recorded.{IsReal, OfEach}
 use Rattle.guest_machine.specs.Slices.{delivered}
-use Rattle.guest_machine.specs.Turns.{Delivers, Finishes, RanPlain, StandsAt, StopsAt, TookPart, TookWhole}
-use Rattle.guest_machine.specs.declared.turn.Turn.{Turn}
+use Rattle.guest_machine.specs.Turns.{Delivers, Finishes, RanPlain, StandsAt, StopsAt, TookPart, TookWhole, Turn}
 use Rattle.guest_machine.proofs.StepLemmas.{Delivers-in}
 use Rattle.guest_machine.proofs.TurnLemmas.{sees, took-dead, took-part, took-whole}
 

@@ -1,5 +1,5 @@
 -- The parts of a turn, each as the definitions of turns say.
-use Rattle.std.specs.Prelude.{◌≡◌, ◌<◌, ◌++◌, ℕ, Bool, true, false, length, Option, None, Some, option_to_list}
+use Rattle.std.specs.Prelude.{◌≡◌, ◌<◌, ◌++◌, ℕ, Bool, true, false, List, length, Option, None, Some, option_to_list}
 use Rattle.arn_base.specs.declared.records.Record.{Record}
 use Rattle.rv64_core.specs.declared.outcome.Outcome.{Outcome}
 use Rattle.rv64_core.specs.declared.outcome.Outcome.TheVariants as outcome
@@ -16,7 +16,8 @@ use Rattle.guest_bodies.specs.declared.running.Stood.{Stood}
 use Rattle.guest_devices.specs.Answers.{Asked}
 use Rattle.guest_calls.specs.State.{State, StandsFor}
 use Rattle.guest_machine.specs.Slices.{RepliesIn, RepliesOf}
-use Rattle.guest_machine.specs.declared.turn.Turn.{Turn}
+use Rattle.guest_machine.specs.Pieces.{slice_of}
+use Rattle.guest_machine.specs.declared.turn.Taken.{Taken}
 
 -- a process takes its due signal, if there is one, and this is the record
 pub record Delivers (m : Machine) (pid : ℕ) (v : View) (entry : Option Record) (new : State) : Type 0 where
@@ -56,6 +57,14 @@ Finishes outcome.Call answers m pid entry asked asked' old new = Happens answers
 Finishes (outcome.End status) answers m pid entry asked asked' old new = Happens answers m pid entry asked asked' new
 Finishes outcome.NoMemory answers m pid entry asked asked' old new = ⊥
 
+-- A turn: the record of its delivery, how many instructions ran, and the record of a call or an end by fault, which is the last of them.
+-- `cut` says that its call found no memory, and isn't of it.
+pub record Turn : Type 0 where
+  pub delivery : Option Record
+  pub ran : ℕ
+  pub last : Option Record
+  pub cut : Bool
+
 -- a process has taken the turn for so many instructions with this reply, and these are its records
 pub record Turned (m : Machine) (pid count : ℕ) (reply : Option Answered) (t : Turn) (new : State) : Type 0 where
   pub ran : instructions_in (steps_of (turn count pid reply m)) ≡ t.ran
@@ -78,3 +87,10 @@ pub record TookPart {A : Type 0} (m : Machine) (pid count : ℕ) (t : Turn) (ask
 abbrev pub Took : {A : Type 0} → Bool → (A → Asked → Answered → A → Type 0) → Machine → ℕ → ℕ → Turn → A → A → State → Type 0
 Took false answers m pid count t asked asked' new = TookWhole answers m pid count t asked asked' new
 Took true answers m pid count t asked asked' new = TookPart m pid count t asked asked' new
+
+-- a process has taken a turn, of which this is told, and its records stand behind others
+pub record Takes {A : Type 0} (answers : A → Asked → Answered → A → Type 0) (m : Machine) (pid count : ℕ) (taken : Taken) (asked asked' : A) (new : State) (out out' : List Record) : Type 0 where
+  pub parts : Turn
+  pub took : Took taken.cut answers m pid count parts asked asked' new
+  pub ran : parts.ran ≡ taken.ran
+  pub kept : out' ≡ out ++ slice_of pid parts.ran (option_to_list parts.delivery ++ option_to_list parts.last)

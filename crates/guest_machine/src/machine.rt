@@ -1,8 +1,8 @@
 use crate::able::{can_go_on, pick_slice, run_state};
 use crate::errors::MachineError;
 use crate::leg::Pick;
-use crate::pieces::{SLICE_RECORDS, file_record, keep_turn, typed_record};
-use crate::turn::take_turn;
+use crate::pieces::{SLICE_RECORDS, file_record, typed_record};
+use crate::turn::{Taken, take_turn};
 use arn_base::{Bytes, Chooser, NoMemory, Record, Steps};
 use arn_model::RunState;
 use guest_calls::Kernel;
@@ -19,13 +19,6 @@ pub struct Machine {
     alloc: Global,
     kernel: Kernel,
     instructions: u128,
-}
-
-// What a slice did: how many instructions ran, and how many bytes its records are spelled by.
-#[derive(Clone, Copy, Debug)]
-pub(crate) struct Taken {
-    pub ran: u32,
-    pub len: u64,
 }
 
 impl Model for Machine {
@@ -309,14 +302,11 @@ impl Machine {
     {
         slices_take_steps();
         out.reserve(SLICE_RECORDS)?;
-        let turn = take_turn(&mut self.kernel, pid, count, answers, steps);
-        self.instructions += u128::from(turn.ran);
-        let ran = turn.ran;
-        let cut = turn.cut;
-        let len = keep_turn(out, pid, turn);
-        if cut {
+        let taken = take_turn(&mut self.kernel, pid, count, answers, out, steps);
+        self.instructions += u128::from(taken.ran);
+        if taken.cut {
             return Err(NoMemory);
         }
-        Ok(Taken { ran, len })
+        Ok(taken)
     }
 }

@@ -1,14 +1,16 @@
 // The turn of a process: perhaps a delivery, then instructions, then perhaps a call or an end by fault.
-ghost use Rattle.std.specs.Prelude.{◌≡◌, ◌≢◌, ◌+◌, ◌<◌, ◌≤◌, ◌^◌, ℕ, All, IfOk, IfSome, None, OnErr, length, option_to_list};
+ghost use Rattle.std.specs.Prelude.{◌≡◌, ◌≢◌, ◌+◌, ◌<◌, ◌≤◌, ◌^◌, ℕ, All, IfOk, IfSome, None, OnErr, length, option_to_list, vec_len, vec_capacity};
 ghost use Rattle.result_log.specs.Spelling.{HasSpelling};
 ghost use Rattle.guest_bodies.specs.Shown.{IsLive};
 ghost use Rattle.arn_base.specs.declared.records.Record.TheVariants as kind;
 ghost use Rattle.arn_model.specs.Step.{fault_step};
 ghost use Rattle.guest_calls.specs.State.{OfProcess, StandsFor};
 ghost use Rattle.rv64_model.specs.Instruction.{Call, End};
+ghost use Rattle.guest_machine.specs.Pieces.{spelled_len};
 ghost use Rattle.guest_machine.specs.Recorded.{IsReal, OfEach};
-ghost use Rattle.guest_machine.specs.Turns.{Delivers, Finishes, Happens, RanPlain, StandsAt, StopsAt, Took};
+ghost use Rattle.guest_machine.specs.Turns.{Delivers, Finishes, Happens, RanPlain, StandsAt, StopsAt, Takes};
 
+use crate::pieces::{SLICE_RECORDS, keep_turn};
 use arn_base::{NoMemory, Record, Steps};
 use guest_bodies::Stood;
 use guest_calls::{CallStop, Kernel};
@@ -16,13 +18,12 @@ use guest_devices::Answers;
 use rv64_core::Outcome;
 use std::sync::ledger::Ledger;
 
-/// A turn: the record of its delivery, how many instructions ran, and the record of a call or an end by
-/// fault, which is the last of them. `cut` says that its call found no memory, and isn't of it.
-#[derive(Debug, Drop)]
-pub struct Turn {
-    pub delivery: Option<Record>,
+/// What a turn did: how many instructions ran, and how many bytes its records are spelled by. `cut`
+/// says that its call found no memory, and isn't of it.
+#[derive(Clone, Copy, Debug)]
+pub struct Taken {
     pub ran: u32,
-    pub last: Option<Record>,
+    pub len: u64,
     pub cut: bool,
 }
 
@@ -156,33 +157,36 @@ fn counted(last: &Option<Record>) -> u32
     }
 }
 
-/// A process takes its turn for up to so many instructions.
+/// A process takes its turn for up to so many instructions. Its records go behind others, of which
+/// there is room for as many as a slice has.
 pub fn take_turn<A: Answers, L: Ledger>(
     kernel: &mut Kernel,
     pid: u32,
     count: u32,
     answers: &mut A,
+    out: &mut Vec<Record>,
     steps: &mut Steps<L>,
-) -> Turn
+) -> Taken
     requires live { IsLive kernel.old.guests pid }
     requires real { IsReal kernel.old }
     requires room { kernel.old.events + 2 < 2 ^ 64 }
-    ensures took { OfEach kernel.old (λ m.
-        Took result.cut A.answers m pid count result answers.old answers.new kernel.new) }
+    requires records { vec_len out.old + SLICE_RECORDS ≤ vec_capacity out.old }
+    ensures takes { OfEach kernel.old (λ m. Takes A.answers m pid count result
+        answers.old answers.new kernel.new out.old.items out.new.items) }
     ensures real { IsReal kernel.new }
     ensures events { kernel.new.events ≤ kernel.old.events + 2 }
     ensures within { result.ran ≤ count }
-    ensures delivery { IfSome result.delivery HasSpelling }
-    ensures last { IfSome result.last HasSpelling }
+    ensures spelled { All HasSpelling out.old.items → All HasSpelling out.new.items }
+    ensures len { spelled_len out.new.items ≡ spelled_len out.old.items + result.len }
+    ensures few { result.len < 2 ^ 39 }
     ensures steps { steps.new ≤ steps.old + result.ran + 1 }
     ensures at_most { steps.new ≤ steps.old + count }
 {
     let delivery = deliver(kernel, pid);
     if !kernel.is_live(pid) {
-        return Turn {
-            delivery,
+        return Taken {
             ran: 0,
-            last: None,
+            len: keep_turn(out, pid, 0, delivery, None),
             cut: false,
         };
     }
@@ -190,17 +194,15 @@ pub fn take_turn<A: Answers, L: Ledger>(
     match finish(kernel, pid, stood.outcome, answers) {
         Ok(last) => {
             let ran = stood.ran + counted(&last);
-            Turn {
-                delivery,
+            Taken {
                 ran,
-                last,
+                len: keep_turn(out, pid, ran, delivery, last),
                 cut: false,
             }
         }
-        Err(NoMemory) => Turn {
-            delivery,
+        Err(NoMemory) => Taken {
             ran: stood.ran,
-            last: None,
+            len: keep_turn(out, pid, stood.ran, delivery, None),
             cut: true,
         },
     }

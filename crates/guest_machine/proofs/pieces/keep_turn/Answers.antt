@@ -5,7 +5,7 @@ use Rattle.guest_machine.proofs.pieces.keep_turn.Goals as goal
 
 pub returns-then-is_nothing-clause-items : goal.returns-then-is_nothing-clause-items
 returns-then-is_nothing-clause-items c =
-    let none = nothing-of c.args.pid c.args.turn.ran (option_to_list c.args.turn.delivery ++ option_to_list c.args.turn.last) (c.is_nothing.ensures.0 c.if-is_nothing.true) in
+    let none = nothing-of c.args.pid c.args.ran (option_to_list c.args.delivery ++ option_to_list c.args.last) (c.is_nothing.ensures.0 c.if-is_nothing.true) in
     sym (ap (λ (entries : List Record). c.args.out.now.items ++ entries) none ∙ append-nil c.args.out.now.items)
 
 pub returns-clause-spelled : goal.returns-clause-spelled
