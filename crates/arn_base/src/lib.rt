@@ -2,6 +2,7 @@
 //! devices, what is recorded of them, and a counter of steps.
 #![tactic(auto)]
 
+mod boxed;
 mod boxes;
 mod counter;
 mod disk;
@@ -15,6 +16,7 @@ mod sources;
 mod streams;
 mod windows;
 
+pub use boxed::Boxed;
 pub use boxes::{Choice, Chooser, Device, Reply, Took};
 pub use counter::Steps;
 pub use disk::Disk;

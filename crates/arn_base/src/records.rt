@@ -1,6 +1,6 @@
 // What is recorded of a machine's run. Events are counted from 0 in the order in which they happen.
 
-use crate::{Blocks, Bytes, Cpu, Origins};
+use crate::{Blocks, Boxed, Bytes, Cpu, Origins};
 
 /// A byte of an event: the one at place `at`, from 0, of those that event brought in.
 #[derive(Clone, Copy, Debug, PartialEq, Eq)]
@@ -48,7 +48,7 @@ pub enum Extra {
     /// The bytes that the process received.
     Give(Give),
     /// How the child begins that starts a group of its own.
-    Start(Start),
+    Start(Boxed<Start>),
     /// The bytes that were written to a file, from the place `at` on.
     Put { file: u32, at: u32, bytes: Bytes },
     /// The bytes that were written to the console.

@@ -1,7 +1,7 @@
 ghost use Rattle.history_index.specs.Indexes.{AreCountable, Indexes};
 
 use crate::records::file;
-use arn_base::{Blocks, Bytes, Cpu, Extra, Give, NoMemory, Origin, Origins, Record, Start};
+use arn_base::{Blocks, Boxed, Bytes, Cpu, Extra, Give, NoMemory, Origin, Origins, Record, Start};
 use history_index::{Index, are_countable};
 use parts_model::calls::{FORK, READ};
 use session_reports::{report_events, report_groups, report_procs};
@@ -25,7 +25,7 @@ fn boot(alloc: Global) -> Result<Record, NoMemory> {
     })
 }
 
-fn fork(alloc: Global) -> Record {
+fn fork(alloc: Global) -> Result<Record, NoMemory> {
     let start = Start {
         cpu: Cpu {
             x: [0; 31],
@@ -34,12 +34,12 @@ fn fork(alloc: Global) -> Record {
         slot: None,
         blocks: Blocks::new(alloc),
     };
-    Record::Call {
+    Ok(Record::Call {
         pid: 1,
         number: FORK,
         result: 2,
-        extra: Extra::Start(start),
-    }
+        extra: Extra::Start(Boxed::new(alloc, start)?),
+    })
 }
 
 // A read from a device that fails.
@@ -73,11 +73,12 @@ fn end() -> Record {
 fn history(alloc: Global) -> Result<Vec<Record>, NoMemory> {
     let file = file(alloc)?;
     let boot = boot(alloc)?;
+    let fork = fork(alloc)?;
     let entries = [
         file,
         boot,
         Record::Slice { pid: 1, ran: 3 },
-        fork(alloc),
+        fork,
         Record::Slice { pid: 2, ran: 4 },
         fault(),
         Record::Slice { pid: 1, ran: 2 },

@@ -13,7 +13,7 @@ ghost use Rattle.guest_calls.specs.State.{OfProcess};
 
 use crate::kernel::Kernel;
 use crate::outcomes::Done;
-use arn_base::{Extra, NoMemory};
+use arn_base::{Boxed, Extra, NoMemory};
 use guest_bodies::{Bodies, others_stay_unheld};
 use guest_requests::error;
 use parts_model::refusals::NO_PROCESS_ROOM;
@@ -72,7 +72,7 @@ impl Kernel {
             return Ok(Extra::Nothing);
         }
         let start = self.bodies.start_of(pid)?;
-        Ok(Extra::Start(start))
+        Ok(Extra::Start(Boxed::new(self.alloc, start)?))
     }
 
     // A process has a child, and so many more descriptors stand for what it has open.

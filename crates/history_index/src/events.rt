@@ -7,10 +7,10 @@ use arn_base::Record;
 /// An event: the number of its record, its moment, its process, and how many bytes it has.
 #[derive(Clone, Copy, Debug, PartialEq, Eq)]
 pub struct EventAt {
-    pub place: u64,
     pub moment: u64,
-    pub pid: Option<u32>,
+    pub place: u32,
     pub len: u32,
+    pub pid: Option<u32>,
 }
 
 /// The moment of the next event, where the slice at hand begins and ends at these.

@@ -39,6 +39,7 @@ impl Model for Index {
     ghost Value = { Tables };
 
     ghost use Rattle.history_index.specs.AtHand.{behind_of};
+    ghost use Rattle.std.specs.Prelude.{length};
     ghost use Rattle.history_index.specs.Bounds.{AreBounded};
 
     ghost view = { λ s. record {
@@ -51,7 +52,7 @@ impl Model for Index {
       events = s.events.items;
     } };
 
-    ghost invariant = { λ s. AreBounded s.records s.total s.families.lives };
+    ghost invariant = { λ s. AreBounded s.records s.total s.families.lives (length s.events.items) };
 }
 
 impl Index {
@@ -85,14 +86,15 @@ impl Index {
 
     /// The event that a record tells next.
     fn event_of(&self, entry: &Record) -> EventAt
-        requires { event_len entry.now < 2 ^ 32 }
+        requires few { self.now.records < 2 ^ 32 }
+        requires short { event_len entry.now < 2 ^ 32 }
         ensures { result ≡ after.event_of self.now entry.now }
     {
         EventAt {
-            place: self.records,
             moment: events::moment_of(self.begins, self.total, entry),
-            pid: told::process_of(entry),
+            place: self.records as u32,
             len: told::event_len(entry) as u32,
+            pid: told::process_of(entry),
         }
     }
 
@@ -115,14 +117,15 @@ impl Index {
 
     /// The slice that comes next.
     fn slice_next(&self, pid: u32, ran: u32) -> SliceAt
+        requires { self.now.records < 2 ^ 32 }
         ensures { result ≡ after.slice_next self.now pid ran }
     {
         SliceAt {
-            place: self.records,
+            place: self.records as u32,
+            event: self.events.len() as u32,
             moment: self.total,
             pid,
             ran,
-            event: self.events.len() as u64,
         }
     }
 
@@ -288,7 +291,7 @@ impl Index {
         ensures { (entries : List Record) → Indexes self.now entries
             → result ≡ lookups.event_place entries event }
     {
-        self.event_at(event).map(|told| told.place)
+        self.event_at(event).map(|told| u64::from(told.place))
     }
 
     /// The moment of an event: of a delivery, that at which its slice begins; of every other event, that behind the

@@ -4,9 +4,9 @@
 /// it ran.
 #[derive(Clone, Copy, Debug, PartialEq, Eq)]
 pub struct SliceAt {
-    pub place: u64,
+    pub place: u32,
+    pub event: u32,
     pub moment: u64,
     pub pid: u32,
     pub ran: u32,
-    pub event: u64,
 }

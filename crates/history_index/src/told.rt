@@ -101,7 +101,7 @@ pub fn start_in(entry: &Record) -> Option<&Start>
         Record::Call {
             extra: Extra::Start(start),
             ..
-        } => Some(start),
+        } => Some(start.get()),
         _ => None,
     }
 }

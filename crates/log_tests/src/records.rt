@@ -2,7 +2,9 @@ ghost use Rattle.std.specs.Prelude.{◌<◌, IfOk};
 ghost use Rattle.result_log.specs.Spelling.{ExtraHasSpelling, GiveHasSpelling, HasSpelling};
 ghost use Rattle.result_log.specs.States.{StartHasSpelling};
 
-use arn_base::{Block, Blocks, Bytes, Cpu, Extra, Give, NoMemory, Origin, Origins, Record, Start};
+use arn_base::{
+    Block, Blocks, Boxed, Bytes, Cpu, Extra, Give, NoMemory, Origin, Origins, Record, Start,
+};
 use result_log::{GetError, get_record, put_record, spelled_len};
 use std::alloc::Global;
 use std::process::Abort;
@@ -181,7 +183,7 @@ fn starts(rt: HostRuntime) -> Result<(), Fail> {
     for _ in 0..256 {
         tagged.push(7)?;
     }
-    let extra = Extra::Start(start(rt.alloc())?);
+    let extra = Extra::Start(Boxed::new(rt.alloc(), start(rt.alloc())?)?);
     assert_call_spelled(&rt, rt.alloc(), extra, tagged.as_slice())?;
     Ok(())
 }

@@ -27,7 +27,7 @@ fn has_whole_blocks(entry: &Record)
         ..
     } = entry
     {
-        are_whole(start.blocks.as_slice());
+        are_whole(start.get().blocks.as_slice());
     }
 }
 

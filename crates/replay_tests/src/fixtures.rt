@@ -3,7 +3,9 @@ ghost use Rattle.std.specs.Prelude.{◌≡◌, ◌<◌};
 ghost use Rattle.history_index.specs.Indexes.{AreCountable, Indexes};
 
 use acts_model::Observer;
-use arn_base::{Blocks, Bytes, Cpu, Extra, Give, NoMemory, Origin, Origins, Record, Start, Steps};
+use arn_base::{
+    Blocks, Boxed, Bytes, Cpu, Extra, Give, NoMemory, Origin, Origins, Record, Start, Steps,
+};
 use history_index::{Index, IndexError, are_countable};
 use parts_model::calls::FORK;
 use replayer::{GroupState, ReplayError, replay};
@@ -95,20 +97,21 @@ pub fn signal(pid: u32, handler: u64) -> Record {
 }
 
 // How a process begins that starts a group, where it has no bytes.
-pub fn start(alloc: Global, pc: u64) -> Extra {
+pub fn start(alloc: Global, pc: u64) -> Result<Extra, NoMemory> {
     let blocks = Blocks::new(alloc);
     let cpu = Cpu { x: [0; 31], pc };
-    Extra::Start(Start {
+    let start = Start {
         cpu,
         slot: None,
         blocks,
-    })
+    };
+    Ok(Extra::Start(Boxed::new(alloc, start)?))
 }
 
 // Process 1 runs so many instructions, and then forks process 2, which starts a group.
 pub fn forked(alloc: Global, program: &[u8], ran: u32) -> Result<Vec<Record>, NoMemory> {
     let entries = with(started(alloc, program)?, slice(1, ran))?;
-    with(entries, call(1, FORK, 2, start(alloc, 0x1_0040)))
+    with(entries, call(1, FORK, 2, start(alloc, 0x1_0040)?))
 }
 
 // How often each call was made.

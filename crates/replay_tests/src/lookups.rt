@@ -19,7 +19,7 @@ fn one_group(alloc: Global) -> Result<Vec<Record>, NoMemory> {
     )?;
     let entries = with(entries, slice(1, 3))?;
     let entries = with(entries, signal(1, 0x10040))?;
-    with(entries, call(1, FORK, 2, start(alloc, 0x10004)))
+    with(entries, call(1, FORK, 2, start(alloc, 0x10004)?))
 }
 
 // Then process 2 writes, and forks process 3, which joins its group and exits.
@@ -56,10 +56,10 @@ fn slices_are_told(rt: HostRuntime) -> Result<(), Fail> {
     let index = index_of(&rt, history(rt.alloc())?)?;
     let slice = SliceAt {
         place: 12,
+        event: 8,
         moment: 13,
         pid: 3,
         ran: 2,
-        event: 8,
     };
     let slices = index.slices(2);
     assert_same(&rt, slices.len(), 3);

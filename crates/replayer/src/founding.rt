@@ -36,7 +36,9 @@ fn start_of(group: u32, entry: &Record) -> Option<&Start>
             result,
             extra: Extra::Start(start),
             ..
-        } if *number == FORK && is_success(*result) && *result == u64::from(group) => Some(start),
+        } if *number == FORK && is_success(*result) && *result == u64::from(group) => {
+            Some(start.get())
+        }
         _ => None,
     }
 }

@@ -58,8 +58,8 @@ impl Part {
         let turn = Turn {
             pid: at.pid,
             ran: at.ran,
-            event: at.event,
-            end_event: at.event,
+            event: u64::from(at.event),
+            end_event: u64::from(at.event),
         };
         Part {
             turn,

@@ -5,7 +5,7 @@ ghost use Rattle.result_log.specs.Pieces.{StartsExtra, StartsNoExtra, StartsSome
 use crate::kinds::{ABSENT, CONSOLE, FAULT, GIVE, NAME, NOTHING, PUT, REPLY, SENT, START};
 use crate::split::{PutParts, split_device, split_path, split_put};
 use crate::starts::{Parts, read_blocks, split_start};
-use arn_base::{Bytes, Extra, NoMemory, Start};
+use arn_base::{Boxed, Bytes, Extra, NoMemory, Start};
 use exchange_log::front_give;
 use schedule_log::fields_spelled_one_way;
 use schedule_log::split::{split_counted, split_u8};
@@ -40,7 +40,8 @@ fn get_start(alloc: Global, bytes: &[u8]) -> Result<Option<(Extra, &[u8])>, NoMe
         rest,
     } = parts;
     let blocks = read_blocks(alloc, blocks)?;
-    Ok(Some((Extra::Start(Start { cpu, slot, blocks }), rest)))
+    let start = Boxed::new(alloc, Start { cpu, slot, blocks })?;
+    Ok(Some((Extra::Start(start), rest)))
 }
 
 // The bytes written to a file behind their tag, or None where there are none.

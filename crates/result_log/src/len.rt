@@ -130,7 +130,7 @@ fn extra_len(did: &Extra) -> u64
     match did {
         Extra::Nothing => KIND_LEN,
         Extra::Give(give) => KIND_LEN + give_len(give),
-        Extra::Start(start) => KIND_LEN + start_len(start),
+        Extra::Start(start) => KIND_LEN + start_len(start.get()),
         Extra::Put { bytes, .. } => KIND_LEN
             + NUMBER_LEN
             + NUMBER_LEN

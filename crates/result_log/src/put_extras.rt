@@ -59,7 +59,7 @@ pub(crate) fn put_extra(out: &mut Vec<u8>, did: &Extra) -> Result<(), NoMemory>
         }
         Extra::Start(start) => {
             put_u8(out, START)?;
-            put_start(out, start)
+            put_start(out, start.get())
         }
         Extra::Put { file, at, bytes } => put_put(out, *file, *at, bytes.as_slice()),
         Extra::Console { bytes } => {
