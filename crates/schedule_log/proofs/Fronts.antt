@@ -4,6 +4,7 @@ use Rattle.std.specs.Int.{from_le_bytes}
 use Rattle.std.proofs.lemmas.List.{take-append-drop}
 use Rattle.std.proofs.lemmas.Nat.{le_bytes_2, le_bytes_4, le_bytes_8}
 use Rattle.std.proofs.lemmas.List.Elements.{All-head, All-tail}
+use Rattle.byteorder.specs.Endian.{little_from}
 use Rattle.schedule_log.specs.Fields.{field}
 use Rattle.schedule_log.specs.Laws.{AreBytes, FieldSpelled}
 
@@ -56,22 +57,22 @@ joined width n bytes front rest spelled is_front is_rest =
     sym (rw (spelled, is_front, is_rest) (take-append-drop width bytes))
 
 pub field2-front : (bytes front rest : List ℕ) (n : ℕ) → SmallItems bytes → 2 ≤ length bytes
-    → front ≡ take 2 bytes → rest ≡ drop 2 bytes → n ≡ from_le_bytes w16 front → bytes ≡ field 2 n ++ rest
+    → front ≡ take 2 bytes → rest ≡ drop 2 bytes → n ≡ little_from 0 2 front → bytes ≡ field 2 n ++ rest
 field2-front bytes front rest n small long is_front is_rest is_number =
-    let e : n ≡ from_le_bytes w16 (take 2 bytes) = is_number ∙ ap (from_le_bytes w16) is_front in
+    let e : n ≡ from_le_bytes w16 (take 2 bytes) = (let k : n ≡ little_from 0 2 (take 2 bytes) = is_number ∙ ap (little_from 0 2) is_front in omega (arith, k)) in
     let len : length (take 2 bytes) ≡ 2 = omega (arith, length-take 2 bytes) in
     joined 2 n bytes front rest (le_bytes_2 (take 2 bytes) n len (small-take 2 bytes small) e ∙ sym is_front) is_front is_rest
 
 pub field4-front : (bytes front rest : List ℕ) (n : ℕ) → SmallItems bytes → 4 ≤ length bytes
-    → front ≡ take 4 bytes → rest ≡ drop 4 bytes → n ≡ from_le_bytes w32 front → bytes ≡ field 4 n ++ rest
+    → front ≡ take 4 bytes → rest ≡ drop 4 bytes → n ≡ little_from 0 4 front → bytes ≡ field 4 n ++ rest
 field4-front bytes front rest n small long is_front is_rest is_number =
-    let e : n ≡ from_le_bytes w32 (take 4 bytes) = is_number ∙ ap (from_le_bytes w32) is_front in
+    let e : n ≡ from_le_bytes w32 (take 4 bytes) = (let k : n ≡ little_from 0 4 (take 4 bytes) = is_number ∙ ap (little_from 0 4) is_front in omega (arith, k)) in
     let len : length (take 4 bytes) ≡ 4 = omega (arith, length-take 4 bytes) in
     joined 4 n bytes front rest (le_bytes_4 (take 4 bytes) n len (small-take 4 bytes small) e ∙ sym is_front) is_front is_rest
 
 pub field8-front : (bytes front rest : List ℕ) (n : ℕ) → SmallItems bytes → 8 ≤ length bytes
-    → front ≡ take 8 bytes → rest ≡ drop 8 bytes → n ≡ from_le_bytes w64 front → bytes ≡ field 8 n ++ rest
+    → front ≡ take 8 bytes → rest ≡ drop 8 bytes → n ≡ little_from 0 8 front → bytes ≡ field 8 n ++ rest
 field8-front bytes front rest n small long is_front is_rest is_number =
-    let e : n ≡ from_le_bytes w64 (take 8 bytes) = is_number ∙ ap (from_le_bytes w64) is_front in
+    let e : n ≡ from_le_bytes w64 (take 8 bytes) = (let k : n ≡ little_from 0 8 (take 8 bytes) = is_number ∙ ap (little_from 0 8) is_front in omega (arith, k)) in
     let len : length (take 8 bytes) ≡ 8 = omega (arith, length-take 8 bytes) in
     joined 8 n bytes front rest (le_bytes_8 (take 8 bytes) n len (small-take 8 bytes small) e ∙ sym is_front) is_front is_rest

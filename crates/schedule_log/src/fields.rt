@@ -3,33 +3,41 @@ ghost use Rattle.std.specs.Prelude.{◌≡◌, ◌++◌, OnOk, OnErr};
 ghost use Rattle.schedule_log.specs.Fields.{counted, field, flag_field, named, IsCounted, IsName, LeavesFront};
 
 use arn_base::NoMemory;
+use byteorder::{ByteOrder, LittleEndian};
 
 pub fn put_u8(out: &mut Vec<u8>, number: u8) -> Result<(), NoMemory>
     ensures ok { OnOk result (out.new.items ≡ out.old.items ++ field 1 number) }
     ensures err { OnErr result (out.new.items ≡ out.old.items) }
 {
-    Ok(out.extend_from_slice(&number.to_le_bytes())?)
+    out.push(number)?;
+    Ok(())
 }
 
 pub fn put_u16(out: &mut Vec<u8>, number: u16) -> Result<(), NoMemory>
     ensures ok { OnOk result (out.new.items ≡ out.old.items ++ field 2 number) }
     ensures err { OnErr result (out.new.items ≡ out.old.items) }
 {
-    Ok(out.extend_from_slice(&number.to_le_bytes())?)
+    let mut spelled = [0; 2];
+    LittleEndian::write_u16(&mut spelled, number);
+    Ok(out.extend_from_slice(&spelled)?)
 }
 
 pub fn put_u32(out: &mut Vec<u8>, number: u32) -> Result<(), NoMemory>
     ensures ok { OnOk result (out.new.items ≡ out.old.items ++ field 4 number) }
     ensures err { OnErr result (out.new.items ≡ out.old.items) }
 {
-    Ok(out.extend_from_slice(&number.to_le_bytes())?)
+    let mut spelled = [0; 4];
+    LittleEndian::write_u32(&mut spelled, number);
+    Ok(out.extend_from_slice(&spelled)?)
 }
 
 pub fn put_u64(out: &mut Vec<u8>, number: u64) -> Result<(), NoMemory>
     ensures ok { OnOk result (out.new.items ≡ out.old.items ++ field 8 number) }
     ensures err { OnErr result (out.new.items ≡ out.old.items) }
 {
-    Ok(out.extend_from_slice(&number.to_le_bytes())?)
+    let mut spelled = [0; 8];
+    LittleEndian::write_u64(&mut spelled, number);
+    Ok(out.extend_from_slice(&spelled)?)
 }
 
 /// Appends 1 for true, and 0 for false.

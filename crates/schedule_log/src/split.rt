@@ -3,38 +3,39 @@
 ghost use Rattle.std.specs.Prelude.{◌≡◌, ◌<◌, ◌++◌, Bool, List, ℕ, length, IfSome, IfNone};
 ghost use Rattle.schedule_log.specs.Fields.{field, BeginsCounted, BeginsFlag, BeginsNamed, OnlyCounted, OnlyNamed};
 
+use byteorder::{ByteOrder, LittleEndian};
 use parts_model::limits::MOST_NAME_BYTES;
 
 pub fn split_u8(bytes: &[u8]) -> Option<(u8, &[u8])>
     ensures some { IfSome result (λ found. bytes.now ≡ field 1 found.0 ++ found.1.now) }
     ensures none { IfNone result (length bytes.now < 1) }
 {
-    let (number, rest) = bytes.split_first_chunk::<1>()?;
-    Some((u8::from_le_bytes(*number), rest))
+    let (number, rest) = bytes.split_first()?;
+    Some((*number, rest))
 }
 
 pub fn split_u16(bytes: &[u8]) -> Option<(u16, &[u8])>
     ensures some { IfSome result (λ found. bytes.now ≡ field 2 found.0 ++ found.1.now) }
     ensures none { IfNone result (length bytes.now < 2) }
 {
-    let (number, rest) = bytes.split_first_chunk::<2>()?;
-    Some((u16::from_le_bytes(*number), rest))
+    let (number, rest) = bytes.split_at_checked(2)?;
+    Some((LittleEndian::read_u16(number), rest))
 }
 
 pub fn split_u32(bytes: &[u8]) -> Option<(u32, &[u8])>
     ensures some { IfSome result (λ found. bytes.now ≡ field 4 found.0 ++ found.1.now) }
     ensures none { IfNone result (length bytes.now < 4) }
 {
-    let (number, rest) = bytes.split_first_chunk::<4>()?;
-    Some((u32::from_le_bytes(*number), rest))
+    let (number, rest) = bytes.split_at_checked(4)?;
+    Some((LittleEndian::read_u32(number), rest))
 }
 
 pub fn split_u64(bytes: &[u8]) -> Option<(u64, &[u8])>
     ensures some { IfSome result (λ found. bytes.now ≡ field 8 found.0 ++ found.1.now) }
     ensures none { IfNone result (length bytes.now < 8) }
 {
-    let (number, rest) = bytes.split_first_chunk::<8>()?;
-    Some((u64::from_le_bytes(*number), rest))
+    let (number, rest) = bytes.split_at_checked(8)?;
+    Some((LittleEndian::read_u64(number), rest))
 }
 
 /// A byte other than 0 and 1 is no flag.
