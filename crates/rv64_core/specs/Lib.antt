@@ -1,2 +1,3 @@
+pub mod Fetched
 pub mod Outcome
 pub mod Prospect

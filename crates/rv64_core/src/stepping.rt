@@ -2,6 +2,7 @@ ghost use Rattle.std.specs.Prelude.{◌≡◌, ◌+◌, ◌↔◌, IsTrue, IfOk,
 ghost use Rattle.std.specs.Result.{result_ok};
 ghost use Rattle.arn_base.specs.Window.{number_at};
 ghost use Rattle.rv64_model.specs.Instruction.{instruction, executed, Call, End};
+ghost use Rattle.rv64_core.specs.Fetched.{instr_at};
 ghost use Rattle.rv64_core.specs.Outcome.{Tells, OnStop};
 ghost use Rattle.rv64_core.specs.Prospect.{Foretells};
 
@@ -63,6 +64,7 @@ pub fn fetch_instr<M: Memory, L: Ledger>(
     steps: &mut Steps<L>,
 ) -> Result<Instr, u8>
     ensures tick { steps.new ≡ steps.old + 1 }
+    ensures instr { result_ok result ≡ instr_at cpu.now (M.windows mem.now) }
     ensures ok { IfOk result (λ instr. instruction cpu.now (M.windows mem.now)
         ≡ executed instr cpu.now (M.windows mem.now)) }
     ensures err { IfErr result (λ status. instruction cpu.now (M.windows mem.now) ≡ End status) }
@@ -84,6 +86,7 @@ pub fn is_at_call<M: Memory>(cpu: &Cpu, mem: &M) -> bool
 // The instruction at pc, or the status with which its process ends if there is none.
 #[inline(always)]
 fn instr_at_pc<M: Memory>(cpu: &Cpu, mem: &M) -> Result<Instr, u8>
+    ensures instr { result_ok result ≡ instr_at cpu.now (M.windows mem.now) }
     ensures ok { IfOk result (λ instr. instruction cpu.now (M.windows mem.now)
         ≡ executed instr cpu.now (M.windows mem.now)) }
     ensures err { IfErr result (λ status. instruction cpu.now (M.windows mem.now) ≡ End status) }
