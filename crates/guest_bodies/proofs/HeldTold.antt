@@ -1,5 +1,5 @@
 -- How a process is kept while its instructions run.
-use Rattle.std.proofs.Common.{◌≡◌, ◌≢◌, ℕ, zero, suc, ◌+◌, Bool, true, false, List, [], Option, None, Some, IsSome, unwrap_or, refl, sym, ap, subst, ◌∙◌, add-one, arith}
+use Rattle.std.proofs.Common.{◌≡◌, ◌≢◌, ℕ, zero, suc, ◌+◌, Bool, true, false, List, [], Option, None, Some, Result, Ok, Err, OnErr, IsSome, unwrap_or, refl, sym, ap, subst, ◌∙◌, add-one, arith}
 use Rattle.std.proofs.lemmas.Bool.Decides.{nat_tests}
 use Rattle.std.proofs.lemmas.List.{set-set}
 use Rattle.arn_base.specs.declared.machine.Cpu.{Cpu}
@@ -17,6 +17,11 @@ use Rattle.guest_bodies.specs.declared.guest.Guest.{Guest}
 use Rattle.guest_bodies.specs.declared.guest.Shared.{Shared}
 use Rattle.guest_bodies.proofs.Changes.{held-there}
 use Rattle.guest_bodies.proofs.Numbers.{set-nth}
+
+-- what holds whatever the answer is holds after an error
+pub after-error : {T E : Type 0} (r : Result T E) (P : Type 0) → P → OnErr r P
+after-error (Ok value) P holds = tt
+after-error (Err error) P holds = holds
 
 -- a prospect that is no next instruction
 pub is-stop : (p : Prospect) (cpu : Cpu) (e : Effect) → Foretells p cpu e → ((planned : Planned) → p ≢ prospect.Next planned) → IsStop e

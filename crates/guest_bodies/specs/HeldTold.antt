@@ -1,5 +1,5 @@
 -- One process as it is kept, with the segments of the table, while its instructions run.
-use Rattle.std.specs.Prelude.{◌≡◌, ℕ, zero, suc, Bool, true, false}
+use Rattle.std.specs.Prelude.{◌≡◌, ℕ, zero, suc, ◌+◌, ◌<◌, Bool, true, false}
 use Rattle.arn_base.specs.declared.machine.Cpu.{Cpu}
 use Rattle.acts_model.specs.Views.{reach, stands_at}
 use Rattle.rv64_isa.specs.declared.instruction.Instr.{Instr}
@@ -30,6 +30,14 @@ pub record HeldOne {A : Type 0} (runs : A → ℕ → Instr → Cpu → A → Ty
 abbrev pub HeldMany : {A : Type 0} → (A → ℕ → Instr → Cpu → A → Type 0) → ℕ → ℕ → Guest → Segments → Guest → Segments → A → A → Type 0
 HeldMany runs p zero g segs g' segs' x y = HeldSame g segs g' segs' × (y ≡ x)
 HeldMany {A} runs p (suc n) g segs g' segs' x y = (m : Guest) × (ms : Segments) × (z : A) × HeldMany runs p n g segs m ms x z × HeldOne runs p m ms g' segs' z y
+
+-- so many, and the observer failed at the next one, which was counted
+pub record HeldFails {A : Type 0} (runs : A → ℕ → Instr → Cpu → A → Type 0) (p count : ℕ) (g : Guest) (segs : Segments) (g' : Guest) (segs' : Segments) (x : A) (before after : ℕ) : Type 0 where
+  pub ran : ℕ
+  pub observer : A
+  pub held : HeldMany runs p ran g segs g' segs' x observer
+  pub less : ran < count
+  pub counted : after ≡ before + ran + 1
 
 -- it stands where no next instruction follows, and nobody was told
 pub record HeldStop {A : Type 0} (g : Guest) (segs : Segments) (g' : Guest) (segs' : Segments) (x y : A) : Type 0 where

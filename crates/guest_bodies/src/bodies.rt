@@ -12,7 +12,7 @@ ghost use Rattle.rv64_core.specs.Prospect.{Foretells};
 ghost use Rattle.guest_bodies.specs.Follows.{Follows, KeepsWatches, Ran, Rewatches, SetsWatch, IsResult, IsEnd};
 ghost use Rattle.guest_bodies.specs.Running.{RanMany, StopsAt, stop_count};
 ghost use Rattle.guest_bodies.specs.Shown.{IsFresh, IsInside, IsLive, fresh_watch, inherited, restarted, seen_in, signals_in, watch_in};
-ghost use Rattle.guest_bodies.specs.Told.{IsStop, ToldMany};
+ghost use Rattle.guest_bodies.specs.Told.{FailsAt, IsStop, ToldMany};
 
 use crate::guest::{Guest, Shared, begin, boot};
 use crate::running::Stood;
@@ -124,7 +124,7 @@ impl Bodies {
 
     /// Runs so many instructions of a process, or fewer where it comes to a call or to its end, and
     /// says how many. The observer is told of each, with the registers before it. The one at which the
-    /// process stops is counted too. Where the observer fails, nothing is said of how many ran.
+    /// process stops is counted too, and so is the one at which the observer fails: it isn't run.
     pub fn run_told<O: Observer, L: Ledger>(
         &mut self,
         pid: u32,
@@ -140,6 +140,8 @@ impl Bodies {
             IfSome (seen_in self.new pid) (λ v. IsStop (stands_at v))) }
         ensures counted { IfOk result (λ ran. ran ≡ count → steps.new ≡ steps.old + ran) }
         ensures stopped { IfOk result (λ ran. ran < count → steps.new ≡ steps.old + ran + 1) }
+        ensures failed { OnErr result (FailsAt O.runs pid count self.old self.new
+            observer.old steps.old steps.new) }
         ensures bounded { steps.new ≤ steps.old + count }
         ensures watches { KeepsWatches self.old self.new }
     {

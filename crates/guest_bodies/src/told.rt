@@ -1,7 +1,7 @@
 // Instructions of one process, of which an observer is told.
-ghost use Rattle.std.specs.Prelude.{◌≡◌, ◌≤◌, ◌<◌, ◌+◌, IfOk};
+ghost use Rattle.std.specs.Prelude.{◌≡◌, ◌≤◌, ◌<◌, ◌+◌, IfOk, OnErr};
 ghost use Rattle.acts_model.specs.Views.{stands_at};
-ghost use Rattle.guest_bodies.specs.HeldTold.{HeldMany, HeldRuns, HeldStep};
+ghost use Rattle.guest_bodies.specs.HeldTold.{HeldFails, HeldMany, HeldRuns, HeldSame, HeldStep};
 ghost use Rattle.guest_bodies.specs.Kept.{IfHeld, view_of};
 ghost use Rattle.guest_bodies.specs.Told.{IsStop};
 ghost use Rattle.rv64_core.specs.Prospect.{Foretells};
@@ -59,6 +59,8 @@ fn step_told<O: Observer, L: Ledger>(
     ensures tick { steps.new ≡ steps.old + 1 }
     ensures told { IfOk result (HeldStep O.runs pid guest.old segments.old.items
         guest.new segments.new.items observer.old observer.new) }
+    ensures failed { OnErr result
+        (HeldSame guest.old segments.old.items guest.new segments.new.items) }
 {
     let Prospect::Next(planned) = next_instr(guest, segments, observer, steps) else {
         return Ok(false);
@@ -87,6 +89,8 @@ pub fn run_told<O: Observer, L: Ledger>(
         IsStop (stands_at (view_of segments.new.items guest.new))) }
     ensures counted { IfOk result (λ ran. ran ≡ count → steps.new ≡ steps.old + ran) }
     ensures stopped { IfOk result (λ ran. ran < count → steps.new ≡ steps.old + ran + 1) }
+    ensures failed { OnErr result (HeldFails O.runs pid count guest.old segments.old.items
+        guest.new segments.new.items observer.old steps.old steps.new) }
     ensures bounded { steps.new ≤ steps.old + count }
 {
     for ran in 0..count {
