@@ -5,7 +5,7 @@ use Rattle.rv64_model.specs.Registers.{with_register}
 use Rattle.parts_model.specs.Blocks.{used_blocks, with_blocks}
 use Rattle.parts_model.specs.Memory.{zeros}
 use Rattle.acts_model.specs.Acts.{Returns, Receives, Gives, Starts, Forks, Founds, Shares, Leaves, Delivers, Exits, Faults, Dies, acted, done, founded, beginning_of, beginning_in, start_of}
-use Rattle.acts_model.specs.Bodies.{Body, Bodies, View, seen, nth_body, with_nth, found, with_found, body_at, with_body, memory_at, with_memory, put, remove}
+use Rattle.acts_model.specs.Bodies.{Body, Bodies, View, nobody, seen, body_at, memory_at, put, remove}
 use Rattle.acts_model.specs.Views.{cpu_at}
 
 -- a process that stands at 0x10000 with 9 in x10, and sees these bytes, in memories that events 4 and 6 made
@@ -116,10 +116,8 @@ two = record { cpu = cpu_at 0x10080; slot = None; window = 5; segment = Some 6 }
 
 bodies : Bodies
 bodies =
-    record {
-      bodies = None ∷ Some one ∷ Some two ∷ [];
-      memories = record { made = 4; bytes = 1 ∷ 2 ∷ [] } ∷ record { made = 5; bytes = 3 ∷ 4 ∷ [] } ∷ record { made = 6; bytes = 5 ∷ 6 ∷ [] } ∷ [];
-    }
+    put 1 (record { body = one; window = 1 ∷ 2 ∷ []; segment = 5 ∷ 6 ∷ [] })
+    (put 2 (record { body = two; window = 3 ∷ 4 ∷ []; segment = 5 ∷ 6 ∷ [] }) nobody)
 
 -- what a process with these registers and a filled slot sees
 child_sees : ℕ → Cpu → Option ℕ → List ℕ → View
@@ -128,39 +126,39 @@ child_sees window cpu segment bytes =
 
 -- a fork as event 9: the child has the registers with 0 in x10, the slot, a copy of the window as the memory of event 9, and the segment
 forks-child : seen (done 1 9 (Forks 3) bodies) 3 ≡ Some (child_sees 9 (behind 0) (Some 6) (5 ∷ 6 ∷ []))
-unfolding bodies one two nine behind child_sees nth_body with_nth found with_found body_at with_body memory_at with_memory put remove
+unfolding bodies one two nine behind child_sees body_at memory_at put remove
 forks-child = refl
 
 forks-parent : seen (done 1 9 (Forks 3) bodies) 1 ≡ Some (child_sees 4 (behind 3) (Some 6) (5 ∷ 6 ∷ []))
-unfolding bodies one two nine behind child_sees nth_body with_nth found with_found body_at with_body memory_at with_memory put remove
+unfolding bodies one two nine behind child_sees body_at memory_at put remove
 forks-parent = refl
 
 forks-other : seen (done 1 9 (Forks 3) bodies) 2 ≡ seen bodies 2
-unfolding bodies one two nine behind nth_body with_nth found with_found body_at with_body memory_at with_memory put remove
+unfolding bodies one two nine behind body_at memory_at put remove
 forks-other = refl
 
 -- a child that starts a group isn't made in its parent's
 founds-none : seen (done 1 9 (Founds 3) bodies) 3 ≡ None
-unfolding bodies one two nine nth_body with_nth found with_found body_at with_body memory_at with_memory put remove
+unfolding bodies one two nine body_at memory_at put remove
 founds-none = refl
 
 -- it is beside it, and holds no segment
 founds-child : option_map (λ v. seen (founded (Founds 3) 9 (beginning_of v) bodies) 3) (seen bodies 1) ≡ Some (Some (child_sees 9 (behind 0) None []))
-unfolding bodies one two nine behind child_sees nth_body with_nth found with_found body_at with_body memory_at with_memory put remove
+unfolding bodies one two nine behind child_sees body_at memory_at put remove
 founds-child = refl
 
 -- bytes received in the segment are seen by both
 receives-shared : option_map (λ v. v.segment) (seen (done 1 9 (Receives 0x80000000 (7 ∷ []) 1) bodies) 2) ≡ Some (7 ∷ 6 ∷ [])
-unfolding bodies one two nine nth_body with_nth found with_found body_at with_body memory_at with_memory put remove
+unfolding bodies one two nine body_at memory_at put remove
 receives-shared = refl
 
 -- a process that ends is gone, and the other stays
 exits-self : seen (done 1 9 Exits bodies) 1 ≡ None
-unfolding bodies one two nine nth_body with_nth found with_found body_at with_body memory_at with_memory put remove
+unfolding bodies one two nine body_at memory_at put remove
 exits-self = refl
 
 exits-other : seen (done 1 9 Exits bodies) 2 ≡ seen bodies 2
-unfolding bodies one two nine nth_body with_nth found with_found body_at with_body memory_at with_memory put remove
+unfolding bodies one two nine body_at memory_at put remove
 exits-other = refl
 
 -- a beginning is read from its record: of 512 bytes the second block isn't all zero

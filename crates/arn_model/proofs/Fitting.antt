@@ -13,12 +13,12 @@ use Rattle.parts_model.specs.declared.limits.TheConstants.{WINDOW_START, WINDOW_
 use Rattle.parts_model.specs.Image.{Image, read_as_image}
 use Rattle.parts_model.specs.Memory.{zeros}
 use Rattle.acts_model.specs.Acts.{Act, Returns, Receives, Gives, Starts, Forks, Founds, Shares, Leaves, Delivers, Exits, Faults, Dies, acted, restored, started, with_fresh_segment, beginning_of, child_view, done, done_by, joined, founded}
-use Rattle.acts_model.specs.Bodies.{Bodies, View, body_at, memory_at, segment_bytes, seen, put, remove, become}
+use Rattle.acts_model.specs.Bodies.{Bodies, View, body_at, memory_at, segment_bytes, seen, put, remove, become, laid_segment}
 use Rattle.acts_model.specs.Records.{lives_after}
 use Rattle.acts_model.specs.Views.{reach, read, with_reach, written, stands_at, with_result, among_zeros, block_at, after_instr}
 use Rattle.arn_model.proofs.Calling.{life_by}
 use Rattle.arn_model.proofs.Effects.{eq-swap}
-use Rattle.arn_model.proofs.Places.{put-body, put-memory, remove-body, remove-memory, laid_segment}
+use Rattle.arn_model.proofs.Places.{put-body, put-memory, remove-body, remove-memory}
 
 abbrev pub IsSmall : List ℕ → Type 0
 IsSmall bytes = length bytes ≤ WINDOW_LEN

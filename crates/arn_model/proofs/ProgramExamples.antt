@@ -1,10 +1,10 @@
 -- A program that reads three bytes, writes them and exits, run to its end.
-use Rattle.std.proofs.Common.{◌≡◌, ℕ, List, [], ◌∷◌, ◌++◌, replicate, Some, None, refl}
+use Rattle.std.proofs.Common.{◌≡◌, ℕ, List, [], ◌∷◌, ◌++◌, replicate, None, refl}
 use Rattle.arn_base.specs.declared.records.Extra.TheVariants as extra
 use Rattle.arn_base.specs.declared.records.Record.TheVariants as entry
 use Rattle.rv64_isa.specs.Decoded as decoding
 use Rattle.rv64_model.specs.Registers.{with_register}
-use Rattle.acts_model.specs.Bodies.{nth_body, with_nth, found, with_found, body_at, with_body, memory_at, with_memory, put, remove}
+use Rattle.acts_model.specs.Bodies.{nobody, body_at, memory_at, put, remove}
 use Rattle.acts_model.specs.Views.{cpu_at}
 use Rattle.arn_model.specs.declared.run_state.RunState.TheVariants as state
 use Rattle.arn_model.specs.Kernel.{Machine}
@@ -25,10 +25,13 @@ machine : Machine
 machine =
     record {
       bodies =
-          record {
-            bodies = None ∷ Some (record { cpu = with_register (cpu_at 0x10000) 2 0x1003c; slot = None; window = 1; segment = None }) ∷ [];
-            memories = record { made = 1; bytes = program ++ replicate 16 0 } ∷ [];
-          };
+          put 1
+          (record {
+            body = record { cpu = with_register (cpu_at 0x10000) 2 0x1003c; slot = None; window = 1; segment = None };
+            window = program ++ replicate 16 0;
+            segment = [];
+          })
+          nobody;
       kernel = kernel;
       events = 2;
     }
@@ -49,13 +52,13 @@ run-recorded :
     ∷ record { number = 4; entry = entry.Call 1 12 3 (extra.Console (97 ∷ 98 ∷ 99 ∷ [])) }
     ∷ record { number = 5; entry = entry.Call 1 1 0 extra.Nothing }
     ∷ []
-unfolding machine inputs program decoding.decoded_by row answered nth_body with_nth found with_found body_at with_body memory_at with_memory put remove
+unfolding machine inputs program decoding.decoded_by row answered body_at memory_at put remove
 run-recorded = refl
 
 run-instructions : instructions_in (steps_from machine inputs) ≡ 11
-unfolding machine inputs program decoding.decoded_by row answered nth_body with_nth found with_found body_at with_body memory_at with_memory put remove
+unfolding machine inputs program decoding.decoded_by row answered body_at memory_at put remove
 run-instructions = refl
 
 run-done : run_state (machine_from machine inputs) ≡ state.Done
-unfolding machine inputs program decoding.decoded_by row answered nth_body with_nth found with_found body_at with_body memory_at with_memory put remove
+unfolding machine inputs program decoding.decoded_by row answered body_at memory_at put remove
 run-done = refl

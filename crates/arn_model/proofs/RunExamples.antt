@@ -6,7 +6,7 @@ use Rattle.rv64_isa.specs.declared.instruction.Instr.TheVariants.{Imm}
 use Rattle.rv64_isa.specs.declared.instruction.ImmOp.TheVariants.{Addi}
 use Rattle.rv64_isa.specs.Decoded as decoding
 use Rattle.parts_model.specs.Signals.{with_handler, with_pending, no_handlers, none_pending}
-use Rattle.acts_model.specs.Bodies.{nobody, nth_body, with_nth, found, with_found, body_at, with_body, memory_at, with_memory, put, remove}
+use Rattle.acts_model.specs.Bodies.{nobody, body_at, memory_at, put, remove}
 use Rattle.acts_model.specs.Moved.{Outside, ConsoleByte, FileByte}
 use Rattle.acts_model.specs.Transfers.{Transfer, Arrives, Runs, Exits, Delivers}
 use Rattle.acts_model.specs.Views.{cpu_at}
@@ -95,7 +95,7 @@ unfolding machine_with_a
 unplug-early = refl
 
 slice-early : input_steps machine_with_a (Slice 1 1 None) ≡ []
-unfolding machine_with_a body_at nth_body
+unfolding machine_with_a body_at
 slice-early = refl
 
 -- the kernel at boot: process 1 has descriptors 0, 1 and 2 on the console
@@ -152,11 +152,7 @@ exit_7 = 0x93 ∷ 0x08 ∷ 0x10 ∷ 0x00 ∷ 0x13 ∷ 0x05 ∷ 0x70 ∷ 0x00 ∷
 standing : Handling → Machine
 standing handling =
     record {
-      bodies =
-          record {
-            bodies = None ∷ Some (record { cpu = cpu_at 0x10000; slot = None; window = 1; segment = None }) ∷ [];
-            memories = record { made = 1; bytes = exit_7 } ∷ [];
-          };
+      bodies = put 1 (record { body = record { cpu = cpu_at 0x10000; slot = None; window = 1; segment = None }; window = exit_7; segment = [] }) nobody;
       kernel = record kernel { handling = Some handling ∷ [] };
       events = 5;
     }
@@ -175,40 +171,40 @@ steps : List Step
 steps = steps_from (standing calm) (Slice 1 1 None ∷ Typed (5 ∷ []) ∷ Slice 1 9 None ∷ [])
 
 steps-in-order : transfers steps ≡ Runs 1 (Imm Addi 17 0 (pos 1)) None ∷ Arrives 1 ∷ Runs 1 (Imm Addi 10 0 (pos 7)) None ∷ Exits 1 ∷ []
-unfolding transfers steps standing exit_7 calm decoding.decoded_by row answered nth_body with_nth found with_found body_at with_body memory_at with_memory put remove
+unfolding transfers steps standing exit_7 calm decoding.decoded_by row answered body_at memory_at put remove
 steps-in-order = refl
 
 -- three of them are instructions, two are events
 instructions : instructions_in steps ≡ 3
-unfolding steps standing exit_7 calm decoding.decoded_by row answered nth_body with_nth found with_found body_at with_body memory_at with_memory put remove
+unfolding steps standing exit_7 calm decoding.decoded_by row answered body_at memory_at put remove
 instructions = refl
 
 events-in-order :
     events_of steps ≡
     record { number = 5; entry = entry.Typed (5 ∷ []) } ∷ record { number = 6; entry = entry.Call 1 1 0 extra.Nothing } ∷ []
-unfolding steps standing exit_7 calm decoding.decoded_by row answered nth_body with_nth found with_found body_at with_body memory_at with_memory put remove
+unfolding steps standing exit_7 calm decoding.decoded_by row answered body_at memory_at put remove
 events-in-order = refl
 
 -- a moment includes what comes before the next instruction
 moment-0 : transfers (within 0 steps) ≡ []
-unfolding transfers steps standing exit_7 calm decoding.decoded_by row answered nth_body with_nth found with_found body_at with_body memory_at with_memory put remove
+unfolding transfers steps standing exit_7 calm decoding.decoded_by row answered body_at memory_at put remove
 moment-0 = refl
 
 moment-1 : transfers (within 1 steps) ≡ Runs 1 (Imm Addi 17 0 (pos 1)) None ∷ Arrives 1 ∷ []
-unfolding transfers steps standing exit_7 calm decoding.decoded_by row answered nth_body with_nth found with_found body_at with_body memory_at with_memory put remove
+unfolding transfers steps standing exit_7 calm decoding.decoded_by row answered body_at memory_at put remove
 moment-1 = refl
 
 moment-2 : transfers (within 2 steps) ≡ Runs 1 (Imm Addi 17 0 (pos 1)) None ∷ Arrives 1 ∷ Runs 1 (Imm Addi 10 0 (pos 7)) None ∷ []
-unfolding transfers steps standing exit_7 calm decoding.decoded_by row answered nth_body with_nth found with_found body_at with_body memory_at with_memory put remove
+unfolding transfers steps standing exit_7 calm decoding.decoded_by row answered body_at memory_at put remove
 moment-2 = refl
 
 moment-3 : length (within 3 steps) ≡ 4
-unfolding steps standing exit_7 calm decoding.decoded_by row answered nth_body with_nth found with_found body_at with_body memory_at with_memory put remove
+unfolding steps standing exit_7 calm decoding.decoded_by row answered body_at memory_at put remove
 moment-3 = refl
 
 -- also a delivery
 moment-delivery : transfers (within 0 (steps_from (standing signalled) (Slice 1 1 None ∷ []))) ≡ Delivers 1 false ∷ []
-unfolding transfers standing exit_7 signalled decoding.decoded_by row answered nth_body with_nth found with_found body_at with_body memory_at with_memory put remove
+unfolding transfers standing exit_7 signalled decoding.decoded_by row answered body_at memory_at put remove
 moment-delivery = refl
 
 -- before any instruction all that has come from outside is there

@@ -12,7 +12,7 @@ use Rattle.parts_model.specs.Image.{is_image}
 use Rattle.parts_model.specs.Processes as table
 use Rattle.parts_model.specs.Tagged.{held_bytes, values}
 use Rattle.acts_model.specs.Acts.{Starts, unborn, done, done_by}
-use Rattle.acts_model.specs.Bodies.{Bodies, View, memory_at, found, seen, put}
+use Rattle.acts_model.specs.Bodies.{Bodies, View, memory_at, seen, put}
 use Rattle.arn_model.specs.Kernel as kernel
 use Rattle.arn_model.specs.Kernel.{Kernel, Machine, at_first, also_held, placed, opens, no_handling}
 use Rattle.arn_model.specs.Laws as laws
@@ -188,7 +188,7 @@ none-lives zero = refl
 none-lives (suc i) = refl
 
 pub at_first-sound : MachineSound at_first
-unfolding memory_at found
+unfolding memory_at
 at_first-sound = grind (arith, nat_tests, nobody-at, none-lives)
 
 along-grows : (m : Machine) (steps : List Step) → Along StepGood m steps → length m.kernel.processes ≤ length (after_steps m steps).kernel.processes

@@ -5,14 +5,13 @@ use Rattle.std.proofs.lemmas.Bool.{eq-eqb, eqb-true, eqb-false}
 use Rattle.std.proofs.lemmas.List.{map-set}
 use Rattle.parts_model.specs.Numbered.{nth}
 use Rattle.acts_model.specs.Acts.{Act, acted, joined, done}
-use Rattle.acts_model.specs.Bodies.{Bodies, View, seen, put}
+use Rattle.acts_model.specs.Bodies.{Bodies, View, seen, put, laid_segment}
 use Rattle.guest_bodies.specs.Follows.{Shows, Follows, KeepsWatches}
 use Rattle.guest_bodies.specs.Kept.{Segments, body_of, held_bytes, view_of, shown_of, watch_of, shown_all, with_held, IfHeld, IsWhole, SameNames, IsApart, IsSound}
 use Rattle.guest_bodies.specs.Shown.{Guests, Shown, Watch, seen_in, watch_in}
 use Rattle.guest_bodies.specs.declared.guest.Guest.{Guest}
 use Rattle.guest_bodies.specs.declared.guest.Shared.{Shared}
 use Rattle.guest_bodies.proofs.Numbers.{IsSome-within, nth-map, nth-set, nth-set_other, set-nth}
-use Rattle.guest_bodies.proofs.Places.{laid_segment}
 use Rattle.guest_bodies.proofs.Puts.{refreshed, fresh_segment, own_segment, seen-other, seen-same}
 
 -- one process is this from now on, and every other is as before

@@ -2,8 +2,8 @@
 use Rattle.std.proofs.Common.{◌≡◌, ℕ, List, [], refl, ap, ap₂, ◌∙◌, Option, Some, None, option_map, ◌==◌, cond, arith}
 use Rattle.std.proofs.lemmas.Bool.Decides.{nat_tests}
 use Rattle.std.proofs.lemmas.Bool.{eq-eqb}
-use Rattle.acts_model.specs.Bodies.{Body, Bodies, View, body_at, memory_at, view, seen, segment_bytes, put, remove}
-use Rattle.guest_bodies.proofs.Places.{laid, laid_segment, put-body, put-memory, remove-body, remove-memory}
+use Rattle.acts_model.specs.Bodies.{Body, Bodies, View, body_at, memory_at, view, seen, segment_bytes, put, remove, laid, laid_segment}
+use Rattle.guest_bodies.proofs.Places.{put-body, put-memory, remove-body, remove-memory}
 
 -- a view after another process has put v
 abbrev pub fresh_segment : View → Option ℕ → List ℕ → List ℕ

@@ -7,7 +7,7 @@ use Rattle.parts_model.specs.Image.{read_as_image}
 use Rattle.parts_model.specs.Numbered.{nth}
 use Rattle.parts_model.specs.Signals.{no_handlers, no_signals}
 use Rattle.acts_model.specs.Acts.{Beginning, Starts, child_view, done, done_by, started, unborn}
-use Rattle.acts_model.specs.Bodies.{Bodies, View, seen, put}
+use Rattle.acts_model.specs.Bodies.{Bodies, View, seen, put, laid}
 use Rattle.acts_model.specs.Views.{cpu_at_start, read, window_at_start}
 use Rattle.guest_bodies.specs.Follows.{Follows, SetsWatch}
 use Rattle.guest_bodies.specs.Kept.{Segments, view_of, watch_of, shown_all, IsSound}
@@ -19,7 +19,6 @@ use Rattle.guest_bodies.proofs.Changes.{follows-done, seen-shown, watch-shown}
 use Rattle.guest_bodies.proofs.Forks.{IsGrown}
 use Rattle.guest_bodies.proofs.InPlace.{Place}
 use Rattle.guest_bodies.proofs.Numbers.{IsSome-within}
-use Rattle.guest_bodies.proofs.Places.{laid}
 use Rattle.guest_bodies.proofs.Puts.{fresh_segment, refreshed, seen-other, seen-same}
 
 abbrev pub starting : Guest → ℕ → First → Guest

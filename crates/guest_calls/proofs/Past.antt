@@ -3,7 +3,7 @@ use Rattle.std.proofs.Common.{◌≡◌, ◌≢◌, ℕ, ◌+◌, ◌≤◌, IfS
 use Rattle.parts_model.specs.declared.limits.TheConstants.{WINDOW_LEN}
 use Rattle.parts_model.specs.Memory.{zeros}
 use Rattle.acts_model.specs.Acts.{Act, Forks, Founds, Starts, begun, beginning_of, done, founded, unborn}
-use Rattle.acts_model.specs.Bodies.{View, body_at, nobody, nth_body, put, seen}
+use Rattle.acts_model.specs.Bodies.{View, body_at, nobody, put, seen}
 use Rattle.acts_model.specs.Views.{cpu_at, with_cpu, with_reach}
 use Rattle.guest_bodies.specs.Follows.{Follows, Ran}
 use Rattle.guest_bodies.specs.Fresh.{OthersStayUnheld}
@@ -14,11 +14,11 @@ use Rattle.guest_calls.specs.Forks.{with_child}
 use Rattle.guest_calls.specs.Kept.{IsPast}
 
 none-seen : (p : ℕ) → seen_in [] p ≡ seen nobody p
-unfolding body_at nth_body
+unfolding body_at
 none-seen p = refl
 
 none-held : (event p : ℕ) → IfSome (body_at nobody p) (IsUnheldBy event)
-unfolding body_at nth_body
+unfolding body_at
 none-held event p = tt
 
 pub past-none : IsPast [] 0

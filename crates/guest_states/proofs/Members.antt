@@ -7,8 +7,8 @@ use Rattle.std.proofs.lemmas.List.Concat.{flat_map-append}
 use Rattle.std.proofs.lemmas.List.Elements.{filter_map-append}
 use Rattle.std.proofs.lemmas.List.Sums.{fold-append}
 use Rattle.arn_base.specs.declared.machine.Member.{Member}
-use Rattle.acts_model.specs.Bodies.{Memory, View}
-use Rattle.guest_states.specs.State.{Holder, also, held, holder, holders, is_among, member, members, number_in, segments_of, windows_of}
+use Rattle.acts_model.specs.Bodies.{View}
+use Rattle.guest_states.specs.State.{Memory, Holder, also, held, holder, holders, is_among, member, members, number_in, segments_of, windows_of}
 use Rattle.guest_states.proofs.Numbers.{among-new, number-fold}
 
 abbrev of_all : (View → List Memory) → List Holder → List Memory

@@ -5,8 +5,7 @@ use Rattle.std.proofs.lemmas.Bool.Decides.{nat_tests}
 use Rattle.std.proofs.lemmas.Bool.{false≢true}
 use Rattle.std.proofs.lemmas.List.Folds.{list_any-append, position_or_len_push}
 use Rattle.std.proofs.lemmas.List.Sums.{prefix_len-le-length}
-use Rattle.acts_model.specs.Bodies.{Memory}
-use Rattle.guest_states.specs.State.{also, is_among, number_in}
+use Rattle.guest_states.specs.State.{Memory, also, is_among, number_in}
 
 abbrev pub names : List Memory → List ℕ
 names ms = map (λ (m : Memory). m.made) ms

@@ -10,9 +10,9 @@ use Rattle.arn_base.specs.declared.machine.Member.{Member}
 use Rattle.arn_base.specs.declared.machine.State.{State}
 use Rattle.parts_model.specs.Blocks.{blocks_of}
 use Rattle.parts_model.specs.Numbered.{nth}
-use Rattle.acts_model.specs.Bodies.{Memory, View}
+use Rattle.acts_model.specs.Bodies.{View}
 use Rattle.guest_bodies.specs.Shown.{Guests, IsLive, Shown, seen_in}
-use Rattle.guest_states.specs.State.{also, held, holder, holders, members, number_in, segments_of, state_of, windows_of}
+use Rattle.guest_states.specs.State.{Memory, also, held, holder, holders, members, number_in, segments_of, state_of, windows_of}
 use Rattle.guest_states.specs.Told.{Adds, AddsHolder, AddsSegment, AreHeld, Tells, place_in}
 use Rattle.guest_states.specs.declared.held.Held.{Held}
 use Rattle.guest_states.specs.declared.states.Telling.{Telling}

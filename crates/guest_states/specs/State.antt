@@ -6,7 +6,12 @@ use Rattle.arn_base.specs.declared.machine.Block.{Block}
 use Rattle.arn_base.specs.declared.machine.Member.{Member}
 use Rattle.arn_base.specs.declared.machine.State.{State}
 use Rattle.parts_model.specs.Blocks.{blocks_of}
-use Rattle.acts_model.specs.Bodies.{Memory, View}
+use Rattle.acts_model.specs.Bodies.{View}
+
+-- a memory: the event that made it, and its bytes
+pub record Memory : Type 0 where
+  pub made : ℕ
+  pub bytes : List ℕ
 
 -- a live process, and what it sees
 pub record Holder : Type 0 where

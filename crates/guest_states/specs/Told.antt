@@ -3,8 +3,8 @@ use Rattle.std.specs.Prelude.{◌≡◌, ℕ, ◌==◌, List, [], ◌∷◌, ◌
 use Rattle.std.specs.List.{position_or_len}
 use Rattle.arn_base.specs.declared.machine.Block.{Block}
 use Rattle.parts_model.specs.Blocks.{blocks_of}
-use Rattle.acts_model.specs.Bodies.{Memory, View}
-use Rattle.guest_states.specs.State.{Holder, also, blocks_in, held, holder, members, segments_of, windows_of}
+use Rattle.acts_model.specs.Bodies.{View}
+use Rattle.guest_states.specs.State.{Memory, Holder, also, blocks_in, held, holder, members, segments_of, windows_of}
 use Rattle.guest_states.specs.declared.held.Held.{Held}
 use Rattle.guest_states.specs.declared.states.Telling.{Telling}
 

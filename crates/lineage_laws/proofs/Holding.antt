@@ -1,54 +1,28 @@
 -- Each live process holds memories of its own group, and after each act it still does.
-use Rattle.std.proofs.Common.{◌≡◌, ℕ, zero, suc, ◌≤◌, List, [], ◌∷◌, length, refl, ap, ◌∙◌, sym, Option, Some, None, option_map, Bool, true, false, ◌==◌, cond, arith, ne_eqb, inl, inr}
+use Rattle.std.proofs.Common.{◌≡◌, ℕ, ◌≤◌, List, [], length, refl, ap, ◌∙◌, sym, Option, Some, None, option_map, Bool, true, false, ◌==◌, cond, arith, inl, inr}
 use Rattle.std.proofs.lemmas.Bool.Decides.{nat_tests}
-use Rattle.std.proofs.lemmas.Bool.{eq-eqb, eqb-true, eqb-false}
+use Rattle.std.proofs.lemmas.Bool.{eq-eqb, eqb-true}
 use Rattle.arn_base.specs.declared.machine.Cpu.{Cpu}
 use Rattle.arn_base.specs.Window.{Window, with_bytes}
 use Rattle.rv64_isa.specs.declared.instruction.Instr.{Instr}
 use Rattle.acts_model.specs.Acts.{Act, Returns, Receives, Gives, Starts, Forks, Founds, Shares, Leaves, Delivers, Exits, Faults, Dies, restored, acted, Beginning, beginning_of, child_view, joined, done_by, done, founded}
-use Rattle.acts_model.specs.Bodies.{Body, Bodies, View, IsHolder, nth_body, with_nth, body_at, with_body, with_memory, with_segment, seen, put, remove, become}
+use Rattle.acts_model.specs.Bodies.{Body, Bodies, View, IsHolder, body_at, seen, put, remove, become}
 use Rattle.acts_model.specs.Transfers.{holds_of, is_private, is_shared, place_at, place_of, transfer, instr_transfer}
 use Rattle.acts_model.specs.Views.{reach, with_reach}
 use Rattle.history_model.specs.Groups.{Groups}
 use Rattle.lineage_laws.proofs.Homes.{Memories, PlaceIs, Lies}
 
 -- bodies by number
-suc-test : (q p : ℕ) → (suc q == suc p) ≡ (q == p)
-suc-test q p = grind (arith, nat_tests, eq-eqb, eqb-false, eqb-true)
-
-nth-with : (p : ℕ) (x : Option Body) (xs : List (Option Body)) (q : ℕ) → nth_body (with_nth p x xs) q ≡ cond (q == p) x (nth_body xs q)
-unfolding nth_body with_nth
-nth-with zero x [] zero = refl
-nth-with zero x [] (suc q) = ap (λ (b : Bool). cond b x None) (sym (ne_eqb (suc q) zero (λ k. omega arith)))
-nth-with zero x (y ∷ ys) zero = refl
-nth-with zero x (y ∷ ys) (suc q) = ap (λ (b : Bool). cond b x (nth_body ys q)) (sym (ne_eqb (suc q) zero (λ k. omega arith)))
-nth-with (suc p) x [] zero = ap (λ (b : Bool). cond b x None) (sym (ne_eqb zero (suc p) (λ k. omega arith)))
-nth-with (suc p) x [] (suc q) = nth-with p x [] q ∙ ap (λ (b : Bool). cond b x None) (sym (suc-test q p))
-nth-with (suc p) x (y ∷ ys) zero = ap (λ (b : Bool). cond b x y) (sym (ne_eqb zero (suc p) (λ k. omega arith)))
-nth-with (suc p) x (y ∷ ys) (suc q) = nth-with p x ys q ∙ ap (λ (b : Bool). cond b x (nth_body ys q)) (sym (suc-test q p))
-
-body-with : (p : ℕ) (x : Option Body) (b : Bodies) (q : ℕ) → body_at (with_body p x b) q ≡ cond (q == p) x (body_at b q)
-unfolding body_at with_body
-body-with p x b q = nth-with p x b.bodies q
-
-body-kept : (k : ℕ) (bytes : List ℕ) (b : Bodies) (q : ℕ) → body_at (with_memory k bytes b) q ≡ body_at b q
-unfolding body_at with_memory
-body-kept k bytes b q = refl
-
-body-segment : (o : Option ℕ) (bytes : List ℕ) (b : Bodies) (q : ℕ) → body_at (with_segment o bytes b) q ≡ body_at b q
-body-segment None bytes b q = refl
-body-segment (Some k) bytes b q = body-kept k bytes b q
-
 pub put-body : (p : ℕ) (v : View) (b : Bodies) (q : ℕ) → body_at (put p v b) q ≡ cond (q == p) (Some v.body) (body_at b q)
-unfolding put
-put-body p v b q = grind (arith, nat_tests, body-kept, body-segment, body-with)
+unfolding put body_at
+put-body p v b q = refl
 
 pub put-here : (p : ℕ) (v : View) (b : Bodies) → body_at (put p v b) p ≡ Some v.body
 put-here p v b = put-body p v b p ∙ ap (λ (t : Bool). cond t (Some v.body) (body_at b p)) (eq-eqb p p refl)
 
 remove-body : (p : ℕ) (b : Bodies) (q : ℕ) → body_at (remove p b) q ≡ cond (q == p) None (body_at b q)
-unfolding remove
-remove-body p b q = body-with p None b q
+unfolding remove body_at
+remove-body p b q = refl
 
 pub seen-body : (b : Bodies) (p : ℕ) (v : View) → seen b p ≡ Some v → body_at b p ≡ Some v.body
 seen-body b p v h1 = grind (arith, nat_tests)

@@ -7,7 +7,7 @@ use Rattle.arn_base.specs.declared.records.Record.{Record}
 use Rattle.arn_base.specs.declared.records.Src.{Src}
 use Rattle.rv64_model.specs.Carries.{Table}
 use Rattle.parts_model.specs.declared.tagged.TaggedByte.{TaggedByte}
-use Rattle.acts_model.specs.Bodies.{body_at, nth_body}
+use Rattle.acts_model.specs.Bodies.{body_at}
 use Rattle.acts_model.specs.Moved.{KernelByte}
 use Rattle.arn_model.specs.Kernel.{at_first}
 use Rattle.arn_model.specs.Laws.{StepsTell, EachRunIsSound, EachRunAppends}
@@ -41,7 +41,7 @@ no-origin : (byte : KernelByte) (src : Src) → origins at_first.kernel byte ≡
 no-origin byte src h1 = grind (arith, nat_tests, nothing-held)
 
 nobody-fits : (gs : Groups) (ms : Memories) (most : ℕ) → BodiesFit gs ms most at_first.bodies
-unfolding body_at nth_body
+unfolding body_at
 nobody-fits gs ms most = grind (arith, nat_tests)
 
 -- what is known of the steps of a run up to a moment

@@ -9,7 +9,7 @@ use Rattle.parts_model.specs.declared.open.Description.TheVariants as descriptio
 use Rattle.parts_model.specs.Processes.{Live}
 use Rattle.parts_model.specs.Replies.{GaveBytes, TookBytes, Failed, IsAbsent, IsHere}
 use Rattle.parts_model.specs.Signals.{no_handlers, none_pending, with_handler, with_pending}
-use Rattle.acts_model.specs.Bodies.{nth_body, with_nth, found, with_found, body_at, with_body, memory_at, with_memory, put, remove}
+use Rattle.acts_model.specs.Bodies.{nobody, body_at, memory_at, put, remove}
 use Rattle.acts_model.specs.Records.{is_event}
 use Rattle.acts_model.specs.Views.{cpu_at}
 use Rattle.arn_model.specs.Kernel.{Handling, Machine, at_first}
@@ -23,7 +23,7 @@ minus number = 0x10000000000000000 - number
 
 -- a file, and a second one of its name, which is refused; it is no image, so that nothing boots, is typed or runs
 files : records (File (codes "a") (7 ∷ []) ∷ File (codes "a") [] ∷ Boot (codes "a") ∷ Typed (8 ∷ []) ∷ Unplug 3 ∷ Slice 1 5 None ∷ []) ≡ entry.File (codes "a") (7 ∷ []) ∷ []
-unfolding body_at nth_body
+unfolding body_at
 files = refl
 
 -- its record is that of a run, and a typed piece before any process isn't one
@@ -83,10 +83,13 @@ standing : Cpu → Handling → Machine
 standing cpu handling =
     record {
       bodies =
-          record {
-            bodies = None ∷ Some (record { cpu = cpu; slot = None; window = 1; segment = None }) ∷ [];
-            memories = record { made = 1; bytes = 0x73 ∷ 0 ∷ 0 ∷ 0 ∷ 0x93 ∷ 8 ∷ 0x10 ∷ 0 ∷ 0x13 ∷ 5 ∷ 0x70 ∷ 0 ∷ 0x73 ∷ 0 ∷ 0 ∷ 0 ∷ [] } ∷ [];
-          };
+          put 1
+          (record {
+            body = record { cpu = cpu; slot = None; window = 1; segment = None };
+            window = 0x73 ∷ 0 ∷ 0 ∷ 0 ∷ 0x93 ∷ 8 ∷ 0x10 ∷ 0 ∷ 0x13 ∷ 5 ∷ 0x70 ∷ 0 ∷ 0x73 ∷ 0 ∷ 0 ∷ 0 ∷ [];
+            segment = [];
+          })
+          nobody;
       kernel =
           record at_first.kernel {
             processes = Some (record { life = Live; parent = None; descriptors = replicate 5 None ++ Some 0 ∷ replicate 10 None }) ∷ [];
@@ -104,7 +107,7 @@ exiting = standing (cpu_at 0x10004) (record { handlers = no_handlers; pending = 
 exit-recorded :
     records_from exiting (Slice 1 1 None ∷ Typed (9 ∷ []) ∷ Slice 1 100 (Some Failed) ∷ Slice 1 100 None ∷ []) ≡
     entry.Slice 1 1 ∷ entry.Typed (9 ∷ []) ∷ entry.Slice 1 2 ∷ entry.Call 1 1 0 extra.Nothing ∷ []
-unfolding exiting standing decoding.decoded_by row answered nth_body with_nth found with_found body_at with_body memory_at with_memory put remove
+unfolding exiting standing decoding.decoded_by row answered body_at memory_at put remove
 exit-recorded = refl
 
 -- signal 5 is pending, and its handler is the first `ecall`, which writes 1 byte to device 7
@@ -117,7 +120,7 @@ delivering =
 delivery-recorded :
     records_from delivering (Slice 1 100 (Some (TookBytes 3)) ∷ []) ≡
     entry.Slice 1 1 ∷ entry.Signal 1 5 false 0x10000 ∷ entry.Call 1 12 1 (extra.Sent 7 (0x73 ∷ [])) ∷ []
-unfolding delivering standing decoding.decoded_by row answered nth_body with_nth found with_found body_at with_body memory_at with_memory put remove
+unfolding delivering standing decoding.decoded_by row answered body_at memory_at put remove
 delivery-recorded = refl
 
 delivery-named : named (entry.Slice 1 1 ∷ entry.Signal 1 5 false 0x10000 ∷ entry.Call 1 12 1 (extra.Sent 7 (0x73 ∷ [])) ∷ []) ≡ Slice 1 1 (Some (TookBytes 1)) ∷ []
@@ -125,7 +128,7 @@ delivery-named = refl
 
 -- a slice of no instruction delivers it
 delivery-alone : records_from delivering (Slice 1 0 None ∷ Slice 2 4 None ∷ []) ≡ entry.Slice 1 0 ∷ entry.Signal 1 5 false 0x10000 ∷ []
-unfolding delivering standing decoding.decoded_by row answered nth_body with_nth found with_found body_at with_body memory_at with_memory put remove
+unfolding delivering standing decoding.decoded_by row answered body_at memory_at put remove
 delivery-alone = refl
 
 -- without the slices there are the events

@@ -3,13 +3,13 @@ use Rattle.std.proofs.Common.{◌≡◌, ℕ, ◌==◌, Bool, true, false, [], O
 use Rattle.std.proofs.lemmas.Bool.{eqb-true, eqb-false}
 use Rattle.parts_model.specs.Numbered.{nth}
 use Rattle.acts_model.specs.Acts.{Beginning, begun, child_view}
-use Rattle.acts_model.specs.Bodies.{View, nobody, body_at, nth_body, seen, put}
+use Rattle.acts_model.specs.Bodies.{View, nobody, body_at, seen, put}
 use Rattle.guest_bodies.specs.Follows.{Follows}
 use Rattle.guest_bodies.specs.Shown.{Guests, Shown, IsFresh, IsUnheldBy, IsLive, seen_in}
 use Rattle.guest_bodies.proofs.Puts.{own_segment, refreshed, seen-other, seen-same}
 
 nobody-seen : (p : ℕ) → seen nobody p ≡ None
-unfolding body_at nth_body
+unfolding body_at
 nobody-seen p = refl
 
 module _ (old new : Guests) (b : Beginning) (none : old ≡ []) (follows : Follows old (begun 1 0 b) new) where

@@ -4,12 +4,12 @@ use Rattle.std.proofs.lemmas.Bool.Decides.{nat_tests}
 use Rattle.std.proofs.lemmas.Bool.{eqb-true, eq-eqb}
 use Rattle.parts_model.specs.declared.limits.TheConstants.{WINDOW_LEN, SEGMENT_LEN}
 use Rattle.acts_model.specs.Acts.{Act, Starts, Shares, Beginning, acted, begun, child_view, done_by, joined, restored}
-use Rattle.acts_model.specs.Bodies.{Body, Bodies, View, become, body_at, memory_at, nobody, put, remove, view}
+use Rattle.acts_model.specs.Bodies.{Body, Bodies, View, become, body_at, memory_at, nobody, put, remove, view, laid_segment}
 use Rattle.acts_model.specs.Transfers.{Holds, holds_of}
 use Rattle.acts_model.specs.Views.{with_reach}
 use Rattle.arn_base.specs.declared.machine.Cpu.{Cpu}
 use Rattle.arn_base.specs.Window.{Window}
-use Rattle.past_lives.proofs.Bodies.{laid_segment, put-body, put-memory, remove-body, remove-memory, nobody-at}
+use Rattle.past_lives.proofs.Bodies.{put-body, put-memory, remove-body, remove-memory, nobody-at}
 use Rattle.past_lives.proofs.Sizes.{HasSizes}
 
 -- what a process holds after its act

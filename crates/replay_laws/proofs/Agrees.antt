@@ -3,9 +3,9 @@ use Rattle.std.proofs.Common.{◌≡◌, ℕ, ◌<◌, ◌≤◌, List, length, 
 use Rattle.std.proofs.lemmas.Bool.Decides.{nat_tests}
 use Rattle.std.proofs.lemmas.Bool.{eq-eqb, eqb-true}
 use Rattle.parts_model.specs.declared.limits.TheConstants.{WINDOW_LEN}
-use Rattle.acts_model.specs.Bodies.{Body, Bodies, View, body_at, memory_at, IsHolder, seen, put, remove, become}
+use Rattle.acts_model.specs.Bodies.{Body, Bodies, View, body_at, memory_at, IsHolder, seen, put, remove, become, laid, laid_segment}
 use Rattle.history_model.specs.Groups.{Groups, is_number}
-use Rattle.replay_laws.proofs.Places.{laid, laid_segment, put-body, put-memory, remove-body, remove-memory}
+use Rattle.replay_laws.proofs.Places.{put-body, put-memory, remove-body, remove-memory}
 use Rattle.replay_laws.proofs.Owned.{Owner, Fits, Owned, owned-later, put-owned, remove-owned, holder, apart}
 
 abbrev no_body : Option Body

@@ -10,7 +10,7 @@ use Rattle.parts_model.specs.declared.limits.TheConstants.{WINDOW_LEN}
 use Rattle.parts_model.specs.Image.{is_image, read_as_image}
 use Rattle.parts_model.specs.Memory.{zeros}
 use Rattle.acts_model.specs.Acts.{Act, Starts, done, done_by, started, unborn}
-use Rattle.acts_model.specs.Bodies.{Bodies, View, body_at, seen, put}
+use Rattle.acts_model.specs.Bodies.{Bodies, View, body_at, seen, put, laid_segment}
 use Rattle.acts_model.specs.Moved.{Inside}
 use Rattle.acts_model.specs.Transfers.{holds_of, transfer}
 use Rattle.acts_model.specs.Views.{read}
@@ -18,7 +18,7 @@ use Rattle.history_model.specs.Alone.{Own, Makes, made_if, noted, boots}
 use Rattle.history_model.specs.Groups.{Groups, is_number}
 use Rattle.history_model.specs.Moments.{changed}
 use Rattle.replay_laws.specs.Heard.{own_part}
-use Rattle.replay_laws.proofs.Places.{laid_segment, put-body, put-memory}
+use Rattle.replay_laws.proofs.Places.{put-body, put-memory}
 use Rattle.replay_laws.proofs.Sized.{acted-whole}
 use Rattle.replay_laws.proofs.Owned.{Owner, Private, changed-same, changed-other}
 use Rattle.replay_laws.proofs.Agrees.{Joint, Good, if_own, joint-become, joint-later}

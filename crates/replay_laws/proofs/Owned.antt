@@ -3,10 +3,10 @@ use Rattle.std.proofs.Common.{◌≡◌, ◌⊎◌, inl, inr, ℕ, ◌<◌, ◌�
 use Rattle.std.proofs.lemmas.Bool.Decides.{nat_tests}
 use Rattle.std.proofs.lemmas.Bool.{eq-eqb, eqb-true, eqb-false}
 use Rattle.parts_model.specs.declared.limits.TheConstants.{WINDOW_LEN}
-use Rattle.acts_model.specs.Bodies.{Body, Bodies, View, body_at, memory_at, IsHolder, put, remove}
+use Rattle.acts_model.specs.Bodies.{Body, Bodies, View, body_at, memory_at, IsHolder, put, remove, laid_segment}
 use Rattle.history_model.specs.Groups.{Groups}
 use Rattle.history_model.specs.Moments.{changed}
-use Rattle.replay_laws.proofs.Places.{laid_segment, put-body, put-memory, remove-body, remove-memory}
+use Rattle.replay_laws.proofs.Places.{put-body, put-memory, remove-body, remove-memory}
 
 -- a memory is the window of one process, or the segment of one group
 pub data Owner : Type 0 where

@@ -1,8 +1,7 @@
 -- The records tell which segment each live process holds.
-use Rattle.std.proofs.Common.{◌≡◌, ℕ, ◌==◌, ◌&&◌, Bool, true, false, cond, List, [], ◌∷◌, Option, None, Some, IfSome, zero, suc, map, refl, sym, ap, subst, ◌∙◌, arith, unwrap_or}
+use Rattle.std.proofs.Common.{◌≡◌, ℕ, ◌==◌, ◌&&◌, Bool, true, false, cond, List, [], ◌∷◌, Option, None, Some, IfSome, map, refl, sym, ap, subst, ◌∙◌, arith, unwrap_or}
 use Rattle.std.proofs.lemmas.Bool.Decides.{nat_tests}
-use Rattle.std.proofs.lemmas.Bool.{eq-eqb, eqb-true, eqb-false, cond-false}
-use Rattle.std.proofs.Common.{ne_eqb}
+use Rattle.std.proofs.lemmas.Bool.{eq-eqb, eqb-true, cond-false}
 use Rattle.arn_base.specs.declared.machine.Cpu.{Cpu}
 use Rattle.arn_base.specs.Window.{Window, with_bytes}
 use Rattle.arn_base.specs.declared.records.Extra.{Extra}
@@ -14,7 +13,7 @@ use Rattle.parts_model.specs.Replies.{is_success}
 use Rattle.parts_model.specs.Tagged.{values}
 use Rattle.acts_model.specs.Acts as act
 use Rattle.acts_model.specs.Acts.{Act, acted, restored, beginning_of, joined, founded, done, done_by, unborn, child_view}
-use Rattle.acts_model.specs.Bodies.{Body, Bodies, View, nth_body, with_nth, body_at, with_body, with_memory, with_segment, seen, put, remove, become, nobody}
+use Rattle.acts_model.specs.Bodies.{Body, Bodies, View, body_at, seen, put, remove, become, nobody}
 use Rattle.acts_model.specs.Moved.{Event}
 use Rattle.acts_model.specs.Records.{process_of}
 use Rattle.acts_model.specs.Told as told
@@ -28,48 +27,16 @@ use Rattle.replay_laws.proofs.TellsSteps.{Facts, by_event, fold_events, as_numbe
 
 -- bodies by number: what is put is found, and nothing else changes
 
-zero-not : (q : ℕ) → (suc q == 0) ≡ false
-zero-not q = ne_eqb (suc q) 0 (λ e. omega arith)
-
-not-suc : (p : ℕ) → (0 == suc p) ≡ false
-not-suc p = ne_eqb 0 (suc p) (λ e. omega arith)
-
-suc-same : (q p : ℕ) → (suc q == suc p) ≡ (q == p)
-suc-same q p = grind (arith, nat_tests, eq-eqb, eqb-false, eqb-true)
-
-nth-with : (p : ℕ) (x : Option Body) (xs : List (Option Body)) (q : ℕ) → nth_body (with_nth p x xs) q ≡ cond (q == p) x (nth_body xs q)
-unfolding nth_body with_nth
-nth-with zero x [] zero = refl
-nth-with zero x [] (suc q) = ap (λ (b : Bool). cond b x None) (sym (zero-not q))
-nth-with zero x (y ∷ ys) zero = refl
-nth-with zero x (y ∷ ys) (suc q) = ap (λ (b : Bool). cond b x (nth_body ys q)) (sym (zero-not q))
-nth-with (suc p) x [] zero = ap (λ (b : Bool). cond b x None) (sym (not-suc p))
-nth-with (suc p) x [] (suc q) = nth-with p x [] q ∙ ap (λ (b : Bool). cond b x None) (sym (suc-same q p))
-nth-with (suc p) x (y ∷ ys) zero = ap (λ (b : Bool). cond b x y) (sym (not-suc p))
-nth-with (suc p) x (y ∷ ys) (suc q) = nth-with p x ys q ∙ ap (λ (b : Bool). cond b x (nth_body ys q)) (sym (suc-same q p))
-
-body-with : (p : ℕ) (x : Option Body) (b : Bodies) (q : ℕ) → body_at (with_body p x b) q ≡ cond (q == p) x (body_at b q)
-unfolding body_at with_body
-body-with p x b q = nth-with p x b.bodies q
-
-body-kept : (k : ℕ) (bytes : List ℕ) (b : Bodies) (q : ℕ) → body_at (with_memory k bytes b) q ≡ body_at b q
-unfolding body_at with_memory
-body-kept k bytes b q = refl
-
-body-segment : (o : Option ℕ) (bytes : List ℕ) (b : Bodies) (q : ℕ) → body_at (with_segment o bytes b) q ≡ body_at b q
-body-segment None bytes b q = refl
-body-segment (Some k) bytes b q = body-kept k bytes b q
-
 put-body : (p : ℕ) (v : View) (b : Bodies) (q : ℕ) → body_at (put p v b) q ≡ cond (q == p) (Some v.body) (body_at b q)
-unfolding put
-put-body p v b q = grind (arith, nat_tests, body-kept, body-segment, body-with)
+unfolding put body_at
+put-body p v b q = refl
 
 remove-body : (p : ℕ) (b : Bodies) (q : ℕ) → body_at (remove p b) q ≡ cond (q == p) None (body_at b q)
-unfolding remove
-remove-body p b q = body-with p None b q
+unfolding remove body_at
+remove-body p b q = refl
 
 nobody-at : (p : ℕ) → body_at nobody p ≡ None
-unfolding body_at nth_body
+unfolding body_at
 nobody-at p = refl
 
 -- the bodies hold these segments

@@ -1,11 +1,12 @@
 -- Who has a body in a group alone: what instructions and acts leave, and how many instructions they are.
-use Rattle.std.proofs.Common.{◌≡◌, ◌≢◌, ℕ, zero, suc, ◌+◌, Bool, true, false, List, [], ◌∷◌, cond, count_by, Option, Some, None, is_some, option_map, refl, ap, sym, subst, ◌∙◌, arith}
+use Rattle.std.proofs.Common.{◌≡◌, ◌≢◌, ℕ, zero, suc, ◌+◌, Bool, true, false, [], ◌∷◌, cond, count_by, Option, Some, None, is_some, option_map, ◌==◌, ne_eqb, refl, ap, sym, subst, ◌∙◌, arith}
+use Rattle.std.proofs.lemmas.Bool.{eq-eqb}
 use Rattle.std.proofs.lemmas.List.Sums.{sum_by-append}
 use Rattle.arn_base.specs.declared.records.Record.{Record}
 use Rattle.rv64_model.specs.Instruction.{Effect, Next, Call, End}
 use Rattle.acts_model.specs.Acts as act
 use Rattle.acts_model.specs.Acts.{Act, done, done_by}
-use Rattle.acts_model.specs.Bodies.{Bodies, Body, View, body_at, nth_body, put, remove, seen, view, with_body, with_memory, with_nth, with_segment}
+use Rattle.acts_model.specs.Bodies.{Bodies, Body, View, body_at, put, remove, seen, view}
 use Rattle.acts_model.specs.Disagreement.{Wrong, wrong_with}
 use Rattle.acts_model.specs.Moved.{Inside, is_call_or_end}
 use Rattle.acts_model.specs.Told.{act_of}
@@ -22,50 +23,22 @@ HasBody b p = is_some (body_at b p) ≡ true
 no-way : {A : Type 0} → false ≡ true → A
 no-way e = absurd (let no : false ≡ true = e in cc)
 
-nth-keeps : (p : ℕ) (x : Body) (xs : List (Option Body)) (q : ℕ) → is_some (nth_body xs q) ≡ true → is_some (nth_body (with_nth p (Some x) xs) q) ≡ true
-unfolding nth_body with_nth
-nth-keeps zero x [] q is = no-way is
-nth-keeps zero x (y ∷ ys) zero is = refl
-nth-keeps zero x (y ∷ ys) (suc q) is = is
-nth-keeps (suc p) x [] q is = no-way is
-nth-keeps (suc p) x (y ∷ ys) zero is = is
-nth-keeps (suc p) x (y ∷ ys) (suc q) is = nth-keeps p x ys q is
-
-nth-own : (p : ℕ) (x : Body) (xs : List (Option Body)) → is_some (nth_body (with_nth p (Some x) xs) p) ≡ true
-unfolding nth_body with_nth
-nth-own zero x [] = refl
-nth-own zero x (y ∷ ys) = refl
-nth-own (suc p) x [] = nth-own p x []
-nth-own (suc p) x (y ∷ ys) = nth-own p x ys
-
-nth-removed : (p : ℕ) (xs : List (Option Body)) (q : ℕ) → q ≢ p → is_some (nth_body xs q) ≡ true → is_some (nth_body (with_nth p None xs) q) ≡ true
-unfolding nth_body with_nth
-nth-removed zero [] q other is = no-way is
-nth-removed zero (y ∷ ys) zero other is = absurd (other refl)
-nth-removed zero (y ∷ ys) (suc q) other is = is
-nth-removed (suc p) [] q other is = no-way is
-nth-removed (suc p) (y ∷ ys) zero other is = is
-nth-removed (suc p) (y ∷ ys) (suc q) other is = nth-removed p ys q (λ same. other (ap suc same)) is
-
-segment-bodies : (o : Option ℕ) (bytes : List ℕ) (b : Bodies) → (with_segment o bytes b).bodies ≡ b.bodies
-unfolding with_memory
-segment-bodies None bytes b = refl
-segment-bodies (Some k) bytes b = refl
-
 -- who has one keeps it as one is put
+put-test : (o : Option Body) (x : Body) (b : Bool) → is_some o ≡ true → is_some (cond b (Some x) o) ≡ true
+put-test o x true has = refl
+put-test o x false has = has
+
 pub put-keeps : (p : ℕ) (v : View) (b : Bodies) (q : ℕ) → HasBody b q → HasBody (put p v b) q
-unfolding put body_at with_body with_memory
-put-keeps p v b q has =
-    nth-keeps p v.body (with_segment v.body.segment v.segment b).bodies q
-    (subst (λ (xs : List (Option Body)). is_some (nth_body xs q) ≡ true) (sym (segment-bodies v.body.segment v.segment b)) has)
+unfolding put body_at
+put-keeps p v b q has = put-test (b.bodies q) v.body (q == p) has
 
 pub put-own : (p : ℕ) (v : View) (b : Bodies) → HasBody (put p v b) p
-unfolding put body_at with_body with_memory
-put-own p v b = nth-own p v.body (with_segment v.body.segment v.segment b).bodies
+unfolding put body_at
+put-own p v b = rw (eq-eqb p p refl) refl
 
 removed-keeps : (p : ℕ) (b : Bodies) (q : ℕ) → q ≢ p → HasBody b q → HasBody (remove p b) q
-unfolding remove body_at with_body
-removed-keeps p b q other has = nth-removed p b.bodies q other has
+unfolding remove body_at
+removed-keeps p b q other has = rw (ne_eqb q p other) has
 
 -- and sees something
 pub has-seen : (b : Bodies) (p : ℕ) → HasBody b p → (v : View) × (seen b p ≡ Some v)

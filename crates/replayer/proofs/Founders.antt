@@ -6,7 +6,7 @@ use Rattle.std.proofs.lemmas.Option.{slice_get_past, slice_get_within}
 use Rattle.arn_base.specs.declared.records.Record.{Record}
 use Rattle.arn_base.specs.declared.records.Record.TheVariants as entry
 use Rattle.parts_model.specs.Numbered.{nth}
-use Rattle.acts_model.specs.Bodies.{Body, body_at, nobody, nth_body, seen, view}
+use Rattle.acts_model.specs.Bodies.{Body, body_at, nobody, seen, view}
 use Rattle.guest_bodies.specs.Fresh.{IsUnheld}
 use Rattle.guest_bodies.specs.Shown.{Guests, IsLive, IsUnheldBy, Shown, seen_in}
 use Rattle.history_index.specs.Lookups.{founding_event, founds, places_from}
@@ -154,9 +154,8 @@ no-nth zero = refl
 no-nth (suc p) = refl
 
 no-body : (p : ℕ) → body_at nobody p ≡ None
-unfolding body_at nth_body
-no-body zero = refl
-no-body (suc p) = refl
+unfolding body_at
+no-body p = refl
 
 nobody-seen : (p : ℕ) → seen_in [] p ≡ seen nobody p
 nobody-seen p = ap (option_map (λ (s : Shown). s.view)) (no-nth p) ∙ sym (ap (option_map (view nobody)) (no-body p))

@@ -4,11 +4,11 @@ use Rattle.std.proofs.lemmas.Bool.Decides.{nat_tests}
 use Rattle.std.proofs.lemmas.Bool.{eqb-true, eq-eqb, leb-true, leb-false}
 use Rattle.parts_model.specs.declared.limits.TheConstants.{WINDOW_LEN, SEGMENT_LEN}
 use Rattle.acts_model.specs.Acts.{Act, Forks, Shares, Beginning, acted, begun, child_view, done_by, joined}
-use Rattle.acts_model.specs.Bodies.{Body, Bodies, View, become, body_at, memory_at, nobody, put, remove, view}
+use Rattle.acts_model.specs.Bodies.{Body, Bodies, View, become, body_at, memory_at, nobody, put, remove, view, laid_segment}
 use Rattle.acts_model.specs.Transfers.{Holds, holds_of}
 use Rattle.taint_state.specs.Goes.{IsUnheldBy}
 use Rattle.taint_laws.proofs.Holding.{act_holds, acted-holds}
-use Rattle.taint_laws.proofs.Places.{laid_segment, put-body, put-memory, remove-body, remove-memory, nobody-at, nothing-at}
+use Rattle.taint_laws.proofs.Places.{put-body, put-memory, remove-body, remove-memory, nobody-at, nothing-at}
 use Rattle.taint_laws.proofs.Rooms.{HasRooms}
 
 -- which memories are segments, by the events that made them

@@ -1,7 +1,7 @@
 -- Views on the records of a run.
 use Rattle.std.proofs.Common.{◌≡◌, ℕ, nat_le, ◌&&◌, Bool, true, false, List, Option, Some, None, IsSome, refl, sym, ap, subst, ◌∙◌}
 use Rattle.std.specs.Prelude.{option_and_then, option_map}
-use Rattle.acts_model.specs.Bodies.{View, Body, body_at, nobody, nth_body, seen, view}
+use Rattle.acts_model.specs.Bodies.{View, Body, body_at, nobody, seen, view}
 use Rattle.acts_model.specs.Views.{bytes_in}
 use Rattle.arn_model.specs.Run.{Input, instructions_in, machine_after, run, state_at}
 use Rattle.arn_model.specs.Tells.{HasNumbers, lives}
@@ -17,7 +17,7 @@ use Rattle.unbroken_laws.specs.Laws.{RunsAreUnbroken}
 use Rattle.view_laws.specs.OfRuns.{ViewsRun}
 
 nobody-at : (p : ℕ) → body_at nobody p ≡ None
-unfolding body_at nth_body
+unfolding body_at
 nobody-at p = refl
 
 same-own : (a b : Own) → Makes a ≡ Makes b → a ≡ b
