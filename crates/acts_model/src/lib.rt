@@ -6,5 +6,7 @@
 #![tactic(auto)]
 
 mod observer;
+mod told;
 
 pub use observer::Observer;
+pub use told::{event_len, is_success, process_of};

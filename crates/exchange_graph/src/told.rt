@@ -1,9 +1,9 @@
 // What one record tells of exchanges.
 ghost use Rattle.std.specs.Prelude.{◌≡◌, option_map};
-ghost use Rattle.parts_model.specs.Replies.{is_success};
 ghost use Rattle.acts_model.specs.Records as records;
 ghost use Rattle.history_model.specs.Exchanges as exchanges;
 
+use acts_model::is_success;
 use arn_base::{Extra, Give, Record};
 use parts_model::calls::{EXEC, FORK, READ, WAIT};
 
@@ -27,12 +27,6 @@ fn is_receiving(number: u64) -> bool
     ensures { result ≡ exchanges.is_receiving number }
 {
     number == EXEC || number == WAIT || number == READ
-}
-
-fn is_success(result_value: u64) -> bool
-    ensures { result ≡ is_success result_value }
-{
-    result_value < 1 << 63
 }
 
 /// The bytes that an event received, with their origins.

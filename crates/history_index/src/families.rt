@@ -9,6 +9,7 @@ ghost use Rattle.history_index.specs.Runs.{no_run};
 
 use crate::runs::Run;
 use crate::{SliceAt, told};
+use acts_model::is_success;
 use arn_base::{Extra, NoMemory, Record};
 use parts_model::calls::FORK;
 use replay_groups::Groups;
@@ -226,7 +227,7 @@ impl Families {
                 number,
                 result,
                 extra,
-            } if *number == FORK && told::is_success(*result) => { self.child_group(*pid, extra) }
+            } if *number == FORK && is_success(*result) => { self.child_group(*pid, extra) }
             _ => None,
         }
     }

@@ -93,8 +93,8 @@ impl Index {
         EventAt {
             moment: events::moment_of(self.begins, self.total, entry),
             place: self.records as u32,
-            len: told::event_len(entry) as u32,
-            pid: told::process_of(entry),
+            len: acts_model::event_len(entry) as u32,
+            pid: acts_model::process_of(entry),
         }
     }
 

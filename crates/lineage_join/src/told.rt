@@ -2,7 +2,6 @@
 ghost use Rattle.lineage_join.specs.declared.wait.Kind.TheVariants as kind;
 ghost use Rattle.std.specs.Prelude.{◌≡◌, if◌then◌else◌, ◌+◌, ◌<◌, ◌^◌, ℕ, is_some, option_map, option_and_then, slice_get, Some};
 ghost use Rattle.arn_base.specs.declared.records.Src.{Src};
-ghost use Rattle.parts_model.specs.Replies.{is_success};
 ghost use Rattle.acts_model.specs.Records as records;
 ghost use Rattle.history_index.specs.Indexes.{Indexes};
 ghost use Rattle.history_model.specs.Events.{event_at};
@@ -11,6 +10,7 @@ ghost use Rattle.lineage_model.specs.Joined as joined;
 ghost use Rattle.lineage_join.specs.Waits.{kind_by};
 
 use crate::wait::Kind;
+use acts_model::is_success;
 use arn_base::{Extra, Give, Origin, Record};
 use history_index::Index;
 use parts_model::calls::{FORK, READ};
@@ -44,12 +44,6 @@ pub fn is_source(entry: &Record) -> bool
         } => *number == READ,
         _ => false,
     }
-}
-
-fn is_success(result_value: u64) -> bool
-    ensures { result ≡ is_success result_value }
-{
-    result_value < 1 << 63
 }
 
 /// Whether an event is a fork that started a group.

@@ -3,20 +3,13 @@ ghost use Rattle.std.specs.Prelude.{◌≡◌};
 ghost use Rattle.acts_model.specs.Records.{call_life, life_told};
 ghost use Rattle.history_index.specs.Indexes.{Indexes};
 ghost use Rattle.history_model.specs.Moments.{lives_at};
-ghost use Rattle.parts_model.specs.Replies.{is_success as is_success_of};
 ghost use Rattle.past_lives.specs.Happened as told;
 
 use crate::events::happened;
+use acts_model::is_success;
 use arn_base::Record;
 use history_index::Index;
 use parts_model::calls::{EXIT, FORK};
-
-/// Whether a call's result is no error.
-pub fn is_success(answer: u64) -> bool
-    ensures { result ≡ is_success_of answer }
-{
-    answer < 1 << 63
-}
 
 /// A process that begins or ends, and whether it lives from then on.
 #[derive(Clone, Copy, Debug, PartialEq, Eq)]

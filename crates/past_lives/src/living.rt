@@ -8,7 +8,8 @@ ghost use Rattle.history_model.specs.Moments.{lives_at};
 ghost use Rattle.past_lives.specs.Members as members;
 
 use crate::events::happened;
-use crate::lives::{Life, is_success, told_by};
+use crate::lives::{Life, told_by};
+use acts_model::is_success;
 use arn_base::{NoMemory, Numbers, Record};
 use history_index::Index;
 use parts_model::calls::FORK;

@@ -5,7 +5,7 @@ ghost use Rattle.history_model.specs.Moments as moments;
 ghost use Rattle.past_lives.specs.Happened.{held_by};
 
 use crate::events::happened;
-use crate::lives::is_success;
+use acts_model::is_success;
 use arn_base::{Extra, Record};
 use history_index::Index;
 use parts_model::calls::{EXEC, FORK, SHM};

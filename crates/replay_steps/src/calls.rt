@@ -7,7 +7,6 @@ ghost use Rattle.acts_model.specs.Told as told;
 ghost use Rattle.acts_model.specs.Told.{call_act, exec_act, fork_act, read_act, wait_act, write_act};
 ghost use Rattle.guest_bodies.specs.Follows.{Follows};
 ghost use Rattle.guest_bodies.specs.Shown.{IsFresh, IsLive};
-ghost use Rattle.parts_model.specs.Replies.{is_success as is_success_of};
 ghost use Rattle.replay_steps.specs.Calls.{ChildIsFree, OfSeen, child_joined};
 ghost use Rattle.replay_steps.specs.Standing.{GainsOnly, KeepsLives};
 ghost use Rattle.arn_base.specs.declared.machine.Cpu.{Cpu};
@@ -15,15 +14,9 @@ ghost use Rattle.replay_steps.specs.Kinds.{kind_as};
 
 use crate::kinds::CallKind;
 use crate::wrong::argument;
+use acts_model::is_success;
 use arn_base::{Extra, NoMemory};
 use guest_bodies::Bodies;
-
-/// Whether a call's result is no error.
-pub fn is_success(answer: u64) -> bool
-    ensures { result ≡ is_success_of answer }
-{
-    answer < 1 << 63
-}
 
 // A fork whose record holds how the child begins is a result to its process, and no more.
 fn fork(

@@ -14,11 +14,11 @@ ghost use Rattle.replay_steps.specs.Calls.{ChildFits, ChildIsFree, OfSeen, child
 ghost use Rattle.replay_steps.specs.Notices.{Listener};
 ghost use Rattle.replay_steps.specs.Standing.{Explains, GainsOnly, IsStanding, Reaches, Stands};
 
-use crate::calls::{call, is_success};
+use crate::calls::call;
 use crate::kinds::kind_of;
 use crate::wrong::{Finding, call_wrong, end_wrong};
 use crate::{Disagrees, ReplayError};
-use acts_model::Observer;
+use acts_model::{Observer, is_success};
 use arn_base::{Extra, NoMemory, Record, Steps};
 use guest_bodies::{Bodies, others_stay_unheld};
 use parts_model::calls::FORK;

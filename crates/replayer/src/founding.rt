@@ -1,6 +1,5 @@
 // How a group begins: by the boot, or by a fork of another group.
 ghost use Rattle.std.specs.Prelude.{◌≡◌, ◌+◌, [], ℕ, IfErr, IfSome, IsNone, OnErr, OnOk, Some, option_map};
-ghost use Rattle.parts_model.specs.Replies.{is_success as is_success_of};
 ghost use Rattle.history_index.specs.Indexes.{Indexes};
 ghost use Rattle.history_index.specs.Lookups as lookups;
 ghost use Rattle.history_model.specs.Alone.{Makes, nothing_own};
@@ -14,17 +13,11 @@ ghost use Rattle.replayer.specs.Foundings.{Begins, event_behind};
 ghost use Rattle.replayer.specs.Parts.{LivesIn};
 
 use crate::ReplayError;
-use acts_model::Observer;
+use acts_model::{Observer, is_success};
 use arn_base::{Extra, Record, Start};
 use guest_bodies::Bodies;
 use history_index::Index;
 use parts_model::calls::FORK;
-
-fn is_success(answer: u64) -> bool
-    ensures { result ≡ is_success_of answer }
-{
-    answer < 1 << 63
-}
 
 // With what the group's first process begins, if a record tells it.
 fn start_of(group: u32, entry: &Record) -> Option<&Start>
