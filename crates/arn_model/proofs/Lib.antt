@@ -26,6 +26,7 @@ pub mod RowTells
 pub mod Places
 pub mod Fitting
 pub mod TurnTells
+pub mod TurnParts
 pub mod StepsTell
 pub mod FineRequests
 pub mod FewDescriptors

@@ -10,6 +10,7 @@ pub mod Row
 pub mod Step
 pub mod Turn
 pub mod Run
+pub mod Parts
 pub mod Tells
 pub mod Sound
 pub mod Laws

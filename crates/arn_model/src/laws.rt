@@ -1,5 +1,6 @@
 // What holds of every run, as functions that do nothing.
 ghost use Rattle.arn_model.specs.Laws.{EachRunAppends, EachRunIsSound, ProcessesCount, RepliesAreTold, RequestsAreBounded, StepsTell};
+ghost use Rattle.arn_model.specs.Parts.{TurnsHaveParts};
 
 /// What inputs do that stand one behind the other.
 pub fn runs_append()
@@ -26,4 +27,9 @@ pub fn runs_sound()
 pub fn requests_bounded()
     ensures bounded { RequestsAreBounded }
     ensures count { ProcessesCount }
+{}
+
+/// What the steps of a turn are, by their records, and how many of them are instructions.
+pub fn turns_have_parts()
+    ensures { TurnsHaveParts }
 {}

@@ -7,6 +7,8 @@ mod laws;
 mod run_state;
 
 pub use acts_model::Observer;
-pub use laws::{replies_are_told, requests_bounded, runs_append, runs_sound, steps_tell};
+pub use laws::{
+    replies_are_told, requests_bounded, runs_append, runs_sound, steps_tell, turns_have_parts,
+};
 pub use run_state::RunState;
 pub use rv64_model::Linkage;

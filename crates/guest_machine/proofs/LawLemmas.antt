@@ -4,12 +4,11 @@ use Rattle.arn_base.specs.declared.records.Record.{Record}
 use Rattle.arn_model.specs.Kernel.{Machine, at_first}
 use Rattle.arn_model.specs.Run.{Input, run, machine_after, steps_from, instructions_in}
 use Rattle.arn_model.specs.Turn.{after_steps}
-use Rattle.log_model.specs.Laws.{NamedRunsAgain}
+use Rattle.log_model.specs.Laws.{NamedRunsAgain, RecordsBound}
 use Rattle.log_model.specs.Records.{records, records_from, named}
 use Rattle.guest_calls.specs.State.{StandsFor}
 use Rattle.guest_machine.specs.Recorded.{Recorded, Runs, IsAfter, HasRoom}
 use Rattle.guest_machine.proofs.Appends.{machine_from-append, machine_from-steps, steps_from-append, instructions_in-append, records_from-append}
-use Rattle.guest_machine.proofs.Bounds.{events-few, instructions-few}
 
 -- inputs behind the others
 pub follow-runs : (r r' : Recorded) (inputs more : List Input) (out out' : List Record) → IsAfter r inputs → Runs (machine_after inputs) more r r' out out' → IsAfter r' (inputs ++ more)
@@ -33,9 +32,9 @@ follow-named again r inputs after =
     record { leads = subst (λ (x : Machine). StandsFor r.kernel x) there after.leads; counted = after.counted ∙ ap instructions_in same }
 
 -- so few records leave room
-pub few-room : (r : Recorded) (inputs : List Input) (events instructions : ℕ) → IsAfter r inputs → length (records inputs) < 2 ^ 63 → events ≤ 2 ^ 63 → instructions ≤ 2 ^ 64 → HasRoom r events instructions
-few-room r inputs events instructions after few some little =
+pub few-room : RecordsBound → (r : Recorded) (inputs : List Input) (events instructions : ℕ) → IsAfter r inputs → length (records inputs) < 2 ^ 63 → events ≤ 2 ^ 63 → instructions ≤ 2 ^ 64 → HasRoom r events instructions
+few-room bound r inputs events instructions after few some little =
     record {
-      events = omega (arith, few, some, events-few at_first inputs, after.leads.events);
-      instructions = omega (arith, few, little, instructions-few at_first inputs, after.counted);
+      events = omega (arith, few, some, (bound inputs).events, after.leads.events);
+      instructions = omega (arith, few, little, (bound inputs).instructions, after.counted);
     }

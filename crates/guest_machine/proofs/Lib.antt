@@ -6,7 +6,6 @@ pub mod RunsLemmas
 mod DiffersExamples
 pub mod Compared
 pub mod SameRecord
-pub mod Bounds
 pub mod LawLemmas
 pub mod ToldLemmas
 pub mod RealLemmas

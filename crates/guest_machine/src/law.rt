@@ -3,7 +3,7 @@ ghost use Rattle.guest_machine.specs.LegLaws.{LegsAsNamed, PicksFollow, RepliesF
 ghost use Rattle.guest_machine.specs.Laws.{NamedFollow, RecordsCompare, RecordsFollow, RecordsLeaveRoom, RunsFollow};
 
 use guest_devices::Answers;
-use log_model::{named_append, named_runs_again, slices_are_named};
+use log_model::{named_append, named_runs_again, records_bound, slices_are_named};
 
 /// Runs follow one another.
 pub fn runs_follow()
@@ -25,7 +25,9 @@ pub fn named_follow()
 /// A machine with few enough records can go on counting.
 pub fn records_leave_room()
     ensures { RecordsLeaveRoom }
-{}
+{
+    records_bound();
+}
 
 /// Two records are the same or they aren't, and `==` tells.
 pub fn records_compare()

@@ -6,10 +6,10 @@ use Rattle.parts_model.specs.declared.limits.TheConstants.{MOST_SLICE}
 use Rattle.parts_model.specs.Replies.{Answered}
 use Rattle.acts_model.specs.Bodies.{View, seen}
 use Rattle.arn_model.specs.Kernel.{Machine}
+use Rattle.arn_model.specs.Parts.{TurnsHaveParts, one_if_some}
 use Rattle.arn_model.specs.Run.{instructions_in}
 use Rattle.arn_model.specs.Step.{Step, delivery_of, due_signal}
 use Rattle.arn_model.specs.Turn.{plains, plain_in, steps_then, steps_of, turn, delivery_in, after_first, after_steps, last_of, last_in, has_due, is_runnable, is_possible}
-use Rattle.log_model.proofs.TurnLemmas.{one_if_some, turn-instructions}
 
 -- plain instructions are as many as there may be, or fewer
 then-few : (o : Option Step) (n : ℕ) (rest : Machine → List Step) → ((m : Machine) → length (rest m) ≤ n) → length (steps_then o rest) ≤ suc n
@@ -52,22 +52,22 @@ ran-few true (Some s) len count ran is most e = grind (arith, nat_tests)
 ran-few true None len count ran is most e = omega (arith, e, most)
 ran-few false o len count ran is most e = omega (arith, e, most)
 
-pub turn-few : (count pid : ℕ) (reply : Option Answered) (m : Machine) → instructions_in (steps_of (turn count pid reply m)) ≤ count
-turn-few count pid reply m =
+pub turn-few : TurnsHaveParts → (count pid : ℕ) (reply : Option Answered) (m : Machine) → instructions_in (steps_of (turn count pid reply m)) ≤ count
+turn-few parts count pid reply m =
     let m' = after_first m (delivery_in m pid (seen m.bodies pid)) in
     let plain = plains count pid m' in
     let m'' = after_steps m' plain in
-    ran-few (nat_lt (length plain) count) (last_in m'' pid reply (seen m''.bodies pid)) (length plain) count (instructions_in (steps_of (turn count pid reply m))) refl (plains-few count pid m') (turn-instructions count pid reply m)
+    ran-few (nat_lt (length plain) count) (last_in m'' pid reply (seen m''.bodies pid)) (length plain) count (instructions_in (steps_of (turn count pid reply m))) refl (plains-few count pid m') (parts count pid reply m).instructions
 
-pub turn-again : (count pid : ℕ) (reply : Option Answered) (m : Machine) → turn (instructions_in (steps_of (turn count pid reply m))) pid reply m ≡ turn count pid reply m
-turn-again count pid reply m =
+pub turn-again : TurnsHaveParts → (count pid : ℕ) (reply : Option Answered) (m : Machine) → turn (instructions_in (steps_of (turn count pid reply m))) pid reply m ≡ turn count pid reply m
+turn-again parts count pid reply m =
     let delivery = delivery_in m pid (seen m.bodies pid) in
     let m' = after_first m delivery in
     let plain = plains count pid m' in
     let m'' = after_steps m' plain in
     let ran = instructions_in (steps_of (turn count pid reply m)) in
-    let few : ran ≤ count = turn-few count pid reply m in
-    let sum = turn-instructions count pid reply m in
+    let few : ran ≤ count = turn-few parts count pid reply m in
+    let sum = (parts count pid reply m).instructions in
     let same : plains ran pid m' ≡ plain = plains-again count ran pid few m' (omega (arith, sum)) in
     let one : last_of ran pid reply m' plain ≡ last_of count pid reply m' plain = last-again (nat_lt (length plain) count) (last_in m'' pid reply (seen m''.bodies pid)) (length plain) count ran refl sum in
     ap (λ (x : List Step). record { delivery = delivery; plain = x; last = last_of ran pid reply m' x }) same
@@ -102,11 +102,11 @@ either : {A B C : Type 0} → (A → C) → A ⊎ B → C ⊎ B
 either f (inl a) = inl (f a)
 either f (inr b) = inr b
 
-pub ran-possible : (count pid : ℕ) (reply : Option Answered) (m : Machine) (s : Step) (steps : List Step) → is_possible m pid count ≡ true → steps_of (turn count pid reply m) ≡ s ∷ steps → is_possible m pid (instructions_in (steps_of (turn count pid reply m))) ≡ true
-ran-possible count pid reply m s steps possible is =
+pub ran-possible : TurnsHaveParts → (count pid : ℕ) (reply : Option Answered) (m : Machine) (s : Step) (steps : List Step) → is_possible m pid count ≡ true → steps_of (turn count pid reply m) ≡ s ∷ steps → is_possible m pid (instructions_in (steps_of (turn count pid reply m))) ≡ true
+ran-possible parts count pid reply m s steps possible is =
     let t = turn count pid reply m in
     let ran = instructions_in (steps_of t) in
     let starts : (is_some t.delivery ≡ true) ⊎ (0 < ran) =
-    subst (λ (k : ℕ). (is_some t.delivery ≡ true) ⊎ (0 < k)) (sym (turn-instructions count pid reply m)) (some-starts t.delivery t.plain t.last s steps is) in
-    fewer-possible (is_runnable m pid) (has_due m pid (seen m.bodies pid)) count ran possible (turn-few count pid reply m)
+    subst (λ (k : ℕ). (is_some t.delivery ≡ true) ⊎ (0 < k)) (sym (parts count pid reply m).instructions) (some-starts t.delivery t.plain t.last s steps is) in
+    fewer-possible (is_runnable m pid) (has_due m pid (seen m.bodies pid)) count ran possible (turn-few parts count pid reply m)
     (either (in-due m pid (seen m.bodies pid)) starts)

@@ -11,6 +11,7 @@ use Rattle.parts_model.specs.Tagged.{values, given}
 use Rattle.acts_model.specs.Records.{is_event}
 use Rattle.arn_model.specs.Kernel.{Machine}
 use Rattle.arn_model.specs.Laws.{reply_told, ReplyIsTold}
+use Rattle.arn_model.specs.Parts.{TurnsHaveParts}
 use Rattle.arn_model.specs.Run.{Input, File, Boot, Typed, Unplug, Slice, input_steps, steps_from, instructions_in, is_booted, can_add, may_unplug, boot_found, boot_from, boot_step, file_step, typed_step, unplug_step}
 use Rattle.arn_model.specs.Step.{Step}
 use Rattle.arn_model.specs.Turn.{Turn, steps_of, turn, is_possible}
@@ -63,12 +64,12 @@ possible-kept : (b : Bool) (pid : ℕ) (steps : List Step) → filter is_event (
 possible-kept true pid steps kept = slice-kept pid steps kept
 possible-kept false pid steps kept = refl
 
-pub input-kept : (m : Machine) (i : Input) → filter is_event (input_records i (input_steps m i)) ≡ event_records (input_steps m i)
-input-kept m (File path bytes) = outer-kept (File path bytes) (input_steps m (File path bytes)) (file-Outer m path bytes)
-input-kept m (Boot path) = outer-kept (Boot path) (input_steps m (Boot path)) (boot-Outer m path (is_booted m))
-input-kept m (Typed bytes) = outer-kept (Typed bytes) (input_steps m (Typed bytes)) (typed-Outer m bytes)
-input-kept m (Unplug device) = outer-kept (Unplug device) (input_steps m (Unplug device)) (unplug-Outer m device)
-input-kept m (Slice pid count reply) = possible-kept (is_possible m pid count) pid (steps_of (turn count pid reply m)) (turn-kept count pid reply m)
+pub input-kept : TurnsHaveParts → (m : Machine) (i : Input) → filter is_event (input_records i (input_steps m i)) ≡ event_records (input_steps m i)
+input-kept parts m (File path bytes) = outer-kept (File path bytes) (input_steps m (File path bytes)) (file-Outer m path bytes)
+input-kept parts m (Boot path) = outer-kept (Boot path) (input_steps m (Boot path)) (boot-Outer m path (is_booted m))
+input-kept parts m (Typed bytes) = outer-kept (Typed bytes) (input_steps m (Typed bytes)) (typed-Outer m bytes)
+input-kept parts m (Unplug device) = outer-kept (Unplug device) (input_steps m (Unplug device)) (unplug-Outer m device)
+input-kept parts m (Slice pid count reply) = possible-kept (is_possible m pid count) pid (steps_of (turn count pid reply m)) (turn-kept parts count pid reply m)
 
 -- an input's records begin with none of a call or a delivery
 outer-begins : (i : Input) (steps : List Step) → Outer i steps → (rest : List Record) → reply_behind rest ≡ None → reply_behind (event_records steps ++ rest) ≡ None
@@ -133,34 +134,34 @@ slice-again m pid count reply (s ∷ steps) is repeats none =
           ∙ ap (slice_records pid) (sym is);
     }
 
-pub turn-repeats : (m : Machine) (pid count : ℕ) (reply : Option Answered) → ReplyIsTold count pid reply m → is_possible m pid count ≡ true → (steps : List Step) → steps_of (turn count pid reply m) ≡ steps → Repeats m pid steps
+pub turn-repeats : TurnsHaveParts → (m : Machine) (pid count : ℕ) (reply : Option Answered) → ReplyIsTold count pid reply m → is_possible m pid count ≡ true → (steps : List Step) → steps_of (turn count pid reply m) ≡ steps → Repeats m pid steps
 unfolding Repeats
-turn-repeats m pid count reply told possible [] is = tt
-turn-repeats m pid count reply told possible (s ∷ steps) is =
+turn-repeats parts m pid count reply told possible [] is = tt
+turn-repeats parts m pid count reply told possible (s ∷ steps) is =
     let t = turn count pid reply m in
     let behind : Option Answered = reply_told t.last in
     let ran : ℕ = instructions_in (steps_of t) in
     let same : turn ran pid behind m ≡ t =
-    ap (λ (x : Turn). turn (instructions_in (steps_of x)) pid behind m) (sym told) ∙ turn-again count pid behind m ∙ told in
-    let fits : is_possible m pid ran ≡ true = ran-possible count pid reply m s steps possible is in
+    ap (λ (x : Turn). turn (instructions_in (steps_of x)) pid behind m) (sym told) ∙ turn-again parts count pid behind m ∙ told in
+    let fits : is_possible m pid ran ≡ true = ran-possible parts count pid reply m s steps possible is in
     let again : input_steps m (Slice pid ran behind) ≡ steps_of t = cond-true (is_possible m pid ran) (steps_of (turn ran pid behind m)) [] fits ∙ ap steps_of same in
     ap (λ (x : List Step). input_steps m (Slice pid (instructions_in x) (reply_behind (event_records x)))) (sym is)
-    ∙ ap (λ (x : Option Answered). input_steps m (Slice pid ran x)) (turn-reply count pid reply m)
+    ∙ ap (λ (x : Option Answered). input_steps m (Slice pid ran x)) (turn-reply parts count pid reply m)
     ∙ again
     ∙ is
 
-possible-again : (m : Machine) (pid count : ℕ) (reply : Option Answered) → ReplyIsTold count pid reply m → (b : Bool) → is_possible m pid count ≡ b → NamesAgain m (Slice pid count reply)
+possible-again : TurnsHaveParts → (m : Machine) (pid count : ℕ) (reply : Option Answered) → ReplyIsTold count pid reply m → (b : Bool) → is_possible m pid count ≡ b → NamesAgain m (Slice pid count reply)
 unfolding Repeats
-possible-again m pid count reply told true possible =
+possible-again parts m pid count reply told true possible =
     let steps = steps_of (turn count pid reply m) in
-    slice-again m pid count reply steps (cond-true (is_possible m pid count) steps [] possible) (turn-repeats m pid count reply told possible steps refl) (turn-names-none count pid reply m)
-possible-again m pid count reply told false possible =
+    slice-again m pid count reply steps (cond-true (is_possible m pid count) steps [] possible) (turn-repeats parts m pid count reply told possible steps refl) (turn-names-none parts count pid reply m)
+possible-again parts m pid count reply told false possible =
     slice-again m pid count reply [] (cond-false (is_possible m pid count) (steps_of (turn count pid reply m)) [] possible) tt refl
 
 -- where each turn is the same with the reply that its record names
-pub input-again : (m : Machine) (i : Input) → ((n pid : ℕ) (reply : Option Answered) → ReplyIsTold n pid reply m) → NamesAgain m i
-input-again m (File path bytes) told = outer-again m (File path bytes) (λ steps. refl) (file-Outer m path bytes)
-input-again m (Boot path) told = outer-again m (Boot path) (λ steps. refl) (boot-Outer m path (is_booted m))
-input-again m (Typed bytes) told = outer-again m (Typed bytes) (λ steps. refl) (typed-Outer m bytes)
-input-again m (Unplug device) told = outer-again m (Unplug device) (λ steps. refl) (unplug-Outer m device)
-input-again m (Slice pid count reply) told = possible-again m pid count reply (told count pid reply) (is_possible m pid count) refl
+pub input-again : TurnsHaveParts → (m : Machine) (i : Input) → ((n pid : ℕ) (reply : Option Answered) → ReplyIsTold n pid reply m) → NamesAgain m i
+input-again parts m (File path bytes) told = outer-again m (File path bytes) (λ steps. refl) (file-Outer m path bytes)
+input-again parts m (Boot path) told = outer-again m (Boot path) (λ steps. refl) (boot-Outer m path (is_booted m))
+input-again parts m (Typed bytes) told = outer-again m (Typed bytes) (λ steps. refl) (typed-Outer m bytes)
+input-again parts m (Unplug device) told = outer-again m (Unplug device) (λ steps. refl) (unplug-Outer m device)
+input-again parts m (Slice pid count reply) told = possible-again parts m pid count reply (told count pid reply) (is_possible m pid count) refl

@@ -1,5 +1,6 @@
 pub mod RecordLemmas
 pub mod TurnLemmas
+pub mod Bounds
 pub mod AgainLemmas
 pub mod InputLemmas
 pub mod SomeSteps

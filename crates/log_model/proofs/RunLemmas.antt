@@ -7,6 +7,7 @@ use Rattle.parts_model.specs.Replies.{Answered}
 use Rattle.acts_model.specs.Records.{is_event}
 use Rattle.arn_model.specs.Kernel.{Machine, at_first}
 use Rattle.arn_model.specs.Laws.{RepliesAreTold, EachRunAppends}
+use Rattle.arn_model.specs.Parts.{TurnsHaveParts}
 use Rattle.arn_model.specs.Run.{Input, File, Boot, Typed, Unplug, Slice, input_steps, after_input, steps_from, machine_from, machine_after, run}
 use Rattle.arn_model.specs.Step.{Step}
 use Rattle.arn_model.specs.Turn.{after_steps}
@@ -15,18 +16,18 @@ use Rattle.log_model.proofs.RecordLemmas.{event_records-append, records_from-app
 use Rattle.log_model.proofs.InputLemmas.{input-kept, input-begins, NamesAgain, input-again}
 
 -- the records without the slices are those of the events
-records_from-kept : (m : Machine) (inputs : List Input) → filter is_event (records_from m inputs) ≡ event_records (steps_from m inputs)
-records_from-kept m [] = refl
-records_from-kept m (i ∷ inputs) =
+records_from-kept : TurnsHaveParts → (m : Machine) (inputs : List Input) → filter is_event (records_from m inputs) ≡ event_records (steps_from m inputs)
+records_from-kept parts m [] = refl
+records_from-kept parts m (i ∷ inputs) =
     let steps = input_steps m i in
     let m' = after_input m i in
     filter-append is_event (input_records i steps) (records_from m' inputs)
-    ∙ ap (λ (x : List Record). x ++ filter is_event (records_from m' inputs)) (input-kept m i)
-    ∙ ap (λ (x : List Record). event_records steps ++ x) (records_from-kept m' inputs)
+    ∙ ap (λ (x : List Record). x ++ filter is_event (records_from m' inputs)) (input-kept parts m i)
+    ∙ ap (λ (x : List Record). event_records steps ++ x) (records_from-kept parts m' inputs)
     ∙ sym (event_records-append steps (steps_from m' inputs))
 
-pub records-kept : (inputs : List Input) → filter is_event (records inputs) ≡ event_records (run inputs)
-records-kept inputs = records_from-kept at_first inputs
+pub records-kept : TurnsHaveParts → (inputs : List Input) → filter is_event (records inputs) ≡ event_records (run inputs)
+records-kept parts inputs = records_from-kept parts at_first inputs
 
 -- a run's records begin with none of a call or a delivery
 pub records_from-begin : (m : Machine) (inputs : List Input) → reply_behind (records_from m inputs) ≡ None
@@ -88,15 +89,15 @@ both-again append m i inputs one others =
     }
 
 -- behind inputs from the start
-inputs-again : (append : EachRunAppends) (told : RepliesAreTold) (before inputs : List Input) → RunsAgain (machine_after before) inputs
-inputs-again append told before [] = record { again = refl; recorded = refl }
-inputs-again append told before (i ∷ inputs) =
+inputs-again : TurnsHaveParts → (append : EachRunAppends) (told : RepliesAreTold) (before inputs : List Input) → RunsAgain (machine_after before) inputs
+inputs-again parts append told before [] = record { again = refl; recorded = refl }
+inputs-again parts append told before (i ∷ inputs) =
     let next : machine_after (before ++ i ∷ []) ≡ after_input (machine_after before) i = (append at_first before (i ∷ [])).machine in
-    both-again append (machine_after before) i inputs (input-again (machine_after before) i (told before))
-    (subst (λ (m : Machine). RunsAgain m inputs) next (inputs-again append told (before ++ i ∷ []) inputs))
+    both-again append (machine_after before) i inputs (input-again parts (machine_after before) i (told before))
+    (subst (λ (m : Machine). RunsAgain m inputs) next (inputs-again parts append told (before ++ i ∷ []) inputs))
 
-pub run-again : (append : EachRunAppends) (told : RepliesAreTold) (inputs : List Input) → run (named (records inputs)) ≡ run inputs
-run-again append told inputs = (inputs-again append told [] inputs).again
+pub run-again : TurnsHaveParts → (append : EachRunAppends) (told : RepliesAreTold) (inputs : List Input) → run (named (records inputs)) ≡ run inputs
+run-again parts append told inputs = (inputs-again parts append told [] inputs).again
 
-pub records-IsRun : (append : EachRunAppends) (told : RepliesAreTold) (inputs : List Input) → IsRun (records inputs)
-records-IsRun append told inputs = sym (inputs-again append told [] inputs).recorded
+pub records-IsRun : TurnsHaveParts → (append : EachRunAppends) (told : RepliesAreTold) (inputs : List Input) → IsRun (records inputs)
+records-IsRun parts append told inputs = sym (inputs-again parts append told [] inputs).recorded

@@ -8,11 +8,11 @@ use Rattle.acts_model.specs.Bodies.{View, seen}
 use Rattle.acts_model.specs.Views.{stands_at}
 use Rattle.arn_model.specs.Doing.{Request, Waits, Does, Asks}
 use Rattle.arn_model.specs.Kernel.{Machine}
+use Rattle.arn_model.specs.Parts.{one_if_some}
 use Rattle.arn_model.specs.Row.{does, is_waiting, request}
 use Rattle.arn_model.specs.Run.{Slice, input_steps}
 use Rattle.arn_model.specs.Step.{Step, call_step, delivery_of, due_signal, last_by, plain_by, waits, waits_at}
 use Rattle.arn_model.specs.Turn.{after_first, can_go_on, delivery_in, has_due, is_possible, last_in, last_of, plain_in, plains, steps_of, steps_then, turn, turn_from}
-use Rattle.log_model.proofs.TurnLemmas.{one_if_some}
 
 one_if_length : (o : Option Step) → length (option_to_list o) ≡ one_if_some o
 one_if_length None = refl

@@ -1,6 +1,7 @@
 -- What holds of the records of runs.
-use Rattle.std.specs.Prelude.{◌≡◌, ◌<◌, ℕ, true, List, [], ◌∷◌, ◌++◌, length, filter, map, Option, None}
+use Rattle.std.specs.Prelude.{◌≡◌, ◌<◌, ◌≤◌, ◌*◌, ℕ, true, List, [], ◌∷◌, ◌++◌, length, filter, map, Option, None}
 use Rattle.arn_base.specs.declared.records.Record.{Record}
+use Rattle.parts_model.specs.declared.limits.TheConstants.{MOST_SLICE}
 use Rattle.parts_model.specs.Replies.{Answered}
 use Rattle.acts_model.specs.Records.{is_event}
 use Rattle.arn_model.specs.Kernel.{Machine}
@@ -54,3 +55,11 @@ BehindAppend = (entries more : List Record) → reply_behind more ≡ None → r
 -- and those of inputs begin so
 abbrev pub RecordsBegin : Type 0
 RecordsBegin = (m : Machine) (inputs : List Input) → reply_behind (records_from m inputs) ≡ None
+
+-- each event of a run has a record, and for each record no more instructions ran than a slice may have
+pub record RecordsCover (inputs : List Input) : Type 0 where
+  pub events : (machine_after inputs).events ≤ length (records inputs)
+  pub instructions : instructions_in (run inputs) ≤ MOST_SLICE * length (records inputs)
+
+abbrev pub RecordsBound : Type 0
+RecordsBound = (inputs : List Input) → RecordsCover inputs

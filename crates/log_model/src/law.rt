@@ -1,7 +1,7 @@
 // What holds of the records of runs.
-ghost use Rattle.log_model.specs.Laws.{BehindAppend, EventsRecorded, NamedAppend, NamedRunsAgain, RecordsAppend, RecordsAreRun, RecordsBegin, SlicesAreNamed, SlicesTakeSteps};
+ghost use Rattle.log_model.specs.Laws.{BehindAppend, EventsRecorded, NamedAppend, NamedRunsAgain, RecordsAppend, RecordsAreRun, RecordsBegin, RecordsBound, SlicesAreNamed, SlicesTakeSteps};
 
-use arn_model::{replies_are_told, runs_append};
+use arn_model::{replies_are_told, runs_append, turns_have_parts};
 
 /// Records are only ever added.
 pub fn records_append()
@@ -11,12 +11,15 @@ pub fn records_append()
 /// The records of a run without its slices are those of its events, in order.
 pub fn events_recorded()
     ensures { EventsRecorded }
-{}
+{
+    turns_have_parts();
+}
 
 /// What records name does the same again.
 pub fn named_runs_again()
     ensures { NamedRunsAgain }
 {
+    turns_have_parts();
     runs_append();
     replies_are_told();
 }
@@ -25,6 +28,7 @@ pub fn named_runs_again()
 pub fn records_are_run()
     ensures { RecordsAreRun }
 {
+    turns_have_parts();
     runs_append();
     replies_are_told();
 }
@@ -38,6 +42,7 @@ pub fn slices_take_steps()
 pub fn slices_are_named()
     ensures { SlicesAreNamed }
 {
+    turns_have_parts();
     replies_are_told();
 }
 
@@ -47,3 +52,10 @@ pub fn named_append()
     ensures behind { BehindAppend }
     ensures begin { RecordsBegin }
 {}
+
+/// How many events and instructions records allow.
+pub fn records_bound()
+    ensures { RecordsBound }
+{
+    turns_have_parts();
+}

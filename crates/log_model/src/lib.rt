@@ -7,5 +7,5 @@ mod law;
 
 pub use law::{
     events_recorded, named_append, named_runs_again, records_append, records_are_run,
-    slices_are_named, slices_take_steps,
+    records_bound, slices_are_named, slices_take_steps,
 };

@@ -12,7 +12,6 @@ pub mod Late
 pub mod Boots
 pub mod Inputs
 pub mod Whole
-pub mod TellsTurn
 pub mod TellsUntil
 pub mod TellsSteps
 pub mod TellsLives

@@ -7,6 +7,7 @@ use Rattle.parts_model.specs.Files.{find_file}
 use Rattle.acts_model.specs.Bodies.{body_at}
 use Rattle.arn_model.specs.Kernel.{Machine, at_first}
 use Rattle.arn_model.specs.Laws.{StepsTell, EachRunIsSound, EachRunAppends}
+use Rattle.arn_model.specs.Parts.{TurnsHaveParts}
 use Rattle.arn_model.specs.Run as run
 use Rattle.arn_model.specs.Run.{Input, machine_after, state_at, events_of, within}
 use Rattle.arn_model.specs.Tells.{lives}
@@ -30,15 +31,15 @@ use Rattle.replay_laws.proofs.TellsUntil.{events-until, from-total}
 run-reached : EachRunAppends → (inputs : List Input) → machine_after inputs ≡ after_steps at_first (run.run inputs)
 run-reached append inputs = (append at_first inputs []).reached
 
-pub records-tell-runs : StepsTell → EachRunAppends → EachRunIsSound → EventsRecorded → laws.RecordsTellRuns
-records-tell-runs tell append sound recorded inputs few =
+pub records-tell-runs : TurnsHaveParts → StepsTell → EachRunAppends → EachRunIsSound → EventsRecorded → laws.RecordsTellRuns
+records-tell-runs parts tell append sound recorded inputs few =
     let steps = run.run inputs in
     let last = after_steps at_first steps in
     let facts = run-facts tell sound inputs few in
     let reached = run-reached append inputs in
     let none_named : Naming = record { brought = 0; file = None } in
     record {
-      instructions = from-total at_first inputs;
+      instructions = from-total parts at_first inputs;
       events =
           ap (λ (es : List Record). length es) (recorded inputs)
           ∙ omega (arith, events-counted at_first steps facts)
@@ -95,11 +96,11 @@ none-live : (pid : ℕ) → false ≡ lives at_first.kernel pid
 none-live zero = refl
 none-live (suc i) = refl
 
-pub records-tell-moments : StepsTell → EachRunIsSound → laws.RecordsTellMoments
-records-tell-moments tell sound inputs moment pid few =
+pub records-tell-moments : TurnsHaveParts → StepsTell → EachRunIsSound → laws.RecordsTellMoments
+records-tell-moments parts tell sound inputs moment pid few =
     let steps = within moment (run.run inputs) in
     let facts = within-along Facts at_first moment (run.run inputs) (run-facts tell sound inputs few) in
-    let until : events_until moment (records inputs) ≡ map as_numbered (events_of steps) = events-until inputs moment ∙ numbered-events at_first steps facts in
+    let until : events_until moment (records inputs) ≡ map as_numbered (events_of steps) = events-until parts inputs moment ∙ numbered-events at_first steps facts in
     let held : segment_at (records inputs) moment pid ≡ fold_events segments_told (events_of steps) (λ q. None) pid =
     ap (λ (es : List Numbered). segments_by es (λ q. None) pid) until ∙ ap (λ (f : ℕ → Option ℕ). f pid) (segments-fold (events_of steps) (λ q. None)) in
     record {

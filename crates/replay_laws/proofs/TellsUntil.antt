@@ -1,7 +1,7 @@
 -- The events that have happened at a moment, by the records, are those of the run's steps up to it; and the records count its instructions.
 use Rattle.std.proofs.Common.{◌≡◌, ℕ, zero, suc, ◌+◌, ◌<◌, ◌≤◌, ◌++◌, Bool, true, false, cond, nat_le, List, [], ◌∷◌, Option, None, Some, length, option_to_list, refl, sym, ap, subst, ◌∙◌, arith, append_assoc}
 use Rattle.std.proofs.lemmas.Bool.Decides.{nat_tests}
-use Rattle.std.proofs.lemmas.List.Sums.{sum_by-append}
+use Rattle.std.proofs.lemmas.List.Sums.{sum_by-append, sum_by-cons}
 use Rattle.arn_base.specs.declared.records.Record.{Record}
 use Rattle.arn_base.specs.declared.records.Record.TheVariants as entry
 use Rattle.parts_model.specs.declared.tagged.TaggedByte.{TaggedByte}
@@ -10,12 +10,12 @@ use Rattle.parts_model.specs.Image.{is_image}
 use Rattle.parts_model.specs.Tagged.{values, given}
 use Rattle.acts_model.specs.Moved.{is_instruction}
 use Rattle.arn_model.specs.Kernel.{Machine, at_first}
+use Rattle.arn_model.specs.Parts.{Delivery, MaybeDelivery, ArePlain, Last, MaybeLast, Calls, Ends, IsTurn, TurnsHaveParts, one_if_some}
 use Rattle.arn_model.specs.Run.{Input, File, Boot, Typed, Unplug, Slice, input_steps, after_input, steps_from, run, instructions_in, within, unless_reached, is_booted, can_add, may_unplug, boot_found, boot_from, boot_step, file_step, typed_step, unplug_step}
 use Rattle.arn_model.specs.Step.{Step}
 use Rattle.arn_model.specs.Turn.{Turn, steps_of, turn, is_possible}
 use Rattle.history_model.specs.Moments.{Numbered, ran_in, total, if_happened, events_from, events_until}
 use Rattle.log_model.specs.Records.{event_records, slice_records, input_records, records_from, records}
-use Rattle.replay_laws.proofs.TellsTurn.{Delivery, MaybeDelivery, ArePlain, Last, MaybeLast, Calls, Ends, IsTurn, turn-IsTurn, turn-instructions, instructions-cons, last-is, one_if_some}
 
 -- records with their numbers
 abbrev pub numbered : ℕ → List Record → List Numbered
@@ -115,9 +115,13 @@ outer-agree steps rest more (OneStep s is loud none) agree = subst (λ (x : List
 
 -- a slice: the call or the end behind its other instructions
 last-loud : (s : Step) → Last s → Loud s
-last-loud s (Calls number pid call result more e) =
+last-loud s (Calls number pid call result more e one) =
     record { entry = entry.Call pid call result more; has = rw e refl; next = λ moment begins ends n rest. refl; ran = refl }
-last-loud s (Ends number pid status e) = record { entry = entry.End pid status; has = rw e refl; next = λ moment begins ends n rest. refl; ran = refl }
+last-loud s (Ends number pid status e one) = record { entry = entry.End pid status; has = rw e refl; next = λ moment begins ends n rest. refl; ran = refl }
+
+last-is : (s : Step) → Last s → is_instruction s.moved.inside ≡ true
+last-is s (Calls number pid call result more e one) = one
+last-is s (Ends number pid status e one) = one
 
 last-past : (o : Option Step) (rest : List Record) (more : List Step) → MaybeLast o → Agree rest more → (moment b e n : ℕ) → moment < e → events_from moment b e n (event_records (option_to_list o) ++ rest) ≡ []
 last-past None rest more is agree moment b e n h = agree.past moment b e n h
@@ -190,7 +194,7 @@ slice-agree : (pid : ℕ) (t : Turn) → IsTurn t → (rest : List Record) (more
 slice-agree pid t is rest more agree [] same = agree
 slice-agree pid t is rest more agree (s ∷ steps) same =
     let tail = t.plain ++ option_to_list t.last in
-    let ran = turn-instructions t is in
+    let ran = is.instructions in
     subst
     (λ (y : List Step). Agree (entry.Slice pid (instructions_in y) ∷ (event_records y ++ rest)) (y ++ more))
     same
@@ -209,23 +213,23 @@ possible-agree : (b : Bool) (pid : ℕ) (t : Turn) → IsTurn t → (rest : List
 possible-agree true pid t is rest more agree = slice-agree pid t is rest more agree (steps_of t) refl
 possible-agree false pid t is rest more agree = agree
 
-input-agree : (m : Machine) (i : Input) (rest : List Record) (more : List Step) → Agree rest more → Agree (input_records i (input_steps m i) ++ rest) (input_steps m i ++ more)
-input-agree m (File path bytes) rest more agree = outer-agree (input_steps m (File path bytes)) rest more (file-Outer m path bytes) agree
-input-agree m (Boot path) rest more agree = outer-agree (input_steps m (Boot path)) rest more (boot-Outer m path (is_booted m)) agree
-input-agree m (Typed bytes) rest more agree = outer-agree (input_steps m (Typed bytes)) rest more (typed-Outer m bytes) agree
-input-agree m (Unplug device) rest more agree = outer-agree (input_steps m (Unplug device)) rest more (unplug-Outer m device) agree
-input-agree m (Slice pid count reply) rest more agree =
-    possible-agree (is_possible m pid count) pid (turn count pid reply m) (turn-IsTurn count pid reply m) rest more agree
+input-agree : TurnsHaveParts → (m : Machine) (i : Input) (rest : List Record) (more : List Step) → Agree rest more → Agree (input_records i (input_steps m i) ++ rest) (input_steps m i ++ more)
+input-agree parts m (File path bytes) rest more agree = outer-agree (input_steps m (File path bytes)) rest more (file-Outer m path bytes) agree
+input-agree parts m (Boot path) rest more agree = outer-agree (input_steps m (Boot path)) rest more (boot-Outer m path (is_booted m)) agree
+input-agree parts m (Typed bytes) rest more agree = outer-agree (input_steps m (Typed bytes)) rest more (typed-Outer m bytes) agree
+input-agree parts m (Unplug device) rest more agree = outer-agree (input_steps m (Unplug device)) rest more (unplug-Outer m device) agree
+input-agree parts m (Slice pid count reply) rest more agree =
+    possible-agree (is_possible m pid count) pid (turn count pid reply m) (parts count pid reply m) rest more agree
 
-from-agree : (m : Machine) (inputs : List Input) → Agree (records_from m inputs) (steps_from m inputs)
-from-agree m [] = record { at = λ begins ends n left. refl; past = λ moment begins ends n h. refl }
-from-agree m (i ∷ inputs) =
+from-agree : TurnsHaveParts → (m : Machine) (inputs : List Input) → Agree (records_from m inputs) (steps_from m inputs)
+from-agree parts m [] = record { at = λ begins ends n left. refl; past = λ moment begins ends n h. refl }
+from-agree parts m (i ∷ inputs) =
     let m' = after_input m i in
-    input-agree m i (records_from m' inputs) (steps_from m' inputs) (from-agree m' inputs)
+    input-agree parts m i (records_from m' inputs) (steps_from m' inputs) (from-agree parts m' inputs)
 
-pub events-until : (inputs : List Input) (moment : ℕ) → events_until moment (records inputs) ≡ numbered 0 (event_records (within moment (run inputs)))
-events-until inputs moment =
-    ap (λ (k : ℕ). events_from k 0 0 0 (records inputs)) (omega arith) ∙ (from-agree at_first inputs).at 0 0 0 moment
+pub events-until : TurnsHaveParts → (inputs : List Input) (moment : ℕ) → events_until moment (records inputs) ≡ numbered 0 (event_records (within moment (run inputs)))
+events-until parts inputs moment =
+    ap (λ (k : ℕ). events_from k 0 0 0 (records inputs)) (omega arith) ∙ (from-agree parts at_first inputs).at 0 0 0 moment
 
 -- the records count the instructions
 
@@ -254,21 +258,26 @@ possible-total : (b : Bool) (pid : ℕ) (t : Turn) → IsTurn t → total (slice
 possible-total true pid t is = slice-total pid t is (steps_of t) refl
 possible-total false pid t is = refl
 
+instructions-cons : (s : Step) (steps : List Step) (b : Bool) → is_instruction s.moved.inside ≡ b → instructions_in (s ∷ steps) ≡ cond b 1 0 + instructions_in steps
+instructions-cons s steps b is =
+    let one : Step → ℕ = λ (x : Step). cond (is_instruction x.moved.inside) 1 0 in
+    sum_by-cons one s steps ∙ ap (λ (b : Bool). cond b 1 0 + instructions_in steps) is
+
 outer-total : (steps : List Step) → Outer steps → total (event_records steps) ≡ instructions_in steps
 outer-total steps h1 = grind (arith, nat_tests, instructions-cons)
 
-input-total : (m : Machine) (i : Input) → total (input_records i (input_steps m i)) ≡ instructions_in (input_steps m i)
-input-total m (File path bytes) = outer-total (input_steps m (File path bytes)) (file-Outer m path bytes)
-input-total m (Boot path) = outer-total (input_steps m (Boot path)) (boot-Outer m path (is_booted m))
-input-total m (Typed bytes) = outer-total (input_steps m (Typed bytes)) (typed-Outer m bytes)
-input-total m (Unplug device) = outer-total (input_steps m (Unplug device)) (unplug-Outer m device)
-input-total m (Slice pid count reply) = possible-total (is_possible m pid count) pid (turn count pid reply m) (turn-IsTurn count pid reply m)
+input-total : TurnsHaveParts → (m : Machine) (i : Input) → total (input_records i (input_steps m i)) ≡ instructions_in (input_steps m i)
+input-total parts m (File path bytes) = outer-total (input_steps m (File path bytes)) (file-Outer m path bytes)
+input-total parts m (Boot path) = outer-total (input_steps m (Boot path)) (boot-Outer m path (is_booted m))
+input-total parts m (Typed bytes) = outer-total (input_steps m (Typed bytes)) (typed-Outer m bytes)
+input-total parts m (Unplug device) = outer-total (input_steps m (Unplug device)) (unplug-Outer m device)
+input-total parts m (Slice pid count reply) = possible-total (is_possible m pid count) pid (turn count pid reply m) (parts count pid reply m)
 
-pub from-total : (m : Machine) (inputs : List Input) → total (records_from m inputs) ≡ instructions_in (steps_from m inputs)
-from-total m [] = refl
-from-total m (i ∷ inputs) =
+pub from-total : TurnsHaveParts → (m : Machine) (inputs : List Input) → total (records_from m inputs) ≡ instructions_in (steps_from m inputs)
+from-total parts m [] = refl
+from-total parts m (i ∷ inputs) =
     let first = input_records i (input_steps m i) in
     let m' = after_input m i in
     total-append first (records_from m' inputs)
-    ∙ omega (arith, input-total m i, from-total m' inputs)
+    ∙ omega (arith, input-total parts m i, from-total parts m' inputs)
     ∙ sym (sum_by-append (λ (s : Step). cond (is_instruction s.moved.inside) 1 0) (input_steps m i) (steps_from m' inputs))

@@ -1,7 +1,7 @@
 // What the records of a run tell of it.
 ghost use Rattle.replay_laws.specs.Laws.{RecordsTellEvents, RecordsTellMoments, RecordsTellRuns};
 
-use arn_model::{runs_append, runs_sound, steps_tell};
+use arn_model::{runs_append, runs_sound, steps_tell, turns_have_parts};
 use log_model::events_recorded;
 
 /// What the records of a run tell of it: how many instructions and events there were, whether a process
@@ -9,6 +9,7 @@ use log_model::events_recorded;
 pub fn records_tell_runs()
     ensures { RecordsTellRuns }
 {
+    turns_have_parts();
     steps_tell();
     runs_append();
     runs_sound();
@@ -20,6 +21,7 @@ pub fn records_tell_runs()
 pub fn records_tell_moments()
     ensures { RecordsTellMoments }
 {
+    turns_have_parts();
     steps_tell();
     runs_sound();
 }
@@ -28,4 +30,6 @@ pub fn records_tell_moments()
 /// run has had up to it.
 pub fn records_tell_events()
     ensures { RecordsTellEvents }
-{}
+{
+    turns_have_parts();
+}

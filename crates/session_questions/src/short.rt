@@ -2,6 +2,7 @@
 ghost use Rattle.session_questions.specs.Short.{ShortLogsAreCountable, ShortRunsHaveNumbers, ShortRunsStand};
 
 use arn_model::runs_sound;
+use log_model::records_bound;
 use unbroken_laws::runs_are_unbroken;
 
 /// The records of a log can be counted, and so can the bytes of each: every list whose bytes an event
@@ -14,6 +15,7 @@ pub fn short_logs_are_countable()
 pub fn short_runs_have_numbers()
     ensures { ShortRunsHaveNumbers }
 {
+    records_bound();
     runs_sound();
 }
 

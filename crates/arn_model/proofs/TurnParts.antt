@@ -1,38 +1,21 @@
--- What an input's steps are, by their records: at most a delivery first, instructions, at most a call or an end behind them; or one step of
--- what comes from outside.
+-- The parts of a turn, and its instructions.
 use Rattle.std.proofs.Common.{◌≡◌, ℕ, zero, suc, ◌+◌, ◌||◌, ◌++◌, Bool, true, false, cond, List, [], ◌∷◌, Option, None, Some, length, option_to_list, option_map, refl, ap, ◌∙◌, arith}
 use Rattle.std.proofs.lemmas.Bool.Decides.{nat_tests}
 use Rattle.std.proofs.lemmas.List.Sums.{sum_by-cons}
-use Rattle.arn_base.specs.declared.records.Record.TheVariants as entry
-use Rattle.arn_base.specs.declared.records.Extra.{Extra}
 use Rattle.rv64_model.specs.Instruction.{Effect, Next, Call, End}
 use Rattle.parts_model.specs.Replies.{Answered}
-use Rattle.acts_model.specs.Acts as act
 use Rattle.acts_model.specs.Acts.{Act, result_of}
 use Rattle.acts_model.specs.Bodies.{View, seen}
 use Rattle.acts_model.specs.Moved.{is_plain, is_instruction}
-use Rattle.acts_model.specs.Transfers.{Holds, transfer}
+use Rattle.acts_model.specs.Transfers.{Holds, transfer, holds_of}
 use Rattle.acts_model.specs.Views.{stands_at, call_number}
 use Rattle.arn_model.specs.Doing.{Doing}
 use Rattle.arn_model.specs.Kernel.{Machine}
+use Rattle.arn_model.specs.Parts.{MaybeDelivery, Plain, ArePlain, MaybeLast, Calls, Ends, IsTurn, TurnsHaveParts, one_if_some}
 use Rattle.arn_model.specs.Row.{request, does}
 use Rattle.arn_model.specs.Run.{instructions_in}
-use Rattle.arn_model.specs.Step.{Step, plain_by, last_by, delivery_of, due_signal, call_step, handler}
-use Rattle.arn_model.specs.Turn.{Turn, plains, plain_in, steps_then, steps_of, turn, delivery_in, last_of, last_in}
-
--- a delivery: a signal's record, and no instruction
-pub record Delivery (s : Step) : Type 0 where
-  pub number : ℕ
-  pub pid : ℕ
-  pub signal : ℕ
-  pub cut : Bool
-  pub handler : ℕ
-  pub event : s.moved.inside.event ≡ Some (record { number = number; entry = entry.Signal pid signal cut handler })
-  pub none : is_instruction s.moved.inside ≡ false
-
-abbrev pub MaybeDelivery : Option Step → Type 0
-MaybeDelivery None = Unit {0}
-MaybeDelivery (Some s) = Delivery s
+use Rattle.arn_model.specs.Step.{Step, plain_by, last_by, delivery_of, due_signal, call_step}
+use Rattle.arn_model.specs.Turn.{Turn, plains, plain_in, steps_then, turn, delivery_in, after_first, last_of, last_in}
 
 acts-move : (pid event : ℕ) (holds : Holds) (a : Act) → is_plain (transfer pid event holds a) ≡ false
 acts-move pid event holds a = grind (arith, nat_tests)
@@ -44,18 +27,9 @@ delivery_in-Maybe : (m : Machine) (pid : ℕ) (o : Option View) → MaybeDeliver
 delivery_in-Maybe m pid None = tt
 delivery_in-Maybe m pid (Some v) = delivery_of-Maybe m pid v (due_signal m pid v)
 
--- an instruction that the next one follows: no record
-pub record Plain (s : Step) : Type 0 where
-  pub event : s.moved.inside.event ≡ None
-  pub one : is_instruction s.moved.inside ≡ true
-
-abbrev pub MaybePlain : Option Step → Type 0
+abbrev MaybePlain : Option Step → Type 0
 MaybePlain None = Unit {0}
 MaybePlain (Some s) = Plain s
-
-abbrev pub ArePlain : List Step → Type 0
-ArePlain [] = Unit {0}
-ArePlain (s ∷ steps) = Plain s × ArePlain steps
 
 plain_by-Maybe : (m : Machine) (pid : ℕ) (v : View) (e : Effect) → MaybePlain (plain_by m pid v e)
 plain_by-Maybe m pid v e = grind (arith, nat_tests)
@@ -72,23 +46,19 @@ plains-Are : (n pid : ℕ) (m : Machine) → ArePlain (plains n pid m)
 plains-Are zero pid m = tt
 plains-Are (suc n) pid m = steps_then-Are (plain_in m pid (seen m.bodies pid)) (plains n pid) (plain_in-Maybe m pid (seen m.bodies pid)) (plains-Are n pid)
 
--- a call or an end
-pub data Last (s : Step) : Type 0 where
-  Calls : (number pid call result : ℕ) (more : Extra) → s.moved.inside.event ≡ Some (record { number = number; entry = entry.Call pid call result more }) → Last s
-  Ends : (number pid status : ℕ) → s.moved.inside.event ≡ Some (record { number = number; entry = entry.End pid status }) → Last s
-
-abbrev pub MaybeLast : Option Step → Type 0
-MaybeLast None = Unit {0}
-MaybeLast (Some s) = Last s
+or-true : (b : Bool) → (b || true) ≡ true
+or-true true = refl
+or-true false = refl
 
 called-Maybe : (m : Machine) (pid : ℕ) (v : View) (o : Option Doing) → MaybeLast (option_map (call_step m pid v) o)
 called-Maybe m pid v None = tt
-called-Maybe m pid v (Some d) = Calls m.events pid (call_number v.body.cpu) (result_of d.act) d.extra refl
+called-Maybe m pid v (Some d) =
+    Calls m.events pid (call_number v.body.cpu) (result_of d.act) d.extra refl (or-true (is_plain (transfer pid m.events (holds_of v.body) d.act)))
 
 last_by-Maybe : (m : Machine) (pid : ℕ) (v : View) (reply : Option Answered) (e : Effect) → MaybeLast (last_by m pid v reply e)
 last_by-Maybe m pid v reply (Next instr cpu memory) = tt
 last_by-Maybe m pid v reply Call = called-Maybe m pid v (does m pid v reply (request m pid v))
-last_by-Maybe m pid v reply (End status) = Ends m.events pid status refl
+last_by-Maybe m pid v reply (End status) = Ends m.events pid status refl refl
 
 last_in-Maybe : (m : Machine) (pid : ℕ) (reply : Option Answered) (o : Option View) → MaybeLast (last_in m pid reply o)
 last_in-Maybe m pid reply None = tt
@@ -101,36 +71,16 @@ if-Maybe false o is = tt
 last_of-Maybe : (n pid : ℕ) (reply : Option Answered) (m : Machine) (plain : List Step) → MaybeLast (last_of n pid reply m plain)
 last_of-Maybe n pid reply m plain = grind (arith, nat_tests, if-Maybe, last_in-Maybe)
 
--- the parts of a turn
-pub record IsTurn (t : Turn) : Type 0 where
-  pub delivery : MaybeDelivery t.delivery
-  pub plain : ArePlain t.plain
-  pub last : MaybeLast t.last
-
-pub turn-IsTurn : (n pid : ℕ) (reply : Option Answered) (m : Machine) → IsTurn (turn n pid reply m)
-turn-IsTurn n pid reply m = grind (arith, nat_tests, delivery_in-Maybe, last_of-Maybe, plains-Are)
-
 -- a turn's instructions are the plain ones and the last
-pub instructions-cons : (s : Step) (steps : List Step) (b : Bool) → is_instruction s.moved.inside ≡ b → instructions_in (s ∷ steps) ≡ cond b 1 0 + instructions_in steps
+instructions-cons : (s : Step) (steps : List Step) (b : Bool) → is_instruction s.moved.inside ≡ b → instructions_in (s ∷ steps) ≡ cond b 1 0 + instructions_in steps
 instructions-cons s steps b is =
     let one : Step → ℕ = λ (x : Step). cond (is_instruction x.moved.inside) 1 0 in
     sum_by-cons one s steps ∙ ap (λ (b : Bool). cond b 1 0 + instructions_in steps) is
 
-abbrev pub one_if_some : Option Step → ℕ
-one_if_some None = 0
-one_if_some (Some s) = 1
-
-or-true : (b : Bool) → (b || true) ≡ true
-or-true true = refl
-or-true false = refl
-
-pub last-is : (s : Step) → Last s → is_instruction s.moved.inside ≡ true
-last-is s (Calls number pid call result more e) = rw e (or-true (is_plain s.moved.inside.transfer))
-last-is s (Ends number pid status e) = rw e (or-true (is_plain s.moved.inside.transfer))
-
 last-one : (o : Option Step) → MaybeLast o → instructions_in (option_to_list o) ≡ one_if_some o
 last-one None is = refl
-last-one (Some s) is = instructions-cons s [] true (last-is s is)
+last-one (Some s) (Calls number pid call result more e one) = instructions-cons s [] true one
+last-one (Some s) (Ends number pid status e one) = instructions-cons s [] true one
 
 plain-all : (plain rest : List Step) → ArePlain plain → instructions_in (plain ++ rest) ≡ length plain + instructions_in rest
 plain-all [] rest are = omega arith
@@ -140,5 +90,20 @@ delivery-no : (o : Option Step) (rest : List Step) → MaybeDelivery o → instr
 delivery-no None rest is = refl
 delivery-no (Some s) rest is = omega (arith, instructions-cons s rest false is.none)
 
-pub turn-instructions : (t : Turn) → IsTurn t → instructions_in (steps_of t) ≡ length t.plain + one_if_some t.last
-turn-instructions t h1 = grind (arith, nat_tests, delivery-no, last-one, plain-all)
+of-parts : (t : Turn) → MaybeDelivery t.delivery → ArePlain t.plain → MaybeLast t.last → IsTurn t
+of-parts t delivery plain last =
+    record {
+      delivery = delivery;
+      plain = plain;
+      last = last;
+      instructions =
+          delivery-no t.delivery (t.plain ++ option_to_list t.last) delivery
+          ∙ plain-all t.plain (option_to_list t.last) plain
+          ∙ ap (λ (k : ℕ). length t.plain + k) (last-one t.last last);
+    }
+
+pub turns-have-parts : TurnsHaveParts
+turns-have-parts n pid reply m =
+    let delivery = delivery_in m pid (seen m.bodies pid) in
+    let m' = after_first m delivery in
+    of-parts (turn n pid reply m) (delivery_in-Maybe m pid (seen m.bodies pid)) (plains-Are n pid m') (last_of-Maybe n pid reply m' (plains n pid m'))

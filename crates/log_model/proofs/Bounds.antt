@@ -1,6 +1,7 @@
 -- How many events and instructions inputs have: no more than their records allow.
 use Rattle.std.proofs.Common.{◌≡◌, ℕ, zero, suc, ◌+◌, ◌*◌, ◌≤◌, ◌&&◌, ◌||◌, ◌++◌, Bool, true, false, cond, nat_lt, nat_le, List, [], ◌∷◌, Option, None, Some, length, option_to_list, option_map, refl, sym, ap, subst, arith, length-append}
 use Rattle.std.proofs.lemmas.Bool.Decides.{nat_tests}
+use Rattle.std.proofs.lemmas.List.Sums.{sum_by-append}
 use Rattle.parts_model.specs.declared.limits.TheConstants.{MOST_SLICE}
 use Rattle.parts_model.specs.declared.tagged.TaggedByte.{TaggedByte}
 use Rattle.parts_model.specs.Files.{find_file, file_bytes}
@@ -9,18 +10,27 @@ use Rattle.parts_model.specs.Replies.{Answered}
 use Rattle.parts_model.specs.Tagged.{values}
 use Rattle.rv64_model.specs.Instruction.{Effect, Next, Call, End}
 use Rattle.acts_model.specs.Bodies.{View, seen}
+use Rattle.acts_model.specs.Moved.{is_instruction}
 use Rattle.acts_model.specs.Views.{stands_at}
 use Rattle.arn_model.specs.Doing.{Doing}
-use Rattle.arn_model.specs.Kernel.{Machine}
+use Rattle.arn_model.specs.Kernel.{Machine, at_first}
+use Rattle.arn_model.specs.Parts.{TurnsHaveParts}
 use Rattle.arn_model.specs.Row.{does, request}
 use Rattle.arn_model.specs.Run.{Input, File, Boot, Typed, Unplug, Slice, after_input, boot_found, boot_from, boot_step, can_add, file_step, input_steps, instructions_in, is_booted, machine_from, may_unplug, steps_from, typed_step, unplug_step}
 use Rattle.arn_model.specs.Step.{Step, call_step, delivery_of, due_signal, last_by, plain_by}
 use Rattle.arn_model.specs.Turn.{after_first, after_steps, delivery_in, has_due, is_possible, is_runnable, last_in, last_of, plain_in, plains, steps_of, steps_then, turn}
 use Rattle.log_model.specs.Records.{event_records, input_records, records_from, slice_records}
-use Rattle.guest_machine.specs.Slices.{delivered}
-use Rattle.guest_machine.proofs.Appends.{after_steps-append, event_records-append, instructions_in-append}
-use Rattle.guest_machine.proofs.TurnLemmas.{plains-few}
-use Rattle.guest_machine.proofs.TurnParts.{one_if_some, turn-instructions}
+use Rattle.log_model.specs.Laws.{RecordsBound}
+use Rattle.log_model.proofs.AgainLemmas.{turn-few}
+use Rattle.log_model.proofs.RecordLemmas.{event_records-append}
+
+-- steps that stand one behind the other
+after_steps-append : (m : Machine) (steps more : List Step) → after_steps m (steps ++ more) ≡ after_steps (after_steps m steps) more
+after_steps-append m [] more = refl
+after_steps-append m (s ∷ steps) more = after_steps-append s.after steps more
+
+instructions_in-append : (steps more : List Step) → instructions_in (steps ++ more) ≡ instructions_in steps + instructions_in more
+instructions_in-append steps more = sum_by-append (λ (s : Step). cond (is_instruction s.moved.inside) 1 0) steps more
 
 -- each event of these steps is counted
 record Counts (m : Machine) (steps : List Step) : Type 0 where
@@ -85,7 +95,7 @@ after-first m (Some s) = refl
 turn-counts : (n pid : ℕ) (reply : Option Answered) (m : Machine) → Counts m (steps_of (turn n pid reply m))
 turn-counts n pid reply m =
     let delivery = delivery_in m pid (seen m.bodies pid) in
-    let m1 = delivered pid m in
+    let m1 = after_first m delivery in
     let plain = plains n pid m1 in
     let m2 = after_steps m1 plain in
     let last = last_of n pid reply m1 plain in
@@ -93,19 +103,6 @@ turn-counts n pid reply m =
     (subst (λ (x : Machine). Counts x (plain ++ option_to_list last)) (sym (after-first m delivery))
     (Counts-append m1 plain (option_to_list last) (plains-counts n pid m1)
     (if-counts m2 (nat_lt (length plain) n) (last_in m2 pid reply (seen m2.bodies pid)) (last_in-counts m2 pid reply (seen m2.bodies pid)))))
-
--- no more ran than might
-ran-few : (b : Bool) (o : Option Step) (len count ran : ℕ) → nat_lt len count ≡ b → len ≤ count → ran ≡ len + one_if_some (cond b o None) → ran ≤ count
-ran-few true (Some s) len count ran is most e = grind (arith, nat_tests)
-ran-few true None len count ran is most e = omega (arith, e, most)
-ran-few false o len count ran is most e = omega (arith, e, most)
-
-pub turn-few : (count pid : ℕ) (reply : Option Answered) (m : Machine) → instructions_in (steps_of (turn count pid reply m)) ≤ count
-turn-few count pid reply m =
-    let m1 = delivered pid m in
-    let plain = plains count pid m1 in
-    let m2 = after_steps m1 plain in
-    ran-few (nat_lt (length plain) count) (last_in m2 pid reply (seen m2.bodies pid)) (length plain) count (instructions_in (steps_of (turn count pid reply m))) refl (plains-few count pid m1) (turn-instructions count pid reply m)
 
 -- an input's events and instructions, by its records
 record Few (m : Machine) (i : Input) (steps : List Step) : Type 0 where
@@ -141,34 +138,38 @@ slice-long : (pid : ℕ) (steps : List Step) (ran : ℕ) → instructions_in ste
 slice-long pid [] ran is few = (omega arith, omega (arith, is))
 slice-long pid (s ∷ steps) ran is few = (omega arith, omega (arith, few))
 
-slice-few : (m : Machine) (pid count : ℕ) (reply : Option Answered) (b : Bool) → is_possible m pid count ≡ b → Few m (Slice pid count reply) (cond b (steps_of (turn count pid reply m)) [])
-slice-few m pid count reply false is = Few-none m (Slice pid count reply)
-slice-few m pid count reply true is =
+slice-few : TurnsHaveParts → (m : Machine) (pid count : ℕ) (reply : Option Answered) (b : Bool) → is_possible m pid count ≡ b → Few m (Slice pid count reply) (cond b (steps_of (turn count pid reply m)) [])
+slice-few parts m pid count reply false is = Few-none m (Slice pid count reply)
+slice-few parts m pid count reply true is =
     let steps = steps_of (turn count pid reply m) in
     let most : count ≤ MOST_SLICE = possible-most (is_runnable m pid) count (has_due m pid (seen m.bodies pid)) is in
-    let long = slice-long pid steps (instructions_in steps) refl (omega (arith, turn-few count pid reply m, most)) in
+    let long = slice-long pid steps (instructions_in steps) refl (omega (arith, turn-few parts count pid reply m, most)) in
     record { events = omega (arith, (turn-counts count pid reply m).events, long.0); instructions = long.1 }
   where
     possible-most : (a : Bool) (count : ℕ) (c : Bool) → (a && (nat_le count MOST_SLICE && (nat_lt 0 count || c))) ≡ true → count ≤ MOST_SLICE
     possible-most true count c is = grind (arith, nat_tests)
     possible-most false count c is = absurd cc
 
-input-few : (m : Machine) (i : Input) → Few m i (input_steps m i)
-input-few m (File path bytes) = Few-one m (File path bytes) (can_add m path bytes) (file_step m path bytes) (record { events = refl; recorded = refl; none = refl })
-input-few m (Boot path) = boot-few m path (is_booted m)
-input-few m (Typed bytes) = Few-one m (Typed bytes) (is_booted m) (typed_step m bytes) (record { events = refl; recorded = refl; none = refl })
-input-few m (Unplug device) = Few-one m (Unplug device) (may_unplug m device) (unplug_step m device) (record { events = refl; recorded = refl; none = refl })
-input-few m (Slice pid count reply) = slice-few m pid count reply (is_possible m pid count) refl
+input-few : TurnsHaveParts → (m : Machine) (i : Input) → Few m i (input_steps m i)
+input-few parts m (File path bytes) = Few-one m (File path bytes) (can_add m path bytes) (file_step m path bytes) (record { events = refl; recorded = refl; none = refl })
+input-few parts m (Boot path) = boot-few m path (is_booted m)
+input-few parts m (Typed bytes) = Few-one m (Typed bytes) (is_booted m) (typed_step m bytes) (record { events = refl; recorded = refl; none = refl })
+input-few parts m (Unplug device) = Few-one m (Unplug device) (may_unplug m device) (unplug_step m device) (record { events = refl; recorded = refl; none = refl })
+input-few parts m (Slice pid count reply) = slice-few parts m pid count reply (is_possible m pid count) refl
 
 -- those of inputs
-pub events-few : (m : Machine) (inputs : List Input) → (machine_from m inputs).events ≤ m.events + length (records_from m inputs)
-events-few m [] = omega arith
-events-few m (i ∷ inputs) =
+events-few : TurnsHaveParts → (m : Machine) (inputs : List Input) → (machine_from m inputs).events ≤ m.events + length (records_from m inputs)
+events-few parts m [] = omega arith
+events-few parts m (i ∷ inputs) =
     let m' = after_input m i in
-    omega (arith, (input-few m i).events, events-few m' inputs, length-append (input_records i (input_steps m i)) (records_from m' inputs))
+    omega (arith, (input-few parts m i).events, events-few parts m' inputs, length-append (input_records i (input_steps m i)) (records_from m' inputs))
 
-pub instructions-few : (m : Machine) (inputs : List Input) → instructions_in (steps_from m inputs) ≤ MOST_SLICE * length (records_from m inputs)
-instructions-few m [] = omega arith
-instructions-few m (i ∷ inputs) =
+instructions-few : TurnsHaveParts → (m : Machine) (inputs : List Input) → instructions_in (steps_from m inputs) ≤ MOST_SLICE * length (records_from m inputs)
+instructions-few parts m [] = omega arith
+instructions-few parts m (i ∷ inputs) =
     let m' = after_input m i in
-    omega (arith, (input-few m i).instructions, instructions-few m' inputs, length-append (input_records i (input_steps m i)) (records_from m' inputs), instructions_in-append (input_steps m i) (steps_from m' inputs))
+    omega (arith, (input-few parts m i).instructions, instructions-few parts m' inputs, length-append (input_records i (input_steps m i)) (records_from m' inputs), instructions_in-append (input_steps m i) (steps_from m' inputs))
+
+pub records-bound : TurnsHaveParts → RecordsBound
+records-bound parts inputs =
+    record { events = omega (arith, events-few parts at_first inputs); instructions = instructions-few parts at_first inputs }
