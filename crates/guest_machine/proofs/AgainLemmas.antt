@@ -6,6 +6,7 @@ use Rattle.parts_model.specs.Replies.{Answered}
 use Rattle.acts_model.specs.Bodies.{View, seen}
 use Rattle.arn_model.specs.Kernel.{Machine}
 use Rattle.arn_model.specs.Laws.{RequestsAreBounded}
+use Rattle.arn_model.specs.Parts.{TurnsHaveParts, one_if_some}
 use Rattle.arn_model.specs.Run.{Input, Slice, input_steps, instructions_in, steps_from}
 use Rattle.rv64_model.specs.Instruction.{Effect, Next, Call, End}
 use Rattle.acts_model.specs.Views.{stands_at}
@@ -23,7 +24,6 @@ use Rattle.guest_machine.proofs.RunsLemmas.{Runs-one}
 use Rattle.guest_machine.proofs.SliceLemmas.{can-turn}
 use Rattle.guest_machine.proofs.ToldLemmas.{Tells, turn-told}
 use Rattle.guest_machine.proofs.TurnLemmas.{sees}
-use Rattle.guest_machine.proofs.TurnParts.{one_if_some, turn-instructions}
 
 -- a slice in which devices answered as a record tells
 told-steps : RequestsAreBounded → CountsHere → CountsReads → {A : Type 0} (answers : A → Asked → Answered → A → Type 0) (reply : Option Answered) (asked asked' : A) → Tells reply answers asked → (m : Machine) (pid count : ℕ) (r r' : Recorded) (out out' : List Record) → (s : RanSlice answers m pid count asked asked' r r' out out') → input_steps m (Slice pid count s.reply) ≡ input_steps m (Slice pid count reply)
@@ -96,15 +96,15 @@ none-last len k o is =
     ap (λ (b : Bool). one_if_some (cond b o None)) spent
 
 -- a turn for fewer instructions runs no more
-turn-fewer : (m : Machine) (pid k n : ℕ) (a b : Option Answered) → k ≤ n → instructions_in (steps_of (turn k pid a m)) ≤ instructions_in (steps_of (turn n pid b m))
-turn-fewer m pid k n a b few = by (plains-grown k n pid few (delivered pid m))
+turn-fewer : TurnsHaveParts → (m : Machine) (pid k n : ℕ) (a b : Option Answered) → k ≤ n → instructions_in (steps_of (turn k pid a m)) ≤ instructions_in (steps_of (turn n pid b m))
+turn-fewer parts m pid k n a b few = by (plains-grown k n pid few (delivered pid m))
   where
     by : ((length (plains k pid (delivered pid m)) ≡ k) × (k ≤ length (plains n pid (delivered pid m)))) ⊎ (plains k pid (delivered pid m) ≡ plains n pid (delivered pid m)) → instructions_in (steps_of (turn k pid a m)) ≤ instructions_in (steps_of (turn n pid b m))
     by (inl full) =
         let m1 = delivered pid m in
         let m2 = after_steps m1 (plains k pid m1) in
         let last = none-last (length (plains k pid m1)) k (last_in m2 pid a (seen m2.bodies pid)) full.0 in
-        omega (arith, turn-instructions k pid a m, turn-instructions n pid b m, full.0, full.1, last)
+        omega (arith, (parts k pid a m).instructions, (parts n pid b m).instructions, full.0, full.1, last)
     by (inr same) =
         let m1 = delivered pid m in
         let plain = plains n pid m1 in
@@ -112,12 +112,12 @@ turn-fewer m pid k n a b few = by (plains-grown k n pid few (delivered pid m))
         let fewer = last-fewer (nat_lt (length plain) k) (nat_lt (length plain) n) (last_in m2 pid a (seen m2.bodies pid)) (last_in m2 pid b (seen m2.bodies pid)) (later (length plain) k n few) (last-some m2 pid a b (seen m2.bodies pid)) in
         let one = ap (λ (steps : List Step). one_if_some (last_of k pid a m1 steps)) same in
         let long = ap length same in
-        omega (arith, turn-instructions k pid a m, turn-instructions n pid b m, fewer, one, long)
+        omega (arith, (parts k pid a m).instructions, (parts n pid b m).instructions, fewer, one, long)
 
 -- so a part of a slice takes no more steps than the whole
-pub cut-few : (pid count : ℕ) (reply : Option Answered) (r r' : Recorded) (out out' : List Record) (steps steps' : ℕ) → IsLive r.kernel.guests pid → OfEach r.kernel (λ m. CanTake m pid count) → OfEach r.kernel (λ m. IsCut m pid count r r' out out')
+pub cut-few : TurnsHaveParts → (pid count : ℕ) (reply : Option Answered) (r r' : Recorded) (out out' : List Record) (steps steps' : ℕ) → IsLive r.kernel.guests pid → OfEach r.kernel (λ m. CanTake m pid count) → OfEach r.kernel (λ m. IsCut m pid count r r' out out')
     → steps' + r.instructions ≤ steps + r'.instructions + 1 → OfEach r.kernel (λ m. steps' ≤ steps + instructions_in (input_steps m (Slice pid count reply)) + 1)
-cut-few pid count reply r r' out out' steps steps' live can cut few m stands = by (cut m stands).inputs (cut m stands).part (cut m stands).runs
+cut-few parts pid count reply r r' out out' steps steps' live can cut few m stands = by (cut m stands).inputs (cut m stands).part (cut m stands).runs
   where
     by : (inputs : List Input) → IsPart pid count inputs → Runs m inputs r r' out out' → steps' ≤ steps + instructions_in (input_steps m (Slice pid count reply)) + 1
     by inputs Unbegun runs = omega (arith, few, runs.counted)
@@ -125,4 +125,4 @@ cut-few pid count reply r r' out out' steps steps' live can cut few m stands = b
         let v = sees r.kernel m pid stands live in
         let part = ap instructions_in (append-nil (input_steps m (Slice pid k None)) ∙ can-turn m pid count k v.0 None v.1 (can m stands) (omega (arith, within))) in
         let whole = ap instructions_in (can-turn m pid count count v.0 reply v.1 (can m stands) (omega arith)) in
-        omega (arith, few, runs.counted, part, whole, turn-fewer m pid k count None reply (omega (arith, within)))
+        omega (arith, few, runs.counted, part, whole, turn-fewer parts m pid k count None reply (omega (arith, within)))

@@ -7,6 +7,7 @@ use Rattle.parts_model.specs.declared.limits.TheConstants.{MOST_SLICE}
 use Rattle.parts_model.specs.Replies.{Answered}
 use Rattle.acts_model.specs.Bodies.{View, seen}
 use Rattle.arn_model.specs.Kernel.{Machine}
+use Rattle.arn_model.specs.Parts.{TurnsHaveParts}
 use Rattle.arn_model.specs.Run.{Slice, input_steps, instructions_in}
 use Rattle.arn_model.specs.Step.{due_signal}
 use Rattle.arn_model.specs.Turn.{has_due, is_possible, is_runnable, can_go_on, steps_of, turn}
@@ -73,39 +74,39 @@ can-lives s pid count real can = by (can real.machine real.stands)
         lives s real.machine pid v.0 real.stands v.1
 
 -- from a turn to the slice
-Turned-Runs : (m : Machine) (pid k : ℕ) (reply : Option Answered) (t : Turn) (old new : Recorded) (out out' : List Record) → input_steps m (Slice pid k reply) ≡ steps_of (turn k pid reply m) → Turned m pid k reply t new.kernel → new.instructions ≡ old.instructions + t.ran
+Turned-Runs : TurnsHaveParts → (m : Machine) (pid k : ℕ) (reply : Option Answered) (t : Turn) (old new : Recorded) (out out' : List Record) → input_steps m (Slice pid k reply) ≡ steps_of (turn k pid reply m) → Turned m pid k reply t new.kernel → new.instructions ≡ old.instructions + t.ran
     → out' ≡ out ++ slice_of pid t.ran (option_to_list t.delivery ++ option_to_list t.last) → Runs m (Slice pid k reply ∷ []) old new out out'
-Turned-Runs m pid k reply t old new out out' is turned counted recorded =
+Turned-Runs parts m pid k reply t old new out out' is turned counted recorded =
     let steps = steps_of (turn k pid reply m) in
     let same : slice_of pid t.ran (option_to_list t.delivery ++ option_to_list t.last) ≡ slice_records pid steps =
     ap (λ (n : ℕ). slice_of pid n (option_to_list t.delivery ++ option_to_list t.last)) (sym turned.ran)
     ∙ ap (slice_of pid (instructions_in steps)) (sym turned.told)
-    ∙ sym (turn-slice k pid reply m) in
+    ∙ sym (turn-slice parts k pid reply m) in
     Runs-one m (Slice pid k reply) steps old new out out' is turned.stands (omega (arith, counted, turned.ran)) (recorded ∙ ap (λ (entries : List Record). out ++ entries) same)
 
-pub whole-slice : {A : Type 0} (answers : A → Asked → Answered → A → Type 0) (asked asked' : A) (cut : Bool) (m : Machine) (pid count : ℕ) (t : Turn) (old new : Recorded) (out out' : List Record) → StandsFor old.kernel m → IsLive old.kernel.guests pid → CanTake m pid count → cut ≡ false
+pub whole-slice : {A : Type 0} → TurnsHaveParts → (answers : A → Asked → Answered → A → Type 0) (asked asked' : A) (cut : Bool) (m : Machine) (pid count : ℕ) (t : Turn) (old new : Recorded) (out out' : List Record) → StandsFor old.kernel m → IsLive old.kernel.guests pid → CanTake m pid count → cut ≡ false
     → Took cut answers m pid count t asked asked' new.kernel → new.instructions ≡ old.instructions + t.ran → out' ≡ out ++ slice_of pid t.ran (option_to_list t.delivery ++ option_to_list t.last) → RanSlice answers m pid count asked asked' old new out out'
-whole-slice answers asked asked' cut m pid count t old new out out' stands live can whole took counted recorded =
+whole-slice parts answers asked asked' cut m pid count t old new out out' stands live can whole took counted recorded =
     let v = sees old.kernel m pid stands live in
     let w : TookWhole answers m pid count t asked asked' new.kernel = subst (λ (b : Bool). Took b answers m pid count t asked asked' new.kernel) whole took in
     record {
       reply = w.reply;
-      runs = Turned-Runs m pid count w.reply t old new out out' (can-turn m pid count count v.0 w.reply v.1 can (omega arith)) w.turned counted recorded;
+      runs = Turned-Runs parts m pid count w.reply t old new out out' (can-turn m pid count count v.0 w.reply v.1 can (omega arith)) w.turned counted recorded;
       replied = w.replied;
     }
 
 part-of : {A : Type 0} (answers : A → Asked → Answered → A → Type 0) (asked asked' : A) (cut : Bool) (m : Machine) (pid count : ℕ) (t : Turn) (s : State) → cut ≡ true → Took cut answers m pid count t asked asked' s → TookPart m pid count t asked asked' s
 part-of answers asked asked' cut m pid count t s is took = subst (λ (b : Bool). Took b answers m pid count t asked asked' s) is took
 
-pub cut-slice : {A : Type 0} (answers : A → Asked → Answered → A → Type 0) (asked asked' : A) (cut : Bool) (m : Machine) (pid count : ℕ) (t : Turn) (old new : Recorded) (out out' : List Record) → StandsFor old.kernel m → IsLive old.kernel.guests pid → CanTake m pid count → cut ≡ true
+pub cut-slice : {A : Type 0} → TurnsHaveParts → (answers : A → Asked → Answered → A → Type 0) (asked asked' : A) (cut : Bool) (m : Machine) (pid count : ℕ) (t : Turn) (old new : Recorded) (out out' : List Record) → StandsFor old.kernel m → IsLive old.kernel.guests pid → CanTake m pid count → cut ≡ true
     → Took cut answers m pid count t asked asked' new.kernel → new.instructions ≡ old.instructions + t.ran → out' ≡ out ++ slice_of pid t.ran (option_to_list t.delivery ++ option_to_list t.last) → IsCut m pid count old new out out'
-cut-slice answers asked asked' cut m pid count t old new out out' stands live can is took counted recorded =
+cut-slice parts answers asked asked' cut m pid count t old new out out' stands live can is took counted recorded =
     let v = sees old.kernel m pid stands live in
     let p = part-of answers asked asked' cut m pid count t new.kernel is took in
     record {
       inputs = Slice pid t.ran None ∷ [];
       part = Begun t.ran p.within;
-      runs = Turned-Runs m pid t.ran None t old new out out' (can-turn m pid count t.ran v.0 None v.1 can (omega (arith, p.within))) p.turned counted recorded;
+      runs = Turned-Runs parts m pid t.ran None t old new out out' (can-turn m pid count t.ran v.0 None v.1 can (omega (arith, p.within))) p.turned counted recorded;
     }
 
 -- and its devices weren't asked
@@ -123,21 +124,21 @@ kept-behind : (pid : ℕ) (t : Turn) (out out1 out' : List Record) → out1 ≡ 
 kept-behind pid t out out1 out' same kept = kept ∙ ap (λ (entries : List Record). entries ++ slice_of pid t.ran (option_to_list t.delivery ++ option_to_list t.last)) same
 
 -- the same of a whole machine
-pub slice-whole : {A : Type 0} (answers : A → Asked → Answered → A → Type 0) (asked asked' : A) (taken : Taken) (pid count : ℕ) (k : State) (i : ℕ) (old new : Recorded) (out out1 out' : List Record) → record { kernel = k; instructions = i } ≡ old → IsLive old.kernel.guests pid → OfEach old.kernel (λ m. CanTake m pid count) → taken.cut ≡ false
+pub slice-whole : {A : Type 0} → TurnsHaveParts → (answers : A → Asked → Answered → A → Type 0) (asked asked' : A) (taken : Taken) (pid count : ℕ) (k : State) (i : ℕ) (old new : Recorded) (out out1 out' : List Record) → record { kernel = k; instructions = i } ≡ old → IsLive old.kernel.guests pid → OfEach old.kernel (λ m. CanTake m pid count) → taken.cut ≡ false
     → OfEach k (λ m. Takes answers m pid count taken asked asked' new.kernel out1 out') → new.instructions ≡ i + taken.ran → out1 ≡ out → OfEach old.kernel (λ m. RanSlice answers m pid count asked asked' old new out out')
-slice-whole answers asked asked' taken pid count k i old new out out1 out' same live can whole takes counted before m stands =
+slice-whole parts answers asked asked' taken pid count k i old new out out1 out' same live can whole takes counted before m stands =
     let stands' : StandsFor k m = subst (λ (r : Recorded). StandsFor r.kernel m) (sym same) stands in
     let t = takes m stands' in
     let ran : new.instructions ≡ i + t.parts.ran = omega (arith, counted, t.ran) in
-    whole-slice answers asked asked' taken.cut m pid count t.parts old new out out' stands live (can m stands) whole t.took (ran ∙ ap (λ (r : Recorded). r.instructions + t.parts.ran) same) (kept-behind pid t.parts out out1 out' before t.kept)
+    whole-slice parts answers asked asked' taken.cut m pid count t.parts old new out out' stands live (can m stands) whole t.took (ran ∙ ap (λ (r : Recorded). r.instructions + t.parts.ran) same) (kept-behind pid t.parts out out1 out' before t.kept)
 
-pub slice-cut : {A : Type 0} (answers : A → Asked → Answered → A → Type 0) (asked asked' : A) (taken : Taken) (pid count : ℕ) (k : State) (i : ℕ) (old new : Recorded) (out out1 out' : List Record) → record { kernel = k; instructions = i } ≡ old → IsLive old.kernel.guests pid → OfEach old.kernel (λ m. CanTake m pid count) → taken.cut ≡ true
+pub slice-cut : {A : Type 0} → TurnsHaveParts → (answers : A → Asked → Answered → A → Type 0) (asked asked' : A) (taken : Taken) (pid count : ℕ) (k : State) (i : ℕ) (old new : Recorded) (out out1 out' : List Record) → record { kernel = k; instructions = i } ≡ old → IsLive old.kernel.guests pid → OfEach old.kernel (λ m. CanTake m pid count) → taken.cut ≡ true
     → OfEach k (λ m. Takes answers m pid count taken asked asked' new.kernel out1 out') → new.instructions ≡ i + taken.ran → out1 ≡ out → OfEach old.kernel (λ m. IsCut m pid count old new out out')
-slice-cut answers asked asked' taken pid count k i old new out out1 out' same live can is takes counted before m stands =
+slice-cut parts answers asked asked' taken pid count k i old new out out1 out' same live can is takes counted before m stands =
     let stands' : StandsFor k m = subst (λ (r : Recorded). StandsFor r.kernel m) (sym same) stands in
     let t = takes m stands' in
     let ran : new.instructions ≡ i + t.parts.ran = omega (arith, counted, t.ran) in
-    cut-slice answers asked asked' taken.cut m pid count t.parts old new out out' stands live (can m stands) is t.took (ran ∙ ap (λ (r : Recorded). r.instructions + t.parts.ran) same) (kept-behind pid t.parts out out1 out' before t.kept)
+    cut-slice parts answers asked asked' taken.cut m pid count t.parts old new out out' stands live (can m stands) is t.took (ran ∙ ap (λ (r : Recorded). r.instructions + t.parts.ran) same) (kept-behind pid t.parts out out1 out' before t.kept)
 
 pub real-of : (k : State) (i : ℕ) (r : Recorded) → record { kernel = k; instructions = i } ≡ r → IsReal k → IsReal r.kernel
 real-of k i r same real = subst (λ (x : Recorded). IsReal x.kernel) same real

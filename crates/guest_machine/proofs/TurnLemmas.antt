@@ -9,6 +9,7 @@ use Rattle.parts_model.specs.Numbered.{nth}
 use Rattle.parts_model.specs.Replies.{Answered}
 use Rattle.acts_model.specs.Bodies.{View, seen}
 use Rattle.arn_model.specs.Kernel.{Machine}
+use Rattle.arn_model.specs.Parts.{MaybeLast, TurnsHaveParts}
 use Rattle.arn_model.specs.Run.{instructions_in}
 use Rattle.arn_model.specs.Step.{Step}
 use Rattle.arn_model.specs.Turn.{after_first, after_steps, delivery_in, last_in, last_of, plain_in, plains, steps_of, steps_then, turn}
@@ -19,7 +20,7 @@ use Rattle.guest_calls.specs.State.{State, StandsFor}
 use Rattle.guest_machine.specs.Slices.{RepliesIf, RepliesOf, delivered}
 use Rattle.guest_machine.specs.Turns.{Finishes, Happens, StopsAt, TookPart, TookWhole, Turn, Turned}
 use Rattle.guest_machine.proofs.Appends.{after_steps-append, event_records-append}
-use Rattle.guest_machine.proofs.TurnParts.{delivery-instructions, last-counted, plains-instructions, plains-records}
+use Rattle.guest_machine.proofs.TurnParts.{last-counted, last-one, plain-records}
 
 -- what a live process sees
 some-view : (guests : Guests) (p : ℕ) → IsLive guests p → (v : View) × (seen_in guests p ≡ Some v)
@@ -101,36 +102,37 @@ turn-after n pid reply m =
     at_end m None = refl
     at_end m (Some s) = refl
 
-turn-told : (n pid : ℕ) (reply : Option Answered) (m : Machine) → let m1 = delivered pid m in let plain = plains n pid m1 in
+turn-told : TurnsHaveParts → (n pid : ℕ) (reply : Option Answered) (m : Machine) → let m1 = delivered pid m in let plain = plains n pid m1 in
     event_records (steps_of (turn n pid reply m)) ≡ event_records (option_to_list (delivery_in m pid (seen m.bodies pid))) ++ event_records (option_to_list (last_of n pid reply m1 plain))
-turn-told n pid reply m =
+turn-told parts n pid reply m =
     let first = option_to_list (delivery_in m pid (seen m.bodies pid)) in
     let m1 = delivered pid m in
     let last = option_to_list (last_of n pid reply m1 (plains n pid m1)) in
-    event_records-append first (plains n pid m1 ++ last) ∙ ap (λ (entries : List Record). event_records first ++ entries) (plains-records n pid m1 last)
+    event_records-append first (plains n pid m1 ++ last) ∙ ap (λ (entries : List Record). event_records first ++ entries) (plain-records (plains n pid m1) last (parts n pid reply m).plain)
 
-turn-ran : (n pid : ℕ) (reply : Option Answered) (m : Machine) → let m1 = delivered pid m in let plain = plains n pid m1 in
+turn-ran : TurnsHaveParts → (n pid : ℕ) (reply : Option Answered) (m : Machine) → let m1 = delivered pid m in let plain = plains n pid m1 in
     instructions_in (steps_of (turn n pid reply m)) ≡ length plain + instructions_in (option_to_list (last_of n pid reply m1 plain))
-turn-ran n pid reply m =
-    let m1 = delivered pid m in
-    let last = option_to_list (last_of n pid reply m1 (plains n pid m1)) in
-    delivery-instructions m pid (seen m.bodies pid) (plains n pid m1 ++ last) ∙ plains-instructions n pid m1 last
+turn-ran parts n pid reply m =
+    let is = parts n pid reply m in
+    let plain = plains n pid (delivered pid m) in
+    let last = last_of n pid reply (delivered pid m) plain in
+    is.instructions ∙ ap (λ (k : ℕ). length plain + k) (sym (last-one last is.last))
 
 -- from the last step that may be, a turn's facts
-pub turned : (m : Machine) (pid n : ℕ) (reply : Option Answered) (delivery last : Option Record) (step : Option Step) (ran : ℕ) (cut : Bool) (new : State)
+pub turned : TurnsHaveParts → (m : Machine) (pid n : ℕ) (reply : Option Answered) (delivery last : Option Record) (step : Option Step) (ran : ℕ) (cut : Bool) (new : State)
     → event_records (option_to_list (delivery_in m pid (seen m.bodies pid))) ≡ option_to_list delivery
     → last_of n pid reply (delivered pid m) (plains n pid (delivered pid m)) ≡ step
     → event_records (option_to_list step) ≡ option_to_list last
     → length (plains n pid (delivered pid m)) + instructions_in (option_to_list step) ≡ ran
     → StandsFor new (after_first (after_steps (delivered pid m) (plains n pid (delivered pid m))) step)
     → Turned m pid n reply (record { delivery = delivery; ran = ran; last = last; cut = cut }) new
-turned m pid n reply delivery last step ran cut new first is told count stands =
+turned parts m pid n reply delivery last step ran cut new first is told count stands =
     let m1 = delivered pid m in
     let plain = plains n pid m1 in
     record {
-      ran = turn-ran n pid reply m ∙ ap (λ (o : Option Step). length plain + instructions_in (option_to_list o)) is ∙ count;
+      ran = turn-ran parts n pid reply m ∙ ap (λ (o : Option Step). length plain + instructions_in (option_to_list o)) is ∙ count;
       told =
-          turn-told n pid reply m
+          turn-told parts n pid reply m
           ∙ ap (λ (entries : List Record). entries ++ event_records (option_to_list (last_of n pid reply m1 plain))) first
           ∙ ap (λ (o : Option Step). option_to_list delivery ++ event_records (option_to_list o)) is
           ∙ ap (λ (entries : List Record). option_to_list delivery ++ entries) told;
@@ -138,19 +140,19 @@ turned m pid n reply delivery last step ran cut new first is told count stands =
     }
 
 -- the process ended by its delivery
-pub took-dead : {A : Type 0} (answers : A → Asked → Answered → A → Type 0) (asked : A) (m : Machine) (pid n : ℕ) (delivery : Option Record) (new : State)
+pub took-dead : {A : Type 0} → TurnsHaveParts → (answers : A → Asked → Answered → A → Type 0) (asked : A) (m : Machine) (pid n : ℕ) (delivery : Option Record) (new : State)
     → event_records (option_to_list (delivery_in m pid (seen m.bodies pid))) ≡ option_to_list delivery
     → seen (delivered pid m).bodies pid ≡ None
     → StandsFor new (delivered pid m)
     → TookWhole answers m pid n (record { delivery = delivery; ran = 0; last = None; cut = false }) asked asked new
-took-dead answers asked m pid n delivery new first dead stands =
+took-dead parts answers asked m pid n delivery new first dead stands =
     let m1 = delivered pid m in
     let none : plains n pid m1 ≡ [] = none-plain n pid m1 dead in
     let no_last : last_of n pid None m1 (plains n pid m1) ≡ None = ap (last_of n pid None m1) none ∙ ap (λ (o : Option View). cond (nat_lt 0 n) (last_in m1 pid None o) None) dead ∙ same (nat_lt 0 n) in
     record {
       reply = None;
       replied = subst (λ (plain : List Step). RepliesIf (nat_lt (length plain) n) answers (after_steps m1 plain) pid None asked asked) (sym none) (asks_none (nat_lt 0 n));
-      turned = turned m pid n None delivery None None 0 false new first no_last refl (ap (λ (plain : List Step). length plain + 0) none) (subst (λ (plain : List Step). StandsFor new (after_steps m1 plain)) (sym none) stands);
+      turned = turned parts m pid n None delivery None None 0 false new first no_last refl (ap (λ (plain : List Step). length plain + 0) none) (subst (λ (plain : List Step). StandsFor new (after_steps m1 plain)) (sym none) stands);
     }
   where
     same : (b : Bool) → cond {A = Option Step} b None None ≡ None
@@ -162,12 +164,12 @@ took-dead answers asked m pid n delivery new first dead stands =
     asks_none false = (refl, refl)
 
 -- all instructions ran that might
-took-spent : {A : Type 0} (answers : A → Asked → Answered → A → Type 0) (asked : A) (m : Machine) (pid n : ℕ) (delivery : Option Record) (new : State)
+took-spent : {A : Type 0} → TurnsHaveParts → (answers : A → Asked → Answered → A → Type 0) (asked : A) (m : Machine) (pid n : ℕ) (delivery : Option Record) (new : State)
     → event_records (option_to_list (delivery_in m pid (seen m.bodies pid))) ≡ option_to_list delivery
     → length (plains n pid (delivered pid m)) ≡ n
     → StandsFor new (after_steps (delivered pid m) (plains n pid (delivered pid m)))
     → TookWhole answers m pid n (record { delivery = delivery; ran = n + 0; last = None; cut = false }) asked asked new
-took-spent answers asked m pid n delivery new first all stands =
+took-spent parts answers asked m pid n delivery new first all stands =
     let m1 = delivered pid m in
     let plain = plains n pid m1 in
     let spent : nat_lt (length plain) n ≡ false = grind (arith, nat_tests) in
@@ -175,58 +177,59 @@ took-spent answers asked m pid n delivery new first all stands =
     record {
       reply = None;
       replied = subst (λ (b : Bool). RepliesIf b answers m2 pid None asked asked) (sym spent) (refl, refl);
-      turned = turned m pid n None delivery None None (n + 0) false new first (cond-false (nat_lt (length plain) n) (last_in m2 pid None (seen m2.bodies pid)) None spent) refl (ap (λ (k : ℕ). k + 0) all) stands;
+      turned = turned parts m pid n None delivery None None (n + 0) false new first (cond-false (nat_lt (length plain) n) (last_in m2 pid None (seen m2.bodies pid)) None spent) refl (ap (λ (k : ℕ). k + 0) all) stands;
     }
 
 -- the last step happened, or isn't ready
-took-last : {A : Type 0} (answers : A → Asked → Answered → A → Type 0) (asked asked' : A) (m : Machine) (pid n ran : ℕ) (delivery last : Option Record) (new : State)
+took-last : {A : Type 0} → TurnsHaveParts → (answers : A → Asked → Answered → A → Type 0) (asked asked' : A) (m : Machine) (pid n ran : ℕ) (delivery last : Option Record) (new : State)
     → event_records (option_to_list (delivery_in m pid (seen m.bodies pid))) ≡ option_to_list delivery
     → length (plains n pid (delivered pid m)) ≡ ran
     → ran < n
     → Happens answers (after_steps (delivered pid m) (plains n pid (delivered pid m))) pid last asked asked' new
     → TookWhole answers m pid n (record { delivery = delivery; ran = ran + length (option_to_list last); last = last; cut = false }) asked asked' new
-took-last answers asked asked' m pid n ran delivery last new first many within happens =
+took-last parts answers asked asked' m pid n ran delivery last new first many within happens =
     let m1 = delivered pid m in
     let plain = plains n pid m1 in
     let m2 = after_steps m1 plain in
     let some : nat_lt (length plain) n ≡ true = grind (arith, nat_tests) in
     let step = last_in m2 pid happens.reply (seen m2.bodies pid) in
-    let counted = last-counted m2 pid happens.reply (seen m2.bodies pid) in
+    let one : last_of n pid happens.reply m1 plain ≡ step = cond-true (nat_lt (length plain) n) step None some in
+    let counted = last-counted step (subst MaybeLast one (parts n pid happens.reply m).last) in
     record {
       reply = happens.reply;
       replied = subst (λ (b : Bool). RepliesIf b answers m2 pid happens.reply asked asked') (sym some) happens.replied;
-      turned = turned m pid n happens.reply delivery last step (ran + length (option_to_list last)) false new first (cond-true (nat_lt (length plain) n) step None some) happens.told (omega (arith, many, counted, ap length happens.told)) happens.stands;
+      turned = turned parts m pid n happens.reply delivery last step (ran + length (option_to_list last)) false new first one happens.told (omega (arith, many, counted, ap length happens.told)) happens.stands;
     }
 
-pub took-whole : {A : Type 0} (answers : A → Asked → Answered → A → Type 0) (asked asked' : A) (m : Machine) (pid n : ℕ) (delivery last : Option Record) (o : Outcome) (ran : ℕ) (s new : State)
+pub took-whole : {A : Type 0} → TurnsHaveParts → (answers : A → Asked → Answered → A → Type 0) (asked asked' : A) (m : Machine) (pid n : ℕ) (delivery last : Option Record) (o : Outcome) (ran : ℕ) (s new : State)
     → event_records (option_to_list (delivery_in m pid (seen m.bodies pid))) ≡ option_to_list delivery
     → length (plains n pid (delivered pid m)) ≡ ran
     → StandsFor s (after_steps (delivered pid m) (plains n pid (delivered pid m)))
     → StopsAt o ran n (after_steps (delivered pid m) (plains n pid (delivered pid m))) pid
     → Finishes o answers (after_steps (delivered pid m) (plains n pid (delivered pid m))) pid last asked asked' s new
     → TookWhole answers m pid n (record { delivery = delivery; ran = ran + length (option_to_list last); last = last; cut = false }) asked asked' new
-took-whole {A} answers asked asked' m pid n delivery last outcome.Next ran s new first many stands stops ends =
+took-whole {A} parts answers asked asked' m pid n delivery last outcome.Next ran s new first many stands stops ends =
     let m1 = delivered pid m in
     let plain = plains n pid m1 in
     let s' : StandsFor new (after_steps m1 plain) = subst (λ (x : State). StandsFor x (after_steps m1 plain)) (sym ends.2) stands in
-    let spent = took-spent answers asked m pid n delivery new first (many ∙ stops) s' in
+    let spent = took-spent parts answers asked m pid n delivery new first (many ∙ stops) s' in
     let t : (l : Option Record) (k : ℕ) → Turn = λ (l : Option Record) (k : ℕ). record { delivery = delivery; ran = k; last = l; cut = false } in
     subst (λ (a : A). TookWhole answers m pid n (t last (ran + length (option_to_list last))) asked a new) (sym ends.1)
     (subst (λ (l : Option Record). TookWhole answers m pid n (t l (ran + length (option_to_list l))) asked asked new) (sym ends.0)
     (subst (λ (k : ℕ). TookWhole answers m pid n (t None (k + 0)) asked asked new) (sym stops) spent))
-took-whole {A} answers asked asked' m pid n delivery last outcome.Call ran s new first many stands stops ends = took-last answers asked asked' m pid n ran delivery last new first many stops.0 ends
-took-whole {A} answers asked asked' m pid n delivery last (outcome.End status) ran s new first many stands stops ends = took-last answers asked asked' m pid n ran delivery last new first many stops.0 ends
-took-whole {A} answers asked asked' m pid n delivery last outcome.NoMemory ran s new first many stands stops ends = absurd stops
+took-whole {A} parts answers asked asked' m pid n delivery last outcome.Call ran s new first many stands stops ends = took-last parts answers asked asked' m pid n ran delivery last new first many stops.0 ends
+took-whole {A} parts answers asked asked' m pid n delivery last (outcome.End status) ran s new first many stands stops ends = took-last parts answers asked asked' m pid n ran delivery last new first many stops.0 ends
+took-whole {A} parts answers asked asked' m pid n delivery last outcome.NoMemory ran s new first many stands stops ends = absurd stops
 
 -- the last call found no memory
-pub took-part : {A : Type 0} (asked asked' : A) (m : Machine) (pid n ran : ℕ) (delivery : Option Record) (new : State)
+pub took-part : {A : Type 0} → TurnsHaveParts → (asked asked' : A) (m : Machine) (pid n ran : ℕ) (delivery : Option Record) (new : State)
     → event_records (option_to_list (delivery_in m pid (seen m.bodies pid))) ≡ option_to_list delivery
     → length (plains n pid (delivered pid m)) ≡ ran
     → ran < n
     → asked' ≡ asked
     → StandsFor new (after_steps (delivered pid m) (plains n pid (delivered pid m)))
     → TookPart m pid n (record { delivery = delivery; ran = ran; last = None; cut = true }) asked asked' new
-took-part asked asked' m pid n ran delivery new first many within unasked stands =
+took-part parts asked asked' m pid n ran delivery new first many within unasked stands =
     let m1 = delivered pid m in
     let same : plains ran pid m1 ≡ plains n pid m1 = plains-again n ran pid (omega (arith, within)) m1 (omega (arith, many)) in
     let long : length (plains ran pid m1) ≡ ran = ap length same ∙ many in
@@ -235,5 +238,5 @@ took-part asked asked' m pid n ran delivery new first many within unasked stands
     record {
       within = within;
       unasked = unasked;
-      turned = turned m pid ran None delivery None None ran true new first (cond-false (nat_lt (length (plains ran pid m1)) ran) (last_in m2 pid None (seen m2.bodies pid)) None spent) refl (omega (arith, long)) (subst (λ (plain : List Step). StandsFor new (after_steps m1 plain)) (sym same) stands);
+      turned = turned parts m pid ran None delivery None None ran true new first (cond-false (nat_lt (length (plains ran pid m1)) ran) (last_in m2 pid None (seen m2.bodies pid)) None spent) refl (omega (arith, long)) (subst (λ (plain : List Step). StandsFor new (after_steps m1 plain)) (sym same) stands);
     }

@@ -8,6 +8,7 @@ use Rattle.parts_model.specs.Numbered.{nth}
 use Rattle.parts_model.specs.Replies.{Answered}
 use Rattle.acts_model.specs.Bodies.{seen}
 use Rattle.arn_model.specs.Kernel.{Machine}
+use Rattle.arn_model.specs.Parts.{TurnsHaveParts}
 use Rattle.arn_model.specs.Turn.{after_steps, plains}
 use Rattle.guest_bodies.specs.Shown.{IsLive, Shown}
 use Rattle.guest_bodies.specs.declared.running.Stood.{Stood}
@@ -54,29 +55,29 @@ dead-sees s m pid stands dead = sym (stands.seen pid) ∙ by (nth s.guests pid) 
     by None dead = refl
     by (Some shown) dead = absurd (dead cc)
 
-pub take-dead : {A : Type 0} (answers : A → Asked → Answered → A → Type 0) (asked : A) (old new : State) (pid n : ℕ) (delivery : Option Record) → IsLive old.guests pid → OfProcess old pid (λ m v. Delivers m pid v delivery new) → (IsLive new.guests pid → ⊥)
+pub take-dead : {A : Type 0} → TurnsHaveParts → (answers : A → Asked → Answered → A → Type 0) (asked : A) (old new : State) (pid n : ℕ) (delivery : Option Record) → IsLive old.guests pid → OfProcess old pid (λ m v. Delivers m pid v delivery new) → (IsLive new.guests pid → ⊥)
     → OfEach old (λ m. TookWhole answers m pid n (record { delivery = delivery; ran = 0; last = None; cut = false }) asked asked new)
-take-dead answers asked old new pid n delivery live delivers dead m stands =
+take-dead parts answers asked old new pid n delivery live delivers dead m stands =
     let v = sees old m pid stands live in
     let d = Delivers-in m pid v.0 delivery new v.1 (delivers m v.0 stands v.1) in
-    took-dead answers asked m pid n delivery new d.0 (dead-sees new (delivered pid m) pid d.1 dead) d.1
+    took-dead parts answers asked m pid n delivery new d.0 (dead-sees new (delivered pid m) pid d.1 dead) d.1
 
-pub take-whole : {A : Type 0} (answers : A → Asked → Answered → A → Type 0) (asked asked' : A) (old s1 s2 new : State) (pid n : ℕ) (delivery last : Option Record) (stood : Stood) (count : ℕ) → IsLive old.guests pid → OfProcess old pid (λ m v. Delivers m pid v delivery s1) → OfEach s1 (λ m. RanPlain m pid n stood s2)
+pub take-whole : {A : Type 0} → TurnsHaveParts → (answers : A → Asked → Answered → A → Type 0) (asked asked' : A) (old s1 s2 new : State) (pid n : ℕ) (delivery last : Option Record) (stood : Stood) (count : ℕ) → IsLive old.guests pid → OfProcess old pid (λ m v. Delivers m pid v delivery s1) → OfEach s1 (λ m. RanPlain m pid n stood s2)
     → OfEach s2 (λ m. Finishes stood.outcome answers m pid last asked asked' s2 new) → count ≡ length (option_to_list last)
     → OfEach old (λ m. TookWhole answers m pid n (record { delivery = delivery; ran = stood.ran + count; last = last; cut = false }) asked asked' new)
-take-whole answers asked asked' old s1 s2 new pid n delivery last stood count live delivers ran finishes counted m stands =
+take-whole parts answers asked asked' old s1 s2 new pid n delivery last stood count live delivers ran finishes counted m stands =
     let v = sees old m pid stands live in
     let d = Delivers-in m pid v.0 delivery s1 v.1 (delivers m v.0 stands v.1) in
     let r = ran (delivered pid m) d.1 in
     let f = finishes (after_steps (delivered pid m) (plains n pid (delivered pid m))) r.stands in
-    let whole = took-whole answers asked asked' m pid n delivery last stood.outcome stood.ran s2 new d.0 r.many r.stands r.stops f in
+    let whole = took-whole parts answers asked asked' m pid n delivery last stood.outcome stood.ran s2 new d.0 r.many r.stands r.stops f in
     subst (λ (k : ℕ). let t : Turn = record { delivery = delivery; ran = stood.ran + k; last = last; cut = false } in TookWhole answers m pid n t asked asked' new) (sym counted) whole
 
-pub take-part : {A : Type 0} (asked asked' : A) (old s1 s2 new : State) (pid n : ℕ) (delivery : Option Record) (stood : Stood) → IsLive old.guests pid → OfProcess old pid (λ m v. Delivers m pid v delivery s1) → OfEach s1 (λ m. RanPlain m pid n stood s2)
+pub take-part : {A : Type 0} → TurnsHaveParts → (asked asked' : A) (old s1 s2 new : State) (pid n : ℕ) (delivery : Option Record) (stood : Stood) → IsLive old.guests pid → OfProcess old pid (λ m v. Delivers m pid v delivery s1) → OfEach s1 (λ m. RanPlain m pid n stood s2)
     → new ≡ s2 → asked' ≡ asked → stood.ran < n
     → OfEach old (λ m. TookPart m pid n (record { delivery = delivery; ran = stood.ran; last = None; cut = true }) asked asked' new)
-take-part asked asked' old s1 s2 new pid n delivery stood live delivers ran same unasked within m stands =
+take-part parts asked asked' old s1 s2 new pid n delivery stood live delivers ran same unasked within m stands =
     let v = sees old m pid stands live in
     let d = Delivers-in m pid v.0 delivery s1 v.1 (delivers m v.0 stands v.1) in
     let r = ran (delivered pid m) d.1 in
-    took-part asked asked' m pid n stood.ran delivery new d.0 r.many within unasked (subst (λ (s : State). StandsFor s (after_steps (delivered pid m) (plains n pid (delivered pid m)))) (sym same) r.stands)
+    took-part parts asked asked' m pid n stood.ran delivery new d.0 r.many within unasked (subst (λ (s : State). StandsFor s (after_steps (delivered pid m) (plains n pid (delivered pid m)))) (sym same) r.stands)

@@ -12,7 +12,7 @@ ghost use Rattle.guest_machine.specs.Recorded.{HasRoom, OfEach, Runs};
 use crate::errors::MachineError;
 use crate::machine::Machine;
 use arn_base::{NoMemory, Record, Steps};
-use arn_model::requests_bounded;
+use arn_model::{requests_bounded, turns_have_parts};
 use guest_devices::{Told, told_counts_as_named};
 use parts_model::limits::MOST_FILE_BYTES;
 use std::sync::ledger::Ledger;
@@ -119,6 +119,7 @@ fn run_slice<L: Ledger>(
         (input.Slice pid count (reply_behind behind.now))) + 1) }
 {
     requests_bounded();
+    turns_have_parts();
     told_counts_as_named();
     if !machine.can_take(pid, count) {
         return Ok(());

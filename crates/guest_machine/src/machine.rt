@@ -4,7 +4,7 @@ use crate::leg::Pick;
 use crate::pieces::{SLICE_RECORDS, file_record, typed_record};
 use crate::turn::{Taken, take_turn};
 use arn_base::{Bytes, Chooser, NoMemory, Record, Steps};
-use arn_model::RunState;
+use arn_model::{RunState, turns_have_parts};
 use guest_calls::Kernel;
 use guest_devices::Answers;
 use log_model::slices_take_steps;
@@ -300,6 +300,7 @@ impl Machine {
             steps.old + self.new.instructions + 1 }
         ensures at_most { steps.new ≤ steps.old + count }
     {
+        turns_have_parts();
         slices_take_steps();
         out.reserve(SLICE_RECORDS)?;
         let taken = take_turn(&mut self.kernel, pid, count, answers, out, steps);

@@ -12,6 +12,7 @@ ghost use Rattle.guest_machine.specs.Turns.{Delivers, Finishes, Happens, RanPlai
 
 use crate::pieces::{SLICE_RECORDS, keep_turn};
 use arn_base::{NoMemory, Record, Steps};
+use arn_model::turns_have_parts;
 use guest_bodies::Stood;
 use guest_calls::{CallStop, Kernel};
 use guest_devices::Answers;
@@ -182,6 +183,7 @@ pub fn take_turn<A: Answers, L: Ledger>(
     ensures steps { steps.new ≤ steps.old + result.ran + 1 }
     ensures at_most { steps.new ≤ steps.old + count }
 {
+    turns_have_parts();
     let delivery = deliver(kernel, pid);
     if !kernel.is_live(pid) {
         return Taken {

@@ -21,4 +21,4 @@ returns-in-Ok-clause-steps g c =
 
 pub returns-in-Err-clause-steps : goal.returns-in-Err-clause-steps
 returns-in-Err-clause-steps g c =
-    cut-few c.args.pid c.args.count (reply_behind c.args.behind.now) c.args.machine.now c.take_slice.new.self c.args.out.now.items c.take_slice.new.out.items c.args.steps.now c.take_slice.new.steps (c.can_take.ensures.live c.if-not-can_take.false) (c.can_take.ensures.can c.if-not-can_take.false) c.in-Err.ensures.cut c.take_slice.ensures.steps
+    cut-few c.turns_have_parts.ensures c.args.pid c.args.count (reply_behind c.args.behind.now) c.args.machine.now c.take_slice.new.self c.args.out.now.items c.take_slice.new.out.items c.args.steps.now c.take_slice.new.steps (c.can_take.ensures.live c.if-not-can_take.false) (c.can_take.ensures.can c.if-not-can_take.false) c.in-Err.ensures.cut c.take_slice.ensures.steps

@@ -8,7 +8,7 @@ returns-then-not-is_live-clause-takes g c m stands =
     let dead : IsLive c.deliver-delivery.new.kernel.guests c.args.pid → ⊥ = λ live. search rules in
     record {
       parts = record { delivery = c.deliver-delivery.result; ran = 0; last = None; cut = false };
-      took = take-dead g.A.Answers.answers c.args.answers.now c.args.kernel.now c.deliver-delivery.new.kernel c.args.pid c.args.count c.deliver-delivery.result c.requires.live c.deliver-delivery.ensures.delivers dead m stands;
+      took = take-dead c.turns_have_parts.ensures g.A.Answers.answers c.args.answers.now c.args.kernel.now c.deliver-delivery.new.kernel c.args.pid c.args.count c.deliver-delivery.result c.requires.live c.deliver-delivery.ensures.delivers dead m stands;
       ran = refl;
       kept = c.keep_turn.ensures.items;
     }
@@ -30,7 +30,7 @@ returns-in-Ok-clause-takes g c m stands =
     record {
       parts = record { delivery = c.deliver-delivery.result; ran = c.run_plain-stood.result.ran + c.counted.result; last = c.in-Ok.last; cut = false };
       took =
-          take-whole g.A.Answers.answers c.args.answers.now c.finish.new.answers c.args.kernel.now c.deliver-delivery.new.kernel c.run_plain-stood.new.kernel c.finish.new.kernel c.args.pid c.args.count c.deliver-delivery.result c.in-Ok.last c.run_plain-stood.result c.counted.result
+          take-whole c.turns_have_parts.ensures g.A.Answers.answers c.args.answers.now c.finish.new.answers c.args.kernel.now c.deliver-delivery.new.kernel c.run_plain-stood.new.kernel c.finish.new.kernel c.args.pid c.args.count c.deliver-delivery.result c.in-Ok.last c.run_plain-stood.result c.counted.result
           c.requires.live c.deliver-delivery.ensures.delivers c.run_plain-stood.ensures.ran c.in-Ok.ensures.finishes c.counted.ensures m stands;
       ran = refl;
       kept = c.keep_turn-in-Ok.ensures.items;
@@ -42,7 +42,7 @@ returns-in-Err-clause-takes g c m stands =
     record {
       parts = record { delivery = c.deliver-delivery.result; ran = c.run_plain-stood.result.ran; last = None; cut = true };
       took =
-          take-part c.args.answers.now c.finish.new.answers c.args.kernel.now c.deliver-delivery.new.kernel c.run_plain-stood.new.kernel c.finish.new.kernel c.args.pid c.args.count c.deliver-delivery.result c.run_plain-stood.result
+          take-part c.turns_have_parts.ensures c.args.answers.now c.finish.new.answers c.args.kernel.now c.deliver-delivery.new.kernel c.run_plain-stood.new.kernel c.finish.new.kernel c.args.pid c.args.count c.deliver-delivery.result c.run_plain-stood.result
           c.requires.live c.deliver-delivery.ensures.delivers c.run_plain-stood.ensures.ran c.in-Err.ensures.err c.in-Err.ensures.unasked within m stands;
       ran = refl;
       kept = c.keep_turn-in-Err.ensures.items;

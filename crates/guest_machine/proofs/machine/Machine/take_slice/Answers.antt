@@ -30,7 +30,7 @@ returns-then-taken-clause-cut g c =
     let s = c.self.inside in
     let t = c.take_turn-taken.result in
     let after = record s { kernel = c.take_turn-taken.new.kernel; instructions = s.instructions + c.from.result } in
-    slice-cut g.A.Answers.answers c.args.answers.now c.take_turn-taken.new.answers t c.args.pid c.args.count s.kernel s.instructions c.args.self.now (recorded_of after) c.args.out.now.items c.reserve.new.self.items c.take_turn-taken.new.out.items
+    slice-cut c.turns_have_parts.ensures g.A.Answers.answers c.args.answers.now c.take_turn-taken.new.answers t c.args.pid c.args.count s.kernel s.instructions c.args.self.now (recorded_of after) c.args.out.now.items c.reserve.new.self.items c.take_turn-taken.new.out.items
     c.self.view_is (live c.args.self.now c.self.inside.kernel c.self.inside.instructions c.args.pid c.args.count c.self.view_is c.self.invariant c.requires.can) c.requires.can c.if-taken.true c.take_turn-taken.ensures.takes (ap (λ (n : ℕ). s.instructions + n) c.from.ensures) c.in_ok-reserve.ensures.items
 
 pub returns-then-taken-clause-unasked : goal.returns-then-taken-clause-unasked
@@ -42,7 +42,7 @@ returns-clause-ran g c =
     let s = c.self.inside in
     let t = c.take_turn-taken.result in
     let after = record s { kernel = c.take_turn-taken.new.kernel; instructions = s.instructions + c.from.result } in
-    slice-whole g.A.Answers.answers c.args.answers.now c.take_turn-taken.new.answers t c.args.pid c.args.count s.kernel s.instructions c.args.self.now (recorded_of after) c.args.out.now.items c.reserve.new.self.items c.take_turn-taken.new.out.items
+    slice-whole c.turns_have_parts.ensures g.A.Answers.answers c.args.answers.now c.take_turn-taken.new.answers t c.args.pid c.args.count s.kernel s.instructions c.args.self.now (recorded_of after) c.args.out.now.items c.reserve.new.self.items c.take_turn-taken.new.out.items
     c.self.view_is (live c.args.self.now c.self.inside.kernel c.self.inside.instructions c.args.pid c.args.count c.self.view_is c.self.invariant c.requires.can) c.requires.can c.if-taken.false c.take_turn-taken.ensures.takes (ap (λ (n : ℕ). s.instructions + n) c.from.ensures) c.in_ok-reserve.ensures.items
 
 pub returns-clause-some : goal.returns-clause-some
