@@ -1,5 +1,5 @@
--- A line begins with one keyword.
-use Rattle.std.proofs.Common.{◌≡◌, ℕ, Bool, true, false, leb, ◌==◌, List, ◌++◌, get_or, drop, codes, refl, sym, ap, subst, arith}
+-- A line begins with one keyword, and reads one way: all that a line by itself has of its own.
+use Rattle.std.proofs.Common.{◌≡◌, ℕ, ◌<◌, Bool, true, false, leb, ◌==◌, List, [], ◌∷◌, ◌++◌, length, get_or, drop, codes, inl, inr, refl, sym, ap, subst, ◌∙◌, arith}
 use Rattle.std.specs.Prelude.{IfNone, if◌then◌else◌}
 use Rattle.std.specs.Bool.{then_some}
 use Rattle.std.proofs.lemmas.Bool.{leb-false}
@@ -11,9 +11,11 @@ use Rattle.arn_lines.specs.declared.line.Question.TheVariants as question
 use Rattle.arn_lines.specs.Grammar.{IsBoot, IsFile, IsLine, IsRun, IsType}
 use Rattle.arn_lines.specs.Pieces.{IsFirstWord, SaysNothing}
 use Rattle.arn_lines.specs.Questions.{IsQuestion}
-use Rattle.arn_lines.specs.Words.{IsBytes, IsName, IsNumber, space}
+use Rattle.arn_lines.specs.Words.{IsBytes, IsHex, IsName, IsNumber, space}
 use Rattle.arn_lines.proofs.FirstWords.{IsFirstWord-same, no_space-IsName}
+use Rattle.arn_lines.proofs.HexBytes.{IsHex-same}
 use Rattle.arn_lines.proofs.Numbers.{IsNumber-same}
+use Rattle.arn_lines.proofs.QuestionKinds.{IsQuestion-same}
 
 -- which keyword a text begins with tells what kind of line it is
 pub data LineKind : Type 0 where
@@ -98,3 +100,65 @@ no_run_above text n false number same =
     let count_is = IsNumber-same text n count number (IsRun-number text count run) in
     let above = leb-false n MOST_RUN (sym same) in
     absurd (omega (arith, run.at_most)))
+
+-- `-` is no hex text
+no_hex_dash : (bytes : List ℕ) → 0 < length bytes → ¬ IsHex (codes "-") bytes
+no_hex_dash [] some h = absurd (omega arith)
+no_hex_dash (b ∷ bytes) some h = h
+
+IsBytes-same : (text a b : List ℕ) → IsBytes text a → IsBytes text b → a ≡ b
+IsBytes-same text a b ha hb =
+    elim ha [
+      | inl hex ↦
+          elim hb [
+            | inl too ↦ IsHex-same text a b hex.1 too.1
+            | inr dash ↦ absurd (no_hex_dash a hex.0 (rw dash.0 at hex.1))
+          ]
+      | inr dash ↦
+          elim hb [
+            | inl hex ↦ absurd (no_hex_dash b hex.0 (rw dash.0 at hex.1))
+            | inr too ↦ dash.1 ∙ sym too.1
+          ]
+    ]
+
+IsFile-same : (text name bytes other behind : List ℕ) → IsFile text name bytes → IsFile text other behind
+    → (name ≡ other) × (bytes ≡ behind)
+IsFile-same text name bytes other behind a b =
+    let rest = name ++ space ++ a.hex in
+    let first : IsFirstWord rest name a.hex = record { is_text = refl; no_space = no_space-IsName name a.is_name } in
+    let said : rest ≡ other ++ space ++ b.hex = ap (drop 5) (sym a.is_text ∙ b.is_text) in
+    let same = IsFirstWord-same rest name a.hex other b.hex first (no_space-IsName other b.is_name) said in
+    (sym same.0, IsBytes-same a.hex bytes behind a.is_bytes (rw same.1 at b.is_bytes))
+
+IsBoot-same : (text name other : List ℕ) → IsBoot text name → IsBoot text other → name ≡ other
+IsBoot-same text name other a b = ap (drop 5) (sym a.is_text ∙ b.is_text)
+
+IsType-same : (text bytes behind : List ℕ) → IsType text bytes → IsType text behind → bytes ≡ behind
+IsType-same text bytes behind a b =
+    let same : b.hex ≡ a.hex = ap (drop 5) (sym b.is_text ∙ a.is_text) in
+    IsBytes-same a.hex bytes behind a.is_bytes (rw same at b.is_bytes)
+
+IsRun-same : (text : List ℕ) (m n : ℕ) → IsRun text m → IsRun text n → m ≡ n
+IsRun-same text m n a b =
+    let same : b.number ≡ a.number = ap (drop 4) (sym b.is_text ∙ a.is_text) in
+    IsNumber-same a.number m n a.is_number (rw same at b.is_number)
+
+IsLineOf-same : (kind : LineKind) (text : List ℕ) (a b : Line) → IsLineOf kind text a → IsLineOf kind text b → a ≡ b
+IsLineOf-same AtFile text a b h k =
+    let same = IsFile-same text h.0 h.1 k.0 k.1 h.3 k.3 in
+    cc (h.2, k.2, same.0, same.1)
+IsLineOf-same AtBoot text a b h k =
+    let same = IsBoot-same text h.0 k.0 h.2 k.2 in
+    cc (h.1, k.1, same)
+IsLineOf-same AtType text a b h k =
+    let same = IsType-same text h.0 k.0 h.2 k.2 in
+    cc (h.1, k.1, same)
+IsLineOf-same AtRun text a b h k =
+    let same = IsRun-same text h.0 k.0 h.2 k.2 in
+    cc (h.1, k.1, same)
+IsLineOf-same AtQuestion text a b h k =
+    let same = IsQuestion-same text h.0 k.0 h.2 k.2 in
+    cc (h.1, k.1, same)
+
+pub IsLine-same : (text : List ℕ) (a b : Line) → IsLine text a → IsLine text b → a ≡ b
+IsLine-same text a b h k = IsLineOf-same (line_kind text) text a b (IsLine-kind text a h) (IsLine-kind text b k)

@@ -1,99 +1,38 @@
 -- A line reads one way.
-use Rattle.std.proofs.Common.{◌≡◌, ◌≢◌, ℕ, ◌<◌, ◌==◌, false, eq-eqb, List, [], ◌∷◌, ◌++◌, length, drop, codes, inl, inr, refl, sym, ap, subst, ◌∙◌, arith}
+use Rattle.std.proofs.Common.{◌≡◌, ◌≢◌, ℕ, ◌==◌, false, eq-eqb, List, [], ◌∷◌, refl, sym, ap, subst, ◌∙◌, arith}
 use Rattle.std.proofs.lemmas.Bool.{false≢true}
 use Rattle.arn_lines.specs.declared.line.Line.{Line}
-use Rattle.arn_lines.specs.declared.line.Line.TheVariants as line
+use Rattle.arn_lines.specs.declared.line.Question.{Question}
 use Rattle.arn_lines.specs.declared.line.Question.TheVariants as question
 use Rattle.arn_lines.specs.declared.line.LineReading.{LineReading}
 use Rattle.arn_lines.specs.declared.line.LineReading.TheVariants.{PassedOver, TooLong, Unreadable, Says, Generates}
-use Rattle.arn_lines.specs.Grammar.{IsBoot, IsFile, IsGen, IsLine, IsPassedOver, IsRun, IsType, Reads}
-use Rattle.arn_lines.specs.Pieces.{IsFirstWord}
-use Rattle.arn_lines.specs.Words.{IsBytes, IsHex, space}
-use Rattle.arn_lines.proofs.FirstWords.{IsFirstWord-same, no_space-IsName}
+use Rattle.arn_lines.specs.Grammar.{IsGen, IsLine, IsPassedOver, Reads}
+use Rattle.arn_lines.specs.Questions.{IsQuestion}
 use Rattle.arn_lines.proofs.GenWords.{IsGen-same, no_gen_line}
-use Rattle.arn_lines.proofs.HexBytes.{IsHex-same}
-use Rattle.arn_lines.proofs.Keywords.{AtBoot, AtFile, AtQuestion, AtRun, AtType, IsLine-kind, IsLineOf, LineKind, line_kind}
-use Rattle.arn_lines.proofs.Numbers.{IsNumber-same}
-use Rattle.arn_lines.proofs.QuestionKinds.{IsQuestion-same}
-
--- `-` is no hex text
-no_hex_dash : (bytes : List ℕ) → 0 < length bytes → ¬ IsHex (codes "-") bytes
-no_hex_dash [] some h = absurd (omega arith)
-no_hex_dash (b ∷ bytes) some h = h
-
-IsBytes-same : (text a b : List ℕ) → IsBytes text a → IsBytes text b → a ≡ b
-IsBytes-same text a b ha hb =
-    elim ha [
-      | inl hex ↦
-          elim hb [
-            | inl too ↦ IsHex-same text a b hex.1 too.1
-            | inr dash ↦ absurd (no_hex_dash a hex.0 (rw dash.0 at hex.1))
-          ]
-      | inr dash ↦
-          elim hb [
-            | inl hex ↦ absurd (no_hex_dash b hex.0 (rw dash.0 at hex.1))
-            | inr too ↦ dash.1 ∙ sym too.1
-          ]
-    ]
-
-IsFile-same : (text name bytes other behind : List ℕ) → IsFile text name bytes → IsFile text other behind
-    → (name ≡ other) × (bytes ≡ behind)
-IsFile-same text name bytes other behind a b =
-    let rest = name ++ space ++ a.hex in
-    let first : IsFirstWord rest name a.hex = record { is_text = refl; no_space = no_space-IsName name a.is_name } in
-    let said : rest ≡ other ++ space ++ b.hex = ap (drop 5) (sym a.is_text ∙ b.is_text) in
-    let same = IsFirstWord-same rest name a.hex other b.hex first (no_space-IsName other b.is_name) said in
-    (sym same.0, IsBytes-same a.hex bytes behind a.is_bytes (rw same.1 at b.is_bytes))
-
-IsBoot-same : (text name other : List ℕ) → IsBoot text name → IsBoot text other → name ≡ other
-IsBoot-same text name other a b = ap (drop 5) (sym a.is_text ∙ b.is_text)
-
-IsType-same : (text bytes behind : List ℕ) → IsType text bytes → IsType text behind → bytes ≡ behind
-IsType-same text bytes behind a b =
-    let same : b.hex ≡ a.hex = ap (drop 5) (sym b.is_text ∙ a.is_text) in
-    IsBytes-same a.hex bytes behind a.is_bytes (rw same at b.is_bytes)
-
-IsRun-same : (text : List ℕ) (m n : ℕ) → IsRun text m → IsRun text n → m ≡ n
-IsRun-same text m n a b =
-    let same : b.number ≡ a.number = ap (drop 4) (sym b.is_text ∙ a.is_text) in
-    IsNumber-same a.number m n a.is_number (rw same at b.is_number)
-
-IsLineOf-same : (kind : LineKind) (text : List ℕ) (a b : Line) → IsLineOf kind text a → IsLineOf kind text b → a ≡ b
-IsLineOf-same AtFile text a b h k =
-    let same = IsFile-same text h.0 h.1 k.0 k.1 h.3 k.3 in
-    cc (h.2, k.2, same.0, same.1)
-IsLineOf-same AtBoot text a b h k =
-    let same = IsBoot-same text h.0 k.0 h.2 k.2 in
-    cc (h.1, k.1, same)
-IsLineOf-same AtType text a b h k =
-    let same = IsType-same text h.0 k.0 h.2 k.2 in
-    cc (h.1, k.1, same)
-IsLineOf-same AtRun text a b h k =
-    let same = IsRun-same text h.0 k.0 h.2 k.2 in
-    cc (h.1, k.1, same)
-IsLineOf-same AtQuestion text a b h k =
-    let same = IsQuestion-same text h.0 k.0 h.2 k.2 in
-    cc (h.1, k.1, same)
-
-IsLine-same : (text : List ℕ) (a b : Line) → IsLine text a → IsLine text b → a ≡ b
-IsLine-same text a b h k = IsLineOf-same (line_kind text) text a b (IsLine-kind text a h) (IsLine-kind text b k)
+use Rattle.arn_lines.proofs.Keywords.{AtQuestion, IsLine-kind, IsLine-same, IsLineOf}
 
 -- a byte that is no `#`, by a test that computes
 no_hash : (c : ℕ) → (c == 35) ≡ false → c ≢ 35
 no_hash c other e = false≢true (sym other ∙ eq-eqb c 35 e)
 
--- a line that says something is not passed over
+-- a question isn't passed over
+question-begins : (text : List ℕ) (q : Question) → IsQuestion text q → ¬ IsPassedOver text
+question-begins text (question.Show moment shown) h over = no_hash 115 refl (subst IsPassedOver h.is_text over)
+question-begins text (question.Back linkage bytes) h over = no_hash 98 refl (subst IsPassedOver h.is_text over)
+question-begins text (question.Forth linkage event from len) h over = no_hash 102 refl (subst IsPassedOver h.is_text over)
+question-begins text question.Groups h over = no_hash 103 refl (subst IsPassedOver h over)
+question-begins text question.Events h over = no_hash 101 refl (subst IsPassedOver h over)
+question-begins text question.Verify h over = no_hash 118 refl (subst IsPassedOver h over)
+
+-- a line that says something is not passed over: what is passed over begins with no keyword of another line
 IsLine-begins : (text : List ℕ) (l : Line) → IsLine text l → ¬ IsPassedOver text
-IsLine-begins text (line.File name bytes) h over = no_hash 102 refl (subst IsPassedOver h.is_text over)
-IsLine-begins text (line.Boot name) h over = no_hash 98 refl (subst IsPassedOver h.is_text over)
-IsLine-begins text (line.Type bytes) h over = no_hash 116 refl (subst IsPassedOver h.is_text over)
-IsLine-begins text (line.Run count) h over = no_hash 114 refl (subst IsPassedOver h.is_text over)
-IsLine-begins text (line.Asks (question.Show moment shown)) h over = no_hash 115 refl (subst IsPassedOver h.is_text over)
-IsLine-begins text (line.Asks (question.Back linkage bytes)) h over = no_hash 98 refl (subst IsPassedOver h.is_text over)
-IsLine-begins text (line.Asks (question.Forth linkage event from len)) h over = no_hash 102 refl (subst IsPassedOver h.is_text over)
-IsLine-begins text (line.Asks question.Groups) h over = no_hash 103 refl (subst IsPassedOver h over)
-IsLine-begins text (line.Asks question.Events) h over = no_hash 101 refl (subst IsPassedOver h over)
-IsLine-begins text (line.Asks question.Verify) h over = no_hash 118 refl (subst IsPassedOver h over)
+IsLine-begins [] l h over =
+    let asks : IsLineOf AtQuestion [] l = IsLine-kind [] l h in
+    question-begins [] asks.0 asks.2 over
+IsLine-begins (c ∷ text) l h over =
+    let said : IsLine (35 ∷ text) l = subst (λ (d : ℕ). IsLine (d ∷ text) l) over h in
+    let asks : IsLineOf AtQuestion (35 ∷ text) l = IsLine-kind (35 ∷ text) l said in
+    question-begins (35 ∷ text) asks.0 asks.2 refl
 
 IsGen-begins : (text : List ℕ) (seed processes : ℕ) → IsGen text seed processes → ¬ IsPassedOver text
 IsGen-begins text seed processes h over = no_hash 103 refl (subst IsPassedOver h.is_text over)
