@@ -31,3 +31,13 @@ pub record Moves (numbers : List ℕ) (count : ℕ) (moved : List ℕ) : Type 0 
   pub small : (byte : ℕ) → slice_index moved byte < first_start
   pub same : (byte : ℕ) → byte < byte_count → byte < count → slice_index moved byte ≡ slice_index numbers byte
   pub none : (byte : ℕ) → byte < byte_count → count ≤ byte → slice_index moved byte ≡ 0
+
+-- the bytes that are loaded, and nothing behind them
+abbrev pub IsMemory : Flow → Type 0
+IsMemory (Memory len) = Unit {0}
+IsMemory other = ⊥
+
+-- those of the second register, and nothing behind them
+abbrev pub IsSecond : Flow → Type 0
+IsSecond (Second len) = Unit {0}
+IsSecond other = ⊥

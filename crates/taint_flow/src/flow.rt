@@ -1,8 +1,10 @@
 // Where the bytes of a result come from.
-ghost use Rattle.std.specs.Prelude.{◌≡◌, ◌==◌, ℕ, ℤ, suc, if◌then◌else◌};
+ghost use Rattle.std.specs.Prelude.{◌≡◌, ◌≢◌, ◌↔◌, ◌==◌, ℕ, ℤ, suc, if◌then◌else◌};
 ghost use Rattle.rv64_isa.specs.declared.instruction.Instr.TheVariants as instr;
 ghost use Rattle.rv64_model.specs.Carries.{operands};
-ghost use Rattle.taint_flow.specs.Flow.{IsFlow};
+ghost use Rattle.rv64_model.specs.declared.linkage.Linkage.TheVariants.{Index};
+ghost use Rattle.taint_flow.specs.Flow.{IsFlow, IsMemory, IsSecond};
+ghost use Rattle.taint_flow.specs.Moving.{Fills};
 ghost use Rattle.taint_flow.specs.declared.flow.Flow.TheVariants.{Nothing};
 
 use rv64_isa::{ImmOp, Instr, LoadOp, Reg, RegOp, StoreOp};
@@ -43,9 +45,11 @@ fn unless_x0(rd: Reg, flow: Flow) -> Flow
     }
 }
 
+/// Where the bytes of a register come from that is loaded, and isn't x0.
 #[inline(always)]
-fn of_load(linkage: Linkage, op: LoadOp) -> Flow
-    ensures { (rd rs1 : ℕ) (imm : ℤ) →
+pub fn of_load(linkage: Linkage, op: LoadOp) -> Flow
+    ensures moves { IsMemory result ↔ Fills linkage op }
+    ensures flow { (rd rs1 : ℕ) (imm : ℤ) →
         IsFlow result (operands linkage (instr.Load op (suc rd) rs1 imm)) }
 {
     match (linkage, op) {
@@ -57,9 +61,11 @@ fn of_load(linkage: Linkage, op: LoadOp) -> Flow
     }
 }
 
+/// Where the bytes that are stored come from.
 #[inline(always)]
-fn of_store(linkage: Linkage, op: StoreOp) -> Flow
-    ensures { (rs1 rs2 : ℕ) (imm : ℤ) →
+pub fn of_store(linkage: Linkage, op: StoreOp) -> Flow
+    ensures moves { IsSecond result ↔ linkage ≢ Index }
+    ensures flow { (rs1 rs2 : ℕ) (imm : ℤ) →
         IsFlow result (operands linkage (instr.Store op rs1 rs2 imm)) }
 {
     match linkage {

@@ -1,5 +1,5 @@
 // The set of several bytes.
-ghost use Rattle.std.specs.Prelude.{◌≡◌, ◌-◌, ◌<◌, ℕ, if◌then◌else◌, IfOk, IsTrue, length, slice_index};
+ghost use Rattle.std.specs.Prelude.{◌≡◌, ◌-◌, ◌<◌, if◌then◌else◌, IfOk, IsTrue, slice_index};
 ghost use Rattle.set_store.specs.Sets.{IsSet, IsUnionOf, StandAsBefore, members_of};
 ghost use Rattle.link_rules.specs.Masks.{has_byte};
 ghost use Rattle.taint_flow.specs.Gathered.{AreNumbers, AddsByte, Gathers, Includes, TakesBytes, byte_count, first_start};
@@ -48,20 +48,6 @@ pub fn narrow(set: usize) -> Result<u32, NoMemory>
     } else {
         Err(NoMemory)
     }
-}
-
-/// Whether the numbers of eight bytes are those of sets. All are looked at in one.
-#[inline(always)]
-pub fn are_small(numbers: &[u32]) -> bool
-    requires { length numbers.now ≡ byte_count }
-    ensures { IsTrue result → (i : ℕ) → i < byte_count →
-        slice_index numbers.now i < first_start }
-{
-    let mut all = 0;
-    for i in 0..8 {
-        all |= numbers[i];
-    }
-    all < FIRST_START
 }
 
 /// The set with the members of a byte's set besides, where a mask has the byte. It has those of the byte below, if the

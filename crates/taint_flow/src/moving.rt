@@ -4,25 +4,14 @@ ghost use Rattle.rv64_model.specs.Carries.{operands};
 ghost use Rattle.rv64_model.specs.Operands.{stored_len};
 ghost use Rattle.taint_flow.specs.Flow.{Moves};
 ghost use Rattle.taint_flow.specs.Gathered.{AreNumbers, number_of};
-ghost use Rattle.taint_flow.specs.Moving.{Fills, MovesLoaded, MovesStored};
+ghost use Rattle.taint_flow.specs.Moving.{MovesLoaded, MovesStored};
 ghost use Rattle.taint_flow.specs.Names.{loaded_len};
 ghost use Rattle.taint_flow.specs.Results.{AreResults};
 
-use rv64_isa::{Instr, LoadOp};
+use crate::flow::{Flow, of_load, of_store};
+use rv64_isa::Instr;
 use rv64_model::Linkage;
 use set_store::Sets;
-
-/// Whether a load fills a register with the sets of what it loads, and leaves those of the other bytes empty.
-#[inline(always)]
-fn fills(linkage: Linkage, op: LoadOp) -> bool
-    ensures { IsTrue result ↔ Fills linkage op }
-{
-    match (linkage, op) {
-        (Linkage::Copy, _)
-        | (Linkage::Data, LoadOp::Ld | LoadOp::Lbu | LoadOp::Lhu | LoadOp::Lwu) => true,
-        _ => false,
-    }
-}
 
 /// Whether an instruction moves the sets of the bytes that it loads to a register as they are. The sets are asked for what is
 /// promised of the empty one alone.
@@ -35,7 +24,9 @@ pub fn moves_loaded(sets: &Sets, linkage: Linkage, instr: &Instr) -> bool
 {
     let _ = sets.empty();
     match *instr {
-        Instr::Load { op, rd, .. } => rd.number() > 0 && fills(linkage, op),
+        Instr::Load { op, rd, .. } => {
+            rd.number() > 0 && matches!(of_load(linkage, op), Flow::Memory(_))
+        }
         _ => false,
     }
 }
@@ -50,8 +41,8 @@ pub fn moves_stored(sets: &Sets, linkage: Linkage, instr: &Instr) -> bool
         AreResults sets.now sets.now (number_of first second loaded) (operands linkage instr.now) numbers }
 {
     let _ = sets.empty();
-    match instr {
-        Instr::Store { .. } => linkage != Linkage::Index,
+    match *instr {
+        Instr::Store { op, .. } => matches!(of_store(linkage, op), Flow::Second(_)),
         _ => false,
     }
 }

@@ -4,9 +4,10 @@ ghost use Rattle.set_store.specs.Sets.{IsSet, StandAsBefore};
 ghost use Rattle.taint_flow.specs.Gathered.{AreNumbers, byte_count, first_start};
 ghost use Rattle.taint_flow.specs.Starts.{AreResolved, AreRaw, IsRaw, IsResolved};
 
-use crate::gathering::{FIRST_START, are_small, narrow};
+use crate::gathering::{FIRST_START, narrow};
 use arn_base::NoMemory;
 use set_store::{Item, Sets};
+use taint_pages::are_below;
 
 /// The set for which a number stands: its own, or that of the byte of the window, by address, with which the first
 /// member began at this event.
@@ -41,7 +42,7 @@ pub fn resolve_all(sets: &mut Sets, begun: u64, numbers: &[u32]) -> Result<[u32;
     ensures resolved { IfOk result (AreResolved sets.old sets.new begun numbers.now) }
     ensures before { StandAsBefore sets.old sets.new }
 {
-    if are_small(numbers) {
+    if are_below(numbers, FIRST_START) {
         return Ok(eight_of(numbers));
     }
     resolve_each(sets, begun, numbers)

@@ -8,13 +8,14 @@ ghost use Rattle.taint_flow.specs.Results.{AreResults};
 ghost use Rattle.taint_flow.specs.Silent.{IsSilent};
 
 use crate::flow::{Flow, result_flow};
-use crate::gathering::{are_small, gather};
+use crate::gathering::{FIRST_START, gather};
 use crate::working::{bytewise, carried, rising, whole};
 use arn_base::NoMemory;
 use link_rules::inputs;
 use rv64_isa::Instr;
 use rv64_model::Linkage;
 use set_store::Sets;
+use taint_pages::are_below;
 
 // The empty set for each byte.
 #[inline(always)]
@@ -41,7 +42,7 @@ fn moved(sets: &Sets, numbers: &[u32], count: u8) -> Result<[u32; 8], NoMemory>
         let number = numbers[byte];
         moved[byte] = if byte < usize::from(count) { number } else { 0 };
     }
-    if are_small(&moved) {
+    if are_below(&moved, FIRST_START) {
         Ok(moved)
     } else {
         Err(NoMemory)

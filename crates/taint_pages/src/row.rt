@@ -108,7 +108,7 @@ impl Row {
 
 /// Whether each number is below a bound.
 #[inline(always)]
-fn are_below(numbers: &[u32], bound: u32) -> bool
+pub fn are_below(numbers: &[u32], bound: u32) -> bool
     ensures { IsTrue result ↔ AreBelow bound numbers.now 0 (length numbers.now) }
 {
     for number in numbers {

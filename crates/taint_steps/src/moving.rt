@@ -1,5 +1,5 @@
 // Instructions that move sets as they are between a register and the private window.
-ghost use Rattle.std.specs.Prelude.{◌≡◌, ◌<◌, ◌≤◌, ◌-◌, ℕ, IsTrue, false, length, slice_index, IfOk};
+ghost use Rattle.std.specs.Prelude.{◌≡◌, ◌<◌, ◌≤◌, ◌-◌, IsTrue, false, IfOk};
 ghost use Rattle.acts_model.specs.Transfers.{is_private};
 ghost use Rattle.parts_model.specs.declared.limits.TheConstants as limits;
 ghost use Rattle.taint_flow.specs.Gathered.{first_start};
@@ -15,6 +15,7 @@ use rv64_isa::{Instr, Reg};
 use set_store::Sets;
 use taint_flow::{FIRST_START, loaded_len, moves_loaded, moves_stored, rd, rs2, stored_len};
 use taint_members::{MemberSets, load_below, write_window};
+use taint_pages::are_below;
 
 /// Sets the numbers of a register to those of so many bytes from an address in the private window on, and zeros behind them, where
 /// it isn't x0 and these are those of sets. False says that nothing was done.
@@ -63,20 +64,6 @@ pub fn move_loaded(
     load_to(member, at, loaded_len(instr), reg)
 }
 
-/// Whether numbers are those of sets.
-#[inline(always)]
-fn are_sets(numbers: &[u32]) -> bool
-    ensures { IsTrue result → (i : ℕ) → i < length numbers.now →
-        slice_index numbers.now i < first_start }
-{
-    for number in numbers {
-        if *number >= FIRST_START {
-            return false;
-        }
-    }
-    true
-}
-
 /// Moves the sets of a register to the bytes that an instruction stores in the private window, if that is all that it does to
 /// sets. False says that nothing was done.
 #[inline(always)]
@@ -101,7 +88,7 @@ pub fn move_stored(
         return Ok(false);
     };
     let numbers = &bytes_of(&member.registers, rs2(instr))[..stored_len(instr)];
-    if !are_sets(numbers) {
+    if !are_below(numbers, FIRST_START) {
         return Ok(false);
     }
     write_window(&mut member.window, at, numbers)

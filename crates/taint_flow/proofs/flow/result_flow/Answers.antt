@@ -38,7 +38,7 @@ pub returns-in-Load : goal.returns-in-Load
 returns-in-Load c =
     let i = c.in-Load in
     subst (λ instr. IsFlow c.unless_x0.result (operands c.args.linkage instr)) (sym i.is)
-    (unless-x0 c.of_load.result c.unless_x0.result i.rd (λ rd. operands c.args.linkage (Load i.op rd i.rs1 i.imm)) c.unless_x0.ensures (load-x0 c.args.linkage i.op i.rs1 i.imm) (λ rd. c.of_load.ensures rd i.rs1 i.imm))
+    (unless-x0 c.of_load.result c.unless_x0.result i.rd (λ rd. operands c.args.linkage (Load i.op rd i.rs1 i.imm)) c.unless_x0.ensures (load-x0 c.args.linkage i.op i.rs1 i.imm) (λ rd. c.of_load.ensures.flow rd i.rs1 i.imm))
 
 pub returns-in-Imm : goal.returns-in-Imm
 returns-in-Imm c =

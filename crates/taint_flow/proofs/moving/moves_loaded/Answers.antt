@@ -6,8 +6,8 @@ use Rattle.taint_flow.proofs.Flows.{moved-by}
 use Rattle.taint_flow.proofs.Moved.{loaded-table}
 use Rattle.taint_flow.proofs.moving.moves_loaded.Goals as goal
 
-pub returns-then-number-gt0-clause-results : goal.returns-then-number-gt0-clause-results
-returns-then-number-gt0-clause-results c loads first second loaded numbers are moves =
+pub returns-in-Memory-clause-results : goal.returns-in-Memory-clause-results
+returns-in-Memory-clause-results c loads first second loaded numbers are moves =
     let sets = c.args.sets.now in
     let instr = c.args.instr.now in
     moved-by sets first second loaded (subst (IsSet sets) c.empty.ensures.zero c.empty.ensures.set) (subst (λ s. members_of sets s ≡ []) c.empty.ensures.zero c.empty.ensures.empty)

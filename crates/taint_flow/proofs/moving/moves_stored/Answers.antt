@@ -6,8 +6,8 @@ use Rattle.taint_flow.proofs.Flows.{moved-by}
 use Rattle.taint_flow.proofs.Moved.{stored-table}
 use Rattle.taint_flow.proofs.moving.moves_stored.Goals as goal
 
-pub returns-in-Store-clause-results : goal.returns-in-Store-clause-results
-returns-in-Store-clause-results c stores first second loaded numbers are moves =
+pub returns-in-Second-clause-results : goal.returns-in-Second-clause-results
+returns-in-Second-clause-results c stores first second loaded numbers are moves =
     let sets = c.args.sets.now in
     let instr = c.args.instr.now in
     moved-by sets first second loaded (subst (IsSet sets) c.empty.ensures.zero c.empty.ensures.set) (subst (λ s. members_of sets s ≡ []) c.empty.ensures.zero c.empty.ensures.empty)

@@ -19,7 +19,7 @@ pub returns-clause-runs : goal.returns-clause-runs
 returns-clause-runs c =
     let m = c.args.member.now in
     let stores = c.moves_stored.ensures.moves.0 c.if-not-moves_stored.false in
-    let small = c.are_sets.ensures c.if-not-are_sets.false in
+    let small = c.are_below.ensures.0 c.if-not-are_below.false in
     stored-if c.write_window.result (is_private c.in-Some.at) _ _ c.write_window.ensures.told c.write_window.ensures.puts (λ private puts segments.
     stored-runs c.args.sets.now c.args.rules.now c.args.instr.now c.args.before.now m (record m { window = c.write_window.new.window }) segments c.in-Some.at c.registers.result.0.now c.bytes_of.result.now
     (subst (IsSet c.args.sets.now) c.empty.ensures.zero c.empty.ensures.set) c.requires stores (c.moves_stored.ensures.results stores)
