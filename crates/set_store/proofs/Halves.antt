@@ -3,6 +3,7 @@ use Rattle.std.proofs.Common.{◌≡◌, ◌⊎◌, ◌↔◌, ℕ, ◌+◌, ◌
 use Rattle.std.proofs.lemmas.Bool.Decides.{nat_tests}
 use Rattle.std.proofs.lemmas.Bool.{ltb-true, ltb-false}
 use Rattle.std.proofs.lemmas.List.Elements.{Contains-append_left, Contains-append_right, Contains-append_cases}
+use Rattle.set_store.specs.declared.node.TheConstants.{ROWS}
 use Rattle.set_store.specs.declared.item.Item.{Item}
 use Rattle.set_store.specs.declared.node.Fork.{Fork}
 use Rattle.set_store.specs.declared.node.Row.{Row}
@@ -211,7 +212,7 @@ rows-apart sets a b row other n m differ one =
     let x_in = subst (λ l. Contains l x.0) (sym n.members) x.1 in
     let y_in = subst (λ l. Contains l y.0) (sym m.members) y.1 in
     let same : place row.event row.row ≡ place other.event other.row = sym (row-key row x.0 x.1) ∙ one x.0 y.0 (inl x_in) (inr y_in) ∙ row-key other y.0 y.1 in
-    let parts = same_from_place row.event row.row other.event other.row 288230376151711744 n.below.row_fits m.below.row_fits same in
+    let parts = same_from_place row.event row.row other.event other.row ROWS n.below.row_fits m.below.row_fits same in
     differ parts.0 parts.1
 
 pub rows-joined : (sets : List (List Item)) (a b : ℕ) (row other both : Row) → IsNodeOf sets a (Leaf row) → IsNodeOf sets b (Leaf other) → row.event ≡ other.event → row.row ≡ other.row → both.event ≡ row.event → both.row ≡ row.row → both.mask ≡ bit_or row.mask other.mask
@@ -269,26 +270,24 @@ module _ (bit : ℕ) (xs ys al ar bl br left right : List Item) (p : PartAt xs y
 pub fall : (sets : List (List Item)) (set bit left right : ℕ) → AreHalvesOf sets set bit left right → FallApart bit (members_of sets set) (members_of sets left) (members_of sets right)
 fall sets set bit left right h = record { low = h.low; high = h.high }
 
--- the left halves of two sets that part have lower numbers in all, and so have the right ones
-pub left-smaller : (sets : List (List Item)) (a b bit al ar bl br : ℕ) → PartAt (members_of sets a) (members_of sets b) bit → AreHalvesOf sets a bit al ar → AreHalvesOf sets b bit bl br → al + bl < a + b
-left-smaller sets a b bit al ar bl br p h k =
-    let high = p.some_high in
-    let most = h.left_most in
-    let most_too = k.left_most in
-    elim high.1 [
-      | inl c ↦ let less = h.left_less high.0 ((h.high high.0).1 (c, high.2)) in omega arith
-      | inr c ↦ let less = k.left_less high.0 ((k.high high.0).1 (c, high.2)) in omega arith
-    ]
+-- two numbers that aren't higher than two others, and of which one is lower, are lower in all
+some-lower : (a b x y : ℕ) (xs ys : List Item) (item : Item) → x ≤ a → y ≤ b → ((item : Item) → Contains xs item → x < a) → ((item : Item) → Contains ys item → y < b) → IsAmong xs ys item → x + y < a + b
+some-lower a b x y xs ys item most most_too less less_too (inl c) = let lower = less item c in omega (arith, most, most_too, lower)
+some-lower a b x y xs ys item most most_too less less_too (inr c) = let lower = less_too item c in omega (arith, most, most_too, lower)
 
-pub right-smaller : (sets : List (List Item)) (a b bit al ar bl br : ℕ) → PartAt (members_of sets a) (members_of sets b) bit → AreHalvesOf sets a bit al ar → AreHalvesOf sets b bit bl br → ar + br < a + b
-right-smaller sets a b bit al ar bl br p h k =
-    let low = p.some_low in
-    let most = h.right_most in
-    let most_too = k.right_most in
-    elim low.1 [
-      | inl c ↦ let less = h.right_less low.0 ((h.low low.0).1 (c, low.2)) in omega arith
-      | inr c ↦ let less = k.right_less low.0 ((k.low low.0).1 (c, low.2)) in omega arith
-    ]
+-- so are the left halves of two sets that part, since the right ones have a member, and the other way round
+module _ (sets : List (List Item)) (a b bit al ar bl br : ℕ) (p : PartAt (members_of sets a) (members_of sets b) bit) (h : AreHalvesOf sets a bit al ar) (k : AreHalvesOf sets b bit bl br) where
+  pub left-smaller : al + bl < a + b
+  left-smaller =
+      let high = p.some_high in
+      some-lower a b al bl (members_of sets ar) (members_of sets br) high.0 h.left_most k.left_most h.left_less k.left_less
+      (elim high.1 [ inl c ↦ inl ((h.high high.0).1 (c, high.2)) | inr c ↦ inr ((k.high high.0).1 (c, high.2)) ])
+
+  pub right-smaller : ar + br < a + b
+  right-smaller =
+      let low = p.some_low in
+      some-lower a b ar br (members_of sets al) (members_of sets bl) low.0 h.right_most k.right_most h.right_less k.right_less
+      (elim low.1 [ inl c ↦ inl ((h.low low.0).1 (c, low.2)) | inr c ↦ inr ((k.low low.0).1 (c, low.2)) ])
 
 pub united-in : (old mid new : List (List Item)) (bit a b al ar bl br left right : ℕ) → PartAt (members_of old a) (members_of old b) bit → AreHalvesOf old a bit al ar → AreHalvesOf old b bit bl br
     → StandAsBefore old mid → IsSet mid left → IsUnionOf (members_of mid left) (members_of old al) (members_of old bl) → StandAsBefore mid new → IsUnionOf (members_of new right) (members_of mid ar) (members_of mid br)
@@ -313,7 +312,7 @@ contains-high sets set fork item n l h = (
 )
 
 -- a fork whose parts' numbers are these two
-pub is-fork : (sets : List (List Item)) (fork : Fork) (left right : ℕ) → fork.left ≡ left → fork.right ≡ right → IsSet sets left → IsSet sets right → fork.bit < 128 → fork.row < 288230376151711744
+pub is-fork : (sets : List (List Item)) (fork : Fork) (left right : ℕ) → fork.left ≡ left → fork.right ≡ right → IsSet sets left → IsSet sets right → fork.bit < 128 → fork.row < ROWS
     → HasFirst (members_of sets left) (place fork.event fork.row) → AreHalves fork.bit (members_of sets left) (members_of sets right) → IsNodeBelow sets (length sets) (Branch fork)
 is-fork sets fork left right h1 h2 h3 h4 h5 h6 h7 h8 = grind (arith, nat_tests, halves)
 

@@ -4,6 +4,7 @@ use Rattle.std.proofs.lemmas.Bool.Decides.{nat_tests}
 use Rattle.std.proofs.lemmas.List.Elements.{Contains-append_left, Contains-append_right, Contains-append_cases}
 use Rattle.std.proofs.lemmas.Nat.{same_from_place}
 use Rattle.std.proofs.lemmas.Option.{slice_get_within}
+use Rattle.set_store.specs.declared.node.TheConstants.{ROWS}
 use Rattle.set_store.specs.declared.item.Item.{Item}
 use Rattle.set_store.specs.declared.node.Fork.{Fork}
 use Rattle.set_store.specs.declared.node.Row.{Row}
@@ -100,7 +101,7 @@ fork-same sets a f g smaller there fl fr gl gr is_f is_g same =
     let left : f.left ≡ g.left = smaller f.left g.left fl (omega arith) gl (λ x. (left-in sets f g is_f is_g (λ y c. (same y).0 c) bit x, left-in sets g f is_g is_f (λ y c. (same y).1 c) (sym bit) x)) in
     let right : f.right ≡ g.right = smaller f.right g.right fr (omega arith) gr (λ x. (right-in sets f g is_f is_g (λ y c. (same y).0 c) bit x, right-in sets g f is_g is_f (λ y c. (same y).1 c) (sym bit) x)) in
     let first : place f.event f.row ≡ place g.event g.row = first-same sets f.left g.left (place f.event f.row) (place g.event g.row) left is_f.first is_g.first in
-    let at = same_from_place f.event f.row g.event g.row 288230376151711744 is_f.row_fits is_g.row_fits first in
+    let at = same_from_place f.event f.row g.event g.row ROWS is_f.row_fits is_g.row_fits first in
     λ i. record { event = at.0 i; row = at.1 i; bit = bit i; left = left i; right = right i }
 
 no-fork : (sets : List (List Item)) (f : Fork) (key : ℕ) → IsForkOf sets f → ((y : Item) → Contains (members_of sets f.left ++ members_of sets f.right) y → key_of y ≡ key) → ⊥

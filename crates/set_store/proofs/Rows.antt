@@ -10,6 +10,7 @@ use Rattle.std.proofs.lemmas.List.{append-nil}
 use Rattle.std.proofs.lemmas.List.Elements.{Contains-append_left, Contains-append_right, Contains-append_cases}
 use Rattle.std.proofs.lemmas.Nat.{div-mul-add, mod-mul-add, div-add-mod', mod_below, or_lt, le_or_l, same_from_place, one_shl, pow_pos}
 use Rattle.std.proofs.lemmas.Nat.Bits.{bit_at-trailing_zeros, bit_at_or, bit_at-pow_same, bit_at-pow_other, same_from_bits_below}
+use Rattle.set_store.specs.declared.node.TheConstants.{ROWS}
 use Rattle.set_store.specs.declared.item.Item.{Item}
 use Rattle.set_store.specs.declared.node.Row.{Row}
 use Rattle.set_store.specs.Sets.{HaveSame, IsRising, IsUnionOf, item_cmp}
@@ -205,7 +206,7 @@ row-both row other both r s h m =
     let most = or_lt 64 row.mask other.mask r.mask_fits s.mask_fits in
     let some = r.some in
     record {
-      row_fits = subst (λ n. n < 288230376151711744) (sym h) r.row_fits;
+      row_fits = subst (λ n. n < ROWS) (sym h) r.row_fits;
       some = subst (λ n. 0 < n) (sym m) (omega arith);
       mask_fits = subst (λ n. n < 2 ^ 64) (sym m) most;
     }
@@ -230,7 +231,7 @@ row-one item row f e g m = (is, same_list (items_of row) (item ∷ []) (rising-b
       let s = small in
       let w = whole in
       record {
-        row_fits = subst (λ n. n < 288230376151711744) (sym g) (omega arith);
+        row_fits = subst (λ n. n < ROWS) (sym g) (omega arith);
         some = subst (λ n. 0 < n) (sym mask) (pow_pos (item.at % 64));
         mask_fits = subst (λ n. n < 2 ^ 64) (sym m) (mod_below (1 * 2 ^ (item.at % 64)) (2 ^ 64) (pow_pos 64));
       }

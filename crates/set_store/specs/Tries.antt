@@ -2,15 +2,16 @@
 use Rattle.std.specs.Prelude.{◌≡◌, ◌⊎◌, ◌↔◌, ℕ, ◌+◌, ◌*◌, ◌/◌, ◌%◌, ◌^◌, ◌<◌, ◌≤◌, List, [], ◌∷◌, ◌++◌, slice_get, Some, if◌then◌else◌, zero, suc, ◌==◌, Contains}
 use Rattle.set_store.specs.declared.item.Item.{Item}
 use Rattle.std.specs.Int.{bit_at}
+use Rattle.set_store.specs.declared.node.TheConstants.{ROWS}
 use Rattle.set_store.specs.declared.node.Fork.{Fork}
 use Rattle.set_store.specs.declared.node.Row.{Row}
 use Rattle.set_store.specs.declared.node.Node.{Node}
 use Rattle.set_store.specs.declared.node.Node.TheVariants.{Empty, Leaf, Branch}
 use Rattle.set_store.specs.Sets.{IsSet, members_of}
 
--- a row of 64 bytes as a number
+-- a row of 64 bytes as a number: of each event there are as many rows
 abbrev pub place : ℕ → ℕ → ℕ
-place event row = event * 288230376151711744 + row
+place event row = event * ROWS + row
 
 -- an item's row: keys are ordered as items are
 abbrev pub key_of : Item → ℕ
@@ -39,7 +40,7 @@ items_of row = items_below row 64
 
 -- a row of an event, of which the mask has some bytes
 pub record IsRow (row : Row) : Type 0 where
-  pub row_fits : row.row < 288230376151711744
+  pub row_fits : row.row < ROWS
   pub some : 0 < row.mask
   pub mask_fits : row.mask < 2 ^ 64
 
@@ -79,7 +80,7 @@ expanded sets (Branch fork) = members_of sets fork.left ++ members_of sets fork.
 -- a fork of two sets
 pub record IsForkOf (sets : List (List Item)) (fork : Fork) : Type 0 where
   pub bit : fork.bit < 128
-  pub row_fits : fork.row < 288230376151711744
+  pub row_fits : fork.row < ROWS
   pub first : HasFirst (members_of sets fork.left) (place fork.event fork.row)
   pub halves : AreHalves fork.bit (members_of sets fork.left) (members_of sets fork.right)
 
