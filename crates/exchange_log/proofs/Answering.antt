@@ -1,5 +1,6 @@
 -- What is answered where a give is read.
-use Rattle.std.proofs.Common.{◌≡◌, ℕ, List, Result, Ok, Err, IfErr, IsErrAnd, IsErrOf, ap, sym, ◌∙◌}
+use Rattle.std.proofs.lemmas.Bool.Decides.{nat_tests}
+use Rattle.std.proofs.Common.{◌≡◌, ℕ, List, Result, Ok, Err, IfErr, IsErrAnd, IsErrOf, ap, sym, ◌∙◌, arith}
 use Rattle.schedule_log.specs.declared.errors.GetError.{GetError}
 use Rattle.schedule_log.specs.declared.errors.GetError.TheVariants as error
 use Rattle.exchange_log.specs.Gives.{IsCause, IsNoGive, IsSomeGive}
@@ -20,9 +21,7 @@ exactly-no_memory r bytes at e stands =
 
 pub cause-no_memory : {T : Type 0} (r : Result T GetError) (bytes : List ℕ) (at : ℕ) → IsErrOf r error.NoMemory → IsSomeGive bytes at
     → IfErr r (IsCause bytes at)
-cause-no_memory (Ok x) bytes at e stands = tt
-cause-no_memory (Err (error.Malformed place)) bytes at e stands = absurd cc
-cause-no_memory (Err error.NoMemory) bytes at e stands = stands
+cause-no_memory r bytes at h1 h2 = grind (arith, nat_tests)
 
 -- where a give is read one stands
 pub exactly-read : {T : Type 0} (x : T) (bytes : List ℕ) (at : ℕ) → IsSomeGive bytes at

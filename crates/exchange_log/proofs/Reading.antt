@@ -1,4 +1,5 @@
 -- The fields of a give, read as a give.
+use Rattle.std.proofs.lemmas.Bool.Decides.{nat_tests}
 use Rattle.std.proofs.Common.{◌≡◌, ℕ, zero, suc, ◌*◌, ◌-◌, ◌≤◌, ◌<◌, List, [], ◌∷◌, ◌++◌, length, take, drop, flat_map, slice_range, refl, sym, ap, subst, ◌∙◌, append_assoc, length-drop, length-take, arith}
 use Rattle.std.specs.List.{All}
 use Rattle.std.proofs.lemmas.List.{take-append-drop}
@@ -6,7 +7,7 @@ use Rattle.std.proofs.lemmas.List.Elements.{All-cons, All-drop, All-nil, All-tak
 use Rattle.std.proofs.Math.Seq.{drop-append_seam, take-append_seam}
 use Rattle.arn_base.specs.declared.records.Origin.{Origin}
 use Rattle.arn_base.specs.declared.records.Give.{Give}
-use Rattle.schedule_log.specs.Fields.{counted, field, BeginsCounted, IsCounted, OnlyCounted}
+use Rattle.schedule_log.specs.Fields.{counted, field, BeginsCounted, OnlyCounted, IsCounted}
 use Rattle.schedule_log.specs.Laws.{AreBytes, FieldSpelled, FrontStands, StandsInFront}
 use Rattle.exchange_log.specs.Gives.{give_fields, origin_fields, origins_fields, BeginsOrigins, FitsOrigin, IsNoGive, IsSomeGive, ReadsGive, StartsGive, StartsNoGive, StartsSomeGive}
 use Rattle.exchange_log.proofs.OneWay.{length-origins, origin-fields}
@@ -32,14 +33,7 @@ record Fronts (fields : List ℕ) (o : Origin) : Type 0 where
 -- three fields in front, and what stands behind them
 three : (fields a b c : List ℕ) → take 8 fields ≡ a → take 4 (drop 8 fields) ≡ b → take 4 (drop 4 (drop 8 fields)) ≡ c
     → fields ≡ a ++ (b ++ (c ++ drop 4 (drop 4 (drop 8 fields))))
-three fields a b c is_a is_b is_c =
-    let x = drop 8 fields in
-    let y = drop 4 x in
-    sym (take-append-drop 8 fields)
-    ∙ ap (λ xs. take 8 fields ++ xs) (sym (take-append-drop 4 x) ∙ ap (λ xs. take 4 x ++ xs) (sym (take-append-drop 4 y)))
-    ∙ ap (λ xs. xs ++ (take 4 x ++ (take 4 y ++ drop 4 y))) is_a
-    ∙ ap (λ xs. a ++ (xs ++ (take 4 y ++ drop 4 y))) is_b
-    ∙ ap (λ xs. a ++ (b ++ (xs ++ drop 4 y))) is_c
+three fields a b c h1 h2 h3 = grind (arith, nat_tests, take-append-drop)
 
 no-bytes : (xs : List ℕ) → length xs ≡ 0 → [] ≡ xs
 no-bytes [] l = refl
@@ -52,12 +46,10 @@ module _ (eight : FieldSpelled 8) (four : FieldSpelled 4) where
       let b = drop 8 fields in
       let c = drop 4 b in
       let small_b = AreBytes-drop 8 fields small in
-      let small_c = AreBytes-drop 4 b small_b in
       let long_b = length-drop 8 fields in
-      let long_c = length-drop 4 b in
       let event = eight (take 8 fields) (AreBytes-take 8 fields small) (omega (arith, length-take 8 fields)) in
       let at = four (take 4 b) (AreBytes-take 4 b small_b) (omega (arith, long_b, length-take 4 b)) in
-      let len = four (take 4 c) (AreBytes-take 4 c small_c) (omega (arith, long_b, long_c, length-take 4 c)) in
+      let len = four (take 4 c) (AreBytes-take 4 c (AreBytes-drop 4 b small_b)) (omega (arith, long_b, length-drop 4 b, length-take 4 c)) in
       let o : Origin = record { event = event.0; at = at.0; len = len.0 } in (
         o,
         record {
@@ -121,13 +113,12 @@ give_stands eight four bytes given behind fields rest small is_given are_origins
 pub no-give : (bytes given behind : List ℕ) → OnlyCounted bytes given behind
     → ((fields rest : List ℕ) → ¬ BeginsOrigins behind fields rest) → StartsNoGive bytes
 no-give bytes given behind only h g rest s =
-    let fields = flat_map origin_fields g.origins in
     let e : origins_fields g.origins ++ rest ≡ behind =
     (only g.bytes (origins_fields g.origins ++ rest) (record {
       is_counted = s.has_spelling.0;
       is_bytes = s.is_bytes ∙ append_assoc (counted g.bytes) (origins_fields g.origins) rest;
     })).1 in
-    h fields rest (record { count = length g.origins; fits = s.has_spelling.1; is_whole = length-origins g.origins; is_bytes = sym e })
+    h (flat_map origin_fields g.origins) rest (record { count = length g.origins; fits = s.has_spelling.1; is_whole = length-origins g.origins; is_bytes = sym e })
 
 -- no give is read where none starts
 pub none-read : StandsInFront → (bytes behind : List ℕ) (at : ℕ) → behind ≡ slice_range bytes at (length bytes)
