@@ -49,9 +49,8 @@ FitsIn-signed_of width n some below =
           } in
           subst (FitsIn width) (sym (signed_of_low width n low)) fits
       | inr high ↦
-          let twice = double width some in
           let fits : FitsIn width (negsuc (2 ^ width - suc n)) = record {
-            at_least = omega (arith, ints, twice);
+            at_least = omega (arith, ints, double width some);
             at_most = omega (arith, ints, pow_pos (width - 1));
           } in
           subst (FitsIn width) (sym (signed_of_high width n high below)) fits
@@ -76,8 +75,7 @@ pub even-unsigned_of : (width : ℕ) (z : ℤ) → 0 < width → FitsIn width z 
 even-unsigned_of width (pos n) some fits even = even
 even-unsigned_of width (negsuc n) some fits even =
     let small : n < 2 ^ (width - 1) = omega (arith, ints) in
-    let twice = double width some in
-    omega (arith, twice)
+    omega (arith, double width some)
 
 pub even-signed_of : (width n : ℕ) → 0 < width → n < 2 ^ width → n % 2 ≡ 0
     → magnitude_of (signed_of width n) % 2 ≡ 0
@@ -85,8 +83,7 @@ even-signed_of width n some below even =
     elim (low_or_high width n) [
       | inl low ↦ ap (λ (z : ℤ). magnitude_of z % 2) (signed_of_low width n low) ∙ even
       | inr high ↦
-          let twice = double width some in
-          let rest : suc (2 ^ width - suc n) % 2 ≡ 0 = omega (arith, twice) in
+          let rest : suc (2 ^ width - suc n) % 2 ≡ 0 = omega (arith, double width some) in
           ap (λ (z : ℤ). magnitude_of z % 2) (signed_of_high width n high below) ∙ rest
     ]
 

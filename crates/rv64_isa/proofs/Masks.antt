@@ -1,6 +1,6 @@
 -- The lowest bits of a number, and numbers joined from bits that do not overlap.
-use Rattle.std.proofs.Common.{◌≡◌, ℕ, ◌+◌, ◌-◌, ◌*◌, ◌/◌, ◌%◌, ◌^◌, ◌<◌, ◌≤◌, bit_and, bit_or, ap, subst, ◌∙◌, arith}
-use Rattle.std.proofs.lemmas.Nat.{and_mask, or_shifted, shr_split}
+use Rattle.std.proofs.Common.{◌≡◌, ℕ, ◌+◌, ◌-◌, ◌*◌, ◌/◌, ◌%◌, ◌^◌, ◌<◌, ◌≤◌, bit_and, bit_or, ap, ◌∙◌, arith}
+use Rattle.std.proofs.lemmas.Nat.{and_mask, or_shifted}
 use Rattle.std.proofs.lemmas.Nat.Bits.{ones_shr}
 use Rattle.std.proofs.Math.Nat.{mod-eq_of_lt}
 
@@ -10,12 +10,6 @@ and_ones_shr w n k within =
     let all : w - k ≤ w = omega arith in
     let e : w - (w - k) ≡ k = omega arith in
     ap (bit_and n) (ones_shr w (w - k) all ∙ ap (λ (j : ℕ). 2 ^ j - 1) e) ∙ and_mask n k
-
--- bits that are put below a number whose own are higher
-pub or_below : (n b k : ℕ) → n % 2 ^ k ≡ 0 → b < 2 ^ k → bit_or n b ≡ n + b
-or_below n b k clear below =
-    let e : n / 2 ^ k * 2 ^ k ≡ n = omega (arith, shr_split n k) in
-    subst (λ (m : ℕ). bit_or m b ≡ m + b) e (or_shifted (n / 2 ^ k) k b below)
 
 -- bits above others, within a word
 pub or_shl : (a b k : ℕ) → a * 2 ^ k + b < 2 ^ 32 → b < 2 ^ k → bit_or (a * 2 ^ k % 2 ^ 32) b ≡ a * 2 ^ k + b

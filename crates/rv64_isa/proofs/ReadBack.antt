@@ -6,20 +6,20 @@ use Rattle.rv64_isa.specs.Bits.{bits_of}
 use Rattle.rv64_isa.specs.Decoded.{decoded, decoded_by, jalr_decoded, branch_decoded, load_decoded, store_decoded, imm_decoded, reg_decoded, immediate_by}
 use Rattle.rv64_isa.specs.Encoded.{word_of, r_word, i_word, imm_word, s_word, b_word, u_word, j_word, upper_by}
 use Rattle.rv64_isa.specs.Fields.{opcode_of, rd_of, funct3_of, rs1_of, rs2_of, funct7_of, i_immediate_of, s_immediate_of, b_immediate_of, u_immediate_of, j_immediate_of}
-use Rattle.rv64_isa.specs.Opcode.{lui, auipc, jal, branch, load, store, op_imm, op_imm_32, op, op_32}
+use Rattle.rv64_isa.specs.Opcode.{lui, auipc, jal, op_imm, op_imm_32, op, op_32}
 use Rattle.rv64_isa.specs.Rows.{IsRow, upper_of, jalr_row, branch_row, load_row, store_row, imm_row, reg_row, branch_op_at, load_op_at, store_op_at, imm_op_at, reg_op_at}
 use Rattle.rv64_isa.specs.Signed.{signed_of, unsigned_of, FitsIn}
 use Rattle.rv64_isa.specs.Valid.{HasRegisters, IsInRange, IsStep, IsFence, IsImmInRange}
 use Rattle.rv64_isa.specs.declared.row.Row.{Row}
 use Rattle.rv64_isa.specs.declared.row.Form.{Form}
-use Rattle.rv64_isa.specs.declared.row.Form.TheVariants.{R, I, S, B, Shift, WordShift}
+use Rattle.rv64_isa.specs.declared.row.Form.TheVariants.{R, Shift, WordShift}
 use Rattle.rv64_isa.specs.declared.instruction.BranchOp.{BranchOp}
 use Rattle.rv64_isa.specs.declared.instruction.LoadOp.{LoadOp}
 use Rattle.rv64_isa.specs.declared.instruction.StoreOp.{StoreOp}
 use Rattle.rv64_isa.specs.declared.instruction.ImmOp.{ImmOp}
 use Rattle.rv64_isa.specs.declared.instruction.RegOp.{RegOp}
 use Rattle.rv64_isa.specs.declared.instruction.Instr.{Instr}
-use Rattle.rv64_isa.specs.declared.instruction.Instr.TheVariants.{Lui, Auipc, Jal, Jalr, Branch, Load, Store, Imm, Op, Fence, Ecall, Ebreak}
+use Rattle.rv64_isa.specs.declared.instruction.Instr.TheVariants.{Lui, Auipc, Jal, Jalr, Branch, Load, Store, Imm, Op, Fence}
 use Rattle.rv64_isa.proofs.SignedBits.{unsigned_of_lt}
 use Rattle.rv64_isa.proofs.Immediates.{signed_of-unsigned_of, even-unsigned_of, whole-unsigned_of}
 use Rattle.rv64_isa.proofs.Layouts.{HasFields, HasFields-fields_word, HasLongFields, HasLongFields-long_word, rs2_of_upper, funct7_of_upper, amount_of_upper, six_of_upper, s_bits, b_bits, u_bits, j_bits, j_upper_of, j_upper_of-lt}
@@ -51,8 +51,7 @@ unfolding decoded_by
 load_back op rd rs1 imm rd_fits rs1_fits fits =
     let word = i_word (load_row op) rd rs1 imm in
     let has = i_fields (load_row op) rd rs1 imm (IsRow-load op) rd_fits rs1_fits fits in
-    let in_load : opcode_of word ≡ load = has.opcode_is ∙ opcode_of_load op in
-    ap (λ (opcode : ℕ). decoded_by opcode word) in_load
+    ap (λ (opcode : ℕ). decoded_by opcode word) (has.opcode_is ∙ opcode_of_load op)
     ∙ load_decoded-of word rd rs1 imm op (ap load_op_at has.funct3_is ∙ found_load op)
     has.rd_is has.rs1_is (i_immediate word imm fits has.upper_is)
 
@@ -104,11 +103,9 @@ unfolding decoded_by
 store_back op rs1 rs2 imm rs1_fits rs2_fits fits =
     let word = s_word (store_row op) rs1 rs2 imm in
     let has = s_fields (store_row op) rs1 rs2 imm (IsRow-store op) rs1_fits rs2_fits fits in
-    let in_store : opcode_of word ≡ store = has.opcode_is ∙ opcode_of_store op in
-    let above = bits_of (unsigned_of 12 imm) 11 5 in
-    ap (λ (opcode : ℕ). decoded_by opcode word) in_store
+    ap (λ (opcode : ℕ). decoded_by opcode word) (has.opcode_is ∙ opcode_of_store op)
     ∙ store_decoded-of word rs1 rs2 imm op (ap store_op_at has.funct3_is ∙ found_store op)
-    has.rs1_is (rs2_of_upper word above rs2 has.upper_is rs2_fits)
+    has.rs1_is (rs2_of_upper word (bits_of (unsigned_of 12 imm) 11 5) rs2 has.upper_is rs2_fits)
     (s_immediate word rs2 imm fits rs2_fits has.upper_is has.rd_is)
 
 -- BRANCH
@@ -120,8 +117,7 @@ b_fields : (row : Row) (rs1 rs2 : ℕ) (imm : ℤ) → IsRow row → rs1 < 32 �
 b_fields row rs1 rs2 imm is_row rs1_fits rs2_fits =
     let n = unsigned_of 13 imm in
     let upper = (bits_of n 12 12 * 2 ^ 6 + bits_of n 10 5) * 2 ^ 5 + rs2 in
-    let lower = bits_of n 4 1 * 2 + bits_of n 11 11 in
-    HasFields-fields_word upper rs1 row.funct3 lower row.opcode
+    HasFields-fields_word upper rs1 row.funct3 (bits_of n 4 1 * 2 + bits_of n 11 11) row.opcode
     (omega arith) rs1_fits is_row.funct3_fits (omega arith) is_row.opcode_fits
 
 b_immediate : (word rs2 : ℕ) (imm : ℤ) → IsStep 13 2 imm → rs2 < 32
@@ -150,11 +146,9 @@ branch_back op rs1 rs2 imm rs1_fits rs2_fits is_step =
     let n = unsigned_of 13 imm in
     let word = b_word (branch_row op) rs1 rs2 imm in
     let has = b_fields (branch_row op) rs1 rs2 imm (IsRow-branch op) rs1_fits rs2_fits in
-    let in_branch : opcode_of word ≡ branch = has.opcode_is ∙ opcode_of_branch op in
-    let above = bits_of n 12 12 * 2 ^ 6 + bits_of n 10 5 in
-    ap (λ (opcode : ℕ). decoded_by opcode word) in_branch
+    ap (λ (opcode : ℕ). decoded_by opcode word) (has.opcode_is ∙ opcode_of_branch op)
     ∙ branch_decoded-of word rs1 rs2 imm op (ap branch_op_at has.funct3_is ∙ found_branch op)
-    has.rs1_is (rs2_of_upper word above rs2 has.upper_is rs2_fits)
+    has.rs1_is (rs2_of_upper word (bits_of n 12 12 * 2 ^ 6 + bits_of n 10 5) rs2 has.upper_is rs2_fits)
     (b_immediate word rs2 imm is_step rs2_fits has.upper_is has.rd_is)
 
 -- LUI and AUIPC
@@ -167,9 +161,8 @@ u_fields opcode rd imm opcode_fits rd_fits fits =
 u_immediate : (word : ℕ) (imm : ℤ) → IsStep 32 4096 imm
     → bits_of word 31 12 ≡ bits_of (unsigned_of 32 imm) 31 12 → u_immediate_of word ≡ imm
 u_immediate word imm is_step is =
-    let n = unsigned_of 32 imm in
     let whole = whole-unsigned_of imm is_step.fits is_step.whole in
-    ap (signed_of 32) (u_bits word n (unsigned_of_lt 32 imm is_step.fits) whole is)
+    ap (signed_of 32) (u_bits word (unsigned_of 32 imm) (unsigned_of_lt 32 imm is_step.fits) whole is)
     ∙ signed_of-unsigned_of 32 imm (omega arith) is_step.fits
 
 lui_back : (rd : ℕ) (imm : ℤ) → rd < 32 → IsStep 32 4096 imm
@@ -204,9 +197,8 @@ j_fields opcode rd imm opcode_fits rd_fits =
 j_immediate : (word : ℕ) (imm : ℤ) → IsStep 21 2 imm
     → bits_of word 31 12 ≡ j_upper_of (unsigned_of 21 imm) → j_immediate_of word ≡ imm
 j_immediate word imm is_step is =
-    let n = unsigned_of 21 imm in
     let even = even-unsigned_of 21 imm (omega arith) is_step.fits is_step.whole in
-    ap (signed_of 21) (j_bits word n (unsigned_of_lt 21 imm is_step.fits) even is)
+    ap (signed_of 21) (j_bits word (unsigned_of 21 imm) (unsigned_of_lt 21 imm is_step.fits) even is)
     ∙ signed_of-unsigned_of 21 imm (omega arith) is_step.fits
 
 jal_back : (rd : ℕ) (imm : ℤ) → rd < 32 → IsStep 21 2 imm
@@ -262,21 +254,14 @@ reg_back op rd rs1 rs2 rd_fits rs1_fits rs2_fits =
 -- OP-IMM and OP-IMM-32: bits 31 to 20, by the form
 upper_by-lt : (form : Form) (upper : ℕ) (imm : ℤ) → upper ≤ upper_of form 127 → IsImmInRange form imm
     → upper_by form upper imm < 2 ^ 12
-upper_by-lt I upper imm upper_fits range = unsigned_of_lt 12 imm range
-upper_by-lt R upper imm upper_fits range = unsigned_of_lt 12 imm range
-upper_by-lt S upper imm upper_fits range = unsigned_of_lt 12 imm range
-upper_by-lt B upper imm upper_fits range = unsigned_of_lt 12 imm range
 upper_by-lt Shift upper (pos n) upper_fits range = omega (arith, ints)
 upper_by-lt Shift upper (negsuc n) upper_fits range = absurd (omega (arith, ints))
 upper_by-lt WordShift upper (pos n) upper_fits range = omega (arith, ints)
 upper_by-lt WordShift upper (negsuc n) upper_fits range = absurd (omega (arith, ints))
+upper_by-lt _ upper imm upper_fits range = unsigned_of_lt 12 imm range
 
 immediate_by-upper_by : (form : Form) (upper word : ℕ) (imm : ℤ) → IsImmInRange form imm
     → bits_of word 31 20 ≡ upper_by form upper imm → immediate_by form word ≡ imm
-immediate_by-upper_by I upper word imm range is = i_immediate word imm range is
-immediate_by-upper_by R upper word imm range is = i_immediate word imm range is
-immediate_by-upper_by S upper word imm range is = i_immediate word imm range is
-immediate_by-upper_by B upper word imm range is = i_immediate word imm range is
 immediate_by-upper_by Shift upper word (pos n) range is =
     let fits : n < 2 ^ 6 = omega (arith, ints) in
     ap pos (amount_of_upper word upper n is fits)
@@ -285,15 +270,13 @@ immediate_by-upper_by WordShift upper word (pos n) range is =
     let fits : n < 2 ^ 5 = omega (arith, ints) in
     ap pos (rs2_of_upper word upper n is fits)
 immediate_by-upper_by WordShift upper word (negsuc n) range is = absurd (omega (arith, ints))
+immediate_by-upper_by _ upper word imm range is = i_immediate word imm range is
 
 -- the upper bits of the word are the row's
 upper_of-upper_by : (form : Form) (upper word : ℕ) (imm : ℤ) → form ≢ R → upper ≤ upper_of form 127
     → IsImmInRange form imm → bits_of word 31 20 ≡ upper_by form upper imm
     → upper ≡ upper_of form (funct7_of word)
-upper_of-upper_by I upper word imm not_r fits range is = omega arith
 upper_of-upper_by R upper word imm not_r fits range is = absurd (not_r refl)
-upper_of-upper_by S upper word imm not_r fits range is = omega arith
-upper_of-upper_by B upper word imm not_r fits range is = omega arith
 upper_of-upper_by Shift upper word (pos n) not_r fits range is =
     let below : n < 2 ^ 6 = omega (arith, ints) in
     sym (six_of_upper word upper n is below)
@@ -302,6 +285,7 @@ upper_of-upper_by WordShift upper word (pos n) not_r fits range is =
     let below : n < 2 ^ 5 = omega (arith, ints) in
     sym (funct7_of_upper word upper n is below)
 upper_of-upper_by WordShift upper word (negsuc n) not_r fits range is = absurd (omega (arith, ints))
+upper_of-upper_by _ upper word imm not_r fits range is = omega arith
 
 imm_fields : (row : Row) (rd rs1 : ℕ) (imm : ℤ) → IsRow row → rd < 32 → rs1 < 32
     → IsImmInRange row.form imm
@@ -373,5 +357,4 @@ decoded-word_of (Imm op rd rs1 imm) registers range =
 decoded-word_of (Op op rd rs1 rs2) registers range =
     reg_back op rd rs1 rs2 registers.0 registers.1 registers.2
 decoded-word_of (Fence word) registers range = fence_back word range
-decoded-word_of Ecall registers range = refl
-decoded-word_of Ebreak registers range = refl
+decoded-word_of _ registers range = refl

@@ -3,22 +3,22 @@ use Rattle.std.proofs.Common.{◌≡◌, ◌≢◌, ℕ, Bool, true, false, Opti
 use Rattle.std.specs.Prelude.{◌==◌, ◌&&◌, cond, nat_lt, nat_le}
 use Rattle.std.specs.List.{find, list_all}
 use Rattle.std.proofs.lemmas.Bool.Decides.{nat_tests}
-use Rattle.std.proofs.lemmas.Bool.{eqb-true, ltb-true, leb-true}
+use Rattle.std.proofs.lemmas.Bool.{eqb-true, ltb-true, leb-true, and_parts}
 use Rattle.rv64_isa.specs.Opcode.{branch, load, store, op_imm, op_imm_32, op, op_32}
 use Rattle.rv64_isa.specs.Rows.{IsRow, is_row_of, upper_of, branch_row, load_row, store_row, imm_row, reg_row, branch_op_at, load_op_at, store_op_at, imm_op_at, reg_op_at, branch_ops, load_ops, store_ops, imm_ops, reg_ops}
 use Rattle.rv64_isa.specs.declared.row.Row.{Row}
 use Rattle.rv64_isa.specs.declared.row.Form.{Form}
-use Rattle.rv64_isa.specs.declared.row.Form.TheVariants.{R, I, S, B, Shift, WordShift}
+use Rattle.rv64_isa.specs.declared.row.Form.TheVariants.{R}
 use Rattle.rv64_isa.specs.declared.instruction.BranchOp.{BranchOp}
-use Rattle.rv64_isa.specs.declared.instruction.BranchOp.TheVariants.{Beq, Bne, Blt, Bge, Bltu, Bgeu}
+use Rattle.rv64_isa.specs.declared.instruction.BranchOp.TheVariants.{Beq}
 use Rattle.rv64_isa.specs.declared.instruction.LoadOp.{LoadOp}
-use Rattle.rv64_isa.specs.declared.instruction.LoadOp.TheVariants.{Lb, Lh, Lw, Ld, Lbu, Lhu, Lwu}
+use Rattle.rv64_isa.specs.declared.instruction.LoadOp.TheVariants.{Lb}
 use Rattle.rv64_isa.specs.declared.instruction.StoreOp.{StoreOp}
-use Rattle.rv64_isa.specs.declared.instruction.StoreOp.TheVariants.{Sb, Sh, Sw, Sd}
+use Rattle.rv64_isa.specs.declared.instruction.StoreOp.TheVariants.{Sb}
 use Rattle.rv64_isa.specs.declared.instruction.ImmOp.{ImmOp}
-use Rattle.rv64_isa.specs.declared.instruction.ImmOp.TheVariants.{Addi, Slti, Sltiu, Xori, Ori, Andi, Slli, Srli, Srai, Addiw, Slliw, Srliw, Sraiw}
+use Rattle.rv64_isa.specs.declared.instruction.ImmOp.TheVariants.{Addi, Slli, Srli, Srai, Slliw, Srliw, Sraiw}
 use Rattle.rv64_isa.specs.declared.instruction.RegOp.{RegOp}
-use Rattle.rv64_isa.specs.declared.instruction.RegOp.TheVariants.{Add, Sub, Sll, Slt, Sltu, Xor, Srl, Sra, Or, And, Addw, Subw, Sllw, Srlw, Sraw}
+use Rattle.rv64_isa.specs.declared.instruction.RegOp.TheVariants.{Add}
 
 -- what is found passes the test
 first_passes : {A : Type 0} (test : A → Bool) (y x : A) (rest : Option A) (passes : Bool)
@@ -39,18 +39,13 @@ pub record IsRowOf (opcode funct3 funct7 : ℕ) (row : Row) : Type 0 where
   pub funct3_is : row.funct3 ≡ funct3
   pub upper_is : row.upper ≡ upper_of row.form funct7
 
-both : (a b : Bool) → (a && b) ≡ true → (a ≡ true) × (b ≡ true)
-both true b e = (refl, e)
-both false b e = absurd (cc)
-
 IsRowOf-true : (opcode funct3 funct7 : ℕ) (row : Row) → is_row_of opcode funct3 funct7 row ≡ true
     → IsRowOf opcode funct3 funct7 row
 IsRowOf-true opcode funct3 funct7 row e =
     let same_opcode = row.opcode == opcode in
     let same_funct3 = row.funct3 == funct3 in
-    let same_upper = row.upper == upper_of row.form funct7 in
-    let outer = both (same_opcode && same_funct3) same_upper e in
-    let inner = both same_opcode same_funct3 outer.0 in
+    let outer = and_parts (same_opcode && same_funct3) (row.upper == upper_of row.form funct7) e in
+    let inner = and_parts same_opcode same_funct3 outer.0 in
     record {
       opcode_is = eqb-true row.opcode opcode inner.0;
       funct3_is = eqb-true row.funct3 funct3 inner.1;
@@ -94,9 +89,8 @@ is_row row = nat_lt row.opcode 128 && nat_lt row.funct3 8 && nat_le row.upper (u
 
 pub IsRow-true : (row : Row) → is_row row ≡ true → IsRow row
 IsRow-true row e =
-    let upper = nat_le row.upper (upper_of row.form 127) in
-    let outer = both (nat_lt row.opcode 128 && nat_lt row.funct3 8) upper e in
-    let inner = both (nat_lt row.opcode 128) (nat_lt row.funct3 8) outer.0 in
+    let outer = and_parts (nat_lt row.opcode 128 && nat_lt row.funct3 8) (nat_le row.upper (upper_of row.form 127)) e in
+    let inner = and_parts (nat_lt row.opcode 128) (nat_lt row.funct3 8) outer.0 in
     record {
       opcode_fits = ltb-true row.opcode 128 inner.0;
       funct3_fits = ltb-true row.funct3 8 inner.1;
@@ -106,60 +100,30 @@ IsRow-true row e =
 -- each mnemonic is what is found at the fields of its row
 pub found_branch : (op : BranchOp) → branch_op_at (branch_row op).funct3 ≡ Some op
 found_branch Beq = refl
-found_branch Bne = refl
-found_branch Blt = refl
-found_branch Bge = refl
-found_branch Bltu = refl
-found_branch Bgeu = refl
+found_branch _ = refl
 
 pub found_load : (op : LoadOp) → load_op_at (load_row op).funct3 ≡ Some op
 found_load Lb = refl
-found_load Lh = refl
-found_load Lw = refl
-found_load Ld = refl
-found_load Lbu = refl
-found_load Lhu = refl
-found_load Lwu = refl
+found_load _ = refl
 
 pub found_store : (op : StoreOp) → store_op_at (store_row op).funct3 ≡ Some op
 found_store Sb = refl
-found_store Sh = refl
-found_store Sw = refl
-found_store Sd = refl
+found_store _ = refl
 
 pub found_imm : (op : ImmOp) (funct7 : ℕ) → (imm_row op).upper ≡ upper_of (imm_row op).form funct7
     → imm_op_at (imm_row op).opcode (imm_row op).funct3 funct7 ≡ Some op
-found_imm Addi funct7 e = refl
-found_imm Slti funct7 e = refl
-found_imm Sltiu funct7 e = refl
-found_imm Xori funct7 e = refl
-found_imm Ori funct7 e = refl
-found_imm Andi funct7 e = refl
 found_imm Slli funct7 e = rw (← e) refl
 found_imm Srli funct7 e = rw (← e) refl
 found_imm Srai funct7 e = rw (← e) refl
-found_imm Addiw funct7 e = refl
 found_imm Slliw funct7 e = rw (← e) refl
 found_imm Srliw funct7 e = rw (← e) refl
 found_imm Sraiw funct7 e = rw (← e) refl
+found_imm _ funct7 e = refl
 
 pub found_reg : (op : RegOp)
     → reg_op_at (reg_row op).opcode (reg_row op).funct3 (reg_row op).upper ≡ Some op
 found_reg Add = refl
-found_reg Sub = refl
-found_reg Sll = refl
-found_reg Slt = refl
-found_reg Sltu = refl
-found_reg Xor = refl
-found_reg Srl = refl
-found_reg Sra = refl
-found_reg Or = refl
-found_reg And = refl
-found_reg Addw = refl
-found_reg Subw = refl
-found_reg Sllw = refl
-found_reg Srlw = refl
-found_reg Sraw = refl
+found_reg _ = refl
 
 -- a mnemonic with an immediate is the one that has its row
 abbrev is_same_row : Row → Row → Bool
@@ -169,18 +133,7 @@ is_same_row row other =
 listed_imm : (op : ImmOp)
     → find (λ other. is_same_row (imm_row op) (imm_row other)) imm_ops ≡ Some op
 listed_imm Addi = refl
-listed_imm Slti = refl
-listed_imm Sltiu = refl
-listed_imm Xori = refl
-listed_imm Ori = refl
-listed_imm Andi = refl
-listed_imm Slli = refl
-listed_imm Srli = refl
-listed_imm Srai = refl
-listed_imm Addiw = refl
-listed_imm Slliw = refl
-listed_imm Srliw = refl
-listed_imm Sraiw = refl
+listed_imm _ = refl
 
 -- what holds of each element holds of the one that is found
 first_every : {A : Type 0} (p : A → Bool) (y x : A) (rest : Option A) (passes : Bool)
@@ -192,7 +145,7 @@ found_every : {A : Type 0} (p test : A → Bool) (xs : List A) (x : A) → find 
     → list_all p xs ≡ true → p x ≡ true
 found_every p test [] x e each = absurd (cc)
 found_every p test (y ∷ ys) x e each =
-    let parts = both (p y) (list_all p ys) each in
+    let parts = and_parts (p y) (list_all p ys) each in
     first_every p y x (find test ys) (test y) (λ later. found_every p test ys x later parts.1) parts.0 e
 
 -- so what the whole table passes holds of each mnemonic
@@ -277,11 +230,7 @@ is_r form = false
 
 is_r-true : (form : Form) → is_r form ≡ true → form ≡ R
 is_r-true R e = refl
-is_r-true I e = absurd (cc)
-is_r-true S e = absurd (cc)
-is_r-true B e = absurd (cc)
-is_r-true Shift e = absurd (cc)
-is_r-true WordShift e = absurd (cc)
+is_r-true _ e = absurd (cc)
 
 pub form_of_reg : (op : RegOp) → (reg_row op).form ≡ R
 form_of_reg op = is_r-true (reg_row op).form (every_reg (λ other. is_r (reg_row other).form) refl op)

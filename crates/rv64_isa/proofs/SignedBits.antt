@@ -23,10 +23,9 @@ lowest_of width (negsuc n) within fits =
     let below : n < 2 ^ width = omega (arith, half_below width) in
     let e : 64 - width + width ≡ 64 = omega arith in
     let P : ℕ → Type 0 = λ w. (2 ^ w - 1 - n) % 2 ^ width ≡ 2 ^ width - 1 - n in
-    let m : P 64 = subst P e (not_mod (64 - width) width below) in
     let l : 2 ^ 64 - suc n ≡ 2 ^ 64 - 1 - n = omega arith in
     let r : 2 ^ width - 1 - n ≡ 2 ^ width - suc n = omega arith in
-    ap (λ (k : ℕ). k % 2 ^ width) l ∙ m ∙ r
+    ap (λ (k : ℕ). k % 2 ^ width) l ∙ subst P e (not_mod (64 - width) width below) ∙ r
 
 -- the mask that the code takes them by
 pub and_ones_shr_of : (width : ℕ) (z : ℤ) → width ≤ 64 → FitsIn width z

@@ -13,7 +13,7 @@ use Rattle.rv64_isa.specs.Signed.{signed_of, unsigned_of, FitsIn}
 use Rattle.rv64_isa.specs.Valid.{IsInRange, IsStep, IsImmInRange}
 use Rattle.rv64_isa.specs.declared.row.Row.{Row}
 use Rattle.rv64_isa.specs.declared.row.Form.{Form}
-use Rattle.rv64_isa.specs.declared.row.Form.TheVariants.{R, I, S, B, Shift, WordShift}
+use Rattle.rv64_isa.specs.declared.row.Form.TheVariants.{B, Shift, WordShift}
 use Rattle.rv64_isa.specs.declared.instruction.BranchOp.{BranchOp}
 use Rattle.rv64_isa.specs.declared.instruction.LoadOp.{LoadOp}
 use Rattle.rv64_isa.specs.declared.instruction.StoreOp.{StoreOp}
@@ -232,28 +232,19 @@ reg_spelled word fits =
 -- OP-IMM and OP-IMM-32
 upper_by-immediate_by : (form : Form) (upper word : ℕ) → upper ≡ upper_of form (funct7_of word)
     → upper_by form upper (immediate_by form word) ≡ bits_of word 31 20
-upper_by-immediate_by I upper word is =
-    unsigned_of-signed_of 12 (bits_of word 31 20) (omega arith) (omega arith)
-upper_by-immediate_by R upper word is =
-    unsigned_of-signed_of 12 (bits_of word 31 20) (omega arith) (omega arith)
-upper_by-immediate_by S upper word is =
-    unsigned_of-signed_of 12 (bits_of word 31 20) (omega arith) (omega arith)
-upper_by-immediate_by B upper word is =
-    unsigned_of-signed_of 12 (bits_of word 31 20) (omega arith) (omega arith)
 upper_by-immediate_by Shift upper word is =
     ap (λ (upper : ℕ). upper * 2 ^ 6 + bits_of word 25 20) is ∙ six_above word
 upper_by-immediate_by WordShift upper word is =
     ap (λ (upper : ℕ). upper * 2 ^ 5 + bits_of word 24 20) is ∙ seven_above word
+upper_by-immediate_by _ upper word is =
+    unsigned_of-signed_of 12 (bits_of word 31 20) (omega arith) (omega arith)
 
 IsImmInRange-immediate_by : (form : Form) (word : ℕ) → IsImmInRange form (immediate_by form word)
-IsImmInRange-immediate_by I word = i_fits word
-IsImmInRange-immediate_by R word = i_fits word
-IsImmInRange-immediate_by S word = i_fits word
-IsImmInRange-immediate_by B word = i_fits word
 IsImmInRange-immediate_by Shift word =
     record { at_least = omega (arith, ints); at_most = omega (arith, ints) }
 IsImmInRange-immediate_by WordShift word =
     record { at_least = omega (arith, ints); at_most = omega (arith, ints) }
+IsImmInRange-immediate_by _ word = i_fits word
 
 imm_row_spelled : (row : Row) (word : ℕ) → word < 2 ^ 32
     → row.upper ≡ upper_of row.form (funct7_of word)
