@@ -61,8 +61,7 @@ module _ (told : ℕ → Option ℕ) (l : Link) where
   event-in : (n : ℕ) (told_next : List Record) (k : ℕ) (e : Record) → slice_get told_next k ≡ Some e → Contains (event_links told (told (n + k)) e) l → Contains (links_from told n told_next) l
   event-in n [] k e is has = absurd (none-some e is)
   event-in n (x ∷ xs) zero e is has =
-      let same = same_Some x e is in
-      Contains-append_left (event_links told (told n) x) (links_from told (n + 1) xs) l (let none : n + 0 ≡ n = omega arith in rw same (rw none at has))
+      Contains-append_left (event_links told (told n) x) (links_from told (n + 1) xs) l (let none : n + 0 ≡ n = omega arith in rw (same_Some x e is) (rw none at has))
   event-in n (x ∷ xs) (suc k) e is has =
       let next : n + suc k ≡ n + 1 + k = omega arith in
       Contains-append_right (event_links told (told n) x) (links_from told (n + 1) xs) l (event-in (n + 1) xs k e is (rw next at has))

@@ -1,7 +1,7 @@
 -- 32 bits count the children of forks.
 use Rattle.std.proofs.Common.{◌≡◌, inl, inr, ℕ, ◌+◌, ◌<◌, ◌≤◌, ◌^◌, ◌==◌, ◌||◌, ◌&&◌, Bool, true, false, not, if◌then◌else◌, List, [], ◌∷◌, ◌++◌, length, max, Option, Some, None, IfSome, refl, ap, sym, ◌∙◌, arith, length-append}
 use Rattle.std.specs.Prelude.{Contains}
-use Rattle.std.proofs.lemmas.Bool.{true≢false}
+use Rattle.std.proofs.lemmas.Bool.{true≢false, or_parts}
 use Rattle.std.proofs.lemmas.Bool.Decides.{eqb_tells}
 use Rattle.std.proofs.lemmas.Option.{none-some, same_Some}
 use Rattle.arn_base.specs.declared.records.Extra.TheVariants as extra
@@ -16,23 +16,8 @@ use Rattle.exchange_graph.proofs.Marks.{none-in, head-or-tail}
 
 -- a child that starts a group is a child
 founded-child : (e : Record) (g : ℕ) → founded e ≡ Some g → child_in e ≡ Some g
-founded-child (entry.File name bytes) g h = absurd (none-some g h)
-founded-child (entry.Boot name give) g h = absurd (none-some g h)
-founded-child (entry.Typed bytes) g h = absurd (none-some g h)
-founded-child (entry.Unplug device) g h = absurd (none-some g h)
-founded-child (entry.Slice pid ran) g h = absurd (none-some g h)
-founded-child (entry.Signal pid signal cut handler) g h = absurd (none-some g h)
 founded-child (entry.Call pid number result (extra.Start start)) g h = h
-founded-child (entry.Call pid number result extra.Nothing) g h = absurd (none-some g h)
-founded-child (entry.Call pid number result (extra.Give give)) g h = absurd (none-some g h)
-founded-child (entry.Call pid number result (extra.Put file at bytes)) g h = absurd (none-some g h)
-founded-child (entry.Call pid number result (extra.Console bytes)) g h = absurd (none-some g h)
-founded-child (entry.Call pid number result (extra.Reply device bytes)) g h = absurd (none-some g h)
-founded-child (entry.Call pid number result extra.Fault) g h = absurd (none-some g h)
-founded-child (entry.Call pid number result extra.Absent) g h = absurd (none-some g h)
-founded-child (entry.Call pid number result (extra.Name file path)) g h = absurd (none-some g h)
-founded-child (entry.Call pid number result (extra.Sent device bytes)) g h = absurd (none-some g h)
-founded-child (entry.End pid status) g h = absurd (none-some g h)
+founded-child _ g h = absurd (none-some g h)
 
 -- the greatest number behind one record
 made-some : (b : Bool) (n result g : ℕ) → (if b then Some result else None) ≡ Some g → g ≤ (if b then max n result else n)
@@ -40,28 +25,16 @@ made-some true n result g h = let e = same_Some result g h in omega (arith, e)
 made-some false n result g h = absurd (none-some g h)
 
 child-after : (e : Record) (n g : ℕ) → child_in e ≡ Some g → g ≤ greatest_after e n
-child-after (entry.File name bytes) n g h = absurd (none-some g h)
-child-after (entry.Boot name give) n g h = absurd (none-some g h)
-child-after (entry.Typed bytes) n g h = absurd (none-some g h)
-child-after (entry.Unplug device) n g h = absurd (none-some g h)
-child-after (entry.Slice pid ran) n g h = absurd (none-some g h)
-child-after (entry.Signal pid signal cut handler) n g h = absurd (none-some g h)
 child-after (entry.Call pid number result more) n g h = made-some ((number == FORK) && is_success result) n result g h
-child-after (entry.End pid status) n g h = absurd (none-some g h)
+child-after _ n g h = absurd (none-some g h)
 
 made-more : (b : Bool) (n result : ℕ) → n ≤ (if b then max n result else n)
 made-more true n result = omega arith
 made-more false n result = omega arith
 
 after-more : (e : Record) (n : ℕ) → n ≤ greatest_after e n
-after-more (entry.File name bytes) n = omega arith
-after-more (entry.Boot name give) n = omega arith
-after-more (entry.Typed bytes) n = omega arith
-after-more (entry.Unplug device) n = omega arith
-after-more (entry.Slice pid ran) n = omega arith
-after-more (entry.Signal pid signal cut handler) n = omega arith
 after-more (entry.Call pid number result more) n = made-more ((number == FORK) && is_success result) n result
-after-more (entry.End pid status) n = omega arith
+after-more _ n = omega arith
 
 -- and behind some
 from-more : (entries : List Record) (n : ℕ) → n ≤ greatest_from n entries
@@ -83,26 +56,12 @@ made-one before true result h =
 made-one before false result h = omega arith
 
 after-one : (before : List Record) (e : Record) → misnumbers before (child_in e) ≡ false → greatest_after e (greatest before) ≤ greatest before + 1
-after-one before (entry.File name bytes) h = omega arith
-after-one before (entry.Boot name give) h = omega arith
-after-one before (entry.Typed bytes) h = omega arith
-after-one before (entry.Unplug device) h = omega arith
-after-one before (entry.Slice pid ran) h = omega arith
-after-one before (entry.Signal pid signal cut handler) h = omega arith
 after-one before (entry.Call pid number result more) h = made-one before ((number == FORK) && is_success result) result h
-after-one before (entry.End pid status) h = omega arith
+after-one before _ h = omega arith
 
 from-push : (entries : List Record) (n : ℕ) (e : Record) → greatest_from n (entries ++ e ∷ []) ≡ greatest_after e (greatest_from n entries)
 from-push [] n e = refl
 from-push (x ∷ entries) n e = from-push entries (greatest_after x n) e
-
-right : (a b : Bool) → (a || b) ≡ false → b ≡ false
-right true b h = absurd (true≢false h)
-right false b h = h
-
-left : (a b : Bool) → (a || b) ≡ false → a ≡ false
-left true b h = absurd (true≢false h)
-left false b h = refl
 
 abbrev rest-number : List Record → Record → Bool
 rest-number before e = misnumbers before (child_in e) || misplaces_start e
@@ -121,12 +80,12 @@ rest-process before e = lacks_process before e || rest-slice before e
 
 numbered : (before : List Record) (e : Record) → cant_follow before e ≡ false → misnumbers before (child_in e) ≡ false
 numbered before e h =
-    let process = right (comes_wrong before e) (rest-process before e) h in
-    let slice = right (lacks_process before e) (rest-slice before e) process in
-    let origins = right (lacks_slice before e) (rest-origins before e) slice in
-    let blocks = right (not (are_origins before (give_of e))) (rest-blocks before e) origins in
-    let number = right (has_blocks_wrong (start_in e)) (rest-number before e) blocks in
-    left (misnumbers before (child_in e)) (misplaces_start e) number
+    let process = (or_parts (comes_wrong before e) (rest-process before e) h).1 in
+    let slice = (or_parts (lacks_process before e) (rest-slice before e) process).1 in
+    let origins = (or_parts (lacks_slice before e) (rest-origins before e) slice).1 in
+    let blocks = (or_parts (not (are_origins before (give_of e))) (rest-blocks before e) origins).1 in
+    let number = (or_parts (has_blocks_wrong (start_in e)) (rest-number before e) blocks).1 in
+    (or_parts (misnumbers before (child_in e)) (misplaces_start e) number).0
 
 module _ (before : List Record) (e : Record) (entries : List Record) where
   follows-by : (b : Bool) → cant_follow before e ≡ b → (if b then Some (length before) else broken_from (before ++ e ∷ []) entries) ≡ None → (b ≡ false) × (broken_from (before ++ e ∷ []) entries ≡ None)
@@ -141,9 +100,8 @@ few-made before [] h few = omega (arith, few)
 few-made before (e ∷ entries) h few =
     let f = follows before e entries h in
     let push : greatest (before ++ e ∷ []) ≡ greatest_after e (greatest before) = from-push before 0 e in
-    let one = after-one before e (numbered before e f.0) in
     let len : length (before ++ e ∷ []) ≡ length before + 1 = length-append before (e ∷ []) in
-    let rest = few-made (before ++ e ∷ []) entries f.1 (omega (arith, push, one, len, few)) in
+    let rest = few-made (before ++ e ∷ []) entries f.1 (omega (arith, push, after-one before e (numbered before e f.0), len, few)) in
     omega (arith, rw push at rest, len)
 
 told-few : (o : Option ℕ) (most : ℕ) → ((g : ℕ) → o ≡ Some g → g < most) → IfSome o (λ g. g < most)

@@ -1,4 +1,3 @@
-pub mod Grown
 pub mod Marks
 pub mod Way
 pub mod Listed

@@ -91,9 +91,7 @@ marked-grown f n inside not = record {
   fresh = λ m h. marks-before f n m h;
   known = λ m h. waits-before f n m inside h;
   work =
-      let count = unmarked-set f.marks n inside not in
-      let len = length-append f.waiting (n ∷ []) in
-      omega (arith, count, len);
+      omega (arith, unmarked-set f.marks n inside not, length-append f.waiting (n ∷ []));
 }
 
 mark-by : (f : Found) (n : ℕ) (b : Bool) → n < length f.marks → is_marked f.marks n ≡ b → Grown f (if b then f else marked f n)

@@ -119,6 +119,4 @@ module _ (rows : List (List ℕ)) (f g : Found) (rest row : List ℕ) (next : �
 
   pub turn-smaller : unmarked g.marks + length g.waiting < unmarked f.marks + length f.waiting
   turn-smaller =
-      let work = (grown rows [] rest f.marks next marks-inside).work in
-      let len = length-append rest (next ∷ []) in
-      rw (turned, is, waits) (omega (arith, work, len))
+      rw (turned, is, waits) (omega (arith, (grown rows [] rest f.marks next marks-inside).work, length-append rest (next ∷ [])))
