@@ -1,5 +1,6 @@
 // The events of a history.
-ghost use Rattle.std.specs.Prelude.{◌≡◌};
+ghost use Rattle.std.specs.Prelude.{◌≡◌, filter, length};
+ghost use Rattle.acts_model.specs.Records as records;
 ghost use Rattle.history_index.specs.Lookups.{moment_in};
 
 use arn_base::Record;
@@ -21,4 +22,17 @@ pub fn moment_of(begins: u64, ends: u64, entry: &Record) -> u64
         Record::Signal { .. } => begins,
         _ => ends,
     }
+}
+
+/// How many of these records tell an event.
+pub fn count(entries: &[Record]) -> usize
+    ensures { result ≡ length (filter records.is_event entries.now) }
+{
+    entries.iter().filter(|entry| is_event(entry)).count()
+}
+
+fn is_event(entry: &Record) -> bool
+    ensures { result ≡ records.is_event entry.now }
+{
+    !matches!(entry, Record::Slice { .. })
 }

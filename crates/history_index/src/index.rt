@@ -56,8 +56,8 @@ impl Model for Index {
 }
 
 impl Index {
-    /// Of no records.
-    fn empty(alloc: Global) -> Result<Index, NoMemory>
+    /// Of no records, with room for so many events.
+    fn with_room(alloc: Global, events: usize) -> Result<Index, NoMemory>
         ensures { IfOk result (λ made. made ≡ no_tables) }
     {
         Ok(Index {
@@ -67,7 +67,7 @@ impl Index {
             is_booted: false,
             at_hand: AtHand::Nothing,
             families: Families::new(alloc)?,
-            events: Vec::new(alloc),
+            events: Vec::with_capacity(alloc, events)?,
         })
     }
 
@@ -221,7 +221,7 @@ impl Index {
         ensures ok { IfOk result (λ made. Indexes made entries.now) }
         ensures broken { IfErr result (TellsBroken entries.now) }
     {
-        let mut index = Index::empty(alloc)?;
+        let mut index = Index::with_room(alloc, events::count(entries))?;
         index.extend(entries, 0)?;
         Ok(index)
     }
