@@ -1,5 +1,6 @@
 pub mod Answers
 pub mod Scripts
 pub mod Seeded
+pub mod SlotLaws
 pub mod Slots
 pub mod Told

@@ -5,6 +5,10 @@ use Rattle.parts_model.specs.Numbered.{nth}
 use Rattle.parts_model.specs.Replies.{Answered, GaveBytes, TookBytes, Failed, IsAbsent}
 use Rattle.guest_devices.specs.Answers.{Asked, Here, Reads, Writes, here_answer}
 
+-- slot n holds a device
+abbrev pub is_filled : {D : Type 0} → List (Option D) → ℕ → Bool
+is_filled slots n = is_some (nth slots n)
+
 -- the reply that slot n tells for place k
 abbrev pub slot_tells : {D : Type 0} → (D → ℕ → Option DeviceReply) → List (Option D) → ℕ → ℕ → Option DeviceReply
 slot_tells replies slots n k = option_and_then (λ device. replies device k) (nth slots n)

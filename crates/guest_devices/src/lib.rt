@@ -10,7 +10,7 @@ mod law;
 mod slots;
 mod told;
 
-pub use answers::{Answer, Answers};
+pub use answers::{Answer, Answers, Plugs};
 pub use choosers::{RoundChooser, ScriptChooser, SeededChooser};
 pub use devices::{EntropyDevice, ScriptDevice, ScriptReply, SilentDevice};
 pub use law::told_counts_as_named;

@@ -3,9 +3,9 @@ ghost use Rattle.std.specs.Prelude.{◌≡◌, ◌≢◌, ◌+◌, ◌↔◌, �
 ghost use Rattle.arn_base.specs.Device.{cut_to, left_after, takes};
 ghost use Rattle.parts_model.specs.Numbered.{nth};
 ghost use Rattle.guest_devices.specs.Answers.{read_answer, write_answer, IsWithin};
-ghost use Rattle.guest_devices.specs.Slots.{answer_of, taken_by, ReadsSlot, UnplugsSlot, WritesSlot};
+ghost use Rattle.guest_devices.specs.Slots.{answer_of, is_filled, taken_by, ReadsSlot, UnplugsSlot, WritesSlot};
 
-use crate::{Answer, Answers};
+use crate::{Answer, Answers, Plugs};
 use arn_base::{Device, Reply, Took};
 
 // Asks a device once. A count above the buffer's length is cut to it.
@@ -62,6 +62,16 @@ pub struct Slots<'a, D: Device> {
 /// Boxed devices in slots.
 pub type Live<'a> = Slots<'a, Box<dyn Device>>;
 
+// Whether slot `n` holds a device.
+fn is_filled<D: Device>(slots: &[Option<D>], n: usize) -> bool
+    ensures { result ≡ is_filled slots.now n }
+{
+    match slots.get(n) {
+        Some(slot) => slot.is_some(),
+        None => false,
+    }
+}
+
 // Asks the device in slot `n` once, if there is one.
 fn ask_in<D: Device>(devices: &mut Vec<Option<D>>, n: usize, buf: &mut [u8]) -> Answer
     ensures asked { ReadsSlot D.replies D.room D.took D.put_faults n (length buf.old)
@@ -101,10 +111,7 @@ impl<D: Device> Answers for Slots<'_, D> {
         × (after.devices.ghost_name ≡ slots.devices.ghost_name) };
 
     fn here(&mut self, n: u64) -> bool {
-        match self.devices.get(n as usize) {
-            Some(slot) => slot.is_some(),
-            None => false,
-        }
+        is_filled(self.devices.as_slice(), n as usize)
     }
 
     fn ask(&mut self, n: u64, buf: &mut [u8]) -> Answer {
@@ -113,6 +120,33 @@ impl<D: Device> Answers for Slots<'_, D> {
 
     fn put(&mut self, n: u64, bytes: &[u8]) -> Answer {
         put_in(self.devices, n as usize, bytes)
+    }
+}
+
+impl<D: Device> Plugs for Slots<'_, D> {
+    ghost use Rattle.std.specs.Prelude.{◌≡◌};
+    ghost use Rattle.guest_devices.specs.Slots.{UnplugsSlot, is_filled};
+    ghost use Rattle.guest_devices.specs.SlotLaws.{answers-filled, unplugs-filled};
+
+    ghost unplugs = { λ n slots after.
+        UnplugsSlot n slots.devices.now.items after.devices.now.items
+        × (after.devices.ghost_name ≡ slots.devices.ghost_name) };
+
+    ghost filled = { λ slots n. is_filled slots.devices.now.items n };
+
+    ghost keeps = { λ old new asked answer h.
+        answers-filled D.replies D.room D.took D.put_faults asked answer
+        old.devices.now.items new.devices.now.items h.0 };
+
+    ghost drops = { λ old new m h.
+        unplugs-filled m old.devices.now.items new.devices.now.items h.0 };
+
+    fn is_filled(&self, n: u32) -> bool {
+        is_filled(self.devices.as_slice(), n as usize)
+    }
+
+    fn unplug(&mut self, n: u32) {
+        unplug_in(self.devices, n);
     }
 }
 
