@@ -20,7 +20,7 @@ returns-in_err-blocks-clause-err c =
 pub returns-in_err-start-clause-err : goal.returns-in_err-start-clause-err
 returns-in_err-start-clause-err c =
     let p = c.in-Some.parts in
-    OnErr-always c.from_residual.result
+    OnErr-always c.from_residual-in_err-start.result
     (start_stands c.fields_spelled_one_way.ensures.two c.args.bytes.now p.cpu p.slot p.blocks.now p.rest.now
     (All-from_get_or (λ b. b < 256) c.args.bytes.now 0 (λ k _. (c.type_inv.bytes k).fits)) (search rules))
 
