@@ -11,23 +11,12 @@ byte value event at = record { value = value; origin = record { event = event; a
 three_bytes : Channel
 three_bytes = put_behind (put_behind no_bytes 3 (10 ∷ 11 ∷ [])) 5 (12 ∷ [])
 
-queued : three_bytes ≡ record { taken = 0; queue = byte 10 3 0 ∷ byte 11 3 1 ∷ byte 12 5 0 ∷ [] }
+channel :
+    (three_bytes ≡ record { taken = 0; queue = byte 10 3 0 ∷ byte 11 3 1 ∷ byte 12 5 0 ∷ [] })
+    × (front three_bytes 2 ≡ byte 10 3 0 ∷ byte 11 3 1 ∷ [])
+    × (front three_bytes 9 ≡ byte 10 3 0 ∷ byte 11 3 1 ∷ byte 12 5 0 ∷ [])
+    -- what has left the queue counts on: the place behind it stays
+    × (without_front three_bytes 2 ≡ record { taken = 2; queue = byte 12 5 0 ∷ [] })
+    × (channel_end (without_front three_bytes 2) ≡ 3)
 unfolding three_bytes byte
-queued = refl
-
-front-two : front three_bytes 2 ≡ byte 10 3 0 ∷ byte 11 3 1 ∷ []
-unfolding three_bytes byte
-front-two = refl
-
-front-all : front three_bytes 9 ≡ byte 10 3 0 ∷ byte 11 3 1 ∷ byte 12 5 0 ∷ []
-unfolding three_bytes byte
-front-all = refl
-
--- what has left the queue counts on: the place behind it stays
-left-behind : without_front three_bytes 2 ≡ record { taken = 2; queue = byte 12 5 0 ∷ [] }
-unfolding three_bytes byte
-left-behind = refl
-
-end-stays : channel_end (without_front three_bytes 2) ≡ 3
-unfolding three_bytes
-end-stays = refl
+channel = (refl, refl, refl, refl, refl)

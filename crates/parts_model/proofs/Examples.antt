@@ -9,16 +9,13 @@ program : List ℕ
 program =
     codes "ARNIMG01" ++ (0 ∷ 0 ∷ 1 ∷ 0 ∷ 0 ∷ 0 ∷ 0 ∷ 0 ∷ []) ++ (0 ∷ 0 ∷ 1 ∷ 0 ∷ 0 ∷ 0 ∷ 0 ∷ 0 ∷ []) ++ (0x93 ∷ 0x08 ∷ 0xb0 ∷ 0x00 ∷ 0x73 ∷ 0 ∷ 0 ∷ 0 ∷ [])
 
-image-program : image_of program ≡ Some (record { entry = 0x10000; load = 0x10000; body = 0x93 ∷ 0x08 ∷ 0xb0 ∷ 0x00 ∷ 0x73 ∷ 0 ∷ 0 ∷ 0 ∷ [] })
+image-header :
+    (image_of program ≡ Some (record { entry = 0x10000; load = 0x10000; body = 0x93 ∷ 0x08 ∷ 0xb0 ∷ 0x00 ∷ 0x73 ∷ 0 ∷ 0 ∷ 0 ∷ [] }))
+    -- a name that differs, and a file that ends in its header, are no images
+    × (image_of (codes "ARNIMG02" ++ replicate 16 0) ≡ None)
+    × (image_of (codes "ARNIMG01") ≡ None)
 unfolding program
-image-program = refl
-
--- a name that differs, and a file that ends in its header, are no images
-image-other : image_of (codes "ARNIMG02" ++ replicate 16 0) ≡ None
-image-other = refl
-
-image-short : image_of (codes "ARNIMG01") ≡ None
-image-short = refl
+image-header = (refl, refl, refl)
 
 -- places of two events, as the longest runs
 place_of : ℕ → ℕ → Src
@@ -33,39 +30,20 @@ image_at : List ℕ → List ℕ → List ℕ → List ℕ
 image_at entry load body = codes "ARNIMG01" ++ entry ++ replicate 5 0 ++ load ++ replicate 5 0 ++ body
 
 -- an empty body may lie at the window's end, and one byte may not
-image-empty-last : image_of (image_at (0 ∷ 0 ∷ 1 ∷ []) (0 ∷ 0 ∷ 5 ∷ []) []) ≡ Some (record { entry = 0x10000; load = 0x50000; body = [] })
+image-body :
+    (image_of (image_at (0 ∷ 0 ∷ 1 ∷ []) (0 ∷ 0 ∷ 5 ∷ []) []) ≡ Some (record { entry = 0x10000; load = 0x50000; body = [] }))
+    × (image_of (image_at (0 ∷ 0 ∷ 1 ∷ []) (1 ∷ 0 ∷ 5 ∷ []) []) ≡ None)
+    × (image_of (image_at (0 ∷ 0 ∷ 1 ∷ []) (0xff ∷ 0xff ∷ 4 ∷ []) (7 ∷ 8 ∷ [])) ≡ None)
+    × (image_of (image_at (0 ∷ 0 ∷ 1 ∷ []) (0xff ∷ 0xff ∷ 4 ∷ []) (7 ∷ [])) ≡ Some (record { entry = 0x10000; load = 0x4ffff; body = 7 ∷ [] }))
+    × (image_of (image_at (0 ∷ 0 ∷ 1 ∷ []) (0xff ∷ 0xff ∷ 0 ∷ []) (7 ∷ 8 ∷ [])) ≡ None)
 unfolding image_at
-image-empty-last = refl
-
-image-empty-behind : image_of (image_at (0 ∷ 0 ∷ 1 ∷ []) (1 ∷ 0 ∷ 5 ∷ []) []) ≡ None
-unfolding image_at
-image-empty-behind = refl
-
-image-across : image_of (image_at (0 ∷ 0 ∷ 1 ∷ []) (0xff ∷ 0xff ∷ 4 ∷ []) (7 ∷ 8 ∷ [])) ≡ None
-unfolding image_at
-image-across = refl
-
-image-last : image_of (image_at (0 ∷ 0 ∷ 1 ∷ []) (0xff ∷ 0xff ∷ 4 ∷ []) (7 ∷ [])) ≡ Some (record { entry = 0x10000; load = 0x4ffff; body = 7 ∷ [] })
-unfolding image_at
-image-last = refl
-
-image-below : image_of (image_at (0 ∷ 0 ∷ 1 ∷ []) (0xff ∷ 0xff ∷ 0 ∷ []) (7 ∷ 8 ∷ [])) ≡ None
-unfolding image_at
-image-below = refl
+image-body = (refl, refl, refl, refl, refl)
 
 -- the entry is a multiple of 4 in the window, also outside the body
-entry-last : image_of (image_at (0xfc ∷ 0xff ∷ 4 ∷ []) (0 ∷ 0 ∷ 1 ∷ []) (7 ∷ [])) ≡ Some (record { entry = 0x4fffc; load = 0x10000; body = 7 ∷ [] })
+image-entry :
+    (image_of (image_at (0xfc ∷ 0xff ∷ 4 ∷ []) (0 ∷ 0 ∷ 1 ∷ []) (7 ∷ [])) ≡ Some (record { entry = 0x4fffc; load = 0x10000; body = 7 ∷ [] }))
+    × (image_of (image_at (0 ∷ 0 ∷ 5 ∷ []) (0 ∷ 0 ∷ 1 ∷ []) (7 ∷ [])) ≡ None)
+    × (image_of (image_at (0xfc ∷ 0xff ∷ 0 ∷ []) (0 ∷ 0 ∷ 1 ∷ []) (7 ∷ [])) ≡ None)
+    × (image_of (image_at (2 ∷ 0 ∷ 1 ∷ []) (0 ∷ 0 ∷ 1 ∷ []) (7 ∷ [])) ≡ None)
 unfolding image_at
-entry-last = refl
-
-entry-behind : image_of (image_at (0 ∷ 0 ∷ 5 ∷ []) (0 ∷ 0 ∷ 1 ∷ []) (7 ∷ [])) ≡ None
-unfolding image_at
-entry-behind = refl
-
-entry-below : image_of (image_at (0xfc ∷ 0xff ∷ 0 ∷ []) (0 ∷ 0 ∷ 1 ∷ []) (7 ∷ [])) ≡ None
-unfolding image_at
-entry-below = refl
-
-entry-askew : image_of (image_at (2 ∷ 0 ∷ 1 ∷ []) (0 ∷ 0 ∷ 1 ∷ []) (7 ∷ [])) ≡ None
-unfolding image_at
-entry-askew = refl
+image-entry = (refl, refl, refl, refl)

@@ -13,62 +13,33 @@ pipe_with : ℕ → Bool → Bool → Pipe
 pipe_with count reader writer = record { channel = record { taken = 0; queue = replicate count (byte 1 0 0) }; has_reader = reader; has_writer = writer }
 
 -- a pipe holds 4,096 bytes: a write to a full one is ready where nothing reads it, which refuses the write
-full-room : room (pipe_with 4096 true true) ≡ 0
+pipe-room :
+    (room (pipe_with 4096 true true) ≡ 0)
+    × (can_put (pipe_with 4096 true true) ≡ false)
+    × (can_put (pipe_with 4096 false true) ≡ true)
+    × (can_put (pipe_with 4095 true true) ≡ true)
+    -- of two bytes it takes the one for which there is room
+    × (length (with_put (pipe_with 4095 true true) (7 ∷ 8 ∷ []) 5).channel.queue ≡ 4096)
 unfolding pipe_with byte
-full-room = refl
-
-full-put : can_put (pipe_with 4096 true true) ≡ false
-unfolding pipe_with byte
-full-put = refl
-
-full-unread : can_put (pipe_with 4096 false true) ≡ true
-unfolding pipe_with byte
-full-unread = refl
-
-nearly-full-put : can_put (pipe_with 4095 true true) ≡ true
-unfolding pipe_with byte
-nearly-full-put = refl
-
--- of two bytes it takes the one for which there is room
-nearly-full-takes : length (with_put (pipe_with 4095 true true) (7 ∷ 8 ∷ []) 5).channel.queue ≡ 4096
-unfolding pipe_with byte
-nearly-full-takes = refl
+pipe-room = (refl, refl, refl, refl, refl)
 
 -- a read of an empty pipe is ready where nothing writes it
-empty-take : can_take (pipe_with 0 true true) ≡ false
+pipe-take :
+    (can_take (pipe_with 0 true true) ≡ false)
+    × (can_take (pipe_with 0 true false) ≡ true)
+    × (can_take (pipe_with 1 true true) ≡ true)
+    -- at most what is there is taken
+    × ((with_taken (pipe_with 3 true true) 2).channel ≡ record { taken = 2; queue = byte 1 0 0 ∷ [] })
+    × ((with_taken (pipe_with 3 true true) 9).channel ≡ record { taken = 3; queue = [] })
 unfolding pipe_with byte
-empty-take = refl
-
-empty-unwritten : can_take (pipe_with 0 true false) ≡ true
-unfolding pipe_with byte
-empty-unwritten = refl
-
-one-take : can_take (pipe_with 1 true true) ≡ true
-unfolding pipe_with byte
-one-take = refl
-
--- at most what is there is taken
-takes-some : (with_taken (pipe_with 3 true true) 2).channel ≡ record { taken = 2; queue = byte 1 0 0 ∷ [] }
-unfolding pipe_with byte
-takes-some = refl
-
-takes-all : (with_taken (pipe_with 3 true true) 9).channel ≡ record { taken = 3; queue = [] }
-unfolding pipe_with byte
-takes-all = refl
+pipe-take = (refl, refl, refl, refl, refl)
 
 -- a pipe with one end stays, one without ends is gone, and its number isn't given again
-one-end : end_closed (Some new_pipe ∷ []) 0 ReadEnd ≡ Some (record { channel = no_bytes; has_reader = false; has_writer = true }) ∷ []
-one-end = refl
-
-no-ends : end_closed (end_closed (Some new_pipe ∷ Some new_pipe ∷ []) 0 ReadEnd) 0 WriteEnd ≡ None ∷ Some new_pipe ∷ []
-no-ends = refl
-
-made-after-gone : pipe_made (None ∷ []) ≡ None ∷ Some (record { channel = no_bytes; has_reader = true; has_writer = true }) ∷ []
-made-after-gone = refl
-
--- there may be 64; one that is gone doesn't count
-free-none : free_pipes (replicate 64 (Some new_pipe)) ≡ 0
-free-none = refl
-
-free-one : free_pipes (None ∷ replicate 63 (Some new_pipe)) ≡ 1
-free-one = refl
+pipe-ends :
+    (end_closed (Some new_pipe ∷ []) 0 ReadEnd ≡ Some (record { channel = no_bytes; has_reader = false; has_writer = true }) ∷ [])
+    × (end_closed (end_closed (Some new_pipe ∷ Some new_pipe ∷ []) 0 ReadEnd) 0 WriteEnd ≡ None ∷ Some new_pipe ∷ [])
+    × (pipe_made (None ∷ []) ≡ None ∷ Some (record { channel = no_bytes; has_reader = true; has_writer = true }) ∷ [])
+    -- there may be 64; one that is gone doesn't count
+    × (free_pipes (replicate 64 (Some new_pipe)) ≡ 0)
+    × (free_pipes (None ∷ replicate 63 (Some new_pipe)) ≡ 1)
+pipe-ends = (refl, refl, refl, refl, refl)

@@ -11,34 +11,17 @@ conn n = record { to_server = n; to_client = 64 }
 two_ports : Ports
 two_ports = listened (listened [] 80) 81
 
-listened-both : two_ports ≡ record { number = 80; waiting = [] } ∷ record { number = 81; waiting = [] } ∷ []
-unfolding two_ports
-listened-both = refl
-
-in-use : is_in_use two_ports 81 ≡ true
-unfolding two_ports
-in-use = refl
-
-not-in-use : is_in_use two_ports 82 ≡ false
-unfolding two_ports
-not-in-use = refl
-
--- connections wait at their port, and the oldest is accepted first
-waits-behind : connected (connected two_ports 81 (conn 1)) 81 (conn 3) ≡ record { number = 80; waiting = [] } ∷ record { number = 81; waiting = conn 1 ∷ conn 3 ∷ [] } ∷ []
+ports-used :
+    (two_ports ≡ record { number = 80; waiting = [] } ∷ record { number = 81; waiting = [] } ∷ [])
+    × (is_in_use two_ports 81 ≡ true)
+    × (is_in_use two_ports 82 ≡ false)
+    -- connections wait at their port, and the oldest is accepted first
+    × (connected (connected two_ports 81 (conn 1)) 81 (conn 3) ≡ record { number = 80; waiting = [] } ∷ record { number = 81; waiting = conn 1 ∷ conn 3 ∷ [] } ∷ [])
+    × (oldest (connected (connected two_ports 81 (conn 1)) 81 (conn 3)) 81 ≡ Some (conn 1))
+    × (accepted (connected (connected two_ports 81 (conn 1)) 81 (conn 3)) 81 ≡ record { number = 80; waiting = [] } ∷ record { number = 81; waiting = conn 3 ∷ [] } ∷ [])
+    × (oldest two_ports 80 ≡ None)
 unfolding two_ports conn
-waits-behind = refl
-
-oldest-first : oldest (connected (connected two_ports 81 (conn 1)) 81 (conn 3)) 81 ≡ Some (conn 1)
-unfolding two_ports conn
-oldest-first = refl
-
-accepted-oldest : accepted (connected (connected two_ports 81 (conn 1)) 81 (conn 3)) 81 ≡ record { number = 80; waiting = [] } ∷ record { number = 81; waiting = conn 3 ∷ [] } ∷ []
-unfolding two_ports conn
-accepted-oldest = refl
-
-oldest-none : oldest two_ports 80 ≡ None
-unfolding two_ports
-oldest-none = refl
+ports-used = (refl, refl, refl, refl, refl, refl, refl)
 
 -- eight connections wait at a port, and no ninth
 eighth : can_connect (record { number = 80; waiting = replicate 7 (conn 1) } ∷ []) 80 ≡ true
@@ -50,18 +33,12 @@ unfolding conn
 ninth = refl
 
 -- nor any where nothing listens
-nothing-listens : can_connect two_ports 82 ≡ false
+ports-free :
+    (can_connect two_ports 82 ≡ false)
+    -- a port is free again
+    × (freed two_ports 80 ≡ record { number = 81; waiting = [] } ∷ [])
+    -- there may be 16
+    × (is_full (replicate 16 (record { number = 80; waiting = [] })) ≡ true)
+    × (is_full (replicate 15 (record { number = 80; waiting = [] })) ≡ false)
 unfolding two_ports
-nothing-listens = refl
-
--- a port is free again
-freed-one : freed two_ports 80 ≡ record { number = 81; waiting = [] } ∷ []
-unfolding two_ports
-freed-one = refl
-
--- there may be 16
-full-at-most : is_full (replicate 16 (record { number = 80; waiting = [] })) ≡ true
-full-at-most = refl
-
-not-full : is_full (replicate 15 (record { number = 80; waiting = [] })) ≡ false
-not-full = refl
+ports-free = (refl, refl, refl, refl)
