@@ -1,7 +1,6 @@
 -- What an instruction's word is decoded as: the instruction.
-use Rattle.std.proofs.Common.{◌≡◌, ◌≢◌, ℕ, ◌+◌, ◌*◌, ◌^◌, ◌<◌, ◌≤◌, ℤ, pos, negsuc, ◌⊎◌, inl, inr, Some, None, refl, ap, subst, sym, ◌∙◌, arith}
+use Rattle.std.proofs.Common.{◌≡◌, ◌≢◌, ℕ, ◌+◌, ◌*◌, ◌^◌, ◌<◌, ◌≤◌, ℤ, pos, negsuc, ◌⊎◌, inl, inr, Some, None, refl, ap, subst, sym, ◌∙◌, arith, option_map, cond, ◌==◌}
 use Rattle.std.proofs.lemmas.Int.{ints}
-use Rattle.std.specs.Prelude.{option_map, cond, ◌==◌}
 use Rattle.rv64_isa.specs.Bits.{bits_of}
 use Rattle.rv64_isa.specs.Decoded.{decoded, decoded_by, jalr_decoded, branch_decoded, load_decoded, store_decoded, imm_decoded, reg_decoded, immediate_by}
 use Rattle.rv64_isa.specs.Encoded.{word_of, r_word, i_word, imm_word, s_word, b_word, u_word, j_word, upper_by}

@@ -1,8 +1,6 @@
 -- What a word's instruction is encoded as: the word.
-use Rattle.std.proofs.Common.{◌≡◌, ℕ, ◌+◌, ◌*◌, ◌^◌, ◌<◌, Bool, true, false, Option, Some, None, refl, ap, sym, ◌∙◌, arith}
+use Rattle.std.proofs.Common.{◌≡◌, ℕ, ◌+◌, ◌*◌, ◌^◌, ◌<◌, Bool, true, false, Option, Some, None, refl, ap, sym, ◌∙◌, arith, option_map, cond, ◌==◌, IfSome, eqb-true}
 use Rattle.std.proofs.lemmas.Int.{ints}
-use Rattle.std.specs.Prelude.{option_map, cond, ◌==◌, IfSome}
-use Rattle.std.proofs.lemmas.Bool.{eqb-true}
 use Rattle.rv64_isa.specs.Bits.{bits_of}
 use Rattle.rv64_isa.specs.Decoded.{decoded, decoded_by, jalr_decoded, branch_decoded, load_decoded, store_decoded, imm_decoded, reg_decoded, fence_decoded, system_decoded, immediate_by}
 use Rattle.rv64_isa.specs.Encoded.{word_of, r_word, i_word, imm_word, s_word, b_word, u_word, j_word, upper_by}
