@@ -20,102 +20,49 @@ zeros_at : ℕ → Cpu
 zeros_at pc = record { x = replicate 31 0; pc = pc }
 
 -- `addi x17, x0, 11` is next, then a call, and behind the window there is nothing to fetch
-runs-addi : instruction (zeros_at 0x10000) words ≡ Next (Imm Addi 17 0 (pos 11)) (record (with_register (zeros_at 0x10000) 17 11) { pc = 0x10004 }) words
+runs :
+    (instruction (zeros_at 0x10000) words ≡ Next (Imm Addi 17 0 (pos 11)) (record (with_register (zeros_at 0x10000) 17 11) { pc = 0x10004 }) words)
+    × (instruction (zeros_at 0x10004) words ≡ Call)
+    × (instruction (zeros_at 0x10008) words ≡ End 139)
+    × (instruction (zeros_at 0x10006) words ≡ End 139)
+    × (instruction (zeros_at 0x10000) (record { from = 0x10000; bytes = 0 ∷ 0 ∷ 0 ∷ 0 ∷ [] } ∷ []) ≡ End 132)
 unfolding words zeros_at decoding.decoded_by
-runs-addi = refl
-
-runs-ecall : instruction (zeros_at 0x10004) words ≡ Call
-unfolding words zeros_at decoding.decoded_by
-runs-ecall = refl
-
-runs-outside : instruction (zeros_at 0x10008) words ≡ End 139
-unfolding words zeros_at
-runs-outside = refl
-
-runs-across : instruction (zeros_at 0x10006) words ≡ End 139
-unfolding words zeros_at
-runs-across = refl
-
-runs-illegal : instruction (zeros_at 0x10000) (record { from = 0x10000; bytes = 0 ∷ 0 ∷ 0 ∷ 0 ∷ [] } ∷ []) ≡ End 132
-unfolding zeros_at decoding.decoded_by
-runs-illegal = refl
+runs = (refl, refl, refl, refl, refl)
 
 -- a jump goes to a distance from the instruction, and its link is the address of the next word; a target that is no multiple of 4 ends
 -- the process
-jumps-back : executed (Jal 1 (negsuc 7)) (zeros_at 0x10008) words ≡ Next (Jal 1 (negsuc 7)) (record (with_register (zeros_at 0x10008) 1 0x1000c) { pc = 0x10000 }) words
+jumps :
+    (executed (Jal 1 (negsuc 7)) (zeros_at 0x10008) words ≡ Next (Jal 1 (negsuc 7)) (record (with_register (zeros_at 0x10008) 1 0x1000c) { pc = 0x10000 }) words)
+    × (executed (Jal 1 (pos 2)) (zeros_at 0x10000) words ≡ End 135)
+    × (executed (Jalr 0 0 (pos 9)) (zeros_at 0x10000) words ≡ Next (Jalr 0 0 (pos 9)) (zeros_at 8) words)
+    × (executed (Branch Beq 5 6 (pos 2)) (zeros_at 0x10000) words ≡ End 135)
+    × (executed (Branch Bne 5 6 (pos 2)) (zeros_at 0x10000) words ≡ Next (Branch Bne 5 6 (pos 2)) (zeros_at 0x10004) words)
 unfolding words zeros_at
-jumps-back = refl
-
-jumps-askew : executed (Jal 1 (pos 2)) (zeros_at 0x10000) words ≡ End 135
-unfolding words zeros_at
-jumps-askew = refl
-
-jumps-odd : executed (Jalr 0 0 (pos 9)) (zeros_at 0x10000) words ≡ Next (Jalr 0 0 (pos 9)) (zeros_at 8) words
-unfolding words zeros_at
-jumps-odd = refl
-
-branches-askew : executed (Branch Beq 5 6 (pos 2)) (zeros_at 0x10000) words ≡ End 135
-unfolding words zeros_at
-branches-askew = refl
-
-branches-never : executed (Branch Bne 5 6 (pos 2)) (zeros_at 0x10000) words ≡ Next (Branch Bne 5 6 (pos 2)) (zeros_at 0x10004) words
-unfolding words zeros_at
-branches-never = refl
+jumps = (refl, refl, refl, refl, refl)
 
 -- a constant's sign is extended; one that is added to pc may lead back
-sets-upper : executed (Lui 5 (negsuc 4095)) (zeros_at 0x10000) words ≡ Next (Lui 5 (negsuc 4095)) (record (with_register (zeros_at 0x10000) 5 0xfffffffffffff000) { pc = 0x10004 }) words
+results :
+    (executed (Lui 5 (negsuc 4095)) (zeros_at 0x10000) words ≡ Next (Lui 5 (negsuc 4095)) (record (with_register (zeros_at 0x10000) 5 0xfffffffffffff000) { pc = 0x10004 }) words)
+    × (executed (Auipc 5 (negsuc 4095)) (zeros_at 0x10000) words ≡ Next (Auipc 5 (negsuc 4095)) (record (with_register (zeros_at 0x10000) 5 0xf000) { pc = 0x10004 }) words)
+    × (executed (Fence 0x0ff0000f) (zeros_at 0x10000) words ≡ Next (Fence 0x0ff0000f) (zeros_at 0x10004) words)
+    -- the target is worked out before the link is written
+    × (executed (Jalr 1 1 (pos 4)) (with_register (zeros_at 0x10000) 1 0x20001) words ≡ Next (Jalr 1 1 (pos 4)) (record (with_register (zeros_at 0x10000) 1 0x10004) { pc = 0x20004 }) words)
+    × (executed (Jalr 1 0 (pos 3)) (zeros_at 0x10000) words ≡ End 135)
+    × (executed (Branch Beq 5 6 (negsuc 7)) (zeros_at 0x10008) words ≡ Next (Branch Beq 5 6 (negsuc 7)) (zeros_at 0x10000) words)
 unfolding words zeros_at
-sets-upper = refl
-
-adds-upper : executed (Auipc 5 (negsuc 4095)) (zeros_at 0x10000) words ≡ Next (Auipc 5 (negsuc 4095)) (record (with_register (zeros_at 0x10000) 5 0xf000) { pc = 0x10004 }) words
-unfolding words zeros_at
-adds-upper = refl
-
-orders : executed (Fence 0x0ff0000f) (zeros_at 0x10000) words ≡ Next (Fence 0x0ff0000f) (zeros_at 0x10004) words
-unfolding words zeros_at
-orders = refl
-
--- the target is worked out before the link is written
-jumps-linked : executed (Jalr 1 1 (pos 4)) (with_register (zeros_at 0x10000) 1 0x20001) words ≡ Next (Jalr 1 1 (pos 4)) (record (with_register (zeros_at 0x10000) 1 0x10004) { pc = 0x20004 }) words
-unfolding words zeros_at
-jumps-linked = refl
-
-jumps-to_half : executed (Jalr 1 0 (pos 3)) (zeros_at 0x10000) words ≡ End 135
-unfolding words zeros_at
-jumps-to_half = refl
-
-branches-back : executed (Branch Beq 5 6 (negsuc 7)) (zeros_at 0x10008) words ≡ Next (Branch Beq 5 6 (negsuc 7)) (zeros_at 0x10000) words
-unfolding words zeros_at
-branches-back = refl
+results = (refl, refl, refl, refl, refl, refl)
 
 -- the address is that of x17, whose value is 0x10000
 at_window : Cpu
 at_window = with_register (zeros_at 0x10000) 17 0x10000
 
-loads-sign : executed (Load Lb 5 17 (pos 2)) at_window words ≡ Next (Load Lb 5 17 (pos 2)) (record (with_register at_window 5 0xffffffffffffffb0) { pc = 0x10004 }) words
-unfolding words zeros_at at_window
-loads-sign = refl
-
-loads-across : executed (Load Lw 5 17 (pos 5)) at_window words ≡ End 139
-unfolding words zeros_at at_window
-loads-across = refl
-
-stores-low : executed (Store Sh 17 5 (pos 6)) (with_register at_window 5 0x818283) words ≡ Next (Store Sh 17 5 (pos 6)) (record (with_register at_window 5 0x818283) { pc = 0x10004 }) (record { from = 0x10000; bytes = 0x93 ∷ 0x08 ∷ 0xb0 ∷ 0x00 ∷ 0x73 ∷ 0 ∷ 0x83 ∷ 0x82 ∷ [] } ∷ [])
+memory :
+    (executed (Load Lb 5 17 (pos 2)) at_window words ≡ Next (Load Lb 5 17 (pos 2)) (record (with_register at_window 5 0xffffffffffffffb0) { pc = 0x10004 }) words)
+    × (executed (Load Lw 5 17 (pos 5)) at_window words ≡ End 139)
+    × (executed (Store Sh 17 5 (pos 6)) (with_register at_window 5 0x818283) words ≡ Next (Store Sh 17 5 (pos 6)) (record (with_register at_window 5 0x818283) { pc = 0x10004 }) (record { from = 0x10000; bytes = 0x93 ∷ 0x08 ∷ 0xb0 ∷ 0x00 ∷ 0x73 ∷ 0 ∷ 0x83 ∷ 0x82 ∷ [] } ∷ []))
+    × (executed (Load Lb 0 17 (pos 2)) at_window words ≡ Next (Load Lb 0 17 (pos 2)) (record at_window { pc = 0x10004 }) words)
+    × (executed (Load Lw 0 17 (pos 5)) at_window words ≡ End 139)
+    × (executed (Store Sd 17 17 (pos 1)) at_window words ≡ End 139)
+    × (executed Ebreak (zeros_at 0x10000) words ≡ End 133)
 unfolding words zeros_at at_window window.bytes_of
-stores-low = refl
-
-loads-nothing : executed (Load Lb 0 17 (pos 2)) at_window words ≡ Next (Load Lb 0 17 (pos 2)) (record at_window { pc = 0x10004 }) words
-unfolding words zeros_at at_window
-loads-nothing = refl
-
-loads-nothing_across : executed (Load Lw 0 17 (pos 5)) at_window words ≡ End 139
-unfolding words zeros_at at_window
-loads-nothing_across = refl
-
-stores-across : executed (Store Sd 17 17 (pos 1)) at_window words ≡ End 139
-unfolding words zeros_at at_window window.bytes_of
-stores-across = refl
-
-breaks : executed Ebreak (zeros_at 0x10000) words ≡ End 133
-unfolding words zeros_at
-breaks = refl
+memory = (refl, refl, refl, refl, refl, refl, refl)
