@@ -30,46 +30,27 @@ received : acted 8 (Receives 0x10002 (7 ∷ 8 ∷ []) 2) before ≡ Some (sees (
 unfolding before sees nine behind
 received = refl
 
-received-shared : acted 8 (Receives 0x80000001 (7 ∷ []) 1) before ≡ Some (sees (behind 1) None (1 ∷ 2 ∷ 3 ∷ 4 ∷ []) (5 ∷ 7 ∷ []))
+acts-keep :
+    (acted 8 (Receives 0x80000001 (7 ∷ []) 1) before ≡ Some (sees (behind 1) None (1 ∷ 2 ∷ 3 ∷ 4 ∷ []) (5 ∷ 7 ∷ [])))
+    × (acted 8 (Gives 0x10002 2 2) before ≡ Some (sees (behind 2) None (1 ∷ 2 ∷ 3 ∷ 4 ∷ []) (5 ∷ 6 ∷ [])))
+    × (acted 8 (Forks 3) before ≡ Some (sees (behind 3) None (1 ∷ 2 ∷ 3 ∷ 4 ∷ []) (5 ∷ 6 ∷ [])))
+    × (acted 8 (Founds 3) before ≡ Some (sees (behind 3) None (1 ∷ 2 ∷ 3 ∷ 4 ∷ []) (5 ∷ 6 ∷ [])))
+    -- a delivery: x10 is the signal and pc the handler, and the slot keeps what was interrupted
+    × (acted 8 (Delivers 2 0x10020 false) before ≡ Some (sees (with_register (cpu_at 0x10020) 10 2) (Some nine) (1 ∷ 2 ∷ 3 ∷ 4 ∷ []) (5 ∷ 6 ∷ [])))
 unfolding before sees nine behind
-received-shared = refl
-
-gave : acted 8 (Gives 0x10002 2 2) before ≡ Some (sees (behind 2) None (1 ∷ 2 ∷ 3 ∷ 4 ∷ []) (5 ∷ 6 ∷ []))
-unfolding before sees nine behind
-gave = refl
-
-forked : acted 8 (Forks 3) before ≡ Some (sees (behind 3) None (1 ∷ 2 ∷ 3 ∷ 4 ∷ []) (5 ∷ 6 ∷ []))
-unfolding before sees nine behind
-forked = refl
-
-founded-child : acted 8 (Founds 3) before ≡ Some (sees (behind 3) None (1 ∷ 2 ∷ 3 ∷ 4 ∷ []) (5 ∷ 6 ∷ []))
-unfolding before sees nine behind
-founded-child = refl
-
--- a delivery: x10 is the signal and pc the handler, and the slot keeps what was interrupted
-delivered : acted 8 (Delivers 2 0x10020 false) before ≡ Some (sees (with_register (cpu_at 0x10020) 10 2) (Some nine) (1 ∷ 2 ∷ 3 ∷ 4 ∷ []) (5 ∷ 6 ∷ []))
-unfolding before sees nine
-delivered = refl
+acts-keep = (refl, refl, refl, refl, refl)
 
 -- at a call that isn't ready, that call first ends with -4
-delivered-cut : acted 8 (Delivers 2 0x10020 true) before ≡ Some (sees (with_register (cpu_at 0x10020) 10 2) (Some (behind 0xfffffffffffffffc)) (1 ∷ 2 ∷ 3 ∷ 4 ∷ []) (5 ∷ 6 ∷ []))
+acts-end :
+    (acted 8 (Delivers 2 0x10020 true) before ≡ Some (sees (with_register (cpu_at 0x10020) 10 2) (Some (behind 0xfffffffffffffffc)) (1 ∷ 2 ∷ 3 ∷ 4 ∷ []) (5 ∷ 6 ∷ [])))
+    -- the return from it restores the registers and pc, and empties the slot
+    × (acted 8 Leaves (sees (cpu_at 0x10024) (Some nine) [] []) ≡ Some (sees nine None [] []))
+    -- ends
+    × (acted 8 Exits before ≡ None)
+    × (acted 8 (Faults 139) before ≡ None)
+    × (acted 8 (Dies 2 false) before ≡ None)
 unfolding before sees nine behind
-delivered-cut = refl
-
--- the return from it restores the registers and pc, and empties the slot
-left : acted 8 Leaves (sees (cpu_at 0x10024) (Some nine) [] []) ≡ Some (sees nine None [] [])
-unfolding sees nine
-left = refl
-
--- ends
-exited : acted 8 Exits before ≡ None
-exited = refl
-
-faulted : acted 8 (Faults 139) before ≡ None
-faulted = refl
-
-dead : acted 8 (Dies 2 false) before ≡ None
-dead = refl
+acts-end = (refl, refl, refl, refl, refl)
 
 -- a fresh segment of 65,536 zeros, named by the event
 lonely : View
@@ -87,25 +68,19 @@ start : Option View
 start = acted 8 (Starts image 0x10001 3) (sees nine (Some nine) (1 ∷ 2 ∷ 3 ∷ 4 ∷ []) (5 ∷ 6 ∷ []))
 
 -- x10 is the block's address, x11 its length, x2 that address rounded down to a multiple of 16
-started-body :
-    option_map (λ v. v.body) start ≡
+started :
+    (option_map (λ v. v.body) start ≡
     Some (record {
       cpu = with_register (with_register (with_register (cpu_at 0x10008) 10 0x4fffd) 11 3) 2 0x4fff0;
       slot = None;
       window = 8;
       segment = None;
-    })
+    }))
+    -- zeros but for the body and the block
+    × (option_map (λ v. take 9 v.window) start ≡ Some (0 ∷ 0 ∷ 0 ∷ 0 ∷ 0x73 ∷ 0x74 ∷ 0x75 ∷ 0x76 ∷ 0 ∷ []))
+    × (option_map (λ v. drop 262140 v.window) start ≡ Some (0 ∷ 2 ∷ 3 ∷ 4 ∷ []))
 unfolding start sees nine image
-started-body = refl
-
--- zeros but for the body and the block
-started-head : option_map (λ v. take 9 v.window) start ≡ Some (0 ∷ 0 ∷ 0 ∷ 0 ∷ 0x73 ∷ 0x74 ∷ 0x75 ∷ 0x76 ∷ 0 ∷ [])
-unfolding start sees nine image
-started-head = refl
-
-started-tail : option_map (λ v. drop 262140 v.window) start ≡ Some (0 ∷ 2 ∷ 3 ∷ 4 ∷ [])
-unfolding start sees nine image
-started-tail = refl
+started = (refl, refl, refl)
 
 -- process 1 with a filled slot, and process 2, which share the segment of event 6
 one : Body
@@ -125,56 +100,34 @@ child_sees window cpu segment bytes =
     record { body = record { cpu = cpu; slot = Some (cpu_at 0x10040); window = window; segment = segment }; window = 1 ∷ 2 ∷ []; segment = bytes }
 
 -- a fork as event 9: the child has the registers with 0 in x10, the slot, a copy of the window as the memory of event 9, and the segment
-forks-child : seen (done 1 9 (Forks 3) bodies) 3 ≡ Some (child_sees 9 (behind 0) (Some 6) (5 ∷ 6 ∷ []))
+forks-and-founds :
+    (seen (done 1 9 (Forks 3) bodies) 3 ≡ Some (child_sees 9 (behind 0) (Some 6) (5 ∷ 6 ∷ [])))
+    × (seen (done 1 9 (Forks 3) bodies) 1 ≡ Some (child_sees 4 (behind 3) (Some 6) (5 ∷ 6 ∷ [])))
+    × (seen (done 1 9 (Forks 3) bodies) 2 ≡ seen bodies 2)
+    -- a child that starts a group isn't made in its parent's
+    × (seen (done 1 9 (Founds 3) bodies) 3 ≡ None)
+    -- it is beside it, and holds no segment
+    × (option_map (λ v. seen (founded (Founds 3) 9 (beginning_of v) bodies) 3) (seen bodies 1) ≡ Some (Some (child_sees 9 (behind 0) None [])))
 unfolding bodies one two nine behind child_sees body_at memory_at put remove
-forks-child = refl
-
-forks-parent : seen (done 1 9 (Forks 3) bodies) 1 ≡ Some (child_sees 4 (behind 3) (Some 6) (5 ∷ 6 ∷ []))
-unfolding bodies one two nine behind child_sees body_at memory_at put remove
-forks-parent = refl
-
-forks-other : seen (done 1 9 (Forks 3) bodies) 2 ≡ seen bodies 2
-unfolding bodies one two nine behind body_at memory_at put remove
-forks-other = refl
-
--- a child that starts a group isn't made in its parent's
-founds-none : seen (done 1 9 (Founds 3) bodies) 3 ≡ None
-unfolding bodies one two nine body_at memory_at put remove
-founds-none = refl
-
--- it is beside it, and holds no segment
-founds-child : option_map (λ v. seen (founded (Founds 3) 9 (beginning_of v) bodies) 3) (seen bodies 1) ≡ Some (Some (child_sees 9 (behind 0) None []))
-unfolding bodies one two nine behind child_sees body_at memory_at put remove
-founds-child = refl
+forks-and-founds = (refl, refl, refl, refl, refl)
 
 -- bytes received in the segment are seen by both
-receives-shared : option_map (λ v. v.segment) (seen (done 1 9 (Receives 0x80000000 (7 ∷ []) 1) bodies) 2) ≡ Some (7 ∷ 6 ∷ [])
+others-see :
+    (option_map (λ v. v.segment) (seen (done 1 9 (Receives 0x80000000 (7 ∷ []) 1) bodies) 2) ≡ Some (7 ∷ 6 ∷ []))
+    -- a process that ends is gone, and the other stays
+    × (seen (done 1 9 Exits bodies) 1 ≡ None)
+    × (seen (done 1 9 Exits bodies) 2 ≡ seen bodies 2)
 unfolding bodies one two nine body_at memory_at put remove
-receives-shared = refl
-
--- a process that ends is gone, and the other stays
-exits-self : seen (done 1 9 Exits bodies) 1 ≡ None
-unfolding bodies one two nine body_at memory_at put remove
-exits-self = refl
-
-exits-other : seen (done 1 9 Exits bodies) 2 ≡ seen bodies 2
-unfolding bodies one two nine body_at memory_at put remove
-exits-other = refl
+others-see = (refl, refl, refl)
 
 -- a beginning is read from its record: of 512 bytes the second block isn't all zero
 second_block : View
 second_block = record lonely { window = replicate 256 0 ++ (7 ∷ replicate 255 0) }
 
-begins-recorded :
-    start_of (beginning_of second_block) ≡
-    record { cpu = behind 0; slot = None; blocks = record { number = 1; bytes = 7 ∷ replicate 255 0 } ∷ [] }
-unfolding second_block lonely nine behind used_blocks
-begins-recorded = refl
-
-begins-read : take 258 (beginning_in (start_of (beginning_of second_block))).window ≡ replicate 256 0 ++ (7 ∷ 0 ∷ [])
-unfolding second_block lonely nine used_blocks with_blocks zeros
-begins-read = refl
-
-begins-long : length (beginning_in (start_of (beginning_of second_block))).window ≡ 262144
-unfolding second_block lonely nine used_blocks with_blocks zeros
-begins-long = refl
+begins :
+    (start_of (beginning_of second_block) ≡
+    record { cpu = behind 0; slot = None; blocks = record { number = 1; bytes = 7 ∷ replicate 255 0 } ∷ [] })
+    × (take 258 (beginning_in (start_of (beginning_of second_block))).window ≡ replicate 256 0 ++ (7 ∷ 0 ∷ []))
+    × (length (beginning_in (start_of (beginning_of second_block))).window ≡ 262144)
+unfolding second_block lonely nine behind used_blocks with_blocks zeros
+begins = (refl, refl, refl)

@@ -23,134 +23,65 @@ place : ℕ → ℕ → Option Place
 place made at = Some (record { made = made; at = at })
 
 -- the private window is 0x10000 to 0x4ffff
-place-first : place_at both 0x10000 ≡ place 4 0x10000
-unfolding both place
-place-first = refl
-
-place-last : place_at both 0x4ffff ≡ place 4 0x4ffff
-unfolding both place
-place-last = refl
-
-place-shared : place_at both 0x80000000 ≡ place 6 0x80000000
-unfolding both place
-place-shared = refl
-
-place-none : place_at alone 0x80000000 ≡ None
-unfolding alone
-place-none = refl
-
--- no bytes have no place, wherever they would be
-place-empty : place_of both 0x10000 0 ≡ None
-unfolding both
-place-empty = refl
+places :
+    (place_at both 0x10000 ≡ place 4 0x10000)
+    × (place_at both 0x4ffff ≡ place 4 0x4ffff)
+    × (place_at both 0x80000000 ≡ place 6 0x80000000)
+    × (place_at alone 0x80000000 ≡ None)
+    -- no bytes have no place, wherever they would be
+    × (place_of both 0x10000 0 ≡ None)
+unfolding both place alone
+places = (refl, refl, refl, refl, refl)
 
 -- acts of process 2 at event 9
-moves-returned : transfer 2 9 both (act.Returns 3) ≡ Returns 2
-unfolding both
-moves-returned = refl
-
-moves-received : transfer 2 9 both (act.Receives 0x10010 (7 ∷ 8 ∷ []) 2) ≡ Receives 2 (place 4 0x10010) 2
+moves-bytes :
+    (transfer 2 9 both (act.Returns 3) ≡ Returns 2)
+    × (transfer 2 9 both (act.Receives 0x10010 (7 ∷ 8 ∷ []) 2) ≡ Receives 2 (place 4 0x10010) 2)
+    × (transfer 2 9 both (act.Receives 0x80000004 (7 ∷ 8 ∷ []) 2) ≡ Receives 2 (place 6 0x80000004) 2)
+    × (transfer 2 9 both (act.Receives 0x10010 [] 0) ≡ Receives 2 None 0)
+    × (transfer 2 9 both (act.Gives 0x80000004 3 3) ≡ Gives 2 (place 6 0x80000004) 3)
+    × (transfer 2 9 both (act.Gives 0x80000004 0 0) ≡ Gives 2 None 0)
 unfolding both place
-moves-received = refl
-
-moves-received-shared : transfer 2 9 both (act.Receives 0x80000004 (7 ∷ 8 ∷ []) 2) ≡ Receives 2 (place 6 0x80000004) 2
-unfolding both place
-moves-received-shared = refl
-
-moves-received-none : transfer 2 9 both (act.Receives 0x10010 [] 0) ≡ Receives 2 None 0
-unfolding both
-moves-received-none = refl
-
-moves-given : transfer 2 9 both (act.Gives 0x80000004 3 3) ≡ Gives 2 (place 6 0x80000004) 3
-unfolding both place
-moves-given = refl
-
-moves-given-none : transfer 2 9 both (act.Gives 0x80000004 0 0) ≡ Gives 2 None 0
-unfolding both
-moves-given-none = refl
+moves-bytes = (refl, refl, refl, refl, refl, refl)
 
 -- an image of one word at 0x10100, which becomes the memory of event 9, with a block of five bytes or none
 image : List ℕ
 image = codes "ARNIMG01" ++ (0 ∷ 1 ∷ 1 ∷ 0 ∷ 0 ∷ 0 ∷ 0 ∷ 0 ∷ 0 ∷ 1 ∷ 1 ∷ 0 ∷ 0 ∷ 0 ∷ 0 ∷ 0 ∷ 0x73 ∷ 0 ∷ 0 ∷ 0 ∷ [])
 
-moves-started : transfer 2 9 both (act.Starts image 0x80000010 5) ≡ Starts 2 9 0x10100 28 (place 6 0x80000010) 5
-unfolding both place image
-moves-started = refl
-
-moves-started-alone : transfer 2 9 both (act.Starts image 0 0) ≡ Starts 2 9 0x10100 28 None 0
-unfolding both image
-moves-started-alone = refl
-
--- a child's window is a copy of its parent's, as the memory of event 9
-moves-forked : transfer 2 9 both (act.Forks 5) ≡ Forks 2 5 4 9
-unfolding both
-moves-forked = refl
-
-moves-founded : transfer 2 9 alone (act.Founds 5) ≡ Founds 2 5 4 9
-unfolding alone
-moves-founded = refl
-
-moves-shared : transfer 2 9 alone act.Shares ≡ Shares 2 9
-unfolding alone
-moves-shared = refl
-
-moves-left : transfer 2 9 both act.Leaves ≡ Leaves 2
-unfolding both
-moves-left = refl
-
-moves-delivered : transfer 2 9 both (act.Delivers 3 0x10008 true) ≡ Delivers 2 true
-unfolding both
-moves-delivered = refl
-
-moves-exited : transfer 2 9 both act.Exits ≡ Exits 2
-unfolding both
-moves-exited = refl
-
-moves-faulted : transfer 2 9 both (act.Faults 139) ≡ Faults 2
-unfolding both
-moves-faulted = refl
-
-moves-dead : transfer 2 9 both (act.Dies 3 true) ≡ Dies 2
-unfolding both
-moves-dead = refl
+moves-others :
+    (transfer 2 9 both (act.Starts image 0x80000010 5) ≡ Starts 2 9 0x10100 28 (place 6 0x80000010) 5)
+    × (transfer 2 9 both (act.Starts image 0 0) ≡ Starts 2 9 0x10100 28 None 0)
+    -- a child's window is a copy of its parent's, as the memory of event 9
+    × (transfer 2 9 both (act.Forks 5) ≡ Forks 2 5 4 9)
+    × (transfer 2 9 alone (act.Founds 5) ≡ Founds 2 5 4 9)
+    × (transfer 2 9 alone act.Shares ≡ Shares 2 9)
+    × (transfer 2 9 both act.Leaves ≡ Leaves 2)
+    × (transfer 2 9 both (act.Delivers 3 0x10008 true) ≡ Delivers 2 true)
+    × (transfer 2 9 both act.Exits ≡ Exits 2)
+    × (transfer 2 9 both (act.Faults 139) ≡ Faults 2)
+    × (transfer 2 9 both (act.Dies 3 true) ≡ Dies 2)
+unfolding both place image alone
+moves-others = (refl, refl, refl, refl, refl, refl, refl, refl, refl, refl)
 
 -- a load and a store have the place of their address, x6 and a distance; other instructions have none
 cpu : ℕ → Cpu
 cpu address = with_register (cpu_at 0x10000) 6 address
 
-moves-loaded : instr_transfer 2 (cpu 0x80000010) both (Load Lb 5 6 (negsuc 3)) ≡ Runs 2 (Load Lb 5 6 (negsuc 3)) (place 6 0x8000000c)
+moves-instructions :
+    (instr_transfer 2 (cpu 0x80000010) both (Load Lb 5 6 (negsuc 3)) ≡ Runs 2 (Load Lb 5 6 (negsuc 3)) (place 6 0x8000000c))
+    × (instr_transfer 2 (cpu 0x10010) both (Store Sd 6 5 (pos 8)) ≡ Runs 2 (Store Sd 6 5 (pos 8)) (place 4 0x10018))
+    × (instr_transfer 2 (cpu 0x10010) both (Imm Addi 5 6 (pos 8)) ≡ Runs 2 (Imm Addi 5 6 (pos 8)) None)
 unfolding both place cpu
-moves-loaded = refl
-
-moves-stored : instr_transfer 2 (cpu 0x10010) both (Store Sd 6 5 (pos 8)) ≡ Runs 2 (Store Sd 6 5 (pos 8)) (place 4 0x10018)
-unfolding both place cpu
-moves-stored = refl
-
-moves-added : instr_transfer 2 (cpu 0x10010) both (Imm Addi 5 6 (pos 8)) ≡ Runs 2 (Imm Addi 5 6 (pos 8)) None
-unfolding both cpu
-moves-added = refl
+moves-instructions = (refl, refl, refl)
 
 -- bytes that the kernel holds: byte 2 of three from position 5 on is at 7, and there is no byte 3
-byte-last : byte_of (record { first = PipeByte 1 5; len = 3 }) 2 ≡ Some (PipeByte 1 7)
-byte-last = refl
-
-byte-behind : byte_of (record { first = PipeByte 1 5; len = 3 }) 3 ≡ None
-byte-behind = refl
-
-place-in-pipe : place_in (record { first = PipeByte 1 5; len = 3 }) (PipeByte 1 7) ≡ Some 2
-place-in-pipe = refl
-
-place-before : place_in (record { first = PipeByte 1 5; len = 3 }) (PipeByte 1 4) ≡ None
-place-before = refl
-
-place-in-other : place_in (record { first = PipeByte 1 5; len = 3 }) (PipeByte 2 7) ≡ None
-place-in-other = refl
-
-place-in-file : place_in (record { first = FileByte 1 5; len = 3 }) (FileByte 1 5) ≡ Some 0
-place-in-file = refl
-
-place-of-status : place_in (record { first = StatusByte 3; len = 1 }) (StatusByte 3) ≡ Some 0
-place-of-status = refl
-
-place-other-kind : place_in (record { first = ConsoleByte 5; len = 3 }) (FileByte 0 5) ≡ None
-place-other-kind = refl
+kernel-places :
+    (byte_of (record { first = PipeByte 1 5; len = 3 }) 2 ≡ Some (PipeByte 1 7))
+    × (byte_of (record { first = PipeByte 1 5; len = 3 }) 3 ≡ None)
+    × (place_in (record { first = PipeByte 1 5; len = 3 }) (PipeByte 1 7) ≡ Some 2)
+    × (place_in (record { first = PipeByte 1 5; len = 3 }) (PipeByte 1 4) ≡ None)
+    × (place_in (record { first = PipeByte 1 5; len = 3 }) (PipeByte 2 7) ≡ None)
+    × (place_in (record { first = FileByte 1 5; len = 3 }) (FileByte 1 5) ≡ Some 0)
+    × (place_in (record { first = StatusByte 3; len = 1 }) (StatusByte 3) ≡ Some 0)
+    × (place_in (record { first = ConsoleByte 5; len = 3 }) (FileByte 0 5) ≡ None)
+kernel-places = (refl, refl, refl, refl, refl, refl, refl, refl)
