@@ -30,34 +30,22 @@ unfolding booting image body_at memory_at put remove
 boot-recorded = refl
 
 -- its bytes come from the file, and are those of its event
-boot-moved :
-    map (λ s. s.moved.inside.transfer) (run booting) ≡ Arrives 28 ∷ Starts 1 1 0x10000 28 None 0 ∷ []
+boot-moves :
+    (map (λ s. s.moved.inside.transfer) (run booting) ≡ Arrives 28 ∷ Starts 1 1 0x10000 28 None 0 ∷ [])
+    × (map (λ s. s.moved.incoming) (run booting) ≡ Outside ∷ From (record { first = FileByte 0 0; len = 28 }) ∷ [])
+    × (map (λ s. s.bytes) (run booting) ≡ image ∷ image ∷ [])
 unfolding booting image body_at memory_at put remove
-boot-moved = refl
-
-boot-incoming : map (λ s. s.moved.incoming) (run booting) ≡ Outside ∷ From (record { first = FileByte 0 0; len = 28 }) ∷ []
-unfolding booting image body_at memory_at put remove
-boot-incoming = refl
-
-boot-bytes : map (λ s. s.bytes) (run booting) ≡ image ∷ image ∷ []
-unfolding booting image body_at memory_at put remove
-boot-bytes = refl
+boot-moves = (refl, refl, refl)
 
 -- process 1 stands at the entry. There is no argument block: x10 and x2 are the window's end, and x11 is 0
-boot-body :
-    option_map (λ v. v.body) (seen (machine_after booting).bodies 1) ≡
-    Some (record { cpu = with_register (with_register (cpu_at 0x10000) 10 0x50000) 2 0x50000; slot = None; window = 1; segment = None })
+boot-begins :
+    (option_map (λ v. v.body) (seen (machine_after booting).bodies 1) ≡
+    Some (record { cpu = with_register (with_register (cpu_at 0x10000) 10 0x50000) 2 0x50000; slot = None; window = 1; segment = None }))
+    -- its window has the image's body at the load address, and zeros
+    × (option_map (λ v. length v.window) (seen (machine_after booting).bodies 1) ≡ Some 262144)
+    × (option_map (λ v. take 6 v.window) (seen (machine_after booting).bodies 1) ≡ Some (0x73 ∷ 0 ∷ 0 ∷ 0 ∷ 0 ∷ 0 ∷ []))
 unfolding booting image body_at memory_at put remove
-boot-body = refl
-
--- its window has the image's body at the load address, and zeros
-boot-window-len : option_map (λ v. length v.window) (seen (machine_after booting).bodies 1) ≡ Some 262144
-unfolding booting image body_at memory_at put remove
-boot-window-len = refl
-
-boot-window : option_map (λ v. take 6 v.window) (seen (machine_after booting).bodies 1) ≡ Some (0x73 ∷ 0 ∷ 0 ∷ 0 ∷ 0 ∷ 0 ∷ [])
-unfolding booting image body_at memory_at put remove
-boot-window = refl
+boot-begins = (refl, refl, refl)
 
 -- and the kernel has process 1 with its three descriptors on the console
 boot-kernel :

@@ -14,11 +14,11 @@ use Rattle.parts_model.specs.Files.{file_bytes, find_file}
 use Rattle.parts_model.specs.Processes as table
 use Rattle.parts_model.specs.Replies.{Answered, is_success}
 use Rattle.rv64_model.specs.Instruction.{Call}
-use Rattle.acts_model.specs.Acts.{Act, Returns, Receives, Gives, Starts, Forks, Founds, Shares, Leaves, Delivers, Exits, Faults, Dies, result_of}
+use Rattle.acts_model.specs.Acts.{Act, Returns, Receives, Forks, Founds, Exits, Faults, Dies, result_of}
 use Rattle.acts_model.specs.Bodies.{View, seen}
 use Rattle.acts_model.specs.Disagreement.{wrong_with, act_wrong}
 use Rattle.acts_model.specs.Records.{held_len, plain_len, LifeChange, BeginsLife, EndsLife, NoLife, call_life, lives_after, NameChange, NoName, call_name, Written, call_put, put_told, give_in}
-use Rattle.acts_model.specs.Told.{Kind, Exit, Fork, Exec, Wait, Sigreturn, Read, Write, Shm, Other, kind_of, call_act}
+use Rattle.acts_model.specs.Told.{Kind, Exit, kind_of, call_act}
 use Rattle.acts_model.specs.Views.{stands_at, call_number, error}
 use Rattle.arn_model.specs.Doing.{Doing, Request, Waits, Does, Asks, Refusal, returning, refused, unless_refused}
 use Rattle.arn_model.specs.Kernel.{Kernel, Machine}
@@ -31,18 +31,12 @@ use Rattle.arn_model.proofs.Quiet.{Quiet, quiet-refl}
 
 -- who lives after an act
 abbrev pub life_by : ℕ → Act → LifeChange
-life_by pid (Returns result) = NoLife
-life_by pid (Receives at bytes result) = NoLife
-life_by pid (Gives at len result) = NoLife
-life_by pid (Starts file block block_len) = NoLife
 life_by pid (Forks child) = BeginsLife child
 life_by pid (Founds child) = BeginsLife child
-life_by pid Shares = NoLife
-life_by pid Leaves = NoLife
-life_by pid (Delivers signal handler cut) = NoLife
 life_by pid Exits = EndsLife pid
 life_by pid (Faults status) = EndsLife pid
 life_by pid (Dies signal cut) = EndsLife pid
+life_by pid _ = NoLife
 
 -- an event of a process: it tells, and the kernel stays sound
 pub record Done (m : Machine) (pid : ℕ) (v : View) (d : Doing) (entry : Record) : Type 0 where
@@ -136,14 +130,7 @@ is_error result = not (is_success result) && (not (nat_le result MOST_TRANSFER) 
 
 abbrev isnt_exit : Kind → Bool
 isnt_exit Exit = false
-isnt_exit Fork = true
-isnt_exit Exec = true
-isnt_exit Wait = true
-isnt_exit Sigreturn = true
-isnt_exit Read = true
-isnt_exit Write = true
-isnt_exit Shm = true
-isnt_exit Other = true
+isnt_exit _ = true
 
 either-isnt : (b : Bool) (x y : Kind) → isnt_exit x ≡ true → isnt_exit y ≡ true → isnt_exit (cond b x y) ≡ true
 either-isnt true x y e f = e
@@ -177,5 +164,4 @@ unless-refused m pid v n (r ∷ refusals) goes_on at x h next =
     by_test r.applies (refused-tells m pid v n r.number at x parts.0) (λ e. unless-refused m pid v n refusals goes_on at x parts.1 (λ none. next (e, none))) refl
   where
     by_test : (b : Bool) → RequestTells m pid v n (refused r.number m.kernel) → (r.applies ≡ false → RequestTells m pid v n (unless_refused m.kernel refusals goes_on)) → r.applies ≡ b → RequestTells m pid v n (if b then refused r.number m.kernel else unless_refused m.kernel refusals goes_on)
-    by_test true stops next e = stops
-    by_test false stops next e = next e
+    by_test b h1 h2 h3 = grind (arith, nat_tests)

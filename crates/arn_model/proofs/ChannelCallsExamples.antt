@@ -56,13 +56,11 @@ nearly_crowded =
           (Some 0 ∷ Some 0 ∷ Some 0 ∷ Some 0 ∷ Some 0 ∷ Some 0 ∷ Some 0 ∷ Some 0 ∷ Some 0 ∷ Some 0 ∷ Some 0 ∷ Some 0 ∷ Some 0 ∷ Some 0 ∷ Some 0 ∷ []);
     }
 
-pipe-crowded : row 15 (at_event_5 nearly_crowded) 1 (calling []) ≡ results (minus 24) nearly_crowded
+pipe :
+    (row 15 (at_event_5 nearly_crowded) 1 (calling []) ≡ results (minus 24) nearly_crowded)
+    × (row 15 (at_event_5 many_pipes) 1 (calling []) ≡ results (minus 12) many_pipes)
 unfolding row nearly_crowded many_pipes new_pipe
-pipe-crowded = refl
-
-pipe-full : row 15 (at_event_5 many_pipes) 1 (calling []) ≡ results (minus 12) many_pipes
-unfolding row many_pipes new_pipe
-pipe-full = refl
+pipe = (refl, refl)
 
 -- listen
 listens :
@@ -76,21 +74,13 @@ many_ports : Kernel
 many_ports = record kernel { ports = replicate 16 (record { number = 80; waiting = [] }) }
 
 -- -22 before -24; -98 before -24 and -12; -24 before -12
-listen-high : row 18 (at_event_5 (crowded many_ports)) 1 (calling (65536 ∷ [])) ≡ results (minus 22) (crowded many_ports)
+listen :
+    (row 18 (at_event_5 (crowded many_ports)) 1 (calling (65536 ∷ [])) ≡ results (minus 22) (crowded many_ports))
+    × (row 18 (at_event_5 (crowded many_ports)) 1 (calling (80 ∷ [])) ≡ results (minus 98) (crowded many_ports))
+    × (row 18 (at_event_5 (crowded many_ports)) 1 (calling (81 ∷ [])) ≡ results (minus 24) (crowded many_ports))
+    × (row 18 (at_event_5 many_ports) 1 (calling (81 ∷ [])) ≡ results (minus 12) many_ports)
 unfolding row many_ports
-listen-high = refl
-
-listen-twice : row 18 (at_event_5 (crowded many_ports)) 1 (calling (80 ∷ [])) ≡ results (minus 98) (crowded many_ports)
-unfolding row many_ports
-listen-twice = refl
-
-listen-crowded : row 18 (at_event_5 (crowded many_ports)) 1 (calling (81 ∷ [])) ≡ results (minus 24) (crowded many_ports)
-unfolding row many_ports
-listen-crowded = refl
-
-listen-full : row 18 (at_event_5 many_ports) 1 (calling (81 ∷ [])) ≡ results (minus 12) many_ports
-unfolding row many_ports
-listen-full = refl
+listen = (refl, refl, refl, refl)
 
 -- connect: pipe 0 leads to the server and pipe 1 back, so the client reads 1 and writes 0
 port_80 : List Conn → Port
@@ -102,16 +92,13 @@ conn = record { to_server = 0; to_client = 1 }
 listening : Kernel
 listening = record kernel { ports = port_80 [] ∷ [] }
 
-connects :
-    row 19 (at_event_5 listening) 1 (calling (80 ∷ [])) ≡
-    results 3 (record (kernel_with (description.Connection 1 0)) { pipes = new_pipe ∷ new_pipe ∷ []; ports = port_80 (conn ∷ []) ∷ [] })
+connect-some :
+    (row 19 (at_event_5 listening) 1 (calling (80 ∷ [])) ≡
+    results 3 (record (kernel_with (description.Connection 1 0)) { pipes = new_pipe ∷ new_pipe ∷ []; ports = port_80 (conn ∷ []) ∷ [] }))
+    -- -111 before -24, where nothing listens and where eight wait; -24 before -12, where one pipe is free
+    × (row 19 (at_event_5 (crowded kernel)) 1 (calling (80 ∷ [])) ≡ results (minus 111) (crowded kernel))
 unfolding row listening port_80 conn new_pipe
-connects = refl
-
--- -111 before -24, where nothing listens and where eight wait; -24 before -12, where one pipe is free
-connect-none : row 19 (at_event_5 (crowded kernel)) 1 (calling (80 ∷ [])) ≡ results (minus 111) (crowded kernel)
-unfolding row
-connect-none = refl
+connect-some = (refl, refl)
 
 eight_wait : Kernel
 eight_wait = record kernel { ports = port_80 (replicate 8 conn) ∷ [] }
@@ -123,13 +110,11 @@ connect-ninth = refl
 one_pipe_free : Kernel
 one_pipe_free = record listening { pipes = None ∷ replicate 63 new_pipe }
 
-connect-crowded : row 19 (at_event_5 (crowded one_pipe_free)) 1 (calling (80 ∷ [])) ≡ results (minus 24) (crowded one_pipe_free)
+connect :
+    (row 19 (at_event_5 (crowded one_pipe_free)) 1 (calling (80 ∷ [])) ≡ results (minus 24) (crowded one_pipe_free))
+    × (row 19 (at_event_5 one_pipe_free) 1 (calling (80 ∷ [])) ≡ results (minus 12) one_pipe_free)
 unfolding row one_pipe_free listening port_80 new_pipe
-connect-crowded = refl
-
-connect-full : row 19 (at_event_5 one_pipe_free) 1 (calling (80 ∷ [])) ≡ results (minus 12) one_pipe_free
-unfolding row one_pipe_free listening port_80 new_pipe
-connect-full = refl
+connect = (refl, refl)
 
 -- accept: the oldest of two. The server reads pipe 0 and writes pipe 1
 accepting : List Conn → Kernel
@@ -138,76 +123,45 @@ accepting waiting = record (kernel_with (description.Listener 80)) { ports = por
 second_conn : Conn
 second_conn = record { to_server = 2; to_client = 3 }
 
-accepts :
-    row 20 (at_event_5 (accepting (conn ∷ second_conn ∷ []))) 1 (calling (3 ∷ [])) ≡
+accept :
+    (row 20 (at_event_5 (accepting (conn ∷ second_conn ∷ []))) 1 (calling (3 ∷ [])) ≡
     results 4
     (record (accepting (second_conn ∷ [])) {
       processes = alone (Some 0 ∷ Some 0 ∷ Some 0 ∷ Some 1 ∷ Some 2 ∷ []);
       descriptions = opening description.Console 3 ∷ opening (description.Listener 80) 1 ∷ opening (description.Connection 0 1) 1 ∷ [];
-    })
+    }))
+    -- it isn't ready where nothing waits
+    × (row 20 (at_event_5 (accepting [])) 1 (calling (3 ∷ [])) ≡ Waits)
+    -- -9 before -24; -24 before it isn't ready
+    × (row 20 (at_event_5 (crowded kernel)) 1 (calling (0 ∷ [])) ≡ results (minus 9) (crowded kernel))
+    × (row 20 (at_event_5 (crowded kernel)) 1 (calling (16 ∷ [])) ≡ results (minus 9) (crowded kernel))
+    × (row 20 (at_event_5 (crowded (accepting []))) 1 (calling (3 ∷ [])) ≡ results (minus 24) (crowded (accepting [])))
 unfolding row accepting port_80 conn second_conn
-accepts = refl
-
--- it isn't ready where nothing waits
-accept-none : row 20 (at_event_5 (accepting [])) 1 (calling (3 ∷ [])) ≡ Waits
-unfolding row accepting port_80
-accept-none = refl
-
--- -9 before -24; -24 before it isn't ready
-accept-console : row 20 (at_event_5 (crowded kernel)) 1 (calling (0 ∷ [])) ≡ results (minus 9) (crowded kernel)
-unfolding row
-accept-console = refl
-
-accept-closed : row 20 (at_event_5 (crowded kernel)) 1 (calling (16 ∷ [])) ≡ results (minus 9) (crowded kernel)
-unfolding row
-accept-closed = refl
-
-accept-crowded : row 20 (at_event_5 (crowded (accepting []))) 1 (calling (3 ∷ [])) ≡ results (minus 24) (crowded (accepting []))
-unfolding row accepting port_80
-accept-crowded = refl
+accept = (refl, refl, refl, refl, refl)
 
 -- device: what the call comes to once there is no such device
 absent : Kernel → Doing
 absent k = record { act = Returns (minus 19); extra = extra.Absent; incoming = Nothing; outgoing = None; bytes = []; kernel = k }
 
-asks-here : row 21 (at_event_5 kernel) 1 (calling (0xffffffff ∷ [])) ≡ Asks (Here 0xffffffff)
-unfolding row
-asks-here = refl
-
--- a number above 4,294,967,295 asks no device, nor does one that was unplugged
-device-high : row 21 (at_event_5 kernel) 1 (calling (0x100000000 ∷ [])) ≡ Does (absent kernel)
+device-asked :
+    (row 21 (at_event_5 kernel) 1 (calling (0xffffffff ∷ [])) ≡ Asks (Here 0xffffffff))
+    -- a number above 4,294,967,295 asks no device, nor does one that was unplugged
+    × (row 21 (at_event_5 kernel) 1 (calling (0x100000000 ∷ [])) ≡ Does (absent kernel))
 unfolding row absent
-device-high = refl
+device-asked = (refl, refl)
 
 unplugged : Kernel
 unplugged = record kernel { unplugged = 4 ∷ 7 ∷ [] }
 
-device-unplugged : row 21 (at_event_5 unplugged) 1 (calling (7 ∷ [])) ≡ Does (absent unplugged)
-unfolding row absent unplugged
-device-unplugged = refl
-
--- -24 before -19
-device-crowded : row 21 (at_event_5 (crowded kernel)) 1 (calling (0x100000000 ∷ [])) ≡ results (minus 24) (crowded kernel)
-unfolding row
-device-crowded = refl
-
-device-crowded-unplugged : row 21 (at_event_5 (crowded unplugged)) 1 (calling (7 ∷ [])) ≡ results (minus 24) (crowded unplugged)
-unfolding row unplugged
-device-crowded-unplugged = refl
-
--- one that is there; any other answer, or none, counts as absent
-here : answered (at_event_5 kernel) 1 (calling (7 ∷ [])) (Here 7) (Some IsHere) ≡ record { act = Returns 3; extra = extra.Nothing; incoming = Nothing; outgoing = None; bytes = []; kernel = kernel_with (description.Device 7) }
-unfolding answered
-here = refl
-
-here-absent : answered (at_event_5 kernel) 1 (calling (7 ∷ [])) (Here 7) (Some IsAbsent) ≡ absent kernel
-unfolding answered absent
-here-absent = refl
-
-here-missing : answered (at_event_5 kernel) 1 (calling (7 ∷ [])) (Here 7) None ≡ absent kernel
-unfolding answered absent
-here-missing = refl
-
-here-fault : answered (at_event_5 kernel) 1 (calling (7 ∷ [])) (Here 7) (Some Failed) ≡ absent kernel
-unfolding answered absent
-here-fault = refl
+device-there :
+    (row 21 (at_event_5 unplugged) 1 (calling (7 ∷ [])) ≡ Does (absent unplugged))
+    -- -24 before -19
+    × (row 21 (at_event_5 (crowded kernel)) 1 (calling (0x100000000 ∷ [])) ≡ results (minus 24) (crowded kernel))
+    × (row 21 (at_event_5 (crowded unplugged)) 1 (calling (7 ∷ [])) ≡ results (minus 24) (crowded unplugged))
+    -- one that is there; any other answer, or none, counts as absent
+    × (answered (at_event_5 kernel) 1 (calling (7 ∷ [])) (Here 7) (Some IsHere) ≡ record { act = Returns 3; extra = extra.Nothing; incoming = Nothing; outgoing = None; bytes = []; kernel = kernel_with (description.Device 7) })
+    × (answered (at_event_5 kernel) 1 (calling (7 ∷ [])) (Here 7) (Some IsAbsent) ≡ absent kernel)
+    × (answered (at_event_5 kernel) 1 (calling (7 ∷ [])) (Here 7) None ≡ absent kernel)
+    × (answered (at_event_5 kernel) 1 (calling (7 ∷ [])) (Here 7) (Some Failed) ≡ absent kernel)
+unfolding row absent unplugged answered
+device-there = (refl, refl, refl, refl, refl, refl, refl)

@@ -1,9 +1,10 @@
 -- Each way in which the kernel opens, holds and closes is a quiet change.
-use Rattle.std.proofs.Common.{eq-eqb, ◌≡◌, ℕ, zero, suc, ◌+◌, ◌-◌, List, [], ◌∷◌, length, bytes_eq, refl, ap, ◌∙◌, sym, subst, Option, Some, None, IfSome, Bool, true, false, ◌==◌, cond, if◌then◌else◌, ◌||◌, arith, option_map, option_and_then, is_some, slice_get, slice_set, nat_lt, length-set}
+use Rattle.std.proofs.lemmas.Grind.{common_steps}
+use Rattle.std.proofs.Common.{eq-eqb, ◌≡◌, ℕ, zero, suc, ◌+◌, ◌-◌, List, [], ◌∷◌, length, bytes_eq, refl, ap, ◌∙◌, subst, Option, Some, None, IfSome, Bool, true, false, ◌==◌, cond, if◌then◌else◌, ◌||◌, arith, option_map, option_and_then, is_some, slice_set, nat_lt, length-set, eqb-true}
 use Rattle.std.proofs.lemmas.Bool.Decides.{nat_tests}
 use Rattle.parts_model.specs.declared.open.Conn.{Conn}
 use Rattle.parts_model.specs.declared.open.Description.{Description}
-use Rattle.parts_model.specs.declared.open.Description.TheVariants.{Console, File, Reader, Writer, Connection, Listener, Device}
+use Rattle.parts_model.specs.declared.open.Description.TheVariants.{File, Reader, Writer, Connection, Listener}
 use Rattle.parts_model.specs.declared.tagged.TaggedByte.{TaggedByte}
 use Rattle.parts_model.specs.Files as files
 use Rattle.parts_model.specs.Files.{Files, file_bytes}
@@ -12,11 +13,10 @@ use Rattle.parts_model.specs.Pipes as pipes
 use Rattle.parts_model.specs.Pipes.{Pipe, End, ReadEnd, WriteEnd}
 use Rattle.parts_model.specs.Ports.{Port, port_at}
 use Rattle.parts_model.specs.Processes as table
-use Rattle.parts_model.specs.Processes.{Process, Processes, Life, process, lowest_free}
+use Rattle.parts_model.specs.Processes.{Process, Processes, process, lowest_free}
 use Rattle.arn_model.specs.Kernel.{Kernel, Opened, Handling, placed, with_new, opens, with_count, also_held, all_also_held, without_end, without_side, without_servers, without_port, closed, less_held, dropped, all_dropped, closes, with_what, with_description, with_handling, handling_of}
 use Rattle.arn_model.specs.Sound.{FitsFiles, IsSound}
 use Rattle.arn_model.specs.Tells.{at_position}
-use Rattle.std.proofs.lemmas.Bool.{eqb-true}
 use Rattle.arn_model.proofs.Numbers.{suc-test, nth-change, nth-set, nth-push}
 use Rattle.arn_model.proofs.Quiet.{Less, less-same, FileSame, file-same, Quiet, quiet-refl, quiet-trans, FilesQuiet, quiet-files, pipe_byte, quiet-pipe, quiet-table, quiet-descriptions, quiet-handling, quiet-ports}
 
@@ -41,18 +41,13 @@ quiet-process k pid change same =
     quiet-table k (table.with_change k.processes pid change) (record { bytes = bytes; lives = living; grows = let e = length-with_process k.processes pid (option_map change (process k.processes pid)) in omega arith; few = let e = length-with_process k.processes pid (option_map change (process k.processes pid)) in omega arith })
   where
     status : (b : Bool) (o : Option Process) → status_in (cond b (option_map change o) o) ≡ status_in o
-    status true None = refl
-    status true (Some p) = ap table.status_in (same p)
-    status false o = refl
+    status b o = grind (arith, nat_tests)
 
     bool : (b : Bool) (p q : Process) → is_some (if b then Some p else None) ≡ is_some (if b then Some q else None)
-    bool true p q = refl
-    bool false p q = refl
+    bool b p q = grind (arith, nat_tests)
 
     life : (b : Bool) (o : Option Process) → lives_in (cond b (option_map change o) o) ≡ lives_in o
-    life true None = refl
-    life true (Some p) = bool (table.is_live (change p)) (change p) p ∙ ap (λ (l : Life). is_some (if table.is_alive l then Some p else None)) (same p)
-    life false o = refl
+    life b o = grind (arith, nat_tests, bool)
 
     bytes : (q : ℕ) → Less (table.status_of (table.with_change k.processes pid change) q) (table.status_of k.processes q)
     bytes q = less-same (table.status_of (table.with_change k.processes pid change) q) (table.status_of k.processes q)
@@ -65,8 +60,7 @@ pub quiet-placed : (pid n : ℕ) (k : Kernel) → Quiet k (placed pid n k)
 quiet-placed pid n k = quiet-process k pid (table.placed n) (λ p. at (lowest_free p) p)
   where
     at : (o : Option ℕ) (p : Process) → (table.placed_at o n p).life ≡ p.life
-    at None p = refl
-    at (Some number) p = refl
+    at o p = grind (arith, nat_tests)
 
 -- descriptions
 fits-none : (files : Files) (b : Bool) (x y : Option Opened) → IfSome x (λ o. FitsFiles files o.what) → IfSome y (λ o. FitsFiles files o.what) → IfSome (cond b x y) (λ o. FitsFiles files o.what)
@@ -81,22 +75,13 @@ quiet-opens pid what k h = quiet-trans k (with_new what k) (opens pid what k) (q
 
 -- a change of one description
 pub quiet-described : (k : Kernel) (n : ℕ) (f : Option Opened → Option Opened) → f None ≡ None → (IsSound k → (o : Option Opened) → nth k.descriptions n ≡ o → IfSome o (λ o. FitsFiles k.files o.what) → IfSome (f o) (λ o. FitsFiles k.files o.what)) → Quiet k (record k { descriptions = slice_set k.descriptions n (f (nth k.descriptions n)) })
-quiet-described k n f e h =
-    quiet-descriptions k (slice_set k.descriptions n (f (nth k.descriptions n)))
-    (λ s q.
-    subst (λ (o : Option Opened). IfSome o (λ o. FitsFiles k.files o.what)) (sym (nth-change f e k.descriptions n q))
-    (by_test s q (q == n) refl))
-  where
-    by_test : IsSound k → (q : ℕ) (b : Bool) → (q == n) ≡ b → IfSome (cond b (f (nth k.descriptions q)) (nth k.descriptions q)) (λ o. FitsFiles k.files o.what)
-    by_test s q true t = h s (nth k.descriptions q) (ap (λ i. nth k.descriptions i) (sym (eqb-true q n t))) (s.fits q)
-    by_test s q false t = s.fits q
+quiet-described k n f h1 h2 = grind (arith, common_steps, nat_tests, quiet-descriptions, nth-change, eqb-true)
 
 pub quiet-also_held : (n : ℕ) (k : Kernel) → Quiet k (also_held n k)
 quiet-also_held n k = quiet-described k n (option_map (with_count (λ c. c + 1))) refl (λ s o e h. each o h)
   where
     each : (o : Option Opened) → IfSome o (λ o. FitsFiles k.files o.what) → IfSome (option_map (with_count (λ c. c + 1)) o) (λ o. FitsFiles k.files o.what)
-    each None h = tt
-    each (Some o) h = h
+    each o h1 = grind (arith, nat_tests)
 
 pub quiet-all_also_held : (ns : List (Option ℕ)) (k : Kernel) → Quiet k (all_also_held ns k)
 quiet-all_also_held [] k = quiet-refl k
@@ -107,24 +92,20 @@ pub quiet-with_description : (n : ℕ) (what : Description) (k : Kernel) → (Is
 quiet-with_description n what k fits = quiet-described k n (option_map (with_what what)) refl each
   where
     each : IsSound k → (o : Option Opened) → nth k.descriptions n ≡ o → IfSome o (λ o. FitsFiles k.files o.what) → IfSome (option_map (with_what what) o) (λ o. FitsFiles k.files o.what)
-    each s None e h = tt
-    each s (Some o) e h = fits s o e
+    each h1 o h2 h3 = grind (arith, nat_tests)
 
 -- ends of pipes
 pub quiet-without_end : (pipe : ℕ) (end : End) (k : Kernel) → Quiet k (without_end pipe end k)
 quiet-without_end pipe end k = quiet-pipe k pipe (option_and_then (pipes.without_end end)) refl each
   where
     open_less : (b : Bool) (p : Pipe) (n : ℕ) → Less (pipe_byte (if b then Some p else None) n) (at_position p.channel n)
-    open_less true p n x e = e
-    open_less false p n x e = absurd (cc)
+    open_less b p n = grind (arith, nat_tests)
 
     by_end : (end : End) (p : Pipe) (n : ℕ) → Less (pipe_byte (pipes.without_end end p) n) (at_position p.channel n)
-    by_end ReadEnd p n = open_less (false || p.has_writer) (record p { has_reader = false }) n
-    by_end WriteEnd p n = open_less (p.has_reader || false) (record p { has_writer = false }) n
+    by_end end p n = grind (arith, nat_tests, open_less)
 
     each : (o : Option Pipe) (n : ℕ) → Less (pipe_byte (option_and_then (pipes.without_end end) o) n) (pipe_byte o n)
-    each None n x e = e
-    each (Some p) n x e = by_end end p n x e
+    each o n = grind (arith, nat_tests, by_end)
 
 pub quiet-without_side : (reads writes : ℕ) (k : Kernel) → Quiet k (without_side reads writes k)
 quiet-without_side reads writes k =
@@ -145,58 +126,20 @@ among-named [] path file found = absurd (cc)
 among-named (n ∷ names) path file found = by_test (bytes_eq n.path path) found (among-named names path file)
   where
     or-true : (b : Bool) → (b || true) ≡ true
-    or-true true = refl
-    or-true false = refl
+    or-true b = grind (arith, nat_tests)
 
     by_test : (b : Bool) → cond b (Some n.file) (files.file_among names path) ≡ Some file → (files.file_among names path ≡ Some file → files.has_name names file ≡ true) → files.has_name (n ∷ names) file ≡ true
-    by_test true e rest = let same : n.file ≡ file = cc in ap (λ (b : Bool). b || files.has_name names file) (eq-eqb n.file file same)
-    by_test false e rest = ap (λ (b : Bool). (n.file == file) || b) (rest e) ∙ or-true (n.file == file)
+    by_test b h1 h2 = grind (arith, nat_tests, eq-eqb, or-true)
 
 pub reached-quiet : (fs : Files) (file : ℕ) (o p : Option files.File) → nth fs.all file ≡ o → FileSame (option_map (λ f. f.bytes) o) (option_map (λ f. f.bytes) p)
     → ((path : List ℕ) → files.file_among fs.names path ≡ Some file → is_some (option_map (λ f. f.bytes) o) ≡ true → is_some (option_map (λ f. f.bytes) p) ≡ true) → FilesQuiet fs (files.with_file fs file p)
-reached-quiet fs file o p e same stays =
-    record {
-      names = refl;
-      made = length-set fs.all file p;
-      files = each;
-      named = λ path q found some. ap (λ (x : Option files.File). is_some (option_map (λ f. f.bytes) x)) (nth-set fs.all file p q) ∙ by_name path q (q == file) refl (slice_get fs.all q) refl found some;
-    }
-  where
-    own : (x : Option (Option files.File)) → option_and_then (λ thing. thing) x ≡ o → is_some (option_map (λ f. f.bytes) o) ≡ true → is_some (option_map (λ f. f.bytes) p) ≡ true → is_some (option_map (λ f. f.bytes) (option_and_then (λ y. p) x)) ≡ true
-    own None h some there = absurd (let g : is_some (option_map (λ f. f.bytes) o) ≡ false = ap (λ (x : Option files.File). is_some (option_map (λ f. f.bytes) x)) (sym h) in cc)
-    own (Some y) h some there = there
-
-    by_name : (path : List ℕ) (q : ℕ) (b : Bool) → (q == file) ≡ b → (x : Option (Option files.File)) → slice_get fs.all q ≡ x → files.file_among fs.names path ≡ Some q → is_some (file_bytes fs q) ≡ true
-        → is_some (option_map (λ f. f.bytes) (cond b (option_and_then (λ y. p) x) (nth fs.all q))) ≡ true
-    by_name path q true t x got found some =
-        let here = eqb-true q file t in
-        let is : nth fs.all q ≡ o = ap (λ i. nth fs.all i) here ∙ e in
-        let was : is_some (option_map (λ f. f.bytes) o) ≡ true = ap (λ (x : Option files.File). is_some (option_map (λ f. f.bytes) x)) (sym is) ∙ some in
-        own x (ap (λ (x : Option (Option files.File)). option_and_then (λ thing. thing) x) (sym got) ∙ is) was (stays path (found ∙ ap (λ (i : ℕ). Some i) here) was)
-    by_name path q false t x got found some = some
-
-    there : (x : Option (Option files.File)) → option_and_then (λ thing. thing) x ≡ o → FileSame (option_map (λ f. f.bytes) o) (option_map (λ f. f.bytes) (option_and_then (λ y. p) x))
-    there None h = tt
-    there (Some y) h = same
-
-    by_test : (q : ℕ) (b : Bool) → (q == file) ≡ b → FileSame (file_bytes fs q) (option_map (λ f. f.bytes) (cond b (option_and_then (λ y. p) (slice_get fs.all q)) (nth fs.all q)))
-    by_test q true t =
-        subst (λ (x : Option files.File). FileSame (option_map (λ f. f.bytes) x) (option_map (λ f. f.bytes) (option_and_then (λ y. p) (slice_get fs.all q)))) (sym (ap (λ i. nth fs.all i) (eqb-true q file t) ∙ e))
-        (there (slice_get fs.all q) (ap (λ i. nth fs.all i) (eqb-true q file t) ∙ e))
-    by_test q false t = file-same (file_bytes fs q) (file_bytes fs q) refl
-
-    each : (q : ℕ) → FileSame (file_bytes fs q) (file_bytes (files.with_file fs file p) q)
-    each q = subst (λ (x : Option files.File). FileSame (file_bytes fs q) (option_map (λ f. f.bytes) x)) (sym (nth-set fs.all file p q)) (by_test q (q == file) refl)
+reached-quiet fs file o p h1 h2 h3 = grind (arith, common_steps, nat_tests, length-set, nth-set, eqb-true, file-same)
 
 pub files-same : (fs : Files) → FilesQuiet fs fs
 files-same fs = record { named = λ path file found some. some; names = refl; made = refl; files = λ file. file-same (file_bytes fs file) (file_bytes fs file) refl }
 
 pub held-quiet : (fs : Files) (file : ℕ) → FilesQuiet fs (files.held fs file)
-held-quiet fs file = by_file (nth fs.all file) refl
-  where
-    by_file : (o : Option files.File) → nth fs.all file ≡ o → FilesQuiet fs (files.with_holder fs file o)
-    by_file None e = files-same fs
-    by_file (Some f) e = reached-quiet fs file (Some f) (Some (record f { holders = f.holders + 1 })) e refl (λ path found some. refl)
+held-quiet fs file = grind (arith, common_steps, nat_tests, files-same, reached-quiet)
 
 abbrev pub with_holders : (ℕ → ℕ) → files.File → files.File
 with_holders holders f = record f { holders = holders f.holders }
@@ -209,37 +152,26 @@ reached-same fs file (Some f) holders e =
     (λ path found some. by_name (files.has_name fs.names file) (among-named fs.names path file found))
   where
     by_name : (b : Bool) → b ≡ true → is_some (option_map (λ f. f.bytes) (if b || nat_lt 0 (holders f.holders) then Some (record f { holders = holders f.holders }) else None)) ≡ true
-    by_name true h = refl
-    by_name false h = absurd (cc)
+    by_name b h1 = grind (arith, nat_tests)
 
     by_test : (b : Bool) → FileSame (Some f.bytes) (option_map (λ f. f.bytes) (if b then Some (record f { holders = holders f.holders }) else None))
-    by_test true = refl
-    by_test false = tt
+    by_test b = grind (arith, nat_tests)
 
 pub quiet-released : (k : Kernel) (file : ℕ) → Quiet k (record k { files = files.released k.files file })
 quiet-released k file = quiet-files k (files.released k.files file) (reached-same k.files file (nth k.files.all file) (λ h. h - 1) refl)
 
 -- closing
 pub quiet-closed : (what : Description) (k : Kernel) → Quiet k (closed what k)
-quiet-closed Console k = quiet-refl k
 quiet-closed (File file position) k = quiet-released k file
 quiet-closed (Reader pipe) k = quiet-without_end pipe ReadEnd k
 quiet-closed (Writer pipe) k = quiet-without_end pipe WriteEnd k
 quiet-closed (Connection reads writes) k = quiet-without_side reads writes k
 quiet-closed (Listener port) k = quiet-without_port port (port_at k.ports port) k
-quiet-closed (Device device) k = quiet-refl k
+quiet-closed _ k = quiet-refl k
 
 -- a description that is there with another count, or none in its place
 quiet-in_place : (n : ℕ) (k : Kernel) (p : Option Opened) → (IsSound k → IfSome p (λ o. FitsFiles k.files o.what)) → Quiet k (record k { descriptions = slice_set k.descriptions n p })
-quiet-in_place n k p h =
-    quiet-descriptions k (slice_set k.descriptions n p)
-    (λ s q.
-    subst (λ (o : Option Opened). IfSome o (λ o. FitsFiles k.files o.what)) (sym (nth-set k.descriptions n p q))
-    (fits-none k.files (q == n) (option_and_then (λ y. p) (slice_get k.descriptions q)) (nth k.descriptions q) (there s (slice_get k.descriptions q)) (s.fits q)))
-  where
-    there : IsSound k → (x : Option (Option Opened)) → IfSome (option_and_then (λ y. p) x) (λ o. FitsFiles k.files o.what)
-    there s None = tt
-    there s (Some y) = h s
+quiet-in_place n k p h1 = grind (arith, common_steps, nat_tests, quiet-descriptions, nth-set, fits-none)
 
 pub quiet-less_held : (n : ℕ) (o : Option Opened) (k : Kernel) → nth k.descriptions n ≡ o → Quiet k (less_held n o k)
 quiet-less_held n None k e = quiet-refl k

@@ -1,47 +1,40 @@
 -- How many processes have been made: what the kernel does leaves it, but for a child that is made.
+use Rattle.std.proofs.lemmas.Grind.{common_steps}
 use Rattle.std.proofs.lemmas.Bool.Decides.{nat_tests}
-use Rattle.std.proofs.Common.{◌≡◌, ℕ, zero, suc, ◌+◌, ◌++◌, ◌==◌, false, [], ◌∷◌, Option, Some, None, length, map, option_map, refl, ap, subst, ◌∙◌, length-set, arith}
-use Rattle.std.proofs.lemmas.List.{length_push}
+use Rattle.std.proofs.Common.{◌≡◌, ℕ, ◌+◌, ◌==◌, false, Option, Some, None, length, option_map, refl, ap, ◌∙◌, arith}
+use Rattle.std.proofs.lemmas.List.{length_push, length-map}
 use Rattle.arn_base.specs.declared.records.Extra.{Extra}
 use Rattle.arn_base.specs.declared.records.Extra.TheVariants as extra
 use Rattle.parts_model.specs.declared.calls.TheConstants.{FORK}
-use Rattle.parts_model.specs.declared.open.Description.TheVariants.{Console}
 use Rattle.parts_model.specs.declared.tagged.TaggedByte.{TaggedByte}
 use Rattle.parts_model.specs.Processes as table
-use Rattle.parts_model.specs.Processes.{Process, Processes, process}
+use Rattle.parts_model.specs.Processes.{Processes, process}
 use Rattle.parts_model.specs.Replies.{Answered}
 use Rattle.acts_model.specs.Bodies.{View}
 use Rattle.acts_model.specs.Views.{call_number}
-use Rattle.arn_model.specs.Doing.{Doing, Question, Here, Reads, Writes, Request, Waits, Does, Asks}
-use Rattle.arn_model.specs.Kernel.{Kernel, Machine, placed, opens, also_held, closes, ended, booted, forked, no_handling}
+use Rattle.arn_model.specs.Doing.{Doing, Question, Request, Asks}
+use Rattle.arn_model.specs.Kernel.{Kernel, Machine, placed, closes, ended, booted, forked}
 use Rattle.arn_model.specs.Laws.{NoStart, FewBytes, RequestIsBounded, ProcessesCount}
 use Rattle.arn_model.specs.Row.{does, request}
 use Rattle.arn_model.proofs.FewDescriptors.{also_held-all, all_dropped-same, dropped-same}
 use Rattle.arn_model.proofs.FineRequests.{Keeps, StartsByFork, Fine, FineQuestion, request-Fine, done-Kept}
+use Rattle.arn_model.proofs.Closing.{length-with_process}
 
 -- as many as a number, unless the call is a fork
 unfoldable AsMany : ℕ → ℕ → Processes → Type 0
 AsMany count n all = (n == FORK) ≡ false → length all ≡ count
 
-length-with : (all : Processes) (pid : ℕ) (p : Option Process) → length (table.with_process all pid p) ≡ length all
-length-with all zero p = refl
-length-with all (suc i) p = length-set all i p
-
-length-map : (f : Option Process → Option Process) (all : Processes) → length (map f all) ≡ length all
-length-map f [] = refl
-length-map f (p ∷ all) = ap suc (length-map f all)
-
 -- what the kernel does to the table leaves as many
 placed-many : (pid n : ℕ) (k : Kernel) → length (placed pid n k).processes ≡ length k.processes
-placed-many pid n k = length-with k.processes pid (option_map (table.placed n) (process k.processes pid))
+placed-many pid n k = length-with_process k.processes pid (option_map (table.placed n) (process k.processes pid))
 
 closes-many : (pid fd n : ℕ) (k : Kernel) → length (closes pid fd n k).processes ≡ length k.processes
 closes-many pid fd n k =
     let k' : Kernel = record k { processes = table.with_change k.processes pid (table.with_descriptor fd None) } in
-    ap (λ (all : Processes). length all) (dropped-same n k') ∙ length-with k.processes pid (option_map (table.with_descriptor fd None) (process k.processes pid))
+    ap (λ (all : Processes). length all) (dropped-same n k') ∙ length-with_process k.processes pid (option_map (table.with_descriptor fd None) (process k.processes pid))
 
 ended-many : (pid : ℕ) (status : TaggedByte) (k : Kernel) → length (ended pid status k).processes ≡ length k.processes
-ended-many pid status k = grind (arith, nat_tests, all_dropped-same, length-map, length-with)
+ended-many pid status k = grind (arith, nat_tests, all_dropped-same, length-map, length-with_process)
 
 -- a child is one more
 forked-more : (pid : ℕ) (k : Kernel) → length (forked pid k).processes ≡ length k.processes + 1
@@ -49,19 +42,14 @@ forked-more pid k = grind (arith, nat_tests, also_held-all, length_push)
 
 -- and so is process 1
 booted-more : (k : Kernel) → length (booted k).processes ≡ length k.processes + 1
-booted-more k =
-    let k1 : Kernel = record k { processes = table.booted k.processes; handling = k.handling ++ Some no_handling ∷ [] } in
-    let k2 = opens 1 Console k1 in
-    let k3 = placed 1 0 (also_held 0 k2) in
-    placed-many 1 0 k3 ∙ (placed-many 1 0 k2 ∙ (placed-many 1 (length k1.descriptions) k1
-    ∙ length_push k.processes (Some (record { life = table.Live; parent = None; descriptors = table.none_open }))))
+booted-more k = grind (arith, common_steps, nat_tests, placed-many, length_push)
 
 pub processes-count : ProcessesCount
 processes-count = record { after_end = ended-many; after_fork = forked-more; after_boot = booted-more }
 
 many-keeps : (count n : ℕ) → Keeps n (AsMany count n)
 unfolding AsMany
-many-keeps count n = grind (arith, nat_tests, closes-many, ended-many, length-with, placed-many)
+many-keeps count n = grind (arith, nat_tests, closes-many, ended-many, length-with_process, placed-many)
 
 many-same : (m : Machine) (n : ℕ) → AsMany (length m.kernel.processes) n m.kernel.processes
 unfolding AsMany
@@ -77,11 +65,7 @@ no-start n more starts other = tt
 
 few-bytes : (n : ℕ) (P : Processes → Type 0) (r : Request) → Fine n P r → (question : Question) → r ≡ Asks question → FewBytes question
 unfolding Fine FineQuestion
-few-bytes n P Waits fine question e = absurd cc
-few-bytes n P (Does d) fine question e = absurd cc
-few-bytes n P (Asks (Here device)) fine question e = subst FewBytes (let same : Here device ≡ question = cc in same) tt
-few-bytes n P (Asks (Reads device at len)) fine question e = subst FewBytes (let same : Reads device at len ≡ question = cc in same) fine
-few-bytes n P (Asks (Writes device at len)) fine question e = subst FewBytes (let same : Writes device at len ≡ question = cc in same) fine
+few-bytes n P r h1 question h2 = grind (arith, common_steps, nat_tests)
 
 pub request-bounded : (m : Machine) (pid : ℕ) (v : View) → RequestIsBounded m pid v
 request-bounded m pid v =

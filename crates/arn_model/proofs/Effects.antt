@@ -1,21 +1,21 @@
 -- What an event may do to the kernel, and what each change that isn't quiet does.
-use Rattle.std.proofs.Common.{◌≡◌, ◌⊎◌, inl, inr, ℕ, zero, suc, ◌+◌, ◌≤◌, List, [], ◌∷◌, ◌++◌, length, map, refl, ap, ◌∙◌, sym, Option, Some, None, Bool, true, false, ◌==◌, cond, if◌then◌else◌, ◌||◌, arith, option_map, option_and_then, is_some}
+use Rattle.std.proofs.Common.{◌≡◌, ◌⊎◌, inr, ℕ, zero, suc, ◌+◌, ◌≤◌, List, [], ◌∷◌, ◌++◌, length, map, refl, ap, ◌∙◌, sym, Option, Some, None, Bool, true, false, ◌==◌, cond, if◌then◌else◌, ◌||◌, arith, option_map, option_and_then, is_some}
 use Rattle.std.proofs.lemmas.Bool.Decides.{nat_tests}
 use Rattle.std.proofs.lemmas.Bool.{eq-eqb, eqb-true, eqb-false, ne_eqb}
 use Rattle.std.proofs.lemmas.Option.{slice_get-map}
-use Rattle.std.proofs.lemmas.List.{length_push}
+use Rattle.std.proofs.lemmas.List.{length_push, length-map}
 use Rattle.parts_model.specs.declared.tagged.TaggedByte.{TaggedByte}
 use Rattle.parts_model.specs.Files.{Name, file_bytes, file_among, find_file}
 use Rattle.parts_model.specs.Numbered.{nth, with_nth_from_one}
 use Rattle.parts_model.specs.Processes as table
 use Rattle.parts_model.specs.Processes.{Process, Processes, Life, Ended, process}
-use Rattle.acts_model.specs.Moved.{ConsoleByte, PipeByte, FileByte, StatusByte, Range, within_if}
+use Rattle.acts_model.specs.Moved.{StatusByte, Range}
 use Rattle.acts_model.specs.Records.{LifeChange, BeginsLife, EndsLife, NoLife, lives_after, NameChange, NoName, Written}
 use Rattle.arn_model.specs.Kernel as kernel
 use Rattle.arn_model.specs.Kernel.{Kernel, all_dropped, descriptors_of, handling_of, child_handling, status_at}
 use Rattle.arn_model.specs.ProcessCalls.{status_of}
 use Rattle.arn_model.specs.Sound.{IsSound}
-use Rattle.arn_model.specs.Tells.{FilesLast, WritesInside, lives, named_after, patched, put_byte, outgoing_byte, HoldsAfter}
+use Rattle.arn_model.specs.Tells.{FilesLast, WritesInside, lives, named_after, patched, outgoing_byte, HoldsAfter}
 use Rattle.arn_model.proofs.Numbers.{suc-test, nth-push}
 use Rattle.arn_model.proofs.Quiet.{FileSame, file-same, last-refl, last-trans, Quiet, quiet-handling}
 use Rattle.arn_model.proofs.Closing.{process-change, length-with_process, status_in, lives_in, quiet-all_dropped, quiet-all_also_held}
@@ -77,10 +77,6 @@ process-map : (f : Option Process → Option Process) → f None ≡ None → (a
 process-map f e all zero = sym e
 process-map f e all (suc i) = nth-map f e all i
 
-length-mapped : (f : Option Process → Option Process) (all : Processes) → length (map f all) ≡ length all
-length-mapped f [] = refl
-length-mapped f (p ∷ all) = ap suc (length-mapped f all)
-
 ended-process : (all : Processes) (pid : ℕ) (status : TaggedByte) (q : ℕ) → process (table.ended all pid status) q ≡ option_and_then (table.orphan pid) (cond (q == pid) (option_and_then (table.with_end status) (process all q)) (process all q))
 ended-process all pid status q =
     process-map (option_and_then (table.orphan pid)) refl (table.with_process all pid (option_and_then (table.with_end status) (process all pid))) q
@@ -104,10 +100,6 @@ end-status status (Some p) h e = awaited-status (false || is_some p.parent) (rec
 end-lives : (status : TaggedByte) (o : Option Process) → lives_in (option_and_then (table.with_end status) o) ≡ false
 end-lives status o = grind (arith, nat_tests, lives_in)
 
--- the status byte, where the process is the one that ends
-abbrev put_byte-of : ℕ → ℕ → Bool → Option TaggedByte
-put_byte-of event s b = put_byte event (s ∷ []) (within_if b 0 1 0)
-
 table-ended : (pid s event : ℕ) (k : Kernel) → KernelTells k event (s ∷ []) (Some (status_of pid)) (EndsLife pid) NoName None (record k { processes = table.ended k.processes pid (status_at event s) })
 table-ended pid s event k =
     record {
@@ -118,30 +110,22 @@ table-ended pid s event k =
       last = last-refl k.files;
       writes = tt;
       sound = λ h. record { fits = h.fits; named = h.named; there = h.there };
-      grows = let e = length-mapped (option_and_then (table.orphan pid)) (table.with_process k.processes pid (option_and_then (table.with_end (status_at event s)) (process k.processes pid))) in let g = length-with_process k.processes pid (option_and_then (table.with_end (status_at event s)) (process k.processes pid)) in omega arith;
-      few = let e = length-mapped (option_and_then (table.orphan pid)) (table.with_process k.processes pid (option_and_then (table.with_end (status_at event s)) (process k.processes pid))) in let g = length-with_process k.processes pid (option_and_then (table.with_end (status_at event s)) (process k.processes pid)) in omega arith;
+      grows = let e = length-map (table.with_process k.processes pid (option_and_then (table.with_end (status_at event s)) (process k.processes pid))) (option_and_then (table.orphan pid)) in let g = length-with_process k.processes pid (option_and_then (table.with_end (status_at event s)) (process k.processes pid)) in omega arith;
+      few = let e = length-map (table.with_process k.processes pid (option_and_then (table.with_end (status_at event s)) (process k.processes pid))) (option_and_then (table.orphan pid)) in let g = length-with_process k.processes pid (option_and_then (table.with_end (status_at event s)) (process k.processes pid)) in omega arith;
     }
   where
     by_test : (q : ℕ) (h : TaggedByte) (b : Bool) → (q == pid) ≡ b → status_in (option_and_then (table.orphan pid) (cond b (option_and_then (table.with_end (status_at event s)) (process k.processes q)) (process k.processes q))) ≡ Some h → (outgoing_byte event (s ∷ []) (Some (status_of pid)) (StatusByte q) ≡ Some h) ⊎ ((outgoing_byte event (s ∷ []) (Some (status_of pid)) (StatusByte q) ≡ None) × (table.status_of k.processes q ≡ Some h))
-    by_test q h true t e =
-        let o = option_and_then (table.with_end (status_at event s)) (process k.processes q) in
-        inl (ap (λ (b : Bool). put_byte-of event s b) (eq-swap pid q ∙ t) ∙ end-status (status_at event s) (process k.processes q) h (orphan-status pid o h e))
-    by_test q h false t e = inr (ap (λ (b : Bool). put_byte-of event s b) (eq-swap pid q ∙ t), orphan-status pid (process k.processes q) h e)
+    by_test q h b h1 h2 = grind (arith, nat_tests, eq-swap, end-status, orphan-status)
 
     holds : HoldsAfter k event (s ∷ []) (Some (status_of pid)) (record k { processes = table.ended k.processes pid (status_at event s) })
-    holds (ConsoleByte n) h e = inr (refl, e)
-    holds (PipeByte pipe n) h e = inr (refl, e)
-    holds (FileByte file at) h e = inr (refl, e)
     holds (StatusByte q) h e = by_test q h (q == pid) refl (ap status_in (sym (ended-process k.processes pid (status_at event s) q)) ∙ e)
+    holds _ h e = inr (refl, e)
 
     live : (q : ℕ) (b : Bool) (o : Option Process) → lives_in (option_and_then (table.orphan pid) (cond b (option_and_then (table.with_end (status_at event s)) o) o)) ≡ cond b false (lives_in o)
-    live q true o = orphan-lives pid (option_and_then (table.with_end (status_at event s)) o) ∙ end-lives (status_at event s) o
-    live q false o = orphan-lives pid o
+    live q b o = grind (arith, nat_tests, orphan-lives, end-lives)
 
     living : (q : ℕ) → is_some (table.live_process (table.ended k.processes pid (status_at event s)) q) ≡ lives_after (EndsLife pid) q (lives k q)
-    living q =
-        ap lives_in (ended-process k.processes pid (status_at event s) q)
-        ∙ (live q (q == pid) (process k.processes q) ∙ ap (λ (b : Bool). cond b false (lives k q)) (eq-swap q pid))
+    living q = grind (arith, nat_tests, ended-process, live, eq-swap)
 
 pub ended-tells : (pid s event : ℕ) (k : Kernel) → KernelTells k event (s ∷ []) (Some (status_of pid)) (EndsLife pid) NoName None (kernel.ended pid (status_at event s) k)
 ended-tells pid s event k =
@@ -164,34 +148,7 @@ child-lives parent None e = e
 child-lives parent (Some p) e = refl
 
 table-forked : (pid event : ℕ) (k : Kernel) → lives k pid ≡ true → KernelTells k event [] None (BeginsLife (table.next_process k.processes)) NoName None (record k { processes = table.forked k.processes pid })
-table-forked pid event k alive =
-    let child = option_map (table.child_of pid) (process k.processes pid) in
-    record {
-      holds = holds;
-      living = λ q. ap lives_in (forked-process k.processes child q) ∙ (live q (q == length k.processes + 1) ∙ ap (λ (b : Bool). cond b true (lives k q)) (eq-swap q (length k.processes + 1)));
-      names = λ path. refl;
-      kept = λ file. kept-same event file (file_bytes k.files file) (file_bytes k.files file) (file-same (file_bytes k.files file) (file_bytes k.files file) refl);
-      last = last-refl k.files;
-      writes = tt;
-      sound = λ h. record { fits = h.fits; named = h.named; there = h.there };
-      grows = let e = length_push k.processes child in omega arith;
-      few = let e = length_push k.processes child in omega arith;
-    }
-  where
-    live : (q : ℕ) (b : Bool) → lives_in (cond b (option_map (table.child_of pid) (process k.processes pid)) (process k.processes q)) ≡ cond b true (lives k q)
-    live q true = child-lives pid (process k.processes pid) alive
-    live q false = refl
-
-    status : (q : ℕ) (h : TaggedByte) (b : Bool) → status_in (cond b (option_map (table.child_of pid) (process k.processes pid)) (process k.processes q)) ≡ Some h → table.status_of k.processes q ≡ Some h
-    status q h true e = absurd (let n = child-status pid (process k.processes pid) in cc)
-    status q h false e = e
-
-    holds : HoldsAfter k event [] None (record k { processes = table.forked k.processes pid })
-    holds (ConsoleByte n) h e = inr (refl, e)
-    holds (PipeByte pipe n) h e = inr (refl, e)
-    holds (FileByte file at) h e = inr (refl, e)
-    holds (StatusByte q) h e =
-        inr (refl, status q h (q == length k.processes + 1) (ap status_in (sym (forked-process k.processes (option_map (table.child_of pid) (process k.processes pid)) q)) ∙ e))
+table-forked pid event k h1 = grind (arith, nat_tests, forked-process, eq-swap, kept-same, file-same, last-refl, length_push, child-lives, child-status)
 
 pub forked-tells : (pid event : ℕ) (k : Kernel) → lives k pid ≡ true → KernelTells k event [] None (BeginsLife (table.next_process k.processes)) NoName None (kernel.forked pid k)
 forked-tells pid event k alive =

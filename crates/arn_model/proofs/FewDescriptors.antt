@@ -186,9 +186,8 @@ called-few m pid v reply (Asks question) fine few = (answered-Kept (call_number 
 
 -- the number of the next descriptor is small
 lowest-small : (n : ℕ) (descriptors : List (Option ℕ)) → unwrap_or (table.lowest_free_from n descriptors) 0 ≤ n + length descriptors
-lowest-small n [] = omega arith
-lowest-small n (None ∷ descriptors) = omega arith
 lowest-small n (Some found ∷ descriptors) = omega (arith, lowest-small (n + 1) descriptors)
+lowest-small n _ = omega arith
 
 next-by : (o : Option Process) → FewIn o → unwrap_or (option_and_then table.lowest_free o) 0 ≤ MOST_DESCRIPTORS
 unfolding FewIn

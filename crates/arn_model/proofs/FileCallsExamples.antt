@@ -26,20 +26,16 @@ opens-found = refl
 with_hole : Kernel
 with_hole = record kernel { processes = alone (Some 0 ∷ None ∷ Some 0 ∷ []); descriptions = opening description.Console 2 ∷ [] }
 
-opens-lowest :
-    row 9 (at_event_5 with_hole) 1 (calling (0x10000 ∷ 1 ∷ 0 ∷ [])) ≡
+open-edges :
+    (row 9 (at_event_5 with_hole) 1 (calling (0x10000 ∷ 1 ∷ 0 ∷ [])) ≡
     results_with 1 (extra.Name 0 (97 ∷ []))
     (record kernel {
       processes = alone (Some 0 ∷ Some 1 ∷ Some 0 ∷ []);
       descriptions = opening description.Console 2 ∷ opening (description.File 0 0) 1 ∷ [];
       files = files_held 1;
-    })
-unfolding row results_with with_hole
-opens-lowest = refl
-
--- mode 1 makes file 1, named `ab`, which is empty
-opens-new :
-    row 9 (at_event_5 kernel) 1 (calling (0x10000 ∷ 2 ∷ 1 ∷ [])) ≡
+    }))
+    -- mode 1 makes file 1, named `ab`, which is empty
+    × (row 9 (at_event_5 kernel) 1 (calling (0x10000 ∷ 2 ∷ 1 ∷ [])) ≡
     results_with 3 (extra.Name 1 (97 ∷ 98 ∷ []))
     (record (kernel_with (description.File 1 0)) {
       files =
@@ -47,68 +43,39 @@ opens-new :
             all = (files_held 0).all ++ Some (record { bytes = []; holders = 1 }) ∷ [];
             names = record { path = 97 ∷ []; file = 0 } ∷ record { path = 97 ∷ 98 ∷ []; file = 1 } ∷ [];
           };
-    })
-unfolding row results_with
-opens-new = refl
-
--- -22 before -14: a length of 0 or above 64, and a mode above 1, at no address
-open-empty : row 9 (at_event_5 kernel) 1 (calling (0 ∷ 0 ∷ 0 ∷ [])) ≡ results (minus 22) kernel
-unfolding row
-open-empty = refl
-
-open-long : row 9 (at_event_5 kernel) 1 (calling (0 ∷ 65 ∷ 0 ∷ [])) ≡ results (minus 22) kernel
-unfolding row
-open-long = refl
-
-open-mode : row 9 (at_event_5 kernel) 1 (calling (0 ∷ 1 ∷ 2 ∷ [])) ≡ results (minus 22) kernel
-unfolding row
-open-mode = refl
+    }))
+    -- -22 before -14: a length of 0 or above 64, and a mode above 1, at no address
+    × (row 9 (at_event_5 kernel) 1 (calling (0 ∷ 0 ∷ 0 ∷ [])) ≡ results (minus 22) kernel)
+    × (row 9 (at_event_5 kernel) 1 (calling (0 ∷ 65 ∷ 0 ∷ [])) ≡ results (minus 22) kernel)
+    × (row 9 (at_event_5 kernel) 1 (calling (0 ∷ 1 ∷ 2 ∷ [])) ≡ results (minus 22) kernel)
+unfolding row results_with with_hole
+open-edges = (refl, refl, refl, refl, refl)
 
 -- -14 before -24: the range isn't whole in the window, in both modes
-open-nowhere : row 9 (at_event_5 (crowded kernel)) 1 (calling (0x10007 ∷ 2 ∷ 0 ∷ [])) ≡ results (minus 14) (crowded kernel)
+open-errors :
+    (row 9 (at_event_5 (crowded kernel)) 1 (calling (0x10007 ∷ 2 ∷ 0 ∷ [])) ≡ results (minus 14) (crowded kernel))
+    × (row 9 (at_event_5 (crowded kernel)) 1 (calling (0x10007 ∷ 2 ∷ 1 ∷ [])) ≡ results (minus 14) (crowded kernel))
+    -- mode 0: -2 before -24
+    × (row 9 (at_event_5 (crowded kernel)) 1 (calling (0x10000 ∷ 2 ∷ 0 ∷ [])) ≡ results (minus 2) (crowded kernel))
+    × (row 9 (at_event_5 (crowded kernel)) 1 (calling (0x10000 ∷ 1 ∷ 0 ∷ [])) ≡ results (minus 24) (crowded kernel))
+    -- mode 1: -17 before -24, -24 before -12, and -12 at 1,024 files
+    × (row 9 (at_event_5 (crowded kernel)) 1 (calling (0x10000 ∷ 1 ∷ 1 ∷ [])) ≡ results (minus 17) (crowded kernel))
 unfolding row
-open-nowhere = refl
-
-make-nowhere : row 9 (at_event_5 (crowded kernel)) 1 (calling (0x10007 ∷ 2 ∷ 1 ∷ [])) ≡ results (minus 14) (crowded kernel)
-unfolding row
-make-nowhere = refl
-
--- mode 0: -2 before -24
-open-none : row 9 (at_event_5 (crowded kernel)) 1 (calling (0x10000 ∷ 2 ∷ 0 ∷ [])) ≡ results (minus 2) (crowded kernel)
-unfolding row
-open-none = refl
-
-open-crowded : row 9 (at_event_5 (crowded kernel)) 1 (calling (0x10000 ∷ 1 ∷ 0 ∷ [])) ≡ results (minus 24) (crowded kernel)
-unfolding row
-open-crowded = refl
-
--- mode 1: -17 before -24, -24 before -12, and -12 at 1,024 files
-make-taken : row 9 (at_event_5 (crowded kernel)) 1 (calling (0x10000 ∷ 1 ∷ 1 ∷ [])) ≡ results (minus 17) (crowded kernel)
-unfolding row
-make-taken = refl
+open-errors = (refl, refl, refl, refl, refl)
 
 -- these are held, and one has a name
 many_files : Kernel
 many_files = record kernel { files = record (files_held 0) { all = replicate 1024 (Some (record { bytes = []; holders = 1 })) } }
 
-make-crowded : row 9 (at_event_5 (crowded many_files)) 1 (calling (0x10000 ∷ 2 ∷ 1 ∷ [])) ≡ results (minus 24) (crowded many_files)
+make-errors :
+    (row 9 (at_event_5 (crowded many_files)) 1 (calling (0x10000 ∷ 2 ∷ 1 ∷ [])) ≡ results (minus 24) (crowded many_files))
+    × (row 9 (at_event_5 many_files) 1 (calling (0x10000 ∷ 2 ∷ 1 ∷ [])) ≡ results (minus 12) many_files)
+    × (row 9 (at_event_5 many_files) 1 (calling (0x10000 ∷ 1 ∷ 1 ∷ [])) ≡ results (minus 17) many_files)
+    -- close: one of three descriptors of the console; the last of a file
+    × (row 10 (at_event_5 kernel) 1 (calling (1 ∷ [])) ≡
+    results 0 (record kernel { processes = alone (Some 0 ∷ None ∷ Some 0 ∷ []); descriptions = opening description.Console 2 ∷ [] }))
 unfolding row many_files
-make-crowded = refl
-
-make-full : row 9 (at_event_5 many_files) 1 (calling (0x10000 ∷ 2 ∷ 1 ∷ [])) ≡ results (minus 12) many_files
-unfolding row many_files
-make-full = refl
-
-make-taken-full : row 9 (at_event_5 many_files) 1 (calling (0x10000 ∷ 1 ∷ 1 ∷ [])) ≡ results (minus 17) many_files
-unfolding row many_files
-make-taken-full = refl
-
--- close: one of three descriptors of the console; the last of a file
-closes-one :
-    row 10 (at_event_5 kernel) 1 (calling (1 ∷ [])) ≡
-    results 0 (record kernel { processes = alone (Some 0 ∷ None ∷ Some 0 ∷ []); descriptions = opening description.Console 2 ∷ [] })
-unfolding row
-closes-one = refl
+make-errors = (refl, refl, refl, refl)
 
 held_file : Kernel
 held_file = record (kernel_with (description.File 0 2)) { files = files_held 1 }
@@ -145,8 +112,8 @@ closes-listener = refl
 connection : Kernel
 connection = record (kernel_with (description.Connection 0 1)) { pipes = pipe_open ∷ pipe_open ∷ [] }
 
-closes-connection :
-    row 10 (at_event_5 connection) 1 (calling (3 ∷ [])) ≡
+close-and-seek :
+    (row 10 (at_event_5 connection) 1 (calling (3 ∷ [])) ≡
     results 0
     (record kernel {
       descriptions = opening description.Console 3 ∷ None ∷ [];
@@ -154,79 +121,39 @@ closes-connection :
           Some (record { channel = record { taken = 0; queue = [] }; has_reader = false; has_writer = true })
           ∷ Some (record { channel = record { taken = 0; queue = [] }; has_reader = true; has_writer = false })
           ∷ [];
-    })
-unfolding row connection pipe_open
-closes-connection = refl
-
--- a descriptor that isn't open, and a number that none has
-close-free : row 10 (at_event_5 kernel) 1 (calling (3 ∷ [])) ≡ results (minus 9) kernel
-unfolding row
-close-free = refl
-
-close-16 : row 10 (at_event_5 kernel) 1 (calling (16 ∷ [])) ≡ results (minus 9) kernel
-unfolding row
-close-16 = refl
-
--- seek: as far as the file's length
-seeks-end : row 13 (at_event_5 held_file) 1 (calling (3 ∷ 3 ∷ [])) ≡ results 3 (record held_file { descriptions = opening description.Console 3 ∷ opening (description.File 0 3) 1 ∷ [] })
-unfolding row held_file
-seeks-end = refl
-
-seek-behind : row 13 (at_event_5 held_file) 1 (calling (3 ∷ 4 ∷ [])) ≡ results (minus 22) held_file
-unfolding row held_file
-seek-behind = refl
-
-seek-console : row 13 (at_event_5 kernel) 1 (calling (0 ∷ 0 ∷ [])) ≡ results (minus 22) kernel
-unfolding row
-seek-console = refl
+    }))
+    -- a descriptor that isn't open, and a number that none has
+    × (row 10 (at_event_5 kernel) 1 (calling (3 ∷ [])) ≡ results (minus 9) kernel)
+    × (row 10 (at_event_5 kernel) 1 (calling (16 ∷ [])) ≡ results (minus 9) kernel)
+    -- seek: as far as the file's length
+    × (row 13 (at_event_5 held_file) 1 (calling (3 ∷ 3 ∷ [])) ≡ results 3 (record held_file { descriptions = opening description.Console 3 ∷ opening (description.File 0 3) 1 ∷ [] }))
+    × (row 13 (at_event_5 held_file) 1 (calling (3 ∷ 4 ∷ [])) ≡ results (minus 22) held_file)
+    × (row 13 (at_event_5 kernel) 1 (calling (0 ∷ 0 ∷ [])) ≡ results (minus 22) kernel)
+unfolding row connection pipe_open held_file
+close-and-seek = (refl, refl, refl, refl, refl, refl)
 
 -- -9 before -22
-seek-closed : row 13 (at_event_5 kernel) 1 (calling (3 ∷ 4 ∷ [])) ≡ results (minus 9) kernel
-unfolding row
-seek-closed = refl
-
--- dup: the same description
-dups :
-    row 14 (at_event_5 kernel) 1 (calling (1 ∷ [])) ≡
-    results 3 (record kernel { processes = alone (Some 0 ∷ Some 0 ∷ Some 0 ∷ Some 0 ∷ []); descriptions = opening description.Console 4 ∷ [] })
-unfolding row
-dups = refl
-
--- -9 before -24
-dup-closed : row 14 (at_event_5 (crowded kernel)) 1 (calling (16 ∷ [])) ≡ results (minus 9) (crowded kernel)
-unfolding row
-dup-closed = refl
-
-dup-crowded : row 14 (at_event_5 (crowded kernel)) 1 (calling (1 ∷ [])) ≡ results (minus 24) (crowded kernel)
-unfolding row
-dup-crowded = refl
-
--- unlink: the name goes, and a description keeps the file
-unlinks-held :
-    row 16 (at_event_5 held_file) 1 (calling (0x10000 ∷ 1 ∷ [])) ≡
-    results_with 0 (extra.Name 0 (97 ∷ [])) (record held_file { files = record (files_held 1) { names = [] } })
+dup-and-unlink :
+    (row 13 (at_event_5 kernel) 1 (calling (3 ∷ 4 ∷ [])) ≡ results (minus 9) kernel)
+    -- dup: the same description
+    × (row 14 (at_event_5 kernel) 1 (calling (1 ∷ [])) ≡
+    results 3 (record kernel { processes = alone (Some 0 ∷ Some 0 ∷ Some 0 ∷ Some 0 ∷ []); descriptions = opening description.Console 4 ∷ [] }))
+    -- -9 before -24
+    × (row 14 (at_event_5 (crowded kernel)) 1 (calling (16 ∷ [])) ≡ results (minus 9) (crowded kernel))
+    × (row 14 (at_event_5 (crowded kernel)) 1 (calling (1 ∷ [])) ≡ results (minus 24) (crowded kernel))
+    -- unlink: the name goes, and a description keeps the file
+    × (row 16 (at_event_5 held_file) 1 (calling (0x10000 ∷ 1 ∷ [])) ≡
+    results_with 0 (extra.Name 0 (97 ∷ [])) (record held_file { files = record (files_held 1) { names = [] } }))
+    × (row 16 (at_event_5 kernel) 1 (calling (0x10000 ∷ 1 ∷ [])) ≡
+    results_with 0 (extra.Name 0 (97 ∷ [])) (record kernel { files = record { all = None ∷ []; names = [] } }))
 unfolding row results_with held_file
-unlinks-held = refl
-
-unlinks-unheld :
-    row 16 (at_event_5 kernel) 1 (calling (0x10000 ∷ 1 ∷ [])) ≡
-    results_with 0 (extra.Name 0 (97 ∷ [])) (record kernel { files = record { all = None ∷ []; names = [] } })
-unfolding row results_with
-unlinks-unheld = refl
+dup-and-unlink = (refl, refl, refl, refl, refl, refl)
 
 -- -22 before -14, then -2
-unlink-empty : row 16 (at_event_5 kernel) 1 (calling (0 ∷ 0 ∷ [])) ≡ results (minus 22) kernel
+unlink :
+    (row 16 (at_event_5 kernel) 1 (calling (0 ∷ 0 ∷ [])) ≡ results (minus 22) kernel)
+    × (row 16 (at_event_5 kernel) 1 (calling (0 ∷ 65 ∷ [])) ≡ results (minus 22) kernel)
+    × (row 16 (at_event_5 kernel) 1 (calling (0x10007 ∷ 2 ∷ [])) ≡ results (minus 14) kernel)
+    × (row 16 (at_event_5 kernel) 1 (calling (0x10000 ∷ 2 ∷ [])) ≡ results (minus 2) kernel)
 unfolding row
-unlink-empty = refl
-
-unlink-long : row 16 (at_event_5 kernel) 1 (calling (0 ∷ 65 ∷ [])) ≡ results (minus 22) kernel
-unfolding row
-unlink-long = refl
-
-unlink-nowhere : row 16 (at_event_5 kernel) 1 (calling (0x10007 ∷ 2 ∷ [])) ≡ results (minus 14) kernel
-unfolding row
-unlink-nowhere = refl
-
-unlink-none : row 16 (at_event_5 kernel) 1 (calling (0x10000 ∷ 2 ∷ [])) ≡ results (minus 2) kernel
-unfolding row
-unlink-none = refl
+unlink = (refl, refl, refl, refl)

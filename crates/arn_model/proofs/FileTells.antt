@@ -1,7 +1,6 @@
 -- What the calls on names and descriptors tell.
-use Rattle.std.proofs.Common.{◌≡◌, ℕ, ◌<◌, ◌≤◌, List, [], ◌∷◌, length, refl, ◌∙◌, Option, Some, None, IfSome, Bool, true, false, ◌==◌, ◌||◌, not, if◌then◌else◌, arith, nat_lt, is_some, unwrap_or}
+use Rattle.std.proofs.Common.{◌≡◌, ℕ, ◌<◌, ◌≤◌, List, [], ◌∷◌, length, refl, ◌∙◌, Option, Some, None, IfSome, Bool, false, ◌==◌, ◌||◌, not, if◌then◌else◌, arith, nat_lt, is_some, unwrap_or, ltb-false}
 use Rattle.std.proofs.lemmas.Bool.Decides.{nat_tests}
-use Rattle.std.proofs.lemmas.Bool.{ltb-false}
 use Rattle.std.proofs.lemmas.List.{length_push}
 use Rattle.arn_base.specs.declared.records.Extra.TheVariants as extra
 use Rattle.parts_model.specs.declared.calls.TheConstants.{OPEN, CLOSE, SEEK, DUP, UNLINK}
@@ -68,8 +67,7 @@ open-new-tells m pid v path at =
     (quiet-opens_file pid file k (let g = length_push m.kernel.files.all (Some (record { bytes = []; holders = 0 })) in omega arith))))
   where
     free : (o : Option ℕ) → is_some o ≡ false → o ≡ None
-    free None e = refl
-    free (Some x) e = absurd (cc)
+    free o h1 = grind (arith, nat_tests)
 
 pub open-tells : (m : Machine) (pid : ℕ) (v : View) → At m pid v OPEN → RequestTells m pid v OPEN (open_row m pid v)
 open-tells m pid v at =
@@ -84,8 +82,7 @@ open-tells m pid v at =
     (λ none. by_mode path (mode == 0))
   where
     by_mode : (path : List ℕ) (b : Bool) → RequestTells m pid v OPEN (if b then open_found m pid path (find_file m.kernel.files path) else open_new m pid path)
-    by_mode path true = open-found-tells m pid v path at (find_file m.kernel.files path) refl
-    by_mode path false = open-new-tells m pid v path at
+    by_mode path b = grind (arith, nat_tests, open-found-tells, open-new-tells)
 
 unlink-found-tells : (m : Machine) (pid : ℕ) (v : View) (path : List ℕ) → At m pid v UNLINK → (o : Option ℕ) → RequestTells m pid v UNLINK (unlink_found m path o)
 unlink-found-tells m pid v path at None = refused-tells m pid v UNLINK NO_FILE at refl refl
@@ -123,12 +120,7 @@ seek-in-tells m pid v n position at (description.File file old) e =
     done-plain m pid v SEEK position extra.Nothing k at (record { told = refl; length = refl; life = refl; put = refl; gives = refl }) refl
     (quiet-with_description n (description.File file position) m.kernel
     (λ s o f. record { made = lies.made; inside = within-len (file_bytes m.kernel.files file) position none.0 })))
-seek-in-tells m pid v n position at description.Console e = refused-tells m pid v SEEK BAD_ARGUMENT at refl refl
-seek-in-tells m pid v n position at (description.Reader pipe) e = refused-tells m pid v SEEK BAD_ARGUMENT at refl refl
-seek-in-tells m pid v n position at (description.Writer pipe) e = refused-tells m pid v SEEK BAD_ARGUMENT at refl refl
-seek-in-tells m pid v n position at (description.Connection reads writes) e = refused-tells m pid v SEEK BAD_ARGUMENT at refl refl
-seek-in-tells m pid v n position at (description.Listener port) e = refused-tells m pid v SEEK BAD_ARGUMENT at refl refl
-seek-in-tells m pid v n position at (description.Device device) e = refused-tells m pid v SEEK BAD_ARGUMENT at refl refl
+seek-in-tells m pid v n position at _ e = refused-tells m pid v SEEK BAD_ARGUMENT at refl refl
 
 seek-what-tells : (m : Machine) (pid : ℕ) (v : View) (n position : ℕ) → At m pid v SEEK → (o : Option Description) → what_is m.kernel n ≡ o → RequestTells m pid v SEEK (seek_what m n position o)
 seek-what-tells m pid v n position at None e = refused-tells m pid v SEEK BAD_DESCRIPTOR at refl refl

@@ -1,4 +1,5 @@
 -- What every row comes to, told by one walk over the table of calls.
+use Rattle.std.proofs.lemmas.Grind.{common_steps}
 use Rattle.std.proofs.Common.{◌≡◌, ℕ, ◌≤◌, ◌==◌, Bool, true, false, cond, List, [], ◌∷◌, Option, None, Some, refl, subst, arith}
 use Rattle.std.proofs.lemmas.Bool.Decides.{nat_tests}
 use Rattle.arn_base.specs.declared.records.Extra.{Extra}
@@ -22,14 +23,13 @@ use Rattle.parts_model.specs.Tagged.{values}
 use Rattle.acts_model.specs.Bodies.{View}
 use Rattle.acts_model.specs.Moved.{KernelByte}
 use Rattle.acts_model.specs.Views.{argument, call_number}
-use Rattle.arn_model.specs.ChannelCalls.{device_opened, pipe_row, listen_row, connect_row, accept_at, accept_conn, device_row}
+use Rattle.arn_model.specs.ChannelCalls.{device_opened, accept_at, accept_conn, device_row}
 use Rattle.arn_model.specs.Doing.{Doing, Question, Here, Reads, Writes, Request, Waits, Does, Asks, Refusal, refused, unless_refused}
-use Rattle.arn_model.specs.FileCalls.{open_row, open_found, open_new, unlink_row, unlink_found, seek_in, seek_what, seek_opened, close_opened, dup_opened}
+use Rattle.arn_model.specs.FileCalls.{open_row, open_found, open_new, unlink_found, seek_in, seek_what, seek_opened, close_opened, dup_opened}
 use Rattle.arn_model.specs.Kernel.{Kernel, Machine, description_of, what_is, opened, placed, opens, closes, ended, forked}
 use Rattle.arn_model.specs.Paths.{path_of}
-use Rattle.arn_model.specs.ProcessCalls.{child_extra, exit_row, fork_row, exec_row, exec_file, exec_bytes, wait_row, wait_child, wait_status}
+use Rattle.arn_model.specs.ProcessCalls.{child_extra, fork_row, exec_file, exec_bytes, wait_child, wait_status}
 use Rattle.arn_model.specs.Row.{row, request, is_built, answered, does}
-use Rattle.arn_model.specs.SignalCalls.{kill_row, sigaction_row, sigreturn_row, shm_row}
 use Rattle.arn_model.specs.TransferCalls.{cut, device_read, device_write, if_moving, read_opened, read_what, read_from_what, read_console, received, read_pipe, read_queue, read_empty, unless_unplugged, write_opened, write_what, write_to_what, write_pipe, write_room}
 
 -- what a kernel's change of the table of processes leaves, in a call of this number
@@ -92,9 +92,6 @@ module _ (n : ℕ) (P : Processes → Type 0) (keeps : Keeps n P) where
       if-Fine r.applies (refused r.number k) (unless_refused k refusals goes_on) (refused-Fine r.number k few) (unless_refused-Fine k refusals goes_on few is)
 
   -- calls on processes
-  exit-Fine : (m : Machine) (pid : ℕ) (v : View) → P m.kernel.processes → Fine n P (exit_row m pid v)
-  exit-Fine m pid v few = search (few, keeps.after_ended, tt, does-Fine)
-
   child-starts : (n == FORK) ≡ true → (segment : Option ℕ) (v : View) → StartsByFork n (child_extra segment v)
   child-starts fork None v = fork
   child-starts fork (Some made) v = tt
@@ -111,9 +108,6 @@ module _ (n : ℕ) (P : Processes → Type 0) (keeps : Keeps n P) where
   exec_file-Fine m pid v None few = search (few, tt, does-Fine)
   exec_file-Fine m pid v (Some file) few = exec_bytes-Fine m pid v file (file_bytes m.kernel.files file) few
 
-  exec-Fine : (m : Machine) (pid : ℕ) (v : View) → P m.kernel.processes → Fine n P (exec_row m pid v)
-  exec-Fine m pid v few = search (few, exec_file-Fine, unless_refused-Fine)
-
   wait_status-Fine : (m : Machine) (v : View) (child : ℕ) (o : Option TaggedByte) → P m.kernel.processes → Fine n P (wait_status m v child o)
   wait_status-Fine m v child None few = waits-Fine
   wait_status-Fine m v child (Some status) few = search (few, keeps.after_reaped, tt, does-Fine)
@@ -121,22 +115,6 @@ module _ (n : ℕ) (P : Processes → Type 0) (keeps : Keeps n P) where
   wait_child-Fine : (m : Machine) (v : View) (pids : List ℕ) → P m.kernel.processes → Fine n P (wait_child m v pids)
   wait_child-Fine m v [] few = waits-Fine
   wait_child-Fine m v (child ∷ more) few = wait_status-Fine m v child (table.status_of m.kernel.processes child) few
-
-  wait-Fine : (m : Machine) (pid : ℕ) (v : View) → P m.kernel.processes → Fine n P (wait_row m pid v)
-  wait-Fine m pid v few = search (few, wait_child-Fine, unless_refused-Fine)
-
-  -- calls on signals and segments
-  kill-Fine : (m : Machine) (pid : ℕ) (v : View) → P m.kernel.processes → Fine n P (kill_row m pid v)
-  kill-Fine m pid v few = search (few, tt, does-Fine, unless_refused-Fine)
-
-  sigaction-Fine : (m : Machine) (pid : ℕ) (v : View) → P m.kernel.processes → Fine n P (sigaction_row m pid v)
-  sigaction-Fine m pid v few = search (few, tt, does-Fine, unless_refused-Fine)
-
-  sigreturn-Fine : (m : Machine) (pid : ℕ) (v : View) → P m.kernel.processes → Fine n P (sigreturn_row m pid v)
-  sigreturn-Fine m pid v few = search (few, tt, does-Fine, unless_refused-Fine)
-
-  shm-Fine : (m : Machine) (pid : ℕ) (v : View) → P m.kernel.processes → Fine n P (shm_row m pid v)
-  shm-Fine m pid v few = search (few, tt, does-Fine, unless_refused-Fine)
 
   -- calls on names and descriptors
   open_found-Fine : (m : Machine) (pid : ℕ) (path : List ℕ) (o : Option ℕ) → P m.kernel.processes → Fine n P (open_found m pid path o)
@@ -156,9 +134,6 @@ module _ (n : ℕ) (P : Processes → Type 0) (keeps : Keeps n P) where
   unlink_found-Fine : (m : Machine) (path : List ℕ) (o : Option ℕ) → P m.kernel.processes → Fine n P (unlink_found m path o)
   unlink_found-Fine m path None few = search (few, tt, does-Fine)
   unlink_found-Fine m path (Some file) few = search (few, tt, does-Fine)
-
-  unlink-Fine : (m : Machine) (pid : ℕ) (v : View) → P m.kernel.processes → Fine n P (unlink_row m pid v)
-  unlink-Fine m pid v few = search (few, unlink_found-Fine, unless_refused-Fine)
 
   seek_in-Fine : (m : Machine) (d position : ℕ) (what : Description) → P m.kernel.processes → Fine n P (seek_in m d position what)
   seek_in-Fine m d position (description.File file old) few = search (few, tt, does-Fine, unless_refused-Fine)
@@ -213,12 +188,7 @@ module _ (n : ℕ) (P : Processes → Type 0) (keeps : Keeps n P) where
 
   read_from_what-Fine : (m : Machine) (v : View) (d at count : ℕ) (what : Description) → P m.kernel.processes → Fine n P (read_from_what m v d at count what)
   unfolding FineQuestion
-  read_from_what-Fine m v d at count description.Console few = search (few, read_console-Fine, if_moving-Fine)
-  read_from_what-Fine m v d at count (description.File file position) few = search (few, received-Fine, if_moving-Fine)
-  read_from_what-Fine m v d at count (description.Reader pipe) few = search (few, read_pipe-Fine, if_moving-Fine)
-  read_from_what-Fine m v d at count (description.Connection reads writes) few = search (few, read_pipe-Fine, if_moving-Fine)
-  read_from_what-Fine m v d at count (description.Device device) few = if_moving-Fine m v at count _ few (unless_unplugged-Fine m device _ (cut-few count) few)
-  read_from_what-Fine m v d at count other few = search (few, tt, does-Fine)
+  read_from_what-Fine m v d at count what h1 = grind (arith, common_steps, nat_tests, read_console-Fine, if_moving-Fine, received-Fine, read_pipe-Fine, unless_unplugged-Fine, cut-few, does-Fine)
 
   read_what-Fine : (m : Machine) (v : View) (d at count : ℕ) (o : Option Description) → P m.kernel.processes → Fine n P (read_what m v d at count o)
   read_what-Fine m v d at count None few = search (few, tt, does-Fine)
@@ -248,15 +218,6 @@ module _ (n : ℕ) (P : Processes → Type 0) (keeps : Keeps n P) where
   write_opened-Fine m v at count (Some d) few = write_what-Fine m v d at count (what_is m.kernel d) few
 
   -- calls that make channels
-  pipe-Fine : (m : Machine) (pid : ℕ) (v : View) → P m.kernel.processes → Fine n P (pipe_row m pid v)
-  pipe-Fine m pid v few = search (few, keeps.after_opens, tt, does-Fine, unless_refused-Fine)
-
-  listen-Fine : (m : Machine) (pid : ℕ) (v : View) → P m.kernel.processes → Fine n P (listen_row m pid v)
-  listen-Fine m pid v few = search (few, keeps.after_opens, tt, does-Fine, unless_refused-Fine)
-
-  connect-Fine : (m : Machine) (pid : ℕ) (v : View) → P m.kernel.processes → Fine n P (connect_row m pid v)
-  connect-Fine m pid v few = search (few, keeps.after_opens, tt, does-Fine, unless_refused-Fine)
-
   accept_conn-Fine : (m : Machine) (pid port : ℕ) (o : Option Conn) → P m.kernel.processes → Fine n P (accept_conn m pid port o)
   accept_conn-Fine m pid port None few = waits-Fine
   accept_conn-Fine m pid port (Some conn) few = search (few, keeps.after_opens, tt, does-Fine)
@@ -271,25 +232,25 @@ module _ (n : ℕ) (P : Processes → Type 0) (keeps : Keeps n P) where
   pub row-Fine : (m : Machine) (pid : ℕ) (v : View) → P m.kernel.processes → Fine n P (row n m pid v)
   unfolding row
   row-Fine m pid v few =
-      if-Fine (n == EXIT) _ _ (exit-Fine m pid v few)
+      if-Fine (n == EXIT) _ _ (search (few, keeps.after_ended, tt, does-Fine))
       (where-Fine (n == FORK) _ _ (fork-Fine m pid v few)
-      (if-Fine (n == EXEC) _ _ (exec-Fine m pid v few)
-      (if-Fine (n == WAIT) _ _ (wait-Fine m pid v few)
+      (if-Fine (n == EXEC) _ _ (search (few, exec_file-Fine, unless_refused-Fine))
+      (if-Fine (n == WAIT) _ _ (search (few, wait_child-Fine, unless_refused-Fine))
       (if-Fine (n == GETPID) _ _ (search (few, tt, does-Fine))
-      (if-Fine (n == KILL) _ _ (kill-Fine m pid v few)
-      (if-Fine (n == SIGACTION) _ _ (sigaction-Fine m pid v few)
-      (if-Fine (n == SIGRETURN) _ _ (sigreturn-Fine m pid v few)
+      (if-Fine (n == KILL) _ _ (search (few, tt, does-Fine, unless_refused-Fine))
+      (if-Fine (n == SIGACTION) _ _ (search (few, tt, does-Fine, unless_refused-Fine))
+      (if-Fine (n == SIGRETURN) _ _ (search (few, tt, does-Fine, unless_refused-Fine))
       (if-Fine (n == OPEN) _ _ (open-Fine m pid v few)
       (if-Fine (n == CLOSE) _ _ (close_opened-Fine m pid (argument v.body.cpu 0) (description_of m.kernel pid (argument v.body.cpu 0)) few)
       (if-Fine (n == READ) _ _ (read_opened-Fine m v (argument v.body.cpu 1) (argument v.body.cpu 2) (description_of m.kernel pid (argument v.body.cpu 0)) few)
       (if-Fine (n == WRITE) _ _ (write_opened-Fine m v (argument v.body.cpu 1) (argument v.body.cpu 2) (description_of m.kernel pid (argument v.body.cpu 0)) few)
       (if-Fine (n == SEEK) _ _ (seek_opened-Fine m (argument v.body.cpu 1) (description_of m.kernel pid (argument v.body.cpu 0)) few)
       (if-Fine (n == DUP) _ _ (dup_opened-Fine m pid (description_of m.kernel pid (argument v.body.cpu 0)) few)
-      (if-Fine (n == PIPE) _ _ (pipe-Fine m pid v few)
-      (if-Fine (n == UNLINK) _ _ (unlink-Fine m pid v few)
-      (if-Fine (n == SHM) _ _ (shm-Fine m pid v few)
-      (if-Fine (n == LISTEN) _ _ (listen-Fine m pid v few)
-      (if-Fine (n == CONNECT) _ _ (connect-Fine m pid v few)
+      (if-Fine (n == PIPE) _ _ (search (few, keeps.after_opens, tt, does-Fine, unless_refused-Fine))
+      (if-Fine (n == UNLINK) _ _ (search (few, unlink_found-Fine, unless_refused-Fine))
+      (if-Fine (n == SHM) _ _ (search (few, tt, does-Fine, unless_refused-Fine))
+      (if-Fine (n == LISTEN) _ _ (search (few, keeps.after_opens, tt, does-Fine, unless_refused-Fine))
+      (if-Fine (n == CONNECT) _ _ (search (few, keeps.after_opens, tt, does-Fine, unless_refused-Fine))
       (if-Fine (n == ACCEPT) _ _ (accept_at-Fine m pid (opened m.kernel pid (argument v.body.cpu 0)) few)
       (where-Fine (n == DEVICE) _ _ (device-Fine m pid v few)
       (if-Fine (n == YIELD) _ _ (search (few, tt, does-Fine)) (search (few, tt, does-Fine)))))))))))))))))))))))

@@ -1,5 +1,6 @@
 -- No memory has more bytes than a private window, and who has a body lives: every act and instruction keeps this.
-use Rattle.std.proofs.Common.{◌≡◌, ℕ, ◌+◌, ◌-◌, ◌≤◌, List, [], ◌∷◌, ◌++◌, length, take, drop, refl, ap, ◌∙◌, sym, subst, Option, Some, None, unwrap_or, Bool, true, false, ◌==◌, if◌then◌else◌, arith, nat_le, is_some, length-take, length-drop, length-append, length-take-le}
+use Rattle.std.proofs.lemmas.Grind.{common_steps}
+use Rattle.std.proofs.Common.{◌≡◌, ℕ, ◌+◌, ◌-◌, ◌≤◌, List, [], ◌∷◌, length, refl, ap, ◌∙◌, sym, subst, Option, Some, None, unwrap_or, Bool, true, false, ◌==◌, if◌then◌else◌, arith, is_some, length-take, length-drop, length-append, length-take-le}
 use Rattle.std.proofs.lemmas.Bool.Decides.{nat_tests}
 use Rattle.std.proofs.lemmas.Bool.{eqb-true, eq-eqb, and_parts, leb-true}
 use Rattle.std.proofs.lemmas.List.{length-replicate}
@@ -8,14 +9,14 @@ use Rattle.arn_base.specs.declared.machine.Cpu.{Cpu}
 use Rattle.arn_base.specs.Window.{Window, is_whole_in, window_bytes, window_with, bytes_at, with_bytes}
 use Rattle.rv64_isa.specs.declared.instruction.Instr.{Instr}
 use Rattle.rv64_isa.specs.Decoded.{decoded}
-use Rattle.rv64_model.specs.Instruction.{Effect, Next, Call, End, jumps, branches, loads, stores, executed, executed_if, fetched}
-use Rattle.parts_model.specs.declared.limits.TheConstants.{WINDOW_START, WINDOW_LEN, SEGMENT_LEN}
+use Rattle.rv64_model.specs.Instruction.{Effect, Next, jumps, branches, loads, stores, executed, executed_if, fetched}
+use Rattle.parts_model.specs.declared.limits.TheConstants.{WINDOW_LEN, SEGMENT_LEN}
 use Rattle.parts_model.specs.Image.{Image, read_as_image}
 use Rattle.parts_model.specs.Memory.{zeros}
-use Rattle.acts_model.specs.Acts.{Act, Returns, Receives, Gives, Starts, Forks, Founds, Shares, Leaves, Delivers, Exits, Faults, Dies, acted, restored, started, with_fresh_segment, beginning_of, child_view, done, done_by, joined, founded}
+use Rattle.acts_model.specs.Acts.{Act, Returns, Receives, Gives, Starts, Forks, Founds, Shares, Leaves, Exits, Faults, Dies, acted, restored, started, with_fresh_segment, beginning_of, child_view, done, done_by, joined, founded}
 use Rattle.acts_model.specs.Bodies.{Bodies, View, body_at, memory_at, segment_bytes, seen, put, remove, become, laid_segment}
 use Rattle.acts_model.specs.Records.{lives_after}
-use Rattle.acts_model.specs.Views.{reach, read, with_reach, written, stands_at, with_result, among_zeros, block_at, after_instr}
+use Rattle.acts_model.specs.Views.{reach, read, with_reach, written, stands_at, with_result, after_instr}
 use Rattle.arn_model.proofs.Calling.{life_by}
 use Rattle.arn_model.proofs.Effects.{eq-swap}
 use Rattle.arn_model.proofs.Places.{put-body, put-memory, remove-body, remove-memory}
@@ -35,50 +36,33 @@ reach-small : (v : View) → SmallView v → AllSmall (reach v)
 reach-small v h1 = grind (arith, nat_tests)
 
 overwritten-len : (old : List ℕ) (at : ℕ) (bytes : List ℕ) → at + length bytes ≤ length old → length (overwrite old at bytes) ≡ length old
-overwritten-len old at bytes l =
-    let a = length-take-le at old (omega arith) in
-    let b = length-append (take at old) bytes in
-    let c = length-append (take at old ++ bytes) (drop (at + length bytes) old) in
-    let d = length-drop (at + length bytes) old in
-    omega arith
+overwritten-len old at bytes h1 = grind (arith, common_steps, nat_tests, length-take-le, length-append, length-drop)
 
 with-small : (ws : List Window) (at : ℕ) (bytes : List ℕ) → AllSmall ws → AllSmall (with_bytes ws at bytes)
 with-small [] at bytes h = tt
 with-small (w ∷ ws) at bytes h = by_test (is_whole_in w at (length bytes)) refl (with-small ws at bytes h.1)
   where
     by_test : (b : Bool) → is_whole_in w at (length bytes) ≡ b → AllSmall (with_bytes ws at bytes) → AllSmall (if b then window_with w at bytes ∷ ws else w ∷ with_bytes ws at bytes)
-    by_test true t ih =
-        let parts = and_parts (nat_le w.from at) (nat_le (at + length bytes) (w.from + length w.bytes)) t in
-        let x = leb-true w.from at parts.0 in
-        let y = leb-true (at + length bytes) (w.from + length w.bytes) parts.1 in
-        let e = overwritten-len w.bytes (at - w.from) bytes (omega arith) in
-        let small = h.0 in
-        (omega arith, h.1)
-    by_test false t ih = (h.0, ih)
+    by_test b h1 h2 = grind (arith, nat_tests, and_parts, leb-true, overwritten-len)
 
 with_reach-small : (ws : List Window) (v : View) → AllSmall ws → SmallView v → SmallView (with_reach ws v)
 with_reach-small ws v h1 h2 = grind (arith, nat_tests)
 
 window-small : (w : Window) (at len : ℕ) → IsSmall w.bytes → IsSmall (window_bytes w at len)
-window-small w at len h =
-    let a = length-take len (drop (at - w.from) w.bytes) in
-    let b = length-drop (at - w.from) w.bytes in
-    omega arith
+window-small w at len h1 = grind (arith, common_steps, nat_tests, length-take, length-drop)
 
 found-small : (ws : List Window) (at len : ℕ) → AllSmall ws → IsSmall (unwrap_or (bytes_at ws at len) [])
 found-small [] at len h = omega arith
 found-small (w ∷ ws) at len h = by_test (is_whole_in w at len) (found-small ws at len h.1)
   where
     by_test : (b : Bool) → IsSmall (unwrap_or (bytes_at ws at len) []) → IsSmall (unwrap_or (if b then Some (window_bytes w at len) else bytes_at ws at len) [])
-    by_test true ih = window-small w at len h.0
-    by_test false ih = ih
+    by_test b h1 = grind (arith, nat_tests, window-small)
 
 -- instructions
 
 abbrev SmallEffect : Effect → Type 0
 SmallEffect (Next instr cpu memory) = AllSmall memory
-SmallEffect Call = Unit {0}
-SmallEffect (End status) = Unit {0}
+SmallEffect _ = Unit {0}
 
 jumps-small : (instr : Instr) (cpu : Cpu) (ws : List Window) (rd target : ℕ) → AllSmall ws → SmallEffect (jumps instr cpu ws rd target)
 jumps-small instr cpu ws rd target h1 = grind (arith, nat_tests)
@@ -111,11 +95,7 @@ advanced-small v instr cpu memory h1 h2 = grind (arith, nat_tests, fetched-small
 -- acts
 
 started-small : (event : ℕ) (image : Image) (block : List ℕ) → IsSmall block → SmallView (started event image block)
-started-small event image block h =
-    let zeroed = among_zeros WINDOW_LEN (image.load - WINDOW_START) image.body in
-    let a = length-take (block_at (length block) - WINDOW_START) zeroed in
-    let b = length-append (take (block_at (length block) - WINDOW_START) zeroed) block in
-    record { window = omega arith; segment = omega arith }
+started-small event image block h1 = grind (arith, common_steps, nat_tests, length-take, length-append)
 
 fresh-small : (event : ℕ) (v : View) → SmallView v → SmallView (with_fresh_segment event v)
 unfolding zeros
@@ -130,19 +110,15 @@ SmallIf None = Unit {0}
 SmallIf (Some v) = SmallView v
 
 acted-small : (event : ℕ) (act : Act) (v : View) → SmallView v → SmallIf (acted event act v)
-acted-small event (Returns result) v s = record { window = s.window; segment = s.segment }
 acted-small event (Receives at bytes result) v s =
     let w = with_reach-small (with_bytes (reach v) at bytes) v (with-small (reach v) at bytes (reach-small v s)) s in record { window = w.window; segment = w.segment }
-acted-small event (Gives at len result) v s = record { window = s.window; segment = s.segment }
 acted-small event (Starts file block block_len) v s = started-small event (read_as_image file) (read v block block_len) (found-small (reach v) block block_len (reach-small v s))
-acted-small event (Forks child) v s = record { window = s.window; segment = s.segment }
-acted-small event (Founds child) v s = record { window = s.window; segment = s.segment }
 acted-small event Shares v s = let w = fresh-small event v s in record { window = w.window; segment = w.segment }
 acted-small event Leaves v s = restored-small v.body.slot v s
-acted-small event (Delivers signal handler cut) v s = record { window = s.window; segment = s.segment }
 acted-small event Exits v s = tt
 acted-small event (Faults status) v s = tt
 acted-small event (Dies signal cut) v s = tt
+acted-small event _ v s = record { window = s.window; segment = s.segment }
 
 -- bodies
 
@@ -211,9 +187,7 @@ after-fits pid event act v b living h e =
     by_act (Starts file block block_len) s = fit-put b living living pid (started event (read_as_image file) (read v block block_len)) h there.0 (λ q g. refl) s
     by_act (Forks child) s = forked child v.body.segment v.segment (there.1.segment) s
     by_act (Founds child) s = forked child None [] (omega arith) s
-    by_act Shares s = fit-put b living living pid _ h there.0 (λ q g. refl) s
-    by_act Leaves s = fit-put b living living pid _ h there.0 (λ q g. refl) s
-    by_act (Delivers signal handler cut) s = fit-put b living living pid _ h there.0 (λ q g. refl) s
     by_act Exits s = removed
     by_act (Faults status) s = removed
     by_act (Dies signal cut) s = removed
+    by_act _ s = fit-put b living living pid _ h there.0 (λ q g. refl) s

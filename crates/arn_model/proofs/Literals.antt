@@ -1,5 +1,5 @@
 -- Small machines and views, for examples.
-use Rattle.std.proofs.Common.{ℕ, ◌+◌, ◌-◌, List, [], ◌∷◌, ◌++◌, take, Option, Some, None}
+use Rattle.std.proofs.Common.{ℕ, ◌+◌, ◌-◌, List, [], ◌∷◌, ◌++◌, map, take, Option, Some, None, true}
 use Rattle.arn_base.specs.declared.machine.Cpu.{Cpu}
 use Rattle.arn_base.specs.declared.records.Extra.TheVariants as extra
 use Rattle.parts_model.specs.declared.open.Description.{Description}
@@ -7,14 +7,16 @@ use Rattle.parts_model.specs.declared.open.Description.TheVariants.{Console}
 use Rattle.parts_model.specs.declared.tagged.TaggedByte.{TaggedByte}
 use Rattle.parts_model.specs.Files.{Files}
 use Rattle.parts_model.specs.Processes.{Process, Processes, Live, none_open}
-use Rattle.parts_model.specs.Signals.{no_handlers, none_pending}
+use Rattle.parts_model.specs.Signals.{with_handler, with_pending, no_handlers, none_pending}
 use Rattle.rv64_model.specs.Registers.{with_register}
 use Rattle.acts_model.specs.Acts.{Returns}
-use Rattle.acts_model.specs.Bodies.{View, nobody}
+use Rattle.acts_model.specs.Bodies.{View, nobody, put}
 use Rattle.acts_model.specs.Moved.{Nothing}
+use Rattle.acts_model.specs.Transfers.{Transfer}
 use Rattle.acts_model.specs.Views.{cpu_at}
-use Rattle.arn_model.specs.Doing.{Doing, Request, Waits, Does, Asks}
+use Rattle.arn_model.specs.Doing.{Doing, Request, Does}
 use Rattle.arn_model.specs.Kernel.{Handling, Opened, Kernel, Machine}
+use Rattle.arn_model.specs.Step.{Step}
 
 -- an error as a result
 abbrev pub minus : ℕ → ℕ
@@ -104,6 +106,28 @@ results result k = Does (record { act = Returns result; extra = extra.Nothing; i
 
 -- what a call does, where it does something without a question
 abbrev pub doing_in : Request → Option Doing
-doing_in Waits = None
 doing_in (Does d) = Some d
-doing_in (Asks question) = None
+doing_in _ = None
+
+-- `li a7, 1; li a0, 7; ecall`
+abbrev pub exit_7 : List ℕ
+exit_7 = 0x93 ∷ 0x08 ∷ 0x10 ∷ 0x00 ∷ 0x13 ∷ 0x05 ∷ 0x70 ∷ 0x00 ∷ 0x73 ∷ 0x00 ∷ 0x00 ∷ 0x00 ∷ []
+
+-- process 1 alone, before event 5, with a window of these bytes and these registers, its slot and its handling
+abbrev pub standing : List ℕ → Cpu → Option Cpu → Handling → Kernel → Machine
+standing bytes cpu slot handling k =
+    record {
+      bodies = put 1 (record { body = record { cpu = cpu; slot = slot; window = 1; segment = None }; window = bytes; segment = [] }) nobody;
+      kernel = record k { handling = Some handling ∷ [] };
+      events = 5;
+    }
+
+abbrev pub calm : Handling
+calm = record { handlers = no_handlers; pending = none_pending }
+
+-- signal 2 is pending, with a handler or without one
+abbrev pub signalled : ℕ → Handling
+signalled handler = record { handlers = with_handler no_handlers 2 handler; pending = with_pending none_pending 2 true }
+
+abbrev pub transfers : List Step → List Transfer
+transfers steps = map (λ s. s.moved.inside.transfer) steps

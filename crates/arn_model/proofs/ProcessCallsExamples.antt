@@ -155,56 +155,34 @@ executed block block_len =
       kernel = record with_image { handling = Some (record { handlers = no_handlers; pending = with_pending none_pending 3 true }) ∷ [] };
     })
 
-executes : row 3 (at_event_5 with_image) 1 (calling (0x10001 ∷ 1 ∷ 0x10002 ∷ 3 ∷ [])) ≡ executed 0x10002 3
+exec-edges :
+    (row 3 (at_event_5 with_image) 1 (calling (0x10001 ∷ 1 ∷ 0x10002 ∷ 3 ∷ [])) ≡ executed 0x10002 3)
+    -- a block of length 0 isn't looked at
+    × (row 3 (at_event_5 with_image) 1 (calling (0x10001 ∷ 1 ∷ 0 ∷ 0 ∷ [])) ≡ executed 0 0)
+    -- -22 before -14: an empty path at no address; a block that is too long, with a path at no address
+    × (row 3 (at_event_5 kernel) 1 (calling (0 ∷ 0 ∷ 0 ∷ 0 ∷ [])) ≡ results (minus 22) kernel)
+    × (row 3 (at_event_5 kernel) 1 (calling (0 ∷ 65 ∷ 0 ∷ 0 ∷ [])) ≡ results (minus 22) kernel)
+    × (row 3 (at_event_5 kernel) 1 (calling (0 ∷ 1 ∷ 0 ∷ 4097 ∷ [])) ≡ results (minus 22) kernel)
 unfolding row signalled with_image image executed
-executes = refl
-
--- a block of length 0 isn't looked at
-executes-no-block : row 3 (at_event_5 with_image) 1 (calling (0x10001 ∷ 1 ∷ 0 ∷ 0 ∷ [])) ≡ executed 0 0
-unfolding row signalled with_image image executed
-executes-no-block = refl
-
--- -22 before -14: an empty path at no address; a block that is too long, with a path at no address
-exec-empty-path : row 3 (at_event_5 kernel) 1 (calling (0 ∷ 0 ∷ 0 ∷ 0 ∷ [])) ≡ results (minus 22) kernel
-unfolding row
-exec-empty-path = refl
-
-exec-long-path : row 3 (at_event_5 kernel) 1 (calling (0 ∷ 65 ∷ 0 ∷ 0 ∷ [])) ≡ results (minus 22) kernel
-unfolding row
-exec-long-path = refl
-
-exec-long-block : row 3 (at_event_5 kernel) 1 (calling (0 ∷ 1 ∷ 0 ∷ 4097 ∷ [])) ≡ results (minus 22) kernel
-unfolding row
-exec-long-block = refl
+exec-edges = (refl, refl, refl, refl, refl)
 
 -- -14 for the path; for the block before -2, where there is no file `ab`, and before -8, where file `a` is no image
-exec-no-path : row 3 (at_event_5 kernel) 1 (calling (0x10007 ∷ 2 ∷ 0 ∷ 0 ∷ [])) ≡ results (minus 14) kernel
+exec-no :
+    (row 3 (at_event_5 kernel) 1 (calling (0x10007 ∷ 2 ∷ 0 ∷ 0 ∷ [])) ≡ results (minus 14) kernel)
+    × (row 3 (at_event_5 kernel) 1 (calling (0x10000 ∷ 2 ∷ 0x10007 ∷ 2 ∷ [])) ≡ results (minus 14) kernel)
+    × (row 3 (at_event_5 kernel) 1 (calling (0x10000 ∷ 1 ∷ 0x10007 ∷ 2 ∷ [])) ≡ results (minus 14) kernel)
+    × (row 3 (at_event_5 kernel) 1 (calling (0x10000 ∷ 2 ∷ 0 ∷ 0 ∷ [])) ≡ results (minus 2) kernel)
+    × (row 3 (at_event_5 kernel) 1 (calling (0x10000 ∷ 1 ∷ 0 ∷ 0 ∷ [])) ≡ results (minus 8) kernel)
 unfolding row
-exec-no-path = refl
-
-exec-no-block : row 3 (at_event_5 kernel) 1 (calling (0x10000 ∷ 2 ∷ 0x10007 ∷ 2 ∷ [])) ≡ results (minus 14) kernel
-unfolding row
-exec-no-block = refl
-
-exec-no-block-no-image : row 3 (at_event_5 kernel) 1 (calling (0x10000 ∷ 1 ∷ 0x10007 ∷ 2 ∷ [])) ≡ results (minus 14) kernel
-unfolding row
-exec-no-block-no-image = refl
-
-exec-no-file : row 3 (at_event_5 kernel) 1 (calling (0x10000 ∷ 2 ∷ 0 ∷ 0 ∷ [])) ≡ results (minus 2) kernel
-unfolding row
-exec-no-file = refl
-
-exec-no-image : row 3 (at_event_5 kernel) 1 (calling (0x10000 ∷ 1 ∷ 0 ∷ 0 ∷ [])) ≡ results (minus 8) kernel
-unfolding row
-exec-no-image = refl
+exec-no = (refl, refl, refl, refl, refl)
 
 -- wait: children 2, 3 and 4, of which 3 and 4 have ended
 three_children : Kernel
 three_children = record kernel { processes = living None [] ∷ living (Some 1) [] ∷ waiting 30 ∷ waiting 40 ∷ [] }
 
 -- the lowest ended child
-waits-lowest :
-    row 4 (at_event_5 three_children) 1 (calling (0x10007 ∷ [])) ≡
+wait-ended :
+    (row 4 (at_event_5 three_children) 1 (calling (0x10007 ∷ [])) ≡
     Does (record {
       act = Receives 0x10007 (30 ∷ []) 3;
       extra = extra.Give (record { bytes = 30 ∷ []; origins = record { event = 5; at = 0; len = 1 } ∷ [] });
@@ -212,45 +190,29 @@ waits-lowest :
       outgoing = None;
       bytes = 30 ∷ [];
       kernel = record kernel { processes = living None [] ∷ living (Some 1) [] ∷ None ∷ waiting 40 ∷ [] };
-    })
+    }))
+    -- -10 before -14; -14 before it isn't ready, and where a child has ended
+    × (row 4 (at_event_5 kernel) 1 (calling (0 ∷ [])) ≡ results (minus 10) kernel)
 unfolding row three_children waiting
-waits-lowest = refl
-
--- -10 before -14; -14 before it isn't ready, and where a child has ended
-wait-no-child : row 4 (at_event_5 kernel) 1 (calling (0 ∷ [])) ≡ results (minus 10) kernel
-unfolding row
-wait-no-child = refl
+wait-ended = (refl, refl)
 
 one_living : Kernel
 one_living = record kernel { processes = living None [] ∷ living (Some 1) [] ∷ [] }
 
-wait-nowhere : row 4 (at_event_5 one_living) 1 (calling (0x10008 ∷ [])) ≡ results (minus 14) one_living
-unfolding row one_living
-wait-nowhere = refl
-
-wait-nowhere-ended : row 4 (at_event_5 three_children) 1 (calling (0x10008 ∷ [])) ≡ results (minus 14) three_children
-unfolding row three_children waiting
-wait-nowhere-ended = refl
-
--- it isn't ready while all children live
-wait-living : row 4 (at_event_5 one_living) 1 (calling (0x10007 ∷ [])) ≡ Waits
-unfolding row one_living
-wait-living = refl
-
--- getpid, yield
-gets-pid : row 5 (at_event_5 one_living) 2 (calling []) ≡ results 2 one_living
-unfolding row one_living
-gets-pid = refl
-
-yields : row 22 (at_event_5 kernel) 1 (calling (9 ∷ [])) ≡ results 0 kernel
-unfolding row
-yields = refl
+wait-living :
+    (row 4 (at_event_5 one_living) 1 (calling (0x10008 ∷ [])) ≡ results (minus 14) one_living)
+    × (row 4 (at_event_5 three_children) 1 (calling (0x10008 ∷ [])) ≡ results (minus 14) three_children)
+    -- it isn't ready while all children live
+    × (row 4 (at_event_5 one_living) 1 (calling (0x10007 ∷ [])) ≡ Waits)
+    -- getpid, yield
+    × (row 5 (at_event_5 one_living) 2 (calling []) ≡ results 2 one_living)
+    × (row 22 (at_event_5 kernel) 1 (calling (9 ∷ [])) ≡ results 0 kernel)
+unfolding row one_living three_children waiting
+wait-living = (refl, refl, refl, refl, refl)
 
 -- there are no other calls
-no-call-0 : row 0 (at_event_5 kernel) 1 (calling []) ≡ results (minus 38) kernel
+no-call :
+    (row 0 (at_event_5 kernel) 1 (calling []) ≡ results (minus 38) kernel)
+    × (row 23 (at_event_5 kernel) 1 (calling []) ≡ results (minus 38) kernel)
 unfolding row
-no-call-0 = refl
-
-no-call-23 : row 23 (at_event_5 kernel) 1 (calling []) ≡ results (minus 38) kernel
-unfolding row
-no-call-23 = refl
+no-call = (refl, refl)

@@ -1,5 +1,5 @@
 -- What the calls on processes tell.
-use Rattle.std.proofs.Common.{◌≡◌, ℕ, zero, suc, ◌+◌, ◌%◌, ◌<◌, List, [], ◌∷◌, length, refl, ap, ap₂, ◌∙◌, sym, Option, Some, None, Bool, true, false, ◌==◌, ◌&&◌, ◌||◌, not, cond, if◌then◌else◌, arith, nat_lt, option_and_then, is_some, slice_get}
+use Rattle.std.proofs.Common.{◌≡◌, ℕ, ◌+◌, ◌%◌, ◌<◌, List, [], ◌∷◌, length, refl, ap, ap₂, ◌∙◌, sym, Option, Some, None, Bool, true, false, ◌==◌, ◌&&◌, ◌||◌, not, cond, if◌then◌else◌, arith, nat_lt, option_and_then, is_some, slice_get}
 use Rattle.std.proofs.lemmas.Bool.Decides.{nat_tests}
 use Rattle.std.proofs.lemmas.Bool.{lt-ltb, or_parts, or_from, not-false, eqb-true}
 use Rattle.std.proofs.lemmas.List.{length_push}
@@ -11,7 +11,7 @@ use Rattle.parts_model.specs.declared.tagged.TaggedByte.{TaggedByte}
 use Rattle.parts_model.specs.Files.{find_file, file_bytes}
 use Rattle.parts_model.specs.Image.{is_image}
 use Rattle.parts_model.specs.Processes as table
-use Rattle.parts_model.specs.Processes.{Process, Life, Live, Ended, process}
+use Rattle.parts_model.specs.Processes.{Process, Life, process}
 use Rattle.parts_model.specs.Replies.{is_success}
 use Rattle.parts_model.specs.Signals.{no_handlers}
 use Rattle.parts_model.specs.Tagged.{values, given}
@@ -23,7 +23,7 @@ use Rattle.acts_model.specs.Records.{BeginsLife, NoLife, NoName}
 use Rattle.acts_model.specs.Views.{argument, can_reach}
 use Rattle.arn_model.specs.Doing.{Doing, Does, refuse, refused}
 use Rattle.arn_model.specs.Kernel as kernel
-use Rattle.arn_model.specs.Kernel.{Kernel, Machine, status_at, also_held, all_also_held}
+use Rattle.arn_model.specs.Kernel.{Kernel, Machine, status_at}
 use Rattle.arn_model.specs.Paths.{isnt_path_len, path_of}
 use Rattle.arn_model.specs.ProcessCalls.{status_of, exit_row, child_act, child_extra, fork_row, exec_doing, exec_bytes, exec_file, exec_row, wait_status, wait_child, isnt_any, wait_row, getpid_row, yield_row}
 use Rattle.arn_model.specs.Tells.{lives, kernel_byte, HasNumbers}
@@ -31,6 +31,7 @@ use Rattle.arn_model.proofs.Quiet.{Quiet, quiet-refl, quiet-table}
 use Rattle.arn_model.proofs.Closing.{process-change, length-with_process, status_in, lives_in, quiet-with_handling}
 use Rattle.arn_model.proofs.Effects.{quiet-tells, ended-tells, forked-tells}
 use Rattle.arn_model.proofs.Calling.{DoneCall, At, RequestTells, done-call, done-plain, unless-refused, refused-tells}
+use Rattle.arn_model.proofs.FewDescriptors.{also_held-all}
 
 pub exit-tells : (m : Machine) (pid : ℕ) (v : View) → At m pid v EXIT → RequestTells m pid v EXIT (exit_row m pid v)
 exit-tells m pid v at =
@@ -41,13 +42,8 @@ exit-tells m pid v at =
     (ended-tells pid status m.events m.kernel)
 
 -- a child's number is no error where few processes have been made
-held-processes : (ns : List (Option ℕ)) (k : Kernel) → (all_also_held ns k).processes ≡ k.processes
-held-processes [] k = refl
-held-processes (None ∷ ns) k = held-processes ns k
-held-processes (Some n ∷ ns) k = held-processes ns (also_held n k)
-
 child-success : (pid : ℕ) (k : Kernel) → HasNumbers (kernel.forked pid k) → is_success (table.next_process k.processes) ≡ true
-child-success pid k h1 = grind (arith, nat_tests, held-processes, length_push, lt-ltb)
+child-success pid k h1 = grind (arith, nat_tests, also_held-all, length_push, lt-ltb)
 
 fork-doing : Machine → ℕ → View → Option ℕ → Doing
 fork-doing m pid v o = record { act = child_act o (table.next_process m.kernel.processes); extra = child_extra o v; incoming = Nothing; outgoing = None; bytes = []; kernel = kernel.forked pid m.kernel }
@@ -128,8 +124,7 @@ exec-file-tells m pid v at block (Some file) = by_bytes (file_bytes m.kernel.fil
     by_image held e false i = refused-tells m pid v EXEC NOT_IMAGE at refl refl
 
     by_bytes : (o : Option (List TaggedByte)) → file_bytes m.kernel.files file ≡ o → RequestTells m pid v EXEC (exec_bytes m pid v file o)
-    by_bytes None e = refused-tells m pid v EXEC NO_FILE at refl refl
-    by_bytes (Some held) e = by_image held e (is_image (values held)) refl
+    by_bytes o h1 = grind (arith, nat_tests, refused-tells, by_image)
 
 pub exec-tells : (m : Machine) (pid : ℕ) (v : View) → At m pid v EXEC → RequestTells m pid v EXEC (exec_row m pid v)
 exec-tells m pid v at =
@@ -164,20 +159,16 @@ reaped-quiet k child status e =
     change q = process-change (λ o. None) refl k.processes child q
 
     less : (b : Bool) (o : Option Process) (h : TaggedByte) → status_in (cond b None o) ≡ Some h → status_in o ≡ Some h
-    less true o h x = absurd (cc)
-    less false o h x = x
+    less b o h h1 = grind (arith, nat_tests)
 
     dead_life : (l : Life) (p : Process) → table.status_in l ≡ Some status → false ≡ is_some (if table.is_alive l then Some p else None)
-    dead_life Live p x = absurd (cc)
-    dead_life (Ended s) p x = refl
+    dead_life l p h1 = grind (arith, nat_tests)
 
     dead : (o : Option Process) → status_in o ≡ Some status → false ≡ lives_in o
-    dead None x = refl
-    dead (Some p) x = dead_life p.life p x
+    dead o h1 = grind (arith, nat_tests, dead_life)
 
     by_test : (q : ℕ) (b : Bool) → (q == child) ≡ b → lives_in (cond b None (process k.processes q)) ≡ lives k q
-    by_test q true t = dead (process k.processes q) (ap (λ (i : ℕ). table.status_of k.processes i) (eqb-true q child t) ∙ e)
-    by_test q false t = refl
+    by_test q b h1 = grind (arith, nat_tests, dead, eqb-true)
 
 wait-status-tells : (m : Machine) (pid : ℕ) (v : View) (child : ℕ) → At m pid v WAIT → can_reach v (argument v.body.cpu 0) 1 ≡ true → (o : Option TaggedByte) → table.status_of m.kernel.processes child ≡ o → RequestTells m pid v WAIT (wait_status m v child o)
 wait-status-tells m pid v child at reach None e = tt
@@ -201,8 +192,7 @@ wait-status-tells m pid v child at reach (Some status) e =
     (quiet-tells m.kernel m.events (status.value ∷ []) k (reaped-quiet m.kernel child status e))
   where
     there : (n : ℕ) → n < 1 → table.status_of m.kernel.processes child ≡ slice_get (status ∷ []) n
-    there zero l = e
-    there (suc n) l = absurd (omega arith)
+    there n h1 = grind (arith, nat_tests)
 
 wait-child-tells : (m : Machine) (pid : ℕ) (v : View) → At m pid v WAIT → can_reach v (argument v.body.cpu 0) 1 ≡ true → (children : List ℕ) → RequestTells m pid v WAIT (wait_child m v children)
 wait-child-tells m pid v at reach [] = tt

@@ -41,8 +41,8 @@ inputs : List Input
 inputs = Slice 1 1000 None ∷ Typed (97 ∷ 98 ∷ 99 ∷ []) ∷ Slice 1 1000 None ∷ Slice 1 1000 None ∷ Slice 1 1000 None ∷ []
 
 -- what is read is from the typed piece
-run-recorded :
-    events_of (steps_from machine inputs) ≡
+run :
+    (events_of (steps_from machine inputs) ≡
     record { number = 2; entry = entry.Typed (97 ∷ 98 ∷ 99 ∷ []) }
     ∷ record {
       number = 3;
@@ -51,13 +51,10 @@ run-recorded :
     }
     ∷ record { number = 4; entry = entry.Call 1 12 3 (extra.Console (97 ∷ 98 ∷ 99 ∷ [])) }
     ∷ record { number = 5; entry = entry.Call 1 1 0 extra.Nothing }
-    ∷ []
+    ∷ [])
+    × (instructions_in (steps_from machine inputs) ≡ 11)
 unfolding machine inputs program decoding.decoded_by row answered body_at memory_at put remove
-run-recorded = refl
-
-run-instructions : instructions_in (steps_from machine inputs) ≡ 11
-unfolding machine inputs program decoding.decoded_by row answered body_at memory_at put remove
-run-instructions = refl
+run = (refl, refl)
 
 run-done : run_state (machine_from machine inputs) ≡ state.Done
 unfolding machine inputs program decoding.decoded_by row answered body_at memory_at put remove

@@ -1,10 +1,11 @@
 -- Bytes that are put into pipes and files, and taken from channels.
-use Rattle.std.proofs.Common.{is_some, ◌≡◌, ◌⊎◌, inl, inr, ℕ, zero, suc, ◌+◌, ◌-◌, ◌<◌, ◌≤◌, min, List, [], ◌∷◌, ◌++◌, length, take, drop, refl, ap, ap₂, ◌∙◌, sym, subst, Option, Some, None, IfSome, Bool, true, false, ◌==◌, ◌&&◌, cond, if◌then◌else◌, arith, option_map, option_and_then, slice_get, nat_lt, nat_le, length-set, length-append, length-take, length-drop, take_all, length-take-le, append-nil}
+use Rattle.std.proofs.lemmas.Grind.{common_steps}
+use Rattle.std.proofs.Common.{is_some, ◌≡◌, ◌⊎◌, inl, inr, ℕ, zero, suc, ◌+◌, ◌-◌, ◌<◌, ◌≤◌, List, [], ◌∷◌, ◌++◌, length, take, drop, refl, ap, ap₂, ◌∙◌, sym, subst, Option, Some, None, IfSome, Bool, true, false, ◌==◌, ◌&&◌, cond, if◌then◌else◌, arith, option_map, option_and_then, slice_get, nat_lt, nat_le, length-set, length-append, length-take, length-drop, take_all, length-take-le, append-nil}
 use Rattle.std.proofs.lemmas.Bool.Decides.{nat_tests}
 use Rattle.std.proofs.lemmas.List.{drop_all}
 use Rattle.std.proofs.lemmas.Bool.{eq-eqb, eqb-true, lt-ltb, le-ltb, ltb-true, ltb-false, le-leb, lt-leb, leb-true, leb-false}
 use Rattle.parts_model.specs.declared.open.Description.{Description}
-use Rattle.parts_model.specs.declared.open.Description.TheVariants.{Console, File, Reader, Writer, Connection, Listener, Device}
+use Rattle.parts_model.specs.declared.open.Description.TheVariants.{File}
 use Rattle.parts_model.specs.declared.tagged.TaggedByte.{TaggedByte}
 use Rattle.parts_model.specs.Channel.{Channel, channel_end, put_behind, front, without_front}
 use Rattle.parts_model.specs.Files as files
@@ -27,18 +28,13 @@ pub front-less : (c : Channel) (d n : ℕ) → Less (at_position (without_front 
 front-less c d n = grind (arith, nat_tests, get-drop, le-ltb, ltb-false)
 
 pub front-there : (c : Channel) (most n : ℕ) → n < length (front c most) → at_position c (c.taken + n) ≡ slice_get (front c most) n
-front-there c most n l =
-    let a : n < most = omega (arith, length-take most c.queue) in
-    let i : c.taken + n - c.taken ≡ n = omega arith in
-    ap (λ b. if b then None else slice_get c.queue (c.taken + n - c.taken)) (le-ltb (c.taken + n) c.taken (omega arith))
-    ∙ (ap (λ i. slice_get c.queue i) i ∙ sym (get-take most c.queue n a))
+front-there c most n h1 = grind (arith, common_steps, nat_tests, length-take, le-ltb, get-take)
 
 pub quiet-taken : (k : Kernel) (pipe most : ℕ) → Quiet k (record k { pipes = pipes.with_change k.pipes pipe (λ q. with_taken q most) })
 quiet-taken k pipe most = quiet-pipe k pipe (option_map (λ q. with_taken q most)) refl each
   where
     each : (o : Option Pipe) (n : ℕ) → Less (pipe_byte (option_map (λ q. with_taken q most) o) n) (pipe_byte o n)
-    each None n h e = e
-    each (Some p) n h e = front-less p.channel (min most (length p.channel.queue)) n h e
+    each o n = grind (arith, nat_tests, front-less)
 
 pub quiet-front : (k : Kernel) (d : ℕ) → Quiet k (record k { console = without_front k.console d })
 quiet-front k d = quiet-console k (without_front k.console d) (front-less k.console d)
@@ -106,12 +102,7 @@ laid-put event at bytes old l n h e = by_front (nat_lt n at) refl
         held-zero j = held-at event 0 bytes j ∙ ap (λ (i : ℕ). option_map (λ b. record { value = b; origin = record { event = event; at = i } }) (slice_get bytes j)) (let z : 0 + j ≡ j = omega arith in z)
 
     front_part : n < at → slice_get old n ≡ Some h
-    front_part g =
-        let len = both in
-        let s = size in
-        sym (get-take at old n g)
-        ∙ (sym (get-left (take at old) (held_bytes event bytes) n (omega arith))
-        ∙ (sym (get-left (take at old ++ held_bytes event bytes) (drop (at + length (held_bytes event bytes)) old) n (omega arith)) ∙ e))
+    front_part h1 = grind (arith, nat_tests, both, size, get-take, get-left)
 
     by_behind : at ≤ n → (b : Bool) → nat_lt n (at + length bytes) ≡ b → (put_byte event bytes (within at (length bytes) n) ≡ Some h) ⊎ ((within at (length bytes) n ≡ None) × (slice_get old n ≡ Some h))
     by_behind g true t =
@@ -124,9 +115,7 @@ laid-put event at bytes old l n h e = by_front (nat_lt n at) refl
     by_front false t = by_behind (ltb-false n at t) (nat_lt n (at + length bytes)) refl
 
 append-laid : (old new : List TaggedByte) → laid_over old (length old) new ≡ old ++ new
-append-laid old new =
-    ap₂ (λ (x y : List TaggedByte). x ++ new ++ y) (take_all (length old) old (omega arith)) (drop_all (length old + length new) old (omega arith))
-    ∙ append-nil (old ++ new)
+append-laid old new = grind (arith, common_steps, nat_tests, drop_all, append-nil)
 
 append-put : (event : ℕ) (bytes : List ℕ) (old : List TaggedByte) → PutAt event (length old) bytes old (old ++ held_bytes event bytes)
 append-put event bytes old = subst (λ (new : List TaggedByte). PutAt event (length old) bytes old new) (append-laid old (held_bytes event bytes)) (laid-put event (length old) bytes old (omega arith))
@@ -148,8 +137,7 @@ channel-put event bytes c n h e = by_test (nat_lt n c.taken) refl e
     old t e = ap (λ b. if b then None else slice_get c.queue (n - c.taken)) t ∙ e
 
     moved : nat_lt n c.taken ≡ false → (put_byte event bytes (within (length c.queue) (length bytes) (n - c.taken)) ≡ Some h) ⊎ ((within (length c.queue) (length bytes) (n - c.taken) ≡ None) × (slice_get c.queue (n - c.taken) ≡ Some h)) → (put_byte event bytes (within (channel_end c) (length bytes) n) ≡ Some h) ⊎ ((within (channel_end c) (length bytes) n ≡ None) × (at_position c n ≡ Some h))
-    moved t (inl e) = inl (ap (λ (o : Option ℕ). put_byte event bytes o) (within-shift c.taken (length c.queue) (length bytes) n (ltb-false n c.taken t)) ∙ e)
-    moved t (inr e) = inr (within-shift c.taken (length c.queue) (length bytes) n (ltb-false n c.taken t) ∙ e.0, old t e.1)
+    moved h1 h2 = grind (arith, nat_tests, within-shift, ltb-false, old)
 
     by_test : (b : Bool) → nat_lt n c.taken ≡ b → (if b then None else slice_get (c.queue ++ held_bytes event bytes) (n - c.taken)) ≡ Some h → (put_byte event bytes (within (channel_end c) (length bytes) n) ≡ Some h) ⊎ ((within (channel_end c) (length bytes) n ≡ None) × (at_position c n ≡ Some h))
     by_test true t e = absurd (cc)
@@ -179,23 +167,18 @@ piped-tells k event pipe p bytes there fits =
         (ap (λ (bytes : List ℕ). at_position (put_behind q.channel event bytes) n) (sym (take_all (room q) bytes (subst (λ (p : Pipe). length bytes ≤ room p) (sym same) fits))) ∙ e))
 
     none_if : (b : Bool) (n : ℕ) → b ≡ false → put_byte event bytes (within_if b (channel_end p.channel) (length bytes) n) ≡ None
-    none_if true n e = absurd (cc)
-    none_if false n e = refl
+    none_if b n h1 = grind (arith, nat_tests)
 
     side : (q n : ℕ) (h : TaggedByte) (b : Bool) → b ≡ true → (put_byte event bytes (within (channel_end p.channel) (length bytes) n) ≡ Some h) ⊎ ((within (channel_end p.channel) (length bytes) n ≡ None) × (pipe_byte (nth k.pipes q) n ≡ Some h)) → (put_byte event bytes (within_if b (channel_end p.channel) (length bytes) n) ≡ Some h) ⊎ ((put_byte event bytes (within_if b (channel_end p.channel) (length bytes) n) ≡ None) × (pipe_byte (nth k.pipes q) n ≡ Some h))
-    side q n h true t (inl e) = inl e
-    side q n h true t (inr e) = inr (ap (λ (o : Option ℕ). put_byte event bytes o) e.0, e.1)
-    side q n h false t e = absurd (cc)
+    side q n h b h1 h2 = grind (arith, nat_tests)
 
     by_test : (q n : ℕ) (h : TaggedByte) (b : Bool) → (q == pipe) ≡ b → pipe_byte (cond b (option_map (λ q. with_put q bytes event) (nth k.pipes q)) (nth k.pipes q)) n ≡ Some h → (put_byte event bytes (within_if (pipe == q) (channel_end p.channel) (length bytes) n) ≡ Some h) ⊎ ((put_byte event bytes (within_if (pipe == q) (channel_end p.channel) (length bytes) n) ≡ None) × (pipe_byte (nth k.pipes q) n ≡ Some h))
     by_test q n h true t e = side q n h (pipe == q) (eq-swap pipe q ∙ t) (own (nth k.pipes q) n h (ap (λ (i : ℕ). nth k.pipes i) (eqb-true q pipe t) ∙ there) e)
     by_test q n h false t e = inr (none_if (pipe == q) n (eq-swap pipe q ∙ t), e)
 
     holds : HoldsAfter k event bytes (Some (record { first = PipeByte pipe (channel_end p.channel); len = length bytes })) (record k { pipes = pipes.with_change k.pipes pipe (λ q. with_put q bytes event) })
-    holds (ConsoleByte n) h e = inr (refl, e)
     holds (PipeByte q n) h e = by_test q n h (q == pipe) refl (ap (λ (o : Option Pipe). pipe_byte o n) (sym (nth-change (option_map (λ q. with_put q bytes event)) refl k.pipes pipe q)) ∙ e)
-    holds (FileByte file at) h e = inr (refl, e)
-    holds (StatusByte q) h e = inr (refl, e)
+    holds _ h e = inr (refl, e)
 
 -- into a file, at a place in it
 
@@ -203,12 +186,7 @@ abbrev pub LiesIn : Option (List TaggedByte) → ℕ → Type 0
 LiesIn old at = IfSome old (λ bytes. at ≤ length bytes)
 
 length-laid : (old new : List TaggedByte) (at : ℕ) → at ≤ length old → (length old ≤ length (laid_over old at new)) × (at + length new ≤ length (laid_over old at new))
-length-laid old new at l =
-    let a = length-take-le at old l in
-    let b = length-append (take at old) new in
-    let c = length-append (take at old ++ new) (drop (at + length new) old) in
-    let d = length-drop (at + length new) old in
-    (omega arith, omega arith)
+length-laid old new at h1 = grind (arith, common_steps, nat_tests, length-take-le, length-append, length-drop)
 
 abbrev file_of : Option files.File → Option (List TaggedByte)
 file_of o = option_map (λ f. f.bytes) o
@@ -226,14 +204,10 @@ written-longer event file at bytes fs fits inside q position lies =
     (by_test (q == file) refl)
   where
     longer : (o : Option files.File) → LiesIn (file_of o) at → LiesIn (file_of o) position → LiesIn (file_of (rewritten_file at bytes event o)) position
-    longer None a l = tt
-    longer (Some f) a l =
-        let g = (length-laid f.bytes (held_bytes event bytes) at a).0 in
-        subst (λ (b : List TaggedByte). position ≤ length b) (sym (rewritten-is event at bytes f fits)) (omega arith)
+    longer o h1 h2 = grind (arith, nat_tests, length-laid, rewritten-is)
 
     by_test : (b : Bool) → (q == file) ≡ b → LiesIn (file_of (cond b (rewritten_file at bytes event (nth fs.all q)) (nth fs.all q))) position
-    by_test true t = longer (nth fs.all q) (subst (λ (i : ℕ). LiesIn (file_bytes fs i) at) (sym (eqb-true q file t)) inside) lies
-    by_test false t = lies
+    by_test b h1 = grind (arith, nat_tests, longer, eqb-true)
 
 -- the place behind what was written
 pub written-behind : (event file at : ℕ) (bytes : List ℕ) (fs : Files) → take (fitting at (length bytes)) bytes ≡ bytes → LiesIn (file_bytes fs file) at → LiesIn (file_bytes (written fs file at bytes event) file) (at + length bytes)
@@ -243,24 +217,10 @@ written-behind event file at bytes fs fits inside =
     (behind (nth fs.all file) inside))
   where
     behind : (o : Option files.File) → LiesIn (file_of o) at → LiesIn (file_of (rewritten_file at bytes event o)) (at + length bytes)
-    behind None a = tt
-    behind (Some f) a =
-        let g = (length-laid f.bytes (held_bytes event bytes) at a).1 in
-        let m = length-held event 0 bytes in
-        subst (λ (b : List TaggedByte). at + length bytes ≤ length b) (sym (rewritten-is event at bytes f fits)) (omega arith)
+    behind o h1 = grind (arith, nat_tests, length-laid, length-held, rewritten-is)
 
 written-fits : (event file at : ℕ) (bytes : List ℕ) (fs : Files) → take (fitting at (length bytes)) bytes ≡ bytes → LiesIn (file_bytes fs file) at → (what : Description) → FitsFiles fs what → FitsFiles (written fs file at bytes event) what
-written-fits event file at bytes fs fits inside Console f = tt
-written-fits event file at bytes fs fits inside (File q position) f =
-    record {
-      made = let l = f.made in let e = length-set fs.all file (option_map (rewritten at bytes event) (nth fs.all file)) in omega arith;
-      inside = written-longer event file at bytes fs fits inside q position f.inside;
-    }
-written-fits event file at bytes fs fits inside (Reader pipe) f = tt
-written-fits event file at bytes fs fits inside (Writer pipe) f = tt
-written-fits event file at bytes fs fits inside (Connection reads writes) f = tt
-written-fits event file at bytes fs fits inside (Listener port) f = tt
-written-fits event file at bytes fs fits inside (Device device) f = tt
+written-fits event file at bytes fs h1 h2 what h3 = grind (arith, common_steps, nat_tests, length-set, written-longer)
 
 pub written-tells : (k : Kernel) (event file at : ℕ) (bytes : List ℕ) → take (fitting at (length bytes)) bytes ≡ bytes → file < length k.files.all → LiesIn (file_bytes k.files file) at → KernelTells k event bytes (Some (record { first = FileByte file at; len = length bytes })) NoLife NoName (Some (record { file = file; at = at; bytes = bytes })) (record k { files = written k.files file at bytes event })
 written-tells k event file at bytes fits was inside =
@@ -287,40 +247,29 @@ written-tells k event file at bytes fits was inside =
     put = Some (record { file = file; at = at; bytes = bytes })
 
     still-there : (b : Bool) (o : Option files.File) → is_some (file_of o) ≡ true → is_some (file_of (cond b (rewritten_file at bytes event o) o)) ≡ true
-    still-there true None some = absurd (cc)
-    still-there true (Some f) some = refl
-    still-there false o some = some
+    still-there b o h1 = grind (arith, nat_tests)
 
     still-gone : (b : Bool) (o : Option files.File) → file_of o ≡ None → file_of (cond b (rewritten_file at bytes event o) o) ≡ None
-    still-gone true None none = refl
-    still-gone true (Some f) none = absurd (cc)
-    still-gone false o none = none
+    still-gone b o h1 = grind (arith, nat_tests)
 
     change : (q : ℕ) → nth (written k.files file at bytes event).all q ≡ cond (q == file) (rewritten_file at bytes event (nth k.files.all q)) (nth k.files.all q)
     change q = nth-change (option_map (rewritten at bytes event)) refl k.files.all file q
 
     each : (o : Option Opened) → IfSome o (λ o. FitsFiles k.files o.what) → IfSome o (λ o. FitsFiles (written k.files file at bytes event) o.what)
-    each None f = tt
-    each (Some o) f = written-fits event file at bytes k.files fits inside o.what f
+    each o h1 = grind (arith, nat_tests, written-fits)
 
     kept : (q : ℕ) (b : Bool) → (q == file) ≡ b → (o : Option files.File) → FileKept event (Some (record { file = file; at = at; bytes = bytes })) q (file_of o) (file_of (cond b (rewritten_file at bytes event o) o))
-    kept q true t None = tt
-    kept q false t None = tt
-    kept q true t (Some f) = rewritten-is event at bytes f fits ∙ sym (ap (λ (b : Bool). if b then laid_over f.bytes at (held_bytes event bytes) else f.bytes) (eq-swap file q ∙ t))
-    kept q false t (Some f) = sym (ap (λ (b : Bool). if b then laid_over f.bytes at (held_bytes event bytes) else f.bytes) (eq-swap file q ∙ t))
+    kept q b h1 o = grind (arith, nat_tests, rewritten-is, eq-swap)
 
     own : (o : Option files.File) (n : ℕ) (h : TaggedByte) → LiesIn (file_of o) at → option_and_then (λ bytes. slice_get bytes n) (file_of (rewritten_file at bytes event o)) ≡ Some h → (put_byte event bytes (within at (length bytes) n) ≡ Some h) ⊎ ((within at (length bytes) n ≡ None) × (option_and_then (λ bytes. slice_get bytes n) (file_of o) ≡ Some h))
     own None n h l e = absurd (cc)
     own (Some f) n h l e = laid-put event at bytes f.bytes l n h (ap (λ (b : List TaggedByte). slice_get b n) (sym (rewritten-is event at bytes f fits)) ∙ e)
 
     none_if : (b : Bool) (n : ℕ) → b ≡ false → put_byte event bytes (within_if b at (length bytes) n) ≡ None
-    none_if true n e = absurd (cc)
-    none_if false n e = refl
+    none_if b n h1 = grind (arith, nat_tests)
 
     side : (q n : ℕ) (h : TaggedByte) (b : Bool) → b ≡ true → (put_byte event bytes (within at (length bytes) n) ≡ Some h) ⊎ ((within at (length bytes) n ≡ None) × (kernel_byte k (FileByte q n) ≡ Some h)) → (put_byte event bytes (within_if b at (length bytes) n) ≡ Some h) ⊎ ((put_byte event bytes (within_if b at (length bytes) n) ≡ None) × (kernel_byte k (FileByte q n) ≡ Some h))
-    side q n h true t (inl e) = inl e
-    side q n h true t (inr e) = inr (ap (λ (o : Option ℕ). put_byte event bytes o) e.0, e.1)
-    side q n h false t e = absurd (cc)
+    side q n h b h1 h2 = grind (arith, nat_tests)
 
     by_test : (q n : ℕ) (h : TaggedByte) (b : Bool) → (q == file) ≡ b → option_and_then (λ bytes. slice_get bytes n) (file_of (cond b (rewritten_file at bytes event (nth k.files.all q)) (nth k.files.all q))) ≡ Some h → (put_byte event bytes (within_if (file == q) at (length bytes) n) ≡ Some h) ⊎ ((put_byte event bytes (within_if (file == q) at (length bytes) n) ≡ None) × (kernel_byte k (FileByte q n) ≡ Some h))
     by_test q n h true t e = side q n h (file == q) (eq-swap file q ∙ t) (own (nth k.files.all q) n h (subst (λ (i : ℕ). LiesIn (file_bytes k.files i) at) (sym (eqb-true q file t)) inside) e)

@@ -1,17 +1,18 @@
 -- Changes of the kernel that put no byte anywhere and leave who lives, names and what files hold.
-use Rattle.std.proofs.Common.{◌≡◌, ℕ, ◌≤◌, List, length, refl, ap, ◌∙◌, sym, subst, Option, Some, None, IfSome, Bool, true, false, ◌==◌, cond, arith, option_and_then, is_some, slice_get, slice_set, nat_lt}
+use Rattle.std.proofs.lemmas.Grind.{common_steps}
+use Rattle.std.proofs.Common.{◌≡◌, ℕ, ◌≤◌, List, length, refl, ◌∙◌, sym, subst, Option, Some, None, IfSome, Bool, true, false, ◌==◌, cond, arith, option_and_then, is_some, slice_get, slice_set}
 use Rattle.std.proofs.lemmas.Bool.Decides.{nat_tests}
 use Rattle.parts_model.specs.declared.open.Description.{Description}
 use Rattle.parts_model.specs.declared.tagged.TaggedByte.{TaggedByte}
 use Rattle.parts_model.specs.Channel.{Channel}
-use Rattle.parts_model.specs.Files.{Files, Name, file_bytes, file_among}
+use Rattle.parts_model.specs.Files.{Files, file_bytes, file_among}
 use Rattle.parts_model.specs.Numbered.{nth}
 use Rattle.parts_model.specs.Pipes as pipes
 use Rattle.parts_model.specs.Pipes.{Pipe, Pipes}
 use Rattle.parts_model.specs.Ports.{Ports}
 use Rattle.parts_model.specs.Processes as table
 use Rattle.parts_model.specs.Processes.{Processes}
-use Rattle.acts_model.specs.Moved.{KernelByte, ConsoleByte, PipeByte, FileByte, StatusByte}
+use Rattle.acts_model.specs.Moved.{KernelByte, FileByte}
 use Rattle.arn_model.specs.Kernel.{Kernel, Opened, Handling}
 use Rattle.arn_model.specs.Sound.{FitsFiles, IsSound}
 use Rattle.arn_model.specs.Tells.{FilesLast, at_position, kernel_byte, lives}
@@ -87,31 +88,14 @@ file-less : (at : ℕ) (o p : Option (List TaggedByte)) → FileSame o p → Les
 file-less at o p h1 = grind (arith, nat_tests)
 
 files-bytes : (k : Kernel) (fs : Files) → FilesQuiet k.files fs → (b : KernelByte) → Less (kernel_byte (record k { files = fs }) b) (kernel_byte k b)
-files-bytes k fs h (ConsoleByte n) x e = e
-files-bytes k fs h (PipeByte pipe n) x e = e
 files-bytes k fs h (FileByte file at) x e = file-less at (file_bytes k.files file) (file_bytes fs file) (h.files file) x e
-files-bytes k fs h (StatusByte pid) x e = e
+files-bytes k fs h _ x e = e
 
 files-sound : (k : Kernel) (fs : Files) → FilesQuiet k.files fs → IsSound k → IsSound (record k { files = fs })
-files-sound k fs h s =
-    record {
-      fits = λ n. fits-if k.files fs h (nth k.descriptions n) (s.fits n);
-      named = λ path file e. let l = s.named path file (ap (λ (names : List Name). file_among names path) (sym h.names) ∙ e) in let m = h.made in omega arith;
-      there = λ path file e. h.named path file e (s.there path file (ap (λ (names : List Name). file_among names path) (sym h.names) ∙ e));
-    }
+files-sound k fs h1 h2 = grind (arith, common_steps, nat_tests, fits-if)
 
 pub quiet-files : (k : Kernel) (fs : Files) → FilesQuiet k.files fs → Quiet k (record k { files = fs })
-quiet-files k fs h =
-    record {
-      last = record { made = let e = h.made in omega arith; gone = λ file made none. gone-same (file_bytes k.files file) (file_bytes fs file) (h.files file) none };
-      bytes = files-bytes k fs h;
-      lives = λ q. refl;
-      names = h.names;
-      files = h.files;
-      sound = files-sound k fs h;
-      grows = omega arith;
-      few = omega arith;
-    }
+quiet-files k fs h1 = grind (arith, common_steps, nat_tests, gone-same, files-bytes, files-sound)
 
 -- pipes
 
@@ -119,14 +103,7 @@ abbrev pub pipe_byte : Option Pipe → ℕ → Option TaggedByte
 pipe_byte p n = option_and_then (λ p. at_position p.channel n) p
 
 pub quiet-pipes : (k : Kernel) (ps : Pipes) → ((pipe n : ℕ) → Less (pipe_byte (nth ps pipe) n) (pipe_byte (nth k.pipes pipe) n)) → Quiet k (record k { pipes = ps })
-quiet-pipes k ps h =
-    record { last = last-refl k.files; bytes = bytes; lives = λ q. refl; names = refl; files = λ file. file-same (file_bytes k.files file) (file_bytes k.files file) refl; sound = λ s. record { fits = s.fits; named = s.named; there = s.there }; grows = omega arith; few = omega arith }
-  where
-    bytes : (b : KernelByte) → Less (kernel_byte (record k { pipes = ps }) b) (kernel_byte k b)
-    bytes (ConsoleByte n) x e = e
-    bytes (PipeByte pipe n) x e = h pipe n x e
-    bytes (FileByte file at) x e = e
-    bytes (StatusByte pid) x e = e
+quiet-pipes k ps h1 = grind (arith, common_steps, nat_tests, last-refl, file-same)
 
 pub quiet-pipe : (k : Kernel) (pipe : ℕ) (f : Option Pipe → Option Pipe) → f None ≡ None → ((o : Option Pipe) (n : ℕ) → Less (pipe_byte (f o) n) (pipe_byte o n)) → Quiet k (record k { pipes = slice_set k.pipes pipe (f (nth k.pipes pipe)) })
 quiet-pipe k pipe f e less = quiet-pipes k (slice_set k.pipes pipe (f (nth k.pipes pipe))) each
@@ -141,23 +118,7 @@ quiet-pipe k pipe f e less = quiet-pipes k (slice_set k.pipes pipe (f (nth k.pip
         by_test false = less-same (pipe_byte (nth k.pipes q) n) (pipe_byte (nth k.pipes q) n) refl
 
 pub quiet-new_pipe : (k : Kernel) → Quiet k (record k { pipes = pipes.pipe_made k.pipes })
-quiet-new_pipe k = quiet-pipes k (pipes.pipe_made k.pipes) each
-  where
-    empty : (n : ℕ) (b : Bool) → ◌≡◌ {A = Option TaggedByte} (cond b None None) None
-    empty n true = refl
-    empty n false = refl
-
-    fresh : (o : Option TaggedByte) (n : ℕ) → Less (pipe_byte (Some pipes.new_pipe) n) o
-    fresh o n = subst (λ (x : Option TaggedByte). Less x o) (sym (empty n (nat_lt n 0))) (less-none o)
-
-    each : (q n : ℕ) → Less (pipe_byte (nth (pipes.pipe_made k.pipes) q) n) (pipe_byte (nth k.pipes q) n)
-    each q n =
-        subst (λ (o : Option Pipe). Less (pipe_byte o n) (pipe_byte (nth k.pipes q) n)) (sym (nth-push k.pipes (Some pipes.new_pipe) q))
-        (by_test (q == length k.pipes))
-      where
-        by_test : (b : Bool) → Less (pipe_byte (cond b (Some pipes.new_pipe) (nth k.pipes q)) n) (pipe_byte (nth k.pipes q) n)
-        by_test true = fresh (pipe_byte (nth k.pipes q) n) n
-        by_test false = less-same (pipe_byte (nth k.pipes q) n) (pipe_byte (nth k.pipes q) n) refl
+quiet-new_pipe k = grind (arith, common_steps, nat_tests, quiet-pipes, less-none, nth-push, less-same)
 
 -- the table of processes
 
@@ -168,48 +129,20 @@ pub record TableQuiet (old new : Processes) : Type 0 where
   pub few : length new ≤ length old
 
 pub quiet-table : (k : Kernel) (ps : Processes) → TableQuiet k.processes ps → Quiet k (record k { processes = ps })
-quiet-table k ps h =
-    record { last = last-refl k.files; bytes = bytes; lives = h.lives; names = refl; files = λ file. file-same (file_bytes k.files file) (file_bytes k.files file) refl; sound = λ s. record { fits = s.fits; named = s.named; there = s.there }; grows = h.grows; few = h.few }
-  where
-    bytes : (b : KernelByte) → Less (kernel_byte (record k { processes = ps }) b) (kernel_byte k b)
-    bytes (ConsoleByte n) x e = e
-    bytes (PipeByte pipe n) x e = e
-    bytes (FileByte file at) x e = e
-    bytes (StatusByte pid) x e = h.bytes pid x e
+quiet-table k ps h1 = grind (arith, common_steps, nat_tests, last-refl, file-same)
 
 -- descriptions
 
 pub quiet-descriptions : (k : Kernel) (ds : List (Option Opened)) → (IsSound k → (n : ℕ) → IfSome (nth ds n) (λ o. FitsFiles k.files o.what)) → Quiet k (record k { descriptions = ds })
-quiet-descriptions k ds h =
-    record { last = last-refl k.files; bytes = bytes; lives = λ q. refl; names = refl; files = λ file. file-same (file_bytes k.files file) (file_bytes k.files file) refl; sound = λ s. record { fits = h s; named = s.named; there = s.there }; grows = omega arith; few = omega arith }
-  where
-    bytes : (b : KernelByte) → Less (kernel_byte (record k { descriptions = ds }) b) (kernel_byte k b)
-    bytes (ConsoleByte n) x e = e
-    bytes (PipeByte pipe n) x e = e
-    bytes (FileByte file at) x e = e
-    bytes (StatusByte pid) x e = e
+quiet-descriptions k ds h1 = grind (arith, common_steps, nat_tests, last-refl, file-same)
 
 -- handling, ports
 
 pub quiet-handling : (k : Kernel) (hs : List (Option Handling)) → Quiet k (record k { handling = hs })
-quiet-handling k hs =
-    record { last = last-refl k.files; bytes = bytes; lives = λ q. refl; names = refl; files = λ file. file-same (file_bytes k.files file) (file_bytes k.files file) refl; sound = λ s. record { fits = s.fits; named = s.named; there = s.there }; grows = omega arith; few = omega arith }
-  where
-    bytes : (b : KernelByte) → Less (kernel_byte (record k { handling = hs }) b) (kernel_byte k b)
-    bytes (ConsoleByte n) x e = e
-    bytes (PipeByte pipe n) x e = e
-    bytes (FileByte file at) x e = e
-    bytes (StatusByte pid) x e = e
+quiet-handling k hs = grind (arith, common_steps, nat_tests, last-refl, file-same)
 
 pub quiet-ports : (k : Kernel) (ps : Ports) → Quiet k (record k { ports = ps })
-quiet-ports k ps =
-    record { last = last-refl k.files; bytes = bytes; lives = λ q. refl; names = refl; files = λ file. file-same (file_bytes k.files file) (file_bytes k.files file) refl; sound = λ s. record { fits = s.fits; named = s.named; there = s.there }; grows = omega arith; few = omega arith }
-  where
-    bytes : (b : KernelByte) → Less (kernel_byte (record k { ports = ps }) b) (kernel_byte k b)
-    bytes (ConsoleByte n) x e = e
-    bytes (PipeByte pipe n) x e = e
-    bytes (FileByte file at) x e = e
-    bytes (StatusByte pid) x e = e
+quiet-ports k ps = grind (arith, common_steps, nat_tests, last-refl, file-same)
 
 -- the console
 pub quiet-console : (k : Kernel) (c : Channel) → ((n : ℕ) → Less (at_position c n) (at_position k.console n)) → Quiet k (record k { console = c })
@@ -217,7 +150,4 @@ quiet-console k c h =
     record { last = last-refl k.files; bytes = bytes; lives = λ q. refl; names = refl; files = λ file. file-same (file_bytes k.files file) (file_bytes k.files file) refl; sound = λ s. record { fits = s.fits; named = s.named; there = s.there }; grows = omega arith; few = omega arith }
   where
     bytes : (b : KernelByte) → Less (kernel_byte (record k { console = c }) b) (kernel_byte k b)
-    bytes (ConsoleByte n) x e = h n x e
-    bytes (PipeByte pipe n) x e = e
-    bytes (FileByte file at) x e = e
-    bytes (StatusByte pid) x e = e
+    bytes b = grind (arith, nat_tests)

@@ -1,11 +1,12 @@
 -- Bytes that a process reaches: a shorter range is reached too, and has the first of them.
+use Rattle.std.proofs.lemmas.Grind.{common_steps}
 use Rattle.std.proofs.Common.{◌≡◌, ℕ, ◌+◌, ◌-◌, ◌<◌, ◌≤◌, List, [], ◌∷◌, length, take, drop, refl, ap, ◌∙◌, sym, Option, Some, None, Bool, true, false, not, if◌then◌else◌, arith, nat_lt, nat_le, is_some, option_map, length-take, length-drop, take-take, length-take-le}
 use Rattle.std.proofs.lemmas.Bool.Decides.{nat_tests}
 use Rattle.std.proofs.lemmas.Bool.{eq-eqb, and_parts, and_right, le-leb, lt-leb, leb-true}
 use Rattle.std.proofs.lemmas.List.{take_min}
 use Rattle.arn_base.specs.Window.{Window, is_whole_in, window_bytes, bytes_at}
 use Rattle.parts_model.specs.declared.limits.TheConstants.{WINDOW_START, WINDOW_LEN, SEGMENT_START}
-use Rattle.parts_model.specs.Memory.{windows, shared_window, segment_window}
+use Rattle.parts_model.specs.Memory.{windows, shared_window}
 use Rattle.acts_model.specs.Bodies.{View}
 use Rattle.acts_model.specs.Disagreement.{first_difference, differ_from, is_outside}
 use Rattle.acts_model.specs.Views.{reach, bytes_in, can_reach, read}
@@ -18,12 +19,10 @@ some-shorter [] at len less l e = e
 some-shorter (w ∷ ws) at len less l e = by_test (is_whole_in w at len) refl (some-shorter ws at len less l) e
   where
     any : (b : Bool) → is_some (bytes_at ws at less) ≡ true → is_some (if b then Some (window_bytes w at less) else bytes_at ws at less) ≡ true
-    any true h = refl
-    any false h = h
+    any b h1 = grind (arith, nat_tests)
 
     by_test : (b : Bool) → is_whole_in w at len ≡ b → (is_some (bytes_at ws at len) ≡ true → is_some (bytes_at ws at less) ≡ true) → is_some (if b then Some (window_bytes w at len) else bytes_at ws at len) ≡ true → is_some (if is_whole_in w at less then Some (window_bytes w at less) else bytes_at ws at less) ≡ true
-    by_test true t ih e = ap (λ (b : Bool). is_some (if b then Some (window_bytes w at less) else bytes_at ws at less)) (whole-shorter w at len less l t)
-    by_test false t ih e = any (is_whole_in w at less) (ih e)
+    by_test b h1 h2 h3 = grind (arith, nat_tests, whole-shorter, any)
 
 pub reach-shorter : (v : View) (at len less : ℕ) → less ≤ len → can_reach v at len ≡ true → can_reach v at less ≡ true
 reach-shorter v at len less l e = some-shorter (reach v) at len less l e
@@ -34,20 +33,14 @@ isnt-outside v at len less l e =
 
 -- as many as were asked for
 window-len : (w : Window) (at len : ℕ) → is_whole_in w at len ≡ true → length (window_bytes w at len) ≡ len
-window-len w at len e =
-    let parts = and_parts (nat_le w.from at) (nat_le (at + len) (w.from + length w.bytes)) e in
-    let a = leb-true w.from at parts.0 in
-    let b = leb-true (at + len) (w.from + length w.bytes) parts.1 in
-    let d = length-drop (at - w.from) w.bytes in
-    length-take-le len (drop (at - w.from) w.bytes) (omega arith)
+window-len w at len h1 = grind (arith, common_steps, nat_tests, and_parts, leb-true, length-drop, length-take-le)
 
 bytes-len : (ws : List Window) (at len : ℕ) (xs : List ℕ) → bytes_at ws at len ≡ Some xs → length xs ≡ len
 bytes-len [] at len xs e = absurd (cc)
 bytes-len (w ∷ ws) at len xs e = by_test (is_whole_in w at len) refl (bytes-len ws at len xs) e
   where
     by_test : (b : Bool) → is_whole_in w at len ≡ b → (bytes_at ws at len ≡ Some xs → length xs ≡ len) → (if b then Some (window_bytes w at len) else bytes_at ws at len) ≡ Some xs → length xs ≡ len
-    by_test true t ih e = let same : window_bytes w at len ≡ xs = cc in ap (λ (ys : List ℕ). length ys) (sym same) ∙ window-len w at len t
-    by_test false t ih e = ih e
+    by_test b h1 h2 h3 = grind (arith, nat_tests, window-len)
 
 pub bytes-reached : (v : View) (at len : ℕ) → can_reach v at len ≡ true → bytes_in v at len ≡ Some (read v at len)
 bytes-reached v at len h1 = grind (arith, nat_tests)
@@ -60,19 +53,7 @@ first-taken : (w : Window) (at len less : ℕ) → less ≤ len → window_bytes
 first-taken w at len less l = sym (take-take less len (drop (at - w.from) w.bytes) l)
 
 shared-shorter : (o : Option (List ℕ)) (at len less : ℕ) (xs : List ℕ) → less ≤ len → bytes_at (shared_window o) at len ≡ Some xs → (SEGMENT_START ≤ at) × (bytes_at (shared_window o) at less ≡ Some (take less xs))
-shared-shorter None at len less xs l e = absurd (cc)
-shared-shorter (Some bytes) at len less xs l e = by_test (is_whole_in (record { from = SEGMENT_START; bytes = bytes }) at len) refl e
-  where
-    by_test : (b : Bool) → is_whole_in (record { from = SEGMENT_START; bytes = bytes }) at len ≡ b → (if b then Some (window_bytes (record { from = SEGMENT_START; bytes = bytes }) at len) else None) ≡ Some xs → (SEGMENT_START ≤ at) × (bytes_at (segment_window bytes) at less ≡ Some (take less xs))
-    by_test false t e = absurd (cc)
-    by_test true t e =
-        let w : Window = record { from = SEGMENT_START; bytes = bytes } in
-        let parts = and_parts (nat_le SEGMENT_START at) (nat_le (at + len) (SEGMENT_START + length bytes)) t in
-        let same : window_bytes w at len ≡ xs = cc in (
-          leb-true SEGMENT_START at parts.0,
-          ap (λ (b : Bool). if b then Some (window_bytes w at less) else None) (whole-shorter w at len less l t)
-              ∙ ap (λ (ys : List ℕ). Some ys) (first-taken w at len less l ∙ ap (λ (ys : List ℕ). take less ys) same),
-        )
+shared-shorter o at len less xs h1 h2 = grind (arith, common_steps, nat_tests, and_parts, leb-true, whole-shorter, first-taken)
 
 windows-shorter : (space : List ℕ) (o : Option (List ℕ)) (at len less : ℕ) (xs : List ℕ) → length space ≤ WINDOW_LEN → 0 < less → less ≤ len → bytes_at (windows space o) at len ≡ Some xs → bytes_at (windows space o) at less ≡ Some (take less xs)
 windows-shorter space o at len less xs fits some l e = by_test (is_whole_in (record { from = WINDOW_START; bytes = space }) at len) refl e

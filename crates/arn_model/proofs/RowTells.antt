@@ -1,7 +1,6 @@
 -- What every row of the table of calls tells, built or not.
-use Rattle.std.proofs.Common.{◌≡◌, ℕ, refl, subst, Bool, true, false, ◌==◌, if◌then◌else◌, arith}
+use Rattle.std.proofs.Common.{◌≡◌, ℕ, refl, subst, Bool, true, false, ◌==◌, if◌then◌else◌, arith, eqb-true}
 use Rattle.std.proofs.lemmas.Bool.Decides.{nat_tests}
-use Rattle.std.proofs.lemmas.Bool.{eqb-true}
 use Rattle.parts_model.specs.declared.calls.TheConstants.{EXIT, FORK, EXEC, WAIT, GETPID, KILL, SIGACTION, SIGRETURN, OPEN, CLOSE, READ, WRITE, SEEK, DUP, PIPE, UNLINK, SHM, LISTEN, CONNECT, ACCEPT, DEVICE, YIELD}
 use Rattle.parts_model.specs.declared.refusals.TheConstants.{NO_SUCH_CALL}
 use Rattle.acts_model.specs.Bodies.{View}

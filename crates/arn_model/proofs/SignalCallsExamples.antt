@@ -21,70 +21,35 @@ family =
     }
 
 -- kill: signal 31 is pending for process 2 from now on; one may signal oneself
-kills-child :
-    row 6 (at_event_5 family) 1 (calling (2 ∷ 31 ∷ [])) ≡
+kill :
+    (row 6 (at_event_5 family) 1 (calling (2 ∷ 31 ∷ [])) ≡
     results 0
-    (record family { handling = quiet ∷ Some (record { handlers = no_handlers; pending = with_pending none_pending 31 true }) ∷ None ∷ [] })
-unfolding row family
-kills-child = refl
-
-kills-self :
-    row 6 (at_event_5 family) 1 (calling (1 ∷ 1 ∷ [])) ≡
+    (record family { handling = quiet ∷ Some (record { handlers = no_handlers; pending = with_pending none_pending 31 true }) ∷ None ∷ [] }))
+    × (row 6 (at_event_5 family) 1 (calling (1 ∷ 1 ∷ [])) ≡
     results 0
-    (record family { handling = Some (record { handlers = no_handlers; pending = with_pending none_pending 1 true }) ∷ quiet ∷ None ∷ [] })
+    (record family { handling = Some (record { handlers = no_handlers; pending = with_pending none_pending 1 true }) ∷ quiet ∷ None ∷ [] }))
+    -- -22 before -3
+    × (row 6 (at_event_5 family) 1 (calling (9 ∷ 0 ∷ [])) ≡ results (minus 22) family)
+    × (row 6 (at_event_5 family) 1 (calling (9 ∷ 32 ∷ [])) ≡ results (minus 22) family)
+    -- there is no process 0 and none that isn't made yet, and one that has ended isn't live
+    × (row 6 (at_event_5 family) 1 (calling (0 ∷ 9 ∷ [])) ≡ results (minus 3) family)
+    × (row 6 (at_event_5 family) 1 (calling (4 ∷ 9 ∷ [])) ≡ results (minus 3) family)
+    × (row 6 (at_event_5 family) 1 (calling (3 ∷ 9 ∷ [])) ≡ results (minus 3) family)
 unfolding row family
-kills-self = refl
-
--- -22 before -3
-kill-signal-0 : row 6 (at_event_5 family) 1 (calling (9 ∷ 0 ∷ [])) ≡ results (minus 22) family
-unfolding row family
-kill-signal-0 = refl
-
-kill-signal-32 : row 6 (at_event_5 family) 1 (calling (9 ∷ 32 ∷ [])) ≡ results (minus 22) family
-unfolding row family
-kill-signal-32 = refl
-
--- there is no process 0 and none that isn't made yet, and one that has ended isn't live
-kill-process-0 : row 6 (at_event_5 family) 1 (calling (0 ∷ 9 ∷ [])) ≡ results (minus 3) family
-unfolding row family
-kill-process-0 = refl
-
-kill-process-4 : row 6 (at_event_5 family) 1 (calling (4 ∷ 9 ∷ [])) ≡ results (minus 3) family
-unfolding row family
-kill-process-4 = refl
-
-kill-ended : row 6 (at_event_5 family) 1 (calling (3 ∷ 9 ∷ [])) ≡ results (minus 3) family
-unfolding row family
-kill-ended = refl
+kill = (refl, refl, refl, refl, refl, refl, refl)
 
 -- sigaction: a handler, and none again
-sets-handler :
-    row 7 (at_event_5 kernel) 1 (calling (2 ∷ 0x10008 ∷ [])) ≡
-    results 0 (record kernel { handling = Some (record { handlers = with_handler no_handlers 2 0x10008; pending = none_pending }) ∷ [] })
+sigaction :
+    (row 7 (at_event_5 kernel) 1 (calling (2 ∷ 0x10008 ∷ [])) ≡
+    results 0 (record kernel { handling = Some (record { handlers = with_handler no_handlers 2 0x10008; pending = none_pending }) ∷ [] }))
+    × (row 7 (at_event_5 (record kernel { handling = Some (record { handlers = replicate 31 0x10008; pending = none_pending }) ∷ [] })) 1 (calling (2 ∷ 0 ∷ [])) ≡
+    results 0 (record kernel { handling = Some (record { handlers = with_handler (replicate 31 0x10008) 2 0; pending = none_pending }) ∷ [] }))
+    × (row 7 (at_event_5 kernel) 1 (calling (0 ∷ 0x10008 ∷ [])) ≡ results (minus 22) kernel)
+    × (row 7 (at_event_5 kernel) 1 (calling (9 ∷ 0x10008 ∷ [])) ≡ results (minus 22) kernel)
+    × (row 7 (at_event_5 kernel) 1 (calling (32 ∷ 0x10008 ∷ [])) ≡ results (minus 22) kernel)
+    × (row 7 (at_event_5 kernel) 1 (calling (2 ∷ 0x1000a ∷ [])) ≡ results (minus 22) kernel)
 unfolding row
-sets-handler = refl
-
-sets-no-handler :
-    row 7 (at_event_5 (record kernel { handling = Some (record { handlers = replicate 31 0x10008; pending = none_pending }) ∷ [] })) 1 (calling (2 ∷ 0 ∷ [])) ≡
-    results 0 (record kernel { handling = Some (record { handlers = with_handler (replicate 31 0x10008) 2 0; pending = none_pending }) ∷ [] })
-unfolding row
-sets-no-handler = refl
-
-sigaction-0 : row 7 (at_event_5 kernel) 1 (calling (0 ∷ 0x10008 ∷ [])) ≡ results (minus 22) kernel
-unfolding row
-sigaction-0 = refl
-
-sigaction-9 : row 7 (at_event_5 kernel) 1 (calling (9 ∷ 0x10008 ∷ [])) ≡ results (minus 22) kernel
-unfolding row
-sigaction-9 = refl
-
-sigaction-32 : row 7 (at_event_5 kernel) 1 (calling (32 ∷ 0x10008 ∷ [])) ≡ results (minus 22) kernel
-unfolding row
-sigaction-32 = refl
-
-sigaction-askew : row 7 (at_event_5 kernel) 1 (calling (2 ∷ 0x1000a ∷ [])) ≡ results (minus 22) kernel
-unfolding row
-sigaction-askew = refl
+sigaction = (refl, refl, refl, refl, refl, refl)
 
 -- a call that does an act, and changes nothing of the kernel
 acts_only : Act → Request
@@ -94,18 +59,13 @@ acts_only act = Does (record { act = act; extra = extra.Nothing; incoming = Noth
 in_handler : View
 in_handler = record (calling []) { body = record (calling []).body { slot = Some (cpu_at 0x10020) } }
 
-leaves-handler : row 8 (at_event_5 kernel) 1 in_handler ≡ acts_only Leaves
+sigreturn-and-shm :
+    (row 8 (at_event_5 kernel) 1 in_handler ≡ acts_only Leaves)
+    × (row 8 (at_event_5 kernel) 1 (calling []) ≡ results (minus 22) kernel)
+    -- shm, without a segment and with one
+    × (row 17 (at_event_5 kernel) 1 (calling []) ≡ acts_only Shares)
 unfolding row in_handler acts_only
-leaves-handler = refl
-
-leaves-none : row 8 (at_event_5 kernel) 1 (calling []) ≡ results (minus 22) kernel
-unfolding row
-leaves-none = refl
-
--- shm, without a segment and with one
-shares : row 17 (at_event_5 kernel) 1 (calling []) ≡ acts_only Shares
-unfolding row acts_only
-shares = refl
+sigreturn-and-shm = (refl, refl, refl)
 
 sharing : View
 sharing = record (calling []) { body = record (calling []).body { segment = Some 3 }; segment = 0 ∷ [] }

@@ -1,10 +1,10 @@
 -- What the steps of every run tell.
+use Rattle.std.proofs.lemmas.Grind.{common_steps}
 use Rattle.std.proofs.lemmas.List.{length-replicate, length_push}
 use Rattle.std.proofs.lemmas.Bool.Decides.{nat_tests}
 use Rattle.parts_model.specs.declared.limits.TheConstants.{WINDOW_LEN}
 use Rattle.parts_model.specs.Memory as memory
-use Rattle.std.proofs.Common.{◌≡◌, ℕ, ◌+◌, ◌≤◌, List, [], ◌∷◌, ◌++◌, length, refl, ap, ◌∙◌, sym, subst, Option, Some, None, Bool, true, false, ◌==◌, cond, if◌then◌else◌, arith, nat_lt, lt_of_le_of_lt, zero, suc}
-use Rattle.std.proofs.lemmas.Bool.{eq-eqb, ltb-false}
+use Rattle.std.proofs.Common.{◌≡◌, ℕ, ◌+◌, ◌≤◌, List, [], ◌∷◌, ◌++◌, length, refl, sym, subst, Option, Some, None, Bool, true, false, ◌==◌, cond, if◌then◌else◌, arith, nat_lt, lt_of_le_of_lt, zero, suc, eq-eqb, ltb-false}
 use Rattle.parts_model.specs.declared.open.Description.TheVariants.{Console}
 use Rattle.parts_model.specs.declared.tagged.TaggedByte.{TaggedByte}
 use Rattle.parts_model.specs.Files.{find_file, file_bytes}
@@ -53,32 +53,19 @@ first-lives : (k : Kernel) (q : ℕ) → lives (first_made k) q ≡ cond (q == l
 first-lives k q = grind (arith, nat_tests, forked-process, lives_in)
 
 booted-others : (k : Kernel) (q : ℕ) → nat_lt 0 (length k.processes) ≡ false → (q == 1) ≡ false → lives (kernel.booted k) q ≡ lives k q
-booted-others k q e t =
-    let o = opened-quiet (first_made k) in
-    let l = ltb-false 0 (length k.processes) e in
-    let one : length k.processes + 1 ≡ 1 = omega arith in
-    o.lives q ∙ (first-lives k q ∙ ap (λ (b : Bool). cond b true (lives k q)) (ap (λ (n : ℕ). q == n) one ∙ t))
+booted-others k q h1 h2 = grind (arith, common_steps, nat_tests, opened-quiet, ltb-false, first-lives)
 
 booted-first : (k : Kernel) → nat_lt 0 (length k.processes) ≡ false → lives (kernel.booted k) 1 ≡ true
-booted-first k e =
-    let o = opened-quiet (first_made k) in
-    let l = ltb-false 0 (length k.processes) e in
-    o.lives 1 ∙ (first-lives k 1 ∙ ap (λ (b : Bool). cond b true (lives k 1)) (eq-eqb 1 (length k.processes + 1) (omega arith)))
+booted-first k h1 = grind (arith, common_steps, nat_tests, opened-quiet, ltb-false, first-lives, eq-eqb)
 
 booted-sound : (k : Kernel) → IsSound k → IsSound (kernel.booted k)
 booted-sound k s = (opened-quiet (first_made k)).sound (record { fits = s.fits; named = s.named; there = s.there })
 
 booted-grows : (k : Kernel) → length k.processes ≤ length (kernel.booted k).processes
-booted-grows k =
-    let g = (opened-quiet (first_made k)).grows in
-    let e = length_push k.processes (Some (record { life = table.Live; parent = None; descriptors = table.none_open })) in
-    omega arith
+booted-grows k = grind (arith, common_steps, nat_tests, opened-quiet, length_push)
 
 booted-few : (k : Kernel) → length (kernel.booted k).processes ≤ length k.processes + 1
-booted-few k =
-    let g = (opened-quiet (first_made k)).few in
-    let e = length_push k.processes (Some (record { life = table.Live; parent = None; descriptors = table.none_open })) in
-    omega arith
+booted-few k = grind (arith, common_steps, nat_tests, opened-quiet, length_push)
 
 starts-fit : (event : ℕ) (file : List ℕ) (b : Bodies) (living : ℕ → Bool) → BodiesFit b living → BodiesFit (done 1 event (Starts file 0 0) b) living
 starts-fit event file b living h = by_seen (seen b 1) refl
@@ -114,12 +101,10 @@ boot-found-good m path s first = by_name (find_file m.kernel.files path) refl
     by_image file held e f false i = tt
 
     by_bytes : (file : ℕ) → find_file m.kernel.files path ≡ Some file → (o : Option (List TaggedByte)) → file_bytes m.kernel.files file ≡ o → Along StepGood m (boot_from m path file o)
-    by_bytes file e None f = tt
-    by_bytes file e (Some held) f = by_image file held e f (is_image (values held)) refl
+    by_bytes file h1 o h2 = grind (arith, nat_tests, by_image)
 
     by_name : (o : Option ℕ) → find_file m.kernel.files path ≡ o → Along StepGood m (boot_found m path o)
-    by_name None e = tt
-    by_name (Some file) e = by_bytes file e (file_bytes m.kernel.files file) refl
+    by_name o h1 = grind (arith, nat_tests, by_bytes)
 
 -- what comes from outside
 
@@ -157,8 +142,7 @@ input-good m (File path bytes) s = by_test (can_add m path bytes) refl
 input-good m (Boot path) s = by_test (is_booted m) refl
   where
     by_test : (b : Bool) → is_booted m ≡ b → Along StepGood m (if b then [] else boot_found m path (find_file m.kernel.files path))
-    by_test true e = tt
-    by_test false e = boot-found-good m path s e
+    by_test b h1 = grind (arith, nat_tests, boot-found-good)
 input-good m (Typed bytes) s = by_test (is_booted m) refl
   where
     by_test : (b : Bool) → is_booted m ≡ b → Along StepGood m (if b then typed_step m bytes ∷ [] else [])
@@ -167,13 +151,11 @@ input-good m (Typed bytes) s = by_test (is_booted m) refl
 input-good m (Unplug device) s = by_test (may_unplug m device) refl
   where
     by_test : (b : Bool) → may_unplug m device ≡ b → Along StepGood m (if b then unplug_step m device ∷ [] else [])
-    by_test true e = (unplug-good m device s e, tt)
-    by_test false e = tt
+    by_test b h1 = grind (arith, nat_tests, unplug-good)
 input-good m (Slice pid count reply) s = by_test (is_possible m pid count)
   where
     by_test : (b : Bool) → Along StepGood m (if b then steps_of (turn count pid reply m) else [])
-    by_test true = turn-good count pid reply m s
-    by_test false = tt
+    by_test b = grind (arith, nat_tests, turn-good)
 
 -- runs
 

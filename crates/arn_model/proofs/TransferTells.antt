@@ -1,4 +1,5 @@
 -- What the calls that move bytes tell.
+use Rattle.std.proofs.lemmas.Grind.{common_steps}
 use Rattle.std.proofs.Common.{◌≡◌, ℕ, ◌+◌, ◌-◌, ◌<◌, ◌≤◌, min, List, [], ◌∷◌, length, take, drop, refl, ap, ◌∙◌, sym, subst, Option, Some, None, IfSome, unwrap_or, Bool, true, false, ◌==◌, not, if◌then◌else◌, arith, nat_le, option_map, option_and_then, slice_get, length-take, length-drop, take_all, length-set}
 use Rattle.std.proofs.lemmas.Bool.Decides.{nat_tests}
 use Rattle.std.proofs.lemmas.Bool.{eqb-false, and_from, le-leb, leb-true, leb-false, not-false}
@@ -16,7 +17,7 @@ use Rattle.parts_model.specs.Channel.{Channel, front, without_front, channel_end
 use Rattle.parts_model.specs.Files.{file_bytes, fitting, read_from, written, rewritten}
 use Rattle.parts_model.specs.Numbered.{nth}
 use Rattle.parts_model.specs.Pipes.{Pipe, room, with_put, with_taken, with_change}
-use Rattle.parts_model.specs.Replies.{Answered, GaveBytes, TookBytes, Failed, IsAbsent, IsHere, ReadReply, Reads, ReadFails, ReadAbsent, WriteReply, Takes, WriteFails, WriteAbsent, to_read, to_write}
+use Rattle.parts_model.specs.Replies.{Answered, GaveBytes, ReadReply, Reads, ReadFails, ReadAbsent, WriteReply, Takes, WriteFails, WriteAbsent, to_read, to_write}
 use Rattle.parts_model.specs.Tagged.{values}
 use Rattle.acts_model.specs.Acts.{Returns, Gives}
 use Rattle.acts_model.specs.Bodies.{View}
@@ -88,20 +89,10 @@ read-console-tells m pid v most at reach (b ∷ held) e =
 
 -- what is read from a file, where there is one
 file-there : (o : Option (List TaggedByte)) (position most i : ℕ) → i < length (read_from (unwrap_or o []) position most) → option_and_then (λ bytes. slice_get bytes (position + i)) o ≡ slice_get (read_from (unwrap_or o []) position most) i
-file-there o position most i l =
-    let len = length-take most (drop position (unwrap_or o [])) in
-    in_list o ∙ (sym (get-drop position (unwrap_or o []) i) ∙ sym (get-take most (drop position (unwrap_or o [])) i (omega arith)))
-  where
-    in_list : (o : Option (List TaggedByte)) → option_and_then (λ bytes. slice_get bytes (position + i)) o ≡ slice_get (unwrap_or o []) (position + i)
-    in_list None = refl
-    in_list (Some bytes) = refl
+file-there o position most i h1 = grind (arith, common_steps, nat_tests, length-take, get-drop, get-take)
 
 file-behind : (o : Option (List TaggedByte)) (position most : ℕ) → IfSome o (λ bytes. position ≤ length bytes) → IfSome o (λ bytes. position + length (read_from (unwrap_or o []) position most) ≤ length bytes)
-file-behind None position most h = tt
-file-behind (Some bytes) position most h =
-    let a = length-take most (drop position bytes) in
-    let b = length-drop position bytes in
-    omega arith
+file-behind o position most h1 = grind (arith, common_steps, nat_tests, length-take, length-drop)
 
 read-file-tells : (m : Machine) (pid : ℕ) (v : View) (n file position most : ℕ) → At m pid v READ → can_reach v (argument v.body.cpu 1) most ≡ true → what_is m.kernel n ≡ Some (description.File file position) → (held : List TaggedByte) → read_from (unwrap_or (file_bytes m.kernel.files file) []) position most ≡ held → RequestTells m pid v READ (read_file m n (argument v.body.cpu 1) file position held)
 read-file-tells m pid v n file position most at reach what [] e = done-plain m pid v READ 0 extra.Nothing m.kernel at (read-plain pid v.body.cpu 0) refl (quiet-refl m.kernel)
@@ -140,8 +131,7 @@ read-pipe-tells m pid v pipe most at reach (Some p) e = read-queue-tells m pid v
 -- how many bytes a device gave
 abbrev length-of : ReadReply → ℕ
 length-of (Reads bytes) = length bytes
-length-of ReadFails = 0
-length-of ReadAbsent = 0
+length-of _ = 0
 
 read-absent-done : (m : Machine) (pid : ℕ) (v : View) → At m pid v READ → DoneCall m pid v READ (absent m.kernel)
 read-absent-done m pid v at = done-plain m pid v READ (error NO_DEVICE) extra.Absent m.kernel at (record { told = refl; length = refl; life = refl; put = refl; gives = refl }) refl (quiet-refl m.kernel)
@@ -169,12 +159,8 @@ device-read-done m pid v device len at reach ReadFails short =
 device-read-done m pid v device len at reach ReadAbsent short = read-absent-done m pid v at
 
 to-read-short : (len : ℕ) (reply : Option Answered) → length-of (to_read len reply) ≤ len
-to-read-short len None = omega arith
 to-read-short len (Some (GaveBytes bytes)) = omega (arith, length-take len bytes)
-to-read-short len (Some (TookBytes n)) = omega arith
-to-read-short len (Some Failed) = omega arith
-to-read-short len (Some IsAbsent) = omega arith
-to-read-short len (Some IsHere) = omega arith
+to-read-short len _ = omega arith
 
 asks-read : (m : Machine) (pid : ℕ) (v : View) (device len : ℕ) → At m pid v READ → can_reach v (argument v.body.cpu 1) len ≡ true → RequestTells m pid v READ (unless_unplugged m device (doing.Reads device (argument v.body.cpu 1) len))
 unfolding answered
@@ -184,35 +170,22 @@ asks-read m pid v device len at reach = by_test (was_unplugged m.kernel device)
     by_test true = read-absent-done m pid v at
     by_test false = λ reply. device-read-done m pid v device len at reach (to_read len reply) (to-read-short len reply)
 
+moving-read : (m : Machine) (pid : ℕ) (v : View) (goes_on : Request) → At m pid v READ → ((argument v.body.cpu 2 == 0) ≡ false → can_reach v (argument v.body.cpu 1) (cut (argument v.body.cpu 2)) ≡ true → RequestTells m pid v READ goes_on) → RequestTells m pid v READ (if_moving m v (argument v.body.cpu 1) (argument v.body.cpu 2) goes_on)
+moving-read m pid v goes_on at next = moving-tells m pid v READ (argument v.body.cpu 1) (argument v.body.cpu 2) goes_on at refl (read-plain pid v.body.cpu 0) next
+
 read-from-tells : (m : Machine) (pid : ℕ) (v : View) (n : ℕ) → At m pid v READ → (what : Description) → what_is m.kernel n ≡ Some what → RequestTells m pid v READ (read_from_what m v n (argument v.body.cpu 1) (argument v.body.cpu 2) what)
 read-from-tells m pid v n at description.Console e =
-    let a = argument v.body.cpu 1 in
-    let count = argument v.body.cpu 2 in
-    moving-tells m pid v READ a count (read_console m a (front m.kernel.console (cut count))) at refl (read-plain pid v.body.cpu 0)
-    (λ some reach. read-console-tells m pid v (cut count) at reach (front m.kernel.console (cut count)) refl)
+    moving-read m pid v _ at (λ some reach. read-console-tells m pid v (cut (argument v.body.cpu 2)) at reach (front m.kernel.console (cut (argument v.body.cpu 2))) refl)
 read-from-tells m pid v n at (description.File file position) e =
-    let a = argument v.body.cpu 1 in
-    let count = argument v.body.cpu 2 in
-    let held = read_from (unwrap_or (file_bytes m.kernel.files file) []) position (cut count) in
-    moving-tells m pid v READ a count (read_file m n a file position held) at refl (read-plain pid v.body.cpu 0)
-    (λ some reach. read-file-tells m pid v n file position (cut count) at reach e held refl)
+    let held = read_from (unwrap_or (file_bytes m.kernel.files file) []) position (cut (argument v.body.cpu 2)) in
+    moving-read m pid v _ at (λ some reach. read-file-tells m pid v n file position (cut (argument v.body.cpu 2)) at reach e held refl)
 read-from-tells m pid v n at (description.Reader pipe) e =
-    let a = argument v.body.cpu 1 in
-    let count = argument v.body.cpu 2 in
-    moving-tells m pid v READ a count (read_pipe m pipe a (cut count) (nth m.kernel.pipes pipe)) at refl (read-plain pid v.body.cpu 0)
-    (λ some reach. read-pipe-tells m pid v pipe (cut count) at reach (nth m.kernel.pipes pipe) refl)
+    moving-read m pid v _ at (λ some reach. read-pipe-tells m pid v pipe (cut (argument v.body.cpu 2)) at reach (nth m.kernel.pipes pipe) refl)
 read-from-tells m pid v n at (description.Connection reads writes) e =
-    let a = argument v.body.cpu 1 in
-    let count = argument v.body.cpu 2 in
-    moving-tells m pid v READ a count (read_pipe m reads a (cut count) (nth m.kernel.pipes reads)) at refl (read-plain pid v.body.cpu 0)
-    (λ some reach. read-pipe-tells m pid v reads (cut count) at reach (nth m.kernel.pipes reads) refl)
+    moving-read m pid v _ at (λ some reach. read-pipe-tells m pid v reads (cut (argument v.body.cpu 2)) at reach (nth m.kernel.pipes reads) refl)
 read-from-tells m pid v n at (description.Device device) e =
-    let a = argument v.body.cpu 1 in
-    let count = argument v.body.cpu 2 in
-    moving-tells m pid v READ a count (unless_unplugged m device (doing.Reads device a (cut count))) at refl (read-plain pid v.body.cpu 0)
-    (λ some reach. asks-read m pid v device (cut count) at reach)
-read-from-tells m pid v n at (description.Writer pipe) e = refused-tells m pid v READ BAD_DESCRIPTOR at refl refl
-read-from-tells m pid v n at (description.Listener port) e = refused-tells m pid v READ BAD_DESCRIPTOR at refl refl
+    moving-read m pid v _ at (λ some reach. asks-read m pid v device (cut (argument v.body.cpu 2)) at reach)
+read-from-tells m pid v n at _ e = refused-tells m pid v READ BAD_DESCRIPTOR at refl refl
 
 read-what-tells : (m : Machine) (pid : ℕ) (v : View) (n : ℕ) → At m pid v READ → (o : Option Description) → what_is m.kernel n ≡ o → RequestTells m pid v READ (read_what m v n (argument v.body.cpu 1) (argument v.body.cpu 2) o)
 read-what-tells m pid v n at None e = refused-tells m pid v READ BAD_DESCRIPTOR at refl refl
@@ -247,20 +220,7 @@ write-console-tells m pid v len h1 h2 = grind (arith, nat_tests, gave-all, givin
 
 -- what fits is taken whole
 fitting-fits : (position : ℕ) (bytes : List ℕ) → length (take (fitting position (length bytes)) bytes) ≤ fitting position (length (take (fitting position (length bytes)) bytes))
-fitting-fits position bytes = by_test (nat_le (position + length bytes) MOST_FILE_BYTES) refl
-  where
-    again : (taken : List ℕ) → (MOST_FILE_BYTES < position + length taken → length taken ≤ MOST_FILE_BYTES - position) → (b : Bool) → nat_le (position + length taken) MOST_FILE_BYTES ≡ b → length taken ≤ (if b then length taken else MOST_FILE_BYTES - position)
-    again taken h true e = omega arith
-    again taken h false e = h (leb-false (position + length taken) MOST_FILE_BYTES e)
-
-    by_test : (b : Bool) → nat_le (position + length bytes) MOST_FILE_BYTES ≡ b → length (take (if b then length bytes else MOST_FILE_BYTES - position) bytes) ≤ fitting position (length (take (if b then length bytes else MOST_FILE_BYTES - position) bytes))
-    by_test true e =
-        let l = leb-true (position + length bytes) MOST_FILE_BYTES e in
-        let g = length-take (length bytes) bytes in
-        again (take (length bytes) bytes) (λ over. absurd (omega arith)) (nat_le (position + length (take (length bytes) bytes)) MOST_FILE_BYTES) refl
-    by_test false e =
-        let g = length-take (MOST_FILE_BYTES - position) bytes in
-        again (take (MOST_FILE_BYTES - position) bytes) (λ over. omega arith) (nat_le (position + length (take (MOST_FILE_BYTES - position) bytes)) MOST_FILE_BYTES) refl
+fitting-fits position bytes = grind (arith, common_steps, nat_tests, leb-false, leb-true, length-take)
 
 write-file-tells : (m : Machine) (pid : ℕ) (v : View) (n file position len : ℕ) → At m pid v WRITE → can_reach v (argument v.body.cpu 1) len ≡ true → what_is m.kernel n ≡ Some (description.File file position) → RequestTells m pid v WRITE (write_file m n (argument v.body.cpu 1) file position (read v (argument v.body.cpu 1) len))
 write-file-tells m pid v n file position len at reach what =
@@ -343,34 +303,21 @@ asks-write m pid v device len at reach = by_test (was_unplugged m.kernel device)
     by_test true = write-absent-done m pid v at
     by_test false = λ reply. device-write-done m pid v device len at reach (to_write len reply)
 
+moving-write : (m : Machine) (pid : ℕ) (v : View) (goes_on : Request) → At m pid v WRITE → ((argument v.body.cpu 2 == 0) ≡ false → can_reach v (argument v.body.cpu 1) (cut (argument v.body.cpu 2)) ≡ true → RequestTells m pid v WRITE goes_on) → RequestTells m pid v WRITE (if_moving m v (argument v.body.cpu 1) (argument v.body.cpu 2) goes_on)
+moving-write m pid v goes_on at next = moving-tells m pid v WRITE (argument v.body.cpu 1) (argument v.body.cpu 2) goes_on at refl (write-plain pid v.body.cpu) next
+
 write-to-tells : (m : Machine) (pid : ℕ) (v : View) (n : ℕ) → At m pid v WRITE → (what : Description) → what_is m.kernel n ≡ Some what → RequestTells m pid v WRITE (write_to_what m v n (argument v.body.cpu 1) (argument v.body.cpu 2) what)
 write-to-tells m pid v n at description.Console e =
-    let a = argument v.body.cpu 1 in
-    let count = argument v.body.cpu 2 in
-    moving-tells m pid v WRITE a count (write_console m a (read v a (cut count))) at refl (write-plain pid v.body.cpu)
-    (λ some reach. write-console-tells m pid v (cut count) at reach)
+    moving-write m pid v _ at (λ some reach. write-console-tells m pid v (cut (argument v.body.cpu 2)) at reach)
 write-to-tells m pid v n at (description.File file position) e =
-    let a = argument v.body.cpu 1 in
-    let count = argument v.body.cpu 2 in
-    moving-tells m pid v WRITE a count (write_file m n a file position (read v a (cut count))) at refl (write-plain pid v.body.cpu)
-    (λ some reach. write-file-tells m pid v n file position (cut count) at reach e)
+    moving-write m pid v _ at (λ some reach. write-file-tells m pid v n file position (cut (argument v.body.cpu 2)) at reach e)
 write-to-tells m pid v n at (description.Writer pipe) e =
-    let a = argument v.body.cpu 1 in
-    let count = argument v.body.cpu 2 in
-    moving-tells m pid v WRITE a count (write_pipe m pipe a (read v a (cut count)) (nth m.kernel.pipes pipe)) at refl (write-plain pid v.body.cpu)
-    (λ some reach. write-pipe-tells m pid v pipe (cut count) at reach (cut-some count some) (omega arith) (nth m.kernel.pipes pipe) refl)
+    moving-write m pid v _ at (λ some reach. write-pipe-tells m pid v pipe (cut (argument v.body.cpu 2)) at reach (cut-some (argument v.body.cpu 2) some) (omega arith) (nth m.kernel.pipes pipe) refl)
 write-to-tells m pid v n at (description.Connection reads writes) e =
-    let a = argument v.body.cpu 1 in
-    let count = argument v.body.cpu 2 in
-    moving-tells m pid v WRITE a count (write_pipe m writes a (read v a (cut count)) (nth m.kernel.pipes writes)) at refl (write-plain pid v.body.cpu)
-    (λ some reach. write-pipe-tells m pid v writes (cut count) at reach (cut-some count some) (omega arith) (nth m.kernel.pipes writes) refl)
+    moving-write m pid v _ at (λ some reach. write-pipe-tells m pid v writes (cut (argument v.body.cpu 2)) at reach (cut-some (argument v.body.cpu 2) some) (omega arith) (nth m.kernel.pipes writes) refl)
 write-to-tells m pid v n at (description.Device device) e =
-    let a = argument v.body.cpu 1 in
-    let count = argument v.body.cpu 2 in
-    moving-tells m pid v WRITE a count (unless_unplugged m device (doing.Writes device a (cut count))) at refl (write-plain pid v.body.cpu)
-    (λ some reach. asks-write m pid v device (cut count) at reach)
-write-to-tells m pid v n at (description.Reader pipe) e = refused-tells m pid v WRITE BAD_DESCRIPTOR at refl refl
-write-to-tells m pid v n at (description.Listener port) e = refused-tells m pid v WRITE BAD_DESCRIPTOR at refl refl
+    moving-write m pid v _ at (λ some reach. asks-write m pid v device (cut (argument v.body.cpu 2)) at reach)
+write-to-tells m pid v n at _ e = refused-tells m pid v WRITE BAD_DESCRIPTOR at refl refl
 
 write-what-tells : (m : Machine) (pid : ℕ) (v : View) (n : ℕ) → At m pid v WRITE → (o : Option Description) → what_is m.kernel n ≡ o → RequestTells m pid v WRITE (write_what m v n (argument v.body.cpu 1) (argument v.body.cpu 2) o)
 write-what-tells m pid v n at None e = refused-tells m pid v WRITE BAD_DESCRIPTOR at refl refl

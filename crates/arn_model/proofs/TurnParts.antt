@@ -1,5 +1,6 @@
 -- The parts of a turn, and its instructions.
-use Rattle.std.proofs.Common.{◌≡◌, ℕ, zero, suc, ◌+◌, ◌||◌, ◌++◌, Bool, true, false, cond, List, [], ◌∷◌, Option, None, Some, length, option_to_list, option_map, refl, ap, ◌∙◌, arith}
+use Rattle.std.proofs.lemmas.Grind.{common_steps}
+use Rattle.std.proofs.Common.{◌≡◌, ℕ, zero, suc, ◌+◌, ◌||◌, ◌++◌, Bool, true, false, cond, List, [], ◌∷◌, Option, None, Some, length, option_to_list, option_map, refl, arith}
 use Rattle.std.proofs.lemmas.Bool.Decides.{nat_tests}
 use Rattle.std.proofs.lemmas.List.Sums.{sum_by-cons}
 use Rattle.rv64_model.specs.Instruction.{Effect, Next, Call, End}
@@ -73,14 +74,10 @@ last_of-Maybe n pid reply m plain = grind (arith, nat_tests, if-Maybe, last_in-M
 
 -- a turn's instructions are the plain ones and the last
 instructions-cons : (s : Step) (steps : List Step) (b : Bool) → is_instruction s.moved.inside ≡ b → instructions_in (s ∷ steps) ≡ cond b 1 0 + instructions_in steps
-instructions-cons s steps b is =
-    let one : Step → ℕ = λ (x : Step). cond (is_instruction x.moved.inside) 1 0 in
-    sum_by-cons one s steps ∙ ap (λ (b : Bool). cond b 1 0 + instructions_in steps) is
+instructions-cons s steps b h1 = grind (arith, common_steps, nat_tests, sum_by-cons)
 
 last-one : (o : Option Step) → MaybeLast o → instructions_in (option_to_list o) ≡ one_if_some o
-last-one None is = refl
-last-one (Some s) (Calls number pid call result more e one) = instructions-cons s [] true one
-last-one (Some s) (Ends number pid status e one) = instructions-cons s [] true one
+last-one o h1 = grind (arith, common_steps, nat_tests, instructions-cons)
 
 plain-all : (plain rest : List Step) → ArePlain plain → instructions_in (plain ++ rest) ≡ length plain + instructions_in rest
 plain-all [] rest are = omega arith
@@ -91,16 +88,7 @@ delivery-no None rest is = refl
 delivery-no (Some s) rest is = omega (arith, instructions-cons s rest false is.none)
 
 of-parts : (t : Turn) → MaybeDelivery t.delivery → ArePlain t.plain → MaybeLast t.last → IsTurn t
-of-parts t delivery plain last =
-    record {
-      delivery = delivery;
-      plain = plain;
-      last = last;
-      instructions =
-          delivery-no t.delivery (t.plain ++ option_to_list t.last) delivery
-          ∙ plain-all t.plain (option_to_list t.last) plain
-          ∙ ap (λ (k : ℕ). length t.plain + k) (last-one t.last last);
-    }
+of-parts t h1 h2 h3 = grind (arith, common_steps, nat_tests, delivery-no, plain-all, last-one)
 
 pub turns-have-parts : TurnsHaveParts
 turns-have-parts n pid reply m =

@@ -1,5 +1,5 @@
 -- A turn is the same with the reply that its last record names, from each machine that a run reaches.
-use Rattle.std.proofs.Common.{◌≡◌, ℕ, zero, suc, ◌+◌, ◌==◌, Bool, true, false, cond, nat_lt, List, [], ◌∷◌, length, Option, None, Some, option_to_list, refl, sym, subst, arith}
+use Rattle.std.proofs.Common.{◌≡◌, ℕ, zero, suc, ◌+◌, ◌==◌, Bool, true, false, cond, nat_lt, List, [], ◌∷◌, length, Option, None, Some, refl, sym, subst, arith}
 use Rattle.std.proofs.lemmas.Bool.Decides.{nat_tests}
 use Rattle.rv64_model.specs.Instruction.{Effect}
 use Rattle.parts_model.specs.declared.tagged.TaggedByte.{TaggedByte}
@@ -17,7 +17,7 @@ use Rattle.arn_model.specs.Run.{Input, after_input, machine_from, machine_after,
 use Rattle.arn_model.specs.Step.{Step, ending, only, without_signal, plain_by, last_by, delivery_of, due_signal, handler, waits}
 use Rattle.arn_model.specs.Turn.{Turn, plains, plain_in, steps_then, steps_of, turn, delivery_in, after_first, after_steps, last_in}
 use Rattle.arn_model.proofs.FewDescriptors.{Few, few-none, ended-few, booted-few, called-few, request-few}
-use Rattle.arn_model.proofs.RunLemmas.{after_steps-append}
+use Rattle.arn_model.proofs.RunLemmas.{after_steps-append, first-steps}
 use Rattle.arn_model.proofs.ToldReplies.{last-told}
 
 -- a delivery leaves descriptors few
@@ -71,11 +71,6 @@ last_in-few m pid reply (Some v) few = last_by-few m pid v reply (stands_at v) f
 if-few : (m : Machine) (b : Bool) (o : Option Step) → Few m.kernel.processes → Few (after_first m o).kernel.processes → Few (after_first m (cond b o None)).kernel.processes
 if-few m true o few after = after
 if-few m false o few after = few
-
--- so does a whole turn
-first-steps : (m : Machine) (o : Option Step) → after_steps m (option_to_list o) ≡ after_first m o
-first-steps m None = refl
-first-steps m (Some s) = refl
 
 turn-steps : (m : Machine) (t : Turn) → after_steps m (steps_of t) ≡ after_first (after_steps (after_first m t.delivery) t.plain) t.last
 turn-steps m t = grind (arith, nat_tests, after_steps-append, first-steps)

@@ -1,25 +1,22 @@
 -- What the steps of a turn tell: a delivery, instructions, and a call or an end by fault.
-use Rattle.std.proofs.Common.{◌≡◌, ℕ, zero, suc, ◌+◌, ◌≤◌, List, [], ◌∷◌, ◌++◌, length, refl, ap, ◌∙◌, sym, Option, Some, None, IfSome, Bool, true, false, ◌==◌, not, if◌then◌else◌, arith, option_map}
+use Rattle.std.proofs.Common.{◌≡◌, ℕ, zero, suc, ◌+◌, ◌≤◌, List, [], ◌∷◌, ◌++◌, length, refl, ap, ◌∙◌, Option, Some, None, IfSome, Bool, true, false, ◌==◌, not, if◌then◌else◌, arith, option_map, option_to_list, eq-eqb}
 use Rattle.std.proofs.lemmas.Bool.Decides.{nat_tests}
-use Rattle.std.specs.Prelude.{option_to_list}
-use Rattle.std.proofs.lemmas.Bool.{eq-eqb}
 use Rattle.arn_base.specs.declared.machine.Cpu.{Cpu}
 use Rattle.arn_base.specs.Window.{Window}
 use Rattle.arn_base.specs.declared.records.Record.{Record}
 use Rattle.arn_base.specs.declared.records.Record.TheVariants as entry
 use Rattle.rv64_isa.specs.declared.instruction.Instr.{Instr}
 use Rattle.rv64_model.specs.Instruction.{Effect, Next, Call, End}
-use Rattle.parts_model.specs.Files.{file_bytes}
 use Rattle.parts_model.specs.Replies.{Answered}
 use Rattle.acts_model.specs.Acts.{Delivers, Faults, Dies}
 use Rattle.acts_model.specs.Bodies.{View, seen}
 use Rattle.acts_model.specs.Disagreement.{status_wrong, wrong_if}
-use Rattle.acts_model.specs.Records.{EndsLife, NoLife, NoName, lives_after}
+use Rattle.acts_model.specs.Records.{EndsLife, NoName, lives_after}
 use Rattle.acts_model.specs.Views.{stands_at, call_number, after_instr}
 use Rattle.arn_model.specs.Doing.{Doing, Request, Waits, Does, Asks}
 use Rattle.arn_model.specs.Kernel.{Machine}
 use Rattle.arn_model.specs.Row.{request, does, answered}
-use Rattle.arn_model.specs.Step.{Step, plain_step, event_step, call_step, ending, last_by, plain_by, waits, due_signal, handler, without_signal, only, delivering, delivery_of}
+use Rattle.arn_model.specs.Step.{Step, plain_step, event_step, call_step, ending, last_by, plain_by, waits, handler, without_signal, only, delivering, delivery_of}
 use Rattle.arn_model.specs.Sound.{IsSound}
 use Rattle.arn_model.specs.Tells.{lives, EventTells, StepTells, Runs, Happens, HasNumbers, Along}
 use Rattle.arn_model.specs.Turn.{after_steps, after_first, delivery_in, plain_in, steps_then, plains, last_in, last_of, turn, steps_of}
@@ -28,6 +25,7 @@ use Rattle.arn_model.proofs.Effects.{KernelTells, quiet-tells, ended-tells}
 use Rattle.arn_model.proofs.Calling.{Done, RequestTells, life_by, kept-after}
 use Rattle.arn_model.proofs.Fitting.{BodiesFit, seen-fits, fit-put, fit-same, after-fits, advanced-small}
 use Rattle.arn_model.proofs.RowTells.{request-tells}
+use Rattle.arn_model.proofs.RunLemmas.{first-steps}
 
 -- what is kept: the kernel is sound, who has a body lives, and memories fit their windows
 pub record MachineSound (m : Machine) : Type 0 where
@@ -84,25 +82,7 @@ fault-done m pid v status s e x =
     right = ap (λ (x : Effect). status_wrong x status) x ∙ ap (λ (b : Bool). wrong_if (not b) status status) (eq-eqb status status refl)
 
     told : (k : KernelTells m.kernel m.events (status ∷ []) (ending m pid (Faults status) status).outgoing (EndsLife pid) NoName None (ending m pid (Faults status) status).kernel) → EventTells m pid v (ending m pid (Faults status) status) (entry.End pid status)
-    told k =
-        record {
-          inner = refl;
-          process = refl;
-          seen = e;
-          told = refl;
-          right = right;
-          forks = tt;
-          length = refl;
-          comes = tt;
-          receives = refl;
-          spans = refl;
-          holds = k.holds;
-          lives = k.living;
-          names = k.names;
-          files = λ file. kept-after m.events file (entry.End pid status) None refl (file_bytes m.kernel.files file) (file_bytes (ending m pid (Faults status) status).kernel.files file) (k.kept file);
-          last = k.last;
-          writes = tt;
-        }
+    told k = grind (arith, nat_tests, right, kept-after)
 
 -- a delivery
 
@@ -111,25 +91,7 @@ death-done m pid v signal address cut s e none =
     done-event m pid v (ending m pid (Dies signal cut) (128 + signal)) (entry.Signal pid signal cut address) s (record { told = told }) (ended-tells pid (128 + signal) m.events m.kernel)
   where
     told : (k : KernelTells m.kernel m.events ((128 + signal) ∷ []) (ending m pid (Dies signal cut) (128 + signal)).outgoing (EndsLife pid) NoName None (ending m pid (Dies signal cut) (128 + signal)).kernel) → EventTells m pid v (ending m pid (Dies signal cut) (128 + signal)) (entry.Signal pid signal cut address)
-    told k =
-        record {
-          inner = refl;
-          process = refl;
-          seen = e;
-          told = ap (λ (b : Bool). Some (if b then Dies signal cut else Delivers signal address cut)) none;
-          right = refl;
-          forks = tt;
-          length = ap (λ (b : Bool). if b then 1 else 0) none;
-          comes = tt;
-          receives = refl;
-          spans = refl;
-          holds = k.holds;
-          lives = λ q. k.living q ∙ ap (λ (b : Bool). lives_after (if b then EndsLife pid else NoLife) q (lives m.kernel q)) (sym none);
-          names = k.names;
-          files = λ file. kept-after m.events file (entry.Signal pid signal cut address) None refl (file_bytes m.kernel.files file) (file_bytes (ending m pid (Dies signal cut) (128 + signal)).kernel.files file) (k.kept file);
-          last = k.last;
-          writes = tt;
-        }
+    told k = grind (arith, nat_tests, kept-after)
 
 handled-done : (m : Machine) (pid : ℕ) (v : View) (signal address : ℕ) (cut : Bool) → MachineSound m → seen m.bodies pid ≡ Some v → (address == 0) ≡ false → Done m pid v (only (Delivers signal address cut) (without_signal pid signal m.kernel)) (entry.Signal pid signal cut address)
 handled-done m pid v signal address cut h1 h2 h3 = grind (arith, nat_tests, done-event, kept-after, quiet-tells, quiet-with_handling)
@@ -152,8 +114,7 @@ delivery-good m pid s = by_seen (seen m.bodies pid) refl
         event-good m pid v (delivering m pid signal address cut) (entry.Signal pid signal cut address) s e (delivering-done m pid v signal address cut s e)
 
     by_seen : (o : Option View) → seen m.bodies pid ≡ o → IfSome (delivery_in m pid o) (StepGood m)
-    by_seen None e = tt
-    by_seen (Some v) e = by_signal v e (due_signal m pid v)
+    by_seen o h1 = grind (arith, nat_tests, by_signal)
 
 -- a call or an end
 
@@ -173,8 +134,7 @@ last-good m pid reply s = by_seen (seen m.bodies pid) refl
     by_effect v e (End status) x = event-good m pid v _ (entry.End pid status) s e (fault-done m pid v status s e x)
 
     by_seen : (o : Option View) → seen m.bodies pid ≡ o → IfSome (last_in m pid reply o) (StepGood m)
-    by_seen None e = tt
-    by_seen (Some v) e = by_effect v e (stands_at v) refl
+    by_seen o h1 = grind (arith, nat_tests, by_effect)
 
 -- steps that follow each other
 
@@ -192,21 +152,15 @@ plains-good (suc n) pid m s = by_seen (λ after sound. plains-good n pid after s
   where
     by_effect : ((after : Machine) → MachineSound after → Along StepGood after (plains n pid after)) → (v : View) → seen m.bodies pid ≡ Some v → (x : Effect) → stands_at v ≡ x → Along StepGood m (steps_then (plain_by m pid v x) (plains n pid))
     by_effect rest v e (Next instr cpu memory) x = let good = plain-good m pid v instr cpu memory s e x in (good, rest (plain_step m pid v instr cpu memory).after good.sound)
-    by_effect rest v e Call x = tt
-    by_effect rest v e (End status) x = tt
+    by_effect rest v e _ x = tt
 
     by_seen : ((after : Machine) → MachineSound after → Along StepGood after (plains n pid after)) → (o : Option View) → seen m.bodies pid ≡ o → Along StepGood m (steps_then (plain_in m pid o) (plains n pid))
-    by_seen rest None e = tt
-    by_seen rest (Some v) e = by_effect rest v e (stands_at v) refl
+    by_seen h1 o h2 = grind (arith, nat_tests, by_effect)
 
 -- one step that there may be
 along-one : (m : Machine) (o : Option Step) → IfSome o (StepGood m) → Along StepGood m (option_to_list o)
 along-one m None h = tt
 along-one m (Some s) h = (h, tt)
-
-after-one : (m : Machine) (o : Option Step) → after_steps m (option_to_list o) ≡ after_first m o
-after-one m None = refl
-after-one m (Some s) = refl
 
 first-sound : (m : Machine) (o : Option Step) → MachineSound m → IfSome o (StepGood m) → MachineSound (after_first m o)
 first-sound m None s h = s
@@ -219,4 +173,4 @@ behind-good : (n pid : ℕ) (reply : Option Answered) (m : Machine) → MachineS
 behind-good n pid reply m h1 = grind (arith, nat_tests, along-append, along-one, along-sound, last_of-good, plains-good)
 
 pub turn-good : (n pid : ℕ) (reply : Option Answered) (m : Machine) → MachineSound m → Along StepGood m (steps_of (turn n pid reply m))
-turn-good n pid reply m h1 = grind (arith, nat_tests, after-one, along-append, along-one, behind-good, delivery-good, first-sound)
+turn-good n pid reply m h1 = grind (arith, nat_tests, first-steps, along-append, along-one, behind-good, delivery-good, first-sound)
