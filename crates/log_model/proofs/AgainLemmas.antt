@@ -1,5 +1,6 @@
 -- A turn for as many instructions as ran is the same turn.
-use Rattle.std.proofs.Common.{◌≡◌, ◌⊎◌, inl, inr, ℕ, zero, suc, ◌+◌, ◌<◌, ◌≤◌, ◌&&◌, ◌||◌, ◌++◌, Bool, true, false, cond, nat_lt, nat_le, List, [], ◌∷◌, Option, None, Some, is_some, length, option_to_list, refl, sym, ap, subst, ◌∙◌, arith}
+use Rattle.std.proofs.lemmas.Grind.{common_steps}
+use Rattle.std.proofs.Common.{◌≡◌, ◌⊎◌, inl, inr, ℕ, zero, suc, ◌+◌, ◌<◌, ◌≤◌, ◌&&◌, ◌||◌, ◌++◌, Bool, true, cond, nat_lt, nat_le, List, [], ◌∷◌, Option, None, Some, is_some, length, option_to_list, refl, sym, ap, subst, ◌∙◌, arith}
 use Rattle.std.proofs.lemmas.Bool.{cond-true, cond-false}
 use Rattle.std.proofs.lemmas.Bool.Decides.{nat_tests}
 use Rattle.parts_model.specs.declared.limits.TheConstants.{MOST_SLICE}
@@ -33,31 +34,18 @@ plains-again : (n k pid : ℕ) → k ≤ n → (m : Machine) → length (plains 
 plains-again zero zero pid most m few = refl
 plains-again zero (suc k) pid most m few = absurd (omega (arith, most))
 plains-again (suc n) zero pid most m few = then-none (plain_in m pid (seen m.bodies pid)) (plains n pid) few
-plains-again (suc n) (suc k) pid most m few =
-    then-again (plain_in m pid (seen m.bodies pid)) k (plains k pid) (plains n pid) (plains-again n k pid (omega (arith, most))) few
+plains-again (suc n) (suc k) pid most m few = grind (arith, nat_tests, then-again (plain_in m pid (seen m.bodies pid)) k (plains k pid) (plains n pid) (plains-again n k pid (omega (arith, most))) few)
 
 -- there is a last step again exactly where there was one
 last-again : (b : Bool) (o : Option Step) (len count ran : ℕ) → nat_lt len count ≡ b → ran ≡ len + one_if_some (cond b o None) → cond (nat_lt len ran) o None ≡ cond b o None
-last-again true (Some s) len count ran is e = cond-true (nat_lt len ran) (Some s) None (grind (arith, nat_tests))
-last-again true None len count ran is e = cond-same (nat_lt len ran)
-  where
-    cond-same : (b : Bool) → cond {A = Option Step} b None None ≡ None
-    cond-same true = refl
-    cond-same false = refl
-last-again false o len count ran is e = cond-false (nat_lt len ran) o None (grind (arith, nat_tests))
+last-again b o len count ran h1 h2 = grind (arith, nat_tests, cond-true, cond-false)
 
 -- no more ran than might
 ran-few : (b : Bool) (o : Option Step) (len count ran : ℕ) → nat_lt len count ≡ b → len ≤ count → ran ≡ len + one_if_some (cond b o None) → ran ≤ count
-ran-few true (Some s) len count ran is most e = grind (arith, nat_tests)
-ran-few true None len count ran is most e = omega (arith, e, most)
-ran-few false o len count ran is most e = omega (arith, e, most)
+ran-few b o len count ran h1 h2 h3 = grind (arith, nat_tests)
 
 pub turn-few : TurnsHaveParts → (count pid : ℕ) (reply : Option Answered) (m : Machine) → instructions_in (steps_of (turn count pid reply m)) ≤ count
-turn-few parts count pid reply m =
-    let m' = after_first m (delivery_in m pid (seen m.bodies pid)) in
-    let plain = plains count pid m' in
-    let m'' = after_steps m' plain in
-    ran-few (nat_lt (length plain) count) (last_in m'' pid reply (seen m''.bodies pid)) (length plain) count (instructions_in (steps_of (turn count pid reply m))) refl (plains-few count pid m') (parts count pid reply m).instructions
+turn-few h1 count pid reply m = grind (arith, nat_tests, ran-few, plains-few)
 
 pub turn-again : TurnsHaveParts → (count pid : ℕ) (reply : Option Answered) (m : Machine) → turn (instructions_in (steps_of (turn count pid reply m))) pid reply m ≡ turn count pid reply m
 turn-again parts count pid reply m =
@@ -75,13 +63,7 @@ turn-again parts count pid reply m =
 
 -- a turn with a step delivers, or runs an instruction
 some-starts : (delivery : Option Step) (plain : List Step) (last : Option Step) (s : Step) (steps : List Step) → option_to_list delivery ++ (plain ++ option_to_list last) ≡ s ∷ steps → (is_some delivery ≡ true) ⊎ (0 < length plain + one_if_some last)
-some-starts (Some d) plain last s steps e = inl refl
-some-starts None (p ∷ plain) last s steps e = inr (omega arith)
-some-starts None [] (Some l) s steps e = inr (omega arith)
-some-starts None [] None s steps e = absurd (no_cons e)
-  where
-    no_cons : [] ≡ s ∷ steps → ⊥
-    no_cons e = cc
+some-starts delivery plain last s steps h1 = grind (arith, common_steps, nat_tests)
 
 -- a delivery was due
 of-due : (m : Machine) (pid : ℕ) (v : View) (o : Option ℕ) → is_some (delivery_of m pid v o) ≡ true → is_some o ≡ true
@@ -94,9 +76,7 @@ in-due m pid (Some v) is = of-due m pid v (due_signal m pid v) is
 
 -- a possible slice of fewer instructions that delivers or runs one is possible
 fewer-possible : (able due : Bool) (count ran : ℕ) → able && (nat_le count MOST_SLICE && (nat_lt 0 count || due)) ≡ true → ran ≤ count → (due ≡ true) ⊎ (0 < ran) → able && (nat_le ran MOST_SLICE && (nat_lt 0 ran || due)) ≡ true
-fewer-possible true due count ran possible few (inl is) = grind (arith, nat_tests)
-fewer-possible true due count ran possible few (inr some) = grind (arith, nat_tests)
-fewer-possible false due count ran possible few starts = possible
+fewer-possible able due count ran h1 h2 h3 = grind (arith, nat_tests)
 
 either : {A B C : Type 0} → (A → C) → A ⊎ B → C ⊎ B
 either f (inl a) = inl (f a)

@@ -62,17 +62,12 @@ inputs-named :
 inputs-named = refl
 
 -- a device that took bytes, one that isn't there, one that a `device` call found, and calls that asked none
-sent-named : reply_behind (entry.Call 1 12 2 (extra.Sent 0 (7 ∷ 8 ∷ [])) ∷ []) ≡ Some (TookBytes 2)
-sent-named = refl
-
-absent-named : reply_behind (entry.Call 1 12 (minus 19) extra.Absent ∷ []) ≡ Some IsAbsent
-absent-named = refl
-
-here-named : reply_behind (entry.Call 1 21 3 extra.Nothing ∷ []) ≡ Some IsHere
-here-named = refl
-
-refused-named : reply_behind (entry.Call 1 21 (minus 24) extra.Nothing ∷ []) ≡ None
-refused-named = refl
+reply-named :
+    (reply_behind (entry.Call 1 12 2 (extra.Sent 0 (7 ∷ 8 ∷ [])) ∷ []) ≡ Some (TookBytes 2))
+    × (reply_behind (entry.Call 1 12 (minus 19) extra.Absent ∷ []) ≡ Some IsAbsent)
+    × (reply_behind (entry.Call 1 21 3 extra.Nothing ∷ []) ≡ Some IsHere)
+    × (reply_behind (entry.Call 1 21 (minus 24) extra.Nothing ∷ []) ≡ None)
+reply-named = (refl, refl, refl, refl)
 
 console-named : reply_behind (entry.Call 1 12 1 (extra.Console (7 ∷ [])) ∷ []) ≡ None
 console-named = refl
@@ -117,20 +112,13 @@ delivering =
     (record { handlers = with_handler no_handlers 5 0x10000; pending = with_pending none_pending 5 true })
 
 -- the device says that it took more than there was: what it took is recorded, and named by the records
-delivery-recorded :
-    records_from delivering (Slice 1 100 (Some (TookBytes 3)) ∷ []) ≡
-    entry.Slice 1 1 ∷ entry.Signal 1 5 false 0x10000 ∷ entry.Call 1 12 1 (extra.Sent 7 (0x73 ∷ [])) ∷ []
+delivery :
+    (records_from delivering (Slice 1 100 (Some (TookBytes 3)) ∷ []) ≡
+    entry.Slice 1 1 ∷ entry.Signal 1 5 false 0x10000 ∷ entry.Call 1 12 1 (extra.Sent 7 (0x73 ∷ [])) ∷ [])
+    × (named (entry.Slice 1 1 ∷ entry.Signal 1 5 false 0x10000 ∷ entry.Call 1 12 1 (extra.Sent 7 (0x73 ∷ [])) ∷ []) ≡ Slice 1 1 (Some (TookBytes 1)) ∷ [])
+    -- a slice of no instruction delivers it
+    × (records_from delivering (Slice 1 0 None ∷ Slice 2 4 None ∷ []) ≡ entry.Slice 1 0 ∷ entry.Signal 1 5 false 0x10000 ∷ [])
+    -- without the slices there are the events
+    × (filter is_event (entry.Slice 1 0 ∷ entry.Signal 1 5 false 0x10000 ∷ []) ≡ entry.Signal 1 5 false 0x10000 ∷ [])
 unfolding delivering standing decoding.decoded_by row answered body_at memory_at put remove
-delivery-recorded = refl
-
-delivery-named : named (entry.Slice 1 1 ∷ entry.Signal 1 5 false 0x10000 ∷ entry.Call 1 12 1 (extra.Sent 7 (0x73 ∷ [])) ∷ []) ≡ Slice 1 1 (Some (TookBytes 1)) ∷ []
-delivery-named = refl
-
--- a slice of no instruction delivers it
-delivery-alone : records_from delivering (Slice 1 0 None ∷ Slice 2 4 None ∷ []) ≡ entry.Slice 1 0 ∷ entry.Signal 1 5 false 0x10000 ∷ []
-unfolding delivering standing decoding.decoded_by row answered body_at memory_at put remove
-delivery-alone = refl
-
--- without the slices there are the events
-events-alone : filter is_event (entry.Slice 1 0 ∷ entry.Signal 1 5 false 0x10000 ∷ []) ≡ entry.Signal 1 5 false 0x10000 ∷ []
-events-alone = refl
+delivery = (refl, refl, refl, refl)

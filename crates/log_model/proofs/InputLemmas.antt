@@ -1,4 +1,5 @@
 -- The records of one input: what they name, and what they are without the slice.
+use Rattle.std.proofs.lemmas.Bool.Decides.{nat_tests}
 use Rattle.std.proofs.Common.{◌≡◌, ℕ, ◌<◌, ◌++◌, Bool, true, false, cond, List, [], ◌∷◌, Option, None, Some, filter, refl, sym, ap, ◌∙◌, append-nil, arith, length}
 use Rattle.std.proofs.lemmas.Bool.{cond-true, cond-false}
 use Rattle.arn_base.specs.declared.records.Record.{Record}
@@ -65,11 +66,7 @@ possible-kept true pid steps kept = slice-kept pid steps kept
 possible-kept false pid steps kept = refl
 
 pub input-kept : TurnsHaveParts → (m : Machine) (i : Input) → filter is_event (input_records i (input_steps m i)) ≡ event_records (input_steps m i)
-input-kept parts m (File path bytes) = outer-kept (File path bytes) (input_steps m (File path bytes)) (file-Outer m path bytes)
-input-kept parts m (Boot path) = outer-kept (Boot path) (input_steps m (Boot path)) (boot-Outer m path (is_booted m))
-input-kept parts m (Typed bytes) = outer-kept (Typed bytes) (input_steps m (Typed bytes)) (typed-Outer m bytes)
-input-kept parts m (Unplug device) = outer-kept (Unplug device) (input_steps m (Unplug device)) (unplug-Outer m device)
-input-kept parts m (Slice pid count reply) = possible-kept (is_possible m pid count) pid (steps_of (turn count pid reply m)) (turn-kept parts count pid reply m)
+input-kept h1 m i = grind (arith, nat_tests, outer-kept, file-Outer, boot-Outer, typed-Outer, unplug-Outer, possible-kept, turn-kept)
 
 -- an input's records begin with none of a call or a delivery
 outer-begins : (i : Input) (steps : List Step) → Outer i steps → (rest : List Record) → reply_behind rest ≡ None → reply_behind (event_records steps ++ rest) ≡ None
@@ -81,11 +78,7 @@ slice-begins pid [] rest before = before
 slice-begins pid (s ∷ steps) rest before = refl
 
 pub input-begins : (m : Machine) (i : Input) (rest : List Record) → reply_behind rest ≡ None → reply_behind (input_records i (input_steps m i) ++ rest) ≡ None
-input-begins m (File path bytes) rest before = outer-begins (File path bytes) (input_steps m (File path bytes)) (file-Outer m path bytes) rest before
-input-begins m (Boot path) rest before = outer-begins (Boot path) (input_steps m (Boot path)) (boot-Outer m path (is_booted m)) rest before
-input-begins m (Typed bytes) rest before = outer-begins (Typed bytes) (input_steps m (Typed bytes)) (typed-Outer m bytes) rest before
-input-begins m (Unplug device) rest before = outer-begins (Unplug device) (input_steps m (Unplug device)) (unplug-Outer m device) rest before
-input-begins m (Slice pid count reply) rest before = slice-begins pid (input_steps m (Slice pid count reply)) rest before
+input-begins m i rest h1 = grind (arith, nat_tests, outer-begins, file-Outer, boot-Outer, typed-Outer, unplug-Outer, slice-begins)
 
 -- an input's records name nothing, where it does nothing, or an input that does the same and has the same records
 pub record NamesAgain (m : Machine) (i : Input) : Type 0 where
@@ -93,18 +86,7 @@ pub record NamesAgain (m : Machine) (i : Input) : Type 0 where
   pub recorded : records_from m (named (input_records i (input_steps m i))) ≡ input_records i (input_steps m i)
 
 outer-again : (m : Machine) (i : Input) → ((steps : List Step) → input_records i steps ≡ event_records steps) → Outer i (input_steps m i) → NamesAgain m i
-outer-again m i by_events (NoStep none) =
-    let nothing : input_records i (input_steps m i) ≡ [] = by_events (input_steps m i) ∙ ap event_records none in
-    record {
-      again = ap (λ (entries : List Record). steps_from m (named entries)) nothing ∙ sym none;
-      recorded = ap (λ (entries : List Record). records_from m (named entries)) nothing ∙ sym nothing;
-    }
-outer-again m i by_events (OneStep entry has names is none) =
-    let same : named (input_records i (input_steps m i)) ≡ i ∷ [] = ap named (by_events (input_steps m i) ∙ has) ∙ names in
-    record {
-      again = ap (steps_from m) same ∙ append-nil (input_steps m i);
-      recorded = ap (records_from m) same ∙ append-nil (input_records i (input_steps m i));
-    }
+outer-again m i h1 h2 = grind (arith, nat_tests, append-nil)
 
 -- steps of a slice, if there are any, are taken again by a slice of as many instructions, with the reply behind it
 pub Repeats : Machine → ℕ → List Step → Type 0
@@ -119,20 +101,7 @@ some-again m pid (s ∷ steps) some repeats = repeats
 
 slice-again : (m : Machine) (pid count : ℕ) (reply : Option Answered) (steps : List Step) → input_steps m (Slice pid count reply) ≡ steps → Repeats m pid steps → named (event_records steps) ≡ [] → NamesAgain m (Slice pid count reply)
 unfolding Repeats
-slice-again m pid count reply [] is repeats none = record { again = rw is refl; recorded = rw is refl }
-slice-again m pid count reply (s ∷ steps) is repeats none =
-    let all : List Step = s ∷ steps in
-    let i : Input = Slice pid (instructions_in all) (reply_behind (event_records all)) in
-    let names : named (slice_records pid all) ≡ i ∷ [] = ap (λ (inputs : List Input). i ∷ inputs) none in
-    record {
-      again = ap (λ (x : List Step). steps_from m (named (slice_records pid x))) is ∙ ap (steps_from m) names ∙ append-nil (input_steps m i) ∙ repeats ∙ sym is;
-      recorded =
-          ap (λ (x : List Step). records_from m (named (slice_records pid x))) is
-          ∙ ap (records_from m) names
-          ∙ append-nil (slice_records pid (input_steps m i))
-          ∙ ap (slice_records pid) repeats
-          ∙ ap (slice_records pid) (sym is);
-    }
+slice-again m pid count reply steps h1 h2 h3 = grind (arith, nat_tests, append-nil)
 
 pub turn-repeats : TurnsHaveParts → (m : Machine) (pid count : ℕ) (reply : Option Answered) → ReplyIsTold count pid reply m → is_possible m pid count ≡ true → (steps : List Step) → steps_of (turn count pid reply m) ≡ steps → Repeats m pid steps
 unfolding Repeats
@@ -155,8 +124,7 @@ unfolding Repeats
 possible-again parts m pid count reply told true possible =
     let steps = steps_of (turn count pid reply m) in
     slice-again m pid count reply steps (cond-true (is_possible m pid count) steps [] possible) (turn-repeats parts m pid count reply told possible steps refl) (turn-names-none parts count pid reply m)
-possible-again parts m pid count reply told false possible =
-    slice-again m pid count reply [] (cond-false (is_possible m pid count) (steps_of (turn count pid reply m)) [] possible) tt refl
+possible-again parts m pid count reply told false possible = grind (arith, nat_tests, slice-again m pid count reply [] (cond-false (is_possible m pid count) (steps_of (turn count pid reply m)) [] possible) tt refl)
 
 -- where each turn is the same with the reply that its record names
 pub input-again : TurnsHaveParts → (m : Machine) (i : Input) → ((n pid : ℕ) (reply : Option Answered) → ReplyIsTold n pid reply m) → NamesAgain m i

@@ -1,9 +1,9 @@
 -- The records of whole runs: their events, and the inputs that they name.
-use Rattle.std.proofs.Common.{◌≡◌, ◌++◌, List, [], ◌∷◌, Option, None, filter, refl, sym, ap, subst, ◌∙◌}
+use Rattle.std.proofs.lemmas.Bool.Decides.{nat_tests}
+use Rattle.std.proofs.Common.{◌≡◌, ◌++◌, List, [], ◌∷◌, None, filter, refl, sym, ap, subst, ◌∙◌, arith}
 use Rattle.std.proofs.lemmas.List.Elements.{filter-append}
 use Rattle.arn_base.specs.declared.records.Record.{Record}
 use Rattle.arn_base.specs.declared.records.Record.TheVariants as entry
-use Rattle.parts_model.specs.Replies.{Answered}
 use Rattle.acts_model.specs.Records.{is_event}
 use Rattle.arn_model.specs.Kernel.{Machine, at_first}
 use Rattle.arn_model.specs.Laws.{RepliesAreTold, EachRunAppends}
@@ -18,13 +18,7 @@ use Rattle.log_model.proofs.InputLemmas.{input-kept, input-begins, NamesAgain, i
 -- the records without the slices are those of the events
 records_from-kept : TurnsHaveParts → (m : Machine) (inputs : List Input) → filter is_event (records_from m inputs) ≡ event_records (steps_from m inputs)
 records_from-kept parts m [] = refl
-records_from-kept parts m (i ∷ inputs) =
-    let steps = input_steps m i in
-    let m' = after_input m i in
-    filter-append is_event (input_records i steps) (records_from m' inputs)
-    ∙ ap (λ (x : List Record). x ++ filter is_event (records_from m' inputs)) (input-kept parts m i)
-    ∙ ap (λ (x : List Record). event_records steps ++ x) (records_from-kept parts m' inputs)
-    ∙ sym (event_records-append steps (steps_from m' inputs))
+records_from-kept parts m (i ∷ inputs) = grind (arith, nat_tests, filter-append is_event (input_records i (input_steps m i)) (records_from (after_input m i) inputs), input-kept parts m i, records_from-kept parts (after_input m i) inputs, event_records-append (input_steps m i) (steps_from (after_input m i) inputs))
 
 pub records-kept : TurnsHaveParts → (inputs : List Input) → filter is_event (records inputs) ≡ event_records (run inputs)
 records-kept parts inputs = records_from-kept parts at_first inputs
@@ -38,13 +32,7 @@ records_from-begin m (i ∷ inputs) = input-begins m i (records_from (after_inpu
 pub behind-append : (entries rest : List Record) → reply_behind rest ≡ None → reply_behind (entries ++ rest) ≡ reply_behind entries
 behind-append [] rest before = before
 behind-append (entry.Signal pid signal cut handler ∷ entries) rest before = behind-append entries rest before
-behind-append (entry.Call pid number result more ∷ entries) rest before = refl
-behind-append (entry.File name bytes ∷ entries) rest before = refl
-behind-append (entry.Boot name give ∷ entries) rest before = refl
-behind-append (entry.Typed bytes ∷ entries) rest before = refl
-behind-append (entry.Unplug device ∷ entries) rest before = refl
-behind-append (entry.Slice pid ran ∷ entries) rest before = refl
-behind-append (entry.End pid status ∷ entries) rest before = refl
+behind-append _ rest before = refl
 
 pub named-append : (entries rest : List Record) → reply_behind rest ≡ None → named (entries ++ rest) ≡ named entries ++ named rest
 named-append [] rest before = refl
@@ -52,12 +40,8 @@ named-append (entry.File name bytes ∷ entries) rest before = ap (λ (inputs : 
 named-append (entry.Boot name give ∷ entries) rest before = ap (λ (inputs : List Input). Boot name ∷ inputs) (named-append entries rest before)
 named-append (entry.Typed bytes ∷ entries) rest before = ap (λ (inputs : List Input). Typed bytes ∷ inputs) (named-append entries rest before)
 named-append (entry.Unplug device ∷ entries) rest before = ap (λ (inputs : List Input). Unplug device ∷ inputs) (named-append entries rest before)
-named-append (entry.Slice pid ran ∷ entries) rest before =
-    ap (λ (reply : Option Answered). Slice pid ran reply ∷ named (entries ++ rest)) (behind-append entries rest before)
-    ∙ ap (λ (inputs : List Input). Slice pid ran (reply_behind entries) ∷ inputs) (named-append entries rest before)
-named-append (entry.Signal pid signal cut handler ∷ entries) rest before = named-append entries rest before
-named-append (entry.Call pid number result more ∷ entries) rest before = named-append entries rest before
-named-append (entry.End pid status ∷ entries) rest before = named-append entries rest before
+named-append (entry.Slice pid ran ∷ entries) rest before = grind (arith, nat_tests, behind-append entries rest before, named-append entries rest before)
+named-append (_ ∷ entries) rest before = named-append entries rest before
 
 -- what the records name of inputs does the same, and has the same records
 record RunsAgain (m : Machine) (inputs : List Input) : Type 0 where

@@ -3,10 +3,10 @@ use Rattle.std.proofs.Common.{◌≡◌, ℕ, zero, suc, ◌+◌, ◌<◌, ◌++
 use Rattle.std.proofs.lemmas.Bool.Decides.{nat_tests}
 use Rattle.parts_model.specs.declared.limits.TheConstants.{MOST_SLICE}
 use Rattle.parts_model.specs.Replies.{Answered}
-use Rattle.rv64_model.specs.Instruction.{Effect, Next, Call, End}
+use Rattle.rv64_model.specs.Instruction.{Effect, Call}
 use Rattle.acts_model.specs.Bodies.{View, seen}
 use Rattle.acts_model.specs.Views.{stands_at}
-use Rattle.arn_model.specs.Doing.{Request, Waits, Does, Asks}
+use Rattle.arn_model.specs.Doing.{Request, Waits}
 use Rattle.arn_model.specs.Kernel.{Machine}
 use Rattle.arn_model.specs.Parts.{one_if_some}
 use Rattle.arn_model.specs.Row.{does, is_waiting, request}
@@ -21,21 +21,15 @@ one_if_length (Some s) = refl
 -- a call that is ready does something
 ready-some : (m : Machine) (pid : ℕ) (v : View) (reply : Option Answered) (r : Request) → is_waiting r ≡ false → 0 < one_if_some (option_map (call_step m pid v) (does m pid v reply r))
 ready-some m pid v reply Waits ready = absurd cc
-ready-some m pid v reply (Does d) ready = omega arith
-ready-some m pid v reply (Asks question) ready = omega arith
+ready-some m pid v reply _ ready = omega arith
 
 -- an instruction runs, or is the last
 first-or-last : (m : Machine) (pid : ℕ) (v : View) (reply : Option Answered) (e : Effect) → waits_at m pid v e ≡ false → 0 < one_if_some (plain_by m pid v e) + one_if_some (last_by m pid v reply e)
-first-or-last m pid v reply (Next instr cpu memory) ready = omega arith
 first-or-last m pid v reply Call ready = omega (arith, ready-some m pid v reply (request m pid v) ready)
-first-or-last m pid v reply (End status) ready = omega arith
+first-or-last m pid v reply _ ready = omega arith
 
 some-behind : (n pid : ℕ) (reply : Option Answered) (m : Machine) (p : Option Step) → 0 < one_if_some p + one_if_some (last_in m pid reply (seen m.bodies pid)) → 0 < length (steps_then p (plains n pid) ++ option_to_list (last_of (suc n) pid reply m (steps_then p (plains n pid))))
-some-behind n pid reply m (Some s) some = omega arith
-some-behind n pid reply m None some =
-    let o = last_in m pid reply (seen m.bodies pid) in
-    let more : nat_lt 0 (suc n) ≡ true = grind (arith, nat_tests) in
-    subst (λ (b : Bool). 0 < length (option_to_list (cond b o None))) (sym more) (omega (arith, some, one_if_length o))
+some-behind n pid reply m p h1 = grind (arith, nat_tests, one_if_length)
 
 -- a turn that delivers something, or doesn't
 turn-some : (n pid : ℕ) (reply : Option Answered) (m : Machine) (v : View) → seen m.bodies pid ≡ Some v → (o : Option ℕ) → is_some o || not (waits m pid v) ≡ true → 0 < length (steps_of (turn_from (suc n) pid reply (delivery_of m pid v o) (after_first m (delivery_of m pid v o))))

@@ -1,12 +1,13 @@
 -- The records of a turn's steps.
-use Rattle.std.proofs.Common.{◌≡◌, ℕ, ◌++◌, Bool, List, [], ◌∷◌, Option, None, Some, option_to_list, filter, refl, sym, ap, subst}
+use Rattle.std.proofs.lemmas.Bool.Decides.{nat_tests}
+use Rattle.std.proofs.Common.{◌≡◌, ℕ, ◌++◌, Bool, List, [], ◌∷◌, Option, None, Some, option_to_list, filter, refl, ap, arith}
 use Rattle.arn_base.specs.declared.records.Record.{Record}
 use Rattle.arn_base.specs.declared.records.Record.TheVariants as entry
 use Rattle.parts_model.specs.Replies.{Answered}
 use Rattle.acts_model.specs.Records.{is_event}
 use Rattle.arn_model.specs.Kernel.{Machine}
 use Rattle.arn_model.specs.Laws.{reply_told}
-use Rattle.arn_model.specs.Parts.{MaybeDelivery, ArePlain, MaybeLast, Calls, Ends, IsTurn, TurnsHaveParts}
+use Rattle.arn_model.specs.Parts.{MaybeDelivery, ArePlain, MaybeLast, IsTurn, TurnsHaveParts}
 use Rattle.arn_model.specs.Step.{Step}
 use Rattle.arn_model.specs.Turn.{Turn, steps_of, turn}
 use Rattle.log_model.specs.Records.{event_records, reply_behind, named}
@@ -22,15 +23,11 @@ delivery-records P None rest is more holds = holds
 delivery-records P (Some s) rest is more holds = rw is.event (more is.pid is.signal is.handler is.cut (event_records rest) holds)
 
 turn-records : (P : List Record → Type 0) (t : Turn) → IsTurn t → ((pid signal handler : ℕ) (cut : Bool) (entries : List Record) → P entries → P (entry.Signal pid signal cut handler ∷ entries)) → P (event_records (option_to_list t.last)) → P (event_records (steps_of t))
-turn-records P t is more last =
-    delivery-records P t.delivery (t.plain ++ option_to_list t.last) is.delivery more
-    (subst P (sym (plain-records t.plain (option_to_list t.last) is.plain)) last)
+turn-records P t h1 h2 h3 = grind (arith, nat_tests, delivery-records, plain-records)
 
 -- all of them are of events
 last-kept : (o : Option Step) → MaybeLast o → filter is_event (event_records (option_to_list o)) ≡ event_records (option_to_list o)
-last-kept None is = refl
-last-kept (Some s) (Calls number pid call result more e one) = rw e refl
-last-kept (Some s) (Ends number pid status e one) = rw e refl
+last-kept o h1 = grind (arith, nat_tests)
 
 pub turn-kept : TurnsHaveParts → (n pid : ℕ) (reply : Option Answered) (m : Machine) → filter is_event (event_records (steps_of (turn n pid reply m))) ≡ event_records (steps_of (turn n pid reply m))
 turn-kept parts n pid reply m =
@@ -42,9 +39,7 @@ turn-kept parts n pid reply m =
 
 -- they name no input
 last-names-none : (o : Option Step) → MaybeLast o → named (event_records (option_to_list o)) ≡ []
-last-names-none None is = refl
-last-names-none (Some s) (Calls number pid call result more e one) = rw e refl
-last-names-none (Some s) (Ends number pid status e one) = rw e refl
+last-names-none o h1 = grind (arith, nat_tests)
 
 pub turn-names-none : TurnsHaveParts → (n pid : ℕ) (reply : Option Answered) (m : Machine) → named (event_records (steps_of (turn n pid reply m))) ≡ []
 turn-names-none parts n pid reply m =
@@ -54,9 +49,7 @@ turn-names-none parts n pid reply m =
 
 -- the reply behind a delivery is that of the last step
 last-reply : (o : Option Step) → MaybeLast o → reply_behind (event_records (option_to_list o)) ≡ reply_told o
-last-reply None is = refl
-last-reply (Some s) (Calls number pid call result more e one) = rw e refl
-last-reply (Some s) (Ends number pid status e one) = rw e refl
+last-reply o h1 = grind (arith, nat_tests)
 
 pub turn-reply : TurnsHaveParts → (n pid : ℕ) (reply : Option Answered) (m : Machine) → reply_behind (event_records (steps_of (turn n pid reply m))) ≡ reply_told (turn n pid reply m).last
 turn-reply parts n pid reply m =
