@@ -63,97 +63,53 @@ asks : List Record
 asks = entry.Slice 1 2 ∷ entry.Call 1 5 1 extra.Nothing ∷ []
 
 -- inside the slice the call hasn't happened
-before-asks : cpu_in (after 10 asks) ≡ Some (cpu_at 0x10000)
+owes :
+    (cpu_in (after 10 asks) ≡ Some (cpu_at 0x10000))
+    × (cpu_in (after 11 asks) ≡ Some (with_register (cpu_at 0x10004) 17 5))
+    × (cpu_in (after 12 asks) ≡ Some (with_register (with_register (cpu_at 0x10008) 17 5) 10 1))
+    × (happened (after 10 asks) ∷ happened (after 11 asks) ∷ happened (after 12 asks) ∷ happened (after 99 asks) ∷ [] ≡ 0 ∷ 1 ∷ 2 ∷ 2 ∷ [])
+    -- a slice that ends with no call runs all its instructions, and a slice of another group's process runs none here
+    × (cpu_in (after 99 (entry.Slice 2 7 ∷ entry.Slice 1 1 ∷ [])) ≡ Some (with_register (cpu_at 0x10004) 17 5))
 unfolding asks after standing bodies decoding.decoded_by body_at memory_at put remove
-before-asks = refl
-
-inside-asks : cpu_in (after 11 asks) ≡ Some (with_register (cpu_at 0x10004) 17 5)
-unfolding asks after standing bodies decoding.decoded_by body_at memory_at put remove
-inside-asks = refl
-
-behind-asks : cpu_in (after 12 asks) ≡ Some (with_register (with_register (cpu_at 0x10008) 17 5) 10 1)
-unfolding asks after standing bodies decoding.decoded_by body_at memory_at put remove
-behind-asks = refl
-
-asks-happened : happened (after 10 asks) ∷ happened (after 11 asks) ∷ happened (after 12 asks) ∷ happened (after 99 asks) ∷ [] ≡ 0 ∷ 1 ∷ 2 ∷ 2 ∷ []
-unfolding asks after standing bodies decoding.decoded_by body_at memory_at put remove
-asks-happened = refl
-
--- a slice that ends with no call runs all its instructions, and a slice of another group's process runs none here
-others-run : cpu_in (after 99 (entry.Slice 2 7 ∷ entry.Slice 1 1 ∷ [])) ≡ Some (with_register (cpu_at 0x10004) 17 5)
-unfolding after standing bodies decoding.decoded_by body_at memory_at put remove
-others-run = refl
+owes = (refl, refl, refl, refl, refl)
 
 -- it ends
-exits : cpu_in (after 99 (asks ++ entry.Slice 1 2 ∷ entry.Call 1 1 0 extra.Nothing ∷ [])) ≡ None
+ends-and-counts :
+    (cpu_in (after 99 (asks ++ entry.Slice 1 2 ∷ entry.Call 1 1 0 extra.Nothing ∷ [])) ≡ None)
+    -- more instructions than stand before the call: the count, and those before it
+    × (fails (after 99 (entry.Slice 1 3 ∷ entry.Call 1 5 1 extra.Nothing ∷ [])) ≡ Some (record { event = 4; said = 3; found = 1 }))
+    -- a call that has no record
+    × (fails (after 99 (entry.Slice 1 2 ∷ entry.Slice 2 1 ∷ [])) ≡ Some (record { event = 4; said = 2; found = 1 }))
+    -- a record of a call where none stands, behind an instruction or behind none
+    × (fails (after 99 (entry.Slice 1 1 ∷ entry.Call 1 5 1 extra.Nothing ∷ [])) ≡ Some (record { event = 4; said = 5; found = 0xffffffffffffffff }))
+    × (fails (after 99 (entry.Slice 1 0 ∷ entry.Call 1 5 1 extra.Nothing ∷ [])) ≡ Some (record { event = 4; said = 5; found = 0xffffffffffffffff }))
 unfolding asks after standing bodies decoding.decoded_by body_at memory_at put remove
-exits = refl
-
--- more instructions than stand before the call: the count, and those before it
-too-many : fails (after 99 (entry.Slice 1 3 ∷ entry.Call 1 5 1 extra.Nothing ∷ [])) ≡ Some (record { event = 4; said = 3; found = 1 })
-unfolding after standing bodies decoding.decoded_by body_at memory_at put remove
-too-many = refl
-
--- a call that has no record
-without-record : fails (after 99 (entry.Slice 1 2 ∷ entry.Slice 2 1 ∷ [])) ≡ Some (record { event = 4; said = 2; found = 1 })
-unfolding after standing bodies decoding.decoded_by body_at memory_at put remove
-without-record = refl
-
--- a record of a call where none stands, behind an instruction or behind none
-no-call : fails (after 99 (entry.Slice 1 1 ∷ entry.Call 1 5 1 extra.Nothing ∷ [])) ≡ Some (record { event = 4; said = 5; found = 0xffffffffffffffff })
-unfolding after standing bodies decoding.decoded_by body_at memory_at put remove
-no-call = refl
-
-no-instruction : fails (after 99 (entry.Slice 1 0 ∷ entry.Call 1 5 1 extra.Nothing ∷ [])) ≡ Some (record { event = 4; said = 5; found = 0xffffffffffffffff })
-unfolding after standing bodies decoding.decoded_by body_at memory_at put remove
-no-instruction = refl
+ends-and-counts = (refl, refl, refl, refl, refl)
 
 -- another call: the record's number, and x17
-other-call : fails (after 99 (entry.Slice 1 2 ∷ entry.Call 1 22 1 extra.Nothing ∷ [])) ≡ Some (record { event = 4; said = 22; found = 5 })
+calls-differ :
+    (fails (after 99 (entry.Slice 1 2 ∷ entry.Call 1 22 1 extra.Nothing ∷ [])) ≡ Some (record { event = 4; said = 22; found = 5 }))
+    -- an end where none stands
+    × (fails (after 99 (entry.Slice 1 2 ∷ entry.End 1 132 ∷ [])) ≡ Some (record { event = 4; said = 132; found = 256 }))
+    -- what a record holds beside the result does nothing on a call that has no such thing
+    × (fails (after 99 (entry.Typed (7 ∷ []) ∷ entry.Slice 1 2 ∷ entry.Call 1 5 1 (extra.Console (8 ∷ [])) ∷ [])) ≡ None)
+    -- what comes behind the moment isn't looked at
+    × (fails (after 11 (entry.Slice 1 2 ∷ entry.Call 1 22 1 extra.Nothing ∷ [])) ≡ None)
+    -- the event is numbered among all
+    × (fails (after 99 (entry.Typed (7 ∷ []) ∷ entry.Slice 2 3 ∷ entry.Call 2 22 0 extra.Nothing ∷ entry.Slice 1 2 ∷ entry.Call 1 22 1 extra.Nothing ∷ [])) ≡ Some (record { event = 6; said = 22; found = 5 }))
 unfolding after standing bodies decoding.decoded_by body_at memory_at put remove
-other-call = refl
-
--- an end where none stands
-no-end : fails (after 99 (entry.Slice 1 2 ∷ entry.End 1 132 ∷ [])) ≡ Some (record { event = 4; said = 132; found = 256 })
-unfolding after standing bodies decoding.decoded_by body_at memory_at put remove
-no-end = refl
-
--- what a record holds beside the result does nothing on a call that has no such thing
-no-console : fails (after 99 (entry.Typed (7 ∷ []) ∷ entry.Slice 1 2 ∷ entry.Call 1 5 1 (extra.Console (8 ∷ [])) ∷ [])) ≡ None
-unfolding after standing bodies decoding.decoded_by body_at memory_at put remove
-no-console = refl
-
--- what comes behind the moment isn't looked at
-not-yet : fails (after 11 (entry.Slice 1 2 ∷ entry.Call 1 22 1 extra.Nothing ∷ [])) ≡ None
-unfolding after standing bodies decoding.decoded_by body_at memory_at put remove
-not-yet = refl
-
--- the event is numbered among all
-numbers-all : fails (after 99 (entry.Typed (7 ∷ []) ∷ entry.Slice 2 3 ∷ entry.Call 2 22 0 extra.Nothing ∷ entry.Slice 1 2 ∷ entry.Call 1 22 1 extra.Nothing ∷ [])) ≡ Some (record { event = 6; said = 22; found = 5 })
-unfolding after standing bodies decoding.decoded_by body_at memory_at put remove
-numbers-all = refl
+calls-differ = (refl, refl, refl, refl, refl)
 
 -- So it is where nothing but the count decides what is owed: the number is that of the event that would have ended the slice, and no record behind it changes that.
 -- The slice is cut off at the moment, and so is its call
-cut-off : fails (after 12 (entry.Slice 1 3 ∷ entry.Call 1 5 1 extra.Nothing ∷ [])) ∷ fails (after 12 (entry.Slice 1 3 ∷ entry.Call 1 5 1 extra.Nothing ∷ entry.Slice 2 3 ∷ entry.Call 2 22 0 extra.Nothing ∷ [])) ∷ []
-    ≡ Some (record { event = 4; said = 3; found = 1 }) ∷ Some (record { event = 4; said = 3; found = 1 }) ∷ []
+cut-off :
+    (fails (after 12 (entry.Slice 1 3 ∷ entry.Call 1 5 1 extra.Nothing ∷ [])) ∷ fails (after 12 (entry.Slice 1 3 ∷ entry.Call 1 5 1 extra.Nothing ∷ entry.Slice 2 3 ∷ entry.Call 2 22 0 extra.Nothing ∷ [])) ∷ []
+    ≡ Some (record { event = 4; said = 3; found = 1 }) ∷ Some (record { event = 4; said = 3; found = 1 }) ∷ [])
+    × (fails (after 12 (entry.Slice 1 3 ∷ entry.End 1 132 ∷ entry.Typed (7 ∷ []) ∷ [])) ≡ Some (record { event = 4; said = 3; found = 1 }))
+    -- it has no record of its own, but bytes are typed then, or a device is unplugged
+    × (fails (after 99 (entry.Slice 1 2 ∷ entry.Typed (7 ∷ []) ∷ [])) ∷ fails (after 99 (entry.Slice 1 2 ∷ entry.Unplug 0 ∷ [])) ∷ [] ≡ Some (record { event = 4; said = 2; found = 1 }) ∷ Some (record { event = 4; said = 2; found = 1 }) ∷ [])
+    -- a delivery comes before that event: one that ends the process, whose slice counts instructions, and one that a handler takes
+    × (fails (after 99 (entry.Slice 1 2 ∷ entry.Signal 1 9 false 0 ∷ entry.Typed (7 ∷ []) ∷ [])) ≡ Some (record { event = 5; said = 2; found = 0 }))
+    × (fails (after 12 (entry.Slice 1 3 ∷ entry.Signal 1 2 false 0x10000 ∷ entry.Call 1 5 1 extra.Nothing ∷ entry.Typed (7 ∷ []) ∷ [])) ≡ Some (record { event = 5; said = 3; found = 1 }))
 unfolding after standing bodies decoding.decoded_by body_at memory_at put remove
-cut-off = refl
-
-cut-off-end : fails (after 12 (entry.Slice 1 3 ∷ entry.End 1 132 ∷ entry.Typed (7 ∷ []) ∷ [])) ≡ Some (record { event = 4; said = 3; found = 1 })
-unfolding after standing bodies decoding.decoded_by body_at memory_at put remove
-cut-off-end = refl
-
--- it has no record of its own, but bytes are typed then, or a device is unplugged
-before-outside : fails (after 99 (entry.Slice 1 2 ∷ entry.Typed (7 ∷ []) ∷ [])) ∷ fails (after 99 (entry.Slice 1 2 ∷ entry.Unplug 0 ∷ [])) ∷ [] ≡ Some (record { event = 4; said = 2; found = 1 }) ∷ Some (record { event = 4; said = 2; found = 1 }) ∷ []
-unfolding after standing bodies decoding.decoded_by body_at memory_at put remove
-before-outside = refl
-
--- a delivery comes before that event: one that ends the process, whose slice counts instructions, and one that a handler takes
-behind-fatal : fails (after 99 (entry.Slice 1 2 ∷ entry.Signal 1 9 false 0 ∷ entry.Typed (7 ∷ []) ∷ [])) ≡ Some (record { event = 5; said = 2; found = 0 })
-unfolding after standing bodies decoding.decoded_by body_at memory_at put remove
-behind-fatal = refl
-
-behind-delivery : fails (after 12 (entry.Slice 1 3 ∷ entry.Signal 1 2 false 0x10000 ∷ entry.Call 1 5 1 extra.Nothing ∷ entry.Typed (7 ∷ []) ∷ [])) ≡ Some (record { event = 5; said = 3; found = 1 })
-unfolding after standing bodies decoding.decoded_by body_at memory_at put remove
-behind-delivery = refl
+cut-off = (refl, refl, refl, refl, refl)

@@ -57,28 +57,17 @@ told =
 
 -- events
 
-counts-events : how_many told ≡ 12
-unfolding told
-counts-events = refl
-
--- slices aren't among them
-fifth-event : event_at told 4 ≡ Some (entry.Signal 1 2 false 0x10040)
-unfolding told
-fifth-event = refl
-
-no-event : event_at told 12 ≡ None
-unfolding told
-no-event = refl
-
--- a write to a pipe has as many bytes as its result says, and a fork has none
-has-lengths : map (len_of told) (0 ∷ 3 ∷ 5 ∷ 8 ∷ 11 ∷ 12 ∷ []) ≡ Some 2 ∷ Some 2 ∷ Some 0 ∷ Some 1 ∷ Some 1 ∷ None ∷ []
+events-told :
+    (how_many told ≡ 12)
+    -- slices aren't among them
+    × (event_at told 4 ≡ Some (entry.Signal 1 2 false 0x10040))
+    × (event_at told 12 ≡ None)
+    -- a write to a pipe has as many bytes as its result says, and a fork has none
+    × (map (len_of told) (0 ∷ 3 ∷ 5 ∷ 8 ∷ 11 ∷ 12 ∷ []) ≡ Some 2 ∷ Some 2 ∷ Some 0 ∷ Some 1 ∷ Some 1 ∷ None ∷ [])
+    -- a range may begin at the end of the bytes, where it is empty; and at most 65,536 are asked for
+    × (is_range (event_at told 3) 0 2 ∷ is_range (event_at told 3) 2 0 ∷ is_range (event_at told 3) 1 2 ∷ is_range (event_at told 12) 0 0 ∷ [] ≡ true ∷ true ∷ false ∷ false ∷ [])
 unfolding told from child_start
-has-lengths = refl
-
--- a range may begin at the end of the bytes, where it is empty; and at most 65,536 are asked for
-has-ranges : is_range (event_at told 3) 0 2 ∷ is_range (event_at told 3) 2 0 ∷ is_range (event_at told 3) 1 2 ∷ is_range (event_at told 12) 0 0 ∷ [] ≡ true ∷ true ∷ false ∷ false ∷ []
-unfolding told from
-has-ranges = refl
+events-told = (refl, refl, refl, refl, refl)
 
 -- moments
 
@@ -91,27 +80,16 @@ happened : ℕ → List ℕ
 happened moment = map (λ e. e.number) (events_until moment told)
 
 -- inside a slice the call at its end hasn't happened
-inside-first : happened 4 ≡ 0 ∷ 1 ∷ 2 ∷ []
+moments :
+    (happened 4 ≡ 0 ∷ 1 ∷ 2 ∷ [])
+    -- at its end it has, and also the delivery with which the next slice begins
+    × (happened 5 ≡ 0 ∷ 1 ∷ 2 ∷ 3 ∷ 4 ∷ [])
+    × (happened 7 ≡ 0 ∷ 1 ∷ 2 ∷ 3 ∷ 4 ∷ [])
+    × (happened 8 ≡ 0 ∷ 1 ∷ 2 ∷ 3 ∷ 4 ∷ 5 ∷ [])
+    -- what comes from outside happens before the next instruction
+    × (happened 0 ≡ 0 ∷ 1 ∷ 2 ∷ [])
 unfolding happened told
-inside-first = refl
-
--- at its end it has, and also the delivery with which the next slice begins
-behind-first : happened 5 ≡ 0 ∷ 1 ∷ 2 ∷ 3 ∷ 4 ∷ []
-unfolding happened told
-behind-first = refl
-
-inside-second : happened 7 ≡ 0 ∷ 1 ∷ 2 ∷ 3 ∷ 4 ∷ []
-unfolding happened told
-inside-second = refl
-
-behind-second : happened 8 ≡ 0 ∷ 1 ∷ 2 ∷ 3 ∷ 4 ∷ 5 ∷ []
-unfolding happened told
-behind-second = refl
-
--- what comes from outside happens before the next instruction
-at-start : happened 0 ≡ 0 ∷ 1 ∷ 2 ∷ []
-unfolding happened told
-at-start = refl
+moments = (refl, refl, refl, refl, refl)
 
 -- a delivery to a process that then runs nothing happens behind the slice before
 kills : List Record
@@ -124,80 +102,54 @@ kills =
     ∷ entry.Call 2 5 2 extra.Nothing
     ∷ []
 
-kill-before : map (λ e. e.number) (events_until 2 kills) ≡ []
-unfolding kills
-kill-before = refl
-
-kill-at : map (λ e. e.number) (events_until 3 kills) ≡ 0 ∷ 1 ∷ []
-unfolding kills
-kill-at = refl
-
--- who lives: a child from its fork on, and a process until it ends
-lives-then : lives_at told 0 1 ∷ lives_at told 7 2 ∷ lives_at told 8 2 ∷ lives_at told 23 3 ∷ lives_at told 24 3 ∷ lives_at told 24 4 ∷ [] ≡ true ∷ false ∷ true ∷ true ∷ false ∷ false ∷ []
-unfolding told
-lives-then = refl
+lives :
+    (map (λ e. e.number) (events_until 2 kills) ≡ [])
+    × (map (λ e. e.number) (events_until 3 kills) ≡ 0 ∷ 1 ∷ [])
+    -- who lives: a child from its fork on, and a process until it ends
+    × (lives_at told 0 1 ∷ lives_at told 7 2 ∷ lives_at told 8 2 ∷ lives_at told 23 3 ∷ lives_at told 24 3 ∷ lives_at told 24 4 ∷ [] ≡ true ∷ false ∷ true ∷ true ∷ false ∷ false ∷ [])
+unfolding kills told
+lives = (refl, refl, refl)
 
 -- segments
 
 -- process 2 holds the one that event 6 made from moment 12 on
-held-by-two : segment_at told 11 2 ∷ segment_at told 12 2 ∷ segment_at told 24 2 ∷ [] ≡ None ∷ Some 6 ∷ Some 6 ∷ []
+held-by :
+    (segment_at told 11 2 ∷ segment_at told 12 2 ∷ segment_at told 24 2 ∷ [] ≡ None ∷ Some 6 ∷ Some 6 ∷ [])
+    -- process 3 shares it until it starts from the file
+    × (segment_at told 12 3 ∷ segment_at told 13 3 ∷ segment_at told 22 3 ∷ segment_at told 23 3 ∷ [] ≡ None ∷ Some 6 ∷ Some 6 ∷ None ∷ [])
+    -- process 1 holds none
+    × (segment_at told 24 1 ≡ None)
 unfolding told child_start
-held-by-two = refl
-
--- process 3 shares it until it starts from the file
-held-by-three : segment_at told 12 3 ∷ segment_at told 13 3 ∷ segment_at told 22 3 ∷ segment_at told 23 3 ∷ [] ≡ None ∷ Some 6 ∷ Some 6 ∷ None ∷ []
-unfolding told child_start
-held-by-three = refl
-
--- process 1 holds none
-held-by-one : segment_at told 24 1 ≡ None
-unfolding told child_start
-held-by-one = refl
+held-by = (refl, refl, refl)
 
 -- each process held the segment that event 6 made: which one process 1 or its child 4 holds after one record more
 then_holds : Record → ℕ → Option ℕ
 then_holds e pid = segments_told 9 e (λ q. Some 6) pid
 
 -- a fresh one, also where it holds one; the old one, where the call failed
-shares-again : then_holds (entry.Call 1 17 0 extra.Nothing) 1 ≡ Some 9
-unfolding then_holds
-shares-again = refl
-
-shares-not : then_holds (entry.Call 1 17 minus_22 extra.Nothing) 1 ≡ Some 6
-unfolding then_holds minus_22
-shares-not = refl
-
--- a child that starts a group holds none, whatever the parent holds
-founds-none : then_holds (entry.Call 1 2 4 child_start) 4 ∷ then_holds (entry.Call 1 2 4 child_start) 1 ∷ [] ≡ None ∷ Some 6 ∷ []
-unfolding then_holds child_start
-founds-none = refl
-
--- an exec that failed keeps it
-exec-not : then_holds (entry.Call 1 3 minus_22 extra.Nothing) 1 ≡ Some 6
-unfolding then_holds minus_22
-exec-not = refl
+segment-after :
+    (then_holds (entry.Call 1 17 0 extra.Nothing) 1 ≡ Some 9)
+    × (then_holds (entry.Call 1 17 minus_22 extra.Nothing) 1 ≡ Some 6)
+    -- a child that starts a group holds none, whatever the parent holds
+    × (then_holds (entry.Call 1 2 4 child_start) 4 ∷ then_holds (entry.Call 1 2 4 child_start) 1 ∷ [] ≡ None ∷ Some 6 ∷ [])
+    -- an exec that failed keeps it
+    × (then_holds (entry.Call 1 3 minus_22 extra.Nothing) 1 ≡ Some 6)
+unfolding then_holds minus_22 child_start
+segment-after = (refl, refl, refl, refl)
 
 -- groups
 
 -- process 2 starts one, process 3 joins it, and no process has the number 4
-has-groups : map (group_of told) (0 ∷ 1 ∷ 2 ∷ 3 ∷ 4 ∷ []) ≡ None ∷ Some 1 ∷ Some 2 ∷ Some 2 ∷ None ∷ []
-unfolding told child_start
-has-groups = refl
-
--- 5, 3 and 2 instructions; 4, 1, 6, 2 and 1
-has-counts : map (count_of told) (1 ∷ 2 ∷ 3 ∷ []) ≡ 10 ∷ 14 ∷ 0 ∷ []
-unfolding told child_start
-has-counts = refl
-
--- a fork that failed makes no process
-fork-fails : group_of (entry.Boot (codes "p") (from [] 0 0 0) ∷ entry.Call 1 2 minus_11 extra.Nothing ∷ []) minus_11 ≡ None
-unfolding from minus_11
-fork-fails = refl
-
--- what comes from outside is of no group
-events-groups : map (event_group told) (0 ∷ 1 ∷ 2 ∷ 3 ∷ 7 ∷ 9 ∷ 11 ∷ 12 ∷ []) ≡ None ∷ Some 1 ∷ None ∷ Some 1 ∷ Some 2 ∷ Some 2 ∷ Some 2 ∷ None ∷ []
-unfolding told child_start
-events-groups = refl
+groups-told :
+    (map (group_of told) (0 ∷ 1 ∷ 2 ∷ 3 ∷ 4 ∷ []) ≡ None ∷ Some 1 ∷ Some 2 ∷ Some 2 ∷ None ∷ [])
+    -- 5, 3 and 2 instructions; 4, 1, 6, 2 and 1
+    × (map (count_of told) (1 ∷ 2 ∷ 3 ∷ []) ≡ 10 ∷ 14 ∷ 0 ∷ [])
+    -- a fork that failed makes no process
+    × (group_of (entry.Boot (codes "p") (from [] 0 0 0) ∷ entry.Call 1 2 minus_11 extra.Nothing ∷ []) minus_11 ≡ None)
+    -- what comes from outside is of no group
+    × (map (event_group told) (0 ∷ 1 ∷ 2 ∷ 3 ∷ 7 ∷ 9 ∷ 11 ∷ 12 ∷ []) ≡ None ∷ Some 1 ∷ None ∷ Some 1 ∷ Some 2 ∷ Some 2 ∷ Some 2 ∷ None ∷ [])
+unfolding told child_start from minus_11
+groups-told = (refl, refl, refl, refl)
 
 -- edges
 
@@ -297,31 +249,18 @@ names =
     ∷ entry.Call 1 16 0 (extra.Name 0 (codes "a"))
     ∷ []
 
-stand-for : map (file_named names) (codes "a" ∷ codes "b" ∷ codes "c" ∷ codes "d" ∷ []) ≡ None ∷ Some 1 ∷ Some 2 ∷ None ∷ []
+names-told :
+    (map (file_named names) (codes "a" ∷ codes "b" ∷ codes "c" ∷ codes "d" ∷ []) ≡ None ∷ Some 1 ∷ Some 2 ∷ None ∷ [])
+    × (file_named (names ++ entry.Slice 1 4 ∷ entry.Call 1 9 4 (extra.Name 3 (codes "a")) ∷ []) (codes "a") ≡ Some 3)
+    -- a call of another number names nothing
+    × (file_named (names ++ entry.Slice 1 4 ∷ entry.Call 1 10 0 (extra.Name 3 (codes "b")) ∷ []) (codes "b") ≡ Some 1)
+    -- what was brought stays so, whatever became of its name
+    × (map (brought names) (codes "a" ∷ codes "b" ∷ codes "c" ∷ []) ≡ Some (1 ∷ []) ∷ Some (2 ∷ []) ∷ None ∷ [])
+    -- a name is taken once
+    × (may_bring (entry.File (codes "a") [] ∷ []) (codes "a") ∷ may_bring (entry.File (codes "a") [] ∷ []) (codes "b") ∷ [] ≡ false ∷ true ∷ [])
+    × (is_booted names ∷ is_booted (entry.File (codes "a") [] ∷ []) ∷ [] ≡ true ∷ false ∷ [])
 unfolding names from
-stand-for = refl
-
-named-again : file_named (names ++ entry.Slice 1 4 ∷ entry.Call 1 9 4 (extra.Name 3 (codes "a")) ∷ []) (codes "a") ≡ Some 3
-unfolding names from
-named-again = refl
-
--- a call of another number names nothing
-named-not : file_named (names ++ entry.Slice 1 4 ∷ entry.Call 1 10 0 (extra.Name 3 (codes "b")) ∷ []) (codes "b") ≡ Some 1
-unfolding names from
-named-not = refl
-
--- what was brought stays so, whatever became of its name
-was-brought : map (brought names) (codes "a" ∷ codes "b" ∷ codes "c" ∷ []) ≡ Some (1 ∷ []) ∷ Some (2 ∷ []) ∷ None ∷ []
-unfolding names from
-was-brought = refl
-
--- a name is taken once
-may-bring : may_bring (entry.File (codes "a") [] ∷ []) (codes "a") ∷ may_bring (entry.File (codes "a") [] ∷ []) (codes "b") ∷ [] ≡ false ∷ true ∷ []
-may-bring = refl
-
-was-booted : is_booted names ∷ is_booted (entry.File (codes "a") [] ∷ []) ∷ [] ≡ true ∷ false ∷ []
-unfolding names from
-was-booted = refl
+names-told = (refl, refl, refl, refl, refl, refl)
 
 -- records that can't stand where they do
 
@@ -333,56 +272,29 @@ begun more = entry.File (codes "p") (1 ∷ 2 ∷ []) ∷ entry.Boot (codes "p") 
 run_then : List Record → List Record
 run_then more = begun (entry.Slice 1 3 ∷ more)
 
-all-stand : first_broken told ≡ None
-unfolding told from child_start
-all-stand = refl
-
--- inputs on the wrong side of the boot
-file-late : first_broken (begun (entry.File (codes "q") [] ∷ [])) ≡ Some 2
-unfolding begun from
-file-late = refl
-
-typed-early : first_broken (entry.Typed (97 ∷ []) ∷ []) ≡ Some 0
-typed-early = refl
-
--- a slice of a process that was never made, and of one that has ended
-slice-unmade : first_broken (begun (entry.Slice 2 1 ∷ [])) ≡ Some 2
-unfolding begun from
-slice-unmade = refl
-
-slice-ended : first_broken (run_then (entry.Call 1 1 0 extra.Nothing ∷ entry.Slice 1 1 ∷ [])) ≡ Some 4
-unfolding run_then begun from
-slice-ended = refl
+inputs-wrong :
+    (first_broken told ≡ None)
+    -- inputs on the wrong side of the boot
+    × (first_broken (begun (entry.File (codes "q") [] ∷ [])) ≡ Some 2)
+    × (first_broken (entry.Typed (97 ∷ []) ∷ []) ≡ Some 0)
+    -- a slice of a process that was never made, and of one that has ended
+    × (first_broken (begun (entry.Slice 2 1 ∷ [])) ≡ Some 2)
+    × (first_broken (run_then (entry.Call 1 1 0 extra.Nothing ∷ entry.Slice 1 1 ∷ [])) ≡ Some 4)
+unfolding told from child_start begun run_then
+inputs-wrong = (refl, refl, refl, refl, refl)
 
 -- a second call behind one slice; one delivery may come between, and two may not
-call-again : first_broken (run_then (entry.Call 1 5 1 extra.Nothing ∷ entry.Call 1 5 1 extra.Nothing ∷ [])) ≡ Some 4
+calls-and-origins :
+    (first_broken (run_then (entry.Call 1 5 1 extra.Nothing ∷ entry.Call 1 5 1 extra.Nothing ∷ [])) ≡ Some 4)
+    × (first_broken (run_then (entry.Signal 1 2 false 0x10040 ∷ entry.Call 1 5 1 extra.Nothing ∷ [])) ≡ None)
+    × (first_broken (run_then (entry.Signal 1 2 false 0x10040 ∷ entry.Signal 1 3 false 0x10040 ∷ entry.Call 1 5 1 extra.Nothing ∷ [])) ≡ Some 5)
+    -- an origin in the event itself, behind an event's bytes, of no bytes, and of too few
+    × (first_broken (run_then (entry.Call 1 11 1 (extra.Give (from (97 ∷ []) 2 0 1)) ∷ [])) ≡ Some 3)
+    × (first_broken (run_then (entry.Call 1 11 1 (extra.Give (from (97 ∷ []) 0 2 1)) ∷ [])) ≡ Some 3)
+    × (first_broken (run_then (entry.Call 1 11 0 (extra.Give (from [] 0 0 0)) ∷ [])) ≡ Some 3)
+    × (first_broken (run_then (entry.Call 1 11 2 (extra.Give (from (1 ∷ 2 ∷ []) 0 0 1)) ∷ [])) ≡ Some 3)
 unfolding run_then begun from
-call-again = refl
-
-delivery-between : first_broken (run_then (entry.Signal 1 2 false 0x10040 ∷ entry.Call 1 5 1 extra.Nothing ∷ [])) ≡ None
-unfolding run_then begun from
-delivery-between = refl
-
-deliveries-between : first_broken (run_then (entry.Signal 1 2 false 0x10040 ∷ entry.Signal 1 3 false 0x10040 ∷ entry.Call 1 5 1 extra.Nothing ∷ [])) ≡ Some 5
-unfolding run_then begun from
-deliveries-between = refl
-
--- an origin in the event itself, behind an event's bytes, of no bytes, and of too few
-origin-itself : first_broken (run_then (entry.Call 1 11 1 (extra.Give (from (97 ∷ []) 2 0 1)) ∷ [])) ≡ Some 3
-unfolding run_then begun from
-origin-itself = refl
-
-origin-outside : first_broken (run_then (entry.Call 1 11 1 (extra.Give (from (97 ∷ []) 0 2 1)) ∷ [])) ≡ Some 3
-unfolding run_then begun from
-origin-outside = refl
-
-origin-empty : first_broken (run_then (entry.Call 1 11 0 (extra.Give (from [] 0 0 0)) ∷ [])) ≡ Some 3
-unfolding run_then begun from
-origin-empty = refl
-
-origins-short : first_broken (run_then (entry.Call 1 11 2 (extra.Give (from (1 ∷ 2 ∷ []) 0 0 1)) ∷ [])) ≡ Some 3
-unfolding run_then begun from
-origins-short = refl
+calls-and-origins = (refl, refl, refl, refl, refl, refl, refl)
 
 -- a child that begins with blocks of these numbers
 forked : List ℕ → List Record
@@ -393,26 +305,15 @@ forked numbers =
       blocks = map (λ n. record { number = n; bytes = replicate 256 1 }) numbers;
     })) ∷ [])
 
-blocks-rise : first_broken (forked (0 ∷ 7 ∷ 1023 ∷ [])) ≡ None
-unfolding forked run_then begun from
-blocks-rise = refl
-
-blocks-again : first_broken (forked (7 ∷ 7 ∷ [])) ≡ Some 3
-unfolding forked run_then begun from
-blocks-again = refl
-
-blocks-past : first_broken (forked (1024 ∷ [])) ≡ Some 3
-unfolding forked run_then begun from
-blocks-past = refl
-
--- a child whose number isn't the next; a fork that failed makes none
-child-skips : first_broken (run_then (entry.Call 1 2 3 extra.Nothing ∷ [])) ≡ Some 3
-unfolding run_then begun from
-child-skips = refl
-
-child-none : first_broken (run_then (entry.Call 1 2 minus_11 extra.Nothing ∷ [])) ≡ None
-unfolding run_then begun from minus_11
-child-none = refl
+blocks-and-children :
+    (first_broken (forked (0 ∷ 7 ∷ 1023 ∷ [])) ≡ None)
+    × (first_broken (forked (7 ∷ 7 ∷ [])) ≡ Some 3)
+    × (first_broken (forked (1024 ∷ [])) ≡ Some 3)
+    -- a child whose number isn't the next; a fork that failed makes none
+    × (first_broken (run_then (entry.Call 1 2 3 extra.Nothing ∷ [])) ≡ Some 3)
+    × (first_broken (run_then (entry.Call 1 2 minus_11 extra.Nothing ∷ [])) ≡ None)
+unfolding forked run_then begun from minus_11
+blocks-and-children = (refl, refl, refl, refl, refl)
 
 -- how a child begins, with another call
 start-elsewhere : first_broken (run_then (entry.Call 1 3 0 child_start ∷ [])) ≡ Some 3
