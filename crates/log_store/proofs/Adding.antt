@@ -1,5 +1,6 @@
 -- What a stop leaves while a frame is added behind a closed gate.
-use Rattle.std.proofs.Common.{◌≡◌, inl, inr, ℕ, ◌+◌, ◌-◌, ◌<◌, List, [], ◌∷◌, ◌++◌, length, take, drop, get_or, Option, Some, None, option_map, sym, ap, ◌∙◌, subst, append_assoc, length-append, length-take, length-drop, take-append-drop, arith, IfSome}
+use Rattle.std.proofs.lemmas.Bool.Decides.{nat_tests}
+use Rattle.std.proofs.Common.{◌≡◌, ℕ, ◌+◌, ◌-◌, ◌<◌, List, [], ◌∷◌, ◌++◌, length, drop, Option, Some, None, option_map, sym, ap, subst, append_assoc, length-append, length-take, length-drop, take-append-drop, arith, IfSome}
 use Rattle.std.proofs.lemmas.List.{append-nil, take_at, drop_at, drop_more, take_all, drop_all}
 use Rattle.arn_base.specs.Disk.{overwrite, Torn, Only}
 use Rattle.log_store.specs.Pieces.{with_frame, IsTorn, IsUnopened, IsWritten}
@@ -11,78 +12,31 @@ length-closed front gate = omega (arith, length-append front (gate ∷ []))
 
 -- the closed gate stands in each outcome of a write behind it
 pub torn_behind : (front left : List ℕ) (len n : ℕ) → len ≡ length front + 1 → Torn len n (front ++ 0 ∷ []) left → IsUnopened front left
-torn_behind front left len n is_len torn =
-    let whole : take len (front ++ 0 ∷ []) ≡ front ++ 0 ∷ [] = take_all len (front ++ 0 ∷ []) (omega (arith, length-closed front 0)) in
-    record {
-      rest = drop len left;
-      are_bytes =
-          sym (take-append-drop len left)
-          ∙ ap (λ (xs : List ℕ). xs ++ drop len left) (torn.before ∙ whole)
-          ∙ append_assoc front (0 ∷ []) (drop len left);
-    }
+torn_behind front left len n is_len torn = grind (arith, take-append-drop len left, take_all len (front ++ 0 ∷ []) (omega (arith, length-closed front 0)), append_assoc front (0 ∷ []) (drop len left))
 
 -- all but the gate stands in each outcome of a write over it
 pub torn_gate : (front bytes left : List ℕ) (at : ℕ) → at ≡ length front → Torn at 1 (front ++ 0 ∷ bytes) left → IsWritten front bytes left
-torn_gate front bytes left at is_at torn =
-    let long = length-append front (0 ∷ bytes) in
-    let within = torn.no_shorter in
-    let gate = get_or left at 0 in
-    let back : drop (at + 1) (front ++ 0 ∷ bytes) ≡ bytes =
-    ap (λ (xs : List ℕ). drop (at + 1) xs) (sym (append_assoc front (0 ∷ []) bytes))
-    ∙ drop_at (front ++ 0 ∷ []) bytes (at + 1) (omega (arith, length-closed front 0)) in
-    let rest : drop at left ≡ gate ∷ bytes =
-    drop_more left at 0 (omega (arith, within, long, is_at)) ∙ ap (λ (xs : List ℕ). gate ∷ xs) (torn.after ∙ back) in
-    record {
-      gate = gate;
-      are_bytes =
-          sym (take-append-drop at left)
-          ∙ ap (λ (xs : List ℕ). xs ++ drop at left) (torn.before ∙ take_at front (0 ∷ bytes) at (sym is_at))
-          ∙ ap (λ (xs : List ℕ). front ++ xs) rest;
-    }
+torn_gate front bytes left at is_at torn = grind (arith, append_assoc front (0 ∷ []) bytes, drop_at (front ++ 0 ∷ []) bytes (at + 1) (omega (arith, length-closed front 0)), drop_more left at 0 (omega (arith, torn.no_shorter, length-append front (0 ∷ bytes), is_at)), take-append-drop at left, take_at front (0 ∷ bytes) at (sym is_at))
 
 -- the bytes after the first write
 pub overwrite-behind : (front bytes : List ℕ) (len : ℕ) → len ≡ length front + 1 → overwrite (front ++ 0 ∷ []) len bytes ≡ front ++ 0 ∷ bytes
-overwrite-behind front bytes len is_len =
-    let long = length-closed front 0 in
-    ap (λ (xs : List ℕ). xs ++ bytes ++ drop (len + length bytes) (front ++ 0 ∷ [])) (take_all len (front ++ 0 ∷ []) (omega (arith, long)))
-    ∙ ap (λ (xs : List ℕ). front ++ 0 ∷ [] ++ bytes ++ xs) (drop_all (len + length bytes) (front ++ 0 ∷ []) (omega (arith, long)))
-    ∙ append-nil (front ++ 0 ∷ [] ++ bytes)
-    ∙ append_assoc front (0 ∷ []) bytes
+overwrite-behind front bytes len h1 = grind (arith, nat_tests, length-closed, take_all, drop_all, append-nil, append_assoc)
 
 -- the bytes after both writes
 pub with_frame-closed : (front bytes : List ℕ) → with_frame (front ++ 0 ∷ []) bytes ≡ front ++ 1 ∷ bytes
 with_frame-closed front bytes =
-    let long = length-closed front 0 in
-    ap (λ (xs : List ℕ). xs ++ 1 ∷ bytes) (take_at front (0 ∷ []) (length (front ++ 0 ∷ []) - 1) (omega (arith, long)))
+    ap (λ (xs : List ℕ). xs ++ 1 ∷ bytes) (take_at front (0 ∷ []) (length (front ++ 0 ∷ []) - 1) (omega (arith, length-closed front 0)))
 
 -- the same of any old bytes of this length
 pub torn_first : (old bytes left : List ℕ) (len : ℕ) → length old ≡ len → Torn len (length bytes) old left → IsTorn old bytes left
-torn_first old bytes left len long torn = record {
-  stands = λ front e.
-      let size = ap length e ∙ length-closed front 0 in
-      inl (torn_behind front left len (length bytes) (omega (arith, long, size)) (subst (λ b. Torn len (length bytes) b left) e torn));
-  no_longer = omega (arith, long, torn.no_longer);
-}
+torn_first old bytes left len h1 h2 = grind (arith, nat_tests, torn_behind, length-closed)
 
 -- how long bytes are with others behind them
 length-overwrite : (old bytes : List ℕ) (len : ℕ) → length old ≡ len → length (overwrite old len bytes) ≡ len + length bytes
-length-overwrite old bytes len long =
-    let behind = drop (len + length bytes) old in
-    let whole = length-append (take len old ++ bytes) behind in
-    let front = length-append (take len old) bytes in
-    let first = length-take len old in
-    let last = length-drop (len + length bytes) old in
-    omega (arith, long, whole, front, first, last)
+length-overwrite old bytes len h1 = grind (arith, nat_tests, length-append, length-take, length-drop)
 
 pub torn_second : (old bytes left : List ℕ) (len : ℕ) → 0 < len → length old ≡ len → Torn (len - 1) 1 (overwrite old len bytes) left → IsTorn old bytes left
-torn_second old bytes left len some long torn = record {
-  stands = λ front e.
-      let size = ap length e ∙ length-closed front 0 in
-      let written : overwrite old len bytes ≡ front ++ 0 ∷ bytes =
-      ap (λ (b : List ℕ). overwrite b len bytes) e ∙ overwrite-behind front bytes len (omega (arith, long, size)) in
-      inr (torn_gate front bytes left (len - 1) (omega (arith, long, size)) (subst (λ b. Torn (len - 1) 1 b left) written torn));
-  no_longer = omega (arith, some, long, length-overwrite old bytes len long, torn.no_longer);
-}
+torn_second old bytes left len h1 h2 h3 = grind (arith, nat_tests, length-closed, overwrite-behind, torn_gate, length-overwrite)
 
 module _ {D : Type 0} (image : D → Option (List ℕ)) (may_leave : D → List ℕ → Type 0) (moment : D → ℕ) (left_since : D → ℕ → List ℕ → Type 0) where
   -- nothing is pending on a disk that tells these bytes

@@ -1,5 +1,6 @@
 -- What a stop leaves while the end of a log is closed.
-use Rattle.std.proofs.Common.{◌≡◌, ◌≢◌, inl, inr, ℕ, ◌+◌, ◌<◌, List, [], ◌∷◌, ◌++◌, length, take, drop, get_or, Option, Some, None, option_map, refl, sym, ap, ◌∙◌, subst, length-drop, length-take, arith, IfSome}
+use Rattle.std.proofs.lemmas.Bool.Decides.{nat_tests}
+use Rattle.std.proofs.Common.{◌≡◌, ◌≢◌, inl, inr, ℕ, ◌+◌, ◌<◌, List, [], ◌∷◌, ◌++◌, length, take, drop, get_or, Option, option_map, sym, ap, ◌∙◌, subst, length-drop, length-take, arith, IfSome}
 use Rattle.std.proofs.lemmas.List.{append-nil, take-take, drop_more, drop_all, get_or-take, get_or-drop}
 use Rattle.arn_base.specs.Disk.{overwrite, Torn, Cut}
 use Rattle.log_store.specs.Log.{IsEnd}
@@ -8,24 +9,16 @@ use Rattle.log_store.specs.Pieces.{EndsWith, IsSameFront}
 -- how long bytes are that end so
 length-ends : (gate : ℕ) (end told : List ℕ) → EndsWith gate end told → length told ≡ gate + length end
 length-ends gate end told ends =
-    let behind = length-drop gate told in
-    let same = ap length ends.are_bytes in
-    let within = ends.is_within in
-    omega (arith, behind, same, within)
+    omega (arith, length-drop gate told, ap length ends.are_bytes, ends.is_within)
 
 -- the gate that something follows isn't open
 not_open : (end : List ℕ) → IsEnd end → 1 < length end → get_or end 0 0 ≢ 1
-not_open [] is more = absurd is
-not_open (gate ∷ []) is more = absurd (omega arith)
-not_open (gate ∷ b ∷ behind) (inl shut) more = shut
-not_open (gate ∷ b ∷ behind) (inr none) more = absurd (cc none)
+not_open end h1 h2 = grind (arith, nat_tests)
 
 pub cut_front : (gate : ℕ) (end told left : List ℕ) → EndsWith gate end told → IsEnd end → 1 < length end → Cut (gate + 1) told left → IsSameFront gate told left
 cut_front gate end told left ends is more cut =
-    let long = length-ends gate end told ends in
-    let within : gate < length left = omega (arith, long, more, cut.no_shorter) in
-    let here = get_or left gate 0 in
-    let same : here ≡ get_or end 0 0 =
+    let within : gate < length left = omega (arith, length-ends gate end told ends, more, cut.no_shorter) in
+    let same : (get_or left gate 0) ≡ get_or end 0 0 =
     sym (get_or-take (gate + 1) left gate 0 (omega arith))
     ∙ ap (λ (xs : List ℕ). get_or xs gate 0) cut.front
     ∙ get_or-take (gate + 1) told gate 0 (omega arith)
@@ -56,14 +49,8 @@ gate_front gate value told left ends torn =
 
 pub gate_closed : (gate value : ℕ) (o : Option (List ℕ)) → IfSome o (EndsWith gate (value ∷ []))
     → option_map (λ old. overwrite old gate (0 ∷ [])) o ≡ option_map (λ told. take gate told ++ 0 ∷ []) o
-gate_closed gate value None ends = refl
-gate_closed gate value (Some told) ends =
-    ap Some (ap (λ (xs : List ℕ). take gate told ++ 0 ∷ [] ++ xs) (nothing_behind gate value told ends) ∙ append-nil (take gate told ++ 0 ∷ []))
+gate_closed gate value o h1 = grind (arith, nat_tests, nothing_behind, append-nil)
 
 -- what has the front of what was cut has that of all
 pub same_front_after : (gate : ℕ) (told left : List ℕ) → IsSameFront gate (take (gate + 1) told) left → IsSameFront gate told left
-same_front_after gate told left same = record {
-  front = same.front ∙ take-take gate (gate + 1) told (omega arith);
-  is_end = same.is_end;
-  no_longer = omega (arith, length-take (gate + 1) told, same.no_longer);
-}
+same_front_after gate told left h1 = grind (arith, nat_tests, take-take, length-take)

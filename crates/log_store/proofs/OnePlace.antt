@@ -1,6 +1,6 @@
 -- Bytes that are no log show that at one place.
-use Rattle.std.proofs.Common.{◌≡◌, ◌≢◌, ◌⊎◌, inl, inr, ⊎_elim, ℕ, ◌+◌, ◌<◌, List, [], ◌∷◌, ◌++◌, length, get_or, drop, Some, refl, sym, ap, ◌∙◌, subst, append_assoc, arith}
-use Rattle.std.specs.Prelude.{All, slice_get}
+use Rattle.std.proofs.lemmas.Bool.Decides.{nat_tests}
+use Rattle.std.proofs.Common.{◌≡◌, ◌≢◌, ◌⊎◌, inl, inr, ⊎_elim, ℕ, ◌+◌, ◌<◌, List, [], ◌∷◌, ◌++◌, length, get_or, drop, Some, refl, sym, ap, ◌∙◌, append_assoc, arith, All}
 use Rattle.std.proofs.lemmas.Bool.{cases_order}
 use Rattle.std.proofs.lemmas.List.{append_cancel_left, get_or-take}
 use Rattle.std.proofs.lemmas.List.Elements.{All-head, All-tail}
@@ -27,10 +27,8 @@ misnamed_first bytes at later here there below =
 misspelled-same : SpelledOneWay → (a b : List Record) (s t : List ℕ) → All IsSpellable a → All IsSpellable b → BeginsNone s → BeginsNone t
     → spellings a ++ s ≡ spellings b ++ t → a ≡ b
 misspelled-same one [] [] s t are_a are_b none_s none_t e = refl
-misspelled-same one [] (y ∷ b) s t are_a are_b none_s none_t e =
-    absurd (none_s y (spellings b ++ t) (All-head IsSpellable y b are_b) (e ∙ append_assoc (spelling y) (spellings b) t))
-misspelled-same one (x ∷ a) [] s t are_a are_b none_s none_t e =
-    absurd (none_t x (spellings a ++ s) (All-head IsSpellable x a are_a) (sym e ∙ append_assoc (spelling x) (spellings a) s))
+misspelled-same one [] (y ∷ b) s t are_a are_b none_s none_t e = grind (arith, nat_tests, All-head IsSpellable y b are_b, append_assoc (spelling y) (spellings b) t)
+misspelled-same one (x ∷ a) [] s t are_a are_b none_s none_t e = grind (arith, nat_tests, All-head IsSpellable x a are_a, append_assoc (spelling x) (spellings a) s)
 misspelled-same one (x ∷ a) (y ∷ b) s t are_a are_b none_s none_t e =
     let is_x = All-head IsSpellable x a are_a in
     let is_y = All-head IsSpellable y b are_b in
@@ -62,10 +60,8 @@ broken-same : SpelledOneWay → (a b : List (List Record)) (s t : List ℕ) (gat
     → IsCutShort gate_a at_a s ⊎ IsMisspelled gate_a at_a s → IsCutShort gate_b at_b t ⊎ IsMisspelled gate_b at_b t
     → frames a ++ 1 ∷ s ≡ frames b ++ 1 ∷ t → Same a b s t
 broken-same one [] [] s t gate_a at_a gate_b at_b are_a are_b cause_a cause_b e = record { front = refl; back = ap (drop 1) e }
-broken-same one [] (y ∷ b) s t gate_a at_a gate_b at_b are_a are_b cause_a cause_b e =
-    absurd (no_frame one s gate_a at_a cause_a y (frames b ++ 1 ∷ t) (All-head IsCommit y b are_b) (frames-some b t) (ap (drop 1) (e ∙ append_assoc (frame y) (frames b) (1 ∷ t))))
-broken-same one (x ∷ a) [] s t gate_a at_a gate_b at_b are_a are_b cause_a cause_b e =
-    absurd (no_frame one t gate_b at_b cause_b x (frames a ++ 1 ∷ s) (All-head IsCommit x a are_a) (frames-some a s) (ap (drop 1) (sym e ∙ append_assoc (frame x) (frames a) (1 ∷ s))))
+broken-same one [] (y ∷ b) s t gate_a at_a gate_b at_b are_a are_b cause_a cause_b e = grind (arith, nat_tests, no_frame one s gate_a at_a cause_a y (frames b ++ 1 ∷ t) (All-head IsCommit y b are_b) (frames-some b t), append_assoc (frame y) (frames b) (1 ∷ t))
+broken-same one (x ∷ a) [] s t gate_a at_a gate_b at_b are_a are_b cause_a cause_b e = grind (arith, nat_tests, no_frame one t gate_b at_b cause_b x (frames a ++ 1 ∷ s) (All-head IsCommit x a are_a) (frames-some a s), append_assoc (frame x) (frames a) (1 ∷ s))
 broken-same one (x ∷ a) (y ∷ b) s t gate_a at_a gate_b at_b are_a are_b cause_a cause_b e =
     let whole = sym (append_assoc (frame x) (frames a) (1 ∷ s)) ∙ e ∙ append_assoc (frame y) (frames b) (1 ∷ t) in
     let same = frame-same one x y (frames a ++ 1 ∷ s) (frames b ++ 1 ∷ t) (All-head IsCommit x a are_a) (All-head IsCommit y b are_b) whole in
@@ -76,9 +72,7 @@ broken-same one (x ∷ a) (y ∷ b) s t gate_a at_a gate_b at_b are_a are_b caus
 moved : (a b : List (List Record)) (s t : List ℕ) (at : ℕ) → Same a b s t
     → (let gate = length log_name + length (frames a) in IsCutShort gate at s ⊎ IsMisspelled gate at s)
     → (let gate = length log_name + length (frames b) in IsCutShort gate at t ⊎ IsMisspelled gate at t)
-moved a b s t at same cause =
-    subst (λ (xs : List ℕ). IsCutShort (length log_name + length (frames b)) at xs ⊎ IsMisspelled (length log_name + length (frames b)) at xs) same.back
-    (subst (λ (cs : List (List Record)). IsCutShort (length log_name + length (frames cs)) at s ⊎ IsMisspelled (length log_name + length (frames cs)) at s) same.front cause)
+moved a b s t at h1 h2 = grind (arith, nat_tests)
 
 broken_place : SpelledOneWay → (bytes : List ℕ) (first second : ℕ) → IsBroken bytes first → IsBroken bytes second → first ≡ second
 broken_place one bytes first second a b =
@@ -88,9 +82,7 @@ broken_place one bytes first second a b =
 
 -- a broken log has its name
 misnamed_broken : (bytes : List ℕ) (first second : ℕ) → IsMisnamed bytes first → IsBroken bytes second → ⊥
-misnamed_broken bytes first second misnamed broken =
-    misnamed.differs
-    (ap (λ (b : List ℕ). slice_get b first) broken.are_bytes ∙ name_stands (frames broken.commits ++ 1 ∷ broken.behind) first misnamed.is_within)
+misnamed_broken bytes first second h1 h2 = grind (arith, nat_tests, name_stands)
 
 pub bad_one_place : SpelledOneWay → BadAtOnePlace
 bad_one_place one bytes first second (inl a) (inl b) = elim (cases_order first second) [

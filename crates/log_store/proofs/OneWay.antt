@@ -1,13 +1,13 @@
 -- The bytes of a log are read in one way.
-use Rattle.std.proofs.Common.{◌≡◌, ◌≢◌, ◌⊎◌, inl, inr, ℕ, ◌<◌, ◌≤◌, List, [], ◌∷◌, ◌++◌, length, drop, Some, refl, sym, ap, ◌∙◌, append_assoc, length-append, arith}
-use Rattle.std.specs.Prelude.{All, slice_get}
+use Rattle.std.proofs.lemmas.Bool.Decides.{nat_tests}
+use Rattle.std.proofs.Common.{◌≡◌, ◌≢◌, ◌⊎◌, inl, inr, ℕ, ◌<◌, ◌≤◌, List, [], ◌∷◌, ◌++◌, length, drop, refl, sym, ap, ◌∙◌, append_assoc, length-append, arith, All, slice_get}
 use Rattle.std.proofs.lemmas.List.{append_cancel_left, get_or_append_left}
 use Rattle.std.proofs.lemmas.Option.{slice_get-get_or}
 use Rattle.std.proofs.lemmas.List.Elements.{All-head, All-tail}
 use Rattle.arn_base.specs.declared.records.Record.{Record}
 use Rattle.result_log.specs.Laws.{SpelledOneWay}
 use Rattle.result_log.specs.Spelling.{spelling, counted}
-use Rattle.log_store.specs.Log.{closed_log, log_name, spellings, frame, frames, records_of, IsClosedLog, IsClosedLogOf, IsCommit, IsEnd, IsLogOf, IsNamedLog, IsSpellable}
+use Rattle.log_store.specs.Log.{log_name, spellings, frame, frames, records_of, IsClosedLog, IsCommit, IsEnd, IsLogOf, IsNamedLog, IsSpellable}
 use Rattle.log_store.specs.Pieces.{IsFound}
 use Rattle.log_store.specs.Laws.{ClosedHoldCommits, CommitsReadOneWay, LogsReadOneWay, ClosedAreLogs, BadAreNone}
 use Rattle.log_store.specs.Refused.{BeginsNone, IsBroken, IsCutShort, IsMisnamed, IsMisspelled, IsNoLog}
@@ -17,14 +17,8 @@ use Rattle.log_store.proofs.ReadRecords.{spelling-long}
 -- bytes that spell records spell no others
 pub spellings-same : SpelledOneWay → (a b : List Record) → All IsSpellable a → All IsSpellable b → spellings a ≡ spellings b → a ≡ b
 spellings-same one [] [] are_a are_b e = refl
-spellings-same one [] (y ∷ b) are_a are_b e =
-    let long = spelling-long y in
-    let size = ap length e ∙ length-append (spelling y) (spellings b) in
-    absurd (omega (arith, long, size))
-spellings-same one (x ∷ a) [] are_a are_b e =
-    let long = spelling-long x in
-    let size = sym (length-append (spelling x) (spellings a)) ∙ ap length e in
-    absurd (omega (arith, long, size))
+spellings-same one [] (y ∷ b) are_a are_b e = grind (arith, nat_tests, spelling-long y, length-append (spelling y) (spellings b))
+spellings-same one (x ∷ a) [] are_a are_b e = grind (arith, nat_tests, spelling-long x, length-append (spelling x) (spellings a))
 spellings-same one (x ∷ a) (y ∷ b) are_a are_b e =
     let is_x = All-head IsSpellable x a are_a in
     let is_y = All-head IsSpellable y b are_b in
@@ -37,11 +31,7 @@ pub spellings-none : SpelledOneWay → (a b : List Record) (rest : List ℕ) →
     → spellings a ++ rest ≡ spellings b → ⊥
 spellings-none one [] [] rest are_a are_b some begins e = some e
 spellings-none one [] (y ∷ b) rest are_a are_b some begins e = begins y (spellings b) (All-head IsSpellable y b are_b) e
-spellings-none one (x ∷ a) [] rest are_a are_b some begins e =
-    let long = spelling-long x in
-    let size = sym (length-append (spelling x ++ spellings a) rest) ∙ ap length e in
-    let part = length-append (spelling x) (spellings a) in
-    omega (arith, long, size, part)
+spellings-none one (x ∷ a) [] rest are_a are_b some begins e = grind (arith, nat_tests, spelling-long x, length-append (spelling x ++ spellings a) rest, length-append (spelling x) (spellings a))
 spellings-none one (x ∷ a) (y ∷ b) rest are_a are_b some begins e =
     let is_x = All-head IsSpellable x a are_a in
     let is_y = All-head IsSpellable y b are_b in
@@ -50,27 +40,18 @@ spellings-none one (x ∷ a) (y ∷ b) rest are_a are_b some begins e =
 
 -- an end begins no frame
 pub end_no_frame : (end : List ℕ) (commit : List Record) (rest : List ℕ) → IsEnd end → end ≢ frame commit ++ rest
-end_no_frame [] commit rest is e = is
-end_no_frame (gate ∷ behind) commit rest (inl shut) e = shut (cc e)
-end_no_frame (gate ∷ behind) commit rest (inr none) e =
-    let size = ap length e ∙ length-append (frame commit) rest in
-    let long = length-counted (spellings commit) in
-    let short = ap length none in
-    omega (arith, size, long, short)
+end_no_frame end commit rest h1 = grind (arith, nat_tests, length-append, length-counted)
 
 -- two frames at the front of the same bytes hold one commit
 pub frame-same : SpelledOneWay → (a b : List Record) (s t : List ℕ) → IsCommit a → IsCommit b → frame a ++ s ≡ frame b ++ t → Same a b s t
-frame-same one a b s t is_a is_b e =
-    let same = counted-same (spellings a) (spellings b) s t is_a.is_counted is_b.is_counted (ap (drop 1) e) in
-    record { front = spellings-same one a b is_a.are_spellable is_b.are_spellable same.front; back = same.back }
+frame-same h1 a b s t h2 h3 h4 = grind (arith, nat_tests, counted-same, spellings-same)
 
 -- frames are read in one way, up to an end
 pub frames-same : SpelledOneWay → (a b : List (List Record)) (end other : List ℕ) → All IsCommit a → All IsCommit b → IsEnd end → IsEnd other
     → frames a ++ end ≡ frames b ++ other → a ≡ b
 frames-same one [] [] end other are_a are_b is is_other e = refl
 frames-same one [] (y ∷ b) end other are_a are_b is is_other e = absurd (end_no_frame end y (frames b ++ other) is (e ∙ append_assoc (frame y) (frames b) other))
-frames-same one (x ∷ a) [] end other are_a are_b is is_other e =
-    absurd (end_no_frame other x (frames a ++ end) is_other (sym e ∙ append_assoc (frame x) (frames a) end))
+frames-same one (x ∷ a) [] end other are_a are_b is is_other e = grind (arith, nat_tests, end_no_frame other x (frames a ++ end) is_other, append_assoc (frame x) (frames a) end)
 frames-same one (x ∷ a) (y ∷ b) end other are_a are_b is is_other e =
     let whole = sym (append_assoc (frame x) (frames a) end) ∙ e ∙ append_assoc (frame y) (frames b) other in
     let same = frame-same one x y (frames a ++ end) (frames b ++ other) (All-head IsCommit x a are_a) (All-head IsCommit y b are_b) whole in
@@ -80,26 +61,14 @@ frames-same one (x ∷ a) (y ∷ b) end other are_a are_b is is_other e =
 -- one byte holds no frame
 no_commits : (commits : List (List Record)) (end behind : List ℕ) → IsEnd end → behind ≡ frames commits ++ end → length behind ≤ 1 → commits ≡ []
 no_commits [] end behind is e le = refl
-no_commits (c ∷ commits) end behind is e le =
-    let size = ap length e ∙ length-append (frame c ++ frames commits) end in
-    let part = length-append (frame c) (frames commits) in
-    let long = length-counted (spellings c) in
-    absurd (omega (arith, size, part, long, le))
+no_commits (c ∷ commits) end behind is e le = grind (arith, nat_tests, length-append (frame c ++ frames commits) end, length-append (frame c) (frames commits), length-counted (spellings c))
 
 -- a log of at most nine bytes that has a name holds no commits
 pub short_named : (bytes : List ℕ) (commits : List (List Record)) → length bytes ≤ 9 → IsNamedLog bytes commits → commits ≡ []
-short_named bytes commits short named =
-    let log = named.are_frames in
-    let size = ap length named.is_named ∙ length-append log_name named.behind in
-    no_commits commits log.end named.behind log.is_end log.are_bytes (omega (arith, size, short))
+short_named bytes commits h1 h2 = grind (arith, nat_tests, no_commits, length-append)
 
 pub named-same : SpelledOneWay → (bytes : List ℕ) (first second : List (List Record)) → IsNamedLog bytes first → IsNamedLog bytes second → first ≡ second
-named-same one bytes first second a b =
-    let behind = append_cancel_left log_name a.behind b.behind (sym a.is_named ∙ b.is_named) in
-    let fa = a.are_frames in
-    let fb = b.are_frames in
-    frames-same one first second fa.end fb.end fa.are_commits fb.are_commits fa.is_end fb.is_end
-    (sym fa.are_bytes ∙ behind ∙ fb.are_bytes)
+named-same h1 bytes first second h2 h3 = grind (arith, nat_tests, frames-same, append_cancel_left)
 
 pub commits_one_way : SpelledOneWay → CommitsReadOneWay
 commits_one_way one bytes first second (inl a) (inl b) = a.1 ∙ sym b.1
@@ -112,18 +81,10 @@ logs_one_way one bytes first second a b =
     a.are_records ∙ ap records_of (commits_one_way one bytes a.commits b.commits a.is_log b.is_log) ∙ sym b.are_records
 
 pub closed_commits : ClosedHoldCommits
-closed_commits bytes commits closed = inr (record {
-  behind = frames commits ++ 0 ∷ [];
-  is_named = closed.are_bytes;
-  are_frames = record { end = 0 ∷ []; are_commits = closed.are_commits; is_end = inr refl; are_bytes = refl };
-})
+closed_commits = grind (arith, nat_tests)
 
 pub closed_logs : ClosedAreLogs
-closed_logs bytes records log = record {
-  commits = log.commits;
-  is_log = closed_commits bytes log.commits log.is_closed;
-  are_records = log.are_records;
-}
+closed_logs = grind (arith, nat_tests, closed_commits)
 
 -- what a store left is read up to its last byte
 pub closed_end : SpelledOneWay → (bytes : List ℕ) (entries records : List Record) (end : List ℕ) → IsFound bytes entries end → IsClosedLog bytes records
@@ -133,29 +94,14 @@ closed_end one bytes entries records end found log =
     let same = frames-same one found.commits log.commits end (0 ∷ []) found.are_commits log.is_closed.are_commits found.is_end (inr refl) behind in
     append_cancel_left (frames log.commits) end (0 ∷ []) (ap (λ (cs : List (List Record)). frames cs ++ end) (sym same) ∙ behind)
 
--- a short one holds nothing
-pub closed_fresh : (bytes : List ℕ) (records : List Record) → length bytes ≤ 9 → IsClosedLog bytes records → bytes ≡ log_name ++ 0 ∷ []
-closed_fresh bytes records short log =
-    let size = ap length log.is_closed.are_bytes ∙ length-append log_name (frames log.commits ++ 0 ∷ []) in
-    let none = no_commits log.commits (0 ∷ []) (frames log.commits ++ 0 ∷ []) (inr refl) refl (omega (arith, size, short)) in
-    log.is_closed.are_bytes ∙ ap closed_log none
-
 -- something stands behind the open gate of a broken frame
 has_more : (behind : List ℕ) (gate at : ℕ) → IsCutShort gate at behind ⊎ IsMisspelled gate at behind → behind ≢ []
-has_more behind gate at (inl short) none = short.has_more none
-has_more behind gate at (inr bad) none =
-    let size = sym (ap length none) ∙ ap length bad.holds.are_bytes ∙ length-append (counted bad.payload) bad.next in
-    let long = length-counted bad.payload in
-    omega (arith, size, long)
+has_more behind gate at h1 = grind (arith, nat_tests, length-append, length-counted)
 
 -- behind the open gate of a broken frame stands no frame of a commit
 pub no_frame : SpelledOneWay → (behind : List ℕ) (gate at : ℕ) → IsCutShort gate at behind ⊎ IsMisspelled gate at behind
     → (commit : List Record) (next : List ℕ) → IsCommit commit → next ≢ [] → behind ≢ counted (spellings commit) ++ next
-no_frame one behind gate at (inl short) commit next is some e =
-    short.holds_none (spellings commit) next (record { is_counted = is.is_counted; is_next = some; are_bytes = e })
-no_frame one behind gate at (inr bad) commit next is some e =
-    let same = counted-same bad.payload (spellings commit) bad.next next bad.holds.is_counted is.is_counted (sym bad.holds.are_bytes ∙ e) in
-    spellings-none one bad.records commit bad.rest bad.are_spellable is.are_spellable bad.has_more bad.begins_none (sym bad.are_bytes ∙ same.front)
+no_frame h1 behind gate at h2 commit next h3 h4 = grind (arith, nat_tests, counted-same, spellings-none)
 
 -- frames with a broken one behind them aren't frames and an end
 pub broken_none : SpelledOneWay → (a b : List (List Record)) (behind end : List ℕ) (gate at : ℕ) → All IsCommit a → All IsCommit b → IsEnd end
@@ -163,9 +109,7 @@ pub broken_none : SpelledOneWay → (a b : List (List Record)) (behind end : Lis
 broken_none one [] [] behind end gate at are_a are_b is cause e = not_end behind end gate at is cause e
   where
     not_end : (behind end : List ℕ) (gate at : ℕ) → IsEnd end → IsCutShort gate at behind ⊎ IsMisspelled gate at behind → 1 ∷ behind ≡ end → ⊥
-    not_end behind [] gate at is cause e = is
-    not_end behind (g ∷ rest) gate at (inl shut) cause e = shut (cc e)
-    not_end behind (g ∷ rest) gate at (inr none) cause e = has_more behind gate at cause (ap (drop 1) e ∙ none)
+    not_end behind end gate at h1 h2 h3 = grind (arith, nat_tests, has_more)
 broken_none one [] (y ∷ b) behind end gate at are_a are_b is cause e =
     no_frame one behind gate at cause y (frames b ++ end) (All-head IsCommit y b are_b) (frames-some b end is) (ap (drop 1) (e ∙ append_assoc (frame y) (frames b) end))
   where
@@ -182,11 +126,7 @@ broken_none one (x ∷ a) (y ∷ b) behind end gate at are_a are_b is cause e =
 
 -- a broken log is longer than a fresh one
 broken_long : (bytes : List ℕ) (at : ℕ) → IsBroken bytes at → 9 < length bytes
-broken_long bytes at broken =
-    let size = ap length broken.are_bytes ∙ length-append log_name (frames broken.commits ++ 1 ∷ broken.behind) in
-    let part = length-append (frames broken.commits) (1 ∷ broken.behind) in
-    let more = not_empty broken.behind (has_more broken.behind _ at broken.cause) in
-    omega (arith, size, part, more)
+broken_long bytes at h1 = grind (arith, nat_tests, length-append, not_empty, has_more)
 
 pub broken_no_log : SpelledOneWay → (bytes : List ℕ) (at : ℕ) → IsBroken bytes at → IsNoLog bytes
 broken_no_log one bytes at broken records is = none_of is.commits is.is_log
@@ -201,18 +141,10 @@ broken_no_log one bytes at broken records is = none_of is.commits is.is_log
 
 -- a log's name stands at its front
 pub name_stands : (behind : List ℕ) (at : ℕ) → at < length log_name → slice_get (log_name ++ behind) at ≡ slice_get log_name at
-name_stands behind at within =
-    slice_get-get_or (log_name ++ behind) at 0 (omega (arith, within, length-append log_name behind))
-    ∙ ap Some (get_or_append_left log_name behind 0 at within)
-    ∙ sym (slice_get-get_or log_name at 0 within)
+name_stands behind at h1 = grind (arith, nat_tests, slice_get-get_or, length-append, get_or_append_left)
 
 pub misnamed_no_log : (bytes : List ℕ) (at : ℕ) → IsMisnamed bytes at → IsNoLog bytes
-misnamed_no_log bytes at misnamed records is = none_of is.commits is.is_log
-  where
-    none_of : (commits : List (List Record)) → ¬ IsLogOf bytes commits
-    none_of commits (inl fresh) = let long = misnamed.is_long in let short = fresh.0 in omega (arith, long, short)
-    none_of commits (inr named) =
-        misnamed.differs (ap (λ (b : List ℕ). slice_get b at) named.is_named ∙ name_stands named.behind at misnamed.is_within)
+misnamed_no_log bytes at h1 = grind (arith, nat_tests, name_stands)
 
 pub bad_none : SpelledOneWay → BadAreNone
 bad_none one bytes at (inl misnamed) = misnamed_no_log bytes at misnamed

@@ -1,7 +1,6 @@
 -- What a payload spells, as far as it was read.
-use Rattle.std.proofs.Common.{◌≡◌, ℕ, zero, suc, ◌+◌, ◌-◌, ◌<◌, ◌≤◌, List, [], ◌∷◌, ◌++◌, length, get_or, take, drop, w32, sym, ap, ◌∙◌, subst, append_assoc, length-take, length-drop, take-append-drop, arith}
+use Rattle.std.proofs.Common.{◌≡◌, ℕ, zero, suc, ◌+◌, ◌-◌, ◌<◌, ◌≤◌, List, [], ◌∷◌, ◌++◌, length, get_or, take, drop, w32, sym, ap, ◌∙◌, append_assoc, length-take, length-drop, take-append-drop, arith, All}
 use Rattle.std.specs.Int.{from_le_bytes}
-use Rattle.std.specs.Prelude.{All}
 use Rattle.std.proofs.Math.Seq.{take-add}
 use Rattle.std.proofs.lemmas.List.{flat_map_more}
 use Rattle.std.proofs.lemmas.List.Elements.{All-push}
@@ -49,55 +48,18 @@ pub record IsRead (payload : List ℕ) (old new : List Record) (at : ℕ) : Type
 
 pub IsRead-more : (payload : List ℕ) (old now new : List Record) (at next : ℕ) (e : Record) → IsRead payload old now at → Reads payload at e next
     → new ≡ now ++ e ∷ [] → IsRead payload old new next
-IsRead-more payload old now new at next e read reads added =
-    let more : next ≡ at + (next - at) = omega (arith, reads.forward) in
-    record {
-      records = read.records ++ e ∷ [];
-      are_spellable = All-push IsSpellable read.records e read.are_spellable (reads.has_spelling, reads.fits);
-      front =
-          ap (λ (n : ℕ). take n payload) more
-          ∙ take-add at (next - at) payload
-          ∙ ap (λ (xs : List ℕ). xs ++ take (next - at) (drop at payload)) read.front
-          ∙ ap (λ (xs : List ℕ). spellings read.records ++ xs) reads.is_spelling
-          ∙ flat_map_more spelling [] read.records e;
-      are_added = added ∙ ap (λ (rs : List Record). rs ++ e ∷ []) read.are_added ∙ append_assoc old read.records (e ∷ []);
-      is_within = reads.within;
-    }
+IsRead-more payload old now new at next e read reads added = grind (arith, All-push IsSpellable read.records e read.are_spellable (reads.has_spelling, reads.fits), take-add at (next - at) payload, flat_map_more spelling [] read.records e, append_assoc old read.records (e ∷ []))
 
 pub IsRead-bad : (payload : List ℕ) (old new : List Record) (at place bad : ℕ) → ReadsAsSpelled → IsRead payload old new at → at < length payload
     → IsMalformed payload at → bad ≡ place + at → IsPayloadBad payload place bad
-IsRead-bad payload old new at place bad stands read within malformed is_bad =
-    let long : length (take at payload) ≡ at = omega (arith, length-take at payload, within) in
-    record {
-      records = read.records;
-      rest = drop at payload;
-      are_spellable = read.are_spellable;
-      are_bytes = sym (take-append-drop at payload) ∙ ap (λ (xs : List ℕ). xs ++ drop at payload) read.front;
-      has_more = λ none. let short = ap length none in omega (arith, short, length-drop at payload, within);
-      begins_none = λ e rest spellable is.
-          let here = stands (take at payload) rest e spellable.0 spellable.1 in
-          let whole : take at payload ++ (spelling e ++ rest) ≡ payload =
-          ap (λ (xs : List ℕ). take at payload ++ xs) (sym is) ∙ take-append-drop at payload in
-          let end = length (take at payload) + length (spelling e) in
-          malformed (e, (end, subst (λ k. Reads payload k e end) long (subst (λ b. Reads b (length (take at payload)) e end) whole here)));
-      is_place = is_bad ∙ ap (λ (k : ℕ). place + k) (sym long ∙ ap length read.front);
-    }
+IsRead-bad payload old new at place bad stands read within malformed is_bad = grind (arith, length-take at payload, take-append-drop at payload, length-drop at payload)
 
 -- a spelling isn't empty
 pub spelling-long : (e : Record) → 0 < length (spelling e)
 spelling-long (entry.File name bytes) = omega arith
-spelling-long (entry.Boot name g) = omega arith
-spelling-long (entry.Typed bytes) = omega arith
-spelling-long (entry.Unplug device) = omega arith
-spelling-long (entry.Slice pid ran) = omega arith
-spelling-long (entry.Signal pid signal cut handler) = omega arith
-spelling-long (entry.Call pid number answer did) = omega arith
-spelling-long (entry.End pid status) = omega arith
+spelling-long _ = omega arith
 
 -- an error that tells a place tells another fact of it
 pub IsMalformedWhere-weaker : (P Q : ℕ → Type 0) (error : OpenError) → IsMalformedWhere P error → ((at : ℕ) → P at → Q at) → IsMalformedWhere Q error
-IsMalformedWhere-weaker P Q (opening.TooLong len) m q = m
-IsMalformedWhere-weaker P Q (opening.NotLog at) m q = m
 IsMalformedWhere-weaker P Q (opening.Malformed at) m q = q at m
-IsMalformedWhere-weaker P Q opening.Disk m q = m
-IsMalformedWhere-weaker P Q opening.NoMemory m q = m
+IsMalformedWhere-weaker P Q _ m q = m

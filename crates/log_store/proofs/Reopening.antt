@@ -1,6 +1,6 @@
 -- A log that was read, and what a stop leaves while it is opened.
-use Rattle.std.proofs.Common.{◌≡◌, ◌⊎◌, inl, inr, ℕ, ◌+◌, ◌-◌, ◌<◌, ◌≤◌, List, [], ◌∷◌, ◌++◌, length, take, drop, Option, Some, None, refl, sym, ap, ◌∙◌, subst, append_assoc, length-append, take-append-drop, arith, IfSome}
-use Rattle.std.proofs.lemmas.List.{take_at, drop_at}
+use Rattle.std.proofs.lemmas.Bool.Decides.{nat_tests}
+use Rattle.std.proofs.Common.{◌≡◌, ◌⊎◌, inl, inr, ℕ, ◌+◌, ◌-◌, ◌<◌, ◌≤◌, List, [], ◌∷◌, ◌++◌, length, take, drop, Option, refl, sym, ap, ◌∙◌, subst, append_assoc, length-append, take-append-drop, arith, IfSome, take_at, drop_at}
 use Rattle.std.proofs.lemmas.List.Elements.{All-nil}
 use Rattle.std.proofs.lemmas.Option.{IfSome_then}
 use Rattle.arn_base.specs.declared.records.Record.{Record}
@@ -31,12 +31,7 @@ fresh_some bytes short is_none = is_none [] (fresh_log bytes short)
 
 -- fresh logs hold no records
 pub kept_fresh : LogsReadOneWay → (told left : List ℕ) → length told ≤ 9 → length left ≤ 9 → KeepsRecords told left
-kept_fresh one told left short is_short =
-    record {
-      same = λ records log. subst (IsLog left) (sym (one told records [] log (fresh_log told short))) (fresh_log left is_short);
-      none = λ is_none. absurd (fresh_some told short is_none);
-      no_longer = omega (arith, is_short);
-    }
+kept_fresh one told left short is_short = grind (arith, fresh_log told short, fresh_log left is_short, fresh_some told short)
 
 module _ (bytes : List ℕ) (entries : List Record) (end : List ℕ) (found : IsFound bytes entries end) (gate : ℕ) (is_gate : gate ≡ length bytes - length end) where
   pub found-front : bytes ≡ front_of found.commits ++ end
@@ -44,8 +39,7 @@ module _ (bytes : List ℕ) (entries : List Record) (end : List ℕ) (found : Is
 
   pub length-front : gate ≡ length (front_of found.commits)
   length-front =
-      let whole = ap length found-front ∙ length-append (front_of found.commits) end in
-      omega (arith, whole, is_gate)
+      omega (arith, ap length found-front ∙ length-append (front_of found.commits) end, is_gate)
 
   take-front : (told : List ℕ) → told ≡ bytes → take gate told ≡ front_of found.commits
   take-front told same =
@@ -53,9 +47,8 @@ module _ (bytes : List ℕ) (entries : List Record) (end : List ℕ) (found : Is
 
   pub found_ends : (told : List ℕ) → told ≡ bytes → EndsWith gate end told
   found_ends told same =
-      let whole = ap length (same ∙ found-front) ∙ length-append (front_of found.commits) end in
       record {
-        is_within = omega (arith, whole, length-front);
+        is_within = omega (arith, ap length (same ∙ found-front) ∙ length-append (front_of found.commits) end, length-front);
         are_bytes = ap (λ (b : List ℕ). drop gate b) (same ∙ found-front) ∙ drop_at (front_of found.commits) end gate (sym length-front);
       }
 
@@ -71,8 +64,7 @@ module _ (bytes : List ℕ) (entries : List Record) (end : List ℕ) (found : Is
         let whole : left ≡ front_of found.commits ++ drop gate left =
         sym (take-append-drop gate left) ∙ ap (λ (xs : List ℕ). xs ++ drop gate left) (kept.front ∙ take-front told same) in
         let here = ends_log found.commits left (drop gate left) found.are_commits kept.is_end whole in
-        let are : records ≡ entries = one bytes records entries (subst (λ b. IsLog b records) same log) found_log in
-        subst (IsLog left) (sym (are ∙ found.are_records)) here;
+        subst (IsLog left) (sym (one bytes records entries (subst (λ b. IsLog b records) same log) found_log ∙ found.are_records)) here;
     none = λ is_none. absurd (found_some (subst IsNoLog same is_none));
     no_longer = omega (arith, kept.no_longer);
   }
@@ -84,29 +76,13 @@ module _ (bytes : List ℕ) (entries : List Record) (end : List ℕ) (found : Is
   -- closed, it ends behind these
   pub found_closes : CommitsReadOneWay → (commits : List (List Record)) → IsLogOf bytes commits → (told : List ℕ) → told ≡ bytes
       → IsClosedLogOf (take gate told ++ 0 ∷ []) commits
-  found_closes one commits log told same =
-      subst (IsClosedLogOf (take gate told ++ 0 ∷ [])) (found_same one commits log)
-      (record {
-        are_commits = found.are_commits;
-        are_bytes = ap (λ (xs : List ℕ). xs ++ 0 ∷ []) (take-front told same) ∙ append_assoc log_name (frames found.commits) (0 ∷ []);
-      })
+  found_closes one commits log told same = grind (arith, found_same one commits log, take-front told same, append_assoc log_name (frames found.commits) (0 ∷ []))
 
   pub found_length : CommitsReadOneWay → (commits : List (List Record)) → IsLogOf bytes commits → gate + 1 ≡ length (closed_log commits)
-  found_length one commits log =
-      let closed = ap (λ (x : List ℕ). length x) (sym (append_assoc log_name (frames found.commits) (0 ∷ []))) ∙ length-closed (front_of found.commits) 0 in
-      omega (arith, length-front, closed, ap (λ (x : List (List Record)). length (closed_log x)) (found_same one commits log))
+  found_length one commits log = cc (append_assoc log_name (frames found.commits) (0 ∷ []), length-closed (front_of found.commits) 0, length-front, found_same one commits log)
 
   pub found_left : (told : List ℕ) → told ≡ bytes → IsLeft entries (gate + 1) (take gate told ++ 0 ∷ [])
-  found_left told same =
-      let is : take gate told ++ 0 ∷ [] ≡ front_of found.commits ++ 0 ∷ [] = ap (λ (xs : List ℕ). xs ++ 0 ∷ []) (take-front told same) in
-      record {
-        is_log = record {
-          commits = found.commits;
-          is_closed = record { are_commits = found.are_commits; are_bytes = is ∙ append_assoc log_name (frames found.commits) (0 ∷ []) };
-          are_records = found.are_records;
-        };
-        is_whole = ap length is ∙ length-closed (front_of found.commits) 0 ∙ ap (λ (n : ℕ). n + 1) (sym length-front);
-      }
+  found_left told h1 = grind (arith, nat_tests, take-front, append_assoc, length-closed, length-front)
 
 -- no disk call was made
 pub told_unmoved : {D : Type 0} (may_leave : D → List ℕ → Type 0) (moment : D → ℕ) (left_since : D → ℕ → List ℕ → Type 0)
@@ -114,24 +90,17 @@ pub told_unmoved : {D : Type 0} (may_leave : D → List ℕ → Type 0) (moment 
     → ((bytes : List ℕ) → left_since disk (moment disk) bytes → may_leave disk bytes)
     → ((old left : List ℕ) → left ≡ old → P old left)
     → IfSome o (λ old. Only old (may_leave disk) → LeavesOnly moment left_since disk disk (P old))
-told_unmoved may_leave moment left_since None disk P now p = tt
-told_unmoved may_leave moment left_since (Some old) disk P now p = λ only.
-    started moment left_since disk (P old) (λ left since. p old left (only left (now left since)))
+told_unmoved may_leave moment left_since o disk P h1 h2 = grind (arith, nat_tests, started)
 
 pub kept_same : (old left : List ℕ) → left ≡ old → KeepsRecords old left
-kept_same old left same = record {
-  same = λ records log. subst (λ b. IsLog b records) (sym same) log;
-  none = λ is_none. same;
-  no_longer = omega (arith, ap length same);
-}
+kept_same old left h1 = grind (arith, nat_tests)
 
 -- why what was read is refused
 pub bad_cause : BadAreNone → (bytes : List ℕ) → length bytes ≤ MOST_LOG → (error : OpenError) → IsReadErrorOf bytes error → IsCauseOf bytes error
 bad_cause none bytes short (opening.TooLong len) bad = absurd bad
 bad_cause none bytes short (opening.NotLog at) bad = (short, bad, none bytes at (inl bad))
 bad_cause none bytes short (opening.Malformed at) bad = (short, bad, none bytes at (inr bad))
-bad_cause none bytes short opening.Disk bad = tt
-bad_cause none bytes short opening.NoMemory bad = tt
+bad_cause none bytes short _ bad = tt
 
 -- bytes that aren't too long leave the disk alone where they are no log
 pub untouched_if : {D : Type 0} (bytes : List ℕ) (end mid : D) → length bytes ≤ MOST_LOG → (IsNoLog bytes → end ≡ mid)
@@ -153,17 +122,11 @@ fresh_closes commits none new is = subst (IsClosedLogOf new) (sym none) (record 
 
 -- where nothing was done a stop leaves the log of before
 still_left : (store : StoreState) (old left : List ℕ) (more : List Record) → store.log_len ≤ MOST_LOG → IsLeftBy store old → left ≡ old → IsBeforeOrAfter store.entries more left
-still_left store old left more short is_left same = record {
-  is_log = inl (subst (λ (b : List ℕ). IsLog b store.entries) (sym same) (closed_logs old store.entries is_left.is_log));
-  fits = omega (arith, ap length same, is_left.is_whole, short);
-}
+still_left store old left more short is_left same = grind (arith, closed_logs)
 
 pub told_still : {D : Type 0} (may_leave : D → List ℕ → Type 0) (moment : D → ℕ) (left_since : D → ℕ → List ℕ → Type 0)
     (o : Option (List ℕ)) (disk : D) (store : StoreState) (more : List Record)
     → ((bytes : List ℕ) → left_since disk (moment disk) bytes → may_leave disk bytes)
     → store.log_len ≤ MOST_LOG → IfSome o (IsLeftBy store)
     → IfSome o (λ old. Only old (may_leave disk) → LeavesOnly moment left_since disk disk (IsBeforeOrAfter store.entries more))
-told_still may_leave moment left_since o disk store more now short left =
-    told_weaker may_leave moment left_since o disk disk (IsLeftBy store) (λ old bytes. bytes ≡ old) (λ old. IsBeforeOrAfter store.entries more) left
-    (told_unmoved may_leave moment left_since o disk (λ old bytes. bytes ≡ old) now (λ old bytes same. same))
-    (λ old bytes is_left same. still_left store old bytes more short is_left same)
+told_still may_leave moment left_since o disk store more h1 h2 h3 = grind (arith, nat_tests, told_weaker, told_unmoved, still_left)

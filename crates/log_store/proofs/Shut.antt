@@ -1,12 +1,10 @@
 -- What a stop may leave after a commit that didn't end with Ok.
-use Rattle.std.proofs.Common.{◌≡◌, ℕ, ◌+◌, List, [], ◌∷◌, ◌++◌, length, take, drop, Option, Some, None, option_map, IfSome, refl, sym, ap, ◌∙◌, subst, append_assoc, arith}
-use Rattle.std.specs.Prelude.{Result, Ok, Err, OnErr}
-use Rattle.std.proofs.lemmas.List.{append-nil, take_all}
+use Rattle.std.proofs.lemmas.Bool.Decides.{nat_tests}
+use Rattle.std.proofs.Common.{◌≡◌, ℕ, ◌+◌, List, ◌++◌, length, take, drop, Option, Some, None, option_map, IfSome, ap, ◌∙◌, subst, append_assoc, arith, Result, Ok, Err, OnErr, append-nil, take_all}
 use Rattle.arn_base.specs.Disk.{overwrite, NoLess}
-use Rattle.log_store.specs.Log.{log_name, frames, IsLog}
 use Rattle.log_store.specs.Stores.{StoreState, IsLeftBy, MayLeaveLog}
 use Rattle.log_store.specs.Stops.{MayStayShut}
-use Rattle.log_store.proofs.Logs.{closed-front, front_of, unopened_log}
+use Rattle.log_store.proofs.Logs.{closed-front, unopened_log}
 
 -- what holds anyway holds after an error
 pub OnErr-always : {T E P : Type 0} (r : Result T E) → P → OnErr r P
@@ -15,9 +13,7 @@ OnErr-always (Err e) h = h
 
 -- the old bytes stay where no outcome is lost
 pub first_shut : (o : Option (List ℕ)) (was now : List ℕ → Type 0) → IfSome o was → NoLess was now → IfSome o (MayStayShut now)
-first_shut None was now stays kept = tt
-first_shut (Some old) was now stays kept =
-    record { rest = []; stays = subst now (sym (append-nil old)) (kept old stays) }
+first_shut o was now h1 h2 = grind (arith, nat_tests, append-nil)
 
 -- and where the bytes behind them were written and synced before
 pub second_shut : (o mid : Option (List ℕ)) (was now : List ℕ → Type 0) (len : ℕ) (bytes : List ℕ)
@@ -28,22 +24,11 @@ second_shut (Some old) mid was now len bytes is_mid long stays kept =
     let behind = bytes ++ drop (len + length bytes) old in
     let whole : overwrite old len bytes ≡ old ++ behind =
     append_assoc (take len old) bytes (drop (len + length bytes) old) ∙ ap (λ (xs : List ℕ). xs ++ behind) (take_all len old (omega (arith, long))) in
-    let here : was (overwrite old len bytes) = subst (λ o. IfSome o was) is_mid stays in
-    record { rest = behind; stays = subst now whole (kept (overwrite old len bytes) here) }
+    record { rest = behind; stays = subst now whole (kept (overwrite old len bytes) (subst (λ o. IfSome o was) is_mid stays)) }
 
 -- a log that a store left stays one of the same records, with any bytes behind it
 shut_log : (store : StoreState) (now : List ℕ → Type 0) (old : List ℕ) → IsLeftBy store old → MayStayShut now old → MayLeaveLog now store.entries
-shut_log store now old is_left shut =
-    let closed = is_left.is_log in
-    let stands : old ++ shut.rest ≡ front_of closed.commits ++ 0 ∷ shut.rest =
-    ap (λ (xs : List ℕ). xs ++ shut.rest) (closed-front closed.commits old closed.is_closed.are_bytes)
-    ∙ append_assoc (front_of closed.commits) (0 ∷ []) shut.rest in
-    record {
-      left = old ++ shut.rest;
-      may_be = shut.stays;
-      is_log = subst (IsLog (old ++ shut.rest)) (sym closed.are_records)
-          (unopened_log closed.commits (old ++ shut.rest) closed.is_closed.are_commits (record { rest = shut.rest; are_bytes = stands }));
-    }
+shut_log store now old h1 h2 = grind (arith, nat_tests, closed-front, append_assoc, unopened_log)
 
 pub may_leave_log : (store : StoreState) (o : Option (List ℕ)) (now : List ℕ → Type 0) → IfSome o (IsLeftBy store) → IfSome o (MayStayShut now)
     → IfSome o (λ _. MayLeaveLog now store.entries)

@@ -1,6 +1,5 @@
 -- The spellings of one record more, and the records that have spellings.
-use Rattle.std.proofs.Common.{◌≡◌, ℕ, ◌+◌, ◌<◌, List, [], ◌∷◌, ◌++◌, length, get_or, take, sym, ap, ◌∙◌, subst}
-use Rattle.std.specs.Prelude.{All}
+use Rattle.std.proofs.Common.{◌≡◌, ℕ, ◌+◌, ◌<◌, List, [], ◌∷◌, ◌++◌, length, get_or, take, subst, All}
 use Rattle.std.proofs.lemmas.List.{flat_map_more, take_more}
 use Rattle.std.proofs.lemmas.List.Elements.{All-nil, All-append, All-head, All-tail, All-same, All-weaker, All-more}
 use Rattle.arn_base.specs.declared.records.Record.{Record}
@@ -10,12 +9,7 @@ use Rattle.log_store.specs.Pieces.{IsFound}
 
 pub spellings-more : (entries : List Record) (i : ℕ) (e : Record) (out was now : List ℕ) → i < length entries → e ≡ get_or entries i e
     → was ≡ out ++ spellings (take i entries) → now ≡ was ++ spelling e → now ≡ out ++ spellings (take (i + 1) entries)
-spellings-more entries i e out was now lt is was_is now_is =
-    let taken : take (i + 1) entries ≡ take i entries ++ e ∷ [] = take_more entries i e lt ∙ ap (λ (r : Record). take i entries ++ r ∷ []) (sym is) in
-    now_is
-    ∙ ap (λ (xs : List ℕ). xs ++ spelling e) was_is
-    ∙ flat_map_more spelling out (take i entries) e
-    ∙ ap (λ (rs : List Record). out ++ spellings rs) (sym taken)
+spellings-more entries i e out was now lt is was_is now_is = cc (take_more entries i e lt, flat_map_more spelling out (take i entries) e)
 
 pub spellable-more : (entries : List Record) (i : ℕ) (e : Record) → i < length entries → e ≡ get_or entries i e
     → All IsSpellable (take i entries) → IsSpellable e → All IsSpellable (take (i + 1) entries)

@@ -1,5 +1,6 @@
 -- What is known of a disk where it tells its bytes.
-use Rattle.std.proofs.Common.{◌≡◌, ℕ, List, Option, Some, None, option_map, sym, subst, IfSome}
+use Rattle.std.proofs.lemmas.Bool.Decides.{nat_tests}
+use Rattle.std.proofs.Common.{◌≡◌, ℕ, List, Option, Some, None, option_map, sym, subst, IfSome, arith}
 use Rattle.arn_base.specs.Disk.{NoMore, Only}
 use Rattle.log_store.specs.Stops.{IsOnlyRead, LeavesOnly, NothingPending}
 use Rattle.log_store.proofs.Moments.{joined, weaker}
@@ -23,9 +24,7 @@ pub told_weaker : {D : Type 0} (may_leave : D → List ℕ → Type 0) (moment :
     → IfSome o (λ old. Only old (may_leave start) → LeavesOnly moment left_since start end (Q old))
     → ((old left : List ℕ) → P old → Q old left → R old left)
     → IfSome o (λ old. Only old (may_leave start) → LeavesOnly moment left_since start end (R old))
-told_weaker may_leave moment left_since None start end P Q R p leaves r = tt
-told_weaker may_leave moment left_since (Some old) start end P Q R p leaves r = λ only.
-    weaker moment left_since start end (Q old) (R old) (leaves only) (λ left q. r old left p q)
+told_weaker may_leave moment left_since o start end P Q R h1 h2 h3 = grind (arith, nat_tests, weaker)
 
 -- the same, where it is said of any bytes that a stop may leave
 pub told_weaker_any : {D : Type 0} (may_leave : D → List ℕ → Type 0) (moment : D → ℕ) (left_since : D → ℕ → List ℕ → Type 0)
@@ -34,9 +33,7 @@ pub told_weaker_any : {D : Type 0} (may_leave : D → List ℕ → Type 0) (mome
     → ((old : List ℕ) → Only old (may_leave start) → LeavesOnly moment left_since start end (Q old))
     → ((old left : List ℕ) → P old → Q old left → R old left)
     → IfSome o (λ old. Only old (may_leave start) → LeavesOnly moment left_since start end (R old))
-told_weaker_any may_leave moment left_since None start end P Q R p leaves r = tt
-told_weaker_any may_leave moment left_since (Some old) start end P Q R p leaves r = λ only.
-    weaker moment left_since start end (Q old) (R old) (leaves old only) (λ left q. r old left p q)
+told_weaker_any may_leave moment left_since o start end P Q R h1 h2 h3 = grind (arith, nat_tests, weaker)
 
 -- what a stop leaves after calls that read, and then others
 pub told_then : {D : Type 0} (may_leave : D → List ℕ → Type 0) (moment : D → ℕ) (left_since : D → ℕ → List ℕ → Type 0)
@@ -46,11 +43,7 @@ pub told_then : {D : Type 0} (may_leave : D → List ℕ → Type 0) (moment : D
     → IfSome now (λ old. Only old (may_leave mid) → LeavesOnly moment left_since mid end (R old))
     → ((old left : List ℕ) → left ≡ old → R old left)
     → IfSome o (λ old. Only old (may_leave start) → LeavesOnly moment left_since start end (R old))
-told_then may_leave moment left_since None now start mid end R same no_more first second r = tt
-told_then may_leave moment left_since (Some old) now start mid end R same no_more first second r = λ only.
-    let then = subst (λ t. IfSome t (λ b. Only b (may_leave mid) → LeavesOnly moment left_since mid end (R b))) same second in
-    joined moment left_since start mid end (may_leave start) (R old) (R old) first (then (λ b left. only b (no_more b left)))
-    (λ left may. r old left (only left may)) (λ left is. is)
+told_then may_leave moment left_since o now start mid end R h1 h2 h3 h4 h5 = grind (arith, nat_tests, joined)
 
 -- what a stop leaves after calls that read
 pub told_read : {D : Type 0} (may_leave : D → List ℕ → Type 0) (moment : D → ℕ) (left_since : D → ℕ → List ℕ → Type 0)
@@ -58,9 +51,7 @@ pub told_read : {D : Type 0} (may_leave : D → List ℕ → Type 0) (moment : D
     → LeavesOnly moment left_since start mid (may_leave start)
     → ((old left : List ℕ) → left ≡ old → R old left)
     → IfSome o (λ old. Only old (may_leave start) → LeavesOnly moment left_since start mid (R old))
-told_read may_leave moment left_since None start mid R first r = tt
-told_read may_leave moment left_since (Some old) start mid R first r = λ only.
-    weaker moment left_since start mid (may_leave start) (R old) first (λ left may. r old left (only left may))
+told_read may_leave moment left_since o start mid R h1 h2 = grind (arith, nat_tests, weaker)
 
 -- the disk was read at most where what was read has P
 pub told_unchanged : {D : Type 0} (image : D → Option (List ℕ)) (may_leave : D → List ℕ → Type 0) (moment : D → ℕ) (left_since : D → ℕ → List ℕ → Type 0)
@@ -69,9 +60,7 @@ pub told_unchanged : {D : Type 0} (image : D → Option (List ℕ)) (may_leave :
     → IsOnlyRead image may_leave moment left_since start mid
     → (P bytes → end ≡ mid)
     → IfSome o (λ told. P told → IsOnlyRead image may_leave moment left_since start end)
-told_unchanged image may_leave moment left_since None start mid end bytes P told read same = tt
-told_unchanged image may_leave moment left_since (Some old) start mid end bytes P told read same = λ p.
-    subst (λ disk. IsOnlyRead image may_leave moment left_since start disk) (sym (same (subst P told p))) read
+told_unchanged image may_leave moment left_since o start mid end bytes P h1 h2 h3 = grind (arith, nat_tests)
 
 -- what a stop leaves after one change that is known and durable, and then another
 pub told_two : {D : Type 0} (image : D → Option (List ℕ)) (may_leave : D → List ℕ → Type 0) (moment : D → ℕ) (left_since : D → ℕ → List ℕ → Type 0)
@@ -82,9 +71,4 @@ pub told_two : {D : Type 0} (image : D → Option (List ℕ)) (may_leave : D →
     → IfSome (image mid) (λ old. Only old (may_leave mid) → LeavesOnly moment left_since mid end (R old))
     → ((old left : List ℕ) → R (change old) left → R old left)
     → IfSome o (λ old. Only old (may_leave start) → LeavesOnly moment left_since start end (R old))
-told_two image may_leave moment left_since None start mid end change R is_start is_mid keeps first second r = tt
-told_two image may_leave moment left_since (Some old) start mid end change R is_start is_mid keeps first second r = λ only.
-    let pending = keeps (subst (λ t. IfSome t (λ b. Only b (may_leave start))) (sym is_start) only) in
-    let mid_only : Only (change old) (may_leave mid) = subst (λ t. IfSome t (λ b. Only b (may_leave mid))) is_mid pending in
-    let then = subst (λ t. IfSome t (λ b. Only b (may_leave mid) → LeavesOnly moment left_since mid end (R b))) is_mid second in
-    joined moment left_since start mid end (R old) (R (change old)) (R old) (first only) (then mid_only) (λ left is. is) (λ left is. r old left is)
+told_two image may_leave moment left_since o start mid end change R h1 h2 h3 h4 h5 h6 = grind (arith, nat_tests, joined)

@@ -1,6 +1,5 @@
 -- The frames of a log, as far as they were read.
-use Rattle.std.proofs.Common.{◌≡◌, ◌≢◌, ◌⊎◌, ℕ, ◌+◌, ◌-◌, List, [], ◌∷◌, ◌++◌, length, sym, ap, ◌∙◌, subst, append_assoc, length-append, arith}
-use Rattle.std.specs.Prelude.{All}
+use Rattle.std.proofs.Common.{◌≡◌, ◌≢◌, ◌⊎◌, ℕ, ◌+◌, ◌-◌, List, [], ◌∷◌, ◌++◌, length, sym, ap, ◌∙◌, subst, append_assoc, length-append, arith, All}
 use Rattle.std.proofs.lemmas.List.{flat_map_more}
 use Rattle.std.proofs.lemmas.List.Elements.{All-push}
 use Rattle.arn_base.specs.declared.records.Record.{Record}
@@ -24,29 +23,17 @@ frames-more commits commit next =
 
 pub IsWalked-more : (bytes end behind next : List ℕ) (now new : List Record) → IsWalked bytes now end → end ≡ 1 ∷ behind → IsFrameRead behind now new next
     → IsWalked bytes new next
-IsWalked-more bytes end behind next now new walked opened read = record {
-  commits = walked.commits ++ read.commit ∷ [];
-  are_commits = All-push IsCommit walked.commits read.commit walked.are_commits read.is_commit;
-  are_bytes =
-      walked.are_bytes
-      ∙ ap (λ (xs : List ℕ). log_name ++ (frames walked.commits ++ xs)) (opened ∙ ap (λ (xs : List ℕ). 1 ∷ xs) read.are_bytes)
-      ∙ ap (λ (xs : List ℕ). log_name ++ xs) (frames-more walked.commits read.commit next);
-  are_records = read.are_added ∙ ap (λ (rs : List Record). rs ++ read.commit) walked.are_records ∙ records-more walked.commits read.commit;
-  is_some = read.is_next;
-}
+IsWalked-more bytes end behind next now new walked opened read = grind (arith, All-push IsCommit walked.commits read.commit walked.are_commits read.is_commit, frames-more walked.commits read.commit next, records-more walked.commits read.commit)
 
 -- where what is left begins
 pub walked_place : (bytes end : List ℕ) (entries : List Record) → (walked : IsWalked bytes entries end) → length bytes ≡ length log_name + length (frames walked.commits) + length end
 walked_place bytes end entries walked =
-    let whole = ap length walked.are_bytes ∙ length-append log_name (frames walked.commits ++ end) in
-    let parts = length-append (frames walked.commits) end in
-    omega (arith, whole, parts)
+    omega (arith, ap length walked.are_bytes ∙ length-append log_name (frames walked.commits ++ end), length-append (frames walked.commits) end)
 
 pub IsWalked-bad : (bytes end behind : List ℕ) (entries : List Record) (gate at : ℕ) → IsWalked bytes entries end → end ≡ 1 ∷ behind → gate ≡ length bytes - length end
     → IsCutShort gate at behind ⊎ IsMisspelled gate at behind → IsBroken bytes at
 IsWalked-bad bytes end behind entries gate at walked opened is_gate cause =
-    let place = walked_place bytes end entries walked in
-    let same : gate ≡ length log_name + length (frames walked.commits) = omega (arith, place, is_gate) in
+    let same : gate ≡ length log_name + length (frames walked.commits) = omega (arith, walked_place bytes end entries walked, is_gate) in
     record {
       commits = walked.commits;
       behind = behind;

@@ -1,5 +1,4 @@
-use Rattle.std.proofs.Common.{◌≡◌, ◌++◌, take}
-use Rattle.std.specs.Prelude.{All}
+use Rattle.std.proofs.Common.{◌≡◌, ◌++◌, take, All}
 use Rattle.log_store.specs.Log.{spellings, IsSpellable}
 use Rattle.log_store.proofs.commits.put_records.Given as goal
 
