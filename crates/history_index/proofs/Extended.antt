@@ -1,70 +1,21 @@
 -- Records are added one after the other.
-use Rattle.history_index.specs.Lookups.{founding_event}
-use Rattle.parts_model.specs.Numbered.{nth}
-use Rattle.std.proofs.Common.{◌≡◌, ℕ, zero, suc, ◌+◌, ◌<◌, ◌≤◌, ◌^◌, Bool, true, false, if◌then◌else◌, List, [], ◌∷◌, ◌++◌, length, take, drop, get_or, Some, None, refl, ap, sym, subst, ◌∙◌, arith}
+use Rattle.std.proofs.Common.{◌≡◌, ℕ, zero, suc, ◌+◌, ◌<◌, ◌≤◌, Bool, true, false, if◌then◌else◌, List, [], ◌∷◌, ◌++◌, length, take, drop, get_or, Some, refl, ap, sym, subst, ◌∙◌, arith}
 use Rattle.arn_base.specs.declared.records.Record.{Record}
 use Rattle.arn_base.specs.declared.records.Record.TheVariants as entry
 use Rattle.history_model.specs.Broken.{first_broken}
 use Rattle.history_model.specs.Groups.{Groups, group_of, count_from, ran_for, is_number}
 use Rattle.history_model.specs.Moments.{ran_in, total}
-use Rattle.replay_groups.specs.Groups.{group_at}
 use Rattle.history_index.specs.declared.errors.IndexError.{IndexError}
 use Rattle.history_index.specs.declared.errors.IndexError.TheVariants as error
 use Rattle.history_index.specs.After.{after}
 use Rattle.history_index.specs.Check.{refuses}
 use Rattle.history_index.specs.Errors.{Refuses, TellsBroken, Leaves}
-use Rattle.history_index.specs.Families.{lives_in, run_in}
-use Rattle.history_index.specs.Indexes.{AreCountable, Indexes}
-use Rattle.history_index.specs.Runs.{Run, no_run}
-use Rattle.history_index.specs.Tables.{Tables, no_tables}
+use Rattle.history_index.specs.Families.{run_in}
+use Rattle.history_index.specs.Indexes.{Indexes}
+use Rattle.history_index.specs.Tables.{Tables}
 use Rattle.history_index.proofs.Refusals.{refusals-told}
 use Rattle.history_index.proofs.Snoc.{broken-here}
 use Rattle.history_index.proofs.Whole.{next}
-
--- the index of no records
-no-lives : (pid : ℕ) → lives_in (false ∷ []) pid ≡ false
-no-lives zero = refl
-no-lives (suc pid) = refl
-
-no-runs : (group : ℕ) → run_in (no_run ∷ []) group ≡ no_run
-no-runs zero = refl
-no-runs (suc group) = refl
-
-pub none : Indexes no_tables []
-none = record {
-  stands = refl;
-  records = refl;
-  total = refl;
-  begins = refl;
-  is_booted = refl;
-  unbooted = λ h. refl;
-  at_hand = refl;
-  hand_made = tt;
-  families = record {
-    processes = refl;
-    as_many_lives = refl;
-    as_many_runs = refl;
-    as_many_foundings = refl;
-    groups = no-groups;
-    founded = λ i. tt;
-    no_zero = refl;
-    lives = no-lives;
-    counts = λ g. ap (λ (r : Run). r.count) (no-runs g);
-    slices = λ g. ap (λ (r : Run). r.slices) (no-runs g);
-    founders = refl;
-    foundings = no-foundings;
-    made = tt;
-  };
-  events = record { places = refl; moments = refl; pids = refl; lens = refl };
-}
-  where
-    no-foundings : (group : ℕ) → nth {A = ℕ} (None ∷ []) group ≡ founding_event [] group
-    no-foundings zero = refl
-    no-foundings (suc group) = refl
-
-    no-groups : (pid : ℕ) → group_at [] pid ≡ None
-    no-groups zero = refl
-    no-groups (suc pid) = refl
 
 -- no group runs more than all
 ran-within : (b : Bool) (ran : ℕ) → (if b then ran else 0) ≤ ran
@@ -72,14 +23,8 @@ ran-within true ran = omega arith
 ran-within false ran = omega arith
 
 ran-least : (g : ℕ) (groups : Groups) (e : Record) → ran_for g groups e ≤ ran_in e
-ran-least g groups (entry.File name bytes) = omega arith
-ran-least g groups (entry.Boot name give) = omega arith
-ran-least g groups (entry.Typed bytes) = omega arith
-ran-least g groups (entry.Unplug device) = omega arith
 ran-least g groups (entry.Slice pid ran) = ran-within (is_number g (groups pid)) ran
-ran-least g groups (entry.Signal pid signal cut handler) = omega arith
-ran-least g groups (entry.Call pid number result more) = omega arith
-ran-least g groups (entry.End pid status) = omega arith
+ran-least g groups _ = omega arith
 
 count-least : (g : ℕ) (groups : Groups) (entries : List Record) → count_from g groups entries ≤ total entries
 count-least g groups [] = omega arith
@@ -114,9 +59,6 @@ taken-len (x ∷ entries) (suc place) within = ap suc (taken-len entries place (
 module _ (t : Tables) (entries : List Record) (place : ℕ) (e : Record) (within : place < length entries) (is : e ≡ get_or entries place e) (i : Indexes t (take place entries)) where
   at : t.records ≡ place
   at = i.records ∙ taken-len entries place (omega arith)
-
-  pub few : AreCountable entries → t.records + 1 < 2 ^ 32
-  few countable = omega (arith, at, countable.few)
 
   pub step : (u : Tables) → refuses t e ≡ false → u ≡ after t e → Indexes u (take (place + 1) entries)
   step u stands same =

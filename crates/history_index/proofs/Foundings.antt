@@ -42,9 +42,8 @@ founding-stays entries e group kept not = founding-snoc entries e group kept ∙
 
 nth-last : (fs : List (Option ℕ)) (x : Option ℕ) (h : ℕ) → h ≡ length fs → nth (fs ++ x ∷ []) h ≡ x
 nth-last [] x zero is = refl
-nth-last [] x (suc h) is = absurd (omega arith)
-nth-last (f ∷ fs) x zero is = absurd (omega arith)
 nth-last (f ∷ fs) x (suc h) is = nth-last fs x h (omega arith)
+nth-last _ x _ is = absurd (omega arith)
 
 nth-past : (fs : List (Option ℕ)) (h : ℕ) → h ≡ length fs → nth fs h ≡ None
 nth-past [] h is = refl
@@ -53,9 +52,8 @@ nth-past (f ∷ fs) (suc h) is = nth-past fs h (omega arith)
 
 nth-front : (fs : List (Option ℕ)) (x : Option ℕ) (h : ℕ) → h ≢ length fs → nth (fs ++ x ∷ []) h ≡ nth fs h
 nth-front [] x zero differs = absurd (differs refl)
-nth-front [] x (suc h) differs = refl
-nth-front (f ∷ fs) x zero differs = refl
 nth-front (f ∷ fs) x (suc h) differs = nth-front fs x h (λ e. differs (ap suc e))
+nth-front _ x _ differs = refl
 
 -- the next process, where it begins a group
 pub founding-push : (fs : List (Option ℕ)) (n event group h : ℕ) (entries : List Record) (e : Record) → length fs ≡ n → event ≡ how_many entries → events (entries ++ e ∷ []) ≡ events entries ++ e ∷ [] → ((k : ℕ) → nth fs k ≡ founding_event entries k) → founds h e ≡ ((h == n) && (group == n))
@@ -63,12 +61,11 @@ pub founding-push : (fs : List (Option ℕ)) (n event group h : ℕ) (entries : 
 founding-push fs n event group h entries e many is kept told first =
     elim (eqb_tells h n) [
       | inl k ↦
-          let none : founding_event entries h ≡ None = sym (told h) ∙ nth-past fs h (k.1 ∙ sym many) in
           nth-last fs (if group == n then Some event else None) h (k.1 ∙ sym many)
           ∙ ap (λ (m : ℕ). if group == n then Some m else None) is
           ∙ sym (
           founding-snoc entries e h kept
-          ∙ ap (λ (o : Option ℕ). option_or o (cond (founds h e) (Some (how_many entries)) None)) none
+          ∙ ap (λ (o : Option ℕ). option_or o (cond (founds h e) (Some (how_many entries)) None)) (sym (told h) ∙ nth-past fs h (k.1 ∙ sym many))
           ∙ ap (λ (b : Bool). cond b (Some (how_many entries)) None) (first ∙ ap (λ (b : Bool). b && (group == n)) k.0))
       | inr k ↦
           nth-front fs (if group == n then Some event else None) h (λ same. k.1 (same ∙ many))

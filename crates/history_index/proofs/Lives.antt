@@ -1,6 +1,5 @@
 -- Who lives behind all records.
-use Rattle.std.proofs.Common.{◌≡◌, ℕ, ◌+◌, ◌≤◌, nat_le, Bool, false, List, [], ◌∷◌, ◌++◌, refl, ap, sym, ◌∙◌, arith}
-use Rattle.std.proofs.lemmas.Bool.{le-leb}
+use Rattle.std.proofs.Common.{◌≡◌, ℕ, ◌+◌, ◌≤◌, nat_le, Bool, false, List, [], ◌∷◌, ◌++◌, refl, ap, sym, ◌∙◌, arith, le-leb}
 use Rattle.arn_base.specs.declared.records.Record.{Record}
 use Rattle.arn_base.specs.declared.records.Record.TheVariants as entry
 use Rattle.acts_model.specs.Records.{life_told, lives_after}
@@ -28,25 +27,7 @@ all-happened moment begins ends n (entry.Signal p signal cut handler ∷ entries
     let e = entry.Signal p signal cut handler in
     happened begins moment n e (events_from moment begins ends (n + 1) entries) pid before (omega arith)
     ∙ all-happened moment begins ends (n + 1) entries pid (lives_after (life_told e) pid before) begun (omega arith)
-all-happened moment begins ends n (entry.File name bytes ∷ entries) pid before begun within =
-    happened ends moment n (entry.File name bytes) (events_from moment begins ends (n + 1) entries) pid before (omega arith)
-    ∙ all-happened moment begins ends (n + 1) entries pid before begun (omega arith)
-all-happened moment begins ends n (entry.Boot name give ∷ entries) pid before begun within =
-    let e = entry.Boot name give in
-    happened ends moment n e (events_from moment begins ends (n + 1) entries) pid before (omega arith)
-    ∙ all-happened moment begins ends (n + 1) entries pid (lives_after (life_told e) pid before) begun (omega arith)
-all-happened moment begins ends n (entry.Typed bytes ∷ entries) pid before begun within =
-    happened ends moment n (entry.Typed bytes) (events_from moment begins ends (n + 1) entries) pid before (omega arith)
-    ∙ all-happened moment begins ends (n + 1) entries pid before begun (omega arith)
-all-happened moment begins ends n (entry.Unplug device ∷ entries) pid before begun within =
-    happened ends moment n (entry.Unplug device) (events_from moment begins ends (n + 1) entries) pid before (omega arith)
-    ∙ all-happened moment begins ends (n + 1) entries pid before begun (omega arith)
-all-happened moment begins ends n (entry.Call p number result more ∷ entries) pid before begun within =
-    let e = entry.Call p number result more in
-    happened ends moment n e (events_from moment begins ends (n + 1) entries) pid before (omega arith)
-    ∙ all-happened moment begins ends (n + 1) entries pid (lives_after (life_told e) pid before) begun (omega arith)
-all-happened moment begins ends n (entry.End p status ∷ entries) pid before begun within =
-    let e = entry.End p status in
+all-happened moment begins ends n (e ∷ entries) pid before begun within =
     happened ends moment n e (events_from moment begins ends (n + 1) entries) pid before (omega arith)
     ∙ all-happened moment begins ends (n + 1) entries pid (lives_after (life_told e) pid before) begun (omega arith)
 

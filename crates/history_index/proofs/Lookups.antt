@@ -7,7 +7,7 @@ use Rattle.arn_base.specs.declared.records.Record.{Record}
 use Rattle.acts_model.specs.Records.{event_len, process_of}
 use Rattle.history_model.specs.Events.{events, how_many, event_at, len_of}
 use Rattle.history_model.specs.Groups.{Groups, group_of, is_number}
-use Rattle.replay_groups.specs.Groups.{group_at, members_from}
+use Rattle.replay_groups.specs.Groups.{members_from}
 use Rattle.replay_groups.specs.Groups as replay
 use Rattle.history_index.specs.declared.events.EventAt.{EventAt}
 use Rattle.history_index.specs.Indexes.{Indexes}

@@ -1,6 +1,6 @@
 -- An index with one more event.
 use Rattle.std.proofs.Common.{◌≡◌, ◌≢◌, ◌⊎◌, inl, inr, ℕ, zero, suc, ◌+◌, ◌-◌, ◌<◌, ◌≤◌, ◌==◌, ◌||◌, ◌&&◌, not, Bool, true, false, if◌then◌else◌, List, [], ◌∷◌, ◌++◌, length, Option, Some, None, IfSome, refl, ap, sym, subst, ◌∙◌, arith}
-use Rattle.std.proofs.lemmas.Bool.{or_parts}
+use Rattle.std.proofs.lemmas.Bool.{or_parts, cases_Bool, not-false, true≢false, eqb-true, and_right, and_parts}
 use Rattle.std.proofs.lemmas.Bool.Decides.{eqb_tells}
 use Rattle.arn_base.specs.declared.records.Extra.{Extra}
 use Rattle.arn_base.specs.declared.records.Extra.TheVariants as extra
@@ -25,8 +25,7 @@ use Rattle.history_index.proofs.NextSlice.{group-some}
 -- no process begins
 abbrev pub IsQuiet : LifeChange → Type 0
 IsQuiet (BeginsLife pid) = ⊥
-IsQuiet (EndsLife pid) = Unit {0}
-IsQuiet NoLife = Unit {0}
+IsQuiet _ = Unit {0}
 
 -- an event that makes no process
 pub record MakesNone (f : Families) (told : Groups) (n : ℕ) (e : Record) : Type 0 where
@@ -55,10 +54,6 @@ quiet-call : (b : Bool) (number pid result : ℕ) → b ≡ false → IsQuiet (i
 quiet-call true number pid result is = cc
 quiet-call false number pid result is = quiet-if (number == EXIT) pid
 
-not-test : (b : Bool) → (b ≡ true) ⊎ (b ≡ false)
-not-test true = inl refl
-not-test false = inr refl
-
 -- whether a process lives behind an end
 ended-same : (lives : List Bool) (p q : ℕ) → p ≡ q → lives_in (with_ended lives p) q ≡ false
 ended-same [] p q same = refl
@@ -81,15 +76,13 @@ set-lives lives p q =
 -- and behind a begin
 begun-last : (lives : List Bool) (q : ℕ) → length lives ≡ q → lives_in (lives ++ true ∷ []) q ≡ true
 begun-last [] zero same = refl
-begun-last [] (suc q) same = absurd (omega arith)
-begun-last (x ∷ lives) zero same = absurd (omega arith)
 begun-last (x ∷ lives) (suc q) same = begun-last lives q (omega arith)
+begun-last _ _ same = absurd (omega arith)
 
 pub begun-other : (lives : List Bool) (q : ℕ) → length lives ≢ q → lives_in (lives ++ true ∷ []) q ≡ lives_in lives q
 begun-other [] zero apart = absurd (apart refl)
-begun-other [] (suc q) apart = refl
-begun-other (x ∷ lives) zero apart = refl
 begun-other (x ∷ lives) (suc q) apart = begun-other lives q (λ e. apart (ap suc e))
+begun-other _ _ apart = refl
 
 pub push-lives : (lives : List Bool) (q : ℕ) → lives_in (lives ++ true ∷ []) q ≡ (if length lives == q then true else lives_in lives q)
 push-lives lives q =
@@ -104,28 +97,14 @@ lives-ended f NoLife q quiet = refl
 parts : (a b c d s m z : Bool) → (a || (b || (c || (d || (s || (m || z)))))) ≡ false → (a ≡ false) × (c ≡ false) × (m ≡ false)
 parts a b c d s m z is =
     let p = or_parts a (b || (c || (d || (s || (m || z))))) is in
-    let q = or_parts b (c || (d || (s || (m || z)))) p.1 in
-    let r = or_parts c (d || (s || (m || z))) q.1 in
-    let u = or_parts d (s || (m || z)) r.1 in
-    let v = or_parts s (m || z) u.1 in
-    let w = or_parts m z v.1 in
-    (p.0, r.0, w.0)
-
-is-not : (b : Bool) → not b ≡ false → b ≡ true
-is-not true is = refl
-is-not false is = cc
-
-true-false : true ≡ false → ⊥
-true-false e = cc
-
-same-number : (a b : ℕ) → (a == b) ≡ true → a ≡ b
-same-number a b is = elim (eqb_tells a b) [ inl h ↦ h.1 | inr h ↦ absurd (true-false (sym is ∙ h.0)) ]
+    let r = or_parts c (d || (s || (m || z))) (or_parts b (c || (d || (s || (m || z)))) p.1).1 in
+    (p.0, r.0, (or_parts m z (or_parts s (m || z) (or_parts d (s || (m || z)) r.1).1).1).0)
 
 -- the process at hand was made
 hand-inside : (b : Behind) (n pid : ℕ) → IsMade n b → is_behind pid b ≡ true → (0 < pid) × (pid ≤ n)
 hand-inside Nowhere n pid made is = cc
-hand-inside (ASlice p) n pid made is = let e = same-number p pid is in (omega (arith, made.0), omega (arith, made.1))
-hand-inside (ADelivery p) n pid made is = let e = same-number p pid is in (omega (arith, made.0), omega (arith, made.1))
+hand-inside (ASlice p) n pid made is = let e = eqb-true p pid is in (omega (arith, made.0), omega (arith, made.1))
+hand-inside (ADelivery p) n pid made is = let e = eqb-true p pid is in (omega (arith, made.0), omega (arith, made.1))
 
 -- the group of a fork's child: its own, or its parent's
 record ChildOf (f : Families) (told : Groups) (pid child parent : ℕ) (more : Extra) (group : ℕ) : Type 0 where
@@ -146,14 +125,10 @@ none-either : (b : Bool) (h : ℕ) → is_number h (if b then None else None) �
 none-either true h = refl
 none-either false h = refl
 
-and-false : (b : Bool) → (b && false) ≡ false
-and-false true = refl
-and-false false = refl
-
 number-joins : (h child parent : ℕ) → parent ≢ child → is_number h (changed {A = Option ℕ} (λ p. None) child None h) ≡ ((h == child) && (parent == child))
 number-joins h child parent apart =
     none-either (h == child) h
-    ∙ elim (eqb_tells parent child) [ inl k ↦ absurd (apart k.1) | inr k ↦ rw k.0 (sym (and-false (h == child))) ]
+    ∙ elim (eqb_tells parent child) [ inl k ↦ absurd (apart k.1) | inr k ↦ rw k.0 (sym (and_right (h == child) false refl)) ]
 
 module _ (f : Families) (told : Groups) (pid child parent : ℕ) (apart : parent ≢ child) (next : length f.lives ≡ child) (at : group_at f.groups pid ≡ Some parent) (is : told pid ≡ Some parent) where
   joins : changed told child (told pid) ≡ changed told child (Some parent)
@@ -161,28 +136,16 @@ module _ (f : Families) (told : Groups) (pid child parent : ℕ) (apart : parent
 
   child-of : (more : Extra) → (group : ℕ) × ChildOf f told pid child parent more group
   child-of (extra.Start start) = (child, record { born = ap Some next; groups = refl; own = inl refl; first = λ h. number-first h child })
-  child-of extra.Nothing = (parent, record { born = at; groups = joins; own = inr refl; first = λ h. number-joins h child parent apart })
-  child-of (extra.Give give) = (parent, record { born = at; groups = joins; own = inr refl; first = λ h. number-joins h child parent apart })
-  child-of (extra.Put file place bytes) = (parent, record { born = at; groups = joins; own = inr refl; first = λ h. number-joins h child parent apart })
-  child-of (extra.Console bytes) = (parent, record { born = at; groups = joins; own = inr refl; first = λ h. number-joins h child parent apart })
-  child-of (extra.Reply device bytes) = (parent, record { born = at; groups = joins; own = inr refl; first = λ h. number-joins h child parent apart })
-  child-of extra.Fault = (parent, record { born = at; groups = joins; own = inr refl; first = λ h. number-joins h child parent apart })
-  child-of extra.Absent = (parent, record { born = at; groups = joins; own = inr refl; first = λ h. number-joins h child parent apart })
-  child-of (extra.Name file path) = (parent, record { born = at; groups = joins; own = inr refl; first = λ h. number-joins h child parent apart })
-  child-of (extra.Sent device bytes) = (parent, record { born = at; groups = joins; own = inr refl; first = λ h. number-joins h child parent apart })
+  child-of _ = (parent, record { born = at; groups = joins; own = inr refl; first = λ h. number-joins h child parent apart })
 
 either-inside : (n child parent group : ℕ) → child ≡ n + 1 → (0 < parent) × (parent ≤ n) → (group ≡ child) ⊎ (group ≡ parent) → IsFounded (n + 1) group
 either-inside n child parent group is parent-is own =
     elim own [ inl h ↦ (omega arith, omega arith) | inr h ↦ (omega (arith, parent-is.0), omega (arith, parent-is.1)) ]
 
-and-first : (a b : Bool) → (a && b) ≡ true → a ≡ true
-and-first true b is = refl
-and-first false b is = cc
-
 -- a call's record where it is a successful fork
 fork-life : (number pid result : ℕ) (more : Extra) → ((number == FORK) && is_success result) ≡ true → life_told (entry.Call pid number result more) ≡ BeginsLife result
 fork-life number pid result more forks =
-    let e = same-number number FORK (and-first (number == FORK) (is_success result) forks) in
+    let e = eqb-true number FORK (and_parts (number == FORK) (is_success result) forks).0 in
     rw e (rw (rw e at forks) refl)
 
 fork-fails : (f : Families) (told : Groups) (n pid number result : ℕ) (more : Extra) → ((number == FORK) && is_success result) ≡ false → MakesNone f told n (entry.Call pid number result more)
@@ -218,7 +181,7 @@ module _ (t : Tables) (entries : List Record) (i : Indexes t entries) where
         greatest = rw none refl;
         life = rw none refl;
         founded = rw none (omega arith, omega arith);
-        booted = λ never. absurd (true-false never);
+        booted = λ never. absurd (true≢false never);
         founds = λ h. rw none (number-first h 1);
       }
 
@@ -226,13 +189,13 @@ module _ (t : Tables) (entries : List Record) (i : Indexes t entries) where
   makes-fork pid number result more stands forks =
       let e = entry.Call pid number result more in
       let p = parts false false (lacks_slice entries e) (not (are_origins entries (give_of e))) (has_blocks_wrong (start_in e)) (misnumbers entries (child_in e)) (misplaces_start e) stands in
-      let hand : is_behind pid t.at_hand ≡ true = ap (is_behind pid) i.at_hand ∙ is-not (is_behind pid (behind entries)) p.1 in
+      let hand : is_behind pid t.at_hand ≡ true = ap (is_behind pid) i.at_hand ∙ not-false (is_behind pid (behind entries)) p.1 in
       let inside = hand-inside t.at_hand (length t.families.groups) pid i.hand_made hand in
       let found = group-some t.families.groups pid inside.0 inside.1 in
       let parent = found.0 in
       let parent-is : IsFounded (length t.families.groups) parent = subst (λ (o : Option ℕ). IfSome o (IsFounded (length t.families.groups))) found.1.1 (i.families.founded (pid - 1)) in
       let number-is : not (result == greatest entries + 1) ≡ false = rw forks at p.2 in
-      let next : result ≡ greatest entries + 1 = same-number result (greatest entries + 1) (is-not (result == greatest entries + 1) number-is) in
+      let next : result ≡ greatest entries + 1 = eqb-true result (greatest entries + 1) (not-false (result == greatest entries + 1) number-is) in
       let many : length t.families.lives ≡ result = omega (arith, i.families.as_many_lives, i.families.processes) in
       let apart : parent ≢ result = λ same. absurd (omega (arith, parent-is.1, i.families.processes)) in
       let c = child-of t.families (group_of entries) pid result parent apart many found.1.0 (sym (i.families.groups pid) ∙ found.1.0) more in (
@@ -245,15 +208,12 @@ module _ (t : Tables) (entries : List Record) (i : Indexes t entries) where
 
   -- what an event makes
   pub what-makes : (e : Record) → is_event e ≡ true → cant_follow entries e ≡ false → MakesNone t.families (group_of entries) (greatest entries) e ⊎ ((group : ℕ) × MakesNext t.families (group_of entries) (greatest entries) e group)
-  what-makes (entry.File name bytes) is stands = inl (record { born = refl; groups = refl; greatest = refl; life = tt; founds = λ h. refl })
   what-makes (entry.Boot name give) is stands = inr (1, makes-boot name give stands)
-  what-makes (entry.Typed bytes) is stands = inl (record { born = refl; groups = refl; greatest = refl; life = tt; founds = λ h. refl })
-  what-makes (entry.Unplug device) is stands = inl (record { born = refl; groups = refl; greatest = refl; life = tt; founds = λ h. refl })
   what-makes (entry.Slice pid ran) is stands = cc
   what-makes (entry.Signal pid signal cut handler) is stands = inl (record { born = refl; groups = refl; greatest = refl; life = quiet-if (handler == 0) pid; founds = λ h. refl })
   what-makes (entry.Call pid number result more) is stands =
-      elim (not-test ((number == FORK) && is_success result)) [
+      elim (cases_Bool ((number == FORK) && is_success result)) [
         | inl forks ↦ inr (makes-fork pid number result more stands forks)
         | inr fails ↦ inl (fork-fails t.families (group_of entries) (greatest entries) pid number result more fails)
       ]
-  what-makes (entry.End pid status) is stands = inl (record { born = refl; groups = refl; greatest = refl; life = tt; founds = λ h. refl })
+  what-makes _ is stands = inl (record { born = refl; groups = refl; greatest = refl; life = tt; founds = λ h. refl })

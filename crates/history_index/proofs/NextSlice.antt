@@ -1,10 +1,9 @@
 -- An index with one more slice.
-use Rattle.std.proofs.Common.{◌≡◌, ◌≢◌, inl, inr, ℕ, zero, suc, ◌+◌, ◌<◌, ◌≤◌, ◌==◌, ◌||◌, ◌-◌, not, Bool, true, false, if◌then◌else◌, List, [], ◌∷◌, ◌++◌, length, map, filter, slice_get, get_or, Option, Some, None, IfSome, refl, ap, sym, subst, ◌∙◌, arith, length-append, length-set, add-zero, zero-add, get_or-set_other, get_or-set_same, position}
+use Rattle.std.proofs.Common.{◌≡◌, ◌≢◌, inl, inr, ℕ, zero, suc, ◌+◌, ◌<◌, ◌≤◌, ◌==◌, ◌||◌, ◌-◌, not, Bool, true, false, if◌then◌else◌, List, [], ◌∷◌, ◌++◌, length, map, filter, slice_get, get_or, Option, Some, None, IfSome, refl, ap, sym, subst, ◌∙◌, arith, length-append, length-set, add-zero, zero-add, get_or-set_other, get_or-set_same, position, append-nil}
 use Rattle.std.specs.List.{range_with_len}
 use Rattle.std.proofs.Math.Bool.{or-false}
-use Rattle.std.proofs.lemmas.Bool.{or_parts}
+use Rattle.std.proofs.lemmas.Bool.{or_parts, not-false}
 use Rattle.std.proofs.lemmas.Bool.Decides.{eqb_tells}
-use Rattle.std.proofs.lemmas.List.{append-nil}
 use Rattle.std.proofs.lemmas.List.Folds.{list_any-append}
 use Rattle.std.proofs.lemmas.List.Elements.{filter-append}
 use Rattle.std.proofs.lemmas.Option.{slice_get-get_or}
@@ -40,14 +39,8 @@ live-some lives (suc pid) none live = omega arith
 
 made-snoc : (n pid ran : ℕ) (entries : List Record) → AreMade n entries → pid ≤ n → AreMade n (entries ++ entry.Slice pid ran ∷ [])
 made-snoc n pid ran [] made within = (within, tt)
-made-snoc n pid ran (entry.File name bytes ∷ entries) made within = made-snoc n pid ran entries made within
-made-snoc n pid ran (entry.Boot name give ∷ entries) made within = made-snoc n pid ran entries made within
-made-snoc n pid ran (entry.Typed bytes ∷ entries) made within = made-snoc n pid ran entries made within
-made-snoc n pid ran (entry.Unplug device ∷ entries) made within = made-snoc n pid ran entries made within
 made-snoc n pid ran (entry.Slice p r ∷ entries) made within = (made.0, made-snoc n pid ran entries made.1 within)
-made-snoc n pid ran (entry.Signal p signal cut handler ∷ entries) made within = made-snoc n pid ran entries made within
-made-snoc n pid ran (entry.Call p number result more ∷ entries) made within = made-snoc n pid ran entries made within
-made-snoc n pid ran (entry.End p status ∷ entries) made within = made-snoc n pid ran entries made within
+made-snoc n pid ran (_ ∷ entries) made within = made-snoc n pid ran entries made within
 
 -- the group of a process that was made
 pub group-some : (groups : List ℕ) (pid : ℕ) → 0 < pid → pid ≤ length groups → (g : ℕ) × ((group_at groups pid ≡ Some g) × (slice_get groups (pid - 1) ≡ Some g))
@@ -78,10 +71,6 @@ slices-next runs g h s inside =
       | inl e ↦ let within : h < length runs = omega arith in rw (e.0, e.1) (ap (λ (r : Run). r.slices) (run-same runs h s within))
       | inr e ↦ let apart : h ≢ g = λ d. e.1 (sym d) in rw e.0 (ap (λ (r : Run). r.slices) (run-other runs g h s apart) ∙ sym (append-nil ((run_in runs h).slices)))
     ]
-
-not-false : (b : Bool) → not b ≡ false → b ≡ true
-not-false true is = refl
-not-false false is = cc
 
 second-false : (a b c : Bool) → (a || (b || c)) ≡ false → b ≡ false
 second-false a b c is = (or_parts b c ((or_parts a (b || c) is).1)).0

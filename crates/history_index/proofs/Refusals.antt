@@ -19,33 +19,15 @@ use Rattle.history_index.specs.Tables.{Tables}
 
 comes-told : (before : List Record) (e : Record) → comes_wrong_by (is_booted before) e ≡ comes_wrong before e
 comes-told before (entry.File name bytes) = refl
-comes-told before (entry.Boot name give) = refl
-comes-told before (entry.Typed bytes) = refl
-comes-told before (entry.Unplug device) = refl
-comes-told before (entry.Slice pid ran) = refl
-comes-told before (entry.Signal pid signal cut handler) = refl
-comes-told before (entry.Call pid number result more) = refl
-comes-told before (entry.End pid status) = refl
+comes-told before _ = refl
 
 lacks-told : (lives : List Bool) (before : List Record) (e : Record) → ((pid : ℕ) → lives_in lives pid ≡ lives_at before (total before) pid) → lacks_process_by lives e ≡ lacks_process before e
-lacks-told lives before (entry.File name bytes) told = refl
-lacks-told lives before (entry.Boot name give) told = refl
-lacks-told lives before (entry.Typed bytes) told = refl
-lacks-told lives before (entry.Unplug device) told = refl
 lacks-told lives before (entry.Slice pid ran) told = ap not (told pid)
-lacks-told lives before (entry.Signal pid signal cut handler) told = refl
-lacks-told lives before (entry.Call pid number result more) told = refl
-lacks-told lives before (entry.End pid status) told = refl
+lacks-told lives before _ told = refl
 
 slice-told : (before : List Record) (e : Record) → lacks_slice_by (behind before) e ≡ lacks_slice before e
 slice-told before (entry.File name bytes) = refl
-slice-told before (entry.Boot name give) = refl
-slice-told before (entry.Typed bytes) = refl
-slice-told before (entry.Unplug device) = refl
-slice-told before (entry.Slice pid ran) = refl
-slice-told before (entry.Signal pid signal cut handler) = refl
-slice-told before (entry.Call pid number result more) = refl
-slice-told before (entry.End pid status) = refl
+slice-told before _ = refl
 
 list_all-agree : {A : Type 0} (p q : A → Bool) → ((x : A) → p x ≡ q x) → (xs : List A) → list_all p xs ≡ list_all q xs
 list_all-agree p q same [] = refl

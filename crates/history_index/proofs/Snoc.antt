@@ -1,6 +1,5 @@
 -- What one more record does to what records tell.
-use Rattle.std.proofs.Common.{◌≡◌, ℕ, suc, ◌+◌, Bool, true, false, if◌then◌else◌, List, [], ◌∷◌, ◌++◌, length, Option, Some, None, refl, ap, sym, ◌∙◌, arith, append_assoc, add-zero}
-use Rattle.std.proofs.lemmas.List.{append-nil}
+use Rattle.std.proofs.Common.{◌≡◌, ℕ, suc, ◌+◌, Bool, true, false, if◌then◌else◌, List, [], ◌∷◌, ◌++◌, length, Option, Some, None, refl, ap, sym, ◌∙◌, arith, append_assoc, add-zero, append-nil}
 use Rattle.std.proofs.lemmas.List.Elements.{filter-append}
 use Rattle.arn_base.specs.declared.records.Record.{Record}
 use Rattle.arn_base.specs.declared.records.Record.TheVariants as entry
@@ -49,10 +48,6 @@ places-snoc place (x ∷ entries) e =
     ap (λ (xs : List ℕ). if_kept (is_event x) place xs) (places-snoc (place + 1) entries e ∙ ap (λ (k : ℕ). places_from (place + 1) entries ++ if_kept (is_event e) k []) same)
     ∙ sym (if_kept-append (is_event x) place (places_from (place + 1) entries) (if_kept (is_event e) (place + suc (length entries)) []))
 
--- the moment of an event behind records
-moment_behind : ℕ → ℕ → List Record → Record → ℕ
-moment_behind begins ends entries e = moment_in (begin_from begins ends entries) (ends + total entries) e
-
 pub moments-snoc : (begins ends : ℕ) (entries : List Record) (e : Record) → moments_from begins ends (entries ++ e ∷ []) ≡ moments_from begins ends entries ++ if_kept (is_event e) (moment_in (begin_from begins ends entries) (ends + total entries) e) []
 moments-snoc begins ends [] e = rw add-zero refl
 moments-snoc begins ends (x ∷ entries) e =
@@ -68,31 +63,18 @@ moments-snoc begins ends (x ∷ entries) e =
 
 slice_in-append : (place moment event : ℕ) (e : Record) (xs ys : List SliceAt) → slice_in place moment event e xs ++ ys ≡ slice_in place moment event e (xs ++ ys)
 slice_in-append place moment event (entry.File name bytes) xs ys = refl
-slice_in-append place moment event (entry.Boot name give) xs ys = refl
-slice_in-append place moment event (entry.Typed bytes) xs ys = refl
-slice_in-append place moment event (entry.Unplug device) xs ys = refl
-slice_in-append place moment event (entry.Slice pid ran) xs ys = refl
-slice_in-append place moment event (entry.Signal pid signal cut handler) xs ys = refl
-slice_in-append place moment event (entry.Call pid number result more) xs ys = refl
-slice_in-append place moment event (entry.End pid status) xs ys = refl
+slice_in-append place moment event _ xs ys = refl
 
 how_many-cons : (e : Record) (entries : List Record) → how_many (e ∷ entries) ≡ events_in e + how_many entries
 how_many-cons (entry.File name bytes) entries = omega arith
-how_many-cons (entry.Boot name give) entries = omega arith
-how_many-cons (entry.Typed bytes) entries = omega arith
-how_many-cons (entry.Unplug device) entries = omega arith
-how_many-cons (entry.Slice pid ran) entries = omega arith
-how_many-cons (entry.Signal pid signal cut handler) entries = omega arith
-how_many-cons (entry.Call pid number result more) entries = omega arith
-how_many-cons (entry.End pid status) entries = omega arith
+how_many-cons _ entries = omega arith
 
 pub slices-snoc : (place moment event : ℕ) (entries : List Record) (e : Record) → slices_from place moment event (entries ++ e ∷ []) ≡ slices_from place moment event entries ++ slice_in (place + length entries) (moment + total entries) (event + how_many entries) e []
 slices-snoc place moment event [] e = simp add-zero
 slices-snoc place moment event (x ∷ entries) e =
     let places : place + 1 + length entries ≡ place + suc (length entries) = omega arith in
     let moments : moment + ran_in x + total entries ≡ moment + (ran_in x + total entries) = omega arith in
-    let many = how_many-cons x entries in
-    let numbers : event + events_in x + how_many entries ≡ event + how_many (x ∷ entries) = omega (arith, many) in
+    let numbers : event + events_in x + how_many entries ≡ event + how_many (x ∷ entries) = omega (arith, how_many-cons x entries) in
     let front = slices_from (place + 1) (moment + ran_in x) (event + events_in x) entries in
     ap (λ (xs : List SliceAt). slice_in place moment event x xs)
     (slices-snoc (place + 1) (moment + ran_in x) (event + events_in x) entries e

@@ -32,17 +32,10 @@ made-if false pid m made = tt
 
 -- the process at hand stays made
 hand-next : (b : Behind) (e : Record) (n m : ℕ) → n ≤ m → is_event e ≡ true → IsMade n b → IsMade m (behind_record b e)
-hand-next b (entry.File name bytes) n m more is made = tt
-hand-next b (entry.Boot name give) n m more is made = tt
-hand-next b (entry.Typed bytes) n m more is made = tt
-hand-next b (entry.Unplug device) n m more is made = tt
 hand-next b (entry.Slice pid ran) n m more is made = cc
-hand-next Nowhere (entry.Signal pid signal cut handler) n m more is made = tt
-hand-next (ADelivery p) (entry.Signal pid signal cut handler) n m more is made = tt
 hand-next (ASlice p) (entry.Signal pid signal cut handler) n m more is made =
     elim (eqb_tells p pid) [ inl h ↦ rw h.0 (made-if (not (handler == 0)) pid m (omega (arith, made.0, h.1), omega (arith, made.1, h.1))) | inr h ↦ rw h.0 tt ]
-hand-next b (entry.Call pid number result extra) n m more is made = tt
-hand-next b (entry.End pid status) n m more is made = tt
+hand-next _ _ n m more is made = tt
 
 if-false : (b : Bool) → (if b then false else false) ≡ false
 if-false true = refl
@@ -93,10 +86,8 @@ module _ (t : Tables) (entries : List Record) (e : Record) (i : Indexes t entrie
   still-unbooted unbooted =
       let both = or_parts t.is_booted (is_boot e) unbooted in
       let none = i.unbooted both.0 in
-      let many = families-told.processes in
-      let snoc = greatest-snoc 0 entries e in
       elim (what-makes t entries i e is stands) [
-        | inl m ↦ omega (arith, none, many, snoc, m.greatest, i.families.processes)
+        | inl m ↦ omega (arith, none, families-told.processes, greatest-snoc 0 entries e, m.greatest, i.families.processes)
         | inr m ↦ absurd (omega (arith, none, i.families.processes, m.1.booted both.1))
       ]
 
@@ -141,11 +132,5 @@ module _ (t : Tables) (entries : List Record) (e : Record) (i : Indexes t entrie
       }
 
 pub next : (t : Tables) (entries : List Record) (e : Record) → Indexes t entries → cant_follow entries e ≡ false → Indexes (after t e) (entries ++ e ∷ [])
-next t entries (entry.File name bytes) i stands = next-event t entries (entry.File name bytes) i refl stands
-next t entries (entry.Boot name give) i stands = next-event t entries (entry.Boot name give) i refl stands
-next t entries (entry.Typed bytes) i stands = next-event t entries (entry.Typed bytes) i refl stands
-next t entries (entry.Unplug device) i stands = next-event t entries (entry.Unplug device) i refl stands
 next t entries (entry.Slice pid ran) i stands = next-slice t entries pid ran i stands
-next t entries (entry.Signal pid signal cut handler) i stands = next-event t entries (entry.Signal pid signal cut handler) i refl stands
-next t entries (entry.Call pid number result more) i stands = next-event t entries (entry.Call pid number result more) i refl stands
-next t entries (entry.End pid status) i stands = next-event t entries (entry.End pid status) i refl stands
+next t entries e i stands = next-event t entries e i refl stands

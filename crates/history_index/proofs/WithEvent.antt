@@ -1,8 +1,7 @@
 -- What one more event leaves of the tables of processes and groups.
-use Rattle.std.proofs.Common.{◌≡◌, ◌≢◌, inl, inr, ℕ, zero, suc, ◌+◌, ◌≤◌, ◌==◌, ◌&&◌, Bool, true, false, if◌then◌else◌, List, [], ◌∷◌, ◌++◌, length, filter, slice_get, Option, Some, None, IfSome, refl, ap, sym, ◌∙◌, arith, length-append, length-set, add-zero}
+use Rattle.std.proofs.Common.{◌≡◌, ◌≢◌, inl, inr, ℕ, zero, suc, ◌+◌, ◌≤◌, ◌==◌, ◌&&◌, Bool, true, false, if◌then◌else◌, List, [], ◌∷◌, ◌++◌, length, filter, slice_get, Option, Some, None, IfSome, refl, ap, sym, ◌∙◌, arith, length-append, length-set, add-zero, append-nil}
 use Rattle.std.specs.List.{range_with_len}
 use Rattle.std.proofs.lemmas.Bool.Decides.{eqb_tells}
-use Rattle.std.proofs.lemmas.List.{append-nil}
 use Rattle.std.proofs.lemmas.List.Elements.{filter-append}
 use Rattle.arn_base.specs.declared.records.Record.{Record}
 use Rattle.arn_base.specs.declared.records.Record.TheVariants as entry
@@ -31,41 +30,23 @@ pub record IsPlain (e : Record) : Type 0 where
   pub made : (n : ℕ) → AreMade n (e ∷ [])
 
 pub plain : (e : Record) → is_event e ≡ true → IsPlain e
-plain (entry.File name bytes) is = record { ran = refl; begin = λ b m. refl; slice = λ p m n. refl; count = λ g gs. refl; made = λ n. tt }
-plain (entry.Boot name give) is = record { ran = refl; begin = λ b m. refl; slice = λ p m n. refl; count = λ g gs. refl; made = λ n. tt }
-plain (entry.Typed bytes) is = record { ran = refl; begin = λ b m. refl; slice = λ p m n. refl; count = λ g gs. refl; made = λ n. tt }
-plain (entry.Unplug device) is = record { ran = refl; begin = λ b m. refl; slice = λ p m n. refl; count = λ g gs. refl; made = λ n. tt }
 plain (entry.Slice pid ran) is = cc
-plain (entry.Signal pid signal cut handler) is = record { ran = refl; begin = λ b m. refl; slice = λ p m n. refl; count = λ g gs. refl; made = λ n. tt }
-plain (entry.Call pid number result more) is = record { ran = refl; begin = λ b m. refl; slice = λ p m n. refl; count = λ g gs. refl; made = λ n. tt }
-plain (entry.End pid status) is = record { ran = refl; begin = λ b m. refl; slice = λ p m n. refl; count = λ g gs. refl; made = λ n. tt }
+plain _ is = record { ran = refl; begin = λ b m. refl; slice = λ p m n. refl; count = λ g gs. refl; made = λ n. tt }
 
 -- processes of slices, where there are more processes and more records
 made-append : (n m : ℕ) (entries rest : List Record) → n ≤ m → AreMade n entries → AreMade m rest → AreMade m (entries ++ rest)
 made-append n m [] rest more made later = later
-made-append n m (entry.File name bytes ∷ entries) rest more made later = made-append n m entries rest more made later
-made-append n m (entry.Boot name give ∷ entries) rest more made later = made-append n m entries rest more made later
-made-append n m (entry.Typed bytes ∷ entries) rest more made later = made-append n m entries rest more made later
-made-append n m (entry.Unplug device ∷ entries) rest more made later = made-append n m entries rest more made later
 made-append n m (entry.Slice p r ∷ entries) rest more made later = (omega (arith, made.0), made-append n m entries rest more made.1 later)
-made-append n m (entry.Signal p signal cut handler ∷ entries) rest more made later = made-append n m entries rest more made later
-made-append n m (entry.Call p number result extra ∷ entries) rest more made later = made-append n m entries rest more made later
-made-append n m (entry.End p status ∷ entries) rest more made later = made-append n m entries rest more made later
+made-append n m (_ ∷ entries) rest more made later = made-append n m entries rest more made later
 
 -- the processes of slices have the groups that they had
 module _ (n : ℕ) (before after : Groups) (same : (pid : ℕ) → pid ≤ n → after pid ≡ before pid) where
   count-agree : (g : ℕ) (entries : List Record) → AreMade n entries → count_from g after entries ≡ count_from g before entries
   count-agree g [] made = refl
-  count-agree g (entry.File name bytes ∷ entries) made = ap (λ (k : ℕ). 0 + k) (count-agree g entries made)
-  count-agree g (entry.Boot name give ∷ entries) made = ap (λ (k : ℕ). 0 + k) (count-agree g entries made)
-  count-agree g (entry.Typed bytes ∷ entries) made = ap (λ (k : ℕ). 0 + k) (count-agree g entries made)
-  count-agree g (entry.Unplug device ∷ entries) made = ap (λ (k : ℕ). 0 + k) (count-agree g entries made)
   count-agree g (entry.Slice p ran ∷ entries) made =
       ap (λ (o : Option ℕ). (if is_number g o then ran else 0) + count_from g after entries) (same p made.0)
       ∙ ap (λ (k : ℕ). (if is_number g (before p) then ran else 0) + k) (count-agree g entries made.1)
-  count-agree g (entry.Signal p signal cut handler ∷ entries) made = ap (λ (k : ℕ). 0 + k) (count-agree g entries made)
-  count-agree g (entry.Call p number result extra ∷ entries) made = ap (λ (k : ℕ). 0 + k) (count-agree g entries made)
-  count-agree g (entry.End p status ∷ entries) made = ap (λ (k : ℕ). 0 + k) (count-agree g entries made)
+  count-agree g (_ ∷ entries) made = ap (λ (k : ℕ). 0 + k) (count-agree g entries made)
 
   kept : ℕ → Groups → List SliceAt → List SliceAt
   kept g groups xs = filter (λ s. is_number g (groups s.pid)) xs
@@ -73,15 +54,9 @@ module _ (n : ℕ) (before after : Groups) (same : (pid : ℕ) → pid ≤ n →
   slices-agree : (g place moment event : ℕ) (entries : List Record) → AreMade n entries → kept g after (slices_from place moment event entries) ≡ kept g before (slices_from place moment event entries)
   unfolding kept
   slices-agree g place moment event [] made = refl
-  slices-agree g place moment event (entry.File name bytes ∷ entries) made = slices-agree g (place + 1) (moment + 0) (event + 1) entries made
-  slices-agree g place moment event (entry.Boot name give ∷ entries) made = slices-agree g (place + 1) (moment + 0) (event + 1) entries made
-  slices-agree g place moment event (entry.Typed bytes ∷ entries) made = slices-agree g (place + 1) (moment + 0) (event + 1) entries made
-  slices-agree g place moment event (entry.Unplug device ∷ entries) made = slices-agree g (place + 1) (moment + 0) (event + 1) entries made
   slices-agree g place moment event (entry.Slice p ran ∷ entries) made =
       rw (same p made.0, slices-agree g (place + 1) (moment + ran) (event + 0) entries made.1) refl
-  slices-agree g place moment event (entry.Signal p signal cut handler ∷ entries) made = slices-agree g (place + 1) (moment + 0) (event + 1) entries made
-  slices-agree g place moment event (entry.Call p number result extra ∷ entries) made = slices-agree g (place + 1) (moment + 0) (event + 1) entries made
-  slices-agree g place moment event (entry.End p status ∷ entries) made = slices-agree g (place + 1) (moment + 0) (event + 1) entries made
+  slices-agree g place moment event (_ ∷ entries) made = slices-agree g (place + 1) (moment + 0) (event + 1) entries made
 
   founders-agree : (a k : ℕ) → a + k ≤ n + 1 → filter (λ q. is_number q (after q)) (range_with_len a k) ≡ filter (λ q. is_number q (before q)) (range_with_len a k)
   founders-agree a zero within = refl
@@ -182,15 +157,13 @@ range-push a (suc k) =
 
 group-last : (groups : List ℕ) (g i : ℕ) → i ≡ length groups → slice_get (groups ++ g ∷ []) i ≡ Some g
 group-last [] g zero is = refl
-group-last [] g (suc i) is = absurd (omega arith)
-group-last (h ∷ groups) g zero is = absurd (omega arith)
 group-last (h ∷ groups) g (suc i) is = group-last groups g i (omega arith)
+group-last _ g _ is = absurd (omega arith)
 
 group-front : (groups : List ℕ) (g i : ℕ) → i ≢ length groups → slice_get (groups ++ g ∷ []) i ≡ slice_get groups i
 group-front [] g zero differs = absurd (differs refl)
-group-front [] g (suc i) differs = refl
-group-front (h ∷ groups) g zero differs = refl
 group-front (h ∷ groups) g (suc i) differs = group-front groups g i (λ e. differs (ap suc e))
+group-front _ g _ differs = refl
 
 group-push : (groups : List ℕ) (g pid : ℕ) → group_at (groups ++ g ∷ []) pid ≡ (if pid == length groups + 1 then Some g else group_at groups pid)
 group-push groups g zero = elim (eqb_tells zero (length groups + 1)) [ inl h ↦ absurd (omega arith) | inr h ↦ rw h.0 refl ]
