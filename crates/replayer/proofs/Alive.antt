@@ -1,11 +1,12 @@
 -- Who lives as records tell it, one after the other: the process of each slice does.
-use Rattle.std.proofs.Common.{◌≡◌, ◌<◌, ◌≤◌, ℕ, zero, suc, ◌+◌, not, nat_le, Bool, true, false, List, [], ◌∷◌, length, take, drop, get_or, None, IfSome, refl, ap, sym, subst, ◌∙◌, arith}
-use Rattle.std.proofs.lemmas.Bool.{le-leb}
+use Rattle.std.proofs.lemmas.Bool.Decides.{nat_tests}
+use Rattle.std.proofs.Common.{◌≡◌, ◌<◌, ◌≤◌, ℕ, zero, suc, ◌+◌, Bool, true, false, List, [], ◌∷◌, length, take, drop, get_or, None, IfSome, refl, ap, sym, ◌∙◌, arith, subst}
+use Rattle.std.proofs.lemmas.Bool.{le-leb, not-false}
 use Rattle.arn_base.specs.declared.records.Record.{Record}
 use Rattle.arn_base.specs.declared.records.Record.TheVariants as entry
 use Rattle.acts_model.specs.Records.{life_told, lives_after}
 use Rattle.history_model.specs.Broken.{first_broken}
-use Rattle.history_model.specs.Moments.{Numbered, events_from, if_happened, lives_at, lives_by, total}
+use Rattle.history_model.specs.Moments.{events_from, lives_at, lives_by, total}
 use Rattle.replayer.proofs.Sound.{drop-more, drop-past, runner, there}
 use Rattle.replayer.proofs.Unbroken.{Follows, can-follow, tests}
 
@@ -23,63 +24,21 @@ abbrev lives_through : List Record → (ℕ → Bool) → ℕ → Bool
 lives_through [] live = live
 lives_through (e ∷ entries) live = lives_through entries (lives_told e live)
 
-happened : (c : Bool) (k : ℕ) (e : Record) (events : List Numbered) (p : ℕ) (before : Bool) → c ≡ true → lives_by (if_happened c k e events) p before ≡ lives_by events p (lives_after (life_told e) p before)
-happened true k e events p before is = refl
-happened false k e events p before is = absurd (let no : false ≡ true = is in cc)
-
 -- at a moment behind all of them each event has happened
 lives-all : (moment begins ends k : ℕ) (entries : List Record) (p : ℕ) (live : ℕ → Bool) → begins ≤ ends → ends + total entries ≤ moment → lives_by (events_from moment begins ends k entries) p (live p) ≡ lives_through entries live p
 lives-all moment begins ends k [] p live le past = refl
-lives-all moment begins ends k (entry.Slice pid ran ∷ entries) p live le past =
-    lives-all moment ends (ends + ran) k entries p (lives_told (entry.Slice pid ran) live) (omega arith) (omega (arith, past))
-lives-all moment begins ends k (entry.Signal pid signal cut handler ∷ entries) p live le past =
-    let e = entry.Signal pid signal cut handler in
-    happened (nat_le begins moment) k e _ p (live p) (le-leb begins moment (omega (arith, le, past)))
-    ∙ lives-all moment begins ends (k + 1) entries p (lives_told e live) le (omega (arith, past))
-lives-all moment begins ends k (entry.File name bytes ∷ entries) p live le past =
-    let e = entry.File name bytes in
-    happened (nat_le ends moment) k e _ p (live p) (le-leb ends moment (omega (arith, past)))
-    ∙ lives-all moment begins ends (k + 1) entries p (lives_told e live) le (omega (arith, past))
-lives-all moment begins ends k (entry.Boot name give ∷ entries) p live le past =
-    let e = entry.Boot name give in
-    happened (nat_le ends moment) k e _ p (live p) (le-leb ends moment (omega (arith, past)))
-    ∙ lives-all moment begins ends (k + 1) entries p (lives_told e live) le (omega (arith, past))
-lives-all moment begins ends k (entry.Typed bytes ∷ entries) p live le past =
-    let e = entry.Typed bytes in
-    happened (nat_le ends moment) k e _ p (live p) (le-leb ends moment (omega (arith, past)))
-    ∙ lives-all moment begins ends (k + 1) entries p (lives_told e live) le (omega (arith, past))
-lives-all moment begins ends k (entry.Unplug device ∷ entries) p live le past =
-    let e = entry.Unplug device in
-    happened (nat_le ends moment) k e _ p (live p) (le-leb ends moment (omega (arith, past)))
-    ∙ lives-all moment begins ends (k + 1) entries p (lives_told e live) le (omega (arith, past))
-lives-all moment begins ends k (entry.Call pid number r more ∷ entries) p live le past =
-    let e = entry.Call pid number r more in
-    happened (nat_le ends moment) k e _ p (live p) (le-leb ends moment (omega (arith, past)))
-    ∙ lives-all moment begins ends (k + 1) entries p (lives_told e live) le (omega (arith, past))
-lives-all moment begins ends k (entry.End pid status ∷ entries) p live le past =
-    let e = entry.End pid status in
-    happened (nat_le ends moment) k e _ p (live p) (le-leb ends moment (omega (arith, past)))
-    ∙ lives-all moment begins ends (k + 1) entries p (lives_told e live) le (omega (arith, past))
+lives-all moment begins ends k (entry.Slice pid ran ∷ entries) p live le past = grind (arith, nat_tests, lives-all moment ends (ends + ran) k entries p (lives_told (entry.Slice pid ran) live) (omega arith) (omega (arith, past)))
+lives-all moment begins ends k (e ∷ entries) p live le past = grind (arith, nat_tests, le-leb ends moment (omega (arith, past)), lives-all moment begins ends (k + 1) entries p (lives_told e live) le (omega (arith, past)))
 
 lives-snoc : (live : ℕ → Bool) (entries : List Record) (i : ℕ) (e : Record) → i < length entries → e ≡ get_or entries i e → lives_through (take (suc i) entries) live ≡ lives_told e (lives_through (take i entries) live)
 lives-snoc live [] i e lt is = absurd (omega arith)
 lives-snoc live (x ∷ entries) zero e lt is = ap (λ (r : Record). lives_told r live) (sym is)
 lives-snoc live (x ∷ entries) (suc i) e lt is = lives-snoc (lives_told x live) entries i e (omega arith) is
 
-not-true : (b : Bool) → not b ≡ false → b ≡ true
-not-true true is = refl
-not-true false is = absurd (let no-way : true ≡ false = is in cc)
-
 slice-live : (before : List Record) (e : Record) → Follows before e → IfSome (runner e) (λ p. lives_through before (λ q. false) p ≡ true)
 slice-live before (entry.Slice pid ran) f =
-    sym (lives-all (total before) 0 0 0 before pid (λ q. false) (omega arith) (omega arith)) ∙ not-true (lives_at before (total before) pid) f.process
-slice-live before (entry.File name bytes) f = tt
-slice-live before (entry.Boot name give) f = tt
-slice-live before (entry.Typed bytes) f = tt
-slice-live before (entry.Unplug device) f = tt
-slice-live before (entry.Signal pid signal cut handler) f = tt
-slice-live before (entry.Call pid number r more) f = tt
-slice-live before (entry.End pid status) f = tt
+    sym (lives-all (total before) 0 0 0 before pid (λ q. false) (omega arith) (omega arith)) ∙ not-false (lives_at before (total before) pid) f.process
+slice-live before _ f = tt
 
 module _ (entries : List Record) (stands : first_broken entries ≡ None) where
   live-from : (left i : ℕ) → left + i ≡ length entries → AllLive (lives_through (take i entries) (λ q. false)) (drop i entries)

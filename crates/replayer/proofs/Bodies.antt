@@ -1,27 +1,26 @@
 -- Who has a body in a group alone: what instructions and acts leave, and how many instructions they are.
-use Rattle.std.proofs.Common.{◌≡◌, ◌≢◌, ℕ, zero, suc, ◌+◌, Bool, true, false, [], ◌∷◌, cond, count_by, Option, Some, None, is_some, option_map, ◌==◌, ne_eqb, refl, ap, sym, subst, ◌∙◌, arith}
-use Rattle.std.proofs.lemmas.Bool.{eq-eqb}
+use Rattle.std.proofs.lemmas.Grind.{common_steps}
+use Rattle.std.proofs.Common.{◌≡◌, ◌≢◌, ℕ, zero, suc, ◌+◌, Bool, true, false, cond, count_by, Option, Some, None, is_some, option_map, ◌==◌, ne_eqb, refl, ap, sym, ◌∙◌, arith, eq-eqb}
+use Rattle.std.proofs.lemmas.Bool.Decides.{nat_tests}
 use Rattle.std.proofs.lemmas.List.Sums.{sum_by-append}
 use Rattle.arn_base.specs.declared.records.Record.{Record}
-use Rattle.rv64_model.specs.Instruction.{Effect, Next, Call, End}
+use Rattle.rv64_model.specs.Instruction.{Effect}
 use Rattle.acts_model.specs.Acts as act
 use Rattle.acts_model.specs.Acts.{Act, done, done_by}
 use Rattle.acts_model.specs.Bodies.{Bodies, Body, View, body_at, put, remove, seen, view}
 use Rattle.acts_model.specs.Disagreement.{Wrong, wrong_with}
 use Rattle.acts_model.specs.Moved.{Inside, is_call_or_end}
 use Rattle.acts_model.specs.Told.{act_of}
-use Rattle.acts_model.specs.Transfers.{holds_of, instr_transfer, transfer}
-use Rattle.acts_model.specs.Views.{after_instr, stands_at}
+use Rattle.acts_model.specs.Transfers.{holds_of, transfer}
+use Rattle.acts_model.specs.Views.{stands_at}
 use Rattle.history_model.specs.Alone as alone
 use Rattle.history_model.specs.Alone.{Own, Made, Makes, Fails, noted}
 use Rattle.replay_steps.specs.Standing.{is_counted}
+use Rattle.replayer.proofs.Passing.{no-way}
 
 -- a process has a body
 abbrev pub HasBody : Bodies → ℕ → Type 0
 HasBody b p = is_some (body_at b p) ≡ true
-
-no-way : {A : Type 0} → false ≡ true → A
-no-way e = absurd (let no : false ≡ true = e in cc)
 
 -- who has one keeps it as one is put
 put-test : (o : Option Body) (x : Body) (b : Bool) → is_some o ≡ true → is_some (cond b (Some x) o) ≡ true
@@ -58,18 +57,7 @@ ends other = false
 module _ (pid event : ℕ) (v : View) (b : Bodies) where
   -- who has a body keeps it at an act, but for the process that the act ends
   pub done-keeps : (a : Act) (q : ℕ) → (q ≡ pid → ends a ≡ false) → HasBody b q → HasBody (done_by pid event a (Some v) b) q
-  done-keeps (act.Returns result) q lives has = put-keeps pid _ b q has
-  done-keeps (act.Receives at bytes result) q lives has = put-keeps pid _ b q has
-  done-keeps (act.Gives at len result) q lives has = put-keeps pid _ b q has
-  done-keeps (act.Starts file block block_len) q lives has = put-keeps pid _ b q has
-  done-keeps (act.Forks child) q lives has = put-keeps child _ _ q (put-keeps pid _ b q has)
-  done-keeps (act.Founds child) q lives has = put-keeps pid _ b q has
-  done-keeps act.Shares q lives has = put-keeps pid _ b q has
-  done-keeps act.Leaves q lives has = put-keeps pid _ b q has
-  done-keeps (act.Delivers signal handler cut) q lives has = put-keeps pid _ b q has
-  done-keeps act.Exits q lives has = removed-keeps pid b q (λ same. no-way (sym (lives same))) has
-  done-keeps (act.Faults status) q lives has = removed-keeps pid b q (λ same. no-way (sym (lives same))) has
-  done-keeps (act.Dies signal cut) q lives has = removed-keeps pid b q (λ same. no-way (sym (lives same))) has
+  done-keeps a q h1 h2 = grind (arith, nat_tests, put-keeps, removed-keeps, no-way)
 
   -- and so does the child that joins
   pub done-child : (child : ℕ) → HasBody (done_by pid event (act.Forks child) (Some v) b) child
@@ -86,10 +74,7 @@ fails-not d own is = absurd (let no : Fails d ≡ Makes own = is in cc)
 
 -- one thing more happened inside: an instruction, or none
 pub count-noted : (i : Inside) (bodies : Bodies) (own : Own) (c : Bool) → is_counted i ≡ c → count_by is_counted (noted i bodies own).inside ≡ count_by is_counted own.inside + cond c 1 0
-count-noted i bodies own c is =
-    let parts = sum_by-append (λ (i : Inside). cond (is_counted i) 1 0) own.inside (i ∷ []) in
-    let one : cond {A = ℕ} (is_counted i) 1 0 ≡ cond {A = ℕ} c 1 0 = ap (λ (b : Bool). cond {A = ℕ} b 1 0) is in
-    omega (arith, parts, one)
+count-noted i bodies own c h1 = grind (arith, common_steps, nat_tests, sum_by-append)
 
 some-same : (own own' : Own) → Some own ≡ Some own' → own ≡ own'
 some-same own own' is = cc
@@ -101,13 +86,7 @@ pub record Went (n : ℕ) (own own' : Own) : Type 0 where
 
 module _ (pid : ℕ) (own : Own) where
   plain-by : (v : View) (e : Effect) (own' : Own) → alone.plain_by pid own v e ≡ Some own' → Went 1 own own'
-  plain-by v (Next instr cpu memory) own' is =
-      let i : Inside = record { actor = Some pid; before = v.body.cpu; transfer = instr_transfer pid v.body.cpu (holds_of v.body) instr; event = None } in
-      let bodies : Bodies = put pid (after_instr cpu memory v) own.bodies in
-      let same : own' ≡ noted i bodies own = some-same own' (noted i bodies own) (sym is) in
-      subst (Went 1 own) (sym same) (record { counted = count-noted i bodies own true refl; keeps = λ (q : ℕ) (has : HasBody own.bodies q). put-keeps pid _ own.bodies q has })
-  plain-by v Call own' is = absurd (let no : None ≡ Some own' = is in cc)
-  plain-by v (End status) own' is = absurd (let no : None ≡ Some own' = is in cc)
+  plain-by v e own' h1 = grind (arith, common_steps, nat_tests, some-same, count-noted, put-keeps)
 
   plain-in : (o : Option View) (own' : Own) → alone.plain_in pid own o ≡ Some own' → Went 1 own own'
   plain-in None own' is = absurd (let no : None ≡ Some own' = is in cc)
@@ -118,15 +97,12 @@ plain-or slice done None next own' is = fails-not _ own' is
 plain-or slice done (Some mid) next own' is = (mid, refl, is)
 
 pub plains-went : (slice : alone.Slice) (left done : ℕ) (own own' : Own) → alone.plains slice done left own ≡ Makes own' → Went left own own'
-plains-went slice zero done own own' is =
-    subst (Went 0 own) (makes-same own own' is) (record { counted = omega arith; keeps = λ (q : ℕ) (has : HasBody own.bodies q). has })
+plains-went slice zero done own own' is = grind (arith, nat_tests, makes-same own own' is)
 plains-went slice (suc left) done own own' is =
     let first = plain-or slice done (alone.plain_in slice.pid own (seen own.bodies slice.pid)) (alone.plains slice (suc done) left) own' is in
     let one = plain-in slice.pid own (seen own.bodies slice.pid) first.0 first.1 in
     let rest = plains-went slice left (suc done) first.0 own' first.2 in
-    let a = one.counted in
-    let b = rest.counted in
-    record { counted = omega (arith, a, b); keeps = λ (q : ℕ) (has : HasBody own.bodies q). rest.keeps q (one.keeps q has) }
+    record { counted = omega (arith, one.counted, rest.counted); keeps = λ (q : ℕ) (has : HasBody own.bodies q). rest.keeps q (one.keeps q has) }
 
 -- what happens inside at an act
 abbrev pub act_inside : ℕ → ℕ → Record → View → Act → Inside
@@ -135,17 +111,7 @@ act_inside pid event e v a =
 
 act-counted : (pid event : ℕ) (e : Record) (v : View) (a : Act) → is_counted (act_inside pid event e v a) ≡ is_call_or_end e
 act-counted pid event e v (act.Returns result) = refl
-act-counted pid event e v (act.Receives at bytes result) = refl
-act-counted pid event e v (act.Gives at len result) = refl
-act-counted pid event e v (act.Starts file block block_len) = refl
-act-counted pid event e v (act.Forks child) = refl
-act-counted pid event e v (act.Founds child) = refl
-act-counted pid event e v act.Shares = refl
-act-counted pid event e v act.Leaves = refl
-act-counted pid event e v (act.Delivers signal handler cut) = refl
-act-counted pid event e v act.Exits = refl
-act-counted pid event e v (act.Faults status) = refl
-act-counted pid event e v (act.Dies signal cut) = refl
+act-counted pid event e v _ = refl
 
 -- the act was done that a record tells
 pub record Acted (pid event : ℕ) (e : Record) (w : View) (a : Act) (own own' : Own) : Type 0 where

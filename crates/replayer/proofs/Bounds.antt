@@ -22,13 +22,7 @@ module _ (g until : ℕ) (groups : Groups) where
   from-slices : (entries : List Record) (place moment event : ℕ) → count_before_from g until moment groups entries ≡ slices_before until (filter (λ (s : SliceAt). is_number g (groups s.pid)) (slices_from place moment event entries))
   from-slices [] place moment event = refl
   from-slices (entry.Slice pid ran ∷ entries) place moment event = kept (is_number g (groups pid)) place moment pid ran event _ _ (from-slices entries (place + 1) (moment + ran) (event + 0))
-  from-slices (entry.File name bytes ∷ entries) place moment event = zero-more _ _ (from-slices entries (place + 1) (moment + 0) (event + 1))
-  from-slices (entry.Boot name give ∷ entries) place moment event = zero-more _ _ (from-slices entries (place + 1) (moment + 0) (event + 1))
-  from-slices (entry.Typed bytes ∷ entries) place moment event = zero-more _ _ (from-slices entries (place + 1) (moment + 0) (event + 1))
-  from-slices (entry.Unplug device ∷ entries) place moment event = zero-more _ _ (from-slices entries (place + 1) (moment + 0) (event + 1))
-  from-slices (entry.Signal pid signal cut handler ∷ entries) place moment event = zero-more _ _ (from-slices entries (place + 1) (moment + 0) (event + 1))
-  from-slices (entry.Call pid number result more ∷ entries) place moment event = zero-more _ _ (from-slices entries (place + 1) (moment + 0) (event + 1))
-  from-slices (entry.End pid status ∷ entries) place moment event = zero-more _ _ (from-slices entries (place + 1) (moment + 0) (event + 1))
+  from-slices (_ ∷ entries) place moment event = zero-more _ _ (from-slices entries (place + 1) (moment + 0) (event + 1))
 
 -- they are those that the group's members run before it
 pub before-slices : (entries : List Record) (g until : ℕ) → ran_before entries g until ≡ slices_before until (slices_of entries g)

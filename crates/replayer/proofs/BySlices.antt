@@ -1,6 +1,8 @@
 -- A group alone is made of its own records.
-use Rattle.std.proofs.Common.{◌≡◌, ◌<◌, ◌≤◌, ℕ, zero, suc, ◌+◌, ◌-◌, ◌==◌, ◌&&◌, min, nat_le, not, Bool, true, false, if◌then◌else◌, cond, List, [], ◌∷◌, drop, filter, Some, None, inl, inr, refl, ap, sym, ◌∙◌, add-zero, arith}
-use Rattle.std.proofs.lemmas.Bool.{eqb-true, le-leb}
+use Rattle.std.proofs.lemmas.Grind.{common_steps}
+use Rattle.std.proofs.lemmas.Bool.Decides.{nat_tests}
+use Rattle.std.proofs.Common.{◌≡◌, ◌<◌, ◌≤◌, ℕ, zero, suc, ◌+◌, ◌-◌, ◌==◌, min, nat_le, Bool, true, false, if◌then◌else◌, cond, List, [], ◌∷◌, drop, filter, Some, None, inl, inr, refl, ap, sym, ◌∙◌, add-zero, arith}
+use Rattle.std.proofs.lemmas.Bool.{eqb-true, le-leb, not-false, cases_Bool}
 use Rattle.std.proofs.lemmas.Bool.Decides.{eqb_tells}
 use Rattle.arn_base.specs.declared.records.Record.{Record}
 use Rattle.arn_base.specs.declared.records.Record.TheVariants as entry
@@ -8,15 +10,15 @@ use Rattle.acts_model.specs.Records.{is_event}
 use Rattle.history_index.specs.declared.slices.SliceAt.{SliceAt}
 use Rattle.history_index.specs.Lookups.{events_in, founds, slice_in, slices_from}
 use Rattle.history_model.specs.Alone as alone
-use Rattle.history_model.specs.Alone.{Standing, Own, Made, Makes, nothing_own, at_first, replayed, settled}
-use Rattle.history_model.specs.Broken.{Behind, Nowhere, ASlice, behind_record, greatest_after, is_behind}
+use Rattle.history_model.specs.Alone.{Standing, Own, Made, Makes, nothing_own, replayed, settled, at_first}
+use Rattle.history_model.specs.Broken.{Behind, ASlice, behind_record, greatest_after, is_behind, Nowhere}
 use Rattle.history_model.specs.Groups.{Groups, group_of, groups_from, groups_told, is_number}
 use Rattle.history_model.specs.Moments.{ran_in}
 use Rattle.history_model.specs.Names.{is_boot}
 use Rattle.replayer.specs.BySlices.{AloneBySlices, after_own, after_part, before_slice, first_made, own_groups, with_slices}
 use Rattle.replayer.proofs.FirstOf.{found-first, found_from}
-use Rattle.replayer.proofs.Own.{either, founder-next, founds-no-more, hand-less, kept-all, of-others, own-none, same-test, told-above, told-below, told-none}
-use Rattle.replayer.proofs.Passing.{counts-one, if-zero, made-if-not, passes, settled-same}
+use Rattle.replayer.proofs.Own.{founder-next, founds-no-more, hand-less, kept-all, of-others, own-none, same-test, told-below, told-none}
+use Rattle.replayer.proofs.Passing.{counts-one, if-zero, made-if-not, passes, settled-same, and-true}
 use Rattle.replayer.proofs.Sound.{Fits, Sound, grows, sound}
 
 -- the slices of the group among the records that are left
@@ -75,23 +77,13 @@ part-of g until p r made flag events moment =
 starts-part : (g until p r place : ℕ) (t : Standing) (made : Made) → made ≡ settled t → is_number g (t.groups p) ≡ true
     → alone.after_slice g until p r (before_slice g made (record { place = place; moment = t.moment; pid = p; ran = r; event = t.events })) ≡ record (alone.after_slice g until p r t) { groups = own_groups g }
 unfolding part-of
-starts-part g until p r place t made is member =
-    let s : SliceAt = record { place = place; moment = t.moment; pid = p; ran = r; event = t.events } in
-    ap (λ (m : Made). part-of g until p r m (g == g) t.events t.moment) (settled-same (before_slice g made s) refl ∙ is)
-    ∙ ap (λ (flag : Bool). part-of g until p r (settled t) flag t.events t.moment) (same-test g g refl ∙ sym member)
+starts-part g until p r place t made is member = grind (arith, same-test g g refl)
 
 module _ (g until : ℕ) (entries : List Record) (place : ℕ) (rest : List Record) where
   -- a slice
   module _ (p r : ℕ) (at : rest ≡ drop (place + 1) entries) (told : Told g until entries (place + 1) rest) (b : Behind) (n : ℕ) (t : Standing) (c : Common entries (entry.Slice p r ∷ rest) b n t) where
     slice-common : Common entries rest (ASlice p) n (alone.after_slice g until p r t)
-    slice-common =
-        let le = c.sound.0.made in
-        record {
-          sound = c.sound.1;
-          unmade = c.unmade;
-          hand = λ (q : ℕ) (is : is_behind q (ASlice p) ≡ true). let same : p ≡ q = eqb-true p q is in omega (arith, same, le);
-          final = c.final;
-        }
+    slice-common = grind (arith, common_steps, nat_tests, sound, eqb-true)
 
     final-same : group_of entries p ≡ t.groups p
     final-same = c.final p ∙ kept-all (entry.Slice p r ∷ rest) b n t.groups p c.sound c.sound.0.made
@@ -100,16 +92,13 @@ module _ (g until : ℕ) (entries : List Record) (place : ℕ) (rest : List Reco
     here = record { place = place; moment = t.moment; pid = p; ran = r; event = t.events }
 
     mine-slice : (m : Bool) → is_number g (t.groups p) ≡ m → mine g entries place t (entry.Slice p r ∷ rest) ≡ cond m (record { place = place; moment = t.moment; pid = p; ran = r; event = t.events } ∷ mine g entries (place + 1) (alone.after_slice g until p r t) rest) (mine g entries (place + 1) (alone.after_slice g until p r t) rest)
-    mine-slice m is =
-        let s : SliceAt = record { place = place; moment = t.moment; pid = p; ran = r; event = t.events } in
-        ap (λ (k : ℕ). filter (λ (s : SliceAt). is_number g (group_of entries s.pid)) (s ∷ slices_from (place + 1) (t.moment + r) k rest)) (add-zero t.events)
-        ∙ ap (λ (f : Bool). cond f (s ∷ mine g entries (place + 1) (alone.after_slice g until p r t) rest) (mine g entries (place + 1) (alone.after_slice g until p r t) rest)) (ap (is_number g) final-same ∙ is)
+    mine-slice m is = cc (add-zero t.events, final-same)
 
     slice-next : (acc : Made) → acc ≡ settled t → 0 < g → g ≤ n → settled (replayed g until (alone.after_slice g until p r t) rest) ≡ with_slices g until entries acc (mine g entries place t (entry.Slice p r ∷ rest))
     slice-next acc is some founded =
         let t' : Standing = alone.after_slice g until p r t in
         let s : SliceAt = record { place = place; moment = t.moment; pid = p; ran = r; event = t.events } in
-        elim (either (is_number g (t.groups p))) [
+        elim (cases_Bool (is_number g (t.groups p))) [
           | inl member ↦
               told.inside (ASlice p) n (alone.after_slice g until p r t) slice-common
               (record { member = λ (q : ℕ) (is : is_behind q (ASlice p) ≡ true). ap (λ (k : ℕ). is_number g (t.groups k)) (sym (eqb-true p q is)) ∙ member; some = some; founded = founded })
@@ -129,16 +118,7 @@ module _ (g until : ℕ) (entries : List Record) (place : ℕ) (rest : List Reco
         ]
 
     slice-unfounded : Unfounded g until t → settled (replayed g until (alone.after_slice g until p r t) rest) ≡ with_slices g until entries (found_from g until t.events t.moment (entry.Slice p r ∷ rest)) (mine g entries place t (entry.Slice p r ∷ rest))
-    slice-unfounded u =
-        told.unfounded (ASlice p) n (alone.after_slice g until p r t) slice-common
-        (record {
-          made = settled-same t u.owed ∙ u.made;
-          owed = ap (λ (f : Bool). if f then min r (until - t.moment) else 0) (u.none p);
-          ended = refl;
-          none = u.none;
-        })
-        ∙ (ap (λ (k : ℕ). with_slices g until entries (found_from g until k (t.moment + r) rest) (mine g entries (place + 1) (alone.after_slice g until p r t) rest)) (sym (add-zero t.events))
-        ∙ ap (with_slices g until entries (found_from g until t.events t.moment (entry.Slice p r ∷ rest))) (sym (mine-slice false (u.none p))))
+    slice-unfounded u = grind (arith, slice-common, settled-same t u.owed, add-zero t.events, mine-slice false (u.none p))
 
   slice-told : (p r : ℕ) → rest ≡ drop (place + 1) entries → Told g until entries (place + 1) rest → Told g until entries place (entry.Slice p r ∷ rest)
   slice-told p r at told =
@@ -151,108 +131,38 @@ module _ (g until : ℕ) (entries : List Record) (place : ℕ) (rest : List Reco
 -- an event is no slice
 pub slice-none : (place moment event : ℕ) (e : Record) (slices : List SliceAt) → is_event e ≡ true → slice_in place moment event e slices ≡ slices
 slice-none place moment event (entry.Slice pid ran) slices is = absurd (let no-way : false ≡ true = is in cc)
-slice-none place moment event (entry.File name bytes) slices is = refl
-slice-none place moment event (entry.Boot name give) slices is = refl
-slice-none place moment event (entry.Typed bytes) slices is = refl
-slice-none place moment event (entry.Unplug device) slices is = refl
-slice-none place moment event (entry.Signal pid signal cut handler) slices is = refl
-slice-none place moment event (entry.Call pid number r more) slices is = refl
-slice-none place moment event (entry.End pid status) slices is = refl
+slice-none place moment event _ slices is = refl
 
 pub part-event : (g until : ℕ) (u : Standing) (e : Record) (rest : List Record) → is_event e ≡ true → after_part g until u (e ∷ rest) ≡ after_part g until (after_own g until u e) rest
 part-event g until u (entry.Slice pid ran) rest is = absurd (let no-way : false ≡ true = is in cc)
-part-event g until u (entry.File name bytes) rest is = refl
-part-event g until u (entry.Boot name give) rest is = refl
-part-event g until u (entry.Typed bytes) rest is = refl
-part-event g until u (entry.Unplug device) rest is = refl
-part-event g until u (entry.Signal pid signal cut handler) rest is = refl
-part-event g until u (entry.Call pid number r more) rest is = refl
-part-event g until u (entry.End pid status) rest is = refl
+part-event g until u _ rest is = refl
 
 pub keeps-ended : (g until : ℕ) (t : Standing) (e : Record) → is_event e ≡ true → t.is_ended ≡ nat_le t.moment until → (alone.after_record g until t e).is_ended ≡ nat_le (alone.after_record g until t e).moment until
 keeps-ended g until t (entry.Slice pid ran) is ended = refl
-keeps-ended g until t (entry.File name bytes) is ended = ended
-keeps-ended g until t (entry.Boot name give) is ended = ended
-keeps-ended g until t (entry.Typed bytes) is ended = ended
-keeps-ended g until t (entry.Unplug device) is ended = ended
-keeps-ended g until t (entry.Signal pid signal cut handler) is ended = ended
-keeps-ended g until t (entry.Call pid number r more) is ended = ended
-keeps-ended g until t (entry.End pid status) is ended = ended
-
-pub not-true : (b : Bool) → not b ≡ false → b ≡ true
-not-true true is = refl
-not-true false is = absurd (let no-way : true ≡ false = is in cc)
+keeps-ended g until t _ is ended = ended
 
 -- behind a slice of the group each process is taken for a member
 own-last : (g until pid : ℕ) (t : Standing) (e : Record) → is_number g (t.groups pid) ≡ true → record (alone.after_last g pid e (record t { groups = own_groups g })) { groups = own_groups g } ≡ record (alone.after_last g pid e t) { groups = own_groups g }
-own-last g until pid t e member =
-    ap (λ (f : Bool). record t {
-      made = alone.made_if t.is_ended (alone.made_if (t.is_ended && f) t.made (alone.ends_slice (alone.slice_of t) t.owed e)) (alone.begins_by g t.events e);
-      groups = own_groups g;
-      events = t.events + 1;
-      owed = if t.is_ended then 0 else t.owed;
-    }) (same-test g g refl ∙ sym member)
+own-last g until pid t e member = cc (same-test g g refl)
 
 own-record : (g until : ℕ) (b : Behind) (n : ℕ) (t : Standing) (e : Record) → Fits b n e → is_event e ≡ true → is_boot e ≡ false → ((q : ℕ) → is_behind q b ≡ true → is_number g (t.groups q) ≡ true)
     → after_own g until (record t { groups = own_groups g }) e ≡ record (alone.after_record g until t e) { groups = own_groups g }
-own-record g until b n t (entry.Slice pid ran) f is isnt member = absurd (let no-way : false ≡ true = is in cc)
-own-record g until b n t (entry.Boot name give) f is isnt member = absurd (let no-way : true ≡ false = isnt in cc)
-own-record g until b n t (entry.File name bytes) f is isnt member = refl
-own-record g until b n t (entry.Typed bytes) f is isnt member = refl
-own-record g until b n t (entry.Unplug device) f is isnt member = refl
-own-record g until b n t (entry.Signal pid signal cut handler) f is isnt member =
-    ap (λ (flag : Bool). record t {
-      made = alone.made_if (t.is_begun && flag) t.made (alone.happens pid t.events (entry.Signal pid signal cut handler));
-      groups = own_groups g;
-      events = t.events + 1;
-      end_event = t.events + 1;
-    }) (same-test g g refl ∙ sym (member pid (not-true (is_behind pid b) f.slice)))
-own-record g until b n t (entry.Call pid number r more) f is isnt member = own-last g until pid t (entry.Call pid number r more) (member pid (not-true (is_behind pid b) f.slice))
-own-record g until b n t (entry.End pid status) f is isnt member = own-last g until pid t (entry.End pid status) (member pid (not-true (is_behind pid b) f.slice))
+own-record g until b n t e h1 h2 h3 h4 = grind (arith, nat_tests, same-test, not-false, own-last)
 
 -- the event that begins the group
 if-made : (c : Bool) (own : Own) (next : Own → Made) → alone.made_if c (Makes own) next ≡ (if c then next own else Makes own)
 if-made true own next = refl
 if-made false own next = refl
 
-and-true : (a b : Bool) → b ≡ true → (a && b) ≡ a
-and-true true b is = is
-and-true false b is = refl
-
 boot-at : (g : ℕ) → is_number g (if g == 1 then Some 1 else None) ≡ true → (g == 1) ≡ true
-boot-at g is =
-    elim (eqb_tells g 1) [
-      | inl k ↦ k.0
-      | inr k ↦ absurd (let no-way : false ≡ true = sym (ap (λ (c : Bool). is_number g (if c then Some 1 else None)) k.0) ∙ is in cc)
-    ]
+boot-at g is = grind (arith, eqb_tells g 1)
 
 record Begun (g until : ℕ) (t : Standing) (e : Record) : Type 0 where
   made : (alone.after_record g until t e).made ≡ (if nat_le t.moment until then first_made g t.events e else Makes nothing_own)
   owed : (alone.after_record g until t e).owed ≡ 0
 
 begun : (g until : ℕ) (t : Standing) (e : Record) → Unfounded g until t → founds g e ≡ true → Begun g until t e
-begun g until t (entry.Boot name give) u is =
-    let e = entry.Boot name give in
-    record {
-      made = ap (λ (m : Made). alone.made_if (t.is_ended && (g == 1)) m (alone.boots t.events e)) u.made
-          ∙ (ap (λ (c : Bool). alone.made_if c (Makes nothing_own) (alone.boots t.events e)) (and-true t.is_ended (g == 1) (boot-at g is) ∙ u.ended)
-          ∙ if-made (nat_le t.moment until) nothing_own (alone.boots t.events e));
-      owed = u.owed;
-    }
-begun g until t (entry.Call pid number r more) u is =
-    let e = entry.Call pid number r more in
-    record {
-      made = ap (λ (m : Made). alone.made_if t.is_ended m (alone.begins_by g t.events e)) (made-if-not t.is_ended (is_number g (t.groups pid)) t.made (alone.ends_slice (alone.slice_of t) t.owed e) (u.none pid) ∙ u.made)
-          ∙ (ap (λ (c : Bool). alone.made_if c (Makes nothing_own) (alone.begins_by g t.events e)) u.ended
-          ∙ if-made (nat_le t.moment until) nothing_own (alone.begins_by g t.events e));
-      owed = if-zero t.is_ended t.owed u.owed;
-    }
-begun g until t (entry.File name bytes) u is = absurd (let no-way : false ≡ true = is in cc)
-begun g until t (entry.Typed bytes) u is = absurd (let no-way : false ≡ true = is in cc)
-begun g until t (entry.Unplug device) u is = absurd (let no-way : false ≡ true = is in cc)
-begun g until t (entry.Slice pid ran) u is = absurd (let no-way : false ≡ true = is in cc)
-begun g until t (entry.Signal pid signal cut handler) u is = absurd (let no-way : false ≡ true = is in cc)
-begun g until t (entry.End pid status) u is = absurd (let no-way : false ≡ true = is in cc)
+begun g until t e h1 h2 = grind (arith, nat_tests, and-true, boot-at, if-made, made-if-not, if-zero)
 
 module _ (g until : ℕ) (entries : List Record) (place : ℕ) (rest : List Record) (e : Record) (event : is_event e ≡ true) (told : Told g until entries (place + 1) rest) (b : Behind) (n : ℕ) (t : Standing) (c : Common entries (e ∷ rest) b n t) where
   next : Standing
@@ -262,35 +172,19 @@ module _ (g until : ℕ) (entries : List Record) (place : ℕ) (rest : List Reco
   groups-next = (counts-one g until t e).groups
 
   event-common : Common entries rest (behind_record b e) (greatest_after e n) (alone.after_record g until t e)
-  event-common =
-      let up = grows e n in
-      record {
-        sound = c.sound.1;
-        unmade = λ (p : ℕ) (lt : greatest_after e n < p). ap (λ (gs : Groups). gs p) groups-next ∙ (told-above b n e t.groups p c.sound.0 lt ∙ c.unmade p (omega (arith, up, lt)));
-        hand = λ (q : ℕ) (is : is_behind q (behind_record b e) ≡ true). let le = c.hand q (hand-less b e q event is) in omega (arith, le, up);
-        final = λ (p : ℕ). c.final p ∙ ap (λ (gs : Groups). groups_from rest gs p) (sym groups-next);
-      }
+  event-common = grind (arith, grows e n, sound, groups-next)
 
   groups-same : (q : ℕ) → is_behind q (behind_record b e) ≡ true → (alone.after_record g until t e).groups q ≡ t.groups q
   groups-same q is = ap (λ (gs : Groups). gs q) groups-next ∙ told-below b n e t.groups q c.sound.0 (c.hand q (hand-less b e q event is))
 
   mine-event : mine g entries place t (e ∷ rest) ≡ mine g entries (place + 1) (alone.after_record g until t e) rest
-  mine-event =
-      let counts = counts-one g until t e in
-      ap (filter (λ (s : SliceAt). is_number g (group_of entries s.pid))) (slice-none place t.moment t.events e (slices_from (place + 1) (t.moment + ran_in e) (t.events + events_in e) rest) event)
-      ∙ (ap (λ (k : ℕ). filter (λ (s : SliceAt). is_number g (group_of entries s.pid)) (slices_from (place + 1) k (t.events + events_in e) rest)) (sym counts.moment)
-      ∙ ap (λ (k : ℕ). filter (λ (s : SliceAt). is_number g (group_of entries s.pid)) (slices_from (place + 1) (alone.after_record g until t e).moment k rest)) (sym counts.events))
+  mine-event = grind (arith, nat_tests, counts-one, slice-none)
 
   isnt-boot : 0 < g → g ≤ n → is_boot e ≡ false
-  isnt-boot some founded =
-      elim (either (is_boot e)) [
-        | inl is ↦ let none = c.sound.0.boot is in absurd (omega (arith, some, founded, none))
-        | inr isnt ↦ isnt
-      ]
+  isnt-boot h1 h2 = grind (arith, nat_tests, cases_Bool)
 
   event-outside : Outside g b n t → settled (replayed g until (alone.after_record g until t e) rest) ≡ with_slices g until entries t.made (mine g entries place t (e ∷ rest))
   event-outside o =
-      let up = grows e n in
       let founded = o.founded in
       let other = of-others b n g e t.groups c.sound.0 event (isnt-boot o.some o.founded) (founds-no-more b n g e c.sound.0 o.founded) o.others in
       let pass = passes g until t o.owed e other in
@@ -299,29 +193,17 @@ module _ (g until : ℕ) (entries : List Record) (place : ℕ) (rest : List Reco
         owed = pass.owed;
         others = λ (q : ℕ) (is : is_behind q (behind_record b e) ≡ true). ap (is_number g) (groups-same q is) ∙ o.others q (hand-less b e q event is);
         some = o.some;
-        founded = omega (arith, up, founded);
+        founded = omega (arith, grows e n, founded);
       })
       ∙ (ap (λ (m : Made). with_slices g until entries m (mine g entries (place + 1) (alone.after_record g until t e) rest)) pass.made
       ∙ ap (with_slices g until entries t.made) (sym mine-event))
 
   event-inside : Inside g b n t → settled (replayed g until (alone.after_record g until t e) rest) ≡ with_slices g until entries (settled (after_part g until (record t { groups = own_groups g }) (e ∷ rest))) (mine g entries place t (e ∷ rest))
-  event-inside i =
-      let up = grows e n in
-      let founded = i.founded in
-      let own = own-record g until b n t e c.sound.0 event (isnt-boot i.some i.founded) i.member in
-      told.inside (behind_record b e) (greatest_after e n) (alone.after_record g until t e) event-common
-      (record {
-        member = λ (q : ℕ) (is : is_behind q (behind_record b e) ≡ true). ap (is_number g) (groups-same q is) ∙ i.member q (hand-less b e q event is);
-        some = i.some;
-        founded = omega (arith, up, founded);
-      })
-      ∙ (ap (λ (u : Standing). with_slices g until entries (settled (after_part g until u rest)) (mine g entries (place + 1) (alone.after_record g until t e) rest)) (sym own)
-      ∙ (ap (λ (u : Standing). with_slices g until entries (settled u) (mine g entries (place + 1) (alone.after_record g until t e) rest)) (sym (part-event g until (record t { groups = own_groups g }) e rest event))
-      ∙ ap (with_slices g until entries (settled (after_part g until (record t { groups = own_groups g }) (e ∷ rest)))) (sym mine-event)))
+  event-inside h1 = grind (arith, nat_tests, own-record, isnt-boot, event-common, groups-same, hand-less, grows, part-event, mine-event)
 
   event-unfounded : Unfounded g until t → settled (replayed g until (alone.after_record g until t e) rest) ≡ with_slices g until entries (found_from g until t.events t.moment (e ∷ rest)) (mine g entries place t (e ∷ rest))
   event-unfounded u =
-      elim (either (founds g e)) [
+      elim (cases_Bool (founds g e)) [
         | inl is ↦
             let begins = begun g until t e u is in
             let first = founder-next b n g e c.sound.0 is in
@@ -361,26 +243,13 @@ drop-next (x ∷ xs) (suc k) e rest is =
 
 module _ (g until : ℕ) (entries : List Record) where
   event-told : (place : ℕ) (rest : List Record) (e : Record) → is_event e ≡ true → Told g until entries (place + 1) rest → Told g until entries place (e ∷ rest)
-  event-told place rest e event told =
-      record {
-        unfounded = λ b n t c u. event-unfounded g until entries place rest e event told b n t c u;
-        inside = λ b n t c i. event-inside g until entries place rest e event told b n t c i;
-        outside = λ b n t c o. event-outside g until entries place rest e event told b n t c o;
-      }
+  event-told place rest e event told = grind (arith, event-unfounded g, event-inside g, event-outside g)
 
   told-all : (rest : List Record) (place : ℕ) → rest ≡ drop place entries → Told g until entries place rest
   told-all [] place at = record { unfounded = λ b n t c u. settled-same t u.owed ∙ u.made; inside = λ b n t c i. refl; outside = λ b n t c o. settled-same t o.owed }
   told-all (entry.Slice p r ∷ rest) place at =
       let more = drop-next entries place (entry.Slice p r) rest at in slice-told g until entries place rest p r more (told-all rest (place + 1) more)
-  told-all (entry.File name bytes ∷ rest) place at = event-told place rest (entry.File name bytes) refl (told-all rest (place + 1) (drop-next entries place (entry.File name bytes) rest at))
-  told-all (entry.Boot name give ∷ rest) place at = event-told place rest (entry.Boot name give) refl (told-all rest (place + 1) (drop-next entries place (entry.Boot name give) rest at))
-  told-all (entry.Typed bytes ∷ rest) place at = event-told place rest (entry.Typed bytes) refl (told-all rest (place + 1) (drop-next entries place (entry.Typed bytes) rest at))
-  told-all (entry.Unplug device ∷ rest) place at = event-told place rest (entry.Unplug device) refl (told-all rest (place + 1) (drop-next entries place (entry.Unplug device) rest at))
-  told-all (entry.Signal pid signal cut handler ∷ rest) place at =
-      event-told place rest (entry.Signal pid signal cut handler) refl (told-all rest (place + 1) (drop-next entries place (entry.Signal pid signal cut handler) rest at))
-  told-all (entry.Call pid number r more ∷ rest) place at =
-      event-told place rest (entry.Call pid number r more) refl (told-all rest (place + 1) (drop-next entries place (entry.Call pid number r more) rest at))
-  told-all (entry.End pid status ∷ rest) place at = event-told place rest (entry.End pid status) refl (told-all rest (place + 1) (drop-next entries place (entry.End pid status) rest at))
+  told-all (e ∷ rest) place at = event-told place rest e refl (told-all rest (place + 1) (drop-next entries place e rest at))
 
 begins-at-zero : (n : ℕ) → true ≡ nat_le 0 n
 begins-at-zero n = sym (le-leb 0 n (omega arith))

@@ -1,7 +1,7 @@
 -- What a record of an event leaves as it was.
-use Rattle.std.proofs.Common.{◌≡◌, ℕ, ◌+◌, true, false, refl}
+use Rattle.std.proofs.lemmas.Bool.Decides.{nat_tests}
+use Rattle.std.proofs.Common.{◌≡◌, ℕ, ◌+◌, true, arith}
 use Rattle.arn_base.specs.declared.records.Record.{Record}
-use Rattle.arn_base.specs.declared.records.Record.TheVariants as entry
 use Rattle.acts_model.specs.Records.{is_event}
 use Rattle.history_model.specs.Alone as alone
 use Rattle.history_model.specs.Groups.{groups_told}
@@ -16,11 +16,4 @@ pub record AfterEvent (t : alone.Standing) (e : Record) (s : alone.Standing) : T
   pub ran : s.ran ≡ t.ran
 
 pub after-event : (g until : ℕ) (t : alone.Standing) (e : Record) → is_event e ≡ true → AfterEvent t e (alone.after_record g until t e)
-after-event g until t (entry.File name bytes) is = record { groups = refl; events = refl; moment = refl; is_begun = refl; is_ended = refl; pid = refl; ran = refl }
-after-event g until t (entry.Boot name give) is = record { groups = refl; events = refl; moment = refl; is_begun = refl; is_ended = refl; pid = refl; ran = refl }
-after-event g until t (entry.Typed bytes) is = record { groups = refl; events = refl; moment = refl; is_begun = refl; is_ended = refl; pid = refl; ran = refl }
-after-event g until t (entry.Unplug device) is = record { groups = refl; events = refl; moment = refl; is_begun = refl; is_ended = refl; pid = refl; ran = refl }
-after-event g until t (entry.Signal pid signal cut handler) is = record { groups = refl; events = refl; moment = refl; is_begun = refl; is_ended = refl; pid = refl; ran = refl }
-after-event g until t (entry.Call pid number result more) is = record { groups = refl; events = refl; moment = refl; is_begun = refl; is_ended = refl; pid = refl; ran = refl }
-after-event g until t (entry.End pid status) is = record { groups = refl; events = refl; moment = refl; is_begun = refl; is_ended = refl; pid = refl; ran = refl }
-after-event g until t (entry.Slice pid ran) is = absurd (let no : false ≡ true = is in cc)
+after-event g until t e h1 = grind (arith, nat_tests)

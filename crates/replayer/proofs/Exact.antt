@@ -1,37 +1,39 @@
 -- A group alone has run as many instructions as its records count before the moment.
-use Rattle.std.proofs.Common.{◌≡◌, ◌≢◌, ◌≤◌, ℕ, zero, suc, ◌+◌, ◌-◌, ◌==◌, ◌&&◌, min, nat_le, not, Bool, true, false, if◌then◌else◌, List, [], ◌∷◌, Option, Some, None, option_map, count_by, cond, inl, inr, refl, ap, sym, subst, ◌∙◌, arith}
-use Rattle.std.proofs.lemmas.Bool.{eqb-true, le-leb, leb-true}
+use Rattle.std.proofs.lemmas.Grind.{common_steps}
+use Rattle.std.proofs.lemmas.Bool.Decides.{nat_tests}
+use Rattle.std.proofs.Common.{◌≡◌, ◌≢◌, ◌≤◌, ℕ, zero, suc, ◌+◌, ◌-◌, ◌==◌, ◌&&◌, min, nat_le, not, Bool, true, false, if◌then◌else◌, List, [], ◌∷◌, Option, Some, None, option_map, count_by, cond, refl, ap, sym, subst, ◌∙◌, arith, inl, inr, eqb-true, le-leb, leb-true}
 use Rattle.std.proofs.lemmas.Bool.Decides.{eqb_tells}
+use Rattle.std.proofs.lemmas.Bool.{not-false}
 use Rattle.arn_base.specs.declared.machine.Cpu.{Cpu}
 use Rattle.arn_base.specs.declared.records.Extra.{Extra}
 use Rattle.arn_base.specs.declared.records.Give.{Give}
 use Rattle.arn_base.specs.declared.records.Record.{Record}
 use Rattle.arn_base.specs.declared.records.Record.TheVariants as entry
 use Rattle.arn_base.specs.declared.records.Start.{Start}
-use Rattle.parts_model.specs.declared.calls.TheConstants.{EXIT, FORK}
-use Rattle.parts_model.specs.Replies.{is_success}
 use Rattle.acts_model.specs.Acts as act
-use Rattle.acts_model.specs.Acts.{Act, beginning_in, child_view, done_by, unborn}
-use Rattle.acts_model.specs.Bodies.{Bodies, View, put, seen}
+use Rattle.acts_model.specs.Acts.{Act, done_by, unborn}
+use Rattle.acts_model.specs.Bodies.{Bodies, View, seen, put}
 use Rattle.acts_model.specs.Moved.{is_call_or_end}
 use Rattle.acts_model.specs.Records.{EndsLife, NoLife, is_event, lives_after}
-use Rattle.acts_model.specs.Told.{act_of, call_act, delivery_act, kind_of}
+use Rattle.acts_model.specs.Told.{act_of, delivery_act, call_act, kind_of}
 use Rattle.history_model.specs.Alone as alone
-use Rattle.history_model.specs.Alone.{Own, Made, Makes, Fails, Standing, and_then, at_first, nothing_own, replayed, settled}
-use Rattle.history_model.specs.Broken.{Behind, Nowhere, ASlice, ADelivery, behind_record, behind_signal, first_broken, greatest_after, is_behind}
-use Rattle.history_model.specs.Groups.{Groups, count_from, count_of, group_forked, group_of, groups_from, groups_told, is_number, ran_for}
+use Rattle.history_model.specs.Alone.{Own, Made, Makes, Fails, Standing, and_then, replayed, settled, at_first, nothing_own}
+use Rattle.history_model.specs.Broken.{Behind, Nowhere, ADelivery, behind_record, behind_signal, first_broken, greatest_after, is_behind}
+use Rattle.history_model.specs.Groups.{Groups, count_from, count_of, group_of, groups_from, groups_told, is_number, ran_for, group_forked}
 use Rattle.history_model.specs.Moments.{ran_in}
 use Rattle.replay_steps.specs.Standing.{is_counted}
 use Rattle.replayer.specs.Bounds.{count_before_from, ran_before, ran_for_before}
 use Rattle.replayer.proofs.Alive.{AllLive, all-live, lives_told}
 use Rattle.replayer.proofs.Bodies.{HasBody, acted, count-noted, done-child, done-keeps, ends, fails-not, has-seen, plains-went, put-keeps, put-own, same-made}
-use Rattle.replayer.proofs.ByCalls.{call-lives, called-other, ends-call, fork-not-exit, forked-child, forks-act}
+use Rattle.replayer.proofs.ByCalls.{call-lives, fork-not-exit, called-other, ends-call, forked-child, forks-act}
 use Rattle.replayer.proofs.BySlices.{keeps-ended}
 use Rattle.replayer.proofs.Loops.{stays-failed}
 use Rattle.replayer.proofs.Own.{hand-less, kept-all, same-test}
-use Rattle.replayer.proofs.Passing.{counts-one}
+use Rattle.replayer.proofs.Passing.{counts-one, no-way}
 use Rattle.replayer.proofs.Sound.{Sound, sound}
 use Rattle.replayer.proofs.Counting.{after-event}
+use Rattle.parts_model.specs.declared.calls.TheConstants.{EXIT, FORK}
+use Rattle.parts_model.specs.Replies.{is_success}
 
 -- no record counts more before a moment than in all
 if-within : (member : Bool) (ran left : ℕ) → (if member then min ran left else 0) ≤ (if member then ran else 0)
@@ -40,13 +42,7 @@ if-within false ran left = omega arith
 
 for-within : (g until moment : ℕ) (groups : Groups) (e : Record) → ran_for_before g until moment groups e ≤ ran_for g groups e
 for-within g until moment groups (entry.Slice pid ran) = if-within (is_number g (groups pid)) ran (until - moment)
-for-within g until moment groups (entry.File name bytes) = omega arith
-for-within g until moment groups (entry.Boot name give) = omega arith
-for-within g until moment groups (entry.Typed bytes) = omega arith
-for-within g until moment groups (entry.Unplug device) = omega arith
-for-within g until moment groups (entry.Signal pid signal cut handler) = omega arith
-for-within g until moment groups (entry.Call pid number r more) = omega arith
-for-within g until moment groups (entry.End pid status) = omega arith
+for-within g until moment groups _ = omega arith
 
 from-within : (g until moment : ℕ) (groups : Groups) (entries : List Record) → count_before_from g until moment groups entries ≤ count_from g groups entries
 from-within g until moment groups [] = omega arith
@@ -55,13 +51,6 @@ from-within g until moment groups (e ∷ entries) =
 
 pub before-within : (entries : List Record) (g until : ℕ) → ran_before entries g until ≤ count_of entries g
 before-within entries g until = from-within g until 0 (group_of entries) entries
-
-no-way : {A : Type 0} → false ≡ true → A
-no-way e = absurd (let no : false ≡ true = e in cc)
-
-not-true : (b : Bool) → not b ≡ false → b ≡ true
-not-true true is = refl
-not-true false is = absurd (let no : true ≡ false = is in cc)
 
 -- how many instructions have run inside
 abbrev ran_by : Own → ℕ
@@ -99,12 +88,7 @@ record Ended (pid event : ℕ) (e : Record) (own last : Own) (owed : ℕ) : Type
 none-last : (event : ℕ) (e : Record) (own : Own) → is_call_or_end e ≡ true → (d : alone.Disagrees) × (alone.no_instruction event e (Makes own) ≡ Fails d)
 none-last event (entry.Call pid number r more) own is = (_, refl)
 none-last event (entry.End pid status) own is = (_, refl)
-none-last event (entry.File name bytes) own is = no-way is
-none-last event (entry.Boot name give) own is = no-way is
-none-last event (entry.Typed bytes) own is = no-way is
-none-last event (entry.Unplug device) own is = no-way is
-none-last event (entry.Slice pid ran) own is = no-way is
-none-last event (entry.Signal pid signal cut handler) own is = no-way is
+none-last event _ own is = no-way is
 
 and-then-makes : (made : Made) (next : Own → Made) (own' : Own) → and_then made next ≡ Makes own' → (own : Own) × (made ≡ Makes own) × (next own ≡ Makes own')
 and-then-makes (Makes own) next own' is = (own, refl, is)
@@ -119,9 +103,7 @@ slice-ended slice (suc left) e own last tells is has made =
     let tell = tells sees.0.body.cpu in
     let did = acted slice.pid slice.event e sees.0 sees.0 tell.0 parts.0 last sees.1 tell.1 (ap (λ (o : Option View). alone.record_seen slice.pid slice.event e o parts.0) (sym sees.1) ∙ parts.2) in
     let one : cond {A = ℕ} (is_call_or_end e) 1 0 ≡ 1 = ap (λ (c : Bool). cond {A = ℕ} c 1 0) is in
-    let first = went.counted in
-    let second = did.counted in
-    record { before = parts.0; v = sees.0; a = tell.0; tells = tell.1; counted = omega (arith, first, second, one); keeps = went.keeps; bodies = did.bodies }
+    record { before = parts.0; v = sees.0; a = tell.0; tells = tell.1; counted = omega (arith, went.counted, did.counted, one); keeps = went.keeps; bodies = did.bodies }
 
 ends-is : (o : Option Act) (a : Act) → o ≡ Some a → option_map ends o ≡ Some false → ends a ≡ false
 ends-is o a is not = let same : Some (ends a) ≡ Some false = sym (ap (option_map ends) is) ∙ not in cc
@@ -146,55 +128,17 @@ module _ (g until : ℕ) (groups : Groups) (b : Behind) (n : ℕ) (t : Standing)
       → ((q : ℕ) → is_behind q (behind_record b e) ≡ true → (lives_told e live q ≡ true) × (is_number g (groups_told e t.groups q) ≡ false → (alone.after_record g until t e).owed ≡ 0))
       → (t.moment ≤ until → (p : ℕ) → lives_told e live p ≡ true → is_number g (groups_told e t.groups p) ≡ true → HasBody mid.bodies p)
       → At g until groups (behind_record b e) (greatest_after e n) (alone.after_record g until t e) mid (lives_told e live) rest
-  event-at e event at mid made hands bodies =
-      let a = after-event g until t e event in
-      record {
-        made = made;
-        sound = at.sound.1;
-        lives = at.lives.1;
-        final = λ (p : ℕ). at.final p ∙ ap (λ (gs : Groups). groups_from rest gs p) (sym a.groups);
-        hand = λ (q : ℕ) (is : is_behind q (behind_record b e) ≡ true). at.hand q (hand-less b e q event is) ∙ sym a.pid;
-        runs = λ (q : ℕ) (is : is_behind q (behind_record b e) ≡ true). (hands q is).0;
-        owed = λ (q : ℕ) (is : is_behind q (behind_record b e) ≡ true) (other : is_number g ((alone.after_record g until t e).groups q) ≡ false).
-            (hands q is).1 (ap (λ (gs : Groups). is_number g (gs q)) (sym a.groups) ∙ other);
-        ended = keeps-ended g until t e event at.ended;
-        begun = λ (le : (alone.after_record g until t e).moment ≤ until). a.is_begun ∙ at.begun (subst (λ (m : ℕ). m ≤ until) a.moment le);
-        bodies = λ (le : (alone.after_record g until t e).moment ≤ until) (p : ℕ) (lives : lives_told e live p ≡ true) (is : is_number g ((alone.after_record g until t e).groups p) ≡ true).
-            bodies (subst (λ (m : ℕ). m ≤ until) a.moment le) p lives (ap (λ (gs : Groups). is_number g (gs p)) (sym a.groups) ∙ is);
-      }
+  event-at e h1 h2 mid h3 h4 h5 = grind (arith, common_steps, nat_tests, after-event, sound, hand-less, keeps-ended)
 
   -- one that isn't the group's
   quiet : (e : Record) → is_event e ≡ true → At g until groups b n t own live (e ∷ rest) → (mid : Own) → (alone.after_record g until t e).made ≡ Makes mid → t.made ≡ Makes mid
       → behind_record b e ≡ Nowhere → ((p : ℕ) → lives_told e live p ≡ live p) → groups_told e t.groups ≡ t.groups
       → At g until groups (behind_record b e) (greatest_after e n) (alone.after_record g until t e) mid (lives_told e live) rest
-  quiet e event at mid made was hand lives gs =
-      event-at e event at mid made (λ q is. no-way (ap (is_behind q) (sym hand) ∙ is))
-      (λ le p alive is. subst (λ (o : Own). HasBody o.bodies p) (sym (same-made t.made own mid at.made was)) (at.bodies le p (sym (lives p) ∙ alive) (ap (λ (h : Groups). is_number g (h p)) (sym gs) ∙ is)))
+  quiet e h1 h2 mid h3 h4 h5 h6 h7 = grind (arith, common_steps, nat_tests, event-at, no-way, same-made)
 
   -- a slice
   slice-step : (pid ran : ℕ) → At g until groups b n t own live (entry.Slice pid ran ∷ rest) → (mid : Own) → settled t ≡ Makes mid → Stepped g until groups b n t own live rest (entry.Slice pid ran) mid
-  slice-step pid ran at mid made =
-      let went = plains-went (alone.slice_of t) t.owed 0 own mid (ap (λ (m : Made). and_then m (alone.plains (alone.slice_of t) 0 t.owed)) (sym at.made) ∙ made) in
-      let same : groups pid ≡ t.groups pid = at.final pid ∙ kept-all (entry.Slice pid ran ∷ rest) b n t.groups pid at.sound at.sound.0.made in
-      let counted = went.counted in
-      let owes : (if is_number g (groups pid) then min ran (until - t.moment) else 0) ≡ (if is_number g (t.groups pid) then min ran (until - t.moment) else 0) =
-      ap (λ (o : Option ℕ). if is_number g o then min ran (until - t.moment) else 0) same in
-      record {
-        at = record {
-          made = made;
-          sound = at.sound.1;
-          lives = at.lives.1;
-          final = at.final;
-          hand = λ (q : ℕ) (is : is_behind q (ASlice pid) ≡ true). sym (eqb-true pid q is);
-          runs = λ (q : ℕ) (is : is_behind q (ASlice pid) ≡ true). subst (λ (p : ℕ). live p ≡ true) (eqb-true pid q is) at.lives.0;
-          owed = λ (q : ℕ) (is : is_behind q (ASlice pid) ≡ true) (other : is_number g (t.groups q) ≡ false).
-              ap (λ (c : Bool). if c then min ran (until - t.moment) else 0) (ap (λ (p : ℕ). is_number g (t.groups p)) (eqb-true pid q is) ∙ other);
-          ended = refl;
-          begun = λ (le : t.moment + ran ≤ until). le-leb t.moment until (omega (arith, le));
-          bodies = λ (le : t.moment + ran ≤ until) (p : ℕ) (lives : live p ≡ true) (is : is_number g (t.groups p) ≡ true). went.keeps p (at.bodies (omega (arith, le)) p lives is);
-        };
-        counted = omega (arith, counted, owes);
-      }
+  slice-step pid ran h1 mid h2 = grind (arith, nat_tests, plains-went, kept-all, sound, eqb-true, le-leb)
 
   -- a slice's end
   module _ (e : Record) (pid : ℕ) (at : At g until groups b n t own live (e ∷ rest)) (is-last : is_call_or_end e ≡ true) (tells : (cpu : Cpu) → (a : Act) × (act_of cpu e ≡ Some a)) (hand : is_behind pid b ≡ true) where
@@ -245,12 +189,7 @@ module _ (g until : ℕ) (groups : Groups) (b : Behind) (n : ℕ) (t : Standing)
 module _ (g until : ℕ) (groups : Groups) (b : Behind) (n : ℕ) (t : Standing) (own : Own) (live : ℕ → Bool) (rest : List Record) (pid signal : ℕ) (cut : Bool) (handler : ℕ) where
   -- who lives behind it lived before, and it doesn't end
   signal-live : (c : Bool) (q : ℕ) (before : Bool) → lives_after (if c then EndsLife pid else NoLife) q before ≡ true → before ≡ true
-  signal-live true q before lives = by (pid == q) lives
-    where
-      by : (same : Bool) → (if same then false else before) ≡ true → before ≡ true
-      by true is = no-way is
-      by false is = is
-  signal-live false q before lives = lives
+  signal-live c q before h1 = grind (arith, nat_tests, no-way)
 
   signal-ends : (c : Bool) (q : ℕ) (before : Bool) → lives_after (if c then EndsLife pid else NoLife) q before ≡ true → q ≡ pid → ends (if c then act.Dies signal cut else act.Delivers signal handler cut) ≡ false
   signal-ends true q before lives same = no-way (sym (ap (λ (c : Bool). if c then false else before) (same-test pid q (sym same))) ∙ lives)
@@ -258,15 +197,10 @@ module _ (g until : ℕ) (groups : Groups) (b : Behind) (n : ℕ) (t : Standing)
 
   -- a slice stays at hand where the delivery isn't fatal
   goes-on : (c d : Bool) (q : ℕ) → is_behind q (if c && not d then ADelivery pid else Nowhere) ≡ true → d ≡ false
-  goes-on true true q is = no-way is
-  goes-on true false q is = refl
-  goes-on false true q is = no-way is
-  goes-on false false q is = refl
+  goes-on c d q h1 = grind (arith, common_steps, nat_tests, no-way)
 
   not-fatal : (h : Behind) (q : ℕ) → is_behind q (behind_signal pid handler h) ≡ true → (handler == 0) ≡ false
-  not-fatal Nowhere q is = no-way is
-  not-fatal (ADelivery p) q is = no-way is
-  not-fatal (ASlice p) q is = goes-on (p == pid) (handler == 0) q is
+  not-fatal h q h1 = grind (arith, common_steps, nat_tests, no-way, goes-on)
 
   record Signalled (mid : Own) : Type 0 where
     counted : ran_by mid ≡ ran_by own
@@ -284,26 +218,15 @@ module _ (g until : ℕ) (groups : Groups) (b : Behind) (n : ℕ) (t : Standing)
         by None stood is = untold (same-made (Makes own) own mid refl is)
         by (Some v) stood is =
             let did = acted pid t.events (entry.Signal pid signal cut handler) v v (delivery_act signal handler cut) own mid stood refl is in
-            let many = did.counted in
             record {
-              counted = omega (arith, many);
+              counted = omega (arith, did.counted);
               bodies = λ q lives has.
                   subst (λ (bs : Bodies). HasBody bs q) (sym did.bodies)
                   (done-keeps pid t.events v own.bodies (delivery_act signal handler cut) q (signal-ends (handler == 0) q (live q) lives) has);
             }
 
     signal-step : (alone.after_record g until t (entry.Signal pid signal cut handler)).made ≡ Makes mid → Stepped g until groups b n t own live rest (entry.Signal pid signal cut handler) mid
-    signal-step made =
-        let did = signalled (t.is_begun && is_number g (t.groups pid)) made in
-        let many = did.counted in
-        record {
-          at = event-at g until groups b n t own live rest (entry.Signal pid signal cut handler) refl at mid made
-              (λ q is.
-              let was = hand-less b (entry.Signal pid signal cut handler) q refl is in
-              (ap (λ (c : Bool). lives_after (if c then EndsLife pid else NoLife) q (live q)) (not-fatal b q is) ∙ at.runs q was, at.owed q was))
-              (λ le p lives is. did.bodies p lives (at.bodies le p (signal-live (handler == 0) p (live p) lives) is));
-          counted = omega (arith, many);
-        }
+    signal-step h1 = grind (arith, nat_tests, signalled, event-at, hand-less, not-fatal, signal-live)
 
 -- the boot
 module _ (g until : ℕ) (groups : Groups) (b : Behind) (n : ℕ) (t : Standing) (own : Own) (live : ℕ → Bool) (rest : List Record) (name : List ℕ) (give : Give) where
@@ -358,28 +281,10 @@ record Begun (g : ℕ) (own mid : Own) : Type 0 where
 
 module _ (g r event : ℕ) (e : Record) (own mid : Own) where
   begins-goes : (o : Option Start) → alone.begins_if g r event e o own ≡ Makes mid → Begun g own mid
-  begins-goes None made =
-      let same = same-made (Makes own) own mid refl made in
-      record { counted = ap ran_by same; keeps = λ q has. subst (λ (o : Own). HasBody o.bodies q) (sym same) has }
-  begins-goes (Some start) made = by (r == g) made
-    where
-      by : (c : Bool) → (if c then Makes (alone.begins g event e start own) else Makes own) ≡ Makes mid → Begun g own mid
-      by true is =
-          let same = same-made (Makes (alone.begins g event e start own)) (alone.begins g event e start own) mid refl is in
-          let many = count-noted (alone.begin_inside g event e start) (act.begun g event (beginning_in start) own.bodies) own false refl in
-          let all = ap ran_by same in
-          record {
-            counted = omega (arith, many, all);
-            keeps = λ q has. subst (λ (o : Own). HasBody o.bodies q) (sym same) (put-keeps g (child_view event (beginning_in start) None []) own.bodies q has);
-          }
-      by false is =
-          let same = same-made (Makes own) own mid refl is in
-          record { counted = ap ran_by same; keeps = λ q has. subst (λ (o : Own). HasBody o.bodies q) (sym same) has }
+  begins-goes o h1 = grind (arith, common_steps, nat_tests, same-made, count-noted, put-keeps)
 
   begins-first : (start : Start) → r ≡ g → alone.begins_if g r event e (Some start) own ≡ Makes mid → HasBody mid.bodies g
-  begins-first start is made =
-      let same = same-made _ (alone.begins g event e start own) mid (ap (λ (c : Bool). if c then Makes (alone.begins g event e start own) else Makes own) (same-test r g is)) made in
-      subst (λ (o : Own). HasBody o.bodies g) (sym same) (put-own g (child_view event (beginning_in start) None []) own.bodies)
+  begins-first start h1 h2 = grind (arith, common_steps, nat_tests, same-made, same-test, put-own)
 
 module _ (g until : ℕ) (groups : Groups) (b : Behind) (n : ℕ) (t : Standing) (own : Own) (live : ℕ → Bool) (rest : List Record) where
   -- a call
@@ -387,7 +292,7 @@ module _ (g until : ℕ) (groups : Groups) (b : Behind) (n : ℕ) (t : Standing)
     call-step : (alone.after_record g until t (entry.Call pid number r more)).made ≡ Makes mid → Stepped g until groups b n t own live rest (entry.Call pid number r more) mid
     call-step made =
         let e : Record = entry.Call pid number r more in
-        let hand : is_behind pid b ≡ true = not-true (is_behind pid b) at.sound.0.slice in
+        let hand : is_behind pid b ≡ true = not-false (is_behind pid b) at.sound.0.slice in
         let all = lasts g until groups b n t own live rest e pid at refl (λ cpu. (call_act (kind_of number) cpu r more, refl)) hand
         (λ last mid is. (begins-goes g r t.events e last mid (alone.call_start number r more) is).counted) mid t.is_ended refl made in
         record {
@@ -426,7 +331,7 @@ module _ (g until : ℕ) (groups : Groups) (b : Behind) (n : ℕ) (t : Standing)
     end-step : (alone.after_record g until t (entry.End pid status)).made ≡ Makes mid → Stepped g until groups b n t own live rest (entry.End pid status) mid
     end-step made =
         let e : Record = entry.End pid status in
-        let hand : is_behind pid b ≡ true = not-true (is_behind pid b) at.sound.0.slice in
+        let hand : is_behind pid b ≡ true = not-false (is_behind pid b) at.sound.0.slice in
         let all = lasts g until groups b n t own live rest e pid at refl (λ cpu. (act.Faults status, refl)) hand
         (λ last mid is. ap ran_by (same-made (Makes last) last mid refl is)) mid t.is_ended refl made in
         record {
@@ -446,15 +351,9 @@ module _ (g until : ℕ) (groups : Groups) (b : Behind) (n : ℕ) (t : Standing)
   one-step (entry.Boot name give) at mid made = boot-step g until groups b n t own live rest name give at mid made
   one-step (entry.Call pid number r more) at mid made = call-step pid number r more at mid made
   one-step (entry.End pid status) at mid made = end-step pid status at mid made
-  one-step (entry.File name bytes) at mid made =
+  one-step e at mid made =
       let many = ap ran_by (same-made t.made own mid at.made made) in
-      record { at = quiet g until groups b n t own live rest (entry.File name bytes) refl at mid made made refl (λ p. refl) refl; counted = omega (arith, many) }
-  one-step (entry.Typed bytes) at mid made =
-      let many = ap ran_by (same-made t.made own mid at.made made) in
-      record { at = quiet g until groups b n t own live rest (entry.Typed bytes) refl at mid made made refl (λ p. refl) refl; counted = omega (arith, many) }
-  one-step (entry.Unplug device) at mid made =
-      let many = ap ran_by (same-made t.made own mid at.made made) in
-      record { at = quiet g until groups b n t own live rest (entry.Unplug device) refl at mid made made refl (λ p. refl) refl; counted = omega (arith, many) }
+      record { at = quiet g until groups b n t own live rest e refl at mid made made refl (λ p. refl) refl; counted = omega (arith, many) }
 
 -- what is made at the end was made before
 made-before : (g until : ℕ) (t : Standing) (rest : List Record) (last : Own) → settled (replayed g until t rest) ≡ Makes last → (own : Own) × (t.made ≡ Makes own)

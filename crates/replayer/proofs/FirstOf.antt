@@ -1,4 +1,5 @@
 -- How a group begins, found from records on.
+use Rattle.std.proofs.lemmas.Bool.Decides.{nat_tests}
 use Rattle.std.proofs.Common.{◌≡◌, ℕ, suc, ◌+◌, nat_le, Bool, true, false, if◌then◌else◌, cond, List, [], ◌∷◌, Option, Some, None, option_map, slice_get, refl, ap, sym, ◌∙◌, add-zero, arith}
 use Rattle.std.specs.List.{position_from}
 use Rattle.std.proofs.lemmas.Iterator.Adapters.{position_from-zero}
@@ -27,10 +28,7 @@ suc-if false i o = refl
 
 position-suc : (t : Record → Bool) (i : ℕ) (xs : List Record) → position_from t (suc i) xs ≡ option_map suc (position_from t i xs)
 position-suc t i [] = refl
-position-suc t i (x ∷ xs) =
-    let same : suc i + 1 ≡ suc (i + 1) = omega arith in
-    ap (λ (k : ℕ). cond (t x) (Some (suc i)) (position_from t k xs)) same
-    ∙ (ap (cond (t x) (Some (suc i))) (position-suc t (i + 1) xs) ∙ suc-if (t x) i (position_from t (i + 1) xs))
+position-suc t i (x ∷ xs) = grind (arith, nat_tests, position-suc t (i + 1) xs, suc-if (t x) i (position_from t (i + 1) xs))
 
 module _ (g until : ℕ) where
   later : (event : ℕ) (o : Option ℕ) (m : ℕ) (ms : List ℕ) (e : Record) (es : List Record) → found_at g until (event + 1) o ms es ≡ found_at g until event (option_map suc o) (m ∷ ms) (e ∷ es)
@@ -41,10 +39,7 @@ module _ (g until : ℕ) where
   -- an event, where the rest is found
   step : (c : Bool) (event moment : ℕ) (e : Record) (ms : List ℕ) (es : List Record) (rest : Made) → rest ≡ found_at g until (event + 1) (position_from (founds g) 0 es) ms es
       → (if c then (if nat_le moment until then first_made g event e else Makes nothing_own) else rest) ≡ found_at g until event (cond c (Some 0) (position_from (founds g) 1 es)) (moment ∷ ms) (e ∷ es)
-  step true event moment e ms es rest is = ap (λ (n : ℕ). if nat_le moment until then first_made g n e else Makes nothing_own) (sym (add-zero event))
-  step false event moment e ms es rest is =
-      is ∙ (later event (position_from (founds g) 0 es) moment ms e es
-      ∙ ap (λ (o : Option ℕ). found_at g until event o (moment ∷ ms) (e ∷ es)) (sym (position-suc (founds g) 0 es)))
+  step c event moment e ms es rest h1 = grind (arith, nat_tests, add-zero, later, position-suc)
 
   plain : (begins event moment : ℕ) (e : Record) (entries : List Record) → found_from g until (event + 1) (moment + 0) entries ≡ found_at g until (event + 1) (position_from (founds g) 0 (events entries)) (moments_from begins (moment + 0) entries) (events entries)
       → (if founds g e then (if nat_le moment until then first_made g event e else Makes nothing_own) else found_from g until (event + 1) (moment + 0) entries) ≡ found_at g until event (cond (founds g e) (Some 0) (position_from (founds g) 1 (events entries))) (moment ∷ moments_from begins (moment + 0) entries) (e ∷ events entries)
@@ -52,24 +47,12 @@ module _ (g until : ℕ) where
 
   link : (begins event moment : ℕ) (entries : List Record) → found_from g until event moment entries ≡ found_at g until event (position_from (founds g) 0 (events entries)) (moments_from begins moment entries) (events entries)
   link begins event moment [] = refl
-  link begins event moment (entry.Slice pid ran ∷ entries) =
-      ap (λ (n : ℕ). found_from g until n (moment + ran) entries) (add-zero event) ∙ link moment event (moment + ran) entries
-  link begins event moment (entry.Signal pid signal cut handler ∷ entries) =
-      ap (λ (n : ℕ). found_from g until (event + 1) n entries) (add-zero moment)
-      ∙ (link begins (event + 1) moment entries
-      ∙ (later event (position_from (founds g) 0 (events entries)) begins (moments_from begins moment entries) (entry.Signal pid signal cut handler) (events entries)
-      ∙ (ap (λ (o : Option ℕ). found_at g until event o (begins ∷ moments_from begins moment entries) (entry.Signal pid signal cut handler ∷ events entries)) (sym (position-suc (founds g) 0 (events entries)))
-      ∙ ap (λ (n : ℕ). found_at g until event (position_from (founds g) 1 (events entries)) (begins ∷ moments_from begins n entries) (entry.Signal pid signal cut handler ∷ events entries)) (sym (add-zero moment)))))
-  link begins event moment (entry.File name bytes ∷ entries) = plain begins event moment (entry.File name bytes) entries (link begins (event + 1) (moment + 0) entries)
-  link begins event moment (entry.Boot name give ∷ entries) = plain begins event moment (entry.Boot name give) entries (link begins (event + 1) (moment + 0) entries)
-  link begins event moment (entry.Typed bytes ∷ entries) = plain begins event moment (entry.Typed bytes) entries (link begins (event + 1) (moment + 0) entries)
-  link begins event moment (entry.Unplug device ∷ entries) = plain begins event moment (entry.Unplug device) entries (link begins (event + 1) (moment + 0) entries)
-  link begins event moment (entry.Call pid number r more ∷ entries) = plain begins event moment (entry.Call pid number r more) entries (link begins (event + 1) (moment + 0) entries)
-  link begins event moment (entry.End pid status ∷ entries) = plain begins event moment (entry.End pid status) entries (link begins (event + 1) (moment + 0) entries)
+  link begins event moment (entry.Slice pid ran ∷ entries) = grind (arith, nat_tests, add-zero event, link moment event (moment + ran) entries)
+  link begins event moment (entry.Signal pid signal cut handler ∷ entries) = grind (arith, nat_tests, add-zero moment, link begins (event + 1) moment entries, later event (position_from (founds g) 0 (events entries)) begins (moments_from begins moment entries) (entry.Signal pid signal cut handler) (events entries), position-suc (founds g) 0 (events entries))
+  link begins event moment (e ∷ entries) = plain begins event moment e entries (link begins (event + 1) (moment + 0) entries)
 
   pub found-first : (entries : List Record) → found_from g until 0 0 entries ≡ first_of g until entries (founding_event entries g)
   found-first entries = link 0 0 0 entries ∙ (by (position_from (founds g) 0 (events entries)) ∙ ap (first_of g until entries) (sym (position_from-zero (founds g) (events entries))))
     where
       by : (o : Option ℕ) → found_at g until 0 o (moments_from 0 0 entries) (events entries) ≡ first_of g until entries o
-      by None = refl
-      by (Some k) = let same : 0 + k ≡ k = omega arith in ap (λ (n : ℕ). first_made_if g until n (slice_get (moments_from 0 0 entries) k) (slice_get (events entries) k)) same
+      by o = grind (arith, nat_tests)

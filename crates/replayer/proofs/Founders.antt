@@ -1,15 +1,18 @@
 -- The event by which a group begins, found by an index.
+use Rattle.std.proofs.lemmas.Grind.{common_steps}
+use Rattle.std.proofs.lemmas.Bool.Decides.{nat_tests}
 use Rattle.std.proofs.Common.{◌≡◌, ◌<◌, ◌≤◌, inl, inr, ℕ, zero, suc, ◌+◌, Bool, true, false, cond, List, [], ◌∷◌, length, get_or, Option, Some, None, IfSome, MatchOption, option_map, Bor, is_some, slice_get, refl, ap, sym, subst, ◌∙◌, arith}
 use Rattle.std.specs.List.{position_from}
 use Rattle.std.proofs.lemmas.Iterator.Adapters.{position_from-zero}
 use Rattle.std.proofs.lemmas.Option.{slice_get_past, slice_get_within}
+use Rattle.std.proofs.lemmas.Bool.{cases_Bool}
 use Rattle.arn_base.specs.declared.records.Record.{Record}
 use Rattle.arn_base.specs.declared.records.Record.TheVariants as entry
 use Rattle.parts_model.specs.Numbered.{nth}
 use Rattle.acts_model.specs.Bodies.{Body, body_at, nobody, seen, view}
 use Rattle.guest_bodies.specs.Fresh.{IsUnheld}
-use Rattle.guest_bodies.specs.Shown.{Guests, IsLive, IsUnheldBy, Shown, seen_in}
-use Rattle.history_index.specs.Lookups.{founding_event, founds, places_from}
+use Rattle.guest_bodies.specs.Shown.{Guests, IsUnheldBy, Shown, seen_in}
+use Rattle.history_index.specs.Lookups.{founding_event, places_from, founds}
 use Rattle.history_model.specs.Alone.{Made, Makes, nothing_own}
 use Rattle.history_model.specs.Broken.{first_broken}
 use Rattle.history_model.specs.Events.{event_at, events}
@@ -19,7 +22,6 @@ use Rattle.replay_steps.specs.Standing.{GainsOnly, Reaches, Stands}
 use Rattle.replayer.specs.Foundings.{Begins}
 use Rattle.replayer.specs.Parts.{LivesIn}
 use Rattle.replayer.proofs.Begun.{founded-group}
-use Rattle.replayer.proofs.Own.{either}
 use Rattle.replayer.proofs.Running.{lived-or}
 use Rattle.replayer.proofs.Unbroken.{starts-inside}
 
@@ -38,27 +40,11 @@ placed : (entries : List Record) (place at k : ℕ) → slice_get (places_from p
 placed [] place at k is = absurd (let no : None ≡ Some at = is in cc)
 placed (entry.Slice pid ran ∷ rest) place at k is =
     let more = placed rest (place + 1) at k is in let past = more.is in record { past = suc more.past; is = omega (arith, past); same = more.same }
-placed (entry.File name bytes ∷ rest) place at k is =
-    let more = placed-event (entry.File name bytes) rest place at (placed rest (place + 1) at) k is in record { past = more.0; is = more.1; same = more.2 }
-placed (entry.Boot name give ∷ rest) place at k is =
-    let more = placed-event (entry.Boot name give) rest place at (placed rest (place + 1) at) k is in record { past = more.0; is = more.1; same = more.2 }
-placed (entry.Typed bytes ∷ rest) place at k is =
-    let more = placed-event (entry.Typed bytes) rest place at (placed rest (place + 1) at) k is in record { past = more.0; is = more.1; same = more.2 }
-placed (entry.Unplug device ∷ rest) place at k is =
-    let more = placed-event (entry.Unplug device) rest place at (placed rest (place + 1) at) k is in record { past = more.0; is = more.1; same = more.2 }
-placed (entry.Signal pid signal cut handler ∷ rest) place at k is =
-    let more = placed-event (entry.Signal pid signal cut handler) rest place at (placed rest (place + 1) at) k is in record { past = more.0; is = more.1; same = more.2 }
-placed (entry.Call pid number r more ∷ rest) place at k is =
-    let more = placed-event (entry.Call pid number r more) rest place at (placed rest (place + 1) at) k is in record { past = more.0; is = more.1; same = more.2 }
-placed (entry.End pid status ∷ rest) place at k is =
-    let more = placed-event (entry.End pid status) rest place at (placed rest (place + 1) at) k is in record { past = more.0; is = more.1; same = more.2 }
+placed (e ∷ rest) place at k is =
+    let more = placed-event e rest place at (placed rest (place + 1) at) k is in record { past = more.0; is = more.1; same = more.2 }
 
 pub event-placed : (entries : List Record) (at k : ℕ) → slice_get (places_from 0 entries) k ≡ Some at → slice_get entries at ≡ event_at entries k
-event-placed entries at k is =
-    let found = placed entries 0 at k is in
-    let past = found.is in
-    let same : at ≡ found.past = omega (arith, past) in
-    ap (slice_get entries) same ∙ found.same
+event-placed entries at k is = grind (arith, placed entries 0 at k is)
 
 item-there : (xs : List Record) (i : ℕ) (d : Record) → i < length xs → slice_get xs i ≡ Some (get_or xs i d)
 item-there [] i d lt = absurd (omega arith)
@@ -78,13 +64,7 @@ there-event e x rest later (suc k) is = let more = later k is in (suc more.0, mo
 somewhere : (entries : List Record) (x : Record) (k : ℕ) → slice_get (events entries) k ≡ Some x → (j : ℕ) × (slice_get entries j ≡ Some x)
 somewhere [] x k is = absurd (let no : None ≡ Some x = is in cc)
 somewhere (entry.Slice pid ran ∷ rest) x k is = let more = somewhere rest x k is in (suc more.0, more.1)
-somewhere (entry.File name bytes ∷ rest) x k is = there-event (entry.File name bytes) x rest (somewhere rest x) k is
-somewhere (entry.Boot name give ∷ rest) x k is = there-event (entry.Boot name give) x rest (somewhere rest x) k is
-somewhere (entry.Typed bytes ∷ rest) x k is = there-event (entry.Typed bytes) x rest (somewhere rest x) k is
-somewhere (entry.Unplug device ∷ rest) x k is = there-event (entry.Unplug device) x rest (somewhere rest x) k is
-somewhere (entry.Signal pid signal cut handler ∷ rest) x k is = there-event (entry.Signal pid signal cut handler) x rest (somewhere rest x) k is
-somewhere (entry.Call pid number r more ∷ rest) x k is = there-event (entry.Call pid number r more) x rest (somewhere rest x) k is
-somewhere (entry.End pid status ∷ rest) x k is = there-event (entry.End pid status) x rest (somewhere rest x) k is
+somewhere (e ∷ rest) x k is = there-event e x rest (somewhere rest x) k is
 
 got : (xs : List Record) (i : ℕ) (e : Record) → slice_get xs i ≡ Some e → e ≡ get_or xs i e
 got [] i e is = absurd (let no : None ≡ Some e = is in cc)
@@ -102,7 +82,7 @@ record First (t : Record → Bool) (xs : List Record) (i k : ℕ) : Type 0 where
 first-passes : (t : Record → Bool) (xs : List Record) (i k : ℕ) → position_from t i xs ≡ Some k → First t xs i k
 first-passes t [] i k is = absurd (let no : None ≡ Some k = is in cc)
 first-passes t (x ∷ xs) i k is =
-    elim (either (t x)) [
+    elim (cases_Bool (t x)) [
       | inl holds ↦
           let here : Some i ≡ Some k = sym (ap (λ (c : Bool). cond c (Some i) (position_from t (i + 1) xs)) holds) ∙ is in
           let same : i ≡ k = cc in
@@ -138,15 +118,7 @@ none-live zero live = let no : false ≡ true = live in cc
 none-live (suc p) live = let no : false ≡ true = live in cc
 
 pub first-lives : (entries : List Record) (g : ℕ) (old new : Guests) → old ≡ [] → group_of entries g ≡ Some g → GainsOnly (Some g) old new → LivesIn entries (Some g) g new
-first-lives entries g old new none member gains =
-    record { below = λ (p : ℕ) (live : IsLive new p). (let same = one p live in omega (arith, same)); member = λ (p : ℕ) (live : IsLive new p). subst (λ (k : ℕ). group_of entries k ≡ Some g) (one p live) member }
-  where
-    one : (p : ℕ) → IsLive new p → g ≡ p
-    one p live =
-        elim (lived-or (Some g) old new p gains live) [
-          | inl was ↦ absurd (none-live p (subst (λ (gs : Guests). IsLive gs p) none was))
-          | inr is ↦ let same : g ≡ p = cc in same
-        ]
+first-lives entries g old new h1 h2 h3 = grind (arith, nat_tests, lived-or, none-live)
 
 -- nothing stands at each event
 no-nth : (p : ℕ) → nth {A = Shown} [] p ≡ None
@@ -164,16 +136,8 @@ nobody-unheld : (event : ℕ) → IsUnheld event nobody
 nobody-unheld event = record { unheld = λ (p : ℕ). subst (λ (o : Option Body). IfSome o (IsUnheldBy event)) (sym (no-body p)) tt }
 
 pub nothing-stands : (guests : Guests) (event : ℕ) → guests ≡ [] → Stands guests event nothing_own
-nothing-stands guests event is =
-    subst (λ (gs : Guests). Stands gs event nothing_own) (sym is)
-    (record { shows = record { same = nobody-seen }; unheld = λ (other : ℕ) (le : event ≤ other). nobody-unheld other })
+nothing-stands guests event h1 = grind (arith, common_steps, nat_tests, nobody-seen, nobody-unheld)
 
 -- where the group doesn't begin before the moment, nothing was made
 pub nothing-reached : {A : Type 0} (l : Listener A) (x : A) (n : ℕ) (made : Made) (guests : Guests) (event : ℕ) → made ≡ Makes nothing_own → guests ≡ [] → Reaches l x n nothing_own made guests event x n
-nothing-reached l x n made guests event is none =
-    record {
-      own' = nothing_own;
-      makes = is;
-      stands = nothing-stands guests event none;
-      goes_on = record { more = []; inside = refl; told = refl; counted = omega arith };
-    }
+nothing-reached l x n made guests event is none = grind (arith, nothing-stands guests event none)

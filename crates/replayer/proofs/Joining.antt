@@ -1,5 +1,7 @@
 -- Whose group a child joins.
-use Rattle.std.proofs.Common.{◌≡◌, ◌<◌, ◌≤◌, ℕ, suc, ◌+◌, ◌==◌, ◌&&◌, not, Bool, true, false, if◌then◌else◌, List, length, take, get_or, Some, None, option_and_then, refl, ap, sym, ◌∙◌, arith}
+use Rattle.std.proofs.lemmas.Bool.Decides.{nat_tests}
+use Rattle.std.proofs.Common.{◌≡◌, ◌<◌, ◌≤◌, ℕ, ◌==◌, ◌&&◌, Bool, true, false, if◌then◌else◌, List, length, take, get_or, Some, None, option_and_then, refl, ap, sym, ◌∙◌, arith, suc, ◌+◌}
+use Rattle.std.proofs.lemmas.Bool.{and_from, not-false}
 use Rattle.arn_base.specs.declared.machine.Cpu.{Cpu}
 use Rattle.arn_base.specs.declared.records.Extra.{Extra}
 use Rattle.arn_base.specs.declared.records.Extra.TheVariants as extra
@@ -39,23 +41,7 @@ module _ (groups : Groups) (pid r p : ℕ) where
 
   fork-joins : (more : Extra) → child_joined (fork_act r more) ≡ Some p → Joins groups pid r more p
   fork-joins (extra.Start start) is = absurd (let none : None ≡ Some p = sym (neither (is_success r) (Founds r) (Returns r) refl refl) ∙ is in cc)
-  fork-joins extra.Nothing is = joins-plain extra.Nothing refl is
-  fork-joins (extra.Give give) is = joins-plain (extra.Give give) refl is
-  fork-joins (extra.Put file at bytes) is = joins-plain (extra.Put file at bytes) refl is
-  fork-joins (extra.Console bytes) is = joins-plain (extra.Console bytes) refl is
-  fork-joins (extra.Reply device bytes) is = joins-plain (extra.Reply device bytes) refl is
-  fork-joins extra.Fault is = joins-plain extra.Fault refl is
-  fork-joins extra.Absent is = joins-plain extra.Absent refl is
-  fork-joins (extra.Name file path) is = joins-plain (extra.Name file path) refl is
-  fork-joins (extra.Sent device bytes) is = joins-plain (extra.Sent device bytes) refl is
-
-both-true : (a b : Bool) → a ≡ true → b ≡ true → (a && b) ≡ true
-both-true true b yea too = too
-both-true false b yea too = absurd (let no : false ≡ true = yea in cc)
-
-not-true : (b : Bool) → not b ≡ false → b ≡ true
-not-true true is = refl
-not-true false is = absurd (let no-way : true ≡ false = is in cc)
+  fork-joins more is = joins-plain more refl is
 
 -- which is the process of the slice at hand
 record Parent (groups : Groups) (b : Behind) (e : Record) (p : ℕ) : Type 0 where
@@ -68,20 +54,14 @@ parent cpu groups b (entry.Call pid n r more) p held is =
     let found = call-in (kind_of n) cpu r p more is in
     let forks : child_joined (fork_act r more) ≡ Some p = sym (ap (λ (k : Kind). child_joined (call_act k cpu r more)) found.0) ∙ is in
     let joins = fork-joins groups pid r p more forks in
-    let both : ((n == number.FORK) && is_success r) ≡ true = both-true (n == number.FORK) (is_success r) (kind-fork n found.0) joins.success in
+    let both : ((n == number.FORK) && is_success r) ≡ true = and_from (n == number.FORK) (is_success r) (kind-fork n found.0) joins.success in
     record {
       pid = pid;
-      hand = not-true (is_behind pid b) held;
+      hand = not-false (is_behind pid b) held;
       group = ap (λ (c : Bool). (if c then group_forked pid r more groups else groups) p) both ∙ joins.group;
     }
-parent cpu groups b (entry.Signal pid signal cut handler) p held is =
-    absurd (let none : None ≡ Some p = sym (neither (handler == 0) (Dies signal cut) (Delivers signal handler cut) refl refl) ∙ is in cc)
-parent cpu groups b (entry.End pid status) p held is = absurd (let none : None ≡ Some p = is in cc)
-parent cpu groups b (entry.Boot name give) p held is = absurd (let none : None ≡ Some p = is in cc)
-parent cpu groups b (entry.File name bytes) p held is = absurd (let none : None ≡ Some p = is in cc)
-parent cpu groups b (entry.Typed bytes) p held is = absurd (let none : None ≡ Some p = is in cc)
-parent cpu groups b (entry.Unplug device) p held is = absurd (let none : None ≡ Some p = is in cc)
-parent cpu groups b (entry.Slice pid ran) p held is = absurd (let none : None ≡ Some p = is in cc)
+parent cpu groups b (entry.Signal pid signal cut handler) p held is = grind (arith, nat_tests, neither (handler == 0) (Dies signal cut) (Delivers signal handler cut) refl refl)
+parent cpu groups b _ p held is = absurd (let none : None ≡ Some p = is in cc)
 
 -- behind a slice each child that joins is of the group of the slice's process
 pub joins-own : (entries : List Record) (place : ℕ) (e : Record) (cpu : Cpu) (own p : ℕ) → first_broken entries ≡ None → place < length entries → e ≡ get_or entries place e → ((q : ℕ) → is_behind q (behind (take place entries)) ≡ true → q ≡ own) → own ≤ greatest (take place entries)

@@ -1,31 +1,30 @@
 -- The live processes of a list of processes.
-use Rattle.std.proofs.Common.{◌≡◌, ◌<◌, ◌≤◌, ◌-◌, ◌⊎◌, inl, inr, ℕ, zero, suc, ◌+◌, Bool, true, false, List, [], ◌∷◌, length, filter, cond, Option, Some, None, option_and_then, is_some, refl, ap, sym, ◌∙◌, arith}
+use Rattle.std.proofs.lemmas.Grind.{common_steps}
+use Rattle.std.proofs.lemmas.Bool.Decides.{nat_tests}
+use Rattle.std.proofs.Common.{◌≡◌, ◌<◌, ◌≤◌, ◌-◌, ℕ, zero, suc, ◌+◌, false, List, [], ◌∷◌, length, filter, cond, Option, Some, None, is_some, refl, ap, sym, ◌∙◌, arith, Bool, true, ◌⊎◌, inl, inr}
 use Rattle.std.specs.List.{range_with_len}
 use Rattle.std.proofs.lemmas.Option.{slice_get_past}
+use Rattle.std.proofs.lemmas.Bool.{false_from_ne_true, cases_Bool}
 use Rattle.parts_model.specs.Numbered.{nth}
-use Rattle.guest_bodies.specs.Shown.{Guests, IsLive, Shown}
+use Rattle.guest_bodies.specs.Shown.{Guests, IsLive}
 use Rattle.arn_base.specs.declared.records.Record.{Record}
 use Rattle.history_index.specs.Lookups.{members_of}
-use Rattle.history_model.specs.Broken.{Behind, Nowhere, behind_record, first_broken, greatest, greatest_after, greatest_from}
-use Rattle.history_model.specs.Groups.{Groups, group_of, groups_from, groups_told, is_number}
+use Rattle.history_model.specs.Broken.{Nowhere, first_broken, greatest, Behind, behind_record, greatest_after, greatest_from}
+use Rattle.history_model.specs.Groups.{group_of, Groups, groups_from, groups_told, is_number}
 use Rattle.replayer.specs.Lives.{live_in}
 use Rattle.replayer.specs.Parts.{LivesIn}
-use Rattle.replayer.proofs.Own.{either, kept-all, same-test, told-above}
-use Rattle.replayer.proofs.Sound.{Sound, grows-all, sound}
+use Rattle.replayer.proofs.Own.{kept-all, same-test, told-above}
+use Rattle.replayer.proofs.Sound.{sound, Sound, grows-all}
 
 -- those with numbers from one on, so many
 abbrev pub lives_from : Guests → ℕ → ℕ → List ℕ
 lives_from guests a n = filter (λ p. is_some (nth guests p)) (range_with_len a n)
 
-if-dead : (b : Bool) → (b ≡ true → ⊥) → b ≡ false
-if-dead true = λ no. absurd (no refl)
-if-dead false = λ no. refl
-
 module _ (guests : Guests) where
   none-live : (a k : ℕ) → ((p : ℕ) → a ≤ p → IsLive guests p → ⊥) → lives_from guests a k ≡ []
   none-live a zero dead = refl
   none-live a (suc k) dead =
-      let here : is_some (nth guests a) ≡ false = if-dead (is_some (nth guests a)) (dead a (omega arith)) in
+      let here : is_some (nth guests a) ≡ false = false_from_ne_true (is_some (nth guests a)) (dead a (omega arith)) in
       rw here (none-live (a + 1) k (λ p le live. dead p (omega arith) live))
 
   lives-cut : (a n k : ℕ) → ((p : ℕ) → a + n ≤ p → IsLive guests p → ⊥) → lives_from guests a (n + k) ≡ lives_from guests a n
@@ -43,43 +42,23 @@ module _ (guests : Guests) where
       ap (lives_from guests 0) same ∙ lives-cut 0 n (m - n) (λ p past live. let lt = below p live in omega arith)
 
   below-length : (p : ℕ) → IsLive guests p → p < length guests
-  below-length p live =
-      elim (either p (length guests)) [
-        | inl lt ↦ lt
-        | inr past ↦
-            let gone : is_some (nth guests p) ≡ false = ap (λ (o : Option (Option Shown)). is_some (option_and_then (λ (s : Option Shown). s) o)) (slice_get_past guests p past) in
-            absurd (let no : true ≡ false = sym live ∙ gone in cc)
-      ]
-    where
-      either : (p n : ℕ) → (p < n) ⊎ (n ≤ p)
-      either p zero = inr (omega arith)
-      either zero (suc n) = inl (omega arith)
-      either (suc p) (suc n) = elim (either p n) [ inl lt ↦ inl (omega arith) | inr le ↦ inr (omega arith) ]
+  below-length p h1 = grind (arith, nat_tests, slice_get_past)
 
   -- all of them have numbers below one
   pub lives-below : (n : ℕ) → ((p : ℕ) → IsLive guests p → p < n) → lives_from guests 0 n ≡ live_in guests
-  lives-below n below =
-      elim (least n (length guests)) [
-        | inl le ↦ sym (lives-within n (length guests) le below)
-        | inr le ↦ lives-within (length guests) n le below-length
-      ]
-    where
-      least : (n m : ℕ) → (n ≤ m) ⊎ (m ≤ n)
-      least zero m = inl (omega arith)
-      least (suc n) zero = inr (omega arith)
-      least (suc n) (suc m) = elim (least n m) [ inl le ↦ inl (omega arith) | inr le ↦ inr (omega arith) ]
+  lives-below n h1 = grind (arith, nat_tests, lives-within, below-length)
 
 -- those of which each passes another test too
 filter-both : (live own : ℕ → Bool) (xs : List ℕ) → ((p : ℕ) → live p ≡ true → own p ≡ true) → filter live (filter own xs) ≡ filter live xs
 filter-both live own [] passes = refl
 filter-both live own (x ∷ xs) passes =
     let rest = filter-both live own xs passes in
-    elim (either (own x)) [
+    elim (cases_Bool (own x)) [
       | inl is ↦
           ap (λ (b : Bool). filter live (cond b (x ∷ filter own xs) (filter own xs))) is
           ∙ ap (λ (ys : List ℕ). cond (live x) (x ∷ ys) ys) rest
       | inr isnt ↦
-          let dead : live x ≡ false = if-dead (live x) (λ is. absurd (let no : true ≡ false = sym (passes x is) ∙ isnt in cc)) in
+          let dead : live x ≡ false = false_from_ne_true (live x) (λ is. absurd (let no : true ≡ false = sym (passes x is) ∙ isnt in cc)) in
           ap (λ (b : Bool). filter live (cond b (x ∷ filter own xs) (filter own xs))) isnt
           ∙ (rest ∙ sym (ap (λ (b : Bool). cond b (x ∷ filter live xs) (filter live xs)) dead))
     ]
@@ -95,9 +74,7 @@ none-some : (g : ℕ) (o : Option ℕ) → o ≡ None → o ≡ Some g → ⊥
 none-some g o none some = let no : None ≡ Some g = sym none ∙ some in cc
 
 split : (p n : ℕ) → (p ≤ n) ⊎ (n < p)
-split zero n = inl (omega arith)
-split (suc p) zero = inr (omega arith)
-split (suc p) (suc n) = elim (split p n) [ inl le ↦ inl (omega arith) | inr lt ↦ inr (omega arith) ]
+split p n = grind (arith, common_steps, nat_tests)
 
 -- where the live processes are of a group, they are its members that live
 module _ (entries : List Record) (g most : ℕ) (guests : Guests) (stands : first_broken entries ≡ None) (lives : LivesIn entries (Some g) most guests) where
@@ -109,7 +86,7 @@ module _ (entries : List Record) (g most : ℕ) (guests : Guests) (stands : firs
       ]
 
   no-zero : is_some (nth guests 0) ≡ false
-  no-zero = if-dead (is_some (nth guests 0)) (λ live. none-some g (group_of entries 0) (kept-all entries Nowhere 0 (λ q. None) 0 (sound entries stands) (omega arith)) (lives.member 0 live))
+  no-zero = false_from_ne_true (is_some (nth guests 0)) (λ live. none-some g (group_of entries 0) (kept-all entries Nowhere 0 (λ q. None) 0 (sound entries stands) (omega arith)) (lives.member 0 live))
 
   pub members-live : filter (λ p. is_some (nth guests p)) (members_of entries g) ≡ live_in guests
   members-live =

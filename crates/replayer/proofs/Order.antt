@@ -1,12 +1,15 @@
 -- In which order the event that begins a group and its slices stand.
-use Rattle.std.proofs.Common.{◌≡◌, ◌<◌, ◌≤◌, ℕ, zero, suc, ◌+◌, Bool, true, false, List, [], ◌∷◌, length, take, drop, get_or, filter, cond, Some, None, inl, inr, refl, ap, sym, subst, ◌∙◌, arith}
+use Rattle.std.proofs.lemmas.Grind.{common_steps}
+use Rattle.std.proofs.lemmas.Bool.Decides.{nat_tests}
+use Rattle.std.proofs.Common.{◌≡◌, ◌<◌, ◌≤◌, ℕ, suc, ◌+◌, Bool, true, false, List, [], ◌∷◌, length, take, drop, get_or, filter, cond, Some, None, refl, ap, sym, ◌∙◌, arith, inl, inr}
 use Rattle.std.specs.List.{position_from}
 use Rattle.std.proofs.lemmas.Iterator.Adapters.{position_from-zero}
+use Rattle.std.proofs.lemmas.Bool.{cases_Bool}
 use Rattle.arn_base.specs.declared.records.Record.{Record}
 use Rattle.arn_base.specs.declared.records.Record.TheVariants as entry
 use Rattle.history_index.specs.declared.slices.SliceAt.{SliceAt}
 use Rattle.history_index.specs.Lookups.{founding_event, founds, slices_from, slices_of}
-use Rattle.history_model.specs.Broken.{behind, first_broken, greatest, greatest_after}
+use Rattle.history_model.specs.Broken.{first_broken, greatest, greatest_after, behind}
 use Rattle.history_model.specs.Events.{events}
 use Rattle.history_model.specs.Groups.{Groups, group_of, is_number}
 use Rattle.replayer.specs.Foundings.{event_behind}
@@ -14,7 +17,7 @@ use Rattle.replayer.specs.Parts.{part_len}
 use Rattle.replayer.proofs.BySlices.{drop-next}
 use Rattle.replayer.proofs.Kept.{group-kept, groups-next, groups_at}
 use Rattle.replayer.proofs.Loops.{greatest-snoc}
-use Rattle.replayer.proofs.Own.{either, founder-next, told-none}
+use Rattle.replayer.proofs.Own.{founder-next, told-none}
 use Rattle.replayer.proofs.Sound.{fits, grows, there}
 
 -- a slice of the group, behind so many records, events and instructions
@@ -37,23 +40,7 @@ Rising entries g place event moment (s ∷ slices) =
 
 pub rising-weaker : (entries : List Record) (g place event moment place' event' moment' : ℕ) (slices : List SliceAt) → place' ≤ place → event' ≤ event → moment' ≤ moment → Rising entries g place event moment slices → Rising entries g place' event' moment' slices
 rising-weaker entries g place event moment place' event' moment' [] le le' le'' rising = tt
-rising-weaker entries g place event moment place' event' moment' (s ∷ slices) le le' le'' rising =
-    let after = rising.0.after in
-    let later = rising.0.later in
-    let latest = rising.0.latest in (
-      record {
-        some = rising.0.some;
-        after = omega (arith, after, le);
-        later = omega (arith, later, le');
-        latest = omega (arith, latest, le'');
-        early = rising.0.early;
-        inside = rising.0.inside;
-        here = rising.0.here;
-        founded = rising.0.founded;
-        member = rising.0.member;
-      },
-      rising.1,
-    )
+rising-weaker entries g place event moment place' event' moment' (s ∷ slices) le le' le'' rising = grind (arith, nat_tests)
 
 -- more processes come
 pub greatest-more : (entries : List Record) (place : ℕ) → place < length entries → greatest (take place entries) ≤ greatest (take (place + 1) entries)
@@ -61,14 +48,10 @@ greatest-more entries place lt =
     let e = there entries place lt in
     let one : place + 1 ≡ suc place = omega arith in
     let many : greatest (take (place + 1) entries) ≡ greatest_after e.0 (greatest (take place entries)) = ap (λ (j : ℕ). greatest (take j entries)) one ∙ greatest-snoc 0 entries place e.0 lt e.1 in
-    let up = grows e.0 (greatest (take place entries)) in
-    omega (arith, many, up)
+    omega (arith, many, grows e.0 (greatest (take place entries)))
 
 pub here-is : (xs : List Record) (k : ℕ) (e : Record) (rest : List Record) → e ∷ rest ≡ drop k xs → e ≡ get_or xs k e
-here-is [] zero e rest is = refl
-here-is [] (suc k) e rest is = refl
-here-is (x ∷ xs) zero e rest is = let same : e ∷ rest ≡ x ∷ xs = is in cc
-here-is (x ∷ xs) (suc k) e rest is = here-is xs k e rest is
+here-is xs k e rest h1 = grind (arith, common_steps, nat_tests)
 
 module _ (entries : List Record) (g : ℕ) where
   if-kept : (b : Bool) (place event moment : ℕ) (s : SliceAt) (slices : List SliceAt) → (b ≡ true → Rising entries g place event moment (s ∷ slices)) → Rising entries g place event moment slices → Rising entries g place event moment (cond b (s ∷ slices) slices)
@@ -85,26 +68,7 @@ module _ (entries : List Record) (g : ℕ) where
     slice-rising : (p r place moment event : ℕ) (rest : List Record) → entry.Slice p r ∷ rest ≡ drop place entries → place < length entries → event ≤ place → g ≤ greatest (take place entries)
         → Rising entries g (part_len rest + (place + 1)) (event + 0 + part_len rest) (moment + r) (filter (λ (s : SliceAt). is_number g (group_of entries s.pid)) (slices_from (place + 1) (moment + r) (event + 0) rest))
         → Rising entries g (0 + place) (event + 0) moment (filter (λ (s : SliceAt). is_number g (group_of entries s.pid)) (record { place = place; moment = moment; pid = p; ran = r; event = event } ∷ slices_from (place + 1) (moment + r) (event + 0) rest))
-    slice-rising p r place moment event rest at lt early founded rising =
-        let s : SliceAt = record { place = place; moment = moment; pid = p; ran = r; event = event } in
-        let slices = filter (λ (s : SliceAt). is_number g (group_of entries s.pid)) (slices_from (place + 1) (moment + r) (event + 0) rest) in
-        if-kept (is_number g (group_of entries p)) (0 + place) (event + 0) moment s slices
-        (λ (member : is_number g (group_of entries p) ≡ true). (
-          record {
-            some = some;
-            after = omega arith;
-            later = omega arith;
-            latest = omega arith;
-            early = early;
-            inside = lt;
-            here = here-is entries place (entry.Slice p r) rest at;
-            founded = founded;
-            member = member;
-          },
-          subst (λ (es : List Record). Rising entries g (part_len es + (place + 1)) (event + part_len es) moment slices) (drop-next entries place (entry.Slice p r) rest at)
-              (rising-weaker entries g (part_len rest + (place + 1)) (event + 0 + part_len rest) (moment + r) (part_len rest + (place + 1)) (event + part_len rest) moment slices (omega arith) (omega arith) (omega arith) rising),
-        ))
-        (rising-weaker entries g (part_len rest + (place + 1)) (event + 0 + part_len rest) (moment + r) (0 + place) (event + 0) moment slices (omega arith) (omega arith) (omega arith) rising)
+    slice-rising p r place moment event rest h1 h2 h3 h4 h5 = grind (arith, nat_tests, if-kept, here-is, drop-next, rising-weaker)
 
     more : (place left : ℕ) → suc left + place ≡ length entries → g ≤ greatest (take place entries) → g ≤ greatest (take (place + 1) entries)
     more place left many founded = let lt : place < length entries = omega (arith, many) in let up = greatest-more entries place lt in omega (arith, up, founded)
@@ -149,7 +113,7 @@ module _ (entries : List Record) (g : ℕ) where
     founding place moment event e rest at many early none found goes-on =
         let lt : place < length entries = omega (arith, many) in
         let is : e ≡ get_or entries place e = here-is entries place e rest at in
-        elim (either (founds g e)) [
+        elim (cases_Bool (founds g e)) [
           | inl begins ↦
               let first = founder-next (behind (take place entries)) (greatest (take place entries)) g e (fits entries stands place e lt is) begins in
               let one : place + 1 ≡ suc place = omega arith in

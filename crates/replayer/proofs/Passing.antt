@@ -1,5 +1,6 @@
 -- A replay passes over records of other groups.
-use Rattle.std.proofs.Common.{◌≡◌, ℕ, ◌+◌, ◌-◌, ◌==◌, ◌&&◌, ◌||◌, option_and_then, min, Bool, true, false, if◌then◌else◌, inl, inr, Some, None, refl, ap, sym, ◌∙◌, arith}
+use Rattle.std.proofs.lemmas.Bool.Decides.{nat_tests}
+use Rattle.std.proofs.Common.{◌≡◌, ℕ, ◌+◌, ◌-◌, ◌==◌, ◌&&◌, ◌||◌, option_and_then, Bool, true, false, if◌then◌else◌, Some, None, refl, ap, ◌∙◌, arith}
 use Rattle.std.proofs.lemmas.Bool.{or_parts}
 use Rattle.std.proofs.lemmas.Bool.Decides.{eqb_tells}
 use Rattle.arn_base.specs.declared.records.Extra.{Extra}
@@ -12,13 +13,20 @@ use Rattle.parts_model.specs.Replies.{is_success}
 use Rattle.acts_model.specs.Records.{process_of}
 use Rattle.history_index.specs.Lookups.{founds, events_in}
 use Rattle.history_model.specs.Alone as alone
-use Rattle.history_model.specs.Alone.{Standing, Own, Made, Makes, Fails, and_then, replayed, settled}
+use Rattle.history_model.specs.Alone.{Standing, Own, Made, Makes, Fails, and_then, settled}
 use Rattle.history_model.specs.Groups.{Groups, group_forked, groups_told, is_number}
 use Rattle.history_model.specs.Moments.{ran_in}
 
 -- whether a record is a group's own, where processes have these groups: it begins the group, or its process is of it
 abbrev pub is_own : ℕ → Groups → Record → Bool
 is_own group groups e = founds group e || is_number group (option_and_then groups (process_of e))
+
+pub no-way : {A : Type 0} → false ≡ true → A
+no-way e = absurd (let no : false ≡ true = e in cc)
+
+pub and-true : (a b : Bool) → b ≡ true → (a && b) ≡ a
+and-true true b is = is
+and-true false b is = refl
 
 -- nothing more is made
 makes-same : (made : Made) (next : Own → Made) → ((own : Own) → next own ≡ Makes own) → and_then made next ≡ made
@@ -40,15 +48,7 @@ settled-same t none =
 
 -- the child of a fork begins another group, or none
 pub first-not : (g r : ℕ) → is_number g (if g == r then Some r else None) ≡ false → (r == g) ≡ false
-first-not g r none =
-    elim (eqb_tells r g) [
-      | inl k ↦
-          let same : (g == g) ≡ true = sym (ap (λ (x : ℕ). x == g) k.1) ∙ k.0 in
-          let is : is_number g (if g == r then Some r else None) ≡ true =
-          ap (λ (x : ℕ). is_number g (if g == x then Some x else None)) k.1 ∙ (ap (λ (b : Bool). is_number g (if b then Some g else None)) same ∙ same) in
-          absurd (let no : true ≡ false = sym is ∙ none in cc)
-      | inr k ↦ k.0
-    ]
+first-not g r none = grind (arith, eqb_tells r g)
 
 begins-not : (g r event : ℕ) (e : Record) (start : Start) (own : Own) → (r == g) ≡ false → alone.begins_if g r event e (Some start) own ≡ Makes own
 begins-not g r event e start own not = ap (λ (b : Bool). if b then Makes (alone.begins g event e start own) else Makes own) not
@@ -61,15 +61,7 @@ begins-other false g pid r event e start own none = refl
 module _ (g pid number r event : ℕ) (own : Own) where
   pub call-begins : (more : Extra) → founds g (entry.Call pid number r more) ≡ false → alone.begins_by g event (entry.Call pid number r more) own ≡ Makes own
   call-begins (extra.Start start) none = begins-other ((number == FORK) && is_success r) g pid r event (entry.Call pid number r (extra.Start start)) start own none
-  call-begins extra.Nothing none = refl
-  call-begins (extra.Give give) none = refl
-  call-begins (extra.Put file at bytes) none = refl
-  call-begins (extra.Console bytes) none = refl
-  call-begins (extra.Reply device bytes) none = refl
-  call-begins extra.Fault none = refl
-  call-begins extra.Absent none = refl
-  call-begins (extra.Name file path) none = refl
-  call-begins (extra.Sent device bytes) none = refl
+  call-begins _ none = refl
 
 -- one record of another group makes nothing, and owes nothing
 pub record Passes (t t' : Standing) : Type 0 where
@@ -81,47 +73,11 @@ if-zero true n none = refl
 if-zero false n none = none
 
 pub boot-not : (g : ℕ) → is_number g (if g == 1 then Some 1 else None) ≡ false → (g == 1) ≡ false
-boot-not g isnt =
-    elim (eqb_tells g 1) [
-      | inl k ↦
-          let is : is_number g (if g == 1 then Some 1 else None) ≡ true =
-          ap (λ (b : Bool). is_number g (if b then Some 1 else None)) k.0 ∙ ap (λ (x : ℕ). 1 == x) k.1 in
-          absurd (let nay : true ≡ false = sym is ∙ isnt in cc)
-      | inr k ↦ k.0
-    ]
+boot-not g isnt = grind (arith, eqb_tells g 1)
 
 module _ (g until : ℕ) (t : Standing) (none : t.owed ≡ 0) where
   pub passes : (e : Record) → is_own g t.groups e ≡ false → Passes t (alone.after_record g until t e)
-  passes (entry.File name bytes) other = record { made = refl; owed = none }
-  passes (entry.Typed bytes) other = record { made = refl; owed = none }
-  passes (entry.Unplug device) other = record { made = refl; owed = none }
-  passes (entry.Boot name give) other =
-      let parts = or_parts (founds g (entry.Boot name give)) (is_number g (t.groups 1)) other in
-      let not : (g == 1) ≡ false = boot-not g parts.0 in
-      record { made = made-if-not t.is_ended (g == 1) t.made (alone.boots t.events (entry.Boot name give)) not; owed = none }
-  passes (entry.Slice pid ran) other =
-      let not = (or_parts (founds g (entry.Slice pid ran)) (is_number g (t.groups pid)) other).1 in
-      record { made = settled-same t none; owed = ap (λ (b : Bool). if b then min ran (until - t.moment) else 0) not }
-  passes (entry.Signal pid signal cut handler) other =
-      let e = entry.Signal pid signal cut handler in
-      let not = (or_parts (founds g e) (is_number g (t.groups pid)) other).1 in
-      record { made = made-if-not t.is_begun (is_number g (t.groups pid)) t.made (alone.happens pid t.events e) not; owed = none }
-  passes (entry.Call pid number r more) other =
-      let e = entry.Call pid number r more in
-      let parts = or_parts (founds g e) (is_number g (t.groups pid)) other in
-      record {
-        made = made-if-same t.is_ended _ (alone.begins_by g t.events e) (λ own. call-begins g pid number r t.events own more parts.0)
-            ∙ made-if-not t.is_ended (is_number g (t.groups pid)) t.made (alone.ends_slice (alone.slice_of t) t.owed e) parts.1;
-        owed = if-zero t.is_ended t.owed none;
-      }
-  passes (entry.End pid status) other =
-      let e = entry.End pid status in
-      let parts = or_parts (founds g e) (is_number g (t.groups pid)) other in
-      record {
-        made = made-if-same t.is_ended _ (alone.begins_by g t.events e) (λ own. refl)
-            ∙ made-if-not t.is_ended (is_number g (t.groups pid)) t.made (alone.ends_slice (alone.slice_of t) t.owed e) parts.1;
-        owed = if-zero t.is_ended t.owed none;
-      }
+  passes e h1 = grind (arith, nat_tests, or_parts, made-if-not, boot-not, settled-same, made-if-same, call-begins, if-zero)
 
 -- each record counts
 pub record Counts (t : Standing) (told : Groups) (many ran : ℕ) (t' : Standing) : Type 0 where
@@ -130,11 +86,5 @@ pub record Counts (t : Standing) (told : Groups) (many ran : ℕ) (t' : Standing
   pub moment : t'.moment ≡ t.moment + ran
 
 pub counts-one : (g until : ℕ) (t : Standing) (e : Record) → Counts t (groups_told e t.groups) (events_in e) (ran_in e) (alone.after_record g until t e)
-counts-one g until t (entry.File name bytes) = record { groups = refl; events = refl; moment = omega arith }
-counts-one g until t (entry.Boot name give) = record { groups = refl; events = refl; moment = omega arith }
-counts-one g until t (entry.Typed bytes) = record { groups = refl; events = refl; moment = omega arith }
-counts-one g until t (entry.Unplug device) = record { groups = refl; events = refl; moment = omega arith }
 counts-one g until t (entry.Slice pid ran) = record { groups = refl; events = omega arith; moment = refl }
-counts-one g until t (entry.Signal pid signal cut handler) = record { groups = refl; events = refl; moment = omega arith }
-counts-one g until t (entry.Call pid number r more) = record { groups = refl; events = refl; moment = omega arith }
-counts-one g until t (entry.End pid status) = record { groups = refl; events = refl; moment = omega arith }
+counts-one g until t _ = record { groups = refl; events = refl; moment = omega arith }

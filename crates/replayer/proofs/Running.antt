@@ -1,28 +1,25 @@
 -- How a slice is run, and what stands behind it done.
-use Rattle.std.proofs.Common.{◌≡◌, ◌≢◌, ◌<◌, ◌≤◌, ◌^◌, ℕ, suc, ◌+◌, ◌==◌, ◌&&◌, ◌⊎◌, max, if◌then◌else◌, inl, inr, Bool, true, false, List, [], ◌∷◌, length, take, drop, get_or, Option, Some, None, IfSome, IsNone, option_and_then, is_some, refl, ap, sym, subst, ◌∙◌, arith}
-use Rattle.std.proofs.lemmas.List.{append-nil}
-use Rattle.std.proofs.lemmas.Bool.{eqb-true}
+use Rattle.std.proofs.lemmas.Grind.{common_steps}
+use Rattle.std.proofs.lemmas.Bool.Decides.{nat_tests}
+use Rattle.std.proofs.Common.{◌≡◌, ◌≢◌, ◌<◌, ◌≤◌, ◌^◌, ℕ, suc, ◌+◌, ◌⊎◌, inl, inr, Bool, true, false, List, [], ◌∷◌, length, take, drop, get_or, Option, Some, None, IfSome, IsNone, option_and_then, is_some, refl, ap, sym, subst, ◌∙◌, arith, append-nil, eqb-true}
 use Rattle.std.proofs.lemmas.Bool.Decides.{eqb_tells}
-use Rattle.parts_model.specs.declared.calls.TheConstants.{FORK}
-use Rattle.parts_model.specs.Replies.{is_success}
 use Rattle.arn_base.specs.declared.machine.Cpu.{Cpu}
 use Rattle.arn_base.specs.declared.records.Record.{Record}
 use Rattle.arn_base.specs.declared.records.Record.TheVariants as entry
 use Rattle.parts_model.specs.Numbered.{nth}
-use Rattle.acts_model.specs.Acts.{Act, Returns, Receives, Gives, Starts, Forks, Founds, Shares, Leaves, Delivers, Exits, Faults, Dies}
+use Rattle.acts_model.specs.Acts.{Act, Forks}
 use Rattle.acts_model.specs.Records.{is_event}
 use Rattle.acts_model.specs.Told.{act_of}
 use Rattle.guest_bodies.specs.Shown.{Guests, IsLive}
 use Rattle.history_model.specs.Alone as alone
-use Rattle.history_model.specs.Alone.{Own, Made, Makes, Fails, and_then}
+use Rattle.history_model.specs.Alone.{Own, Made, Makes, and_then}
 use Rattle.history_model.specs.Broken.{ASlice, Nowhere, behind, behind_record, child_in, first_broken, greatest, greatest_after, is_behind}
 use Rattle.history_model.specs.Groups.{group_of}
 use Rattle.replay_steps.specs.Calls.{ChildIsFree, child_joined}
 use Rattle.replay_steps.specs.Notices.{Listener}
 use Rattle.replay_steps.specs.Plain.{slice_of}
-use Rattle.replay_steps.specs.Standing.{Explains, GainsOnly, IsStanding, KeepsLives, Reaches, Stands}
+use Rattle.replay_steps.specs.Standing.{Explains, GainsOnly, KeepsLives, Reaches, Stands}
 use Rattle.replay_steps.specs.declared.errors.ReplayError.{ReplayError}
-use Rattle.replay_steps.specs.declared.errors.ReplayError.TheVariants as replay_error
 use Rattle.replayer.specs.Parts.{LivesIn, made_after, part_after, part_len, part_made}
 use Rattle.replayer.specs.declared.parts.Part.{Part}
 use Rattle.replayer.proofs.Children.{joined-in}
@@ -34,15 +31,9 @@ use Rattle.replayer.proofs.Sound.{behind-snoc, drop-more, fits, grows}
 use Rattle.replayer.proofs.Unbroken.{can-follow, child-next, greatest-few, tests}
 
 -- what stands behind, one record after the other
-made-event : (p : Part) (e : Record) (rest : List Record) (own : Own) → is_event e ≡ true → part_made p (e ∷ rest) own ≡ and_then (made_after p e own) (part_made (part_after p e) rest)
+pub made-event : (p : Part) (e : Record) (rest : List Record) (own : Own) → is_event e ≡ true → part_made p (e ∷ rest) own ≡ and_then (made_after p e own) (part_made (part_after p e) rest)
 made-event p (entry.Slice pid ran) rest own is = absurd (let no-way : false ≡ true = is in cc)
-made-event p (entry.File name bytes) rest own is = refl
-made-event p (entry.Boot name give) rest own is = refl
-made-event p (entry.Typed bytes) rest own is = refl
-made-event p (entry.Unplug device) rest own is = refl
-made-event p (entry.Signal pid signal cut handler) rest own is = refl
-made-event p (entry.Call pid number r more) rest own is = refl
-made-event p (entry.End pid status) rest own is = refl
+made-event p _ rest own is = refl
 
 some-more : (n : ℕ) → n + 1 ≡ 0 → ⊥
 some-more n is = omega (arith, is)
@@ -50,69 +41,32 @@ some-more n is = omega (arith, is)
 made-none : (p : Part) (rest : List Record) (own : Own) → part_len rest ≡ 0 → part_made p rest own ≡ alone.plains (slice_of p.turn) 0 p.owed own
 made-none p [] own is = refl
 made-none p (entry.Slice pid ran ∷ rest) own is = refl
-made-none p (entry.File name bytes ∷ rest) own is = absurd (some-more (part_len rest) is)
-made-none p (entry.Boot name give ∷ rest) own is = absurd (some-more (part_len rest) is)
-made-none p (entry.Typed bytes ∷ rest) own is = absurd (some-more (part_len rest) is)
-made-none p (entry.Unplug device ∷ rest) own is = absurd (some-more (part_len rest) is)
-made-none p (entry.Signal pid signal cut handler ∷ rest) own is = absurd (some-more (part_len rest) is)
-made-none p (entry.Call pid number r more ∷ rest) own is = absurd (some-more (part_len rest) is)
-made-none p (entry.End pid status ∷ rest) own is = absurd (some-more (part_len rest) is)
+made-none p (e ∷ rest) own is = absurd (some-more (part_len rest) is)
 
 -- a child is the next process, so that it can be made
 module _ (entries : List Record) (group : Option ℕ) (guests : Guests) (n : ℕ) (lives : LivesIn entries group n guests) (few : n + 1 < 2 ^ 32) where
   dead-above : (c : ℕ) → c ≡ n + 1 → IsNone (nth guests c)
-  dead-above c is = by (is_some (nth guests c)) refl
-    where
-      by : (b : Bool) → is_some (nth guests c) ≡ b → IsNone (nth guests c)
-      by true live = let le = lives.below c live in absurd (omega (arith, is, le))
-      by false dead = dead
+  dead-above c h1 = grind (arith, nat_tests)
 
   free-act : (e : Record) (o : Option Act) → IfSome (child_in e) (λ c. c ≡ n + 1) → ((p : ℕ) → option_and_then child_joined o ≡ Some p → child_in e ≡ Some p) → IfSome o (ChildIsFree guests)
-  free-act e None child joined = tt
   free-act e (Some (Forks c)) child joined =
       let next : c ≡ n + 1 = subst (λ (o : Option ℕ). IfSome o (λ (k : ℕ). k ≡ n + 1)) (joined c refl) child in
       record { fits = omega (arith, next, few); dead = dead-above c next }
-  free-act e (Some (Returns r)) child joined = tt
-  free-act e (Some (Receives at bytes r)) child joined = tt
-  free-act e (Some (Gives at len r)) child joined = tt
-  free-act e (Some (Starts file block len)) child joined = tt
-  free-act e (Some (Founds c)) child joined = tt
-  free-act e (Some Shares) child joined = tt
-  free-act e (Some Leaves) child joined = tt
-  free-act e (Some (Delivers signal handler cut)) child joined = tt
-  free-act e (Some Exits) child joined = tt
-  free-act e (Some (Faults status)) child joined = tt
-  free-act e (Some (Dies signal cut)) child joined = tt
+  free-act e _ child joined = tt
 
   pub child-free : (e : Record) → IfSome (child_in e) (λ c. c ≡ n + 1) → (cpu : Cpu) → IfSome (act_of cpu e) (ChildIsFree guests)
   child-free e child cpu = free-act e (act_of cpu e) child (joined-in cpu e)
 
 -- who lives then
 child-after : (e : Record) (n c : ℕ) → child_in e ≡ Some c → c ≡ n + 1 → c ≤ greatest_after e n
-child-after (entry.Call pid number r more) n c is next = by ((number == FORK) && is_success r) is
-  where
-    by : (forks : Bool) → (if forks then Some r else None) ≡ Some c → c ≤ (if forks then max n r else n)
-    by true some = let same : r ≡ c = cc in omega (arith, same)
-    by false none = absurd (let no-way : None ≡ Some c = none in cc)
-child-after (entry.Slice pid ran) n c is next = absurd (let no-way : None ≡ Some c = is in cc)
-child-after (entry.File name bytes) n c is next = absurd (let no-way : None ≡ Some c = is in cc)
-child-after (entry.Boot name give) n c is next = absurd (let no-way : None ≡ Some c = is in cc)
-child-after (entry.Typed bytes) n c is next = absurd (let no-way : None ≡ Some c = is in cc)
-child-after (entry.Unplug device) n c is next = absurd (let no-way : None ≡ Some c = is in cc)
-child-after (entry.Signal pid signal cut handler) n c is next = absurd (let no-way : None ≡ Some c = is in cc)
-child-after (entry.End pid status) n c is next = absurd (let no-way : None ≡ Some c = is in cc)
+child-after e n c h1 h2 = grind (arith, nat_tests)
 
 lived-was : (a b : Bool) → (a ≡ false → b ≡ false) → b ≡ true → a ≡ true
 lived-was true b dead live = refl
 lived-was false b dead live = absurd (let no-way : false ≡ true = sym (dead refl) ∙ live in cc)
 
 alive : (child : Option ℕ) (was is : Bool) (p : ℕ) → (child ≢ Some p → was ≡ false → is ≡ false) → is ≡ true → (was ≡ true) ⊎ (child ≡ Some p)
-alive None was is p dead live = inl (lived-was was is (dead (λ (some : None ≡ Some p). absurd (let no-way : None ≡ Some p = some in cc))) live)
-alive (Some c) was is p dead live =
-    elim (eqb_tells c p) [
-      | inl k ↦ inr (ap Some k.1)
-      | inr k ↦ inl (lived-was was is (dead (λ (same : Some c ≡ Some p). k.1 (let e : c ≡ p = cc in e))) live)
-    ]
+alive child was is p h1 h2 = grind (arith, nat_tests, lived-was, eqb_tells)
 
 -- who lives lived before, or is the child
 pub lived-or : (child : Option ℕ) (old new : Guests) (p : ℕ) → GainsOnly child old new → IsLive new p → (IsLive old p) ⊎ (child ≡ Some p)
@@ -141,11 +95,7 @@ module _ (entries : List Record) (group : Option ℕ) (old new : Guests) (n : �
           child-after e n p told (subst (λ (o : Option ℕ). IfSome o (λ (k : ℕ). k ≡ n + 1)) told child)
 
   pub lives-settled : KeepsLives old new → LivesIn entries group n new
-  lives-settled keeps =
-      record {
-        below = λ (p : ℕ) (live : IsLive new p). lives.below p (lived-was (is_some (nth old p)) (is_some (nth new p)) (keeps.dead p) live);
-        member = λ (p : ℕ) (live : IsLive new p). lives.member p (lived-was (is_some (nth old p)) (is_some (nth new p)) (keeps.dead p) live);
-      }
+  lives-settled h1 = grind (arith, nat_tests, lived-was)
 
 -- what was made so far, and what is left
 pub record Running {A : Type 0} (l : Listener A) (x : A) (n : ℕ) (entries : List Record) (first : Part) (from : ℕ) (own : Own) (place : ℕ) (p : Part) (guests : Guests) (y : A) (m : ℕ) : Type 0 where
@@ -171,11 +121,7 @@ module _ (entries : List Record) (s : ℕ) (pid ran : ℕ) (stands : first_broke
       sym (eqb-true pid q (sym (ap (is_behind q) here) ∙ hand))
 
   pub slice-made-up : pid ≤ greatest (take (s + 1) entries)
-  slice-made-up =
-      let made = (fits entries stands s (entry.Slice pid ran) lt is).made in
-      let one : s + 1 ≡ suc s = omega arith in
-      let many : greatest (take (s + 1) entries) ≡ greatest (take s entries) = ap (λ (j : ℕ). greatest (take j entries)) one ∙ greatest-snoc 0 entries s (entry.Slice pid ran) lt is in
-      omega (arith, made, many)
+  slice-made-up = grind (arith, greatest-snoc 0 entries s (entry.Slice pid ran) lt is, fits entries stands s (entry.Slice pid ran))
 
 pub part-begins : {A : Type 0} (l : Listener A) (x : A) (n : ℕ) (entries : List Record) (guests : Guests) (first : Part) (from : ℕ) → ((q : ℕ) → is_behind q (behind (take from entries)) ≡ true → q ≡ first.turn.pid) → first.turn.pid ≤ greatest (take from entries)
     → LivesIn entries (group_of entries first.turn.pid) (greatest (take from entries)) guests → InPart l x n entries guests first from from first guests x n
@@ -201,10 +147,6 @@ part-begins l x n entries guests first from hand made lives =
     }
 
 module _ {A : Type 0} (l : Listener A) (x y : A) (n m : ℕ) (entries : List Record) (before guests : Guests) (first p : Part) (from place : ℕ) (in-part : InPart l x n entries before first from place p guests y m) where
-  pub part-standing : IsStanding before first.turn.event → IsStanding guests p.turn.event
-  part-standing standing =
-      let run = in-part.runs standing.own standing.stands in record { own = run.reaches.own'; stands = run.reaches.stands }
-
   module _ (e : Record) (stands : first_broken entries ≡ None) (few : length entries < 2 ^ 32) (lt : place < length entries) (is : e ≡ get_or entries place e) where
     pub part-child : IfSome (child_in e) (λ c. c ≡ greatest (take place entries) + 1)
     part-child = child-next (take place entries) e (tests (take place entries) e (can-follow [] entries place e stands lt is))
@@ -222,11 +164,7 @@ module _ {A : Type 0} (l : Listener A) (x y : A) (n m : ℕ) (entries : List Rec
       event = let within = in-part.within in part-inside entries place e lt is (omega (arith, inside, within))
 
       made-next : (own : Own) → part_made p (drop place entries) own ≡ and_then (made_after p e own) (part_made (part_after p e) (drop (place + 1) entries))
-      made-next own =
-          let one : place + 1 ≡ suc place = omega arith in
-          ap (λ (es : List Record). part_made p es own) (drop-more entries place e lt is)
-          ∙ (made-event p e (drop (suc place) entries) own event
-          ∙ ap (λ (k : ℕ). and_then (made_after p e own) (part_made (part_after p e) (drop k entries))) (sym one))
+      made-next own = grind (arith, common_steps, nat_tests, drop-more, made-event, event)
 
       pub part-goes-on : (new : Part) (guests' : Guests) (z : A) (k : ℕ) → new ≡ part_after p e
           → ((cpu : Cpu) → GainsOnly (option_and_then child_joined (act_of cpu e)) guests guests') → ((own : Own) → Stands guests p.turn.event own → Reaches l y m own (made_after p e own) guests' (p.turn.event + 1) z k)
@@ -268,16 +206,7 @@ module _ {A : Type 0} (l : Listener A) (x y : A) (n m : ℕ) (entries : List Rec
           takes-as a b is z k guests' reaches = subst (λ (o : Own). Reaches l y m o (made_after p e a) guests' (p.turn.event + 1) z k) (sym (made-same a b is)) reaches
 
       pub part-fails : (err : ReplayError) → ((own : Own) → Stands guests p.turn.event own → Explains (made_after p e own) err) → (own : Own) → Stands before first.turn.event own → Explains (part_made first (drop from entries) own) err
-      part-fails replay_error.NoMemory fails own stands' = tt
-      part-fails (replay_error.Disagrees d) fails own stands' =
-          let run = in-part.runs own stands' in
-          let own-is : Makes run.made ≡ Makes run.reaches.own' = run.reaches.makes in
-          let same : run.reaches.own' ≡ run.made = made-of run.made run.reaches.own' own-is in
-          let wrong = fails run.made (subst (Stands guests p.turn.event) same run.reaches.stands) in
-          run.rest ∙ (made-next run.made ∙ ap (λ (made : Made). and_then made (part_made (part_after p e) (drop (place + 1) entries))) wrong)
-        where
-          made-of : (a b : Own) → Makes a ≡ Makes b → b ≡ a
-          made-of a b is = let same : a ≡ b = cc in sym same
+      part-fails err h1 own h2 = grind (arith, nat_tests, made-next)
 
   -- at the part's end
   module _ (past : part_len (drop from entries) + from ≤ place) where
@@ -286,9 +215,7 @@ module _ {A : Type 0} (l : Listener A) (x y : A) (n m : ℕ) (entries : List Rec
 
     pub part-end-lives : (new : Guests) → KeepsLives guests new → LivesIn entries (group_of entries first.turn.pid) (greatest (take (part_len (drop from entries) + from) entries)) new
     part-end-lives new keeps =
-        let within = in-part.within in
-        let none = left-none in
-        let same : place ≡ part_len (drop from entries) + from = omega (arith, within, none) in
+        let same : place ≡ part_len (drop from entries) + from = omega (arith, in-part.within, left-none) in
         subst (λ (k : ℕ). LivesIn entries (group_of entries first.turn.pid) (greatest (take k entries)) new) same (lives-settled entries (group_of entries first.turn.pid) guests new (greatest (take place entries)) in-part.lives keeps)
 
     pub part-ends : (new : Guests) (z : A) (k : ℕ) (own : Own) (stands : Stands before first.turn.event own) → Reaches l y m (in-part.runs own stands).reaches.own' (alone.plains (slice_of p.turn) 0 p.owed (in-part.runs own stands).reaches.own') new p.turn.event z k
@@ -309,11 +236,4 @@ module _ {A : Type 0} (l : Listener A) (x y : A) (n m : ℕ) (entries : List Rec
         made-of a b is = let same : a ≡ b = cc in sym same
 
     pub part-end-fails : (own : Own) (stands : Stands before first.turn.event own) (err : ReplayError) → Explains (alone.plains (slice_of p.turn) 0 p.owed (in-part.runs own stands).reaches.own') err → Explains (part_made first (drop from entries) own) err
-    part-end-fails own stands replay_error.NoMemory fails = tt
-    part-end-fails own stands (replay_error.Disagrees d) fails =
-        let run = in-part.runs own stands in
-        let same : run.reaches.own' ≡ run.made = made-of run.made run.reaches.own' run.reaches.makes in
-        run.rest ∙ (made-none p (drop place entries) run.made left-none ∙ (ap (alone.plains (slice_of p.turn) 0 p.owed) (sym same) ∙ fails))
-      where
-        made-of : (a b : Own) → Makes a ≡ Makes b → b ≡ a
-        made-of a b is = let same : a ≡ b = cc in sym same
+    part-end-fails own stands err h1 = grind (arith, nat_tests, made-none, left-none)

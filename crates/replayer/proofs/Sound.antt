@@ -1,6 +1,8 @@
 -- What stands of each record of a list that isn't broken, by the records before it.
-use Rattle.std.proofs.Common.{◌≡◌, ◌<◌, ◌≤◌, ℕ, zero, suc, ◌+◌, ◌==◌, ◌&&◌, not, max, Bool, true, false, if◌then◌else◌, List, [], ◌∷◌, length, take, drop, get_or, Option, Some, None, IfSome, refl, ap, sym, subst, arith}
-use Rattle.std.proofs.lemmas.Bool.{eqb-true}
+use Rattle.std.proofs.lemmas.Grind.{common_steps}
+use Rattle.std.proofs.lemmas.Bool.Decides.{nat_tests}
+use Rattle.std.proofs.Common.{◌≡◌, ◌<◌, ◌≤◌, ℕ, zero, suc, ◌+◌, ◌==◌, ◌&&◌, not, max, Bool, true, false, if◌then◌else◌, List, [], ◌∷◌, length, take, drop, get_or, Option, Some, None, IfSome, refl, ap, sym, arith, subst}
+use Rattle.std.proofs.lemmas.Bool.{eqb-true, not-false}
 use Rattle.arn_base.specs.declared.records.Record.{Record}
 use Rattle.arn_base.specs.declared.records.Record.TheVariants as entry
 use Rattle.parts_model.specs.declared.calls.TheConstants.{FORK, EXIT}
@@ -32,8 +34,7 @@ Sound b n (e ∷ entries) = Fits b n e × Sound (behind_record b e) (greatest_af
 -- who lives was made
 abbrev Born : ℕ → LifeChange → Type 0
 Born n (BeginsLife pid) = pid ≤ n
-Born n (EndsLife pid) = Unit {0}
-Born n NoLife = Unit {0}
+Born n _ = Unit {0}
 
 abbrev AllBorn : ℕ → List Numbered → Type 0
 AllBorn n [] = Unit {0}
@@ -48,9 +49,7 @@ if-ended true b lives = absurd (let no-way : false ≡ true = lives in cc)
 if-ended false b lives = lives
 
 lives-born : (n pid : ℕ) (life : LifeChange) (b : Bool) → Born n life → (b ≡ true → pid ≤ n) → lives_after life pid b ≡ true → pid ≤ n
-lives-born n pid (BeginsLife p) b born was lives = if-test (p == pid) b pid p n born was refl lives
-lives-born n pid (EndsLife p) b born was lives = was (if-ended (p == pid) b lives)
-lives-born n pid NoLife b born was lives = was lives
+lives-born n pid life b h1 h2 h3 = grind (arith, common_steps, nat_tests, if-test, if-ended)
 
 lives-made : (n pid : ℕ) (events : List Numbered) (b : Bool) → AllBorn n events → (b ≡ true → pid ≤ n) → lives_by events pid b ≡ true → pid ≤ n
 lives-made n pid [] b born was lives = was lives
@@ -66,23 +65,15 @@ grows-if true m r = omega arith
 grows-if false m r = omega arith
 
 pub grows : (e : Record) (m : ℕ) → m ≤ greatest_after e m
-grows (entry.File name bytes) m = omega arith
-grows (entry.Boot name give) m = omega arith
-grows (entry.Typed bytes) m = omega arith
-grows (entry.Unplug device) m = omega arith
-grows (entry.Slice pid ran) m = omega arith
-grows (entry.Signal pid signal cut handler) m = omega arith
 grows (entry.Call pid number r more) m = grows-if ((number == FORK) && is_success r) m r
-grows (entry.End pid status) m = omega arith
+grows _ m = omega arith
 
 pub grows-all : (entries : List Record) (m : ℕ) → m ≤ greatest_from m entries
 grows-all [] m = omega arith
 grows-all (e ∷ entries) m = let one = grows e m in let rest = grows-all entries (greatest_after e m) in omega (arith, one, rest)
 
 born-call : (exits forks : Bool) (m pid r n : ℕ) → (if forks then max m r else m) ≤ n → Born n (if exits then EndsLife pid else if forks then BeginsLife r else NoLife)
-born-call true forks m pid r n le = tt
-born-call false true m pid r n le = omega arith
-born-call false false m pid r n le = tt
+born-call exits forks m pid r n h1 = grind (arith, common_steps, nat_tests)
 
 born-signal : (c : Bool) (pid n : ℕ) → Born n (if c then EndsLife pid else NoLife)
 born-signal true pid n = tt
@@ -91,48 +82,21 @@ born-signal false pid n = tt
 all-born : (moment begins ends k m n : ℕ) (entries : List Record) → greatest_from m entries ≤ n → AllBorn n (events_from moment begins ends k entries)
 all-born moment begins ends k m n [] le = tt
 all-born moment begins ends k m n (entry.Slice pid ran ∷ entries) le = all-born moment ends (ends + ran) k m n entries le
-all-born moment begins ends k m n (entry.Signal pid signal cut handler ∷ entries) le =
-    happened-born _ n k (entry.Signal pid signal cut handler) _ (born-signal (handler == 0) pid n) (all-born moment begins ends (k + 1) m n entries le)
-all-born moment begins ends k m n (entry.File name bytes ∷ entries) le = happened-born _ n k (entry.File name bytes) _ tt (all-born moment begins ends (k + 1) m n entries le)
-all-born moment begins ends k m n (entry.Boot name give ∷ entries) le =
-    let up = grows-all entries (max m 1) in
-    happened-born _ n k (entry.Boot name give) _ (omega (arith, up, le)) (all-born moment begins ends (k + 1) (max m 1) n entries le)
-all-born moment begins ends k m n (entry.Typed bytes ∷ entries) le = happened-born _ n k (entry.Typed bytes) _ tt (all-born moment begins ends (k + 1) m n entries le)
-all-born moment begins ends k m n (entry.Unplug device ∷ entries) le = happened-born _ n k (entry.Unplug device) _ tt (all-born moment begins ends (k + 1) m n entries le)
-all-born moment begins ends k m n (entry.Call pid number r more ∷ entries) le =
-    let up = grows-all entries (greatest_after (entry.Call pid number r more) m) in
-    happened-born _ n k (entry.Call pid number r more) _
-    (born-call (number == EXIT) ((number == FORK) && is_success r) m pid r n (omega (arith, up, le)))
-    (all-born moment begins ends (k + 1) (greatest_after (entry.Call pid number r more) m) n entries le)
-all-born moment begins ends k m n (entry.End pid status ∷ entries) le = happened-born _ n k (entry.End pid status) _ tt (all-born moment begins ends (k + 1) m n entries le)
-
-not-true : (b : Bool) → not b ≡ false → b ≡ true
-not-true true is = refl
-not-true false is = absurd (let no-way : true ≡ false = is in cc)
+all-born moment begins ends k m n (entry.Signal pid signal cut handler ∷ entries) le = grind (arith, nat_tests, born-signal (handler == 0) pid n, all-born moment begins ends (k + 1) m n entries le)
+all-born moment begins ends k m n (entry.Boot name give ∷ entries) le = grind (arith, nat_tests, grows-all entries (max m 1), all-born moment begins ends (k + 1) (max m 1) n entries le)
+all-born moment begins ends k m n (entry.Call pid number r more ∷ entries) le = grind (arith, nat_tests, born-call (number == EXIT) ((number == FORK) && is_success r) m pid r n (omega (arith, grows-all entries (greatest_after (entry.Call pid number r more) m), le)), all-born moment begins ends (k + 1) (greatest_after (entry.Call pid number r more) m) n entries le)
+all-born moment begins ends k m n (e ∷ entries) le = happened-born _ n k e _ tt (all-born moment begins ends (k + 1) m n entries le)
 
 live-made : (before : List Record) (pid : ℕ) → not (lives_at before (total before) pid) ≡ false → pid ≤ greatest before
 live-made before pid is =
-    lives-made (greatest before) pid (events_from (total before) 0 0 0 before) false (all-born (total before) 0 0 0 0 (greatest before) before (omega arith)) (λ (b : false ≡ true). absurd (let no-way : false ≡ true = b in cc)) (not-true _ is)
+    lives-made (greatest before) pid (events_from (total before) 0 0 0 before) false (all-born (total before) 0 0 0 0 (greatest before) before (omega arith)) (λ (b : false ≡ true). absurd (let no-way : false ≡ true = b in cc)) (not-false _ is)
 
 runner-made : (before : List Record) (e : Record) → Follows before e → IfSome (runner e) (λ p. p ≤ greatest before)
 runner-made before (entry.Slice pid ran) f = live-made before pid f.process
-runner-made before (entry.File name bytes) f = tt
-runner-made before (entry.Boot name give) f = tt
-runner-made before (entry.Typed bytes) f = tt
-runner-made before (entry.Unplug device) f = tt
-runner-made before (entry.Signal pid signal cut handler) f = tt
-runner-made before (entry.Call pid number r more) f = tt
-runner-made before (entry.End pid status) f = tt
+runner-made before _ f = tt
 
 hand-held : (before : List Record) (e : Record) → Follows before e → lacks_slice_by (behind before) e ≡ false
-hand-held before (entry.Slice pid ran) f = refl
-hand-held before (entry.File name bytes) f = refl
-hand-held before (entry.Boot name give) f = refl
-hand-held before (entry.Typed bytes) f = refl
-hand-held before (entry.Unplug device) f = refl
-hand-held before (entry.Signal pid signal cut handler) f = f.slice
-hand-held before (entry.Call pid number r more) f = f.slice
-hand-held before (entry.End pid status) f = f.slice
+hand-held before e h1 = grind (arith, nat_tests)
 
 pub behind-snoc : (b : Behind) (entries : List Record) (i : ℕ) (e : Record) → i < length entries → e ≡ get_or entries i e → behind_from b (take (suc i) entries) ≡ behind_record (behind_from b (take i entries)) e
 behind-snoc b [] i e lt is = absurd (omega arith)
@@ -145,10 +109,7 @@ drop-more (x ∷ entries) zero e lt is = ap (λ r. r ∷ entries) (sym is)
 drop-more (x ∷ entries) (suc i) e lt is = drop-more entries i e (omega arith) is
 
 pub drop-past : {A : Type 0} (entries : List A) (i : ℕ) → length entries ≤ i → drop i entries ≡ []
-drop-past [] zero le = refl
-drop-past [] (suc i) le = refl
-drop-past (x ∷ entries) zero le = absurd (omega arith)
-drop-past (x ∷ entries) (suc i) le = drop-past entries i (omega arith)
+drop-past entries i h1 = grind (arith, common_steps, nat_tests)
 
 pub there : (entries : List Record) (i : ℕ) → i < length entries → (e : Record) × (e ≡ get_or entries i e)
 there [] i lt = absurd (omega arith)

@@ -1,9 +1,9 @@
 -- What stands behind a list of records that isn't broken.
-use Rattle.std.proofs.Common.{◌≡◌, ◌<◌, ◌≤◌, ℕ, zero, suc, ◌+◌, ◌*◌, ◌==◌, ◌&&◌, not, nat_le, max, Bool, true, false, if◌then◌else◌, List, [], ◌∷◌, ◌++◌, length, take, get_or, Option, Some, None, IfSome, refl, ap, sym, subst, ◌∙◌, append_assoc, arith}
-use Rattle.std.specs.List.{All}
-use Rattle.std.proofs.lemmas.Bool.{and_parts, eqb-true, leb-true, or_parts}
+use Rattle.std.proofs.lemmas.Grind.{common_steps}
+use Rattle.std.proofs.lemmas.Bool.Decides.{nat_tests}
+use Rattle.std.proofs.Common.{◌≡◌, ◌<◌, ◌≤◌, ℕ, zero, suc, ◌+◌, ◌*◌, ◌==◌, ◌&&◌, not, nat_le, max, Bool, true, false, if◌then◌else◌, List, [], ◌∷◌, ◌++◌, length, take, get_or, Option, Some, None, IfSome, refl, ap, sym, subst, ◌∙◌, append_assoc, arith, All, append-nil}
+use Rattle.std.proofs.lemmas.Bool.{and_parts, eqb-true, leb-true, or_parts, not-false}
 use Rattle.std.proofs.Math.Seq.{take-nil}
-use Rattle.std.proofs.lemmas.List.{append-nil}
 use Rattle.std.proofs.lemmas.List.Elements.{All-cons, All-nil}
 use Rattle.std.proofs.lemmas.List.Folds.{list_any-append}
 use Rattle.arn_base.specs.declared.machine.Block.{Block}
@@ -23,20 +23,11 @@ if-none : (b : Bool) (n : ℕ) (o : Option ℕ) → (if b then Some n else o) �
 if-none true n o none = absurd (let no : Some n ≡ None = none in cc)
 if-none false n o none = (refl, none)
 
-not-true : (b : Bool) → not b ≡ false → b ≡ true
-not-true true is = refl
-not-true false is = absurd (let no : true ≡ false = is in cc)
-
 -- no record can't stand where it does
 pub can-follow : (before after : List Record) (i : ℕ) (e : Record) → broken_from before after ≡ None → i < length after → e ≡ get_or after i e → cant_follow (before ++ take i after) e ≡ false
 can-follow before [] i e none lt is = absurd (omega arith)
-can-follow before (x ∷ after) zero e none lt is =
-    let first = if-none (cant_follow before x) (length before) (broken_from (before ++ x ∷ []) after) none in
-    ap (λ (es : List Record). cant_follow es e) (append-nil before) ∙ (ap (cant_follow before) is ∙ first.0)
-can-follow before (x ∷ after) (suc i) e none lt is =
-    let first = if-none (cant_follow before x) (length before) (broken_from (before ++ x ∷ []) after) none in
-    ap (λ (es : List Record). cant_follow es e) (sym (append_assoc before (x ∷ []) (take i after)))
-    ∙ can-follow (before ++ x ∷ []) after i e first.1 (omega arith) is
+can-follow before (x ∷ after) zero e none lt is = grind (arith, nat_tests, if-none (cant_follow before x) (length before) (broken_from (before ++ x ∷ []) after) none, append-nil before)
+can-follow before (x ∷ after) (suc i) e none lt is = grind (arith, nat_tests, append_assoc before (x ∷ []) (take i after), can-follow (before ++ x ∷ []) after i e (if-none (cant_follow before x) (length before) (broken_from (before ++ x ∷ []) after) none).1 (omega arith) is)
 
 -- the tests of a record that can follow
 pub record Follows (before : List Record) (e : Record) : Type 0 where
@@ -49,14 +40,7 @@ pub record Follows (before : List Record) (e : Record) : Type 0 where
   pub start : broken.misplaces_start e ≡ false
 
 pub tests : (before : List Record) (e : Record) → cant_follow before e ≡ false → Follows before e
-tests before e can =
-    let a = or_parts _ _ can in
-    let b = or_parts _ _ a.1 in
-    let c = or_parts _ _ b.1 in
-    let d = or_parts _ _ c.1 in
-    let f = or_parts _ _ d.1 in
-    let g = or_parts _ _ f.1 in
-    record { comes = a.0; process = b.0; slice = c.0; origins = d.0; blocks = f.0; numbers = g.0; start = g.1 }
+tests before e h1 = grind (arith, nat_tests, or_parts)
 
 -- files alone
 abbrev IsFiles : List Record → Type 0
@@ -67,65 +51,34 @@ IsFiles (e ∷ entries) = ⊥
 files-behind : (entries : List Record) (b : Behind) → IsFiles entries → b ≡ Nowhere → behind_from b entries ≡ Nowhere
 files-behind [] b files is = is
 files-behind (entry.File name bytes ∷ entries) b files is = files-behind entries Nowhere files refl
-files-behind (entry.Boot name give ∷ entries) b files is = absurd files
-files-behind (entry.Typed bytes ∷ entries) b files is = absurd files
-files-behind (entry.Unplug device ∷ entries) b files is = absurd files
-files-behind (entry.Slice pid ran ∷ entries) b files is = absurd files
-files-behind (entry.Signal pid signal cut handler ∷ entries) b files is = absurd files
-files-behind (entry.Call pid number result more ∷ entries) b files is = absurd files
-files-behind (entry.End pid status ∷ entries) b files is = absurd files
+files-behind _ b files is = absurd files
 
 files-greatest : (entries : List Record) (n : ℕ) → IsFiles entries → greatest_from n entries ≡ n
 files-greatest [] n files = refl
 files-greatest (entry.File name bytes ∷ entries) n files = files-greatest entries n files
-files-greatest (entry.Boot name give ∷ entries) n files = absurd files
-files-greatest (entry.Typed bytes ∷ entries) n files = absurd files
-files-greatest (entry.Unplug device ∷ entries) n files = absurd files
-files-greatest (entry.Slice pid ran ∷ entries) n files = absurd files
-files-greatest (entry.Signal pid signal cut handler ∷ entries) n files = absurd files
-files-greatest (entry.Call pid number result more ∷ entries) n files = absurd files
-files-greatest (entry.End pid status ∷ entries) n files = absurd files
+files-greatest _ n files = absurd files
 
 files-unbooted : (entries : List Record) → IsFiles entries → is_booted entries ≡ false
 files-unbooted [] files = refl
 files-unbooted (entry.File name bytes ∷ entries) files = files-unbooted entries files
-files-unbooted (entry.Boot name give ∷ entries) files = absurd files
-files-unbooted (entry.Typed bytes ∷ entries) files = absurd files
-files-unbooted (entry.Unplug device ∷ entries) files = absurd files
-files-unbooted (entry.Slice pid ran ∷ entries) files = absurd files
-files-unbooted (entry.Signal pid signal cut handler ∷ entries) files = absurd files
-files-unbooted (entry.Call pid number result more ∷ entries) files = absurd files
-files-unbooted (entry.End pid status ∷ entries) files = absurd files
+files-unbooted _ files = absurd files
 
 files-snoc : (entries : List Record) (name bytes : List ℕ) → IsFiles entries → IsFiles (entries ++ entry.File name bytes ∷ [])
 files-snoc [] name bytes files = tt
 files-snoc (entry.File n b ∷ entries) name bytes files = files-snoc entries name bytes files
-files-snoc (entry.Boot n give ∷ entries) name bytes files = absurd files
-files-snoc (entry.Typed b ∷ entries) name bytes files = absurd files
-files-snoc (entry.Unplug device ∷ entries) name bytes files = absurd files
-files-snoc (entry.Slice pid ran ∷ entries) name bytes files = absurd files
-files-snoc (entry.Signal pid signal cut handler ∷ entries) name bytes files = absurd files
-files-snoc (entry.Call pid number result more ∷ entries) name bytes files = absurd files
-files-snoc (entry.End pid status ∷ entries) name bytes files = absurd files
+files-snoc _ name bytes files = absurd files
 
 -- behind files nothing but a file or a boot can follow
 module _ (before : List Record) (files : IsFiles before) where
   early : (t : Bool) → t ≡ is_booted before → not t ≡ false → ⊥
-  early t is none = let yea : t ≡ true = not-true t none in let no : true ≡ false = sym yea ∙ (is ∙ files-unbooted before files) in cc
+  early t is none = let yea : t ≡ true = not-false t none in let no : true ≡ false = sym yea ∙ (is ∙ files-unbooted before files) in cc
 
   alone-behind : (pid : ℕ) → not (broken.is_behind pid (behind before)) ≡ false → ⊥
   alone-behind pid none =
-      let no : true ≡ false = sym (not-true _ none) ∙ ap (broken.is_behind pid) (files-behind before Nowhere files refl) in cc
+      let no : true ≡ false = sym (not-false _ none) ∙ ap (broken.is_behind pid) (files-behind before Nowhere files refl) in cc
 
   file-or-boot : (e : Record) → Follows before e → is_boot e ≡ false → IsFiles (before ++ e ∷ [])
-  file-or-boot (entry.File name bytes) f isnt = files-snoc before name bytes files
-  file-or-boot (entry.Boot name give) f isnt = absurd (let e : true ≡ false = isnt in cc)
-  file-or-boot (entry.Typed bytes) f isnt = absurd (early (is_booted before) refl f.comes)
-  file-or-boot (entry.Unplug device) f isnt = absurd (early (is_booted before) refl f.comes)
-  file-or-boot (entry.Slice pid ran) f isnt = absurd (early (is_booted before) refl f.comes)
-  file-or-boot (entry.Signal pid signal cut handler) f isnt = absurd (alone-behind pid f.slice)
-  file-or-boot (entry.Call pid number result more) f isnt = absurd (alone-behind pid f.slice)
-  file-or-boot (entry.End pid status) f isnt = absurd (alone-behind pid f.slice)
+  file-or-boot e h1 h2 = grind (arith, nat_tests, files-snoc, alone-behind, early)
 
 booted-parts : (before : List Record) (x : Record) (after : List Record) → is_booted (before ++ x ∷ after) ≡ false → is_boot x ≡ false
 booted-parts before x after none =
@@ -146,9 +99,7 @@ greatest-append [] after n = refl
 greatest-append (x ∷ before) after n = greatest-append before after (greatest_after x n)
 
 number-is : (n : ℕ) (o : Option ℕ) (before : List Record) → n ≡ greatest before → misnumbers before o ≡ false → IfSome o (λ (c : ℕ). c ≡ n + 1)
-number-is n None before is none = tt
-number-is n (Some c) before is none =
-    let same : c ≡ greatest before + 1 = eqb-true c (greatest before + 1) (not-true (c == greatest before + 1) none) in same ∙ ap (λ (m : ℕ). m + 1) (sym is)
+number-is n o before h1 h2 = grind (arith, common_steps, nat_tests, eqb-true, not-false)
 
 if-after : (makes : Bool) (n r : ℕ) → IfSome (if makes then Some r else None) (λ (c : ℕ). c ≡ n + 1) → (if makes then max n r else n) ≤ n + 1
 if-after true n r is = omega (arith, is)
@@ -156,14 +107,8 @@ if-after false n r is = omega arith
 
 -- each record makes one process at most
 after-few : (before : List Record) (e : Record) (n : ℕ) → n ≡ greatest before → Follows before e → greatest_after e n ≤ n + 1
-after-few before (entry.Boot name give) n is f = omega arith
 after-few before (entry.Call pid number result more) n is f = if-after ((number == FORK) && is_success result) n result (number-is n (child_in (entry.Call pid number result more)) before is f.numbers)
-after-few before (entry.File name bytes) n is f = omega arith
-after-few before (entry.Typed bytes) n is f = omega arith
-after-few before (entry.Unplug device) n is f = omega arith
-after-few before (entry.Slice pid ran) n is f = omega arith
-after-few before (entry.Signal pid signal cut handler) n is f = omega arith
-after-few before (entry.End pid status) n is f = omega arith
+after-few before _ n is f = omega arith
 
 pub greatest-few : (before after : List Record) (i m : ℕ) → broken_from before after ≡ None → greatest before ≤ m → greatest (before ++ take i after) ≤ m + i
 greatest-few before [] i m none few = let is = ap greatest (ap (λ (es : List Record). before ++ es) (take-nil i) ∙ append-nil before) in omega (arith, is, few)
@@ -172,9 +117,7 @@ greatest-few before (x ∷ after) (suc i) m none few =
     let first = if-none (cant_follow before x) (length before) (broken_from (before ++ x ∷ []) after) none in
     let one : greatest (before ++ x ∷ []) ≡ greatest_after x (greatest before) = greatest-append before (x ∷ []) 0 in
     let up = after-few before x (greatest before) refl (tests before x first.0) in
-    let rest = greatest-few (before ++ x ∷ []) after i (m + 1) first.1 (omega (arith, one, up, few)) in
-    let same = ap greatest (append_assoc before (x ∷ []) (take i after)) in
-    omega (arith, rest, same)
+    omega (arith, greatest-few (before ++ x ∷ []) after i (m + 1) first.1 (omega (arith, one, up, few)), ap greatest (append_assoc before (x ∷ []) (take i after)))
 
 blocks-inside : (least : ℕ) (blocks : List Block) → rise_from least blocks ≡ true → All IsInside blocks
 blocks-inside least [] rise = All-nil IsInside
@@ -185,17 +128,11 @@ blocks-inside least (b ∷ blocks) rise =
 
 start-inside : (o : Option Start) → has_blocks_wrong o ≡ false → IfSome o (λ (start : Start). All IsInside start.blocks)
 start-inside None right = tt
-start-inside (Some start) right = blocks-inside 0 start.blocks (not-true (rise_from 0 start.blocks) right)
+start-inside (Some start) right = blocks-inside 0 start.blocks (not-false (rise_from 0 start.blocks) right)
 
 boot-first : (before : List Record) (e : Record) → Follows before e → is_boot e ≡ true → is_booted before ≡ false
 boot-first before (entry.Boot name give) f is = f.comes
-boot-first before (entry.Call pid number result more) f is = absurd (let no : false ≡ true = is in cc)
-boot-first before (entry.File name bytes) f is = absurd (let no : false ≡ true = is in cc)
-boot-first before (entry.Typed bytes) f is = absurd (let no : false ≡ true = is in cc)
-boot-first before (entry.Unplug device) f is = absurd (let no : false ≡ true = is in cc)
-boot-first before (entry.Slice pid ran) f is = absurd (let no : false ≡ true = is in cc)
-boot-first before (entry.Signal pid signal cut handler) f is = absurd (let no : false ≡ true = is in cc)
-boot-first before (entry.End pid status) f is = absurd (let no : false ≡ true = is in cc)
+boot-first before _ f is = absurd (let no : false ≡ true = is in cc)
 
 -- the blocks with which a group begins lie in the window
 pub starts-inside : (entries : List Record) (i : ℕ) (e : Record) → first_broken entries ≡ None → i < length entries → e ≡ get_or entries i e → IfSome (start_in e) (λ (start : Start). All IsInside start.blocks)

@@ -1,10 +1,10 @@
 -- How a group's slices are run, one after the other.
-use Rattle.std.proofs.Common.{◌≡◌, ◌<◌, ◌≤◌, ℕ, zero, suc, ◌+◌, ◌-◌, min, max, nat_le, Bool, true, false, if◌then◌else◌, List, [], ◌∷◌, length, take, drop, get_or, flat_map, count_by, Some, None, inl, inr, refl, ap, sym, subst, ◌∙◌, arith}
-use Rattle.std.proofs.lemmas.Bool.{leb-true}
-use Rattle.std.proofs.lemmas.List.{append-nil}
+use Rattle.std.proofs.lemmas.Grind.{common_steps}
+use Rattle.std.proofs.lemmas.Bool.Decides.{nat_tests}
+use Rattle.std.proofs.Common.{◌≡◌, ◌<◌, ◌≤◌, ℕ, zero, suc, ◌+◌, ◌-◌, min, max, nat_le, Bool, false, List, [], ◌∷◌, length, take, drop, get_or, Some, None, inl, inr, refl, ap, sym, subst, ◌∙◌, arith, leb-true, append-nil}
+use Rattle.std.proofs.lemmas.Bool.{cases_Bool}
 use Rattle.arn_base.specs.declared.records.Record.{Record}
 use Rattle.arn_base.specs.declared.records.Record.TheVariants as entry
-use Rattle.acts_model.specs.Moved.{Inside}
 use Rattle.guest_bodies.specs.Shown.{Guests}
 use Rattle.history_index.specs.declared.slices.SliceAt.{SliceAt}
 use Rattle.history_index.specs.Lookups.{founding_event, slices_of}
@@ -12,13 +12,13 @@ use Rattle.history_model.specs.Alone as alone
 use Rattle.history_model.specs.Alone.{Own, Made, Makes, Fails, nothing_own}
 use Rattle.history_model.specs.Broken.{first_broken, greatest}
 use Rattle.history_model.specs.Groups.{group_of}
-use Rattle.replay_steps.specs.Notices.{Listener, Told, notices}
+use Rattle.replay_steps.specs.Notices.{Listener}
 use Rattle.replay_steps.specs.Plain.{slice_of}
-use Rattle.replay_steps.specs.Standing.{Explains, GoesOn, IsStanding, Reaches, Stands, disagreement, is_counted}
+use Rattle.replay_steps.specs.Standing.{Explains, GoesOn, IsStanding, Reaches, Stands, disagreement}
 use Rattle.replay_steps.specs.declared.errors.ReplayError.{ReplayError}
 use Rattle.replay_steps.specs.declared.errors.ReplayError.TheVariants as replay_error
 use Rattle.replayer.specs.Bounds.{ran_before}
-use Rattle.replayer.specs.BySlices.{before_slice, by_slices, first_of, with_slice, with_slices}
+use Rattle.replayer.specs.BySlices.{by_slices, first_of, with_slice, with_slices, before_slice}
 use Rattle.replayer.specs.Foundings.{event_behind}
 use Rattle.replayer.specs.Parts.{LivesIn, made_after, part_after, part_len, part_made, part_of}
 use Rattle.replayer.specs.Replays.{Replays}
@@ -29,8 +29,8 @@ use Rattle.replayer.proofs.Bridge.{part-failed, slice-made}
 use Rattle.replayer.proofs.BySlices.{alone-by-slices}
 use Rattle.replayer.proofs.Loops.{goes-both}
 use Rattle.replayer.proofs.Order.{InOrder, Rising, all-rising, greatest-more}
-use Rattle.replayer.proofs.Own.{either}
 use Rattle.replayer.proofs.Sound.{drop-past}
+use Rattle.replayer.proofs.Passing.{if-zero}
 
 -- what stands at an event stands at a later one
 stands-later : (guests : Guests) (event later : ℕ) (own : Own) → event ≤ later → Stands guests event own → Stands guests later own
@@ -39,20 +39,11 @@ stands-later guests event later own le s =
 
 greatest-upto : (entries : List Record) (place more : ℕ) → place + more ≤ length entries → greatest (take place entries) ≤ greatest (take (place + more) entries)
 greatest-upto entries place zero le = let same : place + 0 ≡ place = omega arith in let is = ap (λ (k : ℕ). greatest (take k entries)) same in omega (arith, is)
-greatest-upto entries place (suc more) le =
-    let same : place + suc more ≡ place + more + 1 = omega arith in
-    let is = ap (λ (k : ℕ). greatest (take k entries)) same in
-    let before = greatest-upto entries place more (omega (arith, le)) in
-    let up = greatest-more entries (place + more) (omega (arith, le)) in
-    omega (arith, is, before, up)
+greatest-upto entries place (suc more) le = grind (arith, nat_tests, greatest-upto entries place more (omega (arith, le)), greatest-more entries (place + more) (omega (arith, le)))
 
 -- a slice that begins above the moment makes nothing
 not-le : (a b : ℕ) → b < a → nat_le a b ≡ false
-not-le a b lt = elim (either (nat_le a b)) [ inl is ↦ (let le = leb-true a b is in absurd (omega (arith, le, lt))) | inr isnt ↦ isnt ]
-
-if-none : (b : Bool) (n : ℕ) → n ≡ 0 → (if b then 0 else n) ≡ 0
-if-none true n is = refl
-if-none false n is = is
+not-le a b lt = elim (cases_Bool (nat_le a b)) [ inl is ↦ (let le = leb-true a b is in absurd (omega (arith, le, lt))) | inr isnt ↦ isnt ]
 
 module _ (own : Own) where
   idle-next : (rest : List Record) (p : Part) (e : Record) → made_after p e own ≡ Makes own → part_made (part_after p e) rest own ≡ Makes own → alone.and_then (made_after p e own) (part_made (part_after p e) rest) ≡ Makes own
@@ -68,17 +59,14 @@ module _ (own : Own) where
   part-idle (entry.Signal pid signal cut handler ∷ rest) p owed begun ended =
       idle-next rest p (entry.Signal pid signal cut handler) (ap (λ (b : Bool). alone.made_if b (Makes own) (alone.happens pid p.turn.event (entry.Signal pid signal cut handler))) begun) (part-idle rest (part_after p (entry.Signal pid signal cut handler)) owed begun ended)
   part-idle (entry.Call pid number result more ∷ rest) p owed begun ended =
-      idle-next rest p (entry.Call pid number result more) (ap (λ (b : Bool). alone.made_if b (Makes own) (alone.ends_slice (slice_of p.turn) p.owed (entry.Call pid number result more))) ended) (part-idle rest (part_after p (entry.Call pid number result more)) (if-none p.is_ended p.owed owed) begun ended)
+      idle-next rest p (entry.Call pid number result more) (ap (λ (b : Bool). alone.made_if b (Makes own) (alone.ends_slice (slice_of p.turn) p.owed (entry.Call pid number result more))) ended) (part-idle rest (part_after p (entry.Call pid number result more)) (if-zero p.is_ended p.owed owed) begun ended)
   part-idle (entry.End pid status ∷ rest) p owed begun ended =
-      idle-next rest p (entry.End pid status) (ap (λ (b : Bool). alone.made_if b (Makes own) (alone.ends_slice (slice_of p.turn) p.owed (entry.End pid status))) ended) (part-idle rest (part_after p (entry.End pid status)) (if-none p.is_ended p.owed owed) begun ended)
+      idle-next rest p (entry.End pid status) (ap (λ (b : Bool). alone.made_if b (Makes own) (alone.ends_slice (slice_of p.turn) p.owed (entry.End pid status))) ended) (part-idle rest (part_after p (entry.End pid status)) (if-zero p.is_ended p.owed owed) begun ended)
 
 module _ (entries : List Record) (g until : ℕ) (stands : first_broken entries ≡ None) where
   -- what a slice makes
   slice-adds : (place event moment : ℕ) (s : SliceAt) (own : Own) → InOrder entries g place event moment s → with_slice g until entries (Makes own) s ≡ part_made (part_of until s) (drop (s.place + 1) entries) own
-  slice-adds place event moment s own order =
-      let up = greatest-more entries s.place order.inside in
-      let founded = order.founded in
-      slice-made entries g until s own stands order.inside order.some (omega (arith, up, founded))
+  slice-adds place event moment s own h1 = grind (arith, common_steps, nat_tests, greatest-more, slice-made)
 
   slice-idle : (place event moment : ℕ) (s : SliceAt) (own : Own) → InOrder entries g place event moment s → until < s.moment → with_slice g until entries (Makes own) s ≡ Makes own
   slice-idle place event moment s own order lt =
@@ -102,9 +90,7 @@ module _ (entries : List Record) (g until : ℕ) (stands : first_broken entries 
       ∙ all-failed slices d
 
   pub begin-fails : (err : ReplayError) → Explains (first_of g until entries (founding_event entries g)) err → Explains (alone.alone entries g until) err
-  begin-fails replay_error.NoMemory fails = tt
-  begin-fails (replay_error.Disagrees d) fails =
-      alone-by-slices entries g until stands ∙ (ap (λ (m : Made). with_slices g until entries m (slices_of entries g)) fails ∙ all-failed (slices_of entries g) (disagreement d))
+  begin-fails err h1 = grind (arith, common_steps, nat_tests, alone-by-slices, all-failed)
 
 -- the slice that comes next
 item-drop : (xs : List SliceAt) (i : ℕ) (d : SliceAt) → i < length xs → drop i xs ≡ get_or xs i d ∷ drop (suc i) xs
@@ -113,9 +99,7 @@ item-drop (x ∷ xs) zero d lt = refl
 item-drop (x ∷ xs) (suc i) d lt = item-drop xs i d (omega arith)
 
 pub next-slice : (xs ys : List SliceAt) (i : ℕ) (d : SliceAt) → xs ≡ ys → i < length xs → drop i ys ≡ get_or xs i d ∷ drop (i + 1) ys
-next-slice xs ys i d same lt =
-    let one : suc i ≡ i + 1 = omega arith in
-    subst (λ (zs : List SliceAt). drop i zs ≡ get_or xs i d ∷ drop (i + 1) zs) same (item-drop xs i d lt ∙ ap (λ (k : ℕ). get_or xs i d ∷ drop k xs) one)
+next-slice xs ys i d h1 h2 = grind (arith, common_steps, nat_tests, item-drop)
 
 pub no-slice : (xs ys : List SliceAt) (i : ℕ) → xs ≡ ys → length xs ≤ i → drop i ys ≡ []
 no-slice xs ys i same le = subst (λ (zs : List SliceAt). drop i zs ≡ []) same (drop-past xs i le)
@@ -157,24 +141,11 @@ walk-begins l w x n entries g until guests stands lives reaches =
 module _ {A : Type 0} (l : Listener A) (x y : A) (n m : ℕ) (entries : List Record) (g until : ℕ) (slices : List SliceAt) (guests : Guests) (walks : Walks l x n entries g until slices guests y m) (stands : first_broken entries ≡ None) where
   module _ (w : A) (guests' : Guests) (begins : Reaches l w n nothing_own (first_of g until entries (founding_event entries g)) guests' (event_behind (founding_event entries g)) x n) where
     made-all : by_slices entries g until ≡ Makes walks.own → Replays l w n (alone.alone entries g until) guests y m
-    made-all is =
-        let same : Makes begins.own' ≡ Makes walks.first = sym begins.makes ∙ walks.begun in
-        let own : begins.own' ≡ walks.first = cc in
-        let all = goes-both l w x y n n m nothing_own begins.own' walks.own begins.goes_on (subst (λ (o : Own). GoesOn l x n o walks.own y m) (sym own) walks.goes_on) in
-        record {
-          own = walks.own;
-          makes = alone-by-slices entries g until stands ∙ is;
-          shows = walks.stands.shows;
-          told = subst (λ (is : List Inside). Told l (flat_map notices is) w y) (sym all.inside) all.told;
-          counted = all.counted ∙ ap (λ (is : List Inside). n + count_by is_counted is) (sym all.inside);
-        }
+    made-all h1 = grind (arith, nat_tests, goes-both, alone-by-slices)
 
     -- behind the last slice
     pub walk-ends : slices ≡ [] → Replays l w n (alone.alone entries g until) guests y m
     walk-ends is = made-all (walks.rest ∙ ap (with_slices g until entries (Makes walks.own)) is)
-
-  pub walk-within : m ≤ n + ran_before entries g until
-  walk-within = let bounded = walks.bounded in omega (arith, bounded)
 
   -- with one slice more
   module _ (s : SliceAt) (rest : List SliceAt) (is : slices ≡ s ∷ rest) where
