@@ -1,7 +1,7 @@
 -- What an act changes of who lives, of segments and of groups is what its record tells.
-use Rattle.std.proofs.Common.{◌≡◌, ℕ, ◌==◌, if◌then◌else◌, Bool, true, false, is_some, Option, Some, None, refl, sym, subst, arith}
+use Rattle.std.proofs.Common.{◌≡◌, ℕ, ◌==◌, if◌then◌else◌, Bool, true, false, is_some, Option, Some, None, refl, sym, subst, arith, eqb-true}
 use Rattle.std.proofs.lemmas.Bool.Decides.{nat_tests}
-use Rattle.std.proofs.lemmas.Bool.{eqb-true}
+use Rattle.std.proofs.lemmas.Option.{same_Some}
 use Rattle.arn_base.specs.declared.machine.Cpu.{Cpu}
 use Rattle.arn_base.specs.declared.records.Extra.{Extra}
 use Rattle.arn_base.specs.declared.records.Extra.TheVariants as extra
@@ -11,7 +11,7 @@ use Rattle.parts_model.specs.declared.calls.TheConstants as number
 use Rattle.parts_model.specs.Replies.{is_success}
 use Rattle.acts_model.specs.Acts.{Act, Starts, Forks, Founds, Shares, Exits, Faults, Dies}
 use Rattle.acts_model.specs.Records.{life_told, lives_after}
-use Rattle.acts_model.specs.Told.{Kind, Wait, Read, Write, Other, kind_of, call_act, delivery_act}
+use Rattle.acts_model.specs.Told.{Wait, Read, Write, kind_of, call_act, delivery_act}
 use Rattle.history_model.specs.Broken.{child_in, start_in}
 use Rattle.history_model.specs.Groups.{Groups, groups_told}
 use Rattle.history_model.specs.Moments.{changed, segments_told}
@@ -120,10 +120,7 @@ call-does event pid n result more cpu = exit_by (n == number.EXIT) refl
   where
     other : (n == number.EXIT) ≡ false → (n == number.FORK) ≡ false → (n == number.EXEC) ≡ false → (n == number.WAIT) ≡ false → (n == number.SIGRETURN) ≡ false → (n == number.READ) ≡ false → (n == number.WRITE) ≡ false
         → (n == number.SHM) ≡ false → CallDoes event pid result more cpu n
-    other a b c d e f g h =
-        let kind : kind_of n ≡ Other = rw a (rw b (rw c (rw d (rw e (rw f (rw g (rw h refl))))))) in
-        subst (λ (k : Kind). Does event pid (entry.Call pid n result more) (call_act k cpu result more)) (sym kind)
-        (record { live = λ live p. rw a (rw b refl); held = λ held p. rw h (rw b (rw c refl)); groups = λ groups p. rw b refl; told = tt })
+    other h1 h2 h3 h4 h5 h6 h7 h8 = grind (arith, nat_tests)
 
     shm_by : (t : Bool) → (n == number.SHM) ≡ t → (n == number.EXIT) ≡ false → (n == number.FORK) ≡ false → (n == number.EXEC) ≡ false → (n == number.WAIT) ≡ false → (n == number.SIGRETURN) ≡ false
         → (n == number.READ) ≡ false → (n == number.WRITE) ≡ false → CallDoes event pid result more cpu n
@@ -170,8 +167,5 @@ signal-does event pid signal cut handler = grind (arith, nat_tests)
 abbrev pub IsFounded : ℕ → Record → Type 0
 IsFounded g e = (child_in e ≡ Some g) × (is_some (start_in e) ≡ true)
 
-some-number : (a b : ℕ) → Some a ≡ Some b → a ≡ b
-some-number a b e = cc
-
 pub founds-does : (g event pid n result : ℕ) (more : Extra) → IsFounded g (entry.Call pid n result more) → Does event pid (entry.Call pid n result more) (Founds g)
-founds-does g event pid n result more h1 = grind (arith, nat_tests, eqb-true, fork-does, some-number)
+founds-does g event pid n result more h1 = grind (arith, nat_tests, eqb-true, fork-does, same_Some)

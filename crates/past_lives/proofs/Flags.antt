@@ -1,9 +1,8 @@
 -- Flags of processes, and the numbers of those that are set.
-use Rattle.std.proofs.Common.{◌≡◌, ℕ, zero, suc, ◌+◌, ◌<◌, ◌≤◌, ◌==◌, cond, if◌then◌else◌, filter, get_or, length, set, Bool, true, false, List, [], ◌∷◌, ◌++◌, Some, None, unwrap_or, refl, sym, ap, subst, ◌∙◌, arith}
+use Rattle.std.proofs.Common.{◌≡◌, ℕ, zero, suc, ◌+◌, ◌<◌, ◌≤◌, ◌==◌, cond, if◌then◌else◌, filter, get_or, length, set, Bool, false, List, [], ◌∷◌, ◌++◌, Some, None, unwrap_or, refl, sym, ap, subst, ◌∙◌, arith, get_or-set_same, get_or-set_other}
 use Rattle.std.proofs.lemmas.Bool.Decides.{nat_tests}
 use Rattle.std.specs.List.{range_with_len}
 use Rattle.std.proofs.lemmas.Bool.{eqb-true, eqb-false}
-use Rattle.std.proofs.lemmas.List.{get_or-set_same, get_or-set_other}
 use Rattle.arn_base.specs.declared.records.Record.{Record}
 use Rattle.acts_model.specs.Records.{LifeChange, life_told}
 use Rattle.history_model.specs.Broken.{greatest}
@@ -23,8 +22,7 @@ filter-more test a (suc n) =
     ap (λ (xs : List ℕ). cond (test a) (a ∷ xs) xs) rest ∙ by_test (test a) (filter test (range_with_len (a + 1) n)) last
   where
     by_test : (b : Bool) (xs ys : List ℕ) → cond b (a ∷ xs ++ ys) (xs ++ ys) ≡ cond b (a ∷ xs) xs ++ ys
-    by_test true xs ys = refl
-    by_test false xs ys = refl
+    by_test b xs ys = grind (arith, nat_tests)
 
 -- two tests that say the same
 pub filter-same : (p q : ℕ → Bool) (a n : ℕ) → ((k : ℕ) → a ≤ k → k < a + n → p k ≡ q k) → filter p (range_with_len a n) ≡ filter q (range_with_len a n)
@@ -65,8 +63,4 @@ flags-told entries moment most k flags e life room is told f pid le =
     by_test (life.pid == pid) refl ∙ sym (lives-told entries moment pid k e (if life.pid == pid then Some life.lives else None) is (own-change (life_told e) life pid told))
   where
     by_test : (b : Bool) → (life.pid == pid) ≡ b → get_or (set flags life.pid life.lives) pid false ≡ unwrap_or (if b then Some life.lives else None) (lives_first entries moment pid k)
-    by_test true t =
-        let same = eqb-true life.pid pid t in
-        let there : life.pid < length flags = omega arith in
-        ap (λ (p : ℕ). get_or (set flags life.pid life.lives) p false) (sym same) ∙ get_or-set_same flags life.pid life.lives false there
-    by_test false t = get_or-set_other flags life.pid pid life.lives false (λ k. eqb-false life.pid pid t (sym k)) ∙ f pid le
+    by_test b h1 = grind (arith, nat_tests, eqb-true, get_or-set_same, get_or-set_other, eqb-false)

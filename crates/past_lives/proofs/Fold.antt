@@ -1,7 +1,8 @@
 -- All records, one after the other, as long as they aren't broken.
+use Rattle.std.proofs.lemmas.Grind.{common_steps}
 use Rattle.std.proofs.Common.{◌≡◌, ℕ, suc, ◌+◌, ◌≤◌, ◌==◌, ◌&&◌, ◌||◌, not, nat_le, if◌then◌else◌, max, length, All, Bool, true, false, List, [], ◌∷◌, ◌++◌, Option, Some, None, IfSome, refl, sym, ap, subst, ◌∙◌, arith}
 use Rattle.std.proofs.lemmas.Bool.Decides.{nat_tests}
-use Rattle.std.proofs.lemmas.Bool.{eqb-true, eq-eqb, and_parts, leb-true, le-leb}
+use Rattle.std.proofs.lemmas.Bool.{eqb-true, eq-eqb, and_parts, leb-true, le-leb, not-false}
 use Rattle.arn_base.specs.declared.machine.Cpu.{Cpu}
 use Rattle.arn_base.specs.declared.records.Extra.{Extra}
 use Rattle.arn_base.specs.declared.records.Extra.TheVariants as extra
@@ -23,13 +24,12 @@ use Rattle.history_model.specs.Groups.{Groups, group_forked, groups_from, groups
 use Rattle.history_model.specs.Moments.{Numbered, changed, events_from, if_happened, lives_by, segments_by, segments_told, total}
 use Rattle.history_model.specs.Names.{is_boot, is_booted}
 use Rattle.past_lives.specs.Blocks.{HasWholeBlocks}
-use Rattle.past_lives.proofs.Bodies.{nobody-at}
 use Rattle.past_lives.proofs.Does.{Does, IsFounded, call-does, end-does, signal-does}
-use Rattle.past_lives.proofs.Records.{Stands, follows, greatest-append, un-not}
+use Rattle.past_lives.proofs.Records.{Stands, follows, greatest-append}
 use Rattle.past_lives.proofs.Sizes.{HasSizes, blocks-len, zeros-len}
 use Rattle.past_lives.proofs.Sound.{nobody-sound}
 use Rattle.past_lives.proofs.Standing.{Ends, Happening, and_then-ends, child-after, ends-ends, happens-ends, held_if, is-new, last-made, live_if, more-after, number-tells, number-told, settled-ends, stranger-state, told-child}
-use Rattle.past_lives.proofs.Steps.{State, begins-state, boot-state, live_after, seen-sizes, sounds-later, starts-well}
+use Rattle.past_lives.proofs.Steps.{State, begins-state, boot-state, live_after, sounds-later, starts-well}
 use Rattle.past_lives.proofs.Tells.{IsChild, Tells, other-lives}
 
 -- who lives behind records, all of whose events have happened
@@ -42,31 +42,11 @@ pub lived-append : (entries : List Record) (e : Record) (p : ℕ) (before : Bool
 lived-append [] e p before = refl
 lived-append (x ∷ entries) e p before = lived-append entries e p (lives_after (life_told x) p before)
 
-there : (c : Bool) (k : ℕ) (e : Record) (events : List Numbered) (p : ℕ) (before : Bool) → c ≡ true → lives_by (if_happened c k e events) p before ≡ lives_by events p (lives_after (life_told e) p before)
-there true k e events p before is = refl
-there false k e events p before is = absurd (cc)
-
 pub lives-all : (moment begins ends k : ℕ) (entries : List Record) (p : ℕ) (live : Bool) → begins ≤ ends → ends + total entries ≤ moment → lives_by (events_from moment begins ends k entries) p live ≡ lived entries p live
 lives-all moment begins ends k [] p live le past = refl
 lives-all moment begins ends k (entry.Slice pid ran ∷ entries) p live le past = lives-all moment ends (ends + ran) k entries p live (omega arith) (omega (arith, past))
-lives-all moment begins ends k (entry.Signal pid signal cut handler ∷ entries) p live le past =
-    let e = entry.Signal pid signal cut handler in
-    there (nat_le begins moment) k e _ p live (le-leb begins moment (omega (arith, le, past))) ∙ lives-all moment begins ends (k + 1) entries p (lives_after (life_told e) p live) le (omega (arith, past))
-lives-all moment begins ends k (entry.File name bytes ∷ entries) p live le past =
-    there (nat_le ends moment) k (entry.File name bytes) _ p live (le-leb ends moment (omega (arith, past))) ∙ lives-all moment begins ends (k + 1) entries p live le (omega (arith, past))
-lives-all moment begins ends k (entry.Boot name give ∷ entries) p live le past =
-    let e = entry.Boot name give in
-    there (nat_le ends moment) k e _ p live (le-leb ends moment (omega (arith, past))) ∙ lives-all moment begins ends (k + 1) entries p (lives_after (life_told e) p live) le (omega (arith, past))
-lives-all moment begins ends k (entry.Typed bytes ∷ entries) p live le past =
-    there (nat_le ends moment) k (entry.Typed bytes) _ p live (le-leb ends moment (omega (arith, past))) ∙ lives-all moment begins ends (k + 1) entries p live le (omega (arith, past))
-lives-all moment begins ends k (entry.Unplug device ∷ entries) p live le past =
-    there (nat_le ends moment) k (entry.Unplug device) _ p live (le-leb ends moment (omega (arith, past))) ∙ lives-all moment begins ends (k + 1) entries p live le (omega (arith, past))
-lives-all moment begins ends k (entry.Call pid number r more ∷ entries) p live le past =
-    let e = entry.Call pid number r more in
-    there (nat_le ends moment) k e _ p live (le-leb ends moment (omega (arith, past))) ∙ lives-all moment begins ends (k + 1) entries p (lives_after (life_told e) p live) le (omega (arith, past))
-lives-all moment begins ends k (entry.End pid status ∷ entries) p live le past =
-    let e = entry.End pid status in
-    there (nat_le ends moment) k e _ p live (le-leb ends moment (omega (arith, past))) ∙ lives-all moment begins ends (k + 1) entries p (lives_after (life_told e) p live) le (omega (arith, past))
+lives-all moment begins ends k (entry.Signal pid signal cut handler ∷ entries) p live le past = grind (arith, nat_tests, le-leb begins moment (omega (arith, le, past)), lives-all moment begins ends (k + 1) entries p (lives_after (life_told (entry.Signal pid signal cut handler)) p live) le (omega (arith, past)))
+lives-all moment begins ends k (e ∷ entries) p live le past = grind (arith, nat_tests, le-leb ends moment (omega (arith, past)), lives-all moment begins ends (k + 1) entries p (lives_after (life_told e) p live) le (omega (arith, past)))
 
 -- groups have numbers of processes
 
@@ -110,45 +90,16 @@ module _ (W : Type 0) (g until : ℕ) where
   past-next true e past live is k p = ap (lives_after (life_told e) p) (k p)
   past-next false e past live is k p = absurd (cc)
 
-  -- an event that changes nothing of processes
-  plain-reached : (b : Behind) (most : ℕ) (past : ℕ → Bool) (booted : Bool) (begins : ℕ) (live : ℕ → Bool) (held : ℕ → Option ℕ) (t : Standing) → Reached b most past booted begins live held t
-      → Reached Nowhere most past booted begins live held (record t { events = t.events + 1 })
-  plain-reached b most past booted begins live held t r =
-      record {
-        made = ends-ends (State W g t.events most t.groups live held) (State W g (t.events + 1) most t.groups live held) t.made r.made
-            (λ own s. record { lives = s.lives; sounds = λ w. sounds-later t.events (t.events + 1) own.bodies (omega arith) (s.sounds w) });
-        slice = no_slice t.pid;
-        alive = λ k pid e. absurd (cc);
-        groups = r.groups;
-        begun = r.begun;
-        ended = r.ended;
-        order = r.order;
-        known = r.known;
-        unbooted = r.unbooted;
-      }
-
   slice-reached : (pid ran : ℕ) (b : Behind) (most : ℕ) (past : ℕ → Bool) (booted : Bool) (begins : ℕ) (live : ℕ → Bool) (held : ℕ → Option ℕ) (t : Standing) → past pid ≡ true → booted ≡ true
       → Reached b most past booted begins live held t → Reached (ASlice pid) most past booted t.moment live held (after_slice g until pid ran t)
-  slice-reached pid ran b most past booted begins live held t lives is r =
-      record {
-        made = settled-ends W g t.events most t.groups live held t r.made;
-        slice = λ q e. eqb-true pid q e;
-        alive = λ k q e. (let same = eqb-true pid q e in ap live (sym same) ∙ (sym (r.known k pid) ∙ lives));
-        groups = r.groups;
-        begun = refl;
-        ended = refl;
-        order = omega arith;
-        known = λ k p. r.known (lower t.moment (t.moment + ran) (omega arith) k) p;
-        unbooted = λ e. absurd (let no = sym is ∙ e in cc);
-      }
+  slice-reached pid ran b most past booted begins live held t h1 h2 h3 = grind (arith, nat_tests, settled-ends, eqb-true, lower)
 
   -- a delivery
   delivered-behind : (p pid handler : ℕ) (b : Behind) → ((q : ℕ) → is_behind q b ≡ true → p ≡ q) → (q : ℕ) → is_behind q (behind_signal pid handler b) ≡ true → (p ≡ q) × (is_behind pid b ≡ true) × (pid ≡ q) × (not (handler == 0) ≡ true)
   delivered-behind p pid handler (ASlice at) h q e = by_test ((at == pid) && not (handler == 0)) refl e
     where
       by_test : (t : Bool) → ((at == pid) && not (handler == 0)) ≡ t → is_behind q (if t then ADelivery pid else Nowhere) ≡ true → (p ≡ q) × (is_behind pid (ASlice at) ≡ true) × (pid ≡ q) × (not (handler == 0) ≡ true)
-      by_test true k l = let parts = and_parts (at == pid) (not (handler == 0)) k in (h pid parts.0 ∙ eqb-true pid q l, parts.0, eqb-true pid q l, parts.1)
-      by_test false k l = absurd (cc)
+      by_test t h1 h2 = grind (arith, nat_tests, and_parts, eqb-true)
   delivered-behind p pid handler Nowhere h q e = absurd (cc)
   delivered-behind p pid handler (ADelivery at) h q e = absurd (cc)
 
@@ -211,10 +162,10 @@ module _ (W : Type 0) (g until : ℕ) where
 
   -- the last of a slice
   of-slice : (pid : ℕ) (b : Behind) (p : ℕ) → not (is_behind pid b) ≡ false → ((q : ℕ) → is_behind q b ≡ true → p ≡ q) → p ≡ pid
-  of-slice pid b p e h = h pid (un-not (is_behind pid b) e)
+  of-slice pid b p e h = h pid (not-false (is_behind pid b) e)
 
   window-len : (e : Record) (start : Start) → has_blocks_wrong (start_in e) ≡ false → HasWholeBlocks e → start_in e ≡ Some start → length (beginning_in start).window ≡ WINDOW_LEN
-  window-len e start h1 h2 h3 = grind (arith, nat_tests, blocks-len, un-not, zeros-len)
+  window-len e start h1 h2 h3 = grind (arith, nat_tests, blocks-len, not-false, zeros-len)
 
   fresh : (before : List Record) (pid : ℕ) (e : Record) (groups : Groups) → misnumbers before (child_in e) ≡ false → AreFounded (greatest before) groups → groups pid ≡ Some g → IsFounded g e → ⊥
   fresh before pid e groups h1 h2 h3 h4 = grind (arith, nat_tests, is-new)
@@ -236,7 +187,7 @@ module _ (W : Type 0) (g until : ℕ) where
               happening = record { act = λ cpu. call_act (kind_of number) cpu result more; tells = λ cpu. refl; does = does; child = λ cpu. told-child before e _ checks.numbers (does cpu).told };
               none = λ made. tt;
               unfounded = fresh before pid e t.groups checks.numbers r.groups;
-              alive = λ k. r.alive (lower begins t.moment r.order (sym r.ended ∙ k)) pid (un-not (is_behind pid (behind before)) checks.slice);
+              alive = λ k. r.alive (lower begins t.moment r.order (sym r.ended ∙ k)) pid (not-false (is_behind pid (behind before)) checks.slice);
               begin = λ own start starts f s.
                   begins-state W g t.events most (greatest_after e most) pid number result more t.groups live held start own (more-after e most)
                   (let new = is-new before e g checks.numbers f.0 in let le = founded-child f.0 in le) f (λ w. window-len e start checks.blocks (whole w) starts) s;
@@ -271,7 +222,7 @@ module _ (W : Type 0) (g until : ℕ) where
               happening = record { act = λ cpu. Faults status; tells = λ cpu. refl; does = λ cpu. subst (λ (p : ℕ). Does t.events p e (Faults status)) (sym same) (end-does t.events pid status); child = λ cpu. tt };
               none = λ made. tt;
               unfounded = λ is f. (let no = f.1 in cc);
-              alive = λ k. r.alive (lower begins t.moment r.order (sym r.ended ∙ k)) pid (un-not (is_behind pid (behind before)) checks.slice);
+              alive = λ k. r.alive (lower begins t.moment r.order (sym r.ended ∙ k)) pid (not-false (is_behind pid (behind before)) checks.slice);
               begin = λ own start starts f s. absurd (let no = f.1 in cc);
               made = r.made;
             }));
@@ -388,31 +339,25 @@ module _ (W : Type 0) (g until : ℕ) where
       → ((p : ℕ) (before : Bool) → lives_after (life_told e) p before ≡ before) → ((p : ℕ) → segments_told t.events e held p ≡ held p)
       → Reached (behind before) (greatest before) (λ p. lived before p false) (is_booted before) begins live held t
       → Reached Nowhere (greatest before) (λ p. lives_after (life_told e) p (lived before p false)) (is_booted before || false) begins (live_if h e live) (held_if h t.events e held) (record t { events = t.events + 1 })
-  nothing-next before e begins live held t h lives segments r =
-      reached-as Nowhere (greatest before) (λ p. lived before p false) (λ p. lives_after (life_told e) p (lived before p false)) (is_booted before) (is_booted before || false) begins live (live_if h e live) held (held_if h t.events e held) (record t { events = t.events + 1 })
-      (λ p. lives p (lived before p false)) (or-none (is_booted before)) (live-none h e live lives) (held-none h t.events e held segments)
-      (plain-reached (behind before) (greatest before) (λ p. lived before p false) (is_booted before) begins live held t r)
+  nothing-next before e begins live held t h lives segments r = grind (arith, or-none (is_booted before), live-none h e live lives, held-none h t.events e held segments)
 
   runs-alive : (before : List Record) (pid ran : ℕ) → Stands before (entry.Slice pid ran) → lived before pid false ≡ true
-  runs-alive before pid ran h1 = grind (arith, nat_tests, lives-all, un-not)
+  runs-alive before pid ran h1 = grind (arith, nat_tests, lives-all, not-false)
 
   record-reached : (before : List Record) (e : Record) (begins : ℕ) (live : ℕ → Bool) (held : ℕ → Option ℕ) (t : Standing) → Stands before e → (W → HasWholeBlocks e)
       → Reached (behind before) (greatest before) (λ p. lived before p false) (is_booted before) begins live held t → Next before e begins live held t
-  record-reached before (entry.File name bytes) begins live held t checks whole r = nothing-next before (entry.File name bytes) begins live held t (nat_le t.moment until) (λ p b. refl) (λ p. refl) r
-  record-reached before (entry.Typed bytes) begins live held t checks whole r = nothing-next before (entry.Typed bytes) begins live held t (nat_le t.moment until) (λ p b. refl) (λ p. refl) r
-  record-reached before (entry.Unplug device) begins live held t checks whole r = nothing-next before (entry.Unplug device) begins live held t (nat_le t.moment until) (λ p b. refl) (λ p. refl) r
   record-reached before (entry.Boot name give) begins live held t checks whole r =
       boot-reached name give (behind before) (greatest before) (λ p. lived before p false) (is_booted before) begins live held t checks.comes r
   record-reached before (entry.Slice pid ran) begins live held t checks whole r =
       reached-as (ASlice pid) (greatest before) (λ p. lived before p false) (λ p. lived before p false) (is_booted before) (is_booted before || false) t.moment live live held held (after_slice g until pid ran t)
       (λ p. refl) (or-none (is_booted before)) refl refl
-      (slice-reached pid ran (behind before) (greatest before) (λ p. lived before p false) (is_booted before) begins live held t (runs-alive before pid ran checks) (un-not (is_booted before) checks.comes) r)
+      (slice-reached pid ran (behind before) (greatest before) (λ p. lived before p false) (is_booted before) begins live held t (runs-alive before pid ran checks) (not-false (is_booted before) checks.comes) r)
   record-reached before (entry.Signal pid signal cut handler) begins live held t checks whole r =
       let e : Record = entry.Signal pid signal cut handler in
       reached-as (behind_signal pid handler (behind before)) (greatest before) (λ p. lives_after (life_told e) p (lived before p false)) (λ p. lives_after (life_told e) p (lived before p false)) (is_booted before) (is_booted before || false) begins
       (live_if (nat_le begins until) e live) (live_if (nat_le begins until) e live) held (held_if (nat_le begins until) t.events e held) (after_signal g pid e t)
       (λ p. refl) (or-none (is_booted before)) refl (held-none (nat_le begins until) t.events e held (λ p. refl))
-      (signal-reached pid signal cut handler (behind before) (greatest before) (λ p. lived before p false) (is_booted before) begins live held t (un-not (is_behind pid (behind before)) checks.slice) r)
+      (signal-reached pid signal cut handler (behind before) (greatest before) (λ p. lived before p false) (is_booted before) begins live held t (not-false (is_behind pid (behind before)) checks.slice) r)
   record-reached before (entry.Call pid number result more) begins live held t checks whole r =
       let e : Record = entry.Call pid number result more in
       reached-as Nowhere (greatest_after e (greatest before)) (λ p. lives_after (life_told e) p (lived before p false)) (λ p. lives_after (life_told e) p (lived before p false)) (is_booted before) (is_booted before || false) begins
@@ -425,18 +370,14 @@ module _ (W : Type 0) (g until : ℕ) where
       (live_if (nat_le t.moment until) e live) (live_if (nat_le t.moment until) e live) (held_if (nat_le t.moment until) t.events e held) (held_if (nat_le t.moment until) t.events e held) (after_last g pid e t)
       (λ p. refl) (or-none (is_booted before)) refl refl
       (end-reached pid status before (λ p. lived before p false) (is_booted before) begins live held t checks r)
+  record-reached before x begins live held t checks whole r = nothing-next before x begins live held t (nat_le t.moment until) (λ p b. refl) (λ p. refl) r
 
   pub behind-append : (b : Behind) (rs : List Record) (e : Record) → behind_from b (rs ++ e ∷ []) ≡ behind_record (behind_from b rs) e
   behind-append b [] e = refl
   behind-append b (r ∷ rs) e = behind-append (behind_record b r) rs e
 
   booted-append : (rs : List Record) (e : Record) → is_booted (rs ++ e ∷ []) ≡ (is_booted rs || is_boot e)
-  booted-append [] e = or-none (is_boot e)
-  booted-append (r ∷ rs) e = by_test (is_boot r) (booted-append rs e)
-    where
-      by_test : (b : Bool) → is_booted (rs ++ e ∷ []) ≡ (is_booted rs || is_boot e) → (b || is_booted (rs ++ e ∷ [])) ≡ ((b || is_booted rs) || is_boot e)
-      by_test true ih = refl
-      by_test false ih = ih
+  booted-append rs e = grind (arith, common_steps, nat_tests, or-none)
 
   next-reached : (before : List Record) (e : Record) (begins : ℕ) (live : ℕ → Bool) (held : ℕ → Option ℕ) (t : Standing) → Next before e begins live held t
       → Reached (behind (before ++ e ∷ [])) (greatest (before ++ e ∷ [])) (λ p. lived (before ++ e ∷ []) p false) (is_booted (before ++ e ∷ []))
@@ -470,9 +411,7 @@ module _ (W : Type 0) (g until : ℕ) where
   all-told : (rest before : List Record) (begins : ℕ) (live : ℕ → Bool) (held : ℕ → Option ℕ) (t : Standing) → broken_from before rest ≡ None → (W → All HasWholeBlocks rest)
       → Reached (behind before) (greatest before) (λ p. lived before p false) (is_booted before) begins live held t
       → Ends (Told (groups_from rest t.groups) (events_from until begins t.moment t.events rest) live held) (settled (replayed g until t rest))
-  all-told [] before begins live held t broken whole r =
-      ends-ends (State W g t.events (greatest before) t.groups live held) (Told t.groups [] live held) (settled t) (settled-ends W g t.events (greatest before) t.groups live held t r.made)
-      (λ own s. (s.lives.tells, λ w p v sees. seen-sizes t.events own.bodies p v (s.sounds w) sees))
+  all-told [] before begins live held t broken whole r = grind (arith, nat_tests, settled-ends W g t.events (greatest before) t.groups live held)
   all-told (e ∷ rest) before begins live held t broken whole r =
       let more = follows before e rest broken in
       let first = record-reached before e begins live held t more.0 (λ w. whole w 0 e (omega arith)) r in
@@ -481,21 +420,7 @@ module _ (W : Type 0) (g until : ℕ) where
       (λ w i d l. whole w (suc i) d (omega arith)) (next-reached before e begins live held t first))
 
   first-reached : Reached Nowhere 0 (λ p. false) false 0 (λ p. false) (λ p. None) at_first
-  first-reached =
-      record {
-        made = record {
-          lives = record { tells = λ p is. absurd (cc); unborn = λ p l. (nobody-at p, refl) };
-          sounds = λ w. record { shared = λ k. false; sound = nobody-sound 0 };
-        };
-        slice = λ pid e. absurd (cc);
-        alive = λ k pid e. absurd (cc);
-        groups = λ p. tt;
-        begun = sym (le-leb 0 until (omega arith));
-        ended = sym (le-leb 0 until (omega arith));
-        order = omega arith;
-        known = λ k p. refl;
-        unbooted = λ k. refl;
-      }
+  first-reached = grind (arith, nobody-sound 0, le-leb 0 until (omega arith))
 
   pub alone-told : (entries : List Record) (own : Own) → first_broken entries ≡ None → (W → All HasWholeBlocks entries) → alone.alone entries g until ≡ Makes own
       → Told (groups_from entries (λ p. None)) (events_from until 0 0 0 entries) (λ p. false) (λ p. None) own

@@ -1,7 +1,8 @@
 -- Whoever lives has a group.
 use Rattle.std.proofs.Common.{◌≡◌, ◌⊎◌, inl, inr, ℕ, ◌+◌, nat_le, Bool, true, false, is_some, List, [], ◌∷◌, ◌++◌, Option, Some, None, refl, sym, ap, ◌∙◌, arith}
 use Rattle.std.proofs.lemmas.Bool.Decides.{nat_tests}
-use Rattle.std.proofs.lemmas.Bool.{eqb-true, eqb-false, and_parts}
+use Rattle.std.proofs.lemmas.Bool.{eqb-true, eqb-false, and_parts, not-false}
+use Rattle.std.proofs.lemmas.Option.{same_Some}
 use Rattle.arn_base.specs.declared.records.Extra.{Extra}
 use Rattle.arn_base.specs.declared.records.Record.{Record}
 use Rattle.arn_base.specs.declared.records.Record.TheVariants as entry
@@ -10,7 +11,7 @@ use Rattle.history_model.specs.Broken.{Behind, behind, behind_from, behind_recor
 use Rattle.history_model.specs.Groups.{Groups, group_forked, groups_from, groups_told}
 use Rattle.history_model.specs.Moments.{Numbered, changed, events_from, if_happened, lives_at, lives_by}
 use Rattle.past_lives.proofs.Fold.{lived, lived-append, lives-all}
-use Rattle.past_lives.proofs.Records.{Stands, follows, un-not}
+use Rattle.past_lives.proofs.Records.{Stands, follows}
 
 abbrev Has : Groups → ℕ → Type 0
 Has groups p = is_some (groups p) ≡ true
@@ -56,23 +57,15 @@ signal-behind : (pid handler : ℕ) (b : Behind) (groups : Groups) → ((p : ℕ
 signal-behind pid handler b groups h1 p h2 = grind (arith, nat_tests, and_parts, eqb-true)
 
 runs-alive : (before : List Record) (pid ran : ℕ) → Stands before (entry.Slice pid ran) → lived before pid false ≡ true
-runs-alive before pid ran h1 = grind (arith, nat_tests, lives-all, un-not)
-
-some-number : (a b : ℕ) → Some a ≡ Some b → a ≡ b
-some-number a b e = cc
+runs-alive before pid ran h1 = grind (arith, nat_tests, lives-all, not-false)
 
 parent-has : (before : List Record) (e : Record) (groups : Groups) → Stands before e → Grouped before (behind before) groups → (pid : ℕ) → caller e ≡ Some pid → Has groups pid
-parent-has before e groups h1 h2 pid h3 = grind (arith, nat_tests, some-number, un-not)
+parent-has before e groups h1 h2 pid h3 = grind (arith, nat_tests, same_Some, not-false)
 
 slice-next : (before : List Record) (e : Record) (groups : Groups) → Stands before e → Grouped before (behind before) groups → (p : ℕ) → is_behind p (behind_record (behind before) e) ≡ true → Has (groups_told e groups) p
 slice-next before (entry.Slice pid ran) groups checks g p k = ap (λ (q : ℕ). is_some (groups q)) (sym (eqb-true pid p k)) ∙ g.past pid (runs-alive before pid ran checks)
 slice-next before (entry.Signal pid signal cut handler) groups checks g p k = signal-behind pid handler (behind before) groups g.slice p k
-slice-next before (entry.Call pid number result more) groups checks g p k = absurd (cc)
-slice-next before (entry.End pid status) groups checks g p k = absurd (cc)
-slice-next before (entry.Boot name give) groups checks g p k = absurd (cc)
-slice-next before (entry.File name bytes) groups checks g p k = absurd (cc)
-slice-next before (entry.Typed bytes) groups checks g p k = absurd (cc)
-slice-next before (entry.Unplug device) groups checks g p k = absurd (cc)
+slice-next before _ groups checks g p k = absurd (cc)
 
 behind-append : (b : Behind) (rs : List Record) (e : Record) → behind_from b (rs ++ e ∷ []) ≡ behind_record (behind_from b rs) e
 behind-append b [] e = refl
@@ -104,18 +97,7 @@ all-has (entry.Slice pid ran ∷ rest) before until begins ends n groups p b bro
     all-has rest (before ++ entry.Slice pid ran ∷ []) until ends (ends + ran) n groups p b more.1 (grouped-next before (entry.Slice pid ran) groups more.0 g) h k
 all-has (entry.Signal pid signal cut handler ∷ rest) before until begins ends n groups p b broken g h k =
     event-has (entry.Signal pid signal cut handler) rest before until begins ends n (nat_le begins until) groups p b broken g h (all-has rest (before ++ entry.Signal pid signal cut handler ∷ []) until begins ends (n + 1)) k
-all-has (entry.Call pid number result more ∷ rest) before until begins ends n groups p b broken g h k =
-    event-has (entry.Call pid number result more) rest before until begins ends n (nat_le ends until) groups p b broken g h (all-has rest (before ++ entry.Call pid number result more ∷ []) until begins ends (n + 1)) k
-all-has (entry.End pid status ∷ rest) before until begins ends n groups p b broken g h k =
-    event-has (entry.End pid status) rest before until begins ends n (nat_le ends until) groups p b broken g h (all-has rest (before ++ entry.End pid status ∷ []) until begins ends (n + 1)) k
-all-has (entry.Boot name give ∷ rest) before until begins ends n groups p b broken g h k =
-    event-has (entry.Boot name give) rest before until begins ends n (nat_le ends until) groups p b broken g h (all-has rest (before ++ entry.Boot name give ∷ []) until begins ends (n + 1)) k
-all-has (entry.File name bytes ∷ rest) before until begins ends n groups p b broken g h k =
-    event-has (entry.File name bytes) rest before until begins ends n (nat_le ends until) groups p b broken g h (all-has rest (before ++ entry.File name bytes ∷ []) until begins ends (n + 1)) k
-all-has (entry.Typed bytes ∷ rest) before until begins ends n groups p b broken g h k =
-    event-has (entry.Typed bytes) rest before until begins ends n (nat_le ends until) groups p b broken g h (all-has rest (before ++ entry.Typed bytes ∷ []) until begins ends (n + 1)) k
-all-has (entry.Unplug device ∷ rest) before until begins ends n groups p b broken g h k =
-    event-has (entry.Unplug device) rest before until begins ends n (nat_le ends until) groups p b broken g h (all-has rest (before ++ entry.Unplug device ∷ []) until begins ends (n + 1)) k
+all-has (e ∷ rest) before until begins ends n groups p b broken g h k = grind (arith, nat_tests, event-has e rest before until begins ends n (nat_le ends until) groups p b broken g h (all-has rest (before ++ e ∷ []) until begins ends (n + 1)) k)
 
 pub lives-grouped : (entries : List Record) (moment pid : ℕ) → first_broken entries ≡ None → lives_at entries moment pid ≡ true → is_some (groups_from entries (λ p. None) pid) ≡ true
 lives-grouped entries moment pid broken k =

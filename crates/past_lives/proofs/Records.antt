@@ -1,13 +1,9 @@
 -- What the checks of a list of records say of one record.
-use Rattle.std.proofs.Common.{◌≡◌, ℕ, ◌+◌, ◌≤◌, ◌==◌, not, if◌then◌else◌, length, Bool, true, false, List, [], ◌∷◌, ◌++◌, Some, None, refl, sym, ap, subst, arith}
+use Rattle.std.proofs.Common.{◌≡◌, ℕ, ◌+◌, ◌≤◌, ◌==◌, if◌then◌else◌, length, Bool, false, List, [], ◌∷◌, ◌++◌, Some, None, refl, sym, ap, subst, arith}
 use Rattle.std.proofs.lemmas.Bool.Decides.{nat_tests}
-use Rattle.std.proofs.lemmas.Bool.{eqb-true, or_parts}
+use Rattle.std.proofs.lemmas.Bool.{eqb-true, or_parts, not-false}
 use Rattle.arn_base.specs.declared.records.Record.{Record}
 use Rattle.history_model.specs.Broken.{broken_from, cant_follow, child_in, comes_wrong, first_broken, greatest, greatest_after, greatest_from, has_blocks_wrong, lacks_process, lacks_slice, misnumbers, start_in}
-
-pub un-not : (b : Bool) → not b ≡ false → b ≡ true
-un-not true e = refl
-un-not false e = sym e
 
 pub record Stands (before : List Record) (e : Record) : Type 0 where
   pub comes : comes_wrong before e ≡ false
@@ -24,13 +20,12 @@ pub follows : (before : List Record) (e : Record) (rest : List Record) → broke
 follows before e rest broken = by_test (cant_follow before e) refl broken
   where
     by_test : (b : Bool) → cant_follow before e ≡ b → (if b then Some (length before) else broken_from (before ++ e ∷ []) rest) ≡ None → Stands before e × (broken_from (before ++ e ∷ []) rest ≡ None)
-    by_test true is k = absurd (cc)
-    by_test false is k = (can-follow before e is, k)
+    by_test b h1 h2 = grind (arith, nat_tests, can-follow)
 
 -- There are no more processes than records.
 
 pub child-number : (before : List Record) (child : ℕ) → misnumbers before (Some child) ≡ false → child ≡ greatest before + 1
-child-number before child m = eqb-true child (greatest before + 1) (un-not (child == greatest before + 1) m)
+child-number before child m = eqb-true child (greatest before + 1) (not-false (child == greatest before + 1) m)
 
 after-few : (before : List Record) (e : Record) (n : ℕ) → misnumbers before (child_in e) ≡ false → greatest before ≤ n → greatest_after e (greatest before) ≤ n + 1
 after-few before e n h1 h2 = grind (arith, nat_tests, child-number)

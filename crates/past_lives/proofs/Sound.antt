@@ -1,7 +1,6 @@
 -- Bodies whose memories were made by earlier events, windows and segments apart, each of its full length.
-use Rattle.std.proofs.Common.{◌≡◌, ℕ, ◌+◌, ◌<◌, ◌≤◌, ◌==◌, cond, length, List, Bool, true, false, [], Option, Some, None, IfSome, refl, ap, ne_eqb, arith}
+use Rattle.std.proofs.Common.{◌≡◌, ℕ, ◌+◌, ◌<◌, ◌≤◌, ◌==◌, cond, length, List, Bool, true, false, [], Option, Some, None, IfSome, refl, ap, ne_eqb, arith, eqb-true, eq-eqb}
 use Rattle.std.proofs.lemmas.Bool.Decides.{nat_tests}
-use Rattle.std.proofs.lemmas.Bool.{eqb-true, eq-eqb}
 use Rattle.parts_model.specs.declared.limits.TheConstants.{WINDOW_LEN, SEGMENT_LEN}
 use Rattle.acts_model.specs.Acts.{Act, Starts, Shares, Beginning, acted, begun, child_view, done_by, joined, restored}
 use Rattle.acts_model.specs.Bodies.{Body, Bodies, View, become, body_at, memory_at, nobody, put, remove, view, laid_segment}

@@ -1,12 +1,12 @@
 -- A group alone, record by record, beside what the records tell of its members.
-use Rattle.std.proofs.Common.{◌≡◌, ℕ, zero, suc, ◌+◌, ◌≤◌, ◌&&◌, if◌then◌else◌, Bool, true, false, List, Option, Some, None, IfSome, option_map, refl, sym, ap, subst, ◌∙◌, arith}
+use Rattle.std.proofs.Common.{◌≡◌, ℕ, zero, suc, ◌+◌, ◌≤◌, ◌&&◌, if◌then◌else◌, Bool, true, false, List, Option, Some, None, IfSome, option_map, refl, sym, ap, subst, ◌∙◌, arith, eqb-true, eq-eqb}
 use Rattle.std.proofs.lemmas.Bool.Decides.{nat_tests}
-use Rattle.std.proofs.lemmas.Bool.{eqb-true, eq-eqb}
+use Rattle.std.proofs.lemmas.Option.{same_Some}
 use Rattle.arn_base.specs.declared.machine.Cpu.{Cpu}
 use Rattle.arn_base.specs.declared.records.Record.{Record}
 use Rattle.arn_base.specs.declared.records.Start.{Start}
 use Rattle.acts_model.specs.Acts.{Act, Founds}
-use Rattle.acts_model.specs.Bodies.{Body, View, body_at, seen, view}
+use Rattle.acts_model.specs.Bodies.{Body, View, seen, view}
 use Rattle.acts_model.specs.Disagreement.{Wrong, wrong_with}
 use Rattle.acts_model.specs.Records.{life_told, lives_after}
 use Rattle.acts_model.specs.Told.{act_of}
@@ -36,14 +36,11 @@ ends-ends P Q (Fails disagrees) h k = tt
 
 -- a child that a record tells of has a new number
 
-some-number : (a b : ℕ) → Some a ≡ Some b → a ≡ b
-some-number a b e = cc
-
 pub more-after : (e : Record) (n : ℕ) → n ≤ greatest_after e n
 more-after e n = grind (arith, nat_tests)
 
 pub child-after : (e : Record) (n child : ℕ) → child_in e ≡ Some child → child ≤ greatest_after e n
-child-after e n child h1 = grind (arith, nat_tests, some-number)
+child-after e n child h1 = grind (arith, nat_tests, same_Some)
 
 pub is-new : (before : List Record) (e : Record) (child : ℕ) → misnumbers before (child_in e) ≡ false → child_in e ≡ Some child → child ≡ greatest before + 1
 is-new before e child m c = child-number before child (subst (λ (o : Option ℕ). misnumbers before o ≡ false) c m)
@@ -73,8 +70,7 @@ module _ (W : Type 0) (g : ℕ) where
     where
       by_plain : (o : Option Own) → IfSome o (State W g n most groups live held) → ((own : Own) → State W g n most groups live held own → Ends (State W g n most groups live held) (plains slice (suc ran) left own))
           → Ends (State W g n most groups live held) (plain_or slice ran o (plains slice (suc ran) left))
-      by_plain None k ih = tt
-      by_plain (Some next) k ih = ih next k
+      by_plain o h1 h2 = grind (arith, nat_tests)
 
   pub settled-ends : (n most : ℕ) (groups : Groups) (live : ℕ → Bool) (held : ℕ → Option ℕ) (t : Standing) → Ends (State W g n most groups live held) t.made → Ends (State W g n most groups live held) (settled t)
   settled-ends n most groups live held t h =
@@ -88,8 +84,7 @@ module _ (W : Type 0) (g : ℕ) where
   happens-ends event most most' pid groups live held e own more h unfounded is alive s = by_view (seen own.bodies pid) refl
     where
       dead : (o : Option Body) → option_map (view own.bodies) o ≡ None → Tells o (live pid) (held pid) → live pid ≡ false
-      dead None k t = t
-      dead (Some x) k t = absurd (cc)
+      dead o h1 h2 = grind (arith, nat_tests)
 
       by_act : (v : View) → seen own.bodies pid ≡ Some v → IfSome (act_of v.body.cpu e) (StartsWell v)
           → Ends (State W g (event + 1) most' (groups_told e groups) (live_after e live) (segments_told event e held)) (act_done pid event e v (act_of v.body.cpu e) own)
@@ -105,8 +100,7 @@ module _ (W : Type 0) (g : ℕ) where
       by_wrong v sees (Some wrong) w = tt
 
       by_view : (o : Option View) → seen own.bodies pid ≡ o → Ends (State W g (event + 1) most' (groups_told e groups) (live_after e live) (segments_told event e held)) (record_seen pid event e o own)
-      by_view None sees = absurd (let no = dead (body_at own.bodies pid) sees (s.lives.tells pid is) in cc)
-      by_view (Some v) sees = by_wrong v sees (wrong_with v (stands_at v) e) refl
+      by_view o h1 = grind (arith, nat_tests, dead, by_wrong)
 
   slice-ends : (most most' : ℕ) (groups : Groups) (live : ℕ → Bool) (held : ℕ → Option ℕ) (slice : Slice) (owed : ℕ) (e : Record) (own : Own) → most ≤ most' → Happening slice.event most most' slice.pid e
       → ((made : Made) → Ends (State W g (slice.event + 1) most' (groups_told e groups) (live_after e live) (segments_told slice.event e held)) (no_instruction slice.event e made))
@@ -146,7 +140,7 @@ module _ (W : Type 0) (g : ℕ) where
 
 -- a group begins, or nothing happens
 begins-ends : (P : Own → Type 0) (g event : ℕ) (e : Record) (own : Own) → ((start : Start) → start_in e ≡ Some start → IsFounded g e → P (begins g event e start own)) → ((IsFounded g e → ⊥) → P own) → Ends P (begins_by g event e own)
-begins-ends P g event e own h1 h2 = grind (arith, nat_tests, eq-eqb, eqb-true, some-number)
+begins-ends P g event e own h1 h2 = grind (arith, nat_tests, eq-eqb, eqb-true, same_Some)
 
 -- what is told where the event has happened, and what else
 
@@ -162,7 +156,7 @@ number-tells g (Some m) e = ap (λ (n : ℕ). Some n) (eqb-true m g e)
 
 pub number-told : (g : ℕ) (o : Option ℕ) → is_number g o ≡ false → o ≡ Some g → ⊥
 number-told g None e f = cc
-number-told g (Some m) e f = let same = some-number m g f in let here = eq-eqb m g same in cc
+number-told g (Some m) e f = let same = same_Some m g f in let here = eq-eqb m g same in cc
 
 -- the last event of a slice
 pub record Lasts (W : Type 0) (g pid : ℕ) (most most' : ℕ) (live : ℕ → Bool) (held : ℕ → Option ℕ) (e : Record) (t : Standing) : Type 0 where

@@ -1,14 +1,15 @@
 -- What a group alone has made, beside what was told of its members: with an instruction, an act, the boot, or a group's begin more.
-use Rattle.std.proofs.Common.{◌≡◌, ℕ, ◌+◌, ◌≤◌, ◌==◌, if◌then◌else◌, length, max, Bool, true, false, List, [], Option, Some, None, IfSome, option_map, refl, sym, ap, subst, ◌∙◌, arith}
+use Rattle.std.proofs.Common.{◌≡◌, ℕ, ◌+◌, ◌≤◌, ◌==◌, if◌then◌else◌, length, max, Bool, true, false, List, [], Option, Some, None, IfSome, option_map, refl, sym, ap, subst, ◌∙◌, arith, eqb-true}
 use Rattle.std.proofs.lemmas.Bool.Decides.{nat_tests}
-use Rattle.std.proofs.lemmas.Bool.{eqb-true}
+use Rattle.std.proofs.lemmas.Option.{same_Some}
+use Rattle.std.proofs.lemmas.Bool.{not-false}
 use Rattle.arn_base.specs.declared.records.Extra.{Extra}
 use Rattle.arn_base.specs.declared.records.Extra.TheVariants as extra
 use Rattle.arn_base.specs.declared.records.Give.{Give}
 use Rattle.arn_base.specs.declared.records.Record.{Record}
 use Rattle.arn_base.specs.declared.records.Record.TheVariants as entry
 use Rattle.arn_base.specs.declared.records.Start.{Start}
-use Rattle.rv64_model.specs.Instruction.{Effect, Next, Call, End}
+use Rattle.rv64_model.specs.Instruction.{Effect, Next, Call}
 use Rattle.parts_model.specs.Image.{is_image}
 use Rattle.parts_model.specs.declared.limits.TheConstants.{WINDOW_LEN}
 use Rattle.parts_model.specs.Replies.{is_success}
@@ -18,13 +19,12 @@ use Rattle.acts_model.specs.Disagreement.{Wrong, act_wrong, is_other_call, isnt_
 use Rattle.acts_model.specs.Records.{life_told, lives_after}
 use Rattle.acts_model.specs.Told.{Kind, Fork, Exec, Wait, Read, Write, kind_of, call_act, act_of}
 use Rattle.acts_model.specs.Transfers.{holds_of}
-use Rattle.acts_model.specs.Views.{after_instr, argument, stands_at, with_cpu}
+use Rattle.acts_model.specs.Views.{argument, stands_at, with_cpu}
 use Rattle.history_model.specs.Alone.{Own, begins, plain_by, plain_in}
 use Rattle.history_model.specs.Groups.{Groups, groups_told}
 use Rattle.history_model.specs.Moments.{changed, segments_told}
 use Rattle.past_lives.proofs.Bodies.{put-body}
 use Rattle.past_lives.proofs.Does.{Does, IsFounded, act_groups, act_held, act_live, founds-does}
-use Rattle.past_lives.proofs.Records.{un-not}
 use Rattle.past_lives.proofs.Sizes.{HasSizes, StartsWell, acted-sizes, instr-sizes, zeros-len}
 use Rattle.past_lives.proofs.Sound.{Fits, Marks, Sound, begun-sound, done-sound, fits-later, mark, mark-here, mark-same, put-sound, reach-body, sound-later}
 use Rattle.past_lives.proofs.Tells.{IsChild, IsFounding, Lives, born-lives, is-live, lives-as, own-lives, put-lives}
@@ -38,29 +38,17 @@ pub record Sounds (n : ℕ) (b : Bodies) : Type 0 where
 pub sounds-later : (n n' : ℕ) (b : Bodies) → n ≤ n' → Sounds n b → Sounds n' b
 sounds-later n n' b le s = record { shared = s.shared; sound = sound-later s.shared s.shared n n' b (λ k l. refl) le s.sound }
 
-some-view : (v w : View) → Some v ≡ Some w → v ≡ w
-some-view v w e = cc
-
 record IsSized (shared : Marks) (n : ℕ) (v : View) : Type 0 where
   fits : Fits shared n (holds_of v.body)
   sizes : HasSizes v
 
 is-sized : (shared : Marks) (n : ℕ) (b : Bodies) (pid : ℕ) (v : View) → Sound shared n b → seen b pid ≡ Some v → IsSized shared n v
-is-sized shared n b pid v h1 h2 = grind (arith, nat_tests, some-view)
-
-pub seen-sizes : (n : ℕ) (b : Bodies) (pid : ℕ) (v : View) → Sounds n b → seen b pid ≡ Some v → HasSizes v
-seen-sizes n b pid v s sees = (is-sized s.shared n b pid v s.sound sees).sizes
+is-sized shared n b pid v h1 h2 = grind (arith, nat_tests, same_Some)
 
 plain-sounds : (n pid : ℕ) (b : Bodies) (v : View) (effect : Effect) → seen b pid ≡ Some v → stands_at v ≡ effect → Sounds n b
     → (own : Own) → own.bodies ≡ b → IfSome (plain_by pid own v effect) (λ (o : Own). Sounds n o.bodies)
-plain-sounds n pid b v (Next instr cpu memory) sees stands s own is =
-    let z = is-sized s.shared n b pid v s.sound sees in
-    let same = ap holds_of (reach-body memory (with_cpu cpu v)) in
-    let w = after_instr cpu memory v in
-    subst (λ (c : Bodies). Sounds n (put pid w c)) (sym is)
-    (record { shared = s.shared; sound = put-sound s.shared n pid w b (subst (Fits s.shared n) (sym same) z.fits) (instr-sizes v instr cpu memory z.sizes stands) s.sound })
-plain-sounds n pid b v Call sees stands s own is = tt
-plain-sounds n pid b v (End status) sees stands s own is = tt
+plain-sounds n pid b v (Next instr cpu memory) sees stands s own is = grind (arith, nat_tests, reach-body memory (with_cpu cpu v), put-sound s.shared, instr-sizes v instr cpu memory (is-sized s.shared n b pid v s.sound sees).sizes stands)
+plain-sounds n pid b v _ sees stands s own is = tt
 
 act-sounds : (event pid : ℕ) (b : Bodies) (v : View) (act : Act) → StartsWell v act → seen b pid ≡ Some v → Sounds event b → Sounds (event + 1) (done pid event act b)
 act-sounds event pid b v act well sees s =
@@ -120,7 +108,7 @@ if-well v true x y h k = h
 if-well v false x y h k = k
 
 pub starts-well : (v : View) (file : List ℕ) (block len : ℕ) (more : Extra) → act_wrong v (Starts file block len) more ≡ None → StartsWell v (Starts file block len)
-starts-well v file block len more h1 = grind (arith, nat_tests, or_else-none, un-not, wrong_if-none)
+starts-well v file block len more h1 = grind (arith, nat_tests, or_else-none, not-false, wrong_if-none)
 
 fork-well : (v : View) (result : ℕ) (more : Extra) → StartsWell v (call_act Fork v.body.cpu result more)
 fork-well v result (extra.Start start) = if-well v (is_success result) (Founds result) (Returns result) tt tt
@@ -144,18 +132,14 @@ call-well : (v : View) (kind : Kind) (result : ℕ) (more : Extra) → act_wrong
 call-well v kind result more h1 = grind (arith, nat_tests, exec-well, fork-well, if-well, read-well, wait-well, write-well)
 
 pub record-well : (v : View) (effect : Effect) (e : Record) → wrong_with v effect e ≡ None → IfSome (act_of v.body.cpu e) (StartsWell v)
-record-well v effect (entry.File name bytes) w = tt
 record-well v effect (entry.Boot name give) w = starts-well v give.bytes 0 0 extra.Nothing w
-record-well v effect (entry.Typed bytes) w = tt
-record-well v effect (entry.Unplug device) w = tt
-record-well v effect (entry.Slice pid ran) w = tt
 record-well v effect (entry.Signal pid signal cut handler) w = if-well v (handler == 0) (Dies signal cut) (Delivers signal handler cut) tt tt
 record-well v effect (entry.Call pid number result more) w =
     let act = call_act (kind_of number) v.body.cpu result more in
     let a = or_else-none (isnt_call effect number) (or_else (is_other_call v.body.cpu number) (act_wrong v act more)) w in
     let b = or_else-none (is_other_call v.body.cpu number) (act_wrong v act more) a.1 in
     call-well v (kind_of number) result more b.1
-record-well v effect (entry.End pid status) w = tt
+record-well v effect _ w = tt
 
 -- all that is kept: what is told of members, and, if blocks are whole, that windows are
 
@@ -170,29 +154,20 @@ live_after e live p = lives_after (life_told e) p (live p)
 
 same-lives : (g : ℕ) (groups : Groups) (most : ℕ) (live : ℕ → Bool) (held : ℕ → Option ℕ) (b : Bodies) (pid : ℕ) (v w : View) → seen b pid ≡ Some v → w.body.segment ≡ v.body.segment
     → Lives g groups most live held b → Lives g groups most live held (put pid w b)
-same-lives g groups most live held b pid v w h1 h2 h3 = grind (arith, nat_tests, eqb-true, put-body, some-view)
+same-lives g groups most live held b pid v w h1 h2 h3 = grind (arith, nat_tests, eqb-true, put-body, same_Some)
 
 pub plain-state : (W : Type 0) (g n most pid : ℕ) (groups : Groups) (live : ℕ → Bool) (held : ℕ → Option ℕ) (own : Own) → State W g n most groups live held own
     → IfSome (plain_in pid own (seen own.bodies pid)) (State W g n most groups live held)
 plain-state W g n most pid groups live held own s = by_view (seen own.bodies pid) refl
   where
     by_effect : (v : View) (effect : Effect) → seen own.bodies pid ≡ Some v → IfSome (plain_by pid own v effect) (λ (o : Own). W → Sounds n o.bodies) → IfSome (plain_by pid own v effect) (State W g n most groups live held)
-    by_effect v (Next instr cpu memory) sees f =
-        record {
-          lives = same-lives g groups most live held own.bodies pid v (after_instr cpu memory v) sees (ap (λ x. x.segment) (reach-body memory (with_cpu cpu v))) s.lives;
-          sounds = f;
-        }
-    by_effect v Call sees f = tt
-    by_effect v (End status) sees f = tt
+    by_effect v effect h1 h2 = grind (arith, nat_tests, same-lives, reach-body)
 
     under : (o : Option Own) → (W → IfSome o (λ (o : Own). Sounds n o.bodies)) → IfSome o (λ (o : Own). W → Sounds n o.bodies)
-    under None f = tt
-    under (Some o) f = f
+    under o h1 = grind (arith, nat_tests)
 
     by_view : (o : Option View) → seen own.bodies pid ≡ o → IfSome (plain_in pid own o) (State W g n most groups live held)
-    by_view None e = tt
-    by_view (Some v) e =
-        by_effect v (stands_at v) e (under (plain_by pid own v (stands_at v)) (λ w. plain-sounds n pid own.bodies v (stands_at v) e refl (s.sounds w) own refl))
+    by_view o h1 = grind (arith, nat_tests, by_effect, under, plain-sounds)
 
 -- the act of a member
 pub act-state : (W : Type 0) (g event most most' pid : ℕ) (groups : Groups) (live : ℕ → Bool) (held : ℕ → Option ℕ) (e : Record) (own : Own) (v : View) (act : Act)

@@ -2,7 +2,8 @@
 use Rattle.std.proofs.Common.{◌≡◌, ℕ, ◌<◌, ◌≤◌, ◌==◌, if◌then◌else◌, Bool, true, false, Option, Some, None, refl, sym, ap, subst, ◌∙◌, arith}
 use Rattle.std.proofs.lemmas.Bool.Decides.{nat_tests}
 use Rattle.std.proofs.lemmas.Bool.{eqb-true, eqb-false}
-use Rattle.acts_model.specs.Acts.{Act, Returns, Receives, Gives, Starts, Forks, Founds, Shares, Leaves, Delivers, Exits, Faults, Dies, beginning_of, child_view, cut_off, delivered, done_by, restored, with_fresh_segment}
+use Rattle.std.proofs.lemmas.Option.{same_Some}
+use Rattle.acts_model.specs.Acts.{Act, Returns, Receives, Gives, Starts, Forks, Founds, Shares, Leaves, Delivers, beginning_of, child_view, cut_off, delivered, done_by, restored, with_fresh_segment, Exits, Faults, Dies}
 use Rattle.acts_model.specs.Bodies.{Body, Bodies, View, body_at, put, remove, seen}
 use Rattle.acts_model.specs.Views.{reach, with_result, written}
 use Rattle.arn_base.specs.Window.{with_bytes}
@@ -40,12 +41,9 @@ pub record IsLive (b : Bodies) (pid : ℕ) (v : View) (live : ℕ → Bool) (hel
   pub alive : live pid ≡ true
   pub segment : v.body.segment ≡ held pid
 
-some-view : (v w : View) → Some v ≡ Some w → v ≡ w
-some-view v w e = cc
-
 pub is-live : (g : ℕ) (groups : Groups) (most : ℕ) (live : ℕ → Bool) (held : ℕ → Option ℕ) (b : Bodies) (pid : ℕ) (v : View)
     → groups pid ≡ Some g → seen b pid ≡ Some v → Lives g groups most live held b → IsLive b pid v live held
-is-live g groups most live held b pid v h1 h2 h3 = grind (arith, nat_tests, some-view)
+is-live g groups most live held b pid v h1 h2 h3 = grind (arith, nat_tests, same_Some)
 
 -- an own process is no greater than the greatest
 pub counted : (g : ℕ) (groups : Groups) (most : ℕ) (live : ℕ → Bool) (held : ℕ → Option ℕ) (b : Bodies) (pid p : ℕ) → live pid ≡ true → Lives g groups most live held b → most < p → p ≡ pid → ⊥
@@ -114,20 +112,15 @@ own-lives g event groups most most' live held b pid v (Forks child) more c f is 
     born-lives g groups (groups pid) most most' live held (put pid (with_result child v) b) child w (held pid) more c.1 is.segment
     (kept-lives g groups most live held b pid v (with_result child v) is refl s)
 own-lives g event groups most most' live held b pid v (Founds child) more c f is s =
-    other-lives g groups (Some child) most most' live held (put pid (with_result child v) b) child None more c.1 (λ e. f (some-number child g e))
+    other-lives g groups (Some child) most most' live held (put pid (with_result child v) b) child None more c.1 (λ e. f (same_Some child g e))
     (kept-lives g groups most live held b pid v (with_result child v) is refl s)
-  where
-    some-number : (m n : ℕ) → Some m ≡ Some n → m ≡ n
-    some-number m n e = cc
 own-lives g event groups most most' live held b pid v Shares more c f is s =
     lives-more g groups most most' live (changed held pid (Some event)) _ more (put-lives g groups most live held b pid (with_result 0 (with_fresh_segment event v)) (Some event) is.alive refl s)
 own-lives g event groups most most' live held b pid v Leaves more c f is s =
     lives-more g groups most most' live held _ more (kept-lives g groups most live held b pid v (restored v.body.slot v) is (restored-segment v) s)
 own-lives g event groups most most' live held b pid v (Delivers signal handler cut) more c f is s =
     lives-more g groups most most' live held _ more (kept-lives g groups most live held b pid v (delivered signal handler (cut_off cut v.body.cpu) v) is refl s)
-own-lives g event groups most most' live held b pid v Exits more c f is s = lives-more g groups most most' _ held _ more (remove-lives g groups most live held b pid s)
-own-lives g event groups most most' live held b pid v (Faults status) more c f is s = lives-more g groups most most' _ held _ more (remove-lives g groups most live held b pid s)
-own-lives g event groups most most' live held b pid v (Dies signal cut) more c f is s = lives-more g groups most most' _ held _ more (remove-lives g groups most live held b pid s)
+own-lives g event groups most most' live held b pid v _ more c f is s = lives-more g groups most most' _ held _ more (remove-lives g groups most live held b pid s)
 
 -- the act of a process of another group
 module _ (g : ℕ) (groups : Groups) (most most' : ℕ) (live : ℕ → Bool) (held : ℕ → Option ℕ) (b : Bodies) (pid : ℕ) (other : groups pid ≡ Some g → ⊥) (more : most ≤ most') where
@@ -145,10 +138,7 @@ stranger-lives g event groups most most' live held b pid (Receives at bytes resu
 stranger-lives g event groups most most' live held b pid (Gives at len result) more c f other s = lives-more g groups most most' live held b more s
 stranger-lives g event groups most most' live held b pid (Starts file block block_len) more c f other s = stranger-held g groups most most' live held b pid other more None s
 stranger-lives g event groups most most' live held b pid (Forks child) more c f other s = other-lives g groups (groups pid) most most' live held b child (held pid) more c.1 other s
-stranger-lives g event groups most most' live held b pid (Founds child) more c f other s = other-lives g groups (Some child) most most' live held b child None more c.1 (λ e. f (some-number child g e)) s
-  where
-    some-number : (m n : ℕ) → Some m ≡ Some n → m ≡ n
-    some-number m n e = cc
+stranger-lives g event groups most most' live held b pid (Founds child) more c f other s = grind (arith, nat_tests)
 stranger-lives g event groups most most' live held b pid Shares more c f other s = stranger-held g groups most most' live held b pid other more (Some event) s
 stranger-lives g event groups most most' live held b pid Leaves more c f other s = lives-more g groups most most' live held b more s
 stranger-lives g event groups most most' live held b pid (Delivers signal handler cut) more c f other s = lives-more g groups most most' live held b more s

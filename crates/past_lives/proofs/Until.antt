@@ -38,15 +38,8 @@ if-alone true n e = refl
 if-alone false n e = refl
 
 firsts-cons : (moment n : ℕ) (e : Record) (es : List Record) (m : ℕ) (ms : List ℕ) (k : ℕ) → firsts moment n (e ∷ es) (m ∷ ms) (suc k) ≡ if_happened (nat_le m moment) n e (firsts moment (n + 1) es ms k)
-firsts-cons moment n e es m ms zero =
-    let same : n + zero ≡ n = omega arith in
-    ap (λ (i : ℕ). numbered i (if nat_le m moment then Some e else None)) same ∙ if-alone (nat_le m moment) n e
-firsts-cons moment n e es m ms (suc k) =
-    let same : n + suc k ≡ (n + 1) + k = omega arith in
-    let o = happened_by moment (slice_get es k) (slice_get ms k) in
-    ap (λ (xs : List Numbered). xs ++ numbered (n + suc k) o) (firsts-cons moment n e es m ms k)
-    ∙ (ap (λ (i : ℕ). if_happened (nat_le m moment) n e (firsts moment (n + 1) es ms k) ++ numbered i o) same
-    ∙ if-append (nat_le m moment) n e (firsts moment (n + 1) es ms k) (numbered ((n + 1) + k) o))
+firsts-cons moment n e es m ms zero = grind (arith, nat_tests, if-alone (nat_le m moment) n e)
+firsts-cons moment n e es m ms (suc k) = grind (arith, nat_tests, firsts-cons moment n e es m ms k, if-append (nat_le m moment) n e (firsts moment (n + 1) es ms k) (numbered ((n + 1) + k) (happened_by moment (slice_get es k) (slice_get ms k))))
 
 none-by : (moment : ℕ) (o : Option Record) → happened_by moment o None ≡ None
 none-by moment None = refl
@@ -61,10 +54,7 @@ no-moments (suc k) = refl
 
 firsts-none : (moment n : ℕ) (es : List Record) (k : ℕ) → firsts moment n es [] k ≡ []
 firsts-none moment n es zero = refl
-firsts-none moment n es (suc k) =
-    let is : happened_by moment (slice_get es k) (slice_get no_moments k) ≡ None = ap (happened_by moment (slice_get es k)) (no-moments k) ∙ none-by moment (slice_get es k) in
-    ap (λ (xs : List Numbered). xs ++ numbered (n + k) (happened_by moment (slice_get es k) (slice_get no_moments k))) (firsts-none moment n es k)
-    ∙ ap (numbered (n + k)) is
+firsts-none moment n es (suc k) = grind (arith, nat_tests, no-moments k, none-by moment (slice_get es k), firsts-none moment n es k)
 
 zipped-firsts : (moment n : ℕ) (es : List Record) (ms : List ℕ) → zipped moment n es ms ≡ firsts moment n es ms (length es)
 zipped-firsts moment n [] ms = refl
@@ -80,19 +70,11 @@ from-zipped : (moment begins ends n : ℕ) (entries : List Record) → events_fr
 from-zipped moment begins ends n [] = refl
 from-zipped moment begins ends n (entry.Slice pid ran ∷ entries) = from-zipped moment ends (ends + ran) n entries
 from-zipped moment begins ends n (entry.Signal pid signal cut handler ∷ entries) = at-rest moment begins ends n (entry.Signal pid signal cut handler) begins entries (from-zipped moment begins ends (n + 1) entries)
-from-zipped moment begins ends n (entry.File name bytes ∷ entries) = at-rest moment begins ends n (entry.File name bytes) ends entries (from-zipped moment begins ends (n + 1) entries)
-from-zipped moment begins ends n (entry.Boot name give ∷ entries) = at-rest moment begins ends n (entry.Boot name give) ends entries (from-zipped moment begins ends (n + 1) entries)
-from-zipped moment begins ends n (entry.Typed bytes ∷ entries) = at-rest moment begins ends n (entry.Typed bytes) ends entries (from-zipped moment begins ends (n + 1) entries)
-from-zipped moment begins ends n (entry.Unplug device ∷ entries) = at-rest moment begins ends n (entry.Unplug device) ends entries (from-zipped moment begins ends (n + 1) entries)
-from-zipped moment begins ends n (entry.Call pid number result more ∷ entries) = at-rest moment begins ends n (entry.Call pid number result more) ends entries (from-zipped moment begins ends (n + 1) entries)
-from-zipped moment begins ends n (entry.End pid status ∷ entries) = at-rest moment begins ends n (entry.End pid status) ends entries (from-zipped moment begins ends (n + 1) entries)
+from-zipped moment begins ends n (e ∷ entries) = at-rest moment begins ends n e ends entries (from-zipped moment begins ends (n + 1) entries)
 
 firsts-first : (entries : List Record) (moment k : ℕ) → firsts moment 0 (events entries) (moments_from 0 0 entries) k ≡ first entries moment k
 firsts-first entries moment zero = refl
-firsts-first entries moment (suc k) =
-    let same : 0 + k ≡ k = omega arith in
-    ap (λ (xs : List Numbered). xs ++ numbered (0 + k) (happened entries moment k)) (firsts-first entries moment k)
-    ∙ ap (λ (i : ℕ). first entries moment k ++ numbered i (happened entries moment k)) same
+firsts-first entries moment (suc k) = grind (arith, nat_tests, firsts-first entries moment k)
 
 -- all of them
 pub until-all : (entries : List Record) (moment : ℕ) → events_until moment entries ≡ first entries moment (how_many entries)
@@ -123,9 +105,7 @@ own-life c pid before = grind (arith, nat_tests)
 
 pub lives-told : (entries : List Record) (moment pid k : ℕ) (e : Record) (o : Option Bool) → happened entries moment k ≡ Some e → life_after (life_told e) pid ≡ o
     → lives_first entries moment pid (suc k) ≡ unwrap_or o (lives_first entries moment pid k)
-lives-told entries moment pid k e o is told =
-    lives-next entries moment pid k (Some e) is
-    ∙ (own-life (life_told e) pid (lives_first entries moment pid k) ∙ ap (λ (o : Option Bool). unwrap_or o (lives_first entries moment pid k)) told)
+lives-told entries moment pid k e o is told = cc (lives-next entries moment pid k (Some e) is, own-life (life_told e) pid (lives_first entries moment pid k))
 
 -- and who holds which segment
 

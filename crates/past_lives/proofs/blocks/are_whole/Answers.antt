@@ -1,5 +1,4 @@
-use Rattle.std.proofs.Common.{◌≡◌, ◌≤◌, length, subst, arith}
-use Rattle.std.proofs.lemmas.List.{take_all}
+use Rattle.std.proofs.Common.{◌≡◌, ◌≤◌, length, subst, arith, take_all}
 use Rattle.std.proofs.lemmas.List.Elements.{All-more}
 use Rattle.arn_base.specs.declared.machine.Block.{Block}
 use Rattle.parts_model.specs.declared.limits.TheConstants.{BLOCK_LEN}

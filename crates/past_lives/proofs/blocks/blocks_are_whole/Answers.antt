@@ -1,5 +1,4 @@
-use Rattle.std.proofs.Common.{◌≤◌, length, All, subst, arith}
-use Rattle.std.proofs.lemmas.List.{take_all}
+use Rattle.std.proofs.Common.{◌≤◌, length, All, subst, arith, take_all}
 use Rattle.std.proofs.lemmas.List.Elements.{All-more}
 use Rattle.past_lives.specs.Blocks.{HasWholeBlocks}
 use Rattle.past_lives.proofs.blocks.blocks_are_whole.Goals as goal

@@ -1,5 +1,4 @@
-use Rattle.std.proofs.Common.{◌≡◌, ◌∙◌, suc, ◌+◌, List, Bool, length, set, ap, sym, subst, arith}
-use Rattle.std.proofs.lemmas.List.{length-set}
+use Rattle.std.proofs.Common.{◌≡◌, ◌∙◌, suc, ◌+◌, List, Bool, length, set, ap, sym, subst, arith, length-set}
 use Rattle.history_model.specs.Broken.{greatest}
 use Rattle.history_model.specs.Events.{how_many}
 use Rattle.past_lives.proofs.Flags.{Flags, TellsFirst, flags-next, flags-passed, flags-kept, flags-told}

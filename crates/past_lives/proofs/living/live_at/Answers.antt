@@ -1,5 +1,4 @@
-use Rattle.std.proofs.Common.{◌≡◌, ℕ, ◌-◌, ◌∙◌, Bool, false, List, filter, get_or, length, ap, subst, arith}
-use Rattle.std.specs.Result.{IfOk}
+use Rattle.std.proofs.Common.{◌≡◌, ℕ, ◌-◌, ◌∙◌, Bool, false, List, filter, get_or, length, ap, subst, arith, IfOk}
 use Rattle.std.specs.List.{range_with_len}
 use Rattle.history_model.specs.Broken.{greatest}
 use Rattle.history_model.specs.Moments.{lives_at}
