@@ -1,7 +1,6 @@
 -- A group alone agrees with the whole machine, and goes on to agree over whatever a process puts.
-use Rattle.std.proofs.Common.{◌≡◌, ℕ, ◌<◌, ◌≤◌, List, length, refl, ap, ◌∙◌, sym, subst, Option, Some, None, IfSome, Bool, true, false, ◌==◌, cond, arith}
+use Rattle.std.proofs.Common.{◌≡◌, ℕ, ◌<◌, ◌≤◌, List, length, refl, ap, ◌∙◌, sym, subst, Option, Some, None, IfSome, Bool, true, false, ◌==◌, cond, arith, eq-eqb, eqb-true}
 use Rattle.std.proofs.lemmas.Bool.Decides.{nat_tests}
-use Rattle.std.proofs.lemmas.Bool.{eq-eqb, eqb-true}
 use Rattle.parts_model.specs.declared.limits.TheConstants.{WINDOW_LEN}
 use Rattle.acts_model.specs.Bodies.{Body, Bodies, View, body_at, memory_at, IsHolder, seen, put, remove, become, laid, laid_segment}
 use Rattle.history_model.specs.Groups.{Groups, is_number}
@@ -51,8 +50,7 @@ one-put g owner gs n p v w o other f own h =
     none q e = number-other g (gs q) (λ k. other (ap gs (sym e) ∙ k))
 
     by_test : (q : ℕ) (t : Bool) → (q == p) ≡ t → body_at o q ≡ cond (is_number g (gs q)) (cond t (Some v.body) (body_at w q)) None
-    by_test q true e = h.bodies q ∙ (ap (λ t. cond t (body_at w q) None) (none q (eqb-true q p e)) ∙ sym (ap (λ t. cond t (Some v.body) None) (none q (eqb-true q p e))))
-    by_test q false e = h.bodies q
+    by_test q t h1 = grind (arith, nat_tests, none, eqb-true)
 
     memory : (q : ℕ) (x : Body) (k : ℕ) (t : Bool) → (q == p) ≡ t → gs q ≡ Some g → cond t (Some v.body) (body_at w q) ≡ Some x → IsHolder x k → memory_at o k ≡ memory_at (put p v w) k
     memory q x k true e of is holds = absurd (other (ap gs (sym (eqb-true q p e)) ∙ of))
@@ -76,16 +74,7 @@ abbrev pub if_own : Bool → Bodies → Bodies → Bodies
 if_own t new old = cond t new old
 
 pub joint-become : (g : ℕ) (owner : ℕ → Owner) (gs : Groups) (n p : ℕ) (v : Option View) (w o : Bodies) → IfSome v (Good owner gs n p) → Joint g owner gs n w o → Joint g owner gs n (become p v w) (if_own (is_number g (gs p)) (become p v o) o)
-joint-become g owner gs n p None w o f h = record { owned = remove-owned owner gs n p w h.owned; agrees = by_test (is_number g (gs p)) refl }
-  where
-    by_test : (t : Bool) → is_number g (gs p) ≡ t → Agrees g gs (remove p w) (cond t (remove p o) o)
-    by_test true e = both-remove g gs p w o h.agrees
-    by_test false e = one-remove g gs p w o (number-false g (gs p) e) h.agrees
-joint-become g owner gs n p (Some v) w o f h = record { owned = put-owned owner gs n p v w f.fits f.whole h.owned; agrees = by_test (is_number g (gs p)) refl }
-  where
-    by_test : (t : Bool) → is_number g (gs p) ≡ t → Agrees g gs (put p v w) (cond t (put p v o) o)
-    by_test true e = both-put g gs p v w o (number-true g (gs p) e) h.agrees
-    by_test false e = one-put g owner gs n p v w o (number-false g (gs p) e) f.fits h.owned h.agrees
+joint-become g owner gs n p v w o h1 h2 = grind (arith, nat_tests, remove-owned, both-remove, one-remove, number-false, put-owned, both-put, number-true, one-put)
 
 pub joint-later : (g : ℕ) (owner owner' : ℕ → Owner) (gs : Groups) (n n' : ℕ) (w o : Bodies) → ((k : ℕ) → k < n → owner' k ≡ owner k) → n ≤ n' → Joint g owner gs n w o → Joint g owner' gs n' w o
 joint-later g owner owner' gs n n' w o same le h = record { owned = owned-later owner owner' gs n n' w same le h.owned; agrees = h.agrees }

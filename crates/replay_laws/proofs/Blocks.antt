@@ -1,8 +1,7 @@
 -- A window is again what its blocks make of zeros.
-use Rattle.std.proofs.Common.{◌≡◌, ℕ, zero, suc, ◌+◌, ◌-◌, ◌*◌, ◌/◌, ◌==◌, ◌||◌, Bool, true, false, not, List, [], ◌∷◌, ◌++◌, length, take, drop, replicate, refl, ap, ap₂, ◌∙◌, sym, append-nil, append_assoc, arith, length-drop, length-take-le, take_all}
+use Rattle.std.proofs.Common.{◌≡◌, ℕ, zero, suc, ◌+◌, ◌-◌, ◌*◌, ◌/◌, ◌==◌, ◌||◌, Bool, false, not, List, [], ◌∷◌, ◌++◌, length, take, drop, replicate, refl, ap, ap₂, ◌∙◌, sym, append-nil, append_assoc, arith, length-drop, length-take-le, take_all, eqb-true}
 use Rattle.std.proofs.lemmas.Bool.Decides.{nat_tests}
 use Rattle.std.proofs.Math.Seq.{take-append_seam, drop-append-add, take-add}
-use Rattle.std.proofs.lemmas.Bool.{eqb-true}
 use Rattle.std.proofs.lemmas.List.{replicate-append-replicate, drop-replicate}
 use Rattle.std.specs.List.{list_any}
 use Rattle.arn_base.specs.Disk.{overwrite}
@@ -17,21 +16,15 @@ zero-bytes [] e = refl
 zero-bytes (x ∷ xs) e = by_test (zero-bytes xs) (x == 0) refl e
   where
     by_test : (list_any (λ byte. not (byte == 0)) xs ≡ false → xs ≡ replicate (length xs) 0) → (b : Bool) → (x == 0) ≡ b → (not b || list_any (λ byte. not (byte == 0)) xs) ≡ false → x ∷ xs ≡ replicate (suc (length xs)) 0
-    by_test ih true t e = ap₂ (λ (a : ℕ) (l : List ℕ). a ∷ l) (eqb-true x 0 t) (ih e)
-    by_test ih false t e = absurd (cc)
+    by_test h1 b h2 h3 = grind (arith, nat_tests, eqb-true)
 
 -- bytes over the first zeros behind others
 over-zeros : (xs bytes : List ℕ) (len r : ℕ) → length bytes ≡ len → overwrite (xs ++ replicate (len + r) 0) (length xs) bytes ≡ (xs ++ bytes) ++ replicate r 0
-over-zeros xs bytes len r e =
-    let left : len + r - length bytes ≡ r = omega arith in
-    ap₂ (λ (a b : List ℕ). (a ++ bytes) ++ b) (take-append_seam xs (replicate (len + r) 0))
-    (drop-append-add xs (replicate (len + r) 0) (length bytes) ∙ (drop-replicate (length bytes) (len + r) 0 ∙ ap (λ (n : ℕ). replicate n 0) left))
+over-zeros xs bytes len r h1 = grind (arith, nat_tests, take-append_seam, drop-append-add, drop-replicate)
 
 -- zeros in their place
 same-zeros : (xs bytes : List ℕ) (len r : ℕ) → bytes ≡ replicate len 0 → xs ++ replicate (len + r) 0 ≡ (xs ++ bytes) ++ replicate r 0
-same-zeros xs bytes len r e =
-    ap (λ (a : List ℕ). xs ++ a) (sym (replicate-append-replicate len r 0) ∙ ap (λ (a : List ℕ). a ++ replicate r 0) (sym e))
-    ∙ sym (append_assoc xs bytes (replicate r 0))
+same-zeros xs bytes len r h1 = grind (arith, nat_tests, replicate-append-replicate, append_assoc)
 
 one-block : (block : Block) (xs : List ℕ) (len r : ℕ) → BLOCK_LEN * block.number ≡ length xs → length block.bytes ≡ len → with_blocks (used_block block) (xs ++ replicate (len + r) 0) ≡ (xs ++ block.bytes) ++ replicate r 0
 unfolding with_blocks

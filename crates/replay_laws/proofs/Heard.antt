@@ -17,7 +17,7 @@ use Rattle.arn_model.specs.Step.{Step, plain_step, event_step}
 use Rattle.arn_model.specs.Tells.{EventTells}
 use Rattle.arn_model.specs.Turn.{plains, after_steps}
 use Rattle.history_model.specs.Alone as alone
-use Rattle.history_model.specs.Alone.{Own, Makes, Slice, noted, plain_by, plain_in, plain_or, happens, begin_inside, begins}
+use Rattle.history_model.specs.Alone.{Own, Makes, Slice, noted, plain_by, plain_in, happens, begins}
 use Rattle.history_model.specs.Groups.{Groups, is_number}
 use Rattle.history_model.specs.Moments.{changed}
 use Rattle.replay_laws.specs.Heard.{own_part, part, parts}
@@ -40,12 +40,7 @@ begun-bodies g e r (Founds child) v o = bodies-if (child == g) (begins g e r (st
 begun-bodies g e r act v o = refl
 
 begun-inside : (g e : ℕ) (r : Record) (act : Act) (v : View) (o : Own) → (begun_own g e r act v o).inside ≡ o.inside ++ begun_inside g e r act v
-begun-inside g e r (Founds child) v o = by_test (child == g)
-  where
-    by_test : (b : Bool) → (cond b (begins g e r (start_of (beginning_of v)) o) o).inside ≡ o.inside ++ cond b (begin_inside g e r (start_of (beginning_of v)) ∷ []) []
-    by_test true = refl
-    by_test false = sym (append-nil o.inside)
-begun-inside g e r act v o = sym (append-nil o.inside)
+begun-inside g e r act v o = grind (arith, nat_tests, append-nil)
 
 -- parts of steps one behind the other
 pub parts-append : (gs : Groups) (g : ℕ) (steps more : List Step) → parts gs g (steps ++ more) ≡ parts gs g steps ++ parts gs g more
@@ -73,11 +68,7 @@ pub record PlainTo (g : ℕ) (owner : ℕ → Owner) (gs : Groups) (p k : ℕ) (
   pub inside : own.inside ≡ o.inside ++ parts gs g steps
 
 no-plain : (g : ℕ) (owner : ℕ → Owner) (gs : Groups) (p : ℕ) (m : Machine) (o : Own) → JointAt g owner gs m o.bodies → PlainTo g owner gs p 0 m o []
-no-plain g owner gs p m o h = record { own = o; runs = λ ran event end_event before. by_test (mine gs g p) ran event end_event before; joint = h; inside = sym (append-nil o.inside) }
-  where
-    by_test : (t : Bool) → RunsTo p (cond t 0 0) o o
-    by_test true ran event end_event before = refl
-    by_test false ran event end_event before = refl
+no-plain g owner gs p m o h1 = grind (arith, nat_tests, append-nil)
 
 -- what the group alone has after an instruction of p
 abbrev ran_inside : ℕ → View → Instr → Inside
@@ -105,8 +96,7 @@ more-plain g owner gs p k m v instr cpu memory o steps e next h to =
     once of = ap (plain_in p o) (same-seen g gs m.bodies o.bodies p h.agrees of ∙ e) ∙ ap (plain_by p o v) next
 
     by_test : (ran event end_event before : ℕ) (t : Bool) → is_number g (gs p) ≡ t → alone.plains (slice_at p ran event end_event) (suc before) (cond t k 0) (cond t (noted_ran p v instr cpu memory o) o) ≡ Makes to.own → alone.plains (slice_at p ran event end_event) before (cond t k 0) (cond t (noted_ran p v instr cpu memory o) o) ≡ Makes to.own → alone.plains (slice_at p ran event end_event) before (cond t (suc k) 0) o ≡ Makes to.own
-    by_test ran event end_event before true is run same = ap (λ (x : Option Own). plain_or (slice_at p ran event end_event) before x (alone.plains (slice_at p ran event end_event) (suc before) k)) (once (number-true g (gs p) is)) ∙ run
-    by_test ran event end_event before false is run same = same
+    by_test ran event end_event before t h1 h2 h3 = grind (arith, nat_tests, once, number-true)
 
 ran-joint : (g : ℕ) (owner : ℕ → Owner) (gs : Groups) (m : Machine) (p : ℕ) (v : View) (instr : Instr) (cpu : Cpu) (memory : List Window) (o : Own) → seen m.bodies p ≡ Some v → stands_at v ≡ Next instr cpu memory → JointAt g owner gs m o.bodies → JointAt g owner gs (plain_step m p v instr cpu memory).after (own_ran g gs p v instr cpu memory o).bodies
 ran-joint g owner gs m p v instr cpu memory o e next h =
@@ -151,11 +141,7 @@ own-bodies : (g : ℕ) (gs : Groups) (m : Machine) (p : ℕ) (v : View) (act : A
 own-bodies g gs m p v act r o = grind (arith, nat_tests, begun-bodies, begun_bodies, bodies-if, mine, noted_act, own_did)
 
 pub own-inside : (g : ℕ) (gs : Groups) (m : Machine) (p : ℕ) (v : View) (d : Doing) (r : Record) (o : Own) → EventTells m p v d r → (own_after g gs m p v d.act r o).inside ≡ o.inside ++ part gs g (event_step m p v d r).moved.inside
-own-inside g gs m p v d r o t =
-    begun-inside g m.events r d.act v (own_did (mine gs g p) m p v d.act r o)
-    ∙ (ap (λ xs. xs ++ begun_inside g m.events r d.act v) (inside-if (mine gs g p) (act_inside m p v d.act r) (done_by p m.events d.act (Some v) o.bodies) o)
-    ∙ (append_assoc o.inside (own_part (mine gs g p) (act_inside m p v d.act r)) (begun_inside g m.events r d.act v)
-    ∙ ap (λ xs. o.inside ++ (own_part (mine gs g p) (act_inside m p v d.act r) ++ xs)) (sym ((event-tale m p v d r t).begin g m.events))))
+own-inside g gs m p v d r o h1 = grind (arith, nat_tests, begun-inside, inside-if, append_assoc, event-tale)
 
 pub event-joint : (g : ℕ) (owner : ℕ → Owner) (gs : Groups) (m : Machine) (p : ℕ) (v : View) (d : Doing) (r : Record) (o : Own) → EventTells m p v d r → GroupsFit gs p d.act → JointAt g owner gs m o.bodies → JointAt g (changed owner m.events (made_for p (gs p) d.act)) gs (event_step m p v d r).after (own_after g gs m p v d.act r o).bodies
 event-joint g owner gs m p v d r o t fit h =

@@ -1,5 +1,6 @@
 -- A private window keeps its length, whatever an instruction or an act does.
-use Rattle.std.proofs.Common.{◌≡◌, ℕ, ◌+◌, ◌-◌, ◌≤◌, List, [], ◌∷◌, ◌++◌, length, take, drop, replicate, refl, Option, Some, None, IfSome, unwrap_or, Bool, true, false, ◌||◌, if◌then◌else◌, arith, nat_le, nat_lt, is_some, length-take, length-drop, length-append, length-take-le}
+use Rattle.std.proofs.lemmas.Grind.{common_steps}
+use Rattle.std.proofs.Common.{◌≡◌, ℕ, ◌+◌, ◌-◌, ◌≤◌, List, [], ◌∷◌, length, refl, Option, Some, None, IfSome, unwrap_or, Bool, true, false, ◌||◌, if◌then◌else◌, arith, length-take, length-drop, length-append, length-take-le, is_some}
 use Rattle.std.proofs.lemmas.Bool.Decides.{nat_tests}
 use Rattle.std.proofs.lemmas.Bool.{and_parts, leb-true, ltb-false}
 use Rattle.std.proofs.lemmas.List.{length-replicate}
@@ -8,14 +9,14 @@ use Rattle.arn_base.specs.declared.machine.Cpu.{Cpu}
 use Rattle.arn_base.specs.Window.{Window, is_whole_in, window_bytes, bytes_at, with_bytes, bytes_of}
 use Rattle.rv64_isa.specs.declared.instruction.Instr.{Instr}
 use Rattle.rv64_isa.specs.Decoded.{decoded}
-use Rattle.rv64_model.specs.Instruction.{Effect, Next, Call, End, jumps, branches, loads, stores, executed, executed_if, fetched, advanced}
-use Rattle.rv64_model.specs.declared.statuses.TheConstants.{BAD_ACCESS}
-use Rattle.parts_model.specs.declared.limits.TheConstants.{WINDOW_START, WINDOW_END, WINDOW_LEN, MOST_BLOCK_BYTES}
+use Rattle.rv64_model.specs.Instruction.{Effect, Next, jumps, branches, loads, stores, executed, executed_if, fetched, End, advanced}
+use Rattle.parts_model.specs.declared.limits.TheConstants.{WINDOW_LEN, MOST_BLOCK_BYTES}
 use Rattle.parts_model.specs.Image.{Image, fits_window, is_image, read_as_image}
-use Rattle.acts_model.specs.Acts.{Act, Returns, Receives, Gives, Starts, Forks, Founds, Shares, Leaves, Delivers, Exits, Faults, Dies, acted, restored}
+use Rattle.acts_model.specs.Acts.{Act, Receives, Starts, Leaves, Exits, Faults, Dies, acted, restored}
 use Rattle.acts_model.specs.Bodies.{View}
-use Rattle.acts_model.specs.Disagreement.{is_outside, isnt_block}
-use Rattle.acts_model.specs.Views.{reach, read, with_reach, stands_at, after_instr, among_zeros, block_at, window_at_start}
+use Rattle.acts_model.specs.Disagreement.{isnt_block}
+use Rattle.acts_model.specs.Views.{reach, read, with_reach, stands_at, after_instr, among_zeros, window_at_start}
+use Rattle.rv64_model.specs.declared.statuses.TheConstants.{BAD_ACCESS}
 
 -- the first window, where there is one, is a whole private one
 abbrev FirstWhole : List Window → Type 0
@@ -23,12 +24,7 @@ FirstWhole [] = Unit {0}
 FirstWhole (w ∷ ws) = length w.bytes ≡ WINDOW_LEN
 
 overwritten-len : (old : List ℕ) (at : ℕ) (bytes : List ℕ) → at + length bytes ≤ length old → length (overwrite old at bytes) ≡ length old
-overwritten-len old at bytes l =
-    let a = length-take-le at old (omega arith) in
-    let b = length-append (take at old) bytes in
-    let c = length-append (take at old ++ bytes) (drop (at + length bytes) old) in
-    let d = length-drop (at + length bytes) old in
-    omega arith
+overwritten-len old at bytes h1 = grind (arith, nat_tests, length-take-le, length-append, length-drop)
 
 with-whole : (ws : List Window) (at : ℕ) (bytes : List ℕ) → FirstWhole ws → FirstWhole (with_bytes ws at bytes)
 with-whole ws at bytes h1 = grind (arith, nat_tests, and_parts, leb-true, overwritten-len)
@@ -42,15 +38,13 @@ read-few [] at len = omega arith
 read-few (w ∷ ws) at len = by_test (is_whole_in w at len) (read-few ws at len)
   where
     by_test : (b : Bool) → length (unwrap_or (bytes_at ws at len) []) ≤ len → length (unwrap_or (if b then Some (window_bytes w at len) else bytes_at ws at len) []) ≤ len
-    by_test true ih = let a = length-take len (drop (at - w.from) w.bytes) in omega arith
-    by_test false ih = ih
+    by_test b h1 = grind (arith, nat_tests, length-take)
 
 -- instructions
 
 abbrev WholeEffect : Effect → Type 0
 WholeEffect (Next instr cpu memory) = FirstWhole memory
-WholeEffect Call = Unit {0}
-WholeEffect (End status) = Unit {0}
+WholeEffect _ = Unit {0}
 
 jumps-whole : (instr : Instr) (cpu : Cpu) (ws : List Window) (rd target : ℕ) → FirstWhole ws → WholeEffect (jumps instr cpu ws rd target)
 jumps-whole instr cpu ws rd target h1 = grind (arith, nat_tests)
@@ -95,50 +89,27 @@ image-fits : (file : List ℕ) → is_image file ≡ true → fits_window (read_
 image-fits file h1 = grind (arith, nat_tests, and_parts)
 
 among-len : (len offset : ℕ) (bytes : List ℕ) → offset + length bytes ≤ len → length (among_zeros len offset bytes) ≡ len
-among-len len offset bytes l =
-    let front : List ℕ = replicate offset 0 in
-    let back : List ℕ = replicate (len - (offset + length bytes)) 0 in
-    let a = length-replicate {A = ℕ} offset 0 in
-    let b = length-append front bytes in
-    let c = length-append (front ++ bytes) back in
-    let d = length-replicate {A = ℕ} (len - (offset + length bytes)) 0 in
-    omega arith
+among-len len offset bytes h1 = grind (arith, nat_tests, length-replicate, length-append)
 
 start-len : (image : Image) (block : List ℕ) → fits_window image ≡ true → length block ≤ MOST_BLOCK_BYTES → length (window_at_start image block) ≡ WINDOW_LEN
-start-len image block e l =
-    let parts = and_parts (nat_le WINDOW_START image.load) (nat_le (image.load + length image.body) WINDOW_END) e in
-    let x = leb-true WINDOW_START image.load parts.0 in
-    let y = leb-true (image.load + length image.body) WINDOW_END parts.1 in
-    let zeroed = among_zeros WINDOW_LEN (image.load - WINDOW_START) image.body in
-    let a = among-len WINDOW_LEN (image.load - WINDOW_START) image.body (omega arith) in
-    let b = length-take-le (block_at (length block) - WINDOW_START) zeroed (omega arith) in
-    let c = length-append (take (block_at (length block) - WINDOW_START) zeroed) block in
-    omega arith
+start-len image block h1 h2 = grind (arith, nat_tests, and_parts, leb-true, among-len, length-take-le, length-append)
 
 either-false : (a b : Bool) → (a || b) ≡ false → a ≡ false
 either-false true b e = e
 either-false false b e = refl
 
 block-few : (v : View) (block len : ℕ) → isnt_block v block len ≡ false → length (read v block len) ≤ MOST_BLOCK_BYTES
-block-few v block len e =
-    let l = ltb-false MOST_BLOCK_BYTES len (either-false (nat_lt MOST_BLOCK_BYTES len) (is_outside v block len) e) in
-    let r = read-few (reach v) block len in
-    omega arith
+block-few v block len h1 = grind (arith, common_steps, nat_tests, ltb-false, either-false, read-few)
 
 restored-whole : (o : Option Cpu) (v : View) → length v.window ≡ WINDOW_LEN → length (restored o v).window ≡ WINDOW_LEN
 restored-whole None v s = s
 restored-whole (Some cpu) v s = s
 
 pub acted-whole : (event : ℕ) (act : Act) (v : View) → StartsWell v act → length v.window ≡ WINDOW_LEN → IfSome (acted event act v) (λ w. length w.window ≡ WINDOW_LEN)
-acted-whole event (Returns result) v h s = s
 acted-whole event (Receives at bytes result) v h s = with_reach-whole (with_bytes (reach v) at bytes) v (with-whole (reach v) at bytes s) s
-acted-whole event (Gives at len result) v h s = s
 acted-whole event (Starts file block block_len) v h s = start-len (read_as_image file) (read v block block_len) (image-fits file h.0) (block-few v block block_len h.1)
-acted-whole event (Forks child) v h s = s
-acted-whole event (Founds child) v h s = s
-acted-whole event Shares v h s = s
 acted-whole event Leaves v h s = restored-whole v.body.slot v s
-acted-whole event (Delivers signal handler cut) v h s = s
 acted-whole event Exits v h s = tt
 acted-whole event (Faults status) v h s = tt
 acted-whole event (Dies signal cut) v h s = tt
+acted-whole event _ v h s = s

@@ -1,8 +1,7 @@
 -- What each step of a turn tells, and how steps follow one another.
-use Rattle.std.proofs.Common.{◌≡◌, ℕ, zero, suc, ◌≤◌, ◌<◌, ◌+◌, ◌||◌, List, [], ◌∷◌, ◌++◌, length, take, map, filter_map, refl, ap, ◌∙◌, sym, subst, Option, Some, None, IfSome, is_some, option_map, option_and_then, Bool, true, false, cond, nat_lt, arith}
+use Rattle.std.proofs.Common.{◌≡◌, ℕ, zero, suc, ◌≤◌, ◌<◌, ◌+◌, ◌||◌, List, [], ◌∷◌, ◌++◌, length, take, map, filter_map, refl, ap, ◌∙◌, sym, subst, Option, Some, None, IfSome, is_some, option_map, option_and_then, Bool, true, false, cond, nat_lt, arith, ltb-false, leb-true, leb-false}
 use Rattle.std.proofs.lemmas.Bool.Decides.{nat_tests}
 use Rattle.std.specs.List.{cons_option}
-use Rattle.std.proofs.lemmas.Bool.{ltb-false, leb-true, leb-false}
 use Rattle.std.proofs.lemmas.List.Sums.{sum_by-cons}
 use Rattle.std.proofs.lemmas.Option.{slice_get_past}
 use Rattle.arn_base.specs.declared.machine.Cpu.{Cpu}
@@ -88,9 +87,7 @@ after-keep : (p q : ℕ) (v : View) (m : Machine) (d : Doing) (r : Record) (gs :
 after-keep p q v m d r gs t l = by_act d.act t.forks
   where
     by_act : (a : Act) → ForksRightly (next_process m.kernel.processes) v a (extra_in r) → groups_after p a gs q ≡ gs q
-    by_act (act.Forks c) h = changed-other gs c (gs p) q (λ e. let is = h.0 in omega arith)
-    by_act (act.Founds c) h = changed-other gs c (Some c) q (λ e. let is = h.0 in omega arith)
-    by_act a h = refl
+    by_act a h1 = grind (arith, nat_tests, changed-other)
 
 -- numbers that are given keep their groups
 pub step-groups : (m : Machine) (s : Step) (gs : Groups) (q : ℕ) → StepTells m s → q < next m → event_groups s.moved.inside.event gs q ≡ gs q
@@ -145,8 +142,7 @@ records-told [] = refl
 records-told (s ∷ steps) = by_event s.moved.inside.event (records-told steps)
   where
     by_event : (e : Option Event) → event_records steps ≡ told steps → map (λ (x : Event). x.entry) (cons_option e (filter_map (λ (s : Step). s.moved.inside.event) steps)) ≡ told_by e (told steps)
-    by_event None ih = ih
-    by_event (Some e) ih = ap (λ (rs : List Record). e.entry ∷ rs) ih
+    by_event e h1 = grind (arith, nat_tests)
 
 pub instructions-count : (steps : List Step) → instructions_in steps ≡ count steps
 unfolding count
@@ -154,8 +150,7 @@ instructions-count [] = refl
 instructions-count (s ∷ steps) = sum_by-cons (λ (x : Step). cond (is_instruction x.moved.inside) 1 0) s steps ∙ by_test (is_instruction s.moved.inside) (instructions-count steps)
   where
     by_test : (b : Bool) → instructions_in steps ≡ count steps → cond b 1 0 + instructions_in steps ≡ counted b (count steps)
-    by_test true ih = omega arith
-    by_test false ih = omega arith
+    by_test b h1 = grind (arith, nat_tests)
 
 pub told-groups : (m : Machine) (steps : List Step) (gs : Groups) (q : ℕ) → Along Known m steps → q < next m → groups_from (told steps) gs q ≡ gs q
 unfolding told
@@ -166,8 +161,7 @@ told-groups m (s ∷ steps) gs q h l =
     ∙ step-groups m s gs q h.0.tells l)
   where
     by_event : (e : Option Event) → groups_from (told_by e (told steps)) gs q ≡ groups_from (told steps) (event_groups e gs) q
-    by_event None = refl
-    by_event (Some e) = refl
+    by_event e = grind (arith, nat_tests)
 
 -- plain instructions
 
@@ -177,13 +171,10 @@ plains-all p P none more zero m = none m
 plains-all p P none more (suc n) m = by_seen (λ after. plains-all p P none more n after) (seen m.bodies p) refl
   where
     by_effect : ((after : Machine) → P after (plains n p after)) → (v : View) (e : Effect) → seen m.bodies p ≡ Some v → stands_at v ≡ e → P m (steps_then (plain_by m p v e) (plains n p))
-    by_effect rest v (Next instr cpu memory) e k = more m v instr cpu memory (plains n p (plain_step m p v instr cpu memory).after) e k (rest (plain_step m p v instr cpu memory).after)
-    by_effect rest v Call e k = none m
-    by_effect rest v (End status) e k = none m
+    by_effect h1 v e h2 h3 = grind (arith, nat_tests)
 
     by_seen : ((after : Machine) → P after (plains n p after)) → (o : Option View) → seen m.bodies p ≡ o → P m (steps_then (plain_in m p o) (plains n p))
-    by_seen rest None e = none m
-    by_seen rest (Some v) e = by_effect rest v (stands_at v) e refl
+    by_seen h1 o h2 = grind (arith, nat_tests, by_effect)
 
 abbrev pub ArePlain : List Step → Type 0
 ArePlain [] = Unit {0}

@@ -1,8 +1,8 @@
 -- Until a process is made, the records tell the bytes of each file, and whether one more may be brought.
-use Rattle.std.proofs.Common.{◌≡◌, ℕ, zero, suc, ◌+◌, ◌<◌, ◌&&◌, not, Bool, true, false, cond, nat_le, nat_lt, List, [], ◌∷◌, ◌++◌, Option, None, Some, is_some, length, map, filter, bytes_eq, refl, sym, ap, subst, ◌∙◌, arith, option_map, option_and_then}
-use Rattle.std.specs.List.{count_by}
+use Rattle.std.proofs.Common.{◌≡◌, ℕ, zero, suc, ◌+◌, ◌<◌, ◌&&◌, not, Bool, true, false, cond, nat_le, nat_lt, List, [], ◌∷◌, ◌++◌, Option, None, Some, is_some, length, map, filter, bytes_eq, refl, sym, ap, subst, ◌∙◌, arith, option_map, option_and_then, count_by}
 use Rattle.std.proofs.lemmas.Bool.Decides.{nat_tests}
 use Rattle.std.proofs.lemmas.List.Sums.{sum_by-cons, sum_by-append}
+use Rattle.std.proofs.lemmas.Bool.{not-true}
 use Rattle.arn_base.specs.declared.records.Record.{Record}
 use Rattle.arn_base.specs.declared.records.Record.TheVariants as entry
 use Rattle.parts_model.specs.declared.limits.TheConstants.{MOST_FILES}
@@ -19,7 +19,7 @@ use Rattle.arn_model.specs.Tells.{StepTells, Runs, Happens, Boots, Adds, Types, 
 use Rattle.history_model.specs.Names.{is_file, brought_from}
 use Rattle.replay_laws.specs.Laws.{named_bytes}
 use Rattle.replay_laws.proofs.TellsLives.{seen-booted, stays-booted, boot-booted}
-use Rattle.replay_laws.proofs.TellsNames.{pushed, not-both, not-not, first-of, second-of, free-none, unplugged-booted}
+use Rattle.replay_laws.proofs.TellsNames.{pushed, not-both, first-of, second-of, free-none, unplugged-booted}
 use Rattle.replay_laws.proofs.TellsSteps.{Facts, by_event, fold_events}
 
 -- slices bring nothing
@@ -32,25 +32,13 @@ count-both e entries rest = files-cons e entries ∙ ap (λ (k : ℕ). cond (is_
 
 pub count-kept : (entries : List Record) → count_by is_file entries ≡ count_by is_file (filter is_event entries)
 count-kept [] = refl
-count-kept (entry.File path bytes ∷ entries) = count-both (entry.File path bytes) entries (count-kept entries)
-count-kept (entry.Boot path give ∷ entries) = count-both (entry.Boot path give) entries (count-kept entries)
-count-kept (entry.Typed bytes ∷ entries) = count-both (entry.Typed bytes) entries (count-kept entries)
-count-kept (entry.Unplug device ∷ entries) = count-both (entry.Unplug device) entries (count-kept entries)
 count-kept (entry.Slice pid ran ∷ entries) = omega (arith, files-cons (entry.Slice pid ran) entries, count-kept entries)
-count-kept (entry.Signal pid signal cut handler ∷ entries) = count-both (entry.Signal pid signal cut handler) entries (count-kept entries)
-count-kept (entry.Call pid number result more ∷ entries) = count-both (entry.Call pid number result more) entries (count-kept entries)
-count-kept (entry.End pid status ∷ entries) = count-both (entry.End pid status) entries (count-kept entries)
+count-kept (e ∷ entries) = count-both e entries (count-kept entries)
 
 pub brought-kept : (entries : List Record) (name : List ℕ) (before : Option (List ℕ)) → brought_from entries name before ≡ brought_from (filter is_event entries) name before
 brought-kept [] name before = refl
 brought-kept (entry.File path bytes ∷ entries) name before = brought-kept entries name (cond (bytes_eq path name) (Some bytes) before)
-brought-kept (entry.Boot path give ∷ entries) name before = brought-kept entries name before
-brought-kept (entry.Typed bytes ∷ entries) name before = brought-kept entries name before
-brought-kept (entry.Unplug device ∷ entries) name before = brought-kept entries name before
-brought-kept (entry.Slice pid ran ∷ entries) name before = brought-kept entries name before
-brought-kept (entry.Signal pid signal cut handler ∷ entries) name before = brought-kept entries name before
-brought-kept (entry.Call pid number result more ∷ entries) name before = brought-kept entries name before
-brought-kept (entry.End pid status ∷ entries) name before = brought-kept entries name before
+brought-kept (_ ∷ entries) name before = brought-kept entries name before
 
 -- how many files were brought, and the bytes of the last of a name
 pub record Brought : Type 0 where
@@ -69,14 +57,7 @@ bytes-fold name [] old = refl
 bytes-fold name (e ∷ es) old = by_entry e.entry (bytes-fold name es)
   where
     by_entry : (x : Record) → ((old : Brought) → brought_from (entries_of es) name old.bytes ≡ (fold_events (brings name) es old).bytes) → brought_from (x ∷ entries_of es) name old.bytes ≡ (fold_events (brings name) es (brings name e.number x old)).bytes
-    by_entry (entry.File path bytes) rest = rest (brings name e.number (entry.File path bytes) old)
-    by_entry (entry.Boot path give) rest = rest old
-    by_entry (entry.Typed bytes) rest = rest old
-    by_entry (entry.Unplug device) rest = rest old
-    by_entry (entry.Slice pid ran) rest = rest old
-    by_entry (entry.Signal pid signal cut handler) rest = rest old
-    by_entry (entry.Call pid number result more) rest = rest old
-    by_entry (entry.End pid status) rest = rest old
+    by_entry x h1 = grind (arith, nat_tests)
 
 brings-count : (name : List ℕ) (n : ℕ) (e : Record) (old : Brought) → (brings name n e old).count ≡ old.count + cond (is_file e) 1 0
 brings-count name n e old = grind (arith, nat_tests)
@@ -120,15 +101,10 @@ made-bytes all event path bytes name inside free =
     ∙ ap (λ (o : Option ℕ). option_map values (option_and_then (file_bytes (made all path (held_bytes event bytes))) o)) (pushed all.names path (next_file all) free name)
   where
     by_found : (o : Option ℕ) → find_file all name ≡ o → option_map values (option_and_then (file_bytes all) o) ≡ option_map values (option_and_then (file_bytes (made all path (held_bytes event bytes))) o)
-    by_found None e = refl
-    by_found (Some file) e =
-        ap (λ (f : Option File). option_map values (option_map (λ f. f.bytes) f)) (sym (nth-before all.all (Some (record { bytes = held_bytes event bytes; holders = 0 })) file (inside file e)))
+    by_found o h1 = grind (arith, nat_tests, nth-before)
 
     by_test : (t : Bool) → cond t (Some bytes) (named_bytes all name) ≡ option_map values (option_and_then (file_bytes (made all path (held_bytes event bytes))) (cond t (Some (next_file all)) (find_file all name)))
-    by_test true =
-        ap (λ (bs : List ℕ). Some bs) (sym (values-held event 0 bytes))
-        ∙ ap (λ (f : Option File). option_map values (option_map (λ f. f.bytes) f)) (sym (nth-last all.all (Some (record { bytes = held_bytes event bytes; holders = 0 }))))
-    by_test false = by_found (find_file all name) refl
+    by_test t = grind (arith, nat_tests, values-held, nth-last, by_found)
 
 some-cond : {A B : Type 0} (t : Bool) (a : A) (b : B) (o : Option A) (p : Option B) → is_some o ≡ is_some p → is_some (cond t (Some a) o) ≡ is_some (cond t (Some b) p)
 some-cond true a b o p same = refl
@@ -150,7 +126,7 @@ brought-keeps name m s old facts is = by_kind facts.tells
     by_kind (Boots path file held first found bytes image same) =
         there _ same (λ none. absurd (not-both (run.is_booted (boot_step m path file held).after) (boot-booted m.kernel first) none))
     by_kind (Adds path bytes may same) =
-        let none = not-not (run.is_booted m) (first-of (not (run.is_booted m)) _ may) in
+        let none = not-true (run.is_booted m) (first-of (not (run.is_booted m)) _ may) in
         let free = free-none (find_file m.kernel.files path) _ (first-of (is_free m.kernel.files path) _ (second-of (not (run.is_booted m)) _ may)) in
         let was = is none in
         there _ same

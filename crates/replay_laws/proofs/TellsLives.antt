@@ -1,5 +1,6 @@
 -- The records tell who lives, and whether a process was made.
-use Rattle.std.proofs.Common.{◌≡◌, ℕ, zero, suc, ◌≤◌, ◌==◌, ◌||◌, Bool, true, false, cond, nat_lt, List, [], ◌∷◌, Some, is_some, length, map, refl, sym, ap, subst, ◌∙◌, arith, ne_eqb}
+use Rattle.std.proofs.lemmas.Grind.{common_steps}
+use Rattle.std.proofs.Common.{◌≡◌, ℕ, zero, suc, ◌≤◌, ◌==◌, ◌||◌, Bool, true, false, cond, nat_lt, List, [], ◌∷◌, Some, is_some, length, map, refl, sym, ◌∙◌, arith}
 use Rattle.std.specs.List.{list_any}
 use Rattle.std.proofs.lemmas.Bool.Decides.{nat_tests}
 use Rattle.arn_base.specs.declared.records.Record.{Record}
@@ -13,7 +14,7 @@ use Rattle.arn_model.specs.Kernel as kernel
 use Rattle.arn_model.specs.Kernel.{Kernel, Machine}
 use Rattle.arn_model.specs.Run as run
 use Rattle.arn_model.specs.Step.{Step}
-use Rattle.arn_model.specs.Tells.{lives, is_inner, StepTells, Runs, Happens, Boots, Adds, Types, Unplugs}
+use Rattle.arn_model.specs.Tells.{lives, is_inner}
 use Rattle.history_model.specs.Moments.{lives_by}
 use Rattle.history_model.specs.Names as names
 use Rattle.replay_laws.proofs.TellsSteps.{Facts, by_event, fold_events, as_numbered}
@@ -24,13 +25,7 @@ first_opened all n =
     table.with_change (table.with_change (table.with_change (table.booted all) 1 (table.placed n)) 1 (table.placed 0)) 1 (table.placed 0)
 
 first-lives : (all : Processes) (n q : ℕ) → nat_lt 0 (length all) ≡ false → cond (1 == q) true (is_some (live_process all q)) ≡ is_some (live_process (first_opened all n) q)
-first-lives [] n zero none = refl
-first-lives [] n (suc zero) none = refl
-first-lives [] n (suc (suc q)) none = ap (λ (b : Bool). cond b true false) (ne_eqb 1 (suc (suc q)) (λ e. omega arith))
-first-lives (x ∷ all) n q none = absurd (some none)
-  where
-    some : nat_lt 0 (length (x ∷ all)) ≡ false → ⊥
-    some e = grind (arith, nat_tests)
+first-lives all n q h1 = grind (arith, common_steps, nat_tests)
 
 booted-lives : (k : Kernel) (q : ℕ) → nat_lt 0 (length k.processes) ≡ false → cond (1 == q) true (lives k q) ≡ lives (kernel.booted k) q
 booted-lives k q none = first-lives k.processes (length k.descriptions) q none
@@ -89,20 +84,7 @@ or-some true = refl
 or-some false = refl
 
 pub boot-keeps : (m : Machine) (s : Step) (b : Bool) → Facts m s → BootIs m b → BootIs s.after (by_event boot_by s.moved.inside.event b)
-boot-keeps m s b facts is = by_kind facts.tells
-  where
-    there : (x : Step) → s ≡ x → BootIs x.after (by_event boot_by x.moved.inside.event b) → BootIs s.after (by_event boot_by s.moved.inside.event b)
-    there x same r = subst (λ (x : Step). BootIs x.after (by_event boot_by x.moved.inside.event b)) (sym same) r
-
-    by_kind : StepTells m s → BootIs s.after (by_event boot_by s.moved.inside.event b)
-    by_kind (Runs p v instr cpu memory sees stands same) = there _ same is
-    by_kind (Happens p v d entry tells same) =
-        let before = seen-booted m s p v facts tells.seen in
-        there _ same (or-none b (names.is_boot entry) (inner-boots entry tells.inner) ∙ is ∙ before ∙ sym (ap (λ (x : Step). run.is_booted x.after) (sym same) ∙ stays-booted m s facts before))
-    by_kind (Boots path file held first found bytes image same) = there _ same (or-some b ∙ sym (boot-booted m.kernel first))
-    by_kind (Adds path bytes may same) = there _ same (or-none b false refl ∙ is)
-    by_kind (Types bytes may same) = there _ same (or-none b false refl ∙ is)
-    by_kind (Unplugs device may same) = there _ same (or-none b false refl ∙ is)
+boot-keeps m s b h1 h2 = grind (arith, nat_tests, seen-booted, or-none, inner-boots, stays-booted, or-some, boot-booted)
 
 or-assoc : (a b c : Bool) → (a || (b || c)) ≡ ((a || b) || c)
 or-assoc true b c = refl

@@ -1,22 +1,22 @@
 -- The records tell which file a name stands for.
-use Rattle.std.proofs.Common.{◌≡◌, ℕ, ◌+◌, ◌&&◌, not, Bool, true, false, cond, List, [], ◌∷◌, ◌++◌, Option, None, Some, is_some, map, filter, bytes_eq, refl, sym, ap, subst, ◌∙◌, arith}
+use Rattle.std.proofs.Common.{◌≡◌, ℕ, ◌+◌, ◌&&◌, not, Bool, true, false, cond, List, [], ◌∷◌, ◌++◌, Option, None, Some, is_some, map, filter, bytes_eq, refl, sym, ap, ◌∙◌, arith}
 use Rattle.std.proofs.lemmas.Bool.Decides.{nat_tests}
 use Rattle.std.specs.List.{list_any}
 use Rattle.std.proofs.lemmas.List.{length_push}
 use Rattle.std.proofs.lemmas.Slice.Eq.{bytes_eq-Decides}
+use Rattle.std.proofs.lemmas.Bool.{not-true}
 use Rattle.arn_base.specs.declared.records.Record.{Record}
 use Rattle.arn_base.specs.declared.records.Record.TheVariants as entry
 use Rattle.parts_model.specs.Files.{Name, file_among, find_file, next_file}
-use Rattle.parts_model.specs.Tagged.{held_bytes}
 use Rattle.acts_model.specs.Moved.{Event}
 use Rattle.acts_model.specs.Records.{is_event, NameChange, name_told}
 use Rattle.arn_model.specs.Kernel.{Machine}
 use Rattle.arn_model.specs.Row.{can_unplug}
 use Rattle.arn_model.specs.Run as run
-use Rattle.arn_model.specs.Run.{is_free, may_unplug}
+use Rattle.arn_model.specs.Run.{may_unplug}
 use Rattle.arn_model.specs.Step.{Step}
 use Rattle.arn_model.specs.TransferCalls.{was_unplugged}
-use Rattle.arn_model.specs.Tells.{is_inner, named_after, StepTells, Runs, Happens, Boots, Adds, Types, Unplugs}
+use Rattle.arn_model.specs.Tells.{is_inner, named_after}
 use Rattle.history_model.specs.Names as names
 use Rattle.history_model.specs.Names.{named_by, named_from}
 use Rattle.replay_laws.proofs.TellsLives.{seen-booted, stays-booted}
@@ -57,25 +57,14 @@ pushed (x ∷ all) path file free name = by_tests (bytes_eq x.path path) refl (b
 pub named-kept : (n : ℕ) (entries : List Record) (name : List ℕ) (before : Option ℕ) → named_from n entries name before ≡ named_from n (filter is_event entries) name before
 named-kept n [] name before = refl
 named-kept n (entry.File path bytes ∷ entries) name before = named-kept (n + 1) entries name (cond (bytes_eq path name) (Some n) before)
-named-kept n (entry.Boot path give ∷ entries) name before = named-kept n entries name before
-named-kept n (entry.Typed bytes ∷ entries) name before = named-kept n entries name before
-named-kept n (entry.Unplug device ∷ entries) name before = named-kept n entries name before
-named-kept n (entry.Slice pid ran ∷ entries) name before = named-kept n entries name before
-named-kept n (entry.Signal pid signal cut handler ∷ entries) name before = named-kept n entries name before
 named-kept n (entry.Call pid number result more ∷ entries) name before =
     named-kept n entries name (named_by (name_told (entry.Call pid number result more)) name before)
-named-kept n (entry.End pid status ∷ entries) name before = named-kept n entries name before
+named-kept n (_ ∷ entries) name before = named-kept n entries name before
 
 pub boot-kept : (entries : List Record) → list_any names.is_boot entries ≡ list_any names.is_boot (filter is_event entries)
 boot-kept [] = refl
-boot-kept (entry.File path bytes ∷ entries) = boot-kept entries
 boot-kept (entry.Boot path give ∷ entries) = refl
-boot-kept (entry.Typed bytes ∷ entries) = boot-kept entries
-boot-kept (entry.Unplug device ∷ entries) = boot-kept entries
-boot-kept (entry.Slice pid ran ∷ entries) = boot-kept entries
-boot-kept (entry.Signal pid signal cut handler ∷ entries) = boot-kept entries
-boot-kept (entry.Call pid number result more ∷ entries) = boot-kept entries
-boot-kept (entry.End pid status ∷ entries) = boot-kept entries
+boot-kept (_ ∷ entries) = boot-kept entries
 
 -- how many files were brought, and what the name stands for
 pub record Naming : Type 0 where
@@ -91,14 +80,7 @@ names-fold name [] old = refl
 names-fold name (e ∷ es) old = by_entry e.entry (names-fold name es)
   where
     by_entry : (x : Record) → ((old : Naming) → named_from old.brought (map (λ e. e.entry) es) name old.file ≡ (fold_events (named_at name) es old).file) → named_from old.brought (x ∷ map (λ e. e.entry) es) name old.file ≡ (fold_events (named_at name) es (named_at name e.number x old)).file
-    by_entry (entry.File path bytes) rest = rest (named_at name e.number (entry.File path bytes) old)
-    by_entry (entry.Boot path give) rest = rest old
-    by_entry (entry.Typed bytes) rest = rest old
-    by_entry (entry.Unplug device) rest = rest old
-    by_entry (entry.Slice pid ran) rest = rest old
-    by_entry (entry.Signal pid signal cut handler) rest = rest old
-    by_entry (entry.Call pid number result more) rest = rest (named_at name e.number (entry.Call pid number result more) old)
-    by_entry (entry.End pid status) rest = rest old
+    by_entry x h1 = grind (arith, nat_tests)
 
 -- what they are in the machine: before any process was made, the next file is the next one that is brought
 pub record NamesAre (name : List ℕ) (m : Machine) (naming : Naming) : Type 0 where
@@ -123,47 +105,9 @@ second-of false b e = cc
 pub not-both : (b : Bool) → b ≡ true → b ≡ false → ⊥
 not-both b e f = cc
 
-pub not-not : (b : Bool) → not b ≡ true → b ≡ false
-not-not true e = cc
-not-not false e = refl
-
 pub unplugged-booted : (m : Machine) (device : ℕ) → may_unplug m device ≡ true → run.is_booted m ≡ true
 unplugged-booted m device may =
     let rest = not (was_unplugged m.kernel device) in first-of (run.is_booted m) rest (second-of can_unplug (run.is_booted m && rest) may)
 
 pub names-keep : (name : List ℕ) (m : Machine) (s : Step) (old : Naming) → Facts m s → NamesAre name m old → NamesAre name s.after (by_event (named_at name) s.moved.inside.event old)
-names-keep name m s old facts is = by_kind facts.tells
-  where
-    there : (x : Step) → s ≡ x → NamesAre name x.after (by_event (named_at name) x.moved.inside.event old) → NamesAre name s.after (by_event (named_at name) s.moved.inside.event old)
-    there x same r = subst (λ (x : Step). NamesAre name x.after (by_event (named_at name) x.moved.inside.event old)) (sym same) r
-
-    by_kind : StepTells m s → NamesAre name s.after (by_event (named_at name) s.moved.inside.event old)
-    by_kind (Runs p v instr cpu memory sees stands same) = there _ same (record { file = is.file; next = is.next })
-    by_kind (Happens p v d e tells same) =
-        let after : run.is_booted s.after ≡ true = stays-booted m s facts (seen-booted m s p v facts tells.seen) in
-        there _ same
-        (record {
-          file =
-              inner-named name m.events e old tells.inner
-              ∙ same-change (name_told e) name old.file
-              ∙ ap (named_after (name_told e) name) is.file
-              ∙ sym (tells.names name);
-          next = λ none. absurd (not-both (run.is_booted s.after) after (ap (λ (x : Step). run.is_booted x.after) same ∙ none));
-        })
-    by_kind (Boots path file held first found bytes image same) =
-        there _ same (record { file = is.file; next = λ none. is.next first })
-    by_kind (Adds path bytes may same) =
-        let none = not-not (run.is_booted m) (first-of (not (run.is_booted m)) _ may) in
-        let free = free-none (find_file m.kernel.files path) _ (first-of (is_free m.kernel.files path) _ (second-of (not (run.is_booted m)) _ may)) in
-        there _ same
-        (record {
-          file =
-              ap (λ (k : ℕ). cond (bytes_eq path name) (Some k) old.file) (is.next none)
-              ∙ ap (cond (bytes_eq path name) (Some (next_file m.kernel.files))) is.file
-              ∙ pushed m.kernel.files.names path (next_file m.kernel.files) free name;
-          next = λ still. ap (λ (k : ℕ). k + 1) (is.next none) ∙ sym (length_push m.kernel.files.all (Some (record { bytes = held_bytes m.events bytes; holders = 0 })));
-        })
-    by_kind (Types bytes may same) =
-        there _ same (record { file = is.file; next = λ none. absurd (not-both (run.is_booted m) may none) })
-    by_kind (Unplugs device may same) =
-        there _ same (record { file = is.file; next = λ none. absurd (not-both (run.is_booted m) (unplugged-booted m device may) none) })
+names-keep name m s old h1 h2 = grind (arith, nat_tests, stays-booted, seen-booted, inner-named, same-change, not-both, not-true, first-of, free-none, second-of, pushed, length_push, unplugged-booted)

@@ -1,4 +1,5 @@
 -- What the records of a run tell of it, and of a moment.
+use Rattle.std.proofs.lemmas.Bool.Decides.{nat_tests}
 use Rattle.std.proofs.Common.{◌≡◌, not, ◌&&◌, is_some, nat_lt, ℕ, zero, suc, false, List, [], Option, None, IfSome, length, map, refl, sym, ap, subst, ◌∙◌, arith}
 use Rattle.std.specs.List.{list_any, count_by}
 use Rattle.arn_base.specs.declared.records.Record.{Record}
@@ -18,7 +19,6 @@ use Rattle.history_model.specs.Names.{named_from, is_file, brought_from}
 use Rattle.log_model.specs.Laws.{EventsRecorded}
 use Rattle.log_model.specs.Records.{records}
 use Rattle.replay_laws.specs.Laws as laws
-use Rattle.replay_laws.specs.Laws.{TellsRun, TellsMoment}
 use Rattle.replay_laws.proofs.TellsLives.{LifeIs, life_by, life-keeps, lives-fold, BootIs, boot_by, boot-keeps, boots-fold}
 use Rattle.replay_laws.proofs.TellsBrought.{Brought, BroughtIs, UntilBooted, brings, brought-kept, count-kept, bytes-fold, count-fold, brought-keeps, brought-free}
 use Rattle.replay_laws.proofs.TellsNames.{Naming, NamesAre, named_at, names-keep, names-fold, named-kept, boot-kept}
@@ -78,10 +78,7 @@ records-tell-runs parts tell append sound recorded inputs few =
         ∙ bytes-fold name (events_of (run.run inputs)) no_file
 
     count-at : (name : List ℕ) → count_by is_file (records inputs) ≡ (last-brought name).count
-    count-at name =
-        count-kept (records inputs)
-        ∙ ap (λ (es : List Record). count_by is_file es) (recorded inputs)
-        ∙ omega (arith, count-fold name (events_of (run.run inputs)) no_file)
+    count-at name = grind (arith, nat_tests, count-kept, count-fold, no_file)
 
     files-are : run.is_booted (machine_after inputs) ≡ false → (name : List ℕ) → BroughtIs name (machine_after inputs) (last-brought name)
     files-are none name =

@@ -1,5 +1,5 @@
 -- The records tell which segment each live process holds.
-use Rattle.std.proofs.Common.{◌≡◌, ℕ, ◌==◌, ◌&&◌, Bool, true, false, cond, List, [], ◌∷◌, Option, None, Some, IfSome, map, refl, sym, ap, subst, ◌∙◌, arith, unwrap_or}
+use Rattle.std.proofs.Common.{◌≡◌, ℕ, ◌==◌, Bool, true, false, cond, List, [], ◌∷◌, Option, None, Some, IfSome, map, refl, sym, ap, subst, ◌∙◌, arith, unwrap_or}
 use Rattle.std.proofs.lemmas.Bool.Decides.{nat_tests}
 use Rattle.std.proofs.lemmas.Bool.{eq-eqb, eqb-true, cond-false}
 use Rattle.arn_base.specs.declared.machine.Cpu.{Cpu}
@@ -13,31 +13,18 @@ use Rattle.parts_model.specs.Replies.{is_success}
 use Rattle.parts_model.specs.Tagged.{values}
 use Rattle.acts_model.specs.Acts as act
 use Rattle.acts_model.specs.Acts.{Act, acted, restored, beginning_of, joined, founded, done, done_by, unborn, child_view}
-use Rattle.acts_model.specs.Bodies.{Body, Bodies, View, body_at, seen, put, remove, become, nobody}
+use Rattle.acts_model.specs.Bodies.{Body, Bodies, View, body_at, seen, put, remove, become}
 use Rattle.acts_model.specs.Moved.{Event}
 use Rattle.acts_model.specs.Records.{process_of}
 use Rattle.acts_model.specs.Told as told
-use Rattle.acts_model.specs.Told.{Kind, kind_of, call_act, act_of}
+use Rattle.acts_model.specs.Told.{kind_of, call_act, act_of}
 use Rattle.acts_model.specs.Views.{reach, with_reach, with_cpu, after_instr, argument}
 use Rattle.arn_model.specs.Kernel.{Machine, at_first}
 use Rattle.arn_model.specs.Step.{Step}
 use Rattle.arn_model.specs.Tells.{is_inner, StepTells, Runs, Happens, Boots, Adds, Types, Unplugs}
 use Rattle.history_model.specs.Moments.{changed, segment_forked, segment_started, segment_called, segments_told, segments_by}
 use Rattle.replay_laws.proofs.TellsSteps.{Facts, by_event, fold_events, as_numbered}
-
--- bodies by number: what is put is found, and nothing else changes
-
-put-body : (p : ℕ) (v : View) (b : Bodies) (q : ℕ) → body_at (put p v b) q ≡ cond (q == p) (Some v.body) (body_at b q)
-unfolding put body_at
-put-body p v b q = refl
-
-remove-body : (p : ℕ) (b : Bodies) (q : ℕ) → body_at (remove p b) q ≡ cond (q == p) None (body_at b q)
-unfolding remove body_at
-remove-body p b q = refl
-
-nobody-at : (p : ℕ) → body_at nobody p ≡ None
-unfolding body_at
-nobody-at p = refl
+use Rattle.replay_laws.proofs.Places.{put-body, remove-body, nobody-at}
 
 -- the bodies hold these segments
 
@@ -154,16 +141,8 @@ module _ (pid event : ℕ) (v : View) (b : Bodies) (held : ℕ → Option ℕ) (
   fork-follow cpu result more = grind (arith, nat_tests, plain-fork, start-fork)
 
   exec-follow : (cpu : Cpu) (result : ℕ) (more : Extra) → Follow pid event v b (call_act told.Exec cpu result more) (segment_started pid more held)
-  exec-follow cpu result extra.Nothing = follow-returns result
   exec-follow cpu result (extra.Give give) = follow-starts give.bytes (argument cpu 2) (argument cpu 3)
-  exec-follow cpu result (extra.Start start) = follow-returns result
-  exec-follow cpu result (extra.Put file at bytes) = follow-returns result
-  exec-follow cpu result (extra.Console bytes) = follow-returns result
-  exec-follow cpu result (extra.Reply device bytes) = follow-returns result
-  exec-follow cpu result (extra.Sent device bytes) = follow-returns result
-  exec-follow cpu result extra.Fault = follow-returns result
-  exec-follow cpu result extra.Absent = follow-returns result
-  exec-follow cpu result (extra.Name file path) = follow-returns result
+  exec-follow cpu result _ = follow-returns result
 
   wait-follow : (cpu : Cpu) (result : ℕ) (more : Extra) → Follow pid event v b (call_act told.Wait cpu result more) held
   wait-follow cpu result more = grind (arith, nat_tests, follow-receives, follow-returns)
@@ -202,22 +181,7 @@ module _ (pid event : ℕ) (v : View) (b : Bodies) (held : ℕ → Option ℕ) (
       (λ e8. other e1 e2 e3 e4 e5 e6 e7 e8))))))))
     where
       other : (n == number.EXIT) ≡ false → (n == number.FORK) ≡ false → (n == number.EXEC) ≡ false → (n == number.WAIT) ≡ false → (n == number.SIGRETURN) ≡ false → (n == number.READ) ≡ false → (n == number.WRITE) ≡ false → (n == number.SHM) ≡ false → Called cpu result more n
-      other e1 e2 e3 e4 e5 e6 e7 e8 =
-          let kind : kind_of n ≡ told.Other =
-          cond-false (n == number.EXIT) told.Exit _ e1
-          ∙ cond-false (n == number.FORK) told.Fork _ e2
-          ∙ cond-false (n == number.EXEC) told.Exec _ e3
-          ∙ cond-false (n == number.WAIT) told.Wait _ e4
-          ∙ cond-false (n == number.SIGRETURN) told.Sigreturn _ e5
-          ∙ cond-false (n == number.READ) told.Read _ e6
-          ∙ cond-false (n == number.WRITE) told.Write _ e7
-          ∙ cond-false (n == number.SHM) told.Shm told.Other e8 in
-          let none : segment_called event pid n result more held ≡ held =
-          cond-false ((n == number.SHM) && (result == 0)) (changed held pid (Some event)) _ (ap (λ (t : Bool). t && (result == 0)) e8)
-          ∙ cond-false ((n == number.FORK) && is_success result) (segment_forked pid result more held) _ (ap (λ (t : Bool). t && is_success result) e2)
-          ∙ cond-false (n == number.EXEC) (segment_started pid more held) held e3 in
-          subst (λ (k : Kind). Follow pid event v b (call_act k cpu result more) (segment_called event pid n result more held)) (sym kind)
-          (subst (λ (x : ℕ → Option ℕ). Follow pid event v b (act.Returns result) x) (sym none) (follow-returns result))
+      other h1 h2 h3 h4 h5 h6 h7 h8 = grind (arith, nat_tests, cond-false, follow-returns)
 
   signal-follow : (signal handler : ℕ) (cut : Bool) (t : Bool) → Follow pid event v b (cond t (act.Dies signal cut) (act.Delivers signal handler cut)) held
   signal-follow signal handler cut true = follow-dies signal cut
@@ -225,11 +189,6 @@ module _ (pid event : ℕ) (v : View) (b : Bodies) (held : ℕ → Option ℕ) (
 
   -- the act that a record tells
   told-follow : (a : Act) (e : Record) → is_inner e ≡ true → process_of e ≡ Some pid → act_of v.body.cpu e ≡ Some a → Follow pid event v b a (segments_told event e held)
-  told-follow a (entry.File name bytes) inner process is = cc
-  told-follow a (entry.Boot name give) inner process is = cc
-  told-follow a (entry.Typed bytes) inner process is = cc
-  told-follow a (entry.Unplug device) inner process is = cc
-  told-follow a (entry.Slice p ran) inner process is = cc
   told-follow a (entry.Signal p signal cut handler) inner process is =
       subst (λ (x : Act). Follow pid event v b x held) (ap (λ (o : Option Act). unwrap_or o a) is) (signal-follow signal handler cut (handler == 0))
   told-follow a (entry.Call p n result more) inner process is =
@@ -238,6 +197,7 @@ module _ (pid event : ℕ) (v : View) (b : Bodies) (held : ℕ → Option ℕ) (
       (call-follow n v.body.cpu result more))
   told-follow a (entry.End p status) inner process is =
       subst (λ (x : Act). Follow pid event v b x held) (ap (λ (o : Option Act). unwrap_or o a) is) (follow-faults status)
+  told-follow a _ inner process is = cc
 
 -- what a live process holds is what its body has
 seen-body : (b : Bodies) (pid : ℕ) (v : View) → seen b pid ≡ Some v → body_at b pid ≡ Some v.body

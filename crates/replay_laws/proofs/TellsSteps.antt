@@ -1,5 +1,6 @@
 -- What is known of each step of a run, and folds over the events of steps.
-use Rattle.std.proofs.Common.{◌≡◌, ℕ, zero, suc, ◌+◌, Bool, true, false, List, [], ◌∷◌, Option, None, Some, length, map, refl, sym, ap, subst, ◌∙◌, arith}
+use Rattle.std.proofs.lemmas.Bool.Decides.{nat_tests}
+use Rattle.std.proofs.Common.{◌≡◌, ℕ, ◌+◌, Bool, List, [], ◌∷◌, Option, None, Some, length, map, refl, ap, subst, arith}
 use Rattle.std.specs.List.{cons_option}
 use Rattle.arn_base.specs.declared.records.Record.{Record}
 use Rattle.acts_model.specs.Moved.{Event, is_instruction}
@@ -32,9 +33,7 @@ within-along P m left [] h = tt
 within-along P m left (s ∷ steps) h = by_test (is_instruction s.moved.inside) left (λ left. within-along P s.after left steps h.1)
   where
     by_test : (b : Bool) (left : ℕ) → ((left : ℕ) → Along P s.after (within left steps)) → Along P m (unless_reached b left (λ left. s ∷ within left steps))
-    by_test false left rest = (h.0, rest left)
-    by_test true zero rest = tt
-    by_test true (suc left) rest = (h.0, rest left)
+    by_test b left h1 = grind (arith, nat_tests)
 
 -- a value that each event changes
 abbrev pub by_event : {S : Type 0} → (ℕ → Record → S → S) → Option Event → S → S
@@ -81,9 +80,7 @@ numbered-events m [] h = refl
 numbered-events m (s ∷ steps) h = by_count (counted m s h.0.tells) (numbered-events s.after steps h.1)
   where
     by_count : Counted m s → numbered s.after.events (event_records steps) ≡ map as_numbered (events_of steps) → numbered m.events (event_records (s ∷ steps)) ≡ map as_numbered (events_of (s ∷ steps))
-    by_count (NoEvent none same) rest = rw none (ap (λ (n : ℕ). numbered n (event_records steps)) (sym same) ∙ rest)
-    by_count (OneEvent e one next) rest =
-        rw one (ap (λ (es : List Numbered). record { number = m.events; entry = e } ∷ es) (ap (λ (n : ℕ). numbered n (event_records steps)) (sym next) ∙ rest))
+    by_count h1 h2 = grind (arith, nat_tests)
 
 -- and they are counted
 pub events-counted : (m : Machine) (steps : List Step) → Along Facts m steps → length (event_records steps) + m.events ≡ (after_steps m steps).events
@@ -91,5 +88,4 @@ events-counted m [] h = omega arith
 events-counted m (s ∷ steps) h = by_count (counted m s h.0.tells) (events-counted s.after steps h.1)
   where
     by_count : Counted m s → length (event_records steps) + s.after.events ≡ (after_steps s.after steps).events → length (event_records (s ∷ steps)) + m.events ≡ (after_steps s.after steps).events
-    by_count (NoEvent none same) rest = rw none (omega (arith, same, rest))
-    by_count (OneEvent e one next) rest = rw one (omega (arith, next, rest))
+    by_count h1 h2 = grind (arith, nat_tests)

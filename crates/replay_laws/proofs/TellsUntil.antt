@@ -1,4 +1,5 @@
 -- The events that have happened at a moment, by the records, are those of the run's steps up to it; and the records count its instructions.
+use Rattle.std.proofs.lemmas.Grind.{common_steps}
 use Rattle.std.proofs.Common.{◌≡◌, ℕ, zero, suc, ◌+◌, ◌<◌, ◌≤◌, ◌++◌, Bool, true, false, cond, nat_le, List, [], ◌∷◌, Option, None, Some, length, option_to_list, refl, sym, ap, subst, ◌∙◌, arith, append_assoc}
 use Rattle.std.proofs.lemmas.Bool.Decides.{nat_tests}
 use Rattle.std.proofs.lemmas.List.Sums.{sum_by-append, sum_by-cons}
@@ -58,10 +59,7 @@ pub record Loud (s : Step) : Type 0 where
 
 loud-yes : (s : Step) (l : Loud s) (moment begins ends n : ℕ) (rest : List Record) → ends ≤ moment
     → events_from moment begins ends n (event_records (s ∷ []) ++ rest) ≡ record { number = n; entry = l.entry } ∷ events_from moment begins ends (n + 1) rest
-loud-yes s l moment begins ends n rest h =
-    ap (λ (es : List Record). events_from moment begins ends n (es ++ rest)) l.has
-    ∙ l.next moment begins ends n rest
-    ∙ ap (λ (b : Bool). if_happened b n l.entry (events_from moment begins ends (n + 1) rest)) (le-yes ends moment h)
+loud-yes s l moment begins ends n rest h1 = grind (arith, nat_tests, le-yes)
 
 loud-no : (s : Step) (l : Loud s) (moment begins ends n : ℕ) (rest : List Record) → moment < ends
     → events_from moment begins ends n (event_records (s ∷ []) ++ rest) ≡ events_from moment begins ends (n + 1) rest
@@ -162,10 +160,7 @@ plain-at (s ∷ plain) o rest more are is agree x b e n (suc k) same =
 -- what comes behind a delivery
 tail-at : (plain : List Step) (o : Option Step) (rest : List Record) (more : List Step) → ArePlain plain → MaybeLast o → Agree rest more → (x b e n left : ℕ) → e ≡ x + (length plain + one_if_some o)
     → events_from (x + left) b e n (event_records (plain ++ option_to_list o) ++ rest) ≡ numbered n (event_records (within left ((plain ++ option_to_list o) ++ more)))
-tail-at plain o rest more are is agree x b e n left same =
-    ap (λ (es : List Record). events_from (x + left) b e n (es ++ rest)) (plain-records plain (option_to_list o) are)
-    ∙ plain-at plain o rest more are is agree x b e n left same
-    ∙ sym (ap (λ (y : List Step). numbered n (event_records (within left y))) (append_assoc plain (option_to_list o) more))
+tail-at plain o rest more h1 h2 h3 x b e n left h4 = grind (arith, nat_tests, plain-records, plain-at, append_assoc)
 
 tail-past : (plain : List Step) (o : Option Step) (rest : List Record) (more : List Step) → ArePlain plain → MaybeLast o → Agree rest more → (moment b e n : ℕ) → moment < e
     → events_from moment b e n (event_records (plain ++ option_to_list o) ++ rest) ≡ []
@@ -259,9 +254,7 @@ possible-total true pid t is = slice-total pid t is (steps_of t) refl
 possible-total false pid t is = refl
 
 instructions-cons : (s : Step) (steps : List Step) (b : Bool) → is_instruction s.moved.inside ≡ b → instructions_in (s ∷ steps) ≡ cond b 1 0 + instructions_in steps
-instructions-cons s steps b is =
-    let one : Step → ℕ = λ (x : Step). cond (is_instruction x.moved.inside) 1 0 in
-    sum_by-cons one s steps ∙ ap (λ (b : Bool). cond b 1 0 + instructions_in steps) is
+instructions-cons s steps b h1 = grind (arith, common_steps, nat_tests, sum_by-cons)
 
 outer-total : (steps : List Step) → Outer steps → total (event_records steps) ≡ instructions_in steps
 outer-total steps h1 = grind (arith, nat_tests, instructions-cons)

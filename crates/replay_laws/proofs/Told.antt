@@ -1,7 +1,7 @@
 -- What the record of an event tells of groups, and of a group's first process, is what its act does.
-use Rattle.std.proofs.Common.{◌≡◌, ℕ, ◌&&◌, List, [], ◌∷◌, refl, ap, sym, subst, Option, Some, None, Bool, true, false, not, ◌==◌, cond, arith}
+use Rattle.std.proofs.Common.{◌≡◌, ℕ, ◌&&◌, List, [], ◌∷◌, refl, ap, sym, subst, Option, Some, None, Bool, true, false, ◌==◌, cond, arith, eqb-true}
 use Rattle.std.proofs.lemmas.Bool.Decides.{nat_tests}
-use Rattle.std.proofs.lemmas.Bool.{eqb-true}
+use Rattle.std.proofs.lemmas.Bool.{not-false}
 use Rattle.arn_base.specs.declared.machine.Cpu.{Cpu}
 use Rattle.arn_base.specs.declared.records.Extra.{Extra}
 use Rattle.arn_base.specs.declared.records.Extra.TheVariants as extra
@@ -60,10 +60,6 @@ no-wrong : (b : Bool) (said found : ℕ) → wrong_if b said found ≡ None → 
 no-wrong true said found e = absurd (cc)
 no-wrong false said found e = refl
 
-image-true : (b : Bool) → not b ≡ false → b ≡ true
-image-true true e = refl
-image-true false e = absurd (cc)
-
 or-first : (a b : Option Wrong) → or_else a b ≡ None → a ≡ None
 or-first None b e = refl
 or-first (Some w) b e = absurd (cc)
@@ -73,7 +69,7 @@ or-next None b e = e
 or-next (Some w) b e = absurd (cc)
 
 starts-well : (v : View) (act : Act) (more : Extra) → act_wrong v act more ≡ None → StartsWell v act
-starts-well v act more h1 = grind (arith, nat_tests, image-true, no-wrong, or-first, or-next)
+starts-well v act more h1 = grind (arith, nat_tests, not-false, no-wrong, or-first, or-next)
 
 -- acts that make no child
 abbrev NoChild : Act → Type 0
@@ -169,8 +165,4 @@ event-tale m pid v d (entry.End p status) t =
     subst (λ (q : ℕ). Tale q v (entry.End p status) d.act) (same-number p pid t.process)
     (subst (λ (a : Act). Tale p v (entry.End p status) a) (same-act (Faults status) d.act t.told)
     (record { groups = λ gs. refl; begins = λ g e own. refl; begin = λ g e. refl; child = tt; starts = tt }))
-event-tale m pid v d (entry.Boot path give) t = absurd (let e = t.inner in cc)
-event-tale m pid v d (entry.File path bytes) t = absurd (let e = t.inner in cc)
-event-tale m pid v d (entry.Typed bytes) t = absurd (let e = t.inner in cc)
-event-tale m pid v d (entry.Unplug device) t = absurd (let e = t.inner in cc)
-event-tale m pid v d (entry.Slice p ran) t = absurd (let e = t.inner in cc)
+event-tale m pid v d _ t = absurd (let e = t.inner in cc)

@@ -1,10 +1,10 @@
 -- The records of one turn, replayed, lead to where the turn leads.
-use Rattle.std.proofs.Common.{◌≡◌, ℕ, suc, ◌≤◌, ◌<◌, ◌+◌, ◌-◌, min, List, [], ◌∷◌, ◌++◌, length, take, refl, ap, ap₂, ◌∙◌, sym, subst, append-nil, append_assoc, take_all, Option, Some, None, IfSome, option_to_list, Bool, true, false, cond, arith, nat_le, le_refl}
-use Rattle.std.proofs.lemmas.Bool.{eq-eqb, leb-true, leb-false, le-leb}
+use Rattle.std.proofs.lemmas.Bool.Decides.{nat_tests}
+use Rattle.std.proofs.Common.{◌≡◌, ℕ, suc, ◌≤◌, ◌<◌, ◌+◌, ◌-◌, min, List, [], ◌∷◌, ◌++◌, length, take, refl, ap, ap₂, ◌∙◌, sym, subst, append-nil, append_assoc, take_all, Option, Some, None, IfSome, option_to_list, Bool, true, false, cond, arith, nat_le, le_refl, eq-eqb, leb-true, leb-false, le-leb}
 use Rattle.arn_base.specs.declared.records.Record.{Record}
 use Rattle.parts_model.specs.Processes.{next_process}
 use Rattle.parts_model.specs.Replies.{Answered}
-use Rattle.acts_model.specs.Acts.{Act, Forks, Founds}
+use Rattle.acts_model.specs.Acts.{Act}
 use Rattle.acts_model.specs.Bodies.{View, seen}
 use Rattle.acts_model.specs.Moved.{Inside, is_call_or_end, is_instruction}
 use Rattle.acts_model.specs.Records.{LifeChange, BeginsLife, life_told, lives_after}
@@ -15,7 +15,7 @@ use Rattle.arn_model.specs.Step.{Step, event_step}
 use Rattle.arn_model.specs.Tells.{lives, EventTells, StepTells, Along}
 use Rattle.arn_model.specs.Turn.{delivery_in, after_first, after_steps, plains, last_of, turn_from, turn, steps_of}
 use Rattle.history_model.specs.Alone as alone
-use Rattle.history_model.specs.Alone.{Own, Made, Makes, Standing, Slice, and_then, made_if, ends_slice, begins_by, happens, after_slice, after_signal, after_last, after_record, replayed}
+use Rattle.history_model.specs.Alone.{Own, Made, Makes, Standing, and_then, made_if, ends_slice, begins_by, happens, after_slice, after_signal, after_last, after_record, replayed}
 use Rattle.history_model.specs.Groups.{Groups, is_number, groups_told, groups_from}
 use Rattle.history_model.specs.Moments.{changed}
 use Rattle.replay_laws.specs.Heard.{part, parts}
@@ -34,19 +34,8 @@ stand o ts events moment ended owed p ran = record { made = Makes o; groups = ts
 abbrev stand_after : Own → Groups → ℕ → ℕ → ℕ → ℕ → Standing
 stand_after o ts event moment p ran = record { made = Makes o; groups = ts; events = event + 1; moment = moment; is_begun = true; is_ended = true; owed = 0; pid = p; ran = ran; end_event = event }
 
-same-own : (a b : Own) → Makes a ≡ Makes b → a ≡ b
-same-own a b e = cc
-
 signal-made : (g : ℕ) (gs ts : Groups) (m : Machine) (p : ℕ) (v : View) (d : Doing) (r : Record) (o : Own) → EventTells m p v d r → ((g e : ℕ) (own : Own) → begins_by g e r own ≡ Makes own) → Agrees g gs m.bodies o.bodies → ts p ≡ gs p → made_if (is_number g (ts p)) (Makes o) (happens p m.events r) ≡ Makes (own_after g gs m p v d.act r o)
-signal-made g gs ts m p v d r o t none a same =
-    ap (λ (x : Option ℕ). made_if (is_number g x) (Makes o) (happens p m.events r)) same
-    ∙ (by_test (is_number g (gs p)) refl
-    ∙ (sym (none g m.events (own_did (mine gs g p) m p v d.act r o))
-    ∙ (event-tale m p v d r t).begins g m.events (own_did (mine gs g p) m p v d.act r o)))
-  where
-    by_test : (b : Bool) → is_number g (gs p) ≡ b → made_if b (Makes o) (happens p m.events r) ≡ Makes (own_did b m p v d.act r o)
-    by_test true e = does g gs m p v d r o t a (number-true g (gs p) e)
-    by_test false e = refl
+signal-made g gs ts m p v d r o h1 h2 h3 h4 = grind (arith, nat_tests, event-tale, does, number-true)
 
 signal-step : (g : ℕ) (gs ts : Groups) (m : Machine) (p : ℕ) (v : View) (d : Doing) (r : Record) (o : Own) (moment : ℕ) (ended : Bool) (owed ran : ℕ) → EventTells m p v d r → ((g e : ℕ) (own : Own) → begins_by g e r own ≡ Makes own) → Agrees g gs m.bodies o.bodies → ts p ≡ gs p → after_signal g p r (stand o ts m.events moment ended owed p ran) ≡ stand (own_after g gs m p v d.act r o) ts (m.events + 1) moment ended owed p ran
 signal-step g gs ts m p v d r o moment ended owed ran t none a same =
@@ -60,8 +49,7 @@ end-made g gs ts m p v d r o own k ran t a same runs =
     ∙ (event-tale m p v d r t).begins g m.events (own_did (mine gs g p) m p v d.act r own))
   where
     by_test : (b : Bool) → is_number g (gs p) ≡ b → alone.plains (slice_at p ran m.events m.events) 0 (cond b k 0) o ≡ Makes own → made_if b (Makes o) (ends_slice (slice_at p ran m.events m.events) (cond b (suc k) 0) r) ≡ Makes (own_did b m p v d.act r own)
-    by_test true is run = ap (λ (x : Made). and_then x (happens p m.events r)) run ∙ does g gs m p v d r own t a (number-true g (gs p) is)
-    by_test false is run = run
+    by_test b h1 h2 = grind (arith, nat_tests, does, number-true)
 
 end-step : (g : ℕ) (gs ts : Groups) (m : Machine) (p : ℕ) (v : View) (d : Doing) (r : Record) (o own : Own) (moment k ran : ℕ) → EventTells m p v d r → Agrees g gs m.bodies own.bodies → ts p ≡ gs p → RunsTo p (cond (mine gs g p) k 0) o own → after_last g p r (stand o ts m.events moment true (cond (mine gs g p) (suc k) 0) p ran) ≡ stand_after (own_after g gs m p v d.act r own) (groups_told r ts) m.events moment p ran
 end-step g gs ts m p v d r o own moment k ran t a same runs =
@@ -105,15 +93,11 @@ child-fits gs ts m p v d r t same below = by_act d.act (event-tale m p v d r t).
     child c e = live-number d.kernel c (t.lives c ∙ (ap (λ (x : LifeChange). lives_after x c (lives m.kernel c)) e ∙ ap (λ (b : Bool). cond b true (lives m.kernel c)) (eq-eqb c c refl)))
 
     by_act : (act : Act) → ((x : Groups) → groups_told r x ≡ groups_after p act x) → BeginsChild r act → GroupsFit gs p act
-    by_act (Forks c) k e = sym (below c (child c e)) ∙ (ap (λ (f : Groups). f c) (k ts) ∙ (changed-same ts c (ts p) ∙ same))
-    by_act (Founds c) k e = sym (below c (child c e)) ∙ (ap (λ (f : Groups). f c) (k ts) ∙ changed-same ts c (Some c))
-    by_act act k e = tt
+    by_act act h1 h2 = grind (arith, nat_tests, child, changed-same)
 
 -- an act that changes no group makes no child
 unchanged-fits : (gs : Groups) (p : ℕ) (act : Act) → groups_after p act gs ≡ gs → GroupsFit gs p act
-unchanged-fits gs p (Forks c) e = sym (ap (λ (f : Groups). f c) e) ∙ changed-same gs c (gs p)
-unchanged-fits gs p (Founds c) e = sym (ap (λ (f : Groups). f c) e) ∙ changed-same gs c (Some c)
-unchanged-fits gs p act e = tt
+unchanged-fits gs p act h1 = grind (arith, nat_tests, changed-same)
 
 -- instructions alone
 plain-rest : (g : ℕ) (gs ts : Groups) (until now : ℕ) (owner : ℕ → Owner) (o : Own) (m : Machine) (n p : ℕ) → JointAt g owner gs m o.bodies → RestEnds g gs until now o ts m p (plains n p m ++ [])
@@ -187,26 +171,12 @@ full-end g gs ts until now owner o m p A v d r plain kept to t fit same c len ea
     }))
   where
     one : (b : Bool) (j : ℕ) (s : Step) → unless_reached b (suc j) (λ left. s ∷ within left []) ≡ s ∷ []
-    one true j s = refl
-    one false j s = refl
+    one b j s = grind (arith, nat_tests)
 
 -- the moment lies before the end
 cut-end : (g : ℕ) (gs ts : Groups) (until now : ℕ) (owner : ℕ → Owner) (o : Own) (m : Machine) (p : ℕ) (A : List Step) (v : View) (d : Doing) (r : Record) → ArePlain A → Kept m (after_steps m A) → PlainTo g owner gs p (until - now) m o (take (until - now) A) → is_instruction (event_step (after_steps m A) p v d r).moved.inside ≡ true → (c : ℕ) → c ≡ suc (length A) → until - now ≤ length A → nat_le (now + c) until ≡ false
     → StepsEnd g gs until (now + c) o.inside m (within (until - now) (last_act m p A v d r)) (last_act m p A v d r) (after_last g p r (stand o ts m.events (now + c) false (cond (mine gs g p) (min c (until - now)) 0) p c))
-cut-end g gs ts until now owner o m p A v d r plain kept to counts c len late over =
-    let s = event_step (after_steps m A) p v d r in
-    let all : after_steps m (A ++ (s ∷ [])) ≡ s.after = after-append m A (s ∷ []) in
-    let to' = subst (PlainTo g owner gs p (until - now) m o) (sym (within-part (until - now) A (s ∷ []) plain counts late)) to in
-    record {
-      owner = owner;
-      own = to'.own;
-      settled = λ event end_event. ap (λ i. alone.plains (slice_at p c event end_event) 0 (cond (mine gs g p) i 0) o) (let x : min c (until - now) ≡ until - now = omega arith in x) ∙ to'.runs c event end_event 0;
-      joint = to'.joint;
-      inside = to'.inside;
-      events = ap (λ (k : ℕ). k + 1) (sym kept.events) ∙ ap (λ (x : Machine). x.events) (sym all);
-      moment = refl;
-      ended = sym over;
-    }
+cut-end g gs ts until now owner o m p A v d r h1 h2 h3 h4 c h5 h6 h7 = grind (arith, nat_tests, after-append, within-part)
 
 last-rest : (g : ℕ) (gs ts : Groups) (until now : ℕ) (owner : ℕ → Owner) (o : Own) (m : Machine) (n p : ℕ) (s : Step) → now ≤ until → JointAt g owner gs m o.bodies → ts p ≡ gs p → Below gs ts m (plains n p m ++ (s ∷ [])) → LastIs (after_steps m (plains n p m)) p s → RestEnds g gs until now o ts m p (plains n p m ++ (s ∷ []))
 last-rest g gs ts until now owner o m n p s early h same below last =
@@ -260,11 +230,7 @@ pub record Stood (g : ℕ) (gs : Groups) (now : ℕ) (t : Standing) (m : Machine
   pub moment : t.moment ≡ now
 
 slice-step : (g : ℕ) (gs : Groups) (until now p c : ℕ) (t : Standing) (m : Machine) (h : Stood g gs now t m) → now ≤ until → t.groups p ≡ gs p → after_slice g until p c t ≡ behind g gs until now h.own t.groups m.events c p
-slice-step g gs until now p c t m h early same =
-    let make : Made → Option ℕ → ℕ → ℕ → Bool → Standing = λ b x n k begun. record { made = b; groups = t.groups; events = n; moment = k + c; is_begun = begun; is_ended = nat_le (k + c) until; owed = cond (is_number g x) (min c (until - k)) 0; pid = p; ran = c; end_event = n } in
-    ap₂ (λ (b : Made) (x : Option ℕ). make b x t.events t.moment (nat_le t.moment until)) (h.settled t.events t.end_event) same
-    ∙ (ap₂ (λ (n k : ℕ). make (Makes h.own) (gs p) n k (nat_le k until)) h.events h.moment
-    ∙ ap (λ b. make (Makes h.own) (gs p) m.events now b) (le-leb now until early))
+slice-step g gs until now p c t m h h1 h2 = grind (arith, nat_tests, le-leb)
 
 abbrev TurnGoal : ℕ → Groups → ℕ → ℕ → ℕ → List Inside → Standing → Machine → List Step → Type 0
 TurnGoal g gs until now p heard t m steps = StepsEnd g gs until (now + count steps) heard m (within (until - now) steps) steps (replayed g until (after_slice g until p (count steps) t) (told steps))

@@ -1,5 +1,5 @@
 -- The induction over the inputs of a run: up to the moment turn for turn, behind it no record matters.
-use Rattle.std.proofs.Common.{◌≡◌, ℕ, zero, suc, ◌<◌, ◌≤◌, ◌+◌, ◌-◌, ◌&&◌, List, [], ◌∷◌, ◌++◌, refl, ap, ap₂, ◌∙◌, sym, subst, append-nil, append_assoc, Option, Some, Bool, true, false, ◌==◌, arith, nat_le}
+use Rattle.std.proofs.Common.{◌≡◌, ℕ, ◌<◌, ◌≤◌, ◌+◌, ◌-◌, ◌&&◌, List, [], ◌∷◌, ◌++◌, refl, ap, ap₂, ◌∙◌, sym, subst, append-nil, append_assoc, Option, Some, Bool, true, false, ◌==◌, arith, nat_le}
 use Rattle.std.proofs.lemmas.Bool.Decides.{nat_tests}
 use Rattle.std.proofs.lemmas.Bool.{leb-true, leb-false, le-leb, lt-leb}
 use Rattle.arn_base.specs.declared.records.Record.{Record}
@@ -59,21 +59,7 @@ inputs-later g until own (i ∷ inputs) m t h = by_input (takes m i) (λ m t h. 
     slice pid (s ∷ steps) rest = nothing-later g until pid (instructions_in (s ∷ steps)) own t (event_records (s ∷ steps) ++ records_from (after_steps m (s ∷ steps)) inputs) h.late h.settled
 
     by_input : Takes m i → Later → Goal (input_steps m i)
-    by_input (Rests is) rest = subst Goal (sym is) (subst (λ (rs : List Record). Settles (replayed g until t (rs ++ records_from m inputs)) own) (sym (none-recorded i)) (rest m t h))
-    by_input (Comes s r is told out) rest =
-        subst Goal (sym is)
-        (subst (λ (rs : List Record). Settles (replayed g until t (rs ++ records_from s.after inputs)) own) (sym (told (s ∷ []) ∙ out.records))
-        (subst (λ (x : Standing). Settles (replayed g until x (records_from s.after inputs)) own) (sym (out.stands g until t))
-        (rest s.after (record t { events = t.events + 1 }) (record { late = h.late; ended = h.ended; settled = h.settled }))))
-    by_input (Begins path file held is told first image) rest =
-        let r = entry.Boot path (given held) in
-        let s = boot_step m path file held in
-        let same : made_if (t.is_ended && (g == 1)) t.made (boots t.events r) ≡ t.made = ap (λ (b : Bool). made_if (b && (g == 1)) t.made (boots t.events r)) h.ended in
-        subst Goal (sym is)
-        (subst (λ (rs : List Record). Settles (replayed g until t (rs ++ records_from s.after inputs)) own) (sym (told (s ∷ [])))
-        (rest s.after (after_boot g r t) (record { late = h.late; ended = h.ended; settled = λ event end_event. ap (λ (x : Made). and_then x (alone.plains (record { pid = t.pid; ran = t.ran; event = event; end_event = end_event }) 0 t.owed)) same ∙ h.settled event end_event })))
-    by_input (Turns pid count reply v is told sees) rest =
-        subst (λ (rs : List Record). Settles (replayed g until t (rs ++ records_from (after_steps m (input_steps m i)) inputs)) own) (sym (told (input_steps m i))) (slice pid (input_steps m i) rest)
+    by_input h1 h2 = grind (arith, nat_tests, Goal, none-recorded, told, count, slice)
 
 -- all steps are within the moment
 within-over : (j : ℕ) (steps more : List Step) → within (count steps + j) (steps ++ more) ≡ steps ++ within j more
@@ -81,8 +67,7 @@ within-over j [] more = ap (λ k. within k more) (let z = count-none in let e : 
 within-over j (s ∷ steps) more = ap (λ (k : ℕ). within (k + j) (s ∷ (steps ++ more))) (count-more s steps) ∙ by_count (is_instruction s.moved.inside) (within-over j steps more)
   where
     by_count : (b : Bool) → within (count steps + j) (steps ++ more) ≡ steps ++ within j more → unless_reached b (counted b (count steps) + j) (λ k. s ∷ within k (steps ++ more)) ≡ s ∷ (steps ++ within j more)
-    by_count true ih = ap (λ k. unless_reached true k (λ k. s ∷ within k (steps ++ more))) (let e : suc (count steps) + j ≡ suc (count steps + j) = omega arith in e) ∙ ap (λ xs. s ∷ xs) ih
-    by_count false ih = ap (λ xs. s ∷ xs) ih
+    by_count b h1 = grind (arith, nat_tests, count)
 
 -- the moment lies among the steps
 within-first : (k : ℕ) (steps more : List Step) → k < count steps → within k (steps ++ more) ≡ within k steps
@@ -90,9 +75,7 @@ within-first k [] more h = let z = count-none in absurd (omega arith)
 within-first k (s ∷ steps) more h = by_count (is_instruction s.moved.inside) k (λ i l. within-first i steps more l) (let e = count-more s steps in omega arith)
   where
     by_count : (b : Bool) (k : ℕ) → ((i : ℕ) → i < count steps → within i (steps ++ more) ≡ within i steps) → k < counted b (count steps) → unless_reached b k (λ i. s ∷ within i (steps ++ more)) ≡ unless_reached b k (λ i. s ∷ within i steps)
-    by_count true zero ih l = refl
-    by_count true (suc k) ih l = ap (λ xs. s ∷ xs) (ih k (omega arith))
-    by_count false k ih l = ap (λ xs. s ∷ xs) (ih k l)
+    by_count b k h1 h2 = grind (arith, nat_tests)
 
 -- the replay has made what the first steps from m lead to
 pub record Reaches (g : ℕ) (gs : Groups) (t : Standing) (old : List Inside) (m : Machine) (first : List Step) : Type 0 where
@@ -123,14 +106,7 @@ heard-on gs g old mid all steps first h k = k ∙ (ap (λ xs. xs ++ parts gs g f
 
 -- the step and then what follows
 then-on : (g : ℕ) (gs : Groups) (t : Standing) (old mid : List Inside) (m : Machine) (s : Step) (first : List Step) → mid ≡ old ++ part gs g s.moved.inside → Reaches g gs t mid s.after first → Reaches g gs t old m (s ∷ first)
-then-on g gs t old mid m s first h k =
-    record {
-      owner = k.owner;
-      own = k.own;
-      is = k.is;
-      joint = k.joint;
-      inside = k.inside ∙ (ap (λ xs. xs ++ parts gs g first) h ∙ append_assoc old (part gs g s.moved.inside) (parts gs g first));
-    }
+then-on g gs t old mid m s first h1 h2 = grind (arith, nat_tests, append_assoc)
 
 -- an input's steps, whatever they are
 abbrev InputGoal : ℕ → Groups → ℕ → ℕ → Input → List Input → Machine → Standing → List Inside → List Step → Type 0
@@ -225,14 +201,7 @@ slice-told pid s steps = ap₂ (λ (k : ℕ) (rs : List Record). entry.Slice pid
 
 -- numbers that are given keep their groups over an input and all that follows
 all-groups : (i : Input) (m : Machine) (steps : List Step) (inputs : List Input) (x : Groups) (q : ℕ) → Along Known m (steps ++ steps_from (after_steps m steps) inputs) → q < next m → groups_from (all_records i m steps inputs) x q ≡ x q
-all-groups i m steps inputs x q known l =
-    let m' = after_steps m steps in
-    let first = along-first Known m steps (steps_from m' inputs) known in
-    let grown = along-numbers m steps first in
-    ap (λ (y : Groups). y q) (groups-append (input_records i steps) (records_from m' inputs) x)
-    ∙ (later-groups m' inputs (groups_from (input_records i steps) x) q (along-rest Known m steps (steps_from m' inputs) known) (omega arith)
-    ∙ (ap (λ (y : Groups). y q) (input-groups i steps x)
-    ∙ told-groups m steps x q first l))
+all-groups i m steps inputs x q h1 h2 = grind (arith, nat_tests, along-first, along-numbers, groups-append, later-groups, along-rest, input-groups, told-groups)
 
 -- a turn
 some-goes : (g : ℕ) (gs : Groups) (until now : ℕ) (i : Input) (inputs : List Input) (m : Machine) (t : Standing) (h : Stood g gs now t m) → now ≤ until → Goes g gs until inputs → (pid count' : ℕ) (reply : Option Answered) (v : View) → ((steps : List Step) → input_records i steps ≡ slice_records pid steps) → seen m.bodies pid ≡ Some v → (s : Step) (ss : List Step) → steps_of (turn count' pid reply m) ≡ s ∷ ss → InputGoal g gs until now i inputs m t h.own.inside (s ∷ ss)
