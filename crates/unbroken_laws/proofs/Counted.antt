@@ -1,6 +1,7 @@
 -- What an event does to how many processes have been made, as its record tells; and how a child begins.
-use Rattle.std.proofs.Common.{◌≡◌, ℕ, zero, suc, ◌+◌, ◌*◌, ◌/◌, ◌≤◌, ◌==◌, nat_le, ◌&&◌, not, max, Bool, true, false, cond, List, [], ◌∷◌, ◌++◌, length, Option, Some, None, IfSome, is_some, refl, sym, ap, subst, ◌∙◌, append-nil, arith}
-use Rattle.std.proofs.lemmas.Bool.{le-leb, lt-ltb}
+use Rattle.std.proofs.lemmas.Bool.Decides.{nat_tests}
+use Rattle.std.proofs.Common.{◌≡◌, ℕ, zero, suc, ◌+◌, ◌*◌, ◌/◌, ◌≤◌, ◌==◌, nat_le, ◌&&◌, not, Bool, true, false, cond, List, [], ◌∷◌, ◌++◌, length, Option, Some, None, IfSome, refl, sym, ap, subst, ◌∙◌, append-nil, arith}
+use Rattle.std.proofs.lemmas.Bool.{le-leb, lt-ltb, and_from, and_left, and_right}
 use Rattle.arn_base.specs.declared.machine.Block.{Block}
 use Rattle.arn_base.specs.declared.records.Extra.{Extra}
 use Rattle.arn_base.specs.declared.records.Extra.TheVariants as extra
@@ -51,17 +52,13 @@ used-rises bytes (suc count) = subst (λ (n : ℕ). RisesTo 0 n (used_blocks byt
     by_test true h = rises-push 0 count (used_blocks bytes count) (block_of bytes count) refl h
     by_test false h = subst (λ (blocks : List Block). RisesTo 0 (count + 1) blocks) (sym (append-nil (used_blocks bytes count))) (rises-later 0 count (used_blocks bytes count) h)
 
-both-true : (a b : Bool) → a ≡ true → b ≡ true → (a && b) ≡ true
-both-true true b e f = f
-both-true false b e f = e
-
 rises-from : (least most : ℕ) (blocks : List Block) → RisesTo least most blocks → BLOCK_LEN * most ≤ WINDOW_LEN → rise_from least blocks ≡ true
 unfolding RisesTo
 rises-from least most [] h l = refl
 rises-from least most (b ∷ blocks) h l =
     let below = rises-le (b.number + 1) most blocks h.1 in
-    both-true (nat_le least b.number) _ (le-leb least b.number h.0)
-    (both-true (nat_le (BLOCK_LEN * (b.number + 1)) WINDOW_LEN) _ (le-leb (BLOCK_LEN * (b.number + 1)) WINDOW_LEN (omega arith)) (rises-from (b.number + 1) most blocks h.1 l))
+    and_from (nat_le least b.number) _ (le-leb least b.number h.0)
+    (and_from (nat_le (BLOCK_LEN * (b.number + 1)) WINDOW_LEN) _ (le-leb (BLOCK_LEN * (b.number + 1)) WINDOW_LEN (omega arith)) (rises-from (b.number + 1) most blocks h.1 l))
 
 blocks-rise : (bytes : List ℕ) → length bytes ≤ WINDOW_LEN → rise_from 0 (blocks_of bytes) ≡ true
 blocks-rise bytes l = rises-from 0 (length bytes / BLOCK_LEN) (blocks_of bytes) (used-rises bytes (length bytes / BLOCK_LEN)) (omega arith)
@@ -79,33 +76,14 @@ no-start pid number result (extra.Start start) h = absurd h
 no-start pid number result more h = refl
 
 none-made : (pid number result : ℕ) (more : Extra) (before after : ℕ) → NoStart more → after ≡ before → ((number == FORK) && is_success result) ≡ false → Counted before after (entry.Call pid number result more)
-none-made pid number result more before after none same e =
-    record {
-      grows = ap (λ (b : Bool). cond b (max before result) before) e ∙ sym same;
-      child = subst (λ (o : Option ℕ). IfSome o (λ c. c ≡ before + 1)) (sym (ap (λ (b : Bool). cond b (Some result) None) e)) tt;
-      start = ap (λ (o : Option Start). is_some o && not (is_some (child_in (entry.Call pid number result more)))) (no-start pid number result more none);
-      blocks = ap has_blocks_wrong (no-start pid number result more none);
-    }
+none-made pid number result more before after h1 h2 h3 = grind (arith, nat_tests, no-start)
 
 start-rises : (v : View) (pid number result : ℕ) (more : Extra) → length v.window ≤ WINDOW_LEN → IsStartOf v more → has_blocks_wrong (start_in (entry.Call pid number result more)) ≡ false
 start-rises v pid number result (extra.Start start) l h = ap (λ (s : Start). not (rise_from 0 s.blocks)) h ∙ ap not (blocks-rise v.window l)
 start-rises v pid number result more l h = refl
 
-both-false : (b : Bool) → (b && false) ≡ false
-both-false true = refl
-both-false false = refl
-
 one-made : (v : View) (pid number result : ℕ) (more : Extra) (before after : ℕ) → length v.window ≤ WINDOW_LEN → IsStartOf v more → result ≡ before + 1 → after ≡ before + 1 → ((number == FORK) && is_success result) ≡ true → Counted before after (entry.Call pid number result more)
-one-made v pid number result more before after l start is more_made e =
-    record {
-      grows = ap (λ (b : Bool). cond b (max before result) before) e ∙ (let g : max before result ≡ after = omega arith in g);
-      child = subst (λ (o : Option ℕ). IfSome o (λ c. c ≡ before + 1)) (sym (ap (λ (b : Bool). cond b (Some result) None) e)) is;
-      start = ap (λ (o : Option ℕ). is_some (start_in (entry.Call pid number result more)) && not (is_some o)) (ap (λ (b : Bool). cond b (Some result) None) e) ∙ both-false (is_some (start_in (entry.Call pid number result more)));
-      blocks = start-rises v pid number result more l start;
-    }
-
-and-false : (a b : Bool) → a ≡ false → (a && b) ≡ false
-and-false a b e = ap (λ (x : Bool). x && b) e
+one-made v pid number result more before after h1 h2 h3 h4 h5 = grind (arith, nat_tests, and_right, start-rises)
 
 and-next : (a b c : Bool) → a ≡ true → b ≡ c → (a && b) ≡ c
 and-next a b c e f = ap (λ (x : Bool). x && b) e ∙ f
@@ -125,4 +103,4 @@ call-counted bounded counts m pid v reply d e few small = by_test (call_number v
     by_test true f = forked f (call-forks counts m pid v reply d f e)
     by_test false f =
         let still = bounded m pid v in
-        none-made pid (call_number v.body.cpu) (result_of d.act) d.extra (length m.kernel.processes) (length d.kernel.processes) (still.no_start reply d e f) (still.many reply d e f) (and-false (call_number v.body.cpu == FORK) (is_success (result_of d.act)) f)
+        none-made pid (call_number v.body.cpu) (result_of d.act) d.extra (length m.kernel.processes) (length d.kernel.processes) (still.no_start reply d e f) (still.many reply d e f) (and_left (call_number v.body.cpu == FORK) (is_success (result_of d.act)) f)

@@ -1,27 +1,27 @@
 -- Each step of an input makes as many processes as its record tells.
-use Rattle.std.proofs.Common.{◌≡◌, ℕ, zero, suc, ◌+◌, ◌≤◌, ◌==◌, nat_lt, Bool, true, false, if◌then◌else◌, List, [], ◌∷◌, ◌++◌, length, Option, Some, None, option_map, option_to_list, refl, sym, subst, arith}
-use Rattle.std.proofs.lemmas.Bool.{ltb-false}
+use Rattle.std.proofs.lemmas.Bool.Decides.{nat_tests}
+use Rattle.std.proofs.Common.{◌≡◌, ℕ, zero, suc, ◌+◌, ◌≤◌, Bool, true, false, if◌then◌else◌, List, [], ◌∷◌, ◌++◌, length, Option, Some, None, option_map, option_to_list, refl, sym, subst, arith, ltb-false}
 use Rattle.arn_base.specs.declared.records.Record.{Record}
 use Rattle.arn_base.specs.declared.records.Record.TheVariants as entry
-use Rattle.rv64_model.specs.Instruction.{Effect, Next, Call, End}
+use Rattle.rv64_model.specs.Instruction.{Effect, Next}
 use Rattle.parts_model.specs.declared.limits.TheConstants.{WINDOW_LEN}
 use Rattle.parts_model.specs.declared.tagged.TaggedByte.{TaggedByte}
 use Rattle.parts_model.specs.Files.{find_file, file_bytes}
 use Rattle.parts_model.specs.Image.{is_image}
 use Rattle.parts_model.specs.Replies.{Answered}
 use Rattle.parts_model.specs.Tagged.{values}
-use Rattle.acts_model.specs.Bodies.{Body, View, body_at, view, seen}
+use Rattle.acts_model.specs.Bodies.{View, seen}
 use Rattle.acts_model.specs.Moved.{Event}
 use Rattle.acts_model.specs.Views.{stands_at}
 use Rattle.arn_model.specs.Doing.{Doing}
 use Rattle.arn_model.specs.Laws.{ProcessesCount, RequestsAreBounded}
-use Rattle.arn_model.specs.Kernel.{Machine, status_at}
+use Rattle.arn_model.specs.Kernel.{Machine}
 use Rattle.arn_model.specs.Row.{request, does}
-use Rattle.arn_model.specs.Run.{Input, File, Boot, Typed, Unplug, Slice, is_booted, can_add, may_unplug, file_step, typed_step, unplug_step, boot_step, boot_from, boot_found, input_steps, after_input, steps_from}
+use Rattle.arn_model.specs.Run.{Input, is_booted, boot_step, boot_from, boot_found, input_steps, after_input, steps_from}
 use Rattle.arn_model.specs.Sound.{IsSoundMachine}
-use Rattle.arn_model.specs.Step.{Step, plain_by, last_by, call_step, delivery_of, delivering, due_signal, handler, waits}
+use Rattle.arn_model.specs.Step.{Step, plain_by, last_by, call_step, delivery_of, delivering, due_signal}
 use Rattle.arn_model.specs.Tells.{HasNumbers, Along}
-use Rattle.arn_model.specs.Turn.{after_steps, after_first, turn, steps_of, is_possible, delivery_in, plain_in, plains, steps_then, last_in, last_of}
+use Rattle.arn_model.specs.Turn.{after_steps, turn, steps_of, delivery_in, plain_in, plains, steps_then, last_in, last_of}
 use Rattle.unbroken_laws.proofs.Counted.{Counted, call-counted}
 
 abbrev pub CountedBy : Machine → Machine → Option Event → Type 0
@@ -53,26 +53,14 @@ signal-counted n pid signal address cut = record { grows = refl; child = tt; sta
 
 module _ (bounded : RequestsAreBounded) (counts : ProcessesCount) where
   delivery-many : (m : Machine) (pid signal address : ℕ) (cut : Bool) → length (delivering m pid signal address cut).kernel.processes ≡ length m.kernel.processes
-  delivery-many m pid signal address cut = by_test (address == 0) refl
-    where
-      by_test : (b : Bool) → (address == 0) ≡ b → length (delivering m pid signal address cut).kernel.processes ≡ length m.kernel.processes
-      by_test true e = rw e (counts.after_end pid (status_at m.events (128 + signal)) m.kernel)
-      by_test false e = rw e refl
+  delivery-many m pid signal address cut = grind (arith, nat_tests)
 
   abbrev IfRight : Machine → Option Step → Type 0
   IfRight m None = Unit {0}
   IfRight m (Some s) = CountsRight m s
 
   delivery-right : (m : Machine) (pid : ℕ) (v : View) (o : Option ℕ) → IfRight m (delivery_of m pid v o)
-  delivery-right m pid v None = tt
-  delivery-right m pid v (Some signal) =
-      record {
-        counted =
-            λ few sound.
-            same-counted (length m.kernel.processes) _ (entry.Signal pid signal (waits m pid v) (handler m pid signal))
-            (delivery-many m pid signal (handler m pid signal) (waits m pid v))
-            (signal-counted (length m.kernel.processes) pid signal (handler m pid signal) (waits m pid v));
-      }
+  delivery-right m pid v o = grind (arith, nat_tests, same-counted, delivery-many, signal-counted)
 
   delivery-in-right : (m : Machine) (pid : ℕ) (o : Option View) → IfRight m (delivery_in m pid o)
   delivery-in-right m pid None = tt
@@ -80,8 +68,7 @@ module _ (bounded : RequestsAreBounded) (counts : ProcessesCount) where
 
   plain-right : (m : Machine) (pid : ℕ) (v : View) (effect : Effect) → IfRight m (plain_by m pid v effect)
   plain-right m pid v (Next instr cpu memory) = record { counted = refl }
-  plain-right m pid v Call = tt
-  plain-right m pid v (End status) = tt
+  plain-right m pid v _ = tt
 
   plain-in-right : (m : Machine) (pid : ℕ) (o : Option View) → IfRight m (plain_in m pid o)
   plain-in-right m pid None = tt
@@ -97,26 +84,14 @@ module _ (bounded : RequestsAreBounded) (counts : ProcessesCount) where
 
   -- what a live process sees is no longer than a window
   seen-small : (m : Machine) (pid : ℕ) (v : View) → IsSoundMachine m → seen m.bodies pid ≡ Some v → length v.window ≤ WINDOW_LEN
-  seen-small m pid v sound e = by_body (body_at m.bodies pid) e
-    where
-      by_body : (o : Option Body) → option_map (view m.bodies) o ≡ Some v → length v.window ≤ WINDOW_LEN
-      by_body None e = absurd (cc)
-      by_body (Some x) e = let same : view m.bodies x ≡ v = cc in subst (λ (v : View). length v.window ≤ WINDOW_LEN) same (sound.memories x.window)
+  seen-small m pid v h1 h2 = grind (arith, nat_tests)
 
   called-right : (m : Machine) (pid : ℕ) (v : View) (reply : Option Answered) → seen m.bodies pid ≡ Some v → (o : Option Doing) → does m pid v reply (request m pid v) ≡ o → IfRight m (option_map (call_step m pid v) o)
   called-right m pid v reply e None f = tt
   called-right m pid v reply e (Some d) f = record { counted = λ few sound. call-counted bounded counts m pid v reply d f few (seen-small m pid v sound e) }
 
   last-right : (m : Machine) (pid : ℕ) (v : View) (reply : Option Answered) → seen m.bodies pid ≡ Some v → (effect : Effect) → IfRight m (last_by m pid v reply effect)
-  last-right m pid v reply e (Next instr cpu memory) = tt
-  last-right m pid v reply e Call = called-right m pid v reply e (does m pid v reply (request m pid v)) refl
-  last-right m pid v reply e (End status) =
-      record {
-        counted =
-            λ few sound.
-            same-counted (length m.kernel.processes) _ (entry.End pid status) (counts.after_end pid (status_at m.events status) m.kernel)
-            (record { grows = refl; child = tt; start = refl; blocks = refl });
-      }
+  last-right m pid v reply h1 effect = grind (arith, nat_tests, called-right, same-counted)
 
   last-in-right : (m : Machine) (pid : ℕ) (reply : Option Answered) (o : Option View) → seen m.bodies pid ≡ o → IfRight m (last_in m pid reply o)
   last-in-right m pid reply None e = tt
@@ -131,26 +106,14 @@ module _ (bounded : RequestsAreBounded) (counts : ProcessesCount) where
   one-right m (Some s) h = (h, tt)
 
   rest-right : (n pid : ℕ) (reply : Option Answered) (m : Machine) → Along CountsRight m (plains n pid m ++ option_to_list (last_of n pid reply m (plains n pid m)))
-  rest-right n pid reply m =
-      let plain = plains n pid m in
-      let m' = after_steps m plain in
-      along-append CountsRight m plain (option_to_list (last_of n pid reply m plain)) (plains-right n pid m)
-      (one-right m' (last_of n pid reply m plain)
-      (if-right m' (nat_lt (length plain) n) (last_in m' pid reply (seen m'.bodies pid)) (last-in-right m' pid reply (seen m'.bodies pid) refl)))
+  rest-right n pid reply m = grind (arith, nat_tests, along-append, plains-right, one-right, if-right, last-in-right)
 
   turn-right : (n pid : ℕ) (reply : Option Answered) (m : Machine) → Along CountsRight m (steps_of (turn n pid reply m))
-  turn-right n pid reply m = by_first (delivery_in m pid (seen m.bodies pid)) (delivery-in-right m pid (seen m.bodies pid))
-    where
-      by_first : (o : Option Step) → IfRight m o → Along CountsRight m (option_to_list o ++ (plains n pid (after_first m o) ++ option_to_list (last_of n pid reply (after_first m o) (plains n pid (after_first m o)))))
-      by_first None h = rest-right n pid reply m
-      by_first (Some s) h = (h, rest-right n pid reply s.after)
+  turn-right n pid reply m = grind (arith, nat_tests, delivery-in-right, rest-right)
 
   -- the boot makes process 1
   boot-right : (m : Machine) (path : List ℕ) (file : ℕ) (held : List TaggedByte) → is_booted m ≡ false → CountsRight m (boot_step m path file held)
-  boot-right m path file held first =
-      let none = ltb-false 0 (length m.kernel.processes) first in
-      let more = counts.after_boot m.kernel in
-      record { counted = λ few sound. record { grows = omega arith; child = tt; start = refl; blocks = refl } }
+  boot-right m path file held h1 = grind (arith, nat_tests, ltb-false)
 
   boots-right : (m : Machine) (path : List ℕ) → is_booted m ≡ false → (o : Option ℕ) → Along CountsRight m (boot_found m path o)
   boots-right m path first None = tt
@@ -177,11 +140,7 @@ module _ (bounded : RequestsAreBounded) (counts : ProcessesCount) where
   if-steps m false steps h = tt
 
   input-right : (m : Machine) (i : Input) → Along CountsRight m (input_steps m i)
-  input-right m (File path bytes) = if-one m (can_add m path bytes) (file_step m path bytes) (record { counted = λ few sound. record { grows = refl; child = tt; start = refl; blocks = refl } })
-  input-right m (Boot path) = unless-booted m path (is_booted m) refl
-  input-right m (Typed bytes) = if-one m (is_booted m) (typed_step m bytes) (record { counted = λ few sound. record { grows = refl; child = tt; start = refl; blocks = refl } })
-  input-right m (Unplug device) = if-one m (may_unplug m device) (unplug_step m device) (record { counted = λ few sound. record { grows = refl; child = tt; start = refl; blocks = refl } })
-  input-right m (Slice pid count reply) = if-steps m (is_possible m pid count) (steps_of (turn count pid reply m)) (turn-right count pid reply m)
+  input-right m i = grind (arith, nat_tests, if-one, unless-booted, if-steps, turn-right)
 
   pub all-right : (m : Machine) (inputs : List Input) → Along CountsRight m (steps_from m inputs)
   all-right m [] = tt

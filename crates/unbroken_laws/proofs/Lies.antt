@@ -1,19 +1,20 @@
 -- Each byte that the kernel holds is a copy of a byte of an earlier event.
-use Rattle.std.proofs.Common.{◌≡◌, ◌⊎◌, inl, inr, ℕ, zero, suc, ◌+◌, ◌-◌, ◌<◌, ◌≤◌, ◌==◌, nat_le, nat_lt, ◌&&◌, Bool, true, false, cond, List, [], ◌∷◌, ◌++◌, length, map, Option, Some, None, option_map, option_and_then, slice_get, refl, sym, ap, subst, ◌∙◌, arith}
-use Rattle.std.proofs.lemmas.Bool.{eqb-true, eq-eqb, le-leb, leb-true, ltb-false}
+use Rattle.std.proofs.lemmas.Bool.Decides.{nat_tests}
+use Rattle.std.proofs.Common.{◌≡◌, ◌⊎◌, inl, inr, ℕ, zero, suc, ◌+◌, ◌-◌, ◌<◌, ◌≤◌, ◌==◌, nat_le, nat_lt, true, false, List, [], ◌∷◌, ◌++◌, length, map, Option, Some, None, option_map, slice_get, refl, sym, ap, ◌∙◌, arith}
+use Rattle.std.proofs.lemmas.Bool.{eqb-true, eq-eqb, le-leb, leb-true, ltb-false, and_from, and_parts}
 use Rattle.std.specs.List.{list_all}
+use Rattle.std.proofs.lemmas.Option.{none-some}
 use Rattle.arn_base.specs.declared.records.Give.{Give}
 use Rattle.arn_base.specs.declared.records.Origin.{Origin}
 use Rattle.arn_base.specs.declared.records.Record.{Record}
 use Rattle.arn_base.specs.declared.records.Src.{Src}
 use Rattle.parts_model.specs.declared.tagged.TaggedByte.{TaggedByte}
 use Rattle.parts_model.specs.Channel.{Channel, put_behind}
-use Rattle.parts_model.specs.Files.{File}
 use Rattle.parts_model.specs.Numbered.{nth}
 use Rattle.parts_model.specs.Processes as table
 use Rattle.parts_model.specs.Processes.{Processes}
-use Rattle.parts_model.specs.Tagged.{held_from, held_bytes, values, given, origins_of, onto_origins, comes_before, one_origin}
-use Rattle.acts_model.specs.Moved.{KernelByte, ConsoleByte, PipeByte, FileByte, StatusByte, Range, behind, place_in, Incoming, Outside, Nothing, From}
+use Rattle.parts_model.specs.Tagged.{held_from, values, given, origins_of, onto_origins, one_origin}
+use Rattle.acts_model.specs.Moved.{KernelByte, ConsoleByte, FileByte, StatusByte, Range, place_in, Incoming}
 use Rattle.acts_model.specs.Records.{event_len, give_of}
 use Rattle.arn_model.specs.Kernel.{Kernel, Machine, booted}
 use Rattle.arn_model.specs.Run.{file_step, typed_step}
@@ -65,10 +66,7 @@ get-below (y ∷ xs) zero x e = omega arith
 get-below (y ∷ xs) (suc j) x e = let l = get-below xs j x e in omega arith
 
 put-by : (event n len : ℕ) (o : Option ℕ) (h : TaggedByte) → ((b : ℕ) → o ≡ Some b → n < len) → option_map (λ b. record { value = b; origin = record { event = event; at = n } }) o ≡ Some h → (h.origin.event ≡ event) × (h.origin.at < len)
-put-by event n len None h l e = absurd (cc)
-put-by event n len (Some b) h l e =
-    let same : record { value = b; origin = record { event = event; at = n } } ≡ h = cc in
-    subst (λ (x : TaggedByte). (x.origin.event ≡ event) × (x.origin.at < len)) same (refl, l b refl)
+put-by event n len o h h1 h2 = grind (arith, nat_tests)
 
 put-at : (event : ℕ) (bytes : List ℕ) (o : Option ℕ) (h : TaggedByte) → put_byte event bytes o ≡ Some h → (h.origin.event ≡ event) × (h.origin.at < length bytes)
 put-at event bytes None h e = absurd (cc)
@@ -88,13 +86,8 @@ holds-put event bytes outgoing old new holds byte h there = by_case (holds byte 
 -- bytes that come from outside
 held-at : (event s : ℕ) (bytes : List ℕ) (j : ℕ) (h : TaggedByte) → slice_get (held_from event s bytes) j ≡ Some h → (h.origin.event ≡ event) × (h.origin.at < s + length bytes)
 held-at event s [] j h e = absurd (cc)
-held-at event s (b ∷ bytes) zero h e =
-    let same : record { value = b; origin = record { event = event; at = s } } ≡ h = cc in
-    subst (λ (x : TaggedByte). (x.origin.event ≡ event) × (x.origin.at < s + length (b ∷ bytes))) same (refl, omega arith)
-held-at event s (b ∷ bytes) (suc j) h e =
-    let rest = held-at event (s + 1) bytes j h e in
-    let below = rest.1 in
-    (rest.0, omega arith)
+held-at event s (b ∷ bytes) zero h e = grind (arith, nat_tests)
+held-at event s (b ∷ bytes) (suc j) h e = grind (arith, nat_tests, held-at event (s + 1) bytes j h e)
 
 get-append : {A : Type 0} (xs ys : List A) (j : ℕ) (x : A) → slice_get (xs ++ ys) j ≡ Some x → (slice_get xs j ≡ Some x) ⊎ ((i : ℕ) × (slice_get ys i ≡ Some x))
 get-append [] ys j x e = inr (j, e)
@@ -102,50 +95,23 @@ get-append (y ∷ xs) ys zero x e = inl e
 get-append (y ∷ xs) ys (suc j) x e = get-append xs ys j x e
 
 channel-put : (c : Channel) (event : ℕ) (bytes : List ℕ) (p : ℕ) (h : TaggedByte) → at_position (put_behind c event bytes) p ≡ Some h → (at_position c p ≡ Some h) ⊎ ((h.origin.event ≡ event) × (h.origin.at < length bytes))
-channel-put c event bytes p h e = by_test (nat_lt p c.taken) e
-  where
-    by_place : (slice_get c.queue (p - c.taken) ≡ Some h) ⊎ ((i : ℕ) × (slice_get (held_bytes event bytes) i ≡ Some h)) → (slice_get c.queue (p - c.taken) ≡ Some h) ⊎ ((h.origin.event ≡ event) × (h.origin.at < length bytes))
-    by_place (inl k) = inl k
-    by_place (inr k) = let there = held-at event 0 bytes k.0 h k.1 in let below = there.1 in inr (there.0, omega arith)
-
-    by_test : (b : Bool) → cond b None (slice_get (c.queue ++ held_bytes event bytes) (p - c.taken)) ≡ Some h → (cond b None (slice_get c.queue (p - c.taken)) ≡ Some h) ⊎ ((h.origin.event ≡ event) × (h.origin.at < length bytes))
-    by_test true f = absurd (cc)
-    by_test false f = by_place (get-append c.queue (held_bytes event bytes) (p - c.taken) h f)
+channel-put c event bytes p h h1 = grind (arith, nat_tests, held-at, get-append)
 
 pub typed-put : (m : Machine) (bytes : List ℕ) → OldOrPut m.events (length bytes) m.kernel (typed_step m bytes).after.kernel
 typed-put m bytes (ConsoleByte p) h e = channel-put m.kernel.console m.events bytes p h e
-typed-put m bytes (PipeByte pipe p) h e = inl e
-typed-put m bytes (FileByte file at) h e = inl e
-typed-put m bytes (StatusByte pid) h e = inl e
+typed-put m bytes _ h e = inl e
 
 nth-push : {A : Type 0} (xs : List (Option A)) (x : Option A) (j : ℕ) → (nth (xs ++ x ∷ []) j ≡ nth xs j) ⊎ (nth (xs ++ x ∷ []) j ≡ x)
 nth-push [] x zero = inr refl
-nth-push [] x (suc j) = inl refl
-nth-push (y ∷ xs) x zero = inl refl
 nth-push (y ∷ xs) x (suc j) = nth-push xs x j
-
-abbrev file_byte : Option File → ℕ → Option TaggedByte
-file_byte o at = option_and_then (λ bytes. slice_get bytes at) (option_map (λ f. f.bytes) o)
+nth-push _ x _ = inl refl
 
 file-put-at : (m : Machine) (path bytes : List ℕ) (f at : ℕ) (h : TaggedByte) → kernel_byte (file_step m path bytes).after.kernel (FileByte f at) ≡ Some h → (kernel_byte m.kernel (FileByte f at) ≡ Some h) ⊎ ((h.origin.event ≡ m.events) × (h.origin.at < length bytes))
-file-put-at m path bytes f at h e = by_case (nth-push m.kernel.files.all new f)
-  where
-    new : Option File
-    new = Some (record { bytes = held_bytes m.events bytes; holders = 0 })
-
-    by_case : (nth (m.kernel.files.all ++ new ∷ []) f ≡ nth m.kernel.files.all f) ⊎ (nth (m.kernel.files.all ++ new ∷ []) f ≡ new) → (kernel_byte m.kernel (FileByte f at) ≡ Some h) ⊎ ((h.origin.event ≡ m.events) × (h.origin.at < length bytes))
-    by_case (inl k) = inl (sym (ap (λ (o : Option File). file_byte o at) k) ∙ e)
-    by_case (inr k) =
-        let there : slice_get (held_bytes m.events bytes) at ≡ Some h = sym (ap (λ (o : Option File). file_byte o at) k) ∙ e in
-        let put = held-at m.events 0 bytes at h there in
-        let below = put.1 in
-        inr (put.0, omega arith)
+file-put-at m path bytes f at h h1 = grind (arith, nat_tests, nth-push, held-at)
 
 pub file-put : (m : Machine) (path bytes : List ℕ) → OldOrPut m.events (length bytes) m.kernel (file_step m path bytes).after.kernel
-file-put m path bytes (ConsoleByte p) h e = inl e
-file-put m path bytes (PipeByte pipe p) h e = inl e
 file-put m path bytes (FileByte file at) h e = file-put-at m path bytes file at h e
-file-put m path bytes (StatusByte pid) h e = inl e
+file-put m path bytes _ h e = inl e
 
 -- a boot leaves all, since nobody has ended
 first-status : (a : ℕ) (pid : ℕ) → table.status_of (table.with_change (table.with_change (table.with_change (table.booted []) 1 (table.placed a)) 1 (table.placed 0)) 1 (table.placed 0)) pid ≡ None
@@ -157,14 +123,9 @@ no-status : (ps : Processes) (a pid : ℕ) → nat_lt 0 (length ps) ≡ false �
 no-status [] a pid e = first-status a pid
 no-status (p ∷ ps) a pid e = let l = ltb-false 0 (suc (length ps)) e in absurd (omega arith)
 
-none-some : {A : Type 0} (x : A) → None ≡ Some x → ⊥
-none-some x e = cc
-
 pub boot-put : (event len : ℕ) (k : Kernel) → nat_lt 0 (length k.processes) ≡ false → OldOrPut event len k (booted k)
-boot-put event len k first (ConsoleByte p) h e = inl e
-boot-put event len k first (PipeByte pipe p) h e = inl e
-boot-put event len k first (FileByte file at) h e = inl e
 boot-put event len k first (StatusByte pid) h e = absurd (none-some h (sym (no-status k.processes (length k.descriptions) pid first) ∙ e))
+boot-put event len k first _ h e = inl e
 
 -- bytes that a record holds with their origins are the kernel's
 pub record GivesHeld (k : Kernel) (give : Give) : Type 0 where
@@ -177,11 +138,7 @@ Gives k None = Unit {0}
 Gives k (Some give) = GivesHeld k give
 
 pub receives-gives : (k : Kernel) (incoming : Incoming) (bytes : List ℕ) (e : Record) → Receives k incoming bytes e → Gives k (give_of e)
-receives-gives k Outside bytes e h = subst (Gives k) (sym h) tt
-receives-gives k Nothing bytes e h = subst (Gives k) (sym h) tt
-receives-gives k (From range) bytes e h =
-    subst (Gives k) (sym h.told)
-    (record { held = h.held; is = refl; there = λ n x f. (behind range.first n, h.there n (let l = get-below h.held n x f in let all = h.all in omega arith) ∙ f) })
+receives-gives k incoming bytes e h1 = grind (arith, nat_tests, get-below)
 
 -- so each origin names bytes of an earlier event
 abbrev EachLies : List Record → List TaggedByte → Type 0
@@ -192,21 +149,9 @@ each-lies : (es : List Record) (held : List TaggedByte) → ((n : ℕ) (h : Tagg
 each-lies es [] f = tt
 each-lies es (h ∷ held) f = (f 0 h refl, each-lies es held (λ n x e. f (suc n) x e))
 
-both-true : (a b : Bool) → a ≡ true → b ≡ true → (a && b) ≡ true
-both-true true b e f = f
-both-true false b e f = e
-
-and-left : (a b : Bool) → (a && b) ≡ true → a ≡ true
-and-left true b e = refl
-and-left false b e = e
-
-and-right : (a b : Bool) → (a && b) ≡ true → b ≡ true
-and-right true b e = e
-and-right false b e = absurd (cc)
-
 -- so many bytes from a place on
 run-lies : (o : Origin) (len : ℕ) → 1 ≤ o.len → o.at + o.len ≤ len → lies_in_event o (Some len) ≡ true
-run-lies o len l k = both-true (nat_le 1 o.len) (nat_le (o.at + o.len) len) (le-leb 1 o.len l) (le-leb (o.at + o.len) len k)
+run-lies o len l k = and_from (nat_le 1 o.len) (nat_le (o.at + o.len) len) (le-leb 1 o.len l) (le-leb (o.at + o.len) len k)
 
 len-there : (before : List Record) (src : Src) (h : Lies (events before) src) → len_of before src.event ≡ Some (event_len h.entry)
 len-there before src h = ap (option_map event_len) h.there
@@ -220,10 +165,7 @@ abbrev longer : Src → Origin → Origin
 longer src o = record { event = src.event; at = src.at; len = o.len + 1 }
 
 longer-by : (src : Src) (o : Origin) (len : Option ℕ) → src.at + 1 ≡ o.at → lies_in_event o len ≡ true → lies_in_event (longer src o) len ≡ true
-longer-by src o None next h = h
-longer-by src o (Some len) next h =
-    let inside = leb-true (o.at + o.len) len (and-right (nat_le 1 o.len) (nat_le (o.at + o.len) len) h) in
-    run-lies (longer src o) len (omega arith) (omega arith)
+longer-by src o len h1 h2 = grind (arith, nat_tests, leb-true, and_parts, run-lies)
 
 longer-lies : (before : List Record) (src : Src) (o : Origin) → src.event ≡ o.event → src.at + 1 ≡ o.at → is_origin before o ≡ true → is_origin before (longer src o) ≡ true
 longer-lies before src o same next h =
@@ -233,24 +175,7 @@ abbrev Fine : List Record → List Origin → ℕ → Type 0
 Fine before origins len = (list_all (is_origin before) origins ≡ true) × (origins_len origins ≡ len)
 
 onto-fine : (before : List Record) (src : Src) (origins : List Origin) (len : ℕ) → Lies (events before) src → Fine before origins len → Fine before (onto_origins src origins) (suc len)
-onto-fine before src [] len l h = let e = h.1 in (both-true (is_origin before (one_origin src)) true (one-lies before src l) refl, omega arith)
-onto-fine before src (o ∷ os) len l h = by_test (comes_before src o) refl
-  where
-    rest : list_all (is_origin before) os ≡ true
-    rest = and-right (is_origin before o) (list_all (is_origin before) os) h.0
-
-    first : is_origin before o ≡ true
-    first = and-left (is_origin before o) (list_all (is_origin before) os) h.0
-
-    by_test : (b : Bool) → comes_before src o ≡ b → Fine before (cond b (longer src o ∷ os) (one_origin src ∷ o ∷ os)) (suc len)
-    by_test true t =
-        let e = h.1 in
-        let same = eqb-true src.event o.event (and-left (src.event == o.event) (src.at + 1 == o.at) t) in
-        let next = eqb-true (src.at + 1) o.at (and-right (src.event == o.event) (src.at + 1 == o.at) t) in
-        (both-true (is_origin before (longer src o)) (list_all (is_origin before) os) (longer-lies before src o same next first) rest, omega arith)
-    by_test false t =
-        let e = h.1 in
-        (both-true (is_origin before (one_origin src)) (list_all (is_origin before) (o ∷ os)) (one-lies before src l) h.0, omega arith)
+onto-fine before src origins len h1 h2 = grind (arith, nat_tests, and_from, one-lies, and_parts, eqb-true, longer-lies)
 
 given-fine : (before : List Record) (held : List TaggedByte) → EachLies (events before) held → Fine before (origins_of (map (λ h. h.origin) held)) (length (values held))
 given-fine before [] h = (refl, refl)
@@ -261,4 +186,4 @@ origins-fine before k None lie h = refl
 origins-fine before k (Some give) lie h =
     let fine = given-fine before h.held (each-lies (events before) h.held (λ n x e. let there = h.there n x e in lie there.0 x there.1)) in
     ap (λ (g : Give). are_origins before (Some g)) h.is
-    ∙ both-true (list_all (is_origin before) (given h.held).origins) (origins_len (given h.held).origins == length (values h.held)) fine.0 (eq-eqb (origins_len (given h.held).origins) (length (values h.held)) fine.1)
+    ∙ and_from (list_all (is_origin before) (given h.held).origins) (origins_len (given h.held).origins == length (values h.held)) fine.0 (eq-eqb (origins_len (given h.held).origins) (length (values h.held)) fine.1)

@@ -1,6 +1,7 @@
 -- The records of an input stand.
-use Rattle.std.proofs.Common.{◌≡◌, ℕ, zero, suc, ◌&&◌, not, nat_lt, Bool, true, false, if◌then◌else◌, List, [], ◌∷◌, ◌++◌, length, Option, Some, None, is_some, option_map, refl, sym, ap, subst, ◌∙◌, append_assoc, arith}
+use Rattle.std.proofs.Common.{◌≡◌, ℕ, zero, suc, ◌&&◌, not, nat_lt, Bool, true, false, if◌then◌else◌, List, [], ◌∷◌, ◌++◌, length, Option, Some, None, is_some, refl, ap, subst, ◌∙◌, append_assoc, arith}
 use Rattle.std.proofs.lemmas.Bool.Decides.{nat_tests}
+use Rattle.std.proofs.lemmas.Bool.{not-true, and_parts}
 use Rattle.arn_base.specs.declared.records.Record.{Record}
 use Rattle.arn_base.specs.declared.records.Record.TheVariants as entry
 use Rattle.parts_model.specs.declared.tagged.TaggedByte.{TaggedByte}
@@ -9,7 +10,6 @@ use Rattle.parts_model.specs.Image.{is_image}
 use Rattle.parts_model.specs.Processes.{Processes, live_process}
 use Rattle.parts_model.specs.Replies.{Answered}
 use Rattle.parts_model.specs.Tagged.{values, given}
-use Rattle.acts_model.specs.Bodies.{Body, body_at, view}
 use Rattle.arn_model.specs.Kernel.{Machine}
 use Rattle.arn_model.specs.Row.{can_unplug}
 use Rattle.arn_model.specs.Run as run
@@ -18,7 +18,7 @@ use Rattle.arn_model.specs.Sound.{IsSoundMachine}
 use Rattle.arn_model.specs.Step.{Step}
 use Rattle.arn_model.specs.Tells.{lives, Along}
 use Rattle.arn_model.specs.TransferCalls.{was_unplugged}
-use Rattle.arn_model.specs.Turn.{after_steps, turn, steps_of, is_possible, is_runnable, can_go_on}
+use Rattle.arn_model.specs.Turn.{after_steps, turn, steps_of, is_possible, is_runnable}
 use Rattle.history_model.specs.Broken.{comes_wrong, lacks_process, lacks_slice}
 use Rattle.history_model.specs.Moments.{lives_at, total}
 use Rattle.history_model.specs.Names as names
@@ -39,18 +39,6 @@ come before m steps goes = record { stands = goes.stands; known = goes.known }
 pub record Says (before : List Record) (m : Machine) : Type 0 where
   pub booted : names.is_booted before ≡ run.is_booted m
   pub living : (pid : ℕ) → lives_at before (total before) pid ≡ lives m.kernel pid
-
-and-left : (a b : Bool) → (a && b) ≡ true → a ≡ true
-and-left true b e = refl
-and-left false b e = e
-
-and-right : (a b : Bool) → (a && b) ≡ true → b ≡ true
-and-right true b e = e
-and-right false b e = absurd (cc)
-
-not-true : (b : Bool) → not b ≡ true → b ≡ false
-not-true true e = absurd (cc)
-not-true false e = refl
 
 -- one event from outside
 one-goes : (before : List Record) (m : Machine) (s : Step) (e : Record) → IsRecord s.moved.inside.event e → Facts m s → comes_wrong before e ≡ false → lacks_process before e ≡ false → lacks_slice before e ≡ false → Known before m → Goes before m (s ∷ [])
@@ -81,11 +69,7 @@ unless-goes before m path false e says facts known = boot-goes before m path (fi
 
 -- a process that can go on lives, and one was made
 body-lives : (m : Machine) (pid : ℕ) → IsSoundMachine m → is_runnable m pid ≡ true → lives m.kernel pid ≡ true
-body-lives m pid sound runs = sym (sound.bodies pid) ∙ by_body (body_at m.bodies pid) runs
-  where
-    by_body : (o : Option Body) → can_go_on m pid (option_map (view m.bodies) o) ≡ true → is_some o ≡ true
-    by_body None e = absurd (let no : false ≡ true = e in cc)
-    by_body (Some x) e = refl
+body-lives m pid h1 h2 = grind (arith, nat_tests)
 
 past-none : (pid : ℕ) → is_some (live_process [] pid) ≡ true → ⊥
 past-none zero is = cc
@@ -111,20 +95,20 @@ slice-comes before m pid (s ∷ steps) runs says facts known goes =
 
 if-slice : (before : List Record) (m : Machine) (pid count : ℕ) (reply : Option Answered) (b : Bool) → is_possible m pid count ≡ b → Says before m → Along Facts m (if b then steps_of (turn count pid reply m) else []) → Known before m → Come before (slice_records pid (if b then steps_of (turn count pid reply m) else [])) (after_steps m (if b then steps_of (turn count pid reply m) else []))
 if-slice before m pid count reply true e says facts known =
-    slice-comes before m pid (steps_of (turn count pid reply m)) (and-left (is_runnable m pid) _ e) says facts known
+    slice-comes before m pid (steps_of (turn count pid reply m)) (and_parts (is_runnable m pid) _ e).0 says facts known
     (λ ran. turn-goes (before ++ entry.Slice pid ran ∷ []) count pid reply m facts (behind-slice before pid ran) (slice-known before m pid ran known))
 if-slice before m pid count reply false e says facts known = come before m [] (goes-none before m known)
 
 unplug-booted : (m : Machine) (device : ℕ) → may_unplug m device ≡ true → run.is_booted m ≡ true
 unplug-booted m device e =
     let fresh : Bool = not (was_unplugged m.kernel device) in
-    and-left (run.is_booted m) fresh (and-right can_unplug (run.is_booted m && fresh) e)
+    (and_parts (run.is_booted m) fresh (and_parts can_unplug (run.is_booted m && fresh) e).1).0
 
 pub input-comes : (before : List Record) (m : Machine) (i : Input) → Says before m → Along Facts m (input_steps m i) → Known before m → Come before (input_records i (input_steps m i)) (after_input m i)
 input-comes before m (File path bytes) says facts known =
     come before m (input_steps m (File path bytes))
     (if-goes before m (can_add m path bytes) (can_add m path bytes) (file_step m path bytes) (entry.File path bytes) refl refl facts
-    (λ e. says.booted ∙ not-true (run.is_booted m) (and-left (not (run.is_booted m)) _ e)) refl refl known)
+    (λ e. says.booted ∙ not-true (run.is_booted m) (and_parts (not (run.is_booted m)) _ e).0) refl refl known)
 input-comes before m (Boot path) says facts known = come before m (input_steps m (Boot path)) (unless-goes before m path (run.is_booted m) refl says facts known)
 input-comes before m (Typed bytes) says facts known =
     come before m (input_steps m (Typed bytes))

@@ -1,9 +1,10 @@
 -- The records of a run stand, input by input.
-use Rattle.std.proofs.Common.{◌≡◌, ℕ, zero, suc, ◌+◌, ◌≤◌, nat_lt, Bool, true, false, cond, List, [], ◌∷◌, ◌++◌, length, Option, Some, None, refl, sym, ap, subst, ◌∙◌, append-nil, arith}
+use Rattle.std.proofs.lemmas.Bool.Decides.{nat_tests}
+use Rattle.std.proofs.Common.{◌≡◌, ℕ, zero, suc, ◌+◌, ◌≤◌, Bool, true, false, cond, List, [], ◌∷◌, ◌++◌, length, Option, Some, None, refl, sym, ap, subst, ◌∙◌, append-nil, arith}
 use Rattle.std.proofs.lemmas.List.Sums.{sum_by-cons}
 use Rattle.arn_base.specs.declared.records.Record.{Record}
 use Rattle.parts_model.specs.declared.tagged.TaggedByte.{TaggedByte}
-use Rattle.acts_model.specs.Moved.{KernelByte, ConsoleByte, PipeByte, FileByte, StatusByte, is_instruction}
+use Rattle.acts_model.specs.Moved.{KernelByte, is_instruction}
 use Rattle.arn_model.specs.Kernel.{Machine, at_first}
 use Rattle.arn_model.specs.Laws.{StepsTell, EachRunIsSound, EachRunAppends, KeepsNumbers, ProcessesCount, RequestsAreBounded}
 use Rattle.arn_model.specs.Run.{Input, machine_after, run, state_at, steps_from, input_steps, after_input, within, unless_reached, instructions_in}
@@ -93,11 +94,7 @@ console-none true h e = cc
 console-none false h e = cc
 
 none-held : (byte : KernelByte) (h : TaggedByte) → kernel_byte at_first.kernel byte ≡ Some h → ⊥
-none-held (ConsoleByte n) h e = console-none (nat_lt n 0) h e
-none-held (PipeByte pipe n) h e = cc
-none-held (FileByte file at) h e = cc
-none-held (StatusByte zero) h e = cc
-none-held (StatusByte (suc i)) h e = cc
+none-held byte h h1 = grind (arith, nat_tests, console-none)
 
 first-known : Known [] at_first
 first-known = record { counts = refl; lie = λ byte h e. absurd (none-held byte h e); most = refl }

@@ -1,10 +1,10 @@
 -- Records that stand, each behind those before it.
-use Rattle.std.proofs.Common.{◌≡◌, ℕ, ◌==◌, ◌&&◌, ◌||◌, not, Bool, true, false, cond, List, [], ◌∷◌, ◌++◌, length, Some, None, refl, sym, ap, subst, ◌∙◌, append-nil, append_assoc}
-use Rattle.std.proofs.lemmas.Bool.{eq-eqb}
+use Rattle.std.proofs.lemmas.Bool.Decides.{nat_tests}
+use Rattle.std.proofs.Common.{◌≡◌, ℕ, ◌==◌, Bool, true, false, cond, List, [], ◌∷◌, ◌++◌, length, Some, None, refl, sym, ap, subst, ◌∙◌, append-nil, append_assoc, arith}
+use Rattle.std.proofs.lemmas.Bool.{eq-eqb, or_from}
 use Rattle.arn_base.specs.declared.records.Record.{Record}
 use Rattle.arn_base.specs.declared.records.Record.TheVariants as entry
-use Rattle.acts_model.specs.Records.{give_of}
-use Rattle.history_model.specs.Broken.{comes_wrong, lacks_process, lacks_slice, are_origins, has_blocks_wrong, start_in, misnumbers, child_in, misplaces_start, cant_follow, broken_from, Behind, Nowhere, ASlice, ADelivery, behind_signal, behind_record, behind_from, behind, is_behind}
+use Rattle.history_model.specs.Broken.{comes_wrong, lacks_process, lacks_slice, cant_follow, broken_from, Behind, Nowhere, ASlice, behind_record, behind_from, behind, is_behind}
 use Rattle.unbroken_laws.proofs.Steps.{Fits}
 
 abbrev pub Stands : List Record → List Record → Type 0
@@ -21,18 +21,8 @@ stands-append before [] more h k = subst (λ (es : List Record). Stands es more)
 stands-append before (e ∷ entries) more h k =
     (h.0, stands-append (before ++ e ∷ []) entries more h.1 (subst (λ (es : List Record). Stands es more) (sym (append_assoc before (e ∷ []) entries)) k))
 
-or-false : (a b : Bool) → a ≡ false → b ≡ false → (a || b) ≡ false
-or-false true b e f = e
-or-false false b e f = f
-
 pub can-follow : (before : List Record) (e : Record) → comes_wrong before e ≡ false → lacks_process before e ≡ false → lacks_slice before e ≡ false → Fits before e → cant_follow before e ≡ false
-can-follow before e comes lives slice fits =
-    or-false (comes_wrong before e) _ comes
-    (or-false (lacks_process before e) _ lives
-    (or-false (lacks_slice before e) _ slice
-    (or-false (not (are_origins before (give_of e))) _ (ap not fits.origins)
-    (or-false (has_blocks_wrong (start_in e)) _ fits.blocks
-    (or-false (misnumbers before (child_in e)) (misplaces_start e) fits.number fits.start)))))
+can-follow before e h1 h2 h3 h4 = grind (arith, nat_tests, or_from)
 
 -- which slice is open behind a record
 behind-from-push : (b : Behind) (before : List Record) (e : Record) → behind_from b (before ++ e ∷ []) ≡ behind_record (behind_from b before) e
@@ -49,10 +39,4 @@ pub is-behind-slice : (before : List Record) (pid : ℕ) → behind before ≡ A
 is-behind-slice before pid e = ap (is_behind pid) e ∙ eq-eqb pid pid refl
 
 pub is-behind-delivery : (before : List Record) (pid signal handler : ℕ) (cut : Bool) → behind before ≡ ASlice pid → (handler == 0) ≡ false → is_behind pid (behind (before ++ entry.Signal pid signal cut handler ∷ [])) ≡ true
-is-behind-delivery before pid signal handler cut e h =
-    ap (is_behind pid)
-    (behind-push before (entry.Signal pid signal cut handler)
-    ∙ (ap (behind_signal pid handler) e
-    ∙ (ap (λ (b : Bool). cond (b && not (handler == 0)) (ADelivery pid) Nowhere) (eq-eqb pid pid refl)
-    ∙ ap (λ (b : Bool). cond (not b) (ADelivery pid) Nowhere) h)))
-    ∙ eq-eqb pid pid refl
+is-behind-delivery before pid signal handler cut h1 h2 = grind (arith, nat_tests, behind-push, eq-eqb)

@@ -1,6 +1,7 @@
 -- What records tell of the machine that they lead to, each step keeps; and the record of an event can stand behind them.
-use Rattle.std.proofs.Common.{◌≡◌, inl, ℕ, ◌+◌, not, Bool, true, false, cond, List, [], ◌∷◌, ◌++◌, length, Option, Some, None, IfSome, slice_get, refl, sym, ap, subst, ◌∙◌, append-nil, arith}
-use Rattle.std.proofs.lemmas.Bool.{eq-eqb}
+use Rattle.std.proofs.lemmas.Bool.Decides.{nat_tests}
+use Rattle.std.proofs.Common.{◌≡◌, ℕ, ◌+◌, not, Bool, true, false, cond, List, [], ◌∷◌, ◌++◌, length, Option, Some, None, IfSome, slice_get, refl, sym, ap, subst, ◌∙◌, append-nil, arith, option_and_then}
+use Rattle.std.proofs.lemmas.Bool.{eq-eqb, false≢true}
 use Rattle.std.proofs.lemmas.List.{length_push}
 use Rattle.std.proofs.lemmas.List.Elements.{filter-append}
 use Rattle.arn_base.specs.declared.records.Record.{Record}
@@ -8,7 +9,6 @@ use Rattle.arn_base.specs.declared.records.Record.TheVariants as entry
 use Rattle.parts_model.specs.declared.tagged.TaggedByte.{TaggedByte}
 use Rattle.parts_model.specs.Files.{file_bytes}
 use Rattle.parts_model.specs.Tagged.{values, given}
-use Rattle.std.specs.Prelude.{option_and_then}
 use Rattle.acts_model.specs.Moved.{KernelByte, FileByte, Event}
 use Rattle.acts_model.specs.Records.{is_event, event_len, give_of, life_told, lives_after}
 use Rattle.arn_model.specs.Kernel.{Kernel, Machine}
@@ -45,16 +45,7 @@ pub data Kind (m : Machine) (s : Step) : Type 0 where
 
 inner-event : (e : Record) → is_inner e ≡ true → is_event e ≡ true
 inner-event (entry.Slice pid ran) is = absurd (cc)
-inner-event (entry.File name bytes) is = refl
-inner-event (entry.Boot name give) is = refl
-inner-event (entry.Typed bytes) is = refl
-inner-event (entry.Unplug device) is = refl
-inner-event (entry.Signal pid signal cut handler) is = refl
-inner-event (entry.Call pid number result more) is = refl
-inner-event (entry.End pid status) is = refl
-
-false-true : false ≡ true → ⊥
-false-true e = cc
+inner-event _ is = refl
 
 file-there : (k : Kernel) (file : ℕ) (held : List TaggedByte) → file_bytes k.files file ≡ Some held → (n : ℕ) (h : TaggedByte) → slice_get held n ≡ Some h → (byte : KernelByte) × (kernel_byte k byte ≡ Some h)
 file-there k file held e n h f = (FileByte file n, ap (λ (o : Option (List TaggedByte)). option_and_then (λ bytes. slice_get bytes n) o) e ∙ f)
@@ -79,17 +70,15 @@ kind-of m s (Boots path file held first found bytes image is) =
       is = refl;
       puts = boot-put m.events (length (values held)) m.kernel first;
       gives = record { held = held; is = refl; there = file-there m.kernel file held bytes };
-      lives = λ inner. absurd (false-true inner);
+      lives = λ inner. absurd (false≢true inner);
     }))
 kind-of m s (Adds path bytes may is) =
     subst (Kind m) (sym is)
-    (IsEvent (entry.File path bytes) (record { event = refl; counts = refl; is = refl; puts = file-put m path bytes; gives = tt; lives = λ inner. absurd (false-true inner) }))
+    (IsEvent (entry.File path bytes) (record { event = refl; counts = refl; is = refl; puts = file-put m path bytes; gives = tt; lives = λ inner. absurd (false≢true inner) }))
 kind-of m s (Types bytes booted is) =
     subst (Kind m) (sym is)
-    (IsEvent (entry.Typed bytes) (record { event = refl; counts = refl; is = refl; puts = typed-put m bytes; gives = tt; lives = λ inner. absurd (false-true inner) }))
-kind-of m s (Unplugs device may is) =
-    subst (Kind m) (sym is)
-    (IsEvent (entry.Unplug device) (record { event = refl; counts = refl; is = refl; puts = λ byte h e. inl e; gives = tt; lives = λ inner. absurd (false-true inner) }))
+    (IsEvent (entry.Typed bytes) (record { event = refl; counts = refl; is = refl; puts = typed-put m bytes; gives = tt; lives = λ inner. absurd (false≢true inner) }))
+kind-of m s (Unplugs device may is) = grind (arith, nat_tests)
 
 -- what records tell of the machine that they lead to
 pub record Known (before : List Record) (m : Machine) : Type 0 where
@@ -126,23 +115,15 @@ pub event-counted : (m : Machine) (s : Step) (e : Record) → Facts m s → Happ
 event-counted m s e facts h = (subst (λ (o : Option Event). CountedBy m s.after o) h.event facts.right.counted) facts.few facts.sound
 
 pub event-fits : (before : List Record) (m : Machine) (s : Step) (e : Record) → Facts m s → Happened m s e → Known before m → Fits before e
-event-fits before m s e facts h known =
-    let counted = event-counted m s e facts h in
-    record {
-      origins = origins-fine before m.kernel (give_of e) known.lie h.gives;
-      blocks = counted.blocks;
-      number = numbers-right before (length m.kernel.processes) (child_in e) known.most counted.child;
-      start = counted.start;
-    }
+event-fits before m s e h1 h2 h3 = grind (arith, nat_tests, event-counted, origins-fine, numbers-right)
 
 pub event-known : (before : List Record) (m : Machine) (s : Step) (e : Record) → Facts m s → Happened m s e → Known before m → Known (before ++ e ∷ []) s.after
 event-known before m s e facts h known =
-    let counted = event-counted m s e facts h in
     let same = events-push before e h.is in
     record {
       counts = ap (λ (es : List Record). length es) same ∙ (length_push (events before) e ∙ (ap (λ (n : ℕ). n + 1) known.counts ∙ sym h.counts));
       lie = subst (λ (es : List Record). AllLie es s.after.kernel) (sym same) (lie-after (events before) e m.events m.kernel s.after.kernel known.counts h.puts known.lie);
-      most = greatest-push before e ∙ (ap (greatest_after e) known.most ∙ counted.grows);
+      most = greatest-push before e ∙ (ap (greatest_after e) known.most ∙ (event-counted m s e facts h).grows);
     }
 
 -- an instruction
@@ -157,14 +138,7 @@ plain-known before m s facts none same known =
 
 -- a slice
 pub slice-known : (before : List Record) (m : Machine) (pid ran : ℕ) → Known before m → Known (before ++ entry.Slice pid ran ∷ []) m
-slice-known before m pid ran known =
-    let e : Record = entry.Slice pid ran in
-    let same = events-same before e refl in
-    record {
-      counts = ap (λ (es : List Record). length es) same ∙ known.counts;
-      lie = subst (λ (es : List Record). AllLie es m.kernel) (sym same) known.lie;
-      most = greatest-push before e ∙ known.most;
-    }
+slice-known before m pid ran h1 = grind (arith, nat_tests, events-same, greatest-push)
 
 pub slice-fits : (before : List Record) (pid ran : ℕ) → Fits before (entry.Slice pid ran)
 slice-fits before pid ran = record { origins = refl; blocks = refl; number = refl; start = refl }

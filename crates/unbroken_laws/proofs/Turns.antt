@@ -1,13 +1,13 @@
 -- The records of a slice stand.
-use Rattle.std.proofs.Common.{◌≡◌, ℕ, zero, suc, ◌==◌, not, nat_lt, Bool, true, false, cond, if◌then◌else◌, List, [], ◌∷◌, ◌++◌, length, Option, Some, None, is_some, option_map, option_to_list, refl, sym, ap, subst, ◌∙◌, append-nil, append_assoc}
-use Rattle.std.proofs.lemmas.Bool.{eq-eqb}
+use Rattle.std.proofs.lemmas.Bool.Decides.{nat_tests}
+use Rattle.std.proofs.Common.{◌≡◌, ℕ, zero, suc, ◌==◌, not, nat_lt, Bool, true, false, cond, if◌then◌else◌, List, [], ◌∷◌, ◌++◌, length, Option, Some, None, option_map, option_to_list, refl, sym, ap, subst, ◌∙◌, append-nil, append_assoc, eq-eqb, arith}
 use Rattle.arn_base.specs.declared.records.Extra.{Extra}
 use Rattle.arn_base.specs.declared.records.Record.{Record}
 use Rattle.arn_base.specs.declared.records.Record.TheVariants as entry
 use Rattle.rv64_model.specs.Instruction.{Effect, Next, Call, End}
 use Rattle.parts_model.specs.Replies.{Answered}
 use Rattle.acts_model.specs.Acts.{result_of}
-use Rattle.acts_model.specs.Bodies.{Body, View, body_at, view, seen}
+use Rattle.acts_model.specs.Bodies.{View, seen}
 use Rattle.acts_model.specs.Moved.{Event}
 use Rattle.acts_model.specs.Records.{EndsLife, NoLife, lives_after}
 use Rattle.acts_model.specs.Views.{stands_at, call_number}
@@ -41,20 +41,10 @@ goes-none before m known = record { stands = tt; known = subst (λ (es : List Re
 
 -- behind an event
 pub goes-on : (before : List Record) (m : Machine) (s : Step) (e : Record) (steps : List Step) → Happened m s e → cant_follow before e ≡ false → Goes (before ++ e ∷ []) s.after steps → Goes before m (s ∷ steps)
-goes-on before m s e steps h stands rest =
-    let told = records-some s steps (record { number = m.events; entry = e }) h.event in
-    record {
-      stands = subst (λ (es : List Record). Stands before es) (sym told) (stands, rest.stands);
-      known = subst (λ (es : List Record). Known (before ++ es) (after_steps s.after steps)) (sym told) (subst (λ (es : List Record). Known es (after_steps s.after steps)) (append_assoc before (e ∷ []) (event_records steps)) rest.known);
-    }
+goes-on before m s e steps h1 h2 h3 = grind (arith, nat_tests, records-some, append_assoc)
 
 goes-plain : (before : List Record) (m : Machine) (s : Step) (steps : List Step) → s.moved.inside.event ≡ None → Goes before s.after steps → Goes before m (s ∷ steps)
-goes-plain before m s steps none rest =
-    let told = records-none s steps none in
-    record {
-      stands = subst (λ (es : List Record). Stands before es) (sym told) rest.stands;
-      known = subst (λ (es : List Record). Known (before ++ es) (after_steps s.after steps)) (sym told) rest.known;
-    }
+goes-plain before m s steps h1 h2 = grind (arith, nat_tests, records-none)
 
 -- the record of a step's event
 some-none : (x : Event) → Some x ≡ None → ⊥
@@ -72,11 +62,7 @@ event-is m s e facts h = by_kind (kind-of m s facts.tells)
     by_kind (IsEvent r happened) = subst (λ (r : Record). Happened m s r) (subst (λ (o : Option Event). IsRecord o e) happened.event h) happened
 
 plain-is : (before : List Record) (m : Machine) (s : Step) → Facts m s → s.moved.inside.event ≡ None → Known before m → Known before s.after
-plain-is before m s facts none known = by_kind (kind-of m s facts.tells)
-  where
-    by_kind : Kind m s → Known before s.after
-    by_kind (IsPlain n same) = plain-known before m s facts none same known
-    by_kind (IsEvent e happened) = absurd (some-none _ (sym happened.event ∙ none))
+plain-is before m s h1 h2 h3 = grind (arith, nat_tests, kind-of, plain-known, some-none)
 
 -- the call or the end with which a slice ends
 data Last (pid : ℕ) (s : Step) : Type 0 where
@@ -135,8 +121,7 @@ IfPlain (Some s) = s.moved.inside.event ≡ None
 
 by-plain : (m : Machine) (pid : ℕ) (v : View) (effect : Effect) → IfPlain (plain_by m pid v effect)
 by-plain m pid v (Next instr cpu memory) = refl
-by-plain m pid v Call = tt
-by-plain m pid v (End status) = tt
+by-plain m pid v _ = tt
 
 in-plain : (m : Machine) (pid : ℕ) (o : Option View) → IfPlain (plain_in m pid o)
 in-plain m pid None = tt
@@ -168,11 +153,7 @@ rest-goes before n pid reply m facts behind_is known =
 
 -- nothing follows where the process lives no more
 body-gone : (m : Machine) (pid : ℕ) → IsSoundMachine m → lives m.kernel pid ≡ false → seen m.bodies pid ≡ None
-body-gone m pid sound gone = by_body (body_at m.bodies pid) (sound.bodies pid ∙ gone)
-  where
-    by_body : (o : Option Body) → is_some o ≡ false → option_map (view m.bodies) o ≡ None
-    by_body None e = refl
-    by_body (Some x) e = absurd (let no : true ≡ false = e in cc)
+body-gone m pid h1 h2 = grind (arith, nat_tests)
 
 none-plains : (n pid : ℕ) (m : Machine) → seen m.bodies pid ≡ None → plains n pid m ≡ []
 none-plains zero pid m gone = refl
@@ -221,9 +202,8 @@ delivery-goes : (before : List Record) (n pid : ℕ) (reply : Option Answered) (
 delivery-goes before n pid reply m s d facts rest behind_is known =
     let e = delivered pid s d in
     let happened = event-is m s e facts d.is in
-    let known' = event-known before m s e facts happened known in
     let follows = can-follow before e refl refl (ap not (is-behind-slice before pid behind_is)) (event-fits before m s e facts happened known) in
-    by_handler happened known' follows (d.handler == 0) refl
+    by_handler happened (event-known before m s e facts happened known) follows (d.handler == 0) refl
   where
     by_handler : Happened m s (delivered pid s d) → Known (before ++ delivered pid s d ∷ []) s.after → cant_follow before (delivered pid s d) ≡ false → (b : Bool) → (d.handler == 0) ≡ b → Goes before m (s ∷ rest_of n pid reply s.after)
     by_handler happened known' follows true t =
