@@ -1,7 +1,6 @@
 -- A group's own part of a run suffices for its own locations and events: no other step writes its locations, and its steps take no others.
-use Rattle.std.proofs.Common.{◌≡◌, ℕ, suc, ◌<◌, List, [], ◌∷◌, ◌++◌, map, refl, ap, ap₂, ◌∙◌, sym, subst, append-nil, Option, Some, None, IfSome, option_and_then, unwrap_or, Bool, true, false, ◌==◌, cond, arith, true≢false, ◌⊎◌, inl, inr}
+use Rattle.std.proofs.Common.{◌≡◌, ℕ, suc, ◌<◌, List, [], ◌∷◌, ◌++◌, map, refl, ap, ap₂, ◌∙◌, sym, subst, append-nil, Option, Some, None, IfSome, option_and_then, unwrap_or, Bool, true, false, ◌==◌, cond, arith, true≢false, ◌⊎◌, inl, inr, eq-eqb, eqb-true}
 use Rattle.std.proofs.lemmas.Bool.Decides.{nat_tests}
-use Rattle.std.proofs.lemmas.Bool.{eq-eqb, eqb-true}
 use Rattle.arn_base.specs.declared.machine.Cpu.{Cpu}
 use Rattle.arn_base.specs.declared.records.Start.{Start}
 use Rattle.rv64_model.specs.Carries.{Table}
@@ -184,7 +183,6 @@ pub agrees : (gs : Groups) (ms : Memories) (g : ℕ) (maker : ℕ → Option ℕ
 agrees gs ms g maker table n [] all own f h = h
 agrees gs ms g maker table n (s ∷ steps) all own f h =
     let i = s.moved.inside in
-    let now = alone_from table (part gs g i) own in
     subst (λ (t : Tracked EventByte). Agrees gs ms g (count n (moves (s ∷ steps))) maker (every table (moves (s ∷ steps)) all) t) (sym (alone-append table (part gs g i) (parts gs g steps) own))
-    (agrees gs ms g maker table (next n i.event) steps (alone_after table i all) now f.1
+    (agrees gs ms g maker table (next n i.event) steps (alone_after table i all) (alone_from table (part gs g i) own) f.1
     (part-step gs ms g n maker table i.actor i.before i.transfer i.event all own f.0 h))

@@ -1,11 +1,10 @@
 -- Each live process holds memories of its own group, and after each act it still does.
-use Rattle.std.proofs.Common.{◌≡◌, ℕ, ◌≤◌, List, [], length, refl, ap, ◌∙◌, sym, Option, Some, None, option_map, Bool, true, false, ◌==◌, cond, arith, inl, inr}
+use Rattle.std.proofs.Common.{◌≡◌, ℕ, ◌≤◌, List, [], length, refl, ap, ◌∙◌, sym, Option, Some, None, option_map, Bool, true, false, ◌==◌, cond, arith, inl, inr, eq-eqb, eqb-true}
 use Rattle.std.proofs.lemmas.Bool.Decides.{nat_tests}
-use Rattle.std.proofs.lemmas.Bool.{eq-eqb, eqb-true}
 use Rattle.arn_base.specs.declared.machine.Cpu.{Cpu}
 use Rattle.arn_base.specs.Window.{Window, with_bytes}
 use Rattle.rv64_isa.specs.declared.instruction.Instr.{Instr}
-use Rattle.acts_model.specs.Acts.{Act, Returns, Receives, Gives, Starts, Forks, Founds, Shares, Leaves, Delivers, Exits, Faults, Dies, restored, acted, Beginning, beginning_of, child_view, joined, done_by, done, founded}
+use Rattle.acts_model.specs.Acts.{Act, Receives, Gives, Starts, Forks, Founds, Shares, Leaves, Exits, Faults, Dies, restored, acted, Beginning, beginning_of, child_view, joined, done_by, done, founded}
 use Rattle.acts_model.specs.Bodies.{Body, Bodies, View, IsHolder, body_at, seen, put, remove, become}
 use Rattle.acts_model.specs.Transfers.{holds_of, is_private, is_shared, place_at, place_of, transfer, instr_transfer}
 use Rattle.acts_model.specs.Views.{reach, with_reach}
@@ -65,20 +64,16 @@ restored-fit gs ms most pid v None h = h
 restored-fit gs ms most pid v (Some cpu) h = record { group = h.group; is = h.is; small = h.small; window = h.window; segment = h.segment }
 
 become-fit : (gs : Groups) (ms : Memories) (most event pid : ℕ) (act : Act) (v : View) (b : Bodies) → Makes gs ms most event pid act → HoldsIn gs ms most pid v.body → BodiesFit gs ms most b → BodiesFit gs ms most (become pid (acted event act v) b)
-become-fit gs ms most event pid (Returns result) v b k h f = fit-put gs ms most b pid _ f (same-hold gs ms most pid v.body _ refl refl h)
 become-fit gs ms most event pid (Receives at bytes result) v b k h f =
     let same = reach-body (with_bytes (reach v) at bytes) v in
     fit-put gs ms most b pid _ f (same-hold gs ms most pid v.body _ (ap (λ (x : Body). x.window) same) (ap (λ (x : Body). x.segment) same) h)
-become-fit gs ms most event pid (Gives at len result) v b k h f = fit-put gs ms most b pid _ f (same-hold gs ms most pid v.body _ refl refl h)
 become-fit gs ms most event pid (Starts file block block_len) v b k h f = fit-put gs ms most b pid _ f (record { group = h.group; is = h.is; small = h.small; window = k; segment = λ made e. absurd (cc) })
-become-fit gs ms most event pid (Forks child) v b k h f = fit-put gs ms most b pid _ f (same-hold gs ms most pid v.body _ refl refl h)
-become-fit gs ms most event pid (Founds child) v b k h f = fit-put gs ms most b pid _ f (same-hold gs ms most pid v.body _ refl refl h)
 become-fit gs ms most event pid Shares v b k h f = fit-put gs ms most b pid _ f (record { group = h.group; is = h.is; small = h.small; window = h.window; segment = λ made e. let same : event ≡ made = cc in ap ms (sym same) ∙ k })
 become-fit gs ms most event pid Leaves v b k h f = fit-put gs ms most b pid (restored v.body.slot v) f (restored-fit gs ms most pid v v.body.slot h)
-become-fit gs ms most event pid (Delivers signal handler cut) v b k h f = fit-put gs ms most b pid _ f (same-hold gs ms most pid v.body _ refl refl h)
 become-fit gs ms most event pid Exits v b k h f = fit-remove gs ms most b pid f
 become-fit gs ms most event pid (Faults status) v b k h f = fit-remove gs ms most b pid f
 become-fit gs ms most event pid (Dies signal cut) v b k h f = fit-remove gs ms most b pid f
+become-fit gs ms most event pid _ v b k h f = fit-put gs ms most b pid _ f (same-hold gs ms most pid v.body _ refl refl h)
 
 joined-fit : (gs : Groups) (ms : Memories) (most event pid : ℕ) (act : Act) (v : View) (b : Bodies) → Makes gs ms most event pid act → HoldsIn gs ms most pid v.body → BodiesFit gs ms most b → BodiesFit gs ms most (joined act event v b)
 joined-fit gs ms most event pid (Forks child) v b k h f =
@@ -130,18 +125,13 @@ some-place-is gs ms most pid x at len h1 = grind (arith, nat_tests, place-is)
 
 -- so what an act moves lies in its group
 pub act-lies : (gs : Groups) (ms : Memories) (most event pid : ℕ) (x : Body) (act : Act) → HoldsIn gs ms most pid x → Makes gs ms most event pid act → Lies gs ms (transfer pid event (holds_of x) act)
-act-lies gs ms most event pid x (Returns result) h k = tt
 act-lies gs ms most event pid x (Receives at bytes result) h k = some-place-is gs ms most pid x at (length bytes) h
 act-lies gs ms most event pid x (Gives at len result) h k = some-place-is gs ms most pid x at len h
 act-lies gs ms most event pid x (Starts file block block_len) h k = (k, some-place-is gs ms most pid x block block_len h)
 act-lies gs ms most event pid x (Forks child) h k = record { process = k.0; old = h.window; new = k.1 }
 act-lies gs ms most event pid x (Founds child) h k = record { process = k.0; old = h.window; new = k.1; other = k.3 }
 act-lies gs ms most event pid x Shares h k = k
-act-lies gs ms most event pid x Leaves h k = tt
-act-lies gs ms most event pid x (Delivers signal handler cut) h k = tt
-act-lies gs ms most event pid x Exits h k = tt
-act-lies gs ms most event pid x (Faults status) h k = tt
-act-lies gs ms most event pid x (Dies signal cut) h k = tt
+act-lies gs ms most event pid x _ h k = tt
 
 pub instr-lies : (gs : Groups) (ms : Memories) (most pid : ℕ) (cpu : Cpu) (x : Body) (instr : Instr) → HoldsIn gs ms most pid x → Lies gs ms (instr_transfer pid cpu (holds_of x) instr)
 instr-lies gs ms most pid cpu x instr h1 = grind (arith, nat_tests, place-is)

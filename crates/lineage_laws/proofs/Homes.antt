@@ -1,8 +1,7 @@
 -- Each location belongs to one group: a step writes locations of the group that acts or starts, from those of that group.
-use Rattle.std.proofs.Common.{◌≡◌, ℕ, zero, suc, ◌+◌, ◌-◌, List, [], ◌∷◌, ◌++◌, map, flat_map, refl, ap, ap₂, ◌∙◌, sym, Option, Some, None, IfSome, option_map, option_and_then, unwrap_or, Bool, true, false, ◌==◌, ◌&&◌, cond, ◌⊎◌, inl, inr, arith}
+use Rattle.std.proofs.Common.{◌≡◌, ℕ, zero, suc, ◌+◌, ◌-◌, List, [], ◌∷◌, ◌++◌, map, flat_map, refl, ap, ap₂, ◌∙◌, sym, Option, Some, None, IfSome, option_map, option_and_then, unwrap_or, Bool, true, false, ◌==◌, ◌&&◌, cond, ◌⊎◌, inl, inr, arith, eqb-true}
 use Rattle.std.proofs.lemmas.Bool.Decides.{nat_tests}
 use Rattle.std.specs.List.{AllByRecursion}
-use Rattle.std.proofs.lemmas.Bool.{eqb-true}
 use Rattle.rv64_isa.specs.declared.instruction.Instr.{Instr}
 use Rattle.rv64_model.specs.Carries.{Table, Operand}
 use Rattle.rv64_model.specs.Operands.{rd_of, stored_len}
@@ -65,21 +64,15 @@ pub record Founding (gs : Groups) (ms : Memories) (pid child from into : ℕ) : 
 
 -- a step reaches memories of its own group alone
 abbrev pub Lies : Groups → Memories → Transfer → Type 0
-Lies gs ms (Arrives len) = Unit {0}
 Lies gs ms (Starts pid made load len block block_len) = (ms made ≡ gs pid) × PlaceIs ms (gs pid) block
 Lies gs ms (Runs pid instr place) = PlaceIs ms (gs pid) place
-Lies gs ms (Returns pid) = Unit {0}
 Lies gs ms (Receives pid place len) = PlaceIs ms (gs pid) place
 Lies gs ms (Gives pid place len) = PlaceIs ms (gs pid) place
 Lies gs ms (Forks pid child from into) = Joining gs ms pid child from into
 Lies gs ms (Founds pid child from into) = Founding gs ms pid child from into
 Lies gs ms (Begins pid made) = ⊥
 Lies gs ms (Shares pid made) = ms made ≡ gs pid
-Lies gs ms (Delivers pid cut) = Unit {0}
-Lies gs ms (Leaves pid) = Unit {0}
-Lies gs ms (Exits pid) = Unit {0}
-Lies gs ms (Faults pid) = Unit {0}
-Lies gs ms (Dies pid) = Unit {0}
+Lies gs ms _ = Unit {0}
 
 -- a location that is taken has Q
 abbrev pub IfPrior : (Location → Type 0) → Dependence → Type 0
@@ -160,10 +153,9 @@ result-owned gs ms table pid instr place i h =
 
 -- what is taken from locations is taken from the group's
 ran-priors : (gs : Groups) (ms : Memories) (table : Table) (pid : ℕ) (instr : Instr) (place : Option Place) (l : Location) → PlaceIs ms (gs pid) place → IfSome (ran table pid instr place l) (EachPrior (λ x. owner gs ms x ≡ gs pid))
-ran-priors gs ms table pid instr place (Register p zero i) h = tt
 ran-priors gs ms table pid instr place (Register p (suc r) i) h = when-some (EachPrior (λ x. owner gs ms x ≡ gs pid)) ((p == pid) && (suc r == rd_of instr)) (result_bytes table pid instr place i) (λ e. result-owned gs ms table pid instr place i h)
-ran-priors gs ms table pid instr place (Slot p r i) h = tt
 ran-priors gs ms table pid instr place (Memory made at) h = map-some (EachPrior (λ x. owner gs ms x ≡ gs pid)) (result_bytes table pid instr place) (offset place (stored_len instr) made at) (all-some _ (λ k. result-owned gs ms table pid instr place k h) (offset place (stored_len instr) made at))
+ran-priors gs ms table pid instr place _ h = tt
 
 result-priors : (Q : Location → Type 0) (pid : ℕ) (l : Location) → IfSome (result_only pid l) (EachPrior Q)
 result-priors Q pid l = grind (arith, nat_tests, when-some)

@@ -1,8 +1,7 @@
 -- What reaches an event's byte by items and stored origins is what whole tracking gives it: by induction on the event's number.
-use Rattle.std.proofs.Common.{◌≡◌, ℕ, zero, suc, ◌<◌, ◌≤◌, List, [], ◌∷◌, flat_map, refl, ap, ◌∙◌, sym, subst, Option, Some, None, Bool, true, false, ◌==◌, IfSome, cond, arith, ◌⊎◌, inl, inr}
+use Rattle.std.proofs.Common.{◌≡◌, ℕ, zero, suc, ◌<◌, ◌≤◌, List, [], ◌∷◌, flat_map, refl, ap, ◌∙◌, sym, subst, Option, Some, None, Bool, true, false, ◌==◌, IfSome, cond, arith, ◌⊎◌, inl, inr, eqb-true}
 use Rattle.std.proofs.lemmas.Bool.Decides.{nat_tests}
 use Rattle.std.specs.List.{AllByRecursion}
-use Rattle.std.proofs.lemmas.Bool.{eqb-true}
 use Rattle.rv64_model.specs.Carries.{Table}
 use Rattle.arn_base.specs.declared.records.Record.{Record}
 use Rattle.arn_base.specs.declared.records.Src.{Src}

@@ -113,8 +113,7 @@ kept-held old event bytes range byte h spans (Some n) e (inl k) src o later l = 
     some_same x y e = cc
 kept-held old event bytes range byte h spans (Some n) e (inr k) src o later l =
     let below = place-below range.first range.len byte n e in
-    let there = get-there bytes n (omega arith) in
-    absurd (some_none (sym (ap (option_map (λ b. record { value = b; origin = record { event = event; at = n } })) there.1) ∙ k.0))
+    absurd (some_none (sym (ap (option_map (λ b. record { value = b; origin = record { event = event; at = n } })) (get-there bytes n (omega arith)).1) ∙ k.0))
   where
     some_none : {A : Type 0} {x : A} → Some x ≡ None → ⊥
     some_none e = cc

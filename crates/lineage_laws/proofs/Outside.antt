@@ -10,7 +10,7 @@ use Rattle.parts_model.specs.Numbered.{nth}
 use Rattle.parts_model.specs.Processes as table
 use Rattle.parts_model.specs.Processes.{Processes}
 use Rattle.parts_model.specs.Tagged.{held_from, held_bytes}
-use Rattle.acts_model.specs.Moved.{KernelByte, ConsoleByte, PipeByte, FileByte, StatusByte, within, within_if, place_in}
+use Rattle.acts_model.specs.Moved.{KernelByte, ConsoleByte, FileByte, within, within_if, place_in}
 use Rattle.arn_model.specs.Kernel.{Kernel, Machine, booted}
 use Rattle.arn_model.specs.Run.{file_step, typed_step}
 use Rattle.arn_model.specs.Tells.{at_position, kernel_byte}
@@ -94,9 +94,7 @@ to-kept event k k' byte (Some j) h = kept-by event (kernel_byte k byte) (kernel_
 -- a typed piece
 pub typed-kept : (m : Machine) (bytes : List ℕ) (byte : KernelByte) → Kept m.events (origins m.kernel) (origins (typed_step m bytes).after.kernel) byte (place_in (record { first = ConsoleByte (channel_end m.kernel.console); len = length bytes }) byte)
 typed-kept m bytes (ConsoleByte p) = to-kept m.events m.kernel (typed_step m bytes).after.kernel (ConsoleByte p) (within (channel_end m.kernel.console) (length bytes) p) (channel-kept m.kernel.console m.events bytes p)
-typed-kept m bytes (PipeByte pipe p) = λ src l. l
-typed-kept m bytes (FileByte file at) = λ src l. l
-typed-kept m bytes (StatusByte pid) = λ src l. l
+typed-kept m bytes _ = λ src l. l
 
 -- a boot file
 suc-test : (q p : ℕ) → (suc q == suc p) ≡ (q == p)
@@ -125,10 +123,8 @@ unfolding file-of
 file-byte-kept m path bytes f at = grind (arith, nat_tests, file-of, new-kept, nth-push)
 
 pub file-kept : (m : Machine) (path bytes : List ℕ) (byte : KernelByte) → Kept m.events (origins m.kernel) (origins (file_step m path bytes).after.kernel) byte (place_in (record { first = FileByte (next_file m.kernel.files) 0; len = length bytes }) byte)
-file-kept m path bytes (ConsoleByte p) = λ src l. l
-file-kept m path bytes (PipeByte pipe p) = λ src l. l
 file-kept m path bytes (FileByte f at) = to-kept m.events m.kernel (file_step m path bytes).after.kernel (FileByte f at) (within_if (next_file m.kernel.files == f) 0 (length bytes) at) (file-byte-kept m path bytes f at)
-file-kept m path bytes (StatusByte pid) = λ src l. l
+file-kept m path bytes _ = λ src l. l
 
 -- a boot
 first-status : (a : ℕ) (pid : ℕ) → table.status_of (table.with_change (table.with_change (table.with_change (table.booted []) 1 (table.placed a)) 1 (table.placed 0)) 1 (table.placed 0)) pid ≡ None

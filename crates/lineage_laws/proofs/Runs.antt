@@ -1,7 +1,6 @@
 -- All steps of a run up to a moment fit.
-use Rattle.std.proofs.Common.{◌≡◌, ◌⊎◌, inl, inr, ℕ, zero, suc, ◌+◌, ◌<◌, ◌≤◌, List, [], ◌∷◌, length, map, filter, refl, ap, ◌∙◌, sym, subst, Option, Some, None, is_some, slice_get, Bool, true, false, cond, arith, ne_eqb}
+use Rattle.std.proofs.Common.{◌≡◌, ◌⊎◌, inl, inr, ℕ, zero, suc, ◌+◌, ◌<◌, ◌≤◌, List, [], ◌∷◌, length, map, filter, refl, ap, ◌∙◌, sym, subst, Option, Some, None, is_some, slice_get, Bool, true, false, cond, arith, ne_eqb, ltb-true, ltb-false}
 use Rattle.std.proofs.lemmas.Bool.Decides.{nat_tests}
-use Rattle.std.proofs.lemmas.Bool.{ltb-true, ltb-false}
 use Rattle.std.proofs.lemmas.Option.{slice_get_past}
 use Rattle.std.specs.List.{cons_option}
 use Rattle.arn_base.specs.declared.records.Record.{Record}
@@ -115,12 +114,11 @@ steps-are event_at gs groups m [] t k sound last bodies is found = tt
 steps-are event_at gs groups m (s ∷ steps) t k sound last bodies is found =
     let o = s.moved.inside.event in
     let events = events_of steps in
-    let after = after-sound m s steps sound last in
     let around : Around event_at gs groups m s =
     record {
       numbers = k.0;
       before = body-below m sound.0;
-      later = body-below s.after after;
+      later = body-below s.after (after-sound m s steps sound last);
       bodies = bodies;
       there = found-here event_at m.events o events found;
       settled = λ q l. is q ∙ along-settled m (s ∷ steps) groups q t k l;
@@ -202,14 +200,9 @@ within-events (s ∷ steps) moment = by_test (is_instruction s.moved.inside) mom
 -- slices give no groups
 pub groups-events : (entries : List Record) (groups : Groups) → groups_from entries groups ≡ groups_from (filter is_event entries) groups
 groups-events [] groups = refl
-groups-events (entry.Slice pid ran ∷ entries) groups = groups-events entries groups
-groups-events (entry.File name bytes ∷ entries) groups = groups-events entries groups
 groups-events (entry.Boot name give ∷ entries) groups = groups-events entries (groups_told (entry.Boot name give) groups)
-groups-events (entry.Typed bytes ∷ entries) groups = groups-events entries groups
-groups-events (entry.Unplug device ∷ entries) groups = groups-events entries groups
-groups-events (entry.Signal pid signal cut handler ∷ entries) groups = groups-events entries groups
 groups-events (entry.Call pid n result more ∷ entries) groups = groups-events entries (groups_told (entry.Call pid n result more) groups)
-groups-events (entry.End pid status ∷ entries) groups = groups-events entries groups
+groups-events (_ ∷ entries) groups = groups-events entries groups
 
 groups-more : (o : Option Event) (events : List Event) (groups : Groups) → groups_from (entries_of o events) groups ≡ groups_from (map (λ event. event.entry) events) (groups_by o groups)
 groups-more None events groups = refl

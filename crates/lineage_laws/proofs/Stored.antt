@@ -1,15 +1,14 @@
 -- What stored origins name: at each moment each byte of the kernel has the set of the event byte that it is a copy of, and no later step
 -- changes that byte's set.
-use Rattle.std.proofs.Common.{◌≡◌, ℕ, suc, ◌<◌, ◌≤◌, List, [], ◌∷◌, flat_map, refl, ap, ap₂, ◌∙◌, sym, subst, append-nil, Option, Some, None, Bool, true, false, IsTrue, cond, arith, ne_eqb}
+use Rattle.std.proofs.Common.{◌≡◌, ℕ, suc, ◌<◌, ◌≤◌, List, [], ◌∷◌, flat_map, refl, ap, ap₂, ◌∙◌, sym, subst, append-nil, Option, Some, None, Bool, true, false, IsTrue, cond, arith, ne_eqb, eq-eqb}
 use Rattle.std.proofs.lemmas.Bool.Decides.{nat_tests}
-use Rattle.std.proofs.lemmas.Bool.{eq-eqb}
 use Rattle.rv64_model.specs.Carries.{Table}
 use Rattle.arn_base.specs.declared.records.Record.{Record}
 use Rattle.arn_base.specs.declared.records.Src.{Src}
 use Rattle.acts_model.specs.Moved.{KernelByte, Range, byte_of, place_in, Event, Incoming, Outside, Nothing, From, Moved, is_plain}
 use Rattle.acts_model.specs.Records.{event_len}
 use Rattle.acts_model.specs.Transfers.{Transfer, Runs}
-use Rattle.lineage_model.specs.Flow.{At, Byte, StartRegister, StartSlot, StartMemory, Dependence, shown, received_byte, if_below}
+use Rattle.lineage_model.specs.Flow.{At, Byte, Dependence, shown, received_byte, if_below}
 use Rattle.lineage_model.specs.Joined.{Reaching, is_source, origin_of, from_origin, from_received, from_item_at, from_item}
 use Rattle.lineage_model.specs.Tracking.{EventByte, gather, points_after, after, items}
 use Rattle.lineage_model.specs.Whole.{Whole, set_of, received, given, kernel_set, kernel_after, whole_after, whole_from}
@@ -36,9 +35,8 @@ Names before None o = o ≡ None
 Names before (Some byte) o = (src : Src) × (before byte ≡ Some src) × (o ≡ Some src)
 
 abbrev pub Linked : Held → Record → Incoming → Type 0
-Linked before e Outside = (k : ℕ) → origin_of e k ≡ None
-Linked before e Nothing = (k : ℕ) → origin_of e k ≡ None
 Linked before e (From range) = (k : ℕ) → Names before (byte_of range k) (origin_of e k)
+Linked before e _ = (k : ℕ) → origin_of e k ≡ None
 
 -- a received byte is a source byte exactly where it comes from outside
 abbrev pub IsSourced : Incoming → Record → At → Type 0
@@ -179,9 +177,7 @@ value-at event_at n m w before final event is h there st new link (Byte k) s =
     ap (λ (x : Option Event). received x m.incoming w.kernel k) is
     ∙ (received-value n w before final event h st k m.incoming link s
     ∙ ap (from_received final event.number k) (sym there))
-value-at event_at n m w before final event is h there st new link (StartRegister r i) s = gather-received _ _ w.tracked.locations (shown m.inside.transfer (StartRegister r i)) (shown-prior _ m.inside.transfer (StartRegister r i) tt) ∙ sym (new (StartRegister r i))
-value-at event_at n m w before final event is h there st new link (StartSlot r i) s = gather-received _ _ w.tracked.locations (shown m.inside.transfer (StartSlot r i)) (shown-prior _ m.inside.transfer (StartSlot r i) tt) ∙ sym (new (StartSlot r i))
-value-at event_at n m w before final event is h there st new link (StartMemory a) s = gather-received _ _ w.tracked.locations (shown m.inside.transfer (StartMemory a)) (shown-prior _ m.inside.transfer (StartMemory a) tt) ∙ sym (new (StartMemory a))
+value-at event_at n m w before final event is h there st new link e s = gather-received _ _ w.tracked.locations (shown m.inside.transfer e) (shown-prior _ m.inside.transfer e tt) ∙ sym (new e)
 
 -- what the final points are of a step's own event
 step-value : (table : Table) (event_at : ℕ → Option Record) (n : ℕ) (m : Moved) (list : List Moved) (w : Whole) (before last : Held) → (c : Chain event_at n before (m ∷ list) last) → IsKept n w before → (event : Option Event) → m.inside.event ≡ event → FitsBy event_at n before c.0 m event → Takes (λ at. given m w at ≡ flat_map (from_item event_at (whole_from table (m ∷ list) w).tracked.points) (items event at)) m.inside.transfer

@@ -1,7 +1,6 @@
 -- Which received bytes a step takes: those of transfers that receive, and no others.
-use Rattle.std.proofs.Common.{ℕ, zero, suc, ◌-◌, ◌<◌, List, [], ◌∷◌, map, Option, Some, None, IfSome, option_map, unwrap_or, Bool, true, false, ◌==◌, ◌&&◌, cond, arith}
+use Rattle.std.proofs.Common.{ℕ, suc, ◌-◌, ◌<◌, List, [], ◌∷◌, map, Option, Some, None, IfSome, option_map, unwrap_or, Bool, true, false, ◌==◌, ◌&&◌, cond, arith, ltb-true}
 use Rattle.std.proofs.lemmas.Bool.Decides.{nat_tests}
-use Rattle.std.proofs.lemmas.Bool.{ltb-true}
 use Rattle.rv64_model.specs.Carries.{Table}
 use Rattle.rv64_model.specs.Operands.{rd_of, stored_len}
 use Rattle.rv64_isa.specs.declared.instruction.Instr.{Instr}
@@ -19,19 +18,10 @@ pub record EachStart (P : At → Type 0) : Type 0 where
 abbrev pub Takes : (At → Type 0) → Transfer → Type 0
 Takes P (Arrives len) = (k : ℕ) → k < len → P (Byte k)
 Takes P (Starts pid made load len block block_len) = (k : ℕ) → P (Byte k)
-Takes P (Runs pid instr place) = Unit {0}
-Takes P (Returns pid) = Unit {0}
 Takes P (Receives pid place len) = (k : ℕ) → P (Byte k)
-Takes P (Gives pid place len) = Unit {0}
-Takes P (Forks pid child from into) = Unit {0}
 Takes P (Founds pid child from into) = EachStart P
 Takes P (Begins pid made) = EachStart P
-Takes P (Shares pid made) = Unit {0}
-Takes P (Delivers pid cut) = Unit {0}
-Takes P (Leaves pid) = Unit {0}
-Takes P (Exits pid) = Unit {0}
-Takes P (Faults pid) = Unit {0}
-Takes P (Dies pid) = Unit {0}
+Takes P _ = Unit {0}
 
 each-prior : (P : At → Type 0) (ls : List Location) → EachReceived P (map Prior ls)
 each-prior P [] = tt
@@ -65,10 +55,9 @@ result-each : (P : At → Type 0) (pid : ℕ) (l : Location) → IfSome (result_
 result-each P pid l = grind (arith, nat_tests, when-each)
 
 ran-each : (P : At → Type 0) (table : Table) (pid : ℕ) (instr : Instr) (place : Option Place) (l : Location) → IfSome (ran table pid instr place l) (EachReceived P)
-ran-each P table pid instr place (Register p zero i) = tt
 ran-each P table pid instr place (Register p (suc r) i) = when-each P ((p == pid) && (suc r == rd_of instr)) (result_bytes table pid instr place i) (each-prior P _)
-ran-each P table pid instr place (Slot p r i) = tt
 ran-each P table pid instr place (Memory made at) = map-each P (result_bytes table pid instr place) (λ k. each-prior P _) (offset place (stored_len instr) made at)
+ran-each P table pid instr place _ = tt
 
 started-each : (P : At → Type 0) (load len : ℕ) (block : Option Place) (block_len at : ℕ) → ((k : ℕ) → P (Byte k)) → EachReceived P (started_byte load len block block_len at)
 started-each P load len block block_len at h1 = grind (arith, nat_tests, each-prior, map-each, unwrap-each)

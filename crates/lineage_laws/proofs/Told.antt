@@ -1,7 +1,8 @@
 -- What the record of an event tells of its act: whether it makes a child, and whether it receives bytes.
 use Rattle.std.proofs.Common.{◌≡◌, ℕ, List, [], length, refl, ap, ◌∙◌, sym, subst, Option, Some, None, option_and_then, Bool, true, false, ◌==◌, ◌&&◌, cond, arith}
 use Rattle.std.proofs.lemmas.Bool.Decides.{nat_tests}
-use Rattle.std.proofs.lemmas.Bool.{eq-eqb, eqb-true}
+use Rattle.std.proofs.lemmas.Bool.{eq-eqb, eqb-true, and_left}
+use Rattle.std.proofs.lemmas.Option.{same_Some}
 use Rattle.arn_base.specs.declared.machine.Cpu.{Cpu}
 use Rattle.arn_base.specs.declared.records.Extra.{Extra}
 use Rattle.arn_base.specs.declared.records.Extra.TheVariants as extra
@@ -99,9 +100,6 @@ no-start n result _ h = refl
 other-says : (pid n result : ℕ) (more : Extra) (act : Act) → ((n == number.FORK) && is_success result) ≡ false → IsQuiet act → Says pid (entry.Call pid n result more) act
 other-says pid n result more act h1 h2 = grind (arith, nat_tests, memory_called, no-start)
 
-both-false : (b c : Bool) → b ≡ false → (b && c) ≡ false
-both-false b c e = ap (λ (x : Bool). x && c) e
-
 if-quiet : (b : Bool) (a c : Act) → IsQuiet a → IsQuiet c → IsQuiet (cond b a c)
 if-quiet true a c h k = h
 if-quiet false a c h k = k
@@ -138,28 +136,25 @@ isnt : (n a b : ℕ) → n ≡ a → (a == b) ≡ false → (n == b) ≡ false
 isnt n a b e h = ap (λ (x : ℕ). x == b) e ∙ h
 
 call-says : (cpu : Cpu) (pid n result : ℕ) (more : Extra) (kind : Kind) → KindIs n kind → Says pid (entry.Call pid n result more) (call_act kind cpu result more)
-call-says cpu pid n result more _ (IsExit e) = other-says pid n result more Exits (both-false _ _ (isnt n number.EXIT number.FORK e refl)) tt
+call-says cpu pid n result more _ (IsExit e) = other-says pid n result more Exits (and_left _ _ (isnt n number.EXIT number.FORK e refl)) tt
 call-says cpu pid n result more _ (IsFork e) = subst (λ (x : ℕ). Says pid (entry.Call pid x result more) (fork_act result more)) (sym e) (fork-says pid result more)
-call-says cpu pid n result more _ (IsExec e) = other-says pid n result more (exec_act cpu result more) (both-false _ _ (isnt n number.EXEC number.FORK e refl)) (exec-quiet cpu result more)
-call-says cpu pid n result more _ (IsWait e) = other-says pid n result more (wait_act cpu result more) (both-false _ _ (isnt n number.WAIT number.FORK e refl)) (wait-quiet cpu result more)
-call-says cpu pid n result more _ (IsSigreturn e) = other-says pid n result more (cond (result == 0) Leaves (Returns result)) (both-false _ _ (isnt n number.SIGRETURN number.FORK e refl)) (if-quiet (result == 0) Leaves (Returns result) tt tt)
-call-says cpu pid n result more _ (IsRead e) = other-says pid n result more (read_act cpu result more) (both-false _ _ (isnt n number.READ number.FORK e refl)) (read-quiet cpu result more)
-call-says cpu pid n result more _ (IsWrite e) = other-says pid n result more (write_act cpu result more) (both-false _ _ (isnt n number.WRITE number.FORK e refl)) (write-quiet cpu result more)
-call-says cpu pid n result more _ (IsShm e) = other-says pid n result more (cond (result == 0) Shares (Returns result)) (both-false _ _ (isnt n number.SHM number.FORK e refl)) (if-quiet (result == 0) Shares (Returns result) tt tt)
-call-says cpu pid n result more _ (IsOther f r) = other-says pid n result more (Returns result) (both-false _ _ f) tt
+call-says cpu pid n result more _ (IsExec e) = other-says pid n result more (exec_act cpu result more) (and_left _ _ (isnt n number.EXEC number.FORK e refl)) (exec-quiet cpu result more)
+call-says cpu pid n result more _ (IsWait e) = other-says pid n result more (wait_act cpu result more) (and_left _ _ (isnt n number.WAIT number.FORK e refl)) (wait-quiet cpu result more)
+call-says cpu pid n result more _ (IsSigreturn e) = other-says pid n result more (cond (result == 0) Leaves (Returns result)) (and_left _ _ (isnt n number.SIGRETURN number.FORK e refl)) (if-quiet (result == 0) Leaves (Returns result) tt tt)
+call-says cpu pid n result more _ (IsRead e) = other-says pid n result more (read_act cpu result more) (and_left _ _ (isnt n number.READ number.FORK e refl)) (read-quiet cpu result more)
+call-says cpu pid n result more _ (IsWrite e) = other-says pid n result more (write_act cpu result more) (and_left _ _ (isnt n number.WRITE number.FORK e refl)) (write-quiet cpu result more)
+call-says cpu pid n result more _ (IsShm e) = other-says pid n result more (cond (result == 0) Shares (Returns result)) (and_left _ _ (isnt n number.SHM number.FORK e refl)) (if-quiet (result == 0) Shares (Returns result) tt tt)
+call-says cpu pid n result more _ (IsOther f r) = other-says pid n result more (Returns result) (and_left _ _ f) tt
 
 delivery-quiet : (signal handler : ℕ) (cut : Bool) → IsQuiet (delivery_act signal handler cut)
 delivery-quiet signal handler cut = if-quiet (handler == 0) (Dies signal cut) (Delivers signal handler cut) tt tt
 
-some-is : {A : Type 0} (x y : A) → Some x ≡ Some y → x ≡ y
-some-is x y e = cc
-
 pub entry-says : (cpu : Cpu) (pid : ℕ) (e : Record) (act : Act) → is_inner e ≡ true → process_of e ≡ Some pid → act_of cpu e ≡ Some act → Says pid e act
-entry-says cpu pid (entry.Signal p signal cut handler) act i h k = SaysOther (λ groups. refl) (λ g n. refl) (λ gs. ap gs (some-is p pid h)) (subst IsQuiet (some-is _ act k) (delivery-quiet signal handler cut))
+entry-says cpu pid (entry.Signal p signal cut handler) act i h k = SaysOther (λ groups. refl) (λ g n. refl) (λ gs. ap gs (same_Some p pid h)) (subst IsQuiet (same_Some _ act k) (delivery-quiet signal handler cut))
 entry-says cpu pid (entry.Call p n result more) act i h k =
-    subst (Says pid (entry.Call p n result more)) (some-is _ act k)
-    (subst (λ (x : ℕ). Says pid (entry.Call x n result more) (call_act (kind_of n) cpu result more)) (sym (some-is p pid h)) (call-says cpu pid n result more (kind_of n) (kind-is n)))
-entry-says cpu pid (entry.End p status) act i h k = SaysOther (λ groups. refl) (λ g n. refl) (λ gs. ap gs (some-is p pid h)) (subst IsQuiet (some-is _ act k) tt)
+    subst (Says pid (entry.Call p n result more)) (same_Some _ act k)
+    (subst (λ (x : ℕ). Says pid (entry.Call x n result more) (call_act (kind_of n) cpu result more)) (sym (same_Some p pid h)) (call-says cpu pid n result more (kind_of n) (kind-is n)))
+entry-says cpu pid (entry.End p status) act i h k = SaysOther (λ groups. refl) (λ g n. refl) (λ gs. ap gs (same_Some p pid h)) (subst IsQuiet (same_Some _ act k) tt)
 entry-says cpu pid _ act i h k = absurd (cc)
 
 -- the act receives nothing
@@ -217,7 +212,7 @@ call-receipt cpu pid n result more _ (IsShm e) = OfNone (no-reply n more (isnt n
 call-receipt cpu pid n result more _ (IsOther f r) = OfNone (no-reply n more r) tt
 
 pub entry-receipt : (cpu : Cpu) (e : Record) (act : Act) → is_inner e ≡ true → act_of cpu e ≡ Some act → Receipt e act
-entry-receipt cpu (entry.Signal p signal cut handler) act i k = OfNone refl (subst IsSilent (some-is _ act k) (if-silent (handler == 0) (Dies signal cut) (Delivers signal handler cut) tt tt))
-entry-receipt cpu (entry.Call p n result more) act i k = subst (Receipt (entry.Call p n result more)) (some-is _ act k) (call-receipt cpu p n result more (kind_of n) (kind-is n))
-entry-receipt cpu (entry.End p status) act i k = OfNone refl (subst IsSilent (some-is _ act k) tt)
+entry-receipt cpu (entry.Signal p signal cut handler) act i k = OfNone refl (subst IsSilent (same_Some _ act k) (if-silent (handler == 0) (Dies signal cut) (Delivers signal handler cut) tt tt))
+entry-receipt cpu (entry.Call p n result more) act i k = subst (Receipt (entry.Call p n result more)) (same_Some _ act k) (call-receipt cpu p n result more (kind_of n) (kind-is n))
+entry-receipt cpu (entry.End p status) act i k = OfNone refl (subst IsSilent (same_Some _ act k) tt)
 entry-receipt cpu _ act i k = absurd (cc)

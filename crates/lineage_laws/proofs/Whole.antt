@@ -139,9 +139,8 @@ owned-location : (tab : Table) (inputs : List Input) (moment g : ℕ) (l : Locat
 owned-location tab inputs moment g l r o =
     let event = event_at (records inputs) in
     let m = count 0 (moves (within moment (run inputs))) in
-    let all = (all_at tab inputs moment).locations l in
     let own = (local_at tab inputs moment g).locations l in
-    let same : all ≡ own = (agrees-at tab inputs moment g r).locations l o in
+    let same : ((all_at tab inputs moment).locations l) ≡ own = (agrees-at tab inputs moment g r).locations l o in
     (joins-at tab inputs moment r).locations l
     ∙ (ap (flat_map (from_item event (final_at tab inputs moment))) same
     ∙ sym (location-whole event m (joined_point tab inputs moment) (final_at tab inputs moment) (all_at tab inputs moment) (whole-point tab inputs moment r) (known-at tab inputs moment r) own
