@@ -1,19 +1,20 @@
 -- How many instructions a group does.
-use Rattle.std.proofs.Common.{◌≡◌, ℕ, zero, suc, ◌+◌, ◌-◌, ◌≤◌, min, ◌&&◌, ◌==◌, Bool, true, false, cond, not, if◌then◌else◌, List, [], ◌∷◌, count_by, Option, Some, None, refl, sym, ap, ◌∙◌, arith}
+use Rattle.std.proofs.lemmas.Bool.Decides.{nat_tests}
+use Rattle.std.proofs.Common.{◌≡◌, ℕ, ◌+◌, ◌-◌, ◌≤◌, ◌&&◌, ◌==◌, Bool, true, false, cond, not, if◌then◌else◌, List, [], ◌∷◌, count_by, Option, Some, None, refl, sym, ap, ◌∙◌, arith}
 use Rattle.std.proofs.lemmas.List.Sums.{sum_by-append, sum_by-cons}
 use Rattle.arn_base.specs.declared.records.Record.{Record}
 use Rattle.arn_base.specs.declared.records.Record.TheVariants as entry
 use Rattle.arn_base.specs.declared.records.Start.{Start}
 use Rattle.acts_model.specs.Acts as act
 use Rattle.acts_model.specs.Moved.{Event, Inside, is_instruction}
-use Rattle.acts_model.specs.Transfers.{Holds, holds_of, transfer}
+use Rattle.acts_model.specs.Transfers.{Holds, transfer}
 use Rattle.arn_model.specs.Kernel.{Machine, at_first}
 use Rattle.arn_model.specs.Laws.{StepsTell}
 use Rattle.arn_model.specs.Run.{Input, instructions_in, machine_after, run, unless_reached, within}
 use Rattle.arn_model.specs.Step.{Step}
-use Rattle.arn_model.specs.Tells.{Along, HasNumbers, StepTells, Runs, Happens, Boots, Adds, Types, Unplugs}
+use Rattle.arn_model.specs.Tells.{Along, HasNumbers, StepTells}
 use Rattle.history_model.specs.Alone.{begin_inside, call_start}
-use Rattle.history_model.specs.Groups.{Groups, count_from, count_of, group_of, is_number}
+use Rattle.history_model.specs.Groups.{Groups, count_from, count_of, group_of}
 use Rattle.history_model.specs.Moments.{total}
 use Rattle.log_model.specs.Records.{records}
 use Rattle.replay_laws.specs.Heard.{begin_by, begin_if, begin_part, is_own, own_part, part, parts}
@@ -25,24 +26,14 @@ use Rattle.view_laws.specs.Counts.{done_by}
 
 -- behind the end a group has run all that it runs
 module _ (g until : ℕ) (groups : Groups) where
-  slice-all : (b : Bool) (ran moment x y more : ℕ) → moment + (ran + more) ≤ until → x ≡ y → (if b then min ran (until - moment) else 0) + x ≡ (if b then ran else 0) + y
-  slice-all true ran moment x y more h e = omega (arith, h, e)
-  slice-all false ran moment x y more h e = omega (arith, e)
 
   other-all : (moment x y : ℕ) (entries : List Record) → count_before_from g until moment groups entries ≡ y → 0 + count_before_from g until (moment + 0) groups entries ≡ 0 + y
   other-all moment x y entries e = let same : moment + 0 ≡ moment = omega arith in ap (λ (n : ℕ). 0 + count_before_from g until n groups entries) same ∙ ap (λ (n : ℕ). 0 + n) e
 
   all-before : (entries : List Record) (moment : ℕ) → moment + total entries ≤ until → count_before_from g until moment groups entries ≡ count_from g groups entries
   all-before [] moment h = refl
-  all-before (entry.Slice pid ran ∷ entries) moment h =
-      slice-all (is_number g (groups pid)) ran moment _ _ (total entries) h (all-before entries (moment + ran) (omega (arith, h)))
-  all-before (entry.File name bytes ∷ entries) moment h = other-all moment 0 _ entries (all-before entries moment (omega (arith, h)))
-  all-before (entry.Boot name give ∷ entries) moment h = other-all moment 0 _ entries (all-before entries moment (omega (arith, h)))
-  all-before (entry.Typed bytes ∷ entries) moment h = other-all moment 0 _ entries (all-before entries moment (omega (arith, h)))
-  all-before (entry.Unplug device ∷ entries) moment h = other-all moment 0 _ entries (all-before entries moment (omega (arith, h)))
-  all-before (entry.Signal pid signal cut handler ∷ entries) moment h = other-all moment 0 _ entries (all-before entries moment (omega (arith, h)))
-  all-before (entry.Call pid number result more ∷ entries) moment h = other-all moment 0 _ entries (all-before entries moment (omega (arith, h)))
-  all-before (entry.End pid status ∷ entries) moment h = other-all moment 0 _ entries (all-before entries moment (omega (arith, h)))
+  all-before (entry.Slice pid ran ∷ entries) moment h = grind (arith, nat_tests, all-before entries (moment + ran) (omega (arith, h)))
+  all-before (_ ∷ entries) moment h = other-all moment 0 _ entries (all-before entries moment (omega (arith, h)))
 
 whole-count : (entries : List Record) (g until : ℕ) → total entries ≤ until → ran_before entries g until ≡ count_of entries g
 whole-count entries g until h = all-before g until (group_of entries) entries 0 (omega (arith, h))
@@ -53,9 +44,7 @@ instructions-cons s steps = sum_by-cons (λ (s : Step). cond (is_instruction s.m
 
 step-within : (b : Bool) (s : Step) (steps : List Step) → ((left : ℕ) → instructions_in steps ≤ left → within left steps ≡ steps) → (left : ℕ) → (if b then 1 else 0) + instructions_in steps ≤ left
     → unless_reached b left (λ left. s ∷ within left steps) ≡ s ∷ steps
-step-within false s steps all left h = ap (λ (l : List Step). s ∷ l) (all left (omega (arith, h)))
-step-within true s steps all zero h = absurd (omega (arith, h))
-step-within true s steps all (suc left) h = ap (λ (l : List Step). s ∷ l) (all left (omega (arith, h)))
+step-within b s steps h1 left h2 = grind (arith, nat_tests)
 
 all-within : (steps : List Step) (left : ℕ) → instructions_in steps ≤ left → within left steps ≡ steps
 all-within [] left h = refl
@@ -64,25 +53,10 @@ all-within (s ∷ steps) left h = step-within (is_instruction s.moved.inside) s 
 -- no step of a run is the begin of a group alone
 act-is : (pid event : ℕ) (holds : Holds) (a : act.Act) → is_begin (transfer pid event holds a) ≡ false
 act-is pid event holds (act.Returns result) = refl
-act-is pid event holds (act.Receives at bytes result) = refl
-act-is pid event holds (act.Gives at len result) = refl
-act-is pid event holds (act.Starts file block block_len) = refl
-act-is pid event holds (act.Forks child) = refl
-act-is pid event holds (act.Founds child) = refl
-act-is pid event holds act.Shares = refl
-act-is pid event holds act.Leaves = refl
-act-is pid event holds (act.Delivers signal handler cut) = refl
-act-is pid event holds act.Exits = refl
-act-is pid event holds (act.Faults status) = refl
-act-is pid event holds (act.Dies signal cut) = refl
+act-is pid event holds _ = refl
 
 begins-not : (m : Machine) (s : Step) → StepTells m s → is_begin s.moved.inside.transfer ≡ false
-begins-not m s (Runs pid v instr cpu memory seen at is) = ap (λ (s : Step). is_begin s.moved.inside.transfer) is
-begins-not m s (Happens pid v d e tells is) = ap (λ (s : Step). is_begin s.moved.inside.transfer) is ∙ act-is pid m.events (holds_of v.body) d.act
-begins-not m s (Boots path file held booted found bytes image is) = ap (λ (s : Step). is_begin s.moved.inside.transfer) is
-begins-not m s (Adds path bytes can is) = ap (λ (s : Step). is_begin s.moved.inside.transfer) is
-begins-not m s (Types bytes booted is) = ap (λ (s : Step). is_begin s.moved.inside.transfer) is
-begins-not m s (Unplugs device may is) = ap (λ (s : Step). is_begin s.moved.inside.transfer) is
+begins-not m s h1 = grind (arith, nat_tests, act-is)
 
 -- what a group counts of a step
 abbrev counted : List Inside → ℕ
@@ -98,13 +72,7 @@ begin-if g child event e (Some start) = begin-none g child event e (child == g) 
 
 begin-by : (g event : ℕ) (e : Record) → counted (begin_by g event e) ≡ 0
 begin-by g event (entry.Call pid number result more) = begin-if g result event (entry.Call pid number result more) (call_start number result more)
-begin-by g event (entry.File name bytes) = refl
-begin-by g event (entry.Boot name give) = refl
-begin-by g event (entry.Typed bytes) = refl
-begin-by g event (entry.Unplug device) = refl
-begin-by g event (entry.Slice pid ran) = refl
-begin-by g event (entry.Signal pid signal cut handler) = refl
-begin-by g event (entry.End pid status) = refl
+begin-by g event _ = refl
 
 begin-part : (g : ℕ) (o : Option Event) → counted (begin_part g o) ≡ 0
 begin-part g None = refl
@@ -115,11 +83,7 @@ own-count true i e = sum_by-cons (λ (i : Inside). cond (is_counted i) 1 0) i []
 own-count false i e = refl
 
 part-count : (groups : Groups) (g : ℕ) (i : Inside) → is_begin i.transfer ≡ false → counted (part groups g i) ≡ (if is_own groups g i.actor && is_instruction i then 1 else 0)
-part-count groups g i e =
-    let both = sum_by-append (λ (i : Inside). cond (is_counted i) 1 0) (own_part (is_own groups g i.actor) i) (begin_part g i.event) in
-    let own = own-count (is_own groups g i.actor) i e in
-    let none = begin-part g i.event in
-    omega (arith, both, own, none)
+part-count groups g i h1 = grind (arith, nat_tests, sum_by-append, own-count, begin-part)
 
 abbrev done : Groups → ℕ → List Step → ℕ
 done groups g steps = count_by (λ s. is_own groups g s.moved.inside.actor && is_instruction s.moved.inside) steps

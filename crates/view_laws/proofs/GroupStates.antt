@@ -1,12 +1,12 @@
 -- The state of a group alone.
-use Rattle.std.proofs.Common.{◌≡◌, ℕ, suc, Bool, true, false, cond, ◌&&◌, List, [], ◌∷◌, length, Option, Some, None, is_some, refl, sym, ap, ap₂, ◌∙◌, arith}
-use Rattle.std.specs.Prelude.{filter, filter_map, option_map}
+use Rattle.std.proofs.lemmas.Bool.Decides.{nat_tests}
+use Rattle.std.proofs.Common.{◌≡◌, ℕ, suc, Bool, true, false, cond, ◌&&◌, List, [], ◌∷◌, length, Option, Some, None, is_some, refl, sym, ap, ap₂, ◌∙◌, arith, filter, filter_map, option_map}
 use Rattle.std.specs.List.{cons_option, range_with_len}
-use Rattle.std.proofs.lemmas.Bool.{false≢true}
+use Rattle.std.proofs.lemmas.Bool.{false≢true, and_right}
 use Rattle.std.proofs.lemmas.Map.Views.{exact_unsigned_eq}
 use Rattle.parts_model.specs.Numbered.{nth}
 use Rattle.parts_model.specs.Processes.{live, live_process}
-use Rattle.acts_model.specs.Bodies.{Body, Bodies, View, body_at, seen, view}
+use Rattle.acts_model.specs.Bodies.{Body, Bodies, seen}
 use Rattle.arn_model.specs.Kernel.{Machine}
 use Rattle.arn_model.specs.Laws.{EachRunAppends, EachRunIsSound}
 use Rattle.arn_model.specs.Run.{Input, machine_after, state_at}
@@ -14,7 +14,7 @@ use Rattle.arn_model.specs.Sound.{IsSoundMachine}
 use Rattle.arn_model.specs.Tells.{HasNumbers, lives}
 use Rattle.guest_bodies.specs.Follows.{Shows}
 use Rattle.guest_bodies.specs.Shown.{Guests, Shown, seen_in}
-use Rattle.guest_states.specs.State.{Holder, holder, state_of, state_with}
+use Rattle.guest_states.specs.State.{Holder, holder, state_of}
 use Rattle.history_model.specs.Groups.{Groups, group_of, is_number}
 use Rattle.log_model.specs.Records.{records}
 use Rattle.replay_laws.specs.Laws.{GroupsPassThrough, IsRestriction}
@@ -30,10 +30,6 @@ map-some f (Some x) = refl
 some-if : (b : Bool) (o : Option Body) → is_some (cond b o None) ≡ (b && is_some o)
 some-if true o = refl
 some-if false o = refl
-
-and-none : (b : Bool) → (b && false) ≡ false
-and-none true = refl
-and-none false = refl
 
 number-is : (g : ℕ) (o : Option ℕ) → is_number g o ≡ true → o ≡ Some g
 number-is g None e = absurd (false≢true e)
@@ -54,12 +50,7 @@ module _ (g : ℕ) (groups : Groups) (m : Machine) (own : Bodies) (whole : IsRes
 
   -- who lives
   pub own-lives : IsSoundMachine m → (pid : ℕ) → is_some (nth guests pid) ≡ (is_own pid && lives m.kernel pid)
-  own-lives sound pid =
-      sym (map-some (λ (shown : Shown). shown.view) (nth guests pid))
-      ∙ (ap (λ (o : Option View). is_some o) (shows.same pid)
-      ∙ (map-some (view own) (body_at own pid)
-      ∙ (ap (λ (o : Option Body). is_some o) (whole.bodies pid)
-      ∙ (some-if (is_own pid) (body_at m.bodies pid) ∙ ap (λ (b : Bool). is_own pid && b) (sound.bodies pid)))))
+  own-lives h1 pid = grind (arith, nat_tests, map-some, some-if)
 
   pub living : IsSoundMachine m → live_in guests ≡ filter is_own (live m.kernel.processes)
   living sound =
@@ -67,7 +58,7 @@ module _ (g : ℕ) (groups : Groups) (m : Machine) (own : Bodies) (whole : IsRes
       let lives_in : ℕ → Bool = λ k. is_some (live_process all k) in
       same-from (length guests) (suc (length all)) 0 (λ k. is_some (nth guests k)) (λ k. is_own k && lives_in k) (own-lives sound)
       (λ k h. ap (λ (o : Option Shown). is_some o) (nth-past guests k (omega arith)))
-      (λ k h. ap (λ (b : Bool). is_own k && b) (lives-past all k (omega arith)) ∙ and-none (is_own k))
+      (λ k h. ap (λ (b : Bool). is_own k && b) (lives-past all k (omega arith)) ∙ and_right (is_own k) false refl)
       ∙ sym (ap (filter is_own) (live-are all) ∙ filter-both is_own lives_in (range_with_len 0 (suc (length all))))
 
   -- what they see
@@ -76,9 +67,7 @@ module _ (g : ℕ) (groups : Groups) (m : Machine) (own : Bodies) (whole : IsRes
 
   same-state : (pids : List ℕ) → state_of (seen_in guests) (filter is_own pids) ≡ state_of (seen m.bodies) (filter is_own pids)
   unfolding state_of
-  same-state pids =
-      ap state_with
-      (all-same is_own (λ pid. option_map (holder pid) (seen_in guests pid)) (λ pid. option_map (holder pid) (seen m.bodies pid)) holds-same pids)
+  same-state pids = grind (arith, nat_tests, all-same, holds-same)
 
   pub states : IsSoundMachine m → state_of (seen_in guests) (live_in guests) ≡ state_of (seen m.bodies) (filter is_own (live m.kernel.processes))
   states sound = ap (state_of (seen_in guests)) (living sound) ∙ same-state (live m.kernel.processes)

@@ -1,6 +1,6 @@
 -- Numbers of those that live.
-use Rattle.std.proofs.Common.{◌≡◌, ℕ, zero, suc, ◌+◌, ◌≤◌, Bool, true, false, cond, ◌&&◌, List, [], ◌∷◌, length, Option, Some, None, is_some, refl, sym, ap, ap₂, ◌∙◌, arith, add-one}
-use Rattle.std.specs.Prelude.{filter, option_and_then}
+use Rattle.std.proofs.lemmas.Bool.Decides.{nat_tests}
+use Rattle.std.proofs.Common.{◌≡◌, ℕ, zero, suc, ◌+◌, ◌≤◌, Bool, true, false, cond, ◌&&◌, List, [], ◌∷◌, length, Option, Some, None, is_some, refl, sym, ap, ap₂, ◌∙◌, arith, add-one, filter, option_and_then}
 use Rattle.std.specs.List.{range_with_len}
 use Rattle.std.proofs.lemmas.Option.{slice_get_past}
 use Rattle.parts_model.specs.Numbered.{nth}
@@ -76,5 +76,4 @@ split p x false l = and-false (p x) x (filter p l)
 
 pub filter-both : (p q : ℕ → Bool) (xs : List ℕ) → filter p (filter q xs) ≡ filter (λ x. p x && q x) xs
 filter-both p q [] = refl
-filter-both p q (x ∷ xs) =
-    split p x (q x) (filter q xs) ∙ ap (λ (l : List ℕ). cond (p x && q x) (x ∷ l) l) (filter-both p q xs)
+filter-both p q (x ∷ xs) = grind (arith, nat_tests, split p x (q x) (filter q xs), filter-both p q xs)

@@ -1,6 +1,5 @@
 -- The moments of events, told by which events have happened at each moment.
-use Rattle.std.proofs.Common.{◌≡◌, ℕ, zero, suc, ◌+◌, ◌<◌, ◌≤◌, Bool, true, false, nat_le, if◌then◌else◌, List, [], ◌∷◌, length, map, Option, Some, None, is_some, slice_get, refl, sym, ap, ap₂, ◌∙◌, add-zero, arith}
-use Rattle.std.proofs.lemmas.Bool.{le-leb, leb-true}
+use Rattle.std.proofs.Common.{◌≡◌, ℕ, zero, suc, ◌+◌, ◌<◌, ◌≤◌, Bool, true, false, nat_le, if◌then◌else◌, List, [], ◌∷◌, length, map, Option, Some, None, is_some, slice_get, refl, sym, ap, ap₂, ◌∙◌, add-zero, arith, le-leb, leb-true}
 use Rattle.std.proofs.lemmas.Bool.Decides.{nat_tests}
 use Rattle.std.specs.List.{range_with_len}
 use Rattle.arn_base.specs.declared.records.Record.{Record}
@@ -9,7 +8,7 @@ use Rattle.acts_model.specs.Moved.{Event, is_instruction}
 use Rattle.arn_model.specs.Run.{Input, events_of, run, unless_reached, within}
 use Rattle.arn_model.specs.Step.{Step}
 use Rattle.history_index.specs.Lookups.{event_moment, if_kept, moments_from}
-use Rattle.history_model.specs.Moments.{Numbered, events_from, if_happened}
+use Rattle.history_model.specs.Moments.{Numbered, events_from}
 use Rattle.log_model.specs.Records.{records}
 use Rattle.replay_laws.specs.Laws.{RecordsTellEvents}
 use Rattle.view_laws.specs.Counts.{done_with, happened_at, moments_behind}
@@ -31,29 +30,11 @@ kept-yes m moment k xs h = ap (λ (b : Bool). if_kept b k xs) (le-leb m moment h
 kept-no : (m moment k : ℕ) (xs : List ℕ) → moment < m → if_kept (nat_le m moment) k xs ≡ xs
 kept-no m moment k xs h = ap (λ (b : Bool). if_kept b k xs) (le-no m moment h)
 
--- by the records
-one-told : (b : Bool) (k moment begins ends : ℕ) (e : Record) (events : List Numbered) (entries : List Record) → numbers events ≡ by moment (k + 1) (moments_from begins ends entries)
-    → numbers (if_happened b k e events) ≡ if_kept b k (by moment (k + 1) (moments_from begins (ends + 0) entries))
-one-told true k moment begins ends e events entries same = ap (λ (l : List ℕ). k ∷ l) (same ∙ ap (λ (n : ℕ). by moment (k + 1) (moments_from begins n entries)) (sym (add-zero ends)))
-one-told false k moment begins ends e events entries same = same ∙ ap (λ (n : ℕ). by moment (k + 1) (moments_from begins n entries)) (sym (add-zero ends))
-
 told-by : (entries : List Record) (moment begins ends k : ℕ) → numbers (events_from moment begins ends k entries) ≡ by moment k (moments_from begins ends entries)
 told-by [] moment begins ends k = refl
 told-by (entry.Slice pid ran ∷ entries) moment begins ends k = told-by entries moment ends (ends + ran) k
-told-by (entry.Signal pid signal cut handler ∷ entries) moment begins ends k =
-    one-told (nat_le begins moment) k moment begins ends (entry.Signal pid signal cut handler) _ entries (told-by entries moment begins ends (k + 1))
-told-by (entry.File name bytes ∷ entries) moment begins ends k =
-    one-told (nat_le ends moment) k moment begins ends (entry.File name bytes) _ entries (told-by entries moment begins ends (k + 1))
-told-by (entry.Boot name give ∷ entries) moment begins ends k =
-    one-told (nat_le ends moment) k moment begins ends (entry.Boot name give) _ entries (told-by entries moment begins ends (k + 1))
-told-by (entry.Typed bytes ∷ entries) moment begins ends k =
-    one-told (nat_le ends moment) k moment begins ends (entry.Typed bytes) _ entries (told-by entries moment begins ends (k + 1))
-told-by (entry.Unplug device ∷ entries) moment begins ends k =
-    one-told (nat_le ends moment) k moment begins ends (entry.Unplug device) _ entries (told-by entries moment begins ends (k + 1))
-told-by (entry.Call pid number result more ∷ entries) moment begins ends k =
-    one-told (nat_le ends moment) k moment begins ends (entry.Call pid number result more) _ entries (told-by entries moment begins ends (k + 1))
-told-by (entry.End pid status ∷ entries) moment begins ends k =
-    one-told (nat_le ends moment) k moment begins ends (entry.End pid status) _ entries (told-by entries moment begins ends (k + 1))
+told-by (entry.Signal pid signal cut handler ∷ entries) moment begins ends k = grind (arith, nat_tests, told-by entries moment begins ends (k + 1))
+told-by (e ∷ entries) moment begins ends k = grind (arith, nat_tests, told-by entries moment begins ends (k + 1))
 
 -- by the steps: nothing has happened before the moment behind which they come
 none-step : (o : Option Event) (steps : List Step) (done moment k : ℕ) → moment < done → ((k : ℕ) → by moment k (moments_behind done steps) ≡ [])
@@ -80,17 +61,10 @@ Counted steps = (done left k : ℕ) → range_with_len k (length (events_of (wit
 step-by : (s : Step) (steps : List Step) (b : Bool) (o : Option Event) → s.moved.inside.event ≡ o → Counted steps → (done left k : ℕ)
     → range_with_len k (length (events_of (unless_reached b left (λ left. s ∷ within left steps))))
     ≡ by (done + left) k (if_kept (is_some o) (done + (if b then 1 else 0)) (moments_behind (done + (if b then 1 else 0)) steps))
-step-by s steps false None e all done left k =
-    ap (λ (n : ℕ). range_with_len k n) (len-quiet s (within left steps) e)
-    ∙ all done left k
-    ∙ ap (λ (n : ℕ). by (done + left) k (moments_behind n steps)) (sym (add-zero done))
-step-by s steps false (Some event) e all done left k =
-    ap (λ (n : ℕ). range_with_len k n) (len-loud s (within left steps) event e)
-    ∙ ap (λ (l : List ℕ). k ∷ l) (all done left (k + 1) ∙ ap (λ (n : ℕ). by (done + left) (k + 1) (moments_behind n steps)) (sym (add-zero done)))
-    ∙ sym (kept-yes (done + 0) (done + left) k _ (omega arith))
+step-by s steps false None e all done left k = grind (arith, nat_tests, len-quiet s (within left steps) e, add-zero done)
+step-by s steps false (Some event) e all done left k = grind (arith, nat_tests, len-loud s (within left steps) event e, add-zero done)
 step-by s steps true None e all done zero k = sym (none-by steps (done + 1) (done + zero) k (omega arith))
-step-by s steps true (Some event) e all done zero k =
-    sym (kept-no (done + 1) (done + zero) k _ (omega arith) ∙ none-by steps (done + 1) (done + zero) (k + 1) (omega arith))
+step-by s steps true (Some event) e all done zero k = grind (arith, nat_tests, none-by steps (done + 1) (done + zero) (k + 1) (omega arith))
 step-by s steps true None e all done (suc left) k =
     ap (λ (n : ℕ). range_with_len k n) (len-quiet s (within left steps) e)
     ∙ all (done + 1) left k
@@ -111,8 +85,7 @@ either-first false xs rest j k h behind e = behind e
 
 not-first : (ms rest : List ℕ) (moment j k : ℕ) → k < j → by moment j ms ≡ k ∷ rest → ⊥
 not-first [] rest moment j k h e = cc
-not-first (m ∷ ms) rest moment j k h e =
-    either-first (nat_le m moment) (by moment (j + 1) ms) rest j k h (not-first ms rest moment (j + 1) k (omega (arith, h))) e
+not-first (m ∷ ms) rest moment j k h e = grind (arith, nat_tests, either-first (nat_le m moment) (by moment (j + 1) ms) rest j k h (not-first ms rest moment (j + 1) k (omega (arith, h))) e)
 
 has-come : (b : Bool) (ms rest : List ℕ) (moment k : ℕ) → if_kept b k (by moment (k + 1) ms) ≡ k ∷ rest → b ≡ true
 has-come true ms rest moment k e = refl

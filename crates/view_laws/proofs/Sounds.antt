@@ -1,5 +1,6 @@
 -- A machine of a run is sound at each moment.
-use Rattle.std.proofs.Common.{ℕ, zero, suc, Bool, true, false, List, [], ◌∷◌, subst}
+use Rattle.std.proofs.lemmas.Bool.Decides.{nat_tests}
+use Rattle.std.proofs.Common.{ℕ, Bool, List, [], ◌∷◌, subst, arith}
 use Rattle.arn_model.specs.Kernel.{Machine, at_first}
 use Rattle.arn_model.specs.Laws.{EachRunAppends, EachRunIsSound}
 use Rattle.arn_model.specs.Run.{Input, run, state_at, unless_reached, within}
@@ -13,9 +14,7 @@ abbrev Sounds : Machine → List Step → Type 0
 Sounds m steps = Along (λ m s. IsSoundMachine m) m steps
 
 sound-next : (m : Machine) (s : Step) (steps : List Step) (b : Bool) (moment : ℕ) → IsSoundMachine m → ((k : ℕ) → IsSoundMachine (after_steps s.after (within k steps))) → IsSoundMachine (after_steps m (unless_reached b moment (λ left. s ∷ within left steps)))
-sound-next m s steps false moment sound more = more moment
-sound-next m s steps true zero sound more = sound
-sound-next m s steps true (suc moment) sound more = more moment
+sound-next m s steps b moment h1 h2 = grind (arith, nat_tests)
 
 sound-within : (steps : List Step) (moment : ℕ) (m : Machine) → Sounds m steps → IsSoundMachine (after_steps m steps) → IsSoundMachine (after_steps m (within moment steps))
 sound-within [] moment m along last = last

@@ -1,18 +1,17 @@
 -- Views on the records of a run.
-use Rattle.std.proofs.Common.{◌≡◌, ℕ, nat_le, ◌&&◌, Bool, true, false, List, Option, Some, None, IsSome, refl, sym, ap, subst, ◌∙◌}
-use Rattle.std.specs.Prelude.{option_and_then, option_map}
+use Rattle.std.proofs.Common.{◌≡◌, ℕ, nat_le, ◌&&◌, Bool, true, false, List, Option, Some, None, IsSome, refl, sym, ap, ◌∙◌, option_and_then, option_map}
 use Rattle.acts_model.specs.Bodies.{View, Body, body_at, nobody, seen, view}
+use Rattle.std.proofs.lemmas.Bool.{and_parts}
 use Rattle.acts_model.specs.Views.{bytes_in}
 use Rattle.arn_model.specs.Run.{Input, instructions_in, machine_after, run, state_at}
 use Rattle.arn_model.specs.Tells.{HasNumbers, lives}
-use Rattle.history_model.specs.Alone.{Own, Made, Makes, alone, nothing_own}
+use Rattle.history_model.specs.Alone.{Own, Makes, nothing_own}
 use Rattle.history_model.specs.Groups.{group_of}
 use Rattle.history_model.specs.Moments.{lives_at, total}
 use Rattle.log_model.specs.Records.{records}
 use Rattle.past_lives.specs.Laws.{LivesHaveGroups}
-use Rattle.past_lives.specs.Members.{is_member}
 use Rattle.replay_laws.specs.Laws.{GroupsPassThrough, PassesThrough, RecordsTellMoments, RecordsTellRuns}
-use Rattle.state_viewer.specs.Views.{HasMemory, HasRegisters, made_by, made_of}
+use Rattle.state_viewer.specs.Views.{made_by}
 use Rattle.unbroken_laws.specs.Laws.{RunsAreUnbroken}
 use Rattle.view_laws.specs.OfRuns.{ViewsRun}
 
@@ -49,10 +48,6 @@ read-too : {A : Type 0} (f : View → Option A) (o p : Option View) (x : A) → 
 read-too f None p x same e = absurd (cc)
 read-too f (Some v) p x same e = ap (option_and_then f) (same v refl) ∙ e
 
-second : (a b : Bool) → (a && b) ≡ true → b ≡ true
-second true b is = is
-second false b is = absurd (cc)
-
 pub views : (inputs : List Input) (moment pid : ℕ) → HasNumbers (machine_after inputs).kernel → GroupsPassThrough → RecordsTellMoments → RecordsTellRuns → RunsAreUnbroken → LivesHaveGroups → ViewsRun inputs moment pid
 views inputs moment pid few passes moments runs unbroken groups =
     let there = sees inputs moment pid (group_of (records inputs) pid) refl (λ g. passes inputs g moment few) in
@@ -63,7 +58,7 @@ views inputs moment pid few passes moments runs unbroken groups =
           ap (λ (n : ℕ). nat_le moment n && lives_at (records inputs) moment pid) (runs inputs few).instructions
           ∙ ap (λ (b : Bool). nat_le moment (instructions_in (run inputs)) && b) (moments inputs moment pid few).lives;
       sees = λ member.
-          there.both (groups (records inputs) moment pid (unbroken inputs few) (second (nat_le moment (total (records inputs))) (lives_at (records inputs) moment pid) member));
+          there.both (groups (records inputs) moment pid (unbroken inputs few) (and_parts (nat_le moment (total (records inputs))) (lives_at (records inputs) moment pid) member).1);
       lives = (moments inputs moment pid few).lives;
       registers = λ cpu h.
           map-then (seen (state_at inputs moment).bodies pid)
