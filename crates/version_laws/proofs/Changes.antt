@@ -1,15 +1,15 @@
 -- What each step of a run does to files.
-use Rattle.std.proofs.Common.{◌≡◌, ℕ, zero, suc, ◌+◌, ◌≤◌, ◌&&◌, Bool, true, false, not, nat_lt, List, [], ◌∷◌, Option, None, Some, is_some, option_map, length, refl, sym, ap, subst, ◌∙◌, arith}
+use Rattle.std.proofs.Common.{◌≡◌, ℕ, zero, suc, ◌+◌, ◌≤◌, ◌&&◌, Bool, true, false, not, nat_lt, List, [], ◌∷◌, Option, None, Some, is_some, length, refl, sym, ap, subst, ◌∙◌, arith}
 use Rattle.std.proofs.lemmas.Bool.Decides.{nat_tests}
+use Rattle.std.proofs.lemmas.Bool.{not-true, and_parts}
 use Rattle.arn_base.specs.declared.records.Record.{Record}
 use Rattle.arn_base.specs.declared.records.Record.TheVariants as entry
-use Rattle.parts_model.specs.declared.tagged.TaggedByte.{TaggedByte}
 use Rattle.parts_model.specs.Files.{Files, file_bytes, find_file, made, next_file}
 use Rattle.parts_model.specs.Processes.{Processes, live_process}
 use Rattle.parts_model.specs.Tagged.{held_bytes}
-use Rattle.acts_model.specs.Bodies.{View, body_at, seen, view}
+use Rattle.acts_model.specs.Bodies.{View, seen}
 use Rattle.acts_model.specs.Moved.{is_instruction}
-use Rattle.acts_model.specs.Records.{NameChange, NoName, name_told, put_told}
+use Rattle.acts_model.specs.Records.{NoName, name_told, put_told}
 use Rattle.arn_model.specs.Kernel.{Machine, at_first}
 use Rattle.arn_model.specs.Laws.{EachRunAppends, EachRunIsSound, KeepsNumbers, StepsTell}
 use Rattle.arn_model.specs.Run.{Input, is_booted, is_free, machine_after, run, state_at, within, unless_reached}
@@ -42,11 +42,7 @@ made-of [] pid is = absurd (none-live pid is)
 made-of (x ∷ all) pid is = grind (arith, nat_tests)
 
 seen-booted : (m : Machine) (s : Step) (pid : ℕ) (v : View) → Facts m s → seen m.bodies pid ≡ Some v → is_booted m ≡ true
-seen-booted m s pid v facts sees = made-of m.kernel.processes pid (sym (facts.sound.bodies pid) ∙ by_body (body_at m.bodies pid) sees)
-  where
-    by_body : (o : Option _) → option_map (view m.bodies) o ≡ Some v → is_some o ≡ true
-    by_body None e = cc
-    by_body (Some x) e = refl
+seen-booted m s pid v h1 h2 = grind (arith, nat_tests, made-of)
 
 stays : (a b : ℕ) → a ≤ b → nat_lt 0 a ≡ true → nat_lt 0 b ≡ true
 stays a b h e = grind (arith, nat_tests)
@@ -64,28 +60,11 @@ pub record Changes (event : ℕ) (e : Record) (old new : Files) : Type 0 where
 
 -- where names and writes are none of its matters, files are the same
 changes-none : (event : ℕ) (e : Record) (files : Files) → is_file e ≡ false → name_told e ≡ NoName → put_told e ≡ None → Changes event e files files
-changes-none event e files none no_name no_put =
-    record {
-      file = none;
-      names = λ path. sym (ap (λ (change : NameChange). named_after change path (find_file files path)) no_name);
-      files = λ file. by_bytes file (file_bytes files file);
-      last = record { made = omega arith; gone = λ file made gone. gone };
-      writes = subst (WritesInside files) (sym no_put) tt;
-    }
-  where
-    by_bytes : (file : ℕ) (o : Option (List TaggedByte)) → FileAfter event e file o o
-    by_bytes file None = tt
-    by_bytes file (Some bytes) = rw no_put refl
+changes-none event e files h1 h2 h3 = grind (arith, nat_tests)
 
 inner-none : (e : Record) → is_inner e ≡ true → is_file e ≡ false
 inner-none (entry.File path bytes) is = cc
-inner-none (entry.Boot path give) is = refl
-inner-none (entry.Typed bytes) is = refl
-inner-none (entry.Unplug device) is = refl
-inner-none (entry.Slice pid ran) is = refl
-inner-none (entry.Signal pid signal cut handler) is = refl
-inner-none (entry.Call pid number result more) is = refl
-inner-none (entry.End pid status) is = refl
+inner-none _ is = refl
 
 -- the event of a step
 abbrev pub IsEvent : Machine → Step → Record → Type 0
@@ -106,20 +85,8 @@ free-none : (o : Option ℕ) (b : Bool) → (not (is_some o) && b) ≡ true → 
 free-none None b e = refl
 free-none (Some x) b e = cc
 
-first-of : (a b : Bool) → (a && b) ≡ true → a ≡ true
-first-of true b e = refl
-first-of false b e = cc
-
-second-of : (a b : Bool) → (a && b) ≡ true → b ≡ true
-second-of true b e = e
-second-of false b e = cc
-
 not-both : (b : Bool) → b ≡ true → b ≡ false → ⊥
 not-both b e f = cc
-
-not-not : (b : Bool) → not b ≡ true → b ≡ false
-not-not true e = cc
-not-not false e = refl
 
 pub file-step : (m : Machine) (s : Step) → Facts m s → FileStep m s
 file-step m s facts = by_kind facts.tells
@@ -140,8 +107,8 @@ file-step m s facts = by_kind facts.tells
     by_kind (Adds path bytes may same) =
         there _ same
         (Brings path bytes (refl, refl)
-        (not-not (is_booted m) (first-of (not (is_booted m)) _ may))
-        (free-none (find_file m.kernel.files path) _ (first-of (is_free m.kernel.files path) _ (second-of (not (is_booted m)) _ may))) refl)
+        (not-true (is_booted m) (and_parts (not (is_booted m)) _ may).0)
+        (free-none (find_file m.kernel.files path) _ (and_parts (is_free m.kernel.files path) _ (and_parts (not (is_booted m)) _ may).1).0) refl)
     by_kind (Types bytes may same) = there _ same (Changing _ (refl, refl) (changes-none m.events _ m.kernel.files refl refl refl) (λ none. (none, refl)))
     by_kind (Unplugs device may same) = there _ same (Changing _ (refl, refl) (changes-none m.events _ m.kernel.files refl refl refl) (λ none. (none, refl)))
 
@@ -151,9 +118,7 @@ within-along P m left [] h = tt
 within-along P m left (s ∷ steps) h = by_test (is_instruction s.moved.inside) left (λ left. within-along P s.after left steps h.1)
   where
     by_test : (b : Bool) (left : ℕ) → ((left : ℕ) → Along P s.after (within left steps)) → Along P m (unless_reached b left (λ left. s ∷ within left steps))
-    by_test false left rest = (h.0, rest left)
-    by_test true zero rest = tt
-    by_test true (suc left) rest = (h.0, rest left)
+    by_test b left h1 = grind (arith, nat_tests)
 
 along-file : (m : Machine) (steps : List Step) → Along Facts m steps → Along FileStep m steps
 along-file m [] h = tt
@@ -164,9 +129,7 @@ within-sound m left [] h last = last
 within-sound m left (s ∷ steps) h last = by_test (is_instruction s.moved.inside) left (λ left. within-sound s.after left steps h.1 last)
   where
     by_test : (b : Bool) (left : ℕ) → ((left : ℕ) → IsSoundMachine (after_steps s.after (within left steps))) → IsSoundMachine (after_steps m (unless_reached b left (λ left. s ∷ within left steps)))
-    by_test false left rest = rest left
-    by_test true zero rest = h.0
-    by_test true (suc left) rest = rest left
+    by_test b left h1 = grind (arith, nat_tests)
 
 pub steps-change : StepsTell → EachRunIsSound → (inputs : List Input) (moment : ℕ) → HasNumbers (machine_after inputs).kernel → Along FileStep at_first (within moment (run inputs))
 steps-change tell sound inputs moment few =

@@ -1,4 +1,5 @@
 -- The events that have happened at a moment, by the records, are those of the run's steps up to it.
+use Rattle.std.proofs.lemmas.Bool.Decides.{nat_tests}
 use Rattle.std.proofs.Common.{◌≡◌, ℕ, zero, suc, ◌+◌, ◌≤◌, Bool, true, false, nat_le, List, [], ◌∷◌, Option, None, Some, length, map, filter, take, refl, ap, ◌∙◌, arith}
 use Rattle.std.specs.List.{cons_option, range_with_len}
 use Rattle.std.proofs.lemmas.List.{take-map}
@@ -30,14 +31,8 @@ if-from false least n e events h are = are
 all-from : (least moment begins ends n : ℕ) (entries : List Record) → least ≤ n → AreFrom least (events_from moment begins ends n entries)
 all-from least moment begins ends n [] h = tt
 all-from least moment begins ends n (entry.Slice pid ran ∷ entries) h = all-from least moment ends (ends + ran) n entries h
-all-from least moment begins ends n (entry.Signal pid signal cut handler ∷ entries) h =
-    if-from (nat_le begins moment) least n _ _ h (all-from least moment begins ends (n + 1) entries (omega (arith, h)))
-all-from least moment begins ends n (entry.File path bytes ∷ entries) h = if-from (nat_le ends moment) least n _ _ h (all-from least moment begins ends (n + 1) entries (omega (arith, h)))
-all-from least moment begins ends n (entry.Boot path give ∷ entries) h = if-from (nat_le ends moment) least n _ _ h (all-from least moment begins ends (n + 1) entries (omega (arith, h)))
-all-from least moment begins ends n (entry.Typed bytes ∷ entries) h = if-from (nat_le ends moment) least n _ _ h (all-from least moment begins ends (n + 1) entries (omega (arith, h)))
-all-from least moment begins ends n (entry.Unplug device ∷ entries) h = if-from (nat_le ends moment) least n _ _ h (all-from least moment begins ends (n + 1) entries (omega (arith, h)))
-all-from least moment begins ends n (entry.Call pid number result more ∷ entries) h = if-from (nat_le ends moment) least n _ _ h (all-from least moment begins ends (n + 1) entries (omega (arith, h)))
-all-from least moment begins ends n (entry.End pid status ∷ entries) h = if-from (nat_le ends moment) least n _ _ h (all-from least moment begins ends (n + 1) entries (omega (arith, h)))
+all-from least moment begins ends n (entry.Signal pid signal cut handler ∷ entries) h = grind (arith, nat_tests, all-from least moment begins ends (n + 1) entries (omega (arith, h)))
+all-from least moment begins ends n (_ ∷ entries) h = if-from (nat_le ends moment) least n _ _ h (all-from least moment begins ends (n + 1) entries (omega (arith, h)))
 
 -- where their numbers follow each other, they are the first ones
 abbrev numbers_of : List Numbered → List ℕ
@@ -48,21 +43,10 @@ AreFirst n rest events = (k : ℕ) → numbers_of events ≡ range_with_len n k 
 
 if-first : (test : Bool) (n : ℕ) (e : Record) (rest : List Record) (events : List Numbered) → AreFrom (n + 1) events → AreFirst (n + 1) rest events → AreFirst n (e ∷ rest) (if_happened test n e events)
 if-first true n e rest events from first zero same = absurd (cc)
-if-first true n e rest events from first (suc k) same =
-    ap (λ (es : List Numbered). record { number = n; entry = e } ∷ es) (first k (tail (numbers_of events) (range_with_len (n + 1) k) same))
-  where
-    tail : (xs ys : List ℕ) → n ∷ xs ≡ n ∷ ys → xs ≡ ys
-    tail xs ys e = cc
+if-first true n e rest events from first (suc k) same = grind (arith, nat_tests)
 if-first false n e rest [] from first zero same = refl
-if-first false n e rest (x ∷ events) from first zero same = absurd (cc)
-if-first false n e rest [] from first (suc k) same = absurd (cc)
-if-first false n e rest (x ∷ events) from first (suc k) same =
-    let least : n + 1 ≤ x.number = from.0 in
-    let number : x.number ≡ n = head x.number (numbers_of events) (range_with_len (n + 1) k) same in
-    absurd (omega (arith, least, number))
-  where
-    head : (a : ℕ) (xs ys : List ℕ) → a ∷ xs ≡ n ∷ ys → a ≡ n
-    head a xs ys e = cc
+if-first false n e rest (x ∷ events) from first (suc k) same = grind (arith, nat_tests)
+if-first false n e rest _ from first _ same = absurd (cc)
 
 all-first : (moment begins ends n : ℕ) (entries : List Record) → AreFirst n (filter is_event entries) (events_from moment begins ends n entries)
 all-first moment begins ends n [] zero same = refl
@@ -70,17 +54,7 @@ all-first moment begins ends n [] (suc k) same = absurd (cc)
 all-first moment begins ends n (entry.Slice pid ran ∷ entries) k same = all-first moment ends (ends + ran) n entries k same
 all-first moment begins ends n (entry.Signal pid signal cut handler ∷ entries) k same =
     if-first (nat_le begins moment) n _ _ _ (all-from (n + 1) moment begins ends (n + 1) entries (omega arith)) (all-first moment begins ends (n + 1) entries) k same
-all-first moment begins ends n (entry.File path bytes ∷ entries) k same =
-    if-first (nat_le ends moment) n _ _ _ (all-from (n + 1) moment begins ends (n + 1) entries (omega arith)) (all-first moment begins ends (n + 1) entries) k same
-all-first moment begins ends n (entry.Boot path give ∷ entries) k same =
-    if-first (nat_le ends moment) n _ _ _ (all-from (n + 1) moment begins ends (n + 1) entries (omega arith)) (all-first moment begins ends (n + 1) entries) k same
-all-first moment begins ends n (entry.Typed bytes ∷ entries) k same =
-    if-first (nat_le ends moment) n _ _ _ (all-from (n + 1) moment begins ends (n + 1) entries (omega arith)) (all-first moment begins ends (n + 1) entries) k same
-all-first moment begins ends n (entry.Unplug device ∷ entries) k same =
-    if-first (nat_le ends moment) n _ _ _ (all-from (n + 1) moment begins ends (n + 1) entries (omega arith)) (all-first moment begins ends (n + 1) entries) k same
-all-first moment begins ends n (entry.Call pid number result more ∷ entries) k same =
-    if-first (nat_le ends moment) n _ _ _ (all-from (n + 1) moment begins ends (n + 1) entries (omega arith)) (all-first moment begins ends (n + 1) entries) k same
-all-first moment begins ends n (entry.End pid status ∷ entries) k same =
+all-first moment begins ends n (_ ∷ entries) k same =
     if-first (nat_le ends moment) n _ _ _ (all-from (n + 1) moment begins ends (n + 1) entries (omega arith)) (all-first moment begins ends (n + 1) entries) k same
 
 -- the steps up to a moment are the first ones
@@ -94,9 +68,7 @@ within-first left (s ∷ steps) = by_test (is_instruction s.moved.inside) left (
   where
     by_test : (b : Bool) (left : ℕ) → ((left : ℕ) → take (length (events_of (within left steps))) (events_of steps) ≡ events_of (within left steps))
         → let up = unless_reached b left (λ left. s ∷ within left steps) in take (length (events_of up)) (events_of (s ∷ steps)) ≡ events_of up
-    by_test false left rest = cons-first s.moved.inside.event (events_of (within left steps)) (events_of steps) (rest left)
-    by_test true zero rest = refl
-    by_test true (suc left) rest = cons-first s.moved.inside.event (events_of (within left steps)) (events_of steps) (rest left)
+    by_test b left h1 = grind (arith, nat_tests, cons-first)
 
 pub events-told : RecordsTellEvents → EventsRecorded → (inputs : List Input) (moment : ℕ) → events_until moment (records inputs) ≡ numbered 0 (event_records (within moment (run inputs)))
 events-told tell recorded inputs moment =

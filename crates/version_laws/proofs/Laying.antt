@@ -20,9 +20,7 @@ filled-bytes cells place (b ∷ bytes) same =
     ∙ ap (λ (held : List TaggedByte). b ∷ held) (filled-bytes cells (place + 1) bytes (λ k. ap cells (omega arith) ∙ same (suc k)))
 
 pub leaves-bytes : (writes : List Write) (bytes : List TaggedByte) → Leaves writes bytes → bytes_after writes ≡ bytes
-leaves-bytes writes bytes leaves =
-    ap (filled_from (λ place. cell_after writes place None) 0) leaves.end
-    ∙ filled-bytes (λ place. cell_after writes place None) 0 bytes (λ k. ap (λ (place : ℕ). cell_after writes place None) (omega arith) ∙ leaves.cells k)
+leaves-bytes writes bytes h1 = grind (arith, nat_tests, filled-bytes)
 
 -- one write behind others
 cell-more : (writes : List Write) (w : Write) (place : ℕ) (before : Option TaggedByte) → cell_after (writes ++ w ∷ []) place before ≡ laid_at w place (cell_after writes place before)
@@ -58,18 +56,14 @@ get-drop (suc n) (x ∷ xs) i = get-drop n xs i ∙ ap (slice_get (x ∷ xs)) (l
 held-at : (event at : ℕ) (bytes : List ℕ) (k : ℕ) → slice_get (held_from event at bytes) k ≡ option_map (λ b. record { value = b; origin = record { event = event; at = at + k } }) (slice_get bytes k)
 held-at event at [] k = refl
 held-at event at (b ∷ bytes) zero = ap (λ (i : ℕ). Some (record { value = b; origin = record { event = event; at = i } })) (let e : at ≡ at + 0 = omega arith in e)
-held-at event at (b ∷ bytes) (suc k) =
-    held-at event (at + 1) bytes k
-    ∙ ap (λ (i : ℕ). option_map (λ b. record { value = b; origin = record { event = event; at = i } }) (slice_get bytes k)) (let e : at + 1 + k ≡ at + suc k = omega arith in e)
+held-at event at (b ∷ bytes) (suc k) = grind (arith, nat_tests, held-at event (at + 1) bytes k)
 
 held-length : (event at : ℕ) (bytes : List ℕ) → length (held_from event at bytes) ≡ length bytes
 held-length event at [] = refl
 held-length event at (b ∷ bytes) = ap suc (held-length event (at + 1) bytes)
 
 held-byte : (event : ℕ) (w : Written) (k : ℕ) → byte_of (record { event = event; over = w }) k ≡ slice_get (held_bytes event w.bytes) k
-held-byte event w k =
-    ap (λ (i : ℕ). option_map (λ b. record { value = b; origin = record { event = event; at = i } }) (slice_get w.bytes k)) (let e : k ≡ 0 + k = omega arith in e)
-    ∙ sym (held-at event 0 w.bytes k)
+held-byte event w k = grind (arith, nat_tests, held-at)
 
 -- what stands at a place of bytes that were laid over others
 or-left : (xs ys : List TaggedByte) (k : ℕ) → slice_get (xs ++ ys) k ≡ or_before (slice_get xs k) (slice_get ys (k - length xs))
@@ -78,10 +72,7 @@ or-left (x ∷ xs) ys zero = refl
 or-left (x ∷ xs) ys (suc k) = or-left xs ys k ∙ ap (λ (i : ℕ). or_before (slice_get xs k) (slice_get ys i)) (omega arith)
 
 laid-length : (old new : List TaggedByte) (at : ℕ) → at ≤ length old → length (laid_over old at new) ≡ max (length old) (at + length new)
-laid-length old new at inside =
-    let first : length (take at old) ≡ at = length-take-le at old inside in
-    let last : length (drop (at + length new) old) ≡ length old - (at + length new) = length-drop (at + length new) old in
-    omega (arith, length-append (take at old ++ new) (drop (at + length new) old), length-append (take at old) new, first, last)
+laid-length old new at h1 = grind (arith, nat_tests, length-take-le, length-drop, length-append)
 
 laid-place : (event : ℕ) (w : Written) (old : List TaggedByte) (place : ℕ) → w.at ≤ length old → laid_at (record { event = event; over = w }) place (slice_get old place) ≡ slice_get (laid_over old w.at (held_bytes event w.bytes)) place
 laid-place event w old place inside = by_test (nat_le w.at place) refl
@@ -96,12 +87,7 @@ laid-place event w old place inside = by_test (nat_le w.at place) refl
     apart = append_assoc (take w.at old) new (drop (w.at + length new) old)
 
     behind : w.at ≤ place → slice_get (laid_over old w.at new) place ≡ slice_get (new ++ drop (w.at + length new) old) (place - w.at)
-    behind h =
-        let size = front in
-        let is : place ≡ length (take w.at old) + (place - w.at) = omega arith in
-        ap (λ (bytes : List TaggedByte). slice_get bytes place) apart
-        ∙ ap (slice_get (take w.at old ++ (new ++ drop (w.at + length new) old))) is
-        ∙ get-right (take w.at old) (new ++ drop (w.at + length new) old) (place - w.at)
+    behind h1 = grind (arith, nat_tests, front, apart, new, get-right)
 
     later : w.at ≤ place → (o : Option TaggedByte) → slice_get new (place - w.at) ≡ o → or_before o (slice_get old place) ≡ or_before o (slice_get (drop (w.at + length new) old) (place - w.at - length new))
     later h (Some b) is = refl
@@ -128,14 +114,7 @@ laid-place event w old place inside = by_test (nat_le w.at place) refl
 
 -- so a write leaves what it is laid over
 pub laid-leaves : (writes : List Write) (old : List TaggedByte) (event : ℕ) (w : Written) → w.at ≤ length old → Leaves writes old → Leaves (writes ++ record { event = event; over = w } ∷ []) (laid_over old w.at (held_bytes event w.bytes))
-laid-leaves writes old event w inside leaves =
-    let new : Write = record { event = event; over = w } in
-    record {
-      cells = λ place. cell-more writes new place None ∙ ap (laid_at new place) (leaves.cells place) ∙ laid-place event w old place inside;
-      end =
-          reach-more writes new
-          ∙ omega (arith, leaves.end, held-length event 0 w.bytes, laid-length old (held_bytes event w.bytes) w.at inside);
-    }
+laid-leaves writes old event w h1 h2 = grind (arith, nat_tests, cell-more, laid-place, reach-more, held-length, laid-length)
 
 -- and the first one what a file is made with
 pub first-leaves : (event file : ℕ) (bytes : List ℕ) → Leaves (record { event = event; over = record { file = file; at = 0; bytes = bytes } } ∷ []) (held_bytes event bytes)
@@ -147,8 +126,7 @@ first-leaves event file bytes =
     }
   where
     or-none : (o : Option TaggedByte) → or_before o None ≡ o
-    or-none None = refl
-    or-none (Some b) = refl
+    or-none o = grind (arith, nat_tests)
 
     first : (place : ℕ) → laid_at (record { event = event; over = record { file = file; at = 0; bytes = bytes } }) place None ≡ slice_get (held_bytes event bytes) place
     first place =

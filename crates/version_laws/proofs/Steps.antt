@@ -1,7 +1,6 @@
 -- Along the steps of a run, the records tell of each file what the machine holds of it.
-use Rattle.std.proofs.Common.{◌≡◌, ℕ, zero, suc, ◌+◌, ◌<◌, ◌≤◌, ◌==◌, Bool, true, false, cond, nat_lt, List, [], ◌∷◌, ◌++◌, append_assoc, append-nil, Option, None, Some, IfSome, option_map, option_to_list, length, map, filter, bytes_eq, refl, sym, ap, subst, ◌∙◌, arith}
+use Rattle.std.proofs.Common.{◌≡◌, ℕ, zero, suc, ◌+◌, ◌≤◌, ◌==◌, Bool, true, false, cond, nat_lt, List, [], ◌∷◌, ◌++◌, append_assoc, append-nil, Option, None, Some, IfSome, option_map, option_to_list, length, map, filter, bytes_eq, refl, sym, ap, subst, ◌∙◌, arith, eq-eqb, eqb-true}
 use Rattle.std.specs.List.{cons_option}
-use Rattle.std.proofs.lemmas.Bool.{eq-eqb, eqb-true}
 use Rattle.std.proofs.lemmas.Bool.Decides.{nat_tests}
 use Rattle.std.proofs.lemmas.List.{length_push}
 use Rattle.std.proofs.lemmas.Slice.Eq.{bytes_eq-Decides}
@@ -12,7 +11,7 @@ use Rattle.parts_model.specs.Files.{File, Files, Name, file_among, file_bytes, f
 use Rattle.parts_model.specs.Numbered.{nth}
 use Rattle.parts_model.specs.Tagged.{held_bytes}
 use Rattle.acts_model.specs.Moved.{Event}
-use Rattle.acts_model.specs.Records.{NameChange, Names, Unnames, NoName, Written, name_told, put_told}
+use Rattle.acts_model.specs.Records.{NameChange, Names, Written, name_told, put_told}
 use Rattle.arn_model.specs.Kernel.{Machine}
 use Rattle.arn_model.specs.Run.{events_of, is_booted}
 use Rattle.arn_model.specs.Step.{Step}
@@ -34,19 +33,14 @@ next-kept : (brought : ℕ) (m : Machine) (s : Step) → MakesNone m s → IsNex
 next-kept brought m s makes next none = let was = makes none in next was.0 ∙ sym was.1
 
 next-made : (brought : ℕ) (m : Machine) (s : Step) (path bytes : List ℕ) → is_booted m ≡ false → s.after.kernel.files ≡ made m.kernel.files path (held_bytes m.events bytes) → IsNext brought m → IsNext (brought + 1) s.after
-next-made brought m s path bytes none is next still =
-    ap (λ (k : ℕ). k + 1) (next none)
-    ∙ sym (length_push m.kernel.files.all (Some (record { bytes = held_bytes m.events bytes; holders = 0 })))
-    ∙ sym (ap (λ (files : Files). next_file files) is)
+next-made brought m s path bytes h1 h2 h3 = grind (arith, nat_tests, length_push)
 
 -- the records of a step's event and of those behind it
 abbrev pub told : ℕ → List Step → List Numbered
 told n steps = numbered n (event_records steps)
 
 event-told : (m : Machine) (s : Step) (steps : List Step) (e : Record) → IsEvent m s e → told m.events (s ∷ steps) ≡ record { number = m.events; entry = e } ∷ told s.after.events steps
-event-told m s steps e is =
-    ap (λ (o : Option Event). numbered m.events (map (λ e. e.entry) (cons_option o (events_of steps)))) is.0
-    ∙ ap (λ (n : ℕ). record { number = m.events; entry = e } ∷ told n steps) (sym is.1)
+event-told m s steps e is = cc
 
 quiet-told : (m : Machine) (s : Step) (steps : List Step) → s.moved.inside.event ≡ None → s.after.events ≡ m.events → told m.events (s ∷ steps) ≡ told s.after.events steps
 quiet-told m s steps none same =
@@ -57,8 +51,7 @@ quiet-told m s steps none same =
 -- one text for a change of names
 same-change : (change : NameChange) (name : List ℕ) (before : Option ℕ) → named_by change name before ≡ named_after change name before
 same-change (Names path file) name before = refl
-same-change (Unnames path) name before = refl
-same-change NoName name before = refl
+same-change _ name before = refl
 
 -- a new name behind the others is found, where it was free
 pushed : (all : List Name) (path : List ℕ) (file : ℕ) → file_among all path ≡ None → (name : List ℕ) → cond (bytes_eq path name) (Some file) (file_among all name) ≡ file_among (all ++ record { path = path; file = file } ∷ []) name
@@ -90,13 +83,7 @@ pushed (x ∷ all) path file free name = by_tests (bytes_eq x.path path) refl (b
 -- what a record that brings no file does to names
 entry-named : (brought : ℕ) (e : Record) (entries : List Record) (name : List ℕ) (before : Option ℕ) → is_file e ≡ false → named_from brought (e ∷ entries) name before ≡ named_from brought entries name (named_by (name_told e) name before)
 entry-named brought (entry.File path bytes) entries name before none = absurd (cc)
-entry-named brought (entry.Boot path give) entries name before none = refl
-entry-named brought (entry.Typed bytes) entries name before none = refl
-entry-named brought (entry.Unplug device) entries name before none = refl
-entry-named brought (entry.Slice pid ran) entries name before none = refl
-entry-named brought (entry.Signal pid signal cut handler) entries name before none = refl
-entry-named brought (entry.Call pid number result more) entries name before none = refl
-entry-named brought (entry.End pid status) entries name before none = refl
+entry-named brought _ entries name before none = refl
 
 abbrev pub entries_of : List Numbered → List Record
 entries_of events = map (λ e. e.entry) events
@@ -150,34 +137,16 @@ abbrev one_write : ℕ → ℕ → Option Written → List Write
 one_write event file o = to_file file (option_to_list (write_in event o))
 
 one-more : (writes : List Write) (file : ℕ) (o : Option Write) (more : List Write) → writes ++ to_file file (cons_option o more) ≡ (writes ++ to_file file (option_to_list o)) ++ to_file file more
-one-more writes file None more = ap (λ (ws : List Write). ws ++ to_file file more) (sym (append-nil writes))
-one-more writes file (Some w) more = by_test (is_to file w)
-  where
-    by_test : (b : Bool) → writes ++ cond b (w ∷ to_file file more) (to_file file more) ≡ (writes ++ cond b (w ∷ []) []) ++ to_file file more
-    by_test true = sym (append_assoc writes (w ∷ []) (to_file file more))
-    by_test false = ap (λ (ws : List Write). ws ++ to_file file more) (sym (append-nil writes))
+one-more writes file o more = grind (arith, nat_tests, append-nil, append_assoc)
 
 -- a record that brings no file
 entry-written : (brought event : ℕ) (e : Record) (events : List Numbered) → is_file e ≡ false
     → writes_from brought (record { number = event; entry = e } ∷ events) ≡ cons_option (write_in event (put_told e)) (writes_from brought events)
-entry-written brought event (entry.File path bytes) events none = absurd (cc)
-entry-written brought event (entry.Boot path give) events none = ap (λ (n : ℕ). writes_from n events) (omega arith)
-entry-written brought event (entry.Typed bytes) events none = ap (λ (n : ℕ). writes_from n events) (omega arith)
-entry-written brought event (entry.Unplug device) events none = ap (λ (n : ℕ). writes_from n events) (omega arith)
-entry-written brought event (entry.Slice pid ran) events none = ap (λ (n : ℕ). writes_from n events) (omega arith)
-entry-written brought event (entry.Signal pid signal cut handler) events none = ap (λ (n : ℕ). writes_from n events) (omega arith)
-entry-written brought event (entry.Call pid number result more) events none =
-    ap (λ (n : ℕ). cons_option (write_in event (put_told (entry.Call pid number result more))) (writes_from n events)) (omega arith)
-entry-written brought event (entry.End pid status) events none = ap (λ (n : ℕ). writes_from n events) (omega arith)
+entry-written brought event e events h1 = grind (arith, nat_tests)
 
 -- one that isn't made yet isn't written to
 no-write : (files : Files) (event file : ℕ) (o : Option Written) → WritesInside files o → length files.all ≤ file → one_write event file o ≡ []
-no-write files event file None inside past = refl
-no-write files event file (Some w) inside past = by_test (w.file == file) refl
-  where
-    by_test : (b : Bool) → (w.file == file) ≡ b → cond {A = List Write} b (record { event = event; over = w } ∷ []) [] ≡ []
-    by_test false e = refl
-    by_test true e = let same : w.file ≡ file = eqb-true w.file file e in let made : w.file < length files.all = inside.made in absurd (omega (arith, same, made, past))
+no-write files event file o h1 h2 = grind (arith, nat_tests, eqb-true)
 
 -- an event keeps what the records tell of a file
 change-told : (event : ℕ) (e : Record) (old new : Files) (file : ℕ) (writes : List Write) → Changes event e old new → IsTold old file writes → IsTold new file (writes ++ one_write event file (put_told e))
@@ -223,9 +192,8 @@ nth-last (y ∷ all) x = nth-last all x
 
 nth-other : (all : List (Option File)) (x : Option File) (k : ℕ) → (k ≡ length all → ⊥) → nth (all ++ x ∷ []) k ≡ nth all k
 nth-other [] x zero other = absurd (other refl)
-nth-other [] x (suc k) other = refl
-nth-other (y ∷ all) x zero other = refl
 nth-other (y ∷ all) x (suc k) other = nth-other all x k (λ same. other (ap suc same))
+nth-other _ x _ other = refl
 
 made-told : (event : ℕ) (path bytes : List ℕ) (old : Files) (file : ℕ) (writes : List Write) → IsTold old file writes
     → IsTold (made old path (held_bytes event bytes)) file (writes ++ one_write event file (Some (record { file = next_file old; at = 0; bytes = bytes })))
@@ -274,10 +242,7 @@ bytes-told file m (s ∷ steps) along brought writes next is = by_kind (bytes-to
   where
     behind : BytesTold file s.after steps → (brought : ℕ) (o : Option Write) (all : List Write) → all ≡ cons_option o (writes_from brought (told s.after.events steps)) → IsNext brought s.after
         → IsTold s.after.kernel.files file (writes ++ to_file file (option_to_list o)) → IsTold (after_steps s.after steps).kernel.files file (writes ++ to_file file all)
-    behind rest brought o all same next is =
-        subst (IsTold (after_steps s.after steps).kernel.files file)
-        (sym (ap (λ (ws : List Write). writes ++ to_file file ws) same ∙ one-more writes file o (writes_from brought (told s.after.events steps))))
-        (rest brought (writes ++ to_file file (option_to_list o)) next is)
+    behind h1 brought o all h2 h3 h4 = grind (arith, nat_tests, one-more)
 
     by_kind : BytesTold file s.after steps → FileStep m s → IsTold (after_steps s.after steps).kernel.files file (writes ++ to_file file (writes_from brought (told m.events (s ∷ steps))))
     by_kind rest (Stays none same files makes) =

@@ -1,5 +1,6 @@
 -- On the records of a run a version of a file is what the machine holds of it.
-use Rattle.std.proofs.Common.{◌≡◌, ℕ, true, List, [], Option, None, Some, IfSome, is_some, option_map, option_and_then, filter, refl, ap, ◌∙◌}
+use Rattle.std.proofs.lemmas.Bool.Decides.{nat_tests}
+use Rattle.std.proofs.Common.{◌≡◌, ℕ, true, List, [], Option, Some, is_some, option_map, filter, refl, ap, ◌∙◌, arith}
 use Rattle.parts_model.specs.declared.tagged.TaggedByte.{TaggedByte}
 use Rattle.parts_model.specs.Files.{Files, file_bytes, find_file}
 use Rattle.arn_model.specs.Kernel.{at_first}
@@ -14,24 +15,16 @@ use Rattle.replay_laws.specs.Laws.{RecordsTellEvents}
 use Rattle.file_versions.specs.Versions.{Write, bytes_after, bytes_at, file_at, is_to, writes_from}
 use Rattle.version_laws.specs.OfRuns.{VersionIsOfRun, version_in}
 use Rattle.version_laws.proofs.Happened.{events-told}
-use Rattle.version_laws.proofs.Laying.{Leaves, leaves-bytes}
+use Rattle.version_laws.proofs.Laying.{leaves-bytes}
 use Rattle.version_laws.proofs.Changes.{state-sound, steps-change}
 use Rattle.version_laws.proofs.Steps.{IsTold, bytes-told, entries_of, names-told}
 
 -- a file that is there is told
 told-bytes : (files : Files) (file : ℕ) (writes : List Write) → IsTold files file writes → is_some (file_bytes files file) ≡ true → Some (bytes_after writes) ≡ file_bytes files file
-told-bytes files file writes is there = by_bytes (file_bytes files file) is.held there
-  where
-    by_bytes : (o : Option (List TaggedByte)) → IfSome o (Leaves writes) → is_some o ≡ true → Some (bytes_after writes) ≡ o
-    by_bytes None leaves there = absurd (cc)
-    by_bytes (Some bytes) leaves there = ap (λ (bs : List TaggedByte). Some bs) (leaves-bytes writes bytes leaves)
+told-bytes files file writes h1 h2 = grind (arith, nat_tests, leaves-bytes)
 
 found-version : (files : Files) (name : List ℕ) (bytes : ℕ → List TaggedByte) → ((file : ℕ) → find_file files name ≡ Some file → Some (bytes file) ≡ file_bytes files file) → option_map bytes (find_file files name) ≡ version_in files name
-found-version files name bytes same = by_found (find_file files name) refl
-  where
-    by_found : (o : Option ℕ) → find_file files name ≡ o → option_map bytes o ≡ option_and_then (file_bytes files) o
-    by_found None is = refl
-    by_found (Some file) is = same file is
+found-version files name bytes h1 = grind (arith, nat_tests)
 
 pub versions : StepsTell → EachRunIsSound → EachRunAppends → EventsRecorded → RecordsTellEvents → (inputs : List Input) (moment : ℕ) (name : List ℕ) → HasNumbers (machine_after inputs).kernel → VersionIsOfRun inputs moment name
 versions tell sound append recorded events inputs moment name few =
