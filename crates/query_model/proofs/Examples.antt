@@ -37,59 +37,36 @@ told =
     ∷ []
 
 -- links lead from the group of a fork or of an origin, and never from events of no process
-has-links : is_linked told 1 2 ∷ is_linked told 2 1 ∷ is_linked told 2 3 ∷ is_linked told 1 3 ∷ is_linked told 0 1 ∷ is_linked told 1 1 ∷ [] ≡ true ∷ false ∷ true ∷ false ∷ false ∷ false ∷ []
+groups-asked :
+    (is_linked told 1 2 ∷ is_linked told 2 1 ∷ is_linked told 2 3 ∷ is_linked told 1 3 ∷ is_linked told 0 1 ∷ is_linked told 1 1 ∷ [] ≡ true ∷ false ∷ true ∷ false ∷ false ∷ false ∷ [])
+    -- group 1 is two links from group 3
+    × (within_links told (3 ∷ []) 0 3 ∷ within_links told (3 ∷ []) 0 2 ∷ within_links told (3 ∷ []) 1 2 ∷ within_links told (3 ∷ []) 1 1 ∷ within_links told (3 ∷ []) 2 1 ∷ [] ≡ true ∷ false ∷ true ∷ false ∷ true ∷ [])
+    × (groups_back told (3 ∷ []) ≡ 1 ∷ 2 ∷ 3 ∷ [])
+    × (groups_back told (1 ∷ []) ≡ 1 ∷ [])
+    -- what isn't a group is none
+    × (groups_back told (4 ∷ []) ≡ [])
 unfolding told child_start from
-has-links = refl
-
--- group 1 is two links from group 3
-has-ways : within_links told (3 ∷ []) 0 3 ∷ within_links told (3 ∷ []) 0 2 ∷ within_links told (3 ∷ []) 1 2 ∷ within_links told (3 ∷ []) 1 1 ∷ within_links told (3 ∷ []) 2 1 ∷ [] ≡ true ∷ false ∷ true ∷ false ∷ true ∷ []
-unfolding told child_start from
-has-ways = refl
-
-asks-all : groups_back told (3 ∷ []) ≡ 1 ∷ 2 ∷ 3 ∷ []
-unfolding told child_start from
-asks-all = refl
-
-asks-one : groups_back told (1 ∷ []) ≡ 1 ∷ []
-unfolding told child_start from
-asks-one = refl
-
--- what isn't a group is none
-asks-none : groups_back told (4 ∷ []) ≡ []
-unfolding told child_start from
-asks-none = refl
+groups-asked = (refl, refl, refl, refl, refl)
 
 -- a typed piece is of no process; the read of process 2 is of group 2
-event-asks : map (event_groups told) (2 ∷ 3 ∷ 6 ∷ 8 ∷ []) ≡ [] ∷ (1 ∷ []) ∷ (1 ∷ 2 ∷ []) ∷ [] ∷ []
+events-asked :
+    (map (event_groups told) (2 ∷ 3 ∷ 6 ∷ 8 ∷ []) ≡ [] ∷ (1 ∷ []) ∷ (1 ∷ 2 ∷ []) ∷ [] ∷ [])
+    -- an event behind the last has no moment
+    × (map (moment_of told) (0 ∷ 3 ∷ 4 ∷ 6 ∷ 7 ∷ 8 ∷ []) ≡ 0 ∷ 5 ∷ 8 ∷ 16 ∷ 20 ∷ 0 ∷ [])
+    -- groups 1 and 2 count ten instructions each, and group 3 none
+    × (map (count_in told) ((1 ∷ []) ∷ (2 ∷ 1 ∷ []) ∷ (3 ∷ []) ∷ [] ∷ []) ≡ 10 ∷ 20 ∷ 0 ∷ 0 ∷ [])
 unfolding told child_start from
-event-asks = refl
-
--- an event behind the last has no moment
-has-moments : map (moment_of told) (0 ∷ 3 ∷ 4 ∷ 6 ∷ 7 ∷ 8 ∷ []) ≡ 0 ∷ 5 ∷ 8 ∷ 16 ∷ 20 ∷ 0 ∷ []
-unfolding told child_start from
-has-moments = refl
-
--- groups 1 and 2 count ten instructions each, and group 3 none
-has-counts : map (count_in told) ((1 ∷ []) ∷ (2 ∷ 1 ∷ []) ∷ (3 ∷ []) ∷ [] ∷ []) ≡ 10 ∷ 20 ∷ 0 ∷ 0 ∷ []
-unfolding told child_start from
-has-counts = refl
+events-asked = (refl, refl, refl)
 
 no_operands : Table
 no_operands instr i = []
 
 -- bytes of the outside are their own sources, from a place on, and none behind the end
-own-pairs : event_pairs no_operands told 2 0 2 ≡ record { event = 2; at = 0; byte = 0 } ∷ record { event = 2; at = 1; byte = 1 } ∷ []
+bytes-asked :
+    (event_pairs no_operands told 2 0 2 ≡ record { event = 2; at = 0; byte = 0 } ∷ record { event = 2; at = 1; byte = 1 } ∷ [])
+    × (event_pairs no_operands told 2 1 2 ≡ record { event = 2; at = 1; byte = 0 } ∷ [])
+    -- the file isn't an image, of which it has two bytes: group 1 disagrees at its boot
+    × (event_disagreement told 3 ≡ Some (record { event = 1; said = 2; found = 0 }))
+    × (first_disagreement told 20 [] ≡ None)
 unfolding told child_start from
-own-pairs = refl
-
-later-pairs : event_pairs no_operands told 2 1 2 ≡ record { event = 2; at = 1; byte = 0 } ∷ []
-unfolding told child_start from
-later-pairs = refl
-
--- the file isn't an image, of which it has two bytes: group 1 disagrees at its boot
-boot-disagrees : event_disagreement told 3 ≡ Some (record { event = 1; said = 2; found = 0 })
-unfolding told child_start from
-boot-disagrees = refl
-
-none-disagrees : first_disagreement told 20 [] ≡ None
-none-disagrees = refl
+bytes-asked = (refl, refl, refl, refl)

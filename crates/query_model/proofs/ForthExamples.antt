@@ -36,14 +36,12 @@ told =
     ∷ []
 
 -- the typed bytes came to group 1, but for the last; without a byte nothing came; and bytes that were read are no source bytes
-came-first : first_groups told 2 0 2 ∷ first_groups told 2 1 2 ∷ first_groups told 2 2 1 ∷ first_groups told 2 1 0 ∷ first_groups told 3 0 1 ∷ [] ≡ (1 ∷ []) ∷ (1 ∷ []) ∷ [] ∷ [] ∷ [] ∷ []
+came :
+    (first_groups told 2 0 2 ∷ first_groups told 2 1 2 ∷ first_groups told 2 2 1 ∷ first_groups told 2 1 0 ∷ first_groups told 3 0 1 ∷ [] ≡ (1 ∷ []) ∷ (1 ∷ []) ∷ [] ∷ [] ∷ [] ∷ [])
+    -- and on to the child's
+    × (forth_groups told 2 0 1 ∷ forth_groups told 0 0 1 ∷ forth_groups told 2 2 1 ∷ [] ≡ (1 ∷ 2 ∷ []) ∷ (1 ∷ 2 ∷ []) ∷ [] ∷ [])
 unfolding told child_start from
-came-first = refl
-
--- and on to the child's
-came-on : forth_groups told 2 0 1 ∷ forth_groups told 0 0 1 ∷ forth_groups told 2 2 1 ∷ [] ≡ (1 ∷ 2 ∷ []) ∷ (1 ∷ 2 ∷ []) ∷ [] ∷ []
-unfolding told child_start from
-came-on = refl
+came = (refl, refl)
 
 -- process 1 reads two bytes from a device
 read : List Record
@@ -55,13 +53,12 @@ read =
     ∷ []
 
 -- its own group had them first, if a byte is asked
-read-first : first_groups read 2 1 1 ∷ first_groups read 2 1 0 ∷ [] ≡ (1 ∷ []) ∷ [] ∷ []
+forth-edges :
+    (first_groups read 2 1 1 ∷ first_groups read 2 1 0 ∷ [] ≡ (1 ∷ []) ∷ [] ∷ [])
+    -- writes to a file, the console or a device are sinks; a write to a pipe isn't, and nor is a read
+    × (map is_sink (entry.Call 1 12 1 (extra.Put 0 0 (7 ∷ [])) ∷ entry.Call 1 12 1 (extra.Sent 0 (7 ∷ [])) ∷ entry.Call 1 12 1 extra.Nothing ∷ entry.Call 1 11 1 (extra.Reply 0 (7 ∷ [])) ∷ []) ≡ true ∷ true ∷ false ∷ false ∷ [])
 unfolding read from
-read-first = refl
-
--- writes to a file, the console or a device are sinks; a write to a pipe isn't, and nor is a read
-are-sinks : map is_sink (entry.Call 1 12 1 (extra.Put 0 0 (7 ∷ [])) ∷ entry.Call 1 12 1 (extra.Sent 0 (7 ∷ [])) ∷ entry.Call 1 12 1 extra.Nothing ∷ entry.Call 1 11 1 (extra.Reply 0 (7 ∷ [])) ∷ []) ≡ true ∷ true ∷ false ∷ false ∷ []
-are-sinks = refl
+forth-edges = (refl, refl)
 
 -- where byte 0 of event 2 reaches every byte
 first_typed : Reaching
