@@ -63,8 +63,7 @@ module _ (entries : List Record) (g : ℕ) where
   plain_by-made : (m pid : ℕ) (own : Own) (v : View) (effect : Effect) → NextReads effect → Made-to m own → IfSome (plain_by pid own v effect) (Made-to m)
   plain_by-made m pid own v (Next instr cpu memory) reads s =
       quiet-state entries g m own.inside (record { actor = Some pid; before = v.body.cpu; transfer = instr_transfer pid v.body.cpu (holds_of v.body) instr; event = None }) refl reads s
-  plain_by-made m pid own v Call reads s = tt
-  plain_by-made m pid own v (End status) reads s = tt
+  plain_by-made m pid own v _ reads s = tt
 
   plain_in-made : (m pid : ℕ) (own : Own) (o : Option View) → Made-to m own → IfSome (plain_in pid own o) (Made-to m)
   plain_in-made m pid own None s = tt
@@ -205,20 +204,9 @@ module _ (entries : List Record) (g : ℕ) where
       by-test true child made =
           let high = (f pid g (number-is g (groups pid) is)).high in let new = numbered before result child in let e = same_Some result g made in omega (arith, high, new, e)
       by-test false child made = none-some g made
-  child-apart before pid number result extra.Nothing groups s f is founds = none-some g founds
-  child-apart before pid number result (extra.Give give) groups s f is founds = none-some g founds
-  child-apart before pid number result (extra.Put file at bytes) groups s f is founds = none-some g founds
-  child-apart before pid number result (extra.Console bytes) groups s f is founds = none-some g founds
-  child-apart before pid number result (extra.Reply device bytes) groups s f is founds = none-some g founds
-  child-apart before pid number result extra.Fault groups s f is founds = none-some g founds
-  child-apart before pid number result extra.Absent groups s f is founds = none-some g founds
-  child-apart before pid number result (extra.Name file path) groups s f is founds = none-some g founds
-  child-apart before pid number result (extra.Sent device bytes) groups s f is founds = none-some g founds
+  child-apart before pid number result _ groups s f is founds = none-some g founds
 
   record-reached : (until : ℕ) (before rest : List Record) (e : Record) → entries ≡ before ++ e ∷ rest → Stands before e → broken_from (before ++ e ∷ []) rest ≡ None → (t : Standing) → Reached before t → Reached (before ++ e ∷ []) (after_record g until t e)
-  record-reached until before rest (entry.File name bytes) all stands follow t r = passes before rest (entry.File name bytes) all stands follow t r refl refl
-  record-reached until before rest (entry.Typed bytes) all stands follow t r = passes before rest (entry.Typed bytes) all stands follow t r refl refl
-  record-reached until before rest (entry.Unplug device) all stands follow t r = passes before rest (entry.Unplug device) all stands follow t r refl refl
   record-reached until before rest (entry.Slice pid ran) all stands follow t r =
       reached-by before rest (entry.Slice pid ran) all stands follow t r (after_slice g until pid ran t) (r.events ∙ sym (how-many-slice before pid ran)) refl (settled-ends t.events t r.made)
   record-reached until before rest (entry.Boot name give) all stands follow t r =
@@ -247,6 +235,7 @@ module _ (entries : List Record) (g : ℕ) where
         owns = λ is. owned before rest e all stands follow t r pid refl refl (number-is g (t.groups pid) is);
         apart = λ is founds. none-some g founds;
       }) r.made)
+  record-reached until before rest x all stands follow t r = passes before rest x all stands follow t r refl refl
 
   all-reached : (until : ℕ) (before rest : List Record) (t : Standing) → entries ≡ before ++ rest → broken_from before rest ≡ None → Reached before t → Ends (λ own. (m : ℕ) × Made-to m own) (settled (replayed g until t rest))
   all-reached until before [] t all h r = ends-ends (Made-to t.events) (λ own. (m : ℕ) × Made-to m own) (settled t) (settled-ends t.events t r.made) (λ own s. (t.events, s))

@@ -1,7 +1,7 @@
 -- Items of some groups alone, at the bytes that events have, tell what reaches these by no other group.
-use Rattle.std.proofs.Common.{◌≡◌, ℕ, Bool, true, false, if◌then◌else◌, List, [], Option, Some, None, sym, subst, arith}
+use Rattle.std.proofs.lemmas.Grind.{common_steps}
+use Rattle.std.proofs.Common.{◌≡◌, ℕ, Bool, true, false, if◌then◌else◌, List, [], Option, None, sym, subst, arith, All}
 use Rattle.std.proofs.lemmas.Bool.Decides.{nat_tests}
-use Rattle.std.specs.Prelude.{All}
 use Rattle.std.proofs.lemmas.List.Elements.{All-nil, All-weaker}
 use Rattle.arn_base.specs.declared.records.Record.{Record}
 use Rattle.rv64_model.specs.Carries.{operands}
@@ -14,13 +14,12 @@ use Rattle.lineage_join.specs.Fits.{IsThere}
 use Rattle.lineage_model.specs.Flow.{At}
 use Rattle.lineage_model.specs.Tracking.{EventByte}
 use Rattle.query_model.specs.Sinks.{is_among, items_among}
-use Rattle.query_model.specs.Sources.{items_in, tracked_at}
+use Rattle.query_model.specs.Sources.{items_in}
 use Rattle.taint_laws.specs.Follows.{HasWholeBlocks}
 use Rattle.taint_laws.specs.Laws.{FollowsHolders}
 use Rattle.taint_state.specs.Lens.{ActsHaveLen}
 use Rattle.query_laws.specs.Forth.{ReachingIsAmong}
 use Rattle.query_laws.specs.Joined.{is_there}
-use Rattle.query_laws.specs.Received.{IsItem}
 use Rattle.query_laws.proofs.Fitting.{real-items}
 use Rattle.query_laws.proofs.Joined.{found-there, there-found}
 use Rattle.query_laws.proofs.Origins.{origin-there}
@@ -35,10 +34,7 @@ module _ (linkage : Linkage) (entries : List Record) (stands : first_broken entr
 
   module _ (holders : FollowsHolders) (lens : ActsHaveLen) (blocks : All HasWholeBlocks entries) (groups : List ℕ) (moment : ℕ) where
     group-leads : (event : ℕ) (at : At) (o : Option ℕ) → IsThere (event_at entries event) at → All (LeadsOn (event_at entries) follows) (items_in (operands linkage) entries moment event at o)
-    group-leads event at None there = All-nil (LeadsOn (event_at entries) follows)
-    group-leads event at (Some g) there =
-        All-weaker (λ item. IsItem entries g event item × IsThere (event_at entries item.event) item.at) (LeadsOn (event_at entries) follows) (λ item is. leads-at item.event item.at is.1)
-        ((tracked_at (operands linkage) entries moment g).points event at) (real-items linkage entries g holders lens moment stands blocks event at there)
+    group-leads event at o h1 = grind (arith, common_steps, nat_tests, All-nil, All-weaker, leads-at, real-items)
 
     cut-leads : (event : ℕ) (at : At) (b : Bool) → IsThere (event_at entries event) at
         → All (LeadsOn (event_at entries) follows) (if b then items_in (operands linkage) entries moment event at (event_group entries event) else [])

@@ -1,10 +1,8 @@
 -- In the records of a run each child begins with whole blocks.
-use Rattle.std.proofs.Common.{◌≡◌, ℕ, zero, suc, ◌*◌, ◌≤◌, ◌==◌, ◌&&◌, not, is_some, Bool, true, false, if◌then◌else◌, List, [], ◌∷◌, length, drop, Option, Some, None, IfSome, refl, ap, sym, subst, ◌∙◌, arith, length-drop}
+use Rattle.std.proofs.Common.{◌≡◌, ℕ, zero, suc, ◌*◌, ◌≤◌, ◌==◌, ◌&&◌, not, is_some, Bool, true, false, if◌then◌else◌, List, [], ◌∷◌, length, drop, Option, Some, None, IfSome, refl, ap, sym, subst, ◌∙◌, arith, length-drop, All, Contains, length-take-le}
 use Rattle.std.proofs.lemmas.Bool.Decides.{nat_tests}
-use Rattle.std.specs.Prelude.{All, Contains}
 use Rattle.std.specs.List.{cons_option}
 use Rattle.std.proofs.lemmas.Bool.{and_parts, eqb-true, true≢false}
-use Rattle.std.proofs.lemmas.List.{length-take-le}
 use Rattle.std.proofs.lemmas.List.Elements.{All-append, All-cons, All-contains, All-contains_itself, All-nil}
 use Rattle.std.proofs.lemmas.Option.{same_Some}
 use Rattle.arn_base.specs.declared.machine.Block.{Block}
@@ -15,11 +13,10 @@ use Rattle.arn_base.specs.declared.records.Record.{Record}
 use Rattle.arn_base.specs.declared.records.Record.TheVariants as entry
 use Rattle.arn_base.specs.declared.records.Start.{Start}
 use Rattle.parts_model.specs.Blocks.{block_of, used_block, used_blocks}
-use Rattle.parts_model.specs.Processes as table
 use Rattle.parts_model.specs.Replies.{is_success}
 use Rattle.parts_model.specs.declared.calls.TheConstants.{FORK}
 use Rattle.parts_model.specs.declared.limits.TheConstants.{BLOCK_LEN}
-use Rattle.acts_model.specs.Acts.{Act, Founds, Returns, beginning_of, start_of}
+use Rattle.acts_model.specs.Acts.{Founds, Returns, beginning_of, start_of}
 use Rattle.acts_model.specs.Bodies.{View}
 use Rattle.acts_model.specs.Moved.{Event}
 use Rattle.acts_model.specs.Records.{is_event}
@@ -29,7 +26,7 @@ use Rattle.arn_model.specs.Kernel.{Machine, at_first}
 use Rattle.arn_model.specs.Laws.{StepsTell}
 use Rattle.arn_model.specs.Run.{Input, events_of, machine_after, run}
 use Rattle.arn_model.specs.Step.{Step}
-use Rattle.arn_model.specs.Tells.{Adds, Along, Boots, EventTells, ForksRightly, Happens, HasNumbers, Runs, StepTells, Types, Unplugs}
+use Rattle.arn_model.specs.Tells.{Adds, Along, Boots, EventTells, Happens, HasNumbers, Runs, StepTells, Types, Unplugs}
 use Rattle.history_model.specs.Broken.{first_broken, misplaces_start}
 use Rattle.log_model.specs.Laws.{EventsRecorded}
 use Rattle.log_model.specs.Records.{records}
@@ -46,9 +43,8 @@ all-whole : (bytes : List ℕ) (count : ℕ) → BLOCK_LEN * count ≤ length by
 unfolding used_blocks
 all-whole bytes zero fits = All-nil (λ (x : Block). length x.bytes ≡ BLOCK_LEN)
 all-whole bytes (suc count) fits =
-    let left = length-drop (BLOCK_LEN * count) bytes in
     All-append (λ (x : Block). length x.bytes ≡ BLOCK_LEN) (used_blocks bytes count) (used_block (block_of bytes count)) (all-whole bytes count (omega (arith, fits)))
-    (used-whole (block_of bytes count) (length-take-le BLOCK_LEN (drop (BLOCK_LEN * count) bytes) (omega (arith, left, fits))))
+    (used-whole (block_of bytes count) (length-take-le BLOCK_LEN (drop (BLOCK_LEN * count) bytes) (omega (arith, length-drop (BLOCK_LEN * count) bytes, fits))))
 
 -- a fork's record has those of the parent's window
 start-of : (start : Start) (v : View) → extra.Start start ≡ extra.Start (start_of (beginning_of v)) → AreWhole start.blocks
@@ -62,20 +58,9 @@ call-whole : (m : Machine) (pid number result p : ℕ) (v : View) (d : Doing) (m
 call-whole m pid number result p v d (extra.Start start) tells placed = by-test ((number == FORK) && is_success result) refl placed
   where
     by-test : (b : Bool) → ((number == FORK) && is_success result) ≡ b → (true && not (is_some (if b then Some result else None))) ≡ false → AreWhole start.blocks
-    by-test true is h =
-        let parts = and_parts (number == FORK) (is_success result) is in
-        let act : d.act ≡ Founds result = sym (same_Some (call_act (kind_of number) v.body.cpu result (extra.Start start)) d.act tells.told) ∙ fork-act number result v.body.cpu start parts.0 parts.1 in
-        start-of start v (subst (λ (a : Act). ForksRightly (table.next_process m.kernel.processes) v a (extra.Start start)) act tells.forks).2
-    by-test false is h = absurd (true≢false h)
+    by-test b h1 h2 = grind (arith, nat_tests, and_parts, same_Some, fork-act, start-of, true≢false)
 call-whole m pid number result p v d extra.Nothing tells placed = tt
-call-whole m pid number result p v d (extra.Give give) tells placed = tt
-call-whole m pid number result p v d (extra.Put file at bytes) tells placed = tt
-call-whole m pid number result p v d (extra.Console bytes) tells placed = tt
-call-whole m pid number result p v d (extra.Reply device bytes) tells placed = tt
-call-whole m pid number result p v d extra.Fault tells placed = tt
-call-whole m pid number result p v d extra.Absent tells placed = tt
-call-whole m pid number result p v d (extra.Name file path) tells placed = tt
-call-whole m pid number result p v d (extra.Sent device bytes) tells placed = tt
+call-whole m pid number result p v d _ tells placed = tt
 
 -- an event that is placed rightly has whole blocks
 abbrev IsWhole : Record → Type 0

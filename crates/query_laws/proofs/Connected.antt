@@ -1,21 +1,21 @@
 -- Items of connected groups lead to events of connected groups.
-use Rattle.std.proofs.Common.{◌≡◌, ◌⊎◌, inl, inr, ℕ, zero, suc, ◌++◌, Bool, true, false, if◌then◌else◌, List, [], ◌∷◌, flat_map, Option, Some, None, IfSome, option_and_then, refl, ap, ap₂, sym, ◌∙◌}
-use Rattle.std.specs.Prelude.{All, Contains}
-use Rattle.std.proofs.lemmas.Bool.{true≢false}
+use Rattle.std.proofs.lemmas.Bool.Decides.{nat_tests}
+use Rattle.std.proofs.lemmas.Grind.{common_steps}
+use Rattle.std.proofs.Common.{◌≡◌, ◌⊎◌, ℕ, zero, suc, ◌++◌, Bool, true, if◌then◌else◌, List, [], ◌∷◌, flat_map, Option, Some, None, IfSome, option_and_then, refl, ap, ap₂, ◌∙◌, All, Contains, arith}
 use Rattle.std.proofs.lemmas.List.Elements.{All-head, All-tail}
 use Rattle.std.proofs.lemmas.Option.{option_and_then_some}
 use Rattle.arn_base.specs.declared.records.Give.{Give}
 use Rattle.arn_base.specs.declared.records.Record.{Record}
 use Rattle.arn_base.specs.declared.records.Src.{Src}
 use Rattle.rv64_model.specs.Carries.{Table}
-use Rattle.acts_model.specs.Records.{event_len, give_of}
+use Rattle.acts_model.specs.Records.{give_of}
 use Rattle.history_index.specs.Lookups.{groups_in}
 use Rattle.history_model.specs.Broken.{first_broken}
 use Rattle.history_model.specs.Events.{event_at}
 use Rattle.history_model.specs.Exchanges.{Backward, Edge, ByBytes, ByFork, founded, received}
 use Rattle.history_model.specs.Groups.{event_group}
-use Rattle.lineage_model.specs.Flow.{At, Byte, StartRegister, StartSlot, StartMemory}
-use Rattle.lineage_model.specs.Joined.{Reaching, is_source, origin_at, origin_of, from_origin, from_received, from_item_at, from_item, source_byte, from_event, reached}
+use Rattle.lineage_model.specs.Flow.{At, Byte}
+use Rattle.lineage_model.specs.Joined.{Reaching, is_source, origin_at, origin_of, from_origin, from_received, from_item_at, from_item, from_event, reached}
 use Rattle.lineage_model.specs.Tracking.{EventByte}
 use Rattle.query_model.specs.Linked.{groups_back}
 use Rattle.query_model.specs.Sources.{items_in, items_at, tracked_at}
@@ -64,9 +64,7 @@ module _ (entries : List Record) (from : List ℕ) (stands : first_broken entrie
 
     taken-same : (event k : ℕ) (e : Record) → event_at entries event ≡ Some e → event_group entries event ≡ Some g → (is_source e ≡ true) ⊎ (received e ≡ give_of e) → (b : Bool) → is_source e ≡ b
         → (if b then record { event = event; at = Byte k } ∷ [] else from_origin p (origin_of e k)) ≡ (if b then record { event = event; at = Byte k } ∷ [] else from_origin q (origin_of e k))
-    taken-same event k e at of takes true is = refl
-    taken-same event k e at of (inl source) false is = absurd (true≢false (sym source ∙ is))
-    taken-same event k e at of (inr takes) false is = origin-same event k e at of takes (origin_of e k) refl
+    taken-same event k e h1 h2 h3 b h4 = grind (arith, common_steps, nat_tests, origin-same)
 
     received-same : (event k : ℕ) (o : Option Record) → event_at entries event ≡ o → event_group entries event ≡ Some g → HasTaken k o → from_received p event k o ≡ from_received q event k o
     received-same event k None at of takes = refl
@@ -77,9 +75,7 @@ module _ (entries : List Record) (from : List ℕ) (stands : first_broken entrie
 
     pub item-same : (event : ℕ) (at : At) → IsReceivedBy entries g event at → There event at → from_item_at (event_at entries) p event at ≡ from_item_at (event_at entries) q event at
     item-same event (Byte k) is there = received-same event k (event_at entries event) refl is.0 is.1
-    item-same event (StartRegister r i) is there = same event (StartRegister r i) (fork-asked event is, there)
-    item-same event (StartSlot r i) is there = same event (StartSlot r i) (fork-asked event is, there)
-    item-same event (StartMemory at) is there = same event (StartMemory at) (fork-asked event is, there)
+    item-same event e is there = same event e (fork-asked event is, there)
 
     items-same : (event : ℕ) (items : List EventByte) → All (IsItemThere g event) items → flat_map (from_item (event_at entries) p) items ≡ flat_map (from_item (event_at entries) q) items
     items-same event items all =
@@ -94,9 +90,7 @@ module _ (entries : List Record) (from : List ℕ) (stands : first_broken entrie
 
     event-same : (p q : Reaching) → AreSame p q → (event : ℕ) (at : At) → Asks event at → (o : Option Record)
         → from_event (event_at entries) p event at (items_at table entries moment event at) o ≡ from_event (event_at entries) q event at (items_at table entries moment event at) o
-    event-same p q same event at asks None = refl
-    event-same p q same event at asks (Some e) =
-        ap (λ (xs : List EventByte). (if is_source e then source_byte event (event_len e) at else xs)) (own-same p q same event at (event_group entries event) asks.0 asks.1)
+    event-same p q h1 event at h2 o = grind (arith, common_steps, nat_tests, own-same)
 
     module _ (items : ℕ → At → List EventByte) (agree : (event : ℕ) (at : At) → Asks event at → items event at ≡ items_at table entries moment event at) where
       pub reached-same : (n event : ℕ) (at : At) → Asks event at → reached (event_at entries) items n event at ≡ reached (event_at entries) (items_at table entries moment) n event at

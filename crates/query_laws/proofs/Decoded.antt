@@ -9,7 +9,7 @@ use Rattle.rv64_isa.specs.Opcode.{lui, auipc, jal, jalr, branch, load, store, op
 use Rattle.rv64_isa.specs.Rows.{branch_op_at, load_op_at, store_op_at, imm_op_at, imm_row, reg_op_at}
 use Rattle.rv64_isa.specs.declared.instruction.Instr.{Instr}
 use Rattle.rv64_isa.specs.declared.instruction.Instr.TheVariants.{Lui, Auipc, Jal, Jalr, Branch, Load, Store, Imm, Op, Fence, Ecall, Ebreak}
-use Rattle.rv64_model.specs.Instruction.{Effect, Next, Call, End, jumps, branches, loads, stores, executed, executed_if, fetched}
+use Rattle.rv64_model.specs.Instruction.{Effect, Next, jumps, branches, loads, stores, executed, executed_if, fetched}
 use Rattle.rv64_model.specs.Operands.{rs1_of, rs2_of}
 use Rattle.acts_model.specs.Bodies.{View}
 use Rattle.acts_model.specs.Transfers.{Transfer, Runs}
@@ -69,8 +69,7 @@ decoded-reads opcode word =
 -- what is done, if the next one follows it
 abbrev pub NextReads : Effect → Type 0
 NextReads (Next instr cpu memory) = ReadsRegisters instr
-NextReads Call = Unit {0}
-NextReads (End status) = Unit {0}
+NextReads _ = Unit {0}
 
 jumps-read : (instr : Instr) (cpu : Cpu) (memory : List Window) (rd target : ℕ) → ReadsRegisters instr → NextReads (jumps instr cpu memory rd target)
 jumps-read instr cpu memory rd target h1 = grind (arith, nat_tests)

@@ -1,7 +1,5 @@
 -- Every event has happened at the end of a history.
-use Rattle.std.proofs.Common.{◌≡◌, ℕ, zero, suc, ◌+◌, ◌<◌, ◌≤◌, Bool, true, nat_le, List, [], ◌∷◌, refl, sym, subst, arith}
-use Rattle.std.specs.Prelude.{Contains}
-use Rattle.std.proofs.lemmas.Bool.{le-leb}
+use Rattle.std.proofs.Common.{◌≡◌, ℕ, zero, suc, ◌+◌, ◌<◌, ◌≤◌, Bool, true, nat_le, List, [], ◌∷◌, refl, sym, subst, arith, Contains, le-leb}
 use Rattle.arn_base.specs.declared.records.Record.{Record}
 use Rattle.arn_base.specs.declared.records.Record.TheVariants as entry
 use Rattle.history_model.specs.Events.{how_many}
@@ -26,23 +24,8 @@ happens (entry.Slice pid ran ∷ entries) begins ends k n moment low high there 
 happens (entry.Signal pid signal cut handler ∷ entries) begins ends k n moment low high there =
     happens-next begins moment k n (entry.Signal pid signal cut handler) (events_from moment begins ends (k + 1) entries) (omega (arith, low, high))
     (λ m is. happens entries begins ends (k + 1) m moment low (omega (arith, high)) (omega (arith, there, is)))
-happens (entry.File name bytes ∷ entries) begins ends k n moment low high there =
-    happens-next ends moment k n (entry.File name bytes) (events_from moment begins ends (k + 1) entries) (omega (arith, high))
-    (λ m is. happens entries begins ends (k + 1) m moment low (omega (arith, high)) (omega (arith, there, is)))
-happens (entry.Boot name give ∷ entries) begins ends k n moment low high there =
-    happens-next ends moment k n (entry.Boot name give) (events_from moment begins ends (k + 1) entries) (omega (arith, high))
-    (λ m is. happens entries begins ends (k + 1) m moment low (omega (arith, high)) (omega (arith, there, is)))
-happens (entry.Typed bytes ∷ entries) begins ends k n moment low high there =
-    happens-next ends moment k n (entry.Typed bytes) (events_from moment begins ends (k + 1) entries) (omega (arith, high))
-    (λ m is. happens entries begins ends (k + 1) m moment low (omega (arith, high)) (omega (arith, there, is)))
-happens (entry.Unplug device ∷ entries) begins ends k n moment low high there =
-    happens-next ends moment k n (entry.Unplug device) (events_from moment begins ends (k + 1) entries) (omega (arith, high))
-    (λ m is. happens entries begins ends (k + 1) m moment low (omega (arith, high)) (omega (arith, there, is)))
-happens (entry.Call pid number result more ∷ entries) begins ends k n moment low high there =
-    happens-next ends moment k n (entry.Call pid number result more) (events_from moment begins ends (k + 1) entries) (omega (arith, high))
-    (λ m is. happens entries begins ends (k + 1) m moment low (omega (arith, high)) (omega (arith, there, is)))
-happens (entry.End pid status ∷ entries) begins ends k n moment low high there =
-    happens-next ends moment k n (entry.End pid status) (events_from moment begins ends (k + 1) entries) (omega (arith, high))
+happens (e ∷ entries) begins ends k n moment low high there =
+    happens-next ends moment k n e (events_from moment begins ends (k + 1) entries) (omega (arith, high))
     (λ m is. happens entries begins ends (k + 1) m moment low (omega (arith, high)) (omega (arith, there, is)))
 
 pub has-ended : (entries : List Record) (n : ℕ) → n < how_many entries → Contains (numbers (events_until (total entries) entries)) n

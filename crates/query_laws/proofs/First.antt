@@ -2,7 +2,7 @@
 use Rattle.std.proofs.Common.{◌≡◌, inl, inr, ℕ, ◌||◌, nat_lt, Bool, true, false, if◌then◌else◌, List, [], filter, Option, Some, None, option_and_then, ap, sym, subst, ◌∙◌, arith}
 use Rattle.std.proofs.lemmas.Bool.Decides.{nat_tests}
 use Rattle.std.specs.List.{All, Contains, range_with_len}
-use Rattle.std.proofs.lemmas.Bool.{and_from, and_parts, lt-ltb, ltb-true, or_left, or_right}
+use Rattle.std.proofs.lemmas.Bool.{and_from, and_parts, lt-ltb, ltb-true, or_left, or_right, or_cases}
 use Rattle.std.proofs.lemmas.List.Elements.{All-contains_itself, All-filter, All-nil}
 use Rattle.arn_base.specs.declared.records.Record.{Record}
 use Rattle.history_index.specs.Lookups.{groups_in}
@@ -14,7 +14,7 @@ use Rattle.lineage_model.specs.Joined.{is_source}
 use Rattle.query_model.specs.Forth.{first_by, first_groups, has_copy, has_read, has_taken, takes_at}
 use Rattle.query_laws.specs.Forth.{FirstAreTold, HadFirst, Read, TakesAt, Took}
 use Rattle.query_laws.proofs.Found.{event-is-of}
-use Rattle.query_laws.proofs.Links.{is-number, number-is, or-parts}
+use Rattle.query_laws.proofs.Links.{is-number, number-is}
 use Rattle.query_laws.proofs.Lists.{any-in, in-any, in-kept, in-range, kept-in, range-in}
 
 module _ (entries : List Record) (event from len : ℕ) where
@@ -28,11 +28,10 @@ module _ (entries : List Record) (event from len : ℕ) where
   took-first g n h1 = grind (arith, nat_tests, and_parts, number-is)
 
   had-first : (g : ℕ) → had g ≡ true → HadFirst entries event from len g
-  had-first g is = elim (or-parts (has_taken entries event from len g) (has_read entries event len g) is) [
+  had-first g is = elim (or_cases (has_taken entries event from len g) (has_read entries event len g) is) [
     | inl taken ↦ (
         let found = in-any (takes_at entries event from len g) (range_with_len 0 (how_many entries)) taken in
-        let low = (range-in 0 (how_many entries) found.0 found.1).1 in
-        Took found.0 (omega (arith, low)) (took-first g found.0 found.2))
+        Took found.0 (omega (arith, (range-in 0 (how_many entries) found.0 found.1).1)) (took-first g found.0 found.2))
     | inr read ↦ (
         let parts = and_parts (nat_lt 0 len) (is_number g (event_group entries event)) read in
         Read (ltb-true 0 len parts.0) (number-is g (event_group entries event) parts.1))

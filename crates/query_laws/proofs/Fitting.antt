@@ -1,7 +1,7 @@
 -- At the bytes that events have, the items of groups alone are bytes that events have, under the operands of a linkage.
-use Rattle.std.proofs.Common.{◌≡◌, ◌⊎◌, inl, inr, ℕ, zero, suc, ◌<◌, is_some, List, [], ◌∷◌, Option, Some, None, option_and_then, refl, ap, sym, subst, ◌∙◌, arith}
+use Rattle.std.proofs.lemmas.Grind.{common_steps}
+use Rattle.std.proofs.Common.{◌≡◌, ◌⊎◌, inl, inr, ℕ, zero, suc, ◌<◌, is_some, List, [], ◌∷◌, Option, Some, None, option_and_then, refl, ap, sym, subst, ◌∙◌, arith, All, IsTrue}
 use Rattle.std.proofs.lemmas.Bool.Decides.{nat_tests}
-use Rattle.std.specs.Prelude.{All, IsTrue}
 use Rattle.std.specs.List.{AllByRecursion}
 use Rattle.std.proofs.lemmas.List.Elements.{All-nil, All-cons, All-weaker}
 use Rattle.std.proofs.lemmas.Option.{none-some}
@@ -18,7 +18,7 @@ use Rattle.history_model.specs.Events.{event_at, how_many}
 use Rattle.history_model.specs.Exchanges.{founded}
 use Rattle.history_model.specs.Groups.{event_group}
 use Rattle.lineage_join.specs.Fits.{Fits, HasByte, IsThere}
-use Rattle.lineage_model.specs.Flow.{At, Byte, StartRegister, StartSlot, StartMemory}
+use Rattle.lineage_model.specs.Flow.{At, Byte}
 use Rattle.lineage_model.specs.Tracking.{EventByte, untracked}
 use Rattle.query_model.specs.Sources.{items_in, items_at, tracked_of, tracked_at}
 use Rattle.taint_flow.specs.Names.{loaded_len}
@@ -84,25 +84,16 @@ module _ (linkage : Linkage) where
 
     pub named-there : (event : ℕ) (at : At) → IsReceivedBy entries g event at → InScope real at → IsThere (event_at entries event) at
     named-there event (Byte k) is in-scope = taken-there k (event_at entries event) is.1
-    named-there event (StartRegister r i) is in-scope = there-by (event_at entries event) (StartRegister r i) (λ f e same. (ap is_some (sym (ap (option_and_then founded) same) ∙ f), in-scope)) is
-    named-there event (StartSlot r i) is in-scope = there-by (event_at entries event) (StartSlot r i) (λ f e same. (ap is_some (sym (ap (option_and_then founded) same) ∙ f), in-scope)) is
-    named-there event (StartMemory at) is in-scope = there-by (event_at entries event) (StartMemory at) (λ f e same. (ap is_some (sym (ap (option_and_then founded) same) ∙ f), in-scope)) is
+    named-there event x is in-scope = there-by (event_at entries event) x (λ f e same. (ap is_some (sym (ap (option_and_then founded) same) ∙ f), in-scope)) is
 
     there-scope : (o : Option Record) (at : At) → IsThere o at → InScope real at
-    there-scope None at is = absurd is
-    there-scope (Some e) (Byte k) is = tt
-    there-scope (Some e) (StartRegister r i) is = is.1
-    there-scope (Some e) (StartSlot r i) is = is.1
-    there-scope (Some e) (StartMemory at) is = is.1
+    there-scope o at h1 = grind (arith, common_steps, nat_tests)
 
     abbrev IsRealItem : ℕ → EventByte → Type 0
     IsRealItem event item = IsItem entries g event item × IsThere (event_at entries item.event) item.at
 
     as-items : (event : ℕ) (items : List EventByte) → AllByRecursion (IsShown (operands linkage) real is-real entries g event) items → All (IsRealItem event) items
-    as-items event [] are = All-nil (IsRealItem event)
-    as-items event (item ∷ items) are =
-        All-cons (IsRealItem event) item items
-        (record { received = are.0.0.0; precedes = are.0.1 }, named-there item.event item.at are.0.0.0 are.0.0.1) (as-items event items are.1)
+    as-items event items h1 = grind (arith, common_steps, nat_tests, All-nil, All-cons, named-there)
 
     module _ (follows : FollowsHolders) (lens : ActsHaveLen) (moment : ℕ) (stands : first_broken entries ≡ None) (blocks : All HasWholeBlocks entries) where
       pub own-keeps : (own : Own) → history.alone entries g moment ≡ Makes own → Keeps (operands linkage) real is-real entries g (last 0 own.inside) (holders_from own.inside none_holds) (tracked_of (operands linkage) (Makes own))
@@ -126,10 +117,7 @@ module _ (linkage : Linkage) where
 
   module _ (entries : List Record) (follows : FollowsHolders) (lens : ActsHaveLen) (moment : ℕ) (stands : first_broken entries ≡ None) (blocks : All HasWholeBlocks entries) where
     items-fit : (event : ℕ) (at : At) (o : Option ℕ) → IsThere (event_at entries event) at → All (Fits entries event) (items_in (operands linkage) entries moment event at o)
-    items-fit event at None there = All-nil (Fits entries event)
-    items-fit event at (Some g) there =
-        All-weaker (IsRealItem entries g event) (Fits entries event) (λ item is. record { there = is.1; precedes = is.0.precedes }) ((tracked_at (operands linkage) entries moment g).points event at)
-        (real-items entries g follows lens moment stands blocks event at there)
+    items-fit event at o h1 = grind (arith, common_steps, nat_tests, All-nil, All-weaker, real-items)
 
     of-bytes : (event : ℕ) (at : At) (items : List EventByte) → (items ≡ []) ⊎ (IsThere (event_at entries event) at × (items ≡ items_at (operands linkage) entries moment event at)) → All (Fits entries event) items
     of-bytes event at items (inl none) = subst (λ (xs : List EventByte). All (Fits entries event) xs) (sym none) (All-nil (Fits entries event))

@@ -1,8 +1,6 @@
 -- Each group of a history is one of its groups.
-use Rattle.std.proofs.Common.{◌≡◌, ◌⊎◌, inl, inr, ℕ, ◌+◌, ◌<◌, ◌≤◌, ◌==◌, ◌&&◌, ◌||◌, Bool, true, false, not, if◌then◌else◌, List, [], ◌∷◌, ◌++◌, length, max, Option, Some, None, option_and_then, refl, ap, sym, subst, arith}
+use Rattle.std.proofs.Common.{◌≡◌, ◌⊎◌, inl, inr, ℕ, ◌+◌, ◌<◌, ◌≤◌, ◌==◌, ◌&&◌, ◌||◌, Bool, true, false, not, if◌then◌else◌, List, [], ◌∷◌, ◌++◌, length, max, Option, Some, None, option_and_then, refl, sym, subst, arith, Contains, true≢false}
 use Rattle.std.proofs.lemmas.Bool.Decides.{nat_tests}
-use Rattle.std.specs.Prelude.{Contains}
-use Rattle.std.proofs.lemmas.Bool.{true≢false}
 use Rattle.std.proofs.lemmas.Bool.Decides.{eqb_tells}
 use Rattle.std.proofs.lemmas.Option.{none-some, same_Some, option_and_then_some}
 use Rattle.arn_base.specs.declared.records.Extra.{Extra}
@@ -94,8 +92,7 @@ founds-one groups most later c f more low high pid g is =
     ]
   where
     by_same : ((g == c) ≡ true) × (g ≡ c) ⊎ ((g == c) ≡ false) × (g ≡ c → ⊥) → groups g ≡ Some g → ((g ≡ c) × (Some c ≡ Some g)) ⊎ ((g ≡ c → ⊥) × (groups g ≡ Some g))
-    by_same (inl same) founder = inl (same.1, ap (λ (n : ℕ). Some n) (sym same.1))
-    by_same (inr apart) founder = inr (apart.1, founder)
+    by_same h1 h2 = grind (arith, nat_tests)
 
 -- a new process joins one
 joins-one : (groups : Groups) (most later c p : ℕ) → AreFounded groups most → c ≡ most + 1 → c ≤ later → AreFounded (changed groups c (groups p)) later
@@ -120,15 +117,7 @@ joins-one groups most later c p f new high pid g is =
 
 forks-one : (groups : Groups) (most later pid child : ℕ) (more : Extra) → AreFounded groups most → child ≡ most + 1 → most ≤ later → child ≤ later → AreFounded (group_forked pid child more groups) later
 forks-one groups most later pid child (extra.Start start) f new more high = founds-one groups most later child f more (omega (arith, new)) high
-forks-one groups most later pid child extra.Nothing f new more high = joins-one groups most later child pid f new high
-forks-one groups most later pid child (extra.Give give) f new more high = joins-one groups most later child pid f new high
-forks-one groups most later pid child (extra.Put file at bytes) f new more high = joins-one groups most later child pid f new high
-forks-one groups most later pid child (extra.Console bytes) f new more high = joins-one groups most later child pid f new high
-forks-one groups most later pid child (extra.Reply device bytes) f new more high = joins-one groups most later child pid f new high
-forks-one groups most later pid child extra.Fault f new more high = joins-one groups most later child pid f new high
-forks-one groups most later pid child extra.Absent f new more high = joins-one groups most later child pid f new high
-forks-one groups most later pid child (extra.Name file path) f new more high = joins-one groups most later child pid f new high
-forks-one groups most later pid child (extra.Sent device bytes) f new more high = joins-one groups most later child pid f new high
+forks-one groups most later pid child _ f new more high = joins-one groups most later child pid f new high
 
 pub numbered : (before : List Record) (child : ℕ) → misnumbers before (Some child) ≡ false → child ≡ greatest before + 1
 numbered before child h =
@@ -141,14 +130,9 @@ calls-one before groups pid result more true h f =
 calls-one before groups pid result more false h f = f
 
 pub tells-one : (before : List Record) (e : Record) (groups : Groups) → misnumbers before (child_in e) ≡ false → AreFounded groups (greatest before) → AreFounded (groups_told e groups) (greatest_after e (greatest before))
-tells-one before (entry.File name bytes) groups h f = f
 tells-one before (entry.Boot name give) groups h f = founds-one groups (greatest before) (max (greatest before) 1) 1 f (omega arith) (omega arith) (omega arith)
-tells-one before (entry.Typed bytes) groups h f = f
-tells-one before (entry.Unplug device) groups h f = f
-tells-one before (entry.Slice pid ran) groups h f = f
-tells-one before (entry.Signal pid signal cut handler) groups h f = f
 tells-one before (entry.Call pid number result more) groups h f = calls-one before groups pid result more ((number == FORK) && is_success result) h f
-tells-one before (entry.End pid status) groups h f = f
+tells-one before _ groups h f = f
 
 pub greatest-push : (entries : List Record) (n : ℕ) (e : Record) → greatest_from n (entries ++ e ∷ []) ≡ greatest_after e (greatest_from n entries)
 greatest-push [] n e = refl

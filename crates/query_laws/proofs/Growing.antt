@@ -2,21 +2,16 @@
 use Rattle.std.proofs.Common.{◌≡◌, ◌⊎◌, inl, inr, ℕ, zero, suc, ◌≤◌, ◌&&◌, ◌||◌, Bool, true, false, not, List, length, refl, sym, ◌∙◌, arith}
 use Rattle.std.proofs.lemmas.Bool.Decides.{nat_tests}
 use Rattle.std.specs.List.{Contains, list_any}
-use Rattle.std.proofs.lemmas.Bool.{false≢true, and_from, and_parts, not_from_false, or_left, or_right}
+use Rattle.std.proofs.lemmas.Bool.{false≢true, and_from, and_parts, not_from_false, or_left, or_right, not-true, or_cases}
 use Rattle.query_laws.proofs.Counts.{Follows, passes, passes-one-more, passes-all}
-use Rattle.query_laws.proofs.Links.{or-parts}
 use Rattle.query_laws.proofs.Lists.{any-in, in-any}
-
-not-true : (b : Bool) → not b ≡ true → b ≡ false
-not-true true h = absurd (false≢true h)
-not-true false h = refl
 
 module _ (numbers : List ℕ) (link : ℕ → ℕ → Bool) (within : ℕ → ℕ → Bool) (step : (n h : ℕ) → within (suc n) h ≡ (within n h || list_any (λ g. within n g && link g h) numbers)) where
   abbrev leads : ℕ → ℕ → ℕ → Bool
   leads n h g = within n g && link g h
 
   pub step-parts : (n h : ℕ) → within (suc n) h ≡ true → (within n h ≡ true) ⊎ (list_any (leads n h) numbers ≡ true)
-  step-parts n h is = or-parts (within n h) (list_any (leads n h) numbers) (sym (step n h) ∙ is)
+  step-parts n h is = or_cases (within n h) (list_any (leads n h) numbers) (sym (step n h) ∙ is)
 
   pub goes-on : (n : ℕ) → Follows (within n) (within (suc n))
   goes-on n h is = step n h ∙ or_left (within n h) (list_any (leads n h) numbers) is
@@ -43,8 +38,7 @@ module _ (numbers : List ℕ) (link : ℕ → ℕ → Bool) (within : ℕ → �
   by-fresh n true is many =
       let found = in-any (is-fresh n) numbers is in
       let parts = and_parts (within (suc n) found.0) (not (within n found.0)) found.2 in
-      let more = passes-one-more (within n) (within (suc n)) (goes-on n) numbers found.0 found.1 (not-true (within n found.0) parts.1) parts.0 in
-      inl (omega (arith, more, many))
+      inl (omega (arith, passes-one-more (within n) (within (suc n)) (goes-on n) numbers found.0 found.1 (not-true (within n found.0) parts.1) parts.0, many))
   by-fresh n false is many = inr (λ h has found. by-test h has found (within n h) refl)
     where
       by-test : (h : ℕ) → Contains numbers h → within (suc n) h ≡ true → (b : Bool) → within n h ≡ b → within n h ≡ true

@@ -1,8 +1,6 @@
 -- An event has happened at its own moment.
-use Rattle.std.proofs.Common.{◌≡◌, ℕ, suc, ◌+◌, ◌<◌, Bool, true, false, if◌then◌else◌, nat_le, List, [], ◌∷◌, length, map, filter, Option, Some, None, slice_get, unwrap_or, refl, ap, sym, subst, arith, add-zero}
+use Rattle.std.proofs.Common.{◌≡◌, ℕ, suc, ◌+◌, ◌<◌, Bool, true, false, if◌then◌else◌, nat_le, List, [], ◌∷◌, length, map, filter, Option, Some, None, slice_get, unwrap_or, refl, ap, sym, subst, arith, add-zero, Contains, le-leb}
 use Rattle.std.proofs.lemmas.Bool.Decides.{nat_tests}
-use Rattle.std.specs.Prelude.{Contains}
-use Rattle.std.proofs.lemmas.Bool.{le-leb}
 use Rattle.std.proofs.lemmas.Option.{none-some, same_Some, slice_get-get_or}
 use Rattle.arn_base.specs.declared.records.Record.{Record}
 use Rattle.arn_base.specs.declared.records.Record.TheVariants as entry
@@ -36,23 +34,8 @@ happened (entry.Slice pid ran ∷ entries) begins ends k n moment is = happened 
 happened (entry.Signal pid signal cut handler ∷ entries) begins ends k n moment is =
     happened-next begins moment k n (entry.Signal pid signal cut handler) (events_from moment begins ends (k + 1) entries) (moments_from begins (ends + 0) entries)
     (λ n at. happened entries begins ends (k + 1) n moment (subst (λ (x : ℕ). slice_get (moments_from begins x entries) n ≡ Some moment) (add-zero ends) at)) is
-happened (entry.File name bytes ∷ entries) begins ends k n moment is =
-    happened-next ends moment k n (entry.File name bytes) (events_from moment begins ends (k + 1) entries) (moments_from begins (ends + 0) entries)
-    (λ n at. happened entries begins ends (k + 1) n moment (subst (λ (x : ℕ). slice_get (moments_from begins x entries) n ≡ Some moment) (add-zero ends) at)) is
-happened (entry.Boot name give ∷ entries) begins ends k n moment is =
-    happened-next ends moment k n (entry.Boot name give) (events_from moment begins ends (k + 1) entries) (moments_from begins (ends + 0) entries)
-    (λ n at. happened entries begins ends (k + 1) n moment (subst (λ (x : ℕ). slice_get (moments_from begins x entries) n ≡ Some moment) (add-zero ends) at)) is
-happened (entry.Typed bytes ∷ entries) begins ends k n moment is =
-    happened-next ends moment k n (entry.Typed bytes) (events_from moment begins ends (k + 1) entries) (moments_from begins (ends + 0) entries)
-    (λ n at. happened entries begins ends (k + 1) n moment (subst (λ (x : ℕ). slice_get (moments_from begins x entries) n ≡ Some moment) (add-zero ends) at)) is
-happened (entry.Unplug device ∷ entries) begins ends k n moment is =
-    happened-next ends moment k n (entry.Unplug device) (events_from moment begins ends (k + 1) entries) (moments_from begins (ends + 0) entries)
-    (λ n at. happened entries begins ends (k + 1) n moment (subst (λ (x : ℕ). slice_get (moments_from begins x entries) n ≡ Some moment) (add-zero ends) at)) is
-happened (entry.Call pid number result more ∷ entries) begins ends k n moment is =
-    happened-next ends moment k n (entry.Call pid number result more) (events_from moment begins ends (k + 1) entries) (moments_from begins (ends + 0) entries)
-    (λ n at. happened entries begins ends (k + 1) n moment (subst (λ (x : ℕ). slice_get (moments_from begins x entries) n ≡ Some moment) (add-zero ends) at)) is
-happened (entry.End pid status ∷ entries) begins ends k n moment is =
-    happened-next ends moment k n (entry.End pid status) (events_from moment begins ends (k + 1) entries) (moments_from begins (ends + 0) entries)
+happened (e ∷ entries) begins ends k n moment is =
+    happened-next ends moment k n e (events_from moment begins ends (k + 1) entries) (moments_from begins (ends + 0) entries)
     (λ n at. happened entries begins ends (k + 1) n moment (subst (λ (x : ℕ). slice_get (moments_from begins x entries) n ≡ Some moment) (add-zero ends) at)) is
 
 -- each event has a moment
@@ -72,8 +55,7 @@ has-moment (Some x) m h = refl
 
 pub moment-is : (entries : List Record) (n : ℕ) → n < how_many entries → event_moment entries n ≡ Some (moment_of entries n)
 moment-is entries n there =
-    let len = moments-len entries 0 0 in
-    has-moment (event_moment entries n) _ (slice_get-get_or (moments_from 0 0 entries) n 0 (omega (arith, len, there)))
+    has-moment (event_moment entries n) _ (slice_get-get_or (moments_from 0 0 entries) n 0 (omega (arith, moments-len entries 0 0, there)))
 
 pub has-happened : (entries : List Record) (n : ℕ) → n < how_many entries → Contains (numbers (events_until (moment_of entries n) entries)) n
 has-happened entries n there =

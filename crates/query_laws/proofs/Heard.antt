@@ -5,7 +5,7 @@ use Rattle.std.specs.List.{AllByRecursion}
 use Rattle.arn_base.specs.declared.records.Record.{Record}
 use Rattle.acts_model.specs.Acts.{Act}
 use Rattle.acts_model.specs.Moved.{Event, Inside}
-use Rattle.acts_model.specs.Transfers.{Holds, Transfer, Arrives, Starts, Runs, Returns, Receives, Gives, Forks, Founds, Begins, Shares, Delivers, Leaves, Exits, Faults, Dies, transfer}
+use Rattle.acts_model.specs.Transfers.{Holds, Transfer, Begins, transfer}
 use Rattle.history_model.specs.Events.{event_at}
 use Rattle.history_model.specs.Exchanges.{founded}
 use Rattle.history_model.specs.Groups.{event_group}
@@ -23,20 +23,7 @@ IsLater n (Some event) = n ≤ event.number
 -- an event is of a process of the group; but a group begins by the fork that founds it
 abbrev pub IsBy : List Record → ℕ → Event → Transfer → Type 0
 IsBy entries g event (Begins pid made) = (founded event.entry ≡ Some g) × (pid ≡ g) × (made ≡ event.number)
-IsBy entries g event (Arrives len) = event_group entries event.number ≡ Some g
-IsBy entries g event (Starts pid made load len block block_len) = event_group entries event.number ≡ Some g
-IsBy entries g event (Runs pid instr place) = event_group entries event.number ≡ Some g
-IsBy entries g event (Returns pid) = event_group entries event.number ≡ Some g
-IsBy entries g event (Receives pid place len) = event_group entries event.number ≡ Some g
-IsBy entries g event (Gives pid place len) = event_group entries event.number ≡ Some g
-IsBy entries g event (Forks pid child from into) = event_group entries event.number ≡ Some g
-IsBy entries g event (Founds pid child from into) = event_group entries event.number ≡ Some g
-IsBy entries g event (Shares pid made) = event_group entries event.number ≡ Some g
-IsBy entries g event (Delivers pid cut) = event_group entries event.number ≡ Some g
-IsBy entries g event (Leaves pid) = event_group entries event.number ≡ Some g
-IsBy entries g event (Exits pid) = event_group entries event.number ≡ Some g
-IsBy entries g event (Faults pid) = event_group entries event.number ≡ Some g
-IsBy entries g event (Dies pid) = event_group entries event.number ≡ Some g
+IsBy entries g event _ = event_group entries event.number ≡ Some g
 
 pub record IsOf (entries : List Record) (g : ℕ) (event : Event) (transfer : Transfer) : Type 0 where
   pub there : event_at entries event.number ≡ Some event.entry

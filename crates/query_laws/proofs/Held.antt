@@ -1,7 +1,7 @@
 -- The items of bytes that a process holds are bytes that events of its group have.
-use Rattle.std.proofs.Common.{◌≡◌, ℕ, List, [], ◌∷◌, flat_map, Option, Some, None, option_map, option_to_list, refl, ap, sym, subst, ◌∙◌, arith}
+use Rattle.std.proofs.lemmas.Grind.{common_steps}
+use Rattle.std.proofs.Common.{◌≡◌, ℕ, List, [], ◌∷◌, flat_map, Option, Some, None, option_map, option_to_list, refl, ap, sym, subst, ◌∙◌, arith, All, Contains}
 use Rattle.std.proofs.lemmas.Bool.Decides.{nat_tests}
-use Rattle.std.specs.Prelude.{All, Contains}
 use Rattle.std.specs.List.{AllByRecursion}
 use Rattle.std.proofs.lemmas.List.Elements.{All-nil, All-cons, All-weaker}
 use Rattle.std.proofs.lemmas.Option.{none-some, same_Some}
@@ -53,17 +53,14 @@ module _ (linkage : Linkage) where
     IsNamedThere item = IsReceivedBy entries g item.event item.at × IsThere (event_at entries item.event) item.at
 
     as-named : (n : ℕ) (items : List EventByte) → AllByRecursion (IsBefore (operands linkage) (real linkage) (is-real linkage) entries g n) items → All IsNamedThere items
-    as-named n [] are = All-nil IsNamedThere
-    as-named n (item ∷ items) are =
-        All-cons IsNamedThere item items (are.0.0.0, named-there linkage entries g item.event item.at are.0.0.0 are.0.0.1) (as-named n items are.1)
+    as-named n items h1 = grind (arith, common_steps, nat_tests, All-nil, All-cons, named-there)
 
     module _ (follows : FollowsHolders) (lens : ActsHaveLen) (moment : ℕ) (stands : first_broken entries ≡ None) (blocks : All HasWholeBlocks entries) (pid : ℕ) (p : Part) (k : ℕ) (has : HasByte p k) where
       location-named : (own : Own) → history.alone entries g moment ≡ Makes own → (x : Body) → body_at own.bodies pid ≡ Some x → (o : Option Location) → location_of pid (holds_of x) p k ≡ o
           → All IsNamedThere (set_at (alone (operands linkage) own.inside) o)
       location-named own is x lives None lies = All-nil IsNamedThere
       location-named own is x lives (Some l) lies =
-          let f = follows entries g moment own stands blocks is in
-          let holds = sym (f.holds pid) ∙ ap (option_map holds_of) lives in
+          let holds = sym ((follows entries g moment own stands blocks is).holds pid) ∙ ap (option_map holds_of) lives in
           as-named (last 0 own.inside) ((alone (operands linkage) own.inside).locations l)
           ((own-keeps linkage entries g follows lens moment stands blocks own is).locations l (pid, holds_of x, holds, part-held pid (holds_of x) p k has l lies))
 
@@ -79,13 +76,7 @@ module _ (linkage : Linkage) where
       group-named = made-named (history.alone entries g moment) refl
 
 pub held-there : FollowsHolders → ActsHaveLen → HeldItemsAreThere
-held-there follows lens linkage entries held k stands blocks has = by-group (group_of entries held.pid)
-  where
-    by-group : (o : Option ℕ) → All (λ item. IsThere (event_at entries item.event) item.at) (items_among (operands linkage) entries held k o)
-    by-group None = All-nil (λ item. IsThere (event_at entries item.event) item.at)
-    by-group (Some g) =
-        All-weaker (IsNamedThere linkage entries g) (λ item. IsThere (event_at entries item.event) item.at) (λ item is. is.1) (items_made (operands linkage) held.pid held.part k (history.alone entries g held.moment))
-        (group-named linkage entries g follows lens held.moment stands blocks held.pid held.part k has)
+held-there h1 h2 = grind (arith, common_steps, nat_tests, All-nil, All-weaker, group-named)
 
 -- a process's group is one of the groups
 pub own-group : (entries : List Record) (pid : ℕ) (o : Option ℕ) → first_broken entries ≡ None → group_of entries pid ≡ o → All (Contains (groups_in entries)) (option_to_list o)

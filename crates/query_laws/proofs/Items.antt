@@ -1,4 +1,5 @@
 -- The items of a group alone are bytes that its events received, or with which it began: step by step.
+use Rattle.std.proofs.lemmas.Grind.{common_steps}
 use Rattle.std.proofs.Common.{◌≡◌, ℕ, ◌<◌, ◌≤◌, ◌++◌, List, [], ◌∷◌, Option, Some, None, option_and_then, ap, sym, subst, ◌∙◌, arith}
 use Rattle.std.proofs.lemmas.Bool.Decides.{nat_tests}
 use Rattle.std.specs.List.{AllByRecursion}
@@ -17,7 +18,7 @@ use Rattle.taint_state.specs.Goes.{ArePossible, Hearings, IsPossible, heard_afte
 use Rattle.taint_state.specs.Steps.{Holders, holders_after}
 use Rattle.query_laws.specs.Received.{TakesByte, HasTaken, IsReceivedBy}
 use Rattle.query_laws.proofs.Heard.{AreHeard, IsHeard, IsLater, IsOf, last, next}
-use Rattle.query_laws.proofs.Scopes.{Scope, IsScope, IsHeld, AreSources, IsGot, IsByte, IsShownGot, InScope, IsTaking, flow-held, shown-held}
+use Rattle.query_laws.proofs.Scopes.{Scope, IsScope, IsHeld, AreSources, IsGot, IsByte, InScope, IsTaking, flow-held, shown-held}
 
 pub all-append : {A : Type 0} (P : A → Type 0) (xs ys : List A) → AllByRecursion P xs → AllByRecursion P ys → AllByRecursion P (xs ++ ys)
 all-append P [] ys a b = b
@@ -99,11 +100,7 @@ module _ (table : Table) (s : Scope) (is-scope : IsScope s) (entries : List Reco
 
   shown-items : (n : ℕ) (h : Holders) (d : Transfer) (event : Event) (t : Tracked EventByte) (e : ℕ) → e ≡ event.number → n ≤ event.number → IsOf entries g event d → IsOfRecord d event.entry → IsTaking table s h d → Keeps n h t
       → (at : At) → InScope s at → AllByRecursion (IsShown e) (gather (items (Some event)) t.locations (shown d at))
-  shown-items n h d event t e same later of tells takes k at in-scope =
-      gather-sources s h (IsShown e) (IsShownGot s d) (items (Some event)) t.locations
-      (λ x is. all-weaker (IsBefore n) (IsShown e) (λ item b. (b.0, precedes-below item.event e item.at (let low = b.1 in omega (arith, low, later, same)))) (t.locations x) (k.locations x is))
-      (λ a got. ((got-named d event a of tells got.0, precedes-byte event.number e a got.1 same), tt))
-      (shown d at) (shown-held table s is-scope h d at takes in-scope)
+  shown-items n h d event t e h1 h2 h3 h4 h5 h6 at h7 = grind (arith, common_steps, nat_tests, gather-sources, all-weaker, precedes-below, got-named, precedes-byte, shown-held)
 
   step-points : (n : ℕ) (h : Holders) (d : Transfer) (o : Option Event) (t : Tracked EventByte) → IsLater n o → IsHeard entries g o d → TellsRecord d o → IsTaking table s h d → Keeps n h t
       → (e : ℕ) (at : At) → InScope s at → AllByRecursion (IsShown e) (points_after o (λ a. gather (items o) t.locations (shown d a)) t.points e at)

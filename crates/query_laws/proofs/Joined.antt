@@ -1,7 +1,6 @@
 -- An answer's pairs are joined of the items of connected groups alone.
-use Rattle.std.proofs.Common.{◌≡◌, ℕ, nat_lt, ◌&&◌, true, false, List, [], ◌∷◌, Option, Some, None, IfSome, option_to_list, arith}
+use Rattle.std.proofs.Common.{◌≡◌, ℕ, nat_lt, ◌&&◌, true, List, [], ◌∷◌, Option, Some, None, IfSome, option_to_list, arith, All, Contains}
 use Rattle.std.proofs.lemmas.Bool.Decides.{nat_tests}
-use Rattle.std.specs.Prelude.{All, Contains}
 use Rattle.std.proofs.lemmas.Bool.{false≢true, and_from, and_parts, lt-ltb, ltb-true}
 use Rattle.arn_base.specs.declared.records.Record.{Record}
 use Rattle.history_index.specs.Lookups.{groups_in}

@@ -1,8 +1,9 @@
 -- A link of groups is a link that the test finds.
-use Rattle.std.proofs.Common.{◌≡◌, ◌⊎◌, inl, inr, ℕ, zero, suc, ◌<◌, ◌||◌, Bool, true, false, List, [], ◌∷◌, length, Option, Some, None, option_and_then, slice_get, refl, ap, sym, subst, arith}
+use Rattle.std.proofs.lemmas.Grind.{common_steps}
+use Rattle.std.proofs.Common.{◌≡◌, inl, inr, ℕ, zero, suc, ◌<◌, ◌||◌, Bool, true, List, [], ◌∷◌, length, Option, Some, None, option_and_then, slice_get, ap, arith}
 use Rattle.std.proofs.lemmas.Bool.Decides.{nat_tests}
 use Rattle.std.specs.List.{Contains, range_with_len}
-use Rattle.std.proofs.lemmas.Bool.{false≢true, and_from, and_parts, or_left}
+use Rattle.std.proofs.lemmas.Bool.{false≢true, and_from, and_parts, or_left, or_cases}
 use Rattle.std.proofs.lemmas.Bool.Decides.{eqb_tells}
 use Rattle.std.proofs.lemmas.Option.{none-some, same_Some, option_and_then_some}
 use Rattle.arn_base.specs.declared.records.Give.{Give}
@@ -11,7 +12,7 @@ use Rattle.arn_base.specs.declared.records.Record.{Record}
 use Rattle.history_model.specs.Events.{event_at, how_many}
 use Rattle.history_model.specs.Exchanges.{Edge, ByBytes, ByFork, founded, received}
 use Rattle.history_model.specs.Groups.{event_group, is_number}
-use Rattle.query_model.specs.Linked.{is_from, came_from, receives_at, starts_at, is_linked}
+use Rattle.query_model.specs.Linked.{came_from, receives_at, starts_at, is_linked}
 use Rattle.query_laws.proofs.Lists.{any-in, in-any, in-range}
 
 pub is-number : (n : ℕ) (o : Option ℕ) → o ≡ Some n → is_number n o ≡ true
@@ -31,19 +32,12 @@ below-len (y ∷ xs) (suc i) x h = omega (arith, below-len xs i x h)
 pub is-there : (entries : List Record) (n g : ℕ) → event_group entries n ≡ Some g → n < how_many entries
 is-there entries n g h1 = grind (arith, nat_tests, below-len, option_and_then_some)
 
-pub or-parts : (b c : Bool) → (b || c) ≡ true → (b ≡ true) ⊎ (c ≡ true)
-or-parts true c h = inl refl
-or-parts false c h = inr h
-
 module _ (entries : List Record) (h g : ℕ) where
   abbrev goes-at : ℕ → Bool
   goes-at n = receives_at entries h g n || starts_at entries h g n
 
   came-in : (o : Option Give) (give : Give) (origin : Origin) → o ≡ Some give → Contains give.origins origin → event_group entries origin.event ≡ Some h → came_from entries h o ≡ true
-  came-in None give origin is has from = absurd (none-some give is)
-  came-in (Some other) give origin is has from =
-      let same = same_Some other give is in
-      any-in (is_from entries h) other.origins origin (subst (λ (x : Give). Contains x.origins origin) (sym same) has) (is-number h (event_group entries origin.event) from)
+  came-in o give origin h1 h2 h3 = grind (arith, common_steps, nat_tests, none-some, same_Some, any-in, is-number)
 
   in-came : (o : Option Give) → came_from entries h o ≡ true → (give : Give) × (origin : Origin) × (o ≡ Some give) × Contains give.origins origin × (event_group entries origin.event ≡ Some h)
   in-came o h1 = grind (arith, nat_tests, false≢true, in-any, number-is)
@@ -68,7 +62,7 @@ module _ (entries : List Record) (h g : ℕ) where
   pub linked-edge : is_linked entries h g ≡ true → Edge entries h g
   linked-edge is =
       let found = in-any goes-at (range_with_len 0 (how_many entries)) is in
-      elim (or-parts (receives_at entries h g found.0) (starts_at entries h g found.0) found.2) [
+      elim (or_cases (receives_at entries h g found.0) (starts_at entries h g found.0) found.2) [
         | inl receives ↦ received-edge found.0 receives
         | inr starts ↦ started-edge found.0 starts
       ]

@@ -1,4 +1,5 @@
 -- Members of lists, and tests of them.
+use Rattle.std.proofs.lemmas.Grind.{common_steps}
 use Rattle.std.proofs.Common.{◌≡◌, ◌⊎◌, inl, inr, ℕ, zero, suc, ◌+◌, ◌<◌, ◌≤◌, ◌||◌, Bool, true, false, if◌then◌else◌, List, [], ◌∷◌, refl, ap, subst, ◌∙◌, arith}
 use Rattle.std.proofs.lemmas.Bool.Decides.{nat_tests}
 use Rattle.std.specs.List.{filter, list_any, range_with_len, Contains}
@@ -47,12 +48,7 @@ module _ {X : Type 0} (p : X → Bool) where
       ]
 
   pub any-in : (xs : List X) (x : X) → Contains xs x → p x ≡ true → list_any p xs ≡ true
-  any-in [] x has is = absurd (none-in x has)
-  any-in (y ∷ xs) x has is =
-      elim (head-or-tail y x xs has) [
-        | inl here ↦ or_left (p y) (list_any p xs) (ap p here ∙ is)
-        | inr later ↦ or_right (p y) (list_any p xs) (any-in xs x later is)
-      ]
+  any-in xs x h1 h2 = grind (arith, common_steps, nat_tests, none-in, head-or-tail, or_left, or_right)
 
   abbrev Found : List X → Type 0
   Found xs = (x : X) × Contains xs x × (p x ≡ true)

@@ -1,7 +1,6 @@
 -- By following only the groups to which bytes can have come nothing is lost that they reach.
-use Rattle.std.proofs.Common.{◌≡◌, ◌⊎◌, inl, inr, ℕ, zero, suc, ◌+◌, ◌<◌, ◌≤◌, Bool, true, false, if◌then◌else◌, List, [], ◌∷◌, flat_map, Option, Some, None, option_and_then, refl, ap, sym, subst, ◌∙◌, arith}
+use Rattle.std.proofs.Common.{◌≡◌, ◌⊎◌, inl, inr, ℕ, zero, suc, ◌+◌, ◌<◌, ◌≤◌, Bool, true, false, if◌then◌else◌, List, [], ◌∷◌, flat_map, Option, Some, None, option_and_then, refl, ap, sym, subst, ◌∙◌, arith, All, Contains}
 use Rattle.std.proofs.lemmas.Bool.Decides.{nat_tests}
-use Rattle.std.specs.Prelude.{All, Contains}
 use Rattle.std.proofs.lemmas.Bool.{and_from, lt-ltb, true≢false}
 use Rattle.std.proofs.lemmas.List.Elements.{All-contains}
 use Rattle.std.proofs.lemmas.Option.{none-some, option_and_then_some, same_Some}
@@ -15,7 +14,7 @@ use Rattle.history_model.specs.Broken.{first_broken}
 use Rattle.history_model.specs.Events.{event_at, how_many}
 use Rattle.history_model.specs.Exchanges.{Beginning, ByBytes, ByFork, Edge, Forward, founded, received}
 use Rattle.history_model.specs.Groups.{event_group, is_number}
-use Rattle.lineage_model.specs.Flow.{At, Byte, StartRegister, StartSlot, StartMemory}
+use Rattle.lineage_model.specs.Flow.{At, Byte}
 use Rattle.lineage_model.specs.Joined.{Reaching, is_source, origin_at, origin_of, from_origin, from_received, from_item_at, from_item, source_byte, from_event, reached}
 use Rattle.lineage_model.specs.Tracking.{EventByte}
 use Rattle.query_model.specs.Forth.{first_groups, forth_groups, has_copy, is_copy}
@@ -109,9 +108,8 @@ module _ (entries : List Record) (event from len k : ℕ) (low : k < len) (stand
           → Comes m src.event (Byte src.at) → Contains groups g
       origin-comes g n e j at of takes src is c =
           option_and_then_some (λ (give : Give). origin_at give.origins j) (give_of e) src is (λ give gives found.
-          let p = origin-piece give.origins j src found in
           let has-give : option_and_then received (event_at entries n) ≡ Some give = ap (option_and_then received) at ∙ (takes ∙ gives) in
-          by-group give p has-give (event_group entries src.event) refl)
+          by-group give (origin-piece give.origins j src found) has-give (event_group entries src.event) refl)
         where
           by-group : (give : Give) (p : IsPiece give.origins src) → option_and_then received (event_at entries n) ≡ Some give → (o : Option ℕ) → event_group entries src.event ≡ o → Contains groups g
           by-group give p gives (Some h) group = going h g (c.group h group) (ByBytes n give p.piece of gives p.has (ap (event_group entries) p.event ∙ group))
@@ -159,9 +157,7 @@ module _ (entries : List Record) (event from len k : ℕ) (low : k < len) (stand
 
       item-by : (g n : ℕ) (at : At) → IsReceivedBy entries g n at → Contains (from_item_at (event_at entries) whole n at) asked → ComesBy g (from_item_at (event_at entries) some n at)
       item-by g n (Byte j) is has = received-by g n j (event_at entries n) refl is.0 is.1 has
-      item-by g n (StartRegister r i) is has = fork-by g n (StartRegister r i) (λ e. cc) is has
-      item-by g n (StartSlot r i) is has = fork-by g n (StartSlot r i) (λ e. cc) is has
-      item-by g n (StartMemory at) is has = fork-by g n (StartMemory at) (λ e. cc) is has
+      item-by g n x is has = fork-by g n x (λ e. cc) is has
 
       -- and to the event whose byte has it
       among-is : (n g : ℕ) → event_group entries n ≡ Some g → Contains groups g → is_among entries groups n ≡ true

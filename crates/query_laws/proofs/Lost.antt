@@ -1,7 +1,6 @@
 -- More items reach more, and the pairs of a query forward are told by what reaches the bytes of writes.
-use Rattle.std.proofs.Common.{◌≡◌, ◌↔◌, ℕ, zero, suc, ◌+◌, ◌<◌, Bool, true, false, if◌then◌else◌, List, [], ◌∷◌, flat_map, Option, Some, None, arith}
+use Rattle.std.proofs.Common.{◌≡◌, ◌↔◌, ℕ, zero, suc, ◌+◌, ◌<◌, Bool, true, false, if◌then◌else◌, List, [], ◌∷◌, flat_map, Option, Some, None, arith, All, Contains}
 use Rattle.std.proofs.lemmas.Bool.Decides.{nat_tests}
-use Rattle.std.specs.Prelude.{All, Contains}
 use Rattle.std.proofs.lemmas.Bool.{false≢true, true≢false}
 use Rattle.std.proofs.lemmas.Option.{same_Some}
 use Rattle.arn_base.specs.declared.records.Extra.{Extra}
@@ -15,7 +14,7 @@ use Rattle.history_model.specs.Broken.{first_broken}
 use Rattle.history_model.specs.Events.{event_at, how_many}
 use Rattle.history_model.specs.Moments.{total}
 use Rattle.lineage_join.specs.Laws.{PairsAreTold}
-use Rattle.lineage_model.specs.Flow.{At, Byte, StartRegister, StartSlot, StartMemory}
+use Rattle.lineage_model.specs.Flow.{At, Byte}
 use Rattle.lineage_model.specs.Joined.{Reaching, is_source, origin_of, from_origin, from_received, from_item_at, from_item, source_byte, from_event, reached}
 use Rattle.lineage_model.specs.Tracking.{EventByte}
 use Rattle.query_model.specs.Forth.{forth_groups}
@@ -50,9 +49,7 @@ module _ (at_number : ℕ → Option Record) (few many : ℕ → At → List Eve
 
     item-within : (n : ℕ) (at : At) → Contains (from_item_at at_number p n at) b → Contains (from_item_at at_number q n at) b
     item-within n (Byte k) has = received-within n k (at_number n) has
-    item-within n (StartRegister r i) has = within n (StartRegister r i) b has
-    item-within n (StartSlot r i) has = within n (StartSlot r i) b has
-    item-within n (StartMemory at) has = within n (StartMemory at) b has
+    item-within n e has = within n e b has
 
     event-within : (n : ℕ) (at : At) (o : Option Record) → Contains (from_event at_number p n at (few n at) o) b → Contains (from_event at_number q n at (many n at) o) b
     event-within n at None has = has

@@ -1,6 +1,7 @@
 -- Members of lists that are made of others.
-use Rattle.std.proofs.Common.{◌≡◌, inl, inr, List, [], ◌∷◌, map, flat_map, ap, sym, subst}
-use Rattle.std.specs.List.{Contains}
+use Rattle.std.proofs.lemmas.Bool.Decides.{nat_tests}
+use Rattle.std.proofs.lemmas.Grind.{common_steps}
+use Rattle.std.proofs.Common.{◌≡◌, inl, inr, List, [], ◌∷◌, map, flat_map, sym, subst, Contains, arith}
 use Rattle.std.proofs.lemmas.List.Elements.{Contains-append_left, Contains-append_right, Contains-append_cases}
 use Rattle.query_laws.proofs.Lists.{none-in, head-or-tail, first-in, later-in}
 
@@ -14,12 +15,7 @@ module _ {X Y : Type 0} where
       ]
 
   pub map-in : (f : X → Y) (xs : List X) (x : X) → Contains xs x → Contains (map f xs) (f x)
-  map-in f [] x has = absurd (none-in x has)
-  map-in f (z ∷ xs) x has =
-      elim (head-or-tail z x xs has) [
-        | inl here ↦ subst (λ (y : Y). Contains (f z ∷ map f xs) y) (ap f here) (first-in (f z) (map f xs))
-        | inr later ↦ later-in (f z) (f x) (map f xs) (map-in f xs x later)
-      ]
+  map-in f xs x h1 = grind (arith, common_steps, nat_tests, none-in, head-or-tail, first-in, later-in)
 
   pub in-flat : (f : X → List Y) (xs : List X) (y : Y) → Contains (flat_map f xs) y → (x : X) × Contains xs x × Contains (f x) y
   in-flat f [] y has = absurd (none-in y has)

@@ -1,5 +1,6 @@
 -- What reaches bytes of files is told by connected groups, and on the records of a run by the tracking of every step.
-use Rattle.std.proofs.Common.{◌≡◌, ℕ, zero, suc, ◌+◌, ◌<◌, ◌≤◌, List, [], ◌∷◌, ◌++◌, length, take, drop, All, Contains, get_or, Option, Some, None, IfSome, nat_le, cond, option_map, option_and_then, slice_get, refl, sym, ap, ap₂, subst, ◌∙◌, arith, length-drop, length-take-le}
+use Rattle.std.proofs.lemmas.Grind.{common_steps}
+use Rattle.std.proofs.Common.{◌≡◌, ℕ, zero, suc, ◌+◌, ◌<◌, ◌≤◌, List, [], ◌∷◌, ◌++◌, length, take, drop, All, Contains, get_or, Option, Some, None, IfSome, option_map, option_and_then, slice_get, refl, sym, ap, ap₂, subst, ◌∙◌, arith, length-drop, length-take-le}
 use Rattle.std.proofs.lemmas.Bool.Decides.{nat_tests}
 use Rattle.std.specs.List.{cons_option}
 use Rattle.std.proofs.lemmas.Option.{slice_get-get_or, slice_get_within}
@@ -14,7 +15,6 @@ use Rattle.history_model.specs.Broken.{first_broken}
 use Rattle.history_model.specs.Events.{event_at}
 use Rattle.history_model.specs.Exchanges.{Starting}
 use Rattle.history_model.specs.Groups.{event_group}
-use Rattle.history_model.specs.Moments.{total}
 use Rattle.lineage_join.specs.Fits.{IsThere}
 use Rattle.lineage_join.specs.Laws.{reaches}
 use Rattle.lineage_laws.specs.Laws.{LineageIsJoined, whole_at}
@@ -26,7 +26,7 @@ use Rattle.log_model.specs.Records.{records}
 use Rattle.parts_model.specs.declared.tagged.TaggedByte.{TaggedByte}
 use Rattle.parts_model.specs.Files.{Files, file_bytes, find_file}
 use Rattle.query_model.specs.Linked.{groups_back}
-use Rattle.query_model.specs.Names.{Named, part_of, writers, written_groups, written_sources}
+use Rattle.query_model.specs.Names.{Named, writers, written_sources}
 use Rattle.query_model.specs.Sources.{reaching}
 use Rattle.replay_laws.specs.Laws.{GroupsPassThrough}
 use Rattle.rv64_model.specs.Carries.{Table, operands}
@@ -141,19 +141,7 @@ module _ (passes : GroupsPassThrough) (joined : LineageIsJoined) (versions : Ver
       ap (λ (xs : List TaggedByte). length xs) part ∙ length-take-le n.len (drop n.from held) (omega (arith, inside, length-drop n.from held))
 
   pub names-run : NamesRun table inputs n
-  names-run = record {
-    bytes =
-        ap (λ (o : Option (List TaggedByte)). option_and_then (part_of n.from n.len) (cond (nat_le n.moment (total (records inputs))) o None))
-        (versions inputs n.moment n.name few).version;
-    agree = λ bytes. none-disagrees table inputs few passes n.moment (written_groups (records inputs) bytes);
-    pairs = λ bytes is.
-        let p = is-part (records inputs) n bytes is in
-        let file = file-of kernel.files n.name p.held (sym (versions inputs n.moment n.name few).version ∙ p.version) in
-        ap (pairs_from (written_sources table (records inputs) n.moment bytes) 0) (part-len bytes p.held p.part p.inside)
-        ∙ pairs-below (written_sources table (records inputs) n.moment bytes) (whole_file table inputs n) 0 n.len
-        (λ j low. let here : 0 + j ≡ j = omega arith in
-        ap (written_sources table (records inputs) n.moment bytes) here ∙ source-is bytes p.held p.part p.inside file j low ∙ ap (whole_file table inputs n) (sym here));
-  }
+  names-run = grind (arith, common_steps, nat_tests, none-disagrees, is-part, file-of, part-len, pairs-below, source-is)
 
 pub names-of-runs : GroupsPassThrough → LineageIsJoined → VersionsAreOfRuns → NamesAreOfRuns
 names-of-runs passes joined versions table inputs n few = names-run passes joined versions table inputs n few

@@ -1,7 +1,7 @@
 -- On the records of a run a lineage query answers what whole tracking gives.
-use Rattle.std.proofs.Common.{◌≡◌, ℕ, zero, suc, ◌+◌, ◌<◌, ◌++◌, List, [], ◌∷◌, length, flat_map, Option, Some, None, refl, ap, ap₂, sym, subst, ◌∙◌, arith}
+use Rattle.std.proofs.lemmas.Grind.{common_steps}
+use Rattle.std.proofs.Common.{◌≡◌, ℕ, zero, suc, ◌+◌, ◌<◌, ◌++◌, List, [], ◌∷◌, length, flat_map, Option, Some, None, refl, ap, ap₂, sym, subst, ◌∙◌, arith, Contains}
 use Rattle.std.proofs.lemmas.Bool.Decides.{nat_tests}
-use Rattle.std.specs.Prelude.{Contains}
 use Rattle.arn_base.specs.declared.records.Pair.{Pair}
 use Rattle.arn_base.specs.declared.records.Record.{Record}
 use Rattle.arn_base.specs.declared.records.Src.{Src}
@@ -84,8 +84,7 @@ module _ (table : Table) (inputs : List Input) (few : HasNumbers (machine_after 
         let moment = moment_of (records inputs) event in
         let len = length (events_of (within moment (run inputs))) in
         let has = subst (λ (xs : List ℕ). Contains xs event) (told inputs moment) (has-happened (records inputs) event there) in
-        let range = range-in 0 len event has in
-        omega (arith, range.1)
+        omega (arith, (range-in 0 len event has).1)
 
     point-whole : (event : ℕ) (at : At) → event < how_many (records inputs) → reaching table (records inputs) (moment_of (records inputs) event) event at ≡ whole_points table inputs event at
     point-whole event at there =
@@ -96,8 +95,4 @@ module _ (table : Table) (inputs : List Input) (few : HasNumbers (machine_after 
         ∙ within-stays table event at at_first (run inputs) moment whole.at_first (tell inputs few) (omega (arith, low)))
 
     pub answers : AnswersRun table inputs
-    answers = record {
-      agree = none-disagrees;
-      reaching = point-whole;
-      pairs = λ event from len there. pairs-same (λ k. reaching table (records inputs) (moment_of (records inputs) event) event (Byte (from + k))) (λ k. whole_points table inputs event (Byte (from + k))) (λ k. point-whole event (Byte (from + k)) there) len 0;
-    }
+    answers = grind (arith, common_steps, nat_tests, none-disagrees, point-whole, pairs-same)

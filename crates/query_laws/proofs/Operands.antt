@@ -1,17 +1,17 @@
 -- The operands of a linkage are bytes of registers, and of what an instruction loads.
-use Rattle.std.proofs.Common.{◌≡◌, ℕ, zero, suc, ◌-◌, ◌<◌, ◌≤◌, ◌++◌, nat_lt, Bool, true, false, if◌then◌else◌, List, [], ◌∷◌, map, ℤ, arith, refl}
+use Rattle.std.proofs.lemmas.Grind.{common_steps}
+use Rattle.std.proofs.Common.{◌≡◌, ℕ, zero, suc, ◌-◌, ◌<◌, ◌≤◌, ◌++◌, nat_lt, Bool, true, false, if◌then◌else◌, List, [], ◌∷◌, map, ℤ, arith, refl, ltb-true}
 use Rattle.std.proofs.lemmas.Bool.Decides.{nat_tests}
 use Rattle.std.specs.List.{AllByRecursion}
-use Rattle.std.proofs.lemmas.Bool.{ltb-true}
 use Rattle.rv64_isa.specs.declared.instruction.ImmOp.{ImmOp}
 use Rattle.rv64_isa.specs.declared.instruction.ImmOp.TheVariants.{Addi}
 use Rattle.rv64_isa.specs.declared.instruction.Instr.{Instr}
-use Rattle.rv64_isa.specs.declared.instruction.Instr.TheVariants.{Lui, Auipc, Jal, Jalr, Branch, Load, Store, Imm, Op, Fence, Ecall, Ebreak}
+use Rattle.rv64_isa.specs.declared.instruction.Instr.TheVariants.{Load, Store, Imm, Op}
 use Rattle.rv64_isa.specs.declared.instruction.LoadOp.{LoadOp}
 use Rattle.rv64_isa.specs.declared.instruction.RegOp.{RegOp}
 use Rattle.rv64_isa.specs.declared.instruction.RegOp.TheVariants.{Add}
 use Rattle.rv64_isa.specs.declared.instruction.StoreOp.{StoreOp}
-use Rattle.rv64_model.specs.Carries.{Operand, Left, Right, Loaded, Address, Rule, Bytewise, Upward, Shifted, Compared, below, by_rule, copy_operands, data_operands, extended_from, first_bytes, imm_copies, imm_takes, index_operands, is_zero, load_takes, of_left, op_takes, operands, rule_of, taken_if, unless_x0, width_of, with_address, within_width}
+use Rattle.rv64_model.specs.Carries.{Operand, Left, Right, Loaded, Address, Rule, below, by_rule, copy_operands, data_operands, extended_from, first_bytes, imm_copies, imm_takes, index_operands, is_zero, load_takes, of_left, op_takes, operands, rule_of, taken_if, unless_x0, width_of, with_address, within_width}
 use Rattle.rv64_model.specs.declared.linkage.Linkage.{Linkage}
 use Rattle.rv64_model.specs.Operands.{store_len, stored_len}
 use Rattle.rv64_model.specs.Values.{reg_op}
@@ -46,12 +46,7 @@ module _ (instr : Instr) where
   first-ones f h (suc n) le = mapped-push f (below n) n (first-ones f h n (omega (arith, le))) (h n (omega (arith, le)))
 
   by-rule : (rule : Rule) (width i : ℕ) → width ≤ 8 → i < 8 → AreBytes instr (by_rule rule width i)
-  by-rule Bytewise width i w l = (l, (l, tt))
-  by-rule Upward width i w l =
-      all-append (IsByteOf instr) (first_bytes Left (suc i)) (first_bytes Right (suc i)) (first-ones Left (λ k h. h) (suc i) (omega (arith, l))) (first-ones Right (λ k h. h) (suc i) (omega (arith, l)))
-  by-rule Shifted width i w l = all-append (IsByteOf instr) (first_bytes Left width) (Right 0 ∷ []) (first-ones Left (λ k h. h) width w) (omega arith, tt)
-  by-rule Compared width zero w l = all-append (IsByteOf instr) (first_bytes Left width) (first_bytes Right width) (first-ones Left (λ k h. h) width w) (first-ones Right (λ k h. h) width w)
-  by-rule Compared width (suc i) w l = tt
+  by-rule rule width i h1 h2 = grind (arith, common_steps, nat_tests, all-append, first-ones)
 
   width-low : (op : RegOp) → width_of op ≤ 8
   width-low op = grind (arith, nat_tests)
@@ -65,9 +60,7 @@ module _ (instr : Instr) where
   of-left : (ops : List Operand) → AreBytes instr ops → AreBytes instr (of_left ops)
   of-left [] h = tt
   of-left (Left i ∷ ops) h = (h.0, of-left ops h.1)
-  of-left (Right i ∷ ops) h = of-left ops h.1
-  of-left (Loaded k ∷ ops) h = of-left ops h.1
-  of-left (Address i ∷ ops) h = of-left ops h.1
+  of-left (_ ∷ ops) h = of-left ops h.1
 
   imm-takes : (op : ImmOp) (imm : ℤ) (i : ℕ) → i < 8 → AreBytes instr (imm_takes op imm i)
   imm-takes Addi imm i l = by-test (is_zero imm)
@@ -95,18 +88,11 @@ copy-bytes : (instr : Instr) (i : ℕ) → i < 8 → AreBytes instr (copy_operan
 copy-bytes instr i h1 = grind (arith, nat_tests, imm-copies, ltb-true, taken-if, unless-x0)
 
 data-bytes : (instr : Instr) (i : ℕ) → i < 8 → AreBytes instr (data_operands instr i)
-data-bytes (Lui rd imm) i l = tt
-data-bytes (Auipc rd imm) i l = tt
-data-bytes (Jal rd imm) i l = tt
-data-bytes (Jalr rd rs1 imm) i l = tt
-data-bytes (Branch op rs1 rs2 imm) i l = tt
 data-bytes (Load op rd rs1 imm) i l = unless-x0 (Load op rd rs1 imm) rd (load_takes op i) (load-takes op rd rs1 imm i)
 data-bytes (Store op rs1 rs2 imm) i l = taken-if (Store op rs1 rs2 imm) (nat_lt i (store_len op)) (Right i) (λ t. l)
 data-bytes (Imm op rd rs1 imm) i l = unless-x0 (Imm op rd rs1 imm) rd (imm_takes op imm i) (imm-takes (Imm op rd rs1 imm) op imm i l)
 data-bytes (Op op rd rs1 rs2) i l = unless-x0 (Op op rd rs1 rs2) rd (op_takes op i) (op-takes (Op op rd rs1 rs2) op i l)
-data-bytes (Fence word) i l = tt
-data-bytes Ecall i l = tt
-data-bytes Ebreak i l = tt
+data-bytes _ i l = tt
 
 index-bytes : (instr : Instr) (i : ℕ) → i < 8 → AreBytes instr (index_operands instr i)
 index-bytes (Load op rd rs1 imm) i l = with-address (Load op rd rs1 imm) (data_operands (Load op rd rs1 imm) i) (data-bytes (Load op rd rs1 imm) i l)

@@ -1,9 +1,9 @@
 -- A stored origin is a byte that an event has.
-use Rattle.std.proofs.Common.{◌≡◌, inl, inr, ℕ, zero, suc, ◌+◌, ◌-◌, ◌<◌, ◌≤◌, ◌==◌, ◌++◌, not, nat_lt, Bool, true, false, if◌then◌else◌, List, [], ◌∷◌, length, Option, Some, None, option_map, slice_get, refl, ap, subst, ◌∙◌, arith, append_assoc}
+use Rattle.std.proofs.lemmas.Grind.{common_steps}
+use Rattle.std.proofs.Common.{◌≡◌, inl, inr, ℕ, zero, suc, ◌+◌, ◌-◌, ◌<◌, ◌≤◌, ◌==◌, ◌++◌, nat_lt, Bool, true, false, if◌then◌else◌, List, [], ◌∷◌, length, Option, Some, None, option_map, slice_get, refl, ap, subst, ◌∙◌, arith, append_assoc, Contains}
 use Rattle.std.proofs.lemmas.Bool.Decides.{nat_tests}
-use Rattle.std.specs.Prelude.{Contains}
 use Rattle.std.specs.List.{list_all}
-use Rattle.std.proofs.lemmas.Bool.{false≢true, true≢false, and_parts, leb-true, ltb-true}
+use Rattle.std.proofs.lemmas.Bool.{false≢true, and_parts, leb-true, ltb-true, not-false}
 use Rattle.std.proofs.lemmas.List.Elements.{filter-append}
 use Rattle.std.proofs.lemmas.Option.{none-some, same_Some, option_and_then_some}
 use Rattle.arn_base.specs.declared.records.Give.{Give}
@@ -41,10 +41,7 @@ origin-piece (o ∷ origins) k src is = by-test (nat_lt k o.len) refl is (origin
         let r = rest h in record { piece = r.piece; has = later-in o r.piece origins r.has; event = r.event; low = r.low; inside = r.inside }
 
 all-in : {X : Type 0} (p : X → Bool) (xs : List X) (x : X) → list_all p xs ≡ true → Contains xs x → p x ≡ true
-all-in p [] x h has = absurd (none-in x has)
-all-in p (y ∷ xs) x h has =
-    let parts = and_parts (p y) (list_all p xs) h in
-    elim (head-or-tail y x xs has) [ inl is ↦ subst (λ (z : _). p z ≡ true) is parts.0 | inr later ↦ all-in p xs x parts.1 later ]
+all-in p xs x h1 h2 = grind (arith, common_steps, nat_tests, none-in, and_parts, head-or-tail)
 
 pub got-in : {X : Type 0} (xs : List X) (i : ℕ) (x : X) → slice_get xs i ≡ Some x → Contains xs x
 got-in [] i x h = absurd (none-some x h)
@@ -55,10 +52,6 @@ got-append : {X : Type 0} (xs ys : List X) (i : ℕ) (x : X) → slice_get xs i 
 got-append [] ys i x h = absurd (none-some x h)
 got-append (y ∷ xs) ys zero x h = h
 got-append (y ∷ xs) ys (suc i) x h = got-append xs ys i x h
-
-un-not : (b : Bool) → not b ≡ false → b ≡ true
-un-not true h = refl
-un-not false h = absurd (true≢false h)
 
 -- a record's origins name events before it
 record IsBehind (all : List Record) (e : Record) : Type 0 where
@@ -73,7 +66,7 @@ behind-some before [] e h has = absurd (none-in e has)
 behind-some before (x ∷ rest) e h has =
     let next = follows before x rest h in
     elim (head-or-tail x e rest has) [
-      | inl is ↦ record { before = before; rest = x ∷ rest; whole = refl; origins = subst (λ (z : Record). are_origins before (give_of z) ≡ true) is (un-not (are_origins before (give_of x)) next.0.origins); placed = subst (λ (z : Record). misplaces_start z ≡ false) is next.0.placed }
+      | inl is ↦ record { before = before; rest = x ∷ rest; whole = refl; origins = subst (λ (z : Record). are_origins before (give_of z) ≡ true) is (not-false (are_origins before (give_of x)) next.0.origins); placed = subst (λ (z : Record). misplaces_start z ≡ false) is next.0.placed }
       | inr later ↦ subst (λ (es : List Record). IsBehind es e) (append_assoc before (x ∷ []) rest) (behind-some (before ++ x ∷ []) rest e next.1 later)
     ]
 

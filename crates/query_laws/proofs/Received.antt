@@ -1,7 +1,7 @@
 -- The items of a group alone are bytes that its events received, or with which it began.
-use Rattle.std.proofs.Common.{◌≡◌, ℕ, zero, suc, List, [], ◌∷◌, None, refl, subst, arith}
+use Rattle.std.proofs.lemmas.Grind.{common_steps}
+use Rattle.std.proofs.Common.{◌≡◌, ℕ, zero, suc, List, [], ◌∷◌, None, refl, subst, arith, All}
 use Rattle.std.proofs.lemmas.Bool.Decides.{nat_tests}
-use Rattle.std.specs.Prelude.{All}
 use Rattle.std.specs.List.{AllByRecursion}
 use Rattle.std.proofs.lemmas.List.Elements.{All-nil, All-cons}
 use Rattle.arn_base.specs.declared.records.Record.{Record}
@@ -72,9 +72,7 @@ module _ (table : Table) where
 
   module _ (entries : List Record) (g : ℕ) where
     as-items : (event : ℕ) (items : List EventByte) → AllByRecursion (IsShown table whole is-whole entries g event) items → All (IsItem entries g event) items
-    as-items event [] are = All-nil (IsItem entries g event)
-    as-items event (item ∷ items) are =
-        All-cons (IsItem entries g event) item items (record { received = are.0.0.0; precedes = are.0.1 }) (as-items event items are.1)
+    as-items event items h1 = grind (arith, common_steps, nat_tests, All-nil, All-cons)
 
     module _ (follows : FollowsHolders) (lens : ActsHaveLen) (moment : ℕ) (stands : first_broken entries ≡ None) (blocks : All HasWholeBlocks entries) where
       own-keeps : (own : Own) → history.alone entries g moment ≡ Makes own → Keeps table whole is-whole entries g (last 0 own.inside) (holders_from own.inside none_holds) (tracked_of table (Makes own))

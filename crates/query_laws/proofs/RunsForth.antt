@@ -1,6 +1,5 @@
 -- On the records of a run a query forward answers what whole tracking gives.
-use Rattle.std.proofs.Common.{◌≡◌, ◌↔◌, ℕ, ◌+◌, ◌<◌, List, length, sym, subst, ◌∙◌, arith}
-use Rattle.std.specs.Prelude.{Contains}
+use Rattle.std.proofs.Common.{◌≡◌, ◌↔◌, ℕ, ◌+◌, ◌<◌, List, length, sym, subst, ◌∙◌, arith, Contains}
 use Rattle.arn_base.specs.declared.records.Pair.{Pair}
 use Rattle.rv64_model.specs.Carries.{Table}
 use Rattle.arn_model.specs.Kernel.{at_first}
@@ -73,11 +72,10 @@ module _ (table : Table) (inputs : List Input) (few : HasNumbers (machine_after 
 pub of-runs : GroupsPassThrough → LineageIsJoined → RecordsTellEvents → StepsTell → EventsRecorded → RunsAreUnbroken → QueriesAreOfRuns → ForthLosesNothing → ForthIsOfRuns
 of-runs passes joined told tell recorded unbroken answers lost table inputs event from len few =
     let stands = unbroken inputs few in
-    let blocks = run-whole inputs few tell recorded stands in
     record {
       agree = (answers table inputs few).agree (total (records inputs)) (forth_groups (records inputs) event from len);
       pairs = λ pair.
-          let mine = lost table (records inputs) event from len stands blocks pair in
+          let mine = lost table (records inputs) event from len stands (run-whole inputs few tell recorded stands) pair in
           let theirs = pairs-whole table inputs few passes joined told tell event from len pair in
           (λ c. theirs.0 (mine.0 c), λ p. mine.1 (theirs.1 p));
     }

@@ -1,5 +1,6 @@
 -- Bytes that live members hold, and what each step takes of them.
-use Rattle.std.proofs.Common.{◌≡◌, ◌⊎◌, inl, inr, ℕ, zero, suc, ◌-◌, ◌<◌, ◌==◌, ◌&&◌, Bool, true, false, if◌then◌else◌, List, [], ◌∷◌, map, flat_map, Option, Some, None, IfSome, IsNone, option_map, unwrap_or, refl, ap, sym, subst, ◌∙◌, arith}
+use Rattle.std.proofs.lemmas.Grind.{common_steps}
+use Rattle.std.proofs.Common.{◌≡◌, ◌⊎◌, inl, inr, ℕ, suc, ◌-◌, ◌<◌, ◌==◌, ◌&&◌, Bool, true, false, if◌then◌else◌, List, [], ◌∷◌, map, flat_map, Option, Some, None, IfSome, IsNone, option_map, unwrap_or, refl, ap, sym, subst, ◌∙◌, arith}
 use Rattle.std.proofs.lemmas.Bool.Decides.{nat_tests}
 use Rattle.std.specs.List.{AllByRecursion}
 use Rattle.std.proofs.lemmas.Bool.{true≢false, and_parts, leb-true, ltb-true}
@@ -64,9 +65,7 @@ InScope s (StartMemory at) = s.window at
 -- a byte that the step shows where it receives it
 abbrev pub IsByte : At → Type 0
 IsByte (Byte k) = Unit {0}
-IsByte (StartRegister r i) = ⊥
-IsByte (StartSlot r i) = ⊥
-IsByte (StartMemory at) = ⊥
+IsByte _ = ⊥
 
 abbrev pub IsShownGot : Scope → Transfer → At → Type 0
 IsShownGot s d at = IsGot s d at × IsByte at
@@ -113,11 +112,7 @@ module _ (table : Table) (s : Scope) (is-scope : IsScope s) (h : Holders) where
     either false l ds hit miss = miss refl
 
     unless-result : (r : ℕ) (d : Dependence) → IsSource s h Q d → AreSources s h Q (unless_result r (d ∷ []))
-    unless-result r d is = by-test (r == 10)
-      where
-        by-test : (b : Bool) → AreSources s h Q (if b then [] else d ∷ [])
-        by-test true = tt
-        by-test false = (is, tt)
+    unless-result r d h1 = grind (arith, common_steps, nat_tests)
 
   same-number : (a b : ℕ) → a ≡ b → (a == b) ≡ true
   same-number a b e = elim (eqb_tells a b) [ inl is ↦ is.0 | inr apart ↦ absurd (apart.1 e) ]
@@ -149,19 +144,18 @@ module _ (table : Table) (s : Scope) (is-scope : IsScope s) (h : Holders) where
   receives-held pid place len = grind (arith, nat_tests, offset-below, result-held)
 
   runs-held : (pid : ℕ) (instr : Instr) (place : Option Place) → IsTaking table s h (Runs pid instr place) → FlowIsHeld (Runs pid instr place)
-  runs-held pid instr place takes p hs (Register q zero i) lives held = self (IsGot s (Runs pid instr place)) p hs (Register q zero i) lives held
   runs-held pid instr place takes p hs (Register q (suc r) i) lives held =
       let Q = IsGot s (Runs pid instr place) in
       either Q ((q == pid) && (suc r == rd_of instr)) (Register q (suc r) i) (result_bytes table pid instr place i)
       (λ hit. priors s h Q (flat_map (operand_bytes pid instr place) (table instr i)) (takes i (is-scope.results (suc r) i held.1)))
       (λ miss. self Q p hs (Register q (suc r) i) lives held)
-  runs-held pid instr place takes p hs (Slot q r i) lives held = self (IsGot s (Runs pid instr place)) p hs (Slot q r i) lives held
   runs-held pid instr place takes p hs (Memory made at) lives held = by-offset (offset place (stored_len instr) made at) refl
     where
       by-offset : (o : Option ℕ) → offset place (stored_len instr) made at ≡ o → AreSources s h (IsGot s (Runs pid instr place)) (Or-self (Memory made at) (option_map (result_bytes table pid instr place) o))
       by-offset None e = self (IsGot s (Runs pid instr place)) p hs (Memory made at) lives held
       by-offset (Some k) e =
           priors s h (IsGot s (Runs pid instr place)) (flat_map (operand_bytes pid instr place) (table instr k)) (takes k (is-scope.stores instr k (offset-below place (stored_len instr) made at k e)))
+  runs-held pid instr place takes p hs x lives held = self (IsGot s (Runs pid instr place)) p hs x lives held
 
   -- an image
   started-held : (pid made load len : ℕ) (block : Option Place) (block_len at : ℕ) → RangeIsHeld s h block block_len → AreSources s h (IsGot s (Starts pid made load len block block_len)) (started_byte load len block block_len at)
@@ -196,22 +190,7 @@ module _ (table : Table) (s : Scope) (is-scope : IsScope s) (h : Holders) where
 
   fork-child : (pid child from into p : ℕ) (parent : Holds) (l : Location) → h pid ≡ Some parent → parent.window ≡ from → IsUnheldBy into parent → p ≡ child
       → IsHeldBy s (record { window = into; segment = parent.segment }) p l → AreSources s h (IsGot s (Forks pid child from into)) (flow table (Forks pid child from into) l)
-  fork-child pid child from into p parent (Register q r i) lives window u is held =
-      let Q = IsGot s (Forks pid child from into) in
-      behind-result Q ((q == pid) && (r == 10)) (Register q r i) (when (q == child) (unless_result r (Prior (Register pid r i) ∷ [])))
-      (by-number Q (q == child) (Register q r i) (unless_result r (Prior (Register pid r i) ∷ [])) (same-number q child (held.0 ∙ is))
-      (unless-result Q r (Prior (Register pid r i)) (pid, parent, lives, (refl, held.1))))
-  fork-child pid child from into p parent (Slot q r i) lives window u is held =
-      let Q = IsGot s (Forks pid child from into) in
-      by-number Q (q == child) (Slot q r i) (Prior (Slot pid r i) ∷ []) (same-number q child (held.0 ∙ is)) (self Q pid parent (Slot pid r i) lives (refl, held.1))
-  fork-child pid child from into p parent (Memory m at) lives window u is (inl own) =
-      let Q = IsGot s (Forks pid child from into) in
-      by-number Q (m == into) (Memory m at) (Prior (Memory from at) ∷ []) (same-number m into (sym own.0)) (self Q pid parent (Memory from at) lives (inl (window, own.1)))
-  fork-child pid child from into p parent (Memory m at) lives window u is (inr shared) =
-      let Q = IsGot s (Forks pid child from into) in
-      either Q (m == into) (Memory m at) (Prior (Memory from at) ∷ [])
-      (λ hit. absurd (true≢false (sym hit ∙ not-new pid into m at parent u (inr shared))))
-      (λ miss. self Q pid parent (Memory m at) lives (inr shared))
+  fork-child pid child from into p parent l h1 h2 h3 h4 h5 = grind (arith, nat_tests, behind-result, by-number, same-number, unless-result, self, either, true≢false, not-new)
 
   fork-other : (pid child from into p : ℕ) (hs : Holds) (l : Location) → h p ≡ Some hs → IsUnheldBy into hs → (p ≡ child → ⊥) → IsHeldBy s hs p l
       → AreSources s h (IsGot s (Forks pid child from into)) (flow table (Forks pid child from into) l)
@@ -268,15 +247,7 @@ module _ (table : Table) (s : Scope) (is-scope : IsScope s) (h : Holders) where
 
   shares-own : (pid made p : ℕ) (own : Holds) (l : Location) → h pid ≡ Some own → p ≡ pid → IsHeldBy s (record { window = own.window; segment = Some made }) p l
       → AreSources s h (IsGot s (Shares pid made)) (flow table (Shares pid made) l)
-  shares-own pid made p own (Register q r i) lives is held =
-      let Q = IsGot s (Shares pid made) in
-      behind-result Q ((q == pid) && (r == 10)) (Register q r i) None (self Q pid own (Register q r i) lives (held.0 ∙ is, held.1))
-  shares-own pid made p own (Slot q r i) lives is held = self (IsGot s (Shares pid made)) pid own (Slot q r i) lives (held.0 ∙ is, held.1)
-  shares-own pid made p own (Memory m at) lives is (inl window) =
-      let Q = IsGot s (Shares pid made) in
-      either Q (m == made) (Memory m at) [] (λ hit. tt) (λ miss. self Q pid own (Memory m at) lives (inl window))
-  shares-own pid made p own (Memory m at) lives is (inr segment) =
-      by-number (IsGot s (Shares pid made)) (m == made) (Memory m at) [] (same-number m made (sym (same_Some made m segment.0))) tt
+  shares-own pid made p own l h1 h2 h3 = grind (arith, common_steps, nat_tests, behind-result, self, either, by-number, same-number, same_Some)
 
   shares-held : (pid made : ℕ) → IsTaking table s h (Shares pid made) → FlowIsHeld (Shares pid made)
   shares-held pid made h1 = grind (arith, nat_tests, behind-result, changes, shared-is, shares-own)

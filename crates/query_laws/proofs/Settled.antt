@@ -1,7 +1,7 @@
 -- The group of a process is the same at each later record.
-use Rattle.std.proofs.Common.{◌≡◌, ℕ, ◌+◌, ◌==◌, ◌&&◌, ◌||◌, Bool, true, false, not, if◌then◌else◌, List, [], ◌∷◌, ◌++◌, length, Option, Some, None, slice_get, refl, ap, sym, subst, ◌∙◌, arith, length-append}
+use Rattle.std.proofs.lemmas.Grind.{common_steps}
+use Rattle.std.proofs.Common.{◌≡◌, ℕ, ◌+◌, ◌==◌, ◌&&◌, ◌||◌, Bool, true, false, not, if◌then◌else◌, List, [], ◌∷◌, ◌++◌, length, Option, Some, None, slice_get, refl, sym, subst, ◌∙◌, arith, length-append, true≢false, eqb-true}
 use Rattle.std.proofs.lemmas.Bool.Decides.{nat_tests}
-use Rattle.std.proofs.lemmas.Bool.{true≢false, eqb-true}
 use Rattle.std.proofs.lemmas.List.Elements.{filter-append}
 use Rattle.std.proofs.lemmas.List.Folds.{list_any-append}
 use Rattle.arn_base.specs.declared.records.Extra.{Extra}
@@ -12,7 +12,7 @@ use Rattle.parts_model.specs.declared.calls.TheConstants.{FORK}
 use Rattle.parts_model.specs.Replies.{is_success}
 use Rattle.acts_model.specs.Records.{is_event, process_of}
 use Rattle.history_model.specs.Broken.{Behind, Nowhere, behind, behind_from, behind_record, broken_from, greatest, is_behind, misnumbers}
-use Rattle.history_model.specs.Events.{events, event_at, how_many}
+use Rattle.history_model.specs.Events.{event_at, how_many}
 use Rattle.history_model.specs.Groups.{Groups, group_forked, groups_told, groups_from, group_of, event_group}
 use Rattle.history_model.specs.Moments.{changed}
 use Rattle.history_model.specs.Names.{is_boot, is_booted}
@@ -51,20 +51,11 @@ other-group groups most child pid g o f new is = by-test (pid == child) refl
     same t = (let low = (f pid g is).made in let e = eqb-true pid child t in omega (arith, low, e, new))
 
     by-test : (b : Bool) → (pid == child) ≡ b → (if b then o else groups pid) ≡ Some g
-    by-test true t = absurd (same t)
-    by-test false t = is
+    by-test b h1 = grind (arith, nat_tests, same)
 
 forked-group : (groups : Groups) (most pid child p g : ℕ) (more : Extra) → AreFounded groups most → child ≡ most + 1 → groups p ≡ Some g → group_forked pid child more groups p ≡ Some g
 forked-group groups most pid child p g (extra.Start start) f new is = other-group groups most child p g (Some child) f new is
-forked-group groups most pid child p g extra.Nothing f new is = other-group groups most child p g (groups pid) f new is
-forked-group groups most pid child p g (extra.Give give) f new is = other-group groups most child p g (groups pid) f new is
-forked-group groups most pid child p g (extra.Put file at bytes) f new is = other-group groups most child p g (groups pid) f new is
-forked-group groups most pid child p g (extra.Console bytes) f new is = other-group groups most child p g (groups pid) f new is
-forked-group groups most pid child p g (extra.Reply device bytes) f new is = other-group groups most child p g (groups pid) f new is
-forked-group groups most pid child p g extra.Fault f new is = other-group groups most child p g (groups pid) f new is
-forked-group groups most pid child p g extra.Absent f new is = other-group groups most child p g (groups pid) f new is
-forked-group groups most pid child p g (extra.Name file path) f new is = other-group groups most child p g (groups pid) f new is
-forked-group groups most pid child p g (extra.Sent device bytes) f new is = other-group groups most child p g (groups pid) f new is
+forked-group groups most pid child p g _ f new is = other-group groups most child p g (groups pid) f new is
 
 called-group : (before : List Record) (groups : Groups) (pid result p g : ℕ) (more : Extra) (b : Bool) → misnumbers before (if b then Some result else None) ≡ false → AreFounded groups (greatest before) → groups p ≡ Some g
     → (if b then group_forked pid result more groups else groups) p ≡ Some g
@@ -72,15 +63,10 @@ called-group before groups pid result p g more true h f is = forked-group groups
 called-group before groups pid result p g more false h f is = is
 
 pub told-group : (before : List Record) (e : Record) (groups : Groups) (p g : ℕ) → Stands before e → Unbooted before → AreFounded groups (greatest before) → groups p ≡ Some g → groups_told e groups p ≡ Some g
-told-group before (entry.File name bytes) groups p g s u f is = is
 told-group before (entry.Boot name give) groups p g s u f is =
     let none = (u s.comes).0 in let old = f p g is in absurd (omega (arith, none, old.low, old.high))
-told-group before (entry.Typed bytes) groups p g s u f is = is
-told-group before (entry.Unplug device) groups p g s u f is = is
-told-group before (entry.Slice pid ran) groups p g s u f is = is
-told-group before (entry.Signal pid signal cut handler) groups p g s u f is = is
 told-group before (entry.Call pid number result more) groups p g s u f is = called-group before groups pid result p g more ((number == FORK) && is_success result) s.child f is
-told-group before (entry.End pid status) groups p g s u f is = is
+told-group before _ groups p g s u f is = is
 
 pub founded-push : (before : List Record) (e : Record) (groups : Groups) → Stands before e → AreFounded groups (greatest before) → AreFounded (groups_told e groups) (greatest (before ++ e ∷ []))
 founded-push before e groups s f = subst (λ (n : ℕ). AreFounded (groups_told e groups) n) (sym (greatest-push before 0 e)) (tells-one before e groups s.child f)
@@ -104,14 +90,10 @@ pub stands-at : (before rest : List Record) (e : Record) → is_event e ≡ true
 stands-at before rest e h1 = grind (arith, nat_tests, at-len, filter-append)
 
 pub how-many-push : (before : List Record) (e : Record) → is_event e ≡ true → how_many (before ++ e ∷ []) ≡ how_many before + 1
-how-many-push before e is =
-    ap (λ (es : List Record). length es) (filter-append is_event before (e ∷ []) ∙ ap (λ (b : Bool). events before ++ (if b then e ∷ [] else [])) is)
-    ∙ length-append (events before) (e ∷ [])
+how-many-push before e h1 = grind (arith, common_steps, nat_tests, filter-append, length-append)
 
 pub how-many-slice : (before : List Record) (pid ran : ℕ) → how_many (before ++ entry.Slice pid ran ∷ []) ≡ how_many before
-how-many-slice before pid ran =
-    ap (λ (es : List Record). length es) (filter-append is_event before (entry.Slice pid ran ∷ []))
-    ∙ (length-append (events before) [] ∙ omega arith)
+how-many-slice before pid ran = grind (arith, common_steps, nat_tests, filter-append, length-append)
 
 -- the group of an event
 pub group-at : (entries : List Record) (n pid g : ℕ) (e : Record) → event_at entries n ≡ Some e → process_of e ≡ Some pid → group_of entries pid ≡ Some g → event_group entries n ≡ Some g

@@ -1,5 +1,6 @@
 -- Which bytes of writes to the outside a byte reaches.
-use Rattle.std.proofs.Common.{◌≡◌, ℕ, ◌<◌, ◌==◌, ◌&&◌, Bool, true, false, if◌then◌else◌, List, [], filter, Option, Some, None, refl, ap, ap₂, sym, subst, arith}
+use Rattle.std.proofs.lemmas.Grind.{common_steps}
+use Rattle.std.proofs.Common.{◌≡◌, ℕ, ◌<◌, ◌==◌, ◌&&◌, Bool, true, false, if◌then◌else◌, List, [], filter, Option, Some, None, refl, ap, sym, subst, arith}
 use Rattle.std.proofs.lemmas.Bool.Decides.{nat_tests}
 use Rattle.std.specs.List.{Contains, list_any, range_with_len}
 use Rattle.std.proofs.lemmas.Bool.{false≢true, and_from, and_parts, eqb-true}
@@ -21,9 +22,7 @@ place-is : (k : ℕ) (at : At) → is_place k at ≡ true → at ≡ Byte k
 place-is k at h1 = grind (arith, nat_tests, eqb-true, false≢true)
 
 byte-is : (event k : ℕ) (byte : EventByte) → is_byte event k byte ≡ true → byte ≡ record { event = event; at = Byte k }
-byte-is event k byte is =
-    let parts = and_parts (byte.event == event) (is_place k byte.at) is in
-    ap₂ (λ (e : ℕ) (at : At). record { event = e; at = at }) (eqb-true byte.event event parts.0) (place-is k byte.at parts.1)
+byte-is event k byte h1 = grind (arith, common_steps, nat_tests, and_parts, eqb-true, place-is)
 
 is-byte : (event k : ℕ) → is_byte event k (record { event = event; at = Byte k }) ≡ true
 is-byte event k = and_from (event == event) (k == k) (itself event) (itself k)
@@ -50,11 +49,10 @@ module _ (reaching : Reaching) (event k n len : ℕ) where
   reached-of byte has =
       let found = in-map byte-of (filter has-it (range_with_len 0 len)) byte has in
       let kept = in-kept has-it (range_with_len 0 len) found.0 found.1 in
-      let low = (range-in 0 len found.0 kept.0).1 in
       let one = in-any (is_byte event k) (reaching n (Byte found.0)) kept.1 in
       record {
         at = found.0;
-        inside = omega (arith, low);
+        inside = omega (arith, (range-in 0 len found.0 kept.0).1);
         reached = subst (λ (b : EventByte). Contains (reaching n (Byte found.0)) b) (byte-is event k one.0 one.2) one.1;
         same = found.2;
       }
@@ -101,7 +99,6 @@ sinks-reached entries groups reaching event k n at = (
       let found = in-flat (λ m. sinks_at entries groups reaching event k m (event_at entries m)) (range_with_len 0 (how_many entries)) (record { event = n; at = Byte at }) has in
       by-event entries groups reaching event k n found.0 at (event_at entries found.0) refl found.2),
   λ r. (
-      let low = below-len (events entries) n r.entry r.there in
       flat-in (λ m. sinks_at entries groups reaching event k m (event_at entries m)) (range_with_len 0 (how_many entries)) n (record { event = n; at = Byte at })
-      (in-range 0 (how_many entries) n (omega arith) (omega (arith, low))) (sinks-of entries groups reaching event k n at r)),
+      (in-range 0 (how_many entries) n (omega arith) (omega (arith, below-len (events entries) n r.entry r.there))) (sinks-of entries groups reaching event k n at r)),
 )

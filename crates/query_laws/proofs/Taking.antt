@@ -95,15 +95,12 @@ module _ (table : Table) (s : Scope) (Fit : Instr → Type 0) (L : Instr → ℕ
   act-takes pid event e before hs a h1 = grind (arith, nat_tests, range-held)
 
   record-takes : (pid event : ℕ) (e : Record) (before : Cpu) (hs : Holds) (a : Act) → act_of before e ≡ Some a → with_booted event e h pid ≡ Some hs → Takes (event_inside pid event e before hs a)
-  record-takes pid event (entry.File name bytes) before hs a tells lives = absurd (none-some a tells)
   record-takes pid event (entry.Boot name give) before hs a tells lives =
       subst (λ (x : Act). Takes (event_inside pid event (entry.Boot name give) before hs x)) (same_Some (act.Starts give.bytes 0 0) a tells) (λ fit possible k low. absurd (omega (arith, low)))
-  record-takes pid event (entry.Typed bytes) before hs a tells lives = absurd (none-some a tells)
-  record-takes pid event (entry.Unplug device) before hs a tells lives = absurd (none-some a tells)
-  record-takes pid event (entry.Slice other ran) before hs a tells lives = absurd (none-some a tells)
   record-takes pid event (entry.Signal other signal cut handler) before hs a tells lives = act-takes pid event (entry.Signal other signal cut handler) before hs a lives
   record-takes pid event (entry.Call other number result more) before hs a tells lives = act-takes pid event (entry.Call other number result more) before hs a lives
   record-takes pid event (entry.End other status) before hs a tells lives = act-takes pid event (entry.End other status) before hs a lives
+  record-takes pid event _ before hs a tells lives = absurd (none-some a tells)
 
   pub step-takes : (i : Inside) → IsStep h i → Takes i
   step-takes i (Steps pid instr is) =

@@ -103,16 +103,7 @@ act-record event pid e before holds (act.Starts file block block_len) tells len 
     λ k low. record { inside = omega (arith, low, len); received = receiving-origin before e (act.Starts file block block_len) tells tt }
 act-record event pid e before holds (act.Receives at bytes result) tells len =
     λ k low. record { inside = omega (arith, low, len); received = receiving-origin before e (act.Receives at bytes result) tells tt }
-act-record event pid e before holds (act.Returns result) tells len = tt
-act-record event pid e before holds (act.Gives at n result) tells len = tt
-act-record event pid e before holds (act.Forks child) tells len = tt
-act-record event pid e before holds (act.Founds child) tells len = tt
-act-record event pid e before holds act.Shares tells len = tt
-act-record event pid e before holds act.Leaves tells len = tt
-act-record event pid e before holds (act.Delivers signal handler cut) tells len = tt
-act-record event pid e before holds act.Exits tells len = tt
-act-record event pid e before holds (act.Faults status) tells len = tt
-act-record event pid e before holds (act.Dies signal cut) tells len = tt
+act-record event pid e before holds _ tells len = tt
 
 pub tells-record : ActsHaveLen → (h : Holders) (i : Inside) → IsStep h i → TellsRecord i.transfer i.event
 tells-record lens h i (Steps pid instr is) =

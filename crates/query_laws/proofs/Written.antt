@@ -1,8 +1,7 @@
 -- Bytes of files were written by bytes that events have.
-use Rattle.std.proofs.Common.{◌≡◌, ℕ, zero, suc, ◌+◌, ◌-◌, ◌≤◌, Bool, true, false, cond, nat_le, List, [], ◌∷◌, length, take, drop, filter, Option, Some, None, IfSome, option_map, slice_get, sym, ap, subst, ◌∙◌, arith}
+use Rattle.std.proofs.Common.{◌≡◌, ℕ, zero, suc, ◌+◌, ◌-◌, ◌≤◌, Bool, true, false, cond, nat_le, List, [], ◌∷◌, length, take, drop, filter, Option, Some, None, IfSome, option_map, slice_get, sym, ap, subst, ◌∙◌, arith, leb-true}
 use Rattle.std.proofs.lemmas.Bool.Decides.{nat_tests}
 use Rattle.std.specs.List.{cons_option}
-use Rattle.std.proofs.lemmas.Bool.{leb-true}
 use Rattle.std.proofs.lemmas.Bool.{and_parts}
 use Rattle.std.proofs.lemmas.Option.{slice_get_within}
 use Rattle.arn_base.specs.declared.records.Extra.{Extra}
@@ -41,17 +40,7 @@ events-are all moment begins ends n [] behind = tt
 events-are all moment begins ends n (entry.Slice pid ran ∷ entries) behind = events-are all moment ends (ends + ran) n entries behind
 events-are all moment begins ends n (entry.Signal pid signal cut handler ∷ entries) behind =
     if-event all (nat_le begins moment) n _ _ (first-behind all n _ _ behind) (events-are all moment begins ends (n + 1) entries (next-behind all n _ _ behind))
-events-are all moment begins ends n (entry.File path bytes ∷ entries) behind =
-    if-event all (nat_le ends moment) n _ _ (first-behind all n _ _ behind) (events-are all moment begins ends (n + 1) entries (next-behind all n _ _ behind))
-events-are all moment begins ends n (entry.Boot path give ∷ entries) behind =
-    if-event all (nat_le ends moment) n _ _ (first-behind all n _ _ behind) (events-are all moment begins ends (n + 1) entries (next-behind all n _ _ behind))
-events-are all moment begins ends n (entry.Typed bytes ∷ entries) behind =
-    if-event all (nat_le ends moment) n _ _ (first-behind all n _ _ behind) (events-are all moment begins ends (n + 1) entries (next-behind all n _ _ behind))
-events-are all moment begins ends n (entry.Unplug device ∷ entries) behind =
-    if-event all (nat_le ends moment) n _ _ (first-behind all n _ _ behind) (events-are all moment begins ends (n + 1) entries (next-behind all n _ _ behind))
-events-are all moment begins ends n (entry.Call pid number result more ∷ entries) behind =
-    if-event all (nat_le ends moment) n _ _ (first-behind all n _ _ behind) (events-are all moment begins ends (n + 1) entries (next-behind all n _ _ behind))
-events-are all moment begins ends n (entry.End pid status ∷ entries) behind =
+events-are all moment begins ends n (_ ∷ entries) behind =
     if-event all (nat_le ends moment) n _ _ (first-behind all n _ _ behind) (events-are all moment begins ends (n + 1) entries (next-behind all n _ _ behind))
 
 -- a write has the bytes of its event
@@ -76,16 +65,14 @@ writes-are entries n (e ∷ happened) are = by_write (written_by n e.entry) (wri
   where
     by_write : (o : Option Written) → IfSome o (λ w. length w.bytes ≡ event_len e.entry) → AreWrites entries (writes_from (n + brought_by e.entry) happened)
         → AreWrites entries (cons_option (option_map (λ w. record { event = e.number; over = w }) o) (writes_from (n + brought_by e.entry) happened))
-    by_write None len rest = rest
-    by_write (Some w) len rest = (record { entry = e.entry; there = are.0; len = len }, rest)
+    by_write o h1 h2 = grind (arith, nat_tests)
 
 filter-writes : (entries : List Record) (test : Write → Bool) (writes : List Write) → AreWrites entries writes → AreWrites entries (filter test writes)
 filter-writes entries test [] are = tt
 filter-writes entries test (w ∷ writes) are = by_test (test w) (filter-writes entries test writes are.1)
   where
     by_test : (b : Bool) → AreWrites entries (filter test writes) → AreWrites entries (cond b (w ∷ filter test writes) (filter test writes))
-    by_test true rest = (are.0, rest)
-    by_test false rest = rest
+    by_test b h1 = grind (arith, nat_tests)
 
 -- so each byte that is laid is one of an event
 abbrev IsWritten : List Record → TaggedByte → Type 0
@@ -111,8 +98,7 @@ filled-written entries cells are place zero = tt
 filled-written entries cells are place (suc n) = by_cell (cells place) (are place) (filled-written entries cells are (place + 1) n)
   where
     by_cell : (o : Option TaggedByte) → IfSome o (IsWritten entries) → Each entries (filled_from cells (place + 1) n) → Each entries (onto_filled o (filled_from cells (place + 1) n))
-    by_cell None h rest = tt
-    by_cell (Some b) h rest = (h, rest)
+    by_cell o h1 h2 = grind (arith, nat_tests)
 
 bytes-written : (entries : List Record) (moment file : ℕ) → Each entries (bytes_at entries moment file)
 bytes-written entries moment file =
