@@ -1,6 +1,5 @@
 -- Texts that are cut into parts.
-use Rattle.std.proofs.Common.{◌≡◌, ◌≢◌, ℕ, ◌<◌, ◌==◌, Bool, true, false, cond, List, [], ◌∷◌, ◌++◌, length, take, map, refl, sym, ap, ◌∙◌, arith, eq-eqb, ne_eqb, length-append}
-use Rattle.std.specs.Prelude.{All}
+use Rattle.std.proofs.Common.{◌≡◌, ◌≢◌, ℕ, ◌<◌, ◌==◌, Bool, true, false, cond, List, [], ◌∷◌, ◌++◌, length, take, map, refl, sym, ap, ◌∙◌, arith, eq-eqb, ne_eqb, length-append, All}
 use Rattle.std.proofs.lemmas.List.Elements.{All-head, All-tail}
 use Rattle.asm_text.specs.Characters.{before, onto_first, parts, trimmed}
 use Rattle.asm_text.specs.Pieces.{IsCut}
@@ -61,10 +60,8 @@ operands-parts (c ∷ text) some = refl
 -- two operands are two parts
 pub two_parts : (texts : List (List ℕ)) (a b : List ℕ) → map trimmed texts ≡ a ∷ b ∷ []
     → (first : List ℕ) × (second : List ℕ) × (texts ≡ first ∷ second ∷ [])
-two_parts [] a b e = cc e
-two_parts (x ∷ []) a b e = cc e
 two_parts (x ∷ y ∷ []) a b e = (x, y, refl)
-two_parts (x ∷ y ∷ z ∷ texts) a b e = cc e
+two_parts _ a b e = cc e
 
 pub two_operands : (text a b : List ℕ) → operands text ≡ a ∷ b ∷ [] → map trimmed (parts 44 text) ≡ a ∷ b ∷ []
 two_operands [] a b e = cc e
@@ -87,8 +84,7 @@ operands-cut text first rest cut =
 pub operands-whole : (text a b : List ℕ) (others : List (List ℕ)) → All (λ c. c ≢ 44) text → operands text ≢ a ∷ b ∷ others
 operands-whole [] a b others clear e = cc e
 operands-whole (c ∷ text) a b others clear e =
-    let whole = ap (map trimmed) (parts-whole 44 (c ∷ text) clear) in
-    cc (whole, e)
+    cc (ap (map trimmed) (parts-whole 44 (c ∷ text) clear), e)
 
 -- one part, or three, are not two
 pub whole_is_not_two : (separator : ℕ) (text a b : List ℕ) → All (λ c. c ≢ separator) text → parts separator text ≢ a ∷ b ∷ []
@@ -101,10 +97,6 @@ more_is_not_two separator text first second third rest a b cut again e =
     let three : parts separator text ≡ first ∷ third ∷ some.0 ∷ some.1 =
     parts-cut separator text first second cut ∙ ap (λ ps. first ∷ ps) (parts-cut separator second third rest again ∙ ap (λ ps. third ∷ ps) some.2) in
     cc (sym three ∙ e)
-
--- a text of two parts has two operands
-pub operands-parts-two : (text first second : List ℕ) → parts 44 text ≡ first ∷ second ∷ [] → operands text ≡ trimmed first ∷ trimmed second ∷ []
-operands-parts-two text first second e = operands-two text (trimmed first) (trimmed second) (ap (map trimmed) e)
 
 pub no_two_parts : (text a b : List ℕ) → ((x y : List ℕ) → parts 44 text ≢ x ∷ y ∷ []) → operands text ≢ a ∷ b ∷ []
 no_two_parts text a b none e =

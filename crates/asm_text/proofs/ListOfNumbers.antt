@@ -1,6 +1,5 @@
 -- Numbers, one behind another.
-use Rattle.std.proofs.Common.{◌≡◌, ℕ, Bool, true, false, List, [], ◌∷◌, map, Option, Some, None, is_some, ℤ, refl, ap, ◌∙◌}
-use Rattle.std.specs.Prelude.{option_map, option_and_then, All, ◌≢◌}
+use Rattle.std.proofs.Common.{◌≡◌, ℕ, Bool, true, false, List, [], ◌∷◌, map, Option, Some, None, is_some, ℤ, refl, ap, ◌∙◌, option_map, option_and_then, All, ◌≢◌}
 use Rattle.asm_text.specs.Characters.{parts, trimmed}
 use Rattle.asm_text.specs.Numbers.{number_of}
 use Rattle.asm_text.specs.Pieces.{IsCut}

@@ -1,6 +1,5 @@
 -- Statements by their operands.
-use Rattle.std.proofs.Common.{◌≡◌, ℕ, ◌<◌, true, List, [], ◌∷◌, map, Option, Some, None, is_some, ℤ, refl, ap, ◌∙◌}
-use Rattle.std.specs.Prelude.{length, option_map}
+use Rattle.std.proofs.Common.{◌≡◌, ℕ, ◌<◌, true, List, [], ◌∷◌, map, Option, Some, None, is_some, ℤ, refl, ap, ◌∙◌, length, option_map}
 use Rattle.asm_text.specs.Characters.{parts, trimmed}
 use Rattle.asm_text.specs.Statements.{Bytes, Statement, listed, numbers_of, operands, with_third, with_two}
 use Rattle.asm_text.proofs.Cuts.{operands-parts, parts-some}
@@ -27,9 +26,8 @@ listed-is text some all =
     let same = operands-parts text some in
     let numbers = value (numbers_of (map trimmed (parts 44 text))) all in
     let has = parts-some 44 text in
-    let begins : operands text ≡ trimmed has.0 ∷ map trimmed has.1 = same ∙ ap (map trimmed) has.2 in
     let all_read : numbers_of (operands text) ≡ Some numbers.0 = ap numbers_of same ∙ numbers.1 in
-    (numbers.0, all_read, listed_some (operands text) (trimmed has.0) (map trimmed has.1) numbers.0 begins all_read)
+    (numbers.0, all_read, listed_some (operands text) (trimmed has.0) (map trimmed has.1) numbers.0 (same ∙ ap (map trimmed) has.2) all_read)
   where
     listed_some : (texts : List (List ℕ)) (first : List ℕ) (others : List (List ℕ)) (ns : List ℤ) → texts ≡ first ∷ others
         → numbers_of texts ≡ Some ns → listed texts ≡ Some (Bytes ns)
