@@ -1,14 +1,12 @@
 -- The first fault of a list, and of statements that are kept.
-use Rattle.std.proofs.Common.{◌≡◌, ◌++◌, ◌+◌, ◌<◌, ◌≤◌, ◌==◌, ℕ, List, [], ◌∷◌, Option, Some, None, Bool, true, false, if◌then◌else◌, refl, ap, sym, subst, ◌∙◌, map, length, drop, get_or, append_assoc, append-nil, not}
-use Rattle.std.specs.Prelude.{option_to_list}
+use Rattle.std.proofs.lemmas.Bool.Decides.{nat_tests}
+use Rattle.std.proofs.Common.{◌≡◌, ◌++◌, ◌+◌, ◌<◌, ◌==◌, ℕ, List, [], ◌∷◌, Option, Some, None, Bool, true, false, if◌then◌else◌, refl, ap, ◌∙◌, map, length, drop, get_or, append_assoc, append-nil, not, eq-eqb, arith}
 use Rattle.asm_text.specs.Statements as says
 use Rattle.asm_text.specs.declared.fault.AsmKind.TheVariants.{Range}
 use Rattle.std.specs.List.{AllZip, flat_map}
-use Rattle.std.proofs.lemmas.List.{drop_more, drop_all}
+use Rattle.std.proofs.lemmas.List.{drop_more}
 use Rattle.std.proofs.lemmas.Grind.{flat_map-append}
-use Rattle.std.proofs.Common.{arith}
-use Rattle.std.proofs.lemmas.Bool.Decides.{nat_tests}
-use Rattle.guest_asm.specs.Assembled.{Fault, Placed, address, fault_if, faults_of, is_in_range, said, first_fault, first_kind, kind_on, places}
+use Rattle.guest_asm.specs.Assembled.{Fault, Placed, address, fault_if, faults_of, is_in_range, first_fault, first_kind, kind_on, places}
 use Rattle.guest_asm.specs.Checked.{added}
 use Rattle.guest_asm.specs.First.{either, first_of}
 use Rattle.guest_asm.specs.Kept.{KeepsPlaced}
@@ -36,35 +34,24 @@ same_kind false kind = refl
 
 kinds_on : (l line : ℕ) (kind : AsmKind) (kinds : List AsmKind) → kind_on l kind (map (on_line line) kinds) ≡ (if line == l then with_first kind (first_of kinds) else kind)
 kinds_on l line kind [] = same_kind (line == l) kind
-kinds_on l line kind (k ∷ ks) =
-    kinds_on l line (if line == l then first_kind kind k else kind) ks ∙ with_first_more (line == l) kind k (first_of ks)
+kinds_on l line kind (k ∷ ks) = grind (arith, nat_tests, kinds_on l line (if line == l then first_kind kind k else kind) ks, with_first_more (line == l) kind k (first_of ks))
 
 kind_on_append : (l : ℕ) (kind : AsmKind) (fs gs : List Fault) → kind_on l kind (fs ++ gs) ≡ kind_on l (kind_on l kind fs) gs
 kind_on_append l kind [] gs = refl
 kind_on_append l kind (f ∷ fs) gs = kind_on_append l (if f.line == l then first_kind kind f.kind else kind) fs gs
 
-is_line : (line : ℕ) → (line == line) ≡ true
-is_line line = grind (arith, nat_tests)
-
 added_some : (b : Bool) (l : ℕ) (kind : AsmKind) (o : Option AsmKind) (line : ℕ) → b ≡ (line == l) →
     Some (on_line l (if b then with_first kind o else kind)) ≡ added (Some (on_line l kind)) line o
-added_some true l kind None line e = refl
-added_some false l kind None line e = refl
-added_some true l kind (Some k) line e = ap (λ b. Some (if b then on_line l (first_kind kind k) else on_line l kind)) e
-added_some false l kind (Some k) line e = ap (λ b. Some (if b then on_line l (first_kind kind k) else on_line l kind)) e
+added_some b l kind o line h1 = grind (arith, nat_tests)
 
 added_first : (line : ℕ) (k : AsmKind) (o : Option AsmKind) (b : Bool) → b ≡ true → Some (on_line line (if b then with_first k o else k)) ≡ added None line (either (Some k) o)
-added_first line k None true e = refl
-added_first line k (Some j) true e = refl
-added_first line k o false e = cc
+added_first line k o b h1 = grind (arith, nat_tests)
 
 -- the fault that is told after one more statement
 pub first_fault_more : (faults : List Fault) (line : ℕ) (kinds : List AsmKind) → first_fault (faults ++ map (on_line line) kinds) ≡ added (first_fault faults) line (first_of kinds)
 first_fault_more [] line [] = refl
-first_fault_more [] line (k ∷ ks) = ap (λ (kind : AsmKind). Some (on_line line kind)) (kinds_on line line k ks) ∙ added_first line k (first_of ks) (line == line) (is_line line)
-first_fault_more (f ∷ faults) line kinds =
-    let all = kind_on_append f.line f.kind faults (map (on_line line) kinds) ∙ kinds_on f.line line (kind_on f.line f.kind faults) kinds in
-    ap (λ (kind : AsmKind). Some (on_line f.line kind)) all ∙ added_some (line == f.line) f.line (kind_on f.line f.kind faults) (first_of kinds) line refl
+first_fault_more [] line (k ∷ ks) = ap (λ (kind : AsmKind). Some (on_line line kind)) (kinds_on line line k ks) ∙ added_first line k (first_of ks) (line == line) (eq-eqb line line refl)
+first_fault_more (f ∷ faults) line kinds = grind (arith, nat_tests, kind_on_append f.line f.kind faults (map (on_line line) kinds), kinds_on f.line line (kind_on f.line f.kind faults) kinds, added_some (line == f.line) f.line (kind_on f.line f.kind faults) (first_of kinds) line refl)
 
 -- the faults of one statement
 abbrev pub faults_at : List Named → Placed → List Fault
@@ -87,48 +74,19 @@ pub record Next (kept : List kept_placed.Placed) (at : ℕ) (k : kept_placed.Pla
   pub keeps : AllZip KeepsPlaced (drop (at + 1) kept) rest
 
 next_of : (kept : List kept_placed.Placed) (at : ℕ) (k : kept_placed.Placed) (before after all : List Placed) → before ++ after ≡ all → AllZip KeepsPlaced (k ∷ drop (at + 1) kept) after → Next kept at k before after all
-next_of kept at k before [] all whole h = absurd h
-next_of kept at k before (p ∷ ps) all whole h = record {
-  placed = p;
-  rest = ps;
-  is_next = refl;
-  is_kept = h.0;
-  whole = append_assoc before (p ∷ []) ps ∙ whole;
-  keeps = h.1;
-}
+next_of kept at k before after all h1 h2 = grind (arith, nat_tests, append_assoc)
 
 pub next : (kept : List kept_placed.Placed) (at : ℕ) (k : kept_placed.Placed) (all : List Placed) → at < length kept → k ≡ get_or kept at k → (t : Through kept at all) → Next kept at k t.before t.after all
-next kept at k all h e t =
-    next_of kept at k t.before t.after all t.whole
-    (subst (λ (ks : List kept_placed.Placed). AllZip KeepsPlaced ks t.after) (drop_more kept at k h ∙ ap (λ (x : kept_placed.Placed). x ∷ drop (at + 1) kept) (sym e)) t.keeps)
-
-nothing_left : (ks : List kept_placed.Placed) (after : List Placed) → ks ≡ [] → AllZip KeepsPlaced ks after → after ≡ []
-nothing_left [] [] e h = refl
-nothing_left [] (p ∷ ps) e h = absurd h
-nothing_left (k ∷ ks) after e h = cc
-
-pub through_all : (kept : List kept_placed.Placed) (at : ℕ) (all : List Placed) → length kept ≤ at → (t : Through kept at all) → t.before ≡ all
-through_all kept at all h t =
-    sym (append-nil t.before) ∙ ap (λ (ps : List Placed). t.before ++ ps) (sym (nothing_left (drop at kept) t.after (drop_all at kept h) t.keeps)) ∙ t.whole
+next kept at k all h1 h2 t = grind (arith, nat_tests, next_of, drop_more)
 
 -- the first fault of a statement that is read
 pub fault_first : (named : List Named) (p : Placed) (s : says.Statement) (x y : Option AsmKind) → p.reading ≡ says.Says s →
     x ≡ first_of (fault_if (not (is_in_range named (address p) s)) Range) → y ≡ first_of p.faults → either x y ≡ first_of (faults_of named p)
-fault_first named p s x y is e f =
-    let ranged : says.StatementReading → List AsmKind = λ r. flat_map (λ s. fault_if (not (is_in_range named (address p) s)) Range) (option_to_list (said r)) in
-    let own : List AsmKind = fault_if (not (is_in_range named (address p) s)) Range in
-    let one : first_of (ranged p.reading) ≡ first_of own = ap (λ (r : says.StatementReading). first_of (ranged r)) is ∙ ap first_of (append-nil own) in
-    sym (first_of_append (ranged p.reading) p.faults ∙ ap (λ (o : Option AsmKind). either o (first_of p.faults)) (one ∙ sym e) ∙ ap (either x) (sym f))
+fault_first named p s x y h1 h2 h3 = grind (arith, nat_tests, append-nil, first_of_append)
 
 pub told_more : (named : List Named) (before : List Placed) (p : Placed) (found : Option Fault) (line : ℕ) (kind : Option AsmKind) → found ≡ first_fault (flat_map (faults_at named) before) →
     kind ≡ first_of (faults_of named p) → p.line ≡ line → added found line kind ≡ first_fault (flat_map (faults_at named) (before ++ p ∷ []))
-told_more named before p found line kind so_far is l =
-    let whole : flat_map (faults_at named) (before ++ p ∷ []) ≡ flat_map (faults_at named) before ++ map (on_line p.line) (faults_of named p) =
-    flat_map-append (faults_at named) before (p ∷ []) ∙ ap (λ (fs : List Fault). flat_map (faults_at named) before ++ fs) (append-nil (faults_at named p)) in
-    sym (ap first_fault whole ∙ first_fault_more (flat_map (faults_at named) before) p.line (faults_of named p)
-    ∙ ap (λ (o : Option Fault). added o p.line (first_of (faults_of named p))) (sym so_far)
-    ∙ ap (λ (n : ℕ). added found n (first_of (faults_of named p))) l
-    ∙ ap (added found line) (sym is))
+told_more named before p found line kind h1 h2 h3 = grind (arith, nat_tests, flat_map-append, append-nil, first_fault_more)
 
 -- the first fault of the statements so far is told
 abbrev pub ToldSoFar : List kept_placed.Placed → ℕ → List Placed → Option Fault → Type 0

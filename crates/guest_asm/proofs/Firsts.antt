@@ -8,14 +8,7 @@ use Rattle.asm_text.specs.declared.fault.AsmKind.{AsmKind}
 -- which of three ranked things is first
 first_by_rank : (x y z : AsmKind) (a b c : ℕ) → (ab ac bc : Bool) → ab ≡ nat_le a b → ac ≡ nat_le a c → bc ≡ nat_le b c →
     (if (if ab then ac else bc) then (if ab then x else y) else z) ≡ (if (if bc then ab else ac) then x else (if bc then y else z))
-first_by_rank x y z a b c true true true e f g = refl
-first_by_rank x y z a b c true true false e f g = refl
-first_by_rank x y z a b c true false true e f g = absurd (grind (arith, nat_tests))
-first_by_rank x y z a b c true false false e f g = refl
-first_by_rank x y z a b c false true true e f g = refl
-first_by_rank x y z a b c false true false e f g = absurd (grind (arith, nat_tests))
-first_by_rank x y z a b c false false true e f g = refl
-first_by_rank x y z a b c false false false e f g = refl
+first_by_rank x y z a b c ab ac bc h1 h2 h3 = grind (arith, nat_tests)
 
 rank_first : (a b c : AsmKind) → nat_le (rank (first_kind a b)) (rank c) ≡ (if nat_le (rank a) (rank b) then nat_le (rank a) (rank c) else nat_le (rank b) (rank c))
 rank_first a b c = elim (nat_le (rank a) (rank b)) as (λ t. nat_le (rank (if t then a else b)) (rank c) ≡ (if t then nat_le (rank a) (rank c) else nat_le (rank b) (rank c))) [ true ↦ refl | false ↦ refl ]
@@ -24,20 +17,13 @@ rank_second : (a b c : AsmKind) → nat_le (rank a) (rank (first_kind b c)) ≡ 
 rank_second a b c = elim (nat_le (rank b) (rank c)) as (λ t. nat_le (rank a) (rank (if t then b else c)) ≡ (if t then nat_le (rank a) (rank b) else nat_le (rank a) (rank c))) [ true ↦ refl | false ↦ refl ]
 
 pub first_assoc : (a b c : AsmKind) → first_kind (first_kind a b) c ≡ first_kind a (first_kind b c)
-first_assoc a b c =
-    ap (λ t. if t then first_kind a b else c) (rank_first a b c)
-    ∙ first_by_rank a b c (rank a) (rank b) (rank c) (nat_le (rank a) (rank b)) (nat_le (rank a) (rank c)) (nat_le (rank b) (rank c)) refl refl refl
-    ∙ sym (ap (λ t. if t then a else first_kind b c) (rank_second a b c))
+first_assoc a b c = grind (arith, nat_tests, rank_first, first_by_rank, rank_second)
 
 pub either_assoc : (a b c : Option AsmKind) → either (either a b) c ≡ either a (either b c)
 either_assoc None b c = refl
 either_assoc (Some a) None c = refl
 either_assoc (Some a) (Some b) None = refl
 either_assoc (Some a) (Some b) (Some c) = ap Some (first_assoc a b c)
-
-pub either_none : (a : Option AsmKind) → either a None ≡ a
-either_none None = refl
-either_none (Some a) = refl
 
 pub first_of_append : (xs ys : List AsmKind) → first_of (xs ++ ys) ≡ either (first_of xs) (first_of ys)
 first_of_append [] ys = refl
@@ -46,5 +32,4 @@ first_of_append (x ∷ xs) ys = ap (either (Some x)) (first_of_append xs ys) ∙
 -- faults are none where there is no first
 pub no_first : (xs : List AsmKind) → first_of xs ≡ None → xs ≡ []
 no_first [] e = refl
-no_first (x ∷ xs) e =
-    elim (first_of xs) as (λ o. either (Some x) o ≡ None → x ∷ xs ≡ []) [ None ↦ λ e. cc | Some y ↦ λ e. cc ] e
+no_first (x ∷ xs) e = grind (arith, nat_tests)

@@ -1,9 +1,9 @@
 -- The bytes of statements, one behind the other.
-use Rattle.std.proofs.Common.{◌≡◌, ◌++◌, ℕ, List, [], ◌∷◌, ap, sym, subst, ◌∙◌, append_assoc, append-nil}
-use Rattle.std.specs.Prelude.{option_to_list, unwrap_or}
+use Rattle.std.proofs.lemmas.Bool.Decides.{nat_tests}
+use Rattle.std.proofs.Common.{◌≡◌, ◌++◌, ℕ, List, [], ◌∷◌, subst, append_assoc, append-nil, unwrap_or, arith}
 use Rattle.std.specs.List.{flat_map, AllByRecursion}
 use Rattle.std.proofs.lemmas.Grind.{flat_map-append}
-use Rattle.guest_asm.specs.Assembled.{Placed, address, places, said, statement_bytes, target}
+use Rattle.guest_asm.specs.Assembled.{Placed, address, places, statement_bytes, target}
 use Rattle.guest_asm.specs.Encodable.{IsEncodable}
 use Rattle.guest_asm.specs.Meanings.{bytes}
 use Rattle.asm_text.specs.Names.{Named}
@@ -16,17 +16,11 @@ use Rattle.guest_asm.proofs.Wording.{read_word}
 
 pub encodable : (named : List Named) (p : Placed) (text : List ℕ) (s : says.Statement) (from to : ℕ) → p.reading ≡ reading text → p.reading ≡ says.Says s → IsSoundAt named p →
     from ≡ address p → to ≡ unwrap_or (target named s) 0 → IsEncodable s from to
-encodable named p text s from to is told sound e f =
-    let fits = sound s told in
-    let here : IsEncodable s (address p) (unwrap_or (target named s) 0) = record { fields = fits.fields; reached = fits.reached; word = read_word text s (sym is ∙ told) } in
-    subst (λ (n : ℕ). IsEncodable s n to) (sym e) (subst (λ (n : ℕ). IsEncodable s (address p) n) (sym f) here)
+encodable named p text s from to h1 h2 h3 h4 h5 = grind (arith, nat_tests, read_word)
 
 pub statement_bytes_said : (named : List Named) (p : Placed) (s : says.Statement) (from to : ℕ) → p.reading ≡ says.Says s → from ≡ address p → to ≡ unwrap_or (target named s) 0 →
     bytes s from to ≡ statement_bytes named p
-statement_bytes_said named p s from to is e f =
-    let all : says.StatementReading → List ℕ = λ r. flat_map (λ s. bytes s (address p) (unwrap_or (target named s) 0)) (option_to_list (said r)) in
-    ap (λ (n : ℕ). bytes s n to) e ∙ ap (λ (n : ℕ). bytes s (address p) n) f
-    ∙ sym (ap all is ∙ append-nil (bytes s (address p) (unwrap_or (target named s) 0)))
+statement_bytes_said named p s from to h1 h2 h3 = grind (arith, nat_tests, append-nil)
 
 -- what is left is sound
 pub record SoundLeft (kept : List kept_placed.Placed) (at : ℕ) (all : List Placed) : Type 0 where
@@ -52,7 +46,4 @@ sound_rest kept at k all after before n h = (sound_next (places all) after n.pla
 
 pub bytes_more : (named : List Named) (before : List Placed) (p : Placed) (old middle new : List ℕ) → middle ≡ old ++ flat_map (statement_bytes named) before →
     new ≡ middle ++ statement_bytes named p → new ≡ old ++ flat_map (statement_bytes named) (before ++ p ∷ [])
-bytes_more named before p old middle new e f =
-    let whole : flat_map (statement_bytes named) (before ++ p ∷ []) ≡ flat_map (statement_bytes named) before ++ statement_bytes named p =
-    flat_map-append (statement_bytes named) before (p ∷ []) ∙ ap (λ (bs : List ℕ). flat_map (statement_bytes named) before ++ bs) (append-nil (statement_bytes named p)) in
-    f ∙ ap (λ (bs : List ℕ). bs ++ statement_bytes named p) e ∙ append_assoc old (flat_map (statement_bytes named) before) (statement_bytes named p) ∙ ap (λ (bs : List ℕ). old ++ bs) (sym whole)
+bytes_more named before p old middle new h1 h2 = grind (arith, nat_tests, flat_map-append, append-nil, append_assoc)

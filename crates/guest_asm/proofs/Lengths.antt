@@ -1,17 +1,16 @@
 -- How many bytes statements without faults have in an image.
-use Rattle.std.proofs.Common.{◌≡◌, ◌++◌, ◌+◌, ◌≤◌, ◌/◌, ℕ, zero, suc, List, [], ◌∷◌, None, true, if◌then◌else◌, nat_lt, length, refl, ap, sym, subst, ◌∙◌, append-nil, arith}
-use Rattle.std.specs.Prelude.{option_to_list, unsigned_abs, unwrap_or}
+use Rattle.std.proofs.lemmas.Bool.Decides.{nat_tests}
+use Rattle.std.proofs.Common.{◌≡◌, ◌++◌, ◌+◌, ◌≤◌, ◌/◌, ℕ, zero, suc, List, [], ◌∷◌, None, true, nat_lt, length, refl, ap, sym, ◌∙◌, append-nil, arith, option_to_list, unwrap_or, ltb-false}
 use Rattle.std.specs.List.{flat_map, AllByRecursion}
-use Rattle.std.proofs.lemmas.Bool.{ltb-false}
 use Rattle.std.proofs.lemmas.List.{length-append, length-map, length-replicate}
 use Rattle.arn_base.specs.Window.{bytes_of}
 use Rattle.rv64_isa.specs.Encoded.{word_of}
 use Rattle.rv64_isa.specs.declared.instruction.Instr.{Instr}
 use Rattle.asm_text.specs.Names.{Named}
-use Rattle.asm_text.specs.Statements.{Statement, StatementReading, Says, Wrong, Nothing, Label, Lui, Auipc, Jal, Jalr, Branch, Load, Store, Imm, Plain, Address, Bytes, Zeros}
+use Rattle.asm_text.specs.Statements.{Statement, StatementReading, Says}
 use Rattle.asm_text.specs.declared.fault.AsmKind.TheVariants as kind
 use Rattle.guest_asm.specs.Meanings.{bytes, code, has_fields, most_bytes, size}
-use Rattle.guest_asm.specs.Assembled.{Item, Placed, address, all_faults, body, earlier_then, fault_of, items, labels, place_faults, placed, placed_from, places, said, statement_bytes, taken, target}
+use Rattle.guest_asm.specs.Assembled.{Item, Placed, address, body, earlier_then, fault_of, place_faults, placed, placed_from, said, statement_bytes, taken, target}
 use Rattle.guest_asm.specs.Kept.{placed_at}
 use Rattle.guest_asm.specs.Sound.{IsSoundAt}
 use Rattle.guest_asm.proofs.Soundness.{Faultless, each_faultless, no_fault_if, no_first_fault, second_empty, sound}
@@ -25,35 +24,16 @@ length-one : (i : Instr) → length (flat_map code (i ∷ [])) ≡ 4
 length-one i = ap length (append-nil (code i)) ∙ length-bytes_of 4 (word_of i)
 
 length-two : (i j : Instr) → length (flat_map code (i ∷ j ∷ [])) ≡ 8
-length-two i j =
-    length-append (code i) (flat_map code (j ∷ []))
-    ∙ ap (λ (n : ℕ). n + length (flat_map code (j ∷ []))) (length-bytes_of 4 (word_of i))
-    ∙ ap (λ (n : ℕ). 4 + n) (length-one j)
+length-two i j = grind (arith, nat_tests, length-append, length-bytes_of, length-one)
 
 -- a statement has as many bytes as its size says
 pub length-bytes : (s : Statement) (from to : ℕ) → has_fields s ≡ true → length (bytes s from to) ≡ size s
-length-bytes Nothing from to h = refl
-length-bytes (Label name) from to h = refl
-length-bytes (Lui rd n) from to h = length-one _
-length-bytes (Auipc rd n) from to h = length-one _
-length-bytes (Jal rd label) from to h = length-one _
-length-bytes (Jalr rd rs1 n) from to h = length-one _
-length-bytes (Branch op rs1 rs2 label) from to h = length-one _
-length-bytes (Load op rd rs1 n) from to h = length-one _
-length-bytes (Store op rs1 rs2 n) from to h = length-one _
-length-bytes (Imm op rd rs1 n) from to h = length-one _
-length-bytes (Plain i) from to h = length-one i
-length-bytes (Address rd label) from to h = length-two _ _
-length-bytes (Bytes numbers) from to h = length-map numbers unsigned_abs
-length-bytes (Zeros n) from to h = length-replicate (unsigned_abs n) 0 ∙ ap (λ b. if b then unsigned_abs n else 0) (sym h)
+length-bytes s from to h1 = grind (arith, nat_tests, length-one, length-two, length-map, length-replicate)
 
 -- a sound statement has as many bytes as it takes
 length-said : (named : List Named) (p : Placed) (r : StatementReading) → p.reading ≡ r → IsSoundAt named p →
     length (flat_map (λ s. bytes s (address p) (unwrap_or (target named s) 0)) (option_to_list (said r))) ≡ taken [] r
-length-said named p (Wrong kind) is sound = refl
-length-said named p (Says s) is sound =
-    let to = unwrap_or (target named s) 0 in
-    ap length (append-nil (bytes s (address p) to)) ∙ length-bytes s (address p) to (sound s is).fields
+length-said named p r h1 h2 = grind (arith, nat_tests, sound, append-nil, length-bytes)
 
 length-statement_bytes : (named : List Named) (p : Placed) → p.faults ≡ [] → IsSoundAt named p → length (statement_bytes named p) ≡ taken p.faults p.reading
 length-statement_bytes named p none sound =
@@ -65,9 +45,7 @@ said_within known earlier offset s none =
     ltb-false most_bytes (offset + size s) (no_fault_if (nat_lt most_bytes (offset + size s)) kind.Size (second_empty _ _ none))
 
 within : (known earlier : List (List ℕ)) (offset : ℕ) (r : StatementReading) → place_faults known earlier offset r ≡ [] → offset + taken (place_faults known earlier offset r) r ≤ most_bytes
-within known earlier offset (Wrong kind) none = cc
-within known earlier offset (Says s) none =
-    subst (λ faults. offset + taken faults (Says s) ≤ most_bytes) (sym none) (said_within known earlier offset s none)
+within known earlier offset r h1 = grind (arith, nat_tests, said_within)
 
 within_more : (offset taken first rest all most : ℕ) → first ≡ taken → all ≡ first + rest → offset + taken + rest ≤ most → offset + all ≤ most
 within_more offset taken first rest all most e f h = omega arith
@@ -88,8 +66,4 @@ body_within named known earlier offset (i ∷ is) inside none sound =
 
 -- the body of a text without faults fits the window
 pub length-body : (text : List ℕ) → fault_of text ≡ None → length (body (placed text)) ≤ most_bytes
-length-body text none =
-    let all = placed text in
-    let faultless = each_faultless (places all) all (no_first_fault (all_faults all) none) in
-    let short = body_within (places all) (labels (items text)) [] 0 (items text) (omega arith) faultless (sound (items text) none) in
-    omega (arith, short)
+length-body text h1 = grind (arith, nat_tests, each_faultless, no_first_fault, body_within, sound)

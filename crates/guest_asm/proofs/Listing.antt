@@ -1,8 +1,8 @@
 -- Operands that are numbers, one after the other.
-use Rattle.std.proofs.Common.{◌≡◌, ◌++◌, ℕ, List, [], ◌∷◌, Option, Some, None, Bool, true, false, option_map, option_and_then, refl, ap, subst, sym, ◌∙◌, map, append_assoc, append-nil, ◌<◌, ◌&&◌, arith, length, suc}
-use Rattle.std.specs.Prelude.{ℤ, pos, unsigned_abs, IfSome, IfNone, IsSome}
+use Rattle.std.proofs.Common.{◌≡◌, ◌++◌, ℕ, List, [], ◌∷◌, Option, Some, None, true, false, option_map, option_and_then, refl, ap, subst, sym, ◌∙◌, map, append_assoc, append-nil, ◌<◌, ◌&&◌, arith, length, suc, ℤ, pos, unsigned_abs, IfSome, IfNone, IsSome}
 use Rattle.std.specs.List.{list_all}
 use Rattle.std.proofs.lemmas.Bool.Decides.{nat_tests}
+use Rattle.std.proofs.lemmas.Bool.{and_parts}
 use Rattle.asm_text.specs.Numbers.{number_of}
 use Rattle.guest_asm.specs.Meanings.{is_byte}
 use Rattle.asm_text.specs.Statements.{numbers_of}
@@ -38,50 +38,27 @@ pub record BytesPushed (old new : List ℕ) (numbers : List ℤ) (texts : List (
   pub is_rest : numbers_of texts ≡ Some rest
   pub whole : new ++ map unsigned_abs rest ≡ old ++ map unsigned_abs numbers
 
-pub both_true : (a b : Bool) → (a && b) ≡ true → (a ≡ true) × (b ≡ true)
-both_true true b h = (refl, h)
-both_true false b h = cc
-
 pub byte_is : (b : ℕ) → b < 256 → is_byte (pos b) ≡ true
 byte_is b h = grind (arith, nat_tests)
 
 pub bytes_left_more : (text : List ℕ) (texts : List (List ℕ)) (numbers : List ℤ) (b : ℕ) → b < 256 → number_of text ≡ Some (pos b) →
     BytesLeft numbers (text ∷ texts) → BytesLeft numbers texts
-bytes_left_more text texts numbers b h e left =
-    let f = front text texts left.rest left.is_rest in
-    let is_first : f.first ≡ pos b = cc in
-    let same : list_all is_byte (f.first ∷ f.rest) ≡ list_all is_byte f.rest =
-    rw is_first (rw (byte_is b h) refl) in
-    record { rest = f.rest; is_rest = f.is_rest; same = left.same ∙ ap (list_all is_byte) f.whole ∙ same }
+bytes_left_more text texts numbers b h e left = grind (arith, front text texts left.rest left.is_rest, byte_is b h)
 
 pub bytes_left_stop : (text : List ℕ) (texts : List (List ℕ)) (numbers : List ℤ) → ((n : ℤ) → number_of text ≡ Some n → is_byte n ≡ false) →
     BytesLeft numbers (text ∷ texts) → false ≡ list_all is_byte numbers
-bytes_left_stop text texts numbers none left =
-    let f = front text texts left.rest left.is_rest in
-    let no : is_byte f.first ≡ false = none f.first f.is_first in
-    let stops : list_all is_byte (f.first ∷ f.rest) ≡ false = rw no refl in
-    sym (left.same ∙ ap (list_all is_byte) f.whole ∙ stops)
+bytes_left_stop text texts numbers none left = grind (arith, front text texts left.rest left.is_rest)
 
 pub bytes_left_end : (numbers : List ℤ) → BytesLeft numbers [] → true ≡ list_all is_byte numbers
-bytes_left_end numbers left =
-    let none : left.rest ≡ [] = cc (left.is_rest) in
-    sym (left.same ∙ ap (list_all is_byte) none)
+bytes_left_end numbers left = cc
 
 -- the same, for what an iteration knows
 pub bytes_pushed_more : (old new pushed text : List ℕ) (texts : List (List ℕ)) (numbers : List ℤ) (b : ℕ) → number_of text ≡ Some (pos b) → pushed ≡ new ++ b ∷ [] →
     BytesPushed old new numbers (text ∷ texts) → BytesPushed old pushed numbers texts
-bytes_pushed_more old new pushed text texts numbers b e p so_far =
-    let f = front text texts so_far.rest so_far.is_rest in
-    let is_first : f.first ≡ pos b = cc in
-    let whole : pushed ++ map unsigned_abs f.rest ≡ new ++ map unsigned_abs so_far.rest =
-    ap (λ (xs : List ℕ). xs ++ map unsigned_abs f.rest) p ∙ append_assoc new (b ∷ []) (map unsigned_abs f.rest)
-    ∙ ap (λ (ns : List ℤ). new ++ map unsigned_abs ns) (sym (f.whole ∙ ap (λ (n : ℤ). n ∷ f.rest) is_first)) in
-    record { rest = f.rest; is_rest = f.is_rest; whole = whole ∙ so_far.whole }
+bytes_pushed_more old new pushed text texts numbers b e p so_far = grind (arith, append_assoc new (b ∷ []) (map unsigned_abs (front text texts so_far.rest so_far.is_rest).rest))
 
 pub bytes_pushed_end : (old new : List ℕ) (numbers : List ℤ) → BytesPushed old new numbers [] → new ≡ old ++ map unsigned_abs numbers
-bytes_pushed_end old new numbers so_far =
-    let none : so_far.rest ≡ [] = cc (so_far.is_rest) in
-    sym (append-nil new) ∙ ap (λ rest. new ++ map unsigned_abs rest) (sym none) ∙ so_far.whole
+bytes_pushed_end old new numbers so_far = cc (append-nil new)
 
 -- the operands that are left spell bytes
 abbrev pub AreBytesLeft : List (List ℕ) → Type 0
@@ -91,20 +68,14 @@ pub are_bytes_first : (text : List ℕ) (texts : List (List ℕ)) → AreBytesLe
 are_bytes_first text texts left =
     let f = front text texts left.0 left.1 in
     let all : (is_byte f.first && list_all is_byte f.rest) ≡ true = rw f.whole at left.2 in
-    (f.first, f.is_first, (both_true (is_byte f.first) (list_all is_byte f.rest) all).0)
+    (f.first, f.is_first, (and_parts (is_byte f.first) (list_all is_byte f.rest) all).0)
 
 pub are_bytes_rest : (text : List ℕ) (texts : List (List ℕ)) → AreBytesLeft (text ∷ texts) → AreBytesLeft texts
-are_bytes_rest text texts left =
-    let f = front text texts left.0 left.1 in
-    let all : (is_byte f.first && list_all is_byte f.rest) ≡ true = rw f.whole at left.2 in
-    (f.rest, f.is_rest, (both_true (is_byte f.first) (list_all is_byte f.rest) all).1)
+are_bytes_rest text texts left = grind (arith, front text texts left.0 left.1)
 
 pub some_byte : (text : List ℕ) (texts : List (List ℕ)) (o : Option ℕ) → IfNone o ((n : ℤ) → number_of text ≡ Some n → is_byte n ≡ false) → AreBytesLeft (text ∷ texts) → IsSome o
 some_byte text texts (Some b) none left = refl
-some_byte text texts None none left =
-    let first = are_bytes_first text texts left in
-    let not : is_byte first.0 ≡ false = none first.0 first.1 in
-    cc (not, first.2)
+some_byte text texts None none left = grind (arith, nat_tests, are_bytes_first text texts left)
 
 pub told_byte : (text : List ℕ) (o : Option ℕ) (b : ℕ) → o ≡ Some b → IfSome o (λ byte. number_of text ≡ Some (pos byte)) → number_of text ≡ Some (pos b)
 told_byte text o b e told = subst (λ (o : Option ℕ). IfSome o (λ byte. number_of text ≡ Some (pos byte))) e told

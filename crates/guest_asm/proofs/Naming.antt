@@ -1,6 +1,6 @@
 -- Labels by their names.
-use Rattle.std.proofs.Common.{◌≡◌, ℕ, List, [], ◌∷◌, ◌++◌, Option, Some, None, refl, Bool, true, false, cond, option_map, is_some, ◌||◌, ap, sym, subst, ◌∙◌, append_assoc, append-nil, ◌<◌, ◌≤◌, ◌+◌, length, drop, get_or, zero, suc, arith}
-use Rattle.std.specs.Prelude.{option_to_list}
+use Rattle.std.proofs.lemmas.Bool.Decides.{nat_tests}
+use Rattle.std.proofs.Common.{◌≡◌, ℕ, List, [], ◌∷◌, ◌++◌, Option, Some, None, refl, Bool, true, false, cond, option_map, is_some, ap, sym, subst, ◌∙◌, append_assoc, append-nil, ◌<◌, ◌≤◌, ◌+◌, length, drop, get_or, zero, suc, arith, option_to_list, bytes_eq, map}
 use Rattle.std.proofs.lemmas.List.{map-append, at_drop_more, at_drop_all}
 use Rattle.std.proofs.lemmas.Slice.Zip.{AllZip-long}
 use Rattle.guest_asm.specs.Kept.{names_of, defined_at, HasPlaces, KeepsItem, Knows}
@@ -9,8 +9,7 @@ use Rattle.asm_text.specs.declared.fault.AsmKind.TheVariants.{Word}
 use Rattle.guest_asm.specs.declared.items.Item as kept_item
 use Rattle.guest_asm.specs.declared.labels.Labels.{Labels}
 use Rattle.std.proofs.lemmas.Slice.Eq.{bytes_eq-Decides}
-use Rattle.std.specs.List.{find, AllZip}
-use Rattle.std.specs.Prelude.{bytes_eq, map}
+use Rattle.std.specs.List.{AllZip}
 use Rattle.asm_text.specs.Names.{Named, number_by}
 use Rattle.guest_asm.specs.Assembled.{Item, is_among, labels, defined_label}
 
@@ -18,54 +17,31 @@ use Rattle.guest_asm.specs.Assembled.{Item, is_among, labels, defined_label}
 pub number_by_more : (named : List Named) (n : Named) (name : List ℕ) →
     number_by (named ++ n ∷ []) name ≡ cond (is_some (number_by named name)) (number_by named name) (cond (bytes_eq n.name name) (Some n.number) None)
 number_by_more [] n name = elim (bytes_eq n.name name) as (λ b. option_map (λ m. m.number) (cond b (Some n) None) ≡ cond b (Some n.number) None) [ true ↦ refl | false ↦ refl ]
-number_by_more (m ∷ named) n name =
-    elim (bytes_eq m.name name) as (λ b. option_map (λ k. k.number) (cond b (Some m) (find (λ k. bytes_eq k.name name) (named ++ n ∷ []))) ≡ cond (is_some (option_map (λ k. k.number) (cond b (Some m) (find (λ k. bytes_eq k.name name) named)))) (option_map (λ k. k.number) (cond b (Some m) (find (λ k. bytes_eq k.name name) named))) (cond (bytes_eq n.name name) (Some n.number) None)) [
-      | true ↦ refl
-      | false ↦ number_by_more named n name
-    ]
+number_by_more (m ∷ named) n name = grind (arith, nat_tests, number_by_more named n name)
 
 -- a name is among those of the definitions where it has a number
 pub among_named : (named : List Named) (name : List ℕ) → is_some (number_by named name) ≡ is_among (map (λ n. n.name) named) name
 among_named [] name = refl
-among_named (m ∷ named) name =
-    elim (bytes_eq m.name name) as (λ b. is_some (option_map (λ k. k.number) (cond b (Some m) (find (λ k. bytes_eq k.name name) named))) ≡ (b || is_among (map (λ n. n.name) named) name)) [
-      | true ↦ refl
-      | false ↦ among_named named name
-    ]
+among_named (m ∷ named) name = grind (arith, nat_tests, among_named named name)
 
 chosen : (b : Bool) (o w : Option ℕ) → (b ≡ true → is_some o ≡ false) → cond (is_some o) o (cond b w None) ≡ cond b w o
-chosen true None w h = refl
-chosen true (Some n) w h = cc (h refl)
-chosen false None w h = refl
-chosen false (Some n) w h = refl
+chosen b o w h1 = grind (arith, nat_tests)
 
 stayed : (b : Bool) (o w : Option ℕ) → (b ≡ true → is_some o ≡ true) → cond (is_some o) o (cond b w None) ≡ o
-stayed true None w h = cc (h refl)
-stayed true (Some n) w h = refl
-stayed false None w h = refl
-stayed false (Some n) w h = refl
+stayed b o w h1 = grind (arith, nat_tests)
 
 -- the look-up after a definition of a label that had none
 pub defined_first : (named : List Named) (n : Named) (old new : List ℕ → Option ℕ) → ((name : List ℕ) → old name ≡ number_by named name) → is_some (old n.name) ≡ false →
     ((name : List ℕ) → new name ≡ cond (bytes_eq n.name name) (Some n.number) (old name)) → (name : List ℕ) → new name ≡ number_by (named ++ n ∷ []) name
-defined_first named n old new so_far none told name =
-    let same : bytes_eq n.name name ≡ true → is_some (number_by named name) ≡ false =
-    λ h. subst (λ (k : List ℕ). is_some (number_by named k) ≡ false) ((bytes_eq-Decides n.name name).0 h) (rw so_far at none) in
-    told name ∙ ap (cond (bytes_eq n.name name) (Some n.number)) (so_far name) ∙ sym (number_by_more named n name ∙ chosen (bytes_eq n.name name) (number_by named name) (Some n.number) same)
+defined_first named n old new h1 h2 h3 name = grind (arith, nat_tests, bytes_eq-Decides, number_by_more, chosen)
 
 -- the look-up after another definition of a label
 pub defined_again : (named : List Named) (n : Named) (old : List ℕ → Option ℕ) → ((name : List ℕ) → old name ≡ number_by named name) → is_some (old n.name) ≡ true →
     (name : List ℕ) → old name ≡ number_by (named ++ n ∷ []) name
-defined_again named n old so_far some name =
-    let same : bytes_eq n.name name ≡ true → is_some (number_by named name) ≡ true =
-    λ h. subst (λ (k : List ℕ). is_some (number_by named k) ≡ true) ((bytes_eq-Decides n.name name).0 h) (rw so_far at some) in
-    so_far name ∙ sym (number_by_more named n name ∙ stayed (bytes_eq n.name name) (number_by named name) (Some n.number) same)
+defined_again named n old h1 h2 name = grind (arith, nat_tests, bytes_eq-Decides, number_by_more, stayed)
 
 pub knows_places : (labels : Labels) (named : List Named) → HasPlaces labels named → Knows labels (names_of named)
 knows_places labels named h = λ name. ap is_some (h name) ∙ among_named named name
-
-pub names_both : (xs ys : List Named) → names_of (xs ++ ys) ≡ names_of xs ++ names_of ys
-names_both xs ys = map-append (λ n. n.name) xs ys
 
 pub names_defined : (address : ℕ) (r : StatementReading) → names_of (defined_at address r) ≡ option_to_list (defined_label r)
 names_defined address r = elim (defined_label r) as (λ o. names_of (map (λ name. record { name = name; number = address }) (option_to_list o)) ≡ option_to_list o) [ None ↦ refl | Some name ↦ refl ]
@@ -94,12 +70,7 @@ ends items is at keeps h = subst (λ (n : ℕ). n ≤ at) (sym (AllZip-long Keep
 
 pub labels_more : (is : List Item) (at : ℕ) (named : List Named) (address : ℕ) → at < length is → names_of named ++ labels (drop at is) ≡ labels is →
     names_of (named ++ defined_at address (get_or is at no_item).reading) ++ labels (drop (at + 1) is) ≡ labels is
-labels_more is at named address h so_far =
-    let r = (get_or is at no_item).reading in
-    let rest = labels (drop (at + 1) is) in
-    ap (λ (ns : List (List ℕ)). ns ++ rest) (names_more named address r) ∙ append_assoc (names_of named) (option_to_list (defined_label r)) rest
-    ∙ ap (λ (ns : List (List ℕ)). names_of named ++ ns) (sym (at_drop_more labels is at no_item h))
-    ∙ so_far
+labels_more is at named address h so_far = cc (names_more named address ((get_or is at no_item).reading), append_assoc (names_of named) (option_to_list (defined_label ((get_or is at no_item).reading))) (labels (drop (at + 1) is)), at_drop_more labels is at no_item h)
 
 pub labels_end : (is : List Item) (at : ℕ) (named : List Named) → length is ≤ at → names_of named ++ labels (drop at is) ≡ labels is → names_of named ≡ labels is
 labels_end is at named h so_far =

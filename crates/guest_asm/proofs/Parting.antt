@@ -1,6 +1,6 @@
 -- Texts are parted as the library parts slices, at the first separator.
-use Rattle.std.proofs.Common.{◌≡◌, ℕ, ◌+◌, ◌-◌, ◌<◌, ◌≤◌, ◌==◌, cond, List, [], ◌∷◌, Some, None, length, take, drop, refl, ap, subst, sym, ◌∙◌, arith, Bool, true, false, nat_lt}
-use Rattle.std.specs.List.{position, position_or_len, slice_split, All, count_by}
+use Rattle.std.proofs.Common.{◌≡◌, ℕ, ◌+◌, ◌-◌, ◌<◌, ◌≤◌, ◌==◌, cond, List, [], ◌∷◌, Some, None, length, take, drop, refl, ap, ◌∙◌, arith, true, false, nat_lt}
+use Rattle.std.specs.List.{position, slice_split, count_by}
 use Rattle.std.specs.List as list
 use Rattle.std.proofs.lemmas.Bool.Decides.{nat_tests}
 use Rattle.std.proofs.lemmas.List.{length-drop, length-map, take_all}
@@ -14,10 +14,7 @@ onto_are c [] = refl
 onto_are c (p ∷ ps) = refl
 
 pub parts_are : (separator : ℕ) (text : List ℕ) → parts separator text ≡ slice_split (λ c. c == separator) text
-parts_are separator [] = refl
-parts_are separator (c ∷ text) =
-    rw (parts_are separator text)
-    (ap (λ ps. cond (c == separator) ([] ∷ slice_split (λ c. c == separator) text) ps) (onto_are c (slice_split (λ c. c == separator) text)))
+parts_are separator text = grind (arith, nat_tests, onto_are)
 
 found : (n m at : ℕ) → cond (nat_lt n m) (Some n) None ≡ Some at → (n < m) × (n ≡ at)
 found n m at e = (grind (arith, nat_tests), grind (arith, nat_tests))
@@ -27,21 +24,10 @@ not_found n m e = grind (arith, nat_tests)
 
 pub parts_at : (separator : ℕ) (text : List ℕ) (at : ℕ) → position (λ c. c == separator) text ≡ Some at →
     parts separator text ≡ take at text ∷ parts separator (take (length text - (at + 1)) (drop (at + 1) text))
-parts_at separator text at e =
-    let p : ℕ → Bool = λ c. c == separator in
-    let f = found (position_or_len p text) (length text) at e in
-    let whole : take (length text - (at + 1)) (drop (at + 1) text) ≡ drop (at + 1) text =
-    take_all _ _ (omega (arith, length-drop (at + 1) text)) in
-    let split : slice_split p text ≡ take at text ∷ slice_split p (drop (at + 1) text) =
-    subst (λ (n : ℕ). slice_split p text ≡ take n text ∷ slice_split p (drop (n + 1) text)) f.1 (slice_split_first p text 0 f.0) in
-    parts_are separator text ∙ split ∙ ap (λ ps. take at text ∷ ps) (sym (parts_are separator (drop (at + 1) text)) ∙ ap (parts separator) (sym whole))
+parts_at separator text at h1 = grind (arith, nat_tests, found, take_all, length-drop, slice_split_first, parts_are)
 
 pub parts_alone : (separator : ℕ) (text : List ℕ) → position (λ c. c == separator) text ≡ None → parts separator text ≡ text ∷ []
-parts_alone separator text e =
-    let p : ℕ → Bool = λ c. c == separator in
-    let all : All (λ c. p c ≡ false) text =
-    λ k d h. fails_before_first p text k d (omega (arith, not_found (position_or_len p text) (length text) e)) in
-    parts_are separator text ∙ slice_split_none p text all
+parts_alone separator text h1 = grind (arith, nat_tests, fails_before_first, not_found, parts_are, slice_split_none)
 
 -- there are no more parts than bytes, and one
 pub parts_few : (separator : ℕ) (text : List ℕ) → length (parts separator text) ≤ length text + 1
@@ -66,12 +52,8 @@ first_part separator (c ∷ text) =
 
 pub before_at : (stop : ℕ) (text : List ℕ) (at : ℕ) → position (λ c. c == stop) text ≡ Some at → take at text ≡ before (λ c. c == stop) text
 before_at stop text at e =
-    let first = first_part stop text in
-    let parted = parts_at stop text at e in
-    cc (first.1, parted)
+    cc ((first_part stop text).1, parts_at stop text at e)
 
 pub before_none : (stop : ℕ) (text : List ℕ) → position (λ c. c == stop) text ≡ None → text ≡ before (λ c. c == stop) text
 before_none stop text e =
-    let first = first_part stop text in
-    let parted = parts_alone stop text e in
-    cc (first.1, parted)
+    cc ((first_part stop text).1, parts_alone stop text e)

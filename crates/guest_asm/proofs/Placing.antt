@@ -1,15 +1,14 @@
 -- Statements that take their places, one behind the other.
-use Rattle.std.proofs.Common.{◌≡◌, ◌++◌, ◌+◌, ◌<◌, ◌≤◌, ℕ, List, [], ◌∷◌, Option, Some, not, refl, ap, sym, subst, ◌∙◌, length, drop, get_or, append_assoc, append-nil}
-use Rattle.std.specs.Prelude.{option_to_list, Result, Ok, Err}
+use Rattle.std.proofs.lemmas.Bool.Decides.{nat_tests}
+use Rattle.std.proofs.Common.{◌≡◌, ◌++◌, ◌+◌, ◌<◌, ◌≤◌, ℕ, List, [], ◌∷◌, Option, Some, not, refl, ap, sym, ◌∙◌, length, drop, get_or, append_assoc, append-nil, option_to_list, Result, Ok, Err, arith}
 use Rattle.std.specs.Result.{result_err, result_unwrap_or}
 use Rattle.std.proofs.lemmas.Grind.{flat_map-append}
 use Rattle.std.proofs.lemmas.List.{at_drop_more, at_drop_all}
 use Rattle.std.proofs.lemmas.Slice.Zip.{all_zipped_more}
-use Rattle.std.specs.List.{flat_map, AllZip}
+use Rattle.std.specs.List.{flat_map}
 use Rattle.guest_asm.specs.Assembled.{Item, Placed, address, fault_if, is_among, label_faults, labels, defined_label, placed_from, places, taken}
 use Rattle.guest_asm.specs.First.{either, first_of, Takes}
 use Rattle.guest_asm.specs.Kept.{names_of, defined_at, placed_at, HasPlaces, KeepsPlaced, Stands}
-use Rattle.asm_text.specs.Names.{Named}
 use Rattle.guest_asm.specs.declared.places.Placed as kept_placed
 use Rattle.guest_asm.specs.declared.places.Layout.{Layout}
 use Rattle.guest_asm.proofs.Naming.{names_more, no_item}
@@ -22,9 +21,7 @@ use Rattle.guest_asm.proofs.Firsts.{first_of_append}
 pub first_of_three : (x y z : Option AsmKind) (xs ys zs : List AsmKind) → x ≡ first_of xs → y ≡ first_of ys → z ≡ first_of zs →
     first_of (xs ++ ys ++ zs) ≡ either (either x y) z
 first_of_three x y z xs ys zs e f g =
-    let two = first_of_append xs ys in
-    let three = first_of_append (xs ++ ys) zs in
-    cc (two, three, e, f, g)
+    cc (first_of_append xs ys, first_of_append (xs ++ ys) zs, e, f, g)
 
 abbrev pub unknown_faults : List (List ℕ) → says.Statement → List AsmKind
 unknown_faults names s = flat_map (λ name. fault_if (not (is_among names name)) Label) (option_to_list (named_label s))
@@ -34,10 +31,7 @@ again_faults before r = flat_map (λ name. fault_if (is_among before name) Label
 
 pub first_label_fault : (names before : List (List ℕ)) (s : says.Statement) (r : says.StatementReading) (x y : Option AsmKind) → r ≡ says.Says s →
     x ≡ first_of (unknown_faults names s) → y ≡ first_of (again_faults before r) → either x y ≡ first_of (label_faults names before s)
-first_label_fault names before s r x y is e f =
-    let again : y ≡ first_of (again_faults before (says.Says s)) = f ∙ ap (λ (r : says.StatementReading). first_of (again_faults before r)) is in
-    let both = first_of_append (unknown_faults names s) (again_faults before (says.Says s)) in
-    cc (both, e, again)
+first_label_fault names before s r x y h1 h2 h3 = grind (arith, nat_tests, first_of_append)
 
 -- the fault and the size of a statement
 pub takes_fault : (o : Result ℕ AsmKind) (r : says.StatementReading) (faults : List AsmKind) → Takes o r faults → result_err o ≡ first_of faults
@@ -53,9 +47,7 @@ takes_size (Ok n) r faults h = h.1 ∙ ap (λ (ks : List AsmKind). taken ks r) (
 takes_size (Err kind) r faults h = some_faults faults r kind h
 
 pub places_more : (done : List Placed) (p : Placed) → places (done ++ p ∷ []) ≡ places done ++ defined_at (address p) p.reading
-places_more done p =
-    flat_map-append (λ (p : Placed). defined_at (address p) p.reading) done (p ∷ [])
-    ∙ ap (λ (ns : List Named). places done ++ ns) (append-nil (defined_at (address p) p.reading))
+places_more done p = grind (arith, nat_tests, flat_map-append, append-nil)
 
 pub place_more : (names : List (List ℕ)) (is : List Item) (at : ℕ) (done all : List Placed) (offset next : ℕ) → at < length is →
     next ≡ offset + taken (placed_at names (names_of (places done)) offset (get_or is at no_item)).faults (get_or is at no_item).reading →
@@ -82,16 +74,8 @@ PlacedSoFar layout at is =
 
 -- where none are left all stand at their places
 pub placed_all : (layout : Layout) (at : ℕ) (is : List Item) → length is ≤ at → PlacedSoFar layout at is → Stands layout (placed_from (labels is) [] 0 is)
-placed_all layout at is h so_far =
-    let none = at_drop_all (placed_from (labels is) (names_of (places so_far.0)) layout.offset) is at h in
-    subst (Stands layout) (sym (append-nil so_far.0) ∙ ap (λ (ps : List Placed). so_far.0 ++ ps) (sym none) ∙ so_far.2) so_far.1
+placed_all layout at is h so_far = grind (arith, at_drop_all (placed_from (labels is) (names_of (places so_far.0)) layout.offset) is at h, append-nil so_far.0)
 
 pub stands_more : (layout new : Layout) (done : List Placed) (kept : kept_placed.Placed) (p : Placed) → Stands layout done → new.placed.items ≡ layout.placed.items ++ kept ∷ [] →
     KeepsPlaced kept p → HasPlaces new.labels (places done ++ defined_at (address p) p.reading) → Stands new (done ++ p ∷ [])
-stands_more layout new done kept p so_far pushed keeps labels =
-    record {
-      placed =
-          subst (λ (ks : List kept_placed.Placed). AllZip KeepsPlaced ks (done ++ p ∷ [])) (sym pushed)
-          (all_zipped_more KeepsPlaced layout.placed.items done kept p so_far.placed keeps);
-      labels = subst (HasPlaces new.labels) (sym (places_more done p)) labels;
-    }
+stands_more layout new done kept p h1 h2 h3 h4 = grind (arith, nat_tests, all_zipped_more, places_more)

@@ -12,10 +12,7 @@ bytes_of_zero n = refl
 
 pub number_more : (bytes pushed : List ℕ) (len at n : ℕ) → at < len → pushed ≡ bytes ++ (n % 256) ∷ [] →
     pushed ++ bytes_of (len - (at + 1)) (n / 256) ≡ bytes ++ bytes_of (len - at) n
-number_more bytes pushed len at n h e =
-    let left : len - at ≡ suc (len - (at + 1)) = omega arith in
-    ap (λ (bs : List ℕ). bs ++ bytes_of (len - (at + 1)) (n / 256)) e ∙ append_assoc bytes ((n % 256) ∷ []) (bytes_of (len - (at + 1)) (n / 256))
-    ∙ ap (λ (bs : List ℕ). bytes ++ bs) (sym (bytes_of_suc (len - (at + 1)) n) ∙ ap (λ k. bytes_of k n) (sym left))
+number_more bytes pushed len at n h e = grind (arith, append_assoc bytes ((n % 256) ∷ []) (bytes_of (len - (at + 1)) (n / 256)), bytes_of_suc (len - (at + 1)) n)
 
 pub number_end : (bytes : List ℕ) (len at n : ℕ) → len - at ≡ 0 → bytes ++ bytes_of (len - at) n ≡ bytes
 number_end bytes len at n h = ap (λ k. bytes ++ bytes_of k n) h ∙ ap (λ (bs : List ℕ). bytes ++ bs) (bytes_of_zero n) ∙ append-nil bytes

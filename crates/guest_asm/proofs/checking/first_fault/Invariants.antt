@@ -1,5 +1,4 @@
-use Rattle.std.proofs.Common.{◌≡◌, List}
-use Rattle.std.specs.List.{flat_map}
+use Rattle.std.proofs.Common.{◌≡◌, List, flat_map}
 use Rattle.guest_asm.specs.Assembled.{Placed, first_fault, places}
 use Rattle.guest_asm.specs.Checked.{told}
 use Rattle.guest_asm.specs.Kept.{Stands}

@@ -1,5 +1,4 @@
-use Rattle.std.proofs.Common.{◌≡◌, List, Some, map, length}
-use Rattle.std.specs.Prelude.{ℤ}
+use Rattle.std.proofs.Common.{◌≡◌, List, Some, map, length, ℤ}
 use Rattle.asm_text.specs.Characters.{trimmed}
 use Rattle.guest_asm.specs.Parted.{left}
 use Rattle.asm_text.specs.Statements.{numbers_of, operands}

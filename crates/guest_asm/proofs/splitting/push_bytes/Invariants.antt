@@ -1,5 +1,4 @@
-use Rattle.std.proofs.Common.{◌≡◌, List, Some, map, length, true}
-use Rattle.std.specs.Prelude.{ℤ}
+use Rattle.std.proofs.Common.{◌≡◌, List, Some, map, length, true, ℤ}
 use Rattle.std.specs.List.{list_all}
 use Rattle.asm_text.specs.Characters.{trimmed}
 use Rattle.guest_asm.specs.Parted.{left}

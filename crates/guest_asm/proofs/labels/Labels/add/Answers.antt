@@ -1,6 +1,5 @@
-use Rattle.std.proofs.Common.{Some, ap, sym, ◌∙◌}
+use Rattle.std.proofs.Common.{Some, ap, sym, ◌∙◌, is_some}
 use Rattle.std.proofs.lemmas.Map.Text.{btree_map_updates_str}
-use Rattle.std.specs.Option.{is_some}
 use Rattle.guest_asm.specs.Kept.{address_in}
 use Rattle.guest_asm.proofs.Naming.{defined_first, defined_again}
 use Rattle.guest_asm.proofs.labels.Labels.add.Goals as goal
