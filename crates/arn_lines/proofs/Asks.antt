@@ -1,6 +1,5 @@
 -- A question begins with one keyword, and reads one way.
-use Rattle.std.proofs.Common.{◌≡◌, ◌≢◌, ℕ, false, eq-eqb, ◌==◌, List, [], ◌∷◌, ◌++◌, get_or, drop, codes, refl, sym, ap, subst, ◌∙◌}
-use Rattle.std.specs.Prelude.{if◌then◌else◌}
+use Rattle.std.proofs.Common.{◌≡◌, ◌≢◌, ℕ, false, eq-eqb, ◌==◌, List, [], ◌∷◌, ◌++◌, get_or, drop, codes, refl, sym, ap, subst, ◌∙◌, if◌then◌else◌}
 use Rattle.std.proofs.lemmas.Bool.{false≢true}
 use Rattle.arn_lines.specs.declared.line.Aspect.{Aspect}
 use Rattle.arn_lines.specs.declared.line.Aspect.TheVariants as aspect
@@ -15,8 +14,7 @@ use Rattle.arn_lines.proofs.Lists.{AreNumbers-same, IsKeyed-numbers, IsKeyed-sam
 -- two texts that differ at some place
 pub apart : (xs ys : List ℕ) (i : ℕ) → (get_or xs i 0 == get_or ys i 0) ≡ false → xs ≢ ys
 apart xs ys i differ e =
-    let same = eq-eqb (get_or xs i 0) (get_or ys i 0) (ap (λ zs. get_or zs i 0) e) in
-    false≢true (sym differ ∙ same)
+    false≢true (sym differ ∙ eq-eqb (get_or xs i 0) (get_or ys i 0) (ap (λ zs. get_or zs i 0) e))
 
 -- which keyword a text begins with tells what kind of thing is shown
 pub data AspectKind : Type 0 where
@@ -47,11 +45,9 @@ IsAspect-kind text aspect.Processes h = subst (λ xs. IsAspectOf (aspect_kind xs
 
 IsAspectOf-same : (kind : AspectKind) (text : List ℕ) (a b : Aspect) → IsAspectOf kind text a → IsAspectOf kind text b → a ≡ b
 IsAspectOf-same AtRegisters text a b h k =
-    let same = IsKeyed-same text (codes "regs") (h.0 ∷ []) (k.0 ∷ []) refl h.2 k.2 in
-    cc (h.1, k.1, same)
+    cc (h.1, k.1, IsKeyed-same text (codes "regs") (h.0 ∷ []) (k.0 ∷ []) refl h.2 k.2)
 IsAspectOf-same AtMemory text a b h k =
-    let same = IsKeyed-same text (codes "mem") (h.0 ∷ h.1 ∷ h.2 ∷ []) (k.0 ∷ k.1 ∷ k.2 ∷ []) refl h.4 k.4 in
-    cc (h.3, k.3, same)
+    cc (h.3, k.3, IsKeyed-same text (codes "mem") (h.0 ∷ h.1 ∷ h.2 ∷ []) (k.0 ∷ k.1 ∷ k.2 ∷ []) refl h.4 k.4)
 IsAspectOf-same AtFile text a b h k =
     let same : h.0 ≡ k.0 = ap (drop 5) (sym h.3 ∙ k.3) in
     cc (h.1, k.1, same)
@@ -66,8 +62,7 @@ pub IsNamed-parts : (text rest word range behind : List ℕ) (m n : ℕ) (name :
     → (m ≡ n) × (name ≡ word) × IsName word × AreNumbers range (from ∷ len ∷ [])
 IsNamed-parts text rest word range behind m n name from len lead first named =
     let others = name ++ space ++ named.range in
-    let said : text ≡ named.moment_text ++ space ++ others = ap (drop 5) named.is_text in
-    let front : IsNumberAnd text n others = record { number = named.moment_text; is_number = named.is_moment; is_text = said } in
+    let front : IsNumberAnd text n others = record { number = named.moment_text; is_number = named.is_moment; is_text = ap (drop 5) named.is_text } in
     let moments = IsNumberAnd-same text m n rest others lead front in
     let same = IsFirstWord-same rest word range name named.range first (no_space-IsName name named.is_name) (sym moments.1) in
     (moments.0, same.0, rw same.0 at named.is_name, subst (λ xs. AreNumbers xs (from ∷ len ∷ [])) same.1 named.is_range)
@@ -116,14 +111,11 @@ IsNamed-same text m n name other a b c d h k =
 
 IsSoughtOf-same : (kind : SoughtKind) (text : List ℕ) (a b : Sought) → IsSoughtOf kind text a → IsSoughtOf kind text b → a ≡ b
 IsSoughtOf-same AtEvent text a b h k =
-    let same = IsKeyed-same text (codes "event") (h.0 ∷ h.1 ∷ h.2 ∷ []) (k.0 ∷ k.1 ∷ k.2 ∷ []) refl h.4 k.4 in
-    cc (h.3, k.3, same)
+    cc (h.3, k.3, IsKeyed-same text (codes "event") (h.0 ∷ h.1 ∷ h.2 ∷ []) (k.0 ∷ k.1 ∷ k.2 ∷ []) refl h.4 k.4)
 IsSoughtOf-same InMemory text a b h k =
-    let same = IsKeyed-same text (codes "mem") (h.0 ∷ h.1 ∷ h.2 ∷ h.3 ∷ []) (k.0 ∷ k.1 ∷ k.2 ∷ k.3 ∷ []) refl h.5 k.5 in
-    cc (h.4, k.4, same)
+    cc (h.4, k.4, IsKeyed-same text (codes "mem") (h.0 ∷ h.1 ∷ h.2 ∷ h.3 ∷ []) (k.0 ∷ k.1 ∷ k.2 ∷ k.3 ∷ []) refl h.5 k.5)
 IsSoughtOf-same InRegister text a b h k =
-    let same = IsKeyed-same text (codes "reg") (h.0 ∷ h.1 ∷ h.2 ∷ []) (k.0 ∷ k.1 ∷ k.2 ∷ []) refl h.4 k.4 in
-    cc (h.3, k.3, same)
+    cc (h.3, k.3, IsKeyed-same text (codes "reg") (h.0 ∷ h.1 ∷ h.2 ∷ []) (k.0 ∷ k.1 ∷ k.2 ∷ []) refl h.4 k.4)
 IsSoughtOf-same AtName text a b h k =
     let same = IsNamed-same text h.0 k.0 h.1 k.1 h.2 h.3 k.2 k.3 h.5 k.5 in
     cc (h.4, k.4, same.0, same.1, same.2)

@@ -1,6 +1,5 @@
 -- Decimal text, without leading zeros.
-use Rattle.std.proofs.Common.{◌≡◌, ◌≢◌, ℕ, ◌^◌, ◌<◌, List, ◌++◌, length, get_or, codes, decimal, Result, Ok, Err, inl, inr, refl, sym, arith}
-use Rattle.std.specs.Prelude.{IfSome, IfNone, IsUtf8}
+use Rattle.std.proofs.Common.{◌≡◌, ◌≢◌, ℕ, ◌^◌, ◌<◌, List, ◌++◌, length, get_or, codes, decimal, Result, Ok, Err, inl, inr, refl, sym, arith, IfSome, IfNone, IsUtf8}
 use Rattle.std.specs.Int.{IsInRange}
 use Rattle.std.specs.Result.{result_ok}
 use Rattle.std.specs.Str.Parse.{AllDigits, digits_value, ParsesUnsigned}
@@ -77,6 +76,5 @@ unparsed_decimal {E} text (Ok n) unpadded parsed = tt
 unparsed_decimal {E} text (Err e) unpadded parsed =
     λ n small same.
     let failed = parse_plain model {E = E} 64 text (Err e) parsed (no_plus text unpadded) in
-    let value = digits_value-decimal model n small in
     failed
-    (rw same (decimal_digits n small, decimal_nonempty n small, rw value small))
+    (rw same (decimal_digits n small, decimal_nonempty n small, rw (digits_value-decimal model n small) small))

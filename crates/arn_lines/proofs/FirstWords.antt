@@ -1,6 +1,5 @@
 -- A text splits one way at its first space.
-use Rattle.std.proofs.Common.{◌≡◌, ◌≢◌, ℕ, ◌^◌, ◌<◌, true, List, [], ◌∷◌, ◌++◌, length, get_or, codes, decimal, inl, inr, refl, sym, subst, ◌∙◌, append_assoc, length-append, arith}
-use Rattle.std.specs.Prelude.{All, ◌&&◌, nat_le, nat_lt}
+use Rattle.std.proofs.Common.{◌≡◌, ◌≢◌, ℕ, ◌^◌, ◌<◌, true, List, [], ◌∷◌, ◌++◌, length, get_or, codes, decimal, inl, inr, refl, sym, subst, ◌∙◌, append_assoc, length-append, arith, All, ◌&&◌, nat_le, nat_lt}
 use Rattle.std.specs.List.{list_all}
 use Rattle.std.proofs.lemmas.Bool.{and_parts, leb-true, ltb-true}
 use Rattle.std.proofs.lemmas.List.{get_or_at}

@@ -1,34 +1,19 @@
 -- The words of `gen SEED N`.
-use Rattle.std.proofs.Common.{◌≡◌, ℕ, ◌≤◌, List, [], ◌∷◌, ◌++◌, drop, codes, refl, sym, ap, subst, ◌∙◌}
+use Rattle.std.proofs.Common.{◌≡◌, ℕ, List, [], ◌∷◌, ◌++◌, drop, codes, refl, sym, ap, subst, ◌∙◌}
 use Rattle.arn_lines.specs.declared.line.Line.{Line}
-use Rattle.arn_lines.specs.declared.line.TheConstants.{MOST_GENERATED}
 use Rattle.arn_lines.specs.Grammar.{IsGen, IsLine}
 use Rattle.arn_lines.specs.Questions.{AreNumbers}
 use Rattle.arn_lines.specs.Words.{space}
 use Rattle.arn_lines.proofs.Asks.{apart}
 use Rattle.arn_lines.proofs.Keywords.{AtQuestion, IsLine-kind, IsLineOf}
 use Rattle.arn_lines.proofs.Lists.{AreNumbers-same}
-use Rattle.arn_lines.proofs.QuestionKinds.{AsksGroups, IsQuestion-kind, IsQuestionOf}
+use Rattle.arn_lines.proofs.QuestionKinds.{IsQuestion-kind}
 
 -- behind `gen ` stand the two numbers
 pub IsGen-numbers : (text rest : List ℕ) (seed processes : ℕ) → text ≡ codes "gen " ++ rest → IsGen text seed processes
     → AreNumbers rest (seed ∷ processes ∷ [])
 IsGen-numbers text rest seed processes is g =
-    let said : rest ≡ g.seed_word ++ space ++ g.processes_word = ap (drop 4) (sym is ∙ g.is_text) in
-    (g.processes_word, record { number = g.seed_word; is_number = g.is_seed; is_text = said }, g.is_processes)
-
--- two numbers behind it are those of the generator, where the second is in range
-pub numbers-IsGen : (text rest : List ℕ) (seed processes : ℕ) → text ≡ codes "gen " ++ rest → AreNumbers rest (seed ∷ processes ∷ [])
-    → 1 ≤ processes → processes ≤ MOST_GENERATED → IsGen text seed processes
-numbers-IsGen text rest seed processes is are least most = record {
-  seed_word = are.1.number;
-  processes_word = are.0;
-  is_seed = are.1.is_number;
-  is_processes = are.2;
-  at_least = least;
-  at_most = most;
-  is_text = is ∙ ap (λ (words : List ℕ). codes "gen " ++ words) are.1.is_text;
-}
+    (g.processes_word, record { number = g.seed_word; is_number = g.is_seed; is_text = ap (drop 4) (sym is ∙ g.is_text) }, g.is_processes)
 
 -- they are those that the line says
 pub IsGen-read : (text rest : List ℕ) (a b m n : ℕ) → text ≡ codes "gen " ++ rest → AreNumbers rest (a ∷ m ∷ []) → IsGen text b n
@@ -48,5 +33,4 @@ no_gen_line text l seed processes g h =
     let words = codes "gen " ++ g.seed_word ++ space ++ g.processes_word in
     let said : IsLine words l = subst (λ (t : List ℕ). IsLine t l) g.is_text h in
     let asks : IsLineOf AtQuestion words l = IsLine-kind words l said in
-    let groups : IsQuestionOf AsksGroups words asks.0 = IsQuestion-kind words asks.0 asks.2 in
-    apart words (codes "groups") 1 refl groups.1
+    apart words (codes "groups") 1 refl (IsQuestion-kind words asks.0 asks.2).1

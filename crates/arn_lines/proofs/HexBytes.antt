@@ -1,8 +1,7 @@
 -- Pairs of hex digits, and the bytes that they spell.
-use Rattle.std.proofs.Common.{◌≡◌, ℕ, ◌≤◌, ◌+◌, ◌*◌, ◌-◌, ◌%◌, true, List, [], ◌∷◌, length, refl, sym, ◌∙◌, ap, subst, arith, rules, inl, inr}
+use Rattle.std.proofs.Common.{◌≡◌, ℕ, ◌≤◌, ◌+◌, ◌*◌, ◌-◌, ◌%◌, true, List, [], ◌∷◌, length, refl, sym, ◌∙◌, ap, subst, arith, rules, inl, inr, Result, Ok}
 use Rattle.std.proofs.lemmas.Bool.{cases_lt}
 use Rattle.std.proofs.lemmas.Bool.Decides.{nat_tests}
-use Rattle.std.specs.Prelude.{Result, Ok}
 use Rattle.std.specs.List.{AllPass}
 use Rattle.std.specs.Result.{result_unwrap_or}
 use Rattle.std.proofs.lemmas.List.Elements.{All-head, All-tail}
@@ -68,25 +67,17 @@ spelled (high ∷ low ∷ text) even digits =
 pub decode_pairs-IsHex : (i : ℕ) (text bytes : List ℕ) → IsHex text bytes → decode_pairs i text ≡ Ok bytes
 unfolding decode_pairs
 decode_pairs-IsHex i [] [] h = refl
-decode_pairs-IsHex i [] (b ∷ bytes) h = absurd h
-decode_pairs-IsHex i (high ∷ []) [] h = absurd h
-decode_pairs-IsHex i (high ∷ []) (b ∷ bytes) h = absurd h
-decode_pairs-IsHex i (high ∷ low ∷ text) [] h = absurd h
 decode_pairs-IsHex i (high ∷ low ∷ text) (b ∷ bytes) h =
     let pair = h.0 in
     let first = hex_digit_value-IsHexDigit high pair.high_value pair.is_high in
-    let second = hex_digit_value-IsHexDigit low pair.low_value pair.is_low in
-    let rest = decode_pairs-IsHex (i + 2) text bytes h.1 in
     let byte : pair.high_value * 16 + pair.low_value ≡ b = omega (arith, pair.is_byte) in
-    rw (first, second, rest) (ap (λ (n : ℕ). Ok (n ∷ bytes)) byte)
+    rw (first, hex_digit_value-IsHexDigit low pair.low_value pair.is_low, decode_pairs-IsHex (i + 2) text bytes h.1) (ap (λ (n : ℕ). Ok (n ∷ bytes)) byte)
+decode_pairs-IsHex i _ _ h = absurd h
 
 even_length : (text bytes : List ℕ) → IsHex text bytes → length text % 2 ≡ 0
 even_length [] [] h = refl
-even_length [] (b ∷ bytes) h = absurd h
-even_length (high ∷ []) [] h = absurd h
-even_length (high ∷ []) (b ∷ bytes) h = absurd h
-even_length (high ∷ low ∷ text) [] h = absurd h
 even_length (high ∷ low ∷ text) (b ∷ bytes) h = omega (arith, even_length text bytes h.1)
+even_length _ _ h = absurd h
 
 pub decode_of-IsHex : (text bytes : List ℕ) → IsHex text bytes → decode_of text ≡ Ok bytes
 decode_of-IsHex text bytes h = decode_of-even text (even_length text bytes h) ∙ decode_pairs-IsHex 0 text bytes h

@@ -1,8 +1,7 @@
 -- Hex digits, read one after another.
-use Rattle.std.proofs.Common.{◌≡◌, ℕ, ◌+◌, ◌*◌, ◌^◌, ◌<◌, ◌≤◌, List, length, get_or, drop, ◌++◌, codes, Some, inl, inr, refl, arith}
+use Rattle.std.proofs.Common.{◌≡◌, ℕ, ◌+◌, ◌*◌, ◌^◌, ◌<◌, ◌≤◌, List, length, get_or, drop, ◌++◌, codes, Some, inl, inr, arith, pow-add}
 use Rattle.std.proofs.Math.Pow.{pow_mono}
-use Rattle.std.proofs.lemmas.List.{drop_more, drop_all}
-use Rattle.std.proofs.lemmas.Nat.{pow-add}
+use Rattle.std.proofs.lemmas.List.{drop_more}
 use Rattle.hex.proofs.HexLemmas.{IsDigits-lower_digits, IsDigits-upper_digits}
 use Rattle.hex.specs.Hex.{hex_digit_value}
 use Rattle.arn_lines.specs.Words.{IsHexDigit, IsHexNumber, IsHexNumberFrom}
@@ -47,10 +46,6 @@ ReadSoFar-more digits i number v lt digit r =
           rw (IsHexDigit-same (get_or digits i 0) rest.0 v rest.1 digit) at rest.2;
     }
 
-pub ReadSoFar-all : (digits : List ℕ) (i number : ℕ) → length digits ≤ i → ReadSoFar digits i number
-    → IsHexNumberFrom 0 digits number
-ReadSoFar-all digits i number past r = r.goes_on number (rw drop_all refl)
-
 -- the digits behind `0x`
 pub IsHexNumber-digits : (digits : List ℕ) (n : ℕ) → IsHexNumber (codes "0x" ++ digits) n
     → (1 ≤ length digits) × (length digits ≤ 16) × IsHexNumberFrom 0 digits n
@@ -62,8 +57,7 @@ IsHexNumber-digits digits n h =
 pub ReadSoFar-stops : (digits : List ℕ) (i number : ℕ) → i < length digits
     → ((v : ℕ) → ¬ IsHexDigit (get_or digits i 0) v) → ReadSoFar digits i number → (n : ℕ) → ¬ IsHexNumberFrom 0 digits n
 ReadSoFar-stops digits i number lt none r n h =
-    let more = drop_more digits i 0 lt in
-    let rest = rw more at r.went_on n h in
+    let rest = rw (drop_more digits i 0 lt) at r.went_on n h in
     none rest.0 rest.1
 
 -- fewer than sixteen digits leave room for one more

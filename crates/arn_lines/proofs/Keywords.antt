@@ -1,8 +1,6 @@
 -- A line begins with one keyword, and reads one way: all that a line by itself has of its own.
-use Rattle.std.proofs.Common.{◌≡◌, ℕ, ◌<◌, Bool, true, false, leb, ◌==◌, List, [], ◌∷◌, ◌++◌, length, get_or, drop, codes, inl, inr, refl, sym, ap, subst, ◌∙◌, arith}
-use Rattle.std.specs.Prelude.{IfNone, if◌then◌else◌}
+use Rattle.std.proofs.Common.{◌≡◌, ℕ, ◌<◌, Bool, true, false, leb, ◌==◌, List, [], ◌∷◌, ◌++◌, length, get_or, drop, codes, inl, inr, refl, sym, ap, subst, ◌∙◌, arith, IfNone, if◌then◌else◌, leb-false}
 use Rattle.std.specs.Bool.{then_some}
-use Rattle.std.proofs.lemmas.Bool.{leb-false}
 use Rattle.arn_lines.specs.declared.line.TheConstants.{MOST_RUN}
 use Rattle.arn_lines.specs.declared.line.Line.{Line}
 use Rattle.arn_lines.specs.declared.line.Line.TheVariants as line
@@ -41,12 +39,10 @@ IsLineOf AtRun text l = (count : ℕ) × (l ≡ line.Run count) × IsRun text co
 IsLineOf AtQuestion text l = (q : Question) × (l ≡ line.Asks q) × IsQuestion text q
 
 question-kind : (text : List ℕ) (q : Question) → IsQuestion text q → line_kind text ≡ AtQuestion
-question-kind text (question.Show moment shown) h = ap line_kind h.is_text
-question-kind text (question.Back linkage bytes) h = ap line_kind h.is_text
-question-kind text (question.Forth linkage event from len) h = ap line_kind h.is_text
 question-kind text question.Groups h = ap line_kind h
 question-kind text question.Events h = ap line_kind h
 question-kind text question.Verify h = ap line_kind h
+question-kind text _ h = ap line_kind h.is_text
 
 pub IsLine-kind : (text : List ℕ) (l : Line) → IsLine text l → IsLineOf (line_kind text) text l
 IsLine-kind text (line.File name bytes) h =
@@ -63,16 +59,6 @@ no_file_line text none l h =
     let file : IsLineOf AtFile (codes "file " ++ text) l = IsLine-kind (codes "file " ++ text) l h in
     none file.0 file.1 file.3
 
-pub no_boot_line : (text : List ℕ) → ((name : List ℕ) → ¬ IsBoot (codes "boot " ++ text) name) → SaysNothing (codes "boot " ++ text)
-no_boot_line text none l h =
-    let boot : IsLineOf AtBoot (codes "boot " ++ text) l = IsLine-kind (codes "boot " ++ text) l h in
-    none boot.0 boot.2
-
-pub no_type_line : (text : List ℕ) → ((bytes : List ℕ) → ¬ IsType (codes "type " ++ text) bytes) → SaysNothing (codes "type " ++ text)
-no_type_line text none l h =
-    let typed : IsLineOf AtType (codes "type " ++ text) l = IsLine-kind (codes "type " ++ text) l h in
-    none typed.0 typed.2
-
 pub no_run_line : (text : List ℕ) → ((count : ℕ) → ¬ IsRun (codes "run " ++ text) count) → SaysNothing (codes "run " ++ text)
 no_run_line text none l h =
     let run : IsLineOf AtRun (codes "run " ++ text) l = IsLine-kind (codes "run " ++ text) l h in
@@ -82,8 +68,7 @@ no_run_line text none l h =
 pub IsFile-parts : (text word rest name bytes : List ℕ) → IsFirstWord text word rest → IsFile (codes "file " ++ text) name bytes
     → IsName word × IsBytes rest bytes
 IsFile-parts text word rest name bytes first file =
-    let said : text ≡ name ++ space ++ file.hex = ap (drop 5) file.is_text in
-    let same = IsFirstWord-same text word rest name file.hex first (no_space-IsName name file.is_name) said in
+    let same = IsFirstWord-same text word rest name file.hex first (no_space-IsName name file.is_name) (ap (drop 5) file.is_text) in
     (rw same.0 at file.is_name, rw same.1 at file.is_bytes)
 
 pub IsRun-number : (text : List ℕ) (count : ℕ) → IsRun (codes "run " ++ text) count → IsNumber text count
@@ -126,8 +111,7 @@ IsFile-same : (text name bytes other behind : List ℕ) → IsFile text name byt
 IsFile-same text name bytes other behind a b =
     let rest = name ++ space ++ a.hex in
     let first : IsFirstWord rest name a.hex = record { is_text = refl; no_space = no_space-IsName name a.is_name } in
-    let said : rest ≡ other ++ space ++ b.hex = ap (drop 5) (sym a.is_text ∙ b.is_text) in
-    let same = IsFirstWord-same rest name a.hex other b.hex first (no_space-IsName other b.is_name) said in
+    let same = IsFirstWord-same rest name a.hex other b.hex first (no_space-IsName other b.is_name) (ap (drop 5) (sym a.is_text ∙ b.is_text)) in
     (sym same.0, IsBytes-same a.hex bytes behind a.is_bytes (rw same.1 at b.is_bytes))
 
 IsBoot-same : (text name other : List ℕ) → IsBoot text name → IsBoot text other → name ≡ other
@@ -148,17 +132,13 @@ IsLineOf-same AtFile text a b h k =
     let same = IsFile-same text h.0 h.1 k.0 k.1 h.3 k.3 in
     cc (h.2, k.2, same.0, same.1)
 IsLineOf-same AtBoot text a b h k =
-    let same = IsBoot-same text h.0 k.0 h.2 k.2 in
-    cc (h.1, k.1, same)
+    cc (h.1, k.1, IsBoot-same text h.0 k.0 h.2 k.2)
 IsLineOf-same AtType text a b h k =
-    let same = IsType-same text h.0 k.0 h.2 k.2 in
-    cc (h.1, k.1, same)
+    cc (h.1, k.1, IsType-same text h.0 k.0 h.2 k.2)
 IsLineOf-same AtRun text a b h k =
-    let same = IsRun-same text h.0 k.0 h.2 k.2 in
-    cc (h.1, k.1, same)
+    cc (h.1, k.1, IsRun-same text h.0 k.0 h.2 k.2)
 IsLineOf-same AtQuestion text a b h k =
-    let same = IsQuestion-same text h.0 k.0 h.2 k.2 in
-    cc (h.1, k.1, same)
+    cc (h.1, k.1, IsQuestion-same text h.0 k.0 h.2 k.2)
 
 pub IsLine-same : (text : List ℕ) (a b : Line) → IsLine text a → IsLine text b → a ≡ b
 IsLine-same text a b h k = IsLineOf-same (line_kind text) text a b (IsLine-kind text a h) (IsLine-kind text b k)

@@ -32,15 +32,12 @@ AreNumbers-rest text rest n a b more lead are =
 -- a text says as many numbers one way
 pub AreNumbers-same : (text xs ys : List ℕ) → length xs ≡ length ys → AreNumbers text xs → AreNumbers text ys → xs ≡ ys
 AreNumbers-same text [] ys e a b = absurd a
-AreNumbers-same text (x ∷ []) [] e a b = absurd b
 AreNumbers-same text (x ∷ []) (y ∷ []) e a b = ap (λ n. n ∷ []) (IsNumber-same text x y a b)
 AreNumbers-same text (x ∷ []) (y ∷ z ∷ ys) e a b = absurd (omega arith)
-AreNumbers-same text (x ∷ w ∷ xs) [] e a b = absurd b
 AreNumbers-same text (x ∷ w ∷ xs) (y ∷ []) e a b = absurd (omega arith)
 AreNumbers-same text (x ∷ w ∷ xs) (y ∷ z ∷ ys) e a b =
-    let head = IsNumberAnd-same text x y a.0 b.0 a.1 b.1 in
-    let tail = AreNumbers-same a.0 (w ∷ xs) (z ∷ ys) (omega arith) a.2 (AreNumbers-rest text a.0 x y z ys a.1 b) in
-    cc (head.0, tail)
+    cc ((IsNumberAnd-same text x y a.0 b.0 a.1 b.1).0, AreNumbers-same a.0 (w ∷ xs) (z ∷ ys) (omega arith) a.2 (AreNumbers-rest text a.0 x y z ys a.1 b))
+AreNumbers-same text _ [] e a b = absurd b
 
 -- behind a keyword stand its numbers
 pub IsKeyed-numbers : (keyword rest values : List ℕ) → IsKeyed (keyword ++ space ++ rest) keyword values → AreNumbers rest values
@@ -50,5 +47,4 @@ IsKeyed-numbers keyword rest values keyed =
 
 pub IsKeyed-same : (text keyword xs ys : List ℕ) → length xs ≡ length ys → IsKeyed text keyword xs → IsKeyed text keyword ys → xs ≡ ys
 IsKeyed-same text keyword xs ys e a b =
-    let again : IsKeyed (keyword ++ space ++ a.numbers) keyword ys = subst (λ t. IsKeyed t keyword ys) a.is_text b in
-    AreNumbers-same a.numbers xs ys e a.are_numbers (IsKeyed-numbers keyword a.numbers ys again)
+    AreNumbers-same a.numbers xs ys e a.are_numbers (IsKeyed-numbers keyword a.numbers ys (subst (λ t. IsKeyed t keyword ys) a.is_text b))

@@ -8,8 +8,7 @@ use Rattle.arn_lines.proofs.HexDigits.{IsHexDigit-same}
 IsHexNumberFrom-same : (digits : List ℕ) (before m n : ℕ) → IsHexNumberFrom before digits m → IsHexNumberFrom before digits n → m ≡ n
 IsHexNumberFrom-same [] before m n a b = a ∙ sym b
 IsHexNumberFrom-same (c ∷ digits) before m n a b =
-    let same = IsHexDigit-same c a.0 b.0 a.1 b.1 in
-    IsHexNumberFrom-same digits (16 * before + b.0) m n (rw same at a.2) b.2
+    IsHexNumberFrom-same digits (16 * before + b.0) m n (rw (IsHexDigit-same c a.0 b.0 a.1 b.1) at a.2) b.2
 
 IsHexNumber-same : (text : List ℕ) (m n : ℕ) → IsHexNumber text m → IsHexNumber text n → m ≡ n
 IsHexNumber-same text m n a b =

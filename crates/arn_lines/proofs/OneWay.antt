@@ -30,27 +30,23 @@ IsLine-begins [] l h over =
     let asks : IsLineOf AtQuestion [] l = IsLine-kind [] l h in
     question-begins [] asks.0 asks.2 over
 IsLine-begins (c ∷ text) l h over =
-    let said : IsLine (35 ∷ text) l = subst (λ (d : ℕ). IsLine (d ∷ text) l) over h in
-    let asks : IsLineOf AtQuestion (35 ∷ text) l = IsLine-kind (35 ∷ text) l said in
+    let asks : IsLineOf AtQuestion (35 ∷ text) l = IsLine-kind (35 ∷ text) l (subst (λ (d : ℕ). IsLine (d ∷ text) l) over h) in
     question-begins (35 ∷ text) asks.0 asks.2 refl
 
 IsGen-begins : (text : List ℕ) (seed processes : ℕ) → IsGen text seed processes → ¬ IsPassedOver text
 IsGen-begins text seed processes h over = no_hash 103 refl (subst IsPassedOver h.is_text over)
 
 pub Reads-same : (text : List ℕ) (a b : LineReading) → Reads text a → Reads text b → a ≡ b
-Reads-same text PassedOver PassedOver h k = refl
 Reads-same text PassedOver TooLong h k = absurd (k.not_passed_over h)
 Reads-same text PassedOver Unreadable h k = absurd (k.not_passed_over h)
 Reads-same text PassedOver (Says l) h k = absurd (IsLine-begins text l k.1 h)
 Reads-same text PassedOver (Generates seed processes) h k = absurd (IsGen-begins text seed processes k.1 h)
 Reads-same text TooLong PassedOver h k = absurd (h.not_passed_over k)
-Reads-same text TooLong TooLong h k = refl
 Reads-same text TooLong Unreadable h k = absurd (omega (arith, h.long, k.not_long))
 Reads-same text TooLong (Says l) h k = absurd (omega (arith, h.long, k.0))
 Reads-same text TooLong (Generates seed processes) h k = absurd (omega (arith, h.long, k.0))
 Reads-same text Unreadable PassedOver h k = absurd (h.not_passed_over k)
 Reads-same text Unreadable TooLong h k = absurd (omega (arith, h.not_long, k.long))
-Reads-same text Unreadable Unreadable h k = refl
 Reads-same text Unreadable (Says l) h k = absurd (h.says_nothing l k.1)
 Reads-same text Unreadable (Generates seed processes) h k = absurd (h.generates_nothing seed processes k.1)
 Reads-same text (Says l) PassedOver h k = absurd (IsLine-begins text l h.1 k)
@@ -65,3 +61,4 @@ Reads-same text (Generates seed processes) (Says l) h k = absurd (no_gen_line te
 Reads-same text (Generates seed processes) (Generates other many) h k =
     let same = IsGen-same text seed other processes many h.1 k.1 in
     cc (same.0, same.1)
+Reads-same text _ _ h k = refl

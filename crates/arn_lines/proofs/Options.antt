@@ -1,8 +1,7 @@
 -- Clauses on an `Option` or a `Result`.
-use Rattle.std.specs.Prelude.{◌≡◌, Option, Some, None, Result, Ok, Err, MatchOption, MatchResult, IfSome, IfNone, is_some}
 use Rattle.std.specs.Result.{result_ok}
 use Rattle.std.proofs.lemmas.Option.{same_Some}
-use Rattle.std.proofs.Common.{sym, subst}
+use Rattle.std.proofs.Common.{sym, subst, ◌≡◌, Option, Some, None, Result, Ok, Err, MatchOption, MatchResult, IfSome, IfNone, is_some}
 
 pub IfSome-from_match : {T : Type 0} (found : Option T) (P : Type 0) (Q : T → Type 0) → MatchOption found P Q → IfSome found Q
 IfSome-from_match None P Q h = tt
@@ -32,6 +31,5 @@ ok_at_none (Err e) P Q h same then = then e h
 pub IfNone-mapped : {T U P Q : Type 0} (found : Option T) (mapped : Option U) → is_some mapped ≡ is_some found → (P → Q)
     → IfNone found P → IfNone mapped Q
 IfNone-mapped None None same f h = f h
-IfNone-mapped None (Some y) same f h = cc same
-IfNone-mapped (Some x) None same f h = cc same
 IfNone-mapped (Some x) (Some y) same f h = tt
+IfNone-mapped _ _ same f h = cc same

@@ -1,6 +1,5 @@
 -- A line that asks a question asks one.
-use Rattle.std.proofs.Common.{◌≡◌, ℕ, ◌==◌, List, [], ◌∷◌, ◌++◌, get_or, drop, codes, refl, sym, ap, subst, ◌∙◌}
-use Rattle.std.specs.Prelude.{if◌then◌else◌}
+use Rattle.std.proofs.Common.{◌≡◌, ℕ, ◌==◌, List, [], ◌∷◌, ◌++◌, get_or, drop, codes, refl, sym, ap, subst, ◌∙◌, if◌then◌else◌}
 use Rattle.rv64_model.specs.declared.linkage.Linkage.{Linkage}
 use Rattle.rv64_model.specs.declared.linkage.Linkage.TheVariants.{Copy, Data, Index}
 use Rattle.arn_lines.specs.declared.line.Aspect.{Aspect}
@@ -48,16 +47,13 @@ IsQuestion-kind text (question.Back linkage bytes) h =
     subst (λ xs. IsQuestionOf (question_kind xs) text (question.Back linkage bytes)) (sym h.is_text) (linkage, bytes, refl, h)
 IsQuestion-kind text (question.Forth linkage event from len) h =
     subst (λ xs. IsQuestionOf (question_kind xs) text (question.Forth linkage event from len)) (sym h.is_text) (linkage, event, from, len, refl, h)
-IsQuestion-kind text question.Groups h = subst (λ xs. IsQuestionOf (question_kind xs) text question.Groups) (sym h) (refl, h)
-IsQuestion-kind text question.Events h = subst (λ xs. IsQuestionOf (question_kind xs) text question.Events) (sym h) (refl, h)
-IsQuestion-kind text question.Verify h = subst (λ xs. IsQuestionOf (question_kind xs) text question.Verify) (sym h) (refl, h)
+IsQuestion-kind text e h = subst (λ xs. IsQuestionOf (question_kind xs) text e) (sym h) (refl, h)
 
 -- the words of a `show` line
 pub IsShow-parts : (text rest : List ℕ) (m n : ℕ) (shown : Aspect) → IsNumberAnd text m rest → IsShow (codes "show " ++ text) n shown
     → (m ≡ n) × IsAspect rest shown
 IsShow-parts text rest m n shown lead show =
-    let said : text ≡ show.moment_text ++ space ++ show.aspect_text = ap (drop 5) show.is_text in
-    let front : IsNumberAnd text n show.aspect_text = record { number = show.moment_text; is_number = show.is_moment; is_text = said } in
+    let front : IsNumberAnd text n show.aspect_text = record { number = show.moment_text; is_number = show.is_moment; is_text = ap (drop 5) show.is_text } in
     let same = IsNumberAnd-same text m n rest show.aspect_text lead front in
     (same.0, subst (λ xs. IsAspect xs shown) same.1 show.is_aspect)
 
@@ -81,15 +77,13 @@ IsForth-parts text word rest linkage event from len first forth =
     )
 
 IsLinkage-same : (word : List ℕ) (a b : Linkage) → IsLinkage word a → IsLinkage word b → a ≡ b
-IsLinkage-same word Copy Copy is too = refl
 IsLinkage-same word Copy Data is too = absurd (apart (codes "copy") (codes "data") 0 refl (sym is ∙ too))
 IsLinkage-same word Copy Index is too = absurd (apart (codes "copy") (codes "index") 0 refl (sym is ∙ too))
 IsLinkage-same word Data Copy is too = absurd (apart (codes "data") (codes "copy") 0 refl (sym is ∙ too))
-IsLinkage-same word Data Data is too = refl
 IsLinkage-same word Data Index is too = absurd (apart (codes "data") (codes "index") 0 refl (sym is ∙ too))
 IsLinkage-same word Index Copy is too = absurd (apart (codes "index") (codes "copy") 0 refl (sym is ∙ too))
 IsLinkage-same word Index Data is too = absurd (apart (codes "index") (codes "data") 0 refl (sym is ∙ too))
-IsLinkage-same word Index Index is too = refl
+IsLinkage-same word _ _ is too = refl
 
 IsShow-same : (text : List ℕ) (m n : ℕ) (a b : Aspect) → IsShow text m a → IsShow text n b → (m ≡ n) × (a ≡ b)
 IsShow-same text m n a b h k =
@@ -125,9 +119,7 @@ IsQuestionOf-same AsksBack text a b h k =
 IsQuestionOf-same AsksForth text a b h k =
     let same = IsForth-same text h.0 k.0 h.1 h.2 h.3 k.1 k.2 k.3 h.5 k.5 in
     cc (h.4, k.4, same.0, same.1)
-IsQuestionOf-same AsksGroups text a b h k = h.0 ∙ sym k.0
-IsQuestionOf-same AsksEvents text a b h k = h.0 ∙ sym k.0
-IsQuestionOf-same AsksVerify text a b h k = h.0 ∙ sym k.0
+IsQuestionOf-same _ text a b h k = h.0 ∙ sym k.0
 
 pub IsQuestion-same : (text : List ℕ) (a b : Question) → IsQuestion text a → IsQuestion text b → a ≡ b
 IsQuestion-same text a b h k = IsQuestionOf-same (question_kind text) text a b (IsQuestion-kind text a h) (IsQuestion-kind text b k)
@@ -155,5 +147,4 @@ no_forth text none q h =
 pub IsShow-moment : (text : List ℕ) (moment : ℕ) (shown : Aspect) → IsShow (codes "show " ++ text) moment shown
     → (rest : List ℕ) × IsNumberAnd text moment rest
 IsShow-moment text moment shown show =
-    let said : text ≡ show.moment_text ++ space ++ show.aspect_text = ap (drop 5) show.is_text in
-    (show.aspect_text, record { number = show.moment_text; is_number = show.is_moment; is_text = said })
+    (show.aspect_text, record { number = show.moment_text; is_number = show.is_moment; is_text = ap (drop 5) show.is_text })

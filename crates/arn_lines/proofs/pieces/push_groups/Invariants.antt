@@ -1,6 +1,4 @@
-use Rattle.std.proofs.Common.{◌≡◌, ◌++◌, take, codes, decimal}
-use Rattle.std.specs.Prelude.{flat_map}
-use Rattle.std.specs.String.{string_bytes}
+use Rattle.std.proofs.Common.{◌≡◌, ◌++◌, take, codes, decimal, flat_map, string_bytes}
 use Rattle.arn_lines.specs.Pieces.{LeavesFront}
 use Rattle.arn_lines.proofs.pieces.push_groups.Given as goal
 

@@ -1,5 +1,4 @@
-use Rattle.std.proofs.Common.{◌≡◌, ◌++◌, take}
-use Rattle.std.specs.String.{string_bytes}
+use Rattle.std.proofs.Common.{◌≡◌, ◌++◌, take, string_bytes}
 use Rattle.arn_lines.specs.Pieces.{LeavesFront}
 use Rattle.arn_lines.specs.Texts.{words_text}
 use Rattle.arn_lines.proofs.pieces.push_words.Given as goal

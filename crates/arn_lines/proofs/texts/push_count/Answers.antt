@@ -1,7 +1,5 @@
 -- The pieces are joined from the right.
-use Rattle.std.proofs.Common.{◌≡◌, ◌++◌, List, ℕ, append_assoc, codes, decimal, subst}
-use Rattle.std.specs.Prelude.{OnOk}
-use Rattle.std.specs.String.{string_bytes}
+use Rattle.std.proofs.Common.{◌≡◌, ◌++◌, List, ℕ, append_assoc, codes, decimal, subst, OnOk, string_bytes}
 use Rattle.arn_lines.specs.Texts.{count_text, groups_text, line_end}
 use Rattle.arn_lines.proofs.texts.push_count.Goals as goal
 
