@@ -1,7 +1,5 @@
 -- Sums of bytes that were written, record by record.
 use Rattle.std.proofs.Common.{◌≡◌, ℕ, zero, suc, ◌+◌, ◌<◌, ◌≤◌, List, [], ◌∷◌, ◌++◌, length, take, get_or, ap, sym, ◌∙◌, append_assoc, append-nil, length-append, arith, add-one}
-use Rattle.std.specs.List.{sum}
-use Rattle.std.proofs.lemmas.List.Sums.{sum_by-append}
 use Rattle.arn_base.specs.declared.records.Record.{Record}
 use Rattle.generator.specs.Sums.{written, written_by}
 
@@ -24,8 +22,4 @@ among-suc (x ∷ entries) (suc i) =
 
 pub few-more : (entries : List Record) (i : ℕ) (e : Record) → i < length entries → e ≡ get_or entries i e → length (written (take i entries)) + length (written_by e) ≤ length (written entries)
 few-more entries i e inside is =
-    let more = ap (λ (b : List ℕ). length b) (written-more entries i e inside is) in
-    omega (arith, more, among-suc entries (i + 1), length-append (written (take i entries)) (written_by e))
-
-pub sum-more : (xs ys : List ℕ) → sum (xs ++ ys) ≡ sum xs + sum ys
-sum-more xs ys = sum_by-append (λ (x : ℕ). x) xs ys
+    omega (arith, ap (λ (b : List ℕ). length b) (written-more entries i e inside is), among-suc entries (i + 1), length-append (written (take i entries)) (written_by e))

@@ -1,5 +1,4 @@
-use Rattle.std.proofs.Common.{◌≡◌, ◌≤◌, ◌+◌, ◌*◌, take}
-use Rattle.std.specs.List.{sum}
+use Rattle.std.proofs.Common.{◌≡◌, ◌≤◌, ◌+◌, ◌*◌, take, sum}
 use Rattle.generator.proofs.sums.add_bytes.Given as goal
 
 abbrev pub invariant-loop-byte : goal.invariant-loop-byte

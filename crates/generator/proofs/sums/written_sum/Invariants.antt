@@ -1,5 +1,4 @@
-use Rattle.std.proofs.Common.{◌≡◌, ◌≤◌, ◌*◌, length, take}
-use Rattle.std.specs.List.{sum}
+use Rattle.std.proofs.Common.{◌≡◌, ◌≤◌, ◌*◌, length, take, sum}
 use Rattle.generator.specs.Sums.{written}
 use Rattle.generator.proofs.sums.written_sum.Given as goal
 
