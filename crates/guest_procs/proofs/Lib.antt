@@ -4,3 +4,4 @@ pub mod Lowest
 pub mod Numbers
 pub mod Tables
 pub mod Waits
+pub mod Live

@@ -1,5 +1,5 @@
 // The numbers of the processes that are there, and of those that live.
-ghost use Rattle.std.specs.Prelude.{◌≡◌, ◌-◌, ◌<◌, ◌^◌, ◌++◌, ◌∷◌, [], length, take, filter, find, Some, None, IfOk, IfErr, OnOk, OnErr, IsTrue, IfSome, IsSome, IsNone, option_and_then};
+ghost use Rattle.std.specs.Prelude.{◌≡◌, ◌==◌, ◌-◌, ◌<◌, ◌^◌, ◌++◌, ◌∷◌, [], length, take, filter, find, Some, None, IfOk, IfErr, OnOk, OnErr, IsTrue, IfSome, IsSome, IsNone, option_and_then, option_map};
 ghost use Rattle.std.specs.List.{list_any};
 ghost use Rattle.std.specs.Result.{result_ok};
 ghost use Rattle.guest_procs.specs.Answers.{WaitFails, lowest_ended};
@@ -91,6 +91,13 @@ pub fn next_ended(pids: &[u32], table: &Table, parent: u32) -> Result<Ended, Pro
     }
 }
 
+/// A number, if it is one of these.
+fn found_in(pids: &[u32], number: u64) -> Option<u32>
+    ensures { result ≡ find (λ pid. pid == number) pids.now }
+{
+    pids.iter().copied().find(|pid| *pid as u64 == number)
+}
+
 impl Lists {
     pub fn new(alloc: Global) -> Lists
         ensures table { result.table ≡ [] }
@@ -109,6 +116,14 @@ impl Lists {
         ensures { result ≡ is_full self.now.table }
     {
         self.present.len() as u64 >= MOST_PROCESSES
+    }
+
+    /// The process of a number, if it lives.
+    pub fn live_number(&self, number: u64) -> Option<u32>
+        requires { IsSound self.now.table self.now.present.items self.now.live.items }
+        ensures { result ≡ option_map (λ _. number) (live_process self.now.table number) }
+    {
+        found_in(&self.live, number)
     }
 
     /// Adds a process that lives, and answers its number.

@@ -157,6 +157,13 @@ impl Procs {
         self.lists.live.as_slice()
     }
 
+    /// The process of a number that a program gives, if it lives.
+    pub fn live_number(&self, number: u64) -> Option<u32>
+        ensures { result ≡ option_map (λ _. number) (live_process self.now number) }
+    {
+        self.lists.live_number(number)
+    }
+
     /// How many more descriptors a process may open.
     pub fn free(&self, pid: u32) -> u32
         requires { IsSome (process self.now pid) }
