@@ -49,7 +49,7 @@ answered m pid v (Writes device at len) reply = device_write m device at (read v
 
 -- the calls that are built. Any other answers as one that there isn't
 abbrev pub built_calls : List ℕ
-built_calls = EXIT ∷ FORK ∷ EXEC ∷ WAIT ∷ GETPID ∷ OPEN ∷ CLOSE ∷ READ ∷ WRITE ∷ SEEK ∷ DUP ∷ PIPE ∷ UNLINK ∷ LISTEN ∷ CONNECT ∷ ACCEPT ∷ YIELD ∷ []
+built_calls = EXIT ∷ FORK ∷ EXEC ∷ WAIT ∷ GETPID ∷ KILL ∷ SIGACTION ∷ SIGRETURN ∷ OPEN ∷ CLOSE ∷ READ ∷ WRITE ∷ SEEK ∷ DUP ∷ PIPE ∷ UNLINK ∷ SHM ∷ LISTEN ∷ CONNECT ∷ ACCEPT ∷ YIELD ∷ []
 
 -- whether devices can be unplugged yet
 abbrev pub can_unplug : Bool

@@ -1,17 +1,18 @@
 -- What a call of a number comes to, and which calls are always ready.
 use Rattle.std.proofs.Common.{◌≡◌, ◌≢◌, ℕ, ◌==◌, Bool, true, false, cond, ◌||◌, ◌&&◌, List, [], ◌∷◌, Option, None, Some, refl, sym, ap, ap₂, ◌∙◌, subst, ne_eqb, true≢false}
-use Rattle.std.specs.Prelude.{if◌then◌else◌, is_some, nat_lt, not}
+use Rattle.std.specs.Prelude.{if◌then◌else◌, is_none, is_some, nat_lt, not}
 use Rattle.std.specs.List.{list_any}
 use Rattle.std.proofs.lemmas.Bool.{eqb-true}
 use Rattle.parts_model.specs.declared.open.Description.{Description}
 use Rattle.parts_model.specs.declared.open.Description.TheVariants as description
-use Rattle.parts_model.specs.declared.refusals.TheConstants.{BAD_ADDRESS, BAD_ARGUMENT, CONNECTION_REFUSED, NAME_TAKEN, NO_DESCRIPTOR_ROOM, NO_PROCESS_ROOM, NO_ROOM, NO_SUCH_CALL, NOT_IMAGE, PORT_IN_USE}
+use Rattle.parts_model.specs.declared.refusals.TheConstants.{BAD_ADDRESS, BAD_ARGUMENT, CONNECTION_REFUSED, NAME_TAKEN, NO_DESCRIPTOR_ROOM, NO_PROCESS, NO_PROCESS_ROOM, NO_ROOM, NO_SUCH_CALL, NOT_IMAGE, PORT_IN_USE}
 use Rattle.parts_model.specs.declared.limits.TheConstants.{GREATEST_PORT, MOST_BLOCK_BYTES}
 use Rattle.parts_model.specs.declared.tagged.TaggedByte.{TaggedByte}
 use Rattle.parts_model.specs.Image.{is_image}
 use Rattle.parts_model.specs.Pipes.{free_pipes}
 use Rattle.parts_model.specs.Ports as ports
 use Rattle.parts_model.specs.Ports.{can_connect, is_in_use}
+use Rattle.parts_model.specs.Signals.{can_set, is_signal}
 use Rattle.parts_model.specs.Tagged.{values}
 use Rattle.parts_model.specs.Processes as table
 use Rattle.parts_model.specs.Files.{find_file, file_bytes, is_full, made, next_file}
@@ -25,6 +26,7 @@ use Rattle.arn_model.specs.Kernel.{Kernel, Machine, also_held, description_of, n
 use Rattle.arn_model.specs.Paths.{isnt_path_len, path_of}
 use Rattle.arn_model.specs.ProcessCalls.{exec_bytes, exec_doing, exec_file, exec_row, exit_row, fork_row, getpid_row, wait_row, yield_row}
 use Rattle.arn_model.specs.Row.{row, built_calls, is_built, request, is_waiting}
+use Rattle.arn_model.specs.SignalCalls.{kill_row, shm_row, sigaction_row, sigreturn_row}
 use Rattle.arn_model.specs.Step.{waits_at}
 use Rattle.arn_model.specs.TransferCalls.{read_row, write_row}
 use Rattle.guest_requests.specs.Calls.{ComeToRows, OthersAreReady}
@@ -156,6 +158,21 @@ module _ (m : Machine) (pid : ℕ) (v : View) where
       let port : ℕ = argument v.body.cpu 0 in
       unless-ready m.kernel (refuse CONNECTION_REFUSED (not (can_connect m.kernel.ports port)) ∷ refuse NO_DESCRIPTOR_ROOM (has_no_room m.kernel pid) ∷ refuse NO_ROOM (nat_lt (free_pipes m.kernel.pipes) 2) ∷ []) _ refl
 
+  kill-ready : is_waiting (kill_row m pid v) ≡ false
+  kill-ready =
+      let target : ℕ = argument v.body.cpu 0 in
+      let signal : ℕ = argument v.body.cpu 1 in
+      unless-ready m.kernel (refuse BAD_ARGUMENT (not (is_signal signal)) ∷ refuse NO_PROCESS (is_none (table.live_process m.kernel.processes target)) ∷ []) _ refl
+
+  sigaction-ready : is_waiting (sigaction_row m pid v) ≡ false
+  sigaction-ready = unless-ready m.kernel (refuse BAD_ARGUMENT (not (can_set (argument v.body.cpu 0) (argument v.body.cpu 1))) ∷ []) _ refl
+
+  sigreturn-ready : is_waiting (sigreturn_row m pid v) ≡ false
+  sigreturn-ready = unless-ready m.kernel (refuse BAD_ARGUMENT (is_none v.body.slot) ∷ []) _ refl
+
+  shm-ready : is_waiting (shm_row m pid v) ≡ false
+  shm-ready = unless-ready m.kernel (refuse BAD_ARGUMENT (is_some v.body.segment) ∷ []) _ refl
+
   pub row-exit : row 1 m pid v ≡ exit_row m pid v
   unfolding row
   row-exit = refl
@@ -175,6 +192,18 @@ module _ (m : Machine) (pid : ℕ) (v : View) where
   pub row-getpid : row 5 m pid v ≡ getpid_row m pid v
   unfolding row
   row-getpid = refl
+
+  pub row-kill : row 6 m pid v ≡ kill_row m pid v
+  unfolding row
+  row-kill = refl
+
+  pub row-sigaction : row 7 m pid v ≡ sigaction_row m pid v
+  unfolding row
+  row-sigaction = refl
+
+  pub row-sigreturn : row 8 m pid v ≡ sigreturn_row m pid v
+  unfolding row
+  row-sigreturn = refl
 
   pub row-open : row 9 m pid v ≡ open_row m pid v
   unfolding row
@@ -207,6 +236,10 @@ module _ (m : Machine) (pid : ℕ) (v : View) where
   pub row-unlink : row 16 m pid v ≡ unlink_row m pid v
   unfolding row
   row-unlink = refl
+
+  pub row-shm : row 17 m pid v ≡ shm_row m pid v
+  unfolding row
+  row-shm = refl
 
   pub row-listen : row 18 m pid v ≡ listen_row m pid v
   unfolding row
@@ -241,30 +274,42 @@ module _ (m : Machine) (pid : ℕ) (v : View) where
           (
             λ ready. ap is_waiting row-getpid,
             (
-              λ ready. ap is_waiting row-open ∙ open-ready,
+              λ ready. ap is_waiting row-kill ∙ kill-ready,
               (
-                λ ready. ap is_waiting row-close ∙ close-ready m pid (argument v.body.cpu 0) (description_of m.kernel pid (argument v.body.cpu 0)),
+                λ ready. ap is_waiting row-sigaction ∙ sigaction-ready,
                 (
-                  λ ready. absurd (true≢false ready),
+                  λ ready. ap is_waiting row-sigreturn ∙ sigreturn-ready,
                   (
-                    λ ready. absurd (true≢false ready),
+                    λ ready. ap is_waiting row-open ∙ open-ready,
                     (
-                      λ ready. ap is_waiting row-seek ∙ seek-ready m pid (argument v.body.cpu 1) (description_of m.kernel pid (argument v.body.cpu 0)),
+                      λ ready. ap is_waiting row-close ∙ close-ready m pid (argument v.body.cpu 0) (description_of m.kernel pid (argument v.body.cpu 0)),
                       (
-                        λ ready. ap is_waiting row-dup ∙ dup-ready m pid (description_of m.kernel pid (argument v.body.cpu 0)),
+                        λ ready. absurd (true≢false ready),
                         (
-                          λ ready. ap is_waiting row-pipe ∙ pipe-ready,
+                          λ ready. absurd (true≢false ready),
                           (
-                            λ ready. ap is_waiting row-unlink ∙ unlink-ready,
+                            λ ready. ap is_waiting row-seek ∙ seek-ready m pid (argument v.body.cpu 1) (description_of m.kernel pid (argument v.body.cpu 0)),
                             (
-                              λ ready. ap is_waiting row-listen ∙ listen-ready,
+                              λ ready. ap is_waiting row-dup ∙ dup-ready m pid (description_of m.kernel pid (argument v.body.cpu 0)),
                               (
-                                λ ready. ap is_waiting row-connect ∙ connect-ready,
+                                λ ready. ap is_waiting row-pipe ∙ pipe-ready,
                                 (
-                                  λ ready. absurd (true≢false ready),
+                                  λ ready. ap is_waiting row-unlink ∙ unlink-ready,
                                   (
-                                    λ ready. ap is_waiting row-yield,
-                                    tt,
+                                    λ ready. ap is_waiting row-shm ∙ shm-ready,
+                                    (
+                                      λ ready. ap is_waiting row-listen ∙ listen-ready,
+                                      (
+                                        λ ready. ap is_waiting row-connect ∙ connect-ready,
+                                        (
+                                          λ ready. absurd (true≢false ready),
+                                          (
+                                            λ ready. ap is_waiting row-yield,
+                                            tt,
+                                          ),
+                                        ),
+                                      ),
+                                    ),
                                   ),
                                 ),
                               ),
@@ -336,6 +381,9 @@ come-to-rows =
       exec = λ m pid v is. request-built m pid v 3 (exec_row m pid v) is refl (row-exec m pid v);
       wait = λ m pid v is. request-wait m pid v is;
       getpid = λ m pid v is. request-built m pid v 5 (getpid_row m pid v) is refl (row-getpid m pid v);
+      kill = λ m pid v is. request-built m pid v 6 (kill_row m pid v) is refl (row-kill m pid v);
+      sigaction = λ m pid v is. request-built m pid v 7 (sigaction_row m pid v) is refl (row-sigaction m pid v);
+      sigreturn = λ m pid v is. request-built m pid v 8 (sigreturn_row m pid v) is refl (row-sigreturn m pid v);
       «open» = λ m pid v is. request-built m pid v 9 (open_row m pid v) is refl (row-open m pid v);
       close = λ m pid v is. request-built m pid v 10 (close_row m pid v) is refl (row-close m pid v);
       read = λ m pid v is. request-read m pid v is;
@@ -344,6 +392,7 @@ come-to-rows =
       dup = λ m pid v is. request-built m pid v 14 (dup_row m pid v) is refl (row-dup m pid v);
       pipe = λ m pid v is. request-built m pid v 15 (pipe_row m pid v) is refl (row-pipe m pid v);
       unlink = λ m pid v is. request-built m pid v 16 (unlink_row m pid v) is refl (row-unlink m pid v);
+      shm = λ m pid v is. request-built m pid v 17 (shm_row m pid v) is refl (row-shm m pid v);
       listen = λ m pid v is. request-built m pid v 18 (listen_row m pid v) is refl (row-listen m pid v);
       connect = λ m pid v is. request-built m pid v 19 (connect_row m pid v) is refl (row-connect m pid v);
       accept = λ m pid v is. request-accept m pid v is;

@@ -1,6 +1,6 @@
 -- The table of calls, by their numbers.
 use Rattle.std.specs.Prelude.{◌≡◌, ℕ, false}
-use Rattle.parts_model.specs.declared.calls.TheConstants.{ACCEPT, CLOSE, CONNECT, DUP, EXEC, EXIT, FORK, GETPID, LISTEN, OPEN, PIPE, READ, SEEK, UNLINK, WAIT, WRITE, YIELD}
+use Rattle.parts_model.specs.declared.calls.TheConstants.{ACCEPT, CLOSE, CONNECT, DUP, EXEC, EXIT, FORK, GETPID, KILL, LISTEN, OPEN, PIPE, READ, SEEK, SHM, SIGACTION, SIGRETURN, UNLINK, WAIT, WRITE, YIELD}
 use Rattle.acts_model.specs.Bodies.{View}
 use Rattle.acts_model.specs.Views.{call_number}
 use Rattle.arn_model.specs.ChannelCalls.{accept_row, connect_row, listen_row, pipe_row}
@@ -9,6 +9,7 @@ use Rattle.arn_model.specs.FileCalls.{close_row, dup_row, open_row, seek_row, un
 use Rattle.arn_model.specs.Kernel.{Machine}
 use Rattle.arn_model.specs.ProcessCalls.{exec_row, exit_row, fork_row, getpid_row, wait_row, yield_row}
 use Rattle.arn_model.specs.Row.{is_waiting, request}
+use Rattle.arn_model.specs.SignalCalls.{kill_row, shm_row, sigaction_row, sigreturn_row}
 use Rattle.arn_model.specs.TransferCalls.{read_row, write_row}
 use Rattle.guest_requests.specs.Standing.{can_wait}
 
@@ -23,6 +24,9 @@ pub record ComeToRows : Type 0 where
   pub exec : ComesTo EXEC exec_row
   pub wait : ComesTo WAIT wait_row
   pub getpid : ComesTo GETPID getpid_row
+  pub kill : ComesTo KILL kill_row
+  pub sigaction : ComesTo SIGACTION sigaction_row
+  pub sigreturn : ComesTo SIGRETURN sigreturn_row
   pub «open» : ComesTo OPEN open_row
   pub close : ComesTo CLOSE close_row
   pub read : ComesTo READ read_row
@@ -31,6 +35,7 @@ pub record ComeToRows : Type 0 where
   pub dup : ComesTo DUP dup_row
   pub pipe : ComesTo PIPE pipe_row
   pub unlink : ComesTo UNLINK unlink_row
+  pub shm : ComesTo SHM shm_row
   pub listen : ComesTo LISTEN listen_row
   pub connect : ComesTo CONNECT connect_row
   pub accept : ComesTo ACCEPT accept_row

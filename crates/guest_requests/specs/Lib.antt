@@ -3,5 +3,6 @@ pub mod Paths
 pub mod Transfers
 pub mod Waits
 pub mod Accepts
+pub mod Signalling
 pub mod Standing
 pub mod Calls
