@@ -20,3 +20,4 @@ pub mod Past
 pub mod Restarts
 pub mod Begun
 pub mod Child
+pub mod Handled

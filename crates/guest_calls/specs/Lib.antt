@@ -9,3 +9,4 @@ pub mod Running
 pub mod Starts
 pub mod Forks
 pub mod Channels
+pub mod Handled

@@ -16,8 +16,8 @@ use arn_base::NoMemory;
 use guest_devices::Answers;
 use guest_requests::{calls_come_to_rows, error, others_are_ready};
 use parts_model::calls::{
-    ACCEPT, CLOSE, CONNECT, DUP, EXEC, EXIT, FORK, GETPID, LISTEN, OPEN, PIPE, READ, SEEK, UNLINK,
-    WAIT, WRITE, YIELD,
+    ACCEPT, CLOSE, CONNECT, DUP, EXEC, EXIT, FORK, GETPID, KILL, LISTEN, OPEN, PIPE, READ, SEEK,
+    SHM, SIGACTION, SIGRETURN, UNLINK, WAIT, WRITE, YIELD,
 };
 use parts_model::refusals::NO_SUCH_CALL;
 
@@ -40,12 +40,16 @@ impl Kernel {
             FORK => self.fork(pid),
             EXEC => self.exec(pid),
             GETPID => Ok(self.getpid(pid)),
+            KILL => Ok(self.kill(pid)),
+            SIGACTION => Ok(self.sigaction(pid)),
+            SIGRETURN => Ok(self.sigreturn(pid)),
             OPEN => self.open(pid),
             CLOSE => Ok(self.close(pid)),
             SEEK => Ok(self.seek(pid)),
             DUP => self.dup(pid),
             PIPE => self.pipe(pid),
             UNLINK => self.unlink(pid),
+            SHM => self.shm(pid),
             LISTEN => self.listen(pid),
             CONNECT => self.connect(pid),
             YIELD => Ok(self.yields(pid)),

@@ -15,6 +15,7 @@ mod outcomes;
 mod parts;
 mod processes;
 mod running;
+mod signalling;
 mod states;
 mod transfers;
 mod waiting;

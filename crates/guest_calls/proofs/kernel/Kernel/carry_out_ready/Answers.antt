@@ -1,6 +1,7 @@
 use Rattle.arn_model.specs.ChannelCalls.{connect_row, listen_row, pipe_row}
 use Rattle.arn_model.specs.FileCalls.{close_row, dup_row, open_row, seek_row, unlink_row}
 use Rattle.arn_model.specs.ProcessCalls.{exec_row, exit_row, fork_row, getpid_row, yield_row}
+use Rattle.arn_model.specs.SignalCalls.{kill_row, shm_row, sigaction_row, sigreturn_row}
 use Rattle.guest_calls.proofs.Called.{carried-call, carried-calls}
 use Rattle.guest_calls.proofs.kernel.Kernel.carry_out_ready.Goals as goal
 
@@ -55,3 +56,19 @@ returns-in-18-clause-carried c =
 pub returns-in-19-clause-carried : goal.returns-in-19-clause-carried
 returns-in-19-clause-carried c =
     carried-calls c.args.self.now c.connect.new.self c.args.pid c.args.number 19 connect_row c.requires.number c.in-19.is c.calls_come_to_rows.ensures.connect c.connect.result c.connect.ensures.carried
+
+pub returns-in-6-clause-carried : goal.returns-in-6-clause-carried
+returns-in-6-clause-carried c =
+    carried-call c.args.self.now c.kill.new.self c.args.pid c.args.number 6 kill_row c.requires.number c.in-6.is c.calls_come_to_rows.ensures.kill c.kill.result c.kill.ensures.carried
+
+pub returns-in-7-clause-carried : goal.returns-in-7-clause-carried
+returns-in-7-clause-carried c =
+    carried-call c.args.self.now c.sigaction.new.self c.args.pid c.args.number 7 sigaction_row c.requires.number c.in-7.is c.calls_come_to_rows.ensures.sigaction c.sigaction.result c.sigaction.ensures.carried
+
+pub returns-in-8-clause-carried : goal.returns-in-8-clause-carried
+returns-in-8-clause-carried c =
+    carried-call c.args.self.now c.sigreturn.new.self c.args.pid c.args.number 8 sigreturn_row c.requires.number c.in-8.is c.calls_come_to_rows.ensures.sigreturn c.sigreturn.result c.sigreturn.ensures.carried
+
+pub returns-in-17-clause-carried : goal.returns-in-17-clause-carried
+returns-in-17-clause-carried c =
+    carried-calls c.args.self.now c.shm.new.self c.args.pid c.args.number 17 shm_row c.requires.number c.in-17.is c.calls_come_to_rows.ensures.shm c.shm.result c.shm.ensures.carried
