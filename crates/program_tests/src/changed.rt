@@ -2,6 +2,7 @@
 use super::*;
 use crate::calls::{BESIDE, BESIDE_PRINTS};
 use crate::same::assert_same;
+use crate::signals::{CUT, CUT_PRINTS};
 use arn_base::{Bytes, Differs, NoMemory};
 use arn_session::{Damage, Status};
 use log_disk::MemDisk;
@@ -26,6 +27,12 @@ const OTHER_CALL: Change = Change {
 const OTHER_ORIGIN: Change = Change {
     from: *b"\x01\0\0\0\x07\0\0\0\0\0\0\0\0\0\0\0\x03\0\0\0",
     to: *b"\x01\0\0\0\0\0\0\0\0\0\0\0\x18\0\0\0\x03\0\0\0",
+};
+
+/// The signal of event 5, in record 10: it ended a call, and then didn't. The call of event 6 follows.
+const NO_CUT: Change = Change {
+    from: *b"\x06\x01\0\0\0\x01\x01\x58\0\x01\0\0\0\0\0\x07\x01\0\0\0",
+    to: *b"\x06\x01\0\0\0\x01\0\x58\0\x01\0\0\0\0\0\x07\x01\0\0\0",
 };
 
 /// Five bytes stand in a call's record before its number.
@@ -68,6 +75,16 @@ const TRIALS: [Trial; 3] = [
     },
 ];
 
+/// The handler returns to the read that the signal no longer ends, so that no instruction of the next slice runs.
+const SIGNAL_TRIALS: [Trial; 1] = [Trial {
+    change: NO_CUT,
+    text: "verify\nback copy event 8 0 1\nback copy event 7 0 1\n",
+    status: Status::Done,
+    prints: "verify differs 10 6 0 1\n\
+        damaged 8 2 0\n\
+        back pairs 0 instructions 24 groups 1 2\n",
+}];
+
 /// A session over the log of a disk ends so, and prints this.
 fn assert_ends(
     rt: &(impl Abort + AllocGlobal),
@@ -99,15 +116,26 @@ fn changed(alloc: Global, log: &[u8], change: &Change) -> Result<Bytes, NoMemory
     Ok(bytes)
 }
 
-#[test]
-fn tells_damage_where_a_question_meets_it(rt: HostRuntime) -> Result<(), Fail> {
+/// A session prints this, and so do the trials over its log.
+fn assert_told(
+    rt: &(impl Abort + AllocGlobal),
+    text: &str,
+    prints: &str,
+    trials: &[Trial],
+) -> Result<(), Fail> {
     let alloc = rt.alloc();
     let mut disk = MemDisk::new(alloc, Bytes::new(alloc));
-    assert_ends(&rt, &mut disk, BESIDE, Status::Done, BESIDE_PRINTS)?;
-    for trial in &TRIALS {
+    assert_ends(rt, &mut disk, text, Status::Done, prints)?;
+    for trial in trials {
         let bytes = changed(alloc, disk.bytes(), &trial.change)?;
         let mut disk = MemDisk::new(alloc, bytes);
-        assert_ends(&rt, &mut disk, trial.text, trial.status, trial.prints)?;
+        assert_ends(rt, &mut disk, trial.text, trial.status, trial.prints)?;
     }
     Ok(())
+}
+
+#[test]
+fn tells_damage_where_a_question_meets_it(rt: HostRuntime) -> Result<(), Fail> {
+    assert_told(&rt, BESIDE, BESIDE_PRINTS, &TRIALS)?;
+    assert_told(&rt, CUT, CUT_PRINTS, &SIGNAL_TRIALS)
 }

@@ -105,7 +105,7 @@ const WRITTEN: [Written; 2] = [
 const SCHEDULES: [Schedule; 2] = [Schedule::Round, Schedule::Seeded(0)];
 
 /// Runs a session under a schedule over the log of a disk, and answers what it prints.
-fn printed(
+pub fn printed(
     rt: &(impl Abort + AllocGlobal),
     disk: &mut MemDisk,
     schedule: Schedule,

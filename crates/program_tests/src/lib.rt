@@ -16,4 +16,6 @@ mod programs;
 #[cfg(test)]
 mod same;
 #[cfg(test)]
+mod signals;
+#[cfg(test)]
 mod tests;

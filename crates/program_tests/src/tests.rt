@@ -9,7 +9,7 @@ use std::process::Abort;
 use std::test::Fail;
 
 /// What is printed for a text under a schedule.
-fn assert_prints(
+pub fn assert_prints(
     rt: &(impl Abort + AllocGlobal),
     schedule: Schedule,
     text: &str,
