@@ -192,12 +192,21 @@ void unix_signalled(int signal)
         handlers[signal](signal);
 }
 
+/* The kernel calls unix_handler only while there is a handler for it: it is there before the call, and goes behind it. */
 _sig_func_ptr signal(int number, _sig_func_ptr handler)
 {
     int64_t address = handler == SIG_DFL ? 0 : (int64_t)unix_handler;
-    if (unix_result(arnold_call(CALL_SIGACTION, number, address, 0, 0)) < 0)
+    if (number < 1 || number > 31) {
+        errno = EINVAL;
         return SIG_ERR;
+    }
     _sig_func_ptr before = handlers[number];
+    if (address != 0)
+        handlers[number] = handler;
+    if (unix_result(arnold_call(CALL_SIGACTION, number, address, 0, 0)) < 0) {
+        handlers[number] = before;
+        return SIG_ERR;
+    }
     handlers[number] = handler;
     return before;
 }
