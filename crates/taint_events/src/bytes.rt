@@ -1,24 +1,27 @@
-// The sets of the bytes of an event.
-ghost use Rattle.std.specs.Prelude.{◌≡◌, ◌<◌, ◌^◌, ℕ, IfOk};
-ghost use Rattle.set_store.specs.Sets.{StandAsBefore};
-ghost use Rattle.taint_events.specs.Bytes.{AreEmpty, AreGiven, AreReceived, IsItem, IsStatus};
-ghost use Rattle.taint_flow.specs.Starts.{IsRaw};
+// The numbers of the sets of the bytes of an event.
+ghost use Rattle.std.specs.Prelude.{◌≡◌, ◌<◌, ◌^◌, IfOk, OnOk};
+ghost use Rattle.taint_sets.specs.Numbered.{StandAsBefore};
+ghost use Rattle.taint_events.specs.Bytes.{AreEmpty, AreGiven, AreReceived, IsStatus};
 ghost use Rattle.taint_members.specs.Access.{HoldsKey, number_at};
 
 use arn_base::NoMemory;
 use rv64_isa::Reg;
-use set_store::{Item, Sets};
 use std::alloc::Global;
-use taint_flow::{narrow, resolve};
 use taint_members::{MemberSets, number};
 use taint_pages::SetNumbers;
+use taint_sets::ByteSets;
 
-/// The set of a byte of an event that is an item by itself.
-pub fn item(sets: &mut Sets, event: u64, at: u64) -> Result<u32, NoMemory>
-    ensures item { IfOk result (IsItem sets.new event at) }
-    ensures before { StandAsBefore sets.old sets.new }
+/// How many bytes an event moves at most: there is no memory for more.
+const MOST: usize = 0x7fff_ffff;
+
+/// That an event moves no more bytes than there is memory for.
+pub fn few(len: usize) -> Result<(), NoMemory>
+    ensures { OnOk result (len < 2 ^ 31) }
 {
-    narrow(sets.single(Item { event, at })?)
+    if len > MOST {
+        return Err(NoMemory);
+    }
+    Ok(())
 }
 
 /// So many bytes that take nothing.
@@ -35,41 +38,37 @@ pub fn empty(alloc: Global, len: usize) -> Result<Vec<u32>, NoMemory>
 /// So many received bytes, each of which is an item by itself.
 pub fn received(
     alloc: Global,
-    sets: &mut Sets,
+    sets: &mut ByteSets,
     event: u64,
     len: usize,
 ) -> Result<Vec<u32>, NoMemory>
     ensures received { IfOk result (λ numbers. AreReceived sets.new event len numbers.items) }
     ensures before { StandAsBefore sets.old sets.new }
 {
+    let first = sets.receive(event, 0, len)?;
     let mut numbers = Vec::new(alloc);
     for k in 0..len {
-        numbers.push(item(sets, event, k as u64)?)?;
+        numbers.push(first + k as u32)?;
     }
     Ok(numbers)
 }
 
-/// So many bytes that a member gave from an address on.
+/// So many bytes that a member gave from an address on. 2^31 bytes or more count as want of memory.
 pub fn given(
     alloc: Global,
-    sets: &mut Sets,
-    begun: u64,
     member: &MemberSets,
     segments: &[SetNumbers],
     at: u64,
     len: usize,
 ) -> Result<Vec<u32>, NoMemory>
-    requires few { len < 2 ^ 32 }
     requires held { HoldsKey member.now.segment segments.now }
-    requires raw { (k : ℕ) → IsRaw sets.old (number_at member.now segments.now at k) }
-    ensures given { IfOk result (λ numbers.
-        AreGiven sets.old sets.new begun (number_at member.now segments.now at) len numbers.items) }
-    ensures before { StandAsBefore sets.old sets.new }
+    ensures { IfOk result (λ numbers.
+        AreGiven (number_at member.now segments.now at) len numbers.items) }
 {
+    few(len)?;
     let mut numbers = Vec::new(alloc);
     for k in 0..len {
-        let number = number(member, segments, at, k);
-        numbers.push(resolve(sets, begun, number)?)?;
+        numbers.push(number(member, segments, at, k))?;
     }
     Ok(numbers)
 }

@@ -6,6 +6,6 @@ mod beginning;
 mod bytes;
 mod starting;
 
-pub use beginning::{begun, begun_later};
+pub use beginning::begun;
 pub use bytes::{empty, given, received, status};
 pub use starting::{receives, started};

@@ -7,11 +7,11 @@ ghost use Rattle.taint_events.specs.Starting.{IsStarted, window_len};
 ghost use Rattle.taint_members.specs.Access.{HoldsKey, WritesSegment, WritesWindow, number_at};
 ghost use Rattle.taint_members.specs.Rows.{AreZero, ClearsResult};
 
+use crate::bytes::few;
 use arn_base::NoMemory;
 use guest_image::HEADER_LEN;
 use parts_model::limits::{WINDOW_END, WINDOW_LEN, WINDOW_START};
 use std::alloc::Global;
-use taint_flow::narrow;
 use taint_members::{MemberSets, number, write};
 use taint_pages::SetNumbers;
 
@@ -34,7 +34,7 @@ pub fn receives(
     } }
     ensures keys { length segments.new ≡ length segments.old }
 {
-    narrow(numbers.len())?;
+    few(numbers.len())?;
     write(member, segments, at, numbers)?;
     member.returns();
     Ok(())

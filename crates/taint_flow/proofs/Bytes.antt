@@ -5,33 +5,33 @@ use Rattle.std.proofs.lemmas.Bool.{ltb-true, ltb-false, lt-ltb}
 use Rattle.arn_base.specs.declared.errors.NoMemory.{NoMemory}
 use Rattle.rv64_model.specs.Carries.{Operand, Left, Right, Loaded, Address}
 use Rattle.set_store.specs.declared.item.Item.{Item}
-use Rattle.set_store.specs.Sets.{IsSet, IsUnionOf, StandAsBefore, members_of}
+use Rattle.set_store.specs.Sets.{IsUnionOf}
+use Rattle.taint_sets.specs.Numbered.{IsSet, Numbered, StandAsBefore, members_of}
 use Rattle.link_rules.specs.declared.masks.Operands.{Operands}
 use Rattle.link_rules.specs.Masks.{has_byte, is_in}
-use Rattle.taint_flow.specs.Gathered.{AddsByte, AreNumbers, Gathers, Includes, IsAmong, IsTaken, TakesBytes, byte_count, first_start, number_of}
+use Rattle.taint_flow.specs.Gathered.{AddsByte, AreNumbers, Gathers, Includes, IsAmong, IsTaken, TakesBytes, byte_count, number_of}
 
-pub before-refl : (sets : List (List Item)) → StandAsBefore sets sets
+pub before-refl : (sets : Numbered) → StandAsBefore sets sets
 before-refl sets = record { there = λ set h. h; same = λ set h. refl }
 
-pub before-trans : (old mid new : List (List Item)) → StandAsBefore old mid → StandAsBefore mid new → StandAsBefore old new
+pub before-trans : (old mid new : Numbered) → StandAsBefore old mid → StandAsBefore mid new → StandAsBefore old new
 before-trans old mid new a b = record { there = λ set h. b.there set (a.there set h); same = λ set h. b.same set (a.there set h) ∙ a.same set h }
 
-pub numbers-before : (old new : List (List Item)) (numbers : List ℕ) → StandAsBefore old new → AreNumbers old numbers → AreNumbers new numbers
+pub numbers-before : (old new : Numbered) (numbers : List ℕ) → StandAsBefore old new → AreNumbers old numbers → AreNumbers new numbers
 numbers-before old new numbers b n = record { len = n.len; set = λ byte h. b.there (slice_index numbers byte) (n.set byte h) }
 
-pub added : (r : Result ℕ NoMemory) (old new : List (List Item)) (start mask byte number : ℕ) → has_byte mask byte ≡ true → IfOk r (IsSet new) → IfOk r (λ set. set < first_start)
+pub added : (r : Result ℕ NoMemory) (old new : Numbered) (start mask byte number : ℕ) → has_byte mask byte ≡ true → IfOk r (IsSet new)
     → IfOk r (λ set. IsUnionOf (members_of new set) (members_of old start) (members_of old number)) → IfOk r (AddsByte old new start mask byte number)
-added (Ok set) old new start mask byte number named there small union = record {
+added (Ok set) old new start mask byte number named there union = record {
   there = there;
-  small = small;
   members = λ item. (
     λ h. elim ((union item).0 h) [ inl a ↦ inl a | inr b ↦ inr (named, b) ],
     λ h. elim h [ inl a ↦ (union item).1 (inl a) | inr b ↦ (union item).1 (inr b.1) ],
   );
 }
-added (Err e) old new start mask byte number named there small union = there
+added (Err e) old new start mask byte number named there union = there
 
-module _ (old mid new : List (List Item)) (numbers : List ℕ) (mask n start s s' : ℕ)
+module _ (old mid new : Numbered) (numbers : List ℕ) (mask n start s s' : ℕ)
     (takes : TakesBytes old mid numbers mask n start s) (before : StandAsBefore old mid) (is : IsSet old (slice_index numbers n))
     (adds : AddsByte mid new s mask n (slice_index numbers n) s') where
   forth : (item : Item) → Contains (members_of new s') item → Contains (members_of old start) item ⊎ IsAmong old numbers mask (n + 1) item
@@ -58,20 +58,20 @@ module _ (old mid new : List (List Item)) (numbers : List ℕ) (mask n start s s
     by false e = last item among.byte (let above : n ≤ among.byte = ltb-false among.byte n e in let below : among.byte < n + 1 = among.below in omega arith) among.named among.member
 
   pub takes-more : TakesBytes old new numbers mask (n + 1) start s'
-  takes-more = record { there = adds.there; small = adds.small; members = λ item. (forth item, back item) }
+  takes-more = record { there = adds.there; members = λ item. (forth item, back item) }
 
 -- the set has the members of each byte's set that was taken
-pub among-includes : (old new : List (List Item)) (numbers : List ℕ) (mask n byte start set : ℕ) → byte < n → IsTrue (has_byte mask byte) → IsSet old (slice_index numbers byte) → StandAsBefore old new
+pub among-includes : (old new : Numbered) (numbers : List ℕ) (mask n byte start set : ℕ) → byte < n → IsTrue (has_byte mask byte) → IsSet old (slice_index numbers byte) → StandAsBefore old new
     → TakesBytes old new numbers mask n start set → Includes new set (slice_index numbers byte)
 among-includes old new numbers mask n byte start set below named is before takes item h =
     (takes.members item).1 (inr (record { byte = byte; below = below; named = named; member = subst (λ l. Contains l item) (before.same (slice_index numbers byte) is) h }))
 
 -- the same bytes, in sets that stand as before
-among-then : (old new : List (List Item)) (numbers : List ℕ) (mask : ℕ) (item : Item) → StandAsBefore old new → AreNumbers old numbers → IsAmong old numbers mask byte_count item → IsAmong new numbers mask byte_count item
+among-then : (old new : Numbered) (numbers : List ℕ) (mask : ℕ) (item : Item) → StandAsBefore old new → AreNumbers old numbers → IsAmong old numbers mask byte_count item → IsAmong new numbers mask byte_count item
 among-then old new numbers mask item b n a =
     record { byte = a.byte; below = a.below; named = a.named; member = subst (λ l. Contains l item) (sym (b.same (slice_index numbers a.byte) (n.set a.byte a.below))) a.member }
 
-among-before : (old new : List (List Item)) (numbers : List ℕ) (mask : ℕ) (item : Item) → StandAsBefore old new → AreNumbers old numbers → IsAmong new numbers mask byte_count item → IsAmong old numbers mask byte_count item
+among-before : (old new : Numbered) (numbers : List ℕ) (mask : ℕ) (item : Item) → StandAsBefore old new → AreNumbers old numbers → IsAmong new numbers mask byte_count item → IsAmong old numbers mask byte_count item
 among-before old new numbers mask item b n a =
     record { byte = a.byte; below = a.below; named = a.named; member = subst (λ l. Contains l item) (b.same (slice_index numbers a.byte) (n.set a.byte a.below)) a.member }
 
@@ -103,7 +103,7 @@ both-true a b h1 = grind (arith, nat_tests)
 pub address-has : (masks : Operands) (i : ℕ) → IsTrue (is_in masks (Address i)) → (i < 8) × (has_byte (if masks.address then 255 else 0) i ≡ true)
 address-has masks i h1 = grind (arith, nat_tests, all-bytes, both-true, ltb-true)
 
-module _ (old a b c d : List (List Item)) (first second loaded : List ℕ) (masks : Operands) (none s1 s2 s3 s4 : ℕ)
+module _ (old a b c d : Numbered) (first second loaded : List ℕ) (masks : Operands) (none s1 s2 s3 s4 : ℕ)
     (empty : members_of old none ≡ []) (in_first : AreNumbers old first) (in_second : AreNumbers old second) (in_loaded : AreNumbers old loaded)
     (t1 : TakesBytes old a first masks.first byte_count none s1) (b1 : StandAsBefore old a)
     (t2 : TakesBytes a b second masks.second byte_count s1 s2) (b2 : StandAsBefore a b)
@@ -157,9 +157,9 @@ module _ (old a b c d : List (List Item)) (first second loaded : List ℕ) (mask
       (t4.members item).1 (inr (among-then old c first (if masks.address then 255 else 0) item to_c in_first (record { byte = i; below = has.0; named = has.1; member = member })))
 
   gathered : Gathers old d first second loaded masks s4
-  gathered = record { there = t4.there; small = t4.small; members = λ item. (from_all item, λ taken. to_all item taken.operand taken.named taken.member) }
+  gathered = record { there = t4.there; members = λ item. (from_all item, λ taken. to_all item taken.operand taken.named taken.member) }
 
-pub gathered-if : (r : Result ℕ NoMemory) (old a b c d : List (List Item)) (first second loaded : List ℕ) (masks : Operands) (none s1 s2 s3 address : ℕ)
+pub gathered-if : (r : Result ℕ NoMemory) (old a b c d : Numbered) (first second loaded : List ℕ) (masks : Operands) (none s1 s2 s3 address : ℕ)
     → members_of old none ≡ [] → AreNumbers old first → AreNumbers old second → AreNumbers old loaded
     → TakesBytes old a first masks.first byte_count none s1 → StandAsBefore old a
     → TakesBytes a b second masks.second byte_count s1 s2 → StandAsBefore a b

@@ -5,11 +5,11 @@ use Rattle.std.proofs.lemmas.Bool.{ltb-true, ltb-false, lt-ltb}
 use Rattle.arn_base.specs.declared.errors.NoMemory.{NoMemory}
 use Rattle.rv64_model.specs.Carries.{Operand, Left, Right, Loaded, both, first_bytes, taken_if}
 use Rattle.set_store.specs.declared.item.Item.{Item}
-use Rattle.set_store.specs.Sets.{IsSet, members_of}
+use Rattle.taint_sets.specs.Numbered.{IsSet, Numbered, members_of}
 use Rattle.taint_flow.specs.declared.flow.Flow.{Flow}
 use Rattle.taint_flow.specs.declared.flow.Flow.TheVariants.{First, Second, Memory, Rising, Carried, Whole, Bytewise}
 use Rattle.taint_flow.specs.Flow.{IsFlow, IsWidth, Moves, reach}
-use Rattle.taint_flow.specs.Gathered.{AreNumbers, byte_count, first_start, number_of}
+use Rattle.taint_flow.specs.Gathered.{AreNumbers, byte_count, number_of}
 use Rattle.taint_flow.specs.Results.{AreResults, TakesOperands}
 use Rattle.taint_flow.proofs.Grown.{only}
 
@@ -41,11 +41,11 @@ pub bytewise-flow : (flow : Flow) (taken : ℕ → List Operand) → flow ≡ By
 bytewise-flow flow taken e is = subst (λ f. IsFlow f taken) e is
 
 -- results by a table are those by another that gives each byte the same
-pub by-table : (r : Result (List ℕ) NoMemory) (old new : List (List Item)) (number : Operand → ℕ) (taken table : ℕ → List Operand) → ((i : ℕ) → i < byte_count → taken i ≡ table i)
+pub by-table : (r : Result (List ℕ) NoMemory) (old new : Numbered) (number : Operand → ℕ) (taken table : ℕ → List Operand) → ((i : ℕ) → i < byte_count → taken i ≡ table i)
     → IfOk r (AreResults old new number table) → IfOk r (AreResults old new number taken)
 by-table r old new number taken table h1 h2 = grind (arith, nat_tests)
 
-module _ (sets : List (List Item)) (number : Operand → ℕ) (is_set : IsSet sets 0) (empty : members_of sets 0 ≡ []) where
+module _ (sets : Numbered) (number : Operand → ℕ) (is_set : IsSet sets 0) (empty : members_of sets 0 ≡ []) where
   -- nothing in the empty set
   in-empty : (item : Item) (set : ℕ) → set ≡ 0 → Contains (members_of sets set) item → ⊥
   in-empty item set h1 h2 = grind (arith, nat_tests)
@@ -55,15 +55,11 @@ module _ (sets : List (List Item)) (number : Operand → ℕ) (is_set : IsSet se
   takes-nothing taken set h1 h2 = grind (arith, nat_tests, in-empty)
 
   -- the set of one operand
-  takes-one : (x : Operand) (set : ℕ) → set ≡ number x → IsSet sets (number x) → set < first_start → TakesOperands sets sets number (x ∷ []) set
-  takes-one x set h1 h2 h3 = grind (arith, nat_tests, only)
+  takes-one : (x : Operand) (set : ℕ) → set ≡ number x → IsSet sets (number x) → TakesOperands sets sets number (x ∷ []) set
+  takes-one x set h1 h2 = grind (arith, nat_tests, only)
 
-module _ (sets : List (List Item)) (first second loaded : List ℕ) (is_set : IsSet sets 0) (empty : members_of sets 0 ≡ []) where
+module _ (sets : Numbered) (first second loaded : List ℕ) (is_set : IsSet sets 0) (empty : members_of sets 0 ≡ []) where
   -- bytes of one operand, and none behind them
   pub moved-by : (moved : List ℕ) (operand : ℕ → Operand) (taken : ℕ → List Operand) (numbers : List ℕ) (count : ℕ) → AreNumbers sets numbers → ((i : ℕ) → number_of first second loaded (operand i) ≡ slice_index numbers i)
       → ((i : ℕ) → i < byte_count → taken i ≡ taken_if (nat_lt i count) (operand i)) → Moves numbers count moved → AreResults sets sets (number_of first second loaded) taken moved
   moved-by moved operand taken numbers count h1 h2 h3 h4 = grind (arith, nat_tests, ltb-false, ltb-true, takes-nothing, takes-one)
-
-  pub moved-if : (r : Result (List ℕ) NoMemory) (operand : ℕ → Operand) (taken : ℕ → List Operand) (numbers : List ℕ) (count : ℕ) → AreNumbers sets numbers → ((i : ℕ) → number_of first second loaded (operand i) ≡ slice_index numbers i)
-      → ((i : ℕ) → i < byte_count → taken i ≡ taken_if (nat_lt i count) (operand i)) → IfOk r (Moves numbers count) → IfOk r (AreResults sets sets (number_of first second loaded) taken)
-  moved-if r operand taken numbers count h1 h2 h3 h4 = grind (arith, nat_tests, moved-by)

@@ -6,17 +6,17 @@ use Rattle.std.proofs.lemmas.List.{map-append}
 use Rattle.std.proofs.lemmas.List.Elements.{Contains-append_left, Contains-append_right, Contains-append_cases, Contains-push, Contains-push_cases}
 use Rattle.rv64_model.specs.Carries.{Operand, Left, Right, below, both, first_bytes}
 use Rattle.set_store.specs.declared.item.Item.{Item}
-use Rattle.set_store.specs.Sets.{IsSet, IsUnionOf, StandAsBefore, members_of}
+use Rattle.set_store.specs.Sets.{IsUnionOf}
+use Rattle.taint_sets.specs.Numbered.{IsSet, Numbered, StandAsBefore, members_of}
 use Rattle.taint_flow.specs.Flow.{IsWidth, reach}
-use Rattle.taint_flow.specs.Gathered.{Includes, first_start}
+use Rattle.taint_flow.specs.Gathered.{Includes}
 use Rattle.taint_flow.specs.Results.{TakesOperands}
 
 -- one operand more
-pub takes-push : (old mid new : List (List Item)) (number : Operand → ℕ) (taken : List Operand) (x : Operand) (a s : ℕ) → StandAsBefore old mid → IsSet old (number x) → TakesOperands old mid number taken a
-    → IsSet new s → s < first_start → IsUnionOf (members_of new s) (members_of mid a) (members_of mid (number x)) → TakesOperands old new number (taken ++ x ∷ []) s
-takes-push old mid new number taken x a s before is_set t there small union = record {
+pub takes-push : (old mid new : Numbered) (number : Operand → ℕ) (taken : List Operand) (x : Operand) (a s : ℕ) → StandAsBefore old mid → IsSet old (number x) → TakesOperands old mid number taken a
+    → IsSet new s → IsUnionOf (members_of new s) (members_of mid a) (members_of mid (number x)) → TakesOperands old new number (taken ++ x ∷ []) s
+takes-push old mid new number taken x a s before is_set t there union = record {
   there = there;
-  small = small;
   members = λ item. (
     λ h. elim ((union item).0 h) [
       | inl was ↦ (let from = (t.members item).0 was in record { operand = from.operand; named = Contains-append_left taken (x ∷ []) from.operand from.named; member = from.member })
@@ -30,7 +30,7 @@ takes-push old mid new number taken x a s before is_set t there small union = re
 }
 
 -- a union of two sets is that of them as they stand later
-pub union-still : (old new : List (List Item)) (members : List Item) (a b : ℕ) → StandAsBefore old new → IsSet old a → IsSet old b → IsUnionOf members (members_of old a) (members_of old b)
+pub union-still : (old new : Numbered) (members : List Item) (a b : ℕ) → StandAsBefore old new → IsSet old a → IsSet old b → IsUnionOf members (members_of old a) (members_of old b)
     → IsUnionOf members (members_of new a) (members_of new b)
 union-still old new members a b before of_a of_b =
     subst (λ l. IsUnionOf members (members_of old a) (members_of old b) → IsUnionOf members (members_of new a) l) (sym (before.same b of_b))
@@ -40,11 +40,10 @@ pub only : (x y : Operand) → Contains (x ∷ []) y → x ≡ y
 only x y h1 = grind (arith, nat_tests)
 
 -- byte i of both
-pub takes-both : (old mid new : List (List Item)) (number : Operand → ℕ) (i s : ℕ) → StandAsBefore old mid → IsSet old (number (Left i)) → IsSet old (number (Right i)) → IsSet new s → s < first_start
+pub takes-both : (old mid new : Numbered) (number : Operand → ℕ) (i s : ℕ) → StandAsBefore old mid → IsSet old (number (Left i)) → IsSet old (number (Right i)) → IsSet new s
     → IsUnionOf (members_of new s) (members_of mid (number (Left i))) (members_of mid (number (Right i))) → TakesOperands old new number (both i) s
-takes-both old mid new number i s before of_left of_right there small union = record {
+takes-both old mid new number i s before of_left of_right there union = record {
   there = there;
-  small = small;
   members = λ item. (
     λ h. elim ((union item).0 h) [
       | inl l ↦ record { operand = Left i; named = Contains-append_left (Left i ∷ []) (Right i ∷ []) (Left i) (Contains-push [] (Left i)); member = subst (λ m. Contains m item) (before.same (number (Left i)) of_left) l }
@@ -58,17 +57,16 @@ takes-both old mid new number i s before of_left of_right there small union = re
 }
 
 -- the set has the members of each of the operands
-pub takes-includes : (old new : List (List Item)) (number : Operand → ℕ) (taken : List Operand) (x : Operand) (set : ℕ) → StandAsBefore old new → IsSet old (number x) → Contains taken x
+pub takes-includes : (old new : Numbered) (number : Operand → ℕ) (taken : List Operand) (x : Operand) (set : ℕ) → StandAsBefore old new → IsSet old (number x) → Contains taken x
     → TakesOperands old new number taken set → Includes new set (number x)
 takes-includes old new number taken x set before is_set named t item h =
     (t.members item).1 (record { operand = x; named = named; member = subst (λ l. Contains l item) (before.same (number x) is_set) h })
 
 -- the same operands in another order
-takes-same : (old new : List (List Item)) (number : Operand → ℕ) (taken other : List Operand) (set : ℕ) → ((x : Operand) → Contains taken x → Contains other x) → ((x : Operand) → Contains other x → Contains taken x)
+takes-same : (old new : Numbered) (number : Operand → ℕ) (taken other : List Operand) (set : ℕ) → ((x : Operand) → Contains taken x → Contains other x) → ((x : Operand) → Contains other x → Contains taken x)
     → TakesOperands old new number taken set → TakesOperands old new number other set
 takes-same old new number taken other set forth back t = record {
   there = t.there;
-  small = t.small;
   members = λ item. (
     λ h. let from = (t.members item).0 h in record { operand = from.operand; named = forth from.operand from.named; member = from.member },
     λ from. (t.members item).1 (record { operand = from.operand; named = back from.operand from.named; member = from.member }),
@@ -85,7 +83,7 @@ last-of operand n some =
     subst (λ m. Contains (first_bytes operand m) (operand (n - 1))) next
     (subst (λ l. Contains l (operand (n - 1))) (first-more operand (n - 1)) (Contains-push (first_bytes operand (n - 1)) (operand (n - 1))))
 
-pub lefts-more : (old new : List (List Item)) (number : Operand → ℕ) (n set : ℕ) → TakesOperands old new number (first_bytes Left n ++ Left n ∷ []) set → TakesOperands old new number (first_bytes Left (n + 1)) set
+pub lefts-more : (old new : Numbered) (number : Operand → ℕ) (n set : ℕ) → TakesOperands old new number (first_bytes Left n ++ Left n ∷ []) set → TakesOperands old new number (first_bytes Left (n + 1)) set
 lefts-more old new number n set = subst (λ l. TakesOperands old new number l set) (first-more Left n)
 
 -- byte n of both behind the bytes below it
@@ -120,7 +118,7 @@ module _ (n : ℕ) (x : Operand) where
     ]
   ]
 
-pub both-more : (old new : List (List Item)) (number : Operand → ℕ) (n set : ℕ) → TakesOperands old new number (((first_bytes Left n ++ first_bytes Right n) ++ Left n ∷ []) ++ Right n ∷ []) set
+pub both-more : (old new : Numbered) (number : Operand → ℕ) (n set : ℕ) → TakesOperands old new number (((first_bytes Left n ++ first_bytes Right n) ++ Left n ∷ []) ++ Right n ∷ []) set
     → TakesOperands old new number (first_bytes Left (n + 1) ++ first_bytes Right (n + 1)) set
 both-more old new number n set t =
     subst (λ l. TakesOperands old new number (l ++ first_bytes Right (n + 1)) set) (first-more Left n)

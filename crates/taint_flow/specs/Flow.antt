@@ -3,7 +3,7 @@ use Rattle.std.specs.Prelude.{◌≡◌, ◌≢◌, ◌≤◌, ℕ, suc, ◌<◌
 use Rattle.rv64_model.specs.Carries.{Operand, Left, Right, Loaded, both, first_bytes, taken_if, within_width}
 use Rattle.taint_flow.specs.declared.flow.Flow.{Flow}
 use Rattle.taint_flow.specs.declared.flow.Flow.TheVariants.{Nothing, First, Second, Memory, Rising, Carried, Whole, Bytewise, Mixed}
-use Rattle.taint_flow.specs.Gathered.{byte_count, first_start}
+use Rattle.taint_flow.specs.Gathered.{byte_count}
 
 -- how many bytes from the lowest on byte i of a result of `width` bytes is worked out from
 abbrev pub reach : ℕ → ℕ → ℕ
@@ -28,7 +28,6 @@ IsFlow Mixed operands = operands 0 ≢ []
 -- the first numbers as they are, and zeros behind them
 pub record Moves (numbers : List ℕ) (count : ℕ) (moved : List ℕ) : Type 0 where
   pub len : length moved ≡ byte_count
-  pub small : (byte : ℕ) → slice_index moved byte < first_start
   pub same : (byte : ℕ) → byte < byte_count → byte < count → slice_index moved byte ≡ slice_index numbers byte
   pub none : (byte : ℕ) → byte < byte_count → count ≤ byte → slice_index moved byte ≡ 0
 

@@ -3,5 +3,4 @@ pub mod Gathered
 pub mod Names
 pub mod Results
 pub mod Silent
-pub mod Starts
 pub mod Moving

@@ -1,15 +1,13 @@
 // The set of several bytes.
 ghost use Rattle.std.specs.Prelude.{◌≡◌, ◌-◌, ◌<◌, if◌then◌else◌, IfOk, IsTrue, slice_index};
-ghost use Rattle.set_store.specs.Sets.{IsSet, IsUnionOf, StandAsBefore, members_of};
+ghost use Rattle.set_store.specs.Sets.{IsUnionOf};
+ghost use Rattle.taint_sets.specs.Numbered.{IsSet, StandAsBefore, members_of};
 ghost use Rattle.link_rules.specs.Masks.{has_byte};
-ghost use Rattle.taint_flow.specs.Gathered.{AreNumbers, AddsByte, Gathers, Includes, TakesBytes, byte_count, first_start};
+ghost use Rattle.taint_flow.specs.Gathered.{AreNumbers, AddsByte, Gathers, Includes, TakesBytes, byte_count};
 
 use arn_base::NoMemory;
 use link_rules::Operands;
-use set_store::Sets;
-
-/// The first number that is no set's.
-pub const FIRST_START: u32 = 0x8000_0000;
+use taint_sets::ByteSets;
 
 /// All bytes of a register.
 const ALL: u8 = 0b1111_1111;
@@ -23,38 +21,11 @@ fn has(mask: u8, byte: u8) -> bool
     (mask >> byte) & 1 == 1
 }
 
-/// The set of all members of two sets.
-#[inline(always)]
-pub fn unite(sets: &mut Sets, first: u32, second: u32) -> Result<u32, NoMemory>
-    requires first { IsSet sets.old first }
-    requires second { IsSet sets.old second }
-    ensures set { IfOk result (IsSet sets.new) }
-    ensures small { IfOk result (λ set. set < first_start) }
-    ensures members { IfOk result (λ set.
-        IsUnionOf (members_of sets.new set) (members_of sets.old first) (members_of sets.old second)) }
-    ensures before { StandAsBefore sets.old sets.new }
-{
-    let set = sets.union(first as usize, second as usize)?;
-    narrow(set)
-}
-
-/// The number of a set in 32 bits. There is no memory for so many sets that it isn't below the first start's.
-#[inline(always)]
-pub fn narrow(set: usize) -> Result<u32, NoMemory>
-    ensures { IfOk result (λ number. (number ≡ set) × (number < first_start)) }
-{
-    if set < FIRST_START as usize {
-        Ok(set as u32)
-    } else {
-        Err(NoMemory)
-    }
-}
-
 /// The set with the members of a byte's set besides, where a mask has the byte. It has those of the byte below, if the
 /// mask has that: nothing new comes where both have the same number.
 #[inline(always)]
 fn with_byte(
-    sets: &mut Sets,
+    sets: &mut ByteSets,
     set: u32,
     mask: u8,
     byte: u8,
@@ -62,7 +33,6 @@ fn with_byte(
 ) -> Result<u32, NoMemory>
     requires byte { byte < 8 }
     requires set { IsSet sets.old set }
-    requires small { set < first_start }
     requires numbers { AreNumbers sets.old numbers.now }
     requires below { 0 < byte → IsTrue (has_byte mask (byte - 1)) →
         Includes sets.old set (slice_index numbers.now (byte - 1)) }
@@ -77,13 +47,12 @@ fn with_byte(
     if byte > 0 && has(mask, byte - 1) && numbers[place] == numbers[place - 1] {
         return Ok(set);
     }
-    unite(sets, set, numbers[place])
+    sets.unite(set, numbers[place])
 }
 
 /// The set with the members of all bytes' sets besides that a mask has.
-fn with_bytes(sets: &mut Sets, start: u32, mask: u8, numbers: &[u32]) -> Result<u32, NoMemory>
+fn with_bytes(sets: &mut ByteSets, start: u32, mask: u8, numbers: &[u32]) -> Result<u32, NoMemory>
     requires start { IsSet sets.old start }
-    requires small { start < first_start }
     requires numbers { AreNumbers sets.old numbers.now }
     ensures takes { IfOk result (TakesBytes sets.old sets.new numbers.now mask byte_count start) }
     ensures before { StandAsBefore sets.old sets.new }
@@ -107,7 +76,7 @@ fn address_bytes(masks: Operands) -> u8
 
 /// The set of the bytes that masks name, of two registers and of what is loaded.
 pub fn gather(
-    sets: &mut Sets,
+    sets: &mut ByteSets,
     masks: Operands,
     first: &[u32],
     second: &[u32],

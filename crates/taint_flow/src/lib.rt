@@ -5,12 +5,9 @@ mod flow;
 mod gathering;
 mod moving;
 mod names;
-mod starts;
 mod working;
 mod writing;
 
-pub use gathering::{FIRST_START, narrow};
 pub use moving::{moves_loaded, moves_stored};
 pub use names::{loaded_len, rd, rs1, rs2, stored_len};
-pub use starts::{resolve, resolve_all};
 pub use writing::{results, silent};

@@ -1,26 +1,24 @@
 // The sets of bytes that an operation works out from those of registers.
 ghost use Rattle.std.specs.Prelude.{ℕ, List, IfOk, ◌++◌, ◌-◌, ◌<◌, slice_index};
 ghost use Rattle.rv64_model.specs.Carries.{Left, Right, both, first_bytes};
-ghost use Rattle.set_store.specs.Sets.{IsSet, IsUnionOf, StandAsBefore, members_of};
+ghost use Rattle.set_store.specs.Sets.{IsUnionOf};
+ghost use Rattle.taint_sets.specs.Numbered.{IsSet, StandAsBefore, members_of};
 ghost use Rattle.taint_flow.specs.Flow.{IsWidth, reach};
-ghost use Rattle.taint_flow.specs.Gathered.{AreNumbers, Includes, byte_count, first_start, number_of};
+ghost use Rattle.taint_flow.specs.Gathered.{AreNumbers, Includes, byte_count, number_of};
 ghost use Rattle.taint_flow.specs.Results.{AreResults};
 
-use crate::gathering::unite;
 use arn_base::NoMemory;
-use set_store::Sets;
+use taint_sets::ByteSets;
 
 /// The set with the members of a byte's set besides. It has those of the byte below, if there is one: nothing new comes where
 /// both have the same number.
 #[inline(always)]
-fn with_next(sets: &mut Sets, set: u32, numbers: &[u32], byte: usize) -> Result<u32, NoMemory>
+fn with_next(sets: &mut ByteSets, set: u32, numbers: &[u32], byte: usize) -> Result<u32, NoMemory>
     requires set { IsSet sets.old set }
-    requires small { set < first_start }
     requires numbers { AreNumbers sets.old numbers.now }
     requires byte { byte < byte_count }
     requires below { 0 < byte → Includes sets.old set (slice_index numbers.now (byte - 1)) }
     ensures set { IfOk result (IsSet sets.new) }
-    ensures small { IfOk result (λ set. set < first_start) }
     ensures members { IfOk result (λ more. IsUnionOf (members_of sets.new more)
         (members_of sets.old set) (members_of sets.old (slice_index numbers.now byte))) }
     ensures before { StandAsBefore sets.old sets.new }
@@ -28,11 +26,11 @@ fn with_next(sets: &mut Sets, set: u32, numbers: &[u32], byte: usize) -> Result<
     if byte > 0 && numbers[byte] == numbers[byte - 1] {
         return Ok(set);
     }
-    unite(sets, set, numbers[byte])
+    sets.unite(set, numbers[byte])
 }
 
 /// Each byte of a result of so many bytes is worked out from that of the register and all below it; the bytes above are its sign.
-pub fn rising(sets: &mut Sets, first: &[u32], width: usize) -> Result<[u32; 8], NoMemory>
+pub fn rising(sets: &mut ByteSets, first: &[u32], width: usize) -> Result<[u32; 8], NoMemory>
     requires first { AreNumbers sets.old first.now }
     requires width { IsWidth width }
     ensures results { (second loaded : List ℕ) → IfOk result (AreResults sets.old sets.new
@@ -54,7 +52,7 @@ pub fn rising(sets: &mut Sets, first: &[u32], width: usize) -> Result<[u32; 8], 
 
 /// The same of two registers.
 pub fn carried(
-    sets: &mut Sets,
+    sets: &mut ByteSets,
     first: &[u32],
     second: &[u32],
     width: usize,
@@ -82,7 +80,7 @@ pub fn carried(
 }
 
 /// Each byte is worked out from the lowest bytes of the register, so many as this says.
-pub fn whole(sets: &mut Sets, first: &[u32], width: usize) -> Result<[u32; 8], NoMemory>
+pub fn whole(sets: &mut ByteSets, first: &[u32], width: usize) -> Result<[u32; 8], NoMemory>
     requires first { AreNumbers sets.old first.now }
     requires width { IsWidth width }
     ensures results { (second loaded : List ℕ) → IfOk result (AreResults sets.old sets.new
@@ -96,14 +94,13 @@ pub fn whole(sets: &mut Sets, first: &[u32], width: usize) -> Result<[u32; 8], N
 /// The set of a byte of both registers. It is that of the byte below where both have the same numbers there.
 #[inline(always)]
 fn in_place(
-    sets: &mut Sets,
+    sets: &mut ByteSets,
     below: u32,
     first: &[u32],
     second: &[u32],
     byte: usize,
 ) -> Result<u32, NoMemory>
     requires set { IsSet sets.old below }
-    requires small { below < first_start }
     requires first { AreNumbers sets.old first.now }
     requires second { AreNumbers sets.old second.now }
     requires byte { byte < byte_count }
@@ -111,7 +108,6 @@ fn in_place(
         (members_of sets.old (slice_index first.now (byte - 1)))
         (members_of sets.old (slice_index second.now (byte - 1))) }
     ensures set { IfOk result (IsSet sets.new) }
-    ensures small { IfOk result (λ set. set < first_start) }
     ensures members { IfOk result (λ set. IsUnionOf (members_of sets.new set)
         (members_of sets.old (slice_index first.now byte))
         (members_of sets.old (slice_index second.now byte))) }
@@ -120,11 +116,11 @@ fn in_place(
     if byte > 0 && first[byte] == first[byte - 1] && second[byte] == second[byte - 1] {
         return Ok(below);
     }
-    unite(sets, first[byte], second[byte])
+    sets.unite(first[byte], second[byte])
 }
 
 /// Each byte is worked out from those of both registers in its place.
-pub fn bytewise(sets: &mut Sets, first: &[u32], second: &[u32]) -> Result<[u32; 8], NoMemory>
+pub fn bytewise(sets: &mut ByteSets, first: &[u32], second: &[u32]) -> Result<[u32; 8], NoMemory>
     requires first { AreNumbers sets.old first.now }
     requires second { AreNumbers sets.old second.now }
     ensures results { (loaded : List ℕ) → IfOk result (AreResults sets.old sets.new

@@ -1,25 +1,24 @@
 // The sets of an instruction's result.
 ghost use Rattle.std.specs.Prelude.{◌≡◌, ◌↔◌, ℕ, List, [], IfOk, IfSome, IsSome, IsTrue, length, replicate, slice_index};
 ghost use Rattle.rv64_model.specs.Carries.{operands};
-ghost use Rattle.set_store.specs.Sets.{IsSet, StandAsBefore, members_of};
+ghost use Rattle.taint_sets.specs.Numbered.{IsSet, StandAsBefore, members_of};
 ghost use Rattle.taint_flow.specs.Flow.{IsFlow, Moves};
 ghost use Rattle.taint_flow.specs.Gathered.{AreNumbers, byte_count, number_of};
 ghost use Rattle.taint_flow.specs.Results.{AreResults};
 ghost use Rattle.taint_flow.specs.Silent.{IsSilent};
 
 use crate::flow::{Flow, result_flow};
-use crate::gathering::{FIRST_START, gather};
+use crate::gathering::gather;
 use crate::working::{bytewise, carried, rising, whole};
 use arn_base::NoMemory;
 use link_rules::inputs;
 use rv64_isa::Instr;
 use rv64_model::Linkage;
-use set_store::Sets;
-use taint_pages::are_below;
+use taint_sets::ByteSets;
 
 // The empty set for each byte.
 #[inline(always)]
-fn none(sets: &Sets) -> [u32; 8]
+fn none(sets: &ByteSets) -> [u32; 8]
     ensures numbers { result ≡ replicate 8 0 }
     ensures empty { members_of sets.now 0 ≡ [] }
     ensures set { IsSet sets.now 0 }
@@ -30,9 +29,9 @@ fn none(sets: &Sets) -> [u32; 8]
 
 // The first numbers as they are.
 #[inline(always)]
-fn moved(sets: &Sets, numbers: &[u32], count: u8) -> Result<[u32; 8], NoMemory>
+fn moved(sets: &ByteSets, numbers: &[u32], count: u8) -> [u32; 8]
     requires { length numbers.now ≡ byte_count }
-    ensures moves { IfOk result (Moves numbers.now count) }
+    ensures moves { Moves numbers.now count result }
     ensures empty { members_of sets.now 0 ≡ [] }
     ensures set { IsSet sets.now 0 }
 {
@@ -42,11 +41,7 @@ fn moved(sets: &Sets, numbers: &[u32], count: u8) -> Result<[u32; 8], NoMemory>
         let number = numbers[byte];
         moved[byte] = if byte < usize::from(count) { number } else { 0 };
     }
-    if are_below(&moved, FIRST_START) {
-        Ok(moved)
-    } else {
-        Err(NoMemory)
-    }
+    moved
 }
 
 // Whether each byte has the empty set.
@@ -61,7 +56,7 @@ fn is_empty(numbers: &[u32]) -> bool
 // that of the caller needs no place in memory.
 #[inline(never)]
 fn mixed(
-    sets: &mut Sets,
+    sets: &mut ByteSets,
     linkage: Linkage,
     instr: Instr,
     first: &[u32],
@@ -91,7 +86,7 @@ fn mixed(
 
 // The sets of what an instruction works out.
 fn worked(
-    sets: &mut Sets,
+    sets: &mut ByteSets,
     flow: Flow,
     linkage: Linkage,
     instr: &Instr,
@@ -123,7 +118,7 @@ fn worked(
 /// the bytes of rs1 and rs2, and of those that it loads.
 #[inline(always)]
 pub fn results(
-    sets: &mut Sets,
+    sets: &mut ByteSets,
     linkage: Linkage,
     instr: &Instr,
     first: &[u32],
@@ -140,9 +135,9 @@ pub fn results(
     let flow = result_flow(linkage, instr);
     match flow {
         Flow::Nothing => Ok(none(sets)),
-        Flow::First => moved(sets, first, 8),
-        Flow::Second(count) => moved(sets, second, count),
-        Flow::Memory(count) => moved(sets, loaded, count),
+        Flow::First => Ok(moved(sets, first, 8)),
+        Flow::Second(count) => Ok(moved(sets, second, count)),
+        Flow::Memory(count) => Ok(moved(sets, loaded, count)),
         _ => worked(sets, flow, linkage, instr, first, second, loaded),
     }
 }
@@ -150,7 +145,7 @@ pub fn results(
 /// The sets of the bytes of a result none of which takes anything, of an instruction that accesses no memory. What its
 /// registers have needs no look.
 #[inline(always)]
-pub fn silent(sets: &Sets, linkage: Linkage, instr: &Instr) -> Option<[u32; 8]>
+pub fn silent(sets: &ByteSets, linkage: Linkage, instr: &Instr) -> Option<[u32; 8]>
     ensures silent { IsSome result ↔ IsSilent linkage instr.now }
     ensures results { (first second loaded : List ℕ) → IfSome result (AreResults sets.now sets.now
         (number_of first second loaded) (operands linkage instr.now)) }

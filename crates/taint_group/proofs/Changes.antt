@@ -1,10 +1,10 @@
 -- How tables of a group change by a step of one member that leaves the segments as they are.
-use Rattle.std.specs.Prelude.{◌≡◌, ◌≢◌, ◌⊎◌, ℕ, List, [], slice_set, Option, Some, None, option_map}
+use Rattle.std.specs.Prelude.{◌≡◌, ◌≢◌, ◌⊎◌, ℕ, List, slice_set, Option, Some, None, option_map}
 use Rattle.parts_model.specs.Numbered.{nth}
-use Rattle.set_store.specs.Sets.{StandAsBefore}
+use Rattle.taint_sets.specs.Numbered.{StandAsBefore}
 use Rattle.taint_members.specs.declared.member.MemberSets.{MemberSets}
 use Rattle.taint_steps.specs.Table.{Tables}
-use Rattle.taint_steps.specs.declared.taking.Rules.{Rules}
+use Rattle.rv64_model.specs.declared.linkage.Linkage.{Linkage}
 use Rattle.taint_state.specs.Events.{Becomes, Begins}
 use Rattle.taint_state.specs.Kept.{KeptHeard}
 use Rattle.taint_state.specs.RunsShow.{kept_member}
@@ -25,13 +25,9 @@ pub record Changes (pid : ℕ) (old : MemberSets) (new : Option MemberSets) (x y
   pub holds : HoldsSame new (Some old)
 
 -- what is kept becomes so by an event that is heard, and each segment is in the table once
-pub record TablesBecome (rules : Rules) (heard after : List KeptHeard) (pid : ℕ) (old : MemberSets) (new : Option MemberSets) (event : KeptHeard) (x y : Tables) : Type 0 where
-  pub becomes : Becomes pid (kept_member x.segments old) (option_map (kept_member x.segments) new) event (kept_in rules heard x) (kept_in rules after y)
+pub record TablesBecome (linkage : Linkage) (heard after : List KeptHeard) (pid : ℕ) (old : MemberSets) (new : Option MemberSets) (event : KeptHeard) (x y : Tables) : Type 0 where
+  pub becomes : Becomes pid (kept_member x.segments old) (option_map (kept_member x.segments) new) event (kept_in linkage heard x) (kept_in linkage after y)
   pub keyed : AreKeyed y
-
--- the event by which the group began stays, or nothing was kept before
-abbrev pub StaysBegun : Rules → Rules → List KeptHeard → Tables → Type 0
-StaysBegun old new heard x = (new.begun ≡ old.begun) ⊎ ((x.members ≡ []) × (heard ≡ []))
 
 -- a member begins that holds no segment
 pub record Adds (pid : ℕ) (new : MemberSets) (x y : Tables) : Type 0 where
@@ -42,6 +38,6 @@ pub record Adds (pid : ℕ) (new : MemberSets) (x y : Tables) : Type 0 where
   pub holds : new.segment ≡ None
 
 -- what is kept begins so, and each segment is in the table once
-pub record TablesStart (old new : Rules) (heard : List KeptHeard) (pid event : ℕ) (m : MemberSets) (x y : Tables) : Type 0 where
-  pub begins : Begins pid event (kept_member x.segments m) (kept_in old heard x) (kept_in new heard y)
+pub record TablesStart (linkage : Linkage) (heard : List KeptHeard) (pid event : ℕ) (m : MemberSets) (x y : Tables) : Type 0 where
+  pub begins : Begins pid event (kept_member x.segments m) (kept_in linkage heard x) (kept_in linkage heard y)
   pub keyed : AreKeyed y

@@ -6,10 +6,10 @@ use Rattle.taint_members.specs.Access.{HoldsKey, Segments}
 use Rattle.taint_members.specs.declared.member.MemberSets.{MemberSets}
 use Rattle.taint_members.specs.declared.member.Shared.{Shared}
 use Rattle.taint_steps.specs.Table.{Tables}
-use Rattle.taint_steps.specs.declared.taking.Rules.{Rules}
-use Rattle.taint_group.proofs.Changes.{Adds, Changes, HoldsSame, StaysBegun, TablesBecome, TablesStart}
-use Rattle.taint_state.specs.Events.{Hears, IsNothing}
-use Rattle.taint_state.specs.Kept.{KeptHeard, heard_among}
+use Rattle.rv64_model.specs.declared.linkage.Linkage.{Linkage}
+use Rattle.taint_group.proofs.Changes.{Adds, Changes, HoldsSame, TablesBecome, TablesStart}
+use Rattle.taint_state.specs.Events.{Hears}
+use Rattle.taint_state.specs.Kept.{KeptHeard}
 use Rattle.taint_state.specs.RunsShow.{kept_member}
 use Rattle.taint_group.specs.Tables.{AreKeyed, AreSoundTables, HaveOneKey, kept_in}
 use Rattle.taint_group.proofs.Tables.{nth-map, nth-other}
@@ -75,12 +75,12 @@ pub kept-same : (x y : Tables) (p : ℕ) (o : Option MemberSets) → y.segments 
 kept-same x y p o e is =
     nth-map (kept_member y.segments) y.members p ∙ (ap (option_map (kept_member y.segments)) is ∙ ap (λ s. option_map (kept_member s) o) e)
 
-pub tables-change : (rules : Rules) (heard after : List KeptHeard) (pid : ℕ) (old : MemberSets) (new : Option MemberSets) (event : KeptHeard) (x y : Tables)
-    → AreSoundTables rules heard x → Hears event heard after → Changes pid old new x y → TablesBecome rules heard after pid old new event x y
-tables-change rules heard after pid old new event x y sound hears step = record {
+pub tables-change : (linkage : Linkage) (heard after : List KeptHeard) (pid : ℕ) (old : MemberSets) (new : Option MemberSets) (event : KeptHeard) (x y : Tables)
+    → AreSoundTables linkage heard x → Hears event heard after → Changes pid old new x y → TablesBecome linkage heard after pid old new event x y
+tables-change linkage heard after pid old new event x y sound hears step = record {
   becomes = record {
     was = kept-same x x pid (Some old) refl step.was;
-    stays = record { linkage = refl; begun = refl; sets = step.sets };
+    stays = record { linkage = refl; sets = step.sets };
     members = record {
       one = kept-same x y pid new step.segments one;
       others = λ p ne. kept-same x y p (nth x.members p) step.segments (others p ne) ∙ sym (nth-map (kept_member x.segments) x.members p);
@@ -95,20 +95,11 @@ tables-change rules heard after pid old new event x y sound hears step = record 
   others : (p : ℕ) → p ≢ pid → nth y.members p ≡ nth x.members p
   others p ne = ap (λ l. nth l p) step.members ∙ nth-other x.members pid p new ne
 
-begun-before : (old new : Rules) (heard : List KeptHeard) (x : Tables) → StaysBegun old new heard x → (new.begun ≡ old.begun) ⊎ IsNothing (kept_in old heard x)
-begun-before old new heard x (inl e) = inl e
-begun-before old new heard x (inr both) = inr (record {
-  members = λ p. ap (λ l. nth (map (option_map (kept_member x.segments)) l) p) both.0;
-  heard = λ e. ap (λ l. heard_among l e) both.1;
-})
-
-pub tables-add : (old new : Rules) (heard : List KeptHeard) (pid event : ℕ) (m : MemberSets) (x y : Tables)
-    → AreSoundTables old heard x → new.linkage ≡ old.linkage → StaysBegun old new heard x → Adds pid m x y → TablesStart old new heard pid event m x y
-tables-add old new heard pid event m x y sound linkage begun step = record {
+pub tables-add : (linkage : Linkage) (heard : List KeptHeard) (pid event : ℕ) (m : MemberSets) (x y : Tables) → AreSoundTables linkage heard x → Adds pid m x y → TablesStart linkage heard pid event m x y
+tables-add linkage heard pid event m x y sound step = record {
   begins = record {
-    linkage = linkage;
+    linkage = refl;
     sets = step.sets;
-    begun = begun-before old new heard x begun;
     heard = λ e. refl;
     members = record {
       one = kept-same x y pid (Some m) step.segments step.one;

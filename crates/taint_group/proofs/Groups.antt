@@ -4,11 +4,10 @@ use Rattle.std.proofs.Math.Seq.{take-append_seam}
 use Rattle.arn_base.specs.declared.machine.Cpu.{Cpu}
 use Rattle.rv64_isa.specs.declared.instruction.Instr.{Instr}
 use Rattle.parts_model.specs.Numbered.{nth}
-use Rattle.set_store.specs.declared.item.Item.{Item}
-use Rattle.set_store.specs.Sets.{StandAsBefore}
+use Rattle.taint_sets.specs.Numbered.{Numbered, StandAsBefore}
 use Rattle.taint_members.specs.declared.member.MemberSets.{MemberSets}
 use Rattle.taint_steps.specs.Table.{RunsMember, Tables}
-use Rattle.taint_steps.specs.declared.taking.Rules.{Rules}
+use Rattle.rv64_model.specs.declared.linkage.Linkage.{Linkage}
 use Rattle.taint_group.specs.Groups.{ReturnsEntry, ReturnsIn, ReturnsOne}
 use Rattle.taint_state.specs.Kept.{KeptHeard}
 use Rattle.taint_state.specs.RunsShow.{RunsKeep, RunsShow}
@@ -22,23 +21,23 @@ pub ok-map : {A E P Q : Type 0} (r : Result A E) → (P → Q) → OnOk r P → 
 ok-map (Ok a) f h = f h
 ok-map (Err e) f h = tt
 
-abbrev pub tables_with : List (Option MemberSets) → List (List ℕ) → List (List Item) → Tables
+abbrev pub tables_with : List (Option MemberSets) → List (List ℕ) → Numbered → Tables
 tables_with members segments sets = record { members = members; segments = segments; sets = sets }
 
-pub tables-same : (m n : List (Option MemberSets)) (s r : List (List ℕ)) (sets : List (List Item)) → m ≡ n → s ≡ r → tables_with m s sets ≡ tables_with n r sets
+pub tables-same : (m n : List (Option MemberSets)) (s r : List (List ℕ)) (sets : Numbered) → m ≡ n → s ≡ r → tables_with m s sets ≡ tables_with n r sets
 tables-same m n s r sets e f = ap (λ l. tables_with l s sets) e ∙ ap (λ l. tables_with n l sets) f
 
 -- tables that stand elsewhere run as these do
-pub runs-at : (rules : Rules) (heard : List KeptHeard) (pid : ℕ) (instr : Instr) (before : Cpu) (m m' n n' : List (Option MemberSets)) (s s' r r' : List (List ℕ)) (sets new : List (List Item))
-    → m' ≡ m → s' ≡ s → n' ≡ n → r' ≡ r → AreSoundTables rules heard (tables_with m s sets) → RunsShow → RunsKeep
-    → RunsMember (nth m' pid) pid rules instr before (tables_with m' s' sets) (tables_with n r new) → StandAsBefore sets new → length r ≡ length s'
-    → TablesGoOn rules heard pid instr before (tables_with m s sets) (tables_with n' r' new)
-runs-at rules heard pid instr before m m' n n' s s' r r' sets new e f g h sound show keep runs stand keys =
+pub runs-at : (linkage : Linkage) (heard : List KeptHeard) (pid : ℕ) (instr : Instr) (before : Cpu) (m m' n n' : List (Option MemberSets)) (s s' r r' : List (List ℕ)) (sets new : Numbered)
+    → m' ≡ m → s' ≡ s → n' ≡ n → r' ≡ r → AreSoundTables linkage heard (tables_with m s sets) → RunsShow → RunsKeep
+    → RunsMember (nth m' pid) pid linkage instr before (tables_with m' s' sets) (tables_with n r new) → StandAsBefore sets new → length r ≡ length s'
+    → TablesGoOn linkage heard pid instr before (tables_with m s sets) (tables_with n' r' new)
+runs-at linkage heard pid instr before m m' n n' s s' r r' sets new e f g h sound show keep runs stand keys =
     let first : tables_with m' s' sets ≡ tables_with m s sets = tables-same m' m s' s sets e f in
     let second : tables_with n r new ≡ tables_with n' r' new = sym (tables-same n' n r' r new g h) in
-    subst (λ (z : Tables). TablesGoOn rules heard pid instr before z (tables_with n' r' new)) first
-    (subst (λ (z : Tables). TablesGoOn rules heard pid instr before (tables_with m' s' sets) z) second
-    (tables-run rules heard pid instr before (tables_with m' s' sets) (tables_with n r new) show keep (subst (AreSoundTables rules heard) (sym first) sound) runs stand keys))
+    subst (λ (z : Tables). TablesGoOn linkage heard pid instr before z (tables_with n' r' new)) first
+    (subst (λ (z : Tables). TablesGoOn linkage heard pid instr before (tables_with m' s' sets) z) second
+    (tables-run linkage heard pid instr before (tables_with m' s' sets) (tables_with n r new) show keep (subst (AreSoundTables linkage heard) (sym first) sound) runs stand keys))
 
 nth-at : (xs : List (Option MemberSets)) (k : ℕ) (d : Option MemberSets) → k < length xs → nth xs k ≡ slice_index_or xs k d
 nth-at [] k d h = absurd (omega arith)

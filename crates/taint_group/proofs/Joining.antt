@@ -1,11 +1,10 @@
 -- Groups in which members receive bytes, make children, get fresh segments, or begin.
-use Rattle.std.proofs.Common.{◌≡◌, ◌⊎◌, inl, inr, ℕ, ◌<◌, ◌≤◌, Bool, true, List, [], length, slice_index_or, slice_set, Option, Some, None, IfSome, option_map, refl, sym, subst, ap, ◌∙◌}
+use Rattle.std.proofs.Common.{◌≡◌, ℕ, ◌<◌, ◌≤◌, List, length, slice_index_or, slice_set, Option, Some, None, IfSome, option_map, refl, sym, subst, ap, ◌∙◌}
 use Rattle.arn_base.specs.declared.machine.Cpu.{Cpu}
 use Rattle.arn_base.specs.declared.records.Record.{Record}
 use Rattle.arn_base.specs.declared.records.Record.TheVariants as entry
 use Rattle.parts_model.specs.Numbered.{nth}
-use Rattle.set_store.specs.declared.item.Item.{Item}
-use Rattle.set_store.specs.Sets.{StandAsBefore}
+use Rattle.taint_sets.specs.Numbered.{Numbered, StandAsBefore}
 use Rattle.acts_model.specs.Records.{event_len}
 use Rattle.acts_model.specs.Transfers.{Forks, Holds, Receives, Transfer, place_of}
 use Rattle.acts_model.specs.Views.{cpu_at}
@@ -14,12 +13,11 @@ use Rattle.taint_members.specs.Access.{Segments, held_numbers}
 use Rattle.taint_members.specs.declared.member.MemberSets.{MemberSets}
 use Rattle.taint_members.specs.declared.member.Shared.{Shared}
 use Rattle.taint_steps.specs.Table.{Tables}
-use Rattle.taint_steps.specs.declared.taking.Rules.{Rules}
+use Rattle.rv64_model.specs.declared.linkage.Linkage.{Linkage}
 use Rattle.taint_state.specs.Events.{Hears, event_by_member, plain_heard}
 use Rattle.taint_state.specs.EventsShow.{BeginsShow, Follows, ForksShow, ReceivesShow}
 use Rattle.taint_state.specs.Goes.{begin_inside}
 use Rattle.taint_group.specs.Groups.{ReturnsIn, ReturnsOne}
-use Rattle.taint_state.specs.Heard.{heard_in}
 use Rattle.taint_state.specs.Kept.{KeptHeard}
 use Rattle.taint_group.specs.Moves.{BeginsAs, HasChild, IsChildOf, MayPlace, Places, ReceivesEntry, ReceivesIn, ReceivesOne}
 use Rattle.taint_state.specs.RunsShow.{kept_member}
@@ -29,22 +27,21 @@ use Rattle.taint_group.proofs.TablesReceiving.{tables-receive}
 use Rattle.taint_group.proofs.Changing.{tables-add}
 use Rattle.taint_group.specs.Turns.{holds_of}
 use Rattle.taint_state.specs.Steps.{fresh_holds}
-use Rattle.taint_state.specs.declared.heard.HeardEvent.{HeardEvent}
 use Rattle.taint_group.proofs.Groups.{tables_with}
 use Rattle.taint_group.proofs.Tables.{nth-other, nth-set}
 use Rattle.taint_group.proofs.Turning.{of-none, of-place, stand-still}
 
 -- what is kept goes on by an event of a live member
-abbrev pub GoesAt : (Holds → Transfer) → ℕ → ℕ → Record → Cpu → Rules → List KeptHeard → Tables → List KeptHeard → Tables → Type 0
-GoesAt transfer pid event e before rules heard x after y =
-    IfSome (nth x.members pid) (λ (old : MemberSets). Follows (event_by_member pid before (transfer (holds_of old)) event e) (kept_in rules heard x) (kept_in rules after y) × AreKeyed y)
+abbrev pub GoesAt : (Holds → Transfer) → ℕ → ℕ → Record → Cpu → Linkage → List KeptHeard → Tables → List KeptHeard → Tables → Type 0
+GoesAt transfer pid event e before linkage heard x after y =
+    IfSome (nth x.members pid) (λ (old : MemberSets). Follows (event_by_member pid before (transfer (holds_of old)) event e) (kept_in linkage heard x) (kept_in linkage after y) × AreKeyed y)
 
 -- the same where it stands elsewhere
-pub goes-there : (transfer : Holds → Transfer) (pid event : ℕ) (e : Record) (before : Cpu) (rules : Rules) (heard : List KeptHeard) (x : Tables) (then : List KeptHeard) (y z : Tables)
-    → z ≡ y → GoesAt transfer pid event e before rules heard x then y → GoesAt transfer pid event e before rules heard x then z
-goes-there transfer pid event e before rules heard x then y z there goes = subst (λ (w : Tables). GoesAt transfer pid event e before rules heard x then w) (sym there) goes
+pub goes-there : (transfer : Holds → Transfer) (pid event : ℕ) (e : Record) (before : Cpu) (linkage : Linkage) (heard : List KeptHeard) (x : Tables) (then : List KeptHeard) (y z : Tables)
+    → z ≡ y → GoesAt transfer pid event e before linkage heard x then y → GoesAt transfer pid event e before linkage heard x then z
+goes-there transfer pid event e before linkage heard x then y z there goes = subst (λ (w : Tables). GoesAt transfer pid event e before linkage heard x then w) (sym there) goes
 
-pub tables-there : (m n : List (Option MemberSets)) (s t : List (List ℕ)) (sets : List (List Item)) → m ≡ n → s ≡ t → tables_with m s sets ≡ tables_with n t sets
+pub tables-there : (m n : List (Option MemberSets)) (s t : List (List ℕ)) (sets : Numbered) → m ≡ n → s ≡ t → tables_with m s sets ≡ tables_with n t sets
 tables-there m n s t sets e f = ap (λ l. tables_with l s sets) e ∙ ap (λ l. tables_with n l sets) f
 
 -- the entry that receives bytes is that of the number
@@ -62,45 +59,45 @@ pub receives-none : (pid at : ℕ) (numbers : List ℕ) (members after : List (O
 receives-none pid at numbers members after segments written past = of-none (λ o. IfSome o (ReceivesOne pid at numbers members after segments written)) members pid past tt
 
 -- what bytes that are received do to tables
-pub receives-go : (rules : Rules) (heard then : List KeptHeard) (pid event at : ℕ) (numbers : List ℕ) (count : ℕ) (x y : Tables) → Hears (plain_heard event numbers) heard then → ReceivesShow
-    → AreSoundTables rules heard x → AreReceived y.sets event count numbers → StandAsBefore x.sets y.sets → ReceivesIn pid at numbers x.members y.members x.segments y.segments
+pub receives-go : (linkage : Linkage) (heard then : List KeptHeard) (pid event at : ℕ) (numbers : List ℕ) (count : ℕ) (x y : Tables) → Hears (plain_heard event numbers) heard then → ReceivesShow
+    → AreSoundTables linkage heard x → AreReceived y.sets event count numbers → StandAsBefore x.sets y.sets → ReceivesIn pid at numbers x.members y.members x.segments y.segments
     → length y.segments ≡ length x.segments → (e : Record) (before : Cpu) → event_len e ≡ count
-    → GoesAt (λ holds. Receives pid (place_of holds at count) count) pid event e before rules heard x then y
-receives-go rules heard then pid event at numbers count x y hears show sound items stand receives keys e before len = of (nth x.members pid) refl receives
+    → GoesAt (λ holds. Receives pid (place_of holds at count) count) pid event e before linkage heard x then y
+receives-go linkage heard then pid event at numbers count x y hears show sound items stand receives keys e before len = of (nth x.members pid) refl receives
   where
     of : (o : Option MemberSets) → nth x.members pid ≡ o → IfSome o (ReceivesOne pid at numbers x.members y.members x.segments y.segments)
-        → IfSome o (λ old. Follows (event_by_member pid before (Receives pid (place_of (holds_of old) at count) count) event e) (kept_in rules heard x) (kept_in rules then y) × AreKeyed y)
+        → IfSome o (λ old. Follows (event_by_member pid before (Receives pid (place_of (holds_of old) at count) count) event e) (kept_in linkage heard x) (kept_in linkage then y) × AreKeyed y)
     of None is one = tt
     of (Some old) is one =
-        let took = tables-receive rules heard then pid at numbers old one.new (plain_heard event numbers) x y sound hears (record {
+        let took = tables-receive linkage heard then pid at numbers old one.new (plain_heard event numbers) x y sound hears (record {
           was = is;
           members = one.members;
           receives = one.receives;
           sets = stand;
           keys = keys;
         }) in (
-          show (kept_in rules heard x) (kept_in rules then y) pid event e before at count (kept_member x.segments old) (kept_member y.segments one.new) numbers sound.kept (sym len) items
+          show (kept_in linkage heard x) (kept_in linkage then y) pid event e before at count (kept_member x.segments old) (kept_member y.segments one.new) numbers sound.kept (sym len) items
               took.receives took.becomes,
           took.keyed,
         )
 
 -- the same where the tables stand elsewhere, and the event is heard last
-pub receives-group : (rules : Rules) (heard then : List KeptHeard) (pid event at : ℕ) (numbers : List ℕ) (count : ℕ) (m m' n n' : List (Option MemberSets)) (s s' t t' : Segments) (sets new : List (List Item))
-    → m' ≡ m → n' ≡ n → s' ≡ s → t' ≡ t → Hears (plain_heard event numbers) heard then → ReceivesShow → AreSoundTables rules heard (tables_with m s sets)
+pub receives-group : (linkage : Linkage) (heard then : List KeptHeard) (pid event at : ℕ) (numbers : List ℕ) (count : ℕ) (m m' n n' : List (Option MemberSets)) (s s' t t' : Segments) (sets new : Numbered)
+    → m' ≡ m → n' ≡ n → s' ≡ s → t' ≡ t → Hears (plain_heard event numbers) heard then → ReceivesShow → AreSoundTables linkage heard (tables_with m s sets)
     → AreReceived new event count numbers → StandAsBefore sets new → ReceivesIn pid at numbers m' n s' t → length t ≡ length s' → (e : Record) (before : Cpu) → event_len e ≡ count
-    → GoesAt (λ holds. Receives pid (place_of holds at count) count) pid event e before rules heard (tables_with m s sets) then (tables_with n' t' new)
-receives-group rules heard then pid event at numbers count m m' n n' s s' t t' sets new em en es et hears show sound items stand receives keys e before len =
-    goes-there (λ holds. Receives pid (place_of holds at count) count) pid event e before rules heard (tables_with m s sets) then (tables_with n t new) (tables_with n' t' new)
+    → GoesAt (λ holds. Receives pid (place_of holds at count) count) pid event e before linkage heard (tables_with m s sets) then (tables_with n' t' new)
+receives-group linkage heard then pid event at numbers count m m' n n' s s' t t' sets new em en es et hears show sound items stand receives keys e before len =
+    goes-there (λ holds. Receives pid (place_of holds at count) count) pid event e before linkage heard (tables_with m s sets) then (tables_with n t new) (tables_with n' t' new)
     (tables-there n' n t' t new en et)
-    (receives-go rules heard then pid event at numbers count (tables_with m s sets) (tables_with n t new) hears show sound items stand
+    (receives-go linkage heard then pid event at numbers count (tables_with m s sets) (tables_with n t new) hears show sound items stand
     (subst (λ l. ReceivesIn pid at numbers m n l t) es (subst (λ l. ReceivesIn pid at numbers l n s' t) em receives)) (keys ∙ ap length es) e before len)
 
 -- what a fork does to tables
-pub forks-go : (rules : Rules) (heard then : List KeptHeard) (pid child event : ℕ) (numbers : List ℕ) (count : ℕ) (m back after : List (Option MemberSets)) (segments : Segments) (sets : List (List Item)) (kid : Option MemberSets)
-    → Hears (plain_heard event numbers) heard then → ForksShow → AreSoundTables rules heard (tables_with m segments sets) → AreEmpty count numbers → ReturnsIn pid m back → HasChild event (nth m pid) kid → MayPlace child kid back after
+pub forks-go : (linkage : Linkage) (heard then : List KeptHeard) (pid child event : ℕ) (numbers : List ℕ) (count : ℕ) (m back after : List (Option MemberSets)) (segments : Segments) (sets : Numbered) (kid : Option MemberSets)
+    → Hears (plain_heard event numbers) heard then → ForksShow → AreSoundTables linkage heard (tables_with m segments sets) → AreEmpty count numbers → ReturnsIn pid m back → HasChild event (nth m pid) kid → MayPlace child kid back after
     → (e : Record) (before : Cpu) → event_len e ≡ count
-    → GoesAt (λ holds. Forks pid child holds.window event) pid event e before rules heard (tables_with m segments sets) then (tables_with after segments sets)
-forks-go rules heard then pid child event numbers count m back after segments sets may hears show sound empty returns born places e before len = of (nth m pid) refl returns born
+    → GoesAt (λ holds. Forks pid child holds.window event) pid event e before linkage heard (tables_with m segments sets) then (tables_with after segments sets)
+forks-go linkage heard then pid child event numbers count m back after segments sets may hears show sound empty returns born places e before len = of (nth m pid) refl returns born
   where
     x : Tables
     x = tables_with m segments sets
@@ -109,11 +106,11 @@ forks-go rules heard then pid child event numbers count m back after segments se
     y = tables_with after segments sets
 
     Goal : MemberSets → Type 0
-    Goal old = Follows (event_by_member pid before (Forks pid child (holds_of old).window event) event e) (kept_in rules heard x) (kept_in rules then y) × AreKeyed y
+    Goal old = Follows (event_by_member pid before (Forks pid child (holds_of old).window event) event e) (kept_in linkage heard x) (kept_in linkage then y) × AreKeyed y
 
     both : (old kid : MemberSets) → nth m pid ≡ Some old → ReturnsOne pid m back old → IsChildOf event old kid → Places child kid back after → Goal old
     both old kid is one birth put =
-        let split = tables-fork rules heard then pid child old one.new kid (plain_heard event numbers) x y sound hears (record {
+        let split = tables-fork linkage heard then pid child old one.new kid (plain_heard event numbers) x y sound hears (record {
           was = is;
           parent = λ ne. put.others pid ne ∙ (ap (λ l. nth l pid) one.members ∙ nth-set m pid old one.new is);
           begins = put.one;
@@ -123,7 +120,7 @@ forks-go rules heard then pid child event numbers count m back after segments se
           keeps = ap (λ (k : MemberSets). k.segment) one.becomes.others;
           shares = ap (λ (k : MemberSets). k.segment) birth.others;
         }) in (
-          show (kept_in rules heard x) (kept_in rules then y) pid event e before child (kept_member segments old) (kept_member segments one.new) (kept_member segments kid) numbers sound.kept
+          show (kept_in linkage heard x) (kept_in linkage then y) pid event e before child (kept_member segments old) (kept_member segments one.new) (kept_member segments kid) numbers sound.kept
               (subst (λ n. AreEmpty n numbers) (sym len) empty) (record { result = one.becomes.result; others = ap (kept_member segments) one.becomes.others })
               (record { result = birth.result; others = ap (kept_member segments) birth.others }) split.becomes,
           split.keyed,
@@ -134,14 +131,14 @@ forks-go rules heard then pid child event numbers count m back after segments se
     of (Some old) is one birth = both old birth.0 is one birth.2 (subst (λ o. MayPlace child o back after) birth.1 places)
 
 -- the same where the tables stand elsewhere, and the event is heard last
-pub forks-group : (rules : Rules) (heard then : List KeptHeard) (pid child event : ℕ) (numbers : List ℕ) (count : ℕ) (m m' back back' after : List (Option MemberSets)) (segments : Segments) (sets : List (List Item)) (kid : Option MemberSets)
-    → m' ≡ m → back' ≡ back → Hears (plain_heard event numbers) heard then → ForksShow → AreSoundTables rules heard (tables_with m segments sets) → AreEmpty count numbers
+pub forks-group : (linkage : Linkage) (heard then : List KeptHeard) (pid child event : ℕ) (numbers : List ℕ) (count : ℕ) (m m' back back' after : List (Option MemberSets)) (segments : Segments) (sets : Numbered) (kid : Option MemberSets)
+    → m' ≡ m → back' ≡ back → Hears (plain_heard event numbers) heard then → ForksShow → AreSoundTables linkage heard (tables_with m segments sets) → AreEmpty count numbers
     → ReturnsIn pid m' back → HasChild event (nth m pid) kid → MayPlace child kid back' after → (e : Record) (before : Cpu) → event_len e ≡ count
-    → GoesAt (λ holds. Forks pid child holds.window event) pid event e before rules heard (tables_with m segments sets) then (tables_with after segments sets)
-forks-group rules heard then pid child event numbers count m m' back back' after segments sets kid em eb hears show sound empty returns born places e before len =
-    goes-there (λ holds. Forks pid child holds.window event) pid event e before rules heard (tables_with m segments sets) then (tables_with after segments sets) (tables_with after segments sets)
+    → GoesAt (λ holds. Forks pid child holds.window event) pid event e before linkage heard (tables_with m segments sets) then (tables_with after segments sets)
+forks-group linkage heard then pid child event numbers count m m' back back' after segments sets kid em eb hears show sound empty returns born places e before len =
+    goes-there (λ holds. Forks pid child holds.window event) pid event e before linkage heard (tables_with m segments sets) then (tables_with after segments sets) (tables_with after segments sets)
     refl
-    (forks-go rules heard then pid child event numbers count m back after segments sets kid hears show sound empty (subst (λ l. ReturnsIn pid l back) em returns) born
+    (forks-go linkage heard then pid child event numbers count m back after segments sets kid hears show sound empty (subst (λ l. ReturnsIn pid l back) em returns) born
     (subst (λ l. MayPlace child kid l after) eb places) e before len)
 
 holds_with : ℕ → Option Shared → Holds
@@ -153,19 +150,18 @@ unfolding holds_with
 holds-fresh m event e f = ap (λ made. holds_with made m.segment) e ∙ ap (holds_with event) f
 
 -- what a member that begins does to tables
-pub begins-go : (old new : Rules) (heard : List KeptHeard) (pid event : ℕ) (m : MemberSets) (members after : List (Option MemberSets)) (segments : Segments) (sets now : List (List Item)) → BeginsShow
-    → AreSoundTables old heard (tables_with members segments sets) → new.linkage ≡ old.linkage → (new.begun ≡ old.begun) ⊎ ((members ≡ []) × (heard ≡ [])) → StandAsBefore sets now
-    → BeginsAs now new.begun event m → Places pid m members after → (e : Record) (before : Cpu)
-    → Follows (begin_inside pid event e before) (kept_in old heard (tables_with members segments sets)) (kept_in new heard (tables_with after segments now)) × AreKeyed (tables_with after segments now)
-begins-go old new heard pid event m members after segments sets now show sound linkage begun stand begins places e before =
-    let start = tables-add old new heard pid event m (tables_with members segments sets) (tables_with after segments now) sound linkage begun (record {
+pub begins-group : (linkage : Linkage) (heard : List KeptHeard) (pid event : ℕ) (m : MemberSets) (members after : List (Option MemberSets)) (segments : Segments) (sets now : Numbered) → BeginsShow
+    → AreSoundTables linkage heard (tables_with members segments sets) → StandAsBefore sets now → BeginsAs now event m → Places pid m members after → (e : Record) (before : Cpu)
+    → Follows (begin_inside pid event e before) (kept_in linkage heard (tables_with members segments sets)) (kept_in linkage heard (tables_with after segments now)) × AreKeyed (tables_with after segments now)
+begins-group linkage heard pid event m members after segments sets now show sound stand begins places e before =
+    let start = tables-add linkage heard pid event m (tables_with members segments sets) (tables_with after segments now) sound (record {
       one = places.one;
       others = places.others;
       segments = refl;
       sets = stand;
       holds = begins.segment;
     }) in (
-      show (kept_in old heard (tables_with members segments sets)) (kept_in new heard (tables_with after segments now)) pid event e before (kept_member segments m) sound.kept
+      show (kept_in linkage heard (tables_with members segments sets)) (kept_in linkage heard (tables_with after segments now)) pid event e before (kept_member segments m) sound.kept
           (record {
             holds = holds-fresh m event begins.made begins.segment;
             registers = begins.registers;
@@ -176,25 +172,12 @@ begins-go old new heard pid event m members after segments sets now show sound l
       start.keyed,
     )
 
--- and to a group, where nothing may be kept so far
-pub begins-group : (old new : Rules) (events : List HeardEvent) (pid event : ℕ) (m : MemberSets) (members after : List (Option MemberSets)) (segments : Segments) (sets now : List (List Item)) (nothing : Bool) → BeginsShow
-    → AreSoundTables old (heard_in events) (tables_with members segments sets) → new.linkage ≡ old.linkage → (new.begun ≡ old.begun) ⊎ (nothing ≡ true)
-    → (nothing ≡ true → (members ≡ []) × (events ≡ [])) → StandAsBefore sets now → BeginsAs now new.begun event m → Places pid m members after → (e : Record) (before : Cpu)
-    → Follows (begin_inside pid event e before) (kept_in old (heard_in events) (tables_with members segments sets)) (kept_in new (heard_in events) (tables_with after segments now)) × AreKeyed (tables_with after segments now)
-begins-group old new events pid event m members after segments sets now nothing show sound linkage begun none stand begins places =
-    begins-go old new (heard_in events) pid event m members after segments sets now show sound linkage
-    (by_begun begun) stand begins places
-  where
-    by_begun : (new.begun ≡ old.begun) ⊎ (nothing ≡ true) → (new.begun ≡ old.begun) ⊎ ((members ≡ []) × (heard_in events ≡ []))
-    by_begun (inl e) = inl e
-    by_begun (inr is) = inr ((none is).0, ap heard_in (none is).1)
-
 -- a record and registers
 pub some_record : Record
 some_record = entry.Unplug 0
 
-pub begins-sound : (old new : Rules) (heard : List KeptHeard) (pid event : ℕ) (x y : Tables)
-    → ((e : Record) (before : Cpu) → Follows (begin_inside pid event e before) (kept_in old heard x) (kept_in new heard y) × AreKeyed y) → AreSoundTables new heard y
-begins-sound old new heard pid event x y begins =
+pub begins-sound : (linkage : Linkage) (heard : List KeptHeard) (pid event : ℕ) (x y : Tables)
+    → ((e : Record) (before : Cpu) → Follows (begin_inside pid event e before) (kept_in linkage heard x) (kept_in linkage heard y) × AreKeyed y) → AreSoundTables linkage heard y
+begins-sound linkage heard pid event x y begins =
     let one = begins some_record (cpu_at 0) in
     record { kept = one.0.sound; keyed = one.1 }

@@ -4,7 +4,6 @@ use Rattle.std.proofs.lemmas.Bool.{eqb-true, eqb-false, eq-eqb}
 use Rattle.arn_base.specs.declared.machine.Cpu.{Cpu}
 use Rattle.arn_base.specs.declared.records.Record.{Record}
 use Rattle.parts_model.specs.Numbered.{nth}
-use Rattle.set_store.specs.declared.item.Item.{Item}
 use Rattle.acts_model.specs.Records.{event_len}
 use Rattle.acts_model.specs.Transfers.{Shares}
 use Rattle.taint_events.specs.Bytes.{AreEmpty}
@@ -12,7 +11,7 @@ use Rattle.taint_members.specs.Access.{HoldsKey, Segments, held_numbers}
 use Rattle.taint_members.specs.declared.member.MemberSets.{MemberSets}
 use Rattle.taint_members.specs.declared.member.Shared.{Shared}
 use Rattle.taint_steps.specs.Table.{Tables}
-use Rattle.taint_steps.specs.declared.taking.Rules.{Rules}
+use Rattle.rv64_model.specs.declared.linkage.Linkage.{Linkage}
 use Rattle.taint_state.specs.Events.{BecomesShared, Hears, SharesTo, event_by_member, is_one, plain_heard, shares_with}
 use Rattle.taint_state.specs.EventsShow.{Follows, SharesShow}
 use Rattle.taint_state.specs.Kept.{KeptHeard, KeptMember}
@@ -24,6 +23,7 @@ use Rattle.taint_group.proofs.Groups.{tables_with}
 use Rattle.taint_group.proofs.Joining.{GoesAt, goes-there, tables-there}
 use Rattle.taint_group.proofs.Tables.{at-some, nth-map, nth-other, nth-set}
 use Rattle.taint_group.proofs.Turning.{nth-past, stand-still}
+use Rattle.taint_sets.specs.Numbered.{Numbered}
 
 -- what is kept of a member with this segment
 abbrev pub kept_by : Segments → MemberSets → Option Shared → KeptMember
@@ -39,8 +39,8 @@ kept_by segments m segment =
 some-same : (a b : MemberSets) → Some a ≡ Some b → a ≡ b
 some-same a b e = cc
 
-module _ (rules : Rules) (heard then : List KeptHeard) (pid event key : ℕ) (numbers : List ℕ) (fresh : List ℕ) (m after : List (Option MemberSets)) (segments written : Segments) (sets : List (List Item)) (old new : MemberSets)
-    (sound : AreSoundTables rules heard (tables_with m segments sets)) (is : nth m pid ≡ Some old) (members : after ≡ slice_set m pid (Some new)) (becomes : SharesAs (record { made = event; key = key }) old new)
+module _ (linkage : Linkage) (heard then : List KeptHeard) (pid event key : ℕ) (numbers : List ℕ) (fresh : List ℕ) (m after : List (Option MemberSets)) (segments written : Segments) (sets : Numbered) (old new : MemberSets)
+    (sound : AreSoundTables linkage heard (tables_with m segments sets)) (is : nth m pid ≡ Some old) (members : after ≡ slice_set m pid (Some new)) (becomes : SharesAs (record { made = event; key = key }) old new)
     (own : IsKeyBy event key m) (whole : IsFreshSegment fresh) (put : PutsSegment key fresh segments written) (hears : Hears (plain_heard event numbers) heard then) where
   abbrev pub shared : Shared
   shared = record { made = event; key = key }
@@ -140,10 +140,10 @@ module _ (rules : Rules) (heard then : List KeptHeard) (pid event key : ℕ) (nu
         of (inr was) (inl equal) = subst (HaveOneKey k.segment) (sym equal) (key-last k.segment (at-some (λ (k : MemberSets). HasKeyBy event key k.segment) (nth m p) k was (own p)))
         of (inr was) (inr had) = at-some (λ (j : MemberSets). HaveOneKey k.segment j.segment) (nth m q) j had (at-some (λ (k : MemberSets). IfSome (nth m q) (λ (j : MemberSets). HaveOneKey k.segment j.segment)) (nth m p) k was (sound.keyed.once p q))
 
-  shares-becomes : BecomesShared pid (kept_member segments old) (kept_member written new) (plain_heard event numbers) (kept_in rules heard x) (kept_in rules then y)
+  shares-becomes : BecomesShared pid (kept_member segments old) (kept_member written new) (plain_heard event numbers) (kept_in linkage heard x) (kept_in linkage then y)
   shares-becomes = record {
     was = nth-map (kept_member segments) m pid ∙ ap (option_map (kept_member segments)) is;
-    stays = record { linkage = refl; begun = refl; sets = stand-still sets };
+    stays = record { linkage = refl; sets = stand-still sets };
     one = nth-map (kept_member written) after pid ∙ ap (option_map (kept_member written)) one;
     others = λ p ne.
         nth-map (kept_member written) after p
@@ -156,44 +156,44 @@ module _ (rules : Rules) (heard then : List KeptHeard) (pid event key : ℕ) (nu
     by_other p (Some k) e = ap (λ (k : KeptMember). Some k) (other-kept k (at-some (λ (k : MemberSets). HasKeyBy event key k.segment) (nth m p) k e (own p)))
 
   pub shares-both : (count : ℕ) → SharesShow → AreEmpty count numbers → (e : Record) (before : Cpu) → event_len e ≡ count
-      → Follows (event_by_member pid before (Shares pid event) event e) (kept_in rules heard x) (kept_in rules then y) × AreKeyed y
+      → Follows (event_by_member pid before (Shares pid event) event e) (kept_in linkage heard x) (kept_in linkage then y) × AreKeyed y
   shares-both count show empty e before len = (
-    show (kept_in rules heard x) (kept_in rules then y) pid event e before (kept_member segments old) (kept_member written new) numbers sound.kept
+    show (kept_in linkage heard x) (kept_in linkage then y) pid event e before (kept_member segments old) (kept_member written new) numbers sound.kept
         (subst (λ n. AreEmpty n numbers) (sym len) empty) shares-to shares-becomes,
     keyed,
   )
 
 -- what a fresh segment does to tables
-pub shares-go : (rules : Rules) (heard then : List KeptHeard) (pid event key : ℕ) (numbers : List ℕ) (count : ℕ) (fresh : List ℕ) (m after : List (Option MemberSets)) (segments written : Segments) (sets : List (List Item)) → Hears (plain_heard event numbers) heard then → SharesShow
-    → AreSoundTables rules heard (tables_with m segments sets) → AreEmpty count numbers → IsKeyBy event key m → IsFreshSegment fresh → PutsSegment key fresh segments written
+pub shares-go : (linkage : Linkage) (heard then : List KeptHeard) (pid event key : ℕ) (numbers : List ℕ) (count : ℕ) (fresh : List ℕ) (m after : List (Option MemberSets)) (segments written : Segments) (sets : Numbered) → Hears (plain_heard event numbers) heard then → SharesShow
+    → AreSoundTables linkage heard (tables_with m segments sets) → AreEmpty count numbers → IsKeyBy event key m → IsFreshSegment fresh → PutsSegment key fresh segments written
     → ChangesIn (LivesAs (SharesAs (record { made = event; key = key }))) pid m after → (e : Record) (before : Cpu) → event_len e ≡ count
-    → GoesAt (λ holds. Shares pid event) pid event e before rules heard (tables_with m segments sets) then (tables_with after written sets)
-shares-go rules heard then pid event key numbers count fresh m after segments written sets hears show sound empty own whole put changes e before len = of (nth m pid) refl changes
+    → GoesAt (λ holds. Shares pid event) pid event e before linkage heard (tables_with m segments sets) then (tables_with after written sets)
+shares-go linkage heard then pid event key numbers count fresh m after segments written sets hears show sound empty own whole put changes e before len = of (nth m pid) refl changes
   where
     Goal : MemberSets → Type 0
-    Goal old = Follows (event_by_member pid before (Shares pid event) event e) (kept_in rules heard (tables_with m segments sets)) (kept_in rules then (tables_with after written sets)) × AreKeyed (tables_with after written sets)
+    Goal old = Follows (event_by_member pid before (Shares pid event) event e) (kept_in linkage heard (tables_with m segments sets)) (kept_in linkage then (tables_with after written sets)) × AreKeyed (tables_with after written sets)
 
     by_new : (old : MemberSets) (n : Option MemberSets) → nth m pid ≡ Some old → LivesAs (SharesAs (record { made = event; key = key })) old n → after ≡ slice_set m pid n → Goal old
     by_new old None is lives members = absurd lives
-    by_new old (Some new) is lives members = shares-both rules heard then pid event key numbers fresh m after segments written sets old new sound is members lives own whole put hears count show empty e before len
+    by_new old (Some new) is lives members = shares-both linkage heard then pid event key numbers fresh m after segments written sets old new sound is members lives own whole put hears count show empty e before len
 
     of : (o : Option MemberSets) → nth m pid ≡ o → IfSome o (ChangesOne (LivesAs (SharesAs (record { made = event; key = key }))) pid m after) → IfSome o Goal
     of None is each = tt
     of (Some old) is each = by_new old each.new is each.becomes each.members
 
 -- the same where the tables stand elsewhere, and the event is heard last
-pub shares-group : (rules : Rules) (heard then : List KeptHeard) (pid event key : ℕ) (numbers : List ℕ) (count : ℕ) (fresh : List ℕ) (m m' n n' : List (Option MemberSets)) (segments written : Segments) (sets : List (List Item))
-    → m' ≡ m → n' ≡ n → Hears (plain_heard event numbers) heard then → SharesShow → AreSoundTables rules heard (tables_with m segments sets) → AreEmpty count numbers → IsKeyBy event key m
+pub shares-group : (linkage : Linkage) (heard then : List KeptHeard) (pid event key : ℕ) (numbers : List ℕ) (count : ℕ) (fresh : List ℕ) (m m' n n' : List (Option MemberSets)) (segments written : Segments) (sets : Numbered)
+    → m' ≡ m → n' ≡ n → Hears (plain_heard event numbers) heard then → SharesShow → AreSoundTables linkage heard (tables_with m segments sets) → AreEmpty count numbers → IsKeyBy event key m
     → IsFreshSegment fresh → PutsSegment key fresh segments written → ChangesIn (LivesAs (SharesAs (record { made = event; key = key }))) pid m' n → (e : Record) (before : Cpu) → event_len e ≡ count
-    → GoesAt (λ holds. Shares pid event) pid event e before rules heard (tables_with m segments sets) then (tables_with n' written sets)
-shares-group rules heard then pid event key numbers count fresh m m' n n' segments written sets em en hears show sound empty own whole put changes e before len =
-    goes-there (λ holds. Shares pid event) pid event e before rules heard (tables_with m segments sets) then (tables_with n written sets) (tables_with n' written sets)
+    → GoesAt (λ holds. Shares pid event) pid event e before linkage heard (tables_with m segments sets) then (tables_with n' written sets)
+shares-group linkage heard then pid event key numbers count fresh m m' n n' segments written sets em en hears show sound empty own whole put changes e before len =
+    goes-there (λ holds. Shares pid event) pid event e before linkage heard (tables_with m segments sets) then (tables_with n written sets) (tables_with n' written sets)
     (tables-there n' n written written sets en refl)
-    (shares-go rules heard then pid event key numbers count fresh m n segments written sets hears show sound empty own whole put
+    (shares-go linkage heard then pid event key numbers count fresh m n segments written sets hears show sound empty own whole put
     (subst (λ l. ChangesIn (LivesAs (SharesAs (record { made = event; key = key }))) pid l n) em changes) e before len)
 
 -- segments that tables keep have their keys
-pub held-once : (members l : List (Option MemberSets)) (segments : Segments) (sets : List (List Item)) (count : ℕ) → AreKeyed (tables_with members segments sets) → count ≡ length segments → l ≡ members → AreHeldOnce count l
+pub held-once : (members l : List (Option MemberSets)) (segments : Segments) (sets : Numbered) (count : ℕ) → AreKeyed (tables_with members segments sets) → count ≡ length segments → l ≡ members → AreHeldOnce count l
 held-once members l segments sets count keyed e f =
     subst (λ n. AreHeldOnce n l) (sym e) (subst (AreHeldOnce (length segments)) (sym f) (record {
       below = λ p. keyed.held p;

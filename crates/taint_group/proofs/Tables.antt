@@ -6,15 +6,14 @@ use Rattle.rv64_isa.specs.declared.instruction.Instr.{Instr}
 use Rattle.rv64_model.specs.Operands.{accessed, stored_len}
 use Rattle.parts_model.specs.declared.limits.TheConstants.{WINDOW_START, SEGMENT_START}
 use Rattle.parts_model.specs.Numbered.{nth}
-use Rattle.set_store.specs.Sets.{StandAsBefore}
+use Rattle.taint_sets.specs.Numbered.{IsSet, StandAsBefore}
 use Rattle.acts_model.specs.Transfers.{is_private, is_shared}
-use Rattle.taint_flow.specs.Starts.{IsRaw}
 use Rattle.taint_members.specs.Access.{ByTest, HoldsKey, Segments, WritesHeld, held_numbers}
 use Rattle.taint_members.specs.declared.member.MemberSets.{MemberSets}
 use Rattle.taint_members.specs.declared.member.Shared.{Shared}
 use Rattle.taint_steps.specs.Running.{StoresSegment}
 use Rattle.taint_steps.specs.Table.{IsReady, RunsMember, RunsOne, Tables}
-use Rattle.taint_steps.specs.declared.taking.Rules.{Rules}
+use Rattle.rv64_model.specs.declared.linkage.Linkage.{Linkage}
 use Rattle.taint_state.specs.Goes.{GoesIf, TakesInstr}
 use Rattle.taint_state.specs.Kept.{KeptHeard, shown, shown_member}
 use Rattle.taint_state.specs.RunsShow.{RunsIn, RunsKeep, RunsShow, is_same, kept_member, sees}
@@ -23,9 +22,9 @@ use Rattle.taint_state.specs.Steps.{instr_inside}
 use Rattle.taint_group.specs.Tables.{AreKeyed, AreSoundTables, HaveOneKey, kept_in}
 
 -- what the tables show goes on by an instruction, and they stay sound
-pub record TablesGoOn (rules : Rules) (heard : List KeptHeard) (pid : ℕ) (instr : Instr) (before : Cpu) (x y : Tables) : Type 0 where
-  pub shows : TakesInstr (shown (kept_in rules heard x)) pid instr before (shown (kept_in rules heard y))
-  pub sound : AreSoundTables rules heard y
+pub record TablesGoOn (linkage : Linkage) (heard : List KeptHeard) (pid : ℕ) (instr : Instr) (before : Cpu) (x y : Tables) : Type 0 where
+  pub shows : TakesInstr (shown (kept_in linkage heard x)) pid instr before (shown (kept_in linkage heard y))
+  pub sound : AreSoundTables linkage heard y
 
 pub at-some : {X : Type 0} (P : X → Type 0) (o : Option X) (x : X) → o ≡ Some x → IfSome o P → P x
 at-some P o x e h = subst (λ k. IfSome k P) e h
@@ -85,8 +84,8 @@ other-sees acc numbers segments written n other one stores =
 both-some : {X Y : Type 0} (P : X → Y → Type 0) (o : Option X) (p : Option Y) (x : X) (y : Y) → o ≡ Some x → p ≡ Some y → IfSome o (λ a. IfSome p (P a)) → P x y
 both-some P o p x y e f h = at-some (P x) p y f (at-some (λ a. IfSome p (P a)) o x e h)
 
-module _ (rules : Rules) (heard : List KeptHeard) (pid : ℕ) (instr : Instr) (before : Cpu) (x y : Tables) (sound : AreSoundTables rules heard x) (m : MemberSets) (there : nth x.members pid ≡ Some m)
-    (one : RunsOne pid rules instr before m x y) (stand : StandAsBefore x.sets y.sets) (keys : length y.segments ≡ length x.segments) where
+module _ (linkage : Linkage) (heard : List KeptHeard) (pid : ℕ) (instr : Instr) (before : Cpu) (x y : Tables) (sound : AreSoundTables linkage heard x) (m : MemberSets) (there : nth x.members pid ≡ Some m)
+    (one : RunsOne pid linkage instr before m x y) (stand : StandAsBefore x.sets y.sets) (keys : length y.segments ≡ length x.segments) where
   segment-same : one.changed.segment ≡ m.segment
   segment-same = ap (λ (k : MemberSets). k.segment) one.runs.others
 
@@ -96,7 +95,7 @@ module _ (rules : Rules) (heard : List KeptHeard) (pid : ℕ) (instr : Instr) (b
   others : (p : ℕ) → p ≢ pid → nth y.members p ≡ nth x.members p
   others p apart = ap (λ l. nth l p) one.members ∙ nth-other x.members pid p (Some one.changed) apart
 
-  ran : RunsIn pid instr before (kept_in rules heard x) (kept_in rules heard y)
+  ran : RunsIn pid instr before (kept_in linkage heard x) (kept_in linkage heard y)
   ran = record {
     member = m;
     changed = one.changed;
@@ -155,36 +154,36 @@ module _ (rules : Rules) (heard : List KeptHeard) (pid : ℕ) (instr : Instr) (b
         let second : j.segment ≡ v.segment = cc in
         subst (λ s. HaveOneKey s j.segment) (sym first) (subst (HaveOneKey u.segment) (sym second) h)
 
-  goes-on : RunsShow → RunsKeep → TablesGoOn rules heard pid instr before x y
+  goes-on : RunsShow → RunsKeep → TablesGoOn linkage heard pid instr before x y
   goes-on show keep = record {
-    shows = show pid instr before (kept_in rules heard x) (kept_in rules heard y) sound.kept ran;
-    sound = record { kept = keep pid instr before (kept_in rules heard x) (kept_in rules heard y) sound.kept ran; keyed = keyed };
+    shows = show pid instr before (kept_in linkage heard x) (kept_in linkage heard y) sound.kept ran;
+    sound = record { kept = keep pid instr before (kept_in linkage heard x) (kept_in linkage heard y) sound.kept ran; keyed = keyed };
   }
 
 -- where the member of a number has run it
-pub tables-run : (rules : Rules) (heard : List KeptHeard) (pid : ℕ) (instr : Instr) (before : Cpu) (x y : Tables) → RunsShow → RunsKeep
-    → AreSoundTables rules heard x → RunsMember (nth x.members pid) pid rules instr before x y → StandAsBefore x.sets y.sets → length y.segments ≡ length x.segments
-    → TablesGoOn rules heard pid instr before x y
-tables-run rules heard pid instr before x y show keep sound runs stand keys = by_member (nth x.members pid) refl runs
+pub tables-run : (linkage : Linkage) (heard : List KeptHeard) (pid : ℕ) (instr : Instr) (before : Cpu) (x y : Tables) → RunsShow → RunsKeep
+    → AreSoundTables linkage heard x → RunsMember (nth x.members pid) pid linkage instr before x y → StandAsBefore x.sets y.sets → length y.segments ≡ length x.segments
+    → TablesGoOn linkage heard pid instr before x y
+tables-run linkage heard pid instr before x y show keep sound runs stand keys = by_member (nth x.members pid) refl runs
   where
-    by_member : (o : Option MemberSets) → nth x.members pid ≡ o → RunsMember o pid rules instr before x y → TablesGoOn rules heard pid instr before x y
-    by_member (Some m) e runs = goes-on rules heard pid instr before x y sound m e runs stand keys show keep
+    by_member : (o : Option MemberSets) → nth x.members pid ≡ o → RunsMember o pid linkage instr before x y → TablesGoOn linkage heard pid instr before x y
+    by_member (Some m) e runs = goes-on linkage heard pid instr before x y sound m e runs stand keys show keep
     by_member None e same =
-        subst (λ (z : Tables). TablesGoOn rules heard pid instr before x z) (sym same) (record {
-          shows = subst (λ o. GoesIf (option_map (instr_inside pid instr before) (option_map (λ m. m.holds) (option_map (shown_member (kept_in rules heard x)) o))) (shown (kept_in rules heard x)) (shown (kept_in rules heard x)))
+        subst (λ (z : Tables). TablesGoOn linkage heard pid instr before x z) (sym same) (record {
+          shows = subst (λ o. GoesIf (option_map (instr_inside pid instr before) (option_map (λ m. m.holds) (option_map (shown_member (kept_in linkage heard x)) o))) (shown (kept_in linkage heard x)) (shown (kept_in linkage heard x)))
               (sym (nth-map (kept_member x.segments) x.members pid ∙ ap (option_map (kept_member x.segments)) e)) refl;
           sound = sound;
         })
 
 -- any member can run an instruction
-pub tables-ready : (rules : Rules) (heard : List KeptHeard) (x : Tables) → AreSoundTables rules heard x → (pid : ℕ) → IfSome (nth x.members pid) (IsReady x.sets x.segments)
-tables-ready rules heard x sound pid = by_member (nth x.members pid) refl
+pub tables-ready : (linkage : Linkage) (heard : List KeptHeard) (x : Tables) → AreSoundTables linkage heard x → (pid : ℕ) → IfSome (nth x.members pid) (IsReady x.sets x.segments)
+tables-ready linkage heard x sound pid = by_member (nth x.members pid) refl
   where
     raw : (m : MemberSets) → IsSoundMember x.sets (kept_member x.segments m) → (b c : Bool) (i j : ℕ)
-        → IsRaw x.sets (if b then slice_index m.window i else if c then slice_index (held_numbers m.segment x.segments) j else 0)
+        → IsSet x.sets (if b then slice_index m.window i else if c then slice_index (held_numbers m.segment x.segments) j else 0)
     raw m own true c i j = own.window i
     raw m own false true i j = own.segment j
-    raw m own false false i j = λ small. sound.kept.zero
+    raw m own false false i j = sound.kept.zero
 
     by_member : (o : Option MemberSets) → nth x.members pid ≡ o → IfSome o (IsReady x.sets x.segments)
     by_member None e = tt
@@ -193,6 +192,6 @@ tables-ready rules heard x sound pid = by_member (nth x.members pid) refl
         (nth-map (kept_member x.segments) x.members pid ∙ ap (option_map (kept_member x.segments)) e) (sound.kept.members pid) in
         record {
           held = at-some (λ (k : MemberSets). HoldsKey k.segment x.segments) (nth x.members pid) m e (sound.keyed.held pid);
-          registers = λ r i above below byte. (own.registers r i (record { above = above; below = below; byte = byte })).0;
+          registers = λ r i above below byte. own.registers r i (record { above = above; below = below; byte = byte });
           memory = λ at k. raw m own (is_private at) (is_shared at) (at - WINDOW_START + k) (at - SEGMENT_START + k);
         }

@@ -1,10 +1,10 @@
 -- How tables of a group change where a member makes a child in the group.
 use Rattle.std.specs.Prelude.{◌≡◌, ◌≢◌, ℕ, List, Some}
 use Rattle.parts_model.specs.Numbered.{nth}
-use Rattle.set_store.specs.Sets.{StandAsBefore}
+use Rattle.taint_sets.specs.Numbered.{StandAsBefore}
 use Rattle.taint_members.specs.declared.member.MemberSets.{MemberSets}
 use Rattle.taint_steps.specs.Table.{Tables}
-use Rattle.taint_steps.specs.declared.taking.Rules.{Rules}
+use Rattle.rv64_model.specs.declared.linkage.Linkage.{Linkage}
 use Rattle.taint_state.specs.Events.{BecomesTwo}
 use Rattle.taint_state.specs.Kept.{KeptHeard}
 use Rattle.taint_state.specs.RunsShow.{kept_member}
@@ -22,6 +22,6 @@ pub record TablesSplit (pid child : ℕ) (old new kid : MemberSets) (x y : Table
   pub shares : kid.segment ≡ old.segment
 
 -- what is kept becomes so by an event that is heard, and each segment is in the table once
-pub record TablesBecomeTwo (rules : Rules) (heard after : List KeptHeard) (pid child : ℕ) (old new kid : MemberSets) (event : KeptHeard) (x y : Tables) : Type 0 where
-  pub becomes : BecomesTwo pid child (kept_member x.segments old) (kept_member x.segments new) (kept_member x.segments kid) event (kept_in rules heard x) (kept_in rules after y)
+pub record TablesBecomeTwo (linkage : Linkage) (heard after : List KeptHeard) (pid child : ℕ) (old new kid : MemberSets) (event : KeptHeard) (x y : Tables) : Type 0 where
+  pub becomes : BecomesTwo pid child (kept_member x.segments old) (kept_member x.segments new) (kept_member x.segments kid) event (kept_in linkage heard x) (kept_in linkage after y)
   pub keyed : AreKeyed y

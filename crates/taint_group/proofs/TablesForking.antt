@@ -8,7 +8,7 @@ use Rattle.taint_group.proofs.Changes.{HoldsSame}
 use Rattle.taint_state.specs.RunsShow.{kept_member}
 use Rattle.taint_state.specs.Events.{Hears}
 use Rattle.taint_state.specs.Kept.{KeptHeard}
-use Rattle.taint_steps.specs.declared.taking.Rules.{Rules}
+use Rattle.rv64_model.specs.declared.linkage.Linkage.{Linkage}
 use Rattle.taint_group.specs.Tables.{AreKeyed, AreSoundTables}
 use Rattle.taint_group.proofs.TablesFork.{TablesBecomeTwo, TablesSplit}
 use Rattle.taint_group.proofs.Changing.{held-by, holds-itself, kept-same, once-by}
@@ -24,12 +24,12 @@ keyed-from x y keyed e same = record {
 holds-as : (m old : MemberSets) (a b : Option MemberSets) → a ≡ Some m → b ≡ Some old → m.segment ≡ old.segment → HoldsSame a b
 holds-as m old a b e f same = subst (λ o. HoldsSame o b) (sym e) (subst (HoldsSame (Some m)) (sym f) (inl same))
 
-pub tables-fork : (rules : Rules) (heard after : List KeptHeard) (pid child : ℕ) (old new kid : MemberSets) (event : KeptHeard) (x y : Tables)
-    → AreSoundTables rules heard x → Hears event heard after → TablesSplit pid child old new kid x y → TablesBecomeTwo rules heard after pid child old new kid event x y
-tables-fork rules heard after pid child old new kid event x y sound hears step = record {
+pub tables-fork : (linkage : Linkage) (heard after : List KeptHeard) (pid child : ℕ) (old new kid : MemberSets) (event : KeptHeard) (x y : Tables)
+    → AreSoundTables linkage heard x → Hears event heard after → TablesSplit pid child old new kid x y → TablesBecomeTwo linkage heard after pid child old new kid event x y
+tables-fork linkage heard after pid child old new kid event x y sound hears step = record {
   becomes = record {
     was = kept-same x x pid (Some old) refl step.was;
-    stays = record { linkage = refl; begun = refl; sets = step.sets };
+    stays = record { linkage = refl; sets = step.sets };
     parent = λ ne. kept-same x y pid (Some new) step.segments (step.parent ne);
     begins = kept-same x y child (Some kid) step.segments step.begins;
     others = λ p ne other. kept-same x y p (nth x.members p) step.segments (step.others p ne other) ∙ sym (nth-map (kept_member x.segments) x.members p);

@@ -1,10 +1,10 @@
 -- How tables of a group change where a member receives bytes.
 use Rattle.std.specs.Prelude.{◌≡◌, ℕ, List, length, slice_set, Some}
 use Rattle.parts_model.specs.Numbered.{nth}
-use Rattle.set_store.specs.Sets.{StandAsBefore}
+use Rattle.taint_sets.specs.Numbered.{StandAsBefore}
 use Rattle.taint_members.specs.declared.member.MemberSets.{MemberSets}
 use Rattle.taint_steps.specs.Table.{Tables}
-use Rattle.taint_steps.specs.declared.taking.Rules.{Rules}
+use Rattle.rv64_model.specs.declared.linkage.Linkage.{Linkage}
 use Rattle.taint_state.specs.Events.{BecomesShared, ReceivesTo}
 use Rattle.taint_group.specs.Moves.{Receives}
 use Rattle.taint_state.specs.RunsShow.{kept_member}
@@ -20,7 +20,7 @@ pub record TablesTake (pid at : ℕ) (numbers : List ℕ) (old new : MemberSets)
   pub keys : length y.segments ≡ length x.segments
 
 -- what is kept takes them by an event that is heard, and each segment is in the table once
-pub record TablesTook (rules : Rules) (heard after : List KeptHeard) (pid at : ℕ) (numbers : List ℕ) (old new : MemberSets) (event : KeptHeard) (x y : Tables) : Type 0 where
+pub record TablesTook (linkage : Linkage) (heard after : List KeptHeard) (pid at : ℕ) (numbers : List ℕ) (old new : MemberSets) (event : KeptHeard) (x y : Tables) : Type 0 where
   pub receives : ReceivesTo at numbers (kept_member x.segments old) (kept_member y.segments new)
-  pub becomes : BecomesShared pid (kept_member x.segments old) (kept_member y.segments new) event (kept_in rules heard x) (kept_in rules after y)
+  pub becomes : BecomesShared pid (kept_member x.segments old) (kept_member y.segments new) event (kept_in linkage heard x) (kept_in linkage after y)
   pub keyed : AreKeyed y

@@ -9,7 +9,7 @@ use Rattle.taint_group.proofs.Changes.{HoldsSame}
 use Rattle.taint_state.specs.Events.{Hears, shares_with}
 use Rattle.taint_state.specs.RunsShow.{kept_member}
 use Rattle.taint_state.specs.Kept.{KeptHeard, KeptMember}
-use Rattle.taint_steps.specs.declared.taking.Rules.{Rules}
+use Rattle.rv64_model.specs.declared.linkage.Linkage.{Linkage}
 use Rattle.taint_group.specs.Tables.{AreKeyed, AreSoundTables, HaveOneKey}
 use Rattle.taint_group.proofs.TablesReceive.{TablesTake, TablesTook}
 use Rattle.taint_group.proofs.Changing.{keyed-still, nth-put, same-but}
@@ -31,13 +31,13 @@ keyed-in x segments e keyed = record {
   once = λ p q. keyed.once p q;
 }
 
-pub tables-receive : (rules : Rules) (heard after : List KeptHeard) (pid at : ℕ) (numbers : List ℕ) (old new : MemberSets) (event : KeptHeard) (x y : Tables)
-    → AreSoundTables rules heard x → Hears event heard after → TablesTake pid at numbers old new x y → TablesTook rules heard after pid at numbers old new event x y
-tables-receive rules heard after pid at numbers old new event x y sound hears step = record {
+pub tables-receive : (linkage : Linkage) (heard after : List KeptHeard) (pid at : ℕ) (numbers : List ℕ) (old new : MemberSets) (event : KeptHeard) (x y : Tables)
+    → AreSoundTables linkage heard x → Hears event heard after → TablesTake pid at numbers old new x y → TablesTook linkage heard after pid at numbers old new event x y
+tables-receive linkage heard after pid at numbers old new event x y sound hears step = record {
   receives = receives-kept at numbers old new x.segments y.segments step.receives;
   becomes = record {
     was = nth-map (kept_member x.segments) x.members pid ∙ ap (option_map (kept_member x.segments)) step.was;
-    stays = record { linkage = refl; begun = refl; sets = step.sets };
+    stays = record { linkage = refl; sets = step.sets };
     one = nth-map (kept_member y.segments) y.members pid ∙ ap (option_map (kept_member y.segments)) one;
     others = λ p ne.
         nth-map (kept_member y.segments) y.members p

@@ -1,14 +1,13 @@
 -- One member of a group changes, and an event is heard.
 use Rattle.std.proofs.Common.{◌≡◌, ◌⊎◌, inl, ℕ, zero, suc, ◌≤◌, ◌<◌, List, [], ◌∷◌, length, slice_index_or, Option, Some, None, IfSome, IsSomeAnd, option_map, refl, sym, subst, ap, ◌∙◌, arith}
 use Rattle.parts_model.specs.Numbered.{nth}
-use Rattle.set_store.specs.declared.item.Item.{Item}
-use Rattle.set_store.specs.Sets.{StandAsBefore}
+use Rattle.taint_sets.specs.Numbered.{Numbered, StandAsBefore}
 use Rattle.acts_model.specs.Moved.{Inside}
 use Rattle.taint_members.specs.Access.{held_numbers}
 use Rattle.taint_members.specs.declared.member.MemberSets.{MemberSets}
 use Rattle.taint_members.specs.declared.member.Shared.{Shared}
 use Rattle.taint_steps.specs.Table.{Tables}
-use Rattle.taint_steps.specs.declared.taking.Rules.{Rules}
+use Rattle.rv64_model.specs.declared.linkage.Linkage.{Linkage}
 use Rattle.taint_group.proofs.Changes.{HoldsSame}
 use Rattle.taint_group.proofs.Changing.{tables-change}
 use Rattle.taint_state.specs.Events.{Becomes, Hears, StartsTo}
@@ -42,7 +41,7 @@ pub of-none : {X : Type 0} (P : Option X → Type 0) (xs : List (Option X)) (k :
 of-none P xs k past h = subst P (sym (nth-past xs k past)) h
 
 -- sets stand as they stand
-pub stand-still : (sets : List (List Item)) → StandAsBefore sets sets
+pub stand-still : (sets : Numbered) → StandAsBefore sets sets
 stand-still sets = record { there = λ set h. h; same = λ set h. refl }
 
 -- who ends holds nothing
@@ -50,15 +49,15 @@ pub ends-hold : (old : MemberSets) (new : Option MemberSets) → Ends old new �
 ends-hold old new e = subst (λ o. HoldsSame o (Some old)) (sym e) tt
 
 -- what is kept goes on where a member of sound tables changes
-pub changes-go : (As : MemberSets → Option MemberSets → Type 0) (inside : MemberSets → Inside) (rules : Rules) (pid : ℕ) (event : KeptHeard) (members after : List (Option MemberSets)) (segments : List (List ℕ)) (sets new : List (List Item)) (heard then : List KeptHeard)
-    → Hears event heard then → AreSoundTables rules heard (tables_with members segments sets) → StandAsBefore sets new → ((o : MemberSets) (m : Option MemberSets) → As o m → HoldsSame m (Some o))
+pub changes-go : (As : MemberSets → Option MemberSets → Type 0) (inside : MemberSets → Inside) (linkage : Linkage) (pid : ℕ) (event : KeptHeard) (members after : List (Option MemberSets)) (segments : List (List ℕ)) (sets new : Numbered) (heard then : List KeptHeard)
+    → Hears event heard then → AreSoundTables linkage heard (tables_with members segments sets) → StandAsBefore sets new → ((o : MemberSets) (m : Option MemberSets) → As o m → HoldsSame m (Some o))
     → ((o : MemberSets) → nth members pid ≡ Some o → (m : Option MemberSets) → As o m
-    → Becomes pid (kept_member segments o) (option_map (kept_member segments) m) event (kept_in rules heard (tables_with members segments sets)) (kept_in rules then (tables_with after segments new))
-    → Follows (inside o) (kept_in rules heard (tables_with members segments sets)) (kept_in rules then (tables_with after segments new)))
+    → Becomes pid (kept_member segments o) (option_map (kept_member segments) m) event (kept_in linkage heard (tables_with members segments sets)) (kept_in linkage then (tables_with after segments new))
+    → Follows (inside o) (kept_in linkage heard (tables_with members segments sets)) (kept_in linkage then (tables_with after segments new)))
     → ChangesIn As pid members after
     → IfSome (nth members pid) (λ o.
-    Follows (inside o) (kept_in rules heard (tables_with members segments sets)) (kept_in rules then (tables_with after segments new)) × AreKeyed (tables_with after segments new))
-changes-go As inside rules pid event members after segments sets new heard then hears sound stand holds show step = of (nth members pid) refl step
+    Follows (inside o) (kept_in linkage heard (tables_with members segments sets)) (kept_in linkage then (tables_with after segments new)) × AreKeyed (tables_with after segments new))
+changes-go As inside linkage pid event members after segments sets new heard then hears sound stand holds show step = of (nth members pid) refl step
   where
     x : Tables
     x = tables_with members segments sets
@@ -67,10 +66,10 @@ changes-go As inside rules pid event members after segments sets new heard then 
     y = tables_with after segments new
 
     of : (o : Option MemberSets) → nth members pid ≡ o → IfSome o (ChangesOne As pid members after)
-        → IfSome o (λ old. Follows (inside old) (kept_in rules heard x) (kept_in rules then y) × AreKeyed y)
+        → IfSome o (λ old. Follows (inside old) (kept_in linkage heard x) (kept_in linkage then y) × AreKeyed y)
     of None is one = tt
     of (Some old) is one =
-        let changed = tables-change rules heard then pid old one.new event x y sound hears (record {
+        let changed = tables-change linkage heard then pid old one.new event x y sound hears (record {
           was = is;
           members = one.members;
           segments = refl;
@@ -79,19 +78,19 @@ changes-go As inside rules pid event members after segments sets new heard then 
         }) in (show old is one.new one.becomes changed.becomes, changed.keyed)
 
 -- the same where the tables stand elsewhere
-pub changes-group : (As : MemberSets → Option MemberSets → Type 0) (inside : MemberSets → Inside) (rules : Rules) (pid : ℕ) (event : KeptHeard) (members was now after : List (Option MemberSets)) (segments : List (List ℕ)) (sets new : List (List Item)) (heard then : List KeptHeard)
-    → was ≡ members → after ≡ now → Hears event heard then → AreSoundTables rules heard (tables_with members segments sets) → StandAsBefore sets new
+pub changes-group : (As : MemberSets → Option MemberSets → Type 0) (inside : MemberSets → Inside) (linkage : Linkage) (pid : ℕ) (event : KeptHeard) (members was now after : List (Option MemberSets)) (segments : List (List ℕ)) (sets new : Numbered) (heard then : List KeptHeard)
+    → was ≡ members → after ≡ now → Hears event heard then → AreSoundTables linkage heard (tables_with members segments sets) → StandAsBefore sets new
     → ((o : MemberSets) (m : Option MemberSets) → As o m → HoldsSame m (Some o))
     → ((o : MemberSets) → nth members pid ≡ Some o → (m : Option MemberSets) → As o m
-    → Becomes pid (kept_member segments o) (option_map (kept_member segments) m) event (kept_in rules heard (tables_with members segments sets)) (kept_in rules then (tables_with now segments new))
-    → Follows (inside o) (kept_in rules heard (tables_with members segments sets)) (kept_in rules then (tables_with now segments new)))
+    → Becomes pid (kept_member segments o) (option_map (kept_member segments) m) event (kept_in linkage heard (tables_with members segments sets)) (kept_in linkage then (tables_with now segments new))
+    → Follows (inside o) (kept_in linkage heard (tables_with members segments sets)) (kept_in linkage then (tables_with now segments new)))
     → ChangesIn As pid was now
     → IfSome (nth members pid) (λ o.
-    Follows (inside o) (kept_in rules heard (tables_with members segments sets)) (kept_in rules then (tables_with after segments new)) × AreKeyed (tables_with after segments new))
-changes-group As inside rules pid event members was now after segments sets new heard then same later hears sound stand holds show step =
-    subst (λ (z : List (Option MemberSets)). IfSome (nth members pid) (λ o. Follows (inside o) (kept_in rules heard (tables_with members segments sets)) (kept_in rules then (tables_with z segments new)) × AreKeyed (tables_with z segments new)))
+    Follows (inside o) (kept_in linkage heard (tables_with members segments sets)) (kept_in linkage then (tables_with after segments new)) × AreKeyed (tables_with after segments new))
+changes-group As inside linkage pid event members was now after segments sets new heard then same later hears sound stand holds show step =
+    subst (λ (z : List (Option MemberSets)). IfSome (nth members pid) (λ o. Follows (inside o) (kept_in linkage heard (tables_with members segments sets)) (kept_in linkage then (tables_with z segments new)) × AreKeyed (tables_with z segments new)))
     (sym later)
-    (changes-go As inside rules pid event members now segments sets new heard then hears sound stand holds show (subst (λ z. ChangesIn As pid z now) same step))
+    (changes-go As inside linkage pid event members now segments sets new heard then hears sound stand holds show (subst (λ z. ChangesIn As pid z now) same step))
 
 -- who lives on holds what it held, or nothing
 pub lives-hold : (As : MemberSets → MemberSets → Type 0) → ((o n : MemberSets) → As o n → (n.segment ≡ o.segment) ⊎ (n.segment ≡ None)) → (o : MemberSets) (m : Option MemberSets) → LivesAs As o m → HoldsSame m (Some o)

@@ -25,11 +25,11 @@ tables_of g = record { members = g.members.items; segments = g.segments.items; s
 
 -- all that is kept of it
 abbrev pub kept_of : Group → Kept
-kept_of g = kept_in g.rules (heard_of g) (tables_of g)
+kept_of g = kept_in g.linkage (heard_of g) (tables_of g)
 
 -- it keeps what is sound
 abbrev pub IsSoundGroup : Group → Type 0
-IsSoundGroup g = AreSoundTables g.rules (heard_of g) (tables_of g)
+IsSoundGroup g = AreSoundTables g.linkage (heard_of g) (tables_of g)
 
 -- the step goes on in what is kept, and each segment is in the table once
 pub record GroupGoes (inside : Inside) (x y : Group) : Type 0 where

@@ -2,17 +2,14 @@
 use Rattle.std.specs.Prelude.{◌≡◌, ◌≢◌, ◌⊎◌, ◌↔◌, ◌<◌, ◌≤◌, ℕ, ◌==◌, if◌then◌else◌, List, [], length, slice_index, slice_index_or, slice_set, Option, Some, None, IfSome}
 use Rattle.parts_model.specs.declared.limits.TheConstants.{SEGMENT_LEN}
 use Rattle.parts_model.specs.Numbered.{nth}
-use Rattle.set_store.specs.declared.item.Item.{Item}
-use Rattle.taint_events.specs.Beginning.{AreItemsFrom, AreItemsOfRow, BeginsRegisters, first_number}
-use Rattle.taint_events.specs.Starting.{window_len}
+use Rattle.taint_events.specs.Beginning.{AreItemsFrom, AreItemsOfRow, BeginsRegisters}
 use Rattle.taint_members.specs.Access.{Segments, WritesSegment, WritesWindow}
 use Rattle.taint_members.specs.Rows.{ClearsResult}
 use Rattle.taint_members.specs.declared.member.MemberSets.{MemberSets}
 use Rattle.taint_members.specs.declared.member.Shared.{Shared}
-use Rattle.taint_pages.specs.Pages.{AreUnset}
-use Rattle.taint_pages.specs.declared.page.Unset.TheVariants.{From}
 use Rattle.taint_state.specs.Shown.{register_bytes}
 use Rattle.taint_group.specs.Tables.{HaveOneKey}
+use Rattle.taint_sets.specs.Numbered.{Numbered}
 
 -- a member begins at a number
 pub record Places (pid : ℕ) (m : MemberSets) (old new : List (Option MemberSets)) : Type 0 where
@@ -23,13 +20,13 @@ pub record Places (pid : ℕ) (m : MemberSets) (old new : List (Option MemberSet
 abbrev pub MayPlace : ℕ → Option MemberSets → List (Option MemberSets) → List (Option MemberSets) → Type 0
 MayPlace pid m old new = IfSome m (λ (m : MemberSets). Places pid m old new)
 
--- The bytes of a member that begins without a parent: those of its window stand for themselves where the group begins by this event.
-pub record BeginsAs (sets : List (List Item)) (begun event : ℕ) (m : MemberSets) : Type 0 where
+-- each byte of a member that begins without a parent is an item by itself
+pub record BeginsAs (sets : Numbered) (event : ℕ) (m : MemberSets) : Type 0 where
   pub made : m.made ≡ event
   pub segment : m.segment ≡ None
   pub registers : BeginsRegisters sets event m.registers
   pub slot : AreItemsOfRow sets event register_bytes m.slot
-  pub window : (AreUnset (From first_number) window_len m.window × (begun ≡ event)) ⊎ AreItemsFrom sets event m.window
+  pub window : AreItemsFrom sets event m.window
 
 -- what is written of a member for bytes that it receives, and of all that hold its segment
 pub record Receives (at : ℕ) (numbers : List ℕ) (old new : MemberSets) (before after : Segments) : Type 0 where

@@ -5,17 +5,16 @@ use Rattle.taint_members.specs.Access.{HoldsKey}
 use Rattle.taint_members.specs.declared.member.MemberSets.{MemberSets}
 use Rattle.taint_members.specs.declared.member.Shared.{Shared}
 use Rattle.taint_steps.specs.Table.{Tables}
-use Rattle.taint_steps.specs.declared.taking.Rules.{Rules}
+use Rattle.rv64_model.specs.declared.linkage.Linkage.{Linkage}
 use Rattle.taint_state.specs.Kept.{Kept, KeptHeard}
 use Rattle.taint_state.specs.RunsShow.{kept_member}
 use Rattle.taint_state.specs.Sound.{IsSound}
 
 -- what tables keep of a group, beside its events
-abbrev pub kept_in : Rules → List KeptHeard → Tables → Kept
-kept_in rules heard tables =
+abbrev pub kept_in : Linkage → List KeptHeard → Tables → Kept
+kept_in linkage heard tables =
     record {
-      linkage = rules.linkage;
-      begun = rules.begun;
+      linkage = linkage;
       sets = tables.sets;
       members = map (option_map (kept_member tables.segments)) tables.members;
       heard = heard;
@@ -32,6 +31,6 @@ pub record AreKeyed (tables : Tables) : Type 0 where
   pub once : (p q : ℕ) → IfSome (nth tables.members p) (λ (m : MemberSets). IfSome (nth tables.members q) (λ (n : MemberSets). HaveOneKey m.segment n.segment))
 
 -- tables that keep what is sound
-pub record AreSoundTables (rules : Rules) (heard : List KeptHeard) (tables : Tables) : Type 0 where
-  pub kept : IsSound (kept_in rules heard tables)
+pub record AreSoundTables (linkage : Linkage) (heard : List KeptHeard) (tables : Tables) : Type 0 where
+  pub kept : IsSound (kept_in linkage heard tables)
   pub keyed : AreKeyed tables

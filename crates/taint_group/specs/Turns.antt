@@ -3,7 +3,6 @@ use Rattle.std.specs.Prelude.{◌≡◌, ℕ, Bool, List, slice_set, Option, Non
 use Rattle.arn_base.specs.declared.machine.Cpu.{Cpu}
 use Rattle.arn_base.specs.declared.records.Record.{Record}
 use Rattle.parts_model.specs.Numbered.{nth}
-use Rattle.set_store.specs.declared.item.Item.{Item}
 use Rattle.acts_model.specs.Records.{event_len}
 use Rattle.acts_model.specs.Transfers.{Holds, Transfer}
 use Rattle.taint_events.specs.Bytes.{AreGiven, IsStatus}
@@ -84,5 +83,5 @@ pub record StartsAs (segments : Segments) (event load : ℕ) (numbers : List ℕ
   pub segment : new.segment ≡ None
 
 -- the bytes given by a member that may be there
-abbrev pub HasGiven : List (List Item) → List (List Item) → ℕ → Option MemberSets → Segments → ℕ → ℕ → List ℕ → Type 0
-HasGiven old new begun entry segments at count numbers = IfSome entry (λ (m : MemberSets). AreGiven old new begun (number_at m segments at) count numbers)
+abbrev pub HasGiven : Option MemberSets → Segments → ℕ → ℕ → List ℕ → Type 0
+HasGiven entry segments at count numbers = IfSome entry (λ (m : MemberSets). AreGiven (number_at m segments at) count numbers)

@@ -1,18 +1,15 @@
 // Bytes that members give.
-ghost use Rattle.std.specs.Prelude.{◌<◌, ◌^◌, IfOk, IfSome, OnOk};
+ghost use Rattle.std.specs.Prelude.{IfOk, IfSome, OnOk};
 ghost use Rattle.acts_model.specs.Transfers.{Gives, Holds, place_of};
 ghost use Rattle.parts_model.specs.Numbered.{nth};
-ghost use Rattle.set_store.specs.Sets.{StandAsBefore};
-ghost use Rattle.taint_steps.specs.Table.{IsReady};
+ghost use Rattle.taint_members.specs.Access.{HoldsKey};
 ghost use Rattle.taint_group.specs.Groups.{IsSoundGroup};
 ghost use Rattle.taint_group.specs.Turns.{HasGiven, StepsFrom};
 
 use crate::group::{Group, return_member};
 use arn_base::NoMemory;
-use set_store::Sets;
 use std::alloc::Global;
 use taint_events::{empty, given};
-use taint_flow::narrow;
 use taint_members::MemberSets;
 use taint_pages::SetNumbers;
 use taint_state::gives_show;
@@ -20,21 +17,16 @@ use taint_state::gives_show;
 /// The bytes given by a member that may be there.
 fn entry_given(
     alloc: Global,
-    sets: &mut Sets,
-    begun: u64,
     entry: &Option<MemberSets>,
     segments: &[SetNumbers],
     at: u64,
     len: usize,
 ) -> Result<Vec<u32>, NoMemory>
-    requires few { len < 2 ^ 32 }
-    requires ready { IfSome entry.now (IsReady sets.old segments.now) }
-    ensures given { IfOk result (λ numbers.
-        HasGiven sets.old sets.new begun entry.now segments.now at len numbers.items) }
-    ensures before { StandAsBefore sets.old sets.new }
+    requires held { IfSome entry.now (λ member. HoldsKey member.segment segments.now) }
+    ensures { IfOk result (λ numbers. HasGiven entry.now segments.now at len numbers.items) }
 {
     match entry {
-        Some(member) => given(alloc, sets, begun, member, segments, at, len),
+        Some(member) => given(alloc, member, segments, at, len),
         None => empty(alloc, len),
     }
 }
@@ -42,23 +34,19 @@ fn entry_given(
 /// The bytes given by the member of a number, if there is one.
 fn given_numbers(
     alloc: Global,
-    sets: &mut Sets,
-    begun: u64,
     members: &[Option<MemberSets>],
     pid: u32,
     segments: &[SetNumbers],
     at: u64,
     len: usize,
 ) -> Result<Vec<u32>, NoMemory>
-    requires few { len < 2 ^ 32 }
-    requires ready { IfSome (nth members.now pid) (IsReady sets.old segments.now) }
-    ensures given { IfOk result (λ numbers.
-        HasGiven sets.old sets.new begun (nth members.now pid) segments.now at len numbers.items) }
-    ensures before { StandAsBefore sets.old sets.new }
+    requires held { IfSome (nth members.now pid) (λ member. HoldsKey member.segment segments.now) }
+    ensures { IfOk result (λ numbers.
+        HasGiven (nth members.now pid) segments.now at len numbers.items) }
 {
     let place = pid as usize;
     if place < members.len() {
-        entry_given(alloc, sets, begun, &members[place], segments, at, len)
+        entry_given(alloc, &members[place], segments, at, len)
     } else {
         empty(alloc, len)
     }
@@ -74,12 +62,8 @@ impl Group {
             pid event len self.old self.new) }
     {
         gives_show();
-        narrow(len)?;
-        let alloc = *self.members.allocator();
         let numbers = given_numbers(
-            alloc,
-            &mut self.sets,
-            self.rules.begun,
+            *self.members.allocator(),
             self.members.as_slice(),
             pid,
             self.segments.as_slice(),

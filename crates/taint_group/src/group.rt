@@ -8,13 +8,13 @@ ghost use Rattle.taint_state.specs.Kept.{shown};
 use arn_base::{Cpu, NoMemory};
 use rv64_isa::Instr;
 use rv64_model::Linkage;
-use set_store::Sets;
 use std::alloc::Global;
 use taint_events::empty;
 use taint_members::MemberSets;
 use taint_pages::SetNumbers;
+use taint_sets::ByteSets;
 use taint_state::{HeardEvents, returns_show, runs_keep, runs_show};
-use taint_steps::{Rules, run_member};
+use taint_steps::run_member;
 
 /// How many unions are remembered at most.
 const MEMO: u32 = 65_536;
@@ -23,8 +23,8 @@ const MEMO: u32 = 65_536;
 /// order.
 #[derive(Drop)]
 pub struct Group {
-    pub rules: Rules,
-    pub sets: Sets,
+    pub linkage: Linkage,
+    pub sets: ByteSets,
     pub members: Vec<Option<MemberSets>>,
     pub segments: Vec<SetNumbers>,
     pub heard: HeardEvents,
@@ -57,8 +57,8 @@ impl Group {
         ensures nothing { IfOk result (λ group. shown (kept_of group) ≡ nothing_tracked linkage) }
     {
         Ok(Group {
-            rules: Rules { linkage, begun: 0 },
-            sets: Sets::new(alloc, MEMO)?,
+            linkage,
+            sets: ByteSets::new(alloc, MEMO)?,
             members: Vec::new(alloc),
             segments: Vec::new(alloc),
             heard: HeardEvents::new(alloc),
@@ -79,7 +79,7 @@ impl Group {
         runs_keep();
         run_member(
             &mut self.sets,
-            &self.rules,
+            self.linkage,
             instr,
             before,
             pid,

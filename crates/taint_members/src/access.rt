@@ -4,7 +4,7 @@ ghost use Rattle.acts_model.specs.Transfers.{is_private, is_shared};
 ghost use Rattle.parts_model.specs.declared.limits.TheConstants as limits;
 ghost use Rattle.taint_members.specs.Access.{AreRead, AreReadShared, ByTest, HoldsKey, WritesSegment, WritesWindow, from_start, number_at, shared_number};
 ghost use Rattle.taint_pages.specs.Pages.{Puts};
-ghost use Rattle.taint_pages.specs.Rows.{AreBelow, PutsFrom};
+ghost use Rattle.taint_pages.specs.Rows.{PutsFrom};
 
 use crate::member::{MemberSets, Shared};
 use arn_base::NoMemory;
@@ -130,23 +130,24 @@ fn write_segment(
 }
 
 /// Sets the numbers of a register that isn't x0 to those of so many bytes, at most eight, from an address in the private window on,
-/// and zeros behind them, where each of these is below a bound, which is told. Else nothing changes.
+/// and zeros behind them. False says that the address lies elsewhere: then nothing changes.
 #[inline(always)]
-pub fn load_below(member: &mut MemberSets, at: u64, len: usize, bound: u32, reg: Reg) -> bool
+pub fn load_window(member: &mut MemberSets, at: u64, len: usize, reg: Reg) -> bool
     requires few { len ≤ 8 }
     requires above { 0 < reg }
-    requires bound { 0 < bound }
-    ensures told { IsTrue result ↔ (IsTrue (is_private at) ×
-        AreBelow bound member.old.window (at - limits.WINDOW_START) len) }
+    ensures told { result ≡ is_private at }
     ensures puts { IsTrue result → PutsFrom member.old.window (at - limits.WINDOW_START) len reg
         member.old.registers member.new.registers }
     ensures others { member.new ≡ record member.old { registers = member.new.registers } }
     ensures kept { result ≡ false → member.new ≡ member.old }
 {
     match window_offset(at) {
-        Some(offset) => member
-            .window
-            .move_to(offset, len, bound, &mut member.registers, reg),
+        Some(offset) => {
+            member
+                .window
+                .move_to(offset, len, &mut member.registers, reg);
+            true
+        }
         None => false,
     }
 }

@@ -5,5 +5,5 @@
 mod access;
 mod member;
 
-pub use access::{load_below, number, read, write, write_window};
+pub use access::{load_window, number, read, write, write_window};
 pub use member::{MemberSets, Shared};

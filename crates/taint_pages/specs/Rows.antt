@@ -34,7 +34,3 @@ number_from numbers at count i = if nat_lt i count then slice_index numbers (at 
 -- the bytes of one register have the numbers of so many bytes from a place on, and zeros behind them
 abbrev pub PutsFrom : List ℕ → ℕ → ℕ → ℕ → List ℕ → List ℕ → Type 0
 PutsFrom numbers at count reg old new = (r i : ℕ) → i < 8 → byte_in new r i ≡ (if r == reg then number_from numbers at count i else byte_in old r i)
-
--- each of so many numbers from a place on is below a bound
-abbrev pub AreBelow : ℕ → List ℕ → ℕ → ℕ → Type 0
-AreBelow bound numbers at count = (i : ℕ) → i < count → slice_index numbers (at + i) < bound

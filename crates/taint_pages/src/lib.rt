@@ -7,4 +7,4 @@ mod row;
 
 pub use numbers::SetNumbers;
 pub use page::{PAGE_LEN, Unset};
-pub use row::{Row, are_below};
+pub use row::Row;

@@ -1,7 +1,7 @@
 // The numbers of a memory's bytes.
 ghost use Rattle.std.specs.Prelude.{◌≡◌, ◌<◌, ◌≤◌, ◌+◌, ◌-◌, ◌*◌, ◌%◌, ◌^◌, ◌&&◌, nat_lt, nat_le, length, slice_index, ℕ, ◌↔◌, IsTrue, false, IfOk, IfSome, OnOk, OnErr};
 ghost use Rattle.taint_pages.specs.Pages.{AreEight, AreUnset, FitsIn, Puts, Sets, SetsInside, page_len};
-ghost use Rattle.taint_pages.specs.Rows.{AreBelow, PutsFrom};
+ghost use Rattle.taint_pages.specs.Rows.{PutsFrom};
 
 use crate::page::{self, PAGE_LEN, Page, Unset};
 use crate::row::Row;
@@ -191,20 +191,17 @@ impl SetNumbers {
     }
 
     /// Sets the numbers of a register that isn't x0 to those of so many bytes that follow each other, at most eight, and zeros behind
-    /// them, where each of these is below a bound, which is told. Else the register keeps what it had.
+    /// them.
     #[inline(always)]
-    pub fn move_to(&self, at: usize, len: usize, bound: u32, row: &mut Row, reg: Reg) -> bool
+    pub fn move_to(&self, at: usize, len: usize, row: &mut Row, reg: Reg)
         requires few { len ≤ 8 }
         requires small { at < 2 ^ 32 }
         requires above { 0 < reg }
-        requires bound { 0 < bound }
-        ensures told { IsTrue result ↔ AreBelow bound self.now at len }
-        ensures puts { IsTrue result → PutsFrom self.now at len reg row.old row.new }
-        ensures kept { result ≡ false → row.new ≡ row.old }
+        ensures { PutsFrom self.now at len reg row.old row.new }
     {
         match self.kept(at, len) {
-            Some(numbers) => row.put_below(reg, numbers, bound),
-            None => row.put_below(reg, &self.eight(at, len), bound),
+            Some(numbers) => row.put_first(reg, numbers),
+            None => row.put_first(reg, &self.eight(at, len)),
         }
     }
 

@@ -1,6 +1,6 @@
 // The numbers of the bytes of registers.
 ghost use Rattle.std.specs.Prelude.{◌≡◌, ◌<◌, ◌≤◌, ◌+◌, ◌*◌, ◌↔◌, ℕ, IsTrue, false, length};
-ghost use Rattle.taint_pages.specs.Rows.{AreBelow, AreBytes, PutsBytes, SetsByte, byte_in};
+ghost use Rattle.taint_pages.specs.Rows.{AreBytes, PutsBytes, SetsByte, byte_in};
 
 use rv64_isa::Reg;
 use std::marker::Model;
@@ -80,19 +80,13 @@ impl Row {
         }
     }
 
-    /// Sets the numbers of the first bytes of a register that isn't x0, at most eight, and 0 for the others, where each of them is
-    /// below a bound, which is told. Else nothing is set.
+    /// Sets the numbers of the first bytes of a register that isn't x0, at most eight, and 0 for the others.
     #[inline(always)]
-    pub(crate) fn put_below(&mut self, reg: Reg, numbers: &[u32], bound: u32) -> bool
+    pub(crate) fn put_first(&mut self, reg: Reg, numbers: &[u32])
         requires above { 0 < reg }
         requires few { length numbers.now ≤ 8 }
-        ensures told { IsTrue result ↔ AreBelow bound numbers.now 0 (length numbers.now) }
-        ensures puts { IsTrue result → PutsBytes reg numbers.now self.old self.new }
-        ensures kept { result ≡ false → self.new ≡ self.old }
+        ensures { PutsBytes reg numbers.now self.old self.new }
     {
-        if !are_below(numbers, bound) {
-            return false;
-        }
         for byte in 0..8 {
             let place = usize::from(byte);
             let number = if place < numbers.len() {
@@ -102,21 +96,7 @@ impl Row {
             };
             self.set(reg, byte, number);
         }
-        true
     }
-}
-
-/// Whether each number is below a bound.
-#[inline(always)]
-pub fn are_below(numbers: &[u32], bound: u32) -> bool
-    ensures { IsTrue result ↔ AreBelow bound numbers.now 0 (length numbers.now) }
-{
-    for number in numbers {
-        if *number >= bound {
-            return false;
-        }
-    }
-    true
 }
 
 /// Where a byte of a register stands.

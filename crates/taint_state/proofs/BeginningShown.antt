@@ -4,16 +4,12 @@ use Rattle.std.proofs.lemmas.Bool.{eqb-true, eqb-false, le-ltb}
 use Rattle.rv64_model.specs.Carries.{operands}
 use Rattle.parts_model.specs.Numbered.{nth}
 use Rattle.parts_model.specs.declared.limits.TheConstants.{WINDOW_START}
-use Rattle.set_store.specs.Sets.{members_of}
 use Rattle.acts_model.specs.Transfers.{Holds, Begins, is_private}
 use Rattle.lineage_model.specs.Flow.{StartRegister, StartSlot, StartMemory, Register, Slot, Memory, Received, unless_result, when}
 use Rattle.lineage_model.specs.Flow as flow_of
 use Rattle.lineage_model.specs.Tracking.{EventByte, Tracked, gather}
-use Rattle.taint_events.specs.Beginning.{BeginsRegisters, first_number}
-use Rattle.taint_events.specs.Starting.{window_len}
-use Rattle.taint_flow.specs.Gathered.{first_start}
+use Rattle.taint_events.specs.Beginning.{BeginsRegisters}
 use Rattle.taint_pages.specs.Rows.{byte_in}
-use Rattle.taint_state.specs.Events.{BeginsWindow, IsNothing}
 use Rattle.taint_state.specs.EventsShow.{BeginsShow}
 use Rattle.taint_state.specs.Goes.{hearing_of, hearings_of}
 use Rattle.taint_state.specs.Kept.{Kept, KeptHeard, heard_among, items_of, point_items, shown, shown_heard, shown_member}
@@ -28,31 +24,6 @@ use Rattle.taint_state.proofs.Receiving.{item-items}
 use Rattle.taint_state.proofs.Received.{window-inside}
 use Rattle.taint_state.proofs.Segments.{not-made}
 use Rattle.taint_state.proofs.StartingShown.{no-segment, own-before}
-
-abbrev with_begun : Kept → ℕ → Kept
-with_begun x b = record x { begun = b }
-
--- what was kept shows the same, also if another event is that by which the group began
-shows-with : (x : Kept) (b : ℕ) (t : Tracked EventByte) → (b ≡ x.begun) ⊎ IsNothing x → Shows (shown x) t → Shows (shown (with_begun x b)) t
-shows-with x b t (inl e) shows = subst (λ c. Shows (shown (with_begun x c)) t) (sym e) shows
-shows-with x b t (inr nothing) shows = record {
-  members = λ p. subst (λ o. IfSome (option_map (shown_member (with_begun x b)) o) (ShowsMember p t)) (sym (nothing.members p)) tt;
-  heard = λ e. subst (λ o. IfSome (option_map (shown_heard (with_begun x b)) o) (ShowsHeard e t)) (sym (nothing.heard e)) tt;
-}
-
-sound-with : (x : Kept) (b : ℕ) → IsSound x → IsSound (with_begun x b)
-sound-with x b sound = record { zero = sound.zero; empty = sound.empty; members = sound.members; heard = sound.heard }
-
-start-number : (y : Kept) (event k n : ℕ) → n ≡ first_number + k → y.begun ≡ event → items_of y n ≡ record { event = event; at = WINDOW_START + k } ∷ []
-start-number y event k n e b =
-    let high : first_start ≤ n = omega arith in
-    let place : n - first_start ≡ WINDOW_START + k = omega arith in
-    ap (λ t. cond t (members_of y.sets n) (record { event = y.begun; at = n - first_start } ∷ [])) (le-ltb n first_start high)
-    ∙ (ap (λ (c : ℕ). record { event = c; at = n - first_start } ∷ []) b ∙ ap (λ (p : ℕ). record { event = event; at = p } ∷ []) place)
-
-window-items : (s : Setting) (window : List ℕ) → BeginsWindow s.y s.event.number window → (k : ℕ) → k < window_len → items_of s.y (slice_index window k) ≡ record { event = s.event.number; at = WINDOW_START + k } ∷ []
-window-items s window (inl both) k below = start-number s.y s.event.number k (slice_index window k) (both.0.all k below) both.1
-window-items s window (inr each) k below = item-items s (WINDOW_START + k) (slice_index window k) (each.items k below)
 
 heard-before : (s : Setting) → ((e : ℕ) → heard_among s.y.heard e ≡ heard_among s.x.heard e) → IsNone (hearings_of (shown s.x) s.event.number) → (e : ℕ) → IfSome ((shown s.y).heard e) (ShowsHeard e (then s))
 heard-before s same new e =
@@ -91,12 +62,12 @@ begins-show x y pid number e before new sound to begins =
       heard = λ k. ap (λ (o : Option KeptHeard). option_map hearing_of (option_map (shown_heard y) o)) (begins.heard k) ∙ hearing-kept x y (heard_among x.heard k);
       shows = λ clear possible t shows.
           let s : Setting = record {
-            x = with_begun x y.begun;
+            x = x;
             y = y;
-            sound = sound-with x y.begun sound;
-            stays = record { linkage = begins.linkage; begun = refl; sets = begins.sets };
+            sound = sound;
+            stays = record { linkage = begins.linkage; sets = begins.sets };
             t = t;
-            shows = shows-with x y.begun t begins.begun shows;
+            shows = shows;
             table = operands x.linkage;
             tr = Begins pid number;
             event = record { number = number; entry = e };
@@ -110,7 +81,7 @@ begins-show x y pid number e before new sound to begins =
                   window = λ a is.
                       let back : WINDOW_START + (a - WINDOW_START) ≡ a = from-start a is in
                       taken s _ (Memory new.holds.window a) (StartMemory a)
-                      (window-items s new.window to.window (a - WINDOW_START) (window-inside a 262144 is refl) ∙ ap (λ (k : ℕ). record { event = number; at = k } ∷ []) back)
+                      (item-items s (WINDOW_START + (a - WINDOW_START)) (slice_index new.window (a - WINDOW_START)) (to.window.items (a - WINDOW_START) (window-inside a 262144 is refl)) ∙ ap (λ (k : ℕ). record { event = number; at = k } ∷ []) back)
                       (ap (λ m. when (m == number) (Received (StartMemory a) ∷ [])) (ap (λ (h : Holds). h.window) to.holds) ∙ ap (λ b. when b (Received (StartMemory a) ∷ [])) (self-test number));
                   segment = λ made a has is. no-segment number new.holds made to.holds has;
                 })
@@ -122,7 +93,7 @@ begins-show x y pid number e before new sound to begins =
                   window = λ a is. ap (λ b. when b (Received (StartMemory a) ∷ [])) (ne_eqb other.holds.window number free.window);
                   segment = λ made a has is. ap (λ b. when b (Received (StartMemory a) ∷ [])) (ne_eqb made number (not-made number other.holds made free has));
                 });
-            heard = heard-before s begins.heard (subst (λ o. IsNone o) (hearing-kept (with_begun x y.begun) x (heard_among x.heard number)) possible.1);
+            heard = heard-before s begins.heard possible.1;
           };
     })
   where

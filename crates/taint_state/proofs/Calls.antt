@@ -9,7 +9,7 @@ use Rattle.taint_state.specs.EventsShow.{DeliversShow, LeavesShow, ReturnsShow}
 use Rattle.taint_state.specs.Kept.{KeptMember, shown_member}
 use Rattle.taint_state.specs.Shown.{ShowsMember}
 use Rattle.taint_state.proofs.Keeping.{becomes-sound, delivered-sound, follows, good-empty, left-sound, old-sound, plain-sound, returned-sound, zero-later}
-use Rattle.taint_state.proofs.Flows.{cleared, copied, copied-where, kept, members-show, raw-of-set, row-cleared, shown-before, sound-before, then}
+use Rattle.taint_state.proofs.Flows.{cleared, copied, copied-where, kept, members-show, row-cleared, shown-before, sound-before, then}
 use Rattle.taint_state.proofs.Goings.{empty-points, goes, holders-same, self-test, setting}
 
 pub returns-show : ReturnsShow
@@ -26,7 +26,7 @@ returns-show x y pid number e before old new numbers sound empty to becomes =
       members-show s pid (Some new) becomes.members
           (subst (λ m. ShowsMember pid (then s) (shown_member y m)) (sym to.others) (record {
             registers = row-cleared s pid old.registers new.registers (λ b. when b []) refl refl (λ r i. ap (λ b. when (b && (r == 10)) []) (self-test pid)) to.result sets.registers had.registers;
-            slot = λ r i is. kept s _ (Slot pid r i) (raw-of-set x.sets _ (sets.slot r i is).0) (had.slot r i is) refl;
+            slot = λ r i is. kept s _ (Slot pid r i) (sets.slot r i is) (had.slot r i is) refl;
             window = λ at is. kept s _ (Memory old.holds.window at) (sets.window _) (had.window at is) refl;
             segment = λ made at has is. kept s _ (Memory made at) (sets.segment _) (had.segment made at has is) refl;
           }))
@@ -55,7 +55,7 @@ delivers-show x y pid number e before cut old new numbers sound empty to becomes
             registers = row-cleared s pid old.registers new.registers (λ b. or_else (when b []) None) refl refl (λ r i. ap (λ b. or_else (when (b && (r == 10)) []) None) (self-test pid)) to.result sets.registers had.registers;
             slot = λ r i is.
                 copied-where s (byte_in new.slot r i) (byte_in old.registers r i) (Slot pid r i) (Register pid r i) (cut && (r == 10)) (ap (λ b. when b (saved pid cut r i)) (self-test pid))
-                (to.saved r i is.byte) (raw-of-set x.sets _ (sets.registers r i is).0) (had.registers r i is);
+                (to.saved r i is.byte) (sets.registers r i is) (had.registers r i is);
             window = λ at is. kept s _ (Memory old.holds.window at) (sets.window _) (had.window at is) refl;
             segment = λ made at has is. kept s _ (Memory made at) (sets.segment _) (had.segment made at has is) refl;
           }))
@@ -81,7 +81,7 @@ leaves-show x y pid number e before old new numbers sound empty to becomes =
     let sets = sound-before s pid old becomes.was in (
       members-show s pid (Some new) becomes.members
           (subst (λ m. ShowsMember pid (then s) (shown_member y m)) (sym to.others) (record {
-            registers = λ r i is. copied s (byte_in old.slot r i) (Register pid r i) (Slot pid r i) (raw-of-set x.sets _ (sets.slot r i is).0) (had.slot r i is) (ap (λ b. when b (Prior (Slot pid r i) ∷ [])) (self-test pid));
+            registers = λ r i is. copied s (byte_in old.slot r i) (Register pid r i) (Slot pid r i) (sets.slot r i is) (had.slot r i is) (ap (λ b. when b (Prior (Slot pid r i) ∷ [])) (self-test pid));
             slot = λ r i is. cleared s (byte_in new.slot r i) (Slot pid r i) (to.slot r i) (ap (λ b. when b []) (self-test pid));
             window = λ at is. kept s _ (Memory old.holds.window at) (sets.window _) (had.window at is) refl;
             segment = λ made at has is. kept s _ (Memory made at) (sets.segment _) (had.segment made at has is) refl;

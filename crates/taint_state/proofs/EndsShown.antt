@@ -12,7 +12,7 @@ use Rattle.taint_state.specs.EventsShow.{DiesShow, ExitsShow, FaultsShow}
 use Rattle.taint_state.specs.Kept.{items_of}
 use Rattle.taint_state.specs.Shown.{AreItems}
 use Rattle.taint_state.proofs.Keeping.{becomes-sound, follows, good-empty, good-status, old-sound, plain-sound, zero-later}
-use Rattle.taint_state.proofs.Flows.{Setting, first-byte, given, of-nothing, of-prior, members-show, raw-of-set, shown-before, sound-before}
+use Rattle.taint_state.proofs.Flows.{Setting, first-byte, given, of-nothing, of-prior, members-show, shown-before, sound-before}
 use Rattle.taint_state.proofs.Goings.{empty-points, goes, holders-put, plain-points, setting}
 
 status-byte : (s : Setting) (pid k : ℕ) (registers numbers : List ℕ) (count : ℕ) → IsStatus registers count numbers → k < count
@@ -47,7 +47,7 @@ exits-show x y pid number e before old numbers sound status becomes =
       plain-points s number numbers (λ k below.
           status-byte s pid k old.registers numbers (event_len e) status (subst (λ n. k < n) status.len below)
           (λ n is. subst (λ j. AreItems (items_of y j) (gather (given s) t.locations (Prior (Register pid 10 0) ∷ []))) (sym is)
-          (of-prior s (byte_in old.registers 10 0) (Register pid 10 0) (raw-of-set x.sets _ (sets.registers 10 0 first-byte).0) (had.registers 10 0 first-byte)))),
+          (of-prior s (byte_in old.registers 10 0) (Register pid 10 0) (sets.registers 10 0 first-byte) (had.registers 10 0 first-byte)))),
     )))
 
 pub faults-show : FaultsShow

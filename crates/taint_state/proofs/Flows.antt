@@ -4,9 +4,7 @@ use Rattle.std.proofs.lemmas.Bool.{ltb-true, eqb-true, eqb-false}
 use Rattle.rv64_model.specs.Carries.{Table}
 use Rattle.parts_model.specs.Numbered.{nth}
 use Rattle.set_store.specs.declared.item.Item.{Item}
-use Rattle.set_store.specs.Sets.{IsSet, members_of}
-use Rattle.taint_flow.specs.Gathered.{first_start}
-use Rattle.taint_flow.specs.Starts.{IsRaw}
+use Rattle.taint_sets.specs.Numbered.{IsSet, Numbered, members_of}
 use Rattle.acts_model.specs.Moved.{Event}
 use Rattle.acts_model.specs.Transfers.{Holds, Transfer, is_private, is_shared}
 use Rattle.lineage_model.specs.Flow.{At, Location, Register, Slot, Memory, Dependence, Prior, Received, written}
@@ -46,19 +44,9 @@ given s = items (Some s.event)
 abbrev pub then : Setting → Tracked EventByte
 then s = after s.table (given s) (Some s.event) s.tr s.t
 
-pub raw-of-set : (sets : List (List Item)) (n : ℕ) → IsSet sets n → IsRaw sets n
-raw-of-set sets n set = λ small. set
-
-abbrev chosen : ℕ → Kept → Bool → List Item
-chosen n k b = cond b (members_of k.sets n) (record { event = k.begun; at = n - first_start } ∷ [])
-
 module _ (s : Setting) where
-  pub items-same : (n : ℕ) → IsRaw s.x.sets n → items_of s.y n ≡ items_of s.x n
-  items-same n raw = by_test (nat_lt n first_start) refl
-    where
-      by_test : (b : Bool) → nat_lt n first_start ≡ b → items_of s.y n ≡ items_of s.x n
-      by_test true e = ap (chosen n s.y) e ∙ (s.stays.sets.same n (raw (ltb-true n first_start e)) ∙ ap (chosen n s.x) (sym e))
-      by_test false e = ap (chosen n s.y) e ∙ (ap (λ (b : ℕ). record { event = b; at = n - first_start } ∷ []) s.stays.begun ∙ ap (chosen n s.x) (sym e))
+  pub items-same : (n : ℕ) → IsSet s.x.sets n → items_of s.y n ≡ items_of s.x n
+  items-same n set = s.stays.sets.same n set
 
   pub items-nothing : items_of s.y 0 ≡ []
   items-nothing = s.stays.sets.same 0 s.sound.zero ∙ s.sound.empty
@@ -78,15 +66,15 @@ module _ (s : Setting) where
   by-written n l o e h = subst (λ w. AreItems (items_of s.y n) (gather (given s) s.t.locations (unwrap_or w (Prior l ∷ [])))) (sym e) h
 
   -- a byte that had this
-  pub of-prior : (n : ℕ) (l : Location) → IsRaw s.x.sets n → Had n l → AreItems (items_of s.y n) (gather (given s) s.t.locations (Prior l ∷ []))
+  pub of-prior : (n : ℕ) (l : Location) → IsSet s.x.sets n → Had n l → AreItems (items_of s.y n) (gather (given s) s.t.locations (Prior l ∷ []))
   of-prior n l raw had =
       subst (λ its. AreItems its (s.t.locations l ++ [])) (sym (items-same n raw))
       (subst (λ bytes. AreItems (items_of s.x n) bytes) (sym (append-nil (s.t.locations l))) had)
 
-  pub kept : (n : ℕ) (l : Location) → IsRaw s.x.sets n → Had n l → writes l ≡ None → Takes n l
+  pub kept : (n : ℕ) (l : Location) → IsSet s.x.sets n → Had n l → writes l ≡ None → Takes n l
   kept n l raw had e = by-written n l None e (of-prior n l raw had)
 
-  pub copied : (n : ℕ) (l from : Location) → IsRaw s.x.sets n → Had n from → writes l ≡ Some (Prior from ∷ []) → Takes n l
+  pub copied : (n : ℕ) (l from : Location) → IsSet s.x.sets n → Had n from → writes l ≡ Some (Prior from ∷ []) → Takes n l
   copied n l from raw had e = by-written n l (Some (Prior from ∷ [])) e (of-prior n from raw had)
 
   pub of-nothing : (n : ℕ) → n ≡ 0 → AreItems (items_of s.y n) []
@@ -104,11 +92,11 @@ module _ (s : Setting) where
 
   -- a test says whether it takes nothing
   pub cleared-where : (n old : ℕ) (l : Location) (test : Bool) (w : Bool → Option (List Dependence)) → writes l ≡ w test → w true ≡ Some [] → w false ≡ None
-      → n ≡ cond test 0 old → IsRaw s.x.sets old → Had old l → Takes n l
+      → n ≡ cond test 0 old → IsSet s.x.sets old → Had old l → Takes n l
   cleared-where n old l true w e on off is raw had = cleared n l is (e ∙ on)
   cleared-where n old l false w e on off is raw had = subst (λ k. Takes k l) (sym is) (kept old l raw had (e ∙ off))
 
-  pub copied-where : (n old : ℕ) (l from : Location) (test : Bool) → writes l ≡ Some (cond test [] (Prior from ∷ [])) → n ≡ cond test 0 old → IsRaw s.x.sets old → Had old from → Takes n l
+  pub copied-where : (n old : ℕ) (l from : Location) (test : Bool) → writes l ≡ Some (cond test [] (Prior from ∷ [])) → n ≡ cond test 0 old → IsSet s.x.sets old → Had old from → Takes n l
   copied-where n old l from true e is raw had = cleared n l is e
   copied-where n old l from false e is raw had = subst (λ k. Takes k l) (sym is) (copied old l from raw had e)
 
@@ -117,7 +105,7 @@ module _ (s : Setting) where
       → ClearsResult old new → AreSetsOfRow s.x.sets old → ((r i : ℕ) → IsRegisterByte r i → Had (byte_in old r i) (Register p r i))
       → (r i : ℕ) → IsRegisterByte r i → Takes (byte_in new r i) (Register p r i)
   row-cleared p old new w on off e clears sets had r i is =
-      cleared-where (byte_in new r i) (byte_in old r i) (Register p r i) (r == 10) w (e r i) on off (clears r i is.byte) (raw-of-set s.x.sets _ (sets r i is).0) (had r i is)
+      cleared-where (byte_in new r i) (byte_in old r i) (Register p r i) (r == 10) w (e r i) on off (clears r i is.byte) (sets r i is) (had r i is)
 
   -- a member of whose bytes none is written
   pub record Unwritten (p : ℕ) (h : Holds) : Type 0 where
@@ -128,8 +116,8 @@ module _ (s : Setting) where
 
   pub same-member : (p : ℕ) (m : KeptMember) → IsSoundMember s.x.sets m → Unwritten p m.holds → ShowsMember p s.t (shown_member s.x m) → ShowsMember p (then s) (shown_member s.y m)
   same-member p m sound off shows = record {
-    registers = λ r i is. kept _ (Register p r i) (raw-of-set s.x.sets _ (sound.registers r i is).0) (shows.registers r i is) (off.registers r i);
-    slot = λ r i is. kept _ (Slot p r i) (raw-of-set s.x.sets _ (sound.slot r i is).0) (shows.slot r i is) (off.slot r i);
+    registers = λ r i is. kept _ (Register p r i) (sound.registers r i is) (shows.registers r i is) (off.registers r i);
+    slot = λ r i is. kept _ (Slot p r i) (sound.slot r i is) (shows.slot r i is) (off.slot r i);
     window = λ at is. kept _ (Memory m.holds.window at) (sound.window _) (shows.window at is) (off.window at is);
     segment = λ made at has is. kept _ (Memory made at) (sound.segment _) (shows.segment made at has is) (off.segment made at has is);
   }

@@ -17,7 +17,7 @@ use Rattle.taint_state.specs.Shown.{AreItems, IsPoint, IsRegisterByte, ShowsMemb
 use Rattle.taint_state.specs.Sound.{IsSoundMember}
 use Rattle.taint_state.specs.Steps.{child_holds, holders_of}
 use Rattle.taint_state.proofs.Keeping.{becomes-sound, child-sound, follows, good-empty, old-sound, plain-sound, returned-sound, start-sound, two-sound, zero-later}
-use Rattle.taint_state.proofs.Flows.{Setting, Unwritten, copied, copied-where, given, kept, members-show, of-nothing, of-prior, raw-of-set, row-cleared, same-member, shown-before, sound-before, then}
+use Rattle.taint_state.proofs.Flows.{Setting, Unwritten, copied, copied-where, given, kept, members-show, of-nothing, of-prior, row-cleared, same-member, shown-before, sound-before, then}
 use Rattle.taint_state.proofs.Goings.{PointsShow, absent-before, empty-points, goes, held-before, holds_kept, holders-kept, holders-same, self-test, setting, unheld-before}
 use Rattle.taint_state.proofs.Segments.{not-made}
 
@@ -69,7 +69,7 @@ forks-show x y pid number e before child old new kid numbers sound empty to fork
             registers = row-cleared s pid old.registers new.registers (λ b. or_else (when b []) None) refl refl
                 (λ r i. two (λ a b. or_else (when (a && (r == 10)) []) (when b (unless_result r (Prior (Register pid r i) ∷ [])))) (pid == pid) (pid == child) true false (self-test pid) (ne_eqb pid child apart))
                 to.result sets.registers had.registers;
-            slot = λ r i is. kept s _ (Slot pid r i) (raw-of-set x.sets _ (sets.slot r i is).0) (had.slot r i is) (ap (λ b. when b (Prior (Slot pid r i) ∷ [])) (ne_eqb pid child apart));
+            slot = λ r i is. kept s _ (Slot pid r i) (sets.slot r i is) (had.slot r i is) (ap (λ b. when b (Prior (Slot pid r i) ∷ [])) (ne_eqb pid child apart));
             window = λ at is. kept s _ (Memory old.holds.window at) (sets.window _) (had.window at is) (ap (λ b. when b (Prior (Memory old.holds.window at) ∷ [])) (ne_eqb old.holds.window number unheld.window));
             segment = λ made at has is. kept s _ (Memory made at) (sets.segment _) (had.segment made at has is) (ap (λ b. when b (Prior (Memory old.holds.window at) ∷ [])) (ne_eqb made number (not-made number old.holds made unheld has)));
           }))
@@ -77,8 +77,8 @@ forks-show x y pid number e before child old new kid numbers sound empty to fork
             registers = λ r i is.
                 copied-where s (byte_in kid.registers r i) (byte_in old.registers r i) (Register child r i) (Register pid r i) (r == 10)
                 (two (λ a b. or_else (when (a && (r == 10)) []) (when b (unless_result r (Prior (Register pid r i) ∷ [])))) (child == pid) (child == child) false true (ne_eqb child pid (λ same. apart (sym same))) (self-test child))
-                (forks.result r i is.byte) (raw-of-set x.sets _ (sets.registers r i is).0) (had.registers r i is);
-            slot = λ r i is. copied s (byte_in old.slot r i) (Slot child r i) (Slot pid r i) (raw-of-set x.sets _ (sets.slot r i is).0) (had.slot r i is) (ap (λ b. when b (Prior (Slot pid r i) ∷ [])) (self-test child));
+                (forks.result r i is.byte) (sets.registers r i is) (had.registers r i is);
+            slot = λ r i is. copied s (byte_in old.slot r i) (Slot child r i) (Slot pid r i) (sets.slot r i is) (had.slot r i is) (ap (λ b. when b (Prior (Slot pid r i) ∷ [])) (self-test child));
             window = λ at is. copied s _ (Memory number at) (Memory old.holds.window at) (sets.window _) (had.window at is) (ap (λ b. when b (Prior (Memory old.holds.window at) ∷ [])) (self-test number));
             segment = λ made at has is. kept s _ (Memory made at) (sets.segment _) (had.segment made at has is) (ap (λ b. when b (Prior (Memory old.holds.window at) ∷ [])) (ne_eqb made number (not-made number old.holds made unheld has)));
           }))
@@ -123,7 +123,7 @@ start-points s pid child number old start numbers count is empty founds had sets
     at_register : (r i n : ℕ) (b : Bool) → IsRegisterByte r i → n ≡ cond b 0 (byte_in old.registers r i) → AreItems (items_of s.x (byte_in old.registers r i)) (s.t.locations (Register pid r i))
         → AreItems (items_of s.y n) (gather (given s) s.t.locations (cond b [] (Prior (Register pid r i) ∷ [])))
     at_register r i n true is e h = of-nothing s n e
-    at_register r i n false is e h = subst (λ k. AreItems (items_of s.y k) (gather (given s) s.t.locations (Prior (Register pid r i) ∷ []))) (sym e) (of-prior s (byte_in old.registers r i) (Register pid r i) (raw-of-set s.x.sets _ (sets.registers r i is).0) h)
+    at_register r i n false is e h = subst (λ k. AreItems (items_of s.y k) (gather (given s) s.t.locations (Prior (Register pid r i) ∷ []))) (sym e) (of-prior s (byte_in old.registers r i) (Register pid r i) (sets.registers r i is) h)
 
     at_point : (a : At) → IsPoint (shown_heard s.y (record { event = number; numbers = numbers; start = Some start })) a
         → AreItems (point_items s.y (record { event = number; numbers = numbers; start = Some start }) a) (gather (given s) s.t.locations (flow_of.shown (Founds pid child old.holds.window number) a))
@@ -131,7 +131,7 @@ start-points s pid child number old start numbers count is empty founds had sets
     at_point (StartRegister r i) is_byte = at_register r i (byte_in start.registers r i) (r == 10) is_byte.1 (founds.result r i is_byte.1.byte) (had.registers r i is_byte.1)
     at_point (StartSlot r i) is_byte =
         subst (λ row. AreItems (items_of s.y (byte_in row r i)) (gather (given s) s.t.locations (Prior (Slot pid r i) ∷ []))) (sym founds.slot)
-        (of-prior s (byte_in old.slot r i) (Slot pid r i) (raw-of-set s.x.sets _ (sets.slot r i is_byte.1).0) (had.slot r i is_byte.1))
+        (of-prior s (byte_in old.slot r i) (Slot pid r i) (sets.slot r i is_byte.1) (had.slot r i is_byte.1))
     at_point (StartMemory a) is_byte =
         subst (λ window. AreItems (items_of s.y (slice_index window (a - WINDOW_START))) (gather (given s) s.t.locations (Prior (Memory old.holds.window a) ∷ []))) (sym founds.window)
         (of-prior s (slice_index old.window (a - WINDOW_START)) (Memory old.holds.window a) (sets.window _) (had.window a is_byte.1))
@@ -156,7 +156,7 @@ founds-show x y pid number e before child old new start numbers sound empty to f
             registers = row-cleared s pid old.registers new.registers (λ b. or_else (when b []) None) refl refl
                 (λ r i. two (λ a b. or_else (when (a && (r == 10)) []) (when b (unless_result r (Received (StartRegister r i) ∷ [])))) (pid == pid) (pid == child) true false (self-test pid) (ne_eqb pid child apart))
                 to.result sets.registers had.registers;
-            slot = λ r i is. kept s _ (Slot pid r i) (raw-of-set x.sets _ (sets.slot r i is).0) (had.slot r i is) (ap (λ b. when b (Received (StartSlot r i) ∷ [])) (ne_eqb pid child apart));
+            slot = λ r i is. kept s _ (Slot pid r i) (sets.slot r i is) (had.slot r i is) (ap (λ b. when b (Received (StartSlot r i) ∷ [])) (ne_eqb pid child apart));
             window = λ at is. kept s _ (Memory old.holds.window at) (sets.window _) (had.window at is) (ap (λ b. when b (Received (StartMemory at) ∷ [])) (ne_eqb old.holds.window number unheld.window));
             segment = λ made at has is. kept s _ (Memory made at) (sets.segment _) (had.segment made at has is) (ap (λ b. when b (Received (StartMemory at) ∷ [])) (ne_eqb made number (not-made number old.holds made unheld has)));
           }))

@@ -18,7 +18,7 @@ use Rattle.taint_state.specs.Kept.{Kept, KeptHeard, KeptMember, KeptStart, heard
 use Rattle.taint_state.specs.Shown.{AreItems, IsPoint, Member, Shows, ShowsHeard, ShowsMember}
 use Rattle.taint_state.specs.Sound.{IsSound, IsSoundHeard, IsSoundStart}
 use Rattle.taint_state.specs.Steps.{founds, holders_after, holders_of}
-use Rattle.taint_state.proofs.Flows.{Setting, given, then, items-same, of-nothing, raw-of-set}
+use Rattle.taint_state.proofs.Flows.{Setting, given, then, items-same, of-nothing}
 
 pub self-test : (n : ℕ) → (n == n) ≡ true
 self-test n = eq-eqb n n refl
@@ -97,12 +97,12 @@ module _ (s : Setting) where
   start-same : (heard : KeptHeard) (o : Option KeptStart) → heard.start ≡ o → IfSome o (IsSoundStart s.x.sets) → (at : At) → IsPoint (shown_heard s.x heard) at → start_items s.y o at ≡ start_items s.x o at
   start-same heard None e h at point = refl
   start-same heard (Some start) e h (Byte k) point = refl
-  start-same heard (Some start) e h (StartRegister r i) point = items-same s _ (raw-of-set s.x.sets _ (h.registers r i point.1).0)
-  start-same heard (Some start) e h (StartSlot r i) point = items-same s _ (raw-of-set s.x.sets _ (h.slot r i point.1).0)
+  start-same heard (Some start) e h (StartRegister r i) point = items-same s _ (h.registers r i point.1)
+  start-same heard (Some start) e h (StartSlot r i) point = items-same s _ (h.slot r i point.1)
   start-same heard (Some start) e h (StartMemory at) point = items-same s _ (h.window _)
 
   pub point-same : (heard : KeptHeard) → IsSoundHeard s.x.sets heard → (at : At) → IsPoint (shown_heard s.x heard) at → point_items s.y heard at ≡ point_items s.x heard at
-  point-same heard h (Byte k) point = items-same s _ (raw-of-set s.x.sets _ (h.numbers _).0)
+  point-same heard h (Byte k) point = items-same s _ (h.numbers _)
   point-same heard h (StartRegister r i) point = start-same heard heard.start refl h.start (StartRegister r i) point
   point-same heard h (StartSlot r i) point = start-same heard heard.start refl h.start (StartSlot r i) point
   point-same heard h (StartMemory at) point = start-same heard heard.start refl h.start (StartMemory at) point

@@ -5,34 +5,24 @@ use Rattle.std.proofs.lemmas.List.{get_or_past}
 use Rattle.parts_model.specs.Numbered.{nth}
 use Rattle.parts_model.specs.Image.{header_len}
 use Rattle.parts_model.specs.declared.limits.TheConstants.{WINDOW_START, SEGMENT_START}
-use Rattle.set_store.specs.declared.item.Item.{Item}
-use Rattle.set_store.specs.Sets.{IsSet, StandAsBefore}
+use Rattle.taint_sets.specs.Numbered.{IsSet, Numbered, StandAsBefore}
 use Rattle.acts_model.specs.Moved.{Inside, within}
 use Rattle.acts_model.specs.Transfers.{Holds, is_private, is_shared}
 use Rattle.acts_model.specs.Views.{block_at}
-use Rattle.taint_events.specs.Beginning.{AreItemsOfRow, BeginsRegisters}
+use Rattle.taint_events.specs.Beginning.{AreItemsFrom, AreItemsOfRow, BeginsRegisters}
 use Rattle.taint_events.specs.Bytes.{AreEmpty, AreGiven, AreReceived, IsStatus}
 use Rattle.taint_events.specs.Starting.{IsStarted, body_number, window_len}
-use Rattle.taint_flow.specs.Gathered.{first_start}
-use Rattle.taint_flow.specs.Starts.{IsRaw}
 use Rattle.taint_members.specs.Access.{ByTest}
 use Rattle.taint_members.specs.Rows.{AreZero, ClearsResult, IsSaved}
 use Rattle.taint_pages.specs.Pages.{Puts}
 use Rattle.taint_pages.specs.Rows.{byte_in}
-use Rattle.taint_state.specs.Events.{Becomes, BecomesShared, BecomesTwo, Begins, BeginsTo, BeginsWindow, DeliversTo, ForksTo, FoundsTo, Hears, LeavesTo, ReceivesTo, ReturnsTo, SharesTo, StartsTo, WritesHeld, is_one, number_at, plain_heard, shares_with}
+use Rattle.taint_state.specs.Events.{Becomes, BecomesShared, BecomesTwo, Begins, BeginsTo, DeliversTo, ForksTo, FoundsTo, Hears, LeavesTo, ReceivesTo, ReturnsTo, SharesTo, StartsTo, WritesHeld, is_one, number_at, plain_heard, shares_with}
 use Rattle.taint_state.specs.Goes.{GoesBy}
 use Rattle.taint_state.specs.EventsShow.{Follows}
 use Rattle.taint_state.specs.Kept.{Kept, KeptHeard, KeptMember, KeptStart, heard_among, shown}
 use Rattle.taint_state.specs.Shown.{register_bytes}
-use Rattle.taint_state.specs.Sound.{AreRawIn, AreSets, AreSetsOfRow, IsSound, IsSoundHeard, IsSoundMember, IsSoundStart}
+use Rattle.taint_state.specs.Sound.{AreSets, AreSetsOfRow, IsSound, IsSoundHeard, IsSoundMember, IsSoundStart}
 use Rattle.taint_state.proofs.Flows.{first-byte, one-true}
-
-abbrev Stores : Type 0
-Stores = List (List Item)
-
--- a number of a set
-abbrev Good : Stores → ℕ → Type 0
-Good sets n = IsSet sets n × (n < first_start)
 
 some-none : {A : Type 0} (m : ℕ) → Some m ≡ None → A
 some-none m e = absurd (cc)
@@ -40,83 +30,73 @@ some-none m e = absurd (cc)
 none-some : {A : Type 0} (m : ℕ) → None ≡ Some m → A
 none-some m e = absurd (cc)
 
-module _ (sets : Stores) (zero_set : IsSet sets 0) where
-  good-zero : (n : ℕ) → n ≡ 0 → Good sets n
-  good-zero n e = subst (λ k. Good sets k) (sym e) (zero_set, omega arith)
-
-  raw-zero : (n : ℕ) → n ≡ 0 → IsRaw sets n
-  raw-zero n e = λ small. (good-zero n e).0
+module _ (sets : Numbered) (zero_set : IsSet sets 0) where
+  good-zero : (n : ℕ) → n ≡ 0 → IsSet sets n
+  good-zero n e = subst (IsSet sets) (sym e) zero_set
 
   -- rows
   pub good-cleared : (old new : List ℕ) → ClearsResult old new → AreSetsOfRow sets old → AreSetsOfRow sets new
   good-cleared old new clears good r i is = of (r == 10) (clears r i is.byte) (good r i is)
     where
-      of : (b : Bool) → byte_in new r i ≡ cond b 0 (byte_in old r i) → Good sets (byte_in old r i) → Good sets (byte_in new r i)
+      of : (b : Bool) → byte_in new r i ≡ cond b 0 (byte_in old r i) → IsSet sets (byte_in old r i) → IsSet sets (byte_in new r i)
       of true e g = good-zero (byte_in new r i) e
-      of false e g = subst (λ n. Good sets n) (sym e) g
+      of false e g = subst (IsSet sets) (sym e) g
 
   pub good-saved : (cut : Bool) (old new : List ℕ) → IsSaved cut old new → AreSetsOfRow sets old → AreSetsOfRow sets new
   good-saved cut old new saved good r i is = of (cut && (r == 10)) (saved r i is.byte) (good r i is)
     where
-      of : (b : Bool) → byte_in new r i ≡ cond b 0 (byte_in old r i) → Good sets (byte_in old r i) → Good sets (byte_in new r i)
+      of : (b : Bool) → byte_in new r i ≡ cond b 0 (byte_in old r i) → IsSet sets (byte_in old r i) → IsSet sets (byte_in new r i)
       of true e g = good-zero (byte_in new r i) e
-      of false e g = subst (λ n. Good sets n) (sym e) g
+      of false e g = subst (IsSet sets) (sym e) g
 
   pub good-empty-row : (row : List ℕ) → AreZero row → AreSetsOfRow sets row
   good-empty-row row zeros r i is = good-zero (byte_in row r i) (zeros r i)
 
   pub good-items-row : (event first : ℕ) (row : List ℕ) → AreItemsOfRow sets event first row → AreSetsOfRow sets row
-  good-items-row event first row items r i is = let item = items r i is.above is.below is.byte in (item.there, item.small)
+  good-items-row event first row items r i is = let item = items r i is.above is.below is.byte in item.there
 
   pub good-begun-row : (event : ℕ) (row : List ℕ) → BeginsRegisters sets event row → AreSetsOfRow sets row
   good-begun-row event row begins r i is = of (r == 10) refl
     where
-      of : (b : Bool) → (r == 10) ≡ b → Good sets (byte_in row r i)
+      of : (b : Bool) → (r == 10) ≡ b → IsSet sets (byte_in row r i)
       of true e = good-zero (byte_in row r i) (subst (λ q. byte_in row q i ≡ 0) (sym (eqb-true r 10 e)) (begins.result i is.byte))
-      of false e = let item = begins.items r i is.above is.below (eqb-false r 10 e) is.byte in (item.there, item.small)
+      of false e = let item = begins.items r i is.above is.below (eqb-false r 10 e) is.byte in item.there
 
   -- numbers of so many bytes, and none behind them
-  good-listed : (count : ℕ) (numbers : List ℕ) → length numbers ≡ count → ((k : ℕ) → k < count → Good sets (slice_index numbers k)) → AreSets sets numbers
+  good-listed : (count : ℕ) (numbers : List ℕ) → length numbers ≡ count → ((k : ℕ) → k < count → IsSet sets (slice_index numbers k)) → AreSets sets numbers
   good-listed count numbers len good k = of (nat_lt k count) refl
     where
-      of : (b : Bool) → nat_lt k count ≡ b → Good sets (slice_index numbers k)
+      of : (b : Bool) → nat_lt k count ≡ b → IsSet sets (slice_index numbers k)
       of true e = good k (ltb-true k count e)
       of false e = good-zero (slice_index numbers k) (get_or_past numbers k 0 (let behind = ltb-false k count e in omega arith))
-
-  raw-listed : (count : ℕ) (numbers : List ℕ) → length numbers ≡ count → ((k : ℕ) → k < count → IsRaw sets (slice_index numbers k)) → AreRawIn sets numbers
-  raw-listed count numbers len raw k = of (nat_lt k count) refl
-    where
-      of : (b : Bool) → nat_lt k count ≡ b → IsRaw sets (slice_index numbers k)
-      of true e = raw k (ltb-true k count e)
-      of false e = raw-zero (slice_index numbers k) (get_or_past numbers k 0 (let behind = ltb-false k count e in omega arith))
 
   pub good-empty : (count : ℕ) (numbers : List ℕ) → AreEmpty count numbers → AreSets sets numbers
   good-empty count numbers empty = good-listed count numbers empty.len (λ k below. good-zero (slice_index numbers k) (empty.all k below))
 
   pub good-received : (event count : ℕ) (numbers : List ℕ) → AreReceived sets event count numbers → AreSets sets numbers
-  good-received event count numbers received = good-listed count numbers received.len (λ k below. let item = received.items k below in (item.there, item.small))
+  good-received event count numbers received = good-listed count numbers received.len (λ k below. let item = received.items k below in item.there)
 
-  pub good-given : (old : Stores) (begun count : ℕ) (number : ℕ → ℕ) (numbers : List ℕ) → AreGiven old sets begun number count numbers → AreSets sets numbers
-  good-given old begun count number numbers given = good-listed count numbers given.len (λ k below. let set = given.sets k below in (set.resolved.there, set.small))
+  pub good-given : (count : ℕ) (number : ℕ → ℕ) (numbers : List ℕ) → ((k : ℕ) → IsSet sets (number k)) → AreGiven number count numbers → AreSets sets numbers
+  good-given count number numbers good given = good-listed count numbers given.len (λ k below. subst (IsSet sets) (sym (given.same k below)) (good k))
 
   pub good-status : (registers : List ℕ) (count : ℕ) (numbers : List ℕ) → AreSetsOfRow sets registers → IsStatus registers count numbers → AreSets sets numbers
   good-status registers count numbers good status = good-listed count numbers status.len of
     where
-      of : (k : ℕ) → k < count → Good sets (slice_index numbers k)
-      of zero below = subst (λ n. Good sets n) (sym (status.first below)) (good 10 0 first-byte)
+      of : (k : ℕ) → k < count → IsSet sets (slice_index numbers k)
+      of zero below = subst (IsSet sets) (sym (status.first below)) (good 10 0 first-byte)
       of (suc k) below = good-zero (slice_index numbers (suc k)) (status.others (suc k) (omega arith) below)
 
   -- memories
-  pub raw-put : (at : ℕ) (numbers old new : List ℕ) → Puts at numbers old new → AreSets sets numbers → AreRawIn sets old → AreRawIn sets new
-  raw-put at numbers old new puts good raw k = of (nat_lt k at) (nat_lt k (at + length numbers)) (nat_lt k (length old)) refl refl refl
+  pub good-put : (at : ℕ) (numbers old new : List ℕ) → Puts at numbers old new → AreSets sets numbers → AreSets sets old → AreSets sets new
+  good-put at numbers old new puts good raw k = of (nat_lt k at) (nat_lt k (at + length numbers)) (nat_lt k (length old)) refl refl refl
     where
-      of : (a b c : Bool) → nat_lt k at ≡ a → nat_lt k (at + length numbers) ≡ b → nat_lt k (length old) ≡ c → IsRaw sets (slice_index new k)
-      of true b c h i j = subst (λ n. IsRaw sets n) (sym (puts.kept k (inl (ltb-true k at h)))) (raw k)
-      of false false c h i j = subst (λ n. IsRaw sets n) (sym (puts.kept k (inr (ltb-false k (at + length numbers) i)))) (raw k)
+      of : (a b c : Bool) → nat_lt k at ≡ a → nat_lt k (at + length numbers) ≡ b → nat_lt k (length old) ≡ c → IsSet sets (slice_index new k)
+      of true b c h i j = subst (IsSet sets) (sym (puts.kept k (inl (ltb-true k at h)))) (raw k)
+      of false false c h i j = subst (IsSet sets) (sym (puts.kept k (inr (ltb-false k (at + length numbers) i)))) (raw k)
       of false true false h i j =
           let past = ltb-false k (length old) j in
           let same = puts.len in
-          raw-zero (slice_index new k) (get_or_past new k 0 (omega arith))
+          good-zero (slice_index new k) (get_or_past new k 0 (omega arith))
       of false true true h i j =
           let above = ltb-false k at h in
           let below = ltb-true k (at + length numbers) i in
@@ -125,73 +105,66 @@ module _ (sets : Stores) (zero_set : IsSet sets 0) where
           let listed : k - at < length numbers = omega arith in
           let fits : at + (k - at) < length old = omega arith in
           let number = sym (ap (λ q. slice_index new q) place) ∙ puts.put (k - at) listed fits in
-          subst (λ n. IsRaw sets n) (sym number) (λ small. (good (k - at)).0)
+          subst (IsSet sets) (sym number) (good (k - at))
 
-  pub raw-started : (load : ℕ) (numbers : List ℕ) (block : ℕ → ℕ) (block_len : ℕ) (window : List ℕ) → IsStarted load numbers block block_len window → AreSets sets numbers
-      → ((k : ℕ) → IsRaw sets (block k)) → AreRawIn sets window
-  raw-started load numbers block block_len window is good raw =
-      raw-listed window_len window is.len (λ k below. subst (λ n. IsRaw sets n) (sym (is.bytes k below)) (of-block (WINDOW_START + k) (within (block_at block_len) block_len (WINDOW_START + k))))
+  pub good-started : (load : ℕ) (numbers : List ℕ) (block : ℕ → ℕ) (block_len : ℕ) (window : List ℕ) → IsStarted load numbers block block_len window → AreSets sets numbers
+      → ((k : ℕ) → IsSet sets (block k)) → AreSets sets window
+  good-started load numbers block block_len window is good raw =
+      good-listed window_len window is.len (λ k below. subst (IsSet sets) (sym (is.bytes k below)) (of-block (WINDOW_START + k) (within (block_at block_len) block_len (WINDOW_START + k))))
     where
-      of-body : (o : Option ℕ) → IsRaw sets (unwrap_or (option_map (λ k. slice_index numbers (header_len + k)) o) 0)
-      of-body None = raw-zero 0 refl
-      of-body (Some k) = λ small. (good (header_len + k)).0
+      of-body : (o : Option ℕ) → IsSet sets (unwrap_or (option_map (λ k. slice_index numbers (header_len + k)) o) 0)
+      of-body None = good-zero 0 refl
+      of-body (Some k) = good (header_len + k)
 
-      of-block : (a : ℕ) (o : Option ℕ) → IsRaw sets (unwrap_or (option_map block o) (body_number load numbers a))
+      of-block : (a : ℕ) (o : Option ℕ) → IsSet sets (unwrap_or (option_map block o) (body_number load numbers a))
       of-block a None = of-body (within load (length numbers - header_len) a)
       of-block a (Some k) = raw k
 
-  pub raw-number : (m : KeptMember) → IsSoundMember sets m → (at k : ℕ) → IsRaw sets (number_at m at k)
-  raw-number m sound at k = of (is_private at) (is_shared at)
+  pub good-number : (m : KeptMember) → IsSoundMember sets m → (at k : ℕ) → IsSet sets (number_at m at k)
+  good-number m sound at k = of (is_private at) (is_shared at)
     where
-      of : (p s : Bool) → IsRaw sets (cond p (slice_index m.window (at - WINDOW_START + k)) (cond s (slice_index m.segment (at - SEGMENT_START + k)) 0))
+      of : (p s : Bool) → IsSet sets (cond p (slice_index m.window (at - WINDOW_START + k)) (cond s (slice_index m.segment (at - SEGMENT_START + k)) 0))
       of true s = sound.window _
       of false true = sound.segment _
-      of false false = raw-zero 0 refl
+      of false false = good-zero 0 refl
 
-  pub raw-begun : (y : Kept) (event : ℕ) (window : List ℕ) → y.sets ≡ sets → BeginsWindow y event window → AreRawIn sets window × (length window ≡ window_len)
-  raw-begun y event window e (inl both) = (
-    raw-listed window_len window both.0.len (λ k below. λ small. let number = both.0.all k below in absurd (omega arith)),
-    both.0.len,
-  )
-  raw-begun y event window e (inr each) = (
-    raw-listed window_len window each.len (λ k below. λ small. subst (λ stores. IsSet stores (slice_index window k)) e (each.items k below).there),
-    each.len,
-  )
+  pub good-window : (event : ℕ) (window : List ℕ) → AreItemsFrom sets event window → AreSets sets window
+  good-window event window each = good-listed window_len window each.len (λ k below. (each.items k below).there)
 
 -- what was kept, after sets were added
-later-row : (old new : Stores) (row : List ℕ) → StandAsBefore old new → AreSetsOfRow old row → AreSetsOfRow new row
-later-row old new row stands good r i is = let g = good r i is in (stands.there _ g.0, g.1)
+later-row : (old new : Numbered) (row : List ℕ) → StandAsBefore old new → AreSetsOfRow old row → AreSetsOfRow new row
+later-row old new row stands good r i is = stands.there _ (good r i is)
 
-later-raw : (old new : Stores) (numbers : List ℕ) → StandAsBefore old new → AreRawIn old numbers → AreRawIn new numbers
-later-raw old new numbers stands raw k = λ small. stands.there _ (raw k small)
+later-sets : (old new : Numbered) (numbers : List ℕ) → StandAsBefore old new → AreSets old numbers → AreSets new numbers
+later-sets old new numbers stands raw k = stands.there _ (raw k)
 
-pub later-member : (old new : Stores) (m : KeptMember) → StandAsBefore old new → IsSoundMember old m → IsSoundMember new m
+pub later-member : (old new : Numbered) (m : KeptMember) → StandAsBefore old new → IsSoundMember old m → IsSoundMember new m
 later-member old new m stands sound = record {
   registers = later-row old new m.registers stands sound.registers;
   slot = later-row old new m.slot stands sound.slot;
-  window = later-raw old new m.window stands sound.window;
-  segment = later-raw old new m.segment stands sound.segment;
+  window = later-sets old new m.window stands sound.window;
+  segment = later-sets old new m.segment stands sound.segment;
   window_whole = sound.window_whole;
   segment_whole = sound.segment_whole;
   unheld = sound.unheld;
 }
 
-later-start : (old new : Stores) (o : Option KeptStart) → StandAsBefore old new → IfSome o (IsSoundStart old) → IfSome o (IsSoundStart new)
+later-start : (old new : Numbered) (o : Option KeptStart) → StandAsBefore old new → IfSome o (IsSoundStart old) → IfSome o (IsSoundStart new)
 later-start old new None stands sound = tt
 later-start old new (Some start) stands sound = record {
   registers = later-row old new start.registers stands sound.registers;
   slot = later-row old new start.slot stands sound.slot;
-  window = later-raw old new start.window stands sound.window;
+  window = later-sets old new start.window stands sound.window;
 }
 
-later-heard : (old new : Stores) (o : Option KeptHeard) → StandAsBefore old new → IfSome o (IsSoundHeard old) → IfSome o (IsSoundHeard new)
+later-heard : (old new : Numbered) (o : Option KeptHeard) → StandAsBefore old new → IfSome o (IsSoundHeard old) → IfSome o (IsSoundHeard new)
 later-heard old new None stands sound = tt
 later-heard old new (Some heard) stands sound = record {
-  numbers = λ k. let g = sound.numbers k in (stands.there _ g.0, g.1);
+  numbers = later-sets old new heard.numbers stands sound.numbers;
   start = later-start old new heard.start stands sound.start;
 }
 
-later-option : (old new : Stores) (o : Option KeptMember) → StandAsBefore old new → IfSome o (IsSoundMember old) → IfSome o (IsSoundMember new)
+later-option : (old new : Numbered) (o : Option KeptMember) → StandAsBefore old new → IfSome o (IsSoundMember old) → IfSome o (IsSoundMember new)
 later-option old new None stands sound = tt
 later-option old new (Some m) stands sound = later-member old new m stands sound
 
@@ -221,7 +194,7 @@ becomes-sound x y pid old m heard sound b new event =
     of p false h = subst (λ o. IfSome o (IsSoundMember y.sets)) (sym (b.members.others p (eqb-false p pid h))) (later-option x.sets y.sets (nth x.members p) b.stays.sets (sound.members p))
 
 -- a call's result
-pub returned-sound : (sets : Stores) (old new : KeptMember) → IsSet sets 0 → ReturnsTo old new → IsSoundMember sets old → IsSoundMember sets new
+pub returned-sound : (sets : Numbered) (old new : KeptMember) → IsSet sets 0 → ReturnsTo old new → IsSoundMember sets old → IsSoundMember sets new
 returned-sound sets old new zero_set to sound = subst (IsSoundMember sets) (sym to.others) (record {
   registers = good-cleared sets zero_set old.registers new.registers to.result sound.registers;
   slot = sound.slot;
@@ -232,10 +205,10 @@ returned-sound sets old new zero_set to sound = subst (IsSoundMember sets) (sym 
   unheld = sound.unheld;
 })
 
-pub plain-sound : (sets : Stores) (event : ℕ) (numbers : List ℕ) → AreSets sets numbers → IsSoundHeard sets (plain_heard event numbers)
+pub plain-sound : (sets : Numbered) (event : ℕ) (numbers : List ℕ) → AreSets sets numbers → IsSoundHeard sets (plain_heard event numbers)
 plain-sound sets event numbers good = record { numbers = good; start = tt }
 
-pub delivered-sound : (sets : Stores) (cut : Bool) (old new : KeptMember) → IsSet sets 0 → DeliversTo cut old new → IsSoundMember sets old → IsSoundMember sets new
+pub delivered-sound : (sets : Numbered) (cut : Bool) (old new : KeptMember) → IsSet sets 0 → DeliversTo cut old new → IsSoundMember sets old → IsSoundMember sets new
 delivered-sound sets cut old new zero_set to sound = subst (IsSoundMember sets) (sym to.others) (record {
   registers = good-cleared sets zero_set old.registers new.registers to.result sound.registers;
   slot = good-saved sets zero_set cut old.registers new.slot to.saved sound.registers;
@@ -246,7 +219,7 @@ delivered-sound sets cut old new zero_set to sound = subst (IsSoundMember sets) 
   unheld = sound.unheld;
 })
 
-pub left-sound : (sets : Stores) (old new : KeptMember) → IsSet sets 0 → LeavesTo old new → IsSoundMember sets old → IsSoundMember sets new
+pub left-sound : (sets : Numbered) (old new : KeptMember) → IsSet sets 0 → LeavesTo old new → IsSoundMember sets old → IsSoundMember sets new
 left-sound sets old new zero_set to sound = subst (IsSoundMember sets) (sym to.others) (record {
   registers = sound.slot;
   slot = good-empty-row sets zero_set new.slot to.slot;
@@ -257,18 +230,18 @@ left-sound sets old new zero_set to sound = subst (IsSoundMember sets) (sym to.o
   unheld = sound.unheld;
 })
 
-pub shared-sound : (sets : Stores) (made : ℕ) (old new : KeptMember) → IsSet sets 0 → SharesTo made old new → IsSoundMember sets old → IsSoundMember sets new
+pub shared-sound : (sets : Numbered) (made : ℕ) (old new : KeptMember) → IsSet sets 0 → SharesTo made old new → IsSoundMember sets old → IsSoundMember sets new
 shared-sound sets made old new zero_set to sound = subst (IsSoundMember sets) (sym to.others) (record {
   registers = good-cleared sets zero_set old.registers new.registers to.result sound.registers;
   slot = sound.slot;
   window = sound.window;
-  segment = λ k. raw-zero sets zero_set _ (to.zeros k);
+  segment = λ k. good-zero sets zero_set _ (to.zeros k);
   window_whole = sound.window_whole;
   segment_whole = λ m has. to.whole;
   unheld = λ none. some-none made none;
 })
 
-pub child-sound : (sets : Stores) (made : ℕ) (old kid : KeptMember) → IsSet sets 0 → ForksTo made old kid → IsSoundMember sets old → IsSoundMember sets kid
+pub child-sound : (sets : Numbered) (made : ℕ) (old kid : KeptMember) → IsSet sets 0 → ForksTo made old kid → IsSoundMember sets old → IsSoundMember sets kid
 child-sound sets made old kid zero_set to sound = subst (IsSoundMember sets) (sym to.others) (record {
   registers = good-cleared sets zero_set old.registers kid.registers to.result sound.registers;
   slot = sound.slot;
@@ -279,24 +252,24 @@ child-sound sets made old kid zero_set to sound = subst (IsSoundMember sets) (sy
   unheld = sound.unheld;
 })
 
-pub start-sound : (sets : Stores) (event : ℕ) (numbers : List ℕ) (old : KeptMember) (start : KeptStart) → IsSet sets 0 → AreSets sets numbers → FoundsTo old start → IsSoundMember sets old
+pub start-sound : (sets : Numbered) (event : ℕ) (numbers : List ℕ) (old : KeptMember) (start : KeptStart) → IsSet sets 0 → AreSets sets numbers → FoundsTo old start → IsSoundMember sets old
     → IsSoundHeard sets (record { event = event; numbers = numbers; start = Some start })
 start-sound sets event numbers old start zero_set good to sound = record {
   numbers = good;
   start = record {
     registers = good-cleared sets zero_set old.registers start.registers to.result sound.registers;
     slot = subst (AreSetsOfRow sets) (sym to.slot) sound.slot;
-    window = subst (AreRawIn sets) (sym to.window) sound.window;
+    window = subst (AreSets sets) (sym to.window) sound.window;
   };
 }
 
-pub started-sound : (sets : Stores) (made load : ℕ) (numbers : List ℕ) (block block_len : ℕ) (old new : KeptMember) → IsSet sets 0 → AreSets sets numbers → StartsTo made load numbers block block_len old new
+pub started-sound : (sets : Numbered) (made load : ℕ) (numbers : List ℕ) (block block_len : ℕ) (old new : KeptMember) → IsSet sets 0 → AreSets sets numbers → StartsTo made load numbers block block_len old new
     → IsSoundMember sets old → IsSoundMember sets new
 started-sound sets made load numbers block block_len old new zero_set good to sound = record {
   registers = good-empty-row sets zero_set new.registers to.registers;
   slot = good-empty-row sets zero_set new.slot to.slot;
-  window = raw-started sets zero_set load numbers (number_at old block) block_len new.window to.window good (raw-number sets zero_set old sound block);
-  segment = λ k. raw-zero sets zero_set _ (ap (λ l. slice_index l k) to.segment);
+  window = good-started sets zero_set load numbers (number_at old block) block_len new.window to.window good (good-number sets zero_set old sound block);
+  segment = λ k. good-zero sets zero_set _ (ap (λ l. slice_index l k) to.segment);
   window_whole = to.window.len;
   segment_whole = λ m has. none-some m (sym (ap (λ (h : Holds). h.segment) to.holds) ∙ has);
   unheld = λ none. to.segment;
@@ -306,9 +279,9 @@ pub begun-sound : (y : Kept) (event : ℕ) (new : KeptMember) → IsSet y.sets 0
 begun-sound y event new zero_set to = record {
   registers = good-begun-row y.sets zero_set event new.registers to.registers;
   slot = good-items-row y.sets zero_set event register_bytes new.slot to.slot;
-  window = (raw-begun y.sets zero_set y event new.window refl to.window).0;
-  segment = λ k. raw-zero y.sets zero_set _ (ap (λ l. slice_index l k) to.segment);
-  window_whole = (raw-begun y.sets zero_set y event new.window refl to.window).1;
+  window = good-window y.sets zero_set event new.window to.window;
+  segment = λ k. good-zero y.sets zero_set _ (ap (λ l. slice_index l k) to.segment);
+  window_whole = to.window.len;
   segment_whole = λ m has. none-some m (sym (ap (λ (h : Holds). h.segment) to.holds) ∙ has);
   unheld = λ none. to.segment;
 }
@@ -336,7 +309,7 @@ two-sound x y pid child old new kid heard sound b own begins event =
     of p false false h i =
         subst (λ o. IfSome o (IsSoundMember y.sets)) (sym (b.others p (eqb-false p pid i) (eqb-false p child h))) (later-option x.sets y.sets (nth x.members p) b.stays.sets (sound.members p))
 
-pub received-sound : (sets : Stores) (at : ℕ) (numbers : List ℕ) (old new : KeptMember) → IsSet sets 0 → AreSets sets numbers → ReceivesTo at numbers old new → IsSoundMember sets old → IsSoundMember sets new
+pub received-sound : (sets : Numbered) (at : ℕ) (numbers : List ℕ) (old new : KeptMember) → IsSet sets 0 → AreSets sets numbers → ReceivesTo at numbers old new → IsSoundMember sets old → IsSoundMember sets new
 received-sound sets at numbers old new zero_set good to sound = subst (IsSoundMember sets) (sym to.others) (record {
   registers = good-cleared sets zero_set old.registers new.registers to.result sound.registers;
   slot = sound.slot;
@@ -347,23 +320,23 @@ received-sound sets at numbers old new zero_set good to sound = subst (IsSoundMe
   unheld = λ none. of-none (is_shared at) none to.segment;
 })
   where
-    of-window : (b : Bool) → ByTest b (Puts (at - WINDOW_START) numbers old.window new.window) (new.window ≡ old.window) → AreRawIn sets new.window × (length new.window ≡ length old.window)
-    of-window true puts = (raw-put sets zero_set (at - WINDOW_START) numbers old.window new.window puts good sound.window, puts.len)
-    of-window false same = (subst (AreRawIn sets) (sym same) sound.window, ap (λ (l : List ℕ). length l) same)
+    of-window : (b : Bool) → ByTest b (Puts (at - WINDOW_START) numbers old.window new.window) (new.window ≡ old.window) → AreSets sets new.window × (length new.window ≡ length old.window)
+    of-window true puts = (good-put sets zero_set (at - WINDOW_START) numbers old.window new.window puts good sound.window, puts.len)
+    of-window false same = (subst (AreSets sets) (sym same) sound.window, ap (λ (l : List ℕ). length l) same)
 
-    of-held : (o : Option ℕ) → WritesHeld (at - SEGMENT_START) numbers o old.segment new.segment → AreRawIn sets new.segment × (length new.segment ≡ length old.segment)
-    of-held None same = (subst (AreRawIn sets) (sym same) sound.segment, ap (λ (l : List ℕ). length l) same)
-    of-held (Some made) puts = (raw-put sets zero_set (at - SEGMENT_START) numbers old.segment new.segment puts good sound.segment, puts.len)
+    of-held : (o : Option ℕ) → WritesHeld (at - SEGMENT_START) numbers o old.segment new.segment → AreSets sets new.segment × (length new.segment ≡ length old.segment)
+    of-held None same = (subst (AreSets sets) (sym same) sound.segment, ap (λ (l : List ℕ). length l) same)
+    of-held (Some made) puts = (good-put sets zero_set (at - SEGMENT_START) numbers old.segment new.segment puts good sound.segment, puts.len)
 
-    of-segment : (b : Bool) → ByTest b (WritesHeld (at - SEGMENT_START) numbers old.holds.segment old.segment new.segment) (new.segment ≡ old.segment) → AreRawIn sets new.segment × (length new.segment ≡ length old.segment)
+    of-segment : (b : Bool) → ByTest b (WritesHeld (at - SEGMENT_START) numbers old.holds.segment old.segment new.segment) (new.segment ≡ old.segment) → AreSets sets new.segment × (length new.segment ≡ length old.segment)
     of-segment true w = of-held old.holds.segment w
-    of-segment false same = (subst (AreRawIn sets) (sym same) sound.segment, ap (λ (l : List ℕ). length l) same)
+    of-segment false same = (subst (AreSets sets) (sym same) sound.segment, ap (λ (l : List ℕ). length l) same)
 
     of-none : (b : Bool) → old.holds.segment ≡ None → ByTest b (WritesHeld (at - SEGMENT_START) numbers old.holds.segment old.segment new.segment) (new.segment ≡ old.segment) → new.segment ≡ []
     of-none true none w = subst (λ o. WritesHeld (at - SEGMENT_START) numbers o old.segment new.segment) none w ∙ sound.unheld none
     of-none false none same = same ∙ sound.unheld none
 
-sharing-sound : (sets : Stores) (new m : KeptMember) → IsSoundMember sets new → IsSoundMember sets m → IsSoundMember sets (shares_with new m)
+sharing-sound : (sets : Numbered) (new m : KeptMember) → IsSoundMember sets new → IsSoundMember sets m → IsSoundMember sets (shares_with new m)
 sharing-sound sets new m own sound = of (is_one m.holds.segment new.holds.segment) refl
   where
     of : (b : Bool) → is_one m.holds.segment new.holds.segment ≡ b → IsSoundMember sets (cond b (record m { segment = new.segment }) m)

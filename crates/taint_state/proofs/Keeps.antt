@@ -8,10 +8,8 @@ use Rattle.rv64_isa.specs.declared.instruction.Instr.{Instr}
 use Rattle.rv64_model.specs.Operands.{accessed, rd_of, stored_len}
 use Rattle.parts_model.specs.declared.limits.TheConstants.{WINDOW_START, SEGMENT_START}
 use Rattle.parts_model.specs.Numbered.{nth}
-use Rattle.set_store.specs.declared.item.Item.{Item}
-use Rattle.set_store.specs.Sets.{IsSet, StandAsBefore}
+use Rattle.taint_sets.specs.Numbered.{IsSet, Numbered, StandAsBefore}
 use Rattle.acts_model.specs.Transfers.{is_private, is_shared}
-use Rattle.taint_flow.specs.Gathered.{first_start}
 use Rattle.taint_members.specs.Access.{ByTest, Segments, WritesHeld, held_numbers}
 use Rattle.taint_members.specs.declared.member.MemberSets.{MemberSets}
 use Rattle.taint_members.specs.declared.member.Shared.{Shared}
@@ -20,19 +18,19 @@ use Rattle.taint_pages.specs.Rows.{byte_in}
 use Rattle.taint_steps.specs.Running.{StoresSegment, StoresWindow}
 use Rattle.taint_state.specs.Kept.{Kept, KeptHeard, KeptMember, KeptStart, heard_among}
 use Rattle.taint_state.specs.RunsShow.{RunsIn, RunsKeep, is_same, sees}
-use Rattle.taint_state.specs.Sound.{AreRawIn, AreSetsOfRow, IsSound, IsSoundHeard, IsSoundMember, IsSoundStart}
+use Rattle.taint_state.specs.Sound.{AreSets, AreSetsOfRow, IsSound, IsSoundHeard, IsSoundMember, IsSoundStart}
 use Rattle.taint_state.proofs.Reach.{stored-few}
 use Rattle.taint_state.proofs.Runs.{after_kept, heard-same, if-some, kept-after, own, same-made, was_kept}
 
 -- sets that were added to
 
-row-grows : (old new : List (List Item)) (row : List ℕ) → StandAsBefore old new → AreSetsOfRow old row → AreSetsOfRow new row
-row-grows old new row stand h = λ r i is. (stand.there (byte_in row r i) (h r i is).0, (h r i is).1)
+row-grows : (old new : Numbered) (row : List ℕ) → StandAsBefore old new → AreSetsOfRow old row → AreSetsOfRow new row
+row-grows old new row stand h = λ r i is. stand.there (byte_in row r i) (h r i is)
 
-memory-grows : (old new : List (List Item)) (l : List ℕ) → StandAsBefore old new → AreRawIn old l → AreRawIn new l
-memory-grows old new l stand h = λ k small. stand.there (slice_index l k) (h k small)
+memory-grows : (old new : Numbered) (l : List ℕ) → StandAsBefore old new → AreSets old l → AreSets new l
+memory-grows old new l stand h = λ k. stand.there (slice_index l k) (h k)
 
-pub member-grows : (old new : List (List Item)) (m : KeptMember) → StandAsBefore old new → IsSoundMember old m → IsSoundMember new m
+pub member-grows : (old new : Numbered) (m : KeptMember) → StandAsBefore old new → IsSoundMember old m → IsSoundMember new m
 member-grows old new m stand h = record {
   registers = row-grows old new m.registers stand h.registers;
   slot = row-grows old new m.slot stand h.slot;
@@ -43,7 +41,7 @@ member-grows old new m stand h = record {
   unheld = h.unheld;
 }
 
-start-grows : (old new : List (List Item)) (s : Option KeptStart) → StandAsBefore old new → IfSome s (IsSoundStart old) → IfSome s (IsSoundStart new)
+start-grows : (old new : Numbered) (s : Option KeptStart) → StandAsBefore old new → IfSome s (IsSoundStart old) → IfSome s (IsSoundStart new)
 start-grows old new None stand h = tt
 start-grows old new (Some s) stand h = record {
   registers = row-grows old new s.registers stand h.registers;
@@ -51,22 +49,22 @@ start-grows old new (Some s) stand h = record {
   window = memory-grows old new s.window stand h.window;
 }
 
-pub heard-grows : (old new : List (List Item)) (o : Option KeptHeard) → StandAsBefore old new → IfSome o (IsSoundHeard old) → IfSome o (IsSoundHeard new)
+pub heard-grows : (old new : Numbered) (o : Option KeptHeard) → StandAsBefore old new → IfSome o (IsSoundHeard old) → IfSome o (IsSoundHeard new)
 heard-grows old new None stand h = tt
 heard-grows old new (Some heard) stand h = record {
-  numbers = λ k. (stand.there (slice_index heard.numbers k) (h.numbers k).0, (h.numbers k).1);
+  numbers = memory-grows old new heard.numbers stand h.numbers;
   start = start-grows old new heard.start stand h.start;
 }
 
-module _ (sets : List (List Item)) (numbers : List ℕ) (len : ℕ) (eight : length numbers ≡ 8) (few : len ≤ 8) (each : (i : ℕ) → i < 8 → IsSet sets (slice_index numbers i)) (zero_set : IsSet sets 0) where
-  puts-sound : (at : ℕ) (old new : List ℕ) → Puts at (take len numbers) old new → AreRawIn sets old → AreRawIn sets new
-  puts-sound at old new puts h k small = by_test (nat_lt k at) (nat_lt k (at + len)) (nat_lt k (length old)) refl refl refl
+module _ (sets : Numbered) (numbers : List ℕ) (len : ℕ) (eight : length numbers ≡ 8) (few : len ≤ 8) (each : (i : ℕ) → i < 8 → IsSet sets (slice_index numbers i)) (zero_set : IsSet sets 0) where
+  puts-sound : (at : ℕ) (old new : List ℕ) → Puts at (take len numbers) old new → AreSets sets old → AreSets sets new
+  puts-sound at old new puts h k = by_test (nat_lt k at) (nat_lt k (at + len)) (nat_lt k (length old)) refl refl refl
     where
       count : length (take len numbers) ≡ len
       count = length-take-le len numbers (omega arith)
 
       as-before : (k < at) ⊎ (at + length (take len numbers) ≤ k) → IsSet sets (slice_index new k)
-      as-before out = let e = puts.kept k out in subst (IsSet sets) (sym e) (h k (omega arith))
+      as-before out = subst (IsSet sets) (sym (puts.kept k out)) (h k)
 
       behind : length new ≤ k → slice_index new k ≡ 0
       behind out = grind (arith, common_steps)
@@ -86,13 +84,13 @@ module _ (sets : List (List Item)) (numbers : List ℕ) (len : ℕ) (eight : len
           let same = puts.len in
           subst (IsSet sets) (sym (behind (omega arith))) zero_set
 
-  window-sound : (acc : Option ℕ) (m n : MemberSets) → StoresWindow acc (take len numbers) m n → AreRawIn sets m.window → AreRawIn sets n.window
-  window-sound None m n s h = subst (AreRawIn sets) (sym s) h
+  window-sound : (acc : Option ℕ) (m n : MemberSets) → StoresWindow acc (take len numbers) m n → AreSets sets m.window → AreSets sets n.window
+  window-sound None m n s h = subst (AreSets sets) (sym s) h
   window-sound (Some at) m n s h = by_test (is_private at) s
     where
-      by_test : (b : Bool) → ByTest b (Puts (at - WINDOW_START) (take len numbers) m.window n.window) (n.window ≡ m.window) → AreRawIn sets n.window
+      by_test : (b : Bool) → ByTest b (Puts (at - WINDOW_START) (take len numbers) m.window n.window) (n.window ≡ m.window) → AreSets sets n.window
       by_test true s = puts-sound (at - WINDOW_START) m.window n.window s h
-      by_test false s = subst (AreRawIn sets) (sym s) h
+      by_test false s = subst (AreSets sets) (sym s) h
 
   window-len : (acc : Option ℕ) (m n : MemberSets) → StoresWindow acc (take len numbers) m n → length n.window ≡ length m.window
   window-len None m n s = ap length s
@@ -103,15 +101,15 @@ module _ (sets : List (List Item)) (numbers : List ℕ) (len : ℕ) (eight : len
       by_test false s = ap length s
 
   segment-sound : (acc : Option ℕ) (segment : Option Shared) (old new : Segments) → StoresSegment acc (take len numbers) segment old new
-      → AreRawIn sets (held_numbers segment old) → AreRawIn sets (held_numbers segment new) × (length (held_numbers segment new) ≡ length (held_numbers segment old))
+      → AreSets sets (held_numbers segment old) → AreSets sets (held_numbers segment new) × (length (held_numbers segment new) ≡ length (held_numbers segment old))
   segment-sound acc None old new s h = (h, refl)
-  segment-sound None (Some shared) old new s h = (subst (λ l. AreRawIn sets (slice_index_or l shared.key [])) (sym s) h, ap (λ l. length (slice_index_or l shared.key [])) s)
+  segment-sound None (Some shared) old new s h = (subst (λ l. AreSets sets (slice_index_or l shared.key [])) (sym s) h, ap (λ l. length (slice_index_or l shared.key [])) s)
   segment-sound (Some at) (Some shared) old new s h = by_test (is_shared at) s
     where
       by_test : (b : Bool) → ByTest b (WritesHeld at (take len numbers) (Some shared) old new) (new ≡ old)
-          → AreRawIn sets (held_numbers (Some shared) new) × (length (held_numbers (Some shared) new) ≡ length (held_numbers (Some shared) old))
+          → AreSets sets (held_numbers (Some shared) new) × (length (held_numbers (Some shared) new) ≡ length (held_numbers (Some shared) old))
       by_test true s = (puts-sound (at - SEGMENT_START) (slice_index_or old shared.key []) (slice_index_or new shared.key []) s.one h, s.one.len)
-      by_test false s = (subst (λ l. AreRawIn sets (slice_index_or l shared.key [])) (sym s) h, ap (λ l. length (slice_index_or l shared.key [])) s)
+      by_test false s = (subst (λ l. AreSets sets (slice_index_or l shared.key [])) (sym s) h, ap (λ l. length (slice_index_or l shared.key [])) s)
 
 none-made : (a b : Option ℕ) → is_same a b ≡ true → b ≢ None
 none-made None b s = absurd (cc)
@@ -122,8 +120,8 @@ module _ (pid : ℕ) (instr : Instr) (before : Cpu) (x y : Kept) (sound : IsSoun
   abbrev taken : List ℕ
   taken = ran.runs.numbers
 
-  each-set : (i : ℕ) → i < 8 → IsSet y.sets (slice_index taken i) × (slice_index taken i < first_start)
-  each-set i b = let one = ran.runs.takes.results.bytes i b in (one.there, one.small)
+  set-at : (i : ℕ) → i < 8 → IsSet y.sets (slice_index taken i)
+  set-at i b = (ran.runs.takes.results.bytes i b).there
 
   abbrev ours : IsSoundMember x.sets (was_kept pid instr before x y sound ran)
   ours = own pid instr before x y sound ran
@@ -134,19 +132,14 @@ module _ (pid : ℕ) (instr : Instr) (before : Cpu) (x y : Kept) (sound : IsSoun
   registers-sound : AreSetsOfRow y.sets ran.changed.registers
   registers-sound r i is = by_test ((r == rd_of instr) && nat_lt 0 r) (byte_in ran.changed.registers r i) (ran.runs.register r i is.byte)
     where
-      by_test : (b : Bool) (v : ℕ) → v ≡ (if b then slice_index taken i else byte_in ran.member.registers r i) → IsSet y.sets v × (v < first_start)
-      by_test true v e = subst (λ n. IsSet y.sets n × (n < first_start)) (sym e) (each-set i is.byte)
-      by_test false v e =
-          let there = ours.registers r i is in
-          subst (λ n. IsSet y.sets n × (n < first_start)) (sym e) (ran.stand.there (byte_in ran.member.registers r i) there.0, there.1)
-
-  set-at : (i : ℕ) → i < 8 → IsSet y.sets (slice_index taken i)
-  set-at i h = (each-set i h).0
+      by_test : (b : Bool) (v : ℕ) → v ≡ (if b then slice_index taken i else byte_in ran.member.registers r i) → IsSet y.sets v
+      by_test true v e = subst (IsSet y.sets) (sym e) (set-at i is.byte)
+      by_test false v e = subst (IsSet y.sets) (sym e) (ran.stand.there (byte_in ran.member.registers r i) (ours.registers r i is))
 
   zero-set : IsSet y.sets 0
   zero-set = ran.stand.there 0 sound.zero
 
-  segment-written : AreRawIn y.sets (held_numbers ran.member.segment ran.written) × (length (held_numbers ran.member.segment ran.written) ≡ length (held_numbers ran.member.segment ran.segments))
+  segment-written : AreSets y.sets (held_numbers ran.member.segment ran.written) × (length (held_numbers ran.member.segment ran.written) ≡ length (held_numbers ran.member.segment ran.segments))
   segment-written =
       segment-sound y.sets taken (stored_len instr) eight (stored-few instr) set-at zero-set (accessed instr before) ran.member.segment ran.segments ran.written ran.runs.segment
       (memory-grows x.sets y.sets (held_numbers ran.member.segment ran.segments) ran.stand ours.segment)

@@ -5,17 +5,14 @@ use Rattle.parts_model.specs.declared.limits.TheConstants.{WINDOW_START, WINDOW_
 use Rattle.acts_model.specs.Transfers.{Holds, Place, is_private, is_shared, place_of}
 use Rattle.lineage_model.specs.Flow.{Location, Memory, Prior, bytes_at}
 use Rattle.lineage_model.specs.Tracking.{gather}
-use Rattle.set_store.specs.Sets.{members_of}
-use Rattle.taint_flow.specs.Gathered.{first_start}
-use Rattle.taint_flow.specs.Starts.{IsRaw}
-use Rattle.taint_events.specs.Bytes.{IsGiven}
+use Rattle.taint_sets.specs.Numbered.{IsSet}
 use Rattle.taint_state.specs.Events.{number_at}
 use Rattle.taint_state.specs.Kept.{KeptMember, items_of}
 use Rattle.taint_state.specs.Shown.{AreItems, ShowsMember}
 use Rattle.taint_state.specs.Kept.{shown_member}
 use Rattle.taint_state.specs.Sound.{IsSoundMember}
 use Rattle.taint_state.specs.Steps.{IsWhole}
-use Rattle.taint_state.proofs.Flows.{Had, Setting, given, items-same, of-nothing, of-prior}
+use Rattle.taint_state.proofs.Flows.{Had, Setting, given, of-nothing, of-prior}
 
 both : (a b : Bool) → (a && b) ≡ true → (a ≡ true) × (b ≡ true)
 both true true h = (refl, refl)
@@ -52,7 +49,7 @@ module _ (s : Setting) (pid : ℕ) (old : KeptMember) (had : ShowsMember pid s.t
   -- a byte has nothing, or what its location had
   pub data Reads (n : ℕ) (ls : List Location) : Type 0 where
     Nothing : n ≡ 0 → ls ≡ [] → Reads n ls
-    Byte : (l : Location) → ls ≡ l ∷ [] → IsRaw s.x.sets n → Had s n l → Reads n ls
+    Byte : (l : Location) → ls ≡ l ∷ [] → IsSet s.x.sets n → Had s n l → Reads n ls
 
   pub reads : (at len k : ℕ) → k < len → IsWhole (place_of old.holds at len) len → Reads (number_at old at k) (bytes_at (place_of old.holds at len) k)
   reads at len k below whole = by_tests (is_private at) (is_shared at) refl refl
@@ -72,7 +69,7 @@ module _ (s : Setting) (pid : ℕ) (old : KeptMember) (had : ShowsMember pid s.t
           let inside : is_shared (at + k) ≡ true = (whole_at (Some (record { made = made; at = at })) place k below).1 ∙ h in
           let number = number-is old at k false true p h ∙ ap (λ j. slice_index old.segment j) (sym (behind SEGMENT_START at k (shared-bounds at h).0)) in
           Byte (Memory made (at + k)) (ap (λ q. bytes_at q k) place)
-          (subst (λ n. IsRaw s.x.sets n) (sym number) (sound.segment _))
+          (subst (λ n. IsSet s.x.sets n) (sym number) (sound.segment _))
           (subst (λ n. Had s n (Memory made (at + k))) (sym number) (had.segment made (at + k) held inside))
 
       by_tests : (private shared : Bool) → is_private at ≡ private → is_shared at ≡ shared → Reads (number_at old at k) (bytes_at (place_of old.holds at len) k)
@@ -81,7 +78,7 @@ module _ (s : Setting) (pid : ℕ) (old : KeptMember) (had : ShowsMember pid s.t
           let inside : is_private (at + k) ≡ true = (whole_at (Some (record { made = old.holds.window; at = at })) place k below).0 ∙ p in
           let number = number-is old at k true shared p h ∙ ap (λ j. slice_index old.window j) (sym (behind WINDOW_START at k (private-bounds at p).0)) in
           Byte (Memory old.holds.window (at + k)) (ap (λ q. bytes_at q k) place)
-          (subst (λ n. IsRaw s.x.sets n) (sym number) (sound.window _))
+          (subst (λ n. IsSet s.x.sets n) (sym number) (sound.window _))
           (subst (λ n. Had s n (Memory old.holds.window (at + k))) (sym number) (had.window (at + k) inside))
       by_tests false true p h = in_segment old.holds.segment refl p h
       by_tests false false p h = Nothing (number-is old at k false false p h) (ap (λ q. bytes_at q k) (place-is old.holds at len false false false some p h))
@@ -91,13 +88,6 @@ module _ (s : Setting) (pid : ℕ) (old : KeptMember) (had : ShowsMember pid s.t
   of-read n ls (Nothing zero none) = subst (λ l. AreItems (items_of s.y n) (gather (given s) s.t.locations (map Prior l))) (sym none) (of-nothing s n zero)
   of-read n ls (Byte l is raw h) = subst (λ l. AreItems (items_of s.y n) (gather (given s) s.t.locations (map Prior l))) (sym is) (of-prior s n l raw h)
 
-  raw-of-read : (n : ℕ) (ls : List Location) → Reads n ls → IsRaw s.x.sets n
-  raw-of-read n ls (Nothing zero none) = subst (λ k. IsRaw s.x.sets k) (sym zero) (λ small. s.sound.zero)
-  raw-of-read n ls (Byte l is raw h) = raw
-
-  -- a set of what a byte stood for has what the byte had
-  pub given-items : (n set : ℕ) → IsGiven s.x.sets s.y.sets s.x.begun n set → items_of s.y set ≡ items_of s.x n
-  given-items n set g = ap (λ b. cond b (members_of s.y.sets set) (record { event = s.y.begun; at = set - first_start } ∷ [])) (lt-ltb set first_start g.small) ∙ g.resolved.members
-
-  pub of-given : (n set : ℕ) (ls : List Location) → Reads n ls → IsGiven s.x.sets s.y.sets s.x.begun n set → AreItems (items_of s.y set) (gather (given s) s.t.locations (map Prior ls))
-  of-given n set ls r g = subst (λ its. AreItems its (gather (given s) s.t.locations (map Prior ls))) (items-same s n (raw-of-read n ls r) ∙ sym (given-items n set g)) (of-read n ls r)
+  -- and one that was given has what it had in memory
+  pub of-given : (n number : ℕ) (ls : List Location) → Reads n ls → number ≡ n → AreItems (items_of s.y number) (gather (given s) s.t.locations (map Prior ls))
+  of-given n number ls r same = subst (λ k. AreItems (items_of s.y k) (gather (given s) s.t.locations (map Prior ls))) (sym same) (of-read n ls r)

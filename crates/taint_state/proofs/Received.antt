@@ -15,7 +15,7 @@ use Rattle.taint_state.specs.Shown.{AreItems, ShowsMember}
 use Rattle.taint_state.specs.Sound.{IsSoundMember}
 use Rattle.taint_state.specs.Steps.{holders_of}
 use Rattle.taint_state.proofs.Keeping.{follows, good-received, old-sound, plain-sound, received-sound, sharers-sound, zero-later}
-use Rattle.taint_state.proofs.Flows.{Setting, Takes, given, kept, of-received, one-true, raw-of-set, row-cleared, shown-before, sound-before, then, writes}
+use Rattle.taint_state.proofs.Flows.{Setting, Takes, given, kept, of-received, one-true, row-cleared, shown-before, sound-before, then, writes}
 use Rattle.taint_state.proofs.Goings.{goes, held-before, holds_kept, holders-kept, plain-points, self-test, setting}
 use Rattle.taint_state.proofs.Reading.{private-bounds, shared-bounds}
 use Rattle.taint_state.proofs.Receiving.{Lands, Nowhere, InWindow, InSegment, OffsetsTo, elsewhere, item-items, lands, nowhere, where-lands}
@@ -94,14 +94,14 @@ module _ (s : Setting) (pid at len : ℕ) (numbers : List ℕ) (old new : KeptMe
 
       by_test : (b : Bool) → is_one other.holds.segment new.holds.segment ≡ b → ShowsMember p (then s) (shown_member s.y (cond b (record other { segment = new.segment }) other))
       by_test true one = record {
-        registers = λ r i is. kept s _ (Register p r i) (raw-of-set s.x.sets _ (sets.registers r i is).0) (before.registers r i is) (registers r i);
-        slot = λ r i is. kept s _ (Slot p r i) (raw-of-set s.x.sets _ (sets.slot r i is).0) (before.slot r i is) (slot r i);
+        registers = λ r i is. kept s _ (Register p r i) (sets.registers r i is) (before.registers r i is) (registers r i);
+        slot = λ r i is. kept s _ (Slot p r i) (sets.slot r i is) (before.slot r i is) (slot r i);
         window = λ a is. kept s _ (Memory other.holds.window a) (sets.window _) (before.window a is) (other-window l p other ne e a);
         segment = λ m a has is. own-segment l m a (ap (λ (h : Holds). h.segment) (sym holds) ∙ (sym (one-true other.holds.segment new.holds.segment one) ∙ has)) is;
       }
       by_test false one = record {
-        registers = λ r i is. kept s _ (Register p r i) (raw-of-set s.x.sets _ (sets.registers r i is).0) (before.registers r i is) (registers r i);
-        slot = λ r i is. kept s _ (Slot p r i) (raw-of-set s.x.sets _ (sets.slot r i is).0) (before.slot r i is) (slot r i);
+        registers = λ r i is. kept s _ (Register p r i) (sets.registers r i is) (before.registers r i is) (registers r i);
+        slot = λ r i is. kept s _ (Slot p r i) (sets.slot r i is) (before.slot r i is) (slot r i);
         window = λ a is. kept s _ (Memory other.holds.window a) (sets.window _) (before.window a is) (other-window l p other ne e a);
         segment = λ m a has is. kept s _ (Memory m a) (sets.segment _) (before.segment m a has is)
             (other-segment l p other e m a has (λ q. one-false m other.holds.segment new.holds.segment one has (ap (λ (h : Holds). h.segment) holds ∙ q)));
@@ -176,7 +176,7 @@ receives-show x y pid number e before at len old new numbers sound count receive
       members-shared s pid old new heard becomes
           (subst (λ m. ShowsMember pid (then s) (shown_member y m)) (sym to.others) (record {
             registers = row-cleared s pid old.registers new.registers (λ b. or_else (when b []) None) refl refl (λ r i. ap (λ b. or_else (when (b && (r == 10)) []) None) (self-test pid)) to.result sets.registers had.registers;
-            slot = λ r i is. kept s _ (Slot pid r i) (raw-of-set x.sets _ (sets.slot r i is).0) (had.slot r i is) refl;
+            slot = λ r i is. kept s _ (Slot pid r i) (sets.slot r i is) (had.slot r i is) refl;
             window = λ a is. own-window s pid at len numbers old new place (λ made a. refl) clear becomes.was received had sets l a is;
             segment = λ made a has is. own-segment s pid at len numbers old new place (λ made a. refl) clear becomes.was received had sets l made a has is;
           }))

@@ -2,13 +2,11 @@
 use Rattle.std.proofs.Common.{◌≡◌, ◌≢◌, ◌⊎◌, inl, inr, ℕ, ◌+◌, ◌-◌, ◌<◌, ◌≤◌, ◌==◌, ◌&&◌, nat_le, nat_lt, cond, Bool, true, false, List, [], ◌∷◌, length, slice_index, Option, Some, None, option_map, refl, sym, ap, subst, ◌∙◌, ne_eqb, arith}
 use Rattle.std.proofs.lemmas.Bool.{eq-eqb, eqb-true, leb-true, leb-false, lt-ltb, ltb-true, ltb-false}
 use Rattle.parts_model.specs.declared.limits.TheConstants.{WINDOW_START, SEGMENT_START}
-use Rattle.set_store.specs.Sets.{members_of}
+use Rattle.taint_sets.specs.Numbered.{IsItem, IsSet}
 use Rattle.acts_model.specs.Moved.{within}
 use Rattle.acts_model.specs.Transfers.{Place, is_private, is_shared, place_of}
 use Rattle.lineage_model.specs.Flow.{Byte, Memory, offset, received_byte}
-use Rattle.taint_events.specs.Bytes.{AreReceived, IsItem}
-use Rattle.taint_flow.specs.Gathered.{first_start}
-use Rattle.taint_flow.specs.Starts.{IsRaw}
+use Rattle.taint_events.specs.Bytes.{AreReceived}
 use Rattle.taint_members.specs.Access.{ByTest}
 use Rattle.taint_pages.specs.Pages.{Puts}
 use Rattle.taint_state.specs.Events.{ReceivesTo, WritesHeld}
@@ -28,7 +26,7 @@ both false b h = absurd (cc)
 module _ (s : Setting) where
   -- a received byte is an item by itself
   pub item-items : (k n : ℕ) → IsItem s.y.sets s.event.number k n → items_of s.y n ≡ record { event = s.event.number; at = k } ∷ []
-  item-items k n is = ap (λ b. cond b (members_of s.y.sets n) (record { event = s.y.begun; at = n - first_start } ∷ [])) (lt-ltb n first_start is.small) ∙ is.members
+  item-items k n is = is.members
 
   abbrev pub OffsetsTo : Option Place → ℕ → Type 0
   OffsetsTo place len = (made a : ℕ) → writes s (Memory made a) ≡ option_map received_byte (offset place len made a)
@@ -45,7 +43,7 @@ module _ (s : Setting) where
   -- a byte of the memory to which they come
   pub lands : (made start at len a : ℕ) (place : Option Place) (numbers old new : List ℕ) → OffsetsTo place len → place ≡ Some (record { made = made; at = at })
       → start ≤ at → start ≤ a → a - start < length old → Puts (at - start) numbers old new → AreReceived s.y.sets s.event.number len numbers
-      → IsRaw s.x.sets (slice_index old (a - start)) → Had s (slice_index old (a - start)) (Memory made a) → Takes s (slice_index new (a - start)) (Memory made a)
+      → IsSet s.x.sets (slice_index old (a - start)) → Had s (slice_index old (a - start)) (Memory made a) → Takes s (slice_index new (a - start)) (Memory made a)
   lands made start at len a place numbers old new to is from above inside puts received raw had = by_tests (nat_le at a && nat_lt a (at + len)) refl
     where
       at_place : (b : Bool) → (nat_le at a && nat_lt a (at + len)) ≡ b → writes s (Memory made a) ≡ option_map received_byte (cond b (Some (a - at)) None)

@@ -8,14 +8,13 @@ use Rattle.rv64_model.specs.Operands.{accessed, rd_of, stored_len}
 use Rattle.parts_model.specs.declared.limits.TheConstants.{WINDOW_START, SEGMENT_START}
 use Rattle.parts_model.specs.Numbered.{nth}
 use Rattle.set_store.specs.declared.item.Item.{Item}
-use Rattle.set_store.specs.Sets.{members_of}
+use Rattle.taint_sets.specs.Numbered.{IsSet, members_of}
 use Rattle.acts_model.specs.Moved.{Inside}
 use Rattle.acts_model.specs.Transfers.{Holds, Place, is_private, is_shared, place_at}
 use Rattle.lineage_model.specs.Flow.{At, Byte, StartRegister, StartSlot, StartMemory, Location, Memory, Prior, Register, Slot, offset, result_bytes, when}
 use Rattle.lineage_model.specs.Tracking.{EventByte, Tracked, alone_after, gather, items}
-use Rattle.taint_flow.specs.Gathered.{first_start, number_of}
+use Rattle.taint_flow.specs.Gathered.{number_of}
 use Rattle.taint_flow.specs.Names.{loaded_len}
-use Rattle.taint_flow.specs.Starts.{IsRaw}
 use Rattle.taint_members.specs.declared.member.MemberSets.{MemberSets}
 use Rattle.taint_members.specs.declared.member.Shared.{Shared}
 use Rattle.taint_pages.specs.Rows.{byte_in}
@@ -28,7 +27,7 @@ use Rattle.taint_state.specs.Sound.{IsSound, IsSoundHeard, IsSoundMember, IsSoun
 use Rattle.taint_state.specs.Steps.{IsWhole, holders_of, instr_inside}
 use Rattle.taint_state.proofs.Reach.{stored-few}
 use Rattle.taint_state.proofs.Results.{results-show}
-use Rattle.taint_state.proofs.Taken.{append-none, items-small, move, move-bytes, operands-show}
+use Rattle.taint_state.proofs.Taken.{append-none, move, move-bytes, operands-show}
 use Rattle.taint_state.proofs.Written.{ByOffset, by-none, other-segment, other-window, segment-by, window-by}
 
 pub at-some : {X : Type 0} (P : X → Type 0) (o : Option X) (x : X) → o ≡ Some x → IfSome o P → P x
@@ -101,20 +100,12 @@ module _ (pid : ℕ) (instr : Instr) (before : Cpu) (x y : Kept) (sound : IsSoun
   linkage-same : y.linkage ≡ x.linkage
   linkage-same = ap (λ (k : Kept). k.linkage) ran.rest
 
-  begun-same : y.begun ≡ x.begun
-  begun-same = ap (λ (k : Kept). k.begun) ran.rest
-
   pub heard-same : y.heard ≡ x.heard
   heard-same = ap (λ (k : Kept). k.heard) ran.rest
 
   -- a number stands for the same items as before
-  items-same : (n : ℕ) → IsRaw x.sets n → items_of y n ≡ items_of x n
-  items-same n raw = by_test (nat_lt n first_start) refl
-    where
-      by_test : (b : Bool) → nat_lt n first_start ≡ b
-          → (if b then members_of y.sets n else record { event = y.begun; at = n - first_start } ∷ []) ≡ (if b then members_of x.sets n else record { event = x.begun; at = n - first_start } ∷ [])
-      by_test true e = ran.stand.same n (raw (ltb-true n first_start e))
-      by_test false e = ap (λ (b : ℕ). record { event = b; at = n - first_start } ∷ []) begun-same
+  items-same : (n : ℕ) → IsSet x.sets n → items_of y n ≡ items_of x n
+  items-same n set = ran.stand.same n set
 
   pub holds-at : (p : ℕ) → option_map (λ (k : KeptMember). k.holds) (nth y.members p) ≡ option_map (λ (k : KeptMember). k.holds) (nth x.members p)
   holds-at p = by_test (p == pid) refl
@@ -152,24 +143,21 @@ module _ (pid : ℕ) (instr : Instr) (before : Cpu) (x y : Kept) (sound : IsSoun
     result-shows : (i : ℕ) → i < 8 → AreItems (items_of y (slice_index numbers i)) (gather (items None) t.locations (result_bytes table pid instr place i))
     result-shows i b =
         let takes = ran.runs.takes in
-        let one = takes.results.bytes i b in
-        move (items_of y (slice_index numbers i)) (members_of y.sets (slice_index numbers i)) (gather (items None) t.locations (result_bytes table pid instr place i))
-        (items-small y.sets y.begun (slice_index numbers i) one.small)
-        (results-show table pid instr place i (items None) t.locations takes.mid y.sets (number_of takes.first takes.second takes.loaded) (slice_index numbers i)
-        (operands-show x sound pid ran.member ran.segments own t mine instr before y.sets numbers takes i b whole) one)
+        results-show table pid instr place i (items None) t.locations x.sets y.sets (number_of takes.first takes.second takes.loaded) (slice_index numbers i)
+        (operands-show x sound pid ran.member ran.segments own t mine instr before y.sets numbers takes i b whole) (takes.results.bytes i b)
 
     -- a byte that isn't written
-    stays : (v u : ℕ) (location : Location) → v ≡ u → IsRaw x.sets u → AreItems (items_of x u) (t.locations location) → AreItems (items_of y v) (gather (items None) t.locations (Prior location ∷ []))
+    stays : (v u : ℕ) (location : Location) → v ≡ u → IsSet x.sets u → AreItems (items_of x u) (t.locations location) → AreItems (items_of y v) (gather (items None) t.locations (Prior location ∷ []))
     stays v u location e raw h =
         move-bytes (items_of y v) (t.locations location ++ []) (t.locations location) (append-none (t.locations location))
         (move (items_of y v) (items_of x u) (t.locations location) (ap (items_of y) e ∙ items-same u raw) h)
 
-    taken-by : (o : Option ℕ) (v u : ℕ) (location : Location) → ByOffset numbers o v u → IsRaw x.sets u → AreItems (items_of x u) (t.locations location)
+    taken-by : (o : Option ℕ) (v u : ℕ) (location : Location) → ByOffset numbers o v u → IsSet x.sets u → AreItems (items_of x u) (t.locations location)
         → AreItems (items_of y v) (gather (items None) t.locations (unwrap_or (option_map (result_bytes table pid instr place) o) (Prior location ∷ [])))
     taken-by None v u location e raw h = stays v u location e raw h
     taken-by (Some k) v u location e raw h = move (items_of y v) (items_of y (slice_index numbers k)) (gather (items None) t.locations (result_bytes table pid instr place k)) (ap (items_of y) e.1) (result-shows k e.0)
 
-    register-by : (b : Bool) (v u i : ℕ) (location : Location) → i < 8 → v ≡ (if b then slice_index numbers i else u) → IsRaw x.sets u → AreItems (items_of x u) (t.locations location)
+    register-by : (b : Bool) (v u i : ℕ) (location : Location) → i < 8 → v ≡ (if b then slice_index numbers i else u) → IsSet x.sets u → AreItems (items_of x u) (t.locations location)
         → AreItems (items_of y v) (gather (items None) t.locations (unwrap_or (when b (result_bytes table pid instr place i)) (Prior location ∷ [])))
     register-by true v u i location b e raw h = move (items_of y v) (items_of y (slice_index numbers i)) (gather (items None) t.locations (result_bytes table pid instr place i)) (ap (items_of y) e) (result-shows i b)
     register-by false v u i location b e raw h = stays v u location e raw h
@@ -190,7 +178,7 @@ module _ (pid : ℕ) (instr : Instr) (before : Cpu) (x y : Kept) (sound : IsSoun
     runner : ShowsMember pid next (shown_member y after_kept)
     runner = record {
       registers = registers;
-      slot = λ r i is. stays (byte_in ran.member.slot r i) (byte_in ran.member.slot r i) (Slot pid r i) refl (λ small. (own.slot r i is).0) (mine.slot r i is);
+      slot = λ r i is. stays (byte_in ran.member.slot r i) (byte_in ran.member.slot r i) (Slot pid r i) refl (own.slot r i is) (mine.slot r i is);
       window = λ at reached.
           taken-by (offset place (stored_len instr) ran.member.made at) (slice_index ran.changed.window (at - WINDOW_START)) (slice_index ran.member.window (at - WINDOW_START)) (Memory ran.member.made at)
           (window-by numbers (stored_len instr) ran.runs.takes.results.len (stored-few instr) ran.member after_member ran.segments ran.written refl (accessed instr before) at (subst (λ k. StoresWindow (accessed instr before) (take (stored_len instr) numbers) ran.member k) ran.runs.others ran.runs.window) reached own.window_whole)
@@ -203,7 +191,7 @@ module _ (pid : ℕ) (instr : Instr) (before : Cpu) (x y : Kept) (sound : IsSoun
           register-by ((pid == pid) && (suc r == rd_of instr)) (byte_in ran.changed.registers (suc r) i) (byte_in ran.member.registers (suc r) i) i (Register pid (suc r) i) is.byte
           (ran.runs.register (suc r) i is.byte
           ∙ ap (λ (b : Bool). if b then slice_index numbers i else byte_in ran.member.registers (suc r) i) (tests-swap (pid == pid) (suc r == rd_of instr) (nat_lt 0 (suc r)) (eq-eqb pid pid refl) (lt-ltb 0 (suc r) (omega arith))))
-          (λ small. (own.registers (suc r) i is).0) (mine.registers (suc r) i is)
+          (own.registers (suc r) i is) (mine.registers (suc r) i is)
 
     -- any other
     module _ (q : ℕ) (apart : q ≢ pid) (other : KeptMember) (there : nth x.members q ≡ Some other) (theirs : ShowsMember q t (shown_member x other)) where
@@ -223,10 +211,10 @@ module _ (pid : ℕ) (instr : Instr) (before : Cpu) (x y : Kept) (sound : IsSoun
           let number = byte_in other.registers (suc r) i in
           subst (λ o. AreItems (items_of y number) (gather (items None) t.locations (unwrap_or o (Prior (Register q (suc r) i) ∷ []))))
           (sym (and-none (q == pid) (suc r == rd_of instr) (result_bytes table pid instr place i) test-false))
-          (stays number number (Register q (suc r) i) refl (λ small. (kept-sound.registers (suc r) i is).0) (theirs.registers (suc r) i is))
+          (stays number number (Register q (suc r) i) refl (kept-sound.registers (suc r) i is) (theirs.registers (suc r) i is))
 
       other-slot : (r i : ℕ) → IsRegisterByte r i → gathers (items_of y (byte_in other.slot r i)) (Slot q r i)
-      other-slot r i is = stays (byte_in other.slot r i) (byte_in other.slot r i) (Slot q r i) refl (λ small. (kept-sound.slot r i is).0) (theirs.slot r i is)
+      other-slot r i is = stays (byte_in other.slot r i) (byte_in other.slot r i) (Slot q r i) refl (kept-sound.slot r i is) (theirs.slot r i is)
 
       holds-of : (p : ℕ) (k : KeptMember) → nth x.members p ≡ Some k → holders_of (shown x) p ≡ Some k.holds
       holds-of p k e = ap (λ o. option_map (λ m. m.holds) (option_map (shown_member x) o)) e
@@ -289,15 +277,15 @@ module _ (pid : ℕ) (instr : Instr) (before : Cpu) (x y : Kept) (sound : IsSoun
         by_start : (kept : KeptHeard) (s : Option KeptStart) (at : At) → IfSome s (IsSoundStart x.sets) → IsPoint (shown_heard y kept) at → start_items y s at ≡ start_items x s at
         by_start kept None at h is = refl
         by_start kept (Some start) (Byte k) h is = refl
-        by_start kept (Some start) (StartRegister r i) h is = items-same (byte_in start.registers r i) (λ small. (h.registers r i is.1).0)
-        by_start kept (Some start) (StartSlot r i) h is = items-same (byte_in start.slot r i) (λ small. (h.slot r i is.1).0)
+        by_start kept (Some start) (StartRegister r i) h is = items-same (byte_in start.registers r i) (h.registers r i is.1)
+        by_start kept (Some start) (StartSlot r i) h is = items-same (byte_in start.slot r i) (h.slot r i is.1)
         by_start kept (Some start) (StartMemory at) h is = items-same (slice_index start.window (at - WINDOW_START)) (h.window (at - WINDOW_START))
 
         by_heard : (o : Option KeptHeard) → IfSome (option_map (shown_heard x) o) (ShowsHeard event t) → IfSome o (IsSoundHeard x.sets) → IfSome (option_map (shown_heard y) o) (ShowsHeard event next)
         by_heard None h s = tt
         by_heard (Some kept) h s = by_at where
           by_at : (at : At) → IsPoint (shown_heard y kept) at → AreItems (point_items y kept at) (t.points event at)
-          by_at (Byte k) is = move (items_of y (slice_index kept.numbers k)) (items_of x (slice_index kept.numbers k)) (t.points event (Byte k)) (items-same (slice_index kept.numbers k) (λ small. (s.numbers k).0)) (h (Byte k) is)
+          by_at (Byte k) is = move (items_of y (slice_index kept.numbers k)) (items_of x (slice_index kept.numbers k)) (t.points event (Byte k)) (items-same (slice_index kept.numbers k) (s.numbers k)) (h (Byte k) is)
           by_at (StartRegister r i) is =
               move (start_items y kept.start (StartRegister r i)) (start_items x kept.start (StartRegister r i)) (t.points event (StartRegister r i))
               (by_start kept kept.start (StartRegister r i) s.start is) (h (StartRegister r i) is)

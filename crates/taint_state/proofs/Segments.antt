@@ -11,7 +11,7 @@ use Rattle.taint_state.specs.Kept.{KeptMember, shown, shown_member}
 use Rattle.taint_state.specs.Shown.{ShowsMember}
 use Rattle.taint_state.specs.Steps.{holders_of, shared_holds}
 use Rattle.taint_state.proofs.Keeping.{sharers-sound, follows, good-empty, old-sound, plain-sound, shared-sound, zero-later}
-use Rattle.taint_state.proofs.Flows.{cleared, kept, one-true, same-member, raw-of-set, row-cleared, shown-before, sound-before, then}
+use Rattle.taint_state.proofs.Flows.{cleared, kept, one-true, same-member, row-cleared, shown-before, sound-before, then}
 use Rattle.taint_state.proofs.Received.{holders-one, members-shared, some-inj}
 use Rattle.taint_state.proofs.Goings.{empty-points, goes, held-before, self-test, setting, unheld-before}
 
@@ -43,7 +43,7 @@ shares-show x y pid number e before old new numbers sound empty to becomes =
       members-shared s pid old new heard becomes
           (subst (λ m. ShowsMember pid (then s) (shown_member y m)) (sym to.others) (record {
             registers = row-cleared s pid old.registers new.registers (λ b. or_else (when b []) None) refl refl (λ r i. ap (λ b. or_else (when (b && (r == 10)) []) None) (self-test pid)) to.result sets.registers had.registers;
-            slot = λ r i is. kept s _ (Slot pid r i) (raw-of-set x.sets _ (sets.slot r i is).0) (had.slot r i is) refl;
+            slot = λ r i is. kept s _ (Slot pid r i) (sets.slot r i is) (had.slot r i is) refl;
             window = λ at is. kept s _ (Memory old.holds.window at) (sets.window _) (had.window at is) (ap (λ b. when b []) (ne_eqb old.holds.window number unheld.window));
             segment = λ made at has is. cleared s _ (Memory made at) (to.zeros _) (ap (λ b. when b []) (eq-eqb made number (sym (some-inj number made has))));
           }))

@@ -1,19 +1,18 @@
 -- What the numbers of an instruction's operands show.
 use Rattle.std.proofs.Common.{◌≡◌, ℕ, zero, suc, ◌+◌, ◌-◌, ◌<◌, ◌≤◌, ◌&&◌, nat_le, nat_lt, Bool, true, false, if◌then◌else◌, IsTrue, List, [], ◌∷◌, ◌++◌, slice_index, flat_map, Option, Some, None, option_map, option_and_then, refl, sym, subst, ap, ◌∙◌, arith}
-use Rattle.std.proofs.lemmas.Bool.{leb-true, ltb-true, lt-ltb}
+use Rattle.std.proofs.lemmas.Bool.{leb-true, ltb-true}
 use Rattle.arn_base.specs.declared.machine.Cpu.{Cpu}
 use Rattle.rv64_isa.specs.declared.instruction.Instr.{Instr}
 use Rattle.rv64_model.specs.Carries.{Operand, Left, Right, Loaded, Address, operands}
 use Rattle.rv64_model.specs.Operands.{accessed, rs1_of, rs2_of}
 use Rattle.parts_model.specs.declared.limits.TheConstants.{WINDOW_START, WINDOW_END, SEGMENT_START, SEGMENT_END}
 use Rattle.set_store.specs.declared.item.Item.{Item}
-use Rattle.set_store.specs.Sets.{IsSet, StandAsBefore, members_of}
+use Rattle.taint_sets.specs.Numbered.{Numbered}
 use Rattle.acts_model.specs.Transfers.{Holds, Place, is_private, is_shared, place_at}
 use Rattle.lineage_model.specs.Flow.{Memory, Register, bytes_at, operand_bytes, register_bytes}
 use Rattle.lineage_model.specs.Tracking.{EventByte, Tracked}
-use Rattle.taint_flow.specs.Gathered.{first_start, number_of}
+use Rattle.taint_flow.specs.Gathered.{number_of}
 use Rattle.taint_flow.specs.Names.{loaded_len}
-use Rattle.taint_flow.specs.Starts as starts
 use Rattle.taint_members.specs.Access.{Segments, held_numbers, number_at}
 use Rattle.taint_members.specs.declared.member.MemberSets.{MemberSets}
 use Rattle.taint_members.specs.declared.member.Shared.{Shared}
@@ -25,7 +24,7 @@ use Rattle.taint_state.specs.RunsShow.{kept_member}
 use Rattle.taint_state.specs.Shown.{AreItems, IsRegisterByte, ShowsMember}
 use Rattle.taint_state.specs.Sound.{IsSound, IsSoundMember}
 use Rattle.taint_state.specs.Steps.{IsWhole}
-use Rattle.taint_state.proofs.Reach.{InReach, all-reach, each-contains, loaded-few}
+use Rattle.taint_state.proofs.Reach.{InReach, all-reach, each-contains}
 
 pub append-none : {X : Type 0} (xs : List X) → xs ++ [] ≡ xs
 append-none [] = refl
@@ -47,10 +46,6 @@ shared-range at h =
 pub true-is : (b : Bool) → b ≡ true → IsTrue b
 true-is b e = e
 
--- what a number of a set shows
-pub items-small : (sets : List (List Item)) (begun n : ℕ) → n < first_start → starts.items_of sets begun n ≡ members_of sets n
-items-small sets begun n h = ap (λ (b : Bool). if b then members_of sets n else record { event = begun; at = n - first_start } ∷ []) (lt-ltb n first_start h)
-
 pub move : (a b : List Item) (bytes : List EventByte) → a ≡ b → AreItems b bytes → AreItems a bytes
 move a b bytes e h = subst (λ l. AreItems l bytes) (sym e) h
 
@@ -65,37 +60,17 @@ module _ (x : Kept) (sound : IsSound x) (pid : ℕ) (m : MemberSets) (segments :
   abbrev holds : Holds
   holds = (kept_member segments m).holds
 
-  zero-shows : (n : ℕ) → n ≡ 0 → AreItems (members_of x.sets n) []
-  zero-shows n e = move (members_of x.sets n) [] [] (ap (members_of x.sets) e ∙ sound.empty) none-items
+  zero-shows : (n : ℕ) → n ≡ 0 → AreItems (items_of x n) []
+  zero-shows n e = move (items_of x n) [] [] (ap (items_of x) e ∙ sound.empty) none-items
 
-  -- the number of a byte of a register that an instruction names is that of a set of these
-  register-is : (numbers : List ℕ) (r i : ℕ) → IsRegister m.registers r numbers → i < 8
-      → AreItems (members_of x.sets (slice_index numbers i)) (flat_map t.locations (register_bytes pid r i)) × IsSet x.sets (slice_index numbers i)
-  register-is numbers zero i is b =
-      let none = is.bytes i b in (
-        zero-shows (slice_index numbers i) none,
-        subst (IsSet x.sets) (sym none) sound.zero,
-      )
-  register-is numbers (suc r) i is b =
-      let same = is.1.bytes i b in
-      let number = byte_in m.registers (suc r) i in
+  -- a byte of a register that an instruction names
+  register-shows : (numbers : List ℕ) (r i : ℕ) → IsRegister m.registers r numbers → i < 8 → AreItems (items_of x (slice_index numbers i)) (flat_map t.locations (register_bytes pid r i))
+  register-shows numbers zero i is b = zero-shows (slice_index numbers i) (is.bytes i b)
+  register-shows numbers (suc r) i is b =
       let bytes = t.locations (Register pid (suc r) i) in
       let place : IsRegisterByte (suc r) i = record { above = omega arith; below = is.0; byte = b } in
-      let there = own.registers (suc r) i place in (
-        move-bytes (members_of x.sets (slice_index numbers i)) (bytes ++ []) bytes (append-none bytes)
-            (move (members_of x.sets (slice_index numbers i)) (items_of x number) bytes (ap (members_of x.sets) same ∙ sym (items-small x.sets x.begun number there.1)) (shows.registers (suc r) i place)),
-        subst (IsSet x.sets) (sym same) there.0,
-      )
-
-  -- the same in sets that were added to
-  register-shows : (mid : List (List Item)) (numbers : List ℕ) (r i : ℕ) → StandAsBefore x.sets mid → IsRegister m.registers r numbers → i < 8
-      → AreItems (members_of mid (slice_index numbers i)) (flat_map t.locations (register_bytes pid r i))
-  register-shows mid numbers r i stand is b =
-      let there = register-is numbers r i is b in
-      move (members_of mid (slice_index numbers i)) (members_of x.sets (slice_index numbers i)) (flat_map t.locations (register_bytes pid r i)) (stand.same (slice_index numbers i) there.1) there.0
-
-  zero-items : (n : ℕ) → n ≡ 0 → AreItems (items_of x n) []
-  zero-items n e = move (items_of x n) (members_of x.sets n) [] (items-small x.sets x.begun n (omega arith)) (zero-shows n e)
+      move-bytes (items_of x (slice_index numbers i)) (bytes ++ []) bytes (append-none bytes)
+      (move (items_of x (slice_index numbers i)) (items_of x (byte_in m.registers (suc r) i)) bytes (ap (items_of x) (is.1.bytes i b)) (shows.registers (suc r) i place))
 
   abbrev at_place : ℕ → ℕ → Place
   at_place a made = record { made = made; at = a }
@@ -121,36 +96,32 @@ module _ (x : Kept) (sound : IsSound x) (pid : ℕ) (m : MemberSets) (segments :
           let range = private-range a p in
           one-byte (slice_index m.window (a - WINDOW_START + k)) (slice_index m.window (a + k - WINDOW_START)) m.made (ap (slice_index m.window) (omega arith))
           (shows.window (a + k) (true-is (is_private (a + k)) ((whole k h).0 ∙ p)))
-      by_place false true None p q e whole = zero-items (slice_index [] (a - SEGMENT_START + k)) refl
+      by_place false true None p q e whole = zero-shows (slice_index [] (a - SEGMENT_START + k)) refl
       by_place false true (Some shared) p q e whole =
           let range = shared-range a q in
           let numbers = held_numbers (Some shared) segments in
           one-byte (slice_index numbers (a - SEGMENT_START + k)) (slice_index numbers (a + k - SEGMENT_START)) shared.made (ap (slice_index numbers) (omega arith))
           (subst (λ v. AreItems (items_of x (slice_index (held_numbers v segments) (a + k - SEGMENT_START))) (t.locations (Memory shared.made (a + k)))) e
           (shows.segment shared.made (a + k) (ap (λ v. option_map (λ (u : Shared). u.made) v) e) (true-is (is_shared (a + k)) ((whole k h).1 ∙ q))))
-      by_place false false s p q e whole = zero-items 0 refl
+      by_place false false s p q e whole = zero-shows 0 refl
 
   read-shows : (acc : Option ℕ) (len k : ℕ) (raw : List ℕ) → IsRead acc len m segments raw → IsWhole (option_and_then (place_at holds) acc) len → k < len
       → AreItems (items_of x (slice_index raw k)) (flat_map t.locations (bytes_at (option_and_then (place_at holds) acc) k))
-  read-shows None len k raw read whole h = zero-items (slice_index raw k) (read.zeros k (omega arith))
+  read-shows None len k raw read whole h = zero-shows (slice_index raw k) (read.zeros k (omega arith))
   read-shows (Some a) len k raw read whole h =
       let place = place_at holds a in
       move (items_of x (slice_index raw k)) (items_of x (number_at m segments a k)) (flat_map t.locations (bytes_at place k)) (ap (items_of x) (read.bytes k h)) (memory-shows a len k whole h)
 
   -- what each operand's number shows
-  pub operands-show : (instr : Instr) (before : Cpu) (new : List (List Item)) (numbers : List ℕ) (takes : Takes x.sets new (record { linkage = x.linkage; begun = x.begun }) instr before m segments numbers) (i : ℕ)
+  pub operands-show : (instr : Instr) (before : Cpu) (new : Numbered) (numbers : List ℕ) (takes : Takes x.sets new x.linkage instr before m segments numbers) (i : ℕ)
       → i < 8 → IsWhole (option_and_then (place_at holds) (accessed instr before)) (loaded_len instr)
-      → OperandsShow takes.mid (number_of takes.first takes.second takes.loaded) t.locations pid instr (option_and_then (place_at holds) (accessed instr before)) (operands x.linkage instr i)
+      → OperandsShow x.sets (number_of takes.first takes.second takes.loaded) t.locations pid instr (option_and_then (place_at holds) (accessed instr before)) (operands x.linkage instr i)
   operands-show instr before new numbers takes i b whole operand c =
       by_operand operand (each-contains (InReach (loaded_len instr)) (operands x.linkage instr i) operand c (all-reach x.linkage instr i b))
     where
       by_operand : (o : Operand) → InReach (loaded_len instr) o
-          → AreItems (members_of takes.mid (number_of takes.first takes.second takes.loaded o)) (flat_map t.locations (operand_bytes pid instr (option_and_then (place_at holds) (accessed instr before)) o))
-      by_operand (Left j) h = register-shows takes.mid takes.first (rs1_of instr) j takes.stand takes.of_first h
-      by_operand (Right j) h = register-shows takes.mid takes.second (rs2_of instr) j takes.stand takes.of_second h
-      by_operand (Address j) h = register-shows takes.mid takes.first (rs1_of instr) j takes.stand takes.of_first h
-      by_operand (Loaded k) h =
-          let few = loaded-few instr in
-          let resolved = takes.resolved.all k (omega arith) in
-          move (members_of takes.mid (slice_index takes.loaded k)) (items_of x (slice_index takes.raw k)) (flat_map t.locations (bytes_at (option_and_then (place_at holds) (accessed instr before)) k)) resolved.members
-          (read-shows (accessed instr before) (loaded_len instr) k takes.raw takes.read whole h)
+          → AreItems (items_of x (number_of takes.first takes.second takes.loaded o)) (flat_map t.locations (operand_bytes pid instr (option_and_then (place_at holds) (accessed instr before)) o))
+      by_operand (Left j) h = register-shows takes.first (rs1_of instr) j takes.of_first h
+      by_operand (Right j) h = register-shows takes.second (rs2_of instr) j takes.of_second h
+      by_operand (Address j) h = register-shows takes.first (rs1_of instr) j takes.of_first h
+      by_operand (Loaded k) h = read-shows (accessed instr before) (loaded_len instr) k takes.loaded takes.read whole h

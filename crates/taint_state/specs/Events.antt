@@ -4,23 +4,21 @@ use Rattle.arn_base.specs.declared.machine.Cpu.{Cpu}
 use Rattle.arn_base.specs.declared.records.Record.{Record}
 use Rattle.parts_model.specs.declared.limits.TheConstants.{SEGMENT_LEN, SEGMENT_START, WINDOW_START}
 use Rattle.parts_model.specs.Numbered.{nth}
-use Rattle.set_store.specs.Sets.{StandAsBefore}
+use Rattle.taint_sets.specs.Numbered.{StandAsBefore}
 use Rattle.acts_model.specs.Moved.{Inside}
 use Rattle.acts_model.specs.Transfers.{Transfer, is_private, is_shared}
-use Rattle.taint_events.specs.Beginning.{AreItemsFrom, AreItemsOfRow, BeginsRegisters, first_number}
-use Rattle.taint_events.specs.Starting.{IsStarted, window_len}
+use Rattle.taint_events.specs.Beginning.{AreItemsFrom, AreItemsOfRow, BeginsRegisters}
+use Rattle.taint_events.specs.Starting.{IsStarted}
 use Rattle.taint_members.specs.Access.{ByTest}
-use Rattle.taint_pages.specs.Pages.{AreUnset, Puts}
-use Rattle.taint_pages.specs.declared.page.Unset.TheVariants.{From}
+use Rattle.taint_pages.specs.Pages.{Puts}
 use Rattle.taint_members.specs.Rows.{AreZero, ClearsResult, IsSaved}
 use Rattle.taint_state.specs.Kept.{Kept, KeptHeard, KeptMember, KeptStart, heard_among}
 use Rattle.taint_state.specs.Shown.{register_bytes}
 use Rattle.taint_state.specs.Steps.{fresh_holds}
 
--- the linkage and the group's begin are as before, and sets stand as before
+-- the linkage is as before, and sets stand as before
 pub record Stays (x y : Kept) : Type 0 where
   pub linkage : y.linkage ≡ x.linkage
-  pub begun : y.begun ≡ x.begun
   pub sets : StandAsBefore x.sets y.sets
 
 -- one event is heard, and all others are as before
@@ -133,28 +131,18 @@ pub record StartsTo (made load : ℕ) (numbers : List ℕ) (block block_len : �
   pub window : IsStarted load numbers (number_at old block) block_len new.window
   pub segment : new.segment ≡ []
 
--- the bytes of a window with which a member begins stand for themselves, or have the sets of their items
-abbrev pub BeginsWindow : Kept → ℕ → List ℕ → Type 0
-BeginsWindow y event window = (AreUnset (From first_number) window_len window × (y.begun ≡ event)) ⊎ AreItemsFrom y.sets event window
-
 -- a member that begins without a parent
 pub record BeginsTo (y : Kept) (event : ℕ) (new : KeptMember) : Type 0 where
   pub holds : new.holds ≡ fresh_holds event
   pub registers : BeginsRegisters y.sets event new.registers
   pub slot : AreItemsOfRow y.sets event register_bytes new.slot
-  pub window : BeginsWindow y event new.window
+  pub window : AreItemsFrom y.sets event new.window
   pub segment : new.segment ≡ []
 
--- no member, no event
-pub record IsNothing (x : Kept) : Type 0 where
-  pub members : (pid : ℕ) → nth x.members pid ≡ None
-  pub heard : (event : ℕ) → heard_among x.heard event ≡ None
-
--- It begins: the event by which the group began stays, or nothing was kept before.
+-- it begins
 pub record Begins (pid event : ℕ) (new : KeptMember) (x y : Kept) : Type 0 where
   pub linkage : y.linkage ≡ x.linkage
   pub sets : StandAsBefore x.sets y.sets
-  pub begun : (y.begun ≡ x.begun) ⊎ IsNothing x
   pub heard : (e : ℕ) → heard_among y.heard e ≡ heard_among x.heard e
   pub members : PutsMember pid (Some new) x.members y.members
 

@@ -59,7 +59,7 @@ DiesShow =
 abbrev pub GivesShow : Type 0
 GivesShow =
     (x y : Kept) (pid event : ℕ) (e : Record) (before : Cpu) (at len : ℕ) (old new : KeptMember) (numbers : List ℕ)
-    → IsSound x → len ≡ event_len e → AreGiven x.sets y.sets x.begun (number_at old at) len numbers → ReturnsTo old new
+    → IsSound x → len ≡ event_len e → AreGiven (number_at old at) len numbers → ReturnsTo old new
     → Becomes pid old (Some new) (plain_heard event numbers) x y
     → Follows (event_by_member pid before (Gives pid (place_of old.holds at len) len) event e) x y
 

@@ -6,9 +6,9 @@ use Rattle.parts_model.specs.Numbered.{nth}
 use Rattle.set_store.specs.declared.item.Item.{Item}
 use Rattle.acts_model.specs.Transfers.{Holds}
 use Rattle.lineage_model.specs.Flow.{At, Byte, StartRegister, StartSlot, StartMemory}
-use Rattle.taint_flow.specs.Starts as starts
 use Rattle.taint_pages.specs.Rows.{byte_in}
 use Rattle.taint_state.specs.Shown.{Heard, Member, Tracking}
+use Rattle.taint_sets.specs.Numbered.{Numbered, members_of}
 
 -- a live member: the memories that it holds, and the numbers of each byte
 pub record KeptMember : Type 0 where
@@ -30,17 +30,16 @@ pub record KeptHeard : Type 0 where
   pub numbers : List ℕ
   pub start : Option KeptStart
 
--- `begun` is the event of the fork that started the group
+-- all of it
 pub record Kept : Type 0 where
   pub linkage : Linkage
-  pub begun : ℕ
-  pub sets : List (List Item)
+  pub sets : Numbered
   pub members : List (Option KeptMember)
   pub heard : List KeptHeard
 
 -- the items for which a number stands
 abbrev pub items_of : Kept → ℕ → List Item
-items_of kept number = starts.items_of kept.sets kept.begun number
+items_of kept number = members_of kept.sets number
 
 -- byte i of register r
 abbrev pub register_items : Kept → List ℕ → ℕ → ℕ → List Item

@@ -3,7 +3,7 @@ use Rattle.std.specs.Prelude.{◌≡◌, ◌≢◌, ℕ, ◌==◌, Bool, false, 
 use Rattle.arn_base.specs.declared.machine.Cpu.{Cpu}
 use Rattle.rv64_isa.specs.declared.instruction.Instr.{Instr}
 use Rattle.parts_model.specs.Numbered.{nth}
-use Rattle.set_store.specs.Sets.{StandAsBefore}
+use Rattle.taint_sets.specs.Numbered.{StandAsBefore}
 use Rattle.taint_members.specs.Access.{Segments, held_numbers}
 use Rattle.taint_members.specs.declared.member.MemberSets.{MemberSets}
 use Rattle.taint_members.specs.declared.member.Shared.{Shared}
@@ -40,7 +40,7 @@ pub record RunsIn (pid : ℕ) (instr : Instr) (before : Cpu) (x y : Kept) : Type
   pub written : Segments
   pub was : nth x.members pid ≡ Some (kept_member segments member)
   pub is : nth y.members pid ≡ Some (kept_member written changed)
-  pub runs : Runs (record { linkage = x.linkage; begun = x.begun }) instr before member changed segments written x.sets y.sets
+  pub runs : Runs x.linkage instr before member changed segments written x.sets y.sets
   pub others : (p : ℕ) → p ≢ pid → nth y.members p ≡ option_map (sees (kept_member written changed)) (nth x.members p)
   pub stand : StandAsBefore x.sets y.sets
   pub rest : y ≡ record x { sets = y.sets; members = y.members }

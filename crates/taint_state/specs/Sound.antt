@@ -2,49 +2,41 @@
 use Rattle.std.specs.Prelude.{◌≡◌, ℕ, ◌<◌, List, [], length, slice_index, Some, None, IfSome}
 use Rattle.parts_model.specs.Numbered.{nth}
 use Rattle.parts_model.specs.declared.limits.TheConstants.{SEGMENT_LEN, WINDOW_LEN}
-use Rattle.set_store.specs.declared.item.Item.{Item}
-use Rattle.set_store.specs.Sets.{IsSet, members_of}
-use Rattle.taint_flow.specs.Gathered.{first_start}
-use Rattle.taint_flow.specs.Starts.{IsRaw}
+use Rattle.taint_sets.specs.Numbered.{IsSet, Numbered, members_of}
 use Rattle.taint_pages.specs.Rows.{byte_in}
 use Rattle.taint_state.specs.Kept.{Kept, KeptHeard, KeptMember, KeptStart, heard_among}
 use Rattle.taint_state.specs.Shown.{IsRegisterByte}
 
 -- all are numbers of sets
-abbrev pub AreSets : List (List Item) → List ℕ → Type 0
-AreSets sets numbers = (k : ℕ) → IsSet sets (slice_index numbers k) × (slice_index numbers k < first_start)
+abbrev pub AreSets : Numbered → List ℕ → Type 0
+AreSets sets numbers = (k : ℕ) → IsSet sets (slice_index numbers k)
 
 -- the bytes of registers have numbers of sets
-abbrev pub AreSetsOfRow : List (List Item) → List ℕ → Type 0
-AreSetsOfRow sets row = (r i : ℕ) → IsRegisterByte r i → IsSet sets (byte_in row r i) × (byte_in row r i < first_start)
+abbrev pub AreSetsOfRow : Numbered → List ℕ → Type 0
+AreSetsOfRow sets row = (r i : ℕ) → IsRegisterByte r i → IsSet sets (byte_in row r i)
 
--- the numbers are those of sets, or of bytes with which the group began
-abbrev pub AreRawIn : List (List Item) → List ℕ → Type 0
-AreRawIn sets numbers = (k : ℕ) → IsRaw sets (slice_index numbers k)
-
--- Registers and slot have sets; in memories, bytes with which the group began may stand for themselves. A window is whole, and so is a
--- segment that is held.
-pub record IsSoundMember (sets : List (List Item)) (m : KeptMember) : Type 0 where
+-- Each byte of registers, slot and memories has a set. A window is whole, and so is a segment that is held.
+pub record IsSoundMember (sets : Numbered) (m : KeptMember) : Type 0 where
   pub registers : AreSetsOfRow sets m.registers
   pub slot : AreSetsOfRow sets m.slot
-  pub window : AreRawIn sets m.window
-  pub segment : AreRawIn sets m.segment
+  pub window : AreSets sets m.window
+  pub segment : AreSets sets m.segment
   pub window_whole : length m.window ≡ WINDOW_LEN
   pub segment_whole : (made : ℕ) → m.holds.segment ≡ Some made → length m.segment ≡ SEGMENT_LEN
   pub unheld : m.holds.segment ≡ None → m.segment ≡ []
 
 -- so is what a child began with
-pub record IsSoundStart (sets : List (List Item)) (start : KeptStart) : Type 0 where
+pub record IsSoundStart (sets : Numbered) (start : KeptStart) : Type 0 where
   pub registers : AreSetsOfRow sets start.registers
   pub slot : AreSetsOfRow sets start.slot
-  pub window : AreRawIn sets start.window
+  pub window : AreSets sets start.window
 
 -- each byte of an event has a set
-pub record IsSoundHeard (sets : List (List Item)) (heard : KeptHeard) : Type 0 where
+pub record IsSoundHeard (sets : Numbered) (heard : KeptHeard) : Type 0 where
   pub numbers : AreSets sets heard.numbers
   pub start : IfSome heard.start (IsSoundStart sets)
 
--- set 0 is the empty one, and all numbers are those of sets, or of bytes with which the group began
+-- set 0 is the empty one, and all numbers are those of sets
 pub record IsSound (x : Kept) : Type 0 where
   pub zero : IsSet x.sets 0
   pub empty : members_of x.sets 0 ≡ []

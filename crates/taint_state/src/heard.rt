@@ -1,5 +1,5 @@
 // The events of a group by number.
-ghost use Rattle.std.specs.Prelude.{◌≡◌, [], true, IfErr, IfOk, OnOk, option_map};
+ghost use Rattle.std.specs.Prelude.{◌≡◌, [], IfErr, IfOk, OnOk, option_map};
 ghost use Rattle.taint_state.specs.Events.{Hears, plain_heard};
 ghost use Rattle.taint_state.specs.Heard.{HasMoved, IsGapFor, IsPlaceOf, heard_in, kept_child, kept_heard};
 ghost use Rattle.taint_state.specs.Kept.{heard_among};
@@ -72,13 +72,6 @@ impl HeardEvents {
         HeardEvents {
             list: Vec::new(alloc),
         }
-    }
-
-    /// None was heard.
-    pub fn is_empty(&self) -> bool
-        ensures { result ≡ true → self.now ≡ [] }
-    {
-        self.list.is_empty()
     }
 
     /// The place of an event, or the one at which it would be.

@@ -5,7 +5,7 @@ use Rattle.rv64_isa.specs.declared.instruction.Instr.{Instr}
 use Rattle.parts_model.specs.Numbered.{nth}
 use Rattle.taint_members.specs.declared.member.MemberSets.{MemberSets}
 use Rattle.taint_steps.specs.Table.{RunsEntry, RunsMember, Tables}
-use Rattle.taint_steps.specs.declared.taking.Rules.{Rules}
+use Rattle.rv64_model.specs.declared.linkage.Linkage.{Linkage}
 
 pub nth-at : {X : Type 0} (xs : List (Option X)) (k : ℕ) (d : Option X) → k < length xs → nth xs k ≡ slice_index_or xs k d
 nth-at [] k d h = absurd (omega arith)
@@ -23,14 +23,14 @@ set-same [] k d h = absurd (omega arith)
 set-same (x ∷ xs) zero d h = refl
 set-same (x ∷ xs) (suc k) d h = ap (λ ys. x ∷ ys) (set-same xs k d (omega arith))
 
-pub runs-entry : {Y E : Type 0} (r : Result Y E) (pid : ℕ) (rules : Rules) (instr : Instr) (before : Cpu) (d after : Option MemberSets) (x y : Tables) → pid < length x.members
+pub runs-entry : {Y E : Type 0} (r : Result Y E) (pid : ℕ) (linkage : Linkage) (instr : Instr) (before : Cpu) (d after : Option MemberSets) (x y : Tables) → pid < length x.members
     → y.members ≡ slice_set x.members pid after
-    → OnOk r (RunsEntry (slice_index_or x.members pid d) after rules instr before x.segments y.segments x.sets y.sets) → OnOk r (RunsMember (nth x.members pid) pid rules instr before x y)
-runs-entry (Err e) pid rules instr before d after x y h is runs = runs
-runs-entry (Ok v) pid rules instr before d after x y h is runs =
-    subst (λ o. RunsMember o pid rules instr before x y) (sym (nth-at x.members pid d h)) (by_entry (slice_index_or x.members pid d) refl runs)
+    → OnOk r (RunsEntry (slice_index_or x.members pid d) after linkage instr before x.segments y.segments x.sets y.sets) → OnOk r (RunsMember (nth x.members pid) pid linkage instr before x y)
+runs-entry (Err e) pid linkage instr before d after x y h is runs = runs
+runs-entry (Ok v) pid linkage instr before d after x y h is runs =
+    subst (λ o. RunsMember o pid linkage instr before x y) (sym (nth-at x.members pid d h)) (by_entry (slice_index_or x.members pid d) refl runs)
   where
-    by_entry : (o : Option MemberSets) → slice_index_or x.members pid d ≡ o → RunsEntry o after rules instr before x.segments y.segments x.sets y.sets → RunsMember o pid rules instr before x y
+    by_entry : (o : Option MemberSets) → slice_index_or x.members pid d ≡ o → RunsEntry o after linkage instr before x.segments y.segments x.sets y.sets → RunsMember o pid linkage instr before x y
     by_entry (Some m) e runs = record { changed = runs.0; runs = runs.2; members = is ∙ ap (slice_set x.members pid) runs.1 }
     by_entry None e runs =
         let members : y.members ≡ x.members = is ∙ ap (slice_set x.members pid) (runs.0 ∙ sym e) ∙ set-same x.members pid d h in
@@ -40,5 +40,5 @@ runs-entry (Ok v) pid rules instr before d after x y h is runs =
         ∙ ap (λ s. record { members = x.members; segments = s; sets = y.sets }) segments
         ∙ ap (λ s. record { members = x.members; segments = x.segments; sets = s }) sets
 
-pub runs-none : (pid : ℕ) (rules : Rules) (instr : Instr) (before : Cpu) (x : Tables) → length x.members ≤ pid → RunsMember (nth x.members pid) pid rules instr before x x
-runs-none pid rules instr before x h = subst (λ o. RunsMember o pid rules instr before x x) (sym (nth-behind x.members pid h)) refl
+pub runs-none : (pid : ℕ) (linkage : Linkage) (instr : Instr) (before : Cpu) (x : Tables) → length x.members ≤ pid → RunsMember (nth x.members pid) pid linkage instr before x x
+runs-none pid linkage instr before x h = subst (λ o. RunsMember o pid linkage instr before x x) (sym (nth-behind x.members pid h)) refl

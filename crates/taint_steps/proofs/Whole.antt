@@ -11,22 +11,19 @@ use Rattle.rv64_isa.specs.declared.instruction.Instr.TheVariants.{Load, Store}
 use Rattle.rv64_model.specs.declared.linkage.Linkage.{Linkage}
 use Rattle.rv64_model.specs.Carries.{operands}
 use Rattle.rv64_model.specs.Operands.{accessed, rd_of, rs1_of, rs2_of, stored_len}
-use Rattle.set_store.specs.declared.item.Item.{Item}
-use Rattle.set_store.specs.Sets.{IsSet, members_of}
+use Rattle.taint_sets.specs.Numbered.{IsSet, Numbered, members_of}
 use Rattle.taint_flow.specs.Flow.{Moves}
-use Rattle.taint_flow.specs.Gathered.{AreNumbers, first_start, number_of}
+use Rattle.taint_flow.specs.Gathered.{AreNumbers, number_of}
 use Rattle.taint_flow.specs.Moving.{MovesLoaded, MovesStored}
 use Rattle.taint_flow.specs.Names.{loaded_len}
 use Rattle.taint_flow.specs.Results.{AreResults}
-use Rattle.taint_flow.specs.Starts.{IsResolved}
-use Rattle.taint_members.specs.Access.{ByTest, Segments, WritesHeld, number_at, shared_number}
+use Rattle.taint_members.specs.Access.{AreFirst, ByTest, Segments, WritesHeld, number_at, shared_number}
 use Rattle.taint_members.specs.declared.member.MemberSets.{MemberSets}
 use Rattle.taint_pages.specs.Pages.{Puts}
-use Rattle.taint_pages.specs.Rows.{AreBelow, PutsFrom, byte_in, number_from}
+use Rattle.taint_pages.specs.Rows.{PutsFrom, byte_in, number_from}
 use Rattle.taint_steps.specs.Running.{Runs, StoresSegment, StoresWindow, WritesRegister}
-use Rattle.taint_steps.specs.Taking.{AreRawIn, AreSetsIn, IsRead, IsRegister}
-use Rattle.taint_steps.specs.declared.taking.Rules.{Rules}
-use Rattle.taint_steps.proofs.NothingLoaded.{nothing, read-none, resolves-none}
+use Rattle.taint_steps.specs.Taking.{AreSetsAt, AreSetsIn, IsRead, IsRegister, no_bytes}
+use Rattle.taint_steps.proofs.NothingLoaded.{nothing, read-none}
 use Rattle.taint_steps.proofs.NothingStored.{segment-none, window-none}
 
 -- eight numbers, by their places
@@ -53,13 +50,6 @@ zero-at zero i = refl
 zero-at (suc n) zero = refl
 zero-at (suc n) (suc i) = zero-at n i
 
--- a number that stands for its own set
-resolves : (sets : List (List Item)) (begun number : ℕ) → IsSet sets number → number < first_start → IsResolved sets sets begun number number
-resolves sets begun number there small = record {
-  there = there;
-  members = ap (λ (t : Bool). if t then members_of sets number else record { event = begun; at = number - first_start } ∷ []) (sym (lt-ltb number first_start small));
-}
-
 -- the window is what it was
 window-same : (at : Option ℕ) (numbers : List ℕ) (m n : MemberSets) → n.window ≡ m.window → StoresWindow at numbers m m → StoresWindow at numbers m n
 window-same None numbers m n e stores = e
@@ -70,13 +60,13 @@ loads-stored : (linkage : Linkage) (instr : Instr) → MovesLoaded linkage instr
 loads-stored linkage (Load op rd rs1 imm) is = refl
 loads-stored linkage other is = absurd is
 
-module _ (sets : List (List Item)) (rules : Rules) (instr : Instr) (before : Cpu) (m n : MemberSets) (segments : Segments) (at reg : ℕ) (first second : List ℕ)
-    (empty : IsSet sets 0) (loads : MovesLoaded rules.linkage instr)
-    (results : (first second loaded numbers : List ℕ) → AreNumbers sets loaded → Moves loaded (loaded_len instr) numbers → AreResults sets sets (number_of first second loaded) (operands rules.linkage instr) numbers)
+module _ (sets : Numbered) (linkage : Linkage) (instr : Instr) (before : Cpu) (m n : MemberSets) (segments : Segments) (at reg : ℕ) (first second : List ℕ)
+    (empty : IsSet sets 0) (loads : MovesLoaded linkage instr)
+    (results : (first second loaded numbers : List ℕ) → AreNumbers sets loaded → Moves loaded (loaded_len instr) numbers → AreResults sets sets (number_of first second loaded) (operands linkage instr) numbers)
     (few : loaded_len instr ≤ 8) (is_at : accessed instr before ≡ Some at) (is_reg : reg ≡ rd_of instr) (above : 0 < reg)
-    (private : IsTrue (is_private at)) (below : AreBelow first_start m.window (at - WINDOW_START) (loaded_len instr))
+    (private : IsTrue (is_private at))
     (puts : PutsFrom m.window (at - WINDOW_START) (loaded_len instr) reg m.registers n.registers) (others : n ≡ record m { registers = n.registers })
-    (of_first : IsRegister m.registers (rs1_of instr) first) (of_second : IsRegister m.registers (rs2_of instr) second) (raw : AreRawIn sets m segments) where
+    (of_first : IsRegister m.registers (rs1_of instr) first) (of_second : IsRegister m.registers (rs2_of instr) second) (raw : AreSetsAt sets m segments) where
   abbrev number : ℕ → ℕ
   number = number_from m.window (at - WINDOW_START) (loaded_len instr)
 
@@ -92,32 +82,17 @@ module _ (sets : List (List Item)) (rules : Rules) (instr : Instr) (before : Cpu
   number-read : (i : ℕ) → slice_index m.window (at - WINDOW_START + i) ≡ number_at m segments at i
   number-read i = sym (ap (λ (t : Bool). if t then slice_index m.window (at - WINDOW_START + i) else shared_number m.segment segments at i) private)
 
-  small : (i : ℕ) → number i < first_start
-  small i = by_test (nat_lt i (loaded_len instr)) refl
-    where
-      by_test : (t : Bool) → nat_lt i (loaded_len instr) ≡ t → number i < first_start
-      by_test true e = let h = ltb-true i (loaded_len instr) e in subst (λ (k : ℕ). k < first_start) (sym (number-in i h)) (below i h)
-      by_test false e = subst (λ (k : ℕ). k < first_start) (sym (number-behind i (ltb-false i (loaded_len instr) e))) (omega arith)
-
   set : (i : ℕ) → IsSet sets (number i)
   set i = by_test (nat_lt i (loaded_len instr)) refl
     where
       by_test : (t : Bool) → nat_lt i (loaded_len instr) ≡ t → IsSet sets (number i)
       by_test true e =
           let h = ltb-true i (loaded_len instr) e in
-          let same = number-in i h ∙ number-read i in
-          subst (IsSet sets) (sym same) (raw at i (subst (λ (k : ℕ). k < first_start) same (small i)))
+          subst (IsSet sets) (sym (number-in i h ∙ number-read i)) (raw at i)
       by_test false e = subst (IsSet sets) (sym (number-behind i (ltb-false i (loaded_len instr) e))) empty
 
   index : (i : ℕ) → i < 8 → slice_index numbers i ≡ number i
   index i h = eight-at number i h
-
-  small-at : (i : ℕ) → slice_index numbers i < first_start
-  small-at i = by_test (nat_lt i 8) refl
-    where
-      by_test : (t : Bool) → nat_lt i 8 ≡ t → slice_index numbers i < first_start
-      by_test true e = subst (λ (k : ℕ). k < first_start) (sym (index i (ltb-true i 8 e))) (small i)
-      by_test false e = subst (λ (k : ℕ). k < first_start) (sym (eight-behind number i (ltb-false i 8 e))) (omega arith)
 
   zeros : (i : ℕ) → loaded_len instr ≤ i → slice_index numbers i ≡ 0
   zeros i h = by_test (nat_lt i 8) refl
@@ -137,7 +112,7 @@ module _ (sets : List (List Item)) (rules : Rules) (instr : Instr) (before : Cpu
   are_numbers = record { len = refl; set = λ i h. subst (IsSet sets) (sym (index i h)) (set i) }
 
   moves : Moves numbers (loaded_len instr) numbers
-  moves = record { len = refl; small = small-at; same = λ i h inside. refl; none = λ i h behind. zeros i behind }
+  moves = record { len = refl; same = λ i h inside. refl; none = λ i h behind. zeros i behind }
 
   register : WritesRegister (rd_of instr) numbers m.registers n.registers
   register r i h = puts r i h ∙ by_test (r == reg) refl ∙ ap (λ (k : ℕ). if (r == k) && nat_lt 0 r then slice_index numbers i else byte_in m.registers r i) is_reg
@@ -149,25 +124,21 @@ module _ (sets : List (List Item)) (rules : Rules) (instr : Instr) (before : Cpu
           rw (e, lt-ltb 0 r some) (sym (index i h))
       by_test false e = rw e refl
 
-  pub loaded-runs : Runs rules instr before m n segments segments sets sets
+  pub loaded-runs : Runs linkage instr before m n segments segments sets sets
   loaded-runs = record {
     numbers = numbers;
     takes = record {
       first = first;
       second = second;
-      raw = numbers;
       loaded = numbers;
-      mid = sets;
       of_first = of_first;
       of_second = of_second;
       read = is_read;
-      resolved = record { len = refl; all = λ i h. resolves sets rules.begun (slice_index numbers i) (are_numbers.set i h) (small-at i) };
-      stand = record { there = λ s h. h; same = λ s h. refl };
       results = results first second numbers numbers are_numbers moves;
     };
     register = register;
-    window = window-same (accessed instr before) (take (stored_len instr) numbers) m n (ap (λ (k : MemberSets). k.window) others) (window-none (accessed instr before) (stored_len instr) numbers m (loads-stored rules.linkage instr loads));
-    segment = segment-none (accessed instr before) (stored_len instr) numbers m.segment segments (loads-stored rules.linkage instr loads);
+    window = window-same (accessed instr before) (take (stored_len instr) numbers) m n (ap (λ (k : MemberSets). k.window) others) (window-none (accessed instr before) (stored_len instr) numbers m (loads-stored linkage instr loads));
+    segment = segment-none (accessed instr before) (stored_len instr) numbers m.segment segments (loads-stored linkage instr loads);
     others = others ∙ ap (λ (w : List ℕ). record m { registers = n.registers; window = w }) (sym (ap (λ (k : MemberSets). k.window) others));
   }
 
@@ -193,9 +164,23 @@ register-len : (row : List ℕ) (reg : ℕ) (numbers : List ℕ) → IsRegister 
 register-len row zero _ is = is.len
 register-len row (suc reg) _ is = is.1.len
 
-register-set : (sets : List (List Item)) (row : List ℕ) (reg : ℕ) (numbers : List ℕ) → IsSet sets 0 → AreSetsIn sets row → IsRegister row reg numbers → (i : ℕ) → i < 8 → IsSet sets (slice_index numbers i)
+register-set : (sets : Numbered) (row : List ℕ) (reg : ℕ) (numbers : List ℕ) → IsSet sets 0 → AreSetsIn sets row → IsRegister row reg numbers → (i : ℕ) → i < 8 → IsSet sets (slice_index numbers i)
 register-set sets row zero numbers empty held is i h = subst (IsSet sets) (sym (is.bytes i h)) empty
 register-set sets row (suc reg) numbers empty held is i h = subst (IsSet sets) (sym (is.1.bytes i h)) (held (suc reg) i (omega arith) is.0 h)
+
+pub register-numbers : (sets : Numbered) (row : List ℕ) (reg : ℕ) (numbers : List ℕ) → IsSet sets 0 → AreSetsIn sets row → IsRegister row reg numbers → AreNumbers sets numbers
+register-numbers sets row reg numbers empty held is = record { len = register-len row reg numbers is; set = register-set sets row reg numbers empty held is }
+
+-- so are those of bytes that are loaded
+first-numbers : (sets : Numbered) (count : ℕ) (number : ℕ → ℕ) (numbers : List ℕ) → IsSet sets 0 → ((k : ℕ) → IsSet sets (number k)) → AreFirst count number numbers → AreNumbers sets numbers
+first-numbers sets count number numbers empty held are = record { len = are.len; set = λ k below. by_test k (nat_lt k count) refl } where
+  by_test : (k : ℕ) (t : Bool) → nat_lt k count ≡ t → IsSet sets (slice_index numbers k)
+  by_test k true e = subst (IsSet sets) (sym (are.bytes k (ltb-true k count e))) (held k)
+  by_test k false e = subst (IsSet sets) (sym (are.zeros k (ltb-false k count e))) empty
+
+pub read-numbers : (sets : Numbered) (at : Option ℕ) (len : ℕ) (m : MemberSets) (segments : Segments) (numbers : List ℕ) → IsSet sets 0 → AreSetsAt sets m segments → IsRead at len m segments numbers → AreNumbers sets numbers
+read-numbers sets None len m segments numbers empty held read = first-numbers sets 0 no_bytes numbers empty (λ k. empty) read
+read-numbers sets (Some at) len m segments numbers empty held read = first-numbers sets len (number_at m segments at) numbers empty (held at) read
 
 -- a store loads nothing, and writes no register
 stores-loaded : (linkage : Linkage) (instr : Instr) → MovesStored linkage instr → loaded_len instr ≡ 0
@@ -214,11 +199,10 @@ writes-none all row (suc r) i h = by_test (suc r == 0) refl
     by_test true e = let is = eqb-true (suc r) 0 e in absurd (omega (arith, is))
     by_test false e = rw e refl
 
-module _ (sets : List (List Item)) (rules : Rules) (instr : Instr) (before : Cpu) (m n : MemberSets) (segments : Segments) (at : ℕ) (first second : List ℕ)
-    (empty : IsSet sets 0) (held : AreSetsIn sets m.registers) (stores : MovesStored rules.linkage instr)
-    (results : (first second loaded numbers : List ℕ) → AreNumbers sets second → Moves second (stored_len instr) numbers → AreResults sets sets (number_of first second loaded) (operands rules.linkage instr) numbers)
+module _ (sets : Numbered) (linkage : Linkage) (instr : Instr) (before : Cpu) (m n : MemberSets) (segments : Segments) (at : ℕ) (first second : List ℕ)
+    (empty : IsSet sets 0) (held : AreSetsIn sets m.registers) (stores : MovesStored linkage instr)
+    (results : (first second loaded numbers : List ℕ) → AreNumbers sets second → Moves second (stored_len instr) numbers → AreResults sets sets (number_of first second loaded) (operands linkage instr) numbers)
     (few : stored_len instr ≤ 8) (is_at : accessed instr before ≡ Some at) (private : IsTrue (is_private at))
-    (small : (i : ℕ) → i < length (take (stored_len instr) second) → slice_index (take (stored_len instr) second) i < first_start)
     (puts : Puts (at - WINDOW_START) (take (stored_len instr) second) m.window n.window) (others : n ≡ record m { window = n.window })
     (of_first : IsRegister m.registers (rs1_of instr) first) (of_second : IsRegister m.registers (rs2_of instr) second) where
   abbrev len : ℕ
@@ -242,22 +226,12 @@ module _ (sets : List (List Item)) (rules : Rules) (instr : Instr) (before : Cpu
   filled-high : (i : ℕ) → len ≤ i → slice_index filled i ≡ 0
   filled-high i h = get_or-append_right taken (replicate (8 - len) 0) len i 0 taken-len h ∙ zero-at (8 - len) (i - len)
 
-  filled-small : (i : ℕ) → slice_index filled i < first_start
-  filled-small i = by_test (nat_lt i len) refl
-    where
-      by_test : (t : Bool) → nat_lt i len ≡ t → slice_index filled i < first_start
-      by_test true e =
-          let h = ltb-true i len e in
-          subst (λ (k : ℕ). k < first_start) (sym (filled-low i h)) (small i (subst (λ (k : ℕ). i < k) (sym taken-len) h))
-      by_test false e = subst (λ (k : ℕ). k < first_start) (sym (filled-high i (ltb-false i len e))) (omega arith)
-
   filled-take : take len filled ≡ taken
   filled-take = ap (λ (k : ℕ). take k filled) (sym taken-len) ∙ take-append_seam taken (replicate (8 - len) 0)
 
   moving : Moves second len filled
   moving = record {
     len = filled-len;
-    small = filled-small;
     same = λ i h inside. filled-low i inside ∙ get_or-take len second i 0 inside;
     none = λ i h behind. filled-high i behind;
   }
@@ -272,23 +246,19 @@ module _ (sets : List (List Item)) (rules : Rules) (instr : Instr) (before : Cpu
       subst (λ (o : Option ℕ). StoresSegment o (take len filled) m.segment segments segments) (sym is_at)
       (subst (λ (t : Bool). ByTest t (WritesHeld at (take len filled) m.segment segments segments) (segments ≡ segments)) (sym (not-shared at private)) refl)
 
-  pub stored-runs : Runs rules instr before m n segments segments sets sets
+  pub stored-runs : Runs linkage instr before m n segments segments sets sets
   stored-runs = record {
     numbers = filled;
     takes = record {
       first = first;
       second = second;
-      raw = nothing;
       loaded = nothing;
-      mid = sets;
       of_first = of_first;
       of_second = of_second;
-      read = read-none (accessed instr before) (loaded_len instr) m segments (stores-loaded rules.linkage instr stores);
-      resolved = resolves-none sets rules.begun empty;
-      stand = record { there = λ s h. h; same = λ s h. refl };
+      read = read-none (accessed instr before) (loaded_len instr) m segments (stores-loaded linkage instr stores);
       results = results first second nothing filled (record { len = register-len m.registers (rs2_of instr) second of_second; set = λ i h. register-set sets m.registers (rs2_of instr) second empty held of_second i h }) moving;
     };
-    register = subst (λ (k : MemberSets). WritesRegister (rd_of instr) filled m.registers k.registers) (sym others) (subst (λ (rd : ℕ). WritesRegister rd filled m.registers m.registers) (sym (stores-rd rules.linkage instr stores)) (writes-none filled m.registers));
+    register = subst (λ (k : MemberSets). WritesRegister (rd_of instr) filled m.registers k.registers) (sym others) (subst (λ (rd : ℕ). WritesRegister rd filled m.registers m.registers) (sym (stores-rd linkage instr stores)) (writes-none filled m.registers));
     window = window;
     segment = segment;
     others = others ∙ ap (λ (r : List ℕ). record m { registers = r; window = n.window }) (sym (ap (λ (k : MemberSets). k.registers) others));

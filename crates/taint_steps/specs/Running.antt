@@ -3,13 +3,13 @@ use Rattle.std.specs.Prelude.{◌≡◌, ℕ, ◌<◌, nat_lt, ◌==◌, ◌&&�
 use Rattle.arn_base.specs.declared.machine.Cpu.{Cpu}
 use Rattle.rv64_isa.specs.declared.instruction.Instr.{Instr}
 use Rattle.rv64_model.specs.Operands.{accessed, rd_of, stored_len}
-use Rattle.set_store.specs.declared.item.Item.{Item}
 use Rattle.taint_members.specs.Access.{Segments, WritesSegment, WritesWindow}
 use Rattle.taint_members.specs.declared.member.MemberSets.{MemberSets}
 use Rattle.taint_members.specs.declared.member.Shared.{Shared}
 use Rattle.taint_pages.specs.Rows.{byte_in}
 use Rattle.taint_steps.specs.Taking.{Takes}
-use Rattle.taint_steps.specs.declared.taking.Rules.{Rules}
+use Rattle.rv64_model.specs.declared.linkage.Linkage.{Linkage}
+use Rattle.taint_sets.specs.Numbered.{Numbered}
 
 -- the bytes of one register have other numbers. x0 is never written
 abbrev pub WritesRegister : ℕ → List ℕ → List ℕ → List ℕ → Type 0
@@ -27,9 +27,9 @@ StoresSegment None numbers segment old new = new ≡ old
 StoresSegment (Some at) numbers segment old new = WritesSegment at numbers segment old new
 
 -- What is taken becomes that of the register that is written, and of the bytes that are stored. All other bytes keep what they had.
-pub record Runs (rules : Rules) (instr : Instr) (before : Cpu) (m n : MemberSets) (segments written : Segments) (old new : List (List Item)) : Type 0 where
+pub record Runs (linkage : Linkage) (instr : Instr) (before : Cpu) (m n : MemberSets) (segments written : Segments) (old new : Numbered) : Type 0 where
   pub numbers : List ℕ
-  pub takes : Takes old new rules instr before m segments numbers
+  pub takes : Takes old new linkage instr before m segments numbers
   pub register : WritesRegister (rd_of instr) numbers m.registers n.registers
   pub window : StoresWindow (accessed instr before) (take (stored_len instr) numbers) m n
   pub segment : StoresSegment (accessed instr before) (take (stored_len instr) numbers) m.segment segments written

@@ -4,16 +4,14 @@ use Rattle.arn_base.specs.declared.machine.Cpu.{Cpu}
 use Rattle.rv64_isa.specs.declared.instruction.Instr.{Instr}
 use Rattle.rv64_model.specs.Carries.{operands}
 use Rattle.rv64_model.specs.Operands as named
-use Rattle.set_store.specs.declared.item.Item.{Item}
-use Rattle.set_store.specs.Sets.{IsSet, StandAsBefore}
+use Rattle.taint_sets.specs.Numbered.{IsSet, Numbered, StandAsBefore}
 use Rattle.taint_flow.specs.Gathered.{number_of}
 use Rattle.taint_flow.specs.Names.{loaded_len}
 use Rattle.taint_flow.specs.Results.{AreResults}
-use Rattle.taint_flow.specs.Starts.{AreResolved, IsRaw}
 use Rattle.taint_members.specs.Access.{AreFirst, AreRead, Segments, number_at}
 use Rattle.taint_members.specs.declared.member.MemberSets.{MemberSets}
 use Rattle.taint_pages.specs.Rows.{AreBytes, byte_in}
-use Rattle.taint_steps.specs.declared.taking.Rules.{Rules}
+use Rattle.rv64_model.specs.declared.linkage.Linkage.{Linkage}
 
 -- zeros, where nothing is named
 abbrev pub no_bytes : ℕ → ℕ
@@ -30,29 +28,19 @@ IsRead None len m segments numbers = AreFirst 0 no_bytes numbers
 IsRead (Some at) len m segments numbers = AreRead m segments at len numbers
 
 -- the numbers of registers, but of x0, are those of sets
-abbrev pub AreSetsIn : List (List Item) → List ℕ → Type 0
+abbrev pub AreSetsIn : Numbered → List ℕ → Type 0
 AreSetsIn sets row = (r i : ℕ) → 0 < r → r < 32 → i < 8 → IsSet sets (byte_in row r i)
 
--- those of memories are those of sets, or of bytes with which the group began
-abbrev pub AreRawIn : List (List Item) → MemberSets → Segments → Type 0
-AreRawIn sets m segments = (at k : ℕ) → IsRaw sets (number_at m segments at k)
+-- so are those of memories
+abbrev pub AreSetsAt : Numbered → MemberSets → Segments → Type 0
+AreSetsAt sets m segments = (at k : ℕ) → IsSet sets (number_at m segments at k)
 
--- The sets of what is loaded: of the numbers that stand there, each of which has a set then.
-pub record Loads (old mid : List (List Item)) (rules : Rules) (instr : Instr) (before : Cpu) (m : MemberSets) (segments : Segments) (loaded : List ℕ) : Type 0 where
-  pub raw : List ℕ
-  pub read : IsRead (named.accessed instr before) (loaded_len instr) m segments raw
-  pub resolved : AreResolved old mid rules.begun raw loaded
-
--- What was taken: by the bytes of both registers, and by those that are loaded, each of which has a set then.
-pub record Takes (old new : List (List Item)) (rules : Rules) (instr : Instr) (before : Cpu) (m : MemberSets) (segments : Segments) (numbers : List ℕ) : Type 0 where
+-- What was taken: by the bytes of both registers, and by those that are loaded.
+pub record Takes (old new : Numbered) (linkage : Linkage) (instr : Instr) (before : Cpu) (m : MemberSets) (segments : Segments) (numbers : List ℕ) : Type 0 where
   pub first : List ℕ
   pub second : List ℕ
-  pub raw : List ℕ
   pub loaded : List ℕ
-  pub mid : List (List Item)
   pub of_first : IsRegister m.registers (named.rs1_of instr) first
   pub of_second : IsRegister m.registers (named.rs2_of instr) second
-  pub read : IsRead (named.accessed instr before) (loaded_len instr) m segments raw
-  pub resolved : AreResolved old mid rules.begun raw loaded
-  pub stand : StandAsBefore old mid
-  pub results : AreResults mid new (number_of first second loaded) (operands rules.linkage instr) numbers
+  pub read : IsRead (named.accessed instr before) (loaded_len instr) m segments loaded
+  pub results : AreResults old new (number_of first second loaded) (operands linkage instr) numbers

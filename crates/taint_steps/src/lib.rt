@@ -8,4 +8,4 @@ mod taking;
 
 pub use running::run;
 pub use table::run_member;
-pub use taking::{Rules, taken};
+pub use taking::taken;

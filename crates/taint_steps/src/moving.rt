@@ -2,29 +2,27 @@
 ghost use Rattle.std.specs.Prelude.{◌≡◌, ◌<◌, ◌≤◌, ◌-◌, IsTrue, false, IfOk};
 ghost use Rattle.acts_model.specs.Transfers.{is_private};
 ghost use Rattle.parts_model.specs.declared.limits.TheConstants as limits;
-ghost use Rattle.taint_flow.specs.Gathered.{first_start};
 ghost use Rattle.taint_members.specs.Access.{Segments};
-ghost use Rattle.taint_pages.specs.Rows.{AreBelow, PutsFrom};
+ghost use Rattle.taint_pages.specs.Rows.{PutsFrom};
 ghost use Rattle.taint_steps.specs.Running.{Runs};
-ghost use Rattle.taint_steps.specs.Taking.{AreRawIn, AreSetsIn};
+ghost use Rattle.taint_steps.specs.Taking.{AreSetsAt, AreSetsIn};
 
-use crate::taking::{Rules, bytes_of, registers};
+use crate::taking::{bytes_of, registers};
 use arn_base::{Cpu, NoMemory};
 use rv64_core::accessed;
 use rv64_isa::{Instr, Reg};
-use set_store::Sets;
-use taint_flow::{FIRST_START, loaded_len, moves_loaded, moves_stored, rd, rs2, stored_len};
-use taint_members::{MemberSets, load_below, write_window};
-use taint_pages::are_below;
+use rv64_model::Linkage;
+use taint_flow::{loaded_len, moves_loaded, moves_stored, rd, rs2, stored_len};
+use taint_members::{MemberSets, load_window, write_window};
+use taint_sets::ByteSets;
 
-/// Sets the numbers of a register to those of so many bytes from an address in the private window on, and zeros behind them, where
-/// it isn't x0 and these are those of sets. False says that nothing was done.
+/// Sets the numbers of a register that isn't x0 to those of so many bytes from an address in the private window on, and zeros behind
+/// them. False says that the register is x0, or the address lies elsewhere: then nothing was done.
 #[inline(always)]
 fn load_to(member: &mut MemberSets, at: u64, len: usize, reg: Reg) -> bool
     requires { len ≤ 8 }
     ensures above { IsTrue result → 0 < reg }
     ensures private { IsTrue result → IsTrue (is_private at) }
-    ensures below { IsTrue result → AreBelow first_start member.old.window (at - limits.WINDOW_START) len }
     ensures puts { IsTrue result → PutsFrom member.old.window (at - limits.WINDOW_START) len reg
         member.old.registers member.new.registers }
     ensures others { member.new ≡ record member.old { registers = member.new.registers } }
@@ -33,24 +31,24 @@ fn load_to(member: &mut MemberSets, at: u64, len: usize, reg: Reg) -> bool
     if reg.number() == 0 {
         return false;
     }
-    load_below(member, at, len, FIRST_START, reg)
+    load_window(member, at, len, reg)
 }
 
-/// Moves the sets of the bytes that an instruction loads to its register, if that is all that it does to sets and each of the
-/// bytes has one already. False says that nothing was done.
+/// Moves the sets of the bytes that an instruction loads from the private window to its register, if that is all that it does to
+/// sets. False says that nothing was done.
 #[inline(always)]
 pub fn move_loaded(
-    sets: &Sets,
-    rules: &Rules,
+    sets: &ByteSets,
+    linkage: Linkage,
     instr: &Instr,
     before: &Cpu,
     member: &mut MemberSets,
 ) -> bool
-    ensures runs { IsTrue result → (segments : Segments) → AreRawIn sets.now member.old segments →
-        Runs rules.now instr.now before.now member.old member.new segments segments sets.now sets.now }
+    ensures runs { IsTrue result → (segments : Segments) → AreSetsAt sets.now member.old segments →
+        Runs linkage instr.now before.now member.old member.new segments segments sets.now sets.now }
     ensures kept { result ≡ false → member.new ≡ member.old }
 {
-    if !moves_loaded(sets, rules.linkage, instr) {
+    if !moves_loaded(sets, linkage, instr) {
         return false;
     }
     let _ = sets.empty();
@@ -68,18 +66,18 @@ pub fn move_loaded(
 /// sets. False says that nothing was done.
 #[inline(always)]
 pub fn move_stored(
-    sets: &Sets,
-    rules: &Rules,
+    sets: &ByteSets,
+    linkage: Linkage,
     instr: &Instr,
     before: &Cpu,
     member: &mut MemberSets,
 ) -> Result<bool, NoMemory>
     requires { AreSetsIn sets.now member.old.registers }
     ensures runs { IfOk result (λ done. IsTrue done → (segments : Segments) →
-        Runs rules.now instr.now before.now member.old member.new segments segments sets.now sets.now) }
+        Runs linkage instr.now before.now member.old member.new segments segments sets.now sets.now) }
     ensures kept { IfOk result (λ done. done ≡ false → member.new ≡ member.old) }
 {
-    if !moves_stored(sets, rules.linkage, instr) {
+    if !moves_stored(sets, linkage, instr) {
         return Ok(false);
     }
     let _ = sets.empty();
@@ -88,8 +86,5 @@ pub fn move_stored(
         return Ok(false);
     };
     let numbers = &bytes_of(&member.registers, rs2(instr))[..stored_len(instr)];
-    if !are_below(numbers, FIRST_START) {
-        return Ok(false);
-    }
     write_window(&mut member.window, at, numbers)
 }

@@ -1,20 +1,21 @@
 // An instruction of a member.
 ghost use Rattle.std.specs.Prelude.{◌≡◌, take, length, unwrap_or, OnOk};
 ghost use Rattle.rv64_model.specs.Operands as operands;
-ghost use Rattle.set_store.specs.Sets.{StandAsBefore};
+ghost use Rattle.taint_sets.specs.Numbered.{StandAsBefore};
 ghost use Rattle.taint_members.specs.Access.{HoldsKey};
 ghost use Rattle.taint_steps.specs.Running.{Runs, StoresSegment, StoresWindow, WritesRegister};
-ghost use Rattle.taint_steps.specs.Taking.{AreRawIn, AreSetsIn};
+ghost use Rattle.taint_steps.specs.Taking.{AreSetsAt, AreSetsIn};
 
 use crate::moving::{move_loaded, move_stored};
-use crate::taking::{Rules, registers, taken};
+use crate::taking::{registers, taken};
 use arn_base::{Cpu, NoMemory};
 use rv64_core::accessed;
 use rv64_isa::{Instr, Reg};
-use set_store::Sets;
+use rv64_model::Linkage;
 use taint_flow::{rd, silent, stored_len};
 use taint_members::{MemberSets, write};
 use taint_pages::{Row, SetNumbers};
+use taint_sets::ByteSets;
 
 /// Sets the numbers of the register that is written, if there is one that isn't x0.
 #[inline(always)]
@@ -62,8 +63,8 @@ fn store(
 // place in memory.
 #[inline(never)]
 fn run_any(
-    sets: &mut Sets,
-    rules: &Rules,
+    sets: &mut ByteSets,
+    linkage: Linkage,
     instr: Instr,
     before: &Cpu,
     member: &mut MemberSets,
@@ -71,13 +72,13 @@ fn run_any(
 ) -> Result<(), NoMemory>
     requires held { HoldsKey member.old.segment segments.old }
     requires registers { AreSetsIn sets.old member.old.registers }
-    requires memory { AreRawIn sets.old member.old segments.old }
-    ensures runs { OnOk result (Runs rules.now instr before.now member.old member.new
+    requires memory { AreSetsAt sets.old member.old segments.old }
+    ensures runs { OnOk result (Runs linkage instr before.now member.old member.new
         segments.old segments.new sets.old sets.new) }
     ensures before { StandAsBefore sets.old sets.new }
     ensures keys { length segments.new ≡ length segments.old }
 {
-    let numbers = taken(sets, rules, &instr, before, member, segments)?;
+    let numbers = taken(sets, linkage, &instr, before, member, segments)?;
     write_register(&mut member.registers, rd(&instr), &numbers);
     store(&instr, before, member, segments, &numbers)
 }
@@ -86,8 +87,8 @@ fn run_any(
 /// of what it takes.
 #[inline(always)]
 pub fn run(
-    sets: &mut Sets,
-    rules: &Rules,
+    sets: &mut ByteSets,
+    linkage: Linkage,
     instr: &Instr,
     before: &Cpu,
     member: &mut MemberSets,
@@ -95,24 +96,24 @@ pub fn run(
 ) -> Result<(), NoMemory>
     requires held { HoldsKey member.old.segment segments.old }
     requires registers { AreSetsIn sets.old member.old.registers }
-    requires memory { AreRawIn sets.old member.old segments.old }
-    ensures runs { OnOk result (Runs rules.now instr.now before.now member.old member.new
+    requires memory { AreSetsAt sets.old member.old segments.old }
+    ensures runs { OnOk result (Runs linkage instr.now before.now member.old member.new
         segments.old segments.new sets.old sets.new) }
     ensures before { StandAsBefore sets.old sets.new }
     ensures keys { length segments.new ≡ length segments.old }
 {
-    if let Some(numbers) = silent(sets, rules.linkage, instr) {
+    if let Some(numbers) = silent(sets, linkage, instr) {
         // Asked for what is promised of both: nothing is done with them.
         let _ = sets.empty();
         let _ = registers(instr, member);
         write_register(&mut member.registers, rd(instr), &numbers);
         return Ok(());
     }
-    if move_loaded(sets, rules, instr, before, member) {
+    if move_loaded(sets, linkage, instr, before, member) {
         return Ok(());
     }
-    if move_stored(sets, rules, instr, before, member)? {
+    if move_stored(sets, linkage, instr, before, member)? {
         return Ok(());
     }
-    run_any(sets, rules, *instr, before, member, segments)
+    run_any(sets, linkage, *instr, before, member, segments)
 }

@@ -1,35 +1,35 @@
 // An instruction of a member by its number.
 ghost use Rattle.std.specs.Prelude.{◌≡◌, length, IfSome, OnOk};
 ghost use Rattle.parts_model.specs.Numbered.{nth};
-ghost use Rattle.set_store.specs.Sets.{StandAsBefore};
+ghost use Rattle.taint_sets.specs.Numbered.{StandAsBefore};
 ghost use Rattle.taint_steps.specs.Table.{IsReady, RunsEntry, RunsMember};
 
 use crate::running::run;
-use crate::taking::Rules;
 use arn_base::{Cpu, NoMemory};
 use rv64_isa::Instr;
-use set_store::Sets;
+use rv64_model::Linkage;
 use taint_members::MemberSets;
 use taint_pages::SetNumbers;
+use taint_sets::ByteSets;
 
 /// A member runs an instruction that the next one follows, if there is one.
 #[inline(always)]
 fn run_entry(
-    sets: &mut Sets,
-    rules: &Rules,
+    sets: &mut ByteSets,
+    linkage: Linkage,
     instr: &Instr,
     before: &Cpu,
     entry: &mut Option<MemberSets>,
     segments: &mut [SetNumbers],
 ) -> Result<(), NoMemory>
     requires { IfSome entry.old (IsReady sets.old segments.old) }
-    ensures runs { OnOk result (RunsEntry entry.old entry.new rules.now instr.now before.now
+    ensures runs { OnOk result (RunsEntry entry.old entry.new linkage instr.now before.now
         segments.old segments.new sets.old sets.new) }
     ensures before { StandAsBefore sets.old sets.new }
     ensures keys { length segments.new ≡ length segments.old }
 {
     match entry {
-        Some(member) => run(sets, rules, instr, before, member, segments),
+        Some(member) => run(sets, linkage, instr, before, member, segments),
         None => Ok(()),
     }
 }
@@ -38,8 +38,8 @@ fn run_entry(
 /// changed.
 #[inline(always)]
 pub fn run_member(
-    sets: &mut Sets,
-    rules: &Rules,
+    sets: &mut ByteSets,
+    linkage: Linkage,
     instr: &Instr,
     before: &Cpu,
     pid: u32,
@@ -47,7 +47,7 @@ pub fn run_member(
     segments: &mut [SetNumbers],
 ) -> Result<(), NoMemory>
     requires { IfSome (nth members.old pid) (IsReady sets.old segments.old) }
-    ensures runs { OnOk result (RunsMember (nth members.old pid) pid rules.now instr.now before.now
+    ensures runs { OnOk result (RunsMember (nth members.old pid) pid linkage instr.now before.now
         record { members = members.old; segments = segments.old; sets = sets.old }
         record { members = members.new; segments = segments.new; sets = sets.new }) }
     ensures before { StandAsBefore sets.old sets.new }
@@ -56,7 +56,7 @@ pub fn run_member(
 {
     let place = pid as usize;
     if place < members.len() {
-        run_entry(sets, rules, instr, before, &mut members[place], segments)
+        run_entry(sets, linkage, instr, before, &mut members[place], segments)
     } else {
         Ok(())
     }

@@ -1,27 +1,20 @@
 // The sets of what an instruction writes.
 ghost use Rattle.std.specs.Prelude.{◌≡◌, ◌<◌, ℕ, IfOk, unwrap_or};
 ghost use Rattle.rv64_model.specs.Operands as operands;
-ghost use Rattle.set_store.specs.Sets.{StandAsBefore};
+ghost use Rattle.taint_sets.specs.Numbered.{StandAsBefore};
 ghost use Rattle.taint_flow.specs.Names as names;
 ghost use Rattle.taint_members.specs.Access.{HoldsKey};
 ghost use Rattle.taint_pages.specs.Rows.{AreBytes};
-ghost use Rattle.taint_steps.specs.Taking.{AreRawIn, AreSetsIn, IsRead, IsRegister, Loads, Takes};
+ghost use Rattle.taint_steps.specs.Taking.{AreSetsAt, AreSetsIn, IsRead, IsRegister, Takes};
 
 use arn_base::{Cpu, NoMemory};
 use rv64_core::accessed;
 use rv64_isa::{Instr, Reg};
 use rv64_model::Linkage;
-use set_store::Sets;
-use taint_flow::{loaded_len, resolve_all, results, rs1, rs2};
+use taint_flow::{loaded_len, results, rs1, rs2};
 use taint_members::{MemberSets, read};
 use taint_pages::{Row, SetNumbers};
-
-/// The linkage under which bytes are followed, and the event by which the group began.
-#[derive(Clone, Copy, Debug)]
-pub struct Rules {
-    pub linkage: Linkage,
-    pub begun: u64,
-}
+use taint_sets::ByteSets;
 
 /// The numbers of no bytes.
 static NO_BYTES: [u32; 8] = [0; 8];
@@ -56,40 +49,21 @@ fn loaded(instr: &Instr, before: &Cpu, member: &MemberSets, segments: &[SetNumbe
     ensures { IsRead (operands.accessed instr.now before.now) (names.loaded_len instr.now)
         member.now segments.now result }
 {
+    let len = loaded_len(instr);
+    if len == 0 {
+        return [0; 8];
+    }
     match accessed(instr, before) {
-        Some(at) => read(member, segments, at, loaded_len(instr)),
+        Some(at) => read(member, segments, at, len),
         None => [0; 8],
     }
-}
-
-/// The sets of the bytes that an instruction loads, and the empty set behind them.
-#[inline(always)]
-fn loaded_sets(
-    sets: &mut Sets,
-    rules: &Rules,
-    instr: &Instr,
-    before: &Cpu,
-    member: &MemberSets,
-    segments: &[SetNumbers],
-) -> Result<[u32; 8], NoMemory>
-    requires held { HoldsKey member.now.segment segments.now }
-    requires memory { AreRawIn sets.old member.now segments.now }
-    ensures loads { IfOk result
-        (Loads sets.old sets.new rules.now instr.now before.now member.now segments.now) }
-    ensures before { StandAsBefore sets.old sets.new }
-{
-    let _ = sets.empty();
-    if loaded_len(instr) == 0 {
-        return Ok([0; 8]);
-    }
-    resolve_all(sets, rules.begun, &loaded(instr, before, member, segments))
 }
 
 /// The sets of the bytes that an instruction writes to its register, or of those that it stores.
 #[inline(always)]
 pub fn taken(
-    sets: &mut Sets,
-    rules: &Rules,
+    sets: &mut ByteSets,
+    linkage: Linkage,
     instr: &Instr,
     before: &Cpu,
     member: &MemberSets,
@@ -97,12 +71,13 @@ pub fn taken(
 ) -> Result<[u32; 8], NoMemory>
     requires held { HoldsKey member.now.segment segments.now }
     requires registers { AreSetsIn sets.old member.now.registers }
-    requires memory { AreRawIn sets.old member.now segments.now }
+    requires memory { AreSetsAt sets.old member.now segments.now }
     ensures takes { IfOk result
-        (Takes sets.old sets.new rules.now instr.now before.now member.now segments.now) }
+        (Takes sets.old sets.new linkage instr.now before.now member.now segments.now) }
     ensures before { StandAsBefore sets.old sets.new }
 {
-    let loaded = loaded_sets(sets, rules, instr, before, member, segments)?;
+    let _ = sets.empty();
+    let loaded = loaded(instr, before, member, segments);
     let (first, second) = registers(instr, member);
-    results(sets, rules.linkage, instr, first, second, &loaded)
+    results(sets, linkage, instr, first, second, &loaded)
 }

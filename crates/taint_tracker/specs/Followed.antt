@@ -10,11 +10,11 @@ use Rattle.taint_state.specs.Shown.{Tracking}
 
 -- no member, no event
 abbrev pub nothing_kept : Linkage → Kept
-nothing_kept linkage = record { linkage = linkage; begun = 0; sets = []; members = []; heard = [] }
+nothing_kept linkage = record { linkage = linkage; sets = record { kept = []; runs = [] }; members = []; heard = [] }
 
 -- what is kept of a group, if it isn't lost
 abbrev pub kept_unless : Bool → Group → Kept
-kept_unless lost g = if lost then nothing_kept g.rules.linkage else kept_of g
+kept_unless lost g = if lost then nothing_kept g.linkage else kept_of g
 
 -- a step failed
 abbrev pub IsLost : Kept → Type 0

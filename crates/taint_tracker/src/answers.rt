@@ -3,7 +3,6 @@ ghost use Rattle.std.specs.Prelude.{◌≡◌, ◌<◌, ◌+◌, ◌-◌, ◌/�
 ghost use Rattle.acts_model.specs.Transfers.{is_private, is_shared};
 ghost use Rattle.parts_model.specs.declared.limits.TheConstants as limits;
 ghost use Rattle.parts_model.specs.Numbered.{nth};
-ghost use Rattle.taint_flow.specs.Starts.{IsRaw, items_of};
 ghost use Rattle.taint_members.specs.Access.{HoldsKey, held_numbers};
 ghost use Rattle.taint_members.specs.declared.member.Shared.{Shared};
 ghost use Rattle.taint_pages.specs.Rows.{byte_in};
@@ -18,8 +17,6 @@ ghost use Rattle.taint_tracker.specs.Numbered as numbers;
 use crate::items::KeptItems;
 use parts_model::limits::{SEGMENT_END, SEGMENT_START, WINDOW_END, WINDOW_START};
 use rv64_isa::Reg;
-use set_store::{Item, Sets};
-use taint_flow::FIRST_START;
 use taint_group::Group;
 use taint_members::{MemberSets, Shared};
 use taint_pages::{Row, SetNumbers};
@@ -27,24 +24,6 @@ use taint_state::{ChildStart, HeardEvent, Point};
 
 /// How many bytes 31 registers have.
 const REGISTER_BYTES: u64 = 248;
-
-/// The items for which a number stands.
-fn lent(sets: &Sets, begun: u64, number: u32) -> KeptItems<'_>
-    requires raw { IsRaw sets.now number }
-    ensures { listed result ≡ items_of sets.now begun number }
-{
-    if number < FIRST_START {
-        KeptItems::Set {
-            sets,
-            set: number as usize,
-        }
-    } else {
-        KeptItems::One(Item {
-            event: begun,
-            at: u64::from(number - FIRST_START),
-        })
-    }
-}
 
 /// The number at a place, if there is one.
 fn number_at(numbers: &[u32], place: usize) -> Option<u32>
@@ -236,7 +215,10 @@ pub fn local(group: &Group, point: Point) -> Option<KeptItems<'_>>
     ensures { option_map listed result ≡ answer (shown (kept_of group.now)) point }
 {
     match number(group, point) {
-        Some(number) => Some(lent(&group.sets, group.rules.begun, number)),
+        Some(set) => Some(KeptItems::Set {
+            sets: &group.sets,
+            set,
+        }),
         None => None,
     }
 }

@@ -3,18 +3,17 @@ ghost use Rattle.std.specs.Prelude.{◌≡◌, IfOk};
 ghost use Rattle.taint_tracker.specs.Items.{listed};
 
 use arn_base::NoMemory;
-use set_store::{Item, Sets};
+use set_store::Item;
 use std::alloc::Global;
+use taint_sets::ByteSets;
 
 /// The items of a byte of an event, as they are kept.
 #[derive(Clone, Copy)]
 pub enum KeptItems<'a> {
     /// None, which needs no sets.
     Nothing,
-    /// One alone, which has no set.
-    One(Item),
     /// Those of one of these sets.
-    Set { sets: &'a Sets, set: usize },
+    Set { sets: &'a ByteSets, set: u32 },
 }
 
 impl<'a> KeptItems<'a> {
@@ -24,14 +23,7 @@ impl<'a> KeptItems<'a> {
     {
         match self {
             KeptItems::Nothing => Ok(Vec::new(alloc)),
-            KeptItems::One(item) => Ok(Vec::from_slice(alloc, &[*item])?),
-            KeptItems::Set { sets, set } => {
-                if *set < sets.len() {
-                    sets.members(*set)
-                } else {
-                    Ok(Vec::new(alloc))
-                }
-            }
+            KeptItems::Set { sets, set } => sets.members(*set),
         }
     }
 }

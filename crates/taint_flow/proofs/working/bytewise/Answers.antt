@@ -1,7 +1,8 @@
 use Rattle.std.proofs.Common.{◌≡◌, ◌+◌, ◌-◌, arith, ◌<◌, slice_index, sym, subst, ◌∙◌}
 use Rattle.std.proofs.lemmas.List.{length-set}
 use Rattle.rv64_model.specs.Carries.{both}
-use Rattle.set_store.specs.Sets.{IsUnionOf, members_of}
+use Rattle.set_store.specs.Sets.{IsUnionOf}
+use Rattle.taint_sets.specs.Numbered.{members_of}
 use Rattle.taint_flow.specs.Gathered.{number_of}
 use Rattle.taint_flow.proofs.Bytes.{before-trans}
 use Rattle.taint_flow.proofs.Grown.{takes-both, union-still}
@@ -16,7 +17,6 @@ loop-byte-preserved c =
     let i = c.loop-byte.byte in
     record {
       set = c.in_ok-set.ensures.set;
-      small = c.in_ok-set.ensures.small;
       below = λ some.
           let first = slice_index c.args.first.now in
           let second = slice_index c.args.second.now in
@@ -32,6 +32,6 @@ loop-byte-preserved c =
           (subst (λ n. i < n) (sym c.loop-byte.invariant.len) c.loop-byte-test.true)
           (λ k h. takes-still c.args.sets.now c.loop-byte.sets c.in_place.new.sets number (both k) (slice_index c.loop-byte.numbers k) c.in_place.ensures.before (c.loop-byte.invariant.bytes loaded k h))
           (takes-both c.args.sets.now c.loop-byte.sets c.in_place.new.sets number i c.in_ok-set.set c.loop-byte.invariant.before (c.requires.first.set i c.loop-byte-test.true) (c.requires.second.set i c.loop-byte-test.true)
-          c.in_ok-set.ensures.set c.in_ok-set.ensures.small c.in_ok-set.ensures.members);
+          c.in_ok-set.ensures.set c.in_ok-set.ensures.members);
       before = before-trans c.args.sets.now c.loop-byte.sets c.in_place.new.sets c.loop-byte.invariant.before c.in_place.ensures.before;
     }

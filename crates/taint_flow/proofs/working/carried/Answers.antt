@@ -13,9 +13,6 @@ use Rattle.taint_flow.proofs.working.carried.Goals as goal
 pub with_next-requires-clause-set : goal.with_next-requires-clause-set
 with_next-requires-clause-set c = (c.loop-byte.invariant.set []).there
 
-pub with_next-requires-clause-small : goal.with_next-requires-clause-small
-with_next-requires-clause-small c = (c.loop-byte.invariant.set []).small
-
 pub with_next-requires-clause-below : goal.with_next-requires-clause-below
 with_next-requires-clause-below c some =
     let i = c.loop-byte.byte in
@@ -56,8 +53,8 @@ loop-byte-preserved c =
     (takes-push c.args.sets.now c.with_next.new.sets c.with_next-in-loop-byte.new.sets (number_of c.args.first.now c.args.second.now loaded) ((first_bytes Left i ++ first_bytes Right i) ++ Left i ∷ []) (Right i) c.in_ok-lower.lower c.in_ok-set.set
     lower_before (c.requires.second.set i below)
     (takes-push c.args.sets.now c.loop-byte.sets c.with_next.new.sets (number_of c.args.first.now c.args.second.now loaded) (first_bytes Left i ++ first_bytes Right i) (Left i) c.loop-byte.set c.in_ok-lower.lower
-    c.loop-byte.invariant.before (c.requires.first.set i below) (c.loop-byte.invariant.set loaded) c.in_ok-lower.ensures.set c.in_ok-lower.ensures.small c.in_ok-lower.ensures.members)
-    c.in_ok-set.ensures.set c.in_ok-set.ensures.small c.in_ok-set.ensures.members) in
+    c.loop-byte.invariant.before (c.requires.first.set i below) (c.loop-byte.invariant.set loaded) c.in_ok-lower.ensures.set c.in_ok-lower.ensures.members)
+    c.in_ok-set.ensures.set c.in_ok-set.ensures.members) in
     record {
       len = length-set c.loop-byte.numbers i c.in_ok-set.set ∙ c.loop-byte.invariant.len;
       set = grown;

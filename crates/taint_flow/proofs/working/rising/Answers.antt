@@ -12,9 +12,6 @@ use Rattle.taint_flow.proofs.working.rising.Goals as goal
 pub with_next-requires-clause-set : goal.with_next-requires-clause-set
 with_next-requires-clause-set c = (c.loop-byte.invariant.set [] []).there
 
-pub with_next-requires-clause-small : goal.with_next-requires-clause-small
-with_next-requires-clause-small c = (c.loop-byte.invariant.set [] []).small
-
 pub with_next-requires-clause-below : goal.with_next-requires-clause-below
 with_next-requires-clause-below c some =
     let i = c.loop-byte.byte in
@@ -36,7 +33,7 @@ loop-byte-preserved c =
     let grown : (second loaded : List ℕ) → TakesOperands c.args.sets.now c.with_next.new.sets (number_of c.args.first.now second loaded) (first_bytes Left (i + 1)) c.in_ok-set.set =
     λ second loaded. lefts-more c.args.sets.now c.with_next.new.sets (number_of c.args.first.now second loaded) i c.in_ok-set.set
     (takes-push c.args.sets.now c.loop-byte.sets c.with_next.new.sets (number_of c.args.first.now second loaded) (first_bytes Left i) (Left i) c.loop-byte.set c.in_ok-set.set
-    c.loop-byte.invariant.before (c.requires.first.set i below) (c.loop-byte.invariant.set second loaded) c.in_ok-set.ensures.set c.in_ok-set.ensures.small c.in_ok-set.ensures.members) in
+    c.loop-byte.invariant.before (c.requires.first.set i below) (c.loop-byte.invariant.set second loaded) c.in_ok-set.ensures.set c.in_ok-set.ensures.members) in
     record {
       len = length-set c.loop-byte.numbers i c.in_ok-set.set ∙ c.loop-byte.invariant.len;
       set = grown;

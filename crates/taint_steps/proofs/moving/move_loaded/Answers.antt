@@ -1,8 +1,7 @@
 use Rattle.std.proofs.Common.{◌≤◌, ◌-◌, ℕ, Option, subst, sym, ap, ◌∙◌, unwrap_or}
 use Rattle.parts_model.specs.declared.limits.TheConstants.{WINDOW_START}
-use Rattle.set_store.specs.Sets.{IsSet}
-use Rattle.taint_flow.specs.Gathered.{first_start}
-use Rattle.taint_pages.specs.Rows.{AreBelow, PutsFrom}
+use Rattle.taint_sets.specs.Numbered.{IsSet}
+use Rattle.taint_pages.specs.Rows.{PutsFrom}
 use Rattle.taint_steps.proofs.Whole.{loaded-runs}
 use Rattle.taint_steps.proofs.moving.move_loaded.Goals as goal
 
@@ -11,12 +10,11 @@ returns-clause-runs c done segments raw =
     let m = c.args.member.now in
     let loads = c.moves_loaded.ensures.moves.0 c.if-not-moves_loaded.false in
     let len = c.loaded_len.ensures.len in
-    loaded-runs c.args.sets.now c.args.rules.now c.args.instr.now c.args.before.now m c.load_to.new.member segments c.in-Some.at c.in-Some-rd.reg c.registers.result.0.now c.registers.result.1.now
+    loaded-runs c.args.sets.now c.args.linkage c.args.instr.now c.args.before.now m c.load_to.new.member segments c.in-Some.at c.in-Some-rd.reg c.registers.result.0.now c.registers.result.1.now
     (subst (IsSet c.args.sets.now) c.empty.ensures.zero c.empty.ensures.set) loads (c.moves_loaded.ensures.results loads)
     (subst (λ (k : ℕ). k ≤ 8) len c.loaded_len.ensures.few)
     (sym c.accessed.ensures ∙ c.in-Some.is)
     (sym (ap (λ (o : Option ℕ). unwrap_or o 0) c.in-Some-rd.is) ∙ c.rd.ensures)
     (c.load_to.ensures.above done) (c.load_to.ensures.private done)
-    (subst (AreBelow first_start m.window (c.in-Some.at - WINDOW_START)) len (c.load_to.ensures.below done))
     (subst (λ (k : ℕ). PutsFrom m.window (c.in-Some.at - WINDOW_START) k c.in-Some-rd.reg m.registers c.load_to.new.member.registers) len (c.load_to.ensures.puts done))
     c.load_to.ensures.others c.registers.ensures.first c.registers.ensures.second raw

@@ -1,12 +1,11 @@
 use Rattle.std.proofs.Common.{◌≡◌, ℕ, List, Option, None, take, refl, sym, subst}
 use Rattle.rv64_model.specs.Operands as named
 use Rattle.taint_flow.specs.Names.{loaded_len}
-use Rattle.set_store.specs.Sets.{IsSet}
 use Rattle.taint_members.specs.Access.{Segments}
 use Rattle.taint_members.specs.declared.member.MemberSets.{MemberSets}
 use Rattle.taint_steps.specs.Running.{StoresSegment, StoresWindow, WritesRegister}
 use Rattle.taint_steps.specs.Taking.{IsRead, no_bytes}
-use Rattle.taint_steps.proofs.NothingLoaded.{first-none, nothing, resolves-none}
+use Rattle.taint_steps.proofs.NothingLoaded.{first-none, nothing}
 use Rattle.taint_steps.proofs.running.run.Goals as goal
 
 -- nothing is stored where no memory is accessed
@@ -20,22 +19,16 @@ pub returns-in-Some-clause-runs : goal.returns-in-Some-clause-runs
 returns-in-Some-clause-runs c =
     let instr = c.args.instr.now in
     let m = c.args.member.now in
-    let sets = c.args.sets.now in
     let apart = (c.in-Some.ensures.silent.0 refl).apart c.args.before.now in
-    let is_set = subst (IsSet sets) c.empty.ensures.zero c.empty.ensures.set in
     record {
       numbers = c.in-Some.numbers;
       takes = record {
         first = c.registers.result.0.now;
         second = c.registers.result.1.now;
-        raw = nothing;
         loaded = nothing;
-        mid = sets;
         of_first = c.registers.ensures.first;
         of_second = c.registers.ensures.second;
         read = subst (λ o. IsRead o (loaded_len instr) m c.args.segments.now nothing) (sym apart) (first-none no_bytes);
-        resolved = resolves-none sets c.args.rules.now.begun is_set;
-        stand = record { there = λ set h. h; same = λ set h. refl };
         results = c.in-Some.ensures.results c.registers.result.0.now c.registers.result.1.now nothing;
       };
       register = subst (λ r. WritesRegister r c.in-Some.numbers m.registers c.write_register.new.row) c.rd.ensures c.write_register.ensures;

@@ -5,18 +5,29 @@ use Rattle.taint_group.proofs.group.Group.begin.Goals as goal
 
 pub returns-clause-begins : goal.returns-clause-begins
 returns-clause-begins c =
+    let g = c.args.self.now in
     ok-map c.place.result (λ places. λ e before.
-    (begins-group c.args.self.now.rules c.fresh.new.rules c.args.self.now.heard c.args.pid c.args.event c.in_ok-member.member c.args.self.now.members.items c.place.new.members.items c.args.self.now.segments.items
-    c.args.self.now.sets c.fresh.new.sets c.is_empty-nothing.result
-    c.begins_show.ensures c.requires.sound c.in_ok-member.ensures.linkage c.in_ok-member.ensures.begun c.is_empty-nothing.ensures c.in_ok-member.ensures.before c.in_ok-member.ensures.begins places e before).0.goes)
+    (begins-group g.linkage (heard_of g) c.args.pid c.args.event c.in_ok-member.member g.members.items c.place.new.members.items g.segments.items g.sets c.begun.new.sets
+    c.begins_show.ensures c.requires.sound c.begun.ensures.before (record {
+      made = c.in_ok-member.ensures.made;
+      segment = c.in_ok-member.ensures.segment;
+      registers = c.in_ok-member.ensures.registers;
+      slot = c.in_ok-member.ensures.slot;
+      window = c.in_ok-member.ensures.window;
+    }) places e before).0.goes)
     c.place.ensures
 
 pub returns-clause-sound : goal.returns-clause-sound
 returns-clause-sound c =
+    let g = c.args.self.now in
     ok-map c.place.result (λ places.
-    begins-sound c.args.self.now.rules c.fresh.new.rules (heard_of c.args.self.now) c.args.pid c.args.event (tables_with c.args.self.now.members.items c.args.self.now.segments.items c.args.self.now.sets)
-    (tables_with c.place.new.members.items c.args.self.now.segments.items c.fresh.new.sets)
-    (begins-group c.args.self.now.rules c.fresh.new.rules c.args.self.now.heard c.args.pid c.args.event c.in_ok-member.member c.args.self.now.members.items c.place.new.members.items c.args.self.now.segments.items
-    c.args.self.now.sets c.fresh.new.sets c.is_empty-nothing.result
-    c.begins_show.ensures c.requires.sound c.in_ok-member.ensures.linkage c.in_ok-member.ensures.begun c.is_empty-nothing.ensures c.in_ok-member.ensures.before c.in_ok-member.ensures.begins places))
+    begins-sound g.linkage (heard_of g) c.args.pid c.args.event (tables_with g.members.items g.segments.items g.sets) (tables_with c.place.new.members.items g.segments.items c.begun.new.sets)
+    (begins-group g.linkage (heard_of g) c.args.pid c.args.event c.in_ok-member.member g.members.items c.place.new.members.items g.segments.items g.sets c.begun.new.sets
+    c.begins_show.ensures c.requires.sound c.begun.ensures.before (record {
+      made = c.in_ok-member.ensures.made;
+      segment = c.in_ok-member.ensures.segment;
+      registers = c.in_ok-member.ensures.registers;
+      slot = c.in_ok-member.ensures.slot;
+      window = c.in_ok-member.ensures.window;
+    }) places))
     c.place.ensures

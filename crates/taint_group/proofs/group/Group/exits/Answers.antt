@@ -18,7 +18,7 @@ returns c =
     let g = c.args.self.now in
     ok-map c.hear.result (λ heard. λ e before len.
     if-map (nth g.members.items c.args.pid) (λ old both. record { follows = both.0; keyed = both.1 })
-    (changes-group Ends (λ old. event_by_member c.args.pid before (Exits c.args.pid) c.args.event e) g.rules c.args.pid (plain_heard c.args.event c.in_ok-numbers.numbers.items)
+    (changes-group Ends (λ old. event_by_member c.args.pid before (Exits c.args.pid) c.args.event e) g.linkage c.args.pid (plain_heard c.args.event c.in_ok-numbers.numbers.items)
     g.members.items c.as_mut_slice.result.now c.end_member.new.members _ g.segments.items g.sets g.sets (heard_of g) (heard_in c.hear.new.self)
     c.as_mut_slice.ensures.value
     (slice-back g.members.len g.members.items c.end_member.new.members (omega arith))

@@ -11,7 +11,7 @@ pub returns : goal.returns
 returns c =
     ok-map c.hear.result (λ heard. λ e before len.
     if-map (nth c.args.self.now.members.items c.args.pid) (λ old both. record { follows = both.0; keyed = both.1 })
-    (forks-group c.args.self.now.rules (heard_of c.args.self.now) (heard_in c.hear.new.self) c.args.pid c.args.child c.args.event c.in_ok-numbers.numbers.items c.args.len
+    (forks-group c.args.self.now.linkage (heard_of c.args.self.now) (heard_in c.hear.new.self) c.args.pid c.args.child c.args.event c.in_ok-numbers.numbers.items c.args.len
     c.args.self.now.members.items c.as_mut_slice.result.now c.return_member.new.members _ c.may_place.new.members.items c.args.self.now.segments.items c.args.self.now.sets c.in_ok-kid.kid
     c.as_mut_slice.ensures.value
     (slice-back c.args.self.now.members.len c.args.self.now.members.items c.return_member.new.members (omega arith))

@@ -19,7 +19,7 @@ returns c =
     let start = c.in_ok-start.start in
     ok-map c.hear_child.result (λ heard. λ child e before len.
     if-map (nth g.members.items c.args.pid) (λ old both. record { follows = both.0; keyed = both.1 })
-    (changes-group (LivesAs ReturnsAs) (λ (old : MemberSets). event_by_member c.args.pid before (Founds c.args.pid child old.made c.args.event) c.args.event e) g.rules c.args.pid (record { event = c.args.event; numbers = numbers; start = option_map kept_child start })
+    (changes-group (LivesAs ReturnsAs) (λ (old : MemberSets). event_by_member c.args.pid before (Founds c.args.pid child old.made c.args.event) c.args.event e) g.linkage c.args.pid (record { event = c.args.event; numbers = numbers; start = option_map kept_child start })
     g.members.items c.as_mut_slice.result.now c.return_member.new.members _ g.segments.items g.sets g.sets (heard_of g) (heard_in c.hear_child.new.self)
     c.as_mut_slice.ensures.value
     (slice-back g.members.len g.members.items c.return_member.new.members (omega arith))

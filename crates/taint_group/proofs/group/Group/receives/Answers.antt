@@ -11,7 +11,7 @@ pub returns : goal.returns
 returns c =
     ok-map c.hear.result (λ heard. λ e before len.
     if-map (nth c.args.self.now.members.items c.args.pid) (λ old both. record { follows = both.0; keyed = both.1 })
-    (receives-group c.args.self.now.rules (heard_of c.args.self.now) (heard_in c.hear.new.self) c.args.pid c.args.event c.args.at c.in_ok-numbers.numbers.items c.args.len
+    (receives-group c.args.self.now.linkage (heard_of c.args.self.now) (heard_in c.hear.new.self) c.args.pid c.args.event c.args.at c.in_ok-numbers.numbers.items c.args.len
     c.args.self.now.members.items c.as_mut_slice.result.now c.receive_member.new.members _ c.args.self.now.segments.items c.as_mut_slice-2.result.now c.receive_member.new.segments _ c.args.self.now.sets c.received.new.sets
     c.as_mut_slice.ensures.value
     (slice-back c.args.self.now.members.len c.args.self.now.members.items c.receive_member.new.members (omega arith))

@@ -27,7 +27,7 @@ returns c =
     ok-map c.hear.result (λ heard. λ e before len.
     if-map (nth g.members.items c.args.pid) (λ old both. record { follows = both.0; keyed = both.1 })
     (changes-group (LivesAs (StartsAs g.segments.items c.args.event layout.load numbers layout.block layout.block_len))
-    (λ (old : MemberSets). event_by_member c.args.pid before (Starts c.args.pid c.args.event layout.load c.args.len (place_of (holds_of old) layout.block layout.block_len) layout.block_len) c.args.event e) g.rules c.args.pid (plain_heard c.args.event numbers)
+    (λ (old : MemberSets). event_by_member c.args.pid before (Starts c.args.pid c.args.event layout.load c.args.len (place_of (holds_of old) layout.block layout.block_len) layout.block_len) c.args.event e) g.linkage c.args.pid (plain_heard c.args.event numbers)
     g.members.items c.as_mut_slice.result.now c.start_member.new.members _ g.segments.items g.sets c.received.new.sets (heard_of g) (heard_in c.hear.new.self)
     c.as_mut_slice.ensures.value
     (slice-back g.members.len g.members.items c.start_member.new.members (omega arith))

@@ -1,0 +1,8 @@
+//! Sets of items by number, where each received byte is an item by itself, and has a number before anything joins it.
+#![tactic(auto)]
+
+mod run;
+mod sets;
+
+pub use run::Run;
+pub use sets::ByteSets;

@@ -1,0 +1,53 @@
+// Received bytes in a row.
+ghost use Rattle.std.specs.Prelude.{◌≡◌, ◌≤◌, ◌<◌, ◌+◌, ◌^◌, length};
+ghost use Rattle.taint_sets.specs.Runs.{AreInOrder, IsRunBefore, item_among, item_in};
+
+use set_store::Item;
+
+/// Bytes of an event in a row, whose numbers follow each other.
+#[derive(Clone, Copy, Debug)]
+pub struct Run {
+    /// The number of the first.
+    pub first: u32,
+    /// How many there are.
+    pub len: u32,
+    /// The event's number.
+    pub event: u64,
+    /// Which of its bytes is the first.
+    pub at: u64,
+}
+
+/// The byte of a number, if the run has it.
+fn item_of(run: &Run, number: u32) -> Option<Item>
+    requires { run.now.at + run.now.len ≤ 2 ^ 64 }
+    ensures { result ≡ item_in run.now number }
+{
+    if number < run.first || number - run.first >= run.len {
+        return None;
+    }
+    Some(Item {
+        event: run.event,
+        at: run.at + u64::from(number - run.first),
+    })
+}
+
+/// How many runs begin at a number or before it, where their numbers rise.
+fn begun(runs: &[Run], number: u32) -> usize
+    requires { AreInOrder runs.now }
+    ensures most { result ≤ length runs.now }
+    ensures split { IsRunBefore runs.now number result }
+{
+    runs.partition_point(|run| run.first <= number)
+}
+
+/// The byte of a number, if one of the runs has it, where their numbers rise.
+pub fn find(runs: &[Run], number: u32) -> Option<Item>
+    requires { AreInOrder runs.now }
+    ensures { result ≡ item_among runs.now number }
+{
+    let count = begun(runs, number);
+    if count == 0 {
+        return None;
+    }
+    item_of(&runs[count - 1], number)
+}
