@@ -179,7 +179,7 @@ impl ByteSets {
         }
     }
 
-    /// The members of a set, rising by event and then by byte; none where a number stands for no set.
+    /// The members of a set; none where a number stands for no set.
     pub fn members(&self, set: u32) -> Result<Vec<Item>, NoMemory>
         ensures { IfOk result (λ items. items.items ≡ members_of self.now set) }
     {
