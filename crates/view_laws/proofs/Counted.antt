@@ -26,7 +26,6 @@ use Rattle.view_laws.specs.Counts.{done_by}
 
 -- behind the end a group has run all that it runs
 module _ (g until : ℕ) (groups : Groups) where
-
   other-all : (moment x y : ℕ) (entries : List Record) → count_before_from g until moment groups entries ≡ y → 0 + count_before_from g until (moment + 0) groups entries ≡ 0 + y
   other-all moment x y entries e = let same : moment + 0 ≡ moment = omega arith in ap (λ (n : ℕ). 0 + count_before_from g until n groups entries) same ∙ ap (λ (n : ℕ). 0 + n) e
 
