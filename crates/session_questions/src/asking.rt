@@ -6,6 +6,7 @@ ghost use Rattle.log_store.specs.Log.{spellings};
 ghost use Rattle.log_store.specs.declared.size.TheConstants.{MOST_LOG};
 ghost use Rattle.session_questions.specs.Texts as texts;
 
+use crate::bytes::EventBytes;
 use crate::short::{short_logs_are_countable, short_runs_stand};
 use crate::verify::report_verify;
 use arn_base::{NoMemory, Record, Steps};
@@ -80,7 +81,14 @@ impl Questions for Asking {
                 event,
                 from,
                 len,
-            } => self.sinks(entries, *linkage, *event, *from, *len, text, steps),
+            } => {
+                let bytes = EventBytes {
+                    event: *event,
+                    from: *from,
+                    len: *len,
+                };
+                self.sinks(entries, *linkage, bytes, text, steps)
+            }
             Question::Groups => report_groups(text, &self.index),
             Question::Events => report_events(text, entries, &self.index),
             Question::Verify => report_verify(text, entries, steps),

@@ -2,6 +2,7 @@
 #![tactic(auto)]
 
 mod asking;
+mod bytes;
 mod generated;
 mod of_runs;
 mod short;

@@ -5,6 +5,7 @@ ghost use Rattle.rv64_model.specs.Carries.{operands};
 ghost use Rattle.session_questions.specs.Texts.{forth_telling, reached_text};
 
 use crate::Asking;
+use crate::bytes::EventBytes;
 use crate::sources::push_pairs;
 use arn_base::{NoMemory, Record, Steps};
 use arn_lines::{Refusal, push_forth, push_refusal};
@@ -34,9 +35,7 @@ impl Asking {
         &mut self,
         entries: &[Record],
         linkage: Linkage,
-        event: u64,
-        from: u64,
-        len: u64,
+        bytes: EventBytes,
         text: &mut String,
         steps: &mut Steps<L>,
     ) -> Result<(), NoMemory>
@@ -44,20 +43,18 @@ impl Asking {
         requires known { Indexes self.old entries.now }
         ensures kept { self.new ≡ self.old }
         ensures text { OnOk result (string_bytes text.new ≡ string_bytes text.old
-            ++ (forth_telling (operands linkage) entries.now event from len).text) }
-        ensures steps { steps.new ≤
-            steps.old + (forth_telling (operands linkage) entries.now event from len).cost }
+            ++ (forth_telling (operands linkage) entries.now
+            bytes.event bytes.from bytes.len).text) }
+        ensures steps { steps.new ≤ steps.old
+            + (forth_telling (operands linkage) entries.now bytes.event bytes.from bytes.len).cost }
     {
-        let Ok(from) = u32::try_from(from) else {
+        let Ok(from) = u32::try_from(bytes.from) else {
             return push_refusal(text, Refusal::NoPoint);
         };
-        let Ok(len) = u32::try_from(len) else {
+        let Ok(len) = u32::try_from(bytes.len) else {
             return push_refusal(text, Refusal::NoPoint);
         };
-        match self
-            .engine
-            .forth(entries, &self.index, linkage, event, from, len, steps)
-        {
+        match self.engine.forth(entries, &self.index, linkage, bytes.event, from, len, steps) {
             Ok(answer) => push_reached(text, &answer),
             Err(error) => push_error(text, error),
         }

@@ -9,6 +9,7 @@ ghost use Rattle.rv64_model.specs.Carries.{operands};
 ghost use Rattle.session_questions.specs.Texts.{answer_text, back_telling, event_telling, held_telling, named_telling};
 
 use crate::Asking;
+use crate::bytes::{EventBytes, MemoryBytes, NamedBytes, RegisterBytes};
 use arn_base::{Bytes, NoMemory, Pair, Record, Steps};
 use arn_lines::{Refusal, Sought, push_back, push_pair, push_refusal};
 use query_engine::{Answer, Target};
@@ -64,9 +65,7 @@ impl Asking {
         &mut self,
         entries: &[Record],
         linkage: Linkage,
-        event: u64,
-        from: u64,
-        len: u64,
+        bytes: EventBytes,
         text: &mut String,
         steps: &mut Steps<L>,
     ) -> Result<(), NoMemory>
@@ -74,11 +73,12 @@ impl Asking {
         requires known { Indexes self.old entries.now }
         ensures kept { self.new ≡ self.old }
         ensures text { OnOk result (string_bytes text.new ≡ string_bytes text.old
-            ++ (event_telling (operands linkage) entries.now event from len).text) }
-        ensures steps { steps.new ≤
-            steps.old + (event_telling (operands linkage) entries.now event from len).cost }
+            ++ (event_telling (operands linkage) entries.now
+            bytes.event bytes.from bytes.len).text) }
+        ensures steps { steps.new ≤ steps.old
+            + (event_telling (operands linkage) entries.now bytes.event bytes.from bytes.len).cost }
     {
-        let Some(target) = target(entries, event, from, len) else {
+        let Some(target) = target(entries, bytes.event, bytes.from, bytes.len) else {
             return push_refusal(text, Refusal::NoPoint);
         };
         match self
@@ -96,10 +96,7 @@ impl Asking {
         &mut self,
         entries: &[Record],
         linkage: Linkage,
-        moment: u64,
-        pid: u64,
-        at: u64,
-        len: u64,
+        bytes: MemoryBytes,
         text: &mut String,
         steps: &mut Steps<L>,
     ) -> Result<(), NoMemory>
@@ -107,21 +104,23 @@ impl Asking {
         requires known { Indexes self.old entries.now }
         ensures kept { self.new ≡ self.old }
         ensures text { OnOk result (string_bytes text.new ≡ string_bytes text.old
-            ++ (held_telling (operands linkage) entries.now (in_memory moment pid at len)).text) }
+            ++ (held_telling (operands linkage) entries.now
+            (in_memory bytes.moment bytes.pid bytes.at bytes.len)).text) }
         ensures steps { steps.new ≤ steps.old
-            + (held_telling (operands linkage) entries.now (in_memory moment pid at len)).cost }
+            + (held_telling (operands linkage) entries.now
+            (in_memory bytes.moment bytes.pid bytes.at bytes.len)).cost }
     {
         far_is_nowhere();
-        let Ok(pid) = u32::try_from(pid) else {
+        let Ok(pid) = u32::try_from(bytes.pid) else {
             return push_refusal(text, Refusal::NoPoint);
         };
-        let Ok(len) = u32::try_from(len) else {
+        let Ok(len) = u32::try_from(bytes.len) else {
             return push_refusal(text, Refusal::NoPoint);
         };
         let target = Target::Mem {
-            moment,
+            moment: bytes.moment,
             pid,
-            at,
+            at: bytes.at,
             len,
         };
         match self
@@ -139,9 +138,7 @@ impl Asking {
         &mut self,
         entries: &[Record],
         linkage: Linkage,
-        moment: u64,
-        pid: u64,
-        register: u64,
+        bytes: RegisterBytes,
         text: &mut String,
         steps: &mut Steps<L>,
     ) -> Result<(), NoMemory>
@@ -149,18 +146,24 @@ impl Asking {
         requires known { Indexes self.old entries.now }
         ensures kept { self.new ≡ self.old }
         ensures text { OnOk result (string_bytes text.new ≡ string_bytes text.old
-            ++ (held_telling (operands linkage) entries.now (in_register moment pid register)).text) }
+            ++ (held_telling (operands linkage) entries.now
+            (in_register bytes.moment bytes.pid bytes.register)).text) }
         ensures steps { steps.new ≤ steps.old
-            + (held_telling (operands linkage) entries.now (in_register moment pid register)).cost }
+            + (held_telling (operands linkage) entries.now
+            (in_register bytes.moment bytes.pid bytes.register)).cost }
     {
         far_is_nowhere();
-        let Ok(pid) = u32::try_from(pid) else {
+        let Ok(pid) = u32::try_from(bytes.pid) else {
             return push_refusal(text, Refusal::NoPoint);
         };
-        let Ok(reg) = u8::try_from(register) else {
+        let Ok(reg) = u8::try_from(bytes.register) else {
             return push_refusal(text, Refusal::NoPoint);
         };
-        let target = Target::Reg { moment, pid, reg };
+        let target = Target::Reg {
+            moment: bytes.moment,
+            pid,
+            reg,
+        };
         match self
             .engine
             .back(entries, &self.index, linkage, &target, steps)
@@ -176,10 +179,7 @@ impl Asking {
         &mut self,
         entries: &[Record],
         linkage: Linkage,
-        moment: u64,
-        name: &[u8],
-        from: u64,
-        len: u64,
+        bytes: NamedBytes<'_>,
         text: &mut String,
         steps: &mut Steps<L>,
     ) -> Result<(), NoMemory>
@@ -187,18 +187,22 @@ impl Asking {
         requires known { Indexes self.old entries.now }
         ensures kept { self.new ≡ self.old }
         ensures text { OnOk result (string_bytes text.new ≡ string_bytes text.old
-            ++ (named_telling (operands linkage) entries.now (in_file moment name.now from len)).text) }
+            ++ (named_telling (operands linkage) entries.now
+            (in_file bytes.entry.moment bytes.entry.name.now
+            bytes.entry.from bytes.entry.len)).text) }
         ensures steps { steps.new ≤ steps.old
-            + (named_telling (operands linkage) entries.now (in_file moment name.now from len)).cost }
+            + (named_telling (operands linkage) entries.now
+            (in_file bytes.entry.moment bytes.entry.name.now
+            bytes.entry.from bytes.entry.len)).cost }
     {
-        let Ok(len) = u32::try_from(len) else {
+        let Ok(len) = u32::try_from(bytes.len) else {
             return push_refusal(text, Refusal::NoPoint);
         };
-        let name = Bytes::from_slice(*text.allocator(), name)?;
+        let name = Bytes::from_slice(*text.allocator(), bytes.name)?;
         let target = Target::Name {
-            moment,
+            moment: bytes.moment,
             name,
-            from,
+            from: bytes.from,
             len,
         };
         match self
@@ -229,34 +233,53 @@ impl Asking {
     {
         match sought {
             Sought::Event { event, from, len } => {
-                self.event_sources(entries, linkage, *event, *from, *len, text, steps)
+                let bytes = EventBytes {
+                    event: *event,
+                    from: *from,
+                    len: *len,
+                };
+                self.event_sources(entries, linkage, bytes, text, steps)
             }
             Sought::Memory {
                 moment,
                 pid,
                 at,
                 len,
-            } => self.memory_sources(entries, linkage, *moment, *pid, *at, *len, text, steps),
+            } => {
+                let bytes = MemoryBytes {
+                    moment: *moment,
+                    pid: *pid,
+                    at: *at,
+                    len: *len,
+                };
+                self.memory_sources(entries, linkage, bytes, text, steps)
+            }
             Sought::Register {
                 moment,
                 pid,
                 register,
-            } => self.register_sources(entries, linkage, *moment, *pid, *register, text, steps),
+            } => {
+                let bytes = RegisterBytes {
+                    moment: *moment,
+                    pid: *pid,
+                    register: *register,
+                };
+                self.register_sources(entries, linkage, bytes, text, steps)
+            }
             Sought::Name {
                 moment,
                 name,
                 from,
                 len,
-            } => self.name_sources(
-                entries,
-                linkage,
-                *moment,
-                name.as_slice(),
-                *from,
-                *len,
-                text,
-                steps,
-            ),
+            } => {
+                let bytes = NamedBytes {
+                    moment: *moment,
+                    name: name.as_slice(),
+                    from: *from,
+                    len: *len,
+                };
+                self.name_sources(entries, linkage, bytes, text, steps)
+            }
         }
     }
 }
