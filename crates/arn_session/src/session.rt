@@ -18,6 +18,7 @@ ghost use Rattle.log_store.specs.Stops.{GoesOn, IsOnlyRead, LeavesOnly};
 ghost use Rattle.log_store.specs.declared.errors.OpenError.{OpenError};
 ghost use Rattle.log_store.specs.declared.size.TheConstants.{MOST_LOG};
 ghost use Rattle.session_effects.specs.Carrying.{CarriesOut, HoldsLog, HoldsMore, IsAtRest, IsShut, Keeps, RestsMore};
+ghost use Rattle.session_effects.specs.Outside.{IsSame};
 ghost use Rattle.session_effects.specs.Standing.{IsOpen};
 ghost use Rattle.session_commands.specs.Answering.{IsNoRun};
 ghost use Rattle.session_questions.specs.OfRuns.{AnswersAreOfRuns, GeneratedIsOfRuns, RunsAreUndamaged, SinksAreOfRuns, VerifyTellsRuns};
@@ -38,36 +39,33 @@ use session_runs::MachineRuns;
 use std::alloc::Global;
 use std::sync::ledger::Ledger;
 
-// Answers a text on the history of a log, with all that is lent for it.
+// Answers a text on the history of a log, with those who answer for devices and all else that is lent.
 fn answer_lent<Q: Questions + Drop, C: Chooser, A: Answers, S: Source, K: Sink, D: Disk, L: Ledger>(
     alloc: Global,
     store: Store,
     questions: Q,
-    chooser: &mut C,
-    answers: &mut A,
     source: &mut S,
-    sink: &mut K,
-    disk: &mut D,
-    steps: &mut Steps<L>,
+    answers: &mut A,
+    outside: &mut Outside<C, (), D, K, L>,
 ) -> Result<(), Halt>
-    requires open { IsOpen D.Disk store disk.old }
+    requires open { IsOpen D.Disk store outside.old.disk.now }
     requires known { Q.knows questions store.entries }
-    ensures { Leaves D.Disk A.answers Q.told store.entries result
-        (scene_of S.Source K.Sink source.old sink.old disk.old
-        (around (C.choices chooser.old) answers.old steps.old))
-        (scene_of S.Source K.Sink source.new sink.new disk.new
-        (around (C.choices chooser.new) answers.new steps.new)) }
+    ensures leaves { Leaves D.Disk A.answers Q.told store.entries result
+        (scene_of S.Source K.Sink source.old outside.old.sink.now outside.old.disk.now
+        (around (C.choices outside.old.chooser.now) answers.old outside.old.steps.now))
+        (scene_of S.Source K.Sink source.new outside.new.sink.now outside.new.disk.now
+        (around (C.choices outside.new.chooser.now) answers.new outside.new.steps.now)) }
+    ensures same { IsSame outside.old outside.new }
 {
-    let mut text = String::new(alloc);
-    let mut outside = Outside {
-        chooser,
+    let mut all = Outside {
+        chooser: &mut *outside.chooser,
         answers,
-        disk,
-        sink,
-        steps,
-        text: &mut text,
+        disk: &mut *outside.disk,
+        sink: &mut *outside.sink,
+        steps: &mut *outside.steps,
+        text: &mut *outside.text,
     };
-    session(alloc, store, questions, source, &mut outside)
+    session(alloc, store, questions, source, &mut all)
 }
 
 // The same with devices in slots, which it keeps.
@@ -83,28 +81,24 @@ fn answer_in_slots<
     alloc: Global,
     store: Store,
     questions: Q,
-    chooser: &mut C,
-    slots: &mut Slots<'_, V>,
     source: &mut S,
-    sink: &mut K,
-    disk: &mut D,
-    steps: &mut Steps<L>,
+    slots: &mut Slots<'_, V>,
+    outside: &mut Outside<C, (), D, K, L>,
 ) -> Result<(), Halt>
-    requires open { IsOpen D.Disk store disk.old }
+    requires open { IsOpen D.Disk store outside.old.disk.now }
     requires known { Q.knows questions store.entries }
     ensures leaves { Leaves D.Disk (slots_answer V.Device) Q.told store.entries result
-        (scene_of S.Source K.Sink source.old sink.old disk.old
-        (around (C.choices chooser.old) slots.old.devices.now.items steps.old))
-        (scene_of S.Source K.Sink source.new sink.new disk.new
-        (around (C.choices chooser.new) slots.new.devices.now.items steps.new)) }
-    ensures same { slots.new.devices.ghost_name ≡ slots.old.devices.ghost_name }
+        (scene_of S.Source K.Sink source.old outside.old.sink.now outside.old.disk.now
+        (around (C.choices outside.old.chooser.now) slots.old.devices.now.items outside.old.steps.now))
+        (scene_of S.Source K.Sink source.new outside.new.sink.now outside.new.disk.now
+        (around (C.choices outside.new.chooser.now) slots.new.devices.now.items outside.new.steps.now)) }
+    ensures slots { slots.new.devices.ghost_name ≡ slots.old.devices.ghost_name }
+    ensures same { IsSame outside.old outside.new }
 {
-    answer_lent(
-        alloc, store, questions, chooser, slots, source, sink, disk, steps,
-    )
+    answer_lent(alloc, store, questions, source, slots, outside)
 }
 
-// The same with devices that are lent.
+// The same with devices that are lent, and all else by itself.
 fn answer_text<Q: Questions + Drop, C: Chooser, V: Device, S: Source, K: Sink, D: Disk, L: Ledger>(
     alloc: Global,
     store: Store,
@@ -124,10 +118,17 @@ fn answer_text<Q: Questions + Drop, C: Chooser, V: Device, S: Source, K: Sink, D
         (scene_of S.Source K.Sink source.new sink.new disk.new
         (around (C.choices chooser.new) devices.new.items steps.new)) }
 {
+    let mut text = String::new(alloc);
     let mut slots = Slots { devices };
-    answer_in_slots(
-        alloc, store, questions, chooser, &mut slots, source, sink, disk, steps,
-    )
+    let mut outside = Outside {
+        chooser,
+        answers: &mut (),
+        disk,
+        sink,
+        steps,
+        text: &mut text,
+    };
+    answer_in_slots(alloc, store, questions, source, &mut slots, &mut outside)
 }
 
 /// Does all that the program does: opens the log, reads the source command by command, commits what

@@ -5,14 +5,15 @@ use Rattle.arn_session.specs.Leaves.{scene_of}
 use Rattle.arn_session.proofs.SlotLemmas.{Leaves-seen, Replied-stays}
 use Rattle.arn_session.proofs.session.answer_in_slots.Goals as goal
 
-pub returns : goal.returns
-returns g c =
+pub returns-clause-leaves : goal.returns-clause-leaves
+returns-clause-leaves g c =
+    let o = c.args.outside.now in
     let n = c.answer_lent.new in
-    let asked = c.answer_lent.ensures.asked in
-    record {
-      leaves =
-          Leaves-seen c.args.slots.now _ (slots_answer g.V.Device) (λ s. s.devices.now.items) (λ s asked answer s' p. p.0) g.D.Disk g.Q.Questions.told c.args.store.entries c.answer_lent.result
-          (scene_of g.S.Source g.K.Sink c.args.source.now c.args.sink.now c.args.disk.now (around (g.C.Chooser.choices c.args.chooser.now) c.args.slots.now c.args.steps.now))
-          (scene_of g.S.Source g.K.Sink n.source n.sink n.disk (around (g.C.Chooser.choices n.chooser) n.answers n.steps)) c.answer_lent.ensures;
-      same = Replied-stays c.args.slots.now _ (λ s. s.devices.ghost_name) (λ s asked answer s' p. p.1) asked.asks asked.slices c.args.slots.now n.answers asked.replied;
-    }
+    Leaves-seen c.args.slots.now _ (slots_answer g.V.Device) (λ s. s.devices.now.items) (λ s asked answer s' p. p.0) g.D.Disk g.Q.Questions.told c.args.store.entries c.answer_lent.result
+    (scene_of g.S.Source g.K.Sink c.args.source.now o.sink.now o.disk.now (around (g.C.Chooser.choices o.chooser.now) c.args.slots.now o.steps.now))
+    (scene_of g.S.Source g.K.Sink n.source n.outside.sink.now n.outside.disk.now (around (g.C.Chooser.choices n.outside.chooser.now) n.answers n.outside.steps.now)) c.answer_lent.ensures.leaves
+
+pub returns-clause-slots : goal.returns-clause-slots
+returns-clause-slots g c =
+    let asked = c.answer_lent.ensures.leaves.asked in
+    Replied-stays c.args.slots.now _ (λ s. s.devices.ghost_name) (λ s asked answer s' p. p.1) asked.asks asked.slices c.args.slots.now c.answer_lent.new.answers asked.replied
