@@ -1,11 +1,11 @@
 -- How a run ends.
-use Rattle.std.proofs.Common.{◌≡◌, ◌⊎◌, inl, inr, ℕ, ◌-◌, ◌++◌, List, [], ◌∷◌, Option, Some, None, refl, sym, ap, ◌∙◌, subst, append_assoc}
+use Rattle.std.proofs.Common.{◌≡◌, ◌⊎◌, inl, inr, ℕ, ◌++◌, List, [], ◌∷◌, Option, Some, None, refl, sym, ap, ◌∙◌, subst, append_assoc}
 use Rattle.arn_lines.specs.declared.answer.RunEnd.{RunEnd}
-use Rattle.arn_lines.specs.Texts.{ran_text}
 use Rattle.guest_machine.specs.Legs.{Picked, ask_of}
-use Rattle.session_effects.specs.Effects.{Effect, Prints}
+use Rattle.session_effects.specs.Effects.{Effect}
 use Rattle.session_runs.specs.Ends.{EndsSo, RunsEnd, running_after}
 use Rattle.session_runs.specs.Runs.{Running, closing, effects_of, ended, ends, next_leg, run_after, run_from, unless_ended}
+use Rattle.session_runs.specs.Touches.{AtSlice}
 use Rattle.session_runs.specs.Turns.{Turn, behind, cut_off}
 
 no-slice : (before after : List Picked) (s : Picked) → [] ≡ before ++ s ∷ after → ⊥
@@ -33,7 +33,7 @@ ended-so budget r slices end is = record {
 }
 
 -- a slice, and then the rest of the run
-slice-so : (budget : ℕ) (r : Running) (s : Picked) (slices : List Picked) (t : Turn) → ends r ≡ None → EndsSo budget (next_leg (run_after r s)) slices t → EndsSo budget r (s ∷ slices) (behind (closing (run_after r s)) (ask_of r.leg ∷ []) t)
+slice-so : (budget : ℕ) (r : Running) (s : Picked) (slices : List Picked) (t : Turn) → ends r ≡ None → EndsSo budget (next_leg (run_after r s)) slices t → EndsSo budget r (s ∷ slices) (behind (closing (run_after r s)) (AtSlice (ask_of r.leg) ∷ []) t)
 slice-so budget r s slices t none e = record {
   taken = s ∷ e.taken;
   rest = e.rest;
@@ -56,7 +56,7 @@ or-goes-on : (budget : ℕ) (r : Running) (slices : List Picked) (o : Option Run
 or-goes-on budget r slices None more is goes_on = goes_on is
 or-goes-on budget r slices (Some end) more is goes_on = inr (ended-so budget r slices end is)
 
-behind-so : (budget : ℕ) (r : Running) (s : Picked) (slices : List Picked) (t : Turn) → ends r ≡ None → (t.left ≡ None) ⊎ EndsSo budget (next_leg (run_after r s)) slices t → ((behind (closing (run_after r s)) (ask_of r.leg ∷ []) t).left ≡ None) ⊎ EndsSo budget r (s ∷ slices) (behind (closing (run_after r s)) (ask_of r.leg ∷ []) t)
+behind-so : (budget : ℕ) (r : Running) (s : Picked) (slices : List Picked) (t : Turn) → ends r ≡ None → (t.left ≡ None) ⊎ EndsSo budget (next_leg (run_after r s)) slices t → ((behind (closing (run_after r s)) (AtSlice (ask_of r.leg) ∷ []) t).left ≡ None) ⊎ EndsSo budget r (s ∷ slices) (behind (closing (run_after r s)) (AtSlice (ask_of r.leg) ∷ []) t)
 behind-so budget r s slices t none (inl left) = inl left
 behind-so budget r s slices t none (inr e) = inr (slice-so budget r s slices t none e)
 
@@ -64,4 +64,4 @@ pub run_from-ends : RunsEnd
 run_from-ends budget r [] = or-goes-on budget r [] (ends r) cut_off refl (λ none. inl refl)
 run_from-ends budget r (s ∷ slices) =
     let t = run_from budget (next_leg (run_after r s)) slices in
-    or-goes-on budget r (s ∷ slices) (ends r) (behind (closing (run_after r s)) (ask_of r.leg ∷ []) t) refl (λ none. behind-so budget r s slices t none (run_from-ends budget (next_leg (run_after r s)) slices))
+    or-goes-on budget r (s ∷ slices) (ends r) (behind (closing (run_after r s)) (AtSlice (ask_of r.leg) ∷ []) t) refl (λ none. behind-so budget r s slices t none (run_from-ends budget (next_leg (run_after r s)) slices))

@@ -12,15 +12,15 @@ use Rattle.guest_machine.specs.Laws.{NamedFollow, RecordsFollow, RunsFollow}
 use Rattle.guest_machine.specs.LegLaws.{SameAsNamed, named_by}
 use Rattle.guest_machine.specs.Legs.{Ask, AreInRange, Going, Picked, PickedBy, RepliedBy, StaysOpen, asks_by, end_of, fresh, going_by, input_of}
 use Rattle.guest_machine.specs.Recorded.{IsAfter, Recorded, Runs}
-use Rattle.parts_model.specs.Replies.{Answered}
-use Rattle.guest_devices.specs.Answers.{Asked}
 use Rattle.session_effects.specs.Carrying.{IsAtCommit}
 use Rattle.session_effects.specs.Effects.{Effect, Commits, Prints}
-use Rattle.session_runs.specs.Points.{Advances, EndsWithin, Surroundings, slice_in, slices_in}
+use Rattle.session_runs.specs.Points.{Advances, EndsWithin, Surroundings, slice_in, slices_cost, slices_in}
 use Rattle.session_runs.specs.Ready.{IsReady, machine_of}
 use Rattle.session_runs.specs.Runs.{begun, leg_effects, run_from}
+use Rattle.session_runs.specs.Touches.{Answering, named_at, unplugged_in}
 use Rattle.session_runs.specs.Turns.{Turn, behind}
 use Rattle.session_runs.proofs.NamedLemmas.{slices-inputs}
+use Rattle.session_runs.proofs.TouchLemmas.{asks-at, at-unplugs, at_slices, named-at, touched-at, unplugged-slices}
 use Rattle.session_runs.proofs.RunLemmas.{going-cost, going-entries, going-machine, leg-committed, leg-leads, open-parts, run_from-cut}
 
 -- a machine still belongs to a history after more inputs, with their records
@@ -62,38 +62,48 @@ pub names-leg : (first : ℕ) (m : Machine) (left : ℕ) (slices : List Picked) 
 names-leg first m left slices same =
     ap slices_in (going-entries (fresh m left) slices) ∙ ap (λ (x : List Input). filter_map slice_in x) same.names ∙ slices-inputs (named_by (fresh m left) slices)
 
+-- they unplug nothing
+pub unplugs-leg : (m : Machine) (left : ℕ) (slices : List Picked) → SameAsNamed (fresh m left) slices → unplugged_in (going_by (fresh m left) slices).entries ≡ []
+unplugs-leg m left slices same =
+    ap unplugged_in (going-entries (fresh m left) slices) ∙ unplugged-slices (records_from m (map input_of slices)) (named_by (fresh m left) slices) same.names
+
 pub begins-leg : RecordsBegin → (m : Machine) (left : ℕ) (slices : List Picked) → reply_behind (going_by (fresh m left) slices).entries ≡ None
 begins-leg begin m left slices = ap reply_behind (going-entries (fresh m left) slices) ∙ begin m (map input_of slices)
 
 -- a leg as the log names it
 pub lead-named : (budget : ℕ) (m : Machine) (left : ℕ) (slices rest : List Picked) (end : LegEnd) → SameAsNamed (fresh m left) slices → StaysOpen (fresh m left) slices → end_of (going_by (fresh m left) slices) ≡ Some end
-    → let g = going_by (fresh m left) slices in run_from budget (begun m left) (named_by (fresh m left) slices ++ rest) ≡ behind (leg_effects m.events g.entries) (asks_by (fresh m left) slices) (run_from budget (begun g.machine g.left) rest)
+    → let g = going_by (fresh m left) slices in run_from budget (begun m left) (named_by (fresh m left) slices ++ rest) ≡ behind (leg_effects m.events g.entries) (at_slices (asks_by (fresh m left) slices)) (run_from budget (begun g.machine g.left) rest)
 lead-named budget m left slices rest end same opens closed =
     let nd = named_by (fresh m left) slices in
     leg-leads budget m left nd rest end (same.open_before opens) (ap end_of same.leads ∙ closed)
-    ∙ ap (λ (g : Going). behind (leg_effects m.events g.entries) (asks_by (fresh m left) nd) (run_from budget (begun g.machine g.left) rest)) same.leads
-    ∙ ap (λ (a : List Ask). behind (leg_effects m.events (going_by (fresh m left) slices).entries) a (run_from budget (begun (going_by (fresh m left) slices).machine (going_by (fresh m left) slices).left) rest)) same.asks
+    ∙ ap (λ (g : Going). behind (leg_effects m.events g.entries) (at_slices (asks_by (fresh m left) nd)) (run_from budget (begun g.machine g.left) rest)) same.leads
+    ∙ ap (λ (a : List Ask). behind (leg_effects m.events (going_by (fresh m left) slices).entries) (at_slices a) (run_from budget (begun (going_by (fresh m left) slices).machine (going_by (fresh m left) slices).left) rest)) same.asks
 
 -- a leg was committed and printed
-pub Advances-leg : {A : Type 0} (replies : A → Asked → Answered → A → Type 0) (budget : ℕ) (m m' : Machine) (left left' : ℕ) (slices : List Picked) (end : LegEnd) (old new : Surroundings A) (carried : List Effect → Type 0) → RecordsBegin → SameAsNamed (fresh m left) slices → StaysOpen (fresh m left) slices → end_of (going_by (fresh m left) slices) ≡ Some end → m' ≡ (going_by (fresh m left) slices).machine → left' ≡ (going_by (fresh m left) slices).left
-    → PickedBy old.choices new.choices (asks_by (fresh m left) slices) slices → AreInRange (asks_by (fresh m left) slices) slices → RepliedBy replies (asks_by (fresh m left) slices) slices old.answers new.answers → new.steps ≤ old.steps + (instructions_in (steps_from m (map input_of slices)) + length slices) → carried (leg_effects m.events (going_by (fresh m left) slices).entries) → Advances replies (run_from budget (begun m left)) (run_from budget (begun m' left')) old new 0 carried
-Advances-leg replies budget m m' left left' slices end old new carried begin same opens closed is is_left picked in_range replied executed carries =
+pub Advances-leg : {A : Type 0} (who : Answering A) (budget : ℕ) (m m' : Machine) (left left' : ℕ) (slices : List Picked) (end : LegEnd) (old new : Surroundings A) (carried : List Effect → Type 0) → RecordsBegin → SameAsNamed (fresh m left) slices → StaysOpen (fresh m left) slices → end_of (going_by (fresh m left) slices) ≡ Some end → m' ≡ (going_by (fresh m left) slices).machine → left' ≡ (going_by (fresh m left) slices).left
+    → PickedBy old.choices new.choices (asks_by (fresh m left) slices) slices → AreInRange (asks_by (fresh m left) slices) slices → RepliedBy who.answers (asks_by (fresh m left) slices) slices old.answers new.answers → new.steps ≤ old.steps + (instructions_in (steps_from m (map input_of slices)) + length slices) → carried (leg_effects m.events (going_by (fresh m left) slices).entries) → Advances who (run_from budget (begun m left)) (run_from budget (begun m' left')) old new 0 carried
+Advances-leg who budget m m' left left' slices end old new carried begin same opens closed is is_left picked in_range replied executed carries =
     let g = going_by (fresh m left) slices in
+    let asks = asks_by (fresh m left) slices in
+    let touches = at_slices asks in
+    let same_named : named_at touches slices ≡ named_by (fresh m left) slices = named-at asks slices in
     record {
       slices = slices;
-      asks = asks_by (fresh m left) slices;
+      touches = touches;
       effects = leg_effects m.events g.entries;
       leads = λ rest.
-          lead-named budget m left slices rest end same opens closed
-          ∙ ap (λ (x : Machine). behind (leg_effects m.events g.entries) (asks_by (fresh m left) slices) (run_from budget (begun x g.left) rest)) (sym is)
-          ∙ ap (λ (x : ℕ). behind (leg_effects m.events g.entries) (asks_by (fresh m left) slices) (run_from budget (begun m' x) rest)) (sym is_left);
-      names = ap slices_in (leg-committed m.events g.entries) ∙ names-leg m.events m left slices same;
+          ap (λ (x : List Picked). run_from budget (begun m left) (x ++ rest)) same_named
+          ∙ lead-named budget m left slices rest end same opens closed
+          ∙ ap (λ (x : Machine). behind (leg_effects m.events g.entries) touches (run_from budget (begun x g.left) rest)) (sym is)
+          ∙ ap (λ (x : ℕ). behind (leg_effects m.events g.entries) touches (run_from budget (begun m' x) rest)) (sym is_left);
+      names = ap slices_in (leg-committed m.events g.entries) ∙ names-leg m.events m left slices same ∙ sym same_named;
+      unplugs = ap unplugged_in (leg-committed m.events g.entries) ∙ unplugs-leg m left slices same ∙ sym (at-unplugs asks);
       begins = ap reply_behind (leg-committed m.events g.entries) ∙ begins-leg begin m left slices;
       carries = carries;
-      picked = picked;
-      in_range = in_range;
-      replied = replied;
-      executed = omega (arith, executed, going-cost (fresh m left) slices);
+      picked = subst (λ (x : List Ask). PickedBy old.choices new.choices x slices) (sym (asks-at asks)) picked;
+      in_range = subst (λ (x : List Ask). AreInRange x slices) (sym (asks-at asks)) in_range;
+      touched = touched-at who asks slices old.answers new.answers replied;
+      executed = omega (arith, executed, going-cost (fresh m left) slices, ap slices_cost same_named);
     }
 
 -- without slices a run that begins with some stops at once

@@ -1,4 +1,5 @@
 pub mod NamedLemmas
+pub mod TouchLemmas
 pub mod PointLemmas
 pub mod OutputLemmas
 pub mod RunLemmas

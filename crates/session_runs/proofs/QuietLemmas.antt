@@ -2,7 +2,6 @@
 use Rattle.std.proofs.Common.{◌≡◌, ◌≢◌, ◌⊎◌, inl, inr, ℕ, ◌+◌, ◌<◌, ◌≤◌, ◌++◌, Bool, true, false, if◌then◌else◌, List, [], ◌∷◌, length, Option, Some, None, refl, sym, ap, ◌∙◌, subst, append_assoc, append-nil, length-append, arith}
 use Rattle.arn_base.specs.declared.disk.Disk.{Ghosts}
 use Rattle.arn_base.specs.declared.records.Record.{Record}
-use Rattle.parts_model.specs.Replies.{Answered}
 use Rattle.arn_lines.specs.declared.answer.RunEnd.{RunEnd}
 use Rattle.arn_model.specs.Kernel.{Machine}
 use Rattle.arn_model.specs.Laws.{EachRunAppends}
@@ -10,9 +9,8 @@ use Rattle.arn_model.specs.Run.{Input, input_steps, machine_after}
 use Rattle.log_model.specs.Laws.{EventsRecorded, RecordsAppend}
 use Rattle.log_model.specs.Records.{input_records, named, reply_behind}
 use Rattle.log_store.specs.Stores.{StoreState}
-use Rattle.guest_devices.specs.Answers.{Asked}
 use Rattle.guest_machine.specs.LegLaws.{all_named}
-use Rattle.guest_machine.specs.Legs.{Ask, Picked, input_of}
+use Rattle.guest_machine.specs.Legs.{Ask, Picked, ask_of, input_of}
 use Rattle.session_effects.specs.Carrying.{IsAtCommit}
 use Rattle.session_effects.specs.Effects.{Effect, Commits, Prints, committed}
 use Rattle.session_effects.specs.Laws.{HaltsFollow}
@@ -24,6 +22,7 @@ use Rattle.session_runs.specs.Points.{Advances, EndsWithin, IsSpent, Stops, Surr
 use Rattle.session_runs.specs.Quiet.{quietly, quiet_turn, then_told}
 use Rattle.session_runs.specs.Ready.{machine_of}
 use Rattle.session_runs.specs.Runs.{Running, begun, effects_of, ended, ends, is_full, leg_effects, run, run_after, run_from, unless_ended}
+use Rattle.session_runs.specs.Touches.{Answering, Touch, AtSlice, asks_in, named_at, unplugged_in}
 use Rattle.session_runs.specs.Turns.{Point, Turn, behind, cut_off, finished, followed_by, prints}
 use Rattle.session_runs.proofs.CountLemmas.{machine-more, slice-names, slices-both}
 use Rattle.session_runs.proofs.LegLemmas.{first-commit, no-commit, none-next}
@@ -130,7 +129,7 @@ module _ (records_append : RecordsAppend) (recorded : EventsRecorded) (runs_appe
       (Legs-more (0 + length slices) (length slices) (run_from budget (begun r'.leg.machine r'.leg.left) slices).effects (omega arith) next))
     where
       by : (o : Option RunEnd) → (let r' = run_after r s in Legs (length (slices_in r.leg.entries) + length (s ∷ slices)) ((if is_full r' then effects_of r' else []) ++ (run_from budget (if is_full r' then begun r'.leg.machine r'.leg.left else r') slices).effects))
-          → let r' = run_after r s in Legs (length (slices_in r.leg.entries) + length (s ∷ slices)) (unless_ended o (λ end. ended budget r end (s ∷ slices)) (behind (if is_full r' then effects_of r' else []) (let a : Ask = record { machine = r.leg.machine; left = r.leg.left } in a ∷ []) (run_from budget (if is_full r' then begun r'.leg.machine r'.leg.left else r') slices))).effects
+          → let r' = run_after r s in Legs (length (slices_in r.leg.entries) + length (s ∷ slices)) (unless_ended o (λ end. ended budget r end (s ∷ slices)) (behind (if is_full r' then effects_of r' else []) (AtSlice (ask_of r.leg) ∷ []) (run_from budget (if is_full r' then begun r'.leg.machine r'.leg.left else r') slices))).effects
       by None legs = legs
       by (Some end) legs = legs-ended (length (slices_in r.leg.entries) + length (s ∷ slices)) r.first r.leg.entries _ (omega arith)
 
@@ -155,9 +154,9 @@ told-effects : (t : Turn) (left : Option (List Picked)) (text : List ℕ) → (f
 told-effects t None text = sym (append-nil t.effects)
 told-effects t (Some rest) text = refl
 
-told-asks : (t : Turn) (left : Option (List Picked)) (text : List ℕ) → (followed_by t left (prints text)).asks ≡ t.asks
-told-asks t None text = refl
-told-asks t (Some rest) text = append-nil t.asks
+told-touches : (t : Turn) (left : Option (List Picked)) (text : List ℕ) → (followed_by t left (prints text)).touches ≡ t.touches
+told-touches t None text = refl
+told-touches t (Some rest) text = append-nil t.touches
 
 told-left : (t : Turn) (left : Option (List Picked)) (text : List ℕ) → t.left ≡ left → (followed_by t left (prints text)).left ≡ left
 told-left t None text is = is
@@ -168,8 +167,8 @@ told-cut : (t : Turn) (left : Option (List Picked)) (text : List ℕ) → left �
 told-cut t left text none = ap (λ (o : Option (List Picked)). followed_by t o (prints text)) none
 
 -- no slices have no names
-none-named : (asks : List Ask) (slices : List Picked) → slices ≡ [] → all_named asks slices ≡ []
-none-named asks slices none = ap (all_named asks) none ∙ empty asks
+none-named : (touches : List Touch) (slices : List Picked) → slices ≡ [] → named_at touches slices ≡ []
+none-named touches slices none = ap (named_at touches) none ∙ empty (asks_in touches)
   where
     empty : (asks : List Ask) → all_named asks [] ≡ []
     empty [] = refl
@@ -180,44 +179,45 @@ spent-told lost undone quiet_undone left text (inl none) = inl none
 spent-told lost undone quiet_undone left text (inr all) =
     inr (all.0, inl (λ none. some-behind quiet_undone (Prints text) [] (ap (λ (o : Option (List Picked)). quiet_undone ++ told_behind o text) (sym all.0) ∙ none)))
 
-module _ {D A : Type 0} (is_run : List Record → Type 0) (d : Ghosts D) (replies : A → Asked → Answered → A → Type 0) (follow : QuietFollows is_run d) where
-  pub quiet-advances : (p : Point) (text : List Record → List ℕ) (u v : Surroundings A) (cost : ℕ) (old new : D) (s0 s1 : StoreState) (h0 h1 held : Option (List ℕ)) → Advances replies p finished u v cost (Carries is_run d old new s0 s1 h0 h1) → Advances replies (quietly s0.entries p text) (prints (text s1.entries)) u v cost (Carries is_run d old new s0 s1 held held)
+module _ {D A : Type 0} (is_run : List Record → Type 0) (d : Ghosts D) (who : Answering A) (follow : QuietFollows is_run d) where
+  pub quiet-advances : (p : Point) (text : List Record → List ℕ) (u v : Surroundings A) (cost : ℕ) (old new : D) (s0 s1 : StoreState) (h0 h1 held : Option (List ℕ)) → Advances who p finished u v cost (Carries is_run d old new s0 s1 h0 h1) → Advances who (quietly s0.entries p text) (prints (text s1.entries)) u v cost (Carries is_run d old new s0 s1 held held)
   quiet-advances p text u v cost old new s0 s1 h0 h1 held a =
       let carries = follow.carries old new s0 s1 h0 h1 held a.effects a.carries in
       record {
         slices = a.slices;
-        asks = a.asks;
+        touches = a.touches;
         effects = quiet a.effects;
         leads = λ rest.
             ap (λ (t : Turn). then_told s0.entries (quiet_turn t) text) (a.leads rest)
-            ∙ ap (λ (e : List Effect). behind (quiet e) (a.asks ++ []) (prints (text (s0.entries ++ committed (quiet e))) rest)) (append-nil a.effects)
-            ∙ ap (λ (x : List Ask). behind (quiet a.effects) x (prints (text (s0.entries ++ committed (quiet a.effects))) rest)) (append-nil a.asks)
-            ∙ ap (λ (h : List Record). behind (quiet a.effects) a.asks (prints (text h) rest)) (sym carries.entries);
+            ∙ ap (λ (e : List Effect). behind (quiet e) (a.touches ++ []) (prints (text (s0.entries ++ committed (quiet e))) rest)) (append-nil a.effects)
+            ∙ ap (λ (x : List Touch). behind (quiet a.effects) x (prints (text (s0.entries ++ committed (quiet a.effects))) rest)) (append-nil a.touches)
+            ∙ ap (λ (h : List Record). behind (quiet a.effects) a.touches (prints (text h) rest)) (sym carries.entries);
         names = ap slices_in (quiet-committed a.effects) ∙ a.names;
+        unplugs = ap unplugged_in (quiet-committed a.effects) ∙ a.unplugs;
         begins = ap reply_behind (quiet-committed a.effects) ∙ a.begins;
         carries = carries;
         picked = a.picked;
         in_range = a.in_range;
-        replied = a.replied;
+        touched = a.touched;
         executed = a.executed;
       }
 
   -- a halt of any point, where no commit stands behind a text that stands next
   stops-quietly : HaltsFollow is_run d → (p : Point) (text : List Record → List ℕ) (u v : Surroundings A) (cost : ℕ) (old new : D) (history : List Record) (h0 h1 held : Option (List ℕ)) (why : Halt) → why ≢ halt.Sink
-      → (s : Stops is_run d replies old new history h0 h1 why p u v cost) → ((first : List ℕ) (more : List Effect) → s.undone ≡ Prints first ∷ more → quiet more ≡ []) → Stops is_run d replies old new history held held why (quietly history p text) u v cost
+      → (s : Stops is_run d who old new history h0 h1 why p u v cost) → ((first : List ℕ) (more : List Effect) → s.undone ≡ Prints first ∷ more → quiet more ≡ []) → Stops is_run d who old new history held held why (quietly history p text) u v cost
   stops-quietly halts p text u v cost old new history h0 h1 held why not_sink s texts =
-      let alone = p (all_named s.asks s.slices) in
-      let t = p (all_named s.asks s.slices ++ all_named s.lost_asks s.lost) in
-      let with_part = p (all_named s.asks s.slices ++ (all_named s.lost_asks s.lost ++ s.part)) in
+      let alone = p (named_at s.touches s.slices) in
+      let t = p (named_at s.touches s.slices ++ named_at s.lost_touches s.lost) in
+      let with_part = p (named_at s.touches s.slices ++ (named_at s.lost_touches s.lost ++ s.part)) in
       let tells : Turn → List ℕ = λ (x : Turn). text (history ++ committed (quiet x.effects)) in
       let told = told_behind t.left (tells t) in
       record {
         slices = s.slices;
         lost = s.lost;
         part = s.part;
-        asks = s.asks;
-        lost_asks = s.lost_asks;
-        part_asks = s.part_asks;
+        touches = s.touches;
+        lost_touches = s.lost_touches;
+        part_touches = s.part_touches;
         done = quiet s.done;
         undone = quiet s.undone ++ told;
         are_effects =
@@ -225,11 +225,13 @@ module _ {D A : Type 0} (is_run : List Record → Type 0) (d : Ghosts D) (replie
             ∙ ap (λ (e : List Effect). quiet e ++ told) s.are_effects
             ∙ ap (λ (e : List Effect). e ++ told) (quiet-append s.done s.undone)
             ∙ append_assoc (quiet s.done) (quiet s.undone) told;
-        are_asks = told-asks (quiet_turn with_part) with_part.left (tells with_part) ∙ s.are_asks;
+        are_touches = told-touches (quiet_turn with_part) with_part.left (tells with_part) ∙ s.are_touches;
         stopped = halts.before old new history held held why (quiet s.done) (quiet s.undone) told (follow.halts old new history h0 h1 held why s.done s.undone not_sink s.stopped);
         names = ap slices_in (quiet-committed s.done) ∙ s.names;
+        unplugs = ap unplugged_in (quiet-committed s.done) ∙ s.unplugs;
         begins = ap reply_behind (quiet-committed s.done) ∙ s.begins;
         names_lost = λ entries at. s.names_lost entries (commit-next s.undone told entries (told-none t.left (tells t) entries) texts at);
+        unplugs_lost = λ entries at. s.unplugs_lost entries (commit-next s.undone told entries (told-none t.left (tells t) entries) texts at);
         without = cut s.done alone (tells alone) s.without;
         spent =
             subst (λ (o : Option (List Picked)). IsSpent s.lost (quiet s.undone ++ told) o) (sym (told-left (quiet_turn t) t.left (tells t) refl))
@@ -237,7 +239,7 @@ module _ {D A : Type 0} (is_run : List Record → Type 0) (d : Ghosts D) (replie
         many = s.many;
         picked = s.picked;
         in_range = s.in_range;
-        replied = s.replied;
+        touched = s.touched;
         one_part = s.one_part;
         by_memory = s.by_memory;
         executed = s.executed;
@@ -250,15 +252,15 @@ module _ {D A : Type 0} (is_run : List Record → Type 0) (d : Ghosts D) (replie
           inr (record { effects = ap (λ (x : Turn). x.effects) same ∙ ap quiet ends.effects; left = ap (λ (x : Turn). x.left) same ∙ ends.left })
 
   pub quiet-stops : HaltsFollow is_run d → RecordsAppend → EventsRecorded → EachRunAppends → (budget : ℕ) (text : List Record → List ℕ) (u v : Surroundings A) (cost : ℕ) (old new : D) (history : List Record) (h0 h1 held : Option (List ℕ)) (why : Halt) → why ≢ halt.Sink
-      → Stops is_run d replies old new history h0 h1 why (run (machine_of history) budget) u v cost → Stops is_run d replies old new history held held why (quietly history (run (machine_of history) budget) text) u v cost
+      → Stops is_run d who old new history h0 h1 why (run (machine_of history) budget) u v cost → Stops is_run d who old new history held held why (quietly history (run (machine_of history) budget) text) u v cost
   quiet-stops halts records_append recorded runs_append budget text u v cost old new history h0 h1 held why not_sink s =
       stops-quietly halts (run (machine_of history) budget) text u v cost old new history h0 h1 held why not_sink s texts
     where
       texts : (first : List ℕ) (more : List Effect) → s.undone ≡ Prints first ∷ more → quiet more ≡ []
       texts first more is =
           let m = machine_of history in
-          let front = all_named s.asks s.slices in
-          let lost = all_named s.lost_asks s.lost in
+          let front = named_at s.touches s.slices in
+          let lost = named_at s.lost_touches s.lost in
           let legs : (slices : List Picked) → Legs (0 + length slices) (run m budget slices).effects = λ slices. run-legs records_append recorded runs_append budget (begun m budget) (named history) slices refl in
           let whole : Legs (0 + length (front ++ lost)) (s.done ++ Prints first ∷ more) =
           subst (λ (e : List Effect). Legs (0 + length (front ++ lost)) e) (s.are_effects ∙ ap (λ (e : List Effect). s.done ++ e) is) (legs (front ++ lost)) in
@@ -266,7 +268,7 @@ module _ {D A : Type 0} (is_run : List Record → Type 0) (d : Ghosts D) (replie
             | inl none ↦
                 elim (legs-text (0 + length (front ++ lost)) s.done first more whole) [
                   | inl nothing ↦ nothing
-                  | inr fewer ↦ absurd (omega (arith, fewer, ap (λ (x : List Picked). length x) s.names, length-append front lost, ap (λ (x : List Picked). length x) (none-named s.lost_asks s.lost none)))
+                  | inr fewer ↦ absurd (omega (arith, fewer, ap (λ (x : List Picked). length x) s.names, length-append front lost, ap (λ (x : List Picked). length x) (none-named s.lost_touches s.lost none)))
                 ]
             | inr cut ↦
                 ap quiet (legs-last (0 + length front) (0 + length (front ++ lost)) s.done first more (subst (λ (e : List Effect). Legs (0 + length front) e) cut.effects (legs front)) whole)

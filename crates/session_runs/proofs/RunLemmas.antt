@@ -15,15 +15,17 @@ use Rattle.log_model.specs.Records.{input_records, records_from}
 use Rattle.guest_machine.specs.declared.leg.LegEnd.{LegEnd}
 use Rattle.guest_machine.specs.declared.leg.LegEnd.TheVariants as leg_end_is
 use Rattle.guest_machine.specs.declared.leg.TheConstants.{MOST_LEG}
-use Rattle.guest_machine.specs.Legs.{Ask, Going, Picked, StaysOpen, ask_of, asks_by, end_of, fresh, going_after, going_by, input_of, leg_end}
+use Rattle.guest_machine.specs.Legs.{Going, Picked, StaysOpen, ask_of, asks_by, end_of, fresh, going_after, going_by, input_of, leg_end}
 use Rattle.guest_machine.specs.LegLaws.{as_named, named_by}
 use Rattle.guest_machine.specs.Pieces.{spelled_len}
 use Rattle.session_effects.specs.Effects.{Commits, Prints, committed}
 use Rattle.session_runs.specs.Outputs.{outputs_text}
 use Rattle.session_runs.specs.Points.{slices_cost}
 use Rattle.session_runs.specs.Runs.{Running, begun, closing, effects_of, end_told, ended, ends, is_full, leg_effects, next_leg, run_after, run_end, run_from, unless_ended}
+use Rattle.session_runs.specs.Touches.{Touch, AtSlice}
 use Rattle.session_runs.specs.Turns.{Turn, Point, behind, cut_off}
 use Rattle.session_runs.proofs.PointLemmas.{behind-behind}
+use Rattle.session_runs.proofs.TouchLemmas.{at_slices}
 
 -- a run after more slices
 abbrev pub run_by : Running → List Picked → Running
@@ -99,9 +101,9 @@ module _ (budget : ℕ) where
   run_at-full r slices full =
       ap (λ (b : Bool). behind (if b then effects_of r else []) [] (run_from budget (if b then begun r.leg.machine r.leg.left else r) slices)) full
 
-  run_from-more : (r : Running) (s : Picked) (slices : List Picked) → ends r ≡ None → run_from budget r (s ∷ slices) ≡ behind [] (ask_of r.leg ∷ []) (run_at budget (run_after r s) slices)
+  run_from-more : (r : Running) (s : Picked) (slices : List Picked) → ends r ≡ None → run_from budget r (s ∷ slices) ≡ behind [] (AtSlice (ask_of r.leg) ∷ []) (run_at budget (run_after r s) slices)
   run_from-more r s slices more =
-      ap (λ (o : Option RunEnd). unless_ended o (λ end. ended budget r end (s ∷ slices)) (behind (closing (run_after r s)) (ask_of r.leg ∷ []) (run_from budget (next_leg (run_after r s)) slices))) more
+      ap (λ (o : Option RunEnd). unless_ended o (λ end. ended budget r end (s ∷ slices)) (behind (closing (run_after r s)) (AtSlice (ask_of r.leg) ∷ []) (run_from budget (next_leg (run_after r s)) slices))) more
 
   pub run_from-cut : (r : Running) → ends r ≡ None → run_from budget r [] ≡ cut_off
   run_from-cut r more = ap (λ (o : Option RunEnd). unless_ended o (λ end. ended budget r end []) cut_off) more
@@ -109,16 +111,16 @@ module _ (budget : ℕ) where
   pub run_from-ended : (r : Running) (slices : List Picked) (e : RunEnd) → ends r ≡ Some e → run_from budget r slices ≡ ended budget r e slices
   run_from-ended r [] e is = ap (λ (o : Option RunEnd). unless_ended o (λ end. ended budget r end []) cut_off) is
   run_from-ended r (s ∷ slices) e is =
-      ap (λ (o : Option RunEnd). unless_ended o (λ end. ended budget r end (s ∷ slices)) (behind (closing (run_after r s)) (ask_of r.leg ∷ []) (run_from budget (next_leg (run_after r s)) slices))) is
+      ap (λ (o : Option RunEnd). unless_ended o (λ end. ended budget r end (s ∷ slices)) (behind (closing (run_after r s)) (AtSlice (ask_of r.leg) ∷ []) (run_from budget (next_leg (run_after r s)) slices))) is
 
   -- the slices of an open leg are taken
-  run_at-slices : (r : Running) (slices rest : List Picked) → StaysOpen r.leg slices → run_at budget r (slices ++ rest) ≡ behind [] (asks_by r.leg slices) (run_at budget (run_by r slices) rest)
+  run_at-slices : (r : Running) (slices rest : List Picked) → StaysOpen r.leg slices → run_at budget r (slices ++ rest) ≡ behind [] (at_slices (asks_by r.leg slices)) (run_at budget (run_by r slices) rest)
   run_at-slices r [] rest opens = refl
   run_at-slices r (s ∷ slices) rest opens =
       let p = open-parts (run_state r.leg.machine) r.leg.left (spelled_len r.leg.entries) opens.0 in
       run_at-room r (s ∷ slices ++ rest) p.1
       ∙ run_from-more r s (slices ++ rest) p.0
-      ∙ ap (λ (t : Turn). behind [] (ask_of r.leg ∷ []) t) (run_at-slices (run_after r s) slices rest opens.1)
+      ∙ ap (λ (t : Turn). behind [] (AtSlice (ask_of r.leg) ∷ []) t) (run_at-slices (run_after r s) slices rest opens.1)
 
   -- a leg that ends is committed and printed, and then the run goes on in a new one
   run_at-closed : (r : Running) (rest : List Picked) (end : LegEnd) → end_of r.leg ≡ Some end → run_at budget r rest ≡ behind (effects_of r) [] (run_from budget (begun r.leg.machine r.leg.left) rest)
@@ -134,18 +136,18 @@ module _ (budget : ℕ) where
 
   -- a leg: from a new one to the next
   pub leg-leads : (m : Machine) (left : ℕ) (slices rest : List Picked) (end : LegEnd) → StaysOpen (fresh m left) slices → end_of (going_by (fresh m left) slices) ≡ Some end
-      → let g = going_by (fresh m left) slices in run_from budget (begun m left) (slices ++ rest) ≡ behind (leg_effects m.events g.entries) (asks_by (fresh m left) slices) (run_from budget (begun g.machine g.left) rest)
+      → let g = going_by (fresh m left) slices in run_from budget (begun m left) (slices ++ rest) ≡ behind (leg_effects m.events g.entries) (at_slices (asks_by (fresh m left) slices)) (run_from budget (begun g.machine g.left) rest)
   leg-leads m left slices rest end opens closed =
       let g = going_by (fresh m left) slices in
       let r : Running = run_by (begun m left) slices in
       sym (run_at-room (begun m left) (slices ++ rest) refl)
       ∙ run_at-slices (begun m left) slices rest opens
-      ∙ ap (λ (t : Turn). behind [] (asks_by (fresh m left) slices) t) (run_at-closed r rest end closed)
-      ∙ behind-behind [] (effects_of r) (asks_by (fresh m left) slices) [] (run_from budget (begun g.machine g.left) rest)
-      ∙ ap (λ (a : List Ask). behind (leg_effects m.events g.entries) a (run_from budget (begun g.machine g.left) rest)) (append-nil (asks_by (fresh m left) slices))
+      ∙ ap (λ (t : Turn). behind [] (at_slices (asks_by (fresh m left) slices)) t) (run_at-closed r rest end closed)
+      ∙ behind-behind [] (effects_of r) (at_slices (asks_by (fresh m left) slices)) [] (run_from budget (begun g.machine g.left) rest)
+      ∙ ap (λ (a : List Touch). behind (leg_effects m.events g.entries) a (run_from budget (begun g.machine g.left) rest)) (append-nil (at_slices (asks_by (fresh m left) slices)))
 
   -- a leg that is open behind these slices does nothing more without others
-  pub leg-open : (m : Machine) (left : ℕ) (slices : List Picked) → StaysOpen (fresh m left) slices → end_of (going_by (fresh m left) slices) ≡ None → run_from budget (begun m left) slices ≡ behind [] (asks_by (fresh m left) slices) cut_off
+  pub leg-open : (m : Machine) (left : ℕ) (slices : List Picked) → StaysOpen (fresh m left) slices → end_of (going_by (fresh m left) slices) ≡ None → run_from budget (begun m left) slices ≡ behind [] (at_slices (asks_by (fresh m left) slices)) cut_off
   leg-open m left slices opens open_now =
       let g = going_by (fresh m left) slices in
       let r : Running = run_by (begun m left) slices in
@@ -153,30 +155,30 @@ module _ (budget : ℕ) where
       ap (run_from budget (begun m left)) (sym (append-nil slices))
       ∙ sym (run_at-room (begun m left) (slices ++ []) refl)
       ∙ run_at-slices (begun m left) slices [] opens
-      ∙ ap (λ (t : Turn). behind [] (asks_by (fresh m left) slices) t) (run_at-room r [] p.1 ∙ run_from-cut r p.0)
+      ∙ ap (λ (t : Turn). behind [] (at_slices (asks_by (fresh m left) slices)) t) (run_at-room r [] p.1 ∙ run_from-cut r p.0)
 
-  -- without slices none is asked for, and nothing is committed
-  pub alone-asks : (r : Running) → (run_from budget r []).asks ≡ []
-  alone-asks r = by (ends r)
+  -- without slices nothing is touched
+  pub alone-touches : (r : Running) → (run_from budget r []).touches ≡ []
+  alone-touches r = by (ends r)
     where
-      by : (o : Option RunEnd) → (unless_ended o (λ end. ended budget r end []) cut_off).asks ≡ []
+      by : (o : Option RunEnd) → (unless_ended o (λ end. ended budget r end []) cut_off).touches ≡ []
       by None = refl
       by (Some end) = refl
 
   -- one slice more is asked for where an open leg stands
-  pub one-asks : (r : Running) (s : Picked) → ends r ≡ None → (run_from budget r (s ∷ [])).asks ≡ ask_of r.leg ∷ []
-  one-asks r s more = ap (λ (t : Turn). t.asks) (run_from-more r s [] more) ∙ ap (λ (a : List Ask). ask_of r.leg ∷ a) (alone-asks (next_leg (run_after r s)))
+  pub one-touch : (r : Running) (s : Picked) → ends r ≡ None → (run_from budget r (s ∷ [])).touches ≡ AtSlice (ask_of r.leg) ∷ []
+  one-touch r s more = ap (λ (t : Turn). t.touches) (run_from-more r s [] more) ∙ ap (λ (a : List Touch). AtSlice (ask_of r.leg) ∷ a) (alone-touches (next_leg (run_after r s)))
 
-  pub leg-part : (m : Machine) (left : ℕ) (slices : List Picked) (s : Picked) → StaysOpen (fresh m left) slices → end_of (going_by (fresh m left) slices) ≡ None → (run_from budget (begun m left) (slices ++ s ∷ [])).asks ≡ asks_by (fresh m left) slices ++ ask_of (going_by (fresh m left) slices) ∷ []
+  pub leg-part : (m : Machine) (left : ℕ) (slices : List Picked) (s : Picked) → StaysOpen (fresh m left) slices → end_of (going_by (fresh m left) slices) ≡ None → (run_from budget (begun m left) (slices ++ s ∷ [])).touches ≡ at_slices (asks_by (fresh m left) slices) ++ AtSlice (ask_of (going_by (fresh m left) slices)) ∷ []
   leg-part m left slices s opens open_now =
       let g = going_by (fresh m left) slices in
       let r : Running = run_by (begun m left) slices in
       let p = open-parts (run_state g.machine) g.left (spelled_len g.entries) open_now in
-      ap (λ (t : Turn). t.asks)
+      ap (λ (t : Turn). t.touches)
       (sym (run_at-room (begun m left) (slices ++ s ∷ []) refl)
       ∙ run_at-slices (begun m left) slices (s ∷ []) opens
-      ∙ ap (λ (t : Turn). behind [] (asks_by (fresh m left) slices) t) (run_at-room r (s ∷ []) p.1))
-      ∙ ap (λ (a : List Ask). asks_by (fresh m left) slices ++ a) (one-asks r s p.0)
+      ∙ ap (λ (t : Turn). behind [] (at_slices (asks_by (fresh m left) slices)) t) (run_at-room r (s ∷ []) p.1))
+      ∙ ap (λ (a : List Touch). at_slices (asks_by (fresh m left) slices) ++ a) (one-touch r s p.0)
 
   -- without slices a run ends, or waits for some
   pub alone-left : (r : Running) → ((run_from budget r []).left ≡ None) ⊎ ((run_from budget r []).left ≡ Some [])

@@ -27,6 +27,7 @@ use Rattle.session_runs.specs.Outputs.{outputs_text}
 use Rattle.session_runs.specs.Points.{Advances, Surroundings, around}
 use Rattle.session_runs.specs.Ready.{IsReady, machine_of}
 use Rattle.session_runs.specs.Runs.{begun, end_told, ends, leg_effects, run_from}
+use Rattle.session_runs.specs.Touches.{Answering}
 use Rattle.session_runs.proofs.LegLemmas.{Advances-leg, entries-are, machine-behind}
 use Rattle.session_runs.proofs.RunLemmas.{end-behind, leg-some, more-some}
 
@@ -65,14 +66,14 @@ taken answers legs history left leg r r' before after a a' out out' steps steps'
       executed = omega (arith, is.ticks, is.took.runs.counted);
     }
 
-module _ {A : Type 0} (replies : A → Asked → Answered → A → Type 0) (names : NamedAppend) (begin : RecordsBegin) (append : EachRunAppends) (history there : List Record) (left : ℕ) (leg : Leg) (entries : List Record) (old new : Surroundings A) (t : Taken replies (machine_of history) left leg entries old new) (is : there ≡ history ++ entries) where
+module _ {A : Type 0} (who : Answering A) (names : NamedAppend) (begin : RecordsBegin) (append : EachRunAppends) (history there : List Record) (left : ℕ) (leg : Leg) (entries : List Record) (old new : Surroundings A) (t : Taken who.answers (machine_of history) left leg entries old new) (is : there ≡ history ++ entries) where
   -- the machine behind it
   machine-there : machine_of there ≡ (going_by (fresh (machine_of history) left) t.slices).machine
   machine-there = ap machine_of is ∙ ap (λ (x : List Record). machine_of (history ++ x)) t.are ∙ machine-behind names begin append history left t.slices t.same
 
-  pub Advances-taken : (budget : ℕ) (carried : List Effect → Type 0) → carried (leg_effects (machine_of history).events entries) → Advances replies (run_from budget (begun (machine_of history) left)) (run_from budget (begun (machine_of there) (left - leg.ran))) old new 0 carried
+  pub Advances-taken : (budget : ℕ) (carried : List Effect → Type 0) → carried (leg_effects (machine_of history).events entries) → Advances who (run_from budget (begun (machine_of history) left)) (run_from budget (begun (machine_of there) (left - leg.ran))) old new 0 carried
   Advances-taken budget carried carries =
-      Advances-leg replies budget (machine_of history) (machine_of there) left (left - leg.ran) t.slices leg.end old new carried begin t.same t.opens t.closed machine-there t.is_left t.picked t.in_range t.replied t.executed
+      Advances-leg who budget (machine_of history) (machine_of there) left (left - leg.ran) t.slices leg.end old new carried begin t.same t.opens t.closed machine-there t.is_left t.picked t.in_range t.replied t.executed
       (subst (λ (x : List Record). carried (leg_effects (machine_of history).events x)) t.are carries)
 
   pub ends-taken : ends (begun (machine_of there) (left - leg.ran)) ≡ end_told leg.end

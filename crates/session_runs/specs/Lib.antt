@@ -1,4 +1,5 @@
 pub mod Outputs
+pub mod Touches
 pub mod Turns
 pub mod Runs
 pub mod Points

@@ -6,14 +6,12 @@ use Rattle.arn_base.specs.declared.disk.Disk.{Ghosts}
 use Rattle.arn_base.specs.declared.records.Record.{Record}
 use Rattle.arn_model.specs.Run.{Input, File, Boot, Typed, Unplug, Slice}
 use Rattle.log_model.specs.Records.{named, reply_behind}
-use Rattle.parts_model.specs.Replies.{Answered}
-use Rattle.guest_devices.specs.Answers.{Asked}
-use Rattle.guest_machine.specs.Legs.{Ask, AreInRange, Picked, PickedBy, RepliedBy}
-use Rattle.guest_machine.specs.LegLaws.{all_named}
+use Rattle.guest_machine.specs.Legs.{AreInRange, Picked, PickedBy}
 use Rattle.session_effects.specs.Carrying.{IsAtCommit, StopsBetween}
 use Rattle.session_effects.specs.Effects.{Effect, committed}
 use Rattle.session_effects.specs.declared.halt.Halt.{Halt}
 use Rattle.session_effects.specs.declared.halt.Halt.TheVariants as halt
+use Rattle.session_runs.specs.Touches.{Answering, Touch, TouchedBy, asks_in, named_at, unplugged_in, unplugs_in}
 use Rattle.session_runs.specs.Turns.{Turn, Point, behind}
 
 -- the slice that an input is
@@ -46,20 +44,21 @@ abbrev pub around : {A : Type 0} → (ℕ → Option Choice) → A → ℕ → S
 around choices answers steps = record { choices = choices; answers = answers; steps = steps }
 
 -- From one point to a later one slices were picked, each where it was asked for, and effects carried out, whatever slices follow. The records
--- that the effects commit name these slices and no others, behind other records too. Devices gave their replies. The slices cost their
--- instructions and one for each; `cost` is what else was done.
-pub record Advances {A : Type 0} (replies : A → Asked → Answered → A → Type 0) (from to : Point) (old new : Surroundings A) (cost : ℕ) (carried : List Effect → Type 0) : Type 0 where
+-- that the effects commit name these slices and no others, behind other records too, and unplug what the touches do. Devices gave their
+-- replies. The slices cost their instructions and one for each; `cost` is what else was done.
+pub record Advances {A : Type 0} (who : Answering A) (from to : Point) (old new : Surroundings A) (cost : ℕ) (carried : List Effect → Type 0) : Type 0 where
   pub slices : List Picked
-  pub asks : List Ask
+  pub touches : List Touch
   pub effects : List Effect
-  pub leads : (rest : List Picked) → from (all_named asks slices ++ rest) ≡ behind effects asks (to rest)
-  pub names : slices_in (committed effects) ≡ all_named asks slices
+  pub leads : (rest : List Picked) → from (named_at touches slices ++ rest) ≡ behind effects touches (to rest)
+  pub names : slices_in (committed effects) ≡ named_at touches slices
+  pub unplugs : unplugged_in (committed effects) ≡ unplugs_in touches
   pub begins : reply_behind (committed effects) ≡ None
   pub carries : carried effects
-  pub picked : PickedBy old.choices new.choices asks slices
-  pub in_range : AreInRange asks slices
-  pub replied : RepliedBy replies asks slices old.answers new.answers
-  pub executed : new.steps ≤ old.steps + cost + slices_cost (all_named asks slices)
+  pub picked : PickedBy old.choices new.choices (asks_in touches) slices
+  pub in_range : AreInRange (asks_in touches) slices
+  pub touched : TouchedBy who touches slices old.answers new.answers
+  pub executed : new.steps ≤ old.steps + cost + slices_cost (named_at touches slices)
 
 -- the slices end within a run, behind these effects
 pub record EndsWithin (done : List Effect) (t : Turn) : Type 0 where
@@ -71,29 +70,32 @@ abbrev pub IsSpent : List Picked → List Effect → Option (List Picked) → Ty
 IsSpent lost undone left = (left ≡ None) ⊎ ((left ≡ Some []) × ((undone ≢ []) ⊎ (lost ≡ [])))
 
 -- A session halted: the effects `done` were carried out, and of what comes next some of the first at most. The records of those name
--- `slices`. Slices that were picked behind these and not committed are lost: those of the open leg. Without them the slices end before
--- it; where a commit stands next, it names them. Where memory ran out in a slice, that one was picked too, and a part of it may have run.
-pub record Stops {D A : Type 0} (is_run : List Record → Type 0) (d : Ghosts D) (replies : A → Asked → Answered → A → Type 0) (disk disk' : D) (history : List Record) (held holds : Option (List ℕ)) (why : Halt) (from : Point) (old new : Surroundings A) (cost : ℕ) : Type 0 where
+-- `slices`, and unplug what `touches` do. Slices that were picked behind these and not committed are lost: those of the open leg. Without
+-- them the slices end before it; where a commit stands next, it names them, and unplugs what is unplugged behind the others. Where memory
+-- ran out in a slice, that one was picked too, and a part of it may have run; or it ran out before an unplugging, which wasn't made.
+pub record Stops {D A : Type 0} (is_run : List Record → Type 0) (d : Ghosts D) (who : Answering A) (disk disk' : D) (history : List Record) (held holds : Option (List ℕ)) (why : Halt) (from : Point) (old new : Surroundings A) (cost : ℕ) : Type 0 where
   pub slices : List Picked
   pub lost : List Picked
   pub part : List Picked
-  pub asks : List Ask
-  pub lost_asks : List Ask
-  pub part_asks : List Ask
+  pub touches : List Touch
+  pub lost_touches : List Touch
+  pub part_touches : List Touch
   pub done : List Effect
   pub undone : List Effect
-  pub are_effects : (from (all_named asks slices ++ all_named lost_asks lost)).effects ≡ done ++ undone
-  pub are_asks : (from (all_named asks slices ++ (all_named lost_asks lost ++ part))).asks ≡ asks ++ (lost_asks ++ part_asks)
+  pub are_effects : (from (named_at touches slices ++ named_at lost_touches lost)).effects ≡ done ++ undone
+  pub are_touches : (from (named_at touches slices ++ (named_at lost_touches lost ++ part))).touches ≡ touches ++ (lost_touches ++ part_touches)
   pub stopped : StopsBetween is_run d disk disk' history held holds why done undone
-  pub names : slices_in (committed done) ≡ all_named asks slices
+  pub names : slices_in (committed done) ≡ named_at touches slices
+  pub unplugs : unplugged_in (committed done) ≡ unplugs_in touches
   pub begins : reply_behind (committed done) ≡ None
-  pub names_lost : (entries : List Record) → IsAtCommit undone entries → slices_in entries ≡ all_named lost_asks lost
-  pub without : (lost ≡ []) ⊎ EndsWithin done (from (all_named asks slices))
-  pub spent : IsSpent lost undone (from (all_named asks slices ++ all_named lost_asks lost)).left
-  pub many : length asks ≡ length slices
-  pub picked : PickedBy old.choices new.choices (asks ++ (lost_asks ++ part_asks)) (slices ++ (lost ++ part))
-  pub in_range : AreInRange (asks ++ (lost_asks ++ part_asks)) (slices ++ (lost ++ part))
-  pub replied : RepliedBy replies (asks ++ lost_asks) (slices ++ lost) old.answers new.answers
-  pub one_part : length part ≤ 1
-  pub by_memory : (part ≡ []) ⊎ (why ≡ halt.NoMemory)
-  pub executed : new.steps ≤ old.steps + cost + slices_cost (all_named asks slices ++ all_named lost_asks lost) + counts part
+  pub names_lost : (entries : List Record) → IsAtCommit undone entries → slices_in entries ≡ named_at lost_touches lost
+  pub unplugs_lost : (entries : List Record) → IsAtCommit undone entries → unplugged_in entries ≡ unplugs_in (lost_touches ++ part_touches)
+  pub without : (lost ≡ []) ⊎ EndsWithin done (from (named_at touches slices))
+  pub spent : IsSpent lost undone (from (named_at touches slices ++ named_at lost_touches lost)).left
+  pub many : length (asks_in touches) ≡ length slices
+  pub picked : PickedBy old.choices new.choices (asks_in (touches ++ (lost_touches ++ part_touches))) (slices ++ (lost ++ part))
+  pub in_range : AreInRange (asks_in (touches ++ (lost_touches ++ part_touches))) (slices ++ (lost ++ part))
+  pub touched : TouchedBy who (touches ++ lost_touches) (slices ++ lost) old.answers new.answers
+  pub one_part : length part_touches ≤ 1
+  pub by_memory : (part_touches ≡ []) ⊎ (why ≡ halt.NoMemory)
+  pub executed : new.steps ≤ old.steps + cost + slices_cost (named_at touches slices ++ named_at lost_touches lost) + counts part

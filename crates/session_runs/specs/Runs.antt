@@ -15,6 +15,7 @@ use Rattle.guest_machine.specs.Legs.{Going, Picked, ask_of, fresh, going_after}
 use Rattle.guest_machine.specs.Pieces.{spelled_len}
 use Rattle.session_effects.specs.Effects.{Effect, Commits, Prints}
 use Rattle.session_runs.specs.Outputs.{outputs_text}
+use Rattle.session_runs.specs.Touches.{AtSlice}
 use Rattle.session_runs.specs.Turns.{Turn, Point, behind, cut_off}
 
 -- a run within a leg: the leg, and the number of its first event
@@ -68,7 +69,7 @@ next_leg r = if is_full r then begun r.leg.machine r.leg.left else r
 
 -- a run that ends: its last leg ends, and then it is printed how many of the budget's instructions ran, and why no more do
 abbrev pub ended : ℕ → Running → RunEnd → Point
-ended budget r end slices = record { effects = effects_of r ++ Prints (ran_text (budget - r.leg.left) end) ∷ []; asks = []; left = Some slices }
+ended budget r end slices = record { effects = effects_of r ++ Prints (ran_text (budget - r.leg.left) end) ∷ []; touches = []; left = Some slices }
 
 abbrev pub unless_ended : Option RunEnd → (RunEnd → Turn) → Turn → Turn
 unless_ended None last more = more
@@ -79,7 +80,7 @@ abbrev pub run_from : ℕ → Running → Point
 run_from budget r [] = unless_ended (ends r) (λ end. ended budget r end []) cut_off
 run_from budget r (s ∷ slices) =
     unless_ended (ends r) (λ end. ended budget r end (s ∷ slices))
-    (behind (closing (run_after r s)) (ask_of r.leg ∷ []) (run_from budget (next_leg (run_after r s)) slices))
+    (behind (closing (run_after r s)) (AtSlice (ask_of r.leg) ∷ []) (run_from budget (next_leg (run_after r s)) slices))
 
 -- a whole run
 abbrev pub run : Machine → ℕ → Point

@@ -2,14 +2,13 @@
 use Rattle.std.specs.Prelude.{ℕ, List, Option}
 use Rattle.arn_base.specs.declared.boxes.Choice.{Choice}
 use Rattle.arn_base.specs.declared.disk.Disk.{Ghosts}
-use Rattle.parts_model.specs.Replies.{Answered}
 use Rattle.log_model.specs.Records.{IsRun}
 use Rattle.log_store.specs.Stores.{StoreState}
-use Rattle.guest_devices.specs.Answers.{Asked}
 use Rattle.session_effects.specs.Standing.{Carries}
 use Rattle.session_effects.specs.declared.halt.Halt.{Halt}
 use Rattle.session_effects.specs.declared.outside.Outside.{Outside}
 use Rattle.session_runs.specs.Points.{Advances, Stops, Surroundings, around}
+use Rattle.session_runs.specs.Touches.{Answering}
 use Rattle.session_runs.specs.Turns.{Point}
 
 -- the disk and the store of its log, what the sink holds if it tells, and what surrounds the machine
@@ -26,11 +25,11 @@ standpoint disk store held around = record { disk = disk; store = store; held = 
 abbrev pub standing : {C A D K L : Type 0} → (C → ℕ → Option Choice) → (K → Option (List ℕ)) → StoreState → Outside C A D K L → Standpoint D A
 standing choices holds store o = standpoint o.disk.now store (holds o.sink.now) (around (choices o.chooser.now) o.answers.now o.steps.now)
 
-module _ {D A : Type 0} (d : Ghosts D) (replies : A → Asked → Answered → A → Type 0) where
+module _ {D A : Type 0} (d : Ghosts D) (who : Answering A) where
   -- a session went on from one point to a later one
   abbrev pub Proceeds : Point → Point → ℕ → Standpoint D A → Standpoint D A → Type 0
-  Proceeds from to cost old new = Advances replies from to old.around new.around cost (Carries IsRun d old.disk new.disk old.store new.store old.held new.held)
+  Proceeds from to cost old new = Advances who from to old.around new.around cost (Carries IsRun d old.disk new.disk old.store new.store old.held new.held)
 
   -- it halted behind a point
   abbrev pub HaltsBehind : Halt → Point → ℕ → Standpoint D A → Standpoint D A → Type 0
-  HaltsBehind why from cost old new = Stops IsRun d replies old.disk new.disk old.store.entries old.held new.held why from old.around new.around cost
+  HaltsBehind why from cost old new = Stops IsRun d who old.disk new.disk old.store.entries old.held new.held why from old.around new.around cost

@@ -2,28 +2,28 @@
 ghost use Rattle.session_runs.specs.Ends.{RunsEnd};
 ghost use Rattle.session_runs.specs.Laws.{PointsFollow};
 ghost use Rattle.session_runs.specs.Quiet.{QuietPointsFollow};
+ghost use Rattle.session_runs.specs.Touches.{answering};
 
 use arn_base::Disk;
 use arn_model::runs_append;
-use guest_devices::Answers;
-use guest_machine::{picks_follow, replies_follow};
+use guest_devices::Plugs;
+use guest_machine::picks_follow;
 use log_model::{events_recorded, named_append, records_append};
 use session_effects::{Runs, effects_follow, halts_follow, quiet_follows};
 
 /// What lies between points follows one another, and where a session halts behind it.
-pub fn points_follow<R: Runs, D: Disk, A: Answers>()
-    ensures { PointsFollow R.is_run D.Disk A.answers }
+pub fn points_follow<R: Runs, D: Disk, A: Plugs>()
+    ensures { PointsFollow R.is_run D.Disk (answering A.answers A.unplugs A.filled) }
 {
     picks_follow();
-    replies_follow::<A>();
     named_append();
     effects_follow::<R, D>();
     halts_follow::<R, D>();
 }
 
 /// What is done over a sink that drops what it is given, and then told in one text.
-pub fn quiet_points_follow<R: Runs, D: Disk, A: Answers>()
-    ensures { QuietPointsFollow R.is_run D.Disk A.answers }
+pub fn quiet_points_follow<R: Runs, D: Disk, A: Plugs>()
+    ensures { QuietPointsFollow R.is_run D.Disk (answering A.answers A.unplugs A.filled) }
 {
     quiet_follows::<R, D>();
     halts_follow::<R, D>();

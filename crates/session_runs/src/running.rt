@@ -6,6 +6,7 @@ ghost use Rattle.session_effects.specs.Standing.{IsOpen};
 ghost use Rattle.session_runs.specs.Ready.{IsReady, machine_of};
 ghost use Rattle.session_runs.specs.Runs.{begun, ends, end_told, run as run_of, run_from};
 ghost use Rattle.session_runs.specs.Standing.{HaltsBehind, Proceeds, standing};
+ghost use Rattle.session_runs.specs.Touches.{answering};
 ghost use Rattle.session_runs.specs.Turns.{finished};
 
 use crate::law::points_follow;
@@ -15,7 +16,7 @@ use crate::ready::{count_records, history_laws};
 use crate::runs::MachineRuns;
 use arn_base::{Chooser, Disk, Sink};
 use arn_lines::RunEnd;
-use guest_devices::Answers;
+use guest_devices::Plugs;
 use guest_machine::{Leg, LegEnd, Machine};
 use log_store::Store;
 use session_effects::{
@@ -26,7 +27,7 @@ use std::sync::ledger::Ledger;
 
 /// Runs up to so many instructions in slices that a chooser picks, leg by leg: each leg is committed
 /// before what it wrote is printed.
-pub fn run<C: Chooser, A: Answers, D: Disk, K: Sink, L: Ledger>(
+pub fn run<C: Chooser, A: Plugs, D: Disk, K: Sink, L: Ledger>(
     alloc: Global,
     store: &mut Store,
     machine: &mut Machine,
@@ -38,11 +39,13 @@ pub fn run<C: Chooser, A: Answers, D: Disk, K: Sink, L: Ledger>(
     requires few { count ≤ MOST_RUN }
     ensures ready { OnOk result (IsReady machine.new store.new.entries) }
     ensures advances { OnOk result (
-        Proceeds D.Disk A.answers (run_of (machine_of store.old.entries) count) finished 0
+        Proceeds D.Disk (answering A.answers A.unplugs A.filled)
+        (run_of (machine_of store.old.entries) count) finished 0
         (standing C.choices K.holds store.old outside.old)
         (standing C.choices K.holds store.new outside.new)) }
     ensures stops { IfErr result (λ halt.
-        HaltsBehind D.Disk A.answers halt (run_of (machine_of store.old.entries) count) 0
+        HaltsBehind D.Disk (answering A.answers A.unplugs A.filled) halt
+        (run_of (machine_of store.old.entries) count) 0
         (standing C.choices K.holds store.old outside.old)
         (standing C.choices K.holds store.new outside.new)) }
     ensures cause { IfErr result (λ halt.
@@ -69,7 +72,7 @@ pub fn run<C: Chooser, A: Answers, D: Disk, K: Sink, L: Ledger>(
 }
 
 // Runs a leg, commits its records, and then prints what it wrote.
-fn run_leg<C: Chooser, A: Answers, D: Disk, K: Sink, L: Ledger>(
+fn run_leg<C: Chooser, A: Plugs, D: Disk, K: Sink, L: Ledger>(
     alloc: Global,
     store: &mut Store,
     machine: &mut Machine,
@@ -81,7 +84,8 @@ fn run_leg<C: Chooser, A: Answers, D: Disk, K: Sink, L: Ledger>(
     requires few { left ≤ MOST_RUN }
     ensures ready { OnOk result (IsReady machine.new store.new.entries) }
     ensures advances { IfOk result (λ leg. (budget : ℕ) →
-        Proceeds D.Disk A.answers (run_from budget (begun (machine_of store.old.entries) left))
+        Proceeds D.Disk (answering A.answers A.unplugs A.filled)
+        (run_from budget (begun (machine_of store.old.entries) left))
         (run_from budget (begun (machine_of store.new.entries) (left - leg.ran))) 0
         (standing C.choices K.holds store.old outside.old)
         (standing C.choices K.holds store.new outside.new)) }
@@ -91,7 +95,7 @@ fn run_leg<C: Chooser, A: Answers, D: Disk, K: Sink, L: Ledger>(
     ensures more { IfOk result (λ leg. leg.end ≡ LegEnd.More →
         length store.old.entries < length store.new.entries) }
     ensures stops { IfErr result (λ halt. (budget : ℕ) →
-        HaltsBehind D.Disk A.answers halt
+        HaltsBehind D.Disk (answering A.answers A.unplugs A.filled) halt
         (run_from budget (begun (machine_of store.old.entries) left)) 0
         (standing C.choices K.holds store.old outside.old)
         (standing C.choices K.holds store.new outside.new)) }

@@ -6,6 +6,7 @@ use Rattle.session_runs.specs.Ready.{machine_of}
 use Rattle.session_runs.specs.Runs.{begun, ends, run_from}
 use Rattle.session_runs.specs.Runs as runs
 use Rattle.session_runs.specs.Turns.{finished}
+use Rattle.session_runs.specs.Touches.{answering}
 use Rattle.session_runs.proofs.LoopLemmas.{if-some, told-some}
 use Rattle.session_runs.proofs.StopLemmas.{Advances-end, Stops-end}
 use Rattle.session_runs.proofs.TakenLemmas.{Carries-text, err-same}
@@ -51,7 +52,7 @@ returns-clause-advances g c =
     c.points_follow.ensures.advances (runs.run (machine_of c.args.store.now.entries) c.args.count) (run_from c.args.count (begun (machine_of l.store.entries) l.left)) finished
     (around (choices c.args.outside.now.chooser.now) c.args.outside.now.answers.now c.args.outside.now.steps.now) (around (choices l.outside.chooser.now) l.outside.answers.now l.outside.steps.now) (around (choices l.outside.chooser.now) l.outside.answers.now l.outside.steps.now) 0 0 c.args.outside.now.disk.now l.outside.disk.now l.outside.disk.now c.args.store.now l.store l.store
     (holds c.args.outside.now.sink.now) (holds l.outside.sink.now) (holds c.print_ran.new.sink) l.invariant.so_far
-    (Advances-end g.A.Answers.answers c.args.count (machine_of l.store.entries) l.left end (around (choices l.outside.chooser.now) l.outside.answers.now l.outside.steps.now) _ ended
+    (Advances-end (answering g.A.Answers.answers g.A.Plugs.unplugs g.A.Plugs.filled) c.args.count (machine_of l.store.entries) l.left end (around (choices l.outside.chooser.now) l.outside.answers.now l.outside.steps.now) _ ended
     (Carries-text IsRun g.D.Disk c.effects_follow.ensures.follow l.outside.disk.now l.store (holds l.outside.sink.now) (holds c.print_ran.new.sink) _ l.invariant.so_far.carries.stays_open put)))
     c.print_ran.ensures.ok
 
@@ -67,7 +68,7 @@ returns-clause-stops g c =
     c.points_follow.ensures.stops (runs.run (machine_of c.args.store.now.entries) c.args.count) (run_from c.args.count (begun (machine_of l.store.entries) l.left))
     (around (choices c.args.outside.now.chooser.now) c.args.outside.now.answers.now c.args.outside.now.steps.now) (around (choices l.outside.chooser.now) l.outside.answers.now l.outside.steps.now) (around (choices l.outside.chooser.now) l.outside.answers.now l.outside.steps.now) 0 0 c.args.outside.now.disk.now l.outside.disk.now l.outside.disk.now c.args.store.now l.store
     (holds c.args.outside.now.sink.now) (holds l.outside.sink.now) (holds c.print_ran.new.sink) why l.invariant.so_far
-    (Stops-end IsRun g.D.Disk g.A.Answers.answers c.halts_follow.ensures c.args.count (machine_of l.store.entries) l.left end l.outside.disk.now l.store.entries (holds l.outside.sink.now) (holds c.print_ran.new.sink) why (around (choices l.outside.chooser.now) l.outside.answers.now l.outside.steps.now) ended put))
+    (Stops-end IsRun g.D.Disk (answering g.A.Answers.answers g.A.Plugs.unplugs g.A.Plugs.filled) c.halts_follow.ensures c.args.count (machine_of l.store.entries) l.left end l.outside.disk.now l.store.entries (holds l.outside.sink.now) (holds c.print_ran.new.sink) why (around (choices l.outside.chooser.now) l.outside.answers.now l.outside.steps.now) ended put))
     c.print_ran.ensures.stops
 
 -- putting the last line goes on

@@ -12,6 +12,7 @@ use Rattle.session_runs.specs.Outputs.{outputs_text}
 use Rattle.session_runs.specs.Points.{around}
 use Rattle.session_runs.specs.Ready.{IsReady, machine_of}
 use Rattle.session_runs.specs.Runs.{leg_effects}
+use Rattle.session_runs.specs.Touches.{answering}
 use Rattle.session_runs.proofs.LegLemmas.{ready-recorded}
 use Rattle.session_runs.proofs.StopLemmas.{Stops-lost, Stops-memory, Stops-text, cut-executed}
 use Rattle.session_runs.proofs.TakenLemmas.{Advances-taken, Carries-leg, Carries-none, Taken, ends-taken, err-same, leg-text, more-taken, room-for, taken}
@@ -31,7 +32,7 @@ returns-in_err-leg-clause-stops g c =
     let new = around (g.C.Chooser.choices c.run_leg.new.chooser) c.run_leg.new.answers c.run_leg.new.steps in
     err-same c.from_residual.result halt.NoMemory _ c.from_residual.ensures.1
     (λ budget.
-    Stops-memory IsRun g.D.Disk g.A.Answers.answers c.halts_follow.ensures budget m c.args.left cut.slices (c.history_laws.ensures.legs (named history) c.args.left [] cut.slices cut.took.in_range) cut.took.open_before c.args.outside.now.disk.now history (g.K.Sink.holds c.args.outside.now.sink.now) old new (unanswered cut.lost) cut.is_open cut.picked cut.took.in_range cut.in_range cut.took.replied
+    Stops-memory IsRun g.D.Disk (answering g.A.Answers.answers g.A.Plugs.unplugs g.A.Plugs.filled) c.halts_follow.ensures budget m c.args.left cut.slices (c.history_laws.ensures.legs (named history) c.args.left [] cut.slices cut.took.in_range) cut.took.open_before c.args.outside.now.disk.now history (g.K.Sink.holds c.args.outside.now.sink.now) old new (unanswered cut.lost) cut.is_open cut.picked cut.took.in_range cut.in_range cut.took.replied
     (cut-executed g.A.Answers.answers m c.args.left c.args.machine.now c.run_leg.new.self old.choices new.choices c.args.outside.now.answers.now c.run_leg.new.answers c.new-entries.result.items c.run_leg.new.out.items old.steps new.steps cut))
 
 nothing : (xs : List Record) → length xs ≡ 0 → xs ≡ []
@@ -75,7 +76,7 @@ returns-then-is_empty-clause-advances g c budget =
     let carries : Carries IsRun g.D.Disk c.args.outside.now.disk.now c.args.outside.now.disk.now c.args.store.now c.args.store.now holds holds (leg_effects m.events entries) =
     subst (λ (x : List Record). Carries IsRun g.D.Disk c.args.outside.now.disk.now c.args.outside.now.disk.now c.args.store.now c.args.store.now holds holds (leg_effects m.events x)) (sym none)
     (Carries-none IsRun g.D.Disk c.effects_follow.ensures.follow c.args.outside.now.disk.now c.args.store.now holds c.requires.open) in
-    Advances-taken g.A.Answers.answers laws.names laws.begin laws.append history history c.args.left leg entries old new t same budget _ carries
+    Advances-taken (answering g.A.Answers.answers g.A.Plugs.unplugs g.A.Plugs.filled) laws.names laws.begin laws.append history history c.args.left leg entries old new t same budget _ carries
 
 pub returns-then-is_empty-clause-end : goal.returns-then-is_empty-clause-end
 returns-then-is_empty-clause-end g c =
@@ -90,7 +91,7 @@ returns-then-is_empty-clause-end g c =
     let t : Taken g.A.Answers.answers m c.args.left leg entries old new = taken g.A.Answers.answers laws.legs history c.args.left leg c.args.machine.now c.run_leg.new.self old.choices new.choices c.args.outside.now.answers.now c.run_leg.new.answers c.new-entries.result.items entries old.steps new.steps is_leg c.new-entries.ensures.items in
     let none : entries ≡ [] = nothing entries (sym c.run_leg.new.out.ok.0 ∙ eqb-true c.run_leg.new.out.len 0 (sym c.is_empty.ensures ∙ c.if-is_empty.true)) in
     let same : history ≡ history ++ entries = sym (ap (λ (x : List Record). history ++ x) none ∙ append-nil history) in
-    ends-taken g.A.Answers.answers laws.names laws.begin laws.append history history c.args.left leg entries old new t same
+    ends-taken (answering g.A.Answers.answers g.A.Plugs.unplugs g.A.Plugs.filled) laws.names laws.begin laws.append history history c.args.left leg entries old new t same
 
 pub returns-then-is_empty-clause-more : goal.returns-then-is_empty-clause-more
 returns-then-is_empty-clause-more g c more =
@@ -105,7 +106,7 @@ returns-then-is_empty-clause-more g c more =
     let t : Taken g.A.Answers.answers m c.args.left leg entries old new = taken g.A.Answers.answers laws.legs history c.args.left leg c.args.machine.now c.run_leg.new.self old.choices new.choices c.args.outside.now.answers.now c.run_leg.new.answers c.new-entries.result.items entries old.steps new.steps is_leg c.new-entries.ensures.items in
     let none : entries ≡ [] = nothing entries (sym c.run_leg.new.out.ok.0 ∙ eqb-true c.run_leg.new.out.len 0 (sym c.is_empty.ensures ∙ c.if-is_empty.true)) in
     let same : history ≡ history ++ entries = sym (ap (λ (x : List Record). history ++ x) none ∙ append-nil history) in
-    more-taken g.A.Answers.answers laws.names laws.begin laws.append history history c.args.left leg entries old new t same more
+    more-taken (answering g.A.Answers.answers g.A.Plugs.unplugs g.A.Plugs.filled) laws.names laws.begin laws.append history history c.args.left leg entries old new t same more
 
 pub push_outputs-requires : goal.push_outputs-requires
 push_outputs-requires g c =
@@ -128,7 +129,7 @@ returns-in_err-push_outputs-clause-stops g c =
     let holds = g.K.Sink.holds c.args.outside.now.sink.now in
     err-same c.from_residual-in_err-push_outputs.result halt.NoMemory _ c.from_residual-in_err-push_outputs.ensures.1
     (λ budget.
-    Stops-lost IsRun g.D.Disk g.A.Answers.answers c.halts_follow.ensures budget m c.args.left t.slices t.same t.opens c.args.outside.now.disk.now c.args.outside.now.disk.now history holds holds halt.NoMemory old new leg.end t.closed some_taken t.picked t.in_range t.replied t.executed
+    Stops-lost IsRun g.D.Disk (answering g.A.Answers.answers g.A.Plugs.unplugs g.A.Plugs.filled) c.halts_follow.ensures budget m c.args.left t.slices t.same t.opens c.args.outside.now.disk.now c.args.outside.now.disk.now history holds holds halt.NoMemory old new leg.end t.closed some_taken t.picked t.in_range t.replied t.executed
     (λ more. c.halts_follow.ensures.nothing c.args.outside.now.disk.now history holds halt.NoMemory _ (inl refl, inl refl)))
 
 pub commit-requires-clause-run : goal.commit-requires-clause-run
@@ -163,7 +164,7 @@ returns-in_err-commit-clause-stops g c =
     λ more. subst (λ (x : List Record). StopsBetween IsRun g.D.Disk c.args.outside.now.disk.now c.commit.new.disk history holds holds why [] (Commits x ∷ more)) t.are
     (c.halts_follow.ensures.before c.args.outside.now.disk.now c.commit.new.disk history holds holds why [] (Commits entries ∷ []) more (c.in_err-commit.ensures.undone holds)) in
     err-same c.from_residual-in_err-commit.result why _ c.from_residual-in_err-commit.ensures.1
-    (λ budget. Stops-lost IsRun g.D.Disk g.A.Answers.answers c.halts_follow.ensures budget m c.args.left t.slices t.same t.opens c.args.outside.now.disk.now c.commit.new.disk history holds holds why old new leg.end t.closed some_taken t.picked t.in_range t.replied t.executed stopped)
+    (λ budget. Stops-lost IsRun g.D.Disk (answering g.A.Answers.answers g.A.Plugs.unplugs g.A.Plugs.filled) c.halts_follow.ensures budget m c.args.left t.slices t.same t.opens c.args.outside.now.disk.now c.commit.new.disk history holds holds why old new leg.end t.closed some_taken t.picked t.in_range t.replied t.executed stopped)
 
 pub returns-in_err-put_all-clause-stops : goal.returns-in_err-put_all-clause-stops
 returns-in_err-put_all-clause-stops g c =
@@ -184,7 +185,7 @@ returns-in_err-put_all-clause-stops g c =
     let text = leg-text c.requires.ready.is_after.leads.events c.events-event.ensures c.as_slice.ensures.value c.clear.ensures.bytes c.in_ok-push_outputs.ensures in
     err-same c.from_residual-in_err-put_all.result why _ c.from_residual-in_err-put_all.ensures.1
     (λ budget.
-    Stops-text IsRun g.D.Disk g.A.Answers.answers c.halts_follow.ensures budget m c.args.left t.slices t.same t.opens laws.begin c.args.outside.now.disk.now c.commit.new.disk history c.commit.new.store.entries holds (g.K.Sink.holds c.put_all.new.sink) why old new leg.end t.closed some_taken t.picked t.in_range t.replied t.executed
+    Stops-text IsRun g.D.Disk (answering g.A.Answers.answers g.A.Plugs.unplugs g.A.Plugs.filled) c.halts_follow.ensures budget m c.args.left t.slices t.same t.opens laws.begin c.args.outside.now.disk.now c.commit.new.disk history c.commit.new.store.entries holds (g.K.Sink.holds c.put_all.new.sink) why old new leg.end t.closed some_taken t.picked t.in_range t.replied t.executed
     (subst (λ (x : List Record). c.commit.new.store.entries ≡ history ++ committed (Commits x ∷ [])) t.are carried.entries)
     (subst (λ (x : List Record). CarriesOut IsRun g.D.Disk c.args.outside.now.disk.now c.commit.new.disk history holds holds (Commits x ∷ [])) t.are carried.out)
     (subst (λ (x : List ℕ). StopsPut why x holds (g.K.Sink.holds c.put_all.new.sink)) (c.as_bytes.ensures.value ∙ text ∙ ap (outputs_text m.events) t.are) c.in_err-put_all.ensures.stops))
@@ -220,7 +221,7 @@ returns-clause-advances g c budget =
     let carried = c.in_ok-commit.ensures.carries holds in
     let all : c.commit.new.store.entries ≡ history ++ entries = carried.entries ∙ ap (λ (x : List Record). history ++ x) (append-nil entries) in
     let text = leg-text c.requires.ready.is_after.leads.events c.events-event.ensures c.as_slice.ensures.value c.clear.ensures.bytes c.in_ok-push_outputs.ensures in
-    Advances-taken g.A.Answers.answers laws.names laws.begin laws.append history c.commit.new.store.entries c.args.left leg entries old new t all budget _
+    Advances-taken (answering g.A.Answers.answers g.A.Plugs.unplugs g.A.Plugs.filled) laws.names laws.begin laws.append history c.commit.new.store.entries c.args.left leg entries old new t all budget _
     (Carries-leg IsRun g.D.Disk c.effects_follow.ensures.follow c.args.outside.now.disk.now c.commit.new.disk c.args.store.now c.commit.new.store holds (g.K.Sink.holds c.put_all.new.sink) m.events entries c.as_bytes.result.now some (c.as_bytes.ensures.value ∙ text) carried c.in_ok-put_all.ensures.ok)
 
 pub returns-clause-end : goal.returns-clause-end
@@ -235,7 +236,7 @@ returns-clause-end g c =
     let new = around (g.C.Chooser.choices c.run_leg.new.chooser) c.run_leg.new.answers c.run_leg.new.steps in
     let t : Taken g.A.Answers.answers m c.args.left leg entries old new = taken g.A.Answers.answers laws.legs history c.args.left leg c.args.machine.now c.run_leg.new.self old.choices new.choices c.args.outside.now.answers.now c.run_leg.new.answers c.new-entries.result.items entries old.steps new.steps is_leg c.new-entries.ensures.items in
     let all : c.commit.new.store.entries ≡ history ++ entries = (c.in_ok-commit.ensures.carries (g.K.Sink.holds c.args.outside.now.sink.now)).entries ∙ ap (λ (x : List Record). history ++ x) (append-nil entries) in
-    ends-taken g.A.Answers.answers laws.names laws.begin laws.append history c.commit.new.store.entries c.args.left leg entries old new t all
+    ends-taken (answering g.A.Answers.answers g.A.Plugs.unplugs g.A.Plugs.filled) laws.names laws.begin laws.append history c.commit.new.store.entries c.args.left leg entries old new t all
 
 pub returns-clause-more : goal.returns-clause-more
 returns-clause-more g c more =
@@ -249,4 +250,4 @@ returns-clause-more g c more =
     let new = around (g.C.Chooser.choices c.run_leg.new.chooser) c.run_leg.new.answers c.run_leg.new.steps in
     let t : Taken g.A.Answers.answers m c.args.left leg entries old new = taken g.A.Answers.answers laws.legs history c.args.left leg c.args.machine.now c.run_leg.new.self old.choices new.choices c.args.outside.now.answers.now c.run_leg.new.answers c.new-entries.result.items entries old.steps new.steps is_leg c.new-entries.ensures.items in
     let all : c.commit.new.store.entries ≡ history ++ entries = (c.in_ok-commit.ensures.carries (g.K.Sink.holds c.args.outside.now.sink.now)).entries ∙ ap (λ (x : List Record). history ++ x) (append-nil entries) in
-    more-taken g.A.Answers.answers laws.names laws.begin laws.append history c.commit.new.store.entries c.args.left leg entries old new t all more
+    more-taken (answering g.A.Answers.answers g.A.Plugs.unplugs g.A.Plugs.filled) laws.names laws.begin laws.append history c.commit.new.store.entries c.args.left leg entries old new t all more

@@ -1,0 +1,66 @@
+-- What touches those who answer for devices: slices, each where it is asked for, and lines that unplug a device.
+use Rattle.std.specs.Prelude.{◌≡◌, ◌==◌, ℕ, Bool, false, List, [], ◌∷◌, filter_map, Option, Some, None}
+use Rattle.std.specs.List.{list_any}
+use Rattle.arn_base.specs.declared.records.Record.{Record}
+use Rattle.arn_base.specs.declared.records.Record.TheVariants as entry
+use Rattle.parts_model.specs.Replies.{Answered}
+use Rattle.guest_devices.specs.Answers.{Asked}
+use Rattle.guest_machine.specs.Legs.{Ask, Picked}
+use Rattle.guest_machine.specs.LegLaws.{all_named}
+use Rattle.guest_machine.specs.Slices.{RepliesIn}
+
+pub data Touch : Type 0 where
+  -- a slice is taken where it is asked for
+  AtSlice : Ask → Touch
+  -- the device of this number is unplugged
+  AtUnplug : ℕ → Touch
+
+-- the asks among touches, in order
+abbrev pub asks_in : List Touch → List Ask
+asks_in [] = []
+asks_in (AtSlice ask ∷ touches) = ask ∷ asks_in touches
+asks_in (AtUnplug n ∷ touches) = asks_in touches
+
+-- the numbers that touches unplug, in order
+abbrev pub unplugs_in : List Touch → List ℕ
+unplugs_in [] = []
+unplugs_in (AtSlice ask ∷ touches) = unplugs_in touches
+unplugs_in (AtUnplug n ∷ touches) = n ∷ unplugs_in touches
+
+-- the slices of touches as their records name them
+abbrev pub named_at : List Touch → List Picked → List Picked
+named_at touches slices = all_named (asks_in touches) slices
+
+-- who answers for devices: what a question may be answered and what that makes of it, what unplugging makes of it, and which devices are there
+pub record Answering (A : Type 0) : Type 1 where
+  pub answers : A → Asked → Answered → A → Type 0
+  pub unplugs : ℕ → A → A → Type 0
+  pub filled : A → ℕ → Bool
+
+abbrev pub answering : {A : Type 0} → (A → Asked → Answered → A → Type 0) → (ℕ → A → A → Type 0) → (A → ℕ → Bool) → Answering A
+answering answers unplugs filled = record { answers = answers; unplugs = unplugs; filled = filled }
+
+-- these touches were made, one after the other: devices gave the replies of these slices, and others were unplugged
+abbrev pub TouchedBy : {A : Type 0} → Answering A → List Touch → List Picked → A → A → Type 0
+TouchedBy who [] slices old new = (slices ≡ []) × (new ≡ old)
+TouchedBy {A} who (AtUnplug n ∷ touches) slices old new = (between : A) × who.unplugs n old between × TouchedBy who touches slices between new
+TouchedBy who (AtSlice ask ∷ touches) [] old new = ⊥
+TouchedBy {A} who (AtSlice ask ∷ touches) (s ∷ slices) old new =
+    (between : A) × RepliesIn who.answers s.pick.count s.pick.pid ask.machine s.reply old between × TouchedBy who touches slices between new
+
+-- the device that a record says was unplugged
+abbrev pub unplugged_by : Record → Option ℕ
+unplugged_by (entry.Unplug device) = Some device
+unplugged_by other = None
+
+-- the devices that records say were unplugged, in order
+abbrev pub unplugged_in : List Record → List ℕ
+unplugged_in entries = filter_map unplugged_by entries
+
+-- device n is one of them
+abbrev pub is_gone : List Record → ℕ → Bool
+is_gone history n = list_any (λ m. m == n) (unplugged_in history)
+
+-- what a history didn't unplug is there where it was at first
+abbrev pub StandAs : {A : Type 0} → Answering A → (ℕ → Bool) → List Record → A → Type 0
+StandAs who filled history now = (n : ℕ) → is_gone history n ≡ false → who.filled now n ≡ filled n
