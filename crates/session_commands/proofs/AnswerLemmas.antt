@@ -6,10 +6,8 @@ use Rattle.arn_base.specs.declared.boxes.Choice.{Choice}
 use Rattle.arn_base.specs.declared.disk.Disk.{Ghosts}
 use Rattle.arn_base.specs.declared.records.Record.{Record}
 use Rattle.arn_base.specs.Faults.{Rose}
-use Rattle.parts_model.specs.Replies.{Answered}
 use Rattle.log_model.specs.Records.{IsRun}
 use Rattle.log_store.specs.Stores.{StoreState}
-use Rattle.guest_devices.specs.Answers.{Asked}
 use Rattle.arn_commands.specs.declared.command.Command.{Command}
 use Rattle.session_effects.specs.Carrying.{StopsBetween}
 use Rattle.session_effects.specs.Laws.{EffectsFollow, HaltsFollow}
@@ -18,13 +16,14 @@ use Rattle.session_effects.specs.Standing.{IsCause, IsOpen}
 use Rattle.session_effects.specs.declared.halt.Halt.{Halt}
 use Rattle.session_effects.specs.declared.halt.Halt.TheVariants as halt
 use Rattle.session_runs.specs.Points.{around}
+use Rattle.session_runs.specs.Touches.{Answering}
 use Rattle.session_runs.specs.Turns.{finished, prints}
 use Rattle.session_commands.specs.Answering.{BlamesRecords, BlamesRightly, IsAnswered, IsHalted, IsLineCause, IsNotBegun, IsNotMade}
 use Rattle.session_runs.specs.Standing.{Standpoint, standpoint}
 use Rattle.session_commands.specs.Cost.{cost, machine_cost}
+use Rattle.session_commands.specs.Given.{Given}
 use Rattle.session_commands.specs.Lines.{needs_machine, turn}
 use Rattle.session_commands.proofs.TurnLemmas.{Advances-nothing, Advances-prints, IsStill, Stops-nothing, Stops-prints}
-use Rattle.session_model.specs.Questions.{Told}
 
 -- what halts a part of a line may halt the line
 pub line-cause : (why : Halt) (d0 d1 s0 s1 : ℕ) → IsCause why d0 d1 s0 s1 → IsLineCause why d0 d1 s0 s1
@@ -97,9 +96,9 @@ pub or-true : (b n : Bool) → n ≡ true → true ≡ (b || n)
 or-true true n one = refl
 or-true false n one = sym one
 
-module _ {D A : Type 0} (is_there : Bool) (command : Command) where
+module _ {D A : Type 0} (g : Given) (is_there : Bool) (command : Command) where
   -- what halts a part of a line doesn't blame records
-  pub cause-blames : (why : Halt) (d0 d1 s0 s1 : ℕ) (old new : Standpoint D A) → IsCause why d0 d1 s0 s1 → BlamesRightly is_there why command old new
+  pub cause-blames : (why : Halt) (d0 d1 s0 s1 : ℕ) (old new : Standpoint D A) → IsCause why d0 d1 s0 s1 → BlamesRightly g is_there why command old new
   cause-blames halt.NoMemory d0 d1 s0 s1 old new is = tt
   cause-blames halt.Source d0 d1 s0 s1 old new is = tt
   cause-blames halt.Sink d0 d1 s0 s1 old new is = tt
@@ -109,7 +108,7 @@ module _ {D A : Type 0} (is_there : Bool) (command : Command) where
   cause-blames (halt.Differs at) d0 d1 s0 s1 old new is = absurd is
 
   -- nor does a text
-  put-blames : (why : Halt) (text : List ℕ) (h0 h1 : Option (List ℕ)) (old new : Standpoint D A) → StopsPut why text h0 h1 → BlamesRightly is_there why command old new
+  put-blames : (why : Halt) (text : List ℕ) (h0 h1 : Option (List ℕ)) (old new : Standpoint D A) → StopsPut why text h0 h1 → BlamesRightly g is_there why command old new
   put-blames halt.NoMemory text h0 h1 old new is = tt
   put-blames halt.Source text h0 h1 old new is = tt
   put-blames halt.Sink text h0 h1 old new is = tt
@@ -118,7 +117,7 @@ module _ {D A : Type 0} (is_there : Bool) (command : Command) where
   put-blames (halt.Full log payload) text h0 h1 old new is = tt
   put-blames (halt.Differs at) text h0 h1 old new is = absurd is
 
-  pub blames-text : {T : Type 0} (result : Result T Halt) (text : List ℕ) (h0 h1 : Option (List ℕ)) (old new : Standpoint D A) → IfErr result (λ why. StopsPut why text h0 h1) → IfErr result (λ why. BlamesRightly is_there why command old new)
+  pub blames-text : {T : Type 0} (result : Result T Halt) (text : List ℕ) (h0 h1 : Option (List ℕ)) (old new : Standpoint D A) → IfErr result (λ why. StopsPut why text h0 h1) → IfErr result (λ why. BlamesRightly g is_there why command old new)
   blames-text (Ok x) text h0 h1 old new put = tt
   blames-text (Err why) text h0 h1 old new put = put-blames why text h0 h1 old new put
 
@@ -132,7 +131,7 @@ module _ {D A : Type 0} (is_there : Bool) (command : Command) where
     }
 
     -- where the records are blamed for it, it is rightly
-    pub blames-not-made : (why : Halt) (disk : D) (store store' : StoreState) (held : Option (List ℕ)) (steps steps' : ℕ) → IsNotMade why → store' ≡ store → BlamesRecords why store.entries → is_there ≡ false → needs_machine store.entries command ≡ true → steps' ≤ steps + machine_cost is_there store.entries → BlamesRightly is_there why command (standpoint disk store held (around choices answers steps)) (standpoint disk store' held (around choices answers steps'))
+    pub blames-not-made : (why : Halt) (disk : D) (store store' : StoreState) (held : Option (List ℕ)) (steps steps' : ℕ) → IsNotMade why → store' ≡ store → BlamesRecords why store.entries → is_there ≡ false → needs_machine g store.entries command ≡ true → steps' ≤ steps + machine_cost is_there store.entries → BlamesRightly g is_there why command (standpoint disk store held (around choices answers steps)) (standpoint disk store' held (around choices answers steps'))
     blames-not-made (halt.Differs at) disk store store' held steps steps' is same blames absent needs cheap = record {
       is_no_run = blames;
       absent = absent;
@@ -146,46 +145,46 @@ module _ {D A : Type 0} (is_there : Bool) (command : Command) where
     blames-not-made halt.Disk disk store store' held steps steps' is same blames absent needs cheap = tt
     blames-not-made (halt.Full log payload) disk store store' held steps steps' is same blames absent needs cheap = tt
 
-module _ {D A : Type 0} (d : Ghosts D) (replies : A → Asked → Answered → A → Type 0) (told : Told) (is_there : Bool) (command : Command) (choices : ℕ → Option Choice) (answers : A) where
+module _ {D A : Type 0} (d : Ghosts D) (who : Answering A) (g : Given) (is_there : Bool) (command : Command) (choices : ℕ → Option Choice) (answers : A) where
   -- a text answers a command
-  pub answered-text : {T : Type 0} (laws : EffectsFollow IsRun d) (result : Result T Halt) (disk : D) (store store' : StoreState) (h0 h1 : Option (List ℕ)) (text : List ℕ) (steps steps' n : ℕ) → store' ≡ store → turn told store.entries command ≡ prints text → needs_machine store.entries command ≡ false → IsOpen d store disk → steps' ≤ steps + n → ((behind : List Record) → n ≤ cost told is_there store.entries behind command) → OnOk result (h1 ≡ option_map (λ before. before ++ text) h0) → OnOk result (IsAnswered d replies told is_there command (standpoint disk store h0 (around choices answers steps)) (standpoint disk store' h1 (around choices answers steps')))
+  pub answered-text : {T : Type 0} (laws : EffectsFollow IsRun d) (result : Result T Halt) (disk : D) (store store' : StoreState) (h0 h1 : Option (List ℕ)) (text : List ℕ) (steps steps' n : ℕ) → store' ≡ store → turn g store.entries command ≡ prints text → needs_machine g store.entries command ≡ false → IsOpen d store disk → steps' ≤ steps + n → ((behind : List Record) → n ≤ cost g is_there store.entries behind command) → OnOk result (h1 ≡ option_map (λ before. before ++ text) h0) → OnOk result (IsAnswered d who g is_there command (standpoint disk store h0 (around choices answers steps)) (standpoint disk store' h1 (around choices answers steps')))
   answered-text laws (Ok x) disk store store' h0 h1 text steps steps' n same is none open_now cheap costs put =
-      subst (λ (s : StoreState). IsAnswered d replies told is_there command (standpoint disk store h0 (around choices answers steps)) (standpoint disk s h1 (around choices answers steps'))) (sym same)
+      subst (λ (s : StoreState). IsAnswered d who g is_there command (standpoint disk store h0 (around choices answers steps)) (standpoint disk s h1 (around choices answers steps'))) (sym same)
       (record {
-        advances = Advances-prints IsRun d replies laws choices answers disk store h0 h1 (turn told store.entries command) steps steps' (cost told is_there store.entries store.entries command) text is open_now put (omega (arith, cheap, costs store.entries));
+        advances = Advances-prints IsRun d who laws choices answers disk store h0 h1 (turn g store.entries command) steps steps' (cost g is_there store.entries store.entries command) text is open_now put (omega (arith, cheap, costs store.entries));
         on_run = λ needed. absurd (false≢true (sym none ∙ needed));
       })
   answered-text laws (Err e) disk store store' h0 h1 text steps steps' n same is none open_now cheap costs put = tt
 
   -- it stops somewhere
-  pub halted-text : {T : Type 0} (halts : HaltsFollow IsRun d) (result : Result T Halt) (disk : D) (store store' : StoreState) (h0 h1 : Option (List ℕ)) (text : List ℕ) (steps steps' n : ℕ) → turn told store.entries command ≡ prints text → needs_machine store.entries command ≡ false → steps' ≤ steps + n → ((behind : List Record) → n ≤ cost told is_there store.entries behind command) → IfErr result (λ why. StopsPut why text h0 h1) → IfErr result (λ why. IsHalted d replies told is_there why command (standpoint disk store h0 (around choices answers steps)) (standpoint disk store' h1 (around choices answers steps')))
+  pub halted-text : {T : Type 0} (halts : HaltsFollow IsRun d) (result : Result T Halt) (disk : D) (store store' : StoreState) (h0 h1 : Option (List ℕ)) (text : List ℕ) (steps steps' n : ℕ) → turn g store.entries command ≡ prints text → needs_machine g store.entries command ≡ false → steps' ≤ steps + n → ((behind : List Record) → n ≤ cost g is_there store.entries behind command) → IfErr result (λ why. StopsPut why text h0 h1) → IfErr result (λ why. IsHalted d who g is_there why command (standpoint disk store h0 (around choices answers steps)) (standpoint disk store' h1 (around choices answers steps')))
   halted-text halts (Ok x) disk store store' h0 h1 text steps steps' n is none cheap costs put = tt
   halted-text halts (Err why) disk store store' h0 h1 text steps steps' n is none cheap costs put = record {
     beside = n;
-    stops = Stops-prints IsRun d replies halts choices answers disk store.entries h0 h1 why (turn told store.entries command) steps steps' n text is put cheap;
+    stops = Stops-prints IsRun d who halts choices answers disk store.entries h0 h1 why (turn g store.entries command) steps steps' n text is put cheap;
     costs = costs _;
     on_run = λ needed. absurd (false≢true (sym none ∙ needed));
   }
 
   -- a command that asks for nothing
-  pub answered-nothing : (laws : EffectsFollow IsRun d) (disk : D) (store : StoreState) (held : Option (List ℕ)) (steps : ℕ) → turn told store.entries command ≡ finished → needs_machine store.entries command ≡ false → IsOpen d store disk → IsAnswered d replies told is_there command (standpoint disk store held (around choices answers steps)) (standpoint disk store held (around choices answers steps))
+  pub answered-nothing : (laws : EffectsFollow IsRun d) (disk : D) (store : StoreState) (held : Option (List ℕ)) (steps : ℕ) → turn g store.entries command ≡ finished → needs_machine g store.entries command ≡ false → IsOpen d store disk → IsAnswered d who g is_there command (standpoint disk store held (around choices answers steps)) (standpoint disk store held (around choices answers steps))
   answered-nothing laws disk store held steps is none open_now = record {
-    advances = Advances-nothing IsRun d replies laws choices answers disk store held (turn told store.entries command) steps (cost told is_there store.entries store.entries command) is open_now;
+    advances = Advances-nothing IsRun d who laws choices answers disk store held (turn g store.entries command) steps (cost g is_there store.entries store.entries command) is open_now;
     on_run = λ needed. absurd (false≢true (sym none ∙ needed));
   }
 
   -- it halts there
-  pub halted-not-made : (halts : HaltsFollow IsRun d) (why : Halt) (disk : D) (store store' : StoreState) (held : Option (List ℕ)) (steps steps' : ℕ) → IsNotMade why → store' ≡ store → IsStill (turn told store.entries command) → steps' ≤ steps + machine_cost is_there store.entries → ((behind : List Record) → machine_cost is_there store.entries ≤ cost told is_there store.entries behind command) → IsHalted d replies told is_there why command (standpoint disk store held (around choices answers steps)) (standpoint disk store' held (around choices answers steps'))
+  pub halted-not-made : (halts : HaltsFollow IsRun d) (why : Halt) (disk : D) (store store' : StoreState) (held : Option (List ℕ)) (steps steps' : ℕ) → IsNotMade why → store' ≡ store → IsStill (turn g store.entries command) → steps' ≤ steps + machine_cost is_there store.entries → ((behind : List Record) → machine_cost is_there store.entries ≤ cost g is_there store.entries behind command) → IsHalted d who g is_there why command (standpoint disk store held (around choices answers steps)) (standpoint disk store' held (around choices answers steps'))
   halted-not-made halts why disk store store' held steps steps' is same still made costs = record {
     beside = machine_cost is_there store.entries;
-    stops = Stops-nothing IsRun d replies halts choices answers disk store.entries held why (turn told store.entries command) steps steps' (machine_cost is_there store.entries) still (stopped why is) made;
+    stops = Stops-nothing IsRun d who halts choices answers disk store.entries held why (turn g store.entries command) steps steps' (machine_cost is_there store.entries) still (stopped why is) made;
     costs = costs _;
-    on_run = λ needed. inr (not-begun is_there command choices answers why disk store store' held steps steps' is same made);
+    on_run = λ needed. inr (not-begun g is_there command choices answers why disk store store' held steps steps' is same made);
   }
     where
-      stopped : (why : Halt) → IsNotMade why → StopsBetween IsRun d disk disk store.entries held held why [] (turn told store.entries command []).effects
-      stopped (halt.Differs at) is = halts.nothing disk store.entries held (halt.Differs at) (turn told store.entries command []).effects (refl, refl)
-      stopped halt.NoMemory is = halts.nothing disk store.entries held halt.NoMemory (turn told store.entries command []).effects (inl refl, inl refl)
+      stopped : (why : Halt) → IsNotMade why → StopsBetween IsRun d disk disk store.entries held held why [] (turn g store.entries command []).effects
+      stopped (halt.Differs at) is = halts.nothing disk store.entries held (halt.Differs at) (turn g store.entries command []).effects (refl, refl)
+      stopped halt.NoMemory is = halts.nothing disk store.entries held halt.NoMemory (turn g store.entries command []).effects (inl refl, inl refl)
       stopped halt.Source is = absurd is
       stopped halt.Long is = absurd is
       stopped halt.Sink is = absurd is

@@ -5,10 +5,8 @@ use Rattle.std.proofs.Math.Seq.{take-append_seam}
 use Rattle.arn_base.specs.declared.boxes.Choice.{Choice}
 use Rattle.arn_base.specs.declared.disk.Disk.{Ghosts}
 use Rattle.arn_base.specs.declared.records.Record.{Record}
-use Rattle.parts_model.specs.Replies.{Answered}
 use Rattle.log_model.specs.Records.{IsRun}
 use Rattle.log_store.specs.Stores.{StoreState}
-use Rattle.guest_devices.specs.Answers.{Asked}
 use Rattle.guest_machine.specs.Recorded.{Recorded}
 use Rattle.arn_commands.specs.declared.command.Command.TheVariants.{Says}
 use Rattle.arn_lines.specs.declared.line.Line.{Line}
@@ -20,70 +18,74 @@ use Rattle.session_effects.specs.declared.halt.Halt.TheVariants as halt
 use Rattle.session_runs.specs.Laws.{PointsFollow}
 use Rattle.session_runs.specs.Points.{Advances, Stops, Surroundings, around}
 use Rattle.session_runs.specs.Ready.{IsReady}
+use Rattle.session_runs.specs.Touches.{Answering}
 use Rattle.session_runs.specs.Turns.{Point, finished}
 use Rattle.session_commands.specs.Answering.{IsAnswered, IsHalted}
 use Rattle.session_runs.specs.Standing.{standpoint}
 use Rattle.session_commands.specs.Cost.{cost, machine_cost}
+use Rattle.session_commands.specs.Given.{Given}
 use Rattle.session_commands.specs.Kept.{IsSound, IsThere}
 use Rattle.session_commands.specs.Lines.{turn}
 use Rattle.session_commands.specs.Rows.{row_of}
 use Rattle.session_commands.proofs.LineLemmas.{cost-machine, still-finished, turn-line}
 use Rattle.session_commands.proofs.TurnLemmas.{Stops-nothing}
 use Rattle.session_commands.proofs.AnswerLemmas.{or-true}
-use Rattle.session_model.specs.Questions.{Told}
 
-module _ {A : Type 0} (replies : A → Asked → Answered → A → Type 0) (choices : ℕ → Option Choice) (answers : A) where
+module _ {A : Type 0} (who : Answering A) (choices : ℕ → Option Choice) (answers : A) where
   -- what was executed before is part of the cost
-  pub Advances-later : (from to : Point) (steps mid more cost : ℕ) (new : Surroundings A) (carried : List Effect → Type 0) → mid + more ≤ steps + cost → Advances replies from to (around choices answers mid) new more carried → Advances replies from to (around choices answers steps) new cost carried
+  pub Advances-later : (from to : Point) (steps mid more cost : ℕ) (new : Surroundings A) (carried : List Effect → Type 0) → mid + more ≤ steps + cost → Advances who from to (around choices answers mid) new more carried → Advances who from to (around choices answers steps) new cost carried
   Advances-later from to steps mid more cost new carried cheap p = record {
     slices = p.slices;
-    asks = p.asks;
+    touches = p.touches;
     effects = p.effects;
     leads = p.leads;
     names = p.names;
+    unplugs = p.unplugs;
     begins = p.begins;
     carries = p.carries;
     picked = p.picked;
     in_range = p.in_range;
-    replied = p.replied;
+    touched = p.touched;
     executed = omega (arith, p.executed, cheap);
   }
 
-  pub Stops-later : {D : Type 0} (is_run : List Record → Type 0) (d : Ghosts D) (disk disk' : D) (history : List Record) (held holds : Option (List ℕ)) (why : Halt) (from to : Point) (steps mid cost : ℕ) (new : Surroundings A) → to ≡ from → mid ≤ steps + cost → Stops is_run d replies disk disk' history held holds why from (around choices answers mid) new 0 → Stops is_run d replies disk disk' history held holds why to (around choices answers steps) new cost
+  pub Stops-later : {D : Type 0} (is_run : List Record → Type 0) (d : Ghosts D) (disk disk' : D) (history : List Record) (held holds : Option (List ℕ)) (why : Halt) (from to : Point) (steps mid cost : ℕ) (new : Surroundings A) → to ≡ from → mid ≤ steps + cost → Stops is_run d who disk disk' history held holds why from (around choices answers mid) new 0 → Stops is_run d who disk disk' history held holds why to (around choices answers steps) new cost
   Stops-later is_run d disk disk' history held holds why from to steps mid cost new same cheap q =
-      subst (λ (p : Point). Stops is_run d replies disk disk' history held holds why p (around choices answers steps) new cost) (sym same)
+      subst (λ (p : Point). Stops is_run d who disk disk' history held holds why p (around choices answers steps) new cost) (sym same)
       (record {
         slices = q.slices;
         lost = q.lost;
         part = q.part;
-        asks = q.asks;
-        lost_asks = q.lost_asks;
-        part_asks = q.part_asks;
+        touches = q.touches;
+        lost_touches = q.lost_touches;
+        part_touches = q.part_touches;
         done = q.done;
         undone = q.undone;
         are_effects = q.are_effects;
-        are_asks = q.are_asks;
+        are_touches = q.are_touches;
         stopped = q.stopped;
         names = q.names;
+        unplugs = q.unplugs;
         begins = q.begins;
         names_lost = q.names_lost;
+        unplugs_lost = q.unplugs_lost;
         without = q.without;
         spent = q.spent;
         many = q.many;
         picked = q.picked;
         in_range = q.in_range;
-        replied = q.replied;
+        touched = q.touched;
         one_part = q.one_part;
         by_memory = q.by_memory;
         executed = omega (arith, q.executed, cheap);
       })
 
 -- memory ran out where all was carried out
-module _ {D A : Type 0} (is_run : List Record → Type 0) (d : Ghosts D) (replies : A → Asked → Answered → A → Type 0) (halts : HaltsFollow is_run d) (points : PointsFollow is_run d replies) where
-  pub Stops-last : (from : Point) (u : Surroundings A) (choices : ℕ → Option Choice) (answers : A) (steps : ℕ) (old new : D) (s0 s1 : StoreState) (h0 h1 : Option (List ℕ)) → Advances replies from finished u (around choices answers steps) 0 (Carries is_run d old new s0 s1 h0 h1) → Stops is_run d replies old new s0.entries h0 h1 halt.NoMemory from u (around choices answers steps) 0
+module _ {D A : Type 0} (is_run : List Record → Type 0) (d : Ghosts D) (who : Answering A) (halts : HaltsFollow is_run d) (points : PointsFollow is_run d who) where
+  pub Stops-last : (from : Point) (u : Surroundings A) (choices : ℕ → Option Choice) (answers : A) (steps : ℕ) (old new : D) (s0 s1 : StoreState) (h0 h1 : Option (List ℕ)) → Advances who from finished u (around choices answers steps) 0 (Carries is_run d old new s0 s1 h0 h1) → Stops is_run d who old new s0.entries h0 h1 halt.NoMemory from u (around choices answers steps) 0
   Stops-last from u choices answers steps old new s0 s1 h0 h1 p =
       points.stops from finished u (around choices answers steps) (around choices answers steps) 0 0 old new new s0 s1 h0 h1 h1 halt.NoMemory p
-      (Stops-nothing is_run d replies halts choices answers new s1.entries h1 halt.NoMemory finished steps steps 0 still-finished
+      (Stops-nothing is_run d who halts choices answers new s1.entries h1 halt.NoMemory finished steps steps 0 still-finished
       (halts.nothing new s1.entries h1 halt.NoMemory [] (inl refl, inl refl)) (omega arith))
 
 -- the records from before are the first of those that are there now
@@ -138,53 +140,54 @@ sound-asked knows m m' q q' s s' sound same_machine same_store known =
       questions = known;
     })
 
-module _ {D A : Type 0} (d : Ghosts D) (replies : A → Asked → Answered → A → Type 0) (told : Told) (is_there : Bool) (l : Line) (store : StoreState) (needs : (row_of store.entries l).needs_machine ≡ true) (accepted : (row_of store.entries l).refusal ≡ None) where
+module _ {D A : Type 0} (d : Ghosts D) (who : Answering A) (g : Given) (is_there : Bool) (l : Line) (store : StoreState) (needs : (row_of g store.entries l).needs_machine ≡ true) (accepted : (row_of g store.entries l).refusal ≡ None) where
   -- a change was carried out
-  pub answered-change : {T : Type 0} (result : Result T Halt) (disk disk' : D) (store' : StoreState) (h0 h1 : Option (List ℕ)) (old new : Surroundings A) → OnOk result (IsRun store.entries) → OnOk result (Advances replies ((row_of store.entries l).turn told) finished old new (machine_cost is_there store.entries) (Carries IsRun d disk disk' store store' h0 h1)) → OnOk result (IsAnswered d replies told is_there (Says l) (standpoint disk store h0 old) (standpoint disk' store' h1 new))
+  pub answered-change : {T : Type 0} (result : Result T Halt) (disk disk' : D) (store' : StoreState) (h0 h1 : Option (List ℕ)) (old new : Surroundings A) → OnOk result (IsRun store.entries) → OnOk result (Advances who (row_of g store.entries l).turn finished old new (machine_cost is_there store.entries) (Carries IsRun d disk disk' store store' h0 h1)) → OnOk result (IsAnswered d who g is_there (Says l) (standpoint disk store h0 old) (standpoint disk' store' h1 new))
   answered-change (Ok x) disk disk' store' h0 h1 old new is_run p = record {
     advances =
-        subst (λ (from : Point). Advances replies from finished old new (cost told is_there store.entries store'.entries (Says l)) (Carries IsRun d disk disk' store store' h0 h1)) (sym (turn-line told store.entries l accepted))
+        subst (λ (from : Point). Advances who from finished old new (cost g is_there store.entries store'.entries (Says l)) (Carries IsRun d disk disk' store store' h0 h1)) (sym (turn-line g store.entries l accepted))
         (record {
           slices = p.slices;
-          asks = p.asks;
+          touches = p.touches;
           effects = p.effects;
           leads = p.leads;
           names = p.names;
+          unplugs = p.unplugs;
           begins = p.begins;
           carries = p.carries;
           picked = p.picked;
           in_range = p.in_range;
-          replied = p.replied;
-          executed = omega (arith, p.executed, cost-machine told is_there store.entries store'.entries l needs accepted);
+          touched = p.touched;
+          executed = omega (arith, p.executed, cost-machine g is_there store.entries store'.entries l needs accepted);
         });
     on_run = λ needed. is_run;
   }
   answered-change (Err e) disk disk' store' h0 h1 old new is_run p = tt
 
-  module _ (halts : HaltsFollow IsRun d) (points : PointsFollow IsRun d replies) (choices : ℕ → Option Choice) (answers : A) (steps mid : ℕ) (cheap : mid ≤ steps + machine_cost is_there store.entries) where
+  module _ (halts : HaltsFollow IsRun d) (points : PointsFollow IsRun d who) (choices : ℕ → Option Choice) (answers : A) (steps mid : ℕ) (cheap : mid ≤ steps + machine_cost is_there store.entries) where
     -- with the machine, which was made before
-    pub advances-changed : (disk disk' : D) (there store' behind : StoreState) (h0 h1 : Option (List ℕ)) (new : Surroundings A) → there ≡ store → behind ≡ store' → Advances replies ((row_of there.entries l).turn told) finished (around choices answers mid) new 0 (Carries IsRun d disk disk' there store' h0 h1) → Advances replies ((row_of store.entries l).turn told) finished (around choices answers steps) new (machine_cost is_there store.entries) (Carries IsRun d disk disk' store behind h0 h1)
+    pub advances-changed : (disk disk' : D) (there store' behind : StoreState) (h0 h1 : Option (List ℕ)) (new : Surroundings A) → there ≡ store → behind ≡ store' → Advances who (row_of g there.entries l).turn finished (around choices answers mid) new 0 (Carries IsRun d disk disk' there store' h0 h1) → Advances who (row_of g store.entries l).turn finished (around choices answers steps) new (machine_cost is_there store.entries) (Carries IsRun d disk disk' store behind h0 h1)
     advances-changed disk disk' there store' behind h0 h1 new same same_behind p =
-        Advances-later replies choices answers ((row_of store.entries l).turn told) finished steps mid 0 (machine_cost is_there store.entries) new (Carries IsRun d disk disk' store behind h0 h1) (omega (arith, cheap))
-        (subst (λ (s : StoreState). Advances replies ((row_of store.entries l).turn told) finished (around choices answers mid) new 0 (Carries IsRun d disk disk' store s h0 h1)) (sym same_behind)
-        (subst (λ (s : StoreState). Advances replies ((row_of s.entries l).turn told) finished (around choices answers mid) new 0 (Carries IsRun d disk disk' s store' h0 h1)) same p))
+        Advances-later who choices answers (row_of g store.entries l).turn finished steps mid 0 (machine_cost is_there store.entries) new (Carries IsRun d disk disk' store behind h0 h1) (omega (arith, cheap))
+        (subst (λ (s : StoreState). Advances who (row_of g store.entries l).turn finished (around choices answers mid) new 0 (Carries IsRun d disk disk' store s h0 h1)) (sym same_behind)
+        (subst (λ (s : StoreState). Advances who (row_of g s.entries l).turn finished (around choices answers mid) new 0 (Carries IsRun d disk disk' s store' h0 h1)) same p))
 
     -- it halted somewhere
-    pub halted-changed : (disk disk' : D) (there store' : StoreState) (h0 h1 : Option (List ℕ)) (why : Halt) (new : Surroundings A) → there ≡ store → IsRun store.entries → Stops IsRun d replies disk disk' there.entries h0 h1 why ((row_of there.entries l).turn told) (around choices answers mid) new 0 → IsHalted d replies told is_there why (Says l) (standpoint disk store h0 (around choices answers steps)) (standpoint disk' store' h1 new)
+    pub halted-changed : (disk disk' : D) (there store' : StoreState) (h0 h1 : Option (List ℕ)) (why : Halt) (new : Surroundings A) → there ≡ store → IsRun store.entries → Stops IsRun d who disk disk' there.entries h0 h1 why (row_of g there.entries l).turn (around choices answers mid) new 0 → IsHalted d who g is_there why (Says l) (standpoint disk store h0 (around choices answers steps)) (standpoint disk' store' h1 new)
     halted-changed disk disk' there store' h0 h1 why new same is_run q = record {
       beside = machine_cost is_there store.entries;
       stops =
-          Stops-later replies choices answers IsRun d disk disk' store.entries h0 h1 why ((row_of store.entries l).turn told) (turn told store.entries (Says l)) steps mid (machine_cost is_there store.entries) new (turn-line told store.entries l accepted) cheap
-          (subst (λ (s : StoreState). Stops IsRun d replies disk disk' s.entries h0 h1 why ((row_of s.entries l).turn told) (around choices answers mid) new 0) same q);
-      costs = cost-machine told is_there store.entries store.entries l needs accepted;
+          Stops-later who choices answers IsRun d disk disk' store.entries h0 h1 why (row_of g store.entries l).turn (turn g store.entries (Says l)) steps mid (machine_cost is_there store.entries) new (turn-line g store.entries l accepted) cheap
+          (subst (λ (s : StoreState). Stops IsRun d who disk disk' s.entries h0 h1 why (row_of g s.entries l).turn (around choices answers mid) new 0) same q);
+      costs = cost-machine g is_there store.entries store.entries l needs accepted;
       on_run = λ needed. inl is_run;
     }
 
     -- memory ran out behind all of it
-    pub halted-unheard : (disk disk' : D) (there store' behind : StoreState) (h0 h1 : Option (List ℕ)) (choices' : ℕ → Option Choice) (answers' : A) (steps' : ℕ) → there ≡ store → IsRun store.entries → Advances replies ((row_of there.entries l).turn told) finished (around choices answers mid) (around choices' answers' steps') 0 (Carries IsRun d disk disk' there store' h0 h1) → IsHalted d replies told is_there halt.NoMemory (Says l) (standpoint disk store h0 (around choices answers steps)) (standpoint disk' behind h1 (around choices' answers' steps'))
+    pub halted-unheard : (disk disk' : D) (there store' behind : StoreState) (h0 h1 : Option (List ℕ)) (choices' : ℕ → Option Choice) (answers' : A) (steps' : ℕ) → there ≡ store → IsRun store.entries → Advances who (row_of g there.entries l).turn finished (around choices answers mid) (around choices' answers' steps') 0 (Carries IsRun d disk disk' there store' h0 h1) → IsHalted d who g is_there halt.NoMemory (Says l) (standpoint disk store h0 (around choices answers steps)) (standpoint disk' behind h1 (around choices' answers' steps'))
     halted-unheard disk disk' there store' behind h0 h1 choices' answers' steps' same is_run p =
         halted-changed disk disk' there behind h0 h1 halt.NoMemory (around choices' answers' steps') same is_run
-        (Stops-last IsRun d replies halts points ((row_of there.entries l).turn told) (around choices answers mid) choices' answers' steps' disk disk' there store' h0 h1 p)
+        (Stops-last IsRun d who halts points (row_of g there.entries l).turn (around choices answers mid) choices' answers' steps' disk disk' there store' h0 h1 p)
 
 -- what questions know of the records from before
 pub heard-before : (Q : Type 0) (knows : Q → List Record → Type 0) (q q' : Q) (store there new : StoreState) (before entries more : List Record) (known : ℕ) → knows q store.entries → q' ≡ q → there ≡ store → before ≡ there.entries → known ≡ length before → entries ≡ new.entries → new.entries ≡ there.entries ++ more → knows q' (take known entries)

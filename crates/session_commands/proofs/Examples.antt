@@ -15,10 +15,10 @@ use Rattle.session_runs.specs.Points.{around}
 use Rattle.session_commands.specs.Answering.{IsNotBegun}
 use Rattle.session_runs.specs.Standing.{Standpoint, standpoint}
 use Rattle.session_commands.specs.Generator.{gen_name}
+use Rattle.session_commands.specs.Given.{Given}
 use Rattle.session_commands.specs.Lines.{needs_machine, turn}
 use Rattle.session_commands.specs.Refusals.{fault_refusal, generator_refusal}
 use Rattle.session_commands.specs.Rows.{row_of}
-use Rattle.session_model.specs.Questions.{Told}
 
 -- a history that brought a file `a` of one byte, and one that booted behind it
 a_file : List Record
@@ -28,41 +28,41 @@ a_boot : List Record
 a_boot = entry.File (97 ∷ []) (1 ∷ []) ∷ entry.Boot (97 ∷ []) (record { bytes = []; origins = [] }) ∷ []
 
 -- nothing runs before a boot, and nothing is typed
-runs_early : (row_of [] (line.Run 5)).refusal ≡ Some NoBoot
-runs_early = refl
+runs_early : (g : Given) → (row_of g [] (line.Run 5)).refusal ≡ Some NoBoot
+runs_early g = refl
 
-types_early : (row_of [] (line.Type (104 ∷ []))).refusal ≡ Some NoBoot
-types_early = refl
+types_early : (g : Given) → (row_of g [] (line.Type (104 ∷ []))).refusal ≡ Some NoBoot
+types_early g = refl
 
 -- behind it nothing is brought, and nothing boots again
-brings_late : (row_of a_boot (line.File (98 ∷ []) [])).refusal ≡ Some NoBooted
+brings_late : (g : Given) → (row_of g a_boot (line.File (98 ∷ []) [])).refusal ≡ Some NoBooted
 unfolding a_boot
-brings_late = refl
+brings_late g = refl
 
-boots_again : (row_of a_boot (line.Boot (97 ∷ []))).refusal ≡ Some NoBooted
+boots_again : (g : Given) → (row_of g a_boot (line.Boot (97 ∷ []))).refusal ≡ Some NoBooted
 unfolding a_boot
-boots_again = refl
+boots_again g = refl
 
 -- a name is brought once; one that wasn't can't be booted from, and neither can one byte
-brings_twice : (row_of a_file (line.File (97 ∷ []) [])).refusal ≡ Some NoName
+brings_twice : (g : Given) → (row_of g a_file (line.File (97 ∷ []) [])).refusal ≡ Some NoName
 unfolding a_file
-brings_twice = refl
+brings_twice g = refl
 
-brings_another : (row_of a_file (line.File (98 ∷ []) [])).refusal ≡ None
+brings_another : (g : Given) → (row_of g a_file (line.File (98 ∷ []) [])).refusal ≡ None
 unfolding a_file
-brings_another = refl
+brings_another g = refl
 
-boots_nothing : (row_of a_file (line.Boot (98 ∷ []))).refusal ≡ Some NoName
+boots_nothing : (g : Given) → (row_of g a_file (line.Boot (98 ∷ []))).refusal ≡ Some NoName
 unfolding a_file
-boots_nothing = refl
+boots_nothing g = refl
 
-boots_a_byte : (row_of a_file (line.Boot (97 ∷ []))).refusal ≡ Some NoImage
+boots_a_byte : (g : Given) → (row_of g a_file (line.Boot (97 ∷ []))).refusal ≡ Some NoImage
 unfolding a_file
-boots_a_byte = refl
+boots_a_byte g = refl
 
 -- a question isn't refused
-asks : (q : Question) → (row_of [] (line.Asks q)).refusal ≡ None
-asks q = refl
+asks : (g : Given) (q : Question) → (row_of g [] (line.Asks q)).refusal ≡ None
+asks g q = refl
 
 -- a faulty program is told before a boot alone
 faulty_early : fault_refusal [] 7 ≡ NoAsm 7
@@ -80,35 +80,35 @@ generates_late = refl
 generates_twice : generator_refusal (entry.File gen_name [] ∷ []) ≡ Some NoName
 generates_twice = refl
 
-generates_late_why : (told : Told) → (turn told a_boot (Generates [] [] 1) []).effects ≡ Prints (refusal_text NoBooted) ∷ []
+generates_late_why : (g : Given) → (turn g a_boot (Generates [] [] 1) []).effects ≡ Prints (refusal_text NoBooted) ∷ []
 unfolding a_boot
-generates_late_why told = refl
+generates_late_why g = refl
 
-generates_by_machine : needs_machine a_file (Generates [] [] 1) ≡ true
+generates_by_machine : (g : Given) → needs_machine g a_file (Generates [] [] 1) ≡ true
 unfolding a_file
-generates_by_machine = refl
+generates_by_machine g = refl
 
 -- a refused line prints why, commits nothing and needs no machine
-prints_why : (told : Told) → (turn told [] (Says (line.Run 5)) []).effects ≡ Prints (refusal_text NoBoot) ∷ []
-prints_why told = refl
+prints_why : (g : Given) → (turn g [] (Says (line.Run 5)) []).effects ≡ Prints (refusal_text NoBoot) ∷ []
+prints_why g = refl
 
-needs_none : needs_machine [] (Says (line.Run 5)) ≡ false
-needs_none = refl
+needs_none : (g : Given) → needs_machine g [] (Says (line.Run 5)) ≡ false
+needs_none g = refl
 
-needs_one : needs_machine a_boot (Says (line.Run 5)) ≡ true
+needs_one : (g : Given) → needs_machine g a_boot (Says (line.Run 5)) ≡ true
 unfolding a_boot
-needs_one = refl
+needs_one g = refl
 
 -- an empty line does nothing, and one that is too long is refused
-passes_over : (told : Told) → (turn told a_file PassedOver []).effects ≡ []
-passes_over told = refl
+passes_over : (g : Given) → (turn g a_file PassedOver []).effects ≡ []
+passes_over g = refl
 
-too_long : (told : Told) → (turn told [] TooLong []).effects ≡ Prints (refusal_text NoLong) ∷ []
-too_long told = refl
+too_long : (g : Given) → (turn g [] TooLong []).effects ≡ Prints (refusal_text NoLong) ∷ []
+too_long g = refl
 
 -- a question's answer is printed, and takes no slice
-answers : (told : Told) (q : Question) → (turn told [] (Says (line.Asks q)) []).effects ≡ Prints (told.text [] q) ∷ []
-answers told q = refl
+answers : (g : Given) (q : Question) → (turn g [] (Says (line.Asks q)) []).effects ≡ Prints (g.told.text [] q) ∷ []
+answers g q = refl
 
 -- no machine was made where memory ran out and nothing was done
 not_begun : {D A : Type 0} (at : Standpoint D A) → IsNotBegun halt.NoMemory true at at

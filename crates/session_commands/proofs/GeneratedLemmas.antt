@@ -5,7 +5,6 @@ use Rattle.std.proofs.lemmas.Grind.{flat_map-append}
 use Rattle.arn_base.specs.declared.boxes.Choice.{Choice}
 use Rattle.arn_base.specs.declared.disk.Disk.{Ghosts}
 use Rattle.arn_base.specs.declared.records.Record.{Record}
-use Rattle.parts_model.specs.Replies.{Answered}
 use Rattle.arn_model.specs.Kernel.{Machine}
 use Rattle.arn_model.specs.Run.{Input, File, Boot, after_input, machine_from}
 use Rattle.arn_lines.specs.declared.answer.Refusal.{Refusal}
@@ -16,9 +15,7 @@ use Rattle.arn_commands.specs.declared.command.Command.TheVariants.{Generates}
 use Rattle.log_model.specs.Laws.{BehindAppend, NamedAppend}
 use Rattle.log_model.specs.Records.{IsRun, records_from, reply_behind}
 use Rattle.log_store.specs.Stores.{StoreState}
-use Rattle.guest_devices.specs.Answers.{Asked}
-use Rattle.guest_machine.specs.LegLaws.{all_named}
-use Rattle.guest_machine.specs.Legs.{Ask, AreInRange, Picked, PickedBy, RepliedBy}
+use Rattle.guest_machine.specs.Legs.{Ask, AreInRange, Picked, PickedBy}
 use Rattle.session_effects.specs.Carrying.{StopsBetween}
 use Rattle.session_effects.specs.Effects.{Effect, Prints, committed, records_of}
 use Rattle.session_effects.specs.Laws.{EffectsFollow, HaltsFollow}
@@ -31,11 +28,13 @@ use Rattle.session_runs.specs.Points.{Advances, Stops, Surroundings, around, sli
 use Rattle.session_runs.specs.Quiet.{quiet_turn, quietly, then_told}
 use Rattle.session_runs.specs.Ready.{machine_of}
 use Rattle.session_runs.specs.Runs.{begun, ended, ends, run, unless_ended}
+use Rattle.session_runs.specs.Touches.{Answering, Touch, TouchedBy, asks_in, named_at, unplugged_in}
 use Rattle.session_runs.specs.Turns.{Point, Turn, behind, cut_off, finished, prints}
 use Rattle.session_commands.specs.Answering.{HaltsIn, IsAnswered, IsHalted}
 use Rattle.session_runs.specs.Standing.{standpoint}
 use Rattle.session_commands.specs.Cost.{cost, machine_cost}
 use Rattle.session_commands.specs.Generator.{event_commits, gen_from, gen_inputs, gen_name, gen_run, generator_turn}
+use Rattle.session_commands.specs.Given.{Given}
 use Rattle.session_commands.specs.Lines.{needs_machine, turn, turn_unless}
 use Rattle.session_commands.specs.Refusals.{generator_refusal}
 use Rattle.session_commands.proofs.AnswerLemmas.{put-nothing}
@@ -45,9 +44,9 @@ use Rattle.session_commands.proofs.QuietLemmas.{AllPlain, AreCommitted, commits-
 use Rattle.session_commands.proofs.TurnLemmas.{Advances-prints, IsStill, PickedBy-none, no-commit, spent-still}
 use Rattle.session_model.specs.Questions.{Told}
 
--- a turn without slices asks for none, leaves none, and names none
+-- a turn without slices touches nothing, leaves none, and names none
 record IsAlone (t : Turn) : Type 0 where
-  pub asks : t.asks ≡ []
+  pub touches : t.touches ≡ []
   pub left : (t.left ≡ None) ⊎ (t.left ≡ Some [])
   pub plain : AllPlain t.effects
 
@@ -56,8 +55,8 @@ alone-run : (history : List Record) (m : Machine) (count : ℕ) (text : List Rec
 alone-run history m count text = by (ends (begun m count))
   where
     by : (o : Option RunEnd) → IsAlone (then_told history (quiet_turn (unless_ended o (λ end. ended count (begun m count) end []) cut_off)) text)
-    by None = record { asks = refl; left = inl refl; plain = tt }
-    by (Some end) = record { asks = refl; left = inr refl; plain = tt }
+    by None = record { touches = refl; left = inl refl; plain = tt }
+    by (Some end) = record { touches = refl; left = inr refl; plain = tt }
 
 -- no event of the generator names a slice
 pub plain-events : (m : Machine) (image typed : List ℕ) → AllPlain (event_commits m (gen_inputs image typed))
@@ -68,17 +67,17 @@ plain-events m image typed =
 alone-from : (told : Told) (history : List Record) (m : Machine) (inputs : List Input) (processes : ℕ) → AllPlain (event_commits m inputs) → IsAlone (gen_from told history m inputs processes [])
 alone-from told history m inputs processes plain =
     let a = alone-run (history ++ records_from m inputs) (machine_from m inputs) MOST_RUN (λ all. told.generated all processes) in
-    record { asks = a.asks; left = a.left; plain = plain-append (event_commits m inputs) (gen_run told (history ++ records_from m inputs) (machine_from m inputs) processes []).effects plain a.plain }
+    record { touches = a.touches; left = a.left; plain = plain-append (event_commits m inputs) (gen_run told (history ++ records_from m inputs) (machine_from m inputs) processes []).effects plain a.plain }
 
 -- without slices the generator asks for none
 pub still-generator : (told : Told) (history : List Record) (image typed : List ℕ) (processes : ℕ) → IsStill (generator_turn told history image typed processes)
 still-generator told history image typed processes =
     let a = alone-from told history (machine_of history) (gen_inputs image typed) processes (plain-events (machine_of history) image typed) in
-    record { asks = a.asks; left = a.left; names = plain-next (generator_turn told history image typed processes []).effects a.plain }
+    record { touches = a.touches; left = a.left; names = plain-next (generator_turn told history image typed processes []).effects a.plain }
 
-module _ {D A : Type 0} (d : Ghosts D) (replies : A → Asked → Answered → A → Type 0) (names : NamedAppend) (behind_law : BehindAppend) (told : Told) (processes : ℕ) (choices : ℕ → Option Choice) (answers : A) (steps : ℕ) where
+module _ {D A : Type 0} (d : Ghosts D) (who : Answering A) (names : NamedAppend) (behind_law : BehindAppend) (told : Told) (processes : ℕ) (choices : ℕ → Option Choice) (answers : A) (steps : ℕ) where
   -- events were committed
-  pub Advances-events : (old new : D) (s0 s1 : StoreState) (held : Option (List ℕ)) (inputs : List Input) → AllPlain (event_commits (machine_of s0.entries) inputs) → AreCommitted d old new s0 s1 inputs → Advances replies (gen_from told s0.entries (machine_of s0.entries) inputs processes) (gen_run told s1.entries (machine_of s1.entries) processes) (around choices answers steps) (around choices answers steps) 0 (Carries IsRun d old new s0 s1 held held)
+  pub Advances-events : (old new : D) (s0 s1 : StoreState) (held : Option (List ℕ)) (inputs : List Input) → AllPlain (event_commits (machine_of s0.entries) inputs) → AreCommitted d old new s0 s1 inputs → Advances who (gen_from told s0.entries (machine_of s0.entries) inputs processes) (gen_run told s1.entries (machine_of s1.entries) processes) (around choices answers steps) (around choices answers steps) 0 (Carries IsRun d old new s0 s1 held held)
   Advances-events old new s0 s1 held inputs plain a =
       let m = machine_of s0.entries in
       let effects = event_commits m inputs in
@@ -86,22 +85,23 @@ module _ {D A : Type 0} (d : Ghosts D) (replies : A → Asked → Answered → A
       let there : s0.entries ++ records_from m inputs ≡ s1.entries = ap (λ (x : List Record). s0.entries ++ x) (sym (commits-are m inputs)) ∙ sym (a.carries held).entries in
       record {
         slices = [];
-        asks = [];
+        touches = [];
         effects = effects;
         leads = λ rest.
             ap (λ (h : List Record). behind effects [] (gen_run told h (machine_from m inputs) processes rest)) there
             ∙ ap (λ (x : Machine). behind effects [] (gen_run told s1.entries x processes rest)) (sym a.leads);
         names = p.0;
+        unplugs = p.2;
         begins = p.1;
         carries = a.carries held;
         picked = PickedBy-none choices;
         in_range = tt;
-        replied = (refl, refl);
+        touched = (refl, refl);
         executed = omega arith;
       }
 
   -- they halted
-  pub Stops-events : (halts : HaltsFollow IsRun d) (old new : D) (history : List Record) (held : Option (List ℕ)) (why : Halt) (inputs : List Input) → AllPlain (event_commits (machine_of history) inputs) → HaltsIn (StopsBetween IsRun d old new history held held why) (event_commits (machine_of history) inputs) → Stops IsRun d replies old new history held held why (gen_from told history (machine_of history) inputs processes) (around choices answers steps) (around choices answers steps) 0
+  pub Stops-events : (halts : HaltsFollow IsRun d) (old new : D) (history : List Record) (held : Option (List ℕ)) (why : Halt) (inputs : List Input) → AllPlain (event_commits (machine_of history) inputs) → HaltsIn (StopsBetween IsRun d old new history held held why) (event_commits (machine_of history) inputs) → Stops IsRun d who old new history held held why (gen_from told history (machine_of history) inputs processes) (around choices answers steps) (around choices answers steps) 0
   Stops-events halts old new history held why inputs plain h =
       let m = machine_of history in
       let more = (gen_run told (history ++ records_from m inputs) (machine_from m inputs) processes []).effects in
@@ -113,92 +113,96 @@ module _ {D A : Type 0} (d : Ghosts D) (replies : A → Asked → Answered → A
         slices = [];
         lost = [];
         part = [];
-        asks = [];
-        lost_asks = [];
-        part_asks = [];
+        touches = [];
+        lost_touches = [];
+        part_touches = [];
         done = h.done;
         undone = h.undone ++ more;
         are_effects = are;
-        are_asks = a.asks;
+        are_touches = a.touches;
         stopped = halts.before old new history held held why h.done h.undone more h.stopped;
         names = p.0;
+        unplugs = p.2;
         begins = p.1;
-        names_lost = plain-next (h.undone ++ more) parts.1;
+        names_lost = λ entries at. (plain-next (h.undone ++ more) parts.1 entries at).0;
+        unplugs_lost = λ entries at. (plain-next (h.undone ++ more) parts.1 entries at).1;
         without = inl refl;
         spent = spent-still (h.undone ++ more) (gen_from told history m inputs processes []).left a.left;
         many = refl;
         picked = PickedBy-none choices;
         in_range = tt;
-        replied = (refl, refl);
+        touched = (refl, refl);
         one_part = omega arith;
         by_memory = inl refl;
         executed = omega arith;
       }
 
 -- what the generator's line does that is refused, and that isn't
-module _ (told : Told) (history : List Record) (image typed : List ℕ) (processes : ℕ) where
-  pub turn-refused : (why : Refusal) → generator_refusal history ≡ Some why → turn told history (Generates image typed processes) ≡ prints (refusal_text why)
-  turn-refused why is = ap (λ (o : Option Refusal). turn_unless o (generator_turn told history image typed processes)) is
+module _ (g : Given) (history : List Record) (image typed : List ℕ) (processes : ℕ) where
+  pub turn-refused : (why : Refusal) → generator_refusal history ≡ Some why → turn g history (Generates image typed processes) ≡ prints (refusal_text why)
+  turn-refused why is = ap (λ (o : Option Refusal). turn_unless o (generator_turn g.told history image typed processes)) is
 
-  pub needs-refused : (why : Refusal) → generator_refusal history ≡ Some why → needs_machine history (Generates image typed processes) ≡ false
+  pub needs-refused : (why : Refusal) → generator_refusal history ≡ Some why → needs_machine g history (Generates image typed processes) ≡ false
   needs-refused why is = ap (λ (o : Option Refusal). is_none o) is
 
-  pub turn-generator : generator_refusal history ≡ None → turn told history (Generates image typed processes) ≡ generator_turn told history image typed processes
-  turn-generator is = ap (λ (o : Option Refusal). turn_unless o (generator_turn told history image typed processes)) is
+  pub turn-generator : generator_refusal history ≡ None → turn g history (Generates image typed processes) ≡ generator_turn g.told history image typed processes
+  turn-generator is = ap (λ (o : Option Refusal). turn_unless o (generator_turn g.told history image typed processes)) is
 
-  pub needs-generator : generator_refusal history ≡ None → needs_machine history (Generates image typed processes) ≡ true
+  pub needs-generator : generator_refusal history ≡ None → needs_machine g history (Generates image typed processes) ≡ true
   needs-generator is = ap (λ (o : Option Refusal). is_none o) is
 
   -- what it costs: the machine, and its telling by the history behind it
-  cost-generator : (is_there : Bool) (more : List Record) → generator_refusal history ≡ None → machine_cost is_there history + told.generated_cost more ≤ cost told is_there history more (Generates image typed processes)
+  cost-generator : (is_there : Bool) (more : List Record) → generator_refusal history ≡ None → machine_cost is_there history + g.told.generated_cost more ≤ cost g is_there history more (Generates image typed processes)
   cost-generator is_there more is =
-      let made : (if needs_machine history (Generates image typed processes) then machine_cost is_there history else 0) ≡ machine_cost is_there history = ap (λ (o : Option Refusal). if is_none o then machine_cost is_there history else 0) is in
-      let asked : (if is_none (generator_refusal history) then told.generated_cost more else 0) ≡ told.generated_cost more = ap (λ (o : Option Refusal). if is_none o then told.generated_cost more else 0) is in
+      let made : (if needs_machine g history (Generates image typed processes) then machine_cost is_there history else 0) ≡ machine_cost is_there history = ap (λ (o : Option Refusal). if is_none o then machine_cost is_there history else 0) is in
+      let asked : (if is_none (generator_refusal history) then g.told.generated_cost more else 0) ≡ g.told.generated_cost more = ap (λ (o : Option Refusal). if is_none o then g.told.generated_cost more else 0) is in
       omega (arith, made, asked)
 
-  pub cost-made : (is_there : Bool) (more : List Record) → generator_refusal history ≡ None → machine_cost is_there history ≤ cost told is_there history more (Generates image typed processes)
+  pub cost-made : (is_there : Bool) (more : List Record) → generator_refusal history ≡ None → machine_cost is_there history ≤ cost g is_there history more (Generates image typed processes)
   cost-made is_there more is = omega (arith, cost-generator is_there more is)
 
 -- it halted in a text behind all else, which leaves this history
-record HaltsTold {D A : Type 0} (d : Ghosts D) (replies : A → Asked → Answered → A → Type 0) (from : Point) (u w : Surroundings A) (cost : ℕ) (old new : D) (history there : List Record) (h0 h1 : Option (List ℕ)) (why : Halt) : Type 0 where
-  pub stops : Stops IsRun d replies old new history h0 h1 why from u w cost
-  pub leaves : history ++ committed (from (all_named stops.asks stops.slices ++ all_named stops.lost_asks stops.lost)).effects ≡ there
+record HaltsTold {D A : Type 0} (d : Ghosts D) (who : Answering A) (from : Point) (u w : Surroundings A) (cost : ℕ) (old new : D) (history there : List Record) (h0 h1 : Option (List ℕ)) (why : Halt) : Type 0 where
+  pub stops : Stops IsRun d who old new history h0 h1 why from u w cost
+  pub leaves : history ++ committed (from (named_at stops.touches stops.slices ++ named_at stops.lost_touches stops.lost)).effects ≡ there
 
-module _ {D A : Type 0} (d : Ghosts D) (replies : A → Asked → Answered → A → Type 0) (halts : HaltsFollow IsRun d) where
-  halts-told : (from : Point) (text : List ℕ) (choices choices' : ℕ → Option Choice) (answers answers' : A) (steps mid there_steps steps' cost : ℕ) (old new : D) (s0 s1 : StoreState) (h0 there h1 : Option (List ℕ)) (why : Halt) → Advances replies from (prints text) (around choices answers mid) (around choices' answers' there_steps) 0 (Carries IsRun d old new s0 s1 h0 there) → StopsPut why text there h1 → mid + steps' ≤ steps + cost + there_steps
-      → HaltsTold d replies from (around choices answers steps) (around choices' answers' steps') cost old new s0.entries s1.entries h0 h1 why
+module _ {D A : Type 0} (d : Ghosts D) (who : Answering A) (halts : HaltsFollow IsRun d) where
+  halts-told : (from : Point) (text : List ℕ) (choices choices' : ℕ → Option Choice) (answers answers' : A) (steps mid there_steps steps' cost : ℕ) (old new : D) (s0 s1 : StoreState) (h0 there h1 : Option (List ℕ)) (why : Halt) → Advances who from (prints text) (around choices answers mid) (around choices' answers' there_steps) 0 (Carries IsRun d old new s0 s1 h0 there) → StopsPut why text there h1 → mid + steps' ≤ steps + cost + there_steps
+      → HaltsTold d who from (around choices answers steps) (around choices' answers' steps') cost old new s0.entries s1.entries h0 h1 why
   halts-told from text choices choices' answers answers' steps mid there_steps steps' cost old new s0 s1 h0 there h1 why p put cheap =
-      let xs : List Picked = all_named p.asks p.slices in
+      let xs : List Picked = named_at p.touches p.slices in
       record {
         stops = record {
           slices = p.slices;
           lost = [];
           part = [];
-          asks = p.asks;
-          lost_asks = [];
-          part_asks = [];
+          touches = p.touches;
+          lost_touches = [];
+          part_touches = [];
           done = p.effects ++ [];
           undone = Prints text ∷ [];
           are_effects = ap (λ (t : Turn). t.effects) (p.leads []) ∙ ap (λ (e : List Effect). e ++ Prints text ∷ []) (sym (append-nil p.effects));
-          are_asks = ap (λ (t : Turn). t.asks) (p.leads []);
+          are_touches = ap (λ (t : Turn). t.touches) (p.leads []);
           stopped =
               halts.behind old new new s0.entries s1.entries h0 there h1 why p.effects [] (Prints text ∷ []) p.carries.entries p.carries.out
               (halts.text new s1.entries there h1 why text put);
           names = ap (λ (e : List Effect). slices_in (committed e)) (append-nil p.effects) ∙ p.names;
+          unplugs = ap (λ (e : List Effect). unplugged_in (committed e)) (append-nil p.effects) ∙ p.unplugs;
           begins = ap (λ (e : List Effect). reply_behind (committed e)) (append-nil p.effects) ∙ p.begins;
           names_lost = λ entries at. absurd (no-commit text entries [] at);
+          unplugs_lost = λ entries at. absurd (no-commit text entries [] at);
           without = inl refl;
           spent = inr (ap (λ (t : Turn). t.left) (p.leads []), inr refl);
           many = p.picked.many;
           picked =
-              subst (λ (x : List Ask). PickedBy choices choices' x (p.slices ++ [])) (sym (append-nil p.asks))
-              (subst (λ (x : List Picked). PickedBy choices choices' p.asks x) (sym (append-nil p.slices)) p.picked);
+              subst (λ (x : List Touch). PickedBy choices choices' (asks_in x) (p.slices ++ [])) (sym (append-nil p.touches))
+              (subst (λ (x : List Picked). PickedBy choices choices' (asks_in p.touches) x) (sym (append-nil p.slices)) p.picked);
           in_range =
-              subst (λ (x : List Ask). AreInRange x (p.slices ++ [])) (sym (append-nil p.asks))
-              (subst (λ (x : List Picked). AreInRange p.asks x) (sym (append-nil p.slices)) p.in_range);
-          replied =
-              subst (λ (x : List Ask). RepliedBy replies x (p.slices ++ []) answers answers') (sym (append-nil p.asks))
-              (subst (λ (x : List Picked). RepliedBy replies p.asks x answers answers') (sym (append-nil p.slices)) p.replied);
+              subst (λ (x : List Touch). AreInRange (asks_in x) (p.slices ++ [])) (sym (append-nil p.touches))
+              (subst (λ (x : List Picked). AreInRange (asks_in p.touches) x) (sym (append-nil p.slices)) p.in_range);
+          touched =
+              subst (λ (x : List Touch). TouchedBy who x (p.slices ++ []) answers answers') (sym (append-nil p.touches))
+              (subst (λ (x : List Picked). TouchedBy who p.touches x answers answers') (sym (append-nil p.slices)) p.touched);
           one_part = omega arith;
           by_memory = inl refl;
           executed = omega (arith, p.executed, cheap, ap slices_cost (append-nil xs));
@@ -209,74 +213,74 @@ module _ {D A : Type 0} (d : Ghosts D) (replies : A → Asked → Answered → A
             ∙ sym p.carries.entries;
       }
 
-module _ {D A : Type 0} (d : Ghosts D) (replies : A → Asked → Answered → A → Type 0) (told : Told) (is_there : Bool) (image typed : List ℕ) (processes : ℕ) (store : StoreState) (accepted : generator_refusal store.entries ≡ None) (choices : ℕ → Option Choice) (answers : A) (steps mid : ℕ) (cheap : mid ≤ steps + machine_cost is_there store.entries) where
+module _ {D A : Type 0} (d : Ghosts D) (who : Answering A) (g : Given) (is_there : Bool) (image typed : List ℕ) (processes : ℕ) (store : StoreState) (accepted : generator_refusal store.entries ≡ None) (choices : ℕ → Option Choice) (answers : A) (steps mid : ℕ) (cheap : mid ≤ steps + machine_cost is_there store.entries) where
   -- what it did, by a store that is still the same
   pub advances-kept : (disk disk' : D) (there s1 kept : StoreState) (held holds : Option (List ℕ)) (new : Surroundings A) → kept ≡ s1
-      → Advances replies (generator_turn told there.entries image typed processes) (prints (told.generated s1.entries processes)) (around choices answers mid) new 0 (Carries IsRun d disk disk' there s1 held holds)
-      → Advances replies (generator_turn told there.entries image typed processes) (prints (told.generated kept.entries processes)) (around choices answers mid) new 0 (Carries IsRun d disk disk' there kept held holds)
+      → Advances who (generator_turn g.told there.entries image typed processes) (prints (g.told.generated s1.entries processes)) (around choices answers mid) new 0 (Carries IsRun d disk disk' there s1 held holds)
+      → Advances who (generator_turn g.told there.entries image typed processes) (prints (g.told.generated kept.entries processes)) (around choices answers mid) new 0 (Carries IsRun d disk disk' there kept held holds)
   advances-kept disk disk' there s1 kept held holds new same p =
-      subst (λ (s : StoreState). Advances replies (generator_turn told there.entries image typed processes) (prints (told.generated s.entries processes)) (around choices answers mid) new 0 (Carries IsRun d disk disk' there s held holds)) (sym same) p
+      subst (λ (s : StoreState). Advances who (generator_turn g.told there.entries image typed processes) (prints (g.told.generated s.entries processes)) (around choices answers mid) new 0 (Carries IsRun d disk disk' there s held holds)) (sym same) p
 
   -- it was carried out and told
-  pub answered-told : {T : Type 0} (laws : EffectsFollow IsRun d) (points : PointsFollow IsRun d replies) (result : Result T Halt) (disk disk' : D) (there s1 s2 : StoreState) (h0 mid_held h1 : Option (List ℕ)) (choices' : ℕ → Option Choice) (answers' : A) (there_steps steps' : ℕ) → there ≡ store → s2 ≡ s1 → IsRun store.entries
-      → Advances replies (generator_turn told there.entries image typed processes) (prints (told.generated s1.entries processes)) (around choices answers mid) (around choices' answers' there_steps) 0 (Carries IsRun d disk disk' there s1 h0 mid_held) → steps' ≤ there_steps + told.generated_cost s1.entries → OnOk result (h1 ≡ option_map (λ before. before ++ told.generated s1.entries processes) mid_held)
-      → OnOk result (IsAnswered d replies told is_there (Generates image typed processes) (standpoint disk store h0 (around choices answers steps)) (standpoint disk' s2 h1 (around choices' answers' steps')))
+  pub answered-told : {T : Type 0} (laws : EffectsFollow IsRun d) (points : PointsFollow IsRun d who) (result : Result T Halt) (disk disk' : D) (there s1 s2 : StoreState) (h0 mid_held h1 : Option (List ℕ)) (choices' : ℕ → Option Choice) (answers' : A) (there_steps steps' : ℕ) → there ≡ store → s2 ≡ s1 → IsRun store.entries
+      → Advances who (generator_turn g.told there.entries image typed processes) (prints (g.told.generated s1.entries processes)) (around choices answers mid) (around choices' answers' there_steps) 0 (Carries IsRun d disk disk' there s1 h0 mid_held) → steps' ≤ there_steps + g.told.generated_cost s1.entries → OnOk result (h1 ≡ option_map (λ before. before ++ g.told.generated s1.entries processes) mid_held)
+      → OnOk result (IsAnswered d who g is_there (Generates image typed processes) (standpoint disk store h0 (around choices answers steps)) (standpoint disk' s2 h1 (around choices' answers' steps')))
   answered-told laws points (Err e) disk disk' there s1 s2 h0 mid_held h1 choices' answers' there_steps steps' same same_behind is_run p telling put = tt
   answered-told laws points (Ok x) disk disk' there s1 s2 h0 mid_held h1 choices' answers' there_steps steps' same same_behind is_run p telling put =
-      let point = generator_turn told store.entries image typed processes in
-      let text = told.generated s1.entries processes in
+      let point = generator_turn g.told store.entries image typed processes in
+      let text = g.told.generated s1.entries processes in
       let u = around choices answers mid in
       let v = around choices' answers' there_steps in
       let w = around choices' answers' steps' in
-      let asked = told.generated_cost s1.entries in
-      let all = cost told is_there store.entries s1.entries (Generates image typed processes) in
-      let first : Advances replies point (prints text) u v 0 (Carries IsRun d disk disk' store s1 h0 mid_held) = subst (λ (s : StoreState). Advances replies (generator_turn told s.entries image typed processes) (prints text) u v 0 (Carries IsRun d disk disk' s s1 h0 mid_held)) same p in
-      let second = Advances-prints IsRun d replies laws choices' answers' disk' s1 mid_held h1 (prints text) there_steps steps' asked text refl first.carries.stays_open put telling in
+      let asked = g.told.generated_cost s1.entries in
+      let all = cost g is_there store.entries s1.entries (Generates image typed processes) in
+      let first : Advances who point (prints text) u v 0 (Carries IsRun d disk disk' store s1 h0 mid_held) = subst (λ (s : StoreState). Advances who (generator_turn g.told s.entries image typed processes) (prints text) u v 0 (Carries IsRun d disk disk' s s1 h0 mid_held)) same p in
+      let second = Advances-prints IsRun d who laws choices' answers' disk' s1 mid_held h1 (prints text) there_steps steps' asked text refl first.carries.stays_open put telling in
       let both = points.advances point (prints text) finished u v w 0 asked disk disk' disk' store s1 s1 h0 mid_held h1 first second in
-      let whole = Advances-later replies choices answers point finished steps mid (0 + asked) all w (Carries IsRun d disk disk' store s1 h0 h1) (omega (arith, cheap, cost-generator told store.entries image typed processes is_there s1.entries accepted)) both in
-      subst (λ (s : StoreState). IsAnswered d replies told is_there (Generates image typed processes) (standpoint disk store h0 (around choices answers steps)) (standpoint disk' s h1 w)) (sym same_behind)
+      let whole = Advances-later who choices answers point finished steps mid (0 + asked) all w (Carries IsRun d disk disk' store s1 h0 h1) (omega (arith, cheap, cost-generator g store.entries image typed processes is_there s1.entries accepted)) both in
+      subst (λ (s : StoreState). IsAnswered d who g is_there (Generates image typed processes) (standpoint disk store h0 (around choices answers steps)) (standpoint disk' s h1 w)) (sym same_behind)
       (record {
-        advances = subst (λ (from : Point). Advances replies from finished (around choices answers steps) w all (Carries IsRun d disk disk' store s1 h0 h1)) (sym (turn-generator told store.entries image typed processes accepted)) whole;
+        advances = subst (λ (from : Point). Advances who from finished (around choices answers steps) w all (Carries IsRun d disk disk' store s1 h0 h1)) (sym (turn-generator g store.entries image typed processes accepted)) whole;
         on_run = λ needed. is_run;
       })
 
   module _ (halts : HaltsFollow IsRun d) where
     -- it halted before it was told
-    pub halted-untold : (disk disk' : D) (there s1 : StoreState) (h0 h1 : Option (List ℕ)) (why : Halt) (new : Surroundings A) → there ≡ store → IsRun store.entries → Stops IsRun d replies disk disk' there.entries h0 h1 why (generator_turn told there.entries image typed processes) (around choices answers mid) new 0
-        → IsHalted d replies told is_there why (Generates image typed processes) (standpoint disk store h0 (around choices answers steps)) (standpoint disk' s1 h1 new)
+    pub halted-untold : (disk disk' : D) (there s1 : StoreState) (h0 h1 : Option (List ℕ)) (why : Halt) (new : Surroundings A) → there ≡ store → IsRun store.entries → Stops IsRun d who disk disk' there.entries h0 h1 why (generator_turn g.told there.entries image typed processes) (around choices answers mid) new 0
+        → IsHalted d who g is_there why (Generates image typed processes) (standpoint disk store h0 (around choices answers steps)) (standpoint disk' s1 h1 new)
     halted-untold disk disk' there s1 h0 h1 why new same is_run q = record {
       beside = machine_cost is_there store.entries;
       stops =
-          Stops-later replies choices answers IsRun d disk disk' store.entries h0 h1 why (generator_turn told store.entries image typed processes) (turn told store.entries (Generates image typed processes)) steps mid (machine_cost is_there store.entries) new (turn-generator told store.entries image typed processes accepted) cheap
-          (subst (λ (s : StoreState). Stops IsRun d replies disk disk' s.entries h0 h1 why (generator_turn told s.entries image typed processes) (around choices answers mid) new 0) same q);
-      costs = cost-made told store.entries image typed processes is_there _ accepted;
+          Stops-later who choices answers IsRun d disk disk' store.entries h0 h1 why (generator_turn g.told store.entries image typed processes) (turn g store.entries (Generates image typed processes)) steps mid (machine_cost is_there store.entries) new (turn-generator g store.entries image typed processes accepted) cheap
+          (subst (λ (s : StoreState). Stops IsRun d who disk disk' s.entries h0 h1 why (generator_turn g.told s.entries image typed processes) (around choices answers mid) new 0) same q);
+      costs = cost-made g store.entries image typed processes is_there _ accepted;
       on_run = λ needed. inl is_run;
     }
 
     -- it halted where it was told
     pub halted-told : (disk disk' : D) (there s1 s2 : StoreState) (h0 mid_held h1 : Option (List ℕ)) (why : Halt) (choices' : ℕ → Option Choice) (answers' : A) (there_steps steps' : ℕ) → there ≡ store → IsRun store.entries
-        → Advances replies (generator_turn told there.entries image typed processes) (prints (told.generated s1.entries processes)) (around choices answers mid) (around choices' answers' there_steps) 0 (Carries IsRun d disk disk' there s1 h0 mid_held) → steps' ≤ there_steps + told.generated_cost s1.entries → StopsPut why (told.generated s1.entries processes) mid_held h1
-        → IsHalted d replies told is_there why (Generates image typed processes) (standpoint disk store h0 (around choices answers steps)) (standpoint disk' s2 h1 (around choices' answers' steps'))
+        → Advances who (generator_turn g.told there.entries image typed processes) (prints (g.told.generated s1.entries processes)) (around choices answers mid) (around choices' answers' there_steps) 0 (Carries IsRun d disk disk' there s1 h0 mid_held) → steps' ≤ there_steps + g.told.generated_cost s1.entries → StopsPut why (g.told.generated s1.entries processes) mid_held h1
+        → IsHalted d who g is_there why (Generates image typed processes) (standpoint disk store h0 (around choices answers steps)) (standpoint disk' s2 h1 (around choices' answers' steps'))
     halted-told disk disk' there s1 s2 h0 mid_held h1 why choices' answers' there_steps steps' same is_run p telling put =
-        let text = told.generated s1.entries processes in
-        let all = machine_cost is_there store.entries + told.generated_cost s1.entries in
-        let from = turn told store.entries (Generates image typed processes) in
+        let text = g.told.generated s1.entries processes in
+        let all = machine_cost is_there store.entries + g.told.generated_cost s1.entries in
+        let from = turn g store.entries (Generates image typed processes) in
         let v = around choices' answers' there_steps in
-        let first : Advances replies from (prints text) (around choices answers mid) v 0 (Carries IsRun d disk disk' store s1 h0 mid_held) =
-        subst (λ (x : Point). Advances replies x (prints text) (around choices answers mid) v 0 (Carries IsRun d disk disk' store s1 h0 mid_held)) (sym (turn-generator told store.entries image typed processes accepted))
-        (subst (λ (s : StoreState). Advances replies (generator_turn told s.entries image typed processes) (prints text) (around choices answers mid) v 0 (Carries IsRun d disk disk' s s1 h0 mid_held)) same p) in
-        let halted = halts-told d replies halts from text choices choices' answers answers' steps mid there_steps steps' all disk disk' store s1 h0 mid_held h1 why first put (omega (arith, cheap, telling)) in
+        let first : Advances who from (prints text) (around choices answers mid) v 0 (Carries IsRun d disk disk' store s1 h0 mid_held) =
+        subst (λ (x : Point). Advances who x (prints text) (around choices answers mid) v 0 (Carries IsRun d disk disk' store s1 h0 mid_held)) (sym (turn-generator g store.entries image typed processes accepted))
+        (subst (λ (s : StoreState). Advances who (generator_turn g.told s.entries image typed processes) (prints text) (around choices answers mid) v 0 (Carries IsRun d disk disk' s s1 h0 mid_held)) same p) in
+        let halted = halts-told d who halts from text choices choices' answers answers' steps mid there_steps steps' all disk disk' store s1 h0 mid_held h1 why first put (omega (arith, cheap, telling)) in
         record {
           beside = all;
           stops = halted.stops;
-          costs = subst (λ (h : List Record). all ≤ cost told is_there store.entries h (Generates image typed processes)) (sym halted.leaves) (cost-generator told store.entries image typed processes is_there s1.entries accepted);
+          costs = subst (λ (h : List Record). all ≤ cost g is_there store.entries h (Generates image typed processes)) (sym halted.leaves) (cost-generator g store.entries image typed processes is_there s1.entries accepted);
           on_run = λ needed. inl is_run;
         }
 
     -- memory ran out before anything of its text was put
     pub halted-unheard : (disk disk' : D) (there s1 s2 : StoreState) (held holds : Option (List ℕ)) (choices' : ℕ → Option Choice) (answers' : A) (steps' : ℕ) → there ≡ store → IsRun store.entries
-        → Advances replies (generator_turn told there.entries image typed processes) (prints (told.generated s1.entries processes)) (around choices answers mid) (around choices' answers' steps') 0 (Carries IsRun d disk disk' there s1 held holds)
-        → IsHalted d replies told is_there halt.NoMemory (Generates image typed processes) (standpoint disk store held (around choices answers steps)) (standpoint disk' s2 holds (around choices' answers' steps'))
+        → Advances who (generator_turn g.told there.entries image typed processes) (prints (g.told.generated s1.entries processes)) (around choices answers mid) (around choices' answers' steps') 0 (Carries IsRun d disk disk' there s1 held holds)
+        → IsHalted d who g is_there halt.NoMemory (Generates image typed processes) (standpoint disk store held (around choices answers steps)) (standpoint disk' s2 holds (around choices' answers' steps'))
     halted-unheard disk disk' there s1 s2 held holds choices' answers' steps' same is_run p =
         halted-told disk disk' there s1 s2 held holds holds halt.NoMemory choices' answers' steps' steps' same is_run p (omega arith)
-        (put-nothing (told.generated s1.entries processes) holds)
+        (put-nothing (g.told.generated s1.entries processes) holds)

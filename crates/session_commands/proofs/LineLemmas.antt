@@ -1,5 +1,5 @@
 -- What commands do that are refused, that print, or that become an event.
-use Rattle.std.proofs.Common.{◌≡◌, ◌⊎◌, ◌≤◌, inl, inr, sym, ℕ, ◌++◌, Bool, true, false, List, [], ◌∷◌, Option, Some, None, refl, ap, ◌∙◌, append-nil, arith}
+use Rattle.std.proofs.Common.{◌≡◌, ◌⊎◌, ◌≤◌, inl, inr, sym, ℕ, ◌++◌, Bool, true, false, List, [], ◌∷◌, Option, Some, None, refl, ap, ◌∙◌, subst, append-nil, arith}
 use Rattle.std.specs.Prelude.{◌&&◌, if◌then◌else◌, is_none}
 use Rattle.std.proofs.lemmas.Bool.{false≢true}
 use Rattle.arn_base.specs.declared.records.Record.{Record}
@@ -21,42 +21,43 @@ use Rattle.session_effects.specs.Effects.{Prints, committed}
 use Rattle.session_runs.specs.Points.{slices_in}
 use Rattle.session_runs.specs.Ready.{machine_of}
 use Rattle.session_runs.specs.Runs.{begun, ended, ends, run, unless_ended}
+use Rattle.session_runs.specs.Touches.{unplugged_in}
 use Rattle.session_runs.specs.Turns.{Point, cut_off, does, finished, prints}
 use Rattle.session_commands.specs.Cost.{cost, machine_cost}
 use Rattle.session_commands.specs.Events.{event_effects, input_of}
+use Rattle.session_commands.specs.Given.{Given}
 use Rattle.session_commands.specs.Lines.{needs_machine, turn, turn_unless}
 use Rattle.session_commands.specs.Rows.{LineTells, row_of}
-use Rattle.session_commands.specs.declared.events.Given.{Given}
-use Rattle.session_commands.specs.declared.events.Given.TheVariants as given
-use Rattle.session_commands.proofs.TurnLemmas.{IsStill, first-commit, no-commit, none-next, still-does}
-use Rattle.session_model.specs.Questions.{Told}
+use Rattle.session_commands.specs.declared.events.Incoming.{Incoming}
+use Rattle.session_commands.specs.declared.events.Incoming.TheVariants as incoming
+use Rattle.session_commands.proofs.TurnLemmas.{IsStill, NameNone, first-commit, no-commit, none-next, still-does}
 
--- records that name no slice, and begin with nothing that a slice ends with
+-- records that name no slice, begin with nothing that a slice ends with, and unplug nothing
 abbrev pub IsPlain : List Record → Type 0
-IsPlain entries = (slices_in entries ≡ []) × (reply_behind entries ≡ None)
+IsPlain entries = (slices_in entries ≡ []) × (reply_behind entries ≡ None) × (unplugged_in entries ≡ [])
 
 file-plain : (m : Machine) (path bytes : List ℕ) (b : Bool) → IsPlain (event_records (if b then file_step m path bytes ∷ [] else []) ++ [])
-file-plain m path bytes true = (refl, refl)
-file-plain m path bytes false = (refl, refl)
+file-plain m path bytes true = (refl, refl, refl)
+file-plain m path bytes false = (refl, refl, refl)
 
 typed-plain : (m : Machine) (bytes : List ℕ) (b : Bool) → IsPlain (event_records (if b then typed_step m bytes ∷ [] else []) ++ [])
-typed-plain m bytes true = (refl, refl)
-typed-plain m bytes false = (refl, refl)
+typed-plain m bytes true = (refl, refl, refl)
+typed-plain m bytes false = (refl, refl, refl)
 
 image-plain : (m : Machine) (path : List ℕ) (file : ℕ) (held : List TaggedByte) (b : Bool) → IsPlain (event_records (if b then boot_step m path file held ∷ [] else []) ++ [])
-image-plain m path file held true = (refl, refl)
-image-plain m path file held false = (refl, refl)
+image-plain m path file held true = (refl, refl, refl)
+image-plain m path file held false = (refl, refl, refl)
 
 from-plain : (m : Machine) (path : List ℕ) (file : ℕ) (o : Option (List TaggedByte)) → IsPlain (event_records (boot_from m path file o) ++ [])
-from-plain m path file None = (refl, refl)
+from-plain m path file None = (refl, refl, refl)
 from-plain m path file (Some held) = image-plain m path file held (is_image (values held))
 
 found-plain : (m : Machine) (path : List ℕ) (o : Option ℕ) → IsPlain (event_records (boot_found m path o) ++ [])
-found-plain m path None = (refl, refl)
+found-plain m path None = (refl, refl, refl)
 found-plain m path (Some file) = from-plain m path file (file_bytes m.kernel.files file)
 
 boot-plain : (m : Machine) (path : List ℕ) (o : Option ℕ) (b : Bool) → IsPlain (event_records (if b then [] else boot_found m path o) ++ [])
-boot-plain m path o true = (refl, refl)
+boot-plain m path o true = (refl, refl, refl)
 boot-plain m path o false = found-plain m path o
 
 -- a file, a boot and a typed piece have such records
@@ -69,108 +70,112 @@ plain-boot m path = boot-plain m path (find_file m.kernel.files path) (is_booted
 pub plain-typed : (m : Machine) (bytes : List ℕ) → IsPlain (records_from m (Typed bytes ∷ []))
 plain-typed m bytes = typed-plain m bytes (is_booted m)
 
-pub plain-given : (m : Machine) (g : Given) → IsPlain (records_from m (input_of g ∷ []))
-plain-given m (given.File name bytes) = plain-file m name.now bytes.now
-plain-given m (given.Boot name) = plain-boot m name.now
-plain-given m (given.Typed bytes) = plain-typed m bytes.now
+pub plain-given : (m : Machine) (i : Incoming) → IsPlain (records_from m (input_of i ∷ []))
+plain-given m (incoming.File name bytes) = plain-file m name.now bytes.now
+plain-given m (incoming.Boot name) = plain-boot m name.now
+plain-given m (incoming.Typed bytes) = plain-typed m bytes.now
 
 -- no slice is taken where they are committed
 pub plain-effects : (m : Machine) (i : Input) → IsPlain (records_from m (i ∷ [])) → IsPlain (committed (event_effects m i))
 plain-effects m i plain =
-    (ap slices_in (append-nil (records_from m (i ∷ []))) ∙ plain.0, ap reply_behind (append-nil (records_from m (i ∷ []))) ∙ plain.1)
+    let same = append-nil (records_from m (i ∷ [])) in (
+      ap slices_in same ∙ plain.0,
+      ap reply_behind same ∙ plain.1,
+      ap unplugged_in same ∙ plain.2,
+    )
 
-still-event : (m : Machine) (i : Input) (from : Point) → from ≡ does (event_effects m i) → IsPlain (records_from m (i ∷ [])) → IsStill from
+still-event : (m : Machine) (i : Input) (from : Point) → from ≡ does (event_effects m i) [] → IsPlain (records_from m (i ∷ [])) → IsStill from
 still-event m i from is plain =
     still-does from (event_effects m i) is
-    (λ entries at. ap slices_in (first-commit (records_from m (i ∷ [])) entries (Prints (event_text m.events) ∷ []) at) ∙ plain.0)
+    (λ entries at. subst NameNone (sym (first-commit (records_from m (i ∷ [])) entries (Prints (event_text m.events) ∷ []) at)) (plain.0, plain.2))
 
 still-text : (text : List ℕ) → IsStill (prints text)
 still-text text = still-does (prints text) (Prints text ∷ []) refl (λ entries at. absurd (no-commit text entries [] at))
 
 still-run : (m : Machine) (count : ℕ) → IsStill (run m count)
-still-run m count = record { asks = no_asks (ends (begun m count)); left = none_left (ends (begun m count)); names = no_names (ends (begun m count)) }
+still-run m count = record { touches = none_touched (ends (begun m count)); left = none_left (ends (begun m count)); names = no_names (ends (begun m count)) }
   where
-    no_asks : (o : Option RunEnd) → (unless_ended o (λ end. ended count (begun m count) end []) cut_off).asks ≡ []
-    no_asks None = refl
-    no_asks (Some end) = refl
+    none_touched : (o : Option RunEnd) → (unless_ended o (λ end. ended count (begun m count) end []) cut_off).touches ≡ []
+    none_touched None = refl
+    none_touched (Some end) = refl
 
     none_left : (o : Option RunEnd) → ((unless_ended o (λ end. ended count (begun m count) end []) cut_off).left ≡ None) ⊎ ((unless_ended o (λ end. ended count (begun m count) end []) cut_off).left ≡ Some [])
     none_left None = inl refl
     none_left (Some end) = inr refl
 
-    no_names : (o : Option RunEnd) → (entries : List Record) → IsAtCommit (unless_ended o (λ end. ended count (begun m count) end []) cut_off).effects entries → slices_in entries ≡ []
+    no_names : (o : Option RunEnd) → (entries : List Record) → IsAtCommit (unless_ended o (λ end. ended count (begun m count) end []) cut_off).effects entries → NameNone entries
     no_names None entries at = absurd (none-next entries at)
     no_names (Some end) entries at = absurd (no-commit _ entries [] at)
 
 -- without slices no line asks for one
-pub still-line : (told : Told) (history : List Record) (l : Line) → IsStill ((row_of history l).turn told)
-still-line told history (line.File name bytes) = still-event (machine_of history) (File name bytes) _ refl (plain-file (machine_of history) name bytes)
-still-line told history (line.Boot name) = still-event (machine_of history) (Boot name) _ refl (plain-boot (machine_of history) name)
-still-line told history (line.Type bytes) = still-event (machine_of history) (Typed bytes) _ refl (plain-typed (machine_of history) bytes)
-still-line told history (line.Run count) = still-run (machine_of history) count
-still-line told history l = still-text _
+pub still-line : (g : Given) (history : List Record) (l : Line) → IsStill (row_of g history l).turn
+still-line g history (line.File name bytes) = still-event (machine_of history) (File name bytes) _ refl (plain-file (machine_of history) name bytes)
+still-line g history (line.Boot name) = still-event (machine_of history) (Boot name) _ refl (plain-boot (machine_of history) name)
+still-line g history (line.Type bytes) = still-event (machine_of history) (Typed bytes) _ refl (plain-typed (machine_of history) bytes)
+still-line g history (line.Run count) = still-run (machine_of history) count
+still-line g history l = still-text _
 
 -- a line that needs no machine prints a text, and does nothing else
-pub record IsText (told : Told) (history : List Record) (l : Line) : Type 0 where
+pub record IsText (g : Given) (history : List Record) (l : Line) : Type 0 where
   pub text : List ℕ
-  pub is : LineTells told history l text
+  pub is : LineTells g history l text
 
-pub text-line : (told : Told) (history : List Record) (l : Line) → (row_of history l).needs_machine ≡ false → IsText told history l
-text-line told history (line.File name bytes) none = absurd (false≢true (sym none))
-text-line told history (line.Boot name) none = absurd (false≢true (sym none))
-text-line told history (line.Type bytes) none = absurd (false≢true (sym none))
-text-line told history (line.Run count) none = absurd (false≢true (sym none))
-text-line told history l none = record { text = _; is = refl }
+pub text-line : (g : Given) (history : List Record) (l : Line) → (row_of g history l).needs_machine ≡ false → IsText g history l
+text-line g history (line.File name bytes) none = absurd (false≢true (sym none))
+text-line g history (line.Boot name) none = absurd (false≢true (sym none))
+text-line g history (line.Type bytes) none = absurd (false≢true (sym none))
+text-line g history (line.Run count) none = absurd (false≢true (sym none))
+text-line g history l none = record { text = _; is = refl }
 
 -- texts that are all that a line prints are one
-pub text-same : (told : Told) (history : List Record) (l : Line) (text other : List ℕ) → LineTells told history l text → LineTells told history l other → text ≡ other
-text-same told history l text other a b =
+pub text-same : (g : Given) (history : List Record) (l : Line) (text other : List ℕ) → LineTells g history l text → LineTells g history l other → text ≡ other
+text-same g history l text other a b =
     let e : Prints text ∷ [] ≡ Prints other ∷ [] = ap (λ (p : Point). (p []).effects) (sym a ∙ b) in
     cc
 
 -- no other line needs the machine, and none of the others is refused
-pub others-need-none : (history : List Record) (l : Line) → ((name bytes : List ℕ) → l ≡ line.File name bytes → ⊥) → ((name : List ℕ) → l ≡ line.Boot name → ⊥) → ((bytes : List ℕ) → l ≡ line.Type bytes → ⊥) → ((count : ℕ) → l ≡ line.Run count → ⊥) → (row_of history l).needs_machine ≡ false
-others-need-none history (line.File name bytes) file boot typed run = absurd (file name bytes refl)
-others-need-none history (line.Boot name) file boot typed run = absurd (boot name refl)
-others-need-none history (line.Type bytes) file boot typed run = absurd (typed bytes refl)
-others-need-none history (line.Run count) file boot typed run = absurd (run count refl)
-others-need-none history l file boot typed run = refl
+pub others-need-none : (g : Given) (history : List Record) (l : Line) → ((name bytes : List ℕ) → l ≡ line.File name bytes → ⊥) → ((name : List ℕ) → l ≡ line.Boot name → ⊥) → ((bytes : List ℕ) → l ≡ line.Type bytes → ⊥) → ((count : ℕ) → l ≡ line.Run count → ⊥) → (row_of g history l).needs_machine ≡ false
+others-need-none g history (line.File name bytes) file boot typed run = absurd (file name bytes refl)
+others-need-none g history (line.Boot name) file boot typed run = absurd (boot name refl)
+others-need-none g history (line.Type bytes) file boot typed run = absurd (typed bytes refl)
+others-need-none g history (line.Run count) file boot typed run = absurd (run count refl)
+others-need-none g history l file boot typed run = refl
 
-pub others-are-answered : (history : List Record) (l : Line) → ((name bytes : List ℕ) → l ≡ line.File name bytes → ⊥) → ((name : List ℕ) → l ≡ line.Boot name → ⊥) → ((bytes : List ℕ) → l ≡ line.Type bytes → ⊥) → ((count : ℕ) → l ≡ line.Run count → ⊥) → (row_of history l).refusal ≡ None
-others-are-answered history (line.File name bytes) file boot typed run = absurd (file name bytes refl)
-others-are-answered history (line.Boot name) file boot typed run = absurd (boot name refl)
-others-are-answered history (line.Type bytes) file boot typed run = absurd (typed bytes refl)
-others-are-answered history (line.Run count) file boot typed run = absurd (run count refl)
-others-are-answered history l file boot typed run = refl
+pub others-are-answered : (g : Given) (history : List Record) (l : Line) → ((name bytes : List ℕ) → l ≡ line.File name bytes → ⊥) → ((name : List ℕ) → l ≡ line.Boot name → ⊥) → ((bytes : List ℕ) → l ≡ line.Type bytes → ⊥) → ((count : ℕ) → l ≡ line.Run count → ⊥) → (row_of g history l).refusal ≡ None
+others-are-answered g history (line.File name bytes) file boot typed run = absurd (file name bytes refl)
+others-are-answered g history (line.Boot name) file boot typed run = absurd (boot name refl)
+others-are-answered g history (line.Type bytes) file boot typed run = absurd (typed bytes refl)
+others-are-answered g history (line.Run count) file boot typed run = absurd (run count refl)
+others-are-answered g history l file boot typed run = refl
 
 pub still-finished : IsStill finished
-still-finished = record { asks = refl; left = inr refl; names = λ entries at. absurd (none-next entries at) }
+still-finished = record { touches = refl; left = inr refl; names = λ entries at. absurd (none-next entries at) }
 
 -- a refused line prints why; one that isn't goes on
-pub turn-refused : (told : Told) (history : List Record) (l : Line) (why : Refusal) → (row_of history l).refusal ≡ Some why → turn told history (Says l) ≡ prints (refusal_text why)
-turn-refused told history l why is = ap (λ (o : Option Refusal). turn_unless o ((row_of history l).turn told)) is
+pub turn-refused : (g : Given) (history : List Record) (l : Line) (why : Refusal) → (row_of g history l).refusal ≡ Some why → turn g history (Says l) ≡ prints (refusal_text why)
+turn-refused g history l why is = ap (λ (o : Option Refusal). turn_unless o (row_of g history l).turn) is
 
-pub turn-line : (told : Told) (history : List Record) (l : Line) → (row_of history l).refusal ≡ None → turn told history (Says l) ≡ (row_of history l).turn told
-turn-line told history l is = ap (λ (o : Option Refusal). turn_unless o ((row_of history l).turn told)) is
+pub turn-line : (g : Given) (history : List Record) (l : Line) → (row_of g history l).refusal ≡ None → turn g history (Says l) ≡ (row_of g history l).turn
+turn-line g history l is = ap (λ (o : Option Refusal). turn_unless o (row_of g history l).turn) is
 
 and-false : (b : Bool) → (b && false) ≡ false
 and-false true = refl
 and-false false = refl
 
-pub needs-refused : (history : List Record) (l : Line) (why : Refusal) → (row_of history l).refusal ≡ Some why → needs_machine history (Says l) ≡ false
-needs-refused history l why is = ap (λ (o : Option Refusal). (row_of history l).needs_machine && is_none o) is ∙ and-false (row_of history l).needs_machine
+pub needs-refused : (g : Given) (history : List Record) (l : Line) (why : Refusal) → (row_of g history l).refusal ≡ Some why → needs_machine g history (Says l) ≡ false
+needs-refused g history l why is = ap (λ (o : Option Refusal). (row_of g history l).needs_machine && is_none o) is ∙ and-false (row_of g history l).needs_machine
 
-pub needs-none : (history : List Record) (l : Line) → (row_of history l).needs_machine ≡ false → needs_machine history (Says l) ≡ false
-needs-none history l none = ap (λ (b : Bool). b && is_none (row_of history l).refusal) none
+pub needs-none : (g : Given) (history : List Record) (l : Line) → (row_of g history l).needs_machine ≡ false → needs_machine g history (Says l) ≡ false
+needs-none g history l none = ap (λ (b : Bool). b && is_none (row_of g history l).refusal) none
 
-pub needs-one : (history : List Record) (l : Line) → (row_of history l).needs_machine ≡ true → (row_of history l).refusal ≡ None → needs_machine history (Says l) ≡ true
-needs-one history l needs is = ap (λ (b : Bool). b && is_none (row_of history l).refusal) needs ∙ ap (λ (o : Option Refusal). true && is_none o) is
+pub needs-one : (g : Given) (history : List Record) (l : Line) → (row_of g history l).needs_machine ≡ true → (row_of g history l).refusal ≡ None → needs_machine g history (Says l) ≡ true
+needs-one g history l needs is = ap (λ (b : Bool). b && is_none (row_of g history l).refusal) needs ∙ ap (λ (o : Option Refusal). true && is_none o) is
 
 -- what a line costs, whatever the history behind it
-pub cost-machine : (told : Told) (is_there : Bool) (history behind : List Record) (l : Line) → (row_of history l).needs_machine ≡ true → (row_of history l).refusal ≡ None → machine_cost is_there history ≤ cost told is_there history behind (Says l)
-cost-machine told is_there history behind l needs is =
-    let e : (if needs_machine history (Says l) then machine_cost is_there history else 0) ≡ machine_cost is_there history = ap (λ (b : Bool). if b then machine_cost is_there history else 0) (needs-one history l needs is) in
+pub cost-machine : (g : Given) (is_there : Bool) (history behind : List Record) (l : Line) → (row_of g history l).needs_machine ≡ true → (row_of g history l).refusal ≡ None → machine_cost is_there history ≤ cost g is_there history behind (Says l)
+cost-machine g is_there history behind l needs is =
+    let e : (if needs_machine g history (Says l) then machine_cost is_there history else 0) ≡ machine_cost is_there history = ap (λ (b : Bool). if b then machine_cost is_there history else 0) (needs-one g history l needs is) in
     omega (arith, e)
 
-pub cost-told : (told : Told) (is_there : Bool) (history behind : List Record) (l : Line) → (row_of history l).cost told ≤ cost told is_there history behind (Says l)
-cost-told told is_there history behind l = omega arith
+pub cost-told : (g : Given) (is_there : Bool) (history behind : List Record) (l : Line) → (row_of g history l).cost ≤ cost g is_there history behind (Says l)
+cost-told g is_there history behind l = omega arith

@@ -18,12 +18,13 @@ use Rattle.session_effects.specs.declared.halt.Halt.{Halt}
 use Rattle.session_effects.specs.declared.halt.Halt.TheVariants as halt
 use Rattle.session_runs.specs.Points.{slice_in, slices_in}
 use Rattle.session_runs.specs.Ready.{machine_of}
+use Rattle.session_runs.specs.Touches.{unplugged_by, unplugged_in}
 use Rattle.session_commands.specs.Answering.{HaltsIn}
 use Rattle.session_commands.specs.Generator.{event_commits}
 use Rattle.session_commands.proofs.AnswerLemmas.{never-rose}
 use Rattle.session_commands.proofs.BootLemmas.{machine-more}
 use Rattle.session_commands.proofs.LineLemmas.{IsPlain}
-use Rattle.session_commands.proofs.TurnLemmas.{first-commit, no-commit, none-next}
+use Rattle.session_commands.proofs.TurnLemmas.{NameNone, first-commit, no-commit, none-next}
 
 -- a sink that never fails makes nothing halt, and what does halt has its cause whatever sink there is
 pub not-sink : (why : Halt) (d0 d1 : ℕ) → IsCause why d0 d1 0 0 → why ≢ halt.Sink
@@ -108,14 +109,14 @@ module _ {D : Type 0} (d : Ghosts D) where
         stopped = halts.behind old mid new s0.entries s1.entries held held held why first h.done h.undone (a.carries held).entries (a.carries held).out h.stopped;
       }
 
--- effects whose records name no slice
+-- effects whose records name no slice, and unplug nothing
 abbrev pub AllPlain : List Effect → Type 0
 AllPlain [] = Unit {0}
 AllPlain (Commits entries ∷ effects) = IsPlain entries × AllPlain effects
 AllPlain (Prints text ∷ effects) = AllPlain effects
 
 pub plain-committed : NamedAppend → BehindAppend → (effects : List Effect) → AllPlain effects → IsPlain (committed effects)
-plain-committed names behind [] plain = (refl, refl)
+plain-committed names behind [] plain = (refl, refl, refl)
 plain-committed names behind (Commits entries ∷ effects) plain =
     let rest = plain-committed names behind effects plain.1 in (
       ap (λ (x : List Input). filter_map slice_in x) (names entries (committed effects) rest.1)
@@ -123,6 +124,7 @@ plain-committed names behind (Commits entries ∷ effects) plain =
           ∙ ap (λ (x : _). x ++ slices_in (committed effects)) plain.0.0
           ∙ rest.0,
       behind entries (committed effects) rest.1 ∙ plain.0.1,
+      filter_map-append unplugged_by entries (committed effects) ∙ ap (λ (x : List ℕ). x ++ unplugged_in (committed effects)) plain.0.2 ∙ rest.2,
     )
 plain-committed names behind (Prints text ∷ effects) plain = plain-committed names behind effects plain
 
@@ -136,7 +138,7 @@ plain-append [] more plain others = others
 plain-append (Commits entries ∷ effects) more plain others = (plain.0, plain-append effects more plain.1 others)
 plain-append (Prints text ∷ effects) more plain others = plain-append effects more plain others
 
-pub plain-next : (effects : List Effect) → AllPlain effects → (entries : List Record) → IsAtCommit effects entries → slices_in entries ≡ []
+pub plain-next : (effects : List Effect) → AllPlain effects → (entries : List Record) → IsAtCommit effects entries → NameNone entries
 plain-next [] plain entries at = absurd (none-next entries at)
-plain-next (Commits first ∷ more) plain entries at = ap slices_in (first-commit first entries more at) ∙ plain.0.0
+plain-next (Commits first ∷ more) plain entries at = subst NameNone (sym (first-commit first entries more at)) (plain.0.0, plain.0.2)
 plain-next (Prints text ∷ more) plain entries at = absurd (no-commit text entries more at)

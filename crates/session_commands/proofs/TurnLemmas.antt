@@ -3,10 +3,8 @@ use Rattle.std.proofs.Common.{◌≡◌, ◌⊎◌, inl, inr, ℕ, ◌+◌, ◌�
 use Rattle.arn_base.specs.declared.boxes.Choice.{Choice}
 use Rattle.arn_base.specs.declared.disk.Disk.{Ghosts}
 use Rattle.arn_base.specs.declared.records.Record.{Record}
-use Rattle.parts_model.specs.Replies.{Answered}
 use Rattle.log_model.specs.Records.{reply_behind}
 use Rattle.log_store.specs.Stores.{StoreState}
-use Rattle.guest_devices.specs.Answers.{Asked}
 use Rattle.guest_machine.specs.Legs.{Ask, Picked, PickedBy, brought}
 use Rattle.session_effects.specs.Carrying.{IsAtCommit, StopsBetween}
 use Rattle.session_effects.specs.Effects.{Effect, Commits, Prints, committed}
@@ -15,6 +13,7 @@ use Rattle.session_effects.specs.Printing.{StopsPut}
 use Rattle.session_effects.specs.Standing.{Carries, IsOpen}
 use Rattle.session_effects.specs.declared.halt.Halt.{Halt}
 use Rattle.session_runs.specs.Points.{Advances, IsSpent, Stops, around, slices_in}
+use Rattle.session_runs.specs.Touches.{Answering, unplugged_in}
 use Rattle.session_runs.specs.Turns.{Turn, Point, behind, does, finished, prints}
 
 -- the k-th slice is the k-th choice brought into range
@@ -40,16 +39,22 @@ none-next entries at = let e = at.is_commit in cc
 pub first-commit : (entries others : List Record) (more : List Effect) → IsAtCommit (Commits entries ∷ more) others → others ≡ entries
 first-commit entries others more at = let e = at.is_commit in cc
 
--- no commit among effects names a slice, of those that are done and the next
+-- records that name no slice, and unplug nothing
+abbrev pub NameNone : List Record → Type 0
+NameNone entries = (slices_in entries ≡ []) × (unplugged_in entries ≡ [])
+
+-- no commit among effects names a slice or unplugs a device, of those that are done and the next
 pub record IsQuiet (done undone : List Effect) : Type 0 where
   pub names : slices_in (committed done) ≡ []
+  pub unplugs : unplugged_in (committed done) ≡ []
   pub begins : reply_behind (committed done) ≡ None
-  pub names_next : (entries : List Record) → IsAtCommit undone entries → slices_in entries ≡ []
+  pub names_next : (entries : List Record) → IsAtCommit undone entries → NameNone entries
 
 -- a text alone, done or not
 pub quiet-text : (text : List ℕ) (done undone : List Effect) → Prints text ∷ [] ≡ done ++ undone → IsQuiet done undone
 quiet-text text [] undone is = record {
   names = refl;
+  unplugs = refl;
   begins = refl;
   names_next = λ entries at. absurd (no-commit text entries [] (subst (λ (e : List Effect). IsAtCommit e entries) (sym is) at));
 }
@@ -57,6 +62,7 @@ quiet-text text (Prints t ∷ []) undone is =
     let none : undone ≡ [] = cc in
     record {
       names = refl;
+      unplugs = refl;
       begins = refl;
       names_next = λ entries at. absurd (none-next entries (subst (λ (e : List Effect). IsAtCommit e entries) none at));
     }
@@ -64,18 +70,20 @@ quiet-text text (Prints t ∷ (e ∷ done)) undone is = absurd cc
 quiet-text text (Commits es ∷ done) undone is = absurd cc
 
 -- the records of an event, and its number
-pub quiet-event : (entries : List Record) (text : List ℕ) (done undone : List Effect) → slices_in entries ≡ [] → reply_behind entries ≡ None → Commits entries ∷ Prints text ∷ [] ≡ done ++ undone → IsQuiet done undone
+pub quiet-event : (entries : List Record) (text : List ℕ) (done undone : List Effect) → NameNone entries → reply_behind entries ≡ None → Commits entries ∷ Prints text ∷ [] ≡ done ++ undone → IsQuiet done undone
 quiet-event entries text [] undone none begins is = record {
   names = refl;
+  unplugs = refl;
   begins = refl;
   names_next = λ others at.
-      ap slices_in (first-commit entries others (Prints text ∷ []) (subst (λ (e : List Effect). IsAtCommit e others) (sym is) at)) ∙ none;
+      subst NameNone (sym (first-commit entries others (Prints text ∷ []) (subst (λ (e : List Effect). IsAtCommit e others) (sym is) at))) none;
 }
 quiet-event entries text (Commits es ∷ []) undone none begins is =
     let same : es ≡ entries = cc in
     let left : Prints text ∷ [] ≡ undone = cc in
     record {
-      names = ap slices_in (append-nil es ∙ same) ∙ none;
+      names = ap slices_in (append-nil es ∙ same) ∙ none.0;
+      unplugs = ap unplugged_in (append-nil es ∙ same) ∙ none.1;
       begins = ap reply_behind (append-nil es ∙ same) ∙ begins;
       names_next = λ others at. absurd (no-commit text others [] (subst (λ (e : List Effect). IsAtCommit e others) (sym left) at));
     }
@@ -83,7 +91,8 @@ quiet-event entries text (Commits es ∷ (Prints t ∷ [])) undone none begins i
     let same : es ≡ entries = cc in
     let left : undone ≡ [] = cc in
     record {
-      names = ap slices_in (append-nil es ∙ same) ∙ none;
+      names = ap slices_in (append-nil es ∙ same) ∙ none.0;
+      unplugs = ap unplugged_in (append-nil es ∙ same) ∙ none.1;
       begins = ap reply_behind (append-nil es ∙ same) ∙ begins;
       names_next = λ others at. absurd (none-next others (subst (λ (e : List Effect). IsAtCommit e others) left at));
     }
@@ -91,131 +100,137 @@ quiet-event entries text (Commits es ∷ (Prints t ∷ (e ∷ done))) undone non
 quiet-event entries text (Commits es ∷ (Commits more ∷ done)) undone none begins is = absurd cc
 quiet-event entries text (Prints t ∷ done) undone none begins is = absurd cc
 
-turn-done : (effects : List Effect) (rest : List Picked) → does effects rest ≡ behind effects [] (finished rest)
-turn-done effects rest = ap (λ (e : List Effect). let t : Turn = record { effects = e; asks = []; left = Some rest } in t) (sym (append-nil effects))
+turn-done : (effects : List Effect) (rest : List Picked) → does effects [] rest ≡ behind effects [] (finished rest)
+turn-done effects rest = ap (λ (e : List Effect). let t : Turn = record { effects = e; touches = []; left = Some rest } in t) (sym (append-nil effects))
 
-module _ {A : Type 0} (replies : A → Asked → Answered → A → Type 0) (choices : ℕ → Option Choice) (answers : A) where
+module _ {A : Type 0} (who : Answering A) (choices : ℕ → Option Choice) (answers : A) where
   -- effects were carried out
-  pub Advances-does : (from : Point) (effects : List Effect) (steps steps' cost : ℕ) (carried : List Effect → Type 0) → from ≡ does effects → slices_in (committed effects) ≡ [] → reply_behind (committed effects) ≡ None → carried effects → steps' ≤ steps + cost → Advances replies from finished (around choices answers steps) (around choices answers steps') cost carried
+  pub Advances-does : (from : Point) (effects : List Effect) (steps steps' cost : ℕ) (carried : List Effect → Type 0) → from ≡ does effects [] → NameNone (committed effects) → reply_behind (committed effects) ≡ None → carried effects → steps' ≤ steps + cost → Advances who from finished (around choices answers steps) (around choices answers steps') cost carried
   Advances-does from effects steps steps' cost carried is names begins carries cheap = record {
     slices = [];
-    asks = [];
+    touches = [];
     effects = effects;
     leads = λ rest. ap (λ (p : Point). p rest) is ∙ turn-done effects rest;
-    names = names;
+    names = names.0;
+    unplugs = names.1;
     begins = begins;
     carries = carries;
     picked = PickedBy-none choices;
     in_range = tt;
-    replied = (refl, refl);
+    touched = (refl, refl);
     executed = omega (arith, cheap);
   }
 
   -- nothing more was to be done
-  pub Advances-still : (from : Point) (steps steps' cost : ℕ) (carried : List Effect → Type 0) → from ≡ finished → carried [] → steps' ≤ steps + cost → Advances replies from finished (around choices answers steps) (around choices answers steps') cost carried
+  pub Advances-still : (from : Point) (steps steps' cost : ℕ) (carried : List Effect → Type 0) → from ≡ finished → carried [] → steps' ≤ steps + cost → Advances who from finished (around choices answers steps) (around choices answers steps') cost carried
   Advances-still from steps steps' cost carried is carries cheap = record {
     slices = [];
-    asks = [];
+    touches = [];
     effects = [];
     leads = λ rest. ap (λ (p : Point). p rest) is;
     names = refl;
+    unplugs = refl;
     begins = refl;
     carries = carries;
     picked = PickedBy-none choices;
     in_range = tt;
-    replied = (refl, refl);
+    touched = (refl, refl);
     executed = omega (arith, cheap);
   }
 
--- without slices none is asked for, and none is left; no commit that stands next names one
+-- without slices nothing is touched, and none is left; no commit that stands next names one or unplugs a device
 pub record IsStill (from : Point) : Type 0 where
-  pub asks : (from []).asks ≡ []
+  pub touches : (from []).touches ≡ []
   pub left : ((from []).left ≡ None) ⊎ ((from []).left ≡ Some [])
-  pub names : (entries : List Record) → IsAtCommit (from []).effects entries → slices_in entries ≡ []
+  pub names : (entries : List Record) → IsAtCommit (from []).effects entries → NameNone entries
 
 pub spent-still : (undone : List Effect) (left : Option (List Picked)) → (left ≡ None) ⊎ (left ≡ Some []) → IsSpent [] undone left
 spent-still undone left (inl none) = inl none
 spent-still undone left (inr all) = inr (all, inr refl)
 
 -- effects alone are still
-pub still-does : (from : Point) (effects : List Effect) → from ≡ does effects → ((entries : List Record) → IsAtCommit effects entries → slices_in entries ≡ []) → IsStill from
+pub still-does : (from : Point) (effects : List Effect) → from ≡ does effects [] → ((entries : List Record) → IsAtCommit effects entries → NameNone entries) → IsStill from
 still-does from effects is names = record {
-  asks = ap (λ (p : Point). (p []).asks) is;
+  touches = ap (λ (p : Point). (p []).touches) is;
   left = inr (ap (λ (p : Point). (p []).left) is);
   names = λ entries at. names entries (subst (λ (p : Point). IsAtCommit (p []).effects entries) is at);
 }
 
-module _ {D A : Type 0} (is_run : List Record → Type 0) (d : Ghosts D) (replies : A → Asked → Answered → A → Type 0) (halts : HaltsFollow is_run d) (choices : ℕ → Option Choice) (answers : A) where
+module _ {D A : Type 0} (is_run : List Record → Type 0) (d : Ghosts D) (who : Answering A) (halts : HaltsFollow is_run d) (choices : ℕ → Option Choice) (answers : A) where
   -- effects stop somewhere
-  pub Stops-does : (disk disk' : D) (history : List Record) (h0 h1 : Option (List ℕ)) (why : Halt) (from : Point) (steps steps' cost : ℕ) (effects done undone : List Effect) → from ≡ does effects → effects ≡ done ++ undone → IsQuiet done undone → StopsBetween is_run d disk disk' history h0 h1 why done undone → steps' ≤ steps + cost → Stops is_run d replies disk disk' history h0 h1 why from (around choices answers steps) (around choices answers steps') cost
+  pub Stops-does : (disk disk' : D) (history : List Record) (h0 h1 : Option (List ℕ)) (why : Halt) (from : Point) (steps steps' cost : ℕ) (effects done undone : List Effect) → from ≡ does effects [] → effects ≡ done ++ undone → IsQuiet done undone → StopsBetween is_run d disk disk' history h0 h1 why done undone → steps' ≤ steps + cost → Stops is_run d who disk disk' history h0 h1 why from (around choices answers steps) (around choices answers steps') cost
   Stops-does disk disk' history h0 h1 why from steps steps' cost effects done undone is are quiet stopped cheap = record {
     slices = [];
     lost = [];
     part = [];
-    asks = [];
-    lost_asks = [];
-    part_asks = [];
+    touches = [];
+    lost_touches = [];
+    part_touches = [];
     done = done;
     undone = undone;
     are_effects = ap (λ (p : Point). (p []).effects) is ∙ are;
-    are_asks = ap (λ (p : Point). (p []).asks) is;
+    are_touches = ap (λ (p : Point). (p []).touches) is;
     stopped = stopped;
     names = quiet.names;
+    unplugs = quiet.unplugs;
     begins = quiet.begins;
-    names_lost = quiet.names_next;
+    names_lost = λ entries at. (quiet.names_next entries at).0;
+    unplugs_lost = λ entries at. (quiet.names_next entries at).1;
     without = inl refl;
     spent = inr (ap (λ (p : Point). (p []).left) is, inr refl);
     many = refl;
     picked = PickedBy-none choices;
     in_range = tt;
-    replied = (refl, refl);
+    touched = (refl, refl);
     one_part = omega arith;
     by_memory = inl refl;
     executed = omega (arith, cheap);
   }
 
   -- a text stops somewhere
-  pub Stops-prints : (disk : D) (history : List Record) (h0 h1 : Option (List ℕ)) (why : Halt) (from : Point) (steps steps' cost : ℕ) (text : List ℕ) → from ≡ prints text → StopsPut why text h0 h1 → steps' ≤ steps + cost → Stops is_run d replies disk disk history h0 h1 why from (around choices answers steps) (around choices answers steps') cost
+  pub Stops-prints : (disk : D) (history : List Record) (h0 h1 : Option (List ℕ)) (why : Halt) (from : Point) (steps steps' cost : ℕ) (text : List ℕ) → from ≡ prints text → StopsPut why text h0 h1 → steps' ≤ steps + cost → Stops is_run d who disk disk history h0 h1 why from (around choices answers steps) (around choices answers steps') cost
   Stops-prints disk history h0 h1 why from steps steps' cost text is put cheap =
       Stops-does disk disk history h0 h1 why from steps steps' cost (Prints text ∷ []) [] (Prints text ∷ []) is refl
       (quiet-text text [] (Prints text ∷ []) refl) (halts.text disk history h0 h1 why text put) cheap
 
   -- nothing was done: a halt that says no more than that
-  pub Stops-nothing : (disk : D) (history : List Record) (held : Option (List ℕ)) (why : Halt) (from : Point) (steps steps' cost : ℕ) → IsStill from → StopsBetween is_run d disk disk history held held why [] (from []).effects → steps' ≤ steps + cost → Stops is_run d replies disk disk history held held why from (around choices answers steps) (around choices answers steps') cost
+  pub Stops-nothing : (disk : D) (history : List Record) (held : Option (List ℕ)) (why : Halt) (from : Point) (steps steps' cost : ℕ) → IsStill from → StopsBetween is_run d disk disk history held held why [] (from []).effects → steps' ≤ steps + cost → Stops is_run d who disk disk history held held why from (around choices answers steps) (around choices answers steps') cost
   Stops-nothing disk history held why from steps steps' cost still stopped cheap = record {
     slices = [];
     lost = [];
     part = [];
-    asks = [];
-    lost_asks = [];
-    part_asks = [];
+    touches = [];
+    lost_touches = [];
+    part_touches = [];
     done = [];
     undone = (from []).effects;
     are_effects = refl;
-    are_asks = still.asks;
+    are_touches = still.touches;
     stopped = stopped;
     names = refl;
+    unplugs = refl;
     begins = refl;
-    names_lost = still.names;
+    names_lost = λ entries at. (still.names entries at).0;
+    unplugs_lost = λ entries at. (still.names entries at).1;
     without = inl refl;
     spent = spent-still (from []).effects (from []).left still.left;
     many = refl;
     picked = PickedBy-none choices;
     in_range = tt;
-    replied = (refl, refl);
+    touched = (refl, refl);
     one_part = omega arith;
     by_memory = inl refl;
     executed = omega (arith, cheap);
   }
 
 -- a text alone was carried out
-module _ {D A : Type 0} (is_run : List Record → Type 0) (d : Ghosts D) (replies : A → Asked → Answered → A → Type 0) (laws : EffectsFollow is_run d) (choices : ℕ → Option Choice) (answers : A) where
-  pub Advances-prints : (disk : D) (store : StoreState) (h0 h1 : Option (List ℕ)) (from : Point) (steps steps' cost : ℕ) (text : List ℕ) → from ≡ prints text → IsOpen d store disk → h1 ≡ option_map (λ before. before ++ text) h0 → steps' ≤ steps + cost → Advances replies from finished (around choices answers steps) (around choices answers steps') cost (Carries is_run d disk disk store store h0 h1)
+module _ {D A : Type 0} (is_run : List Record → Type 0) (d : Ghosts D) (who : Answering A) (laws : EffectsFollow is_run d) (choices : ℕ → Option Choice) (answers : A) where
+  pub Advances-prints : (disk : D) (store : StoreState) (h0 h1 : Option (List ℕ)) (from : Point) (steps steps' cost : ℕ) (text : List ℕ) → from ≡ prints text → IsOpen d store disk → h1 ≡ option_map (λ before. before ++ text) h0 → steps' ≤ steps + cost → Advances who from finished (around choices answers steps) (around choices answers steps') cost (Carries is_run d disk disk store store h0 h1)
   Advances-prints disk store h0 h1 from steps steps' cost text is open_now put cheap =
-      Advances-does replies choices answers from (Prints text ∷ []) steps steps' cost (Carries is_run d disk disk store store h0 h1) is refl refl
+      Advances-does who choices answers from (Prints text ∷ []) steps steps' cost (Carries is_run d disk disk store store h0 h1) is (refl, refl) refl
       (record { stays_open = open_now; entries = sym (append-nil store.entries); out = laws.text disk store.entries h0 h1 text put }) cheap
 
-  pub Advances-nothing : (disk : D) (store : StoreState) (held : Option (List ℕ)) (from : Point) (steps cost : ℕ) → from ≡ finished → IsOpen d store disk → Advances replies from finished (around choices answers steps) (around choices answers steps) cost (Carries is_run d disk disk store store held held)
+  pub Advances-nothing : (disk : D) (store : StoreState) (held : Option (List ℕ)) (from : Point) (steps cost : ℕ) → from ≡ finished → IsOpen d store disk → Advances who from finished (around choices answers steps) (around choices answers steps) cost (Carries is_run d disk disk store store held held)
   Advances-nothing disk store held from steps cost is open_now =
-      Advances-still replies choices answers from steps steps cost (Carries is_run d disk disk store store held held) is
+      Advances-still who choices answers from steps steps cost (Carries is_run d disk disk store store held held) is
       (record { stays_open = open_now; entries = sym (append-nil store.entries); out = laws.nothing disk store.entries held }) (omega arith)

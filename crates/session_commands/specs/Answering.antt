@@ -4,21 +4,19 @@ use Rattle.arn_base.specs.declared.disk.Disk.{Ghosts}
 use Rattle.arn_base.specs.declared.records.Differs.{Differs}
 use Rattle.arn_base.specs.declared.records.Record.{Record}
 use Rattle.arn_base.specs.Faults.{Rose}
-use Rattle.parts_model.specs.Replies.{Answered}
 use Rattle.log_model.specs.Records.{IsRun, named, records}
 use Rattle.log_store.specs.declared.size.TheConstants.{MOST_LOG}
-use Rattle.guest_devices.specs.Answers.{Asked}
 use Rattle.guest_machine.specs.Differs.{IsFirstDifference}
-use Rattle.guest_machine.specs.LegLaws.{all_named}
 use Rattle.arn_commands.specs.declared.command.Command.{Command}
 use Rattle.session_effects.specs.Effects.{Effect}
 use Rattle.session_effects.specs.declared.halt.Halt.{Halt}
 use Rattle.session_effects.specs.declared.halt.Halt.TheVariants as halt
 use Rattle.session_runs.specs.Standing.{HaltsBehind, Proceeds, Standpoint}
+use Rattle.session_runs.specs.Touches.{Answering, named_at}
 use Rattle.session_runs.specs.Turns.{finished}
 use Rattle.session_commands.specs.Cost.{cost, cost_of_turn, machine_cost}
+use Rattle.session_commands.specs.Given.{Given}
 use Rattle.session_commands.specs.Lines.{needs_machine, turn}
-use Rattle.session_model.specs.Questions.{Told}
 
 -- effects halted somewhere: some were carried out, and of the others some of the first at most
 pub record HaltsIn (stops : List Effect → List Effect → Type 0) (effects : List Effect) : Type 0 where
@@ -76,27 +74,27 @@ pub record IsNotBegun {D A : Type 0} (why : Halt) (is_there : Bool) (old new : S
   pub untouched : IsUntouched old new
   pub executed : new.around.steps ≤ old.around.steps + machine_cost is_there old.store.entries
 
-module _ {D A : Type 0} (d : Ghosts D) (replies : A → Asked → Answered → A → Type 0) (told : Told) (is_there : Bool) where
+module _ {D A : Type 0} (d : Ghosts D) (who : Answering A) (g : Given) (is_there : Bool) where
   -- A command was answered: all that it asks for was carried out. Where it needs the machine, the history is that of a run.
   pub record IsAnswered (command : Command) (old new : Standpoint D A) : Type 0 where
-    pub advances : Proceeds d replies (turn told old.store.entries command) finished (cost told is_there old.store.entries new.store.entries command) old new
-    pub on_run : needs_machine old.store.entries command ≡ true → IsRun old.store.entries
+    pub advances : Proceeds d who (turn g old.store.entries command) finished (cost g is_there old.store.entries new.store.entries command) old new
+    pub on_run : needs_machine g old.store.entries command ≡ true → IsRun old.store.entries
 
   -- Its answer halted. Where it needs the machine, the history is that of a run, or no machine was made.
   pub record IsHalted (why : Halt) (command : Command) (old new : Standpoint D A) : Type 0 where
     pub beside : ℕ
-    pub stops : HaltsBehind d replies why (turn told old.store.entries command) beside old new
-    pub costs : beside ≤ cost_of_turn told is_there old.store.entries command (turn told old.store.entries command (all_named stops.asks stops.slices ++ all_named stops.lost_asks stops.lost))
-    pub on_run : needs_machine old.store.entries command ≡ true → IsRun old.store.entries ⊎ IsNotBegun why is_there old new
+    pub stops : HaltsBehind d who why (turn g old.store.entries command) beside old new
+    pub costs : beside ≤ cost_of_turn g is_there old.store.entries command (turn g old.store.entries command (named_at stops.touches stops.slices ++ named_at stops.lost_touches stops.lost))
+    pub on_run : needs_machine g old.store.entries command ≡ true → IsRun old.store.entries ⊎ IsNotBegun why is_there old new
 
 -- it halted since the records of the history are none of a run's: it needs the machine, which wasn't there, and none was made
-pub record FindsNoRun {D A : Type 0} (is_there : Bool) (at : Differs) (command : Command) (old new : Standpoint D A) : Type 0 where
+pub record FindsNoRun {D A : Type 0} (g : Given) (is_there : Bool) (at : Differs) (command : Command) (old new : Standpoint D A) : Type 0 where
   pub is_no_run : IsNoRun old.store.entries at
   pub absent : is_there ≡ false
-  pub needs : needs_machine old.store.entries command ≡ true
+  pub needs : needs_machine g old.store.entries command ≡ true
   pub not_begun : IsNotBegun (halt.Differs at) is_there old new
 
 -- a halt that blames the records of the history finds that they are none of a run's
-abbrev pub BlamesRightly : {D A : Type 0} → Bool → Halt → Command → Standpoint D A → Standpoint D A → Type 0
-BlamesRightly is_there (halt.Differs at) command old new = FindsNoRun is_there at command old new
-BlamesRightly is_there why command old new = Unit {0}
+abbrev pub BlamesRightly : {D A : Type 0} → Given → Bool → Halt → Command → Standpoint D A → Standpoint D A → Type 0
+BlamesRightly g is_there (halt.Differs at) command old new = FindsNoRun g is_there at command old new
+BlamesRightly g is_there why command old new = Unit {0}

@@ -11,8 +11,8 @@ use Rattle.arn_lines.specs.declared.answer.Refusal.{Refusal}
 use Rattle.arn_lines.specs.Texts.{event_text}
 use Rattle.session_effects.specs.Effects.{Effect, Commits, Prints}
 use Rattle.session_commands.specs.declared.events.Event.{Event}
-use Rattle.session_commands.specs.declared.events.Given.{Given}
-use Rattle.session_commands.specs.declared.events.Given.TheVariants as given
+use Rattle.session_commands.specs.declared.events.Incoming.{Incoming}
+use Rattle.session_commands.specs.declared.events.Incoming.TheVariants as incoming
 use Rattle.session_commands.specs.Refusals.{boot_refusal, bring_refusal, early_refusal}
 
 -- an input becomes an event: its records are committed, and then its number is printed
@@ -20,22 +20,22 @@ abbrev pub event_effects : Machine → Input → List Effect
 event_effects m i = Commits (records_from m (i ∷ [])) ∷ Prints (event_text m.events) ∷ []
 
 -- what is given, as the input of a run that it is
-abbrev pub input_of : Given → Input
-input_of (given.File name bytes) = run.File name.now bytes.now
-input_of (given.Boot name) = run.Boot name.now
-input_of (given.Typed bytes) = run.Typed bytes.now
+abbrev pub input_of : Incoming → Input
+input_of (incoming.File name bytes) = run.File name.now bytes.now
+input_of (incoming.Boot name) = run.Boot name.now
+input_of (incoming.Typed bytes) = run.Typed bytes.now
 
 -- names, files and pieces that the machine takes
-abbrev pub GivenFits : Given → Type 0
-GivenFits (given.File name bytes) = IsTrue (is_name name.now) × (length bytes.now ≤ MOST_FILE_BYTES)
-GivenFits (given.Boot name) = IsTrue (is_name name.now)
-GivenFits (given.Typed bytes) = length bytes.now < 2 ^ 32
+abbrev pub IncomingFits : Incoming → Type 0
+IncomingFits (incoming.File name bytes) = IsTrue (is_name name.now) × (length bytes.now ≤ MOST_FILE_BYTES)
+IncomingFits (incoming.Boot name) = IsTrue (is_name name.now)
+IncomingFits (incoming.Typed bytes) = length bytes.now < 2 ^ 32
 
 -- why it is refused on a history, if it is
-abbrev pub given_refusal : List Record → Given → Option Refusal
-given_refusal history (given.File name bytes) = bring_refusal history name.now
-given_refusal history (given.Boot name) = boot_refusal history name.now
-given_refusal history (given.Typed bytes) = early_refusal history
+abbrev pub incoming_refusal : List Record → Incoming → Option Refusal
+incoming_refusal history (incoming.File name bytes) = bring_refusal history name.now
+incoming_refusal history (incoming.Boot name) = boot_refusal history name.now
+incoming_refusal history (incoming.Typed bytes) = early_refusal history
 
 -- the event that an input makes of a machine
 pub record IsEvent (m : Machine) (i : Input) (event : Event) : Type 0 where

@@ -1,3 +1,4 @@
+pub mod Given
 pub mod Refusals
 pub mod Generator
 pub mod Events

@@ -1,5 +1,5 @@
 -- What the lines of a session do: one table, with a row for each line.
-use Rattle.std.specs.Prelude.{◌≡◌, ℕ, Bool, true, false, List, Option, None}
+use Rattle.std.specs.Prelude.{◌≡◌, ℕ, Bool, true, false, List, [], Option, None}
 use Rattle.arn_base.specs.declared.records.Record.{Record}
 use Rattle.arn_model.specs.Run.{Input, File, Boot, Typed}
 use Rattle.arn_lines.specs.declared.answer.Refusal.{Refusal}
@@ -9,8 +9,8 @@ use Rattle.session_runs.specs.Ready.{machine_of}
 use Rattle.session_runs.specs.Runs.{run}
 use Rattle.session_runs.specs.Turns.{Point, does, prints}
 use Rattle.session_commands.specs.Events.{event_effects}
+use Rattle.session_commands.specs.Given.{Given}
 use Rattle.session_commands.specs.Refusals.{boot_refusal, bring_refusal, early_refusal}
-use Rattle.session_model.specs.Questions.{Told}
 
 pub record LineRow : Type 0 where
   -- why the line is refused on a history, if it is
@@ -18,35 +18,35 @@ pub record LineRow : Type 0 where
   -- it goes on with the running machine
   pub needs_machine : Bool
   -- what it does that isn't refused, by the slices to come
-  pub turn : Told → Point
+  pub turn : Point
   -- how many instructions are executed for it at most, beside those of the slices that it takes and those for the machine
-  pub cost : Told → ℕ
+  pub cost : ℕ
 
 -- a line whose input becomes an event
 abbrev pub becomes : List Record → Option Refusal → Input → LineRow
 becomes history refusal i = record {
   refusal = refusal;
   needs_machine = true;
-  turn = λ told. does (event_effects (machine_of history) i);
-  cost = λ told. 0;
+  turn = does (event_effects (machine_of history) i) [];
+  cost = 0;
 }
 
 -- a line that runs the machine
 abbrev pub runs : List Record → Option Refusal → ℕ → LineRow
-runs history refusal count = record { refusal = refusal; needs_machine = true; turn = λ told. run (machine_of history) count; cost = λ told. 0 }
+runs history refusal count = record { refusal = refusal; needs_machine = true; turn = run (machine_of history) count; cost = 0 }
 
 -- a line that prints a text, and does nothing else
-abbrev pub tells : (Told → List ℕ) → (Told → ℕ) → LineRow
-tells text cost = record { refusal = None; needs_machine = false; turn = λ told. prints (text told); cost = cost }
+abbrev pub tells : List ℕ → ℕ → LineRow
+tells text cost = record { refusal = None; needs_machine = false; turn = prints text; cost = cost }
 
 -- the table. What a question lacks its answer says
-abbrev pub row_of : List Record → Line → LineRow
-row_of history (line.File name bytes) = becomes history (bring_refusal history name) (File name bytes)
-row_of history (line.Boot name) = becomes history (boot_refusal history name) (Boot name)
-row_of history (line.Type bytes) = becomes history (early_refusal history) (Typed bytes)
-row_of history (line.Run count) = runs history (early_refusal history) count
-row_of history (line.Asks question) = tells (λ told. told.text history question) (λ told. told.cost history question)
+abbrev pub row_of : Given → List Record → Line → LineRow
+row_of g history (line.File name bytes) = becomes history (bring_refusal history name) (File name bytes)
+row_of g history (line.Boot name) = becomes history (boot_refusal history name) (Boot name)
+row_of g history (line.Type bytes) = becomes history (early_refusal history) (Typed bytes)
+row_of g history (line.Run count) = runs history (early_refusal history) count
+row_of g history (line.Asks question) = tells (g.told.text history question) (g.told.cost history question)
 
 -- all that a line does that isn't refused is to print this
-abbrev pub LineTells : Told → List Record → Line → List ℕ → Type 0
-LineTells told history l text = (row_of history l).turn told ≡ prints text
+abbrev pub LineTells : Given → List Record → Line → List ℕ → Type 0
+LineTells g history l text = (row_of g history l).turn ≡ prints text

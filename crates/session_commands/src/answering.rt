@@ -1,5 +1,5 @@
 // What commands do.
-ghost use Rattle.std.specs.Prelude.{◌≡◌, ◌||◌, ◌+◌, ◌≤◌, ◌++◌, ℕ, List, [], All, None, OnOk, IfErr, false, is_some, option_map, string_bytes, true};
+ghost use Rattle.std.specs.Prelude.{◌≡◌, ◌||◌, ◌+◌, ◌≤◌, ◌++◌, ℕ, Bool, List, [], All, None, OnOk, IfErr, false, is_some, option_map, string_bytes, true};
 ghost use Rattle.arn_base.specs.Faults.{NeverFalls};
 ghost use Rattle.arn_commands.specs.Sizes.{Fits, LineFits};
 ghost use Rattle.arn_commands.specs.declared.command.Command.TheVariants.{Says};
@@ -10,15 +10,17 @@ ghost use Rattle.session_effects.specs.Printing.{StopsPut};
 ghost use Rattle.session_effects.specs.Standing.{IsCause, IsOpen};
 ghost use Rattle.session_commands.specs.Answering.{BlamesRightly, IsAnswered, IsHalted, IsLineCause};
 ghost use Rattle.session_commands.specs.Cost.{machine_cost};
+ghost use Rattle.session_commands.specs.Given.{Given, given};
 ghost use Rattle.session_commands.specs.Kept.{IsSound, IsThere};
 ghost use Rattle.session_commands.specs.Lines.{needs_machine};
 ghost use Rattle.session_commands.specs.Rows.{LineTells, row_of};
 ghost use Rattle.session_model.specs.Questions.{Told};
 ghost use Rattle.session_runs.specs.Ready.{IsReady};
 ghost use Rattle.session_runs.specs.Standing.{HaltsBehind, Proceeds, standing};
+ghost use Rattle.session_runs.specs.Touches.{answering};
 ghost use Rattle.session_runs.specs.Turns.{finished};
 
-use crate::events::{Given, add_event};
+use crate::events::{Incoming, add_event};
 use crate::generating::answer_generator;
 use crate::kept::Kept;
 use crate::printing::print_refusal;
@@ -28,7 +30,7 @@ use crate::rows::{needs_machine, refusal_of};
 use arn_base::{Chooser, Disk, NoMemory, Sink, Steps};
 use arn_commands::Command;
 use arn_lines::{Line, Refusal};
-use guest_devices::Answers;
+use guest_devices::Plugs;
 use guest_machine::Machine;
 use log_store::{Store, store_is_short};
 use session_effects::{Halt, Outside, effects_follow, halts_follow, put_all};
@@ -38,7 +40,7 @@ use std::alloc::Global;
 use std::sync::ledger::Ledger;
 
 /// Does what a command asks for: commits what it adds to the history, and prints its answer.
-pub fn answer<Q: Questions, C: Chooser, A: Answers, D: Disk, K: Sink, L: Ledger>(
+pub fn answer<Q: Questions, C: Chooser, A: Plugs, D: Disk, K: Sink, L: Ledger>(
     kept: &mut Kept<Q>,
     command: Command,
     outside: &mut Outside<C, A, D, K, L>,
@@ -50,18 +52,22 @@ pub fn answer<Q: Questions, C: Chooser, A: Answers, D: Disk, K: Sink, L: Ledger>
     ensures sound { OnOk result
         (IsSound Q.knows kept.new.machine kept.new.questions kept.new.store.entries) }
     ensures there { OnOk result (is_some kept.new.machine ≡
-        is_some kept.old.machine || needs_machine kept.old.store.entries command) }
+        is_some kept.old.machine || needs_machine
+        (given Q.told (A.filled outside.old.answers.now)) kept.old.store.entries command) }
     ensures answered { OnOk result
-        (IsAnswered D.Disk A.answers Q.told (is_some kept.old.machine) command
+        (IsAnswered D.Disk (answering A.answers A.unplugs A.filled)
+        (given Q.told (A.filled outside.old.answers.now)) (is_some kept.old.machine) command
         (standing C.choices K.holds kept.old.store outside.old)
         (standing C.choices K.holds kept.new.store outside.new)) }
 
     ensures halted { IfErr result (λ halt.
-        IsHalted D.Disk A.answers Q.told (is_some kept.old.machine) halt command
+        IsHalted D.Disk (answering A.answers A.unplugs A.filled)
+        (given Q.told (A.filled outside.old.answers.now)) (is_some kept.old.machine) halt command
         (standing C.choices K.holds kept.old.store outside.old)
         (standing C.choices K.holds kept.new.store outside.new)) }
     ensures blames { IfErr result (λ halt.
-        BlamesRightly (is_some kept.old.machine) halt command
+        BlamesRightly (given Q.told (A.filled outside.old.answers.now))
+        (is_some kept.old.machine) halt command
         (standing C.choices K.holds kept.old.store outside.old)
         (standing C.choices K.holds kept.new.store outside.new)) }
     ensures cause { IfErr result (λ halt. IsLineCause halt
@@ -94,7 +100,7 @@ pub fn answer<Q: Questions, C: Chooser, A: Answers, D: Disk, K: Sink, L: Ledger>
 }
 
 // Does what a line of the grammar says.
-fn answer_line<Q: Questions, C: Chooser, A: Answers, D: Disk, K: Sink, L: Ledger>(
+fn answer_line<Q: Questions, C: Chooser, A: Plugs, D: Disk, K: Sink, L: Ledger>(
     kept: &mut Kept<Q>,
     line: &Line,
     outside: &mut Outside<C, A, D, K, L>,
@@ -106,18 +112,23 @@ fn answer_line<Q: Questions, C: Chooser, A: Answers, D: Disk, K: Sink, L: Ledger
     ensures sound { OnOk result
         (IsSound Q.knows kept.new.machine kept.new.questions kept.new.store.entries) }
     ensures there { OnOk result (is_some kept.new.machine ≡
-        is_some kept.old.machine || needs_machine kept.old.store.entries (Says line.now)) }
+        is_some kept.old.machine || needs_machine
+        (given Q.told (A.filled outside.old.answers.now)) kept.old.store.entries (Says line.now)) }
     ensures answered { OnOk result
-        (IsAnswered D.Disk A.answers Q.told (is_some kept.old.machine) (Says line.now)
+        (IsAnswered D.Disk (answering A.answers A.unplugs A.filled)
+        (given Q.told (A.filled outside.old.answers.now)) (is_some kept.old.machine) (Says line.now)
         (standing C.choices K.holds kept.old.store outside.old)
         (standing C.choices K.holds kept.new.store outside.new)) }
 
     ensures halted { IfErr result (λ halt.
-        IsHalted D.Disk A.answers Q.told (is_some kept.old.machine) halt (Says line.now)
+        IsHalted D.Disk (answering A.answers A.unplugs A.filled)
+        (given Q.told (A.filled outside.old.answers.now))
+        (is_some kept.old.machine) halt (Says line.now)
         (standing C.choices K.holds kept.old.store outside.old)
         (standing C.choices K.holds kept.new.store outside.new)) }
     ensures blames { IfErr result (λ halt.
-        BlamesRightly (is_some kept.old.machine) halt (Says line.now)
+        BlamesRightly (given Q.told (A.filled outside.old.answers.now))
+        (is_some kept.old.machine) halt (Says line.now)
         (standing C.choices K.holds kept.old.store outside.old)
         (standing C.choices K.holds kept.new.store outside.new)) }
     ensures cause { IfErr result (λ halt. IsLineCause halt
@@ -147,21 +158,22 @@ fn tell<Q: Questions, K: Sink, L: Ledger>(
 ) -> Result<(), Halt>
     requires known { Q.knows kept.old.questions kept.old.store.entries }
     requires spelled { All HasSpelling kept.old.store.entries }
-    requires needless { (row_of kept.old.store.entries line.now).needs_machine ≡ false }
+    requires needless { (g : Given) →
+        (row_of g kept.old.store.entries line.now).needs_machine ≡ false }
     ensures known { OnOk result (Q.knows kept.new.questions kept.old.store.entries) }
     ensures store { kept.new.store ≡ kept.old.store }
     ensures machine { kept.new.machine ≡ kept.old.machine }
-    ensures ok { OnOk result ((told : List ℕ) →
-        LineTells Q.told kept.old.store.entries line.now told →
-        K.holds sink.new ≡ option_map (λ held. held ++ told) (K.holds sink.old)) }
-    ensures stops { IfErr result (λ halt. (told : List ℕ) →
-        LineTells Q.told kept.old.store.entries line.now told →
-        StopsPut halt told (K.holds sink.old) (K.holds sink.new)) }
+    ensures ok { OnOk result ((filled : ℕ → Bool) (text : List ℕ) →
+        LineTells (given Q.told filled) kept.old.store.entries line.now text →
+        K.holds sink.new ≡ option_map (λ held. held ++ text) (K.holds sink.old)) }
+    ensures stops { IfErr result (λ halt. (filled : ℕ → Bool) (text : List ℕ) →
+        LineTells (given Q.told filled) kept.old.store.entries line.now text →
+        StopsPut halt text (K.holds sink.old) (K.holds sink.new)) }
     ensures cause { IfErr result (λ halt. (faults : ℕ) →
         IsCause halt faults faults (K.faults sink.old) (K.faults sink.new)) }
     ensures faults { NeverFalls (K.faults sink.old) (K.faults sink.new) }
-    ensures steps { steps.new ≤ steps.old +
-        (row_of kept.old.store.entries line.now).cost Q.told }
+    ensures steps { (filled : ℕ → Bool) → steps.new ≤ steps.old +
+        (row_of (given Q.told filled) kept.old.store.entries line.now).cost }
 {
     text.clear();
     push_told(kept, line, text, steps)?;
@@ -177,15 +189,16 @@ fn push_told<Q: Questions, L: Ledger>(
 ) -> Result<(), NoMemory>
     requires known { Q.knows kept.old.questions kept.old.store.entries }
     requires spelled { All HasSpelling kept.old.store.entries }
-    requires needless { (row_of kept.old.store.entries line.now).needs_machine ≡ false }
+    requires needless { (g : Given) →
+        (row_of g kept.old.store.entries line.now).needs_machine ≡ false }
     requires empty { string_bytes text.old ≡ [] }
     ensures known { OnOk result (Q.knows kept.new.questions kept.old.store.entries) }
     ensures store { kept.new.store ≡ kept.old.store }
     ensures machine { kept.new.machine ≡ kept.old.machine }
-    ensures told { OnOk result
-        (LineTells Q.told kept.old.store.entries line.now (string_bytes text.new)) }
-    ensures steps { steps.new ≤ steps.old +
-        (row_of kept.old.store.entries line.now).cost Q.told }
+    ensures told { OnOk result ((filled : ℕ → Bool) →
+        LineTells (given Q.told filled) kept.old.store.entries line.now (string_bytes text.new)) }
+    ensures steps { (filled : ℕ → Bool) → steps.new ≤ steps.old +
+        (row_of (given Q.told filled) kept.old.store.entries line.now).cost }
 {
     match line {
         Line::Asks { question } => {
@@ -200,7 +213,7 @@ fn push_told<Q: Questions, L: Ledger>(
 }
 
 // Does what a line says that isn't refused and goes on with the machine.
-fn change<Q: Questions, C: Chooser, A: Answers, D: Disk, K: Sink, L: Ledger>(
+fn change<Q: Questions, C: Chooser, A: Plugs, D: Disk, K: Sink, L: Ledger>(
     kept: &mut Kept<Q>,
     line: &Line,
     outside: &mut Outside<C, A, D, K, L>,
@@ -208,25 +221,32 @@ fn change<Q: Questions, C: Chooser, A: Answers, D: Disk, K: Sink, L: Ledger>(
     requires open { IsOpen D.Disk kept.old.store outside.old.disk.now }
     requires sound { IsSound Q.knows kept.old.machine kept.old.questions kept.old.store.entries }
     requires fits { LineFits line.now }
-    requires needs { (row_of kept.old.store.entries line.now).needs_machine ≡ true }
-    requires accepted { (row_of kept.old.store.entries line.now).refusal ≡ None }
+    requires needs { (g : Given) →
+        (row_of g kept.old.store.entries line.now).needs_machine ≡ true }
+    requires accepted { (row_of (given Q.told (A.filled outside.old.answers.now))
+        kept.old.store.entries line.now).refusal ≡ None }
 
     ensures sound { OnOk result
         (IsSound Q.knows kept.new.machine kept.new.questions kept.new.store.entries) }
     ensures there { OnOk result (is_some kept.new.machine ≡ true) }
     ensures on_run { OnOk result (IsRun kept.old.store.entries) }
-    ensures advances { OnOk result (Proceeds D.Disk A.answers
-        ((row_of kept.old.store.entries line.now).turn Q.told) finished
+    ensures advances { OnOk result (
+        Proceeds D.Disk (answering A.answers A.unplugs A.filled)
+        (row_of (given Q.told (A.filled outside.old.answers.now))
+        kept.old.store.entries line.now).turn finished
         (machine_cost (is_some kept.old.machine) kept.old.store.entries)
         (standing C.choices K.holds kept.old.store outside.old)
         (standing C.choices K.holds kept.new.store outside.new)) }
 
     ensures halted { IfErr result (λ halt.
-        IsHalted D.Disk A.answers Q.told (is_some kept.old.machine) halt (Says line.now)
+        IsHalted D.Disk (answering A.answers A.unplugs A.filled)
+        (given Q.told (A.filled outside.old.answers.now))
+        (is_some kept.old.machine) halt (Says line.now)
         (standing C.choices K.holds kept.old.store outside.old)
         (standing C.choices K.holds kept.new.store outside.new)) }
     ensures blames { IfErr result (λ halt.
-        BlamesRightly (is_some kept.old.machine) halt (Says line.now)
+        BlamesRightly (given Q.told (A.filled outside.old.answers.now))
+        (is_some kept.old.machine) halt (Says line.now)
         (standing C.choices K.holds kept.old.store outside.old)
         (standing C.choices K.holds kept.new.store outside.new)) }
     ensures cause { IfErr result (λ halt. IsLineCause halt
@@ -246,7 +266,7 @@ fn change<Q: Questions, C: Chooser, A: Answers, D: Disk, K: Sink, L: Ledger>(
 }
 
 // Lends the machine to a line.
-fn carry_out<Q: Questions, C: Chooser, A: Answers, D: Disk, K: Sink, L: Ledger>(
+fn carry_out<Q: Questions, C: Chooser, A: Plugs, D: Disk, K: Sink, L: Ledger>(
     kept: &mut Kept<Q>,
     line: &Line,
     outside: &mut Outside<C, A, D, K, L>,
@@ -254,16 +274,22 @@ fn carry_out<Q: Questions, C: Chooser, A: Answers, D: Disk, K: Sink, L: Ledger>(
     requires open { IsOpen D.Disk kept.old.store outside.old.disk.now }
     requires there { IsThere kept.old.machine kept.old.store.entries }
     requires fits { LineFits line.now }
-    requires needs { (row_of kept.old.store.entries line.now).needs_machine ≡ true }
-    requires accepted { (row_of kept.old.store.entries line.now).refusal ≡ None }
+    requires needs { (g : Given) →
+        (row_of g kept.old.store.entries line.now).needs_machine ≡ true }
+    requires accepted { (told : Told) × ((row_of (given told (A.filled outside.old.answers.now))
+        kept.old.store.entries line.now).refusal ≡ None) }
     ensures there { OnOk result (IsThere kept.new.machine kept.new.store.entries) }
     ensures questions { kept.new.questions ≡ kept.old.questions }
-    ensures advances { (told : Told) → OnOk result (Proceeds D.Disk A.answers
-        ((row_of kept.old.store.entries line.now).turn told) finished 0
+    ensures advances { (told : Told) → OnOk result (
+        Proceeds D.Disk (answering A.answers A.unplugs A.filled)
+        (row_of (given told (A.filled outside.old.answers.now))
+        kept.old.store.entries line.now).turn finished 0
         (standing C.choices K.holds kept.old.store outside.old)
         (standing C.choices K.holds kept.new.store outside.new)) }
-    ensures stops { (told : Told) → IfErr result (λ halt. HaltsBehind D.Disk A.answers halt
-        ((row_of kept.old.store.entries line.now).turn told) 0
+    ensures stops { (told : Told) → IfErr result (λ halt.
+        HaltsBehind D.Disk (answering A.answers A.unplugs A.filled) halt
+        (row_of (given told (A.filled outside.old.answers.now))
+        kept.old.store.entries line.now).turn 0
         (standing C.choices K.holds kept.old.store outside.old)
         (standing C.choices K.holds kept.new.store outside.new)) }
     ensures cause { IfErr result (λ halt.
@@ -277,7 +303,7 @@ fn carry_out<Q: Questions, C: Chooser, A: Answers, D: Disk, K: Sink, L: Ledger>(
 }
 
 // Goes on with the machine as a line says.
-fn go_on<C: Chooser, A: Answers, D: Disk, K: Sink, L: Ledger>(
+fn go_on<C: Chooser, A: Plugs, D: Disk, K: Sink, L: Ledger>(
     alloc: Global,
     store: &mut Store,
     machine: &mut Machine,
@@ -287,15 +313,20 @@ fn go_on<C: Chooser, A: Answers, D: Disk, K: Sink, L: Ledger>(
     requires open { IsOpen D.Disk store.old outside.old.disk.now }
     requires ready { IsReady machine.old store.old.entries }
     requires fits { LineFits line.now }
-    requires needs { (row_of store.old.entries line.now).needs_machine ≡ true }
-    requires accepted { (row_of store.old.entries line.now).refusal ≡ None }
+    requires needs { (g : Given) → (row_of g store.old.entries line.now).needs_machine ≡ true }
+    requires accepted { (told : Told) × ((row_of (given told (A.filled outside.old.answers.now))
+        store.old.entries line.now).refusal ≡ None) }
     ensures ready { OnOk result (IsReady machine.new store.new.entries) }
-    ensures advances { (told : Told) → OnOk result (Proceeds D.Disk A.answers
-        ((row_of store.old.entries line.now).turn told) finished 0
+    ensures advances { (told : Told) → OnOk result (
+        Proceeds D.Disk (answering A.answers A.unplugs A.filled)
+        (row_of (given told (A.filled outside.old.answers.now))
+        store.old.entries line.now).turn finished 0
         (standing C.choices K.holds store.old outside.old)
         (standing C.choices K.holds store.new outside.new)) }
-    ensures stops { (told : Told) → IfErr result (λ halt. HaltsBehind D.Disk A.answers halt
-        ((row_of store.old.entries line.now).turn told) 0
+    ensures stops { (told : Told) → IfErr result (λ halt.
+        HaltsBehind D.Disk (answering A.answers A.unplugs A.filled) halt
+        (row_of (given told (A.filled outside.old.answers.now))
+        store.old.entries line.now).turn 0
         (standing C.choices K.holds store.old outside.old)
         (standing C.choices K.holds store.new outside.new)) }
     ensures cause { IfErr result (λ halt.
@@ -305,15 +336,21 @@ fn go_on<C: Chooser, A: Answers, D: Disk, K: Sink, L: Ledger>(
     match line {
         Line::File { name, bytes } => {
             let (name, bytes) = (name.as_slice(), bytes.as_slice());
-            add_event(alloc, store, machine, &Given::File { name, bytes }, outside)
+            add_event(
+                alloc,
+                store,
+                machine,
+                &Incoming::File { name, bytes },
+                outside,
+            )
         }
         Line::Boot { name } => {
             let name = name.as_slice();
-            add_event(alloc, store, machine, &Given::Boot { name }, outside)
+            add_event(alloc, store, machine, &Incoming::Boot { name }, outside)
         }
         Line::Type { bytes } => {
             let bytes = bytes.as_slice();
-            add_event(alloc, store, machine, &Given::Typed { bytes }, outside)
+            add_event(alloc, store, machine, &Incoming::Typed { bytes }, outside)
         }
         Line::Run { count } => run(alloc, store, machine, *count, outside),
         _ => unreachable!(),

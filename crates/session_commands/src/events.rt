@@ -14,16 +14,17 @@ ghost use Rattle.session_effects.specs.Effects.{Commits, Prints};
 ghost use Rattle.session_effects.specs.Outside.{GoesOnOutside, IsCauseOutside};
 ghost use Rattle.session_effects.specs.Standing.{Carries, IsCause, IsOpen};
 ghost use Rattle.session_commands.specs.Answering.{HaltsIn};
-ghost use Rattle.session_commands.specs.Events.{GivenFits, IsEvent, event_effects, given_refusal, input_of};
+ghost use Rattle.session_commands.specs.Events.{IncomingFits, IsEvent, event_effects, incoming_refusal, input_of};
 ghost use Rattle.session_commands.specs.Refusals.{boot_refusal, bring_refusal, early_refusal};
 ghost use Rattle.session_runs.specs.Ready.{IsReady, machine_of};
 ghost use Rattle.session_runs.specs.Standing.{HaltsBehind, Proceeds, standing};
+ghost use Rattle.session_runs.specs.Touches.{answering};
 ghost use Rattle.session_runs.specs.Turns.{does, finished};
 
 use crate::printing::print_event;
 use arn_base::{Chooser, Disk, NoMemory, Record, Sink};
 use arn_model::runs_sound;
-use guest_devices::Answers;
+use guest_devices::Plugs;
 use guest_machine::{Machine, MachineError};
 use log_store::Store;
 use replay_laws::records_tell_runs;
@@ -34,7 +35,7 @@ use std::sync::ledger::Ledger;
 
 /// What is given to the machine from outside.
 #[derive(Clone, Copy)]
-pub enum Given<'a> {
+pub enum Incoming<'a> {
     /// A boot file.
     File { name: &'a [u8], bytes: &'a [u8] },
     /// The start of the machine from the image in a file.
@@ -146,20 +147,20 @@ pub fn make_event(
     alloc: Global,
     store: &Store,
     machine: &mut Machine,
-    given: &Given<'_>,
+    given: &Incoming<'_>,
 ) -> Result<Event, NoMemory>
     requires ready { IsReady machine.old store.now.entries }
-    requires fits { GivenFits given.now }
-    requires accepted { given_refusal store.now.entries given.now ≡ None }
+    requires fits { IncomingFits given.now }
+    requires accepted { incoming_refusal store.now.entries given.now ≡ None }
     ensures ready { IfOk result
         (λ event. IsReady machine.new (store.now.entries ++ event.entries.items)) }
     ensures made { IfOk result (IsEvent (machine_of store.now.entries) (input_of given.now)) }
     ensures spelled { IfOk result (λ event. All HasSpelling event.entries.items) }
 {
     match *given {
-        Given::File { name, bytes } => file_event(alloc, store, machine, name, bytes),
-        Given::Boot { name } => boot_event(alloc, store, machine, name),
-        Given::Typed { bytes } => typed_event(alloc, store, machine, bytes),
+        Incoming::File { name, bytes } => file_event(alloc, store, machine, name, bytes),
+        Incoming::Boot { name } => boot_event(alloc, store, machine, name),
+        Incoming::Typed { bytes } => typed_event(alloc, store, machine, bytes),
     }
 }
 
@@ -194,24 +195,26 @@ fn finish<D: Disk, K: Sink>(
 }
 
 /// Makes an event of what is given, commits its records, and then prints its number.
-pub fn add_event<C: Chooser, A: Answers, D: Disk, K: Sink, L: Ledger>(
+pub fn add_event<C: Chooser, A: Plugs, D: Disk, K: Sink, L: Ledger>(
     alloc: Global,
     store: &mut Store,
     machine: &mut Machine,
-    given: &Given<'_>,
+    given: &Incoming<'_>,
     outside: &mut Outside<C, A, D, K, L>,
 ) -> Result<(), Halt>
     requires open { IsOpen D.Disk store.old outside.old.disk.now }
     requires ready { IsReady machine.old store.old.entries }
-    requires fits { GivenFits given.now }
-    requires accepted { given_refusal store.old.entries given.now ≡ None }
+    requires fits { IncomingFits given.now }
+    requires accepted { incoming_refusal store.old.entries given.now ≡ None }
     ensures ready { OnOk result (IsReady machine.new store.new.entries) }
-    ensures advances { OnOk result (Proceeds D.Disk A.answers
-        (does (event_effects (machine_of store.old.entries) (input_of given.now))) finished 0
+    ensures advances { OnOk result (
+        Proceeds D.Disk (answering A.answers A.unplugs A.filled)
+        (does (event_effects (machine_of store.old.entries) (input_of given.now)) []) finished 0
         (standing C.choices K.holds store.old outside.old)
         (standing C.choices K.holds store.new outside.new)) }
-    ensures stops { IfErr result (λ halt. HaltsBehind D.Disk A.answers halt
-        (does (event_effects (machine_of store.old.entries) (input_of given.now))) 0
+    ensures stops { IfErr result (λ halt.
+        HaltsBehind D.Disk (answering A.answers A.unplugs A.filled) halt
+        (does (event_effects (machine_of store.old.entries) (input_of given.now)) []) 0
         (standing C.choices K.holds store.old outside.old)
         (standing C.choices K.holds store.new outside.new)) }
     ensures cause { IfErr result (λ halt.

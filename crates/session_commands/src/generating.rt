@@ -12,17 +12,19 @@ ghost use Rattle.session_effects.specs.Outside.{GoesOnOutside};
 ghost use Rattle.session_effects.specs.Printing.{StopsPut};
 ghost use Rattle.session_effects.specs.Standing.{Carries, IsCause, IsOpen};
 ghost use Rattle.session_commands.specs.Answering.{BlamesRightly, HaltsIn, IsAnswered, IsHalted, IsLineCause};
-ghost use Rattle.session_commands.specs.Events.{GivenFits, given_refusal, input_of};
+ghost use Rattle.session_commands.specs.Events.{IncomingFits, incoming_refusal, input_of};
 ghost use Rattle.session_commands.specs.Generator.{event_commits, gen_inputs, gen_run, generator_turn};
+ghost use Rattle.session_commands.specs.Given.{given};
 ghost use Rattle.session_commands.specs.Kept.{IsSound, IsThere};
 ghost use Rattle.session_commands.specs.Lines.{needs_machine};
 ghost use Rattle.session_commands.specs.Refusals.{generator_refusal as generator_refusal_by};
 ghost use Rattle.session_model.specs.Questions.{Told};
 ghost use Rattle.session_runs.specs.Ready.{IsReady, machine_of};
 ghost use Rattle.session_runs.specs.Standing.{HaltsBehind, Proceeds, standing};
+ghost use Rattle.session_runs.specs.Touches.{answering};
 ghost use Rattle.session_runs.specs.Turns.{prints};
 
-use crate::events::{Given, make_event};
+use crate::events::{Incoming, make_event};
 use crate::kept::Kept;
 use crate::printing::print_refusal;
 use crate::ready::{make_machine, tell_questions};
@@ -30,7 +32,7 @@ use crate::refusals::generator_refusal;
 use arn_base::{Chooser, Disk, Sink, Steps, Stop};
 use arn_lines::MOST_RUN;
 use arn_model::runs_sound;
-use guest_devices::Answers;
+use guest_devices::Plugs;
 use guest_machine::Machine;
 use log_model::{named_append, named_runs_again, records_append};
 use log_store::{Store, store_is_short};
@@ -60,7 +62,7 @@ impl Sink for Silence {
 }
 
 /// Does what the generator's line asks for.
-pub fn answer_generator<Q: Questions, C: Chooser, A: Answers, D: Disk, K: Sink, L: Ledger>(
+pub fn answer_generator<Q: Questions, C: Chooser, A: Plugs, D: Disk, K: Sink, L: Ledger>(
     kept: &mut Kept<Q>,
     image: &[u8],
     typed: &[u8],
@@ -75,18 +77,25 @@ pub fn answer_generator<Q: Questions, C: Chooser, A: Answers, D: Disk, K: Sink, 
     ensures sound { OnOk result
         (IsSound Q.knows kept.new.machine kept.new.questions kept.new.store.entries) }
     ensures there { OnOk result (is_some kept.new.machine ≡
-        is_some kept.old.machine || needs_machine kept.old.store.entries (Generates image.now typed.now processes)) }
+        is_some kept.old.machine || needs_machine
+        (given Q.told (A.filled outside.old.answers.now)) kept.old.store.entries
+        (Generates image.now typed.now processes)) }
     ensures answered { OnOk result
-        (IsAnswered D.Disk A.answers Q.told (is_some kept.old.machine) (Generates image.now typed.now processes)
+        (IsAnswered D.Disk (answering A.answers A.unplugs A.filled)
+        (given Q.told (A.filled outside.old.answers.now))
+        (is_some kept.old.machine) (Generates image.now typed.now processes)
         (standing C.choices K.holds kept.old.store outside.old)
         (standing C.choices K.holds kept.new.store outside.new)) }
 
     ensures halted { IfErr result (λ halt.
-        IsHalted D.Disk A.answers Q.told (is_some kept.old.machine) halt (Generates image.now typed.now processes)
+        IsHalted D.Disk (answering A.answers A.unplugs A.filled)
+        (given Q.told (A.filled outside.old.answers.now))
+        (is_some kept.old.machine) halt (Generates image.now typed.now processes)
         (standing C.choices K.holds kept.old.store outside.old)
         (standing C.choices K.holds kept.new.store outside.new)) }
     ensures blames { IfErr result (λ halt.
-        BlamesRightly (is_some kept.old.machine) halt (Generates image.now typed.now processes)
+        BlamesRightly (given Q.told (A.filled outside.old.answers.now))
+        (is_some kept.old.machine) halt (Generates image.now typed.now processes)
         (standing C.choices K.holds kept.old.store outside.old)
         (standing C.choices K.holds kept.new.store outside.new)) }
     ensures cause { IfErr result (λ halt. IsLineCause halt
@@ -104,7 +113,7 @@ pub fn answer_generator<Q: Questions, C: Chooser, A: Answers, D: Disk, K: Sink, 
 }
 
 // Does it where it isn't refused.
-fn generate<Q: Questions, C: Chooser, A: Answers, D: Disk, K: Sink, L: Ledger>(
+fn generate<Q: Questions, C: Chooser, A: Plugs, D: Disk, K: Sink, L: Ledger>(
     kept: &mut Kept<Q>,
     image: &[u8],
     typed: &[u8],
@@ -121,16 +130,21 @@ fn generate<Q: Questions, C: Chooser, A: Answers, D: Disk, K: Sink, L: Ledger>(
         (IsSound Q.knows kept.new.machine kept.new.questions kept.new.store.entries) }
     ensures there { OnOk result (is_some kept.new.machine ≡ true) }
     ensures answered { OnOk result
-        (IsAnswered D.Disk A.answers Q.told (is_some kept.old.machine) (Generates image.now typed.now processes)
+        (IsAnswered D.Disk (answering A.answers A.unplugs A.filled)
+        (given Q.told (A.filled outside.old.answers.now))
+        (is_some kept.old.machine) (Generates image.now typed.now processes)
         (standing C.choices K.holds kept.old.store outside.old)
         (standing C.choices K.holds kept.new.store outside.new)) }
 
     ensures halted { IfErr result (λ halt.
-        IsHalted D.Disk A.answers Q.told (is_some kept.old.machine) halt (Generates image.now typed.now processes)
+        IsHalted D.Disk (answering A.answers A.unplugs A.filled)
+        (given Q.told (A.filled outside.old.answers.now))
+        (is_some kept.old.machine) halt (Generates image.now typed.now processes)
         (standing C.choices K.holds kept.old.store outside.old)
         (standing C.choices K.holds kept.new.store outside.new)) }
     ensures blames { IfErr result (λ halt.
-        BlamesRightly (is_some kept.old.machine) halt (Generates image.now typed.now processes)
+        BlamesRightly (given Q.told (A.filled outside.old.answers.now))
+        (is_some kept.old.machine) halt (Generates image.now typed.now processes)
         (standing C.choices K.holds kept.old.store outside.old)
         (standing C.choices K.holds kept.new.store outside.new)) }
     ensures cause { IfErr result (λ halt. IsLineCause halt
@@ -180,7 +194,7 @@ fn tell<Q: Questions, K: Sink, L: Ledger>(
 }
 
 // Lends the machine to the generator.
-fn perform<Q: Questions, C: Chooser, A: Answers, D: Disk, K: Sink, L: Ledger>(
+fn perform<Q: Questions, C: Chooser, A: Plugs, D: Disk, K: Sink, L: Ledger>(
     kept: &mut Kept<Q>,
     image: &[u8],
     typed: &[u8],
@@ -194,13 +208,13 @@ fn perform<Q: Questions, C: Chooser, A: Answers, D: Disk, K: Sink, L: Ledger>(
     ensures there { OnOk result (IsThere kept.new.machine kept.new.store.entries) }
     ensures questions { kept.new.questions ≡ kept.old.questions }
     ensures advances { (told : Told) (processes : ℕ) → OnOk result (
-        Proceeds D.Disk A.answers
+        Proceeds D.Disk (answering A.answers A.unplugs A.filled)
         (generator_turn told kept.old.store.entries image.now typed.now processes)
         (prints (told.generated kept.new.store.entries processes)) 0
         (standing C.choices K.holds kept.old.store outside.old)
         (standing C.choices K.holds kept.new.store outside.new)) }
     ensures stops { (told : Told) (processes : ℕ) → IfErr result (λ halt.
-        HaltsBehind D.Disk A.answers halt
+        HaltsBehind D.Disk (answering A.answers A.unplugs A.filled) halt
         (generator_turn told kept.old.store.entries image.now typed.now processes) 0
         (standing C.choices K.holds kept.old.store outside.old)
         (standing C.choices K.holds kept.new.store outside.new)) }
@@ -215,7 +229,7 @@ fn perform<Q: Questions, C: Chooser, A: Answers, D: Disk, K: Sink, L: Ledger>(
 }
 
 // Commits the generator's events, and runs it: none of that is printed.
-fn perform_on<C: Chooser, A: Answers, D: Disk, K: Sink, L: Ledger>(
+fn perform_on<C: Chooser, A: Plugs, D: Disk, K: Sink, L: Ledger>(
     alloc: Global,
     store: &mut Store,
     machine: &mut Machine,
@@ -230,13 +244,13 @@ fn perform_on<C: Chooser, A: Answers, D: Disk, K: Sink, L: Ledger>(
     requires accepted { generator_refusal_by store.old.entries ≡ None }
     ensures ready { OnOk result (IsReady machine.new store.new.entries) }
     ensures advances { (told : Told) (processes : ℕ) → OnOk result (
-        Proceeds D.Disk A.answers
+        Proceeds D.Disk (answering A.answers A.unplugs A.filled)
         (generator_turn told store.old.entries image.now typed.now processes)
         (prints (told.generated store.new.entries processes)) 0
         (standing C.choices K.holds store.old outside.old)
         (standing C.choices K.holds store.new outside.new)) }
     ensures stops { (told : Told) (processes : ℕ) → IfErr result (λ halt.
-        HaltsBehind D.Disk A.answers halt
+        HaltsBehind D.Disk (answering A.answers A.unplugs A.filled) halt
         (generator_turn told store.old.entries image.now typed.now processes) 0
         (standing C.choices K.holds store.old outside.old)
         (standing C.choices K.holds store.new outside.new)) }
@@ -288,14 +302,26 @@ fn commit_events<D: Disk>(
     records_append();
     named_runs_again();
     count_records(store);
-    let program = Given::File {
+    let program = Incoming::File {
         name: b"gen",
         bytes: image,
     };
     commit_event(alloc, store, machine, &program, disk)?;
     count_records(store);
-    commit_event(alloc, store, machine, &Given::Boot { name: b"gen" }, disk)?;
-    commit_event(alloc, store, machine, &Given::Typed { bytes: typed }, disk)
+    commit_event(
+        alloc,
+        store,
+        machine,
+        &Incoming::Boot { name: b"gen" },
+        disk,
+    )?;
+    commit_event(
+        alloc,
+        store,
+        machine,
+        &Incoming::Typed { bytes: typed },
+        disk,
+    )
 }
 
 // Makes an event of what is given, and commits its records.
@@ -303,13 +329,13 @@ fn commit_event<D: Disk>(
     alloc: Global,
     store: &mut Store,
     machine: &mut Machine,
-    given: &Given<'_>,
+    given: &Incoming<'_>,
     disk: &mut D,
 ) -> Result<(), Halt>
     requires open { IsOpen D.Disk store.old disk.old }
     requires ready { IsReady machine.old store.old.entries }
-    requires fits { GivenFits given.now }
-    requires accepted { given_refusal store.old.entries given.now ≡ None }
+    requires fits { IncomingFits given.now }
+    requires accepted { incoming_refusal store.old.entries given.now ≡ None }
     ensures ready { OnOk result (IsReady machine.new store.new.entries) }
     ensures carries { (held : Option (List ℕ)) → OnOk result (
         Carries IsRun D.Disk disk.old disk.new store.old store.new held held
@@ -328,7 +354,7 @@ fn commit_event<D: Disk>(
 }
 
 // Runs the generator, which is booted: each leg is committed, and nothing is printed.
-fn run_quietly<C: Chooser, A: Answers, D: Disk, K: Sink, L: Ledger>(
+fn run_quietly<C: Chooser, A: Plugs, D: Disk, K: Sink, L: Ledger>(
     alloc: Global,
     store: &mut Store,
     machine: &mut Machine,
@@ -338,13 +364,13 @@ fn run_quietly<C: Chooser, A: Answers, D: Disk, K: Sink, L: Ledger>(
     requires ready { IsReady machine.old store.old.entries }
     ensures ready { OnOk result (IsReady machine.new store.new.entries) }
     ensures advances { (told : Told) (processes : ℕ) → OnOk result (
-        Proceeds D.Disk A.answers
+        Proceeds D.Disk (answering A.answers A.unplugs A.filled)
         (gen_run told store.old.entries (machine_of store.old.entries) processes)
         (prints (told.generated store.new.entries processes)) 0
         (standing C.choices K.holds store.old outside.old)
         (standing C.choices K.holds store.new outside.new)) }
     ensures stops { (told : Told) (processes : ℕ) → IfErr result (λ halt.
-        HaltsBehind D.Disk A.answers halt
+        HaltsBehind D.Disk (answering A.answers A.unplugs A.filled) halt
         (gen_run told store.old.entries (machine_of store.old.entries) processes) 0
         (standing C.choices K.holds store.old outside.old)
         (standing C.choices K.holds store.new outside.new)) }
@@ -365,7 +391,7 @@ fn run_quietly<C: Chooser, A: Answers, D: Disk, K: Sink, L: Ledger>(
 }
 
 // Runs it with a sink that drops what it is given.
-fn run_in_silence<C: Chooser, A: Answers, D: Disk, L: Ledger>(
+fn run_in_silence<C: Chooser, A: Plugs, D: Disk, L: Ledger>(
     alloc: Global,
     store: &mut Store,
     machine: &mut Machine,
@@ -375,13 +401,13 @@ fn run_in_silence<C: Chooser, A: Answers, D: Disk, L: Ledger>(
     requires ready { IsReady machine.old store.old.entries }
     ensures ready { OnOk result (IsReady machine.new store.new.entries) }
     ensures advances { (told : Told) (processes : ℕ) (held : Option (List ℕ)) → OnOk result (
-        Proceeds D.Disk A.answers
+        Proceeds D.Disk (answering A.answers A.unplugs A.filled)
         (gen_run told store.old.entries (machine_of store.old.entries) processes)
         (prints (told.generated store.new.entries processes)) 0
         (standing C.choices (λ _. held) store.old quiet.old)
         (standing C.choices (λ _. held) store.new quiet.new)) }
     ensures stops { (told : Told) (processes : ℕ) (held : Option (List ℕ)) →
-        IfErr result (λ halt. HaltsBehind D.Disk A.answers halt
+        IfErr result (λ halt. HaltsBehind D.Disk (answering A.answers A.unplugs A.filled) halt
         (gen_run told store.old.entries (machine_of store.old.entries) processes) 0
         (standing C.choices (λ _. held) store.old quiet.old)
         (standing C.choices (λ _. held) store.new quiet.new)) }

@@ -1,11 +1,15 @@
-use Rattle.std.proofs.Common.{List, length, ap, ◌∙◌, is_some, refl, subst, sym, arith}
+use Rattle.std.proofs.Common.{◌≡◌, List, None, length, ap, ◌∙◌, is_some, refl, subst, sym, arith, true}
 use Rattle.arn_base.specs.declared.records.Record.{Record}
 use Rattle.arn_commands.specs.declared.command.Command.TheVariants.{Says}
+use Rattle.log_store.specs.Stores.{StoreState}
 use Rattle.session_effects.specs.Effects.{committed}
 use Rattle.session_effects.specs.declared.halt.Halt.TheVariants as halt
 use Rattle.session_runs.specs.Points.{around}
 use Rattle.session_runs.specs.Standing.{standpoint}
 use Rattle.session_commands.specs.Lines.{turn}
+use Rattle.session_commands.specs.Rows.{row_of}
+use Rattle.session_runs.specs.Touches.{answering}
+use Rattle.session_commands.specs.Given.{given}
 use Rattle.session_commands.proofs.AnswerLemmas.{blames-not-made, cause-blames, halted-not-made, line-cause, not-made-cause}
 use Rattle.session_commands.proofs.ChangeLemmas.{advances-changed, err-same, few-known, halted-changed, halted-unheard, heard-before, sound-there, there-run, there-some}
 use Rattle.session_commands.proofs.LineLemmas.{cost-machine, needs-one, still-line, turn-line}
@@ -15,17 +19,17 @@ use Rattle.session_commands.proofs.answering.change.Goals as goal
 pub returns-in_err-make_machine-clause-halted : goal.returns-in_err-make_machine-clause-halted
 returns-in_err-make_machine-clause-halted g c =
     let why = c.in_err-make_machine.field-0.0 in
-    let still : IsStill (turn g.Q.Questions.told c.args.kept.now.store.entries (Says c.args.line.now)) = subst IsStill (sym (turn-line g.Q.Questions.told c.args.kept.now.store.entries c.args.line.now c.requires.accepted)) (still-line g.Q.Questions.told c.args.kept.now.store.entries c.args.line.now) in
+    let still : IsStill (turn (given g.Q.Questions.told (g.A.Plugs.filled c.args.outside.now.answers.now)) c.args.kept.now.store.entries (Says c.args.line.now)) = subst IsStill (sym (turn-line (given g.Q.Questions.told (g.A.Plugs.filled c.args.outside.now.answers.now)) c.args.kept.now.store.entries c.args.line.now c.requires.accepted)) (still-line (given g.Q.Questions.told (g.A.Plugs.filled c.args.outside.now.answers.now)) c.args.kept.now.store.entries c.args.line.now) in
     err-same c.from_residual.result why _ c.from_residual.ensures.1
-    (halted-not-made g.D.Disk g.A.Answers.answers g.Q.Questions.told (is_some c.args.kept.now.machine) (Says c.args.line.now) (g.C.Chooser.choices c.args.outside.now.chooser.now) c.args.outside.now.answers.now c.halts_follow.ensures why c.args.outside.now.disk.now c.args.kept.now.store c.make_machine.new.kept.store (g.K.Sink.holds c.args.outside.now.sink.now) c.args.outside.now.steps.now c.make_machine.new.steps c.in_err-make_machine.ensures.not_made c.make_machine.ensures.store still c.make_machine.ensures.steps
-    (λ behind. cost-machine g.Q.Questions.told (is_some c.args.kept.now.machine) c.args.kept.now.store.entries behind c.args.line.now c.requires.needs c.requires.accepted))
+    (halted-not-made g.D.Disk (answering g.A.Answers.answers g.A.Plugs.unplugs g.A.Plugs.filled) (given g.Q.Questions.told (g.A.Plugs.filled c.args.outside.now.answers.now)) (is_some c.args.kept.now.machine) (Says c.args.line.now) (g.C.Chooser.choices c.args.outside.now.chooser.now) c.args.outside.now.answers.now c.halts_follow.ensures why c.args.outside.now.disk.now c.args.kept.now.store c.make_machine.new.kept.store (g.K.Sink.holds c.args.outside.now.sink.now) c.args.outside.now.steps.now c.make_machine.new.steps c.in_err-make_machine.ensures.not_made c.make_machine.ensures.store still c.make_machine.ensures.steps
+    (λ behind. cost-machine (given g.Q.Questions.told (g.A.Plugs.filled c.args.outside.now.answers.now)) (is_some c.args.kept.now.machine) c.args.kept.now.store.entries behind c.args.line.now (c.requires.needs (given g.Q.Questions.told (g.A.Plugs.filled c.args.outside.now.answers.now))) c.requires.accepted))
 
 pub returns-in_err-make_machine-clause-blames : goal.returns-in_err-make_machine-clause-blames
 returns-in_err-make_machine-clause-blames g c =
     let why = c.in_err-make_machine.field-0.0 in
     err-same c.from_residual.result why _ c.from_residual.ensures.1
-    (blames-not-made (is_some c.args.kept.now.machine) (Says c.args.line.now) (g.C.Chooser.choices c.args.outside.now.chooser.now) c.args.outside.now.answers.now why c.args.outside.now.disk.now c.args.kept.now.store c.make_machine.new.kept.store (g.K.Sink.holds c.args.outside.now.sink.now) c.args.outside.now.steps.now c.make_machine.new.steps c.in_err-make_machine.ensures.not_made c.make_machine.ensures.store c.in_err-make_machine.ensures.blames (ap is_some c.in_err-make_machine.ensures.absent)
-    (needs-one c.args.kept.now.store.entries c.args.line.now c.requires.needs c.requires.accepted) c.make_machine.ensures.steps)
+    (blames-not-made (given g.Q.Questions.told (g.A.Plugs.filled c.args.outside.now.answers.now)) (is_some c.args.kept.now.machine) (Says c.args.line.now) (g.C.Chooser.choices c.args.outside.now.chooser.now) c.args.outside.now.answers.now why c.args.outside.now.disk.now c.args.kept.now.store c.make_machine.new.kept.store (g.K.Sink.holds c.args.outside.now.sink.now) c.args.outside.now.steps.now c.make_machine.new.steps c.in_err-make_machine.ensures.not_made c.make_machine.ensures.store c.in_err-make_machine.ensures.blames (ap is_some c.in_err-make_machine.ensures.absent)
+    (needs-one (given g.Q.Questions.told (g.A.Plugs.filled c.args.outside.now.answers.now)) c.args.kept.now.store.entries c.args.line.now (c.requires.needs (given g.Q.Questions.told (g.A.Plugs.filled c.args.outside.now.answers.now))) c.requires.accepted) c.make_machine.ensures.steps)
 
 pub returns-in_err-make_machine-clause-cause : goal.returns-in_err-make_machine-clause-cause
 returns-in_err-make_machine-clause-cause g c =
@@ -37,7 +41,7 @@ returns-in_err-carry_out-clause-halted g c =
     let why = c.in_err-carry_out.field-0.0 in
     let n = c.carry_out.new in
     err-same c.from_residual-in_err-carry_out.result why _ c.from_residual-in_err-carry_out.ensures.1
-    (halted-changed g.D.Disk g.A.Answers.answers g.Q.Questions.told (is_some c.args.kept.now.machine) c.args.line.now c.args.kept.now.store c.requires.needs c.requires.accepted c.halts_follow.ensures c.points_follow.ensures (g.C.Chooser.choices c.args.outside.now.chooser.now) c.args.outside.now.answers.now c.args.outside.now.steps.now c.make_machine.new.steps c.make_machine.ensures.steps
+    (halted-changed g.D.Disk (answering g.A.Answers.answers g.A.Plugs.unplugs g.A.Plugs.filled) (given g.Q.Questions.told (g.A.Plugs.filled c.args.outside.now.answers.now)) (is_some c.args.kept.now.machine) c.args.line.now c.args.kept.now.store (c.requires.needs (given g.Q.Questions.told (g.A.Plugs.filled c.args.outside.now.answers.now))) c.requires.accepted c.halts_follow.ensures c.points_follow.ensures (g.C.Chooser.choices c.args.outside.now.chooser.now) c.args.outside.now.answers.now c.args.outside.now.steps.now c.make_machine.new.steps c.make_machine.ensures.steps
     c.args.outside.now.disk.now n.outside.disk.now c.make_machine.new.kept.store n.kept.store (g.K.Sink.holds c.args.outside.now.sink.now) (g.K.Sink.holds n.outside.sink.now) why (around (g.C.Chooser.choices n.outside.chooser.now) n.outside.answers.now n.outside.steps.now) c.make_machine.ensures.store (there-run c.make_machine.new.kept.machine c.args.kept.now.store.entries c.in_ok-make_machine.ensures.there)
     (c.in_err-carry_out.ensures.stops g.Q.Questions.told))
 
@@ -45,7 +49,7 @@ pub returns-in_err-carry_out-clause-blames : goal.returns-in_err-carry_out-claus
 returns-in_err-carry_out-clause-blames g c =
     let why = c.in_err-carry_out.field-0.0 in
     err-same c.from_residual-in_err-carry_out.result why _ c.from_residual-in_err-carry_out.ensures.1
-    (cause-blames (is_some c.args.kept.now.machine) (Says c.args.line.now) why _ _ _ _ (standpoint c.args.outside.now.disk.now c.args.kept.now.store (g.K.Sink.holds c.args.outside.now.sink.now) (around (g.C.Chooser.choices c.args.outside.now.chooser.now) c.args.outside.now.answers.now c.args.outside.now.steps.now)) (standpoint c.carry_out.new.outside.disk.now c.carry_out.new.kept.store (g.K.Sink.holds c.carry_out.new.outside.sink.now) (around (g.C.Chooser.choices c.carry_out.new.outside.chooser.now) c.carry_out.new.outside.answers.now c.carry_out.new.outside.steps.now)) c.in_err-carry_out.ensures.cause)
+    (cause-blames (given g.Q.Questions.told (g.A.Plugs.filled c.args.outside.now.answers.now)) (is_some c.args.kept.now.machine) (Says c.args.line.now) why _ _ _ _ (standpoint c.args.outside.now.disk.now c.args.kept.now.store (g.K.Sink.holds c.args.outside.now.sink.now) (around (g.C.Chooser.choices c.args.outside.now.chooser.now) c.args.outside.now.answers.now c.args.outside.now.steps.now)) (standpoint c.carry_out.new.outside.disk.now c.carry_out.new.kept.store (g.K.Sink.holds c.carry_out.new.outside.sink.now) (around (g.C.Chooser.choices c.carry_out.new.outside.chooser.now) c.carry_out.new.outside.answers.now c.carry_out.new.outside.steps.now)) c.in_err-carry_out.ensures.cause)
 
 pub returns-in_err-carry_out-clause-cause : goal.returns-in_err-carry_out-clause-cause
 returns-in_err-carry_out-clause-cause g c =
@@ -56,7 +60,7 @@ pub returns-in_err-tell_questions-clause-halted : goal.returns-in_err-tell_quest
 returns-in_err-tell_questions-clause-halted g c =
     let n = c.carry_out.new in
     err-same c.from_residual-in_err-tell_questions.result halt.NoMemory _ c.from_residual-in_err-tell_questions.ensures.1
-    (halted-unheard g.D.Disk g.A.Answers.answers g.Q.Questions.told (is_some c.args.kept.now.machine) c.args.line.now c.args.kept.now.store c.requires.needs c.requires.accepted c.halts_follow.ensures c.points_follow.ensures (g.C.Chooser.choices c.args.outside.now.chooser.now) c.args.outside.now.answers.now c.args.outside.now.steps.now c.make_machine.new.steps c.make_machine.ensures.steps
+    (halted-unheard g.D.Disk (answering g.A.Answers.answers g.A.Plugs.unplugs g.A.Plugs.filled) (given g.Q.Questions.told (g.A.Plugs.filled c.args.outside.now.answers.now)) (is_some c.args.kept.now.machine) c.args.line.now c.args.kept.now.store (c.requires.needs (given g.Q.Questions.told (g.A.Plugs.filled c.args.outside.now.answers.now))) c.requires.accepted c.halts_follow.ensures c.points_follow.ensures (g.C.Chooser.choices c.args.outside.now.chooser.now) c.args.outside.now.answers.now c.args.outside.now.steps.now c.make_machine.new.steps c.make_machine.ensures.steps
     c.args.outside.now.disk.now n.outside.disk.now c.make_machine.new.kept.store n.kept.store c.tell_questions.new.kept.store (g.K.Sink.holds c.args.outside.now.sink.now) (g.K.Sink.holds n.outside.sink.now) (g.C.Chooser.choices n.outside.chooser.now) n.outside.answers.now n.outside.steps.now c.make_machine.ensures.store (there-run c.make_machine.new.kept.machine c.args.kept.now.store.entries c.in_ok-make_machine.ensures.there)
     (c.in_ok-carry_out.ensures.advances g.Q.Questions.told))
 
@@ -69,7 +73,7 @@ returns-in_err-tell_questions-clause-cause g c = err-same c.from_residual-in_err
 pub returns-clause-advances : goal.returns-clause-advances
 returns-clause-advances g c =
     let n = c.carry_out.new in
-    advances-changed g.D.Disk g.A.Answers.answers g.Q.Questions.told (is_some c.args.kept.now.machine) c.args.line.now c.args.kept.now.store c.requires.needs c.requires.accepted c.halts_follow.ensures c.points_follow.ensures (g.C.Chooser.choices c.args.outside.now.chooser.now) c.args.outside.now.answers.now c.args.outside.now.steps.now c.make_machine.new.steps c.make_machine.ensures.steps
+    advances-changed g.D.Disk (answering g.A.Answers.answers g.A.Plugs.unplugs g.A.Plugs.filled) (given g.Q.Questions.told (g.A.Plugs.filled c.args.outside.now.answers.now)) (is_some c.args.kept.now.machine) c.args.line.now c.args.kept.now.store (c.requires.needs (given g.Q.Questions.told (g.A.Plugs.filled c.args.outside.now.answers.now))) c.requires.accepted c.halts_follow.ensures c.points_follow.ensures (g.C.Chooser.choices c.args.outside.now.chooser.now) c.args.outside.now.answers.now c.args.outside.now.steps.now c.make_machine.new.steps c.make_machine.ensures.steps
     c.args.outside.now.disk.now n.outside.disk.now c.make_machine.new.kept.store n.kept.store c.tell_questions.new.kept.store (g.K.Sink.holds c.args.outside.now.sink.now) (g.K.Sink.holds n.outside.sink.now) (around (g.C.Chooser.choices n.outside.chooser.now) n.outside.answers.now n.outside.steps.now) c.make_machine.ensures.store c.tell_questions.ensures.store
     (c.in_ok-carry_out.ensures.advances g.Q.Questions.told)
 
@@ -101,3 +105,9 @@ returns-clause-on_run g c = there-run c.make_machine.new.kept.machine c.args.kep
 
 pub tell_questions-requires-clause-run : goal.tell_questions-requires-clause-run
 tell_questions-requires-clause-run g c = there-run c.carry_out.new.kept.machine c.carry_out.new.kept.store.entries c.in_ok-carry_out.ensures.there
+
+pub carry_out-requires-clause-accepted : goal.carry_out-requires-clause-accepted
+carry_out-requires-clause-accepted g c = (g.Q.Questions.told, subst (λ (s : StoreState). (row_of (given g.Q.Questions.told (g.A.Plugs.filled c.args.outside.now.answers.now)) s.entries c.args.line.now).refusal ≡ None) (sym c.make_machine.ensures.store) c.requires.accepted)
+
+pub carry_out-requires-clause-needs : goal.carry_out-requires-clause-needs
+carry_out-requires-clause-needs g c given = subst (λ (s : StoreState). (row_of given s.entries c.args.line.now).needs_machine ≡ true) (sym c.make_machine.ensures.store) (c.requires.needs given)

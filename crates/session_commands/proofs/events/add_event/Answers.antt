@@ -1,4 +1,4 @@
-use Rattle.std.proofs.Common.{IfErr, List, OnOk, refl, subst}
+use Rattle.std.proofs.Common.{IfErr, List, [], OnOk, refl, subst}
 use Rattle.arn_lines.specs.Texts.{event_text}
 use Rattle.log_model.specs.Records.{IsRun}
 use Rattle.session_effects.specs.Carrying.{StopsBetween}
@@ -9,6 +9,7 @@ use Rattle.session_runs.specs.Ready.{machine_of}
 use Rattle.session_runs.specs.Turns.{does}
 use Rattle.session_commands.specs.Answering.{HaltsIn}
 use Rattle.session_commands.specs.Events.{event_effects, input_of}
+use Rattle.session_runs.specs.Touches.{answering}
 use Rattle.session_commands.proofs.ChangeLemmas.{err-same}
 use Rattle.session_commands.proofs.EventLemmas.{event-advances, event-effects, event-stop, event-stops}
 use Rattle.session_commands.proofs.LineLemmas.{plain-given}
@@ -21,7 +22,7 @@ returns-in_err-event-clause-stops g c =
     let i = input_of c.args.given.now in
     let o = c.args.outside.now in
     err-same c.from_residual.result halt.NoMemory _ c.from_residual.ensures.1
-    (event-stop g.D.Disk g.A.Answers.answers (g.C.Chooser.choices o.chooser.now) o.answers.now o.steps.now m i (plain-given m c.args.given.now) (does (event_effects m i)) refl c.halts_follow.ensures halt.NoMemory o.disk.now o.disk.now c.args.store.now.entries (g.K.Sink.holds o.sink.now) (g.K.Sink.holds o.sink.now)
+    (event-stop g.D.Disk (answering g.A.Answers.answers g.A.Plugs.unplugs g.A.Plugs.filled) (g.C.Chooser.choices o.chooser.now) o.answers.now o.steps.now m i (plain-given m c.args.given.now) (does (event_effects m i) []) refl c.halts_follow.ensures halt.NoMemory o.disk.now o.disk.now c.args.store.now.entries (g.K.Sink.holds o.sink.now) (g.K.Sink.holds o.sink.now)
     (Halts-before g.D.Disk c.effects_follow.ensures.follow c.halts_follow.ensures o.disk.now c.args.store.now.entries (g.K.Sink.holds o.sink.now) halt.NoMemory (event_effects m i) refl))
 
 pub finish-requires-clause-run : goal.finish-requires-clause-run
@@ -40,7 +41,7 @@ returns-clause-advances g c =
     let i = input_of c.args.given.now in
     let o = c.args.outside.now in
     let is = event-effects m i c.in_ok-event.event c.in_ok-event.ensures.made in
-    event-advances g.D.Disk g.A.Answers.answers (g.C.Chooser.choices o.chooser.now) o.answers.now o.steps.now m i (plain-given m c.args.given.now) (does (event_effects m i)) refl
+    event-advances g.D.Disk (answering g.A.Answers.answers g.A.Plugs.unplugs g.A.Plugs.filled) (g.C.Chooser.choices o.chooser.now) o.answers.now o.steps.now m i (plain-given m c.args.given.now) (does (event_effects m i) []) refl
     c.finish.result o.disk.now c.finish.new.disk c.args.store.now c.finish.new.store (g.K.Sink.holds o.sink.now) (g.K.Sink.holds c.finish.new.sink)
     (subst (λ (e : List Effect). OnOk c.finish.result (Carries IsRun g.D.Disk o.disk.now c.finish.new.disk c.args.store.now c.finish.new.store (g.K.Sink.holds o.sink.now) (g.K.Sink.holds c.finish.new.sink) e)) is c.finish.ensures.carries)
 
@@ -50,6 +51,6 @@ returns-clause-stops g c =
     let i = input_of c.args.given.now in
     let o = c.args.outside.now in
     let is = event-effects m i c.in_ok-event.event c.in_ok-event.ensures.made in
-    event-stops g.D.Disk g.A.Answers.answers (g.C.Chooser.choices o.chooser.now) o.answers.now o.steps.now m i (plain-given m c.args.given.now) (does (event_effects m i)) refl
+    event-stops g.D.Disk (answering g.A.Answers.answers g.A.Plugs.unplugs g.A.Plugs.filled) (g.C.Chooser.choices o.chooser.now) o.answers.now o.steps.now m i (plain-given m c.args.given.now) (does (event_effects m i) []) refl
     c.halts_follow.ensures c.finish.result o.disk.now c.finish.new.disk c.args.store.now.entries (g.K.Sink.holds o.sink.now) (g.K.Sink.holds c.finish.new.sink)
     (subst (λ (e : List Effect). IfErr c.finish.result (λ halt. HaltsIn (StopsBetween IsRun g.D.Disk o.disk.now c.finish.new.disk c.args.store.now.entries (g.K.Sink.holds o.sink.now) (g.K.Sink.holds c.finish.new.sink) halt) e)) is c.finish.ensures.stops)

@@ -10,6 +10,8 @@ use Rattle.session_runs.specs.Points.{around}
 use Rattle.session_runs.specs.Standing.{standpoint}
 use Rattle.session_commands.specs.Lines.{turn}
 use Rattle.std.proofs.lemmas.Result.{on_ok_weaker}
+use Rattle.session_runs.specs.Touches.{answering}
+use Rattle.session_commands.specs.Given.{given}
 use Rattle.session_commands.proofs.AnswerLemmas.{OnOk-always, cause-blames, disk-cause, err-both, halted-not-made, text-cause}
 use Rattle.session_commands.proofs.ChangeLemmas.{err-same, few-known, heard-before, sound-there, there-run, there-some}
 use Rattle.session_commands.proofs.GeneratedLemmas.{advances-kept, answered-told, cost-made, halted-told, halted-unheard, halted-untold, still-generator, turn-generator}
@@ -19,25 +21,25 @@ use Rattle.session_commands.proofs.generating.generate.Goals as goal
 pub returns-in_err-make_machine-clause-halted : goal.returns-in_err-make_machine-clause-halted
 returns-in_err-make_machine-clause-halted g c =
     let why = c.in_err-make_machine.field-0.0 in
-    let still : IsStill (turn g.Q.Questions.told c.args.kept.now.store.entries (Generates c.args.image.now c.args.typed.now c.args.processes)) =
-    subst IsStill (sym (turn-generator g.Q.Questions.told c.args.kept.now.store.entries c.args.image.now c.args.typed.now c.args.processes c.requires.accepted)) (still-generator g.Q.Questions.told c.args.kept.now.store.entries c.args.image.now c.args.typed.now c.args.processes) in
+    let still : IsStill (turn (given g.Q.Questions.told (g.A.Plugs.filled c.args.outside.now.answers.now)) c.args.kept.now.store.entries (Generates c.args.image.now c.args.typed.now c.args.processes)) =
+    subst IsStill (sym (turn-generator (given g.Q.Questions.told (g.A.Plugs.filled c.args.outside.now.answers.now)) c.args.kept.now.store.entries c.args.image.now c.args.typed.now c.args.processes c.requires.accepted)) (still-generator g.Q.Questions.told c.args.kept.now.store.entries c.args.image.now c.args.typed.now c.args.processes) in
     err-same c.from_residual.result why _ c.from_residual.ensures.1
-    (halted-not-made g.D.Disk g.A.Answers.answers g.Q.Questions.told (is_some c.args.kept.now.machine) (Generates c.args.image.now c.args.typed.now c.args.processes) (g.C.Chooser.choices c.args.outside.now.chooser.now) c.args.outside.now.answers.now c.halts_follow.ensures why c.args.outside.now.disk.now c.args.kept.now.store c.make_machine.new.kept.store (g.K.Sink.holds c.args.outside.now.sink.now) c.args.outside.now.steps.now c.make_machine.new.steps c.in_err-make_machine.ensures.not_made c.make_machine.ensures.store still c.make_machine.ensures.steps
-    (λ behind. cost-made g.Q.Questions.told c.args.kept.now.store.entries c.args.image.now c.args.typed.now c.args.processes (is_some c.args.kept.now.machine) behind c.requires.accepted))
+    (halted-not-made g.D.Disk (answering g.A.Answers.answers g.A.Plugs.unplugs g.A.Plugs.filled) (given g.Q.Questions.told (g.A.Plugs.filled c.args.outside.now.answers.now)) (is_some c.args.kept.now.machine) (Generates c.args.image.now c.args.typed.now c.args.processes) (g.C.Chooser.choices c.args.outside.now.chooser.now) c.args.outside.now.answers.now c.halts_follow.ensures why c.args.outside.now.disk.now c.args.kept.now.store c.make_machine.new.kept.store (g.K.Sink.holds c.args.outside.now.sink.now) c.args.outside.now.steps.now c.make_machine.new.steps c.in_err-make_machine.ensures.not_made c.make_machine.ensures.store still c.make_machine.ensures.steps
+    (λ behind. cost-made (given g.Q.Questions.told (g.A.Plugs.filled c.args.outside.now.answers.now)) c.args.kept.now.store.entries c.args.image.now c.args.typed.now c.args.processes (is_some c.args.kept.now.machine) behind c.requires.accepted))
 
 pub returns-in_err-perform-clause-halted : goal.returns-in_err-perform-clause-halted
 returns-in_err-perform-clause-halted g c =
     let why = c.in_err-perform.field-0.0 in
     let n = c.perform.new in
     err-same c.from_residual-in_err-perform.result why _ c.from_residual-in_err-perform.ensures.1
-    (halted-untold g.D.Disk g.A.Answers.answers g.Q.Questions.told (is_some c.args.kept.now.machine) c.args.image.now c.args.typed.now c.args.processes c.args.kept.now.store c.requires.accepted (g.C.Chooser.choices c.args.outside.now.chooser.now) c.args.outside.now.answers.now c.args.outside.now.steps.now c.make_machine.new.steps c.make_machine.ensures.steps c.halts_follow.ensures c.args.outside.now.disk.now n.outside.disk.now c.make_machine.new.kept.store n.kept.store (g.K.Sink.holds c.args.outside.now.sink.now) (g.K.Sink.holds n.outside.sink.now) why (around (g.C.Chooser.choices n.outside.chooser.now) n.outside.answers.now n.outside.steps.now) c.make_machine.ensures.store (there-run c.make_machine.new.kept.machine c.args.kept.now.store.entries c.in_ok-make_machine.ensures.there)
+    (halted-untold g.D.Disk (answering g.A.Answers.answers g.A.Plugs.unplugs g.A.Plugs.filled) (given g.Q.Questions.told (g.A.Plugs.filled c.args.outside.now.answers.now)) (is_some c.args.kept.now.machine) c.args.image.now c.args.typed.now c.args.processes c.args.kept.now.store c.requires.accepted (g.C.Chooser.choices c.args.outside.now.chooser.now) c.args.outside.now.answers.now c.args.outside.now.steps.now c.make_machine.new.steps c.make_machine.ensures.steps c.halts_follow.ensures c.args.outside.now.disk.now n.outside.disk.now c.make_machine.new.kept.store n.kept.store (g.K.Sink.holds c.args.outside.now.sink.now) (g.K.Sink.holds n.outside.sink.now) why (around (g.C.Chooser.choices n.outside.chooser.now) n.outside.answers.now n.outside.steps.now) c.make_machine.ensures.store (there-run c.make_machine.new.kept.machine c.args.kept.now.store.entries c.in_ok-make_machine.ensures.there)
     (c.in_err-perform.ensures.stops g.Q.Questions.told c.args.processes))
 
 pub returns-in_err-perform-clause-blames : goal.returns-in_err-perform-clause-blames
 returns-in_err-perform-clause-blames g c =
     let why = c.in_err-perform.field-0.0 in
     err-same c.from_residual-in_err-perform.result why _ c.from_residual-in_err-perform.ensures.1
-    (cause-blames (is_some c.args.kept.now.machine) (Generates c.args.image.now c.args.typed.now c.args.processes) why _ _ _ _ (standpoint c.args.outside.now.disk.now c.args.kept.now.store (g.K.Sink.holds c.args.outside.now.sink.now) (around (g.C.Chooser.choices c.args.outside.now.chooser.now) c.args.outside.now.answers.now c.args.outside.now.steps.now)) (standpoint c.perform.new.outside.disk.now c.perform.new.kept.store (g.K.Sink.holds c.perform.new.outside.sink.now) (around (g.C.Chooser.choices c.perform.new.outside.chooser.now) c.perform.new.outside.answers.now c.perform.new.outside.steps.now)) (c.in_err-perform.ensures.cause 0))
+    (cause-blames (given g.Q.Questions.told (g.A.Plugs.filled c.args.outside.now.answers.now)) (is_some c.args.kept.now.machine) (Generates c.args.image.now c.args.typed.now c.args.processes) why _ _ _ _ (standpoint c.args.outside.now.disk.now c.args.kept.now.store (g.K.Sink.holds c.args.outside.now.sink.now) (around (g.C.Chooser.choices c.args.outside.now.chooser.now) c.args.outside.now.answers.now c.args.outside.now.steps.now)) (standpoint c.perform.new.outside.disk.now c.perform.new.kept.store (g.K.Sink.holds c.perform.new.outside.sink.now) (around (g.C.Chooser.choices c.perform.new.outside.chooser.now) c.perform.new.outside.answers.now c.perform.new.outside.steps.now)) (c.in_err-perform.ensures.cause 0))
 
 pub returns-in_err-perform-clause-cause : goal.returns-in_err-perform-clause-cause
 returns-in_err-perform-clause-cause g c =
@@ -48,22 +50,22 @@ pub returns-in_err-tell_questions-clause-halted : goal.returns-in_err-tell_quest
 returns-in_err-tell_questions-clause-halted g c =
     let n = c.perform.new in
     err-same c.from_residual-in_err-tell_questions.result halt.NoMemory _ c.from_residual-in_err-tell_questions.ensures.1
-    (halted-unheard g.D.Disk g.A.Answers.answers g.Q.Questions.told (is_some c.args.kept.now.machine) c.args.image.now c.args.typed.now c.args.processes c.args.kept.now.store c.requires.accepted (g.C.Chooser.choices c.args.outside.now.chooser.now) c.args.outside.now.answers.now c.args.outside.now.steps.now c.make_machine.new.steps c.make_machine.ensures.steps c.halts_follow.ensures c.args.outside.now.disk.now n.outside.disk.now c.make_machine.new.kept.store n.kept.store c.tell_questions.new.kept.store (g.K.Sink.holds c.args.outside.now.sink.now) (g.K.Sink.holds n.outside.sink.now) (g.C.Chooser.choices n.outside.chooser.now) n.outside.answers.now n.outside.steps.now c.make_machine.ensures.store (there-run c.make_machine.new.kept.machine c.args.kept.now.store.entries c.in_ok-make_machine.ensures.there)
+    (halted-unheard g.D.Disk (answering g.A.Answers.answers g.A.Plugs.unplugs g.A.Plugs.filled) (given g.Q.Questions.told (g.A.Plugs.filled c.args.outside.now.answers.now)) (is_some c.args.kept.now.machine) c.args.image.now c.args.typed.now c.args.processes c.args.kept.now.store c.requires.accepted (g.C.Chooser.choices c.args.outside.now.chooser.now) c.args.outside.now.answers.now c.args.outside.now.steps.now c.make_machine.new.steps c.make_machine.ensures.steps c.halts_follow.ensures c.args.outside.now.disk.now n.outside.disk.now c.make_machine.new.kept.store n.kept.store c.tell_questions.new.kept.store (g.K.Sink.holds c.args.outside.now.sink.now) (g.K.Sink.holds n.outside.sink.now) (g.C.Chooser.choices n.outside.chooser.now) n.outside.answers.now n.outside.steps.now c.make_machine.ensures.store (there-run c.make_machine.new.kept.machine c.args.kept.now.store.entries c.in_ok-make_machine.ensures.there)
     (c.in_ok-perform.ensures.advances g.Q.Questions.told c.args.processes))
 
 pub returns-clause-answered : goal.returns-clause-answered
 returns-clause-answered g c =
     let n = c.perform.new in
-    answered-told g.D.Disk g.A.Answers.answers g.Q.Questions.told (is_some c.args.kept.now.machine) c.args.image.now c.args.typed.now c.args.processes c.args.kept.now.store c.requires.accepted (g.C.Chooser.choices c.args.outside.now.chooser.now) c.args.outside.now.answers.now c.args.outside.now.steps.now c.make_machine.new.steps c.make_machine.ensures.steps c.effects_follow.ensures.follow c.points_follow.ensures c.tell.result c.args.outside.now.disk.now n.outside.disk.now c.make_machine.new.kept.store c.tell_questions.new.kept.store c.tell.new.kept.store (g.K.Sink.holds c.args.outside.now.sink.now) (g.K.Sink.holds n.outside.sink.now) (g.K.Sink.holds c.tell.new.sink) (g.C.Chooser.choices n.outside.chooser.now) n.outside.answers.now n.outside.steps.now c.tell.new.steps c.make_machine.ensures.store c.tell.ensures.store (there-run c.make_machine.new.kept.machine c.args.kept.now.store.entries c.in_ok-make_machine.ensures.there)
-    (advances-kept g.D.Disk g.A.Answers.answers g.Q.Questions.told (is_some c.args.kept.now.machine) c.args.image.now c.args.typed.now c.args.processes c.args.kept.now.store c.requires.accepted (g.C.Chooser.choices c.args.outside.now.chooser.now) c.args.outside.now.answers.now c.args.outside.now.steps.now c.make_machine.new.steps c.make_machine.ensures.steps c.args.outside.now.disk.now n.outside.disk.now c.make_machine.new.kept.store n.kept.store c.tell_questions.new.kept.store (g.K.Sink.holds c.args.outside.now.sink.now) (g.K.Sink.holds n.outside.sink.now) (around (g.C.Chooser.choices n.outside.chooser.now) n.outside.answers.now n.outside.steps.now) c.tell_questions.ensures.store
+    answered-told g.D.Disk (answering g.A.Answers.answers g.A.Plugs.unplugs g.A.Plugs.filled) (given g.Q.Questions.told (g.A.Plugs.filled c.args.outside.now.answers.now)) (is_some c.args.kept.now.machine) c.args.image.now c.args.typed.now c.args.processes c.args.kept.now.store c.requires.accepted (g.C.Chooser.choices c.args.outside.now.chooser.now) c.args.outside.now.answers.now c.args.outside.now.steps.now c.make_machine.new.steps c.make_machine.ensures.steps c.effects_follow.ensures.follow c.points_follow.ensures c.tell.result c.args.outside.now.disk.now n.outside.disk.now c.make_machine.new.kept.store c.tell_questions.new.kept.store c.tell.new.kept.store (g.K.Sink.holds c.args.outside.now.sink.now) (g.K.Sink.holds n.outside.sink.now) (g.K.Sink.holds c.tell.new.sink) (g.C.Chooser.choices n.outside.chooser.now) n.outside.answers.now n.outside.steps.now c.tell.new.steps c.make_machine.ensures.store c.tell.ensures.store (there-run c.make_machine.new.kept.machine c.args.kept.now.store.entries c.in_ok-make_machine.ensures.there)
+    (advances-kept g.D.Disk (answering g.A.Answers.answers g.A.Plugs.unplugs g.A.Plugs.filled) (given g.Q.Questions.told (g.A.Plugs.filled c.args.outside.now.answers.now)) (is_some c.args.kept.now.machine) c.args.image.now c.args.typed.now c.args.processes c.args.kept.now.store c.requires.accepted (g.C.Chooser.choices c.args.outside.now.chooser.now) c.args.outside.now.answers.now c.args.outside.now.steps.now c.make_machine.new.steps c.make_machine.ensures.steps c.args.outside.now.disk.now n.outside.disk.now c.make_machine.new.kept.store n.kept.store c.tell_questions.new.kept.store (g.K.Sink.holds c.args.outside.now.sink.now) (g.K.Sink.holds n.outside.sink.now) (around (g.C.Chooser.choices n.outside.chooser.now) n.outside.answers.now n.outside.steps.now) c.tell_questions.ensures.store
     (c.in_ok-perform.ensures.advances g.Q.Questions.told c.args.processes)) c.tell.ensures.steps c.tell.ensures.ok
 
 pub returns-clause-halted : goal.returns-clause-halted
 returns-clause-halted g c =
     let n = c.perform.new in
     err-both c.tell.result _ _ _
-    (λ why put again. halted-told g.D.Disk g.A.Answers.answers g.Q.Questions.told (is_some c.args.kept.now.machine) c.args.image.now c.args.typed.now c.args.processes c.args.kept.now.store c.requires.accepted (g.C.Chooser.choices c.args.outside.now.chooser.now) c.args.outside.now.answers.now c.args.outside.now.steps.now c.make_machine.new.steps c.make_machine.ensures.steps c.halts_follow.ensures c.args.outside.now.disk.now n.outside.disk.now c.make_machine.new.kept.store c.tell_questions.new.kept.store c.tell.new.kept.store (g.K.Sink.holds c.args.outside.now.sink.now) (g.K.Sink.holds n.outside.sink.now) (g.K.Sink.holds c.tell.new.sink) why (g.C.Chooser.choices n.outside.chooser.now) n.outside.answers.now n.outside.steps.now c.tell.new.steps c.make_machine.ensures.store (there-run c.make_machine.new.kept.machine c.args.kept.now.store.entries c.in_ok-make_machine.ensures.there)
-    (advances-kept g.D.Disk g.A.Answers.answers g.Q.Questions.told (is_some c.args.kept.now.machine) c.args.image.now c.args.typed.now c.args.processes c.args.kept.now.store c.requires.accepted (g.C.Chooser.choices c.args.outside.now.chooser.now) c.args.outside.now.answers.now c.args.outside.now.steps.now c.make_machine.new.steps c.make_machine.ensures.steps c.args.outside.now.disk.now n.outside.disk.now c.make_machine.new.kept.store n.kept.store c.tell_questions.new.kept.store (g.K.Sink.holds c.args.outside.now.sink.now) (g.K.Sink.holds n.outside.sink.now) (around (g.C.Chooser.choices n.outside.chooser.now) n.outside.answers.now n.outside.steps.now) c.tell_questions.ensures.store
+    (λ why put again. halted-told g.D.Disk (answering g.A.Answers.answers g.A.Plugs.unplugs g.A.Plugs.filled) (given g.Q.Questions.told (g.A.Plugs.filled c.args.outside.now.answers.now)) (is_some c.args.kept.now.machine) c.args.image.now c.args.typed.now c.args.processes c.args.kept.now.store c.requires.accepted (g.C.Chooser.choices c.args.outside.now.chooser.now) c.args.outside.now.answers.now c.args.outside.now.steps.now c.make_machine.new.steps c.make_machine.ensures.steps c.halts_follow.ensures c.args.outside.now.disk.now n.outside.disk.now c.make_machine.new.kept.store c.tell_questions.new.kept.store c.tell.new.kept.store (g.K.Sink.holds c.args.outside.now.sink.now) (g.K.Sink.holds n.outside.sink.now) (g.K.Sink.holds c.tell.new.sink) why (g.C.Chooser.choices n.outside.chooser.now) n.outside.answers.now n.outside.steps.now c.tell.new.steps c.make_machine.ensures.store (there-run c.make_machine.new.kept.machine c.args.kept.now.store.entries c.in_ok-make_machine.ensures.there)
+    (advances-kept g.D.Disk (answering g.A.Answers.answers g.A.Plugs.unplugs g.A.Plugs.filled) (given g.Q.Questions.told (g.A.Plugs.filled c.args.outside.now.answers.now)) (is_some c.args.kept.now.machine) c.args.image.now c.args.typed.now c.args.processes c.args.kept.now.store c.requires.accepted (g.C.Chooser.choices c.args.outside.now.chooser.now) c.args.outside.now.answers.now c.args.outside.now.steps.now c.make_machine.new.steps c.make_machine.ensures.steps c.args.outside.now.disk.now n.outside.disk.now c.make_machine.new.kept.store n.kept.store c.tell_questions.new.kept.store (g.K.Sink.holds c.args.outside.now.sink.now) (g.K.Sink.holds n.outside.sink.now) (around (g.C.Chooser.choices n.outside.chooser.now) n.outside.answers.now n.outside.steps.now) c.tell_questions.ensures.store
     (c.in_ok-perform.ensures.advances g.Q.Questions.told c.args.processes)) c.tell.ensures.steps put)
     c.tell.ensures.stops c.tell.ensures.stops
 

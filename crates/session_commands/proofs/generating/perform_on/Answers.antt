@@ -4,6 +4,7 @@ use Rattle.session_runs.specs.Points.{around}
 use Rattle.session_runs.specs.Ready.{machine_of}
 use Rattle.session_runs.specs.Turns.{prints}
 use Rattle.session_commands.specs.Generator.{gen_inputs, gen_run, generator_turn}
+use Rattle.session_runs.specs.Touches.{answering}
 use Rattle.session_commands.proofs.AnswerLemmas.{err-both}
 use Rattle.session_commands.proofs.ChangeLemmas.{err-same}
 use Rattle.session_commands.proofs.GeneratedLemmas.{Advances-events, Stops-events, plain-events}
@@ -16,7 +17,7 @@ returns-in_err-commit_events-clause-stops g c told processes =
     let why = c.in_err-commit_events.field-0.0 in
     let inputs = gen_inputs c.args.image.now c.args.typed.now in
     err-same c.from_residual.result why _ c.from_residual.ensures.1
-    (Stops-events g.D.Disk g.A.Answers.answers c.named_append.ensures.named c.named_append.ensures.behind told processes (g.C.Chooser.choices c.args.outside.now.chooser.now) c.args.outside.now.answers.now c.args.outside.now.steps.now c.halts_follow.ensures c.args.outside.now.disk.now c.commit_events.new.disk c.args.store.now.entries held why inputs (plain-events (machine_of c.args.store.now.entries) c.args.image.now c.args.typed.now)
+    (Stops-events g.D.Disk (answering g.A.Answers.answers g.A.Plugs.unplugs g.A.Plugs.filled) c.named_append.ensures.named c.named_append.ensures.behind told processes (g.C.Chooser.choices c.args.outside.now.chooser.now) c.args.outside.now.answers.now c.args.outside.now.steps.now c.halts_follow.ensures c.args.outside.now.disk.now c.commit_events.new.disk c.args.store.now.entries held why inputs (plain-events (machine_of c.args.store.now.entries) c.args.image.now c.args.typed.now)
     (c.in_err-commit_events.ensures.stops held))
 
 pub returns-clause-advances : goal.returns-clause-advances
@@ -29,7 +30,7 @@ returns-clause-advances g c told processes =
     let done : AreCommitted g.D.Disk c.args.outside.now.disk.now c.commit_events.new.disk c.args.store.now s inputs = record { carries = c.in_ok-commit_events.ensures.carries; leads = c.in_ok-commit_events.ensures.leads } in
     on_ok_weaker c.run_quietly.result
     (λ q. c.points_follow.ensures.advances (generator_turn told c.args.store.now.entries c.args.image.now c.args.typed.now processes) (gen_run told s.entries (machine_of s.entries) processes) (prints (told.generated n.store.entries processes)) u u (around (g.C.Chooser.choices n.outside.chooser.now) n.outside.answers.now n.outside.steps.now) 0 0 c.args.outside.now.disk.now c.commit_events.new.disk n.outside.disk.now c.args.store.now s n.store held held (g.K.Sink.holds n.outside.sink.now)
-    (Advances-events g.D.Disk g.A.Answers.answers c.named_append.ensures.named c.named_append.ensures.behind told processes (g.C.Chooser.choices c.args.outside.now.chooser.now) c.args.outside.now.answers.now c.args.outside.now.steps.now c.args.outside.now.disk.now c.commit_events.new.disk c.args.store.now s held inputs (plain-events (machine_of c.args.store.now.entries) c.args.image.now c.args.typed.now) done) q)
+    (Advances-events g.D.Disk (answering g.A.Answers.answers g.A.Plugs.unplugs g.A.Plugs.filled) c.named_append.ensures.named c.named_append.ensures.behind told processes (g.C.Chooser.choices c.args.outside.now.chooser.now) c.args.outside.now.answers.now c.args.outside.now.steps.now c.args.outside.now.disk.now c.commit_events.new.disk c.args.store.now s held inputs (plain-events (machine_of c.args.store.now.entries) c.args.image.now c.args.typed.now) done) q)
     (c.run_quietly.ensures.advances told processes)
 
 pub returns-clause-stops : goal.returns-clause-stops
@@ -42,7 +43,7 @@ returns-clause-stops g c told processes =
     let done : AreCommitted g.D.Disk c.args.outside.now.disk.now c.commit_events.new.disk c.args.store.now s inputs = record { carries = c.in_ok-commit_events.ensures.carries; leads = c.in_ok-commit_events.ensures.leads } in
     err-both c.run_quietly.result _ _ _
     (λ why q cause. c.points_follow.ensures.stops (generator_turn told c.args.store.now.entries c.args.image.now c.args.typed.now processes) (gen_run told s.entries (machine_of s.entries) processes) u u (around (g.C.Chooser.choices n.outside.chooser.now) n.outside.answers.now n.outside.steps.now) 0 0 c.args.outside.now.disk.now c.commit_events.new.disk n.outside.disk.now c.args.store.now s held held (g.K.Sink.holds n.outside.sink.now) why
-    (Advances-events g.D.Disk g.A.Answers.answers c.named_append.ensures.named c.named_append.ensures.behind told processes (g.C.Chooser.choices c.args.outside.now.chooser.now) c.args.outside.now.answers.now c.args.outside.now.steps.now c.args.outside.now.disk.now c.commit_events.new.disk c.args.store.now s held inputs (plain-events (machine_of c.args.store.now.entries) c.args.image.now c.args.typed.now) done) q)
+    (Advances-events g.D.Disk (answering g.A.Answers.answers g.A.Plugs.unplugs g.A.Plugs.filled) c.named_append.ensures.named c.named_append.ensures.behind told processes (g.C.Chooser.choices c.args.outside.now.chooser.now) c.args.outside.now.answers.now c.args.outside.now.steps.now c.args.outside.now.disk.now c.commit_events.new.disk c.args.store.now s held inputs (plain-events (machine_of c.args.store.now.entries) c.args.image.now c.args.typed.now) done) q)
     (c.run_quietly.ensures.stops told processes) c.run_quietly.ensures.cause
 
 pub returns-clause-cause : goal.returns-clause-cause
