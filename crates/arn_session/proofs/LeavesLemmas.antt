@@ -1,5 +1,5 @@
 -- What a session leaves, from what is known at each of its ends.
-use Rattle.std.proofs.Common.{◌≡◌, ◌≢◌, ◌⊎◌, inl, inr, ◌+◌, ◌<◌, ◌≤◌, ◌^◌, ◌++◌, ℕ, List, [], length, drop, Option, None, Some, IfSome, arith, Result, Ok, Err, OnOk, IfErr, IsErrOf, Bool, refl, subst, sym}
+use Rattle.std.proofs.Common.{◌≡◌, ◌≢◌, ◌⊎◌, inl, inr, ◌+◌, ◌<◌, ◌≤◌, ◌^◌, ◌++◌, ℕ, List, [], length, drop, Option, None, Some, IfSome, arith, Result, Ok, Err, OnOk, IfErr, IsErrOf, Bool, refl, subst, sym, append_assoc, ◌∷◌, ◌∙◌}
 use Rattle.std.proofs.lemmas.Option.{IfSome_then}
 use Rattle.arn_base.specs.declared.disk.Disk.{Ghosts}
 use Rattle.arn_base.specs.declared.records.Differs.{Differs}
@@ -7,69 +7,80 @@ use Rattle.arn_base.specs.declared.records.Record.{Record}
 use Rattle.arn_base.specs.Faults.{Rose}
 use Rattle.arn_commands.specs.declared.command.Command.{Command}
 use Rattle.arn_commands.specs.Parts.{Part, text_parts, whole_parts}
-use Rattle.parts_model.specs.Replies.{Answered}
 use Rattle.log_model.specs.Records.{IsRun}
 use Rattle.log_store.specs.Stops.{GoesOn, LeavesOnly}
 use Rattle.log_store.specs.Stores.{StoreState}
 use Rattle.log_store.specs.declared.size.TheConstants.{MOST_LOG}
-use Rattle.guest_devices.specs.Answers.{Asked}
 use Rattle.session_effects.specs.Carrying.{CarriesOut, HoldsMore, IsAtRest, IsShut, RestsMore}
 use Rattle.session_effects.specs.declared.halt.Halt.{Halt}
 use Rattle.session_effects.specs.declared.halt.Halt.TheVariants as halt
 use Rattle.session_commands.specs.Answering.{IsAnswered, IsHalted, IsNoRun}
+use Rattle.guest_machine.specs.Legs.{Picked}
+use Rattle.session_runs.specs.Touches.{Answering, named_at}
 use Rattle.session_runs.specs.Standing.{Standpoint, standpoint}
-use Rattle.session_model.specs.Questions.{Told}
+use Rattle.session_commands.specs.Given.{Given}
 use Rattle.arn_session.specs.Answered.{AnswersParts, AnswersTaken, TookAtMost, TookFewer}
 use Rattle.arn_session.specs.Begun.{BeginsOn, FindsOn, Standing, standing, on_history, store_of}
 use Rattle.arn_session.specs.CutOff.{BeginsText, FindsOut}
-use Rattle.arn_session.specs.Leaves.{Leaves, Scene, WereAsked}
+use Rattle.arn_session.specs.Leaves.{Leaves, Scene, WereTouched}
+use Rattle.arn_session.specs.Transcript.{transcript}
 use Rattle.arn_session.proofs.CutLemmas.{stops-more}
+use Rattle.arn_session.proofs.NoneLemmas.{begin-none, transcript-none}
 use Rattle.arn_session.proofs.PointLemmas.{Laws}
-use Rattle.arn_session.proofs.Progress.{HaveAnswers}
+use Rattle.arn_session.proofs.Progress.{HaveAnswers, were-touched}
 use Rattle.arn_session.proofs.SlotLemmas.{Begins-seen, Finds-seen}
 
-module _ {D A : Type 0} (d : Ghosts D) (replies : A → Asked → Answered → A → Type 0) (told : Told) where
+module _ {D A : Type 0} (d : Ghosts D) (who : Answering A) (g : Given) where
   -- the store over the disk doesn't matter where a session begins
-  pub begins-on : (here : A) (old new : Standing D A) (store : StoreState) (why : Halt) (l left : Option (List ℕ)) → IfSome l (λ text. (s : StoreState) → BeginsText d replies told (standpoint old.disk store old.held old.around) (standpoint new.disk s new.held new.around) why text left) → IfSome l (λ text. BeginsOn d replies told store.entries old new why text left)
+  pub begins-on : (here : A) (old new : Standing D A) (store : StoreState) (why : Halt) (l left : Option (List ℕ)) → IfSome l (λ text. (s : StoreState) → BeginsText d who g (standpoint old.disk store old.held old.around) (standpoint new.disk s new.held new.around) why text left) → IfSome l (λ text. BeginsOn d who g store.entries old new why text left)
   begins-on here old new store why l left all =
-      IfSome_then l all (λ text b. Begins-seen here replies replies (λ a. a) (λ a asked answer a' p. p) d told old new store (store_of []) text left why (b (store_of [])))
+      IfSome_then l all (λ text b. Begins-seen here who who (λ a. a) (λ a asked answer a' p. p) (λ n a a' p. p) d g old new store (store_of []) text left why (b (store_of [])))
 
-  pub finds-on : (here : A) (old new : Standing D A) (store : StoreState) (l left : Option (List ℕ)) → IfSome l (λ text. (s : StoreState) → FindsOut d replies told (standpoint old.disk store old.held old.around) (standpoint new.disk s new.held new.around) text left) → IfSome l (λ text. FindsOn d replies told store.entries old new text left)
+  pub finds-on : (here : A) (old new : Standing D A) (store : StoreState) (l left : Option (List ℕ)) → IfSome l (λ text. (s : StoreState) → FindsOut d who g (standpoint old.disk store old.held old.around) (standpoint new.disk s new.held new.around) text left) → IfSome l (λ text. FindsOn d who g store.entries old new text left)
   finds-on here old new store l left all =
-      IfSome_then l all (λ text b. Finds-seen here replies replies (λ a. a) (λ a asked answer a' p. p) d told old new store (store_of []) text left (b (store_of [])))
+      IfSome_then l all (λ text b. Finds-seen here who who (λ a. a) (λ a asked answer a' p. p) (λ n a a' p. p) d g old new store (store_of []) text left (b (store_of [])))
 
--- who isn't asked is the same
-pub asked-none : {A : Type 0} (replies : A → Asked → Answered → A → Type 0) (now : A) → WereAsked replies now now
-asked-none replies now = record { asks = []; slices = []; replied = (refl, refl) }
+-- who isn't touched is the same
+pub touched-none : {A : Type 0} (who : Answering A) (now : A) → WereTouched who now now
+touched-none who now = record { touches = []; slices = []; touched = (refl, refl); none_unplugged = refl }
 
-module _ {D A : Type 0} {d : Ghosts D} {replies : A → Asked → Answered → A → Type 0} {told : Told} where
-  -- who answers was asked by slices, before a command and for it
-  pub asked-before : {parts : List Part} {is_there : Bool} {old new : Standpoint D A} → HaveAnswers d replies told parts is_there old new → WereAsked replies old.around.answers new.around.answers
-  asked-before p = record { asks = p.answered.asks; slices = p.answered.slices; replied = p.answered.replied }
+module _ {D A : Type 0} {d : Ghosts D} {who : Answering A} {g : Given} where
+  -- who answers was touched by slices alone, before a command and for it
+  pub touched-before : {parts : List Part} {is_there : Bool} {old new : Standpoint D A} → HaveAnswers d who g parts is_there old new → WereTouched who old.around.answers new.around.answers
+  touched-before {parts = parts} {is_there = is_there} {old = old} {new = new} p = were-touched d who g old new parts is_there p
 
-  pub asked-halted : {parts : List Part} {is_there : Bool} {old mid new : Standpoint D A} {command : Command} {why : Halt} (laws : Laws d replies) → HaveAnswers d replies told parts is_there old mid → IsHalted d replies told is_there why command mid new → WereAsked replies old.around.answers new.around.answers
-  asked-halted {parts = parts} {is_there = is_there} {old = old} {mid = mid} {new = new} {command = command} {why = why} laws p b =
-      let stop = (stops-more d replies told laws old mid new parts is_there command why b.beside p b.stops).stops in
-      record { asks = stop.asks ++ stop.lost_asks; slices = stop.slices ++ stop.lost; replied = stop.replied }
+  pub touched-halted : {parts : List Part} {is_there : Bool} {old mid new : Standpoint D A} {command : Command} {why : Halt} (laws : Laws d who) → HaveAnswers d who g parts is_there old mid → IsHalted d who g is_there why command mid new → WereTouched who old.around.answers new.around.answers
+  touched-halted {parts = parts} {is_there = is_there} {old = old} {mid = mid} {new = new} {command = command} {why = why} laws p b =
+      let stop = (stops-more d who g laws old mid new parts is_there command why b.beside p b.stops).stops in
+      let commands : List Command = p.commands ++ command ∷ [] in
+      let all : List Picked = named_at stop.touches stop.slices ++ (named_at stop.lost_touches stop.lost ++ stop.part) in
+      record {
+        touches = stop.touches ++ stop.lost_touches;
+        slices = stop.slices ++ stop.lost;
+        touched = stop.touched;
+        none_unplugged =
+            begin-none (stop.touches ++ stop.lost_touches) stop.part_touches (transcript g old.store.entries commands all).touches (transcript-none g old.store.entries commands all)
+            (stop.are_touches ∙ sym (append_assoc stop.touches stop.lost_touches stop.part_touches));
+      }
 
 -- where nothing was taken, no more was than so much
 pub untaken : (l : Option (List ℕ)) → TookAtMost (2 ^ 40) l l
 untaken None = tt
 untaken (Some text) = omega arith
 
-module _ {D A : Type 0} (d : Ghosts D) (replies : A → Asked → Answered → A → Type 0) (told : Told) (history : List Record) (old new : Scene D A) where
+module _ {D A : Type 0} (d : Ghosts D) (who : Answering A) (g : Given) (history : List Record) (old new : Scene D A) where
   -- what holds of both ends
   pub record Goes : Type 0 where
     pub at_most : TookAtMost (2 ^ 40) old.left new.left
     pub any_moment : IsAtRest d old.stands.disk history → LeavesOnly d.moment d.left_since old.stands.disk new.stands.disk (HoldsMore IsRun history)
     pub later : GoesOn d.image d.faults old.stands.disk new.stands.disk
-    pub asked : WereAsked replies old.stands.around.answers new.stands.around.answers
+    pub touched : WereTouched who old.stands.around.answers new.stands.around.answers
 
   -- the text was answered to its end
   pub record Ends : Type 0 where
     pub goes : Goes
     pub read : IfSome old.left (λ text. new.left ≡ Some [])
-    pub answered : IfSome old.left (λ text. AnswersParts replies told history (text_parts text) old.stands.around new.stands.around (CarriesOut IsRun d old.stands.disk new.stands.disk history old.stands.held new.stands.held))
+    pub answered : IfSome old.left (λ text. AnswersParts who g history (text_parts text) old.stands.around new.stands.around (CarriesOut IsRun d old.stands.disk new.stands.disk history old.stands.held new.stands.held))
     pub short : IfSome old.left (λ text. length text < 2 ^ 40)
     pub rests : IsAtRest d old.stands.disk history → RestsMore d new.stands.disk history
     pub shuts : IsShut d old.stands.disk → IsShut d new.stands.disk
@@ -77,12 +88,12 @@ module _ {D A : Type 0} (d : Ghosts D) (replies : A → Asked → Answered → A
   -- it halted before
   pub record Halts (why : Halt) : Type 0 where
     pub goes : Goes
-    pub stops : why ≢ halt.Source → why ≢ halt.Long → IfSome old.left (λ text. BeginsOn d replies told history old.stands new.stands why text new.left)
+    pub stops : why ≢ halt.Source → why ≢ halt.Long → IfSome old.left (λ text. BeginsOn d who g history old.stands new.stands why text new.left)
     pub blames : (at : Differs) → why ≡ halt.Differs at → IsNoRun history at
-    pub finds : (at : Differs) → why ≡ halt.Differs at → IfSome old.left (λ text. FindsOn d replies told history old.stands new.stands text new.left)
+    pub finds : (at : Differs) → why ≡ halt.Differs at → IfSome old.left (λ text. FindsOn d who g history old.stands new.stands text new.left)
     pub early : why ≡ halt.Source → TookFewer (2 ^ 40) old.left new.left
     pub long : why ≡ halt.Long → IfSome old.left (λ text. (2 ^ 40 ≤ length text) × (new.left ≡ Some (drop (2 ^ 40) text)))
-    pub taken : (why ≡ halt.Source) ⊎ (why ≡ halt.Long) → AnswersTaken replies told history old.left new.left whole_parts old.stands.around new.stands.around (CarriesOut IsRun d old.stands.disk new.stands.disk history old.stands.held new.stands.held)
+    pub taken : (why ≡ halt.Source) ⊎ (why ≡ halt.Long) → AnswersTaken who g history old.left new.left whole_parts old.stands.around new.stands.around (CarriesOut IsRun d old.stands.disk new.stands.disk history old.stands.held new.stands.held)
     pub still_rests : why ≢ halt.Disk → why ≢ halt.NoMemory → IsAtRest d old.stands.disk history → RestsMore d new.stands.disk history
     pub still_shuts : why ≢ halt.Disk → why ≢ halt.NoMemory → IsShut d old.stands.disk → IsShut d new.stands.disk
     pub source : why ≡ halt.Source → Rose old.source_faults new.source_faults
@@ -105,8 +116,8 @@ never-taken : {P : Type 0} (x : Unit {0}) → IsErrOf (Ok x) halt.Source ⊎ IsE
 never-taken x (inl is) = absurd (not-ok x halt.Source is)
 never-taken x (inr is) = absurd (not-ok x halt.Long is)
 
-module _ {D A : Type 0} {d : Ghosts D} {replies : A → Asked → Answered → A → Type 0} {told : Told} {history : List Record} {old new : Scene D A} where
-  pub leaves-done : (x : Unit {0}) → Ends d replies told history old new → Leaves d replies told history (Ok x) old new
+module _ {D A : Type 0} {d : Ghosts D} {who : Answering A} {g : Given} {history : List Record} {old new : Scene D A} where
+  pub leaves-done : (x : Unit {0}) → Ends d who g history old new → Leaves d who g history (Ok x) old new
   leaves-done x e = record {
     read = e.read;
     answered = e.answered;
@@ -128,10 +139,10 @@ module _ {D A : Type 0} {d : Ghosts D} {replies : A → Asked → Answered → A
     disk = λ is. absurd (not-ok x halt.Disk is);
     full = λ log payload is. absurd (not-ok x (halt.Full log payload) is);
     later = e.goes.later;
-    asked = e.goes.asked;
+    touched = e.goes.touched;
   }
 
-  leaves-err : (why : Halt) → Halts d replies told history old new why → Leaves d replies told history (Err why) old new
+  leaves-err : (why : Halt) → Halts d who g history old new why → Leaves d who g history (Err why) old new
   leaves-err why h = record {
     read = tt;
     answered = tt;
@@ -153,14 +164,14 @@ module _ {D A : Type 0} {d : Ghosts D} {replies : A → Asked → Answered → A
     disk = λ is. h.disk (same-halt why halt.Disk is);
     full = λ log payload is. h.full log payload (same-halt why (halt.Full log payload) is);
     later = h.goes.later;
-    asked = h.goes.asked;
+    touched = h.goes.touched;
   }
 
   -- the result is this error
-  pub leaves-halted : (r : Result (Unit {0}) Halt) (why : Halt) → r ≡ Err why → Halts d replies told history old new why → Leaves d replies told history r old new
-  leaves-halted r why is h = subst (λ (x : Result (Unit {0}) Halt). Leaves d replies told history x old new) (sym is) (leaves-err why h)
+  pub leaves-halted : (r : Result (Unit {0}) Halt) (why : Halt) → r ≡ Err why → Halts d who g history old new why → Leaves d who g history r old new
+  leaves-halted r why is h = subst (λ (x : Result (Unit {0}) Halt). Leaves d who g history x old new) (sym is) (leaves-err why h)
 
   -- whatever it is
-  pub leaves-by : (r : Result (Unit {0}) Halt) → ((x : Unit {0}) → r ≡ Ok x → Ends d replies told history old new) → ((why : Halt) → r ≡ Err why → Halts d replies told history old new why) → Leaves d replies told history r old new
+  pub leaves-by : (r : Result (Unit {0}) Halt) → ((x : Unit {0}) → r ≡ Ok x → Ends d who g history old new) → ((why : Halt) → r ≡ Err why → Halts d who g history old new why) → Leaves d who g history r old new
   leaves-by (Ok x) ends halts = leaves-done x (ends x refl)
   leaves-by (Err why) ends halts = leaves-err why (halts why refl)

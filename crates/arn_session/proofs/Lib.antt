@@ -1,6 +1,10 @@
 mod UseLemmas
 mod ResultLemmas
 mod HaltLemmas
+mod ReplyLemmas
+mod TouchLemmas
+mod NoneLemmas
+mod StandLemmas
 mod PointLemmas
 mod TranscriptLemmas
 mod Progress

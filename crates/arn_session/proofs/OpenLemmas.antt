@@ -4,7 +4,6 @@ use Rattle.std.proofs.lemmas.Option.{IfSome_then}
 use Rattle.arn_base.specs.declared.disk.Disk.{Ghosts}
 use Rattle.arn_base.specs.declared.records.Record.{Record}
 use Rattle.arn_commands.specs.Parts.{Part, text_parts}
-use Rattle.parts_model.specs.Replies.{Answered}
 use Rattle.log_model.specs.Records.{IsRun}
 use Rattle.log_store.specs.Causes.{IsCauseOf}
 use Rattle.log_store.specs.Log.{IsLog}
@@ -13,15 +12,15 @@ use Rattle.log_store.specs.Stores.{StoreState, IsLeftBy}
 use Rattle.log_store.specs.declared.errors.OpenError.{OpenError}
 use Rattle.log_store.specs.declared.errors.OpenError.TheVariants as opening
 use Rattle.log_store.specs.declared.size.TheConstants.{MOST_LOG}
-use Rattle.guest_devices.specs.Answers.{Asked}
 use Rattle.session_effects.specs.Carrying.{HoldsLog, IsAtRest, IsShut, CarriesOut, StopsBetween, RestsMore}
 use Rattle.session_effects.specs.Effects.{Effect, committed}
 use Rattle.session_effects.specs.Laws.{BehindHalts, OpenedCarries}
 use Rattle.session_effects.specs.declared.halt.Halt.{Halt}
 use Rattle.session_effects.specs.declared.halt.Halt.TheVariants as halt
 use Rattle.session_runs.specs.Points.{Advances, Stops, Surroundings}
+use Rattle.session_runs.specs.Touches.{Answering}
 use Rattle.session_runs.specs.Turns.{Point}
-use Rattle.session_model.specs.Questions.{Told}
+use Rattle.session_commands.specs.Given.{Given}
 use Rattle.arn_session.specs.Answered.{AnswersParts, AnswersTaken}
 use Rattle.arn_session.specs.Begun.{BeginsOn, FindsOn, standing}
 use Rattle.arn_session.specs.Opening.{HasOpened, IsOpened}
@@ -91,50 +90,53 @@ module _ {D : Type 0} (d : Ghosts D) where
   log-is-none disk history was opening.Disk not_disk not_memory cause = not_disk refl
   log-is-none disk history was opening.NoMemory not_disk not_memory cause = not_memory refl
 
-module _ {D A : Type 0} (d : Ghosts D) (replies : A → Asked → Answered → A → Type 0) (told : Told) (carries : OpenedCarries IsRun d) (halts : BehindHalts IsRun d) (old mid new : D) (h0 h1 : Option (List ℕ)) (u v : Surroundings A) (entries : List Record) (opening : CarriesOut IsRun d old mid entries h0 h0 []) where
-  abbrev Advances-opened : (a b : Point) (n : ℕ) → Advances replies a b u v n (CarriesOut IsRun d mid new entries h0 h1) → Advances replies a b u v n (CarriesOut IsRun d old new entries h0 h1)
+module _ {D A : Type 0} (d : Ghosts D) (who : Answering A) (g : Given) (carries : OpenedCarries IsRun d) (halts : BehindHalts IsRun d) (old mid new : D) (h0 h1 : Option (List ℕ)) (u v : Surroundings A) (entries : List Record) (opening : CarriesOut IsRun d old mid entries h0 h0 []) where
+  abbrev Advances-opened : (a b : Point) (n : ℕ) → Advances who a b u v n (CarriesOut IsRun d mid new entries h0 h1) → Advances who a b u v n (CarriesOut IsRun d old new entries h0 h1)
   Advances-opened a b n p = record {
     slices = p.slices;
-    asks = p.asks;
+    touches = p.touches;
     effects = p.effects;
     leads = p.leads;
     names = p.names;
+    unplugs = p.unplugs;
     begins = p.begins;
     carries = carries old mid new entries h0 h1 opening p.effects p.carries;
     picked = p.picked;
     in_range = p.in_range;
-    replied = p.replied;
+    touched = p.touched;
     executed = p.executed;
   }
 
-  abbrev Stops-opened : (why : Halt) (from : Point) (n : ℕ) → Stops IsRun d replies mid new entries h0 h1 why from u v n → Stops IsRun d replies old new entries h0 h1 why from u v n
+  abbrev Stops-opened : (why : Halt) (from : Point) (n : ℕ) → Stops IsRun d who mid new entries h0 h1 why from u v n → Stops IsRun d who old new entries h0 h1 why from u v n
   Stops-opened why from n p = record {
     slices = p.slices;
     lost = p.lost;
     part = p.part;
-    asks = p.asks;
-    lost_asks = p.lost_asks;
-    part_asks = p.part_asks;
+    touches = p.touches;
+    lost_touches = p.lost_touches;
+    part_touches = p.part_touches;
     done = p.done;
     undone = p.undone;
     are_effects = p.are_effects;
-    are_asks = p.are_asks;
+    are_touches = p.are_touches;
     stopped = halts old mid new entries entries h0 h0 h1 why [] p.done p.undone (sym (append-nil entries)) opening p.stopped;
     names = p.names;
+    unplugs = p.unplugs;
     begins = p.begins;
     names_lost = p.names_lost;
+    unplugs_lost = p.unplugs_lost;
     without = p.without;
     spent = p.spent;
     many = p.many;
     picked = p.picked;
     in_range = p.in_range;
-    replied = p.replied;
+    touched = p.touched;
     one_part = p.one_part;
     by_memory = p.by_memory;
     executed = p.executed;
   }
 
-  Answers-behind : (parts : List Part) → AnswersParts replies told entries parts u v (CarriesOut IsRun d mid new entries h0 h1) → AnswersParts replies told entries parts u v (CarriesOut IsRun d old new entries h0 h1)
+  Answers-behind : (parts : List Part) → AnswersParts who g entries parts u v (CarriesOut IsRun d mid new entries h0 h1) → AnswersParts who g entries parts u v (CarriesOut IsRun d old new entries h0 h1)
   Answers-behind parts a = record {
     commands = a.commands;
     each_asks = a.each_asks;
@@ -144,7 +146,7 @@ module _ {D A : Type 0} (d : Ghosts D) (replies : A → Asked → Answered → A
     on_run = a.on_run;
   }
 
-  Begins-behind : (why : Halt) (text : List ℕ) (l : Option (List ℕ)) → BeginsOn d replies told entries (standing mid h0 u) (standing new h1 v) why text l → BeginsOn d replies told entries (standing old h0 u) (standing new h1 v) why text l
+  Begins-behind : (why : Halt) (text : List ℕ) (l : Option (List ℕ)) → BeginsOn d who g entries (standing mid h0 u) (standing new h1 v) why text l → BeginsOn d who g entries (standing old h0 u) (standing new h1 v) why text l
   Begins-behind why text l b = record {
     is_begun = b.is_begun;
     answered = b.answered;
@@ -161,7 +163,7 @@ module _ {D A : Type 0} (d : Ghosts D) (replies : A → Asked → Answered → A
     ];
   }
 
-  Finds-behind : (text : List ℕ) (l : Option (List ℕ)) → FindsOn d replies told entries (standing mid h0 u) (standing new h1 v) text l → FindsOn d replies told entries (standing old h0 u) (standing new h1 v) text l
+  Finds-behind : (text : List ℕ) (l : Option (List ℕ)) → FindsOn d who g entries (standing mid h0 u) (standing new h1 v) text l → FindsOn d who g entries (standing old h0 u) (standing new h1 v) text l
   Finds-behind text l b = record {
     is_begun = b.is_begun;
     answered = b.answered;
@@ -175,25 +177,25 @@ module _ {D A : Type 0} (d : Ghosts D) (replies : A → Asked → Answered → A
   }
 
   -- a session that answered all, behind its opening
-  pub Answers-opened : (history : List Record) → entries ≡ history → (l0 : Option (List ℕ)) → IfSome l0 (λ text. AnswersParts replies told entries (text_parts text) u v (CarriesOut IsRun d mid new entries h0 h1)) → IfSome l0 (λ text. AnswersParts replies told history (text_parts text) u v (CarriesOut IsRun d old new history h0 h1))
+  pub Answers-opened : (history : List Record) → entries ≡ history → (l0 : Option (List ℕ)) → IfSome l0 (λ text. AnswersParts who g entries (text_parts text) u v (CarriesOut IsRun d mid new entries h0 h1)) → IfSome l0 (λ text. AnswersParts who g history (text_parts text) u v (CarriesOut IsRun d old new history h0 h1))
   Answers-opened history same l0 answers =
-      subst (λ (h : List Record). IfSome l0 (λ text. AnswersParts replies told h (text_parts text) u v (CarriesOut IsRun d old new h h0 h1))) same
+      subst (λ (h : List Record). IfSome l0 (λ text. AnswersParts who g h (text_parts text) u v (CarriesOut IsRun d old new h h0 h1))) same
       (IfSome_then l0 answers (λ text a. Answers-behind (text_parts text) a))
 
-  pub Taken-opened : (history : List Record) → entries ≡ history → (l0 l : Option (List ℕ)) (parts : List ℕ → List Part) → AnswersTaken replies told entries l0 l parts u v (CarriesOut IsRun d mid new entries h0 h1) → AnswersTaken replies told history l0 l parts u v (CarriesOut IsRun d old new history h0 h1)
+  pub Taken-opened : (history : List Record) → entries ≡ history → (l0 l : Option (List ℕ)) (parts : List ℕ → List Part) → AnswersTaken who g entries l0 l parts u v (CarriesOut IsRun d mid new entries h0 h1) → AnswersTaken who g history l0 l parts u v (CarriesOut IsRun d old new history h0 h1)
   Taken-opened history same l0 l parts a =
-      subst (λ (h : List Record). AnswersTaken replies told h l0 l parts u v (CarriesOut IsRun d old new h h0 h1)) same
+      subst (λ (h : List Record). AnswersTaken who g h l0 l parts u v (CarriesOut IsRun d old new h h0 h1)) same
       (record { taken = a.taken; is_taken = a.is_taken; answered = Answers-behind (parts a.taken) a.answered })
 
   -- one that stopped
-  pub Begins-opened : (history : List Record) → entries ≡ history → (why is_why : Halt) → why ≡ is_why → (is_why ≢ halt.Source) → (is_why ≢ halt.Long) → (l0 l : Option (List ℕ)) → (why ≢ halt.Source → why ≢ halt.Long → IfSome l0 (λ text. BeginsOn d replies told entries (standing mid h0 u) (standing new h1 v) why text l)) → IfSome l0 (λ text. BeginsOn d replies told history (standing old h0 u) (standing new h1 v) is_why text l)
+  pub Begins-opened : (history : List Record) → entries ≡ history → (why is_why : Halt) → why ≡ is_why → (is_why ≢ halt.Source) → (is_why ≢ halt.Long) → (l0 l : Option (List ℕ)) → (why ≢ halt.Source → why ≢ halt.Long → IfSome l0 (λ text. BeginsOn d who g entries (standing mid h0 u) (standing new h1 v) why text l)) → IfSome l0 (λ text. BeginsOn d who g history (standing old h0 u) (standing new h1 v) is_why text l)
   Begins-opened history same why is_why is not_source not_long l0 l stops =
-      subst (λ (h : List Record). IfSome l0 (λ text. BeginsOn d replies told h (standing old h0 u) (standing new h1 v) is_why text l)) same
-      (subst (λ (w : Halt). IfSome l0 (λ text. BeginsOn d replies told entries (standing old h0 u) (standing new h1 v) w text l)) is
+      subst (λ (h : List Record). IfSome l0 (λ text. BeginsOn d who g h (standing old h0 u) (standing new h1 v) is_why text l)) same
+      (subst (λ (w : Halt). IfSome l0 (λ text. BeginsOn d who g entries (standing old h0 u) (standing new h1 v) w text l)) is
       (IfSome_then l0 (stops (λ e. not_source (sym is ∙ e)) (λ e. not_long (sym is ∙ e))) (λ text b. Begins-behind why text l b)))
 
   -- one that found out that its history isn't a run's
-  pub Finds-opened : (history : List Record) → entries ≡ history → (l0 l : Option (List ℕ)) → IfSome l0 (λ text. FindsOn d replies told entries (standing mid h0 u) (standing new h1 v) text l) → IfSome l0 (λ text. FindsOn d replies told history (standing old h0 u) (standing new h1 v) text l)
+  pub Finds-opened : (history : List Record) → entries ≡ history → (l0 l : Option (List ℕ)) → IfSome l0 (λ text. FindsOn d who g entries (standing mid h0 u) (standing new h1 v) text l) → IfSome l0 (λ text. FindsOn d who g history (standing old h0 u) (standing new h1 v) text l)
   Finds-opened history same l0 l finds =
-      subst (λ (h : List Record). IfSome l0 (λ text. FindsOn d replies told h (standing old h0 u) (standing new h1 v) text l)) same
+      subst (λ (h : List Record). IfSome l0 (λ text. FindsOn d who g h (standing old h0 u) (standing new h1 v) text l)) same
       (IfSome_then l0 finds (λ text b. Finds-behind text l b))

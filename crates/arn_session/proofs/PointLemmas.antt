@@ -6,55 +6,48 @@ use Rattle.std.proofs.lemmas.List.Elements.{filter_map-append}
 use Rattle.arn_base.specs.declared.boxes.Choice.{Choice}
 use Rattle.arn_base.specs.declared.disk.Disk.{Ghosts}
 use Rattle.arn_base.specs.declared.records.Record.{Record}
-use Rattle.parts_model.specs.Replies.{Answered}
 use Rattle.arn_model.specs.Run.{Input}
 use Rattle.log_model.specs.Laws.{BehindAppend, NamedAppend}
 use Rattle.log_model.specs.Records.{IsRun, named, reply_behind}
 use Rattle.log_store.specs.Stores.{StoreState}
-use Rattle.guest_devices.specs.Answers.{Asked}
-use Rattle.guest_machine.specs.LegLaws.{PicksFollow, RepliesFollow, all_named, as_named}
-use Rattle.guest_machine.specs.Legs.{AreInRange, Ask, Picked, PickedBy, RepliedBy, brought}
+use Rattle.guest_machine.specs.LegLaws.{PicksFollow}
+use Rattle.guest_machine.specs.Legs.{AreInRange, Ask, Picked, PickedBy, brought}
 use Rattle.session_effects.specs.Carrying.{IsAtCommit, StopsBetween}
 use Rattle.session_effects.specs.Effects.{Effect, committed, records_of}
 use Rattle.session_effects.specs.Laws.{EffectsFollow, HaltsFollow}
 use Rattle.session_effects.specs.Standing.{Carries}
 use Rattle.session_effects.specs.declared.halt.Halt.{Halt}
 use Rattle.session_runs.specs.Points.{Advances, EndsWithin, IsSpent, Stops, Surroundings, slice_in, slices_cost, slices_in}
+use Rattle.session_runs.specs.Touches.{Answering, Touch, TouchedBy, asks_in, named_at, unplugs_in}
 use Rattle.session_runs.specs.Turns.{Point, Turn, behind, finished}
+use Rattle.arn_session.proofs.TouchLemmas.{Keeps, asks-append, named-append, touched-append, unplugs-append, unplugs-behind}
 
--- what holds of effects, of records and of slices that follow one another
-pub record Laws {D A : Type 0} (d : Ghosts D) (replies : A → Asked → Answered → A → Type 0) : Type 0 where
+-- what holds of effects, of records, of slices and of touches that follow one another
+pub record Laws {D A : Type 0} (d : Ghosts D) (who : Answering A) : Type 0 where
   pub effects : EffectsFollow IsRun d
   pub halts : HaltsFollow IsRun d
   pub named : NamedAppend
   pub begun : BehindAppend
   pub picks : PicksFollow
-  pub replied : RepliesFollow replies
+  pub kept : Keeps who
 
-pub laws-of : {D A : Type 0} {d : Ghosts D} {replies : A → Asked → Answered → A → Type 0} → EffectsFollow IsRun d → HaltsFollow IsRun d → NamedAppend → BehindAppend → PicksFollow → RepliesFollow replies → Laws d replies
-laws-of effects halts named begun picks replied = record { effects = effects; halts = halts; named = named; begun = begun; picks = picks; replied = replied }
+pub laws-of : {D A : Type 0} {d : Ghosts D} {who : Answering A} → EffectsFollow IsRun d → HaltsFollow IsRun d → NamedAppend → BehindAppend → PicksFollow → Keeps who → Laws d who
+laws-of effects halts named begun picks kept = record { effects = effects; halts = halts; named = named; begun = begun; picks = picks; kept = kept }
 
-turn-of : (e e' : List Effect) (a a' : List Ask) (l : Option (List Picked)) → e ≡ e' → a ≡ a' → (let t : Turn = record { effects = e; asks = a; left = l } in t) ≡ (let t : Turn = record { effects = e'; asks = a'; left = l } in t)
+turn-of : (e e' : List Effect) (a a' : List Touch) (l : Option (List Picked)) → e ≡ e' → a ≡ a' → (let t : Turn = record { effects = e; touches = a; left = l } in t) ≡ (let t : Turn = record { effects = e'; touches = a'; left = l } in t)
 turn-of e e' a a' l p q =
-    ap (λ (x : List Effect). let t : Turn = record { effects = x; asks = a; left = l } in t) p ∙ ap (λ (x : List Ask). let t : Turn = record { effects = e'; asks = x; left = l } in t) q
+    ap (λ (x : List Effect). let t : Turn = record { effects = x; touches = a; left = l } in t) p ∙ ap (λ (x : List Touch). let t : Turn = record { effects = e'; touches = x; left = l } in t) q
 
-pub behind-behind : (e e' : List Effect) (a a' : List Ask) (t : Turn) → behind e a (behind e' a' t) ≡ behind (e ++ e') (a ++ a') t
-behind-behind e e' a a' t = turn-of _ _ _ _ _ (sym (append_assoc e e' t.effects)) (sym (append_assoc a a' t.asks))
+pub behind-behind : (e e' : List Effect) (a a' : List Touch) (t : Turn) → behind e a (behind e' a' t) ≡ behind (e ++ e') (a ++ a') t
+behind-behind e e' a a' t = turn-of _ _ _ _ _ (sym (append_assoc e e' t.effects)) (sym (append_assoc a a' t.touches))
 
 -- nothing comes behind a turn
-pub behind-finished : (t : Turn) (rest : List Picked) → t.left ≡ Some rest → behind t.effects t.asks (finished rest) ≡ t
+pub behind-finished : (t : Turn) (rest : List Picked) → t.left ≡ Some rest → behind t.effects t.touches (finished rest) ≡ t
 behind-finished t rest is =
-    turn-of _ _ _ _ _ (append-nil t.effects) (append-nil t.asks) ∙ ap (λ (l : Option (List Picked)). let s : Turn = record { effects = t.effects; asks = t.asks; left = l } in s) (sym is)
+    turn-of _ _ _ _ _ (append-nil t.effects) (append-nil t.touches) ∙ ap (λ (l : Option (List Picked)). let s : Turn = record { effects = t.effects; touches = t.touches; left = l } in s) (sym is)
 
 pub committed-append : (xs ys : List Effect) → committed (xs ++ ys) ≡ committed xs ++ committed ys
 committed-append xs ys = flat_map-append records_of xs ys
-
-all_named-append : (asks more : List Ask) (slices others : List Picked) → length asks ≡ length slices → all_named (asks ++ more) (slices ++ others) ≡ all_named asks slices ++ all_named more others
-all_named-append [] more [] others many = refl
-all_named-append [] more (s ∷ slices) others many = absurd (omega (arith, many))
-all_named-append (a ∷ asks) more [] others many = absurd (omega (arith, many))
-all_named-append (a ∷ asks) more (s ∷ slices) others many =
-    ap (λ (x : List Picked). as_named a.machine s ∷ x) (all_named-append asks more slices others (omega (arith, many)))
 
 slices_in-append : NamedAppend → (entries more : List Record) → reply_behind more ≡ None → slices_in (entries ++ more) ≡ slices_in entries ++ slices_in more
 slices_in-append law entries more begins = ap (λ (x : List Input). filter_map slice_in x) (law entries more begins) ∙ filter_map-append slice_in (named entries) (named more)
@@ -96,20 +89,21 @@ PickedBy-none before after same = record { many = refl; each = λ k. nothing (be
 pub PickedBy-same : (before after now : ℕ → Option Choice) (asks : List Ask) (slices : List Picked) → ((k : ℕ) → now k ≡ after k) → PickedBy before after asks slices → PickedBy before now asks slices
 PickedBy-same before after now asks slices same p = record { many = p.many; each = p.each; later = λ k. same k ∙ p.later k }
 
-module _ {A : Type 0} (replies : A → Asked → Answered → A → Type 0) where
+module _ {A : Type 0} (who : Answering A) where
   -- the first point may be written in another way
-  abbrev pub Advances-along : (a a' b : Point) (u v : Surroundings A) (cost : ℕ) (carried : List Effect → Type 0) → ((slices : List Picked) → a' slices ≡ a slices) → Advances replies a b u v cost carried → Advances replies a' b u v cost carried
+  abbrev pub Advances-along : (a a' b : Point) (u v : Surroundings A) (cost : ℕ) (carried : List Effect → Type 0) → ((slices : List Picked) → a' slices ≡ a slices) → Advances who a b u v cost carried → Advances who a' b u v cost carried
   Advances-along a a' b u v cost carried same p = record {
     slices = p.slices;
-    asks = p.asks;
+    touches = p.touches;
     effects = p.effects;
-    leads = λ rest. same (all_named p.asks p.slices ++ rest) ∙ p.leads rest;
+    leads = λ rest. same (named_at p.touches p.slices ++ rest) ∙ p.leads rest;
     names = p.names;
+    unplugs = p.unplugs;
     begins = p.begins;
     carries = p.carries;
     picked = p.picked;
     in_range = p.in_range;
-    replied = p.replied;
+    touched = p.touched;
     executed = p.executed;
   }
 
@@ -117,57 +111,61 @@ pub without-along : (a a' : Point) (lost : List Picked) (done : List Effect) (ta
 without-along a a' lost done taken same (inl none) = inl none
 without-along a a' lost done taken same (inr cut) = inr (subst (λ (t : Turn). EndsWithin done t) (sym same) cut)
 
-module _ {D A : Type 0} (d : Ghosts D) (replies : A → Asked → Answered → A → Type 0) where
-  abbrev pub Stops-along : (a a' : Point) (u v : Surroundings A) (cost : ℕ) (old new : D) (history : List Record) (h0 h1 : Option (List ℕ)) (why : Halt) → ((slices : List Picked) → a' slices ≡ a slices) → Stops IsRun d replies old new history h0 h1 why a u v cost → Stops IsRun d replies old new history h0 h1 why a' u v cost
+module _ {D A : Type 0} (d : Ghosts D) (who : Answering A) where
+  abbrev pub Stops-along : (a a' : Point) (u v : Surroundings A) (cost : ℕ) (old new : D) (history : List Record) (h0 h1 : Option (List ℕ)) (why : Halt) → ((slices : List Picked) → a' slices ≡ a slices) → Stops IsRun d who old new history h0 h1 why a u v cost → Stops IsRun d who old new history h0 h1 why a' u v cost
   Stops-along a a' u v cost old new history h0 h1 why same q = record {
     slices = q.slices;
     lost = q.lost;
     part = q.part;
-    asks = q.asks;
-    lost_asks = q.lost_asks;
-    part_asks = q.part_asks;
+    touches = q.touches;
+    lost_touches = q.lost_touches;
+    part_touches = q.part_touches;
     done = q.done;
     undone = q.undone;
-    are_effects = ap (λ (t : Turn). t.effects) (same (all_named q.asks q.slices ++ all_named q.lost_asks q.lost)) ∙ q.are_effects;
-    are_asks = ap (λ (t : Turn). t.asks) (same (all_named q.asks q.slices ++ (all_named q.lost_asks q.lost ++ q.part))) ∙ q.are_asks;
+    are_effects = ap (λ (t : Turn). t.effects) (same (named_at q.touches q.slices ++ named_at q.lost_touches q.lost)) ∙ q.are_effects;
+    are_touches = ap (λ (t : Turn). t.touches) (same (named_at q.touches q.slices ++ (named_at q.lost_touches q.lost ++ q.part))) ∙ q.are_touches;
     stopped = q.stopped;
     names = q.names;
+    unplugs = q.unplugs;
     begins = q.begins;
     names_lost = q.names_lost;
-    without = without-along a a' q.lost q.done (all_named q.asks q.slices) (same (all_named q.asks q.slices)) q.without;
-    spent = subst (λ (o : Option (List Picked)). IsSpent q.lost q.undone o) (sym (ap (λ (t : Turn). t.left) (same (all_named q.asks q.slices ++ all_named q.lost_asks q.lost)))) q.spent;
+    unplugs_lost = q.unplugs_lost;
+    without = without-along a a' q.lost q.done (named_at q.touches q.slices) (same (named_at q.touches q.slices)) q.without;
+    spent = subst (λ (o : Option (List Picked)). IsSpent q.lost q.undone o) (sym (ap (λ (t : Turn). t.left) (same (named_at q.touches q.slices ++ named_at q.lost_touches q.lost)))) q.spent;
     many = q.many;
     picked = q.picked;
     in_range = q.in_range;
-    replied = q.replied;
+    touched = q.touched;
     one_part = q.one_part;
     by_memory = q.by_memory;
     executed = q.executed;
   }
 
   -- it may have cost more
-  abbrev pub Stops-dearer : (a : Point) (u v : Surroundings A) (cost most : ℕ) (old new : D) (history : List Record) (h0 h1 : Option (List ℕ)) (why : Halt) → cost ≤ most → Stops IsRun d replies old new history h0 h1 why a u v cost → Stops IsRun d replies old new history h0 h1 why a u v most
+  abbrev pub Stops-dearer : (a : Point) (u v : Surroundings A) (cost most : ℕ) (old new : D) (history : List Record) (h0 h1 : Option (List ℕ)) (why : Halt) → cost ≤ most → Stops IsRun d who old new history h0 h1 why a u v cost → Stops IsRun d who old new history h0 h1 why a u v most
   Stops-dearer a u v cost most old new history h0 h1 why dear q = record {
     slices = q.slices;
     lost = q.lost;
     part = q.part;
-    asks = q.asks;
-    lost_asks = q.lost_asks;
-    part_asks = q.part_asks;
+    touches = q.touches;
+    lost_touches = q.lost_touches;
+    part_touches = q.part_touches;
     done = q.done;
     undone = q.undone;
     are_effects = q.are_effects;
-    are_asks = q.are_asks;
+    are_touches = q.are_touches;
     stopped = q.stopped;
     names = q.names;
+    unplugs = q.unplugs;
     begins = q.begins;
     names_lost = q.names_lost;
+    unplugs_lost = q.unplugs_lost;
     without = q.without;
     spent = q.spent;
     many = q.many;
     picked = q.picked;
     in_range = q.in_range;
-    replied = q.replied;
+    touched = q.touched;
     one_part = q.one_part;
     by_memory = q.by_memory;
     executed = omega (arith, q.executed, dear);
@@ -175,15 +173,15 @@ module _ {D A : Type 0} (d : Ghosts D) (replies : A → Asked → Answered → A
 
   -- one lies behind another, with the slices of both
   pub record Both (a c : Point) (u w : Surroundings A) (cost : ℕ) (old new : D) (s0 s2 : StoreState) (h0 h2 : Option (List ℕ)) (first second : List Picked) : Type 0 where
-    pub advances : Advances replies a c u w cost (Carries IsRun d old new s0 s2 h0 h2)
-    pub slices : all_named advances.asks advances.slices ≡ first ++ second
+    pub advances : Advances who a c u w cost (Carries IsRun d old new s0 s2 h0 h2)
+    pub slices : named_at advances.touches advances.slices ≡ first ++ second
 
   -- a halt behind these slices
   pub record Behind (a : Point) (u w : Surroundings A) (cost : ℕ) (old new : D) (history : List Record) (h0 h2 : Option (List ℕ)) (why : Halt) (first second : List Picked) : Type 0 where
-    pub stops : Stops IsRun d replies old new history h0 h2 why a u w cost
-    pub slices : all_named stops.asks stops.slices ++ all_named stops.lost_asks stops.lost ≡ first ++ second
+    pub stops : Stops IsRun d who old new history h0 h2 why a u w cost
+    pub slices : named_at stops.touches stops.slices ++ named_at stops.lost_touches stops.lost ≡ first ++ second
 
-  module _ (laws : Laws d replies) where
+  module _ (laws : Laws d who) where
     -- effects behind effects
     Carries-append : (old mid new : D) (s0 s1 s2 : StoreState) (h0 h1 h2 : Option (List ℕ)) (first others : List Effect) → Carries IsRun d old mid s0 s1 h0 h1 first → Carries IsRun d mid new s1 s2 h1 h2 others → Carries IsRun d old new s0 s2 h0 h2 (first ++ others)
     Carries-append old mid new s0 s1 s2 h0 h1 h2 first others a b = record {
@@ -196,76 +194,90 @@ module _ {D A : Type 0} (d : Ghosts D) (replies : A → Asked → Answered → A
       out = laws.effects.append old mid new s0.entries s1.entries h0 h1 h2 first others a.entries a.out b.out;
     }
 
-    pub Advances-append : (a b c : Point) (u v w : Surroundings A) (cost more : ℕ) (old mid new : D) (s0 s1 s2 : StoreState) (h0 h1 h2 : Option (List ℕ)) (p : Advances replies a b u v cost (Carries IsRun d old mid s0 s1 h0 h1)) (q : Advances replies b c v w more (Carries IsRun d mid new s1 s2 h1 h2)) → Both a c u w (cost + more) old new s0 s2 h0 h2 (all_named p.asks p.slices) (all_named q.asks q.slices)
+    pub Advances-append : (a b c : Point) (u v w : Surroundings A) (cost more : ℕ) (old mid new : D) (s0 s1 s2 : StoreState) (h0 h1 h2 : Option (List ℕ)) (p : Advances who a b u v cost (Carries IsRun d old mid s0 s1 h0 h1)) (q : Advances who b c v w more (Carries IsRun d mid new s1 s2 h1 h2)) → Both a c u w (cost + more) old new s0 s2 h0 h2 (named_at p.touches p.slices) (named_at q.touches q.slices)
     Advances-append a b c u v w cost more old mid new s0 s1 s2 h0 h1 h2 p q =
-        let split : all_named (p.asks ++ q.asks) (p.slices ++ q.slices) ≡ all_named p.asks p.slices ++ all_named q.asks q.slices = all_named-append p.asks q.asks p.slices q.slices p.picked.many in
+        let xs : List Picked = named_at p.touches p.slices in
+        let ys : List Picked = named_at q.touches q.slices in
+        let split : named_at (p.touches ++ q.touches) (p.slices ++ q.slices) ≡ xs ++ ys = named-append p.touches q.touches p.slices q.slices p.picked.many in
+        let asks : asks_in (p.touches ++ q.touches) ≡ asks_in p.touches ++ asks_in q.touches = asks-append p.touches q.touches in
         record {
           advances = record {
             slices = p.slices ++ q.slices;
-            asks = p.asks ++ q.asks;
+            touches = p.touches ++ q.touches;
             effects = p.effects ++ q.effects;
             leads = λ rest.
                 ap (λ (x : List Picked). a (x ++ rest)) split
-                ∙ ap a (append_assoc (all_named p.asks p.slices) (all_named q.asks q.slices) rest)
-                ∙ p.leads (all_named q.asks q.slices ++ rest)
-                ∙ ap (λ (t : Turn). behind p.effects p.asks t) (q.leads rest)
-                ∙ behind-behind p.effects q.effects p.asks q.asks (c rest);
-            names = names-append laws.named p.effects q.effects (all_named p.asks p.slices) (all_named q.asks q.slices) q.begins p.names q.names ∙ sym split;
+                ∙ ap a (append_assoc xs ys rest)
+                ∙ p.leads (ys ++ rest)
+                ∙ ap (λ (t : Turn). behind p.effects p.touches t) (q.leads rest)
+                ∙ behind-behind p.effects q.effects p.touches q.touches (c rest);
+            names = names-append laws.named p.effects q.effects xs ys q.begins p.names q.names ∙ sym split;
+            unplugs = unplugs-behind p.effects q.effects (unplugs_in p.touches) (unplugs_in q.touches) p.unplugs q.unplugs ∙ sym (unplugs-append p.touches q.touches);
             begins = begins-append laws.begun p.effects q.effects p.begins q.begins;
             carries = Carries-append old mid new s0 s1 s2 h0 h1 h2 p.effects q.effects p.carries q.carries;
-            picked = laws.picks u.choices v.choices w.choices p.asks q.asks p.slices q.slices p.picked q.picked;
-            in_range = in-range-append p.asks q.asks p.slices q.slices p.picked.many p.in_range q.in_range;
-            replied = laws.replied u.answers v.answers w.answers p.asks q.asks p.slices q.slices p.replied q.replied;
-            executed = omega (arith, p.executed, q.executed, ap slices_cost split, slices_cost-append (all_named p.asks p.slices) (all_named q.asks q.slices));
+            picked =
+                subst (λ (x : List Ask). PickedBy u.choices w.choices x (p.slices ++ q.slices)) (sym asks)
+                (laws.picks u.choices v.choices w.choices (asks_in p.touches) (asks_in q.touches) p.slices q.slices p.picked q.picked);
+            in_range =
+                subst (λ (x : List Ask). AreInRange x (p.slices ++ q.slices)) (sym asks)
+                (in-range-append (asks_in p.touches) (asks_in q.touches) p.slices q.slices p.picked.many p.in_range q.in_range);
+            touched = touched-append who p.touches q.touches p.slices q.slices u.answers v.answers w.answers p.touched q.touched;
+            executed = omega (arith, p.executed, q.executed, ap slices_cost split, slices_cost-append xs ys);
           };
           slices = split;
         }
 
     -- a session that goes on to a point and halts behind it halts behind where it began
-    pub Stops-behind : (a b : Point) (u v w : Surroundings A) (cost more : ℕ) (old mid new : D) (s0 s1 : StoreState) (h0 h1 h2 : Option (List ℕ)) (why : Halt) (p : Advances replies a b u v cost (Carries IsRun d old mid s0 s1 h0 h1)) (q : Stops IsRun d replies mid new s1.entries h1 h2 why b v w more) → Behind a u w (cost + more) old new s0.entries h0 h2 why (all_named p.asks p.slices) (all_named q.asks q.slices ++ all_named q.lost_asks q.lost)
+    pub Stops-behind : (a b : Point) (u v w : Surroundings A) (cost more : ℕ) (old mid new : D) (s0 s1 : StoreState) (h0 h1 h2 : Option (List ℕ)) (why : Halt) (p : Advances who a b u v cost (Carries IsRun d old mid s0 s1 h0 h1)) (q : Stops IsRun d who mid new s1.entries h1 h2 why b v w more) → Behind a u w (cost + more) old new s0.entries h0 h2 why (named_at p.touches p.slices) (named_at q.touches q.slices ++ named_at q.lost_touches q.lost)
     Stops-behind a b u v w cost more old mid new s0 s1 h0 h1 h2 why p q =
-        let xs : List Picked = all_named p.asks p.slices in
-        let ys : List Picked = all_named q.asks q.slices in
-        let zs : List Picked = all_named q.lost_asks q.lost in
-        let split : all_named (p.asks ++ q.asks) (p.slices ++ q.slices) ≡ xs ++ ys = all_named-append p.asks q.asks p.slices q.slices p.picked.many in
-        let lead : a (all_named (p.asks ++ q.asks) (p.slices ++ q.slices) ++ zs) ≡ behind p.effects p.asks (b (ys ++ zs)) =
+        let xs : List Picked = named_at p.touches p.slices in
+        let ys : List Picked = named_at q.touches q.slices in
+        let zs : List Picked = named_at q.lost_touches q.lost in
+        let all : List Touch = q.touches ++ (q.lost_touches ++ q.part_touches) in
+        let taken : List Picked = q.slices ++ (q.lost ++ q.part) in
+        let split : named_at (p.touches ++ q.touches) (p.slices ++ q.slices) ≡ xs ++ ys = named-append p.touches q.touches p.slices q.slices p.picked.many in
+        let asks : asks_in ((p.touches ++ q.touches) ++ (q.lost_touches ++ q.part_touches)) ≡ asks_in p.touches ++ asks_in all =
+        ap asks_in (append_assoc p.touches q.touches (q.lost_touches ++ q.part_touches)) ∙ asks-append p.touches all in
+        let lead : a (named_at (p.touches ++ q.touches) (p.slices ++ q.slices) ++ zs) ≡ behind p.effects p.touches (b (ys ++ zs)) =
         ap (λ (x : List Picked). a (x ++ zs)) split ∙ ap a (append_assoc xs ys zs) ∙ p.leads (ys ++ zs) in
-        let lead_part : a (all_named (p.asks ++ q.asks) (p.slices ++ q.slices) ++ (zs ++ q.part)) ≡ behind p.effects p.asks (b (ys ++ (zs ++ q.part))) =
+        let lead_part : a (named_at (p.touches ++ q.touches) (p.slices ++ q.slices) ++ (zs ++ q.part)) ≡ behind p.effects p.touches (b (ys ++ (zs ++ q.part))) =
         ap (λ (x : List Picked). a (x ++ (zs ++ q.part))) split ∙ ap a (append_assoc xs ys (zs ++ q.part)) ∙ p.leads (ys ++ (zs ++ q.part)) in
-        let alone : a (all_named (p.asks ++ q.asks) (p.slices ++ q.slices)) ≡ behind p.effects p.asks (b ys) = ap a split ∙ p.leads ys in
-        let cost_all : slices_cost (all_named (p.asks ++ q.asks) (p.slices ++ q.slices) ++ zs) ≡ slices_cost xs + slices_cost (ys ++ zs) =
+        let alone : a (named_at (p.touches ++ q.touches) (p.slices ++ q.slices)) ≡ behind p.effects p.touches (b ys) = ap a split ∙ p.leads ys in
+        let cost_all : slices_cost (named_at (p.touches ++ q.touches) (p.slices ++ q.slices) ++ zs) ≡ slices_cost xs + slices_cost (ys ++ zs) =
         ap (λ (x : List Picked). slices_cost (x ++ zs)) split ∙ ap slices_cost (append_assoc xs ys zs) ∙ slices_cost-append xs (ys ++ zs) in
         record {
           stops = record {
             slices = p.slices ++ q.slices;
             lost = q.lost;
             part = q.part;
-            asks = p.asks ++ q.asks;
-            lost_asks = q.lost_asks;
-            part_asks = q.part_asks;
+            touches = p.touches ++ q.touches;
+            lost_touches = q.lost_touches;
+            part_touches = q.part_touches;
             done = p.effects ++ q.done;
             undone = q.undone;
             are_effects = ap (λ (t : Turn). t.effects) lead ∙ ap (λ (e : List Effect). p.effects ++ e) q.are_effects ∙ sym (append_assoc p.effects q.done q.undone);
-            are_asks = ap (λ (t : Turn). t.asks) lead_part ∙ ap (λ (e : List Ask). p.asks ++ e) q.are_asks ∙ sym (append_assoc p.asks q.asks (q.lost_asks ++ q.part_asks));
+            are_touches = ap (λ (t : Turn). t.touches) lead_part ∙ ap (λ (e : List Touch). p.touches ++ e) q.are_touches ∙ sym (append_assoc p.touches q.touches (q.lost_touches ++ q.part_touches));
             stopped = laws.halts.behind old mid new s0.entries s1.entries h0 h1 h2 why p.effects q.done q.undone p.carries.entries p.carries.out q.stopped;
             names = names-append laws.named p.effects q.done xs ys q.begins p.names q.names ∙ sym split;
+            unplugs = unplugs-behind p.effects q.done (unplugs_in p.touches) (unplugs_in q.touches) p.unplugs q.unplugs ∙ sym (unplugs-append p.touches q.touches);
             begins = begins-append laws.begun p.effects q.done p.begins q.begins;
             names_lost = q.names_lost;
+            unplugs_lost = q.unplugs_lost;
             without = without q.without alone;
             spent = subst (λ (o : Option (List Picked)). IsSpent q.lost q.undone o) (sym (ap (λ (t : Turn). t.left) lead)) q.spent;
-            many = omega (arith, p.picked.many, q.many, length-append p.asks q.asks, length-append p.slices q.slices);
+            many = omega (arith, p.picked.many, q.many, ap (λ (x : List Ask). length x) (asks-append p.touches q.touches), length-append (asks_in p.touches) (asks_in q.touches), length-append p.slices q.slices);
             picked =
-                subst (λ (x : List Ask). PickedBy u.choices w.choices x ((p.slices ++ q.slices) ++ (q.lost ++ q.part))) (sym (append_assoc p.asks q.asks (q.lost_asks ++ q.part_asks)))
-                (subst (λ (x : List Picked). PickedBy u.choices w.choices (p.asks ++ (q.asks ++ (q.lost_asks ++ q.part_asks))) x) (sym (append_assoc p.slices q.slices (q.lost ++ q.part)))
-                (laws.picks u.choices v.choices w.choices p.asks (q.asks ++ (q.lost_asks ++ q.part_asks)) p.slices (q.slices ++ (q.lost ++ q.part)) p.picked q.picked));
+                subst (λ (x : List Ask). PickedBy u.choices w.choices x ((p.slices ++ q.slices) ++ (q.lost ++ q.part))) (sym asks)
+                (subst (λ (x : List Picked). PickedBy u.choices w.choices (asks_in p.touches ++ asks_in all) x) (sym (append_assoc p.slices q.slices (q.lost ++ q.part)))
+                (laws.picks u.choices v.choices w.choices (asks_in p.touches) (asks_in all) p.slices taken p.picked q.picked));
             in_range =
-                subst (λ (x : List Ask). AreInRange x ((p.slices ++ q.slices) ++ (q.lost ++ q.part))) (sym (append_assoc p.asks q.asks (q.lost_asks ++ q.part_asks)))
-                (subst (λ (x : List Picked). AreInRange (p.asks ++ (q.asks ++ (q.lost_asks ++ q.part_asks))) x) (sym (append_assoc p.slices q.slices (q.lost ++ q.part)))
-                (in-range-append p.asks (q.asks ++ (q.lost_asks ++ q.part_asks)) p.slices (q.slices ++ (q.lost ++ q.part)) p.picked.many p.in_range q.in_range));
-            replied =
-                subst (λ (x : List Ask). RepliedBy replies x ((p.slices ++ q.slices) ++ q.lost) u.answers w.answers) (sym (append_assoc p.asks q.asks q.lost_asks))
-                (subst (λ (x : List Picked). RepliedBy replies (p.asks ++ (q.asks ++ q.lost_asks)) x u.answers w.answers) (sym (append_assoc p.slices q.slices q.lost))
-                (laws.replied u.answers v.answers w.answers p.asks (q.asks ++ q.lost_asks) p.slices (q.slices ++ q.lost) p.replied q.replied));
+                subst (λ (x : List Ask). AreInRange x ((p.slices ++ q.slices) ++ (q.lost ++ q.part))) (sym asks)
+                (subst (λ (x : List Picked). AreInRange (asks_in p.touches ++ asks_in all) x) (sym (append_assoc p.slices q.slices (q.lost ++ q.part)))
+                (in-range-append (asks_in p.touches) (asks_in all) p.slices taken p.picked.many p.in_range q.in_range));
+            touched =
+                subst (λ (x : List Touch). TouchedBy who x ((p.slices ++ q.slices) ++ q.lost) u.answers w.answers) (sym (append_assoc p.touches q.touches q.lost_touches))
+                (subst (λ (x : List Picked). TouchedBy who (p.touches ++ (q.touches ++ q.lost_touches)) x u.answers w.answers) (sym (append_assoc p.slices q.slices q.lost))
+                (touched-append who p.touches (q.touches ++ q.lost_touches) p.slices (q.slices ++ q.lost) u.answers v.answers w.answers p.touched q.touched));
             one_part = q.one_part;
             by_memory = q.by_memory;
             executed = omega (arith, p.executed, q.executed, cost_all);
@@ -273,7 +285,7 @@ module _ {D A : Type 0} (d : Ghosts D) (replies : A → Asked → Answered → A
           slices = ap (λ (x : List Picked). x ++ zs) split ∙ append_assoc xs ys zs;
         }
       where
-        without : (q.lost ≡ []) ⊎ EndsWithin q.done (b (all_named q.asks q.slices)) → a (all_named (p.asks ++ q.asks) (p.slices ++ q.slices)) ≡ behind p.effects p.asks (b (all_named q.asks q.slices)) → (q.lost ≡ []) ⊎ EndsWithin (p.effects ++ q.done) (a (all_named (p.asks ++ q.asks) (p.slices ++ q.slices)))
+        without : (q.lost ≡ []) ⊎ EndsWithin q.done (b (named_at q.touches q.slices)) → a (named_at (p.touches ++ q.touches) (p.slices ++ q.slices)) ≡ behind p.effects p.touches (b (named_at q.touches q.slices)) → (q.lost ≡ []) ⊎ EndsWithin (p.effects ++ q.done) (a (named_at (p.touches ++ q.touches) (p.slices ++ q.slices)))
         without (inl none) alone = inl none
         without (inr cut) alone =
             inr (record { effects = ap (λ (t : Turn). t.effects) alone ∙ ap (λ (e : List Effect). p.effects ++ e) cut.effects; left = ap (λ (t : Turn). t.left) alone ∙ cut.left })
@@ -282,30 +294,32 @@ module _ {D A : Type 0} (d : Ghosts D) (replies : A → Asked → Answered → A
     no-commit entries at = let e = at.is_commit in cc
 
     -- nothing more was to be done, and nothing was
-    abbrev pub Stops-finished : (u v : Surroundings A) (cost : ℕ) (disk disk' : D) (history : List Record) (h0 h1 : Option (List ℕ)) (why : Halt) → disk' ≡ disk → h1 ≡ h0 → ((k : ℕ) → v.choices k ≡ u.choices k) → v.answers ≡ u.answers → v.steps ≤ u.steps + cost → StopsBetween IsRun d disk disk history h0 h0 why [] [] → Stops IsRun d replies disk disk' history h0 h1 why finished u v cost
+    abbrev pub Stops-finished : (u v : Surroundings A) (cost : ℕ) (disk disk' : D) (history : List Record) (h0 h1 : Option (List ℕ)) (why : Halt) → disk' ≡ disk → h1 ≡ h0 → ((k : ℕ) → v.choices k ≡ u.choices k) → v.answers ≡ u.answers → v.steps ≤ u.steps + cost → StopsBetween IsRun d disk disk history h0 h0 why [] [] → Stops IsRun d who disk disk' history h0 h1 why finished u v cost
     Stops-finished u v cost disk disk' history h0 h1 why same_disk same_held choices answers cheap stopped = record {
       slices = [];
       lost = [];
       part = [];
-      asks = [];
-      lost_asks = [];
-      part_asks = [];
+      touches = [];
+      lost_touches = [];
+      part_touches = [];
       done = [];
       undone = [];
       are_effects = refl;
-      are_asks = refl;
+      are_touches = refl;
       stopped =
           subst (λ (x : D). StopsBetween IsRun d disk x history h0 h1 why [] []) (sym same_disk)
           (subst (λ (x : Option (List ℕ)). StopsBetween IsRun d disk disk history h0 x why [] []) (sym same_held) stopped);
       names = refl;
+      unplugs = refl;
       begins = refl;
       names_lost = λ entries at. absurd (no-commit entries at);
+      unplugs_lost = λ entries at. absurd (no-commit entries at);
       without = inl refl;
       spent = inr (refl, inr refl);
       many = refl;
       picked = PickedBy-none u.choices v.choices choices;
       in_range = tt;
-      replied = (refl, answers);
+      touched = (refl, answers);
       one_part = omega arith;
       by_memory = inl refl;
       executed = omega (arith, cheap);

@@ -4,31 +4,34 @@ use Rattle.std.proofs.lemmas.Bool.{false≢true}
 use Rattle.std.proofs.lemmas.Option.{IfSome_then}
 use Rattle.std.proofs.Math.Seq.{drop-append_seam}
 use Rattle.arn_base.specs.declared.disk.Disk.{Ghosts}
+use Rattle.arn_base.specs.declared.records.Differs.{Differs}
 use Rattle.arn_base.specs.declared.records.Record.{Record}
 use Rattle.arn_commands.specs.declared.command.Command.{Command}
 use Rattle.arn_commands.specs.Commands.{Asks, EachAsks}
 use Rattle.arn_commands.specs.Nexts.{IsWholePart, ReadsMore, ReadsLast, ReadsEnd, ReadsPart}
 use Rattle.arn_commands.specs.Parts.{Part, text_parts, whole_parts}
 use Rattle.arn_commands.specs.Reader.{ReaderState, fresh_reader, to_come, Uses, UsesSome, StopsShort, IsAtEnd}
-use Rattle.parts_model.specs.Replies.{Answered}
 use Rattle.log_model.specs.Records.{IsRun}
-use Rattle.guest_devices.specs.Answers.{Asked}
-use Rattle.guest_machine.specs.LegLaws.{all_named}
 use Rattle.guest_machine.specs.Legs.{Picked}
 use Rattle.session_effects.specs.Carrying.{CarriesOut}
 use Rattle.session_effects.specs.Effects.{Effect, committed}
 use Rattle.session_effects.specs.Standing.{Carries, IsOpen}
 use Rattle.session_runs.specs.Points.{Advances, Surroundings}
+use Rattle.session_effects.specs.declared.halt.Halt.{Halt}
+use Rattle.session_runs.specs.Touches.{Answering, StandAs, named_at}
 use Rattle.session_runs.specs.Turns.{Point, Turn, finished}
-use Rattle.session_commands.specs.Answering.{IsAnswered}
+use Rattle.session_commands.specs.Answering.{FindsNoRun, IsAnswered, IsHalted}
 use Rattle.session_runs.specs.Standing.{Standpoint}
 use Rattle.session_commands.specs.Cost.{cost, cost_of_turn}
+use Rattle.session_commands.specs.Given.{Given, given}
 use Rattle.session_commands.specs.Lines.{needs_machine, turn}
-use Rattle.session_model.specs.Questions.{Told}
 use Rattle.arn_session.specs.Answered.{AnswersParts, AnswersTaken, TookAtMost, TookFewer}
-use Rattle.arn_session.specs.Leaves.{WereAsked}
+use Rattle.arn_session.specs.Leaves.{WereTouched}
 use Rattle.arn_session.specs.Transcript.{needs_any, total_cost, transcript}
 use Rattle.arn_session.proofs.PointLemmas.{Advances-along, Advances-append, Laws, PickedBy-none}
+use Rattle.arn_session.proofs.NoneLemmas.{begin-none, transcript-none}
+use Rattle.arn_session.proofs.StandLemmas.{answered-as, found-as, halted-as, needs-stands}
+use Rattle.arn_session.proofs.TouchLemmas.{stand-after}
 use Rattle.arn_session.proofs.TranscriptLemmas.{commits-none, cost-push, leads-more, needs-push, transcript-one}
 use Rattle.arn_session.proofs.UseLemmas.{Uses-append, Uses-none}
 
@@ -112,139 +115,161 @@ took_at_most most bytes reader l0 (Some rest) come few =
     let some : Option (List ℕ) = Some rest in
     subst (λ (o : Option (List ℕ)). TookAtMost most o some) (sym come) (omega (arith, few, length-append bytes (reader.ahead ++ rest), length-append reader.ahead rest))
 
-module _ {A : Type 0} (replies : A → Asked → Answered → A → Type 0) where
+module _ {A : Type 0} (who : Answering A) where
   -- other effects may be said to be carried out
-  abbrev pub Advances-carried : (a b : Point) (u v : Surroundings A) (n : ℕ) (carried now : List Effect → Type 0) → ((effects : List Effect) → carried effects → now effects) → Advances replies a b u v n carried → Advances replies a b u v n now
+  abbrev pub Advances-carried : (a b : Point) (u v : Surroundings A) (n : ℕ) (carried now : List Effect → Type 0) → ((effects : List Effect) → carried effects → now effects) → Advances who a b u v n carried → Advances who a b u v n now
   Advances-carried a b u v n carried now then p = record {
     slices = p.slices;
-    asks = p.asks;
+    touches = p.touches;
     effects = p.effects;
     leads = p.leads;
     names = p.names;
+    unplugs = p.unplugs;
     begins = p.begins;
     carries = then p.effects p.carries;
     picked = p.picked;
     in_range = p.in_range;
-    replied = p.replied;
+    touched = p.touched;
     executed = p.executed;
   }
 
-module _ {D A : Type 0} (d : Ghosts D) (replies : A → Asked → Answered → A → Type 0) (told : Told) where
+module _ {D A : Type 0} (d : Ghosts D) (who : Answering A) (g : Given) where
   -- These parts were answered: all that they ask for was carried out. The machine is there where one of them needed it, and else nothing was
   -- committed. What they cost is told whatever slices follow.
   pub record HaveAnswers (parts : List Part) (is_there : Bool) (old new : Standpoint D A) : Type 0 where
     pub commands : List Command
     pub each_asks : EachAsks parts commands
     pub cost : ℕ
-    pub answered : Advances replies (transcript told old.store.entries commands) finished old.around new.around cost (Carries IsRun d old.disk new.disk old.store new.store old.held new.held)
-    pub costs : (rest : List Picked) → cost ≤ total_cost told old.store.entries commands (all_named answered.asks answered.slices ++ rest)
-    pub needs : is_there ≡ needs_any old.store.entries commands
+    pub answered : Advances who (transcript g old.store.entries commands) finished old.around new.around cost (Carries IsRun d old.disk new.disk old.store new.store old.held new.held)
+    pub costs : (rest : List Picked) → cost ≤ total_cost g old.store.entries commands (named_at answered.touches answered.slices ++ rest)
+    pub needs : is_there ≡ needs_any g old.store.entries commands
     pub unmoved : is_there ≡ false → new.store.entries ≡ old.store.entries
     pub on_run : is_there ≡ true → IsRun old.store.entries
+    pub stands : StandAs who g.filled new.store.entries new.around.answers
 
   -- more commands go on where these ended
-  abbrev pub Advances-more : (old new : Standpoint D A) (parts : List Part) (is_there : Bool) (p : HaveAnswers parts is_there old new) (more : List Command) → Advances replies (transcript told old.store.entries (p.commands ++ more)) (transcript told new.store.entries more) old.around new.around p.cost (Carries IsRun d old.disk new.disk old.store new.store old.held new.held)
+  abbrev pub Advances-more : (old new : Standpoint D A) (parts : List Part) (is_there : Bool) (p : HaveAnswers parts is_there old new) (more : List Command) → Advances who (transcript g old.store.entries (p.commands ++ more)) (transcript g new.store.entries more) old.around new.around p.cost (Carries IsRun d old.disk new.disk old.store new.store old.held new.held)
   Advances-more old new parts is_there p more = record {
     slices = p.answered.slices;
-    asks = p.answered.asks;
+    touches = p.answered.touches;
     effects = p.answered.effects;
-    leads = leads-more told old.store.entries new.store.entries p.commands more (all_named p.answered.asks p.answered.slices) p.answered.effects p.answered.asks p.answered.carries.entries p.answered.leads;
+    leads = leads-more g old.store.entries new.store.entries p.commands more (named_at p.answered.touches p.answered.slices) p.answered.effects p.answered.touches p.answered.carries.entries p.answered.leads;
     names = p.answered.names;
+    unplugs = p.answered.unplugs;
     begins = p.answered.begins;
     carries = p.answered.carries;
     picked = p.answered.picked;
     in_range = p.answered.in_range;
-    replied = p.answered.replied;
+    touched = p.answered.touched;
     executed = p.answered.executed;
   }
 
   -- what one more command costs
-  pub costs-more : (old new : Standpoint D A) (parts : List Part) (is_there : Bool) (command : Command) (p : HaveAnswers parts is_there old new) (taken more : List Picked) → taken ≡ all_named p.answered.asks p.answered.slices ++ more → p.cost + cost_of_turn told is_there new.store.entries command (turn told new.store.entries command more) ≤ total_cost told old.store.entries (p.commands ++ command ∷ []) taken
+  pub costs-more : (old new : Standpoint D A) (parts : List Part) (is_there : Bool) (command : Command) (p : HaveAnswers parts is_there old new) (taken more : List Picked) → taken ≡ named_at p.answered.touches p.answered.slices ++ more → p.cost + cost_of_turn g is_there new.store.entries command (turn g new.store.entries command more) ≤ total_cost g old.store.entries (p.commands ++ command ∷ []) taken
   costs-more old new parts is_there command p taken more are =
-      let costs = cost-push told old.store.entries new.store.entries p.commands command is_there (all_named p.answered.asks p.answered.slices) p.answered.effects p.answered.asks p.cost p.answered.carries.entries p.answered.leads p.needs p.unmoved p.costs more in
-      subst (λ (x : List Picked). p.cost + cost_of_turn told is_there new.store.entries command (turn told new.store.entries command more) ≤ total_cost told old.store.entries (p.commands ++ command ∷ []) x) (sym are) costs
+      let costs = cost-push g old.store.entries new.store.entries p.commands command is_there (named_at p.answered.touches p.answered.slices) p.answered.effects p.answered.touches p.cost p.answered.carries.entries p.answered.leads p.needs p.unmoved p.costs more in
+      subst (λ (x : List Picked). p.cost + cost_of_turn g is_there new.store.entries command (turn g new.store.entries command more) ≤ total_cost g old.store.entries (p.commands ++ command ∷ []) x) (sym are) costs
 
-  HaveAnswers-none : (laws : Laws d replies) (now : Standpoint D A) → IsOpen d now.store now.disk → HaveAnswers [] false now now
-  HaveAnswers-none laws now open_now = record {
+  HaveAnswers-none : (laws : Laws d who) (now : Standpoint D A) → StandAs who g.filled now.store.entries now.around.answers → IsOpen d now.store now.disk → HaveAnswers [] false now now
+  HaveAnswers-none laws now stands open_now = record {
     commands = [];
     each_asks = tt;
     cost = 0;
     answered = record {
       slices = [];
-      asks = [];
+      touches = [];
       effects = [];
       leads = λ rest. refl;
       names = refl;
+      unplugs = refl;
       begins = refl;
       carries = record { stays_open = open_now; entries = sym (append-nil now.store.entries); out = laws.effects.nothing now.disk now.store.entries now.held };
       picked = PickedBy-none now.around.choices now.around.choices (λ k. refl);
       in_range = tt;
-      replied = (refl, refl);
+      touched = (refl, refl);
       executed = omega arith;
     };
     costs = λ rest. omega arith;
     needs = refl;
     unmoved = λ absent. refl;
     on_run = λ there. absurd (false≢true there);
+    stands = stands;
   }
 
   -- the history behind a command
-  there-behind : (is_there : Bool) (command : Command) (old new : Standpoint D A) (a : IsAnswered d replies told is_there command old new) (rest : List Picked) → old.store.entries ++ committed (turn told old.store.entries command (all_named a.advances.asks a.advances.slices ++ rest)).effects ≡ new.store.entries
+  there-behind : (is_there : Bool) (command : Command) (old new : Standpoint D A) (a : IsAnswered d who g is_there command old new) (rest : List Picked) → old.store.entries ++ committed (turn g old.store.entries command (named_at a.advances.touches a.advances.slices ++ rest)).effects ≡ new.store.entries
   there-behind is_there command old new a rest =
       let q = a.advances in
       ap (λ (t : Turn). old.store.entries ++ committed t.effects) (q.leads rest) ∙ ap (λ (e : List Effect). old.store.entries ++ committed e) (append-nil q.effects) ∙ sym q.carries.entries
 
   -- a command that needs no machine leaves the history
-  still-there : (is_there : Bool) (command : Command) (old new : Standpoint D A) → IsAnswered d replies told is_there command old new → needs_machine old.store.entries command ≡ false → new.store.entries ≡ old.store.entries
+  still-there : (is_there : Bool) (command : Command) (old new : Standpoint D A) → IsAnswered d who g is_there command old new → needs_machine g old.store.entries command ≡ false → new.store.entries ≡ old.store.entries
   still-there is_there command old new a needless =
       let q = a.advances in
       sym (there-behind is_there command old new a [])
-      ∙ ap (λ (x : List Record). old.store.entries ++ x) (commits-none told old.store.entries command (all_named q.asks q.slices ++ []) needless)
+      ∙ ap (λ (x : List Record). old.store.entries ++ x) (commits-none g old.store.entries command (named_at q.touches q.slices ++ []) needless)
       ∙ append-nil old.store.entries
 
   -- the machine is there where one of the commands needed it
-  needs-more : (is_there needed : Bool) (history there : List Record) (command : Command) → is_there ≡ needed → (is_there ≡ false → there ≡ history) → (is_there || needs_machine there command) ≡ (needed || needs_machine history command)
-  needs-more true needed history there command is unmoved = ap (λ (b : Bool). b || needs_machine history command) is
+  needs-more : (is_there needed : Bool) (history there : List Record) (command : Command) → is_there ≡ needed → (is_there ≡ false → there ≡ history) → (is_there || needs_machine g there command) ≡ (needed || needs_machine g history command)
+  needs-more true needed history there command is unmoved = ap (λ (b : Bool). b || needs_machine g history command) is
   needs-more false needed history there command is unmoved =
-      ap (λ (h : List Record). false || needs_machine h command) (unmoved refl) ∙ ap (λ (b : Bool). b || needs_machine history command) is
+      ap (λ (h : List Record). false || needs_machine g h command) (unmoved refl) ∙ ap (λ (b : Bool). b || needs_machine g history command) is
 
-  run-more : (is_there : Bool) (history there : List Record) (command : Command) → (is_there ≡ false → there ≡ history) → (is_there ≡ true → IsRun history) → (needs_machine there command ≡ true → IsRun there) → (is_there || needs_machine there command) ≡ true → IsRun history
+  run-more : (is_there : Bool) (history there : List Record) (command : Command) → (is_there ≡ false → there ≡ history) → (is_there ≡ true → IsRun history) → (needs_machine g there command ≡ true → IsRun there) → (is_there || needs_machine g there command) ≡ true → IsRun history
   run-more true history there command unmoved was made needed = was refl
   run-more false history there command unmoved was made needed = subst IsRun (unmoved refl) (made needed)
 
-  HaveAnswers-push : (laws : Laws d replies) (old mid new : Standpoint D A) (parts : List Part) (is_there now_there : Bool) (part : Part) (command : Command) → now_there ≡ (is_there || needs_machine mid.store.entries command) → Asks part command → HaveAnswers parts is_there old mid → IsAnswered d replies told is_there command mid new → HaveAnswers (parts ++ part ∷ []) now_there old new
+  HaveAnswers-push : (laws : Laws d who) (old mid new : Standpoint D A) (parts : List Part) (is_there now_there : Bool) (part : Part) (command : Command) → now_there ≡ (is_there || needs_machine g mid.store.entries command) → Asks part command → HaveAnswers parts is_there old mid → IsAnswered d who g is_there command mid new → HaveAnswers (parts ++ part ∷ []) now_there old new
   HaveAnswers-push laws old mid new parts is_there now_there part command there asks p a =
       let h = old.store.entries in
       let t = mid.store.entries in
       let first = Advances-more old mid parts is_there p (command ∷ []) in
-      let second = Advances-along replies (turn told t command) (transcript told t (command ∷ [])) finished mid.around new.around (cost told is_there t new.store.entries command) (Carries IsRun d mid.disk new.disk mid.store new.store mid.held new.held) (transcript-one told t command) a.advances in
-      let both = Advances-append d replies laws (transcript told h (p.commands ++ command ∷ [])) (transcript told t (command ∷ [])) finished old.around mid.around new.around p.cost (cost told is_there t new.store.entries command) old.disk mid.disk new.disk old.store mid.store new.store old.held mid.held new.held first second in
+      let second = Advances-along who (turn g t command) (transcript g t (command ∷ [])) finished mid.around new.around (cost g is_there t new.store.entries command) (Carries IsRun d mid.disk new.disk mid.store new.store mid.held new.held) (transcript-one g t command) a.advances in
+      let both = Advances-append d who laws (transcript g h (p.commands ++ command ∷ [])) (transcript g t (command ∷ [])) finished old.around mid.around new.around p.cost (cost g is_there t new.store.entries command) old.disk mid.disk new.disk old.store mid.store new.store old.held mid.held new.held first second in
       record {
         commands = p.commands ++ command ∷ [];
         each_asks = EachAsks-push parts p.commands part command p.each_asks asks;
-        cost = p.cost + cost told is_there t new.store.entries command;
+        cost = p.cost + cost g is_there t new.store.entries command;
         answered = both.advances;
         costs = λ rest.
-            let taken : List Picked = all_named both.advances.asks both.advances.slices ++ rest in
-            let more : List Picked = all_named a.advances.asks a.advances.slices ++ rest in
-            subst (λ (x : List Record). p.cost + cost told is_there t x command ≤ total_cost told h (p.commands ++ command ∷ []) taken) (there-behind is_there command mid new a rest)
-            (costs-more old mid parts is_there command p taken more (ap (λ (x : List Picked). x ++ rest) both.slices ∙ append_assoc (all_named p.answered.asks p.answered.slices) (all_named a.advances.asks a.advances.slices) rest));
-        needs = there ∙ needs-more is_there (needs_any h p.commands) h t command p.needs p.unmoved ∙ sym (needs-push h p.commands command);
+            let taken : List Picked = named_at both.advances.touches both.advances.slices ++ rest in
+            let more : List Picked = named_at a.advances.touches a.advances.slices ++ rest in
+            subst (λ (x : List Record). p.cost + cost g is_there t x command ≤ total_cost g h (p.commands ++ command ∷ []) taken) (there-behind is_there command mid new a rest)
+            (costs-more old mid parts is_there command p taken more (ap (λ (x : List Picked). x ++ rest) both.slices ∙ append_assoc (named_at p.answered.touches p.answered.slices) (named_at a.advances.touches a.advances.slices) rest));
+        needs = there ∙ needs-more is_there (needs_any g h p.commands) h t command p.needs p.unmoved ∙ sym (needs-push g h p.commands command);
         unmoved = λ absent.
             let none = sym there ∙ absent in
-            still-there is_there command mid new a (or-right is_there (needs_machine t command) none) ∙ p.unmoved (or-left is_there (needs_machine t command) none);
+            still-there is_there command mid new a (or-right is_there (needs_machine g t command) none) ∙ p.unmoved (or-left is_there (needs_machine g t command) none);
         on_run = λ here. run-more is_there h t command p.unmoved p.on_run a.on_run (sym there ∙ here);
+        stands =
+            stand-after who laws.kept g.filled t new.store.entries a.advances.effects a.advances.touches a.advances.slices mid.around.answers new.around.answers
+            a.advances.carries.entries a.advances.unplugs a.advances.touched p.stands;
       }
 
-  HaveAnswers-answers : (old new : Standpoint D A) (parts : List Part) (is_there : Bool) → HaveAnswers parts is_there old new → AnswersParts replies told old.store.entries parts old.around new.around (CarriesOut IsRun d old.disk new.disk old.store.entries old.held new.held)
+  HaveAnswers-answers : (old new : Standpoint D A) (parts : List Part) (is_there : Bool) → HaveAnswers parts is_there old new → AnswersParts who g old.store.entries parts old.around new.around (CarriesOut IsRun d old.disk new.disk old.store.entries old.held new.held)
   HaveAnswers-answers old new parts is_there p = record {
     commands = p.commands;
     each_asks = p.each_asks;
     cost = p.cost;
-    answered = Advances-carried replies (transcript told old.store.entries p.commands) finished old.around new.around p.cost (Carries IsRun d old.disk new.disk old.store new.store old.held new.held) (CarriesOut IsRun d old.disk new.disk old.store.entries old.held new.held) (λ effects carries. carries.out) p.answered;
-    costs = subst (λ (x : List Picked). p.cost ≤ total_cost told old.store.entries p.commands x) (append-nil (all_named p.answered.asks p.answered.slices)) (p.costs []);
+    answered = Advances-carried who (transcript g old.store.entries p.commands) finished old.around new.around p.cost (Carries IsRun d old.disk new.disk old.store new.store old.held new.held) (CarriesOut IsRun d old.disk new.disk old.store.entries old.held new.held) (λ effects carries. carries.out) p.answered;
+    costs = subst (λ (x : List Picked). p.cost ≤ total_cost g old.store.entries p.commands x) (append-nil (named_at p.answered.touches p.answered.slices)) (p.costs []);
     on_run = λ needed. p.on_run (p.needs ∙ needed);
   }
+
+  -- those who answer for devices were touched by slices alone
+  pub were-touched : (old new : Standpoint D A) (parts : List Part) (is_there : Bool) → HaveAnswers parts is_there old new → WereTouched who old.around.answers new.around.answers
+  were-touched old new parts is_there p =
+      let a = p.answered in
+      let all : List Picked = named_at a.touches a.slices ++ [] in
+      record {
+        touches = a.touches;
+        slices = a.slices;
+        touched = a.touched;
+        none_unplugged =
+            begin-none a.touches [] (transcript g old.store.entries p.commands all).touches (transcript-none g old.store.entries p.commands all)
+            (ap (λ (t : Turn). t.touches) (a.leads []));
+      }
 
   -- whole parts were read and answered
   pub record Progress (left left' : Option (List ℕ)) (reader : ReaderState) (is_there : Bool) (old new : Standpoint D A) : Type 0 where
@@ -258,10 +283,10 @@ module _ {D A : Type 0} (d : Ghosts D) (replies : A → Asked → Answered → A
   -- a whole text was read and answered
   pub record IsDone (left left' : Option (List ℕ)) (old new : Standpoint D A) : Type 0 where
     pub read : IfSome left (λ text. left' ≡ Some [])
-    pub answered : IfSome left (λ text. AnswersParts replies told old.store.entries (text_parts text) old.around new.around (CarriesOut IsRun d old.disk new.disk old.store.entries old.held new.held))
+    pub answered : IfSome left (λ text. AnswersParts who g old.store.entries (text_parts text) old.around new.around (CarriesOut IsRun d old.disk new.disk old.store.entries old.held new.held))
     pub short : IfSome left (λ text. length text < 2 ^ 40)
     pub out : (effects : List Effect) × CarriesOut IsRun d old.disk new.disk old.store.entries old.held new.held effects
-    pub asked : WereAsked replies old.around.answers new.around.answers
+    pub touched : WereTouched who old.around.answers new.around.answers
 
   done_by : (bytes : List ℕ) (parts : List Part) (reader : ReaderState) (l0 l : Option (List ℕ)) (is_there : Bool) (old new : Standpoint D A) → Uses bytes fresh_reader reader l0 l → IsAtEnd reader l → text_parts bytes ≡ parts → HaveAnswers parts is_there old new → IsDone l0 l old new
   done_by bytes parts reader l0 l is_there old new used end are answers =
@@ -269,71 +294,85 @@ module _ {D A : Type 0} (d : Ghosts D) (replies : A → Asked → Answered → A
       let whole = HaveAnswers-answers old new parts is_there answers in
       record {
         read = IfSome_then l0 all (λ text f. f.0);
-        answered = IfSome_then l0 all (λ text f. subst (λ (x : List Part). AnswersParts replies told old.store.entries x old.around new.around (CarriesOut IsRun d old.disk new.disk old.store.entries old.held new.held)) (sym (ap text_parts f.1 ∙ are)) whole);
+        answered = IfSome_then l0 all (λ text f. subst (λ (x : List Part). AnswersParts who g old.store.entries x old.around new.around (CarriesOut IsRun d old.disk new.disk old.store.entries old.held new.held)) (sym (ap text_parts f.1 ∙ are)) whole);
         short = IfSome_then l0 all (λ text f. omega (arith, ap length f.1, end.short.some_room, count_taken bytes reader l0 l used end.short.used_up));
         out = (answers.answered.effects, answers.answered.carries.out);
-        asked = record { asks = answers.answered.asks; slices = answers.answered.slices; replied = answers.answered.replied };
+        touched = were-touched old new parts is_there answers;
       }
 
-module _ {D A : Type 0} {d : Ghosts D} {replies : A → Asked → Answered → A → Type 0} {told : Told} where
-  pub Progress-start : {left : Option (List ℕ)} {now : Standpoint D A} (laws : Laws d replies) → IsOpen d now.store now.disk → Progress d replies told left left fresh_reader false now now
-  Progress-start {left = left} {now = now} laws open_now = record {
+module _ {D A : Type 0} {d : Ghosts D} {who : Answering A} {g : Given} where
+  pub Progress-start : {left : Option (List ℕ)} {now : Standpoint D A} (laws : Laws d who) → StandAs who g.filled now.store.entries now.around.answers → IsOpen d now.store now.disk → Progress d who g left left fresh_reader false now now
+  Progress-start {left = left} {now = now} laws stands open_now = record {
     seen = [];
     parts = [];
     used = Uses-none fresh_reader left;
     parts_are = λ rest. refl;
     wholes_are = λ rest. refl;
-    answers = HaveAnswers-none d replies told laws now open_now;
+    answers = HaveAnswers-none d who g laws now stands open_now;
   }
 
+  -- what was done by the devices as they are was done by those that were there at first
+  pub answered-stands : {parts : List Part} {is_there : Bool} {old mid new : Standpoint D A} {command : Command} → HaveAnswers d who g parts is_there old mid → IsAnswered d who (given g.told (who.filled mid.around.answers)) is_there command mid new → IsAnswered d who g is_there command mid new
+  answered-stands {is_there = is_there} {mid = mid} {new = new} {command = command} p a = answered-as d who g is_there command mid new p.stands a
+
+  pub halted-stands : {parts : List Part} {is_there : Bool} {old mid new : Standpoint D A} {command : Command} {why : Halt} → HaveAnswers d who g parts is_there old mid → IsHalted d who (given g.told (who.filled mid.around.answers)) is_there why command mid new → IsHalted d who g is_there why command mid new
+  halted-stands {is_there = is_there} {mid = mid} {new = new} {command = command} {why = why} p b = halted-as d who g is_there command mid new p.stands why b
+
+  pub found-stands : {parts : List Part} {is_there : Bool} {old mid new : Standpoint D A} {command : Command} {at : Differs} → HaveAnswers d who g parts is_there old mid → FindsNoRun (given g.told (who.filled mid.around.answers)) is_there at command mid new → FindsNoRun g is_there at command mid new
+  found-stands {is_there = is_there} {mid = mid} {new = new} {command = command} {at = at} p f = found-as d who g is_there command mid new p.stands at f
+
+  pub there-stands : {parts : List Part} {is_there now_there : Bool} {old mid : Standpoint D A} (command : Command) → HaveAnswers d who g parts is_there old mid → now_there ≡ (is_there || needs_machine (given g.told (who.filled mid.around.answers)) mid.store.entries command) → now_there ≡ (is_there || needs_machine g mid.store.entries command)
+  there-stands {is_there = is_there} {mid = mid} command p there =
+      there ∙ ap (λ (b : Bool). is_there || b) (needs-stands who g mid.store.entries mid.around.answers p.stands command)
+
   -- one more part was read and answered
-  pub Progress-part : {l0 l1 l2 : Option (List ℕ)} {r r' : ReaderState} {is_there now_there : Bool} {old mid new : Standpoint D A} {command : Command} (laws : Laws d replies) → now_there ≡ (is_there || needs_machine mid.store.entries command) → Progress d replies told l0 l1 r is_there old mid → ReadsMore command r r' l1 l2 → IsAnswered d replies told is_there command mid new → Progress d replies told l0 l2 r' now_there old new
+  pub Progress-part : {l0 l1 l2 : Option (List ℕ)} {r r' : ReaderState} {is_there now_there : Bool} {old mid new : Standpoint D A} {command : Command} (laws : Laws d who) → now_there ≡ (is_there || needs_machine g mid.store.entries command) → Progress d who g l0 l1 r is_there old mid → ReadsMore command r r' l1 l2 → IsAnswered d who g is_there command mid new → Progress d who g l0 l2 r' now_there old new
   Progress-part {l0 = l0} {l1 = l1} {l2 = l2} {r = r} {r' = r'} {is_there = is_there} {now_there = now_there} {old = old} {mid = mid} {new = new} {command = command} laws there p read a = record {
     seen = p.seen ++ read.bytes;
     parts = p.parts ++ read.part ∷ [];
     used = Uses-append p.seen read.bytes fresh_reader r r' l0 l1 l2 p.used read.used;
     parts_are = parts-more p.seen read.bytes p.parts read.part p.parts_are read.is_whole;
     wholes_are = wholes-more p.seen read.bytes p.parts read.part p.wholes_are read.is_whole;
-    answers = HaveAnswers-push d replies told laws old mid new p.parts is_there now_there read.part command there read.asks p.answers a;
+    answers = HaveAnswers-push d who g laws old mid new p.parts is_there now_there read.part command there read.asks p.answers a;
   }
 
   -- the text ended behind a whole part
-  pub IsDone-end : {l0 l1 l2 : Option (List ℕ)} {r r' : ReaderState} {is_there : Bool} {old new : Standpoint D A} → Progress d replies told l0 l1 r is_there old new → ReadsEnd r r' l1 l2 → IsDone d replies told l0 l2 old new
+  pub IsDone-end : {l0 l1 l2 : Option (List ℕ)} {r r' : ReaderState} {is_there : Bool} {old new : Standpoint D A} → Progress d who g l0 l1 r is_there old new → ReadsEnd r r' l1 l2 → IsDone d who g l0 l2 old new
   IsDone-end {l0 = l0} {l1 = l1} {l2 = l2} {r = r} {r' = r'} {is_there = is_there} {old = old} {new = new} p read =
-      done_by d replies told (p.seen ++ []) p.parts r' l0 l2 is_there old new (Uses-append p.seen [] fresh_reader r r' l0 l1 l2 p.used read.used) read.at_end (p.parts_are [] ∙ append-nil p.parts) p.answers
+      done_by d who g (p.seen ++ []) p.parts r' l0 l2 is_there old new (Uses-append p.seen [] fresh_reader r r' l0 l1 l2 p.used read.used) read.at_end (p.parts_are [] ∙ append-nil p.parts) p.answers
 
   -- the text ended with a part
-  pub IsDone-last : {l0 l1 l2 : Option (List ℕ)} {r r' : ReaderState} {is_there : Bool} {old mid new : Standpoint D A} {command : Command} (laws : Laws d replies) → Progress d replies told l0 l1 r is_there old mid → ReadsLast command r r' l1 l2 → IsAnswered d replies told is_there command mid new → IsDone d replies told l0 l2 old new
+  pub IsDone-last : {l0 l1 l2 : Option (List ℕ)} {r r' : ReaderState} {is_there : Bool} {old mid new : Standpoint D A} {command : Command} (laws : Laws d who) → Progress d who g l0 l1 r is_there old mid → ReadsLast command r r' l1 l2 → IsAnswered d who g is_there command mid new → IsDone d who g l0 l2 old new
   IsDone-last {l0 = l0} {l1 = l1} {l2 = l2} {r = r} {r' = r'} {is_there = is_there} {old = old} {mid = mid} {new = new} {command = command} laws p read a =
-      done_by d replies told (p.seen ++ read.bytes) (p.parts ++ read.part ∷ []) r' l0 l2 (is_there || needs_machine mid.store.entries command) old new (Uses-append p.seen read.bytes fresh_reader r r' l0 l1 l2 p.used read.used) read.at_end
+      done_by d who g (p.seen ++ read.bytes) (p.parts ++ read.part ∷ []) r' l0 l2 (is_there || needs_machine g mid.store.entries command) old new (Uses-append p.seen read.bytes fresh_reader r r' l0 l1 l2 p.used read.used) read.at_end
       (p.parts_are read.bytes ∙ ap (λ (x : List Part). p.parts ++ x) read.is_last)
-      (HaveAnswers-push d replies told laws old mid new p.parts is_there (is_there || needs_machine mid.store.entries command) read.part command refl read.asks p.answers a)
+      (HaveAnswers-push d who g laws old mid new p.parts is_there (is_there || needs_machine g mid.store.entries command) read.part command refl read.asks p.answers a)
 
   -- the source gave some of its text
-  pub AnswersTaken-part : {l0 l1 l2 : Option (List ℕ)} {r r' : ReaderState} {is_there : Bool} {old new : Standpoint D A} → Progress d replies told l0 l1 r is_there old new → ReadsPart r r' l1 l2 → r'.ahead ≡ [] → AnswersTaken replies told old.store.entries l0 l2 whole_parts old.around new.around (CarriesOut IsRun d old.disk new.disk old.store.entries old.held new.held)
+  pub AnswersTaken-part : {l0 l1 l2 : Option (List ℕ)} {r r' : ReaderState} {is_there : Bool} {old new : Standpoint D A} → Progress d who g l0 l1 r is_there old new → ReadsPart r r' l1 l2 → r'.ahead ≡ [] → AnswersTaken who g old.store.entries l0 l2 whole_parts old.around new.around (CarriesOut IsRun d old.disk new.disk old.store.entries old.held new.held)
   AnswersTaken-part {l0 = l0} {l1 = l1} {l2 = l2} {r = r} {r' = r'} {is_there = is_there} {old = old} {new = new} p read used_up =
       let bytes : List ℕ = p.seen ++ read.bytes in
       let parts : p.parts ≡ whole_parts bytes = sym (p.wholes_are read.bytes ∙ ap (λ (x : List Part). p.parts ++ x) read.none_whole ∙ append-nil p.parts) in
       record {
         taken = bytes;
         is_taken = are_taken bytes r' l0 l2 (Uses-append p.seen read.bytes fresh_reader r r' l0 l1 l2 p.used read.used) used_up;
-        answered = subst (λ (x : List Part). AnswersParts replies told old.store.entries x old.around new.around (CarriesOut IsRun d old.disk new.disk old.store.entries old.held new.held)) parts (HaveAnswers-answers d replies told old new p.parts is_there p.answers);
+        answered = subst (λ (x : List Part). AnswersParts who g old.store.entries x old.around new.around (CarriesOut IsRun d old.disk new.disk old.store.entries old.held new.held)) parts (HaveAnswers-answers d who g old new p.parts is_there p.answers);
       }
 
-  pub TookFewer-part : {l0 l1 l2 : Option (List ℕ)} {r r' : ReaderState} {is_there : Bool} {old new : Standpoint D A} → Progress d replies told l0 l1 r is_there old new → ReadsPart r r' l1 l2 → StopsShort r' → TookFewer (2 ^ 40) l0 l2
+  pub TookFewer-part : {l0 l1 l2 : Option (List ℕ)} {r r' : ReaderState} {is_there : Bool} {old new : Standpoint D A} → Progress d who g l0 l1 r is_there old new → ReadsPart r r' l1 l2 → StopsShort r' → TookFewer (2 ^ 40) l0 l2
   TookFewer-part {l0 = l0} {l1 = l1} {l2 = l2} {r = r} {r' = r'} {is_there = is_there} {old = old} {new = new} p read short =
       let bytes : List ℕ = p.seen ++ read.bytes in
       let used = Uses-append p.seen read.bytes fresh_reader r r' l0 l1 l2 p.used read.used in
       let fewer : length bytes < 2 ^ 40 = omega (arith, short.some_room, count_taken bytes r' l0 l2 used short.used_up) in
       IfSome_then l0 (text_by bytes r' l0 l2 used short.used_up) (λ text f. subst (λ (o : Option (List ℕ)). IfSome o (λ rest. length text < 2 ^ 40 + length rest)) (sym f.1) (omega (arith, fewer, ap length f.2, length-append bytes f.0)))
 
-  pub TookMost-part : {most : ℕ} {l0 l1 l2 : Option (List ℕ)} {r r' : ReaderState} {is_there : Bool} {old new : Standpoint D A} → Progress d replies told l0 l1 r is_there old new → ReadsPart r r' l1 l2 → r'.ahead ≡ [] → r'.taken ≡ most → IfSome l0 (λ text. (most ≤ length text) × (l2 ≡ Some (drop most text)))
+  pub TookMost-part : {most : ℕ} {l0 l1 l2 : Option (List ℕ)} {r r' : ReaderState} {is_there : Bool} {old new : Standpoint D A} → Progress d who g l0 l1 r is_there old new → ReadsPart r r' l1 l2 → r'.ahead ≡ [] → r'.taken ≡ most → IfSome l0 (λ text. (most ≤ length text) × (l2 ≡ Some (drop most text)))
   TookMost-part {most = most} {l0 = l0} {l1 = l1} {l2 = l2} {r = r} {r' = r'} {is_there = is_there} {old = old} {new = new} p read used_up taken =
       let bytes : List ℕ = p.seen ++ read.bytes in
       let used = Uses-append p.seen read.bytes fresh_reader r r' l0 l1 l2 p.used read.used in
       IfSome_then l0 (text_by bytes r' l0 l2 used used_up) (λ text f. took_most most text bytes f.0 l2 f.1 f.2 (sym (count_taken bytes r' l0 l2 used used_up) ∙ taken))
 
-  pub TookAtMost-part : {l0 l1 l2 : Option (List ℕ)} {r r' : ReaderState} {is_there : Bool} {old new : Standpoint D A} → Progress d replies told l0 l1 r is_there old new → UsesSome r r' l1 l2 → r'.taken ≤ 2 ^ 40 → TookAtMost (2 ^ 40) l0 l2
+  pub TookAtMost-part : {l0 l1 l2 : Option (List ℕ)} {r r' : ReaderState} {is_there : Bool} {old new : Standpoint D A} → Progress d who g l0 l1 r is_there old new → UsesSome r r' l1 l2 → r'.taken ≤ 2 ^ 40 → TookAtMost (2 ^ 40) l0 l2
   TookAtMost-part {l0 = l0} {l1 = l1} {l2 = l2} {r = r} {r' = r'} {is_there = is_there} {old = old} {new = new} p more within =
       let used = Uses-append p.seen more.bytes fresh_reader r r' l0 l1 l2 p.used more.used in
       took_at_most (2 ^ 40) (p.seen ++ more.bytes) r' l0 l2 (sym (come_nothing [] l0 refl) ∙ used.come) (omega (arith, used.counted, within))

@@ -4,17 +4,15 @@ use Rattle.arn_base.specs.declared.records.Record.{Record}
 use Rattle.arn_commands.specs.declared.command.Command.{Command}
 use Rattle.arn_commands.specs.Commands.{EachAsks}
 use Rattle.arn_commands.specs.Parts.{Part}
-use Rattle.parts_model.specs.Replies.{Answered}
 use Rattle.log_model.specs.Records.{IsRun}
-use Rattle.guest_devices.specs.Answers.{Asked}
-use Rattle.guest_machine.specs.LegLaws.{all_named}
 use Rattle.session_effects.specs.Effects.{Effect}
 use Rattle.session_runs.specs.Points.{Advances, Surroundings}
+use Rattle.session_runs.specs.Touches.{Answering, named_at}
 use Rattle.session_runs.specs.Turns.{finished}
-use Rattle.session_model.specs.Questions.{Told}
+use Rattle.session_commands.specs.Given.{Given}
 use Rattle.arn_session.specs.Transcript.{needs_any, total_cost, transcript}
 
-module _ {A : Type 0} (replies : A → Asked → Answered → A → Type 0) (told : Told) (history : List Record) where
+module _ {A : Type 0} (who : Answering A) (g : Given) (history : List Record) where
   -- These parts and no others were answered by a session that began on a history: all that they ask for was carried out, with slices that
   -- were picked for it, and no more instructions were executed than these and the parts cost. Where one of them needs the machine, the
   -- history is that of a run.
@@ -22,9 +20,9 @@ module _ {A : Type 0} (replies : A → Asked → Answered → A → Type 0) (tol
     pub commands : List Command
     pub each_asks : EachAsks parts commands
     pub cost : ℕ
-    pub answered : Advances replies (transcript told history commands) finished old new cost carried
-    pub costs : cost ≤ total_cost told history commands (all_named answered.asks answered.slices)
-    pub on_run : needs_any history commands ≡ true → IsRun history
+    pub answered : Advances who (transcript g history commands) finished old new cost carried
+    pub costs : cost ≤ total_cost g history commands (named_at answered.touches answered.slices)
+    pub on_run : needs_any g history commands ≡ true → IsRun history
 
   -- The same for the parts of a text that a source gave in some part.
   pub record AnswersTaken (left left' : Option (List ℕ)) (parts : List ℕ → List Part) (old new : Surroundings A) (carried : List Effect → Type 0) : Type 0 where

@@ -4,18 +4,16 @@ use Rattle.arn_base.specs.declared.disk.Disk.{Ghosts}
 use Rattle.arn_commands.specs.declared.command.Command.{Command}
 use Rattle.arn_commands.specs.Commands.{EachAsks}
 use Rattle.arn_commands.specs.Parts.{text_parts, whole_parts}
-use Rattle.parts_model.specs.Replies.{Answered}
 use Rattle.log_model.specs.Records.{IsRun}
-use Rattle.guest_devices.specs.Answers.{Asked}
 use Rattle.guest_machine.specs.Differs.{rebuild_cost}
-use Rattle.guest_machine.specs.LegLaws.{all_named}
 use Rattle.session_effects.specs.Carrying.{CarriesOut}
 use Rattle.session_effects.specs.declared.halt.Halt.{Halt}
 use Rattle.session_runs.specs.Points.{Advances, Stops}
+use Rattle.session_runs.specs.Touches.{Answering, named_at}
 use Rattle.session_runs.specs.Turns.{finished}
 use Rattle.session_runs.specs.Standing.{Standpoint}
+use Rattle.session_commands.specs.Given.{Given}
 use Rattle.session_commands.specs.Lines.{needs_machine}
-use Rattle.session_model.specs.Questions.{Told}
 use Rattle.arn_session.specs.Transcript.{needs_any, total_cost, transcript}
 
 -- The first parts of a text, which a session took. Each of them is whole, or the text was taken to its end and has fewer than 2^40 bytes.
@@ -27,7 +25,7 @@ pub record IsBegun (text : List ℕ) (left : Option (List ℕ)) : Type 0 where
   pub were_taken : IfSome left (λ more. (beyond : List ℕ) × (rest ≡ beyond ++ more))
   pub are_whole : (whole_parts begun ≡ text_parts begun) ⊎ ((rest ≡ []) × (length text < 2 ^ 40))
 
-module _ {D A : Type 0} (d : Ghosts D) (replies : A → Asked → Answered → A → Type 0) (told : Told) (old new : Standpoint D A) where
+module _ {D A : Type 0} (d : Ghosts D) (who : Answering A) (g : Given) (old new : Standpoint D A) where
   -- A session answered the first parts of a text, and began the answer to one more at most. What these parts ask for was carried out up to
   -- the halt. Where one of them needs the machine, the history is that of a run; or it is the last one alone, of which nothing was done.
   pub record BeginsText (why : Halt) (text : List ℕ) (left : Option (List ℕ)) : Type 0 where
@@ -37,10 +35,10 @@ module _ {D A : Type 0} (d : Ghosts D) (replies : A → Asked → Answered → A
     pub one_at_most : length next ≤ 1
     pub each_asks : EachAsks (text_parts is_begun.begun) (answered ++ next)
     pub cost : ℕ
-    pub halted : Stops IsRun d replies old.disk new.disk old.store.entries old.held new.held why (transcript told old.store.entries (answered ++ next)) old.around new.around cost
-    pub costs : cost ≤ total_cost told old.store.entries (answered ++ next) (all_named halted.asks halted.slices ++ all_named halted.lost_asks halted.lost)
-    pub on_run : needs_any old.store.entries answered ≡ true → IsRun old.store.entries
-    pub begun_on_run : needs_any old.store.entries (answered ++ next) ≡ true → IsRun old.store.entries ⊎ Stops IsRun d replies old.disk new.disk old.store.entries old.held new.held why (transcript told old.store.entries answered) old.around new.around cost
+    pub halted : Stops IsRun d who old.disk new.disk old.store.entries old.held new.held why (transcript g old.store.entries (answered ++ next)) old.around new.around cost
+    pub costs : cost ≤ total_cost g old.store.entries (answered ++ next) (named_at halted.touches halted.slices ++ named_at halted.lost_touches halted.lost)
+    pub on_run : needs_any g old.store.entries answered ≡ true → IsRun old.store.entries
+    pub begun_on_run : needs_any g old.store.entries (answered ++ next) ≡ true → IsRun old.store.entries ⊎ Stops IsRun d who old.disk new.disk old.store.entries old.held new.held why (transcript g old.store.entries answered) old.around new.around cost
 
   -- A session found out that its history isn't a run's: it answered the first parts of a text, none of which needs the machine, and of the
   -- next one, which does, it did nothing. Beside what these cost it executed no more than the history, run again.
@@ -49,8 +47,8 @@ module _ {D A : Type 0} (d : Ghosts D) (replies : A → Asked → Answered → A
     pub answered : List Command
     pub next : Command
     pub each_asks : EachAsks (text_parts is_begun.begun) (answered ++ next ∷ [])
-    pub needless : needs_any old.store.entries answered ≡ false
-    pub needs : needs_machine old.store.entries next ≡ true
+    pub needless : needs_any g old.store.entries answered ≡ false
+    pub needs : needs_machine g old.store.entries next ≡ true
     pub cost : ℕ
-    pub done : Advances replies (transcript told old.store.entries answered) finished old.around new.around cost (CarriesOut IsRun d old.disk new.disk old.store.entries old.held new.held)
-    pub costs : cost ≤ total_cost told old.store.entries answered (all_named done.asks done.slices) + rebuild_cost old.store.entries
+    pub done : Advances who (transcript g old.store.entries answered) finished old.around new.around cost (CarriesOut IsRun d old.disk new.disk old.store.entries old.held new.held)
+    pub costs : cost ≤ total_cost g old.store.entries answered (named_at done.touches done.slices) + rebuild_cost old.store.entries

@@ -8,19 +8,18 @@ use Rattle.arn_base.specs.declared.streams.Sink as sinks
 use Rattle.arn_base.specs.declared.streams.Source as sources
 use Rattle.arn_base.specs.Faults.{Rose}
 use Rattle.arn_commands.specs.Parts.{text_parts, whole_parts}
-use Rattle.parts_model.specs.Replies.{Answered}
 use Rattle.log_model.specs.Records.{IsRun}
 use Rattle.log_store.specs.Stops.{GoesOn, LeavesOnly}
 use Rattle.log_store.specs.declared.size.TheConstants.{MOST_LOG}
-use Rattle.guest_devices.specs.Answers.{Asked}
-use Rattle.guest_machine.specs.Legs.{Ask, Picked, RepliedBy}
+use Rattle.guest_machine.specs.Legs.{Picked}
 use Rattle.session_effects.specs.Carrying.{CarriesOut, HoldsMore, IsAtRest, IsShut, RestsMore}
 use Rattle.session_effects.specs.declared.halt.Halt.{Halt}
 use Rattle.session_effects.specs.declared.halt.Halt.TheVariants as halt
 use Rattle.session_effects.specs.declared.outside.Outside.{Outside}
 use Rattle.session_commands.specs.Answering.{IsNoRun}
 use Rattle.session_runs.specs.Points.{Surroundings, around}
-use Rattle.session_model.specs.Questions.{Told}
+use Rattle.session_runs.specs.Touches.{Answering, Touch, TouchedBy, unplugs_in}
+use Rattle.session_commands.specs.Given.{Given}
 use Rattle.arn_session.specs.Answered.{AnswersParts, AnswersTaken, TookAtMost, TookFewer}
 use Rattle.arn_session.specs.Begun.{BeginsOn, FindsOn, Standing, standing}
 
@@ -44,28 +43,30 @@ scene_of s k source sink disk around = record {
 abbrev pub scene : {S C A D K L : Type 0} → sources.Ghosts S → choosers.Ghosts C → sinks.Ghosts K → S → Outside C A D K L → Scene D A
 scene s c k source o = scene_of s k source o.sink.now o.disk.now (around (c.choices o.chooser.now) o.answers.now o.steps.now)
 
--- those who answer for devices were asked where slices ask, in order, and nowhere else
-pub record WereAsked {A : Type 0} (replies : A → Asked → Answered → A → Type 0) (old new : A) : Type 0 where
-  pub asks : List Ask
+-- Those who answer for devices were touched in this order and not otherwise: they were asked where slices ask, and nowhere else. No device was
+-- unplugged, since no line does that yet.
+pub record WereTouched {A : Type 0} (who : Answering A) (old new : A) : Type 0 where
+  pub touches : List Touch
   pub slices : List Picked
-  pub replied : RepliedBy replies asks slices old new
+  pub touched : TouchedBy who touches slices old new
+  pub none_unplugged : unplugs_in touches ≡ []
 
-module _ {D A : Type 0} (d : Ghosts D) (replies : A → Asked → Answered → A → Type 0) (told : Told) (history : List Record) where
+module _ {D A : Type 0} (d : Ghosts D) (who : Answering A) (g : Given) (history : List Record) where
   pub record Leaves (result : Result (Unit {0}) Halt) (old new : Scene D A) : Type 0 where
     -- the source was read to its end, and every line and block of it was answered
     pub read : OnOk result (IfSome old.left (λ text. new.left ≡ Some []))
-    pub answered : OnOk result (IfSome old.left (λ text. AnswersParts replies told history (text_parts text) old.stands.around new.stands.around (CarriesOut IsRun d old.stands.disk new.stands.disk history old.stands.held new.stands.held)))
+    pub answered : OnOk result (IfSome old.left (λ text. AnswersParts who g history (text_parts text) old.stands.around new.stands.around (CarriesOut IsRun d old.stands.disk new.stands.disk history old.stands.held new.stands.held)))
     pub short : OnOk result (IfSome old.left (λ text. length text < 2 ^ 40))
     -- it halted before that
-    pub stops : IfErr result (λ why. why ≢ halt.Source → why ≢ halt.Long → IfSome old.left (λ text. BeginsOn d replies told history old.stands new.stands why text new.left))
+    pub stops : IfErr result (λ why. why ≢ halt.Source → why ≢ halt.Long → IfSome old.left (λ text. BeginsOn d who g history old.stands new.stands why text new.left))
     -- the records of the log aren't those of a run, and a command needed the machine
     pub blames : (at : Differs) → IsErrOf result (halt.Differs at) → IsNoRun history at
-    pub finds : (at : Differs) → IsErrOf result (halt.Differs at) → IfSome old.left (λ text. FindsOn d replies told history old.stands new.stands text new.left)
+    pub finds : (at : Differs) → IsErrOf result (halt.Differs at) → IfSome old.left (λ text. FindsOn d who g history old.stands new.stands text new.left)
     -- the source failed, or as many bytes were taken as a session takes at most: every line that was taken with its LF was answered, and
     -- nothing else
     pub early : IsErrOf result halt.Source → TookFewer (2 ^ 40) old.left new.left
     pub long : IsErrOf result halt.Long → IfSome old.left (λ text. (2 ^ 40 ≤ length text) × (new.left ≡ Some (drop (2 ^ 40) text)))
-    pub taken : IsErrOf result halt.Source ⊎ IsErrOf result halt.Long → AnswersTaken replies told history old.left new.left whole_parts old.stands.around new.stands.around (CarriesOut IsRun d old.stands.disk new.stands.disk history old.stands.held new.stands.held)
+    pub taken : IsErrOf result halt.Source ⊎ IsErrOf result halt.Long → AnswersTaken who g history old.left new.left whole_parts old.stands.around new.stands.around (CarriesOut IsRun d old.stands.disk new.stands.disk history old.stands.held new.stands.held)
     pub at_most : TookAtMost (2 ^ 40) old.left new.left
     -- a stop of the machine at any moment leaves the history and more
     pub any_moment : IsAtRest d old.stands.disk history → LeavesOnly d.moment d.left_since old.stands.disk new.stands.disk (HoldsMore IsRun history)
@@ -79,6 +80,6 @@ module _ {D A : Type 0} (d : Ghosts D) (replies : A → Asked → Answered → A
     pub sink : IsErrOf result halt.Sink → Rose old.sink_faults new.sink_faults
     pub disk : IsErrOf result halt.Disk → Rose (d.faults old.stands.disk) (d.faults new.stands.disk)
     pub full : (log payload : ℕ) → IsErrOf result (halt.Full log payload) → MOST_LOG < log + 5 + payload
-    -- the disk goes on, and devices were asked by slices alone
+    -- the disk goes on, and devices were touched by slices alone
     pub later : GoesOn d.image d.faults old.stands.disk new.stands.disk
-    pub asked : WereAsked replies old.stands.around.answers new.stands.around.answers
+    pub touched : WereTouched who old.stands.around.answers new.stands.around.answers

@@ -8,40 +8,40 @@ use Rattle.guest_machine.specs.Legs.{Picked}
 use Rattle.session_effects.specs.Effects.{committed, printed}
 use Rattle.session_runs.specs.Turns.{Point, Turn, finished, followed_by}
 use Rattle.session_commands.specs.Cost.{asked_cost}
+use Rattle.session_commands.specs.Given.{Given}
 use Rattle.session_commands.specs.Lines.{needs_machine, turn}
-use Rattle.session_model.specs.Questions.{Told}
 
 -- the history behind a turn
 abbrev pub history_behind : List Record → Turn → List Record
 history_behind history t = history ++ committed t.effects
 
 -- what commands do
-abbrev pub transcript : Told → List Record → List Command → Point
-transcript told history [] slices = finished slices
-transcript told history (command ∷ commands) slices =
-    let t = turn told history command slices in
-    followed_by t t.left (transcript told (history_behind history t) commands)
+abbrev pub transcript : Given → List Record → List Command → Point
+transcript g history [] slices = finished slices
+transcript g history (command ∷ commands) slices =
+    let t = turn g history command slices in
+    followed_by t t.left (transcript g (history_behind history t) commands)
 
 -- the text that is printed for these commands
-abbrev pub text_of : Told → List Record → List Command → List Picked → List ℕ
-text_of told history commands slices = printed (transcript told history commands slices).effects
+abbrev pub text_of : Given → List Record → List Command → List Picked → List ℕ
+text_of g history commands slices = printed (transcript g history commands slices).effects
 
 -- One of these commands needs the machine. Up to the first that does nothing is committed, so that the history is that of the beginning.
-abbrev pub needs_any : List Record → List Command → Bool
-needs_any history commands = list_any (needs_machine history) commands
+abbrev pub needs_any : Given → List Record → List Command → Bool
+needs_any g history commands = list_any (needs_machine g history) commands
 
 -- what the questions among these commands cost that are reached
 abbrev pub unless_cut_off : Option (List Picked) → (List Picked → ℕ) → ℕ
 unless_cut_off None cost = 0
 unless_cut_off (Some rest) cost = cost rest
 
-abbrev pub asked_costs : Told → List Record → List Command → List Picked → ℕ
-asked_costs told history [] slices = 0
-asked_costs told history (command ∷ commands) slices =
-    let t = turn told history command slices in
-    asked_cost told history (history_behind history t) command + unless_cut_off t.left (asked_costs told (history_behind history t) commands)
+abbrev pub asked_costs : Given → List Record → List Command → List Picked → ℕ
+asked_costs g history [] slices = 0
+asked_costs g history (command ∷ commands) slices =
+    let t = turn g history command slices in
+    asked_cost g history (history_behind history t) command + unless_cut_off t.left (asked_costs g (history_behind history t) commands)
 
 -- all that these commands cost beside the slices that they take: the machine is made once, where one of them needs it
-abbrev pub total_cost : Told → List Record → List Command → List Picked → ℕ
-total_cost told history commands slices =
-    (if needs_any history commands then rebuild_cost history else 0) + asked_costs told history commands slices
+abbrev pub total_cost : Given → List Record → List Command → List Picked → ℕ
+total_cost g history commands slices =
+    (if needs_any g history commands then rebuild_cost history else 0) + asked_costs g history commands slices

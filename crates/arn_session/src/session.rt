@@ -10,6 +10,7 @@ ghost use Rattle.arn_session.specs.Leaves.{Leaves, scene_of};
 ghost use Rattle.arn_session.specs.Opening.{FailsToOpen, HasBegun, HasOpened, IsOpened, NeverBegan};
 ghost use Rattle.arn_session.specs.Status.{NumbersHold, open_status_of};
 ghost use Rattle.arn_session.specs.Words.{AreAccepted};
+ghost use Rattle.guest_devices.specs.Slots.{is_filled};
 ghost use Rattle.history_model.specs.Broken.{first_broken};
 ghost use Rattle.log_model.specs.Records.{IsRun};
 ghost use Rattle.log_store.specs.Causes.{IsCauseOf, BlamesBytes};
@@ -21,15 +22,17 @@ ghost use Rattle.session_effects.specs.Carrying.{CarriesOut, HoldsLog, HoldsMore
 ghost use Rattle.session_effects.specs.Outside.{IsSame};
 ghost use Rattle.session_effects.specs.Standing.{IsOpen};
 ghost use Rattle.session_commands.specs.Answering.{IsNoRun};
+ghost use Rattle.session_commands.specs.Given.{given};
 ghost use Rattle.session_questions.specs.OfRuns.{AnswersAreOfRuns, GeneratedIsOfRuns, RunsAreUndamaged, SinksAreOfRuns, VerifyTellsRuns};
 ghost use Rattle.session_questions.specs.Texts.{told};
 ghost use Rattle.session_runs.specs.Points.{around};
+ghost use Rattle.session_runs.specs.Touches.{answering};
 
 use crate::status::{Damage, Status};
 use crate::text::session;
 use crate::words::are_accepted;
 use arn_base::{Chooser, Device, Disk, Sink, Source, Steps};
-use guest_devices::{Answers, Slots};
+use guest_devices::{Plugs, Slots};
 use history_index::IndexError;
 use log_store::{Store, logs_read_one_way, store_is_short};
 use session_effects::{Halt, Outside, effects_follow, halts_follow, openings_follow};
@@ -40,7 +43,7 @@ use std::alloc::Global;
 use std::sync::ledger::Ledger;
 
 // Answers a text on the history of a log, with those who answer for devices and all else that is lent.
-fn answer_lent<Q: Questions + Drop, C: Chooser, A: Answers, S: Source, K: Sink, D: Disk, L: Ledger>(
+fn answer_lent<Q: Questions + Drop, C: Chooser, A: Plugs, S: Source, K: Sink, D: Disk, L: Ledger>(
     alloc: Global,
     store: Store,
     questions: Q,
@@ -50,7 +53,8 @@ fn answer_lent<Q: Questions + Drop, C: Chooser, A: Answers, S: Source, K: Sink, 
 ) -> Result<(), Halt>
     requires open { IsOpen D.Disk store outside.old.disk.now }
     requires known { Q.knows questions store.entries }
-    ensures leaves { Leaves D.Disk A.answers Q.told store.entries result
+    ensures leaves { Leaves D.Disk (answering A.answers A.unplugs A.filled)
+        (given Q.told (A.filled answers.old)) store.entries result
         (scene_of S.Source K.Sink source.old outside.old.sink.now outside.old.disk.now
         (around (C.choices outside.old.chooser.now) answers.old outside.old.steps.now))
         (scene_of S.Source K.Sink source.new outside.new.sink.now outside.new.disk.now
@@ -87,7 +91,8 @@ fn answer_in_slots<
 ) -> Result<(), Halt>
     requires open { IsOpen D.Disk store outside.old.disk.now }
     requires known { Q.knows questions store.entries }
-    ensures leaves { Leaves D.Disk (slots_answer V.Device) Q.told store.entries result
+    ensures leaves { Leaves D.Disk (slots_answer V.Device)
+        (given Q.told (is_filled slots.old.devices.now.items)) store.entries result
         (scene_of S.Source K.Sink source.old outside.old.sink.now outside.old.disk.now
         (around (C.choices outside.old.chooser.now) slots.old.devices.now.items outside.old.steps.now))
         (scene_of S.Source K.Sink source.new outside.new.sink.now outside.new.disk.now
@@ -112,7 +117,8 @@ fn answer_text<Q: Questions + Drop, C: Chooser, V: Device, S: Source, K: Sink, D
 ) -> Result<(), Halt>
     requires open { IsOpen D.Disk store disk.old }
     requires known { Q.knows questions store.entries }
-    ensures { Leaves D.Disk (slots_answer V.Device) Q.told store.entries result
+    ensures { Leaves D.Disk (slots_answer V.Device)
+        (given Q.told (is_filled devices.old.items)) store.entries result
         (scene_of S.Source K.Sink source.old sink.old disk.old
         (around (C.choices chooser.old) devices.old.items steps.old))
         (scene_of S.Source K.Sink source.new sink.new disk.new
@@ -156,7 +162,8 @@ pub fn arnold<S: Source, K: Sink, D: Disk, L: Ledger>(
         IfSome (S.left source.old) (λ text. S.left source.new ≡ Some []) }
     ensures answered { result ≡ Status.Done → (history : List Record) →
         HoldsLog D.Disk disk.old history → IfSome (S.left source.old) (λ text.
-        AnswersParts (slots_answer ⟦<Box<dyn Device> as Device>⟧) told history (text_parts text)
+        AnswersParts (slots_answer ⟦<Box<dyn Device> as Device>⟧)
+        (given told (is_filled devices.old.items)) history (text_parts text)
         (around (⟦<Box<dyn Chooser> as Chooser>⟧.choices chooser.old) devices.old.items steps.old)
         (around (⟦<Box<dyn Chooser> as Chooser>⟧.choices chooser.new) devices.new.items steps.new)
         (CarriesOut IsRun D.Disk disk.old disk.new
@@ -174,7 +181,8 @@ pub fn arnold<S: Source, K: Sink, D: Disk, L: Ledger>(
     // The sink failed before all that was to be printed had been put.
     ensures cut { result ≡ Status.Sink → (history : List Record) →
         HoldsLog D.Disk disk.old history → IfSome (S.left source.old) (λ text.
-        BeginsOn D.Disk (slots_answer ⟦<Box<dyn Device> as Device>⟧) told history
+        BeginsOn D.Disk (slots_answer ⟦<Box<dyn Device> as Device>⟧)
+        (given told (is_filled devices.old.items)) history
         (standing disk.old (K.holds sink.old)
         (around (⟦<Box<dyn Chooser> as Chooser>⟧.choices chooser.old) devices.old.items steps.old))
         (standing disk.new (K.holds sink.new)
@@ -187,7 +195,8 @@ pub fn arnold<S: Source, K: Sink, D: Disk, L: Ledger>(
         FailsToOpen IsRun D.Disk disk.old disk.new history source.old source.new sink.old sink.new
         chooser.old chooser.new devices.old devices.new steps.old steps.new ⊎
         IfSome (S.left source.old) (λ text.
-        BeginsOn D.Disk (slots_answer ⟦<Box<dyn Device> as Device>⟧) told history
+        BeginsOn D.Disk (slots_answer ⟦<Box<dyn Device> as Device>⟧)
+        (given told (is_filled devices.old.items)) history
         (standing disk.old (K.holds sink.old)
         (around (⟦<Box<dyn Chooser> as Chooser>⟧.choices chooser.old) devices.old.items steps.old))
         (standing disk.new (K.holds sink.new)
@@ -198,7 +207,8 @@ pub fn arnold<S: Source, K: Sink, D: Disk, L: Ledger>(
     ensures full { (log payload : ℕ) → result ≡ Status.Full log payload →
         (history : List Record) → HoldsLog D.Disk disk.old history →
         IfSome (S.left source.old) (λ text.
-        BeginsOn D.Disk (slots_answer ⟦<Box<dyn Device> as Device>⟧) told history
+        BeginsOn D.Disk (slots_answer ⟦<Box<dyn Device> as Device>⟧)
+        (given told (is_filled devices.old.items)) history
         (standing disk.old (K.holds sink.old)
         (around (⟦<Box<dyn Chooser> as Chooser>⟧.choices chooser.old) devices.old.items steps.old))
         (standing disk.new (K.holds sink.new)
@@ -212,7 +222,8 @@ pub fn arnold<S: Source, K: Sink, D: Disk, L: Ledger>(
         FailsToOpen IsRun D.Disk disk.old disk.new history source.old source.new sink.old sink.new
         chooser.old chooser.new devices.old devices.new steps.old steps.new ⊎
         IfSome (S.left source.old) (λ text.
-        BeginsOn D.Disk (slots_answer ⟦<Box<dyn Device> as Device>⟧) told history
+        BeginsOn D.Disk (slots_answer ⟦<Box<dyn Device> as Device>⟧)
+        (given told (is_filled devices.old.items)) history
         (standing disk.old (K.holds sink.old)
         (around (⟦<Box<dyn Chooser> as Chooser>⟧.choices chooser.old) devices.old.items steps.old))
         (standing disk.new (K.holds sink.new)
@@ -250,7 +261,8 @@ pub fn arnold<S: Source, K: Sink, D: Disk, L: Ledger>(
     ensures differs { (d : Differs) → result ≡ Status.Damaged (Damage.Differs d) →
         (history : List Record) → HoldsLog D.Disk disk.old history →
         IsNoRun history d × IfSome (S.left source.old) (λ text.
-        FindsOn D.Disk (slots_answer ⟦<Box<dyn Device> as Device>⟧) told history
+        FindsOn D.Disk (slots_answer ⟦<Box<dyn Device> as Device>⟧)
+        (given told (is_filled devices.old.items)) history
         (standing disk.old (K.holds sink.old)
         (around (⟦<Box<dyn Chooser> as Chooser>⟧.choices chooser.old) devices.old.items steps.old))
         (standing disk.new (K.holds sink.new)
@@ -265,7 +277,8 @@ pub fn arnold<S: Source, K: Sink, D: Disk, L: Ledger>(
     // wasn't taken so.
     ensures taken { (result ≡ Status.Source) ⊎ (result ≡ Status.Long) →
         (history : List Record) → HoldsLog D.Disk disk.old history →
-        AnswersTaken (slots_answer ⟦<Box<dyn Device> as Device>⟧) told history
+        AnswersTaken (slots_answer ⟦<Box<dyn Device> as Device>⟧)
+        (given told (is_filled devices.old.items)) history
         (S.left source.old) (S.left source.new) whole_parts
         (around (⟦<Box<dyn Chooser> as Chooser>⟧.choices chooser.old) devices.old.items steps.old)
         (around (⟦<Box<dyn Chooser> as Chooser>⟧.choices chooser.new) devices.new.items steps.new)

@@ -5,12 +5,14 @@ ghost use Rattle.arn_session.specs.Halts.{read_halt_of};
 ghost use Rattle.arn_session.specs.Leaves.{Leaves, scene};
 ghost use Rattle.session_effects.specs.Outside.{IsSame};
 ghost use Rattle.session_effects.specs.Standing.{IsOpen};
+ghost use Rattle.session_commands.specs.Given.{given};
 ghost use Rattle.session_commands.specs.Kept.{IsSound};
+ghost use Rattle.session_runs.specs.Touches.{answering};
 
 use arn_base::{Chooser, Disk, Sink, Source};
 use arn_commands::{Commands, Next, ReadError};
-use guest_devices::Answers;
-use guest_machine::{picks_follow, replies_follow};
+use guest_devices::Plugs;
+use guest_machine::picks_follow;
 use log_model::named_append;
 use log_store::Store;
 use session_commands::{Kept, answer};
@@ -33,7 +35,7 @@ fn read_halt(error: ReadError) -> Halt
 
 // Reads the source to its end, and does what each command asks for on what is kept of a history. It
 // owns nothing: what it is lent is dropped in one place, and not at each of its ends.
-fn answer_all<Q: Questions, S: Source, C: Chooser, A: Answers, D: Disk, K: Sink, L: Ledger>(
+fn answer_all<Q: Questions, S: Source, C: Chooser, A: Plugs, D: Disk, K: Sink, L: Ledger>(
     kept: &mut Kept<Q>,
     commands: &mut Commands,
     source: &mut S,
@@ -43,7 +45,8 @@ fn answer_all<Q: Questions, S: Source, C: Chooser, A: Answers, D: Disk, K: Sink,
     requires sound { IsSound Q.knows kept.old.machine kept.old.questions kept.old.store.entries }
     requires bare { is_some kept.old.machine ≡ false }
     requires fresh { commands.old ≡ fresh_reader }
-    ensures leaves { Leaves D.Disk A.answers Q.told kept.old.store.entries result
+    ensures leaves { Leaves D.Disk (answering A.answers A.unplugs A.filled)
+        (given Q.told (A.filled outside.old.answers.now)) kept.old.store.entries result
         (scene S.Source C.Chooser K.Sink source.old outside.old)
         (scene S.Source C.Chooser K.Sink source.new outside.new) }
     ensures same { IsSame outside.old outside.new }
@@ -54,7 +57,6 @@ fn answer_all<Q: Questions, S: Source, C: Chooser, A: Answers, D: Disk, K: Sink,
     goings_follow::<C, A, D, K, L>();
     named_append();
     picks_follow();
-    replies_follow::<A>();
     loop {
         let next = match commands.next(source) {
             Ok(next) => next,
@@ -70,7 +72,7 @@ fn answer_all<Q: Questions, S: Source, C: Chooser, A: Answers, D: Disk, K: Sink,
 
 /// Reads the source to its end, and does what each command of its text asks for on the history of a
 /// log. It takes at most 2^40 bytes of the source.
-pub fn session<Q: Questions + Drop, S: Source, C: Chooser, A: Answers, D: Disk, K: Sink, L: Ledger>(
+pub fn session<Q: Questions + Drop, S: Source, C: Chooser, A: Plugs, D: Disk, K: Sink, L: Ledger>(
     alloc: Global,
     store: Store,
     questions: Q,
@@ -79,7 +81,8 @@ pub fn session<Q: Questions + Drop, S: Source, C: Chooser, A: Answers, D: Disk, 
 ) -> Result<(), Halt>
     requires open { IsOpen D.Disk store outside.old.disk.now }
     requires known { Q.knows questions store.entries }
-    ensures leaves { Leaves D.Disk A.answers Q.told store.entries result
+    ensures leaves { Leaves D.Disk (answering A.answers A.unplugs A.filled)
+        (given Q.told (A.filled outside.old.answers.now)) store.entries result
         (scene S.Source C.Chooser K.Sink source.old outside.old)
         (scene S.Source C.Chooser K.Sink source.new outside.new) }
     ensures same { IsSame outside.old outside.new }
@@ -89,7 +92,6 @@ pub fn session<Q: Questions + Drop, S: Source, C: Chooser, A: Answers, D: Disk, 
     goings_follow::<C, A, D, K, L>();
     named_append();
     picks_follow();
-    replies_follow::<A>();
     let mut commands = Commands::new(alloc)?;
     let mut kept = Kept {
         alloc,

@@ -12,6 +12,8 @@ use Rattle.session_effects.specs.Carrying.{IsAtRest}
 use Rattle.session_effects.specs.declared.halt.Halt.{Halt}
 use Rattle.session_effects.specs.declared.halt.Halt.TheVariants as halt
 use Rattle.session_commands.specs.Answering.{IsNoRun}
+use Rattle.guest_devices.specs.Slots.{is_filled}
+use Rattle.session_commands.specs.Given.{given}
 use Rattle.session_questions.specs.Texts.{told}
 use Rattle.arn_session.specs.Status.{status_of}
 use Rattle.arn_session.specs.declared.status.Status.TheVariants as status
@@ -115,7 +117,7 @@ returns-in-Err-NoMemory-clause-untouched g c =
 
 pub returns-in-Ok-answer_text-clause-answered : goal.returns-in-Ok-answer_text-clause-answered
 returns-in-Ok-answer_text-clause-answered g c = λ is history log.
-    Answers-opened g.D.Disk _ told c.openings_follow.ensures.behind c.halts_follow.ensures.behind c.args.disk.now c.open_log.new.disk c.answer_text.new.disk
+    Answers-opened g.D.Disk _ (given told (is_filled c.args.devices.now.items)) c.openings_follow.ensures.behind c.halts_follow.ensures.behind c.args.disk.now c.open_log.new.disk c.answer_text.new.disk
     (g.K.Sink.holds c.args.sink.now) (g.K.Sink.holds c.answer_text.new.sink) _ _ c.in-Ok.store.entries
     (c.openings_follow.ensures.carries c.args.disk.now c.open_log.new.disk c.in-Ok.store (g.K.Sink.holds c.args.sink.now) c.in-Ok.ensures.later.tells c.in-Ok.ensures.left c.in-Ok.ensures.durable c.in-Ok.ensures.any_moment c.in-Ok.ensures.shut)
     history (c.openings_follow.ensures.history c.args.disk.now history c.in-Ok.store log c.in-Ok.ensures.recovered)
@@ -174,7 +176,7 @@ returns-in-Err-answer_text-clause-untouched g c =
 
 pub returns-in-Err-answer_text-clause-cut : goal.returns-in-Err-answer_text-clause-cut
 returns-in-Err-answer_text-clause-cut g c = λ is history log.
-    Begins-opened g.D.Disk _ told c.openings_follow.ensures.behind c.halts_follow.ensures.behind c.args.disk.now c.open_log.new.disk c.answer_text.new.disk
+    Begins-opened g.D.Disk _ (given told (is_filled c.args.devices.now.items)) c.openings_follow.ensures.behind c.halts_follow.ensures.behind c.args.disk.now c.open_log.new.disk c.answer_text.new.disk
     (g.K.Sink.holds c.args.sink.now) (g.K.Sink.holds c.answer_text.new.sink) _ _ c.in-Ok.store.entries
     (c.openings_follow.ensures.carries c.args.disk.now c.open_log.new.disk c.in-Ok.store (g.K.Sink.holds c.args.sink.now) c.in-Ok.ensures.later.tells c.in-Ok.ensures.left c.in-Ok.ensures.durable c.in-Ok.ensures.any_moment c.in-Ok.ensures.shut)
     history (c.openings_follow.ensures.history c.args.disk.now history c.in-Ok.store log c.in-Ok.ensures.recovered)
@@ -183,7 +185,7 @@ returns-in-Err-answer_text-clause-cut g c = λ is history log.
 
 pub returns-in-Err-answer_text-clause-stopped : goal.returns-in-Err-answer_text-clause-stopped
 returns-in-Err-answer_text-clause-stopped g c = λ is history log. inr (
-    Begins-opened g.D.Disk _ told c.openings_follow.ensures.behind c.halts_follow.ensures.behind c.args.disk.now c.open_log.new.disk c.answer_text.new.disk
+    Begins-opened g.D.Disk _ (given told (is_filled c.args.devices.now.items)) c.openings_follow.ensures.behind c.halts_follow.ensures.behind c.args.disk.now c.open_log.new.disk c.answer_text.new.disk
     (g.K.Sink.holds c.args.sink.now) (g.K.Sink.holds c.answer_text.new.sink) _ _ c.in-Ok.store.entries
     (c.openings_follow.ensures.carries c.args.disk.now c.open_log.new.disk c.in-Ok.store (g.K.Sink.holds c.args.sink.now) c.in-Ok.ensures.later.tells c.in-Ok.ensures.left c.in-Ok.ensures.durable c.in-Ok.ensures.any_moment c.in-Ok.ensures.shut)
     history (c.openings_follow.ensures.history c.args.disk.now history c.in-Ok.store log c.in-Ok.ensures.recovered)
@@ -192,7 +194,7 @@ returns-in-Err-answer_text-clause-stopped g c = λ is history log. inr (
 
 pub returns-in-Err-answer_text-clause-full : goal.returns-in-Err-answer_text-clause-full
 returns-in-Err-answer_text-clause-full g c = λ at payload is history log.
-    Begins-opened g.D.Disk _ told c.openings_follow.ensures.behind c.halts_follow.ensures.behind c.args.disk.now c.open_log.new.disk c.answer_text.new.disk
+    Begins-opened g.D.Disk _ (given told (is_filled c.args.devices.now.items)) c.openings_follow.ensures.behind c.halts_follow.ensures.behind c.args.disk.now c.open_log.new.disk c.answer_text.new.disk
     (g.K.Sink.holds c.args.sink.now) (g.K.Sink.holds c.answer_text.new.sink) _ _ c.in-Ok.store.entries
     (c.openings_follow.ensures.carries c.args.disk.now c.open_log.new.disk c.in-Ok.store (g.K.Sink.holds c.args.sink.now) c.in-Ok.ensures.later.tells c.in-Ok.ensures.left c.in-Ok.ensures.durable c.in-Ok.ensures.any_moment c.in-Ok.ensures.shut)
     history (c.openings_follow.ensures.history c.args.disk.now history c.in-Ok.store log c.in-Ok.ensures.recovered)
@@ -201,7 +203,7 @@ returns-in-Err-answer_text-clause-full g c = λ at payload is history log.
 
 pub returns-in-Err-answer_text-clause-begun : goal.returns-in-Err-answer_text-clause-begun
 returns-in-Err-answer_text-clause-begun g c = λ is history log. inr (
-    Begins-opened g.D.Disk _ told c.openings_follow.ensures.behind c.halts_follow.ensures.behind c.args.disk.now c.open_log.new.disk c.answer_text.new.disk
+    Begins-opened g.D.Disk _ (given told (is_filled c.args.devices.now.items)) c.openings_follow.ensures.behind c.halts_follow.ensures.behind c.args.disk.now c.open_log.new.disk c.answer_text.new.disk
     (g.K.Sink.holds c.args.sink.now) (g.K.Sink.holds c.answer_text.new.sink) _ _ c.in-Ok.store.entries
     (c.openings_follow.ensures.carries c.args.disk.now c.open_log.new.disk c.in-Ok.store (g.K.Sink.holds c.args.sink.now) c.in-Ok.ensures.later.tells c.in-Ok.ensures.left c.in-Ok.ensures.durable c.in-Ok.ensures.any_moment c.in-Ok.ensures.shut)
     history (c.openings_follow.ensures.history c.args.disk.now history c.in-Ok.store log c.in-Ok.ensures.recovered)
@@ -210,7 +212,7 @@ returns-in-Err-answer_text-clause-begun g c = λ is history log. inr (
 
 pub returns-in-Err-answer_text-clause-taken : goal.returns-in-Err-answer_text-clause-taken
 returns-in-Err-answer_text-clause-taken g c = λ which history log.
-    Taken-opened g.D.Disk _ told c.openings_follow.ensures.behind c.halts_follow.ensures.behind c.args.disk.now c.open_log.new.disk c.answer_text.new.disk
+    Taken-opened g.D.Disk _ (given told (is_filled c.args.devices.now.items)) c.openings_follow.ensures.behind c.halts_follow.ensures.behind c.args.disk.now c.open_log.new.disk c.answer_text.new.disk
     (g.K.Sink.holds c.args.sink.now) (g.K.Sink.holds c.answer_text.new.sink) _ _ c.in-Ok.store.entries
     (c.openings_follow.ensures.carries c.args.disk.now c.open_log.new.disk c.in-Ok.store (g.K.Sink.holds c.args.sink.now) c.in-Ok.ensures.later.tells c.in-Ok.ensures.left c.in-Ok.ensures.durable c.in-Ok.ensures.any_moment c.in-Ok.ensures.shut)
     history (c.openings_follow.ensures.history c.args.disk.now history c.in-Ok.store log c.in-Ok.ensures.recovered)
@@ -225,7 +227,7 @@ returns-in-Err-answer_text-clause-differs g c = λ d is history log.
     let why : c.in-Err-answer_text.halt ≡ halt.Differs d = (halt-is c.in-Err-answer_text.halt c.from-in-Err-answer_text.result (halt.Differs d) c.from-in-Err-answer_text.ensures (ap halt_for is)) in
     let err = c.in-Err-answer_text.is ∙ ap (λ (x : Halt). Err x) why in (
       subst (λ h. IsNoRun h d) (c.openings_follow.ensures.history c.args.disk.now history c.in-Ok.store log c.in-Ok.ensures.recovered) (c.answer_text.ensures.blames d err),
-      Finds-opened g.D.Disk _ told c.openings_follow.ensures.behind c.halts_follow.ensures.behind c.args.disk.now c.open_log.new.disk c.answer_text.new.disk
+      Finds-opened g.D.Disk _ (given told (is_filled c.args.devices.now.items)) c.openings_follow.ensures.behind c.halts_follow.ensures.behind c.args.disk.now c.open_log.new.disk c.answer_text.new.disk
           (g.K.Sink.holds c.args.sink.now) (g.K.Sink.holds c.answer_text.new.sink) _ _ c.in-Ok.store.entries
           (c.openings_follow.ensures.carries c.args.disk.now c.open_log.new.disk c.in-Ok.store (g.K.Sink.holds c.args.sink.now) c.in-Ok.ensures.later.tells c.in-Ok.ensures.left c.in-Ok.ensures.durable c.in-Ok.ensures.any_moment c.in-Ok.ensures.shut)
           history (c.openings_follow.ensures.history c.args.disk.now history c.in-Ok.store log c.in-Ok.ensures.recovered)

@@ -5,6 +5,8 @@ use Rattle.arn_commands.specs.declared.reader.TheConstants.{MOST_TAKEN}
 use Rattle.session_effects.specs.Outside.{GoesOnOutside}
 use Rattle.session_effects.specs.Standing.{IsOpen}
 use Rattle.session_commands.specs.Kept.{IsSound}
+use Rattle.session_runs.specs.Touches.{answering}
+use Rattle.session_commands.specs.Given.{given}
 use Rattle.session_runs.specs.Standing.{standing}
 use Rattle.arn_session.proofs.Progress.{Progress}
 use Rattle.arn_session.proofs.text.answer_all.Given as goal
@@ -12,7 +14,8 @@ use Rattle.arn_session.proofs.text.answer_all.Given as goal
 abbrev pub invariant-loop-next : goal.invariant-loop-next
 invariant-loop-next g l =
     record {
-      progress : Progress g.D.Disk g.A.Answers.answers g.Q.Questions.told (g.S.Source.left l.initial.source) (g.S.Source.left l.source) l.commands (is_some l.kept.machine)
+      progress : Progress g.D.Disk (answering g.A.Answers.answers g.A.Plugs.unplugs g.A.Plugs.filled)
+          (given g.Q.Questions.told (g.A.Plugs.filled l.initial.outside.answers.now)) (g.S.Source.left l.initial.source) (g.S.Source.left l.source) l.commands (is_some l.kept.machine)
           (standing g.C.Chooser.choices g.K.Sink.holds l.initial.kept.store l.initial.outside)
           (standing g.C.Chooser.choices g.K.Sink.holds l.kept.store l.outside);
       is_open : IsOpen g.D.Disk l.kept.store l.outside.disk.now;
