@@ -71,9 +71,9 @@ turn-none g history (Says l) slices = unless-none (row_of g history l).refusal (
 turn-none g history (Faulty at) slices = refl
 turn-none g history (Generates image typed processes) slices =
     unless-none (generator_refusal history) (generator_turn g.told history image typed processes) slices (
-      let m = machine_of history in
-      let inputs = gen_inputs image typed in
-      quiet-none (history ++ records_from m inputs) (machine_from m inputs) (λ all. g.told.generated all processes) slices)
+    let m = machine_of history in
+    let inputs = gen_inputs image typed in
+    quiet-none (history ++ records_from m inputs) (machine_from m inputs) (λ all. g.told.generated all processes) slices)
 
 pub transcript-none : (g : Given) (history : List Record) (commands : List Command) (slices : List Picked) → unplugs_in (transcript g history commands slices).touches ≡ []
 transcript-none g history [] slices = refl

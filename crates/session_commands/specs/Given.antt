@@ -7,5 +7,6 @@ pub record Given : Type 0 where
   pub told : Told
   pub filled : ℕ → Bool
 
+-- these as one value
 abbrev pub given : Told → (ℕ → Bool) → Given
 given told filled = record { told = told; filled = filled }

@@ -44,8 +44,8 @@ abbrev pub around : {A : Type 0} → (ℕ → Option Choice) → A → ℕ → S
 around choices answers steps = record { choices = choices; answers = answers; steps = steps }
 
 -- From one point to a later one slices were picked, each where it was asked for, and effects carried out, whatever slices follow. The records
--- that the effects commit name these slices and no others, behind other records too, and unplug what the touches do. Devices gave their
--- replies. The slices cost their instructions and one for each; `cost` is what else was done.
+-- that the effects commit name these slices and no others, behind other records too, and say of just those devices that they were unplugged
+-- which the touches unplug. Devices gave their replies. The slices cost their instructions and one for each; `cost` is what else was done.
 pub record Advances {A : Type 0} (who : Answering A) (from to : Point) (old new : Surroundings A) (cost : ℕ) (carried : List Effect → Type 0) : Type 0 where
   pub slices : List Picked
   pub touches : List Touch
@@ -70,9 +70,10 @@ abbrev pub IsSpent : List Picked → List Effect → Option (List Picked) → Ty
 IsSpent lost undone left = (left ≡ None) ⊎ ((left ≡ Some []) × ((undone ≢ []) ⊎ (lost ≡ [])))
 
 -- A session halted: the effects `done` were carried out, and of what comes next some of the first at most. The records of those name
--- `slices`, and unplug what `touches` do. Slices that were picked behind these and not committed are lost: those of the open leg. Without
--- them the slices end before it; where a commit stands next, it names them, and unplugs what is unplugged behind the others. Where memory
--- ran out in a slice, that one was picked too, and a part of it may have run; or it ran out before an unplugging, which wasn't made.
+-- `slices`, and say of just those devices that they were unplugged which `touches` unplug. Slices that were picked behind these and not
+-- committed are lost: those of the open leg. Without them the slices end before it; where a commit stands next, it names them, and says of
+-- just those devices that they were unplugged which the touches behind the others unplug. Where memory ran out in a slice, that one was
+-- picked too, and a part of it may have run; or it ran out before an unplugging, which wasn't made.
 pub record Stops {D A : Type 0} (is_run : List Record → Type 0) (d : Ghosts D) (who : Answering A) (disk disk' : D) (history : List Record) (held holds : Option (List ℕ)) (why : Halt) (from : Point) (old new : Surroundings A) (cost : ℕ) : Type 0 where
   pub slices : List Picked
   pub lost : List Picked

@@ -9,6 +9,7 @@ use Rattle.guest_machine.specs.Legs.{Ask, Picked}
 use Rattle.guest_machine.specs.LegLaws.{all_named}
 use Rattle.guest_machine.specs.Slices.{RepliesIn}
 
+-- one thing that comes to those who answer for devices
 pub data Touch : Type 0 where
   -- a slice is taken where it is asked for
   AtSlice : Ask → Touch
@@ -37,10 +38,11 @@ pub record Answering (A : Type 0) : Type 1 where
   pub unplugs : ℕ → A → A → Type 0
   pub filled : A → ℕ → Bool
 
+-- these as one value
 abbrev pub answering : {A : Type 0} → (A → Asked → Answered → A → Type 0) → (ℕ → A → A → Type 0) → (A → ℕ → Bool) → Answering A
 answering answers unplugs filled = record { answers = answers; unplugs = unplugs; filled = filled }
 
--- these touches were made, one after the other: devices gave the replies of these slices, and others were unplugged
+-- these touches were made, one after the other: devices gave the replies of these slices where they were asked, and those named were unplugged
 abbrev pub TouchedBy : {A : Type 0} → Answering A → List Touch → List Picked → A → A → Type 0
 TouchedBy who [] slices old new = (slices ≡ []) × (new ≡ old)
 TouchedBy {A} who (AtUnplug n ∷ touches) slices old new = (between : A) × who.unplugs n old between × TouchedBy who touches slices between new

@@ -11,7 +11,7 @@ pub unreachable-requires : goal.unreachable-requires
 unreachable-requires g c =
     let handed : Given = given g.Q.Questions.told (λ n. false) in
     let needless : (l : Line) → c.args.line.now ≡ l → (row_of handed c.args.kept.now.store.entries l).needs_machine ≡ false = λ l is.
-        subst (λ (x : Line). (row_of handed c.args.kept.now.store.entries x).needs_machine ≡ false) is (c.requires.needless handed) in
+    subst (λ (x : Line). (row_of handed c.args.kept.now.store.entries x).needs_machine ≡ false) is (c.requires.needless handed) in
     elim c.in-File.is [
       | inl is ↦ false≢true (sym (needless (line.File is.0 is.1) is.2))
       | inr more ↦ elim more [
