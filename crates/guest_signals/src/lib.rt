@@ -2,6 +2,7 @@
 //! runs.
 #![tactic(auto)]
 
+mod pending;
 mod signals;
 
 pub use signals::Signals;

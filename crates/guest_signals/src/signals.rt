@@ -1,19 +1,21 @@
 // The signals of a process.
-ghost use Rattle.std.specs.Prelude.{◌≡◌, ◌<◌, ◌-◌, length, position, IsTrue, IsSome, IfSome, IsNone, Some, None, true, false, is_some, option_copied};
-ghost use Rattle.parts_model.specs.Signals.{no_signals, no_handlers, none_pending, is_signal, can_set, handler_of, due_signal, lowest_from, with_handler, with_pending, without};
+ghost use Rattle.std.specs.Prelude.{◌≡◌, ◌<◌, ◌-◌, IsTrue, IsSome, IfSome, IsNone, Some, None, true, false, is_some, option_copied};
+ghost use Rattle.parts_model.specs.Signals.{no_signals, no_handlers, none_pending, is_signal, can_set, handler_of, due_signal, with_handler, with_pending, without};
 ghost use Rattle.guest_signals.specs.Handling.{due_handler, handling};
 
+use crate::pending;
 use arn_base::Cpu;
 use parts_model::limits::{GREATEST_SIGNAL, KILL_SIGNAL};
 use std::marker::Model;
 
 const COUNT: usize = GREATEST_SIGNAL as usize;
 
-/// The handlers, the pending signals and the save slot of one process. A handler is an address, 0 where there is none.
+/// The handlers, the pending signals and the save slot of one process. A handler is an address, 0 where there is none. The
+/// lowest digit of `pending` stands for signal 1.
 #[derive(Debug, Drop)]
 pub struct Signals {
     handlers: [u64; COUNT],
-    pending: [bool; COUNT],
+    pending: u32,
     slot: Option<Cpu>,
 }
 
@@ -21,12 +23,13 @@ impl Model for Signals {
     ghost use Rattle.std.specs.Prelude.{◌≡◌, length};
     ghost use Rattle.parts_model.specs.Signals.{Signals};
     ghost use Rattle.parts_model.specs.declared.limits.TheConstants.{GREATEST_SIGNAL};
+    ghost use Rattle.guest_signals.specs.Pending.{pending_in};
 
     ghost Value = { Signals };
 
-    ghost view = { λ s. record { handlers = s.handlers; pending = s.pending; slot = s.slot } };
+    ghost view = { λ s. record { handlers = s.handlers; pending = pending_in s.pending; slot = s.slot } };
 
-    ghost invariant = { λ s. (length s.handlers ≡ GREATEST_SIGNAL) × (length s.pending ≡ GREATEST_SIGNAL) };
+    ghost invariant = { λ s. length s.handlers ≡ GREATEST_SIGNAL };
 }
 
 /// Where a signal stands in a list of all.
@@ -45,33 +48,15 @@ fn can_set(signal: u8, handler: u64) -> bool
     (1..=COUNT as u8).contains(&signal) && signal as u64 != KILL_SIGNAL && handler.is_multiple_of(4)
 }
 
-/// The place of the first that is true.
-fn first_true(pending: &[bool]) -> Option<usize>
-    ensures first { result ≡ position (λ is_pending. is_pending) pending.now }
-    ensures inside { IfSome result (λ place. place < length pending.now) }
-{
-    pending.iter().position(|is_pending| *is_pending)
-}
-
-/// The lowest signal that is pending.
-#[tactic(auto, using(crate::proofs::Lowest::lowest))]
-fn lowest(pending: &[bool]) -> Option<u8>
-    requires { length pending.now ≡ GREATEST_SIGNAL }
-    ensures lowest { result ≡ lowest_from 1 pending.now }
-    ensures signal { IfSome result (λ signal. IsTrue (is_signal signal)) }
-{
-    let place = first_true(pending)?;
-    Some(place as u8 + 1)
-}
-
 impl Signals {
     /// No handler is set, nothing is pending or saved.
+    #[tactic(auto, unfolding(crate::specs::Pending::pending_in))]
     pub fn new() -> Signals
         ensures { result ≡ no_signals }
     {
         Signals {
             handlers: [0; COUNT],
-            pending: [false; COUNT],
+            pending: 0,
             slot: None,
         }
     }
@@ -95,7 +80,7 @@ impl Signals {
         requires { IsTrue (is_signal signal) }
         ensures { self.new ≡ record self.old { pending = with_pending self.old.pending signal true } }
     {
-        self.pending[place(signal)] = true;
+        self.pending = pending::with(self.pending, place(signal));
     }
 
     /// The signal that is delivered next.
@@ -103,13 +88,13 @@ impl Signals {
         ensures due { result ≡ due_signal self.now }
         ensures signal { IfSome result (λ signal. IsTrue (is_signal signal)) }
     {
-        if self.pending[place(KILL_SIGNAL as u8)] {
+        if pending::has(self.pending, place(KILL_SIGNAL as u8)) {
             return Some(KILL_SIGNAL as u8);
         }
         if self.slot.is_some() {
             return None;
         }
-        lowest(&self.pending)
+        pending::lowest(self.pending)
     }
 
     /// A signal's handler, 0 where it has none.
@@ -126,7 +111,7 @@ impl Signals {
             record self.old { pending = without self.old.pending (due_signal self.old) } }
     {
         if let Some(signal) = self.due() {
-            self.pending[place(signal)] = false;
+            self.pending = pending::without(self.pending, place(signal));
         }
     }
 
@@ -180,10 +165,11 @@ impl Signals {
     }
 
     /// What a child gets: the same handlers and slot, and nothing pending.
+    #[tactic(auto, unfolding(crate::specs::Pending::pending_in))]
     pub fn child(&self) -> Signals
         ensures { result ≡ record self.now { pending = none_pending } }
     {
-        let pending = [false; COUNT];
+        let pending = 0;
         Signals {
             handlers: self.handlers,
             pending,
