@@ -8,12 +8,13 @@ use Rattle.acts_model.specs.Acts.{Forks, Founds, done, begun, beginning_of, chil
 use Rattle.acts_model.specs.Bodies.{put}
 use Rattle.acts_model.specs.Views.{returned}
 use Rattle.guest_bodies.specs.Follows.{Follows, SetsWatch}
-use Rattle.guest_bodies.specs.Kept.{Segments, body_of, view_of, shown_of, watch_of, shown_all, IfHeld, IsWhole, IsApart, IsSound}
+use Rattle.guest_bodies.specs.Kept.{Segments, body_of, view_of, shown_of, watch_of, shown_all, AllHeld, IfHeld, IsKept, IsWhole, IsApart, IsSound}
 use Rattle.guest_bodies.specs.Shown.{Guests, Shown, Watch, IsFresh, IsUnheldBy, inherited, seen_in, watch_in}
 use Rattle.guest_bodies.specs.declared.guest.Guest.{Guest}
 use Rattle.guest_bodies.specs.declared.guest.Shared.{Shared}
 use Rattle.guest_bodies.proofs.Changes.{Changes, key_of, name_of, same-keeps, there-of, seen-shown, watch-shown, sound-put, sound-changed, follows-put}
 use Rattle.guest_bodies.proofs.Fresh.{IsNew, child-apart, lone-among, new-of}
+use Rattle.guest_bodies.proofs.Holders.{changed-holders, dead-there, held-kept, put-holders}
 use Rattle.guest_bodies.proofs.Numbers.{IsSome-within, nth-map, nth-set, nth-set_other}
 
 -- the parent behind its call
@@ -106,6 +107,16 @@ module _ {guests : Guests} {all grown new : List (Option Guest)} {segs : Segment
       by_test q true e = ap (λ (i : ℕ). option_map watch_of (nth (set grown p (Some (answered parent child))) i)) (eqb-true q p e) ∙ (ap (option_map watch_of) at.first.own ∙ sym (ap (λ (i : ℕ). option_map watch_of (nth all i)) (eqb-true q p e) ∙ ap (option_map watch_of) at.stands))
       by_test q false e = ap (option_map watch_of) (at.first.kept q (eqb-false q p e))
 
+  -- what was held is held still
+  bears-held : IsNone (nth guests child) → AllHeld all segs → AllHeld new segs
+  bears-held dead held =
+      let none : IsNone (nth (set grown p (Some (answered parent child))) child) =
+      ap (λ (o : Option Guest). is_some o) (at.first.kept child (λ (e : child ≡ p). at.other (sym e))) ∙ dead-there guests all segs child at.shown dead in
+      held-kept all new segs segs
+      (λ key q holds. put-holders child (Some made) (set grown p (Some (answered parent child))) new none at.second key q
+      (changed-holders p parent (answered parent child) all (set grown p (Some (answered parent child))) at.stands refl at.first key q holds))
+      (λ key there. there) held
+
   -- a child that shares its parent's segment
   pub fork-sound : made.segment ≡ parent.segment → IsSound new segs
   fork-sound segment = bears-sound (subst (λ (o : Option Shared). IfSome o (λ s. IsSome (nth segs s.key) × (s.made ≢ made.made))) (sym segment) (whole parent.segment (there-of p parent all segs at.sound at.stands) held.segment)) (child-apart event p made (answered parent child) (set grown p (Some (answered parent child))) segs sound-mid new-mid at.first.own at.window segment)
@@ -117,12 +128,18 @@ module _ {guests : Guests} {all grown new : List (Option Guest)} {segs : Segment
       whole None there ne = tt
       whole (Some s) there ne = (there, λ e. ne (ap (λ (n : ℕ). Some n) (e ∙ at.window)))
 
+  pub fork-kept : made.segment ≡ parent.segment → IsNone (nth guests child) → AllHeld all segs → IsKept new segs
+  fork-kept segment dead held = record { sound = fork-sound segment; held = bears-held dead held }
+
   pub fork-follows : IsSound new segs → view_of segs made ≡ child_view event (beginning_of (view_of segs parent)) (view_of segs parent).body.segment (view_of segs parent).segment → Follows guests (done p event (Forks child)) (shown_all new segs)
   fork-follows h1 h2 = grind (arith, nat_tests, answered, bears-follows, bears-seen)
 
   -- a child without a segment
   pub found-sound : made.segment ≡ None → IsSound new segs
   found-sound segment = bears-sound (subst (λ (o : Option Shared). IfSome o (λ s. IsSome (nth segs s.key) × (s.made ≢ made.made))) (sym segment) tt) (lone-among event made (set grown p (Some (answered parent child))) new-mid at.window segment)
+
+  pub found-kept : made.segment ≡ None → IsNone (nth guests child) → AllHeld all segs → IsKept new segs
+  found-kept segment dead held = record { sound = found-sound segment; held = bears-held dead held }
 
   pub found-follows : IsSound new segs → view_of segs made ≡ child_view event (beginning_of (view_of segs parent)) None [] → IfSome (seen_in guests p) (λ v. Follows guests (λ b. begun child event (beginning_of v) (done p event (Founds child) b)) (shown_all new segs))
   found-follows h1 h2 = grind (arith, nat_tests, answered, bears-follows, bears-seen)

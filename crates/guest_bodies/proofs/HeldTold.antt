@@ -8,7 +8,7 @@ use Rattle.rv64_core.specs.declared.outcome.Prospect.{Prospect}
 use Rattle.rv64_core.specs.declared.outcome.Prospect.TheVariants as prospect
 use Rattle.rv64_core.specs.Prospect.{Foretells}
 use Rattle.rv64_isa.specs.declared.instruction.Instr.{Instr}
-use Rattle.rv64_model.specs.Instruction.{Effect, Next}
+use Rattle.rv64_model.specs.Instruction.{Effect}
 use Rattle.parts_model.specs.Numbered.{nth}
 use Rattle.guest_bodies.specs.HeldTold.{HeldMany, HeldOne, HeldRuns, HeldSame, HeldStep, HeldStop}
 use Rattle.guest_bodies.specs.Kept.{Segments, held_bytes, with_held, IfHeld}

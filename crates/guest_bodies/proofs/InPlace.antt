@@ -8,11 +8,12 @@ use Rattle.acts_model.specs.Acts.{Act, acted, joined, done, restored}
 use Rattle.acts_model.specs.Bodies.{Bodies, View, put}
 use Rattle.acts_model.specs.Views.{reach, with_cpu, with_reach, with_result}
 use Rattle.guest_bodies.specs.Follows.{Follows, KeepsWatches, Rewatches, IsResult}
-use Rattle.guest_bodies.specs.Kept.{Segments, view_of, shown_of, watch_of, shown_all, with_held, IfHeld, IsSound}
+use Rattle.guest_bodies.specs.Kept.{Segments, view_of, shown_of, watch_of, shown_all, with_held, AllHeld, IfHeld, IsKept, IsSound}
 use Rattle.guest_bodies.specs.Shown.{Guests, Watch, signals_of, signals_in}
 use Rattle.guest_bodies.specs.declared.guest.Guest.{Guest}
 use Rattle.guest_bodies.specs.declared.guest.Shared.{Shared}
 use Rattle.guest_bodies.specs.declared.reach.Reach.{Reach}
+use Rattle.guest_bodies.proofs.Holders.{NoneComes, changed-holders, held-kept, with_held-comes}
 use Rattle.guest_bodies.proofs.Numbers.{nth-get_or, nth-map}
 use Rattle.guest_bodies.proofs.Changes.{Changes, KeepsBeside, key_of, sound-changed, set-changes, same-keeps, held-keeps, held-there, there-of, live-there, seen-shown, watch-shown, follows-put, follows-changed, watches-kept}
 
@@ -32,6 +33,14 @@ pub in_place-sound : {guests : Guests} {all : List (Option Guest)} {segs : Segme
 in_place-sound {guests} {all} {segs} {p} {g} {g'} at made segment =
     sound-changed p g g' all (set all p (Some g')) segs segs at.sound at.stands made segment at.changes (same-keeps (key_of g'.segment) segs)
     (subst (λ o. IfHeld o segs) (sym segment) (there-of p g all segs at.sound at.stands))
+
+-- and what it held is held still
+pub in_place-kept : {guests : Guests} {all : List (Option Guest)} {segs : Segments} {p : ℕ} {g g' : Guest} → Place guests all segs p g g' → g'.made ≡ g.made → g'.segment ≡ g.segment → AllHeld all segs → IsKept (set all p (Some g')) segs
+in_place-kept {guests} {all} {segs} {p} {g} {g'} at made segment held =
+    record {
+      sound = in_place-sound at made segment;
+      held = held-kept all (set all p (Some g')) segs segs (changed-holders p g g' all (set all p (Some g')) at.stands segment at.changes) (λ key there. there) held;
+    }
 
 pub in_place-follows : {guests : Guests} {all : List (Option Guest)} {segs : Segments} {p : ℕ} {g g' : Guest} → Place guests all segs p g g' → g'.made ≡ g.made → g'.segment ≡ g.segment → (event : ℕ) (act : Act) → acted event act (view_of segs g) ≡ Some (view_of segs g') → ((b : Bodies) → joined act event (view_of segs g) b ≡ b) → Follows guests (done p event act) (shown_all (set all p (Some g')) segs)
 in_place-follows {guests} {all} {segs} {p} {g} {g'} at made segment event act acts alone =
@@ -66,6 +75,14 @@ module _ {guests : Guests} {all : List (Option Guest)} {segs : Segments} {p : �
 
   pub moved-sound : IsSound (set all p (Some g')) segs'
   moved-sound = sound-changed p g g' all (set all p (Some g')) segs segs' at.sound at.stands made segment at.changes keeps there
+
+  pub moved-kept : AllHeld all segs → IsKept (set all p (Some g')) segs'
+  moved-kept held =
+      record {
+        sound = moved-sound;
+        held = held-kept all (set all p (Some g')) segs segs' (changed-holders p g g' all (set all p (Some g')) at.stands segment at.changes)
+            (subst (λ (l : Segments). NoneComes segs l) (sym is) (with_held-comes g.segment bytes segs (there-of p g all segs at.sound at.stands))) held;
+      }
 
   pub moved-put : Follows guests (put p (view_of segs' g')) (shown_all (set all p (Some g')) segs')
   moved-put = grind (arith, nat_tests, follows-put, keeps, moved-sound)

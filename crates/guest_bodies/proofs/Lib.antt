@@ -5,6 +5,7 @@ pub mod Counts
 pub mod Ends
 pub mod Forks
 pub mod Fresh
+pub mod Holders
 pub mod HeldTold
 pub mod Images
 pub mod InPlace
@@ -17,6 +18,7 @@ pub mod Moves
 pub mod Numbers
 pub mod Places
 pub mod Puts
+pub mod Released
 pub mod Shares
 pub mod Spelled
 pub mod Starts

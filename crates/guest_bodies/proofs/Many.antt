@@ -6,12 +6,12 @@ use Rattle.acts_model.specs.Bodies.{View, put}
 use Rattle.acts_model.specs.Views.{reach, with_cpu, with_reach}
 use Rattle.rv64_core.specs.declared.outcome.Outcome.TheVariants as outcome
 use Rattle.guest_bodies.specs.Follows.{Follows, KeepsWatches, Ran}
-use Rattle.guest_bodies.specs.Kept.{Segments, held_bytes, view_of, watch_of, shown_of, shown_all, IsSound}
+use Rattle.guest_bodies.specs.Kept.{Segments, held_bytes, view_of, watch_of, shown_of, shown_all, AllHeld, IsSound}
 use Rattle.guest_bodies.specs.Running.{MovesAnother, MovesMany, RanMany}
 use Rattle.guest_bodies.specs.Shown.{Guests, seen_in}
 use Rattle.guest_bodies.specs.declared.guest.Guest.{Guest}
 use Rattle.guest_bodies.proofs.Changes.{set-changes, seen-shown, same-shown}
-use Rattle.guest_bodies.proofs.InPlace.{Place, in_place-sound, moved-sound, moved-put, moved-watches, reach-back}
+use Rattle.guest_bodies.proofs.InPlace.{Place, in_place-kept, in_place-sound, moved-kept, moved-sound, moved-put, moved-watches, reach-back}
 use Rattle.guest_bodies.proofs.Numbers.{IsSome-within, nth-map, nth-set}
 
 module _ (guests : Guests) (all : List (Option Guest)) (segs : Segments) (p : ℕ) (g : Guest) (shown : shown_all all segs ≡ guests) (sound : IsSound all segs) (stands : nth all p ≡ Some g) where
@@ -22,6 +22,7 @@ module _ (guests : Guests) (all : List (Option Guest)) (segs : Segments) (p : �
   pub record Along (n : ℕ) (g' : Guest) (segs' : Segments) : Type 0 where
     pub many : RanMany n p guests (shown_all (set all p (Some g')) segs')
     pub kept : IsSound (set all p (Some g')) segs'
+    pub held : AllHeld all segs → AllHeld (set all p (Some g')) segs'
     pub watches : KeepsWatches guests (shown_all (set all p (Some g')) segs')
 
   pub stands-now : (g' : Guest) → nth (set all p (Some g')) p ≡ Some g'
@@ -69,6 +70,7 @@ module _ (guests : Guests) (all : List (Option Guest)) (segs : Segments) (p : �
       record {
         many = record { between = shown_all allm segsm; before = before.many; ran = ran; watches = watches };
         kept = subst (λ (l : List (Option Guest)). IsSound l segs') over (moved-sound at made segment bytes segs' m.segments);
+        held = λ held. subst (λ (l : List (Option Guest)). AllHeld l segs') over (moved-kept at made segment bytes segs' m.segments (before.held held)).held;
         watches = record { kept = λ q. watches.kept q ∙ before.watches.kept q };
       }
 
@@ -82,6 +84,8 @@ module _ (guests : Guests) (all : List (Option Guest)) (segs : Segments) (p : �
         kept =
             subst (IsSound (set all p (Some g'))) (sym m.segments)
             (in_place-sound at (ap (λ (x : Guest). x.made) m.guest) (ap (λ (x : Guest). x.segment) m.guest));
+        held = λ held. subst (λ (l : Segments). AllHeld (set all p (Some g')) l) (sym m.segments)
+            (in_place-kept at (ap (λ (x : Guest). x.made) m.guest) (ap (λ (x : Guest). x.segment) m.guest) held).held;
         watches = subst (KeepsWatches guests) (sym same) (record { kept = λ q. refl });
       }
   along (suc n) g' segs' m = one-more n g' segs' m (along n m.guest_between m.segments_between m.before)

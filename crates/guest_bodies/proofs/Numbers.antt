@@ -1,5 +1,5 @@
 -- Things by number, after one of them changes.
-use Rattle.std.proofs.Common.{◌≡◌, ℕ, zero, suc, ◌<◌, List, [], ◌∷◌, ◌++◌, length, map, get_or, set, Option, IsSome, option_map, refl, sym, ap, arith, true≢false}
+use Rattle.std.proofs.Common.{◌≡◌, ℕ, zero, suc, ◌<◌, List, [], ◌∷◌, ◌++◌, length, map, get_or, set, Option, None, IsSome, option_map, refl, sym, ap, arith, true≢false}
 use Rattle.parts_model.specs.Numbered.{nth}
 
 module _ {A : Type 0} where
@@ -26,6 +26,12 @@ module _ {A : Type 0} where
   nth-set_other (x ∷ all) zero v (suc q) other = refl
   nth-set_other (x ∷ all) (suc n) v zero other = refl
   nth-set_other (x ∷ all) (suc n) v (suc q) other = nth-set_other all n v q (λ (e : q ≡ n). other (ap (λ (k : ℕ). suc k) e))
+
+  -- a thing that is taken away
+  pub nth-none : (all : List (Option A)) (n : ℕ) → nth (set all n None) n ≡ None
+  nth-none [] n = refl
+  nth-none (x ∷ all) zero = refl
+  nth-none (x ∷ all) (suc n) = nth-none all n
 
   -- a thing that is put where it stands
   pub set-nth : (all : List (Option A)) (n : ℕ) (a : Option A) → IsSome (nth all n) → nth all n ≡ a → set all n a ≡ all

@@ -1,18 +1,19 @@
 -- A process gets a fresh segment.
-use Rattle.std.proofs.Common.{◌≡◌, ◌≢◌, ℕ, List, [], ◌∷◌, ◌++◌, length, set, Option, Some, None, IsSome, IfSome, is_some, option_map, unwrap_or, ap, ap₂, subst, sym, refl, ◌∙◌, arith}
+use Rattle.std.proofs.Common.{◌≡◌, ◌≢◌, ℕ, List, [], ◌∷◌, ◌++◌, length, set, Option, Some, None, IsSome, IfSome, is_some, option_map, unwrap_or, ap, ap₂, subst, sym, refl, ◌∙◌, length-append, arith}
 use Rattle.parts_model.specs.Memory.{zeros}
 use Rattle.parts_model.specs.declared.limits.TheConstants.{SEGMENT_LEN}
 use Rattle.parts_model.specs.Numbered.{nth}
 use Rattle.acts_model.specs.Acts.{Shares, done}
 use Rattle.acts_model.specs.Views.{returned}
 use Rattle.guest_bodies.specs.Follows.{Follows, KeepsWatches}
-use Rattle.guest_bodies.specs.Kept.{Segments, body_of, view_of, shown_all, IsWhole, SameNames, IsApart, IsSound}
+use Rattle.guest_bodies.specs.Kept.{Segments, body_of, view_of, shown_all, IfKey, IsWhole, SameNames, IsApart, IsSound}
 use Rattle.guest_bodies.specs.Shown.{Guests, IsUnheldBy}
 use Rattle.guest_bodies.specs.declared.guest.Guest.{Guest}
 use Rattle.guest_bodies.specs.declared.guest.Shared.{Shared}
-use Rattle.guest_bodies.proofs.Changes.{KeepsBeside, name_of, seen-shown, sound-put, follows-put, follows-done, watches-kept}
+use Rattle.guest_bodies.proofs.Changes.{KeepsBeside, name_of, there-of, seen-shown, sound-put, follows-put, follows-done, watches-kept}
 use Rattle.guest_bodies.proofs.Fresh.{IsNew}
 use Rattle.guest_bodies.proofs.InPlace.{Place}
+use Rattle.guest_bodies.proofs.Released.{keyed}
 use Rattle.guest_bodies.proofs.Numbers.{IsSome-within, nth-push, nth-last}
 
 abbrev pub named : ℕ → ℕ → Shared
@@ -34,6 +35,15 @@ named-none event key segs h (Some t) is whole ne = record {
   by_key = λ (e : t.key ≡ key). absurd (omega (arith, is, e, IsSome-within segs t.key whole.0));
   by_made = λ (e : t.made ≡ event). absurd (ne (ap (λ (n : ℕ). Some n) e));
 }
+
+-- the key of the segment that it has held is one of the table still
+pub shares-keyed : {guests : Guests} {all : List (Option Guest)} {segs : Segments} {p : ℕ} {g g' : Guest} → Place guests all segs p g g' → (former : Option Shared) → former ≡ g.segment → (segs' : Segments) (bytes : List ℕ) → segs' ≡ segs ++ Some bytes ∷ [] → IfKey former segs'
+shares-keyed {guests} {all} {segs} {p} {g} {g'} at former same segs' bytes pushed =
+    subst (λ (o : Option Shared). IfKey o segs') (sym same) (subst (λ (l : Segments). IfKey g.segment l) (sym pushed) (within g.segment (keyed g.segment segs (there-of p g all segs at.sound at.stands))))
+  where
+    within : (o : Option Shared) → IfKey o segs → IfKey o (segs ++ Some bytes ∷ [])
+    within None key = tt
+    within (Some s) key = omega (arith, key, length-append segs (Some bytes ∷ []))
 
 module _ {guests : Guests} {all : List (Option Guest)} {segs : Segments} {p : ℕ} {g : Guest} (event key : ℕ) (bytes : List ℕ) (at : Place guests all segs p g (sharing g event key)) (new : IsNew event all) (is : key ≡ length segs) (segs' : Segments) (pushed : segs' ≡ segs ++ Some bytes ∷ []) where
   there : nth segs' key ≡ Some bytes

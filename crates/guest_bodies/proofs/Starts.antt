@@ -10,11 +10,11 @@ use Rattle.acts_model.specs.Acts.{Beginning, Starts, child_view, done, done_by, 
 use Rattle.acts_model.specs.Bodies.{Bodies, View, seen, put, laid}
 use Rattle.acts_model.specs.Views.{cpu_at_start, read, window_at_start}
 use Rattle.guest_bodies.specs.Follows.{Follows, SetsWatch}
-use Rattle.guest_bodies.specs.Kept.{Segments, view_of, watch_of, shown_all, IsSound}
+use Rattle.guest_bodies.specs.Kept.{Segments, view_of, watch_of, shown_all, AllHeld, IsKept, IsSound}
 use Rattle.guest_bodies.specs.Shown.{Guests, Watch, IsFresh, fresh_watch, restarted, seen_in, watch_in}
 use Rattle.guest_bodies.specs.declared.guest.Guest.{Guest}
 use Rattle.guest_bodies.specs.declared.starting.First.{First}
-use Rattle.guest_bodies.proofs.Begins.{begins-sound, begins-follows, begins-watch}
+use Rattle.guest_bodies.proofs.Begins.{begins-kept, begins-sound, begins-follows, begins-watch}
 use Rattle.guest_bodies.proofs.Changes.{follows-done, seen-shown, watch-shown}
 use Rattle.guest_bodies.proofs.Forks.{IsGrown}
 use Rattle.guest_bodies.proofs.InPlace.{Place}
@@ -120,6 +120,9 @@ born event file guests new follows =
 module _ (guests : Guests) (all grown : List (Option Guest)) (segs : Segments) (event : ℕ) (first : First) (is : shown_all all segs ≡ guests) (sound : IsSound all segs) (none : (p : ℕ) → IsNone (nth guests p)) (grows : IsGrown all grown) (room : 1 < length grown) where
   pub boots-sound : IsSound (set grown 1 (Some (booting event first))) segs
   boots-sound = begins-sound guests all grown segs 1 event (booting event first) is sound (none-fresh guests event none) grows room refl refl
+
+  pub boots-kept : AllHeld all segs → IsKept (set grown 1 (Some (booting event first))) segs
+  boots-kept held = begins-kept guests all grown segs 1 event (booting event first) is sound (none-fresh guests event none) grows room refl refl (none 1) held
 
   pub boots-follows : (file : List ℕ) → IsFirst file [] first → Follows guests (λ b. done 1 event (Starts file 0 0) (put 1 (unborn event) b)) (shown_all (set grown 1 (Some (booting event first))) segs)
   boots-follows file from =

@@ -9,13 +9,13 @@ use Rattle.parts_model.specs.Numbered.{nth}
 use Rattle.rv64_isa.specs.declared.instruction.Instr.{Instr}
 use Rattle.guest_bodies.specs.Follows.{Follows, KeepsWatches}
 use Rattle.guest_bodies.specs.HeldTold.{HeldMany, HeldOne, HeldRuns}
-use Rattle.guest_bodies.specs.Kept.{Segments, held_bytes, view_of, shown_all, watch_of, IsSound}
+use Rattle.guest_bodies.specs.Kept.{Segments, held_bytes, view_of, shown_all, watch_of, AllHeld, IsKept, IsSound}
 use Rattle.guest_bodies.specs.Shown.{Guests, seen_in}
 use Rattle.guest_bodies.specs.Told.{IsStop, ToldMany, ToldOne}
 use Rattle.guest_bodies.specs.declared.guest.Guest.{Guest}
 use Rattle.guest_bodies.proofs.Changes.{live-there, same-shown, seen-shown, set-changes, there-of}
 use Rattle.guest_bodies.proofs.HeldTold.{many-runs}
-use Rattle.guest_bodies.proofs.InPlace.{Place, moved-put, moved-sound, moved-watches, reach-back}
+use Rattle.guest_bodies.proofs.InPlace.{Place, moved-kept, moved-put, moved-sound, moved-watches, reach-back}
 use Rattle.guest_bodies.proofs.Numbers.{nth-get_or}
 
 -- a live process has a place
@@ -30,6 +30,9 @@ some-there all p g is = ap (λ (o : Option Guest). is_some o) is
 module _ {guests : Guests} {all : List (Option Guest)} {segs : Segments} {p : ℕ} {g g' : Guest} (at : Place guests all segs p g g') (segs' : Segments) (runs : HeldRuns g segs g' segs') where
   pub runs-sound : IsSound (set all p (Some g')) segs'
   runs-sound = moved-sound at (ap (λ (x : Guest). x.made) runs.guest) (ap (λ (x : Guest). x.segment) runs.guest) (held_bytes segs' g.segment) segs' runs.segments
+
+  pub runs-kept : AllHeld all segs → IsKept (set all p (Some g')) segs'
+  runs-kept = moved-kept at (ap (λ (x : Guest). x.made) runs.guest) (ap (λ (x : Guest). x.segment) runs.guest) (held_bytes segs' g.segment) segs' runs.segments
 
   pub runs-watches : KeepsWatches guests (shown_all (set all p (Some g')) segs')
   runs-watches = moved-watches at (ap (λ (x : Guest). x.made) runs.guest) (ap (λ (x : Guest). x.segment) runs.guest) (held_bytes segs' g.segment) segs' runs.segments (ap watch_of runs.guest)

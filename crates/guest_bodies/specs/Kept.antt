@@ -1,5 +1,6 @@
 -- Processes as they are kept, and what is shown of them.
-use Rattle.std.specs.Prelude.{◌≡◌, ◌≢◌, ◌<◌, ℕ, List, [], length, map, slice_set as set, Option, Some, None, IfSome, IsSome, option_map, unwrap_or}
+use Rattle.std.specs.Prelude.{◌≡◌, ◌≢◌, ◌<◌, ◌==◌, ℕ, Bool, true, false, cond, List, [], length, map, slice_set as set, Option, Some, None, IfSome, IsSome, option_map, unwrap_or}
+use Rattle.std.specs.List.{list_any}
 use Rattle.arn_base.specs.Window.{Window}
 use Rattle.parts_model.specs.Memory.{windows}
 use Rattle.parts_model.specs.Numbered.{nth}
@@ -63,6 +64,24 @@ IfKey o segments = IfSome o (λ s. s.key < length segments)
 abbrev pub IsWhole : Segments → Guest → Type 0
 IsWhole segments g = IfSome g.segment (λ s. IsSome (nth segments s.key) × (s.made ≢ g.made))
 
+-- a process holds the segment under this key
+abbrev pub has_key : ℕ → Option Shared → Bool
+has_key key None = false
+has_key key (Some s) = s.key == key
+
+abbrev pub holds_key : ℕ → Option Guest → Bool
+holds_key key None = false
+holds_key key (Some g) = has_key key g.segment
+
+-- one of these does
+abbrev pub is_held : List (Option Guest) → ℕ → Bool
+is_held guests key = list_any (holds_key key) guests
+
+-- the segments, without one that was held and that none of these holds
+abbrev pub released : List (Option Guest) → Option Shared → Segments → Segments
+released guests None segments = segments
+released guests (Some s) segments = cond (is_held guests s.key) segments (set segments s.key None)
+
 -- two names of a segment mean the same
 pub record SameNames (s t : Shared) : Type 0 where
   pub by_key : s.key ≡ t.key → s.made ≡ t.made
@@ -78,3 +97,12 @@ pub record IsApart (g h : Guest) : Type 0 where
 pub record IsSound (guests : List (Option Guest)) (segments : Segments) : Type 0 where
   pub whole : (p : ℕ) → IfSome (nth guests p) (IsWhole segments)
   pub apart : (p q : ℕ) → p ≢ q → IfSome (nth guests p) (λ g. IfSome (nth guests q) (IsApart g))
+
+-- each segment in the table is held
+abbrev pub AllHeld : List (Option Guest) → Segments → Type 0
+AllHeld guests segments = (key : ℕ) → IsSome (nth segments key) → is_held guests key ≡ true
+
+-- and no segment is in the table that no process holds
+pub record IsKept (guests : List (Option Guest)) (segments : Segments) : Type 0 where
+  pub sound : IsSound guests segments
+  pub held : AllHeld guests segments

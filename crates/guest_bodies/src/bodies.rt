@@ -17,7 +17,7 @@ ghost use Rattle.guest_bodies.specs.Told.{FailsAt, IsStop, ToldMany};
 use crate::guest::{Guest, Shared, begin, boot};
 use crate::running::Stood;
 use crate::starting::First;
-use crate::table::{fork, make_room};
+use crate::table::{fork, make_room, release};
 use crate::windows::window_of;
 use crate::{held, told};
 use acts_model::Observer;
@@ -39,13 +39,13 @@ pub struct Bodies {
 
 impl Model for Bodies {
     ghost use Rattle.guest_bodies.specs.Shown.{Guests};
-    ghost use Rattle.guest_bodies.specs.Kept.{shown_all, IsSound};
+    ghost use Rattle.guest_bodies.specs.Kept.{shown_all, IsKept};
 
     ghost Value = { Guests };
 
     ghost view = { λ b. shown_all b.guests.items b.segments.items };
 
-    ghost invariant = { λ b. IsSound b.guests.items b.segments.items };
+    ghost invariant = { λ b. IsKept b.guests.items b.segments.items };
 }
 
 impl Bodies {
@@ -239,7 +239,12 @@ impl Bodies {
             Follows self.old (done pid event act) self.new }
         ensures watches { SetsWatch pid None self.old self.new }
     {
+        let former = match &self.guests[pid as usize] {
+            Some(guest) => guest.segment,
+            None => unreachable!(),
+        };
         self.guests[pid as usize] = None;
+        release(&self.guests, &mut self.segments, former);
     }
 
     /// A process makes a child in its own group, whose number it gets as the call's result. The
@@ -295,10 +300,11 @@ impl Bodies {
         let segment = Segment::new(self.alloc)?;
         let key = self.segments.len();
         self.segments.push(Some(segment))?;
-        match &mut self.guests[pid as usize] {
+        let former = match &mut self.guests[pid as usize] {
             Some(guest) => guest.shares(Shared { made: event, key }),
             None => unreachable!(),
-        }
+        };
+        release(&self.guests, &mut self.segments, former);
         Ok(())
     }
 
@@ -346,10 +352,11 @@ impl Bodies {
             }
             None => unreachable!(),
         };
-        match &mut self.guests[pid as usize] {
+        let former = match &mut self.guests[pid as usize] {
             Some(guest) => guest.starts(event, first),
             None => unreachable!(),
-        }
+        };
+        release(&self.guests, &mut self.segments, former);
         Ok(())
     }
 

@@ -85,26 +85,29 @@ impl Guest {
         })
     }
 
-    /// A process gets a fresh segment, in the place of one that it may hold.
-    pub fn shares(&mut self, shared: Shared)
-        ensures { self.new ≡ record self.old {
+    /// A process gets a fresh segment, in the place of one that it may hold, which it gives back.
+    pub fn shares(&mut self, shared: Shared) -> Option<Shared>
+        ensures shares { self.new ≡ record self.old {
           cpu = returned self.old.cpu 0;
           segment = Some shared;
         } }
+        ensures former { result ≡ self.old.segment }
     {
-        self.segment = Some(shared);
         self.returns(0);
+        self.segment.replace(shared)
     }
 
-    /// A process starts anew. The event makes its private window.
-    pub fn starts(&mut self, event: u64, first: First)
-        ensures { self.new ≡ record {
+    /// A process starts anew. The event makes its private window. It gives back the segment that it
+    /// may hold.
+    pub fn starts(&mut self, event: u64, first: First) -> Option<Shared>
+        ensures starts { self.new ≡ record {
           cpu = first.cpu;
           signals = record self.old.signals { handlers = no_handlers; slot = None };
           memory = record { space = first.space; segment = None };
           made = event;
           segment = None;
         } }
+        ensures former { result ≡ self.old.segment }
     {
         self.cpu = first.cpu;
         self.signals.clear();
@@ -113,7 +116,7 @@ impl Guest {
             segment: None,
         };
         self.made = event;
-        self.segment = None;
+        self.segment.take()
     }
 
     /// The event that made the segment that is held.

@@ -9,12 +9,12 @@ use Rattle.guest_bodies.specs.Follows.{Follows, SetsWatch}
 use Rattle.guest_bodies.specs.Kept.{view_of, watch_of, shown_all}
 use Rattle.guest_bodies.specs.Shown.{Watch}
 use Rattle.guest_bodies.specs.declared.guest.Guest.{Guest}
-use Rattle.guest_bodies.proofs.Begins.{begins-sound, begins-follows, begins-watch}
+use Rattle.guest_bodies.proofs.Begins.{begins-kept, begins-follows, begins-watch}
 use Rattle.guest_bodies.proofs.bodies.Bodies.begin.Goals as goal
 
 pub invariant_of-self-2 : goal.invariant_of-self-2
 invariant_of-self-2 c =
-    begins-sound c.args.self.now c.self.inside.guests.items c.make_room.new.all.items c.self.inside.segments.items c.args.child c.args.event c.begin.result c.self.view_is c.self.invariant c.requires.fresh (record { same = c.make_room.ensures.same }) c.in_ok-make_room.ensures.room (ap (λ (g : Guest). g.made) c.begin.ensures) (ap (λ (g : Guest). g.segment) c.begin.ensures)
+    begins-kept c.args.self.now c.self.inside.guests.items c.make_room.new.all.items c.self.inside.segments.items c.args.child c.args.event c.begin.result c.self.view_is c.self.invariant.sound c.requires.fresh (record { same = c.make_room.ensures.same }) c.in_ok-make_room.ensures.room (ap (λ (g : Guest). g.made) c.begin.ensures) (ap (λ (g : Guest). g.segment) c.begin.ensures) c.requires.dead c.self.invariant.held
 
 pub returns-clause-follows : goal.returns-clause-follows
 returns-clause-follows c =
@@ -24,10 +24,10 @@ returns-clause-follows c =
     ap (view_of segs) c.begin.ensures
     ∙ ap (λ (w : List ℕ). child_view c.args.event (record { cpu = c.args.start.now.cpu; slot = c.args.start.now.slot; window = w }) None []) space in
     subst (λ (v : View). Follows c.args.self.now (put c.args.child v) (shown_all (set c.make_room.new.all.items c.args.child (Some c.begin.result)) segs)) view
-    (begins-follows c.args.self.now c.self.inside.guests.items c.make_room.new.all.items segs c.args.child c.args.event c.begin.result c.self.view_is c.self.invariant c.requires.fresh (record { same = c.make_room.ensures.same }) c.in_ok-make_room.ensures.room (ap (λ (g : Guest). g.made) c.begin.ensures) (ap (λ (g : Guest). g.segment) c.begin.ensures))
+    (begins-follows c.args.self.now c.self.inside.guests.items c.make_room.new.all.items segs c.args.child c.args.event c.begin.result c.self.view_is c.self.invariant.sound c.requires.fresh (record { same = c.make_room.ensures.same }) c.in_ok-make_room.ensures.room (ap (λ (g : Guest). g.made) c.begin.ensures) (ap (λ (g : Guest). g.segment) c.begin.ensures))
 
 pub returns-clause-watches : goal.returns-clause-watches
 returns-clause-watches c =
     let segs = c.self.inside.segments.items in
     subst (λ (w : Watch). SetsWatch c.args.child (Some w) c.args.self.now (shown_all (set c.make_room.new.all.items c.args.child (Some c.begin.result)) segs)) (ap watch_of c.begin.ensures)
-    (begins-watch c.args.self.now c.self.inside.guests.items c.make_room.new.all.items segs c.args.child c.args.event c.begin.result c.self.view_is c.self.invariant c.requires.fresh (record { same = c.make_room.ensures.same }) c.in_ok-make_room.ensures.room (ap (λ (g : Guest). g.made) c.begin.ensures) (ap (λ (g : Guest). g.segment) c.begin.ensures))
+    (begins-watch c.args.self.now c.self.inside.guests.items c.make_room.new.all.items segs c.args.child c.args.event c.begin.result c.self.view_is c.self.invariant.sound c.requires.fresh (record { same = c.make_room.ensures.same }) c.in_ok-make_room.ensures.room (ap (λ (g : Guest). g.made) c.begin.ensures) (ap (λ (g : Guest). g.segment) c.begin.ensures))

@@ -4,22 +4,22 @@ use Rattle.acts_model.specs.Bodies.{View}
 use Rattle.acts_model.specs.Views.{returned, with_result}
 use Rattle.guest_bodies.specs.Kept.{held_bytes, view_of, watch_of}
 use Rattle.guest_bodies.specs.declared.guest.Guest.{Guest}
-use Rattle.guest_bodies.proofs.InPlace.{place, moved-sound, moved-follows, moved-watches}
+use Rattle.guest_bodies.proofs.InPlace.{place, moved-kept, moved-follows, moved-watches}
 use Rattle.guest_bodies.proofs.bodies.Bodies.receives.Goals as goal
 
 pub invariant_of-self : goal.invariant_of-self
 invariant_of-self c =
-    let at = place c.args.self.now c.self.inside.guests.items c.self.inside.segments.items c.args.pid c.index_mut.result.now c.in-Some.guest c.returns.new.self c.self.view_is c.self.invariant c.requires.live c.index_mut.ensures.value c.in-Some.is in
-    moved-sound at (ap (λ (x : Guest). x.made) (c.returns.ensures ∙ ap (λ (x : Guest). record x { cpu = returned x.cpu c.args.answer }) c.write.ensures.guest)) (ap (λ (x : Guest). x.segment) (c.returns.ensures ∙ ap (λ (x : Guest). record x { cpu = returned x.cpu c.args.answer }) c.write.ensures.guest)) (held_bytes c.write.new.segments.items c.in-Some.guest.segment) c.write.new.segments.items c.write.ensures.segments
+    let at = place c.args.self.now c.self.inside.guests.items c.self.inside.segments.items c.args.pid c.index_mut.result.now c.in-Some.guest c.returns.new.self c.self.view_is c.self.invariant.sound c.requires.live c.index_mut.ensures.value c.in-Some.is in
+    moved-kept at (ap (λ (x : Guest). x.made) (c.returns.ensures ∙ ap (λ (x : Guest). record x { cpu = returned x.cpu c.args.answer }) c.write.ensures.guest)) (ap (λ (x : Guest). x.segment) (c.returns.ensures ∙ ap (λ (x : Guest). record x { cpu = returned x.cpu c.args.answer }) c.write.ensures.guest)) (held_bytes c.write.new.segments.items c.in-Some.guest.segment) c.write.new.segments.items c.write.ensures.segments c.self.invariant.held
 
 pub returns-clause-follows : goal.returns-clause-follows
 returns-clause-follows c event =
-    let at = place c.args.self.now c.self.inside.guests.items c.self.inside.segments.items c.args.pid c.index_mut.result.now c.in-Some.guest c.returns.new.self c.self.view_is c.self.invariant c.requires.live c.index_mut.ensures.value c.in-Some.is in
+    let at = place c.args.self.now c.self.inside.guests.items c.self.inside.segments.items c.args.pid c.index_mut.result.now c.in-Some.guest c.returns.new.self c.self.view_is c.self.invariant.sound c.requires.live c.index_mut.ensures.value c.in-Some.is in
     moved-follows at (ap (λ (x : Guest). x.made) (c.returns.ensures ∙ ap (λ (x : Guest). record x { cpu = returned x.cpu c.args.answer }) c.write.ensures.guest)) (ap (λ (x : Guest). x.segment) (c.returns.ensures ∙ ap (λ (x : Guest). record x { cpu = returned x.cpu c.args.answer }) c.write.ensures.guest)) (held_bytes c.write.new.segments.items c.in-Some.guest.segment) c.write.new.segments.items c.write.ensures.segments event (Receives c.args.at c.args.bytes.now c.args.answer)
     (ap (λ (v : View). Some (with_result c.args.answer v)) (sym c.write.ensures.written) ∙ ap (λ (x : Guest). Some (view_of c.write.new.segments.items x)) (sym c.returns.ensures))
     (λ b. refl)
 
 pub returns-clause-watches : goal.returns-clause-watches
 returns-clause-watches c =
-    let at = place c.args.self.now c.self.inside.guests.items c.self.inside.segments.items c.args.pid c.index_mut.result.now c.in-Some.guest c.returns.new.self c.self.view_is c.self.invariant c.requires.live c.index_mut.ensures.value c.in-Some.is in
+    let at = place c.args.self.now c.self.inside.guests.items c.self.inside.segments.items c.args.pid c.index_mut.result.now c.in-Some.guest c.returns.new.self c.self.view_is c.self.invariant.sound c.requires.live c.index_mut.ensures.value c.in-Some.is in
     moved-watches at (ap (λ (x : Guest). x.made) (c.returns.ensures ∙ ap (λ (x : Guest). record x { cpu = returned x.cpu c.args.answer }) c.write.ensures.guest)) (ap (λ (x : Guest). x.segment) (c.returns.ensures ∙ ap (λ (x : Guest). record x { cpu = returned x.cpu c.args.answer }) c.write.ensures.guest)) (held_bytes c.write.new.segments.items c.in-Some.guest.segment) c.write.new.segments.items c.write.ensures.segments (ap watch_of c.returns.ensures ∙ ap watch_of c.write.ensures.guest)

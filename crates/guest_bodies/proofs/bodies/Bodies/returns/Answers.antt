@@ -2,17 +2,17 @@ use Rattle.std.proofs.Common.{ap, sym, Some, ◌∙◌}
 use Rattle.acts_model.specs.Bodies.{View}
 use Rattle.guest_bodies.specs.Kept.{view_of, watch_of}
 use Rattle.guest_bodies.specs.declared.guest.Guest.{Guest}
-use Rattle.guest_bodies.proofs.InPlace.{place, in_place-sound, in_place-follows, in_place-watches, acted-result, joined-result}
+use Rattle.guest_bodies.proofs.InPlace.{place, in_place-kept, in_place-follows, in_place-watches, acted-result, joined-result}
 use Rattle.guest_bodies.proofs.bodies.Bodies.returns.Goals as goal
 
 pub invariant_of-self : goal.invariant_of-self
 invariant_of-self c =
-    let at = place c.args.self.now c.self.inside.guests.items c.self.inside.segments.items c.args.pid c.index_mut.result.now c.in-Some.guest c.returns.new.self c.self.view_is c.self.invariant c.requires.live c.index_mut.ensures.value c.in-Some.is in
-    in_place-sound at (ap (λ (g : Guest). g.made) c.returns.ensures) (ap (λ (g : Guest). g.segment) c.returns.ensures)
+    let at = place c.args.self.now c.self.inside.guests.items c.self.inside.segments.items c.args.pid c.index_mut.result.now c.in-Some.guest c.returns.new.self c.self.view_is c.self.invariant.sound c.requires.live c.index_mut.ensures.value c.in-Some.is in
+    in_place-kept at (ap (λ (g : Guest). g.made) c.returns.ensures) (ap (λ (g : Guest). g.segment) c.returns.ensures) c.self.invariant.held
 
 pub returns-clause-follows : goal.returns-clause-follows
 returns-clause-follows c event act is =
-    let at = place c.args.self.now c.self.inside.guests.items c.self.inside.segments.items c.args.pid c.index_mut.result.now c.in-Some.guest c.returns.new.self c.self.view_is c.self.invariant c.requires.live c.index_mut.ensures.value c.in-Some.is in
+    let at = place c.args.self.now c.self.inside.guests.items c.self.inside.segments.items c.args.pid c.index_mut.result.now c.in-Some.guest c.returns.new.self c.self.view_is c.self.invariant.sound c.requires.live c.index_mut.ensures.value c.in-Some.is in
     let v : View = view_of c.self.inside.segments.items c.in-Some.guest in
     in_place-follows at (ap (λ (g : Guest). g.made) c.returns.ensures) (ap (λ (g : Guest). g.segment) c.returns.ensures) event act
     (acted-result event c.args.answer act v is ∙ sym (ap (λ (g : Guest). Some (view_of c.self.inside.segments.items g)) c.returns.ensures))
@@ -20,5 +20,5 @@ returns-clause-follows c event act is =
 
 pub returns-clause-watches : goal.returns-clause-watches
 returns-clause-watches c =
-    let at = place c.args.self.now c.self.inside.guests.items c.self.inside.segments.items c.args.pid c.index_mut.result.now c.in-Some.guest c.returns.new.self c.self.view_is c.self.invariant c.requires.live c.index_mut.ensures.value c.in-Some.is in
+    let at = place c.args.self.now c.self.inside.guests.items c.self.inside.segments.items c.args.pid c.index_mut.result.now c.in-Some.guest c.returns.new.self c.self.view_is c.self.invariant.sound c.requires.live c.index_mut.ensures.value c.in-Some.is in
     in_place-watches at (ap watch_of c.returns.ensures)

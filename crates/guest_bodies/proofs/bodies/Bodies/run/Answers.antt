@@ -8,26 +8,27 @@ use Rattle.guest_bodies.proofs.bodies.Bodies.run.Goals as goal
 
 pub invariant_of-self : goal.invariant_of-self
 invariant_of-self g c =
-    let at = place c.args.self.now c.self.inside.guests.items c.self.inside.segments.items c.args.pid c.index_mut.result.now c.in-Some.guest c.run.new.guest c.self.view_is c.self.invariant c.requires.live c.index_mut.ensures.value c.in-Some.is in
-    (along c.args.self.now c.self.inside.guests.items c.self.inside.segments.items c.args.pid c.in-Some.guest at.shown at.sound at.stands c.run.result.ran c.run.new.guest c.run.new.segments.items c.run.ensures.many).kept
+    let at = place c.args.self.now c.self.inside.guests.items c.self.inside.segments.items c.args.pid c.index_mut.result.now c.in-Some.guest c.run.new.guest c.self.view_is c.self.invariant.sound c.requires.live c.index_mut.ensures.value c.in-Some.is in
+    let moved = along c.args.self.now c.self.inside.guests.items c.self.inside.segments.items c.args.pid c.in-Some.guest at.shown at.sound at.stands c.run.result.ran c.run.new.guest c.run.new.segments.items c.run.ensures.many in
+    record { sound = moved.kept; held = moved.held c.self.invariant.held }
 
 pub returns-clause-ran : goal.returns-clause-ran
 returns-clause-ran g c =
-    let at = place c.args.self.now c.self.inside.guests.items c.self.inside.segments.items c.args.pid c.index_mut.result.now c.in-Some.guest c.run.new.guest c.self.view_is c.self.invariant c.requires.live c.index_mut.ensures.value c.in-Some.is in
+    let at = place c.args.self.now c.self.inside.guests.items c.self.inside.segments.items c.args.pid c.index_mut.result.now c.in-Some.guest c.run.new.guest c.self.view_is c.self.invariant.sound c.requires.live c.index_mut.ensures.value c.in-Some.is in
     (along c.args.self.now c.self.inside.guests.items c.self.inside.segments.items c.args.pid c.in-Some.guest at.shown at.sound at.stands c.run.result.ran c.run.new.guest c.run.new.segments.items c.run.ensures.many).many
 
 pub returns-clause-watches : goal.returns-clause-watches
 returns-clause-watches g c =
-    let at = place c.args.self.now c.self.inside.guests.items c.self.inside.segments.items c.args.pid c.index_mut.result.now c.in-Some.guest c.run.new.guest c.self.view_is c.self.invariant c.requires.live c.index_mut.ensures.value c.in-Some.is in
+    let at = place c.args.self.now c.self.inside.guests.items c.self.inside.segments.items c.args.pid c.index_mut.result.now c.in-Some.guest c.run.new.guest c.self.view_is c.self.invariant.sound c.requires.live c.index_mut.ensures.value c.in-Some.is in
     (along c.args.self.now c.self.inside.guests.items c.self.inside.segments.items c.args.pid c.in-Some.guest at.shown at.sound at.stands c.run.result.ran c.run.new.guest c.run.new.segments.items c.run.ensures.many).watches
 
 pub returns-clause-stops : goal.returns-clause-stops
 returns-clause-stops g c =
-    let at = place c.args.self.now c.self.inside.guests.items c.self.inside.segments.items c.args.pid c.index_mut.result.now c.in-Some.guest c.run.new.guest c.self.view_is c.self.invariant c.requires.live c.index_mut.ensures.value c.in-Some.is in
+    let at = place c.args.self.now c.self.inside.guests.items c.self.inside.segments.items c.args.pid c.index_mut.result.now c.in-Some.guest c.run.new.guest c.self.view_is c.self.invariant.sound c.requires.live c.index_mut.ensures.value c.in-Some.is in
     subst (λ (o : Option View). IfSome o (λ v. StopsAt c.run.result.outcome c.run.result.ran c.args.count (stands_at v)))
     (sym (sees-now c.args.self.now c.self.inside.guests.items c.self.inside.segments.items c.args.pid c.in-Some.guest at.shown at.sound at.stands c.run.new.guest c.run.new.segments.items)) c.run.ensures.stops
 
 pub returns-clause-live : goal.returns-clause-live
 returns-clause-live g c =
-    let at = place c.args.self.now c.self.inside.guests.items c.self.inside.segments.items c.args.pid c.index_mut.result.now c.in-Some.guest c.run.new.guest c.self.view_is c.self.invariant c.requires.live c.index_mut.ensures.value c.in-Some.is in
+    let at = place c.args.self.now c.self.inside.guests.items c.self.inside.segments.items c.args.pid c.index_mut.result.now c.in-Some.guest c.run.new.guest c.self.view_is c.self.invariant.sound c.requires.live c.index_mut.ensures.value c.in-Some.is in
     lives-now c.args.self.now c.self.inside.guests.items c.self.inside.segments.items c.args.pid c.in-Some.guest at.shown at.sound at.stands c.run.new.guest c.run.new.segments.items

@@ -1,10 +1,8 @@
 use Rattle.std.proofs.Common.{◌<◌, ℕ, Err, Ok, OnErr, Result}
 use Rattle.std.proofs.lemmas.Result.{IfOk-weaker}
 use Rattle.guest_bodies.specs.HeldTold.{HeldFails}
-use Rattle.guest_bodies.specs.Shown.{Guests}
-use Rattle.guest_bodies.specs.Told.{FailsAt}
 use Rattle.guest_bodies.proofs.InPlace.{place}
-use Rattle.guest_bodies.proofs.Tolds.{none-there, runs-sound, runs-watches, stops-there, told-many}
+use Rattle.guest_bodies.proofs.Tolds.{none-there, runs-kept, runs-watches, stops-there, told-many}
 use Rattle.guest_bodies.proofs.bodies.Bodies.run_told.Goals as goal
 
 on-err : {T E : Type 0} (r : Result T E) (P Q : Type 0) → (P → Q) → OnErr r P → OnErr r Q
@@ -13,8 +11,8 @@ on-err (Err error) P Q so holds = so holds
 
 pub invariant_of-self : goal.invariant_of-self
 invariant_of-self g c =
-    let at = place c.args.self.now c.self.inside.guests.items c.self.inside.segments.items c.args.pid c.index_mut.result.now c.in-Some.guest c.run_told.new.guest c.self.view_is c.self.invariant c.requires.live c.index_mut.ensures.value c.in-Some.is in
-    runs-sound at c.run_told.new.segments.items c.run_told.ensures.runs
+    let at = place c.args.self.now c.self.inside.guests.items c.self.inside.segments.items c.args.pid c.index_mut.result.now c.in-Some.guest c.run_told.new.guest c.self.view_is c.self.invariant.sound c.requires.live c.index_mut.ensures.value c.in-Some.is in
+    runs-kept at c.run_told.new.segments.items c.run_told.ensures.runs c.self.invariant.held
 
 pub unreachable-requires : goal.unreachable-requires
 unreachable-requires g c =
@@ -22,26 +20,26 @@ unreachable-requires g c =
 
 pub returns-clause-told : goal.returns-clause-told
 returns-clause-told g c =
-    let at = place c.args.self.now c.self.inside.guests.items c.self.inside.segments.items c.args.pid c.index_mut.result.now c.in-Some.guest c.run_told.new.guest c.self.view_is c.self.invariant c.requires.live c.index_mut.ensures.value c.in-Some.is in
+    let at = place c.args.self.now c.self.inside.guests.items c.self.inside.segments.items c.args.pid c.index_mut.result.now c.in-Some.guest c.run_told.new.guest c.self.view_is c.self.invariant.sound c.requires.live c.index_mut.ensures.value c.in-Some.is in
     IfOk-weaker c.run_told.result _ _
     (λ (ran : ℕ) many. told-many g.O.Observer.runs c.args.self.now c.self.inside.guests.items c.self.inside.segments.items c.args.pid c.in-Some.guest at.shown at.sound at.stands ran c.run_told.new.guest c.run_told.new.segments.items c.args.observer.now c.run_told.new.observer many)
     c.run_told.ensures.told
 
 pub returns-clause-stops : goal.returns-clause-stops
 returns-clause-stops g c =
-    let at = place c.args.self.now c.self.inside.guests.items c.self.inside.segments.items c.args.pid c.index_mut.result.now c.in-Some.guest c.run_told.new.guest c.self.view_is c.self.invariant c.requires.live c.index_mut.ensures.value c.in-Some.is in
+    let at = place c.args.self.now c.self.inside.guests.items c.self.inside.segments.items c.args.pid c.index_mut.result.now c.in-Some.guest c.run_told.new.guest c.self.view_is c.self.invariant.sound c.requires.live c.index_mut.ensures.value c.in-Some.is in
     IfOk-weaker c.run_told.result _ _
     (λ (ran : ℕ) stops (less : ran < c.args.count). stops-there at c.run_told.new.segments.items (stops less))
     c.run_told.ensures.stops
 
 pub returns-clause-watches : goal.returns-clause-watches
 returns-clause-watches g c =
-    let at = place c.args.self.now c.self.inside.guests.items c.self.inside.segments.items c.args.pid c.index_mut.result.now c.in-Some.guest c.run_told.new.guest c.self.view_is c.self.invariant c.requires.live c.index_mut.ensures.value c.in-Some.is in
+    let at = place c.args.self.now c.self.inside.guests.items c.self.inside.segments.items c.args.pid c.index_mut.result.now c.in-Some.guest c.run_told.new.guest c.self.view_is c.self.invariant.sound c.requires.live c.index_mut.ensures.value c.in-Some.is in
     runs-watches at c.run_told.new.segments.items c.run_told.ensures.runs
 
 pub returns-clause-failed : goal.returns-clause-failed
 returns-clause-failed g c =
-    let at = place c.args.self.now c.self.inside.guests.items c.self.inside.segments.items c.args.pid c.index_mut.result.now c.in-Some.guest c.run_told.new.guest c.self.view_is c.self.invariant c.requires.live c.index_mut.ensures.value c.in-Some.is in
+    let at = place c.args.self.now c.self.inside.guests.items c.self.inside.segments.items c.args.pid c.index_mut.result.now c.in-Some.guest c.run_told.new.guest c.self.view_is c.self.invariant.sound c.requires.live c.index_mut.ensures.value c.in-Some.is in
     on-err c.run_told.result _ _
     (λ (f : HeldFails g.O.Observer.runs c.args.pid c.args.count c.in-Some.guest c.self.inside.segments.items c.run_told.new.guest c.run_told.new.segments.items c.args.observer.now c.args.steps.now c.run_told.new.steps). record {
       ran = f.ran;

@@ -7,17 +7,17 @@ use Rattle.guest_bodies.specs.Shown.{Guests, seen_in}
 use Rattle.guest_bodies.specs.declared.guest.Guest.{Guest}
 use Rattle.guest_bodies.proofs.Changes.{seen-shown, same-shown}
 use Rattle.guest_bodies.proofs.Counts.{OnStop-both}
-use Rattle.guest_bodies.proofs.InPlace.{place, moved-sound, moved-put, moved-watches, reach-back}
+use Rattle.guest_bodies.proofs.InPlace.{place, moved-kept, moved-put, moved-watches, reach-back}
 use Rattle.guest_bodies.proofs.bodies.Bodies.step.Goals as goal
 
 pub invariant_of-self : goal.invariant_of-self
 invariant_of-self g c =
-    let at = place c.args.self.now c.self.inside.guests.items c.self.inside.segments.items c.args.pid c.index_mut.result.now c.in-Some.guest c.step.new.guest c.self.view_is c.self.invariant c.requires.live c.index_mut.ensures.value c.in-Some.is in
-    moved-sound at (ap (λ (x : Guest). x.made) c.step.ensures.guest) (ap (λ (x : Guest). x.segment) c.step.ensures.guest) (held_bytes c.step.new.segments.items c.in-Some.guest.segment) c.step.new.segments.items c.step.ensures.segments
+    let at = place c.args.self.now c.self.inside.guests.items c.self.inside.segments.items c.args.pid c.index_mut.result.now c.in-Some.guest c.step.new.guest c.self.view_is c.self.invariant.sound c.requires.live c.index_mut.ensures.value c.in-Some.is in
+    moved-kept at (ap (λ (x : Guest). x.made) c.step.ensures.guest) (ap (λ (x : Guest). x.segment) c.step.ensures.guest) (held_bytes c.step.new.segments.items c.in-Some.guest.segment) c.step.new.segments.items c.step.ensures.segments c.self.invariant.held
 
 pub returns-clause-ran : goal.returns-clause-ran
 returns-clause-ran g c =
-    let at = place c.args.self.now c.self.inside.guests.items c.self.inside.segments.items c.args.pid c.index_mut.result.now c.in-Some.guest c.step.new.guest c.self.view_is c.self.invariant c.requires.live c.index_mut.ensures.value c.in-Some.is in
+    let at = place c.args.self.now c.self.inside.guests.items c.self.inside.segments.items c.args.pid c.index_mut.result.now c.in-Some.guest c.step.new.guest c.self.view_is c.self.invariant.sound c.requires.live c.index_mut.ensures.value c.in-Some.is in
     let before : View = view_of c.self.inside.segments.items c.in-Some.guest in
     let after : View = view_of c.step.new.segments.items c.step.new.guest in
     let back : after ≡ with_reach (reach after) (with_cpu c.step.new.guest.cpu before) =
@@ -35,12 +35,12 @@ returns-clause-ran g c =
 
 pub returns-clause-stop : goal.returns-clause-stop
 returns-clause-stop g c =
-    let at = place c.args.self.now c.self.inside.guests.items c.self.inside.segments.items c.args.pid c.index_mut.result.now c.in-Some.guest c.step.new.guest c.self.view_is c.self.invariant c.requires.live c.index_mut.ensures.value c.in-Some.is in
+    let at = place c.args.self.now c.self.inside.guests.items c.self.inside.segments.items c.args.pid c.index_mut.result.now c.in-Some.guest c.step.new.guest c.self.view_is c.self.invariant.sound c.requires.live c.index_mut.ensures.value c.in-Some.is in
     OnStop-both c.step.result (λ (seen : view_of c.step.new.segments.items c.step.new.guest ≡ view_of c.self.inside.segments.items c.in-Some.guest) (same : c.step.new.segments.items ≡ c.self.inside.segments.items).
     same-shown c.args.pid c.in-Some.guest c.step.new.guest c.self.inside.guests.items c.self.inside.segments.items c.step.new.segments.items at.stands same seen (ap watch_of c.step.ensures.guest) ∙ c.self.view_is)
     c.step.ensures.stop c.step.ensures.table
 
 pub returns-clause-watches : goal.returns-clause-watches
 returns-clause-watches g c =
-    let at = place c.args.self.now c.self.inside.guests.items c.self.inside.segments.items c.args.pid c.index_mut.result.now c.in-Some.guest c.step.new.guest c.self.view_is c.self.invariant c.requires.live c.index_mut.ensures.value c.in-Some.is in
+    let at = place c.args.self.now c.self.inside.guests.items c.self.inside.segments.items c.args.pid c.index_mut.result.now c.in-Some.guest c.step.new.guest c.self.view_is c.self.invariant.sound c.requires.live c.index_mut.ensures.value c.in-Some.is in
     moved-watches at (ap (λ (x : Guest). x.made) c.step.ensures.guest) (ap (λ (x : Guest). x.segment) c.step.ensures.guest) (held_bytes c.step.new.segments.items c.in-Some.guest.segment) c.step.new.segments.items c.step.ensures.segments (ap watch_of c.step.ensures.guest)
