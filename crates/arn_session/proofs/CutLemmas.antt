@@ -11,8 +11,8 @@ use Rattle.arn_commands.specs.Parts.{Part, text_parts, whole_parts}
 use Rattle.arn_commands.specs.Reader.{ReaderState, fresh_reader, Uses, UsesSome}
 use Rattle.log_model.specs.Records.{IsRun}
 use Rattle.log_store.specs.Stores.{StoreState}
-use Rattle.guest_machine.specs.Differs.{rebuild_cost}
-use Rattle.guest_machine.specs.Legs.{Picked}
+use Rattle.guest_machine.specs.Again.{rebuild_cost}
+use Rattle.guest_legs.specs.Legs.{Picked}
 use Rattle.session_effects.specs.Carrying.{CarriesOut, StopsAt, StopsBetween}
 use Rattle.session_effects.specs.Effects.{Effect}
 use Rattle.session_effects.specs.Standing.{IsOpen}

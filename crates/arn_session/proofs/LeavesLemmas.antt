@@ -15,7 +15,7 @@ use Rattle.session_effects.specs.Carrying.{CarriesOut, HoldsMore, IsAtRest, IsSh
 use Rattle.session_effects.specs.declared.halt.Halt.{Halt}
 use Rattle.session_effects.specs.declared.halt.Halt.TheVariants as halt
 use Rattle.session_commands.specs.Answering.{IsAnswered, IsHalted, IsNoRun}
-use Rattle.guest_machine.specs.Legs.{Picked}
+use Rattle.guest_legs.specs.Legs.{Picked}
 use Rattle.session_runs.specs.Touches.{Answering, named_at}
 use Rattle.session_runs.specs.Standing.{Standpoint, standpoint}
 use Rattle.session_commands.specs.Given.{Given}

@@ -11,7 +11,7 @@ use Rattle.arn_commands.specs.declared.command.Command.TheVariants.{PassedOver, 
 use Rattle.arn_model.specs.Kernel.{Machine}
 use Rattle.arn_model.specs.Run.{machine_from}
 use Rattle.log_model.specs.Records.{records_from}
-use Rattle.guest_machine.specs.Legs.{Picked, ask_of}
+use Rattle.guest_legs.specs.Legs.{Picked, ask_of}
 use Rattle.session_runs.specs.Quiet.{quiet_turn, quietly}
 use Rattle.session_runs.specs.Ready.{machine_of}
 use Rattle.session_runs.specs.Runs.{Running, begun, closing, ended, ends, next_leg, run, run_after, run_from, unless_ended}

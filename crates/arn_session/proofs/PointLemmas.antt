@@ -10,8 +10,8 @@ use Rattle.arn_model.specs.Run.{Input}
 use Rattle.log_model.specs.Laws.{BehindAppend, NamedAppend}
 use Rattle.log_model.specs.Records.{IsRun, named, reply_behind}
 use Rattle.log_store.specs.Stores.{StoreState}
-use Rattle.guest_machine.specs.LegLaws.{PicksFollow}
-use Rattle.guest_machine.specs.Legs.{AreInRange, Ask, Picked, PickedBy, brought}
+use Rattle.guest_legs.specs.LegLaws.{PicksFollow}
+use Rattle.guest_legs.specs.Legs.{AreInRange, Ask, Picked, PickedBy, brought}
 use Rattle.session_effects.specs.Carrying.{IsAtCommit, StopsBetween}
 use Rattle.session_effects.specs.Effects.{Effect, committed, records_of}
 use Rattle.session_effects.specs.Laws.{EffectsFollow, HaltsFollow}

@@ -12,7 +12,7 @@ use Rattle.arn_commands.specs.Nexts.{IsWholePart, ReadsMore, ReadsLast, ReadsEnd
 use Rattle.arn_commands.specs.Parts.{Part, text_parts, whole_parts}
 use Rattle.arn_commands.specs.Reader.{ReaderState, fresh_reader, to_come, Uses, UsesSome, StopsShort, IsAtEnd}
 use Rattle.log_model.specs.Records.{IsRun}
-use Rattle.guest_machine.specs.Legs.{Picked}
+use Rattle.guest_legs.specs.Legs.{Picked}
 use Rattle.session_effects.specs.Carrying.{CarriesOut}
 use Rattle.session_effects.specs.Effects.{Effect, committed}
 use Rattle.session_effects.specs.Standing.{Carries, IsOpen}

@@ -8,7 +8,7 @@ use Rattle.arn_commands.specs.Parts.{Part, text_parts, whole_parts}
 use Rattle.log_model.specs.Records.{IsRun}
 use Rattle.log_store.specs.Stores.{StoreState}
 use Rattle.guest_devices.specs.Answers.{Asked}
-use Rattle.guest_machine.specs.Legs.{Picked}
+use Rattle.guest_legs.specs.Legs.{Picked}
 use Rattle.session_effects.specs.Effects as effects
 use Rattle.session_effects.specs.declared.halt.Halt.{Halt}
 use Rattle.session_effects.specs.declared.halt.Halt.TheVariants as halt

@@ -8,7 +8,7 @@ use Rattle.arn_lines.specs.declared.line.Line.{Line}
 use Rattle.arn_lines.specs.declared.line.Line.TheVariants as line
 use Rattle.arn_commands.specs.declared.command.Command.{Command}
 use Rattle.arn_commands.specs.declared.command.Command.TheVariants.{PassedOver, TooLong, Unreadable, Says, Faulty, Generates}
-use Rattle.guest_machine.specs.Legs.{Picked}
+use Rattle.guest_legs.specs.Legs.{Picked}
 use Rattle.session_effects.specs.Effects.{committed}
 use Rattle.session_effects.specs.declared.halt.Halt.{Halt}
 use Rattle.session_runs.specs.Standing.{Proceeds, Standpoint}

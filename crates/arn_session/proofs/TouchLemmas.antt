@@ -8,8 +8,8 @@ use Rattle.std.proofs.lemmas.List.Folds.{list_any-append}
 use Rattle.arn_base.specs.declared.records.Record.{Record}
 use Rattle.parts_model.specs.Replies.{Answered}
 use Rattle.guest_devices.specs.Answers.{Asked}
-use Rattle.guest_machine.specs.LegLaws.{all_named, as_named}
-use Rattle.guest_machine.specs.Legs.{Ask, Picked}
+use Rattle.guest_legs.specs.LegLaws.{all_named, as_named}
+use Rattle.guest_legs.specs.Legs.{Ask, Picked}
 use Rattle.session_effects.specs.Effects.{Effect, committed, records_of}
 use Rattle.session_runs.specs.Touches.{Answering, Touch, AtSlice, AtUnplug, TouchedBy, StandAs, asks_in, is_gone, named_at, unplugged_by, unplugged_in, unplugs_in}
 use Rattle.arn_session.proofs.ReplyLemmas.{RepliesIn-stays}

@@ -9,8 +9,8 @@ use Rattle.arn_lines.specs.declared.line.Line.{Line}
 use Rattle.arn_lines.specs.declared.line.Line.TheVariants as line
 use Rattle.arn_commands.specs.declared.command.Command.{Command}
 use Rattle.arn_commands.specs.declared.command.Command.TheVariants.{PassedOver, TooLong, Unreadable, Says, Faulty, Generates}
-use Rattle.guest_machine.specs.Differs.{rebuild_cost}
-use Rattle.guest_machine.specs.Legs.{Picked}
+use Rattle.guest_machine.specs.Again.{rebuild_cost}
+use Rattle.guest_legs.specs.Legs.{Picked}
 use Rattle.session_effects.specs.Effects.{Effect, committed}
 use Rattle.session_runs.specs.Touches.{Touch}
 use Rattle.session_runs.specs.Turns.{Point, Turn, behind, finished, followed_by}

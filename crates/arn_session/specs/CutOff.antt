@@ -5,7 +5,7 @@ use Rattle.arn_commands.specs.declared.command.Command.{Command}
 use Rattle.arn_commands.specs.Commands.{EachAsks}
 use Rattle.arn_commands.specs.Parts.{text_parts, whole_parts}
 use Rattle.log_model.specs.Records.{IsRun}
-use Rattle.guest_machine.specs.Differs.{rebuild_cost}
+use Rattle.guest_machine.specs.Again.{rebuild_cost}
 use Rattle.session_effects.specs.Carrying.{CarriesOut}
 use Rattle.session_effects.specs.declared.halt.Halt.{Halt}
 use Rattle.session_runs.specs.Points.{Advances, Stops}

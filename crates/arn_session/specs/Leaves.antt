@@ -11,7 +11,7 @@ use Rattle.arn_commands.specs.Parts.{text_parts, whole_parts}
 use Rattle.log_model.specs.Records.{IsRun}
 use Rattle.log_store.specs.Stops.{GoesOn, LeavesOnly}
 use Rattle.log_store.specs.declared.size.TheConstants.{MOST_LOG}
-use Rattle.guest_machine.specs.Legs.{Picked}
+use Rattle.guest_legs.specs.Legs.{Picked}
 use Rattle.session_effects.specs.Carrying.{CarriesOut, HoldsMore, IsAtRest, IsShut, RestsMore}
 use Rattle.session_effects.specs.declared.halt.Halt.{Halt}
 use Rattle.session_effects.specs.declared.halt.Halt.TheVariants as halt

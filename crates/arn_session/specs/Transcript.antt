@@ -3,8 +3,8 @@ use Rattle.std.specs.Prelude.{ℕ, ◌+◌, Bool, if◌then◌else◌, List, [],
 use Rattle.std.specs.List.{list_any}
 use Rattle.arn_base.specs.declared.records.Record.{Record}
 use Rattle.arn_commands.specs.declared.command.Command.{Command}
-use Rattle.guest_machine.specs.Differs.{rebuild_cost}
-use Rattle.guest_machine.specs.Legs.{Picked}
+use Rattle.guest_machine.specs.Again.{rebuild_cost}
+use Rattle.guest_legs.specs.Legs.{Picked}
 use Rattle.session_effects.specs.Effects.{committed, printed}
 use Rattle.session_runs.specs.Turns.{Point, Turn, finished, followed_by}
 use Rattle.session_commands.specs.Cost.{asked_cost}

@@ -11,9 +11,9 @@ use Rattle.arn_model.specs.Turn.{is_runnable, live, run_state, runnable, state_o
 use Rattle.parts_model.specs.Processes as table
 use Rattle.guest_calls.specs.State.{State, StandsFor}
 use Rattle.parts_model.specs.declared.limits.TheConstants.{MOST_SLICE}
-use Rattle.guest_machine.specs.Legs.{ask, brought}
+use Rattle.guest_legs.specs.Legs.{ask, brought}
 use Rattle.guest_machine.specs.Recorded.{IsReal, OfEach}
-use Rattle.guest_machine.specs.declared.leg.Pick.{Pick}
+use Rattle.guest_legs.specs.declared.leg.Pick.{Pick}
 
 -- so many of the first i pass
 abbrev pub Passed : (ℕ → Bool) → List ℕ → ℕ → ℕ → Type 0

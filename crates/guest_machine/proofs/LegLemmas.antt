@@ -16,15 +16,17 @@ use Rattle.log_model.specs.Records.{input_records, records_from, slice_records}
 use Rattle.result_log.specs.Spelling.{spelling}
 use Rattle.guest_devices.specs.Answers.{Asked}
 use Rattle.guest_calls.specs.State.{StandsFor}
-use Rattle.guest_machine.specs.Legs.{AreInRange, Ask, Going, IsCutLeg, IsInRange, IsLeg, Picked, PickedBy, RepliedBy, RunsSlices, StaysOpen, ask, ask_of, asks_by, brought, end_of, fresh, going_after, going_by, input_of, leg_end, unanswered}
-use Rattle.guest_machine.specs.Pieces.{spelled_len}
+use Rattle.guest_legs.specs.LegLaws.{PicksFollow}
+use Rattle.guest_legs.specs.Legs.{AreInRange, Ask, Going, IsInRange, Picked, PickedBy, StaysOpen, ask, ask_of, asks_by, brought, end_of, fresh, going_after, going_by, input_of, leg_end, unanswered}
+use Rattle.guest_machine.specs.Legs.{IsCutLeg, IsLeg, RepliedBy, RunsSlices}
+use Rattle.guest_legs.specs.Pieces.{spelled_len}
 use Rattle.guest_machine.specs.Recorded.{HasRoom, OfEach, Recorded, Runs}
 use Rattle.guest_machine.specs.Slices.{IsCut, RanSlice, RepliesIn}
-use Rattle.guest_machine.specs.declared.leg.LegEnd.{LegEnd}
-use Rattle.guest_machine.specs.declared.leg.LegEnd.TheVariants as ends
-use Rattle.guest_machine.specs.declared.leg.Pick.{Pick}
-use Rattle.guest_machine.specs.declared.leg.TheConstants.{MOST_LEG}
-use Rattle.guest_machine.proofs.PickLemmas.{PickedBy-append, PickedBy-none, PickedBy-one, RepliedBy-append, RepliedBy-one}
+use Rattle.guest_legs.specs.declared.leg.LegEnd.{LegEnd}
+use Rattle.guest_legs.specs.declared.leg.LegEnd.TheVariants as ends
+use Rattle.guest_legs.specs.declared.leg.Pick.{Pick}
+use Rattle.guest_legs.specs.declared.leg.TheConstants.{MOST_LEG}
+use Rattle.guest_machine.proofs.PickLemmas.{PickedBy-none, PickedBy-one, RepliedBy-append, RepliedBy-one}
 use Rattle.guest_machine.proofs.RunsLemmas.{Runs-none, Runs-then}
 
 going-machine : (g : Going) (slices : List Picked) → (going_by g slices).machine ≡ machine_from g.machine (map input_of slices)
@@ -48,12 +50,12 @@ AreInRange-push g [] s are is = (is, tt)
 AreInRange-push g (x ∷ slices) s are is = (are.0, AreInRange-push (going_after g x) slices s are.1 is)
 
 -- one more was picked where the leg now is
-PickedBy-push : (before between after : ℕ → Option Choice) (g : Going) (slices : List Picked) (s : Picked) → PickedBy before between (asks_by g slices) slices → IfSome (between 0) (λ choice. s.pick ≡ brought (ask_of (going_by g slices)) choice) → ((k : ℕ) → after k ≡ between (k + 1))
+PickedBy-push : PicksFollow → (before between after : ℕ → Option Choice) (g : Going) (slices : List Picked) (s : Picked) → PickedBy before between (asks_by g slices) slices → IfSome (between 0) (λ choice. s.pick ≡ brought (ask_of (going_by g slices)) choice) → ((k : ℕ) → after k ≡ between (k + 1))
     → PickedBy before after (asks_by g (slices ++ s ∷ [])) (slices ++ s ∷ [])
-PickedBy-push before between after g slices s picked is later =
+PickedBy-push follow before between after g slices s picked is later =
     let now = ask_of (going_by g slices) in
     subst (λ (asks : List Ask). PickedBy before after asks (slices ++ s ∷ [])) (sym (asks_by-push g slices s))
-    (PickedBy-append before between after (asks_by g slices) (now ∷ []) slices (s ∷ []) picked (PickedBy-one between after now s is later))
+    (follow before between after (asks_by g slices) (now ∷ []) slices (s ∷ []) picked (PickedBy-one between after now s is later))
 
 RepliedBy-push : {A : Type 0} (answers : A → Asked → Answered → A → Type 0) (g : Going) (slices : List Picked) (s : Picked) (a b c : A) → RepliedBy answers (asks_by g slices) slices a b → RepliesIn answers s.pick.count s.pick.pid (going_by g slices).machine s.reply b c → RepliedBy answers (asks_by g (slices ++ s ∷ [])) (slices ++ s ∷ []) a c
 RepliedBy-push answers g slices s a b c replied now =
@@ -138,7 +140,7 @@ module _ {A : Type 0} (answers : A → Asked → Answered → A → Type 0) (sta
       record { slices = p.slices; took = p.took; picked = p.picked; ends = now-end ∙ is; left = omega (arith, p.is_left, within); ticks = p.ticks }
 
   -- one more is picked
-  module _ (r' : Recorded) (after : ℕ → Option Choice) (a' : A) (out' : List Record) (steps' : ℕ) (pick : Pick) (none : leg_end rs left spelled ≡ None) (chose : OfEach r.kernel (λ m. IfSome (between 0) (λ choice. pick ≡ brought (ask m left) choice))) (later : (k : ℕ) → after k ≡ between (k + 1))
+  module _ (follow : PicksFollow) (r' : Recorded) (after : ℕ → Option Choice) (a' : A) (out' : List Record) (steps' : ℕ) (pick : Pick) (none : leg_end rs left spelled ≡ None) (chose : OfEach r.kernel (λ m. IfSome (between 0) (λ choice. pick ≡ brought (ask m left) choice))) (later : (k : ℕ) → after k ≡ between (k + 1))
       (possible : OfEach r.kernel (λ m. is_possible m pick.pid pick.count ≡ true)) (some : 0 < pick.count) (within : pick.count ≤ left) (ticks : steps' + r.instructions ≤ steps + r'.instructions + 1) where
     chosen : IfSome (between 0) (λ choice. pick ≡ brought (ask_of now) choice)
     chosen = subst (λ (n : ℕ). IfSome (between 0) (λ choice. pick ≡ brought (ask now.machine n) choice)) (sym p.is_left) (chose now.machine now-stands)
@@ -157,7 +159,7 @@ module _ {A : Type 0} (answers : A → Asked → Answered → A → Type 0) (sta
         record {
           slices = p.slices ++ s ∷ [];
           took = RunsSlices-push answers start p.slices s r0 r r' a0 a a' out0 out out' p.took (now-end ∙ none) ranged slice.runs slice.replied;
-          picked = PickedBy-push before between after start p.slices s p.picked chosen later;
+          picked = PickedBy-push follow before between after start p.slices s p.picked chosen later;
           is_left =
               ap (λ (x : Going). x.left) behind
               ∙ ap (λ (n : ℕ). n - instructions_in (input_steps now.machine (input_of s))) p.is_left
@@ -182,7 +184,7 @@ module _ {A : Type 0} (answers : A → Asked → Answered → A → Type 0) (sta
           is_open = now-end ∙ none;
           in_range = ranged;
           cut = cut now.machine now-stands;
-          picked = PickedBy-push before between after start p.slices (unanswered pick) p.picked chosen later;
+          picked = PickedBy-push follow before between after start p.slices (unanswered pick) p.picked chosen later;
           ticks = omega (arith, p.ticks, ticks);
           at_most = omega (arith, p.ticks, few);
         }

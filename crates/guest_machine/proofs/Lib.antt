@@ -3,9 +3,6 @@ pub mod TurnParts
 pub mod TurnLemmas
 pub mod StepLemmas
 pub mod RunsLemmas
-mod DiffersExamples
-pub mod Compared
-pub mod SameRecord
 pub mod LawLemmas
 pub mod ToldLemmas
 pub mod RealLemmas
@@ -14,10 +11,7 @@ pub mod Spelled
 pub mod SliceLemmas
 pub mod WholeTurns
 pub mod AbleLemmas
-pub mod PiecesLemmas
 pub mod Rebuilt
 pub mod AgainLemmas
 pub mod PickLemmas
 pub mod LegLemmas
-pub mod NamedLemmas
-pub mod LegExamples

@@ -1,24 +1,16 @@
--- Slices that are picked one after another, and what devices reply.
-use Rattle.std.proofs.Common.{◌≡◌, ℕ, zero, suc, ◌+◌, ◌++◌, List, [], ◌∷◌, length, Option, Some, None, IfSome, option_map, slice_get, refl, sym, ap, ◌∙◌, subst, arith, zero-add, length-append}
+-- One slice that is picked, and what devices reply.
+use Rattle.std.proofs.Common.{◌≡◌, ℕ, zero, suc, ◌+◌, ◌++◌, List, [], ◌∷◌, Option, Some, None, IfSome, option_map, slice_get, refl, sym, ap, ◌∙◌, subst, arith, zero-add}
 use Rattle.arn_base.specs.declared.boxes.Choice.{Choice}
 use Rattle.parts_model.specs.Replies.{Answered}
 use Rattle.guest_devices.specs.Answers.{Asked}
-use Rattle.guest_machine.specs.Legs.{Ask, Picked, PickedBy, RepliedBy, brought}
+use Rattle.guest_legs.specs.Legs.{Ask, Picked, PickedBy, brought}
+use Rattle.guest_legs.specs.declared.leg.Pick.{Pick}
+use Rattle.guest_machine.specs.Legs.{RepliedBy}
 use Rattle.guest_machine.specs.Slices.{RepliesIn}
-use Rattle.guest_machine.specs.declared.leg.Pick.{Pick}
 
 -- the k-th slice is the k-th choice brought into range
 abbrev IsPicked : Option Choice → List Ask → List Picked → ℕ → Type 0
 IsPicked told asks slices k = IfSome told (λ choice. option_map (λ s. s.pick) (slice_get slices k) ≡ option_map (λ ask. brought ask choice) (slice_get asks k))
-
-picked-append : (before between : ℕ → Option Choice) (asks more : List Ask) (xs ys : List Picked) → length asks ≡ length xs → ((k : ℕ) → between k ≡ before (length xs + k)) → ((k : ℕ) → IsPicked (before k) asks xs k) → ((k : ℕ) → IsPicked (between k) more ys k) → (k : ℕ) → IsPicked (before k) (asks ++ more) (xs ++ ys) k
-picked-append before between [] more [] ys many later h g k =
-    subst (λ (o : Option Choice). IsPicked o more ys k) (later k ∙ ap before (zero-add k)) (g k)
-picked-append before between [] more (x ∷ xs) ys many later h g k = absurd (omega (arith, many))
-picked-append before between (a ∷ asks) more [] ys many later h g k = absurd (omega (arith, many))
-picked-append before between (a ∷ asks) more (x ∷ xs) ys many later h g zero = h 0
-picked-append before between (a ∷ asks) more (x ∷ xs) ys many later h g (suc k) =
-    picked-append (λ k. before (suc k)) between asks more xs ys (omega (arith, many)) (λ k. later k ∙ ap before (omega arith)) (λ k. h (suc k)) g k
 
 pub PickedBy-none : (c : ℕ → Option Choice) → PickedBy c c [] []
 PickedBy-none c = record { many = refl; each = λ k. nothing (c k) k; later = λ k. ap c (sym (zero-add k)) }
@@ -41,13 +33,6 @@ PickedBy-one a b ask s is later = record { many = refl; each = λ k. each k; lat
     each : (k : ℕ) → IsPicked (a k) (ask ∷ []) (s ∷ []) k
     each zero = first (a 0) is
     each (suc k) = past (a (suc k)) k
-
-pub PickedBy-append : (a b c : ℕ → Option Choice) (asks more : List Ask) (xs ys : List Picked) → PickedBy a b asks xs → PickedBy b c more ys → PickedBy a c (asks ++ more) (xs ++ ys)
-PickedBy-append a b c asks more xs ys p q = record {
-  many = omega (arith, p.many, q.many, length-append asks more, length-append xs ys);
-  each = picked-append a b asks more xs ys p.many p.later p.each q.each;
-  later = λ k. q.later k ∙ p.later (length ys + k) ∙ ap a (omega (arith, length-append xs ys));
-}
 
 -- replies that follow others
 pub RepliedBy-append : {A : Type 0} (answers : A → Asked → Answered → A → Type 0) (old between new : A) (asks more : List Ask) (xs ys : List Picked) → RepliedBy answers asks xs old between → RepliedBy answers more ys between new → RepliedBy answers (asks ++ more) (xs ++ ys) old new

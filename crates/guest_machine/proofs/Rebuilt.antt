@@ -1,11 +1,10 @@
 -- The machine to which the first of some records lead.
-use Rattle.std.proofs.Common.{◌≡◌, ℕ, ◌+◌, ◌<◌, ◌≤◌, ◌^◌, List, [], ◌∷◌, ◌++◌, length, get_or, take, drop, None, slice_get, cond, refl, sym, ap, ◌∙◌, subst, append_assoc, append-nil, length-take, take-append-drop, arith}
+use Rattle.std.proofs.Common.{◌≡◌, ℕ, ◌+◌, ◌<◌, ◌≤◌, ◌^◌, List, [], ◌∷◌, ◌++◌, length, get_or, take, drop, slice_get, cond, refl, sym, ap, ◌∙◌, subst, append_assoc, append-nil, take-append-drop, arith}
 use Rattle.std.specs.List.{between}
 use Rattle.std.specs.Prelude.{count_by}
-use Rattle.std.proofs.lemmas.List.{drop_all, drop_more, length-take-le, take_more, take-take}
+use Rattle.std.proofs.lemmas.List.{drop_all, drop_more, length-take-le, take_more}
 use Rattle.std.proofs.lemmas.List.Sums.{sum_by-append}
 use Rattle.std.proofs.lemmas.Slice.{between_to_end}
-use Rattle.std.proofs.lemmas.Option.{slice_get_past}
 use Rattle.arn_base.specs.declared.records.Record.{Record}
 use Rattle.arn_base.specs.declared.records.Record.TheVariants as entry
 use Rattle.arn_base.specs.declared.records.Differs.{Differs}
@@ -15,12 +14,12 @@ use Rattle.arn_model.specs.Run.{Input, instructions_in, machine_after, run, step
 use Rattle.log_model.specs.Laws.{RecordsAppend}
 use Rattle.log_model.specs.Records.{named, records, records_from, IsRun}
 use Rattle.guest_machine.specs.Again.{named_first}
-use Rattle.guest_machine.specs.Differs.{is_slice, rebuild_cost, IsFirstDifference}
+use Rattle.record_match.specs.Differs.{IsFirstDifference}
+use Rattle.guest_machine.specs.Again.{is_slice, rebuild_cost}
 use Rattle.guest_machine.specs.Laws.{RecordsFollow, RecordsLeaveRoom, RunsFollow}
-use Rattle.guest_machine.specs.Matching.{IsDifferenceAt, IsMatched, IsMismatch}
+use Rattle.record_match.specs.Matching.{IsMatched, IsMismatch}
 use Rattle.guest_machine.specs.Recorded.{Recorded, HasRoom, IsAfter, Runs, recorded_first}
 use Rattle.guest_machine.proofs.Appends.{instructions_in-append, steps_from-append}
-use Rattle.guest_machine.proofs.Compared.{first_there, first-front, slice_get-some}
 use Rattle.guest_machine.proofs.RealLemmas.{first-stands}
 
 count-append : (entries more : List Record) → count_by is_slice (entries ++ more) ≡ count_by is_slice entries + count_by is_slice more
@@ -132,7 +131,7 @@ module _ (entries : List Record) (i : ℕ) (r : Recorded) (matched : ℕ) (steps
       ap records front-more
       ∙ append seen (named behind)
       ∙ ap (λ (xs : List Record). xs ++ others) (records-next follow r' out out' runs none ∙ ap (λ (xs : List Record). take matched entries ++ xs) (sym is_found)) in
-      subst (λ (xs : List Record). IsFirstDifference entries xs d) (sym whole) (first-front entries front others d mismatch.within mismatch.first)
+      subst (λ (xs : List Record). IsFirstDifference entries xs d) (sym whole) (mismatch others)
 
 -- the records don't differ from their own where they are those of a run
 pub differ_no_run : (entries : List Record) (d : Differs) → IsFirstDifference entries (records (named entries)) d → ¬ IsRun entries
@@ -146,12 +145,8 @@ module _ (entries : List Record) (r : Recorded) (matched : ℕ) (steps0 steps : 
   records-all = ap records all-named ∙ done.recorded
 
   -- a record is missing
-  pub IsRebuilt-missing : matched < length entries → (d : Differs) → IsDifferenceAt matched (slice_get entries matched) None d → IsFirstDifference entries (records (named entries)) d
-  IsRebuilt-missing more d at =
-      let ends : slice_get (take matched entries) matched ≡ None = slice_get_past (take matched entries) matched (omega (arith, length-take matched entries)) in
-      let there : slice_get (records (named entries)) matched ≡ None = ap (λ (xs : List Record). slice_get xs matched) records-all ∙ ends in
-      let before : take matched entries ≡ take matched (records (named entries)) = sym (ap (λ (xs : List Record). take matched xs) records-all ∙ take-take matched matched entries (omega arith)) in
-      first_there entries (records (named entries)) matched None d before there (slice_get-some entries matched more) at
+  pub IsRebuilt-missing : (d : Differs) → IsFirstDifference entries (take matched entries) d → IsFirstDifference entries (records (named entries)) d
+  IsRebuilt-missing d first = subst (λ (xs : List Record). IsFirstDifference entries xs d) (sym records-all) first
 
 -- the records behind the one at a place
 pub behind-is : (entries : List Record) (at i : ℕ) → at ≡ i → between (at + 1) (length entries) entries ≡ drop (i + 1) entries

@@ -15,7 +15,7 @@ use Rattle.log_model.specs.Records.{slice_records}
 use Rattle.guest_bodies.specs.Shown.{IsLive}
 use Rattle.guest_devices.specs.Answers.{Asked}
 use Rattle.guest_calls.specs.State.{State, StandsFor}
-use Rattle.guest_machine.specs.Pieces.{slice_of}
+use Rattle.guest_legs.specs.Pieces.{slice_of}
 use Rattle.guest_machine.specs.Recorded.{IsReal, OfEach, Recorded, Runs}
 use Rattle.guest_machine.specs.Slices.{Begun, CanTake, IsCut, RanSlice, Unbegun}
 use Rattle.guest_machine.specs.Turns.{Takes, Took, TookPart, TookWhole, Turn, Turned}

@@ -9,7 +9,7 @@ use Rattle.arn_model.specs.Run.{instructions_in}
 use Rattle.arn_model.specs.Step.{Step}
 use Rattle.arn_model.specs.Turn.{steps_of, turn}
 use Rattle.log_model.specs.Records.{event_records, slice_records}
-use Rattle.guest_machine.specs.Pieces.{slice_of}
+use Rattle.guest_legs.specs.Pieces.{slice_of}
 use Rattle.guest_machine.proofs.Appends.{event_records-append}
 
 slice_of-some : (pid ran : ℕ) (entries : List Record) → 0 < ran + length entries → slice_of pid ran entries ≡ entry.Slice pid ran ∷ entries

@@ -3,10 +3,6 @@ pub mod Recorded
 pub mod View
 pub mod Slices
 pub mod Turns
-pub mod Pieces
 pub mod Laws
 pub mod Again
-pub mod Differs
-pub mod Matching
 pub mod Legs
-pub mod LegLaws

@@ -16,7 +16,7 @@ use Rattle.guest_bodies.specs.declared.running.Stood.{Stood}
 use Rattle.guest_devices.specs.Answers.{Asked}
 use Rattle.guest_calls.specs.State.{State, StandsFor}
 use Rattle.guest_machine.specs.Slices.{RepliesIn, RepliesOf}
-use Rattle.guest_machine.specs.Pieces.{slice_of}
+use Rattle.guest_legs.specs.Pieces.{slice_of}
 use Rattle.guest_machine.specs.declared.turn.Taken.{Taken}
 
 -- a process takes its due signal, if there is one, and this is the record

@@ -1,13 +1,13 @@
 // Which processes can go on, and which of them does.
 ghost use Rattle.std.specs.Prelude.{◌≡◌, ℕ, ◌+◌, ◌<◌, ◌≤◌, IfSome, IsTrue, length, slice_get};
 ghost use Rattle.arn_model.specs.Turn.{is_possible, is_runnable, run_state as run_state_of, runnable};
-ghost use Rattle.guest_machine.specs.Legs.{brought, ask};
+ghost use Rattle.guest_legs.specs.Legs.{brought, ask};
 ghost use Rattle.guest_machine.specs.Recorded.{IsReal, OfEach};
 
-use crate::leg::Pick;
 use arn_base::Chooser;
 use arn_model::RunState;
 use guest_calls::Kernel;
+use guest_legs::Pick;
 use parts_model::limits::MOST_SLICE;
 
 /// Whether a process can go on. One that doesn't live can't.

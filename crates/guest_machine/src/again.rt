@@ -6,7 +6,7 @@ ghost use Rattle.log_model.specs.Records.{reply_behind};
 ghost use Rattle.parts_model.specs.declared.limits.TheConstants.{MOST_SLICE};
 ghost use Rattle.result_log.specs.Spelling.{HasSpelling, IsCounted, IsName};
 ghost use Rattle.guest_machine.specs.Again.{named_first};
-ghost use Rattle.guest_machine.specs.Differs.{is_slice};
+ghost use Rattle.guest_machine.specs.Again.{is_slice};
 ghost use Rattle.guest_machine.specs.Recorded.{HasRoom, OfEach, Runs};
 
 use crate::errors::MachineError;

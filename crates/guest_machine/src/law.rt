@@ -1,9 +1,8 @@
 // What holds of runs and their records.
-ghost use Rattle.guest_machine.specs.LegLaws.{LegsAsNamed, PicksFollow, RepliesFollow};
-ghost use Rattle.guest_machine.specs.Laws.{NamedFollow, RecordsCompare, RecordsFollow, RecordsLeaveRoom, RunsFollow};
+ghost use Rattle.guest_machine.specs.Laws.{NamedFollow, RecordsFollow, RecordsLeaveRoom, RepliesFollow, RunsFollow};
 
 use guest_devices::Answers;
-use log_model::{named_append, named_runs_again, records_bound, slices_are_named};
+use log_model::{named_runs_again, records_bound};
 
 /// Runs follow one another.
 pub fn runs_follow()
@@ -29,25 +28,7 @@ pub fn records_leave_room()
     records_bound();
 }
 
-/// Two records are the same or they aren't, and `==` tells.
-pub fn records_compare()
-    ensures { RecordsCompare }
-{}
-
-/// Choices of slices follow one another.
-pub fn picks_follow()
-    ensures { PicksFollow }
-{}
-
 /// Replies to slices follow one another.
 pub fn replies_follow<A: Answers>()
     ensures { RepliesFollow A.answers }
 {}
-
-/// Slices do what the slices do that their records name.
-pub fn legs_as_named()
-    ensures { LegsAsNamed }
-{
-    named_append();
-    slices_are_named();
-}

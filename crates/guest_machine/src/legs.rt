@@ -1,16 +1,17 @@
 // The slices of a leg, which a chooser picks.
-use crate::leg::{Leg, leg_end};
 use crate::machine::Machine;
 use arn_base::{Chooser, NoMemory, Record, Steps};
 use guest_devices::Answers;
+use guest_legs::{Leg, leg_end, picks_follow};
 use std::sync::ledger::Ledger;
 
 impl Machine {
     ghost use Rattle.std.specs.Prelude.{◌≡◌, ◌≤◌, ◌+◌, ◌*◌, All, IfOk, OnErr};
     ghost use Rattle.result_log.specs.Spelling.{HasSpelling};
-    ghost use Rattle.guest_machine.specs.Legs.{IsCutLeg, IsLeg, fresh};
+    ghost use Rattle.guest_legs.specs.Legs.{fresh};
+    ghost use Rattle.guest_machine.specs.Legs.{IsCutLeg, IsLeg};
     ghost use Rattle.guest_machine.specs.Recorded.{HasRoom, OfEach};
-    ghost use Rattle.guest_machine.specs.declared.leg.TheConstants.{MOST_LEG};
+    ghost use Rattle.guest_legs.specs.declared.leg.TheConstants.{MOST_LEG};
 
     /// Runs slices that a chooser picks until no process lives, none can go on, the budget is spent,
     /// or the records' spellings have reached `MOST_LEG` bytes. Where memory runs out, what ran is
@@ -38,6 +39,7 @@ impl Machine {
             out.old.items out.new.items steps.old steps.new)) }
         ensures spelled { All HasSpelling out.old.items → All HasSpelling out.new.items }
     {
+        picks_follow();
         let mut left = budget;
         let mut spelled = 0;
         loop {

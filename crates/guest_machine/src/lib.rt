@@ -3,24 +3,17 @@
 
 mod able;
 mod again;
-mod differs;
 mod errors;
 mod law;
-mod leg;
 mod legs;
 mod machine;
-mod matching;
-mod pieces;
 mod rebuild;
 mod turn;
 
 pub use arn_base::Differs;
 pub use arn_model::RunState;
-pub use differs::RebuildError;
 pub use errors::MachineError;
-pub use law::{
-    legs_as_named, named_follow, picks_follow, records_compare, records_follow, records_leave_room,
-    replies_follow, runs_follow,
-};
-pub use leg::{Leg, LegEnd, MOST_LEG, Pick, leg_end};
+pub use guest_legs::{Leg, LegEnd, MOST_LEG, Pick, leg_end, legs_as_named, picks_follow};
+pub use law::{named_follow, records_follow, records_leave_room, replies_follow, runs_follow};
 pub use machine::Machine;
+pub use record_match::{RebuildError, records_compare};

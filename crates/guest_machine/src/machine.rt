@@ -1,12 +1,11 @@
 use crate::able::{can_go_on, pick_slice, run_state};
 use crate::errors::MachineError;
-use crate::leg::Pick;
-use crate::pieces::{SLICE_RECORDS, file_record, typed_record};
 use crate::turn::{Taken, take_turn};
 use arn_base::{Bytes, Chooser, NoMemory, Record, Steps};
 use arn_model::{RunState, turns_have_parts};
 use guest_calls::Kernel;
 use guest_devices::Answers;
+use guest_legs::{Pick, SLICE_RECORDS};
 use log_model::slices_take_steps;
 use parts_model::limits::MOST_SLICE;
 use std::alloc::Global;
@@ -43,8 +42,8 @@ impl Machine {
     ghost use Rattle.result_log.specs.Spelling.{HasSpelling};
     ghost use Rattle.guest_bodies.specs.Shown.{IsLive};
     ghost use Rattle.guest_calls.specs.Starts.{HasNoImage};
-    ghost use Rattle.guest_machine.specs.Legs.{brought, ask};
-    ghost use Rattle.guest_machine.specs.Pieces.{spelled_len};
+    ghost use Rattle.guest_legs.specs.Legs.{brought, ask};
+    ghost use Rattle.guest_legs.specs.Pieces.{spelled_len};
     ghost use Rattle.guest_machine.specs.Recorded.{HasRoom, OfEach, Runs, has_process, recorded_first};
     ghost use Rattle.guest_machine.specs.Slices.{CanTake, IsCut, RanSlice};
 
@@ -127,11 +126,15 @@ impl Machine {
         if self.is_booted() {
             return Err(MachineError::Booted);
         }
-        let entry = file_record(self.alloc, name, bytes)?;
+        let held = Bytes::from_slice(self.alloc, name)?;
+        let content = Bytes::from_slice(self.alloc, bytes)?;
         out.reserve(1)?;
         let event = self.kernel.events();
         self.kernel.add_file(name, bytes, event)?;
-        out.push_reserved(entry);
+        out.push_reserved(Record::File {
+            name: held,
+            bytes: content,
+        });
         Ok(event)
     }
 
@@ -192,11 +195,11 @@ impl Machine {
         if !self.is_booted() {
             return Err(MachineError::NotBooted);
         }
-        let entry = typed_record(self.alloc, bytes)?;
+        let held = Bytes::from_slice(self.alloc, bytes)?;
         out.reserve(1)?;
         let event = self.kernel.events();
         self.kernel.type_in(bytes, event)?;
-        out.push_reserved(entry);
+        out.push_reserved(Record::Typed { bytes: held });
         Ok(event)
     }
 

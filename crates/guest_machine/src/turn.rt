@@ -6,16 +6,16 @@ ghost use Rattle.arn_base.specs.declared.records.Record.TheVariants as kind;
 ghost use Rattle.arn_model.specs.Step.{fault_step};
 ghost use Rattle.guest_calls.specs.State.{OfProcess, StandsFor};
 ghost use Rattle.rv64_model.specs.Instruction.{Call, End};
-ghost use Rattle.guest_machine.specs.Pieces.{spelled_len};
+ghost use Rattle.guest_legs.specs.Pieces.{spelled_len};
 ghost use Rattle.guest_machine.specs.Recorded.{IsReal, OfEach};
 ghost use Rattle.guest_machine.specs.Turns.{Delivers, Finishes, Happens, RanPlain, StandsAt, StopsAt, Takes};
 
-use crate::pieces::{SLICE_RECORDS, keep_turn};
 use arn_base::{NoMemory, Record, Steps};
 use arn_model::turns_have_parts;
 use guest_bodies::Stood;
 use guest_calls::{CallStop, Kernel};
 use guest_devices::Answers;
+use guest_legs::{SLICE_RECORDS, keep_turn};
 use rv64_core::Outcome;
 use std::sync::ledger::Ledger;
 

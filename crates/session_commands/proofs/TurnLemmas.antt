@@ -5,7 +5,7 @@ use Rattle.arn_base.specs.declared.disk.Disk.{Ghosts}
 use Rattle.arn_base.specs.declared.records.Record.{Record}
 use Rattle.log_model.specs.Records.{reply_behind}
 use Rattle.log_store.specs.Stores.{StoreState}
-use Rattle.guest_machine.specs.Legs.{Ask, Picked, PickedBy, brought}
+use Rattle.guest_legs.specs.Legs.{Ask, Picked, PickedBy, brought}
 use Rattle.session_effects.specs.Carrying.{IsAtCommit, StopsBetween}
 use Rattle.session_effects.specs.Effects.{Effect, Commits, Prints, committed}
 use Rattle.session_effects.specs.Laws.{EffectsFollow, HaltsFollow}

@@ -6,7 +6,7 @@ use Rattle.arn_base.specs.declared.records.Record.{Record}
 use Rattle.arn_base.specs.Faults.{Rose}
 use Rattle.log_model.specs.Records.{IsRun, named, records}
 use Rattle.log_store.specs.declared.size.TheConstants.{MOST_LOG}
-use Rattle.guest_machine.specs.Differs.{IsFirstDifference}
+use Rattle.record_match.specs.Differs.{IsFirstDifference}
 use Rattle.arn_commands.specs.declared.command.Command.{Command}
 use Rattle.session_effects.specs.Effects.{Effect}
 use Rattle.session_effects.specs.declared.halt.Halt.{Halt}

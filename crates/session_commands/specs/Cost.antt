@@ -1,7 +1,7 @@
 -- A bound on the instructions that are executed to answer a command, beside those of the slices that it takes.
 use Rattle.std.specs.Prelude.{ℕ, ◌+◌, ◌++◌, Bool, if◌then◌else◌, List, is_none}
 use Rattle.arn_base.specs.declared.records.Record.{Record}
-use Rattle.guest_machine.specs.Differs.{rebuild_cost}
+use Rattle.guest_machine.specs.Again.{rebuild_cost}
 use Rattle.arn_commands.specs.declared.command.Command.{Command}
 use Rattle.arn_commands.specs.declared.command.Command.TheVariants.{PassedOver, TooLong, Unreadable, Says, Faulty, Generates}
 use Rattle.session_effects.specs.Effects.{committed}

@@ -1,6 +1,6 @@
 -- What errors make a halt.
-use Rattle.guest_machine.specs.declared.differs.RebuildError.{RebuildError}
-use Rattle.guest_machine.specs.declared.differs.RebuildError.TheVariants as rebuild
+use Rattle.record_match.specs.declared.differs.RebuildError.{RebuildError}
+use Rattle.record_match.specs.declared.differs.RebuildError.TheVariants as rebuild
 use Rattle.session_effects.specs.declared.halt.Halt.{Halt}
 use Rattle.session_effects.specs.declared.halt.Halt.TheVariants as halt
 

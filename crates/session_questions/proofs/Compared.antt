@@ -6,10 +6,10 @@ use Rattle.std.specs.Result.{result_err}
 use Rattle.log_model.specs.Records.{IsRun, named, records}
 use Rattle.arn_base.specs.declared.records.Differs.{Differs}
 use Rattle.arn_base.specs.declared.records.Record.{Record}
-use Rattle.guest_machine.specs.declared.differs.RebuildError.{RebuildError}
-use Rattle.guest_machine.specs.declared.differs.RebuildError.TheVariants as rebuild
-use Rattle.guest_machine.specs.Differs.{same_record, spelling_if, IsFirstDifference}
-use Rattle.guest_machine.specs.Laws.{RecordsCompare}
+use Rattle.record_match.specs.declared.differs.RebuildError.{RebuildError}
+use Rattle.record_match.specs.declared.differs.RebuildError.TheVariants as rebuild
+use Rattle.record_match.specs.Differs.{same_record, spelling_if, IsFirstDifference}
+use Rattle.record_match.specs.Laws.{RecordsCompare}
 use Rattle.report_texts.specs.Totals.{verify_line}
 use Rattle.result_log.specs.Spelling.{spelling}
 use Rattle.session_questions.specs.Verify.{bytes_from, difference, records_from, verify_text}

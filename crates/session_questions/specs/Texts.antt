@@ -12,7 +12,7 @@ use Rattle.arn_lines.specs.declared.line.Question.TheVariants as question
 use Rattle.arn_lines.specs.declared.line.Sought.{Sought}
 use Rattle.arn_lines.specs.declared.line.Sought.TheVariants as sought
 use Rattle.arn_lines.specs.Texts.{count_text, pair_text, refusal_text}
-use Rattle.guest_machine.specs.Differs.{rebuild_cost}
+use Rattle.guest_machine.specs.Again.{rebuild_cost}
 use Rattle.history_model.specs.Events.{event_at, is_range}
 use Rattle.parts_model.specs.declared.tagged.TaggedByte.{TaggedByte}
 use Rattle.query_model.specs.Answers.{count_in, event_groups, event_pairs}

@@ -3,7 +3,7 @@ use Rattle.std.specs.Prelude.{◌≡◌, ◌↔◌, ℕ, ◌+◌, ◌==◌, if�
 use Rattle.arn_base.specs.declared.records.Differs.{Differs}
 use Rattle.arn_base.specs.declared.records.Record.{Record}
 use Rattle.log_model.specs.Records.{IsRun, named, records}
-use Rattle.guest_machine.specs.Differs.{same_record}
+use Rattle.record_match.specs.Differs.{same_record}
 use Rattle.report_texts.specs.Totals.{verify_line}
 use Rattle.result_log.specs.Spelling.{spelling}
 

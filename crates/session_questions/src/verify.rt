@@ -1,7 +1,7 @@
 // Whether records are a run's.
 ghost use Rattle.std.specs.Prelude.{◌≡◌, ◌+◌, ◌≤◌, ◌++◌, All, IfOk, OnErr, OnOk};
 ghost use Rattle.std.specs.String.{string_bytes};
-ghost use Rattle.guest_machine.specs.Differs.{rebuild_cost};
+ghost use Rattle.guest_machine.specs.Again.{rebuild_cost};
 ghost use Rattle.result_log.specs.Spelling.{HasSpelling};
 ghost use Rattle.session_questions.specs.Verify.{difference, verify_text, VerifiesRuns};
 

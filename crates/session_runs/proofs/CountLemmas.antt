@@ -12,7 +12,7 @@ use Rattle.arn_model.specs.Run.{Input, after_input, events_of, input_steps, mach
 use Rattle.arn_model.specs.Step.{Step}
 use Rattle.log_model.specs.Laws.{EventsRecorded, RecordsAppend}
 use Rattle.log_model.specs.Records.{event_records, input_records, records, records_from, slice_records}
-use Rattle.guest_machine.specs.Legs.{Picked, input_of}
+use Rattle.guest_legs.specs.Legs.{Picked, input_of}
 use Rattle.session_runs.specs.Points.{slices_in}
 
 -- all records but events are slices, and each names one

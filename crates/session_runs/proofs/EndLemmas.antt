@@ -1,7 +1,7 @@
 -- How a run ends.
 use Rattle.std.proofs.Common.{◌≡◌, ◌⊎◌, inl, inr, ℕ, ◌++◌, List, [], ◌∷◌, Option, Some, None, refl, sym, ap, ◌∙◌, subst, append_assoc}
 use Rattle.arn_lines.specs.declared.answer.RunEnd.{RunEnd}
-use Rattle.guest_machine.specs.Legs.{Picked, ask_of}
+use Rattle.guest_legs.specs.Legs.{Picked, ask_of}
 use Rattle.session_effects.specs.Effects.{Effect}
 use Rattle.session_runs.specs.Ends.{EndsSo, RunsEnd, running_after}
 use Rattle.session_runs.specs.Runs.{Running, closing, effects_of, ended, ends, next_leg, run_after, run_from, unless_ended}

@@ -7,10 +7,11 @@ use Rattle.arn_model.specs.Run.{Input, instructions_in, machine_after, steps_fro
 use Rattle.arn_model.specs.Turn.{run_state}
 use Rattle.log_model.specs.Laws.{NamedAppend, RecordsAreRun, RecordsBegin}
 use Rattle.log_model.specs.Records.{IsRun, named, records, records_from, reply_behind}
-use Rattle.guest_machine.specs.declared.leg.LegEnd.{LegEnd}
+use Rattle.guest_legs.specs.declared.leg.LegEnd.{LegEnd}
 use Rattle.guest_machine.specs.Laws.{NamedFollow, RecordsFollow, RunsFollow}
-use Rattle.guest_machine.specs.LegLaws.{SameAsNamed, named_by}
-use Rattle.guest_machine.specs.Legs.{Ask, AreInRange, Going, Picked, PickedBy, RepliedBy, StaysOpen, asks_by, end_of, fresh, going_by, input_of}
+use Rattle.guest_legs.specs.LegLaws.{SameAsNamed, named_by}
+use Rattle.guest_legs.specs.Legs.{Ask, AreInRange, Going, Picked, PickedBy, StaysOpen, asks_by, end_of, fresh, going_by, input_of}
+use Rattle.guest_machine.specs.Legs.{RepliedBy}
 use Rattle.guest_machine.specs.Recorded.{IsAfter, Recorded, Runs}
 use Rattle.session_effects.specs.Carrying.{IsAtCommit}
 use Rattle.session_effects.specs.Effects.{Effect, Commits, Prints}

@@ -1,8 +1,8 @@
 -- How long a run goes on.
 use Rattle.std.proofs.Common.{◌≡◌, ℕ, ◌+◌, ◌-◌, ◌^◌, ◌<◌, Option, Some, None, IfSome, refl, subst, arith}
 use Rattle.arn_lines.specs.declared.answer.RunEnd.{RunEnd}
-use Rattle.guest_machine.specs.declared.leg.LegEnd.{LegEnd}
-use Rattle.guest_machine.specs.declared.leg.LegEnd.TheVariants as leg_end_is
+use Rattle.guest_legs.specs.declared.leg.LegEnd.{LegEnd}
+use Rattle.guest_legs.specs.declared.leg.LegEnd.TheVariants as leg_end_is
 use Rattle.session_runs.specs.Runs.{end_told}
 
 -- each leg that has another behind it adds a record, and there are few enough

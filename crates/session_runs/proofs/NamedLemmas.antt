@@ -7,8 +7,8 @@ use Rattle.arn_base.specs.declared.records.Record.{Record}
 use Rattle.arn_model.specs.Run.{Input}
 use Rattle.log_model.specs.Laws.{BehindAppend, NamedAppend}
 use Rattle.log_model.specs.Records.{named, reply_behind}
-use Rattle.guest_machine.specs.Legs.{Ask, Picked, input_of}
-use Rattle.guest_machine.specs.LegLaws.{all_named, as_named}
+use Rattle.guest_legs.specs.Legs.{Ask, Picked, input_of}
+use Rattle.guest_legs.specs.LegLaws.{all_named, as_named}
 use Rattle.session_effects.specs.Effects.{Effect, committed, records_of}
 use Rattle.session_runs.specs.Points.{slice_in, slices_cost, slices_in}
 

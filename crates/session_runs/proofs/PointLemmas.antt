@@ -4,8 +4,8 @@ use Rattle.arn_base.specs.declared.boxes.Choice.{Choice}
 use Rattle.arn_base.specs.declared.disk.Disk.{Ghosts}
 use Rattle.arn_base.specs.declared.records.Record.{Record}
 use Rattle.log_model.specs.Laws.{BehindAppend, NamedAppend}
-use Rattle.guest_machine.specs.Legs.{Ask, AreInRange, Picked, PickedBy, brought}
-use Rattle.guest_machine.specs.LegLaws.{PicksFollow}
+use Rattle.guest_legs.specs.Legs.{Ask, AreInRange, Picked, PickedBy, brought}
+use Rattle.guest_legs.specs.LegLaws.{PicksFollow}
 use Rattle.log_store.specs.Stores.{StoreState}
 use Rattle.session_effects.specs.Standing.{Carries, IsOpen}
 use Rattle.session_effects.specs.Effects.{Effect, committed}

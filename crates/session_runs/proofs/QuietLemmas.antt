@@ -9,8 +9,8 @@ use Rattle.arn_model.specs.Run.{Input, input_steps, machine_after}
 use Rattle.log_model.specs.Laws.{EventsRecorded, RecordsAppend}
 use Rattle.log_model.specs.Records.{input_records, named, reply_behind}
 use Rattle.log_store.specs.Stores.{StoreState}
-use Rattle.guest_machine.specs.LegLaws.{all_named}
-use Rattle.guest_machine.specs.Legs.{Ask, Picked, ask_of, input_of}
+use Rattle.guest_legs.specs.LegLaws.{all_named}
+use Rattle.guest_legs.specs.Legs.{Ask, Picked, ask_of, input_of}
 use Rattle.session_effects.specs.Carrying.{IsAtCommit}
 use Rattle.session_effects.specs.Effects.{Effect, Commits, Prints, committed}
 use Rattle.session_effects.specs.Laws.{HaltsFollow}

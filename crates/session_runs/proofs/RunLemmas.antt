@@ -12,12 +12,12 @@ use Rattle.arn_model.specs.Turn.{run_state}
 use Rattle.arn_lines.specs.declared.answer.RunEnd.{RunEnd}
 use Rattle.arn_lines.specs.declared.answer.RunEnd.TheVariants as run_end_is
 use Rattle.log_model.specs.Records.{input_records, records_from}
-use Rattle.guest_machine.specs.declared.leg.LegEnd.{LegEnd}
-use Rattle.guest_machine.specs.declared.leg.LegEnd.TheVariants as leg_end_is
-use Rattle.guest_machine.specs.declared.leg.TheConstants.{MOST_LEG}
-use Rattle.guest_machine.specs.Legs.{Going, Picked, StaysOpen, ask_of, asks_by, end_of, fresh, going_after, going_by, input_of, leg_end}
-use Rattle.guest_machine.specs.LegLaws.{as_named, named_by}
-use Rattle.guest_machine.specs.Pieces.{spelled_len}
+use Rattle.guest_legs.specs.declared.leg.LegEnd.{LegEnd}
+use Rattle.guest_legs.specs.declared.leg.LegEnd.TheVariants as leg_end_is
+use Rattle.guest_legs.specs.declared.leg.TheConstants.{MOST_LEG}
+use Rattle.guest_legs.specs.Legs.{Going, Picked, StaysOpen, ask_of, asks_by, end_of, fresh, going_after, going_by, input_of, leg_end}
+use Rattle.guest_legs.specs.LegLaws.{as_named, named_by}
+use Rattle.guest_legs.specs.Pieces.{spelled_len}
 use Rattle.session_effects.specs.Effects.{Commits, Prints, committed}
 use Rattle.session_runs.specs.Outputs.{outputs_text}
 use Rattle.session_runs.specs.Points.{slices_cost}

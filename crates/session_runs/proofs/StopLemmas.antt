@@ -12,9 +12,10 @@ use Rattle.arn_model.specs.Run.{instructions_in, steps_from}
 use Rattle.log_model.specs.Laws.{RecordsBegin}
 use Rattle.log_model.specs.Records.{reply_behind}
 use Rattle.guest_devices.specs.Answers.{Asked}
-use Rattle.guest_machine.specs.declared.leg.LegEnd.{LegEnd}
-use Rattle.guest_machine.specs.LegLaws.{SameAsNamed, named_by}
-use Rattle.guest_machine.specs.Legs.{Ask, AreInRange, Going, IsCutLeg, IsInRange, Picked, PickedBy, RepliedBy, StaysOpen, ask_of, asks_by, end_of, fresh, going_after, going_by, input_of}
+use Rattle.guest_legs.specs.declared.leg.LegEnd.{LegEnd}
+use Rattle.guest_legs.specs.LegLaws.{SameAsNamed, named_by}
+use Rattle.guest_legs.specs.Legs.{Ask, AreInRange, Going, IsInRange, Picked, PickedBy, StaysOpen, ask_of, asks_by, end_of, fresh, going_after, going_by, input_of}
+use Rattle.guest_machine.specs.Legs.{IsCutLeg, RepliedBy}
 use Rattle.guest_machine.specs.Recorded.{Recorded}
 use Rattle.session_effects.specs.Carrying.{CarriesOut, StopsBetween}
 use Rattle.session_effects.specs.Effects.{Effect, Commits, Prints, committed}

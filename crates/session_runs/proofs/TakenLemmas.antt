@@ -12,12 +12,13 @@ use Rattle.log_model.specs.Records.{named}
 use Rattle.log_store.specs.Stores.{StoreState}
 use Rattle.parts_model.specs.Replies.{Answered}
 use Rattle.guest_devices.specs.Answers.{Asked}
-use Rattle.guest_machine.specs.declared.leg.Leg.{Leg}
-use Rattle.guest_machine.specs.declared.leg.LegEnd.TheVariants as leg_end_is
+use Rattle.guest_legs.specs.declared.leg.Leg.{Leg}
+use Rattle.guest_legs.specs.declared.leg.LegEnd.TheVariants as leg_end_is
 use Rattle.guest_machine.specs.Laws.{RecordsLeaveRoom}
-use Rattle.guest_machine.specs.LegLaws.{LegsAsNamed, SameAsNamed}
-use Rattle.guest_machine.specs.Legs.{AreInRange, IsLeg, Picked, PickedBy, RepliedBy, StaysOpen, asks_by, end_of, fresh, going_by, input_of}
-use Rattle.guest_machine.specs.Pieces.{spelled_len}
+use Rattle.guest_legs.specs.LegLaws.{LegsAsNamed, SameAsNamed}
+use Rattle.guest_legs.specs.Legs.{AreInRange, Picked, PickedBy, StaysOpen, asks_by, end_of, fresh, going_by, input_of}
+use Rattle.guest_machine.specs.Legs.{IsLeg, RepliedBy}
+use Rattle.guest_legs.specs.Pieces.{spelled_len}
 use Rattle.guest_machine.specs.Recorded.{HasRoom, Recorded}
 use Rattle.session_effects.specs.Effects.{Effect, Commits, Prints}
 use Rattle.session_effects.specs.Laws.{EffectsFollow}

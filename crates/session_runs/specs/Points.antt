@@ -6,7 +6,7 @@ use Rattle.arn_base.specs.declared.disk.Disk.{Ghosts}
 use Rattle.arn_base.specs.declared.records.Record.{Record}
 use Rattle.arn_model.specs.Run.{Input, File, Boot, Typed, Unplug, Slice}
 use Rattle.log_model.specs.Records.{named, reply_behind}
-use Rattle.guest_machine.specs.Legs.{AreInRange, Picked, PickedBy}
+use Rattle.guest_legs.specs.Legs.{AreInRange, Picked, PickedBy}
 use Rattle.session_effects.specs.Carrying.{IsAtCommit, StopsBetween}
 use Rattle.session_effects.specs.Effects.{Effect, committed}
 use Rattle.session_effects.specs.declared.halt.Halt.{Halt}

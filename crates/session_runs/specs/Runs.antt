@@ -8,11 +8,11 @@ use Rattle.arn_model.specs.Turn.{run_state}
 use Rattle.arn_lines.specs.declared.answer.RunEnd.{RunEnd}
 use Rattle.arn_lines.specs.declared.answer.RunEnd.TheVariants.{Done, Stalled, Budget}
 use Rattle.arn_lines.specs.Texts.{ran_text}
-use Rattle.guest_machine.specs.declared.leg.LegEnd.{LegEnd}
-use Rattle.guest_machine.specs.declared.leg.LegEnd.TheVariants as leg_end
-use Rattle.guest_machine.specs.declared.leg.TheConstants.{MOST_LEG}
-use Rattle.guest_machine.specs.Legs.{Going, Picked, ask_of, fresh, going_after}
-use Rattle.guest_machine.specs.Pieces.{spelled_len}
+use Rattle.guest_legs.specs.declared.leg.LegEnd.{LegEnd}
+use Rattle.guest_legs.specs.declared.leg.LegEnd.TheVariants as leg_end
+use Rattle.guest_legs.specs.declared.leg.TheConstants.{MOST_LEG}
+use Rattle.guest_legs.specs.Legs.{Going, Picked, ask_of, fresh, going_after}
+use Rattle.guest_legs.specs.Pieces.{spelled_len}
 use Rattle.session_effects.specs.Effects.{Effect, Commits, Prints}
 use Rattle.session_runs.specs.Outputs.{outputs_text}
 use Rattle.session_runs.specs.Touches.{AtSlice}

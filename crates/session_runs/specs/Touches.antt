@@ -5,8 +5,8 @@ use Rattle.arn_base.specs.declared.records.Record.{Record}
 use Rattle.arn_base.specs.declared.records.Record.TheVariants as entry
 use Rattle.parts_model.specs.Replies.{Answered}
 use Rattle.guest_devices.specs.Answers.{Asked}
-use Rattle.guest_machine.specs.Legs.{Ask, Picked}
-use Rattle.guest_machine.specs.LegLaws.{all_named}
+use Rattle.guest_legs.specs.Legs.{Ask, Picked}
+use Rattle.guest_legs.specs.LegLaws.{all_named}
 use Rattle.guest_machine.specs.Slices.{RepliesIn}
 
 -- one thing that comes to those who answer for devices

@@ -1,6 +1,6 @@
 -- What a part of a session does with the slices to come.
 use Rattle.std.specs.Prelude.{ℕ, List, [], ◌∷◌, ◌++◌, Option, Some, None}
-use Rattle.guest_machine.specs.Legs.{Picked}
+use Rattle.guest_legs.specs.Legs.{Picked}
 use Rattle.session_effects.specs.Effects.{Effect, Prints}
 use Rattle.session_runs.specs.Touches.{Touch}
 

@@ -1,7 +1,7 @@
 // What holds where a machine adds records to the history to which it belongs.
 ghost use Rattle.std.specs.Prelude.{◌<◌, ◌^◌, length};
 ghost use Rattle.arn_model.specs.Laws.{EachRunAppends};
-ghost use Rattle.guest_machine.specs.LegLaws.{LegsAsNamed};
+ghost use Rattle.guest_legs.specs.LegLaws.{LegsAsNamed};
 ghost use Rattle.guest_machine.specs.Laws.{NamedFollow, RecordsFollow, RecordsLeaveRoom, RunsFollow};
 ghost use Rattle.log_model.specs.Laws.{NamedAppend, RecordsAreRun, RecordsBegin};
 

@@ -4,7 +4,7 @@ use Rattle.arn_base.specs.declared.records.Record.{Record}
 use Rattle.arn_commands.specs.declared.command.Command.{Command}
 use Rattle.arn_commands.specs.Parts.{text_parts}
 use Rattle.arn_commands.specs.Commands.{EachAsks}
-use Rattle.guest_machine.specs.Legs.{Picked}
+use Rattle.guest_legs.specs.Legs.{Picked}
 use Rattle.session_questions.specs.Texts.{told}
 use Rattle.session_commands.specs.Given.{Given, given}
 use Rattle.arn_session.specs.Transcript.{text_of}

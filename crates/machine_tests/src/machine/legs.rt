@@ -1,7 +1,7 @@
 // Legs of the example program.
 ghost use Rattle.std.specs.Prelude.{◌≡◌, ◌<◌, ◌*◌};
 ghost use Rattle.guest_machine.specs.Recorded.{HasRoom};
-ghost use Rattle.guest_machine.specs.declared.leg.TheConstants.{MOST_LEG};
+ghost use Rattle.guest_legs.specs.declared.leg.TheConstants.{MOST_LEG};
 
 use super::{Part, Step, check};
 use arn_base::{Choice, Chooser, NoMemory, Record, Steps};

@@ -2,7 +2,7 @@ use Rattle.std.proofs.Common.{◌≡◌, ◌<◌, ◌^◌, ◌++◌, ◌∙◌, 
 use Rattle.std.proofs.lemmas.Bool.{eqb-false, eqb-true}
 use Rattle.arn_base.specs.declared.records.Record.{Record}
 use Rattle.log_model.specs.Records.{IsRun, named}
-use Rattle.guest_machine.specs.Legs.{fresh, going_by, input_of, unanswered}
+use Rattle.guest_legs.specs.Legs.{fresh, going_by, input_of, unanswered}
 use Rattle.session_effects.specs.Carrying.{CarriesOut, StopsBetween}
 use Rattle.session_effects.specs.Effects.{Effect, Commits, committed}
 use Rattle.session_effects.specs.Printing.{StopsPut}

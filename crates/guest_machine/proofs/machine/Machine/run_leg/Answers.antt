@@ -1,5 +1,5 @@
 use Rattle.std.proofs.Common.{◌≡◌, inl, ℕ, ◌+◌, ◌≤◌, ◌∙◌, ap, sym, arith}
-use Rattle.guest_machine.specs.Legs.{fresh}
+use Rattle.guest_legs.specs.Legs.{fresh}
 use Rattle.guest_machine.proofs.LegLemmas.{Counts-more, Counts-room, Counts-start, SoFar-cut, SoFar-end, SoFar-more, SoFar-start, goes-on}
 use Rattle.guest_machine.proofs.machine.Machine.run_leg.Goals as goal
 
@@ -42,7 +42,7 @@ returns-in_default-take_slice-clause-cut g c m stands =
     let n = c.take_slice.new in
     SoFar-cut g.A.Answers.answers (fresh m c.args.budget) c.args.self.now l.self (g.C.Chooser.choices c.args.chooser.now) (g.C.Chooser.choices l.chooser) c.args.answers.now l.answers c.args.out.now.items l.out.items c.args.steps.now l.steps
     l.left l.spelled c.run_state.result c.run_state.ensures (l.invariant.so_far m stands)
-    n.self (g.C.Chooser.choices c.pick_slice-pick.new.chooser) n.answers n.out.items n.steps c.pick_slice-pick.result (sym c.leg_end.ensures ∙ c.in_default.is) picked.picked picked.later picked.possible picked.some picked.within c.take_slice.ensures.steps
+    c.picks_follow.ensures n.self (g.C.Chooser.choices c.pick_slice-pick.new.chooser) n.answers n.out.items n.steps c.pick_slice-pick.result (sym c.leg_end.ensures ∙ c.in_default.is) picked.picked picked.later picked.possible picked.some picked.within c.take_slice.ensures.steps
     c.in_default-take_slice.ensures.cut c.in_default-take_slice.ensures.unasked c.take_slice.ensures.at_most
 
 pub loop-end-smaller : goal.loop-end-smaller
@@ -62,7 +62,7 @@ loop-end-preserved g c =
       so_far = λ m stands.
           SoFar-more g.A.Answers.answers (fresh m c.args.budget) c.args.self.now l.self (g.C.Chooser.choices c.args.chooser.now) (g.C.Chooser.choices l.chooser) c.args.answers.now l.answers c.args.out.now.items l.out.items c.args.steps.now l.steps
           l.left l.spelled c.run_state.result c.run_state.ensures (l.invariant.so_far m stands)
-          n.self (g.C.Chooser.choices c.pick_slice-pick.new.chooser) n.answers n.out.items n.steps c.pick_slice-pick.result (sym c.leg_end.ensures ∙ c.in_default.is) picked.picked picked.later picked.possible picked.some picked.within c.take_slice.ensures.steps
+          c.picks_follow.ensures n.self (g.C.Chooser.choices c.pick_slice-pick.new.chooser) n.answers n.out.items n.steps c.pick_slice-pick.result (sym c.leg_end.ensures ∙ c.in_default.is) picked.picked picked.later picked.possible picked.some picked.within c.take_slice.ensures.steps
           c.from-left.result c.in-Ok.taken.len e.ran ran e.len;
       counts = Counts-more c.args.self.now l.self n.self c.args.budget l.left l.spelled c.from-left.result c.in-Ok.taken.len l.invariant.counts few ran c.take_slice.ensures.events (e.some picked.possible picked.some);
       spelled = λ all. c.take_slice.ensures.spelled (l.invariant.spelled all);

@@ -1,8 +1,8 @@
 use Rattle.std.proofs.Common.{◌-◌, All}
 use Rattle.result_log.specs.Spelling.{HasSpelling}
-use Rattle.guest_machine.specs.Legs.{fresh}
+use Rattle.guest_legs.specs.Legs.{fresh}
 use Rattle.guest_machine.specs.Recorded.{OfEach}
-use Rattle.guest_machine.specs.declared.leg.TheConstants.{MOST_LEG}
+use Rattle.guest_legs.specs.declared.leg.TheConstants.{MOST_LEG}
 use Rattle.guest_machine.proofs.LegLemmas.{Counts, SoFar}
 use Rattle.guest_machine.proofs.machine.Machine.run_leg.Given as goal
 

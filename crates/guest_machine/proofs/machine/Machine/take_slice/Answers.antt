@@ -2,7 +2,7 @@ use Rattle.std.proofs.Common.{◌≡◌, ◌+◌, ◌∙◌, ℕ, List, ap, subs
 use Rattle.arn_base.specs.declared.records.Record.{Record}
 use Rattle.guest_bodies.specs.Shown.{IsLive}
 use Rattle.guest_calls.specs.State.{State, StandsFor}
-use Rattle.guest_machine.specs.Pieces.{spelled_len}
+use Rattle.guest_legs.specs.Pieces.{spelled_len}
 use Rattle.guest_machine.specs.Recorded.{IsReal, OfEach, Recorded}
 use Rattle.guest_machine.specs.Slices.{CanTake, IsCut}
 use Rattle.guest_machine.specs.View.{recorded_of}

@@ -1,0 +1,4 @@
+pub mod PiecesLemmas
+pub mod PickLemmas
+pub mod NamedLemmas
+pub mod LegExamples

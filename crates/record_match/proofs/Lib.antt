@@ -1,0 +1,3 @@
+mod DiffersExamples
+pub mod Compared
+pub mod SameRecord

@@ -1,0 +1,3 @@
+pub mod Differs
+pub mod Laws
+pub mod Matching
