@@ -4,10 +4,6 @@
 #[cfg(test)]
 mod calls;
 #[cfg(test)]
-mod changed;
-#[cfg(test)]
-mod engines;
-#[cfg(test)]
 mod given;
 #[cfg(test)]
 mod handing;
@@ -15,7 +11,5 @@ mod handing;
 mod programs;
 #[cfg(test)]
 mod same;
-#[cfg(test)]
-mod signals;
 #[cfg(test)]
 mod tests;

@@ -1,88 +1,9 @@
-// Sessions whose programs signal each other and share segments, and what is printed for them under a schedule.
+// Sessions whose programs signal each other, and what is printed for them.
 use super::*;
-use crate::handing::printed;
-use crate::same::assert_same;
-use crate::tests::assert_prints;
-use arn_base::{Bytes, Choice};
-use log_disk::MemDisk;
+use crate::choices::{FIRST, FIRST_TWO, SECOND};
+use crate::printing::assert_prints;
 use session_trials::Schedule;
-use std::process::Abort;
 use std::test::Fail;
-
-/// Two processes share a segment. The first stores a typed byte there and loads it again; the second stores the other
-/// one. The first writes what it has loaded.
-const SHARED: &str = "\
-    asm p\n\
-    li a7, 17; ecall\n\
-    li a7, 11; li a0, 0; addi a1, sp, -16; li a2, 2; ecall\n\
-    li s0, 1; slli s0, s0, 31; li a7, 2; ecall; beq a0, zero, child\n\
-    lbu t0, 0(a1); sb t0, 0(s0); lbu t0, 0(s0); sb t0, 0(a1)\n\
-    li a7, 12; li a0, 1; li a2, 1; ecall\n\
-    quit:\n\
-    li a7, 1; li a0, 0; ecall\n\
-    child:\n\
-    lbu t0, 1(a1); sb t0, 0(s0); j quit\n\
-    end\n\
-    boot p\n\
-    type 6162\n\
-    run 1000\n\
-    back copy event 6 0 1\n\
-    groups\n\
-    show 1 mem 1 0x80000000 1\n\
-    show 2 mem 1 0x80000000 2\n\
-    show 14 mem 1 0x80000000 1\n\
-    show 17 mem 2 0x80000000 1\n\
-    verify\n";
-
-/// What is printed where the first loads its own byte.
-const OWN_BYTE: &str = "\
-    event 0\n\
-    event 1\n\
-    event 2\n\
-    out 6 1 61\n\
-    ran 30 done\n\
-    pair 2 0 0\n\
-    back pairs 1 instructions 30 groups 1\n\
-    group 1 processes 2 instructions 30\n\
-    groups 1\n\
-    no point\n\
-    mem 0000\n\
-    mem 61\n\
-    mem 61\n\
-    verify run\n";
-
-/// What is printed where the second stores between the store and the load of the first.
-const OTHER_BYTE: &str = "\
-    event 0\n\
-    event 1\n\
-    event 2\n\
-    out 6 1 62\n\
-    ran 30 done\n\
-    pair 2 1 0\n\
-    back pairs 1 instructions 30 groups 1\n\
-    group 1 processes 2 instructions 30\n\
-    groups 1\n\
-    no point\n\
-    mem 0000\n\
-    mem 61\n\
-    mem 62\n\
-    verify run\n";
-
-/// What is printed where they take turns, instruction by instruction: the second ends first, as event 6.
-const IN_TURNS: &str = "\
-    event 0\n\
-    event 1\n\
-    event 2\n\
-    out 7 1 62\n\
-    ran 30 done\n\
-    back pairs 0 instructions 30 groups 1\n\
-    group 1 processes 2 instructions 30\n\
-    groups 1\n\
-    no point\n\
-    mem 0000\n\
-    mem 00\n\
-    mem 62\n\
-    verify run\n";
 
 /// A signal comes between the load and the store of a byte. Its handler sets the registers of both to zero, and they
 /// come back.
@@ -118,6 +39,40 @@ const INTERRUPTED_PRINTS: &str = "\
     group 1 processes 1 instructions 27\n\
     group 2 processes 1 instructions 9\n\
     groups 2\n\
+    verify run\n";
+
+/// The same in turns of a hundred instructions: the child ends as event 9, before the write.
+const INTERRUPTED_IN_TURN: &str = "\
+    event 0\n\
+    event 1\n\
+    event 2\n\
+    out 10 1 6d\n\
+    ran 36 done\n\
+    back pairs 0 instructions 36 groups 1 2\n\
+    group 1 processes 1 instructions 27\n\
+    group 2 processes 1 instructions 9\n\
+    groups 2\n\
+    verify run\n";
+
+/// What a later session asks. At moment 17 the handler has begun, with the signal in x10.
+const LATER_INTERRUPTED: &str = "\
+    back copy event 10 0 1\n\
+    forth copy 2 0 1\n\
+    show 17 regs 1\n\
+    verify\n";
+
+const LATER_INTERRUPTED_PRINTS: &str = "\
+    pair 2 0 0\n\
+    back pairs 1 instructions 27 groups 1\n\
+    pair 10 0 0\n\
+    forth pairs 1 instructions 36 groups 1 2\n\
+    regs 0000000000010070 0000000000000000 0000000000050000 0000000000000000 0000000000000000 \
+    0000000000000000 0000000000000000 0000000000000000 0000000000000000 0000000000000000 \
+    0000000000000001 000000000004fff0 0000000000000001 0000000000000000 0000000000000000 \
+    0000000000000000 0000000000000000 0000000000000002 0000000000000000 0000000000000000 \
+    0000000000000000 0000000000000000 0000000000000000 0000000000000000 0000000000000000 \
+    0000000000000000 0000000000000000 0000000000000000 0000000000000000 0000000000000000 \
+    0000000000000000 0000000000000000\n\
     verify run\n";
 
 /// A handler makes a child. Both return from it, to a store of what was loaded before.
@@ -165,15 +120,14 @@ pub const CUT: &str = "\
     li a7, 8; ecall\n\
     end\n\
     boot p\n\
-    run 100\n\
-    events\n\
-    show 19 regs 1\n\
-    verify\n";
+    run 100\n";
 
-pub const CUT_PRINTS: &str = "\
-    event 0\n\
-    event 1\n\
-    ran 24 done\n\
+pub const CUT_PRINTS: &str = "event 0\nevent 1\nran 24 done\n";
+
+/// The last two events, by the schedule: the child's end first, or the parent's.
+const CUT_ASKED: &str = "events\n";
+
+const CUT_IN_TURN: &str = "\
     event 0 0 - file 120\n\
     event 1 0 1 boot 120\n\
     event 2 5 1 call.7.0 0\n\
@@ -183,21 +137,9 @@ pub const CUT_PRINTS: &str = "\
     event 6 19 1 call.8.0 0\n\
     event 7 22 2 call.1.0 1\n\
     event 8 24 1 call.1.0 1\n\
-    events 9\n\
-    regs 0000000000010034 0000000000000000 0000000000050000 0000000000000000 0000000000000000 \
-    0000000000000000 0000000000000000 0000000000000000 0000000000000000 0000000000000000 \
-    fffffffffffffffc 000000000004fff0 0000000000000001 0000000000000000 0000000000000000 \
-    0000000000000000 0000000000000000 000000000000000b 0000000000000000 0000000000000000 \
-    0000000000000000 0000000000000000 0000000000000000 0000000000000000 0000000000000000 \
-    0000000000000000 0000000000000000 0000000000000000 0000000000000000 0000000000000000 \
-    0000000000000000 0000000000000000\n\
-    verify run\n";
+    events 9\n";
 
-/// What is printed for the same where the first process that can go on takes one instruction at a time.
-const CUT_STEPS: &str = "\
-    event 0\n\
-    event 1\n\
-    ran 24 done\n\
+const CUT_BY_FIRST: &str = "\
     event 0 0 - file 120\n\
     event 1 0 1 boot 120\n\
     event 2 5 1 call.7.0 0\n\
@@ -207,7 +149,12 @@ const CUT_STEPS: &str = "\
     event 6 19 1 call.8.0 0\n\
     event 7 21 1 call.1.0 1\n\
     event 8 24 2 call.1.0 1\n\
-    events 9\n\
+    events 9\n";
+
+/// The registers behind the handler, under either schedule.
+const CUT_LATER: &str = "show 19 regs 1\nverify\n";
+
+const CUT_REGISTERS: &str = "\
     regs 0000000000010034 0000000000000000 0000000000050000 0000000000000000 0000000000000000 \
     0000000000000000 0000000000000000 0000000000000000 0000000000000000 0000000000000000 \
     fffffffffffffffc 000000000004fff0 0000000000000001 0000000000000000 0000000000000000 \
@@ -215,6 +162,101 @@ const CUT_STEPS: &str = "\
     0000000000000000 0000000000000000 0000000000000000 0000000000000000 0000000000000000 \
     0000000000000000 0000000000000000 0000000000000000 0000000000000000 0000000000000000 \
     0000000000000000 0000000000000000\n\
+    verify run\n";
+
+/// Signals end a read of an empty pipe, the wait for a connection and the wait for a child. Their results are written.
+const CUTS: &str = "\
+    asm p\n\
+    li a7, 7; li a0, 1; la a1, handler; ecall\n\
+    li a7, 15; ecall\n\
+    li a7, 18; li a0, 80; ecall\n\
+    li a7, 2; ecall; beq a0, zero, child\n\
+    li a7, 11; li a0, 3; addi a1, sp, -16; li a2, 1; ecall\n\
+    sw a0, -32(sp)\n\
+    li a7, 20; li a0, 5; ecall\n\
+    sw a0, -28(sp)\n\
+    li a7, 4; addi a0, sp, -16; ecall\n\
+    sw a0, -24(sp)\n\
+    li a7, 12; li a0, 1; addi a1, sp, -32; li a2, 12; ecall\n\
+    li a7, 1; li a0, 0; ecall\n\
+    child:\n\
+    li s0, 3\n\
+    again:\n\
+    li a7, 6; li a0, 1; li a1, 1; ecall\n\
+    li a7, 22; ecall; ecall\n\
+    addi s0, s0, -1\n\
+    bne s0, zero, again\n\
+    li a7, 1; li a0, 0; ecall\n\
+    handler:\n\
+    li a7, 8; ecall\n\
+    end\n\
+    boot p\n\
+    run 1000\n\
+    events\n\
+    back data event 20 0 12\n\
+    verify\n";
+
+const CUTS_PRINTS: &str = "\
+    event 0\n\
+    event 1\n\
+    out 20 1 fcfffffffcfffffffcffffff\n\
+    ran 70 done\n\
+    event 0 0 - file 224\n\
+    event 1 0 1 boot 224\n\
+    event 2 5 1 call.7.0 0\n\
+    event 3 7 1 call.15.1027 0\n\
+    event 4 10 1 call.18.5 0\n\
+    event 5 12 1 call.2.2 0\n\
+    event 6 23 2 call.6.0 0\n\
+    event 7 23 1 signal.1 0\n\
+    event 8 25 1 call.8.0 0\n\
+    event 9 27 2 call.22.0 0\n\
+    event 10 31 2 call.22.0 0\n\
+    event 11 37 2 call.6.0 0\n\
+    event 12 39 2 call.22.0 0\n\
+    event 13 39 1 signal.1 0\n\
+    event 14 41 1 call.8.0 0\n\
+    event 15 42 2 call.22.0 0\n\
+    event 16 51 2 call.6.0 0\n\
+    event 17 51 1 signal.1 0\n\
+    event 18 53 1 call.8.0 0\n\
+    event 19 55 2 call.22.0 0\n\
+    event 20 61 1 call.12.12 12\n\
+    event 21 62 2 call.22.0 0\n\
+    event 22 65 1 call.1.0 1\n\
+    event 23 70 2 call.1.0 1\n\
+    events 24\n\
+    back pairs 0 instructions 38 groups 1\n\
+    verify run\n";
+
+/// A signal for a process that has ended.
+const TOO_LATE: &str = "\
+    asm p\n\
+    li a7, 2; ecall; beq a0, zero, child\n\
+    li a7, 1; ecall\n\
+    child:\n\
+    li a7, 22; ecall; ecall\n\
+    li a7, 6; li a0, 1; li a1, 9; ecall\n\
+    li a7, 1; li a0, 0; ecall\n\
+    end\n\
+    boot p\n\
+    run 100\n\
+    events\n\
+    verify\n";
+
+const TOO_LATE_PRINTS: &str = "\
+    event 0\n\
+    event 1\n\
+    ran 16 done\n\
+    event 0 0 - file 84\n\
+    event 1 0 1 boot 84\n\
+    event 2 2 1 call.2.2 0\n\
+    event 3 5 2 call.22.0 0\n\
+    event 4 8 1 call.1.0 1\n\
+    event 5 9 2 call.22.0 0\n\
+    event 6 13 2 call.6.-3 0\n\
+    event 7 16 2 call.1.0 1\n\
+    events 8\n\
     verify run\n";
 
 /// Signals that there aren't, for a process that there isn't; processes that there aren't; handlers that may not be set,
@@ -380,166 +422,50 @@ const STARTED_PRINTS: &str = "\
     events 9\n\
     verify run\n";
 
-/// A process with a segment starts a program that loads from where it was.
-const DROPPED: &str = "\
-    asm q\n\
-    li t0, 1; slli t0, t0, 31; lbu t1, 0(t0)\n\
-    end\n\
-    asm p\n\
-    li a7, 17; ecall\n\
-    li a7, 3; la a0, path; li a1, 1; li a3, 0; ecall\n\
-    path:\n\
-    .byte 113\n\
-    end\n\
-    boot p\n\
-    run 100\n\
-    events\n\
-    verify\n";
-
-const DROPPED_PRINTS: &str = "\
-    event 0\n\
-    event 1\n\
-    event 2\n\
-    ran 11 done\n\
-    event 0 0 - file 36\n\
-    event 1 0 - file 57\n\
-    event 2 0 1 boot 57\n\
-    event 3 2 1 call.17.0 0\n\
-    event 4 8 1 call.3.0 36\n\
-    event 5 11 1 end.139 1\n\
-    events 6\n\
-    verify run\n";
-
-/// The first or the second process that can go on runs to its next call, or for some instructions.
-const FIRST: Choice = Choice {
-    index: 0,
-    count: 1000,
-};
-
-const FIRST_ONE: Choice = Choice { index: 0, count: 1 };
-
-const SECOND_ONE: Choice = Choice { index: 1, count: 1 };
-
-const FIRST_TWO: Choice = Choice { index: 0, count: 2 };
-
-const FIRST_THREE: Choice = Choice { index: 0, count: 3 };
-
-const SECOND_THREE: Choice = Choice { index: 1, count: 3 };
-
-const SECOND: Choice = Choice {
-    index: 1,
-    count: 1000,
-};
-
-/// Sessions, and what is printed for them, by schedule.
-const SESSIONS: &[(Schedule, &str, &str)] = &[
-    (
-        Schedule::Script(&[FIRST, FIRST, FIRST, FIRST]),
-        SHARED,
-        OWN_BYTE,
-    ),
-    (
-        Schedule::Script(&[FIRST, FIRST, FIRST, FIRST_THREE, SECOND_THREE, FIRST]),
-        SHARED,
-        OTHER_BYTE,
-    ),
-    (Schedule::Script(&[]), SHARED, OWN_BYTE),
-    (
-        Schedule::Script(&[
-            FIRST, FIRST, FIRST, FIRST_ONE, SECOND_ONE, FIRST_ONE, SECOND_ONE, FIRST_ONE,
-            SECOND_ONE, FIRST_ONE, SECOND_ONE, FIRST_ONE, SECOND_ONE, FIRST_ONE, SECOND_ONE,
-            FIRST_ONE, SECOND_ONE,
-        ]),
-        SHARED,
-        IN_TURNS,
-    ),
-    (Schedule::Round, FORKED, FORKED_PRINTS),
+/// Sessions one after the other on one log, by schedule, and what is printed for each.
+const SESSIONS: &[(Schedule, &[(&str, &str)])] = &[
     (
         Schedule::Script(&[FIRST, FIRST, FIRST, FIRST_TWO, SECOND, FIRST, FIRST]),
-        INTERRUPTED,
-        INTERRUPTED_PRINTS,
+        &[(INTERRUPTED, INTERRUPTED_PRINTS)],
     ),
-    (Schedule::Round, CUT, CUT_PRINTS),
-    (Schedule::Script(&[]), CUT, CUT_STEPS),
-    (Schedule::Round, REFUSED, REFUSED_PRINTS),
-    (Schedule::Script(&[]), REFUSED, REFUSED_PRINTS),
-    (Schedule::Round, IN_HANDLERS, IN_HANDLERS_PRINTS),
-    (Schedule::Script(&[]), IN_HANDLERS, IN_HANDLERS_PRINTS),
-    (Schedule::Round, ENDED, ENDED_PRINTS),
-    (Schedule::Round, STARTED, STARTED_PRINTS),
-    (Schedule::Round, DROPPED, DROPPED_PRINTS),
+    (
+        Schedule::Round,
+        &[
+            (INTERRUPTED, INTERRUPTED_IN_TURN),
+            (LATER_INTERRUPTED, LATER_INTERRUPTED_PRINTS),
+        ],
+    ),
+    (Schedule::Round, &[(FORKED, FORKED_PRINTS)]),
+    (
+        Schedule::Round,
+        &[
+            (CUT, CUT_PRINTS),
+            (CUT_ASKED, CUT_IN_TURN),
+            (CUT_LATER, CUT_REGISTERS),
+        ],
+    ),
+    (
+        Schedule::Script(&[]),
+        &[
+            (CUT, CUT_PRINTS),
+            (CUT_ASKED, CUT_BY_FIRST),
+            (CUT_LATER, CUT_REGISTERS),
+        ],
+    ),
+    (Schedule::Round, &[(CUTS, CUTS_PRINTS)]),
+    (Schedule::Round, &[(TOO_LATE, TOO_LATE_PRINTS)]),
+    (Schedule::Round, &[(REFUSED, REFUSED_PRINTS)]),
+    (Schedule::Script(&[]), &[(REFUSED, REFUSED_PRINTS)]),
+    (Schedule::Round, &[(IN_HANDLERS, IN_HANDLERS_PRINTS)]),
+    (Schedule::Script(&[]), &[(IN_HANDLERS, IN_HANDLERS_PRINTS)]),
+    (Schedule::Round, &[(ENDED, ENDED_PRINTS)]),
+    (Schedule::Round, &[(STARTED, STARTED_PRINTS)]),
 ];
 
 #[test]
-fn signals_come_and_segments_are_shared(rt: HostRuntime) -> Result<(), Fail> {
-    for (schedule, text, want) in SESSIONS {
-        assert_prints(&rt, *schedule, text, want)?;
+fn signals_come(rt: HostRuntime) -> Result<(), Fail> {
+    for (schedule, sessions) in SESSIONS {
+        assert_prints(&rt, *schedule, sessions)?;
     }
     Ok(())
-}
-
-/// What is asked over the log of the session whose second process stores between the first one's store and load.
-const LATER: &str = "\
-    back copy event 6 0 1\n\
-    forth copy 2 0 2\n\
-    show 17 mem 1 0x80000000 1\n\
-    show 18 regs 3\n\
-    show 17 procs\n\
-    groups\n\
-    verify\n";
-
-const LATER_PRINTS: &str = "\
-    pair 2 1 0\n\
-    back pairs 1 instructions 30 groups 1\n\
-    pair 6 0 1\n\
-    forth pairs 1 instructions 30 groups 1\n\
-    mem 62\n\
-    no point\n\
-    proc 1 group 1\n\
-    proc 2 group 1\n\
-    procs 2\n\
-    group 1 processes 2 instructions 30\n\
-    groups 1\n\
-    verify run\n";
-
-/// What is asked over the log of the session with a signal between a load and a store, under turns of a hundred.
-const LATER_INTERRUPTED: &str = "\
-    back copy event 10 0 1\n\
-    forth copy 2 0 1\n\
-    verify\n";
-
-const LATER_INTERRUPTED_PRINTS: &str = "\
-    pair 2 0 0\n\
-    back pairs 1 instructions 27 groups 1\n\
-    pair 10 0 0\n\
-    forth pairs 1 instructions 36 groups 1 2\n\
-    verify run\n";
-
-/// A session under a schedule leaves a log, over which a later one prints this.
-fn assert_later(
-    rt: &(impl Abort + AllocGlobal),
-    schedule: Schedule,
-    text: &str,
-    later: &str,
-    prints: &str,
-) -> Result<(), Fail> {
-    let alloc = rt.alloc();
-    let mut disk = MemDisk::new(alloc, Bytes::new(alloc));
-    let _ = printed(rt, &mut disk, schedule, text)?;
-    let told = printed(rt, &mut disk, Schedule::Round, later)?;
-    assert_same(rt, told.as_str(), prints);
-    Ok(())
-}
-
-#[test]
-fn a_later_session_tells_of_signals_and_segments(rt: HostRuntime) -> Result<(), Fail> {
-    let schedule = Schedule::Script(&[FIRST, FIRST, FIRST, FIRST_THREE, SECOND_THREE, FIRST]);
-    assert_later(&rt, schedule, SHARED, LATER, LATER_PRINTS)?;
-    assert_later(
-        &rt,
-        Schedule::Round,
-        INTERRUPTED,
-        LATER_INTERRUPTED,
-        LATER_INTERRUPTED_PRINTS,
-    )
 }

@@ -1,7 +1,8 @@
 // Logs of a run in which one record was changed, and what is told of them.
 use super::*;
-use crate::calls::{BESIDE, BESIDE_PRINTS};
+use crate::beside::{BESIDE, BESIDE_PRINTS};
 use crate::same::assert_same;
+use crate::segments::{SECOND_AT_ONCE, SHARED};
 use crate::signals::{CUT, CUT_PRINTS};
 use arn_base::{Bytes, Differs, NoMemory};
 use arn_session::{Damage, Status};
@@ -33,6 +34,18 @@ const OTHER_ORIGIN: Change = Change {
 const NO_CUT: Change = Change {
     from: *b"\x06\x01\0\0\0\x01\x01\x58\0\x01\0\0\0\0\0\x07\x01\0\0\0",
     to: *b"\x06\x01\0\0\0\x01\0\x58\0\x01\0\0\0\0\0\x07\x01\0\0\0",
+};
+
+/// The slice of seven instructions with which a process ends that shares a segment, in record 9: it has six.
+const SHORTER_SLICE: Change = Change {
+    from: *b"\x05\x02\0\0\0\x07\0\0\0\x07\x02\0\0\0\x01\0\0\0\0\0",
+    to: *b"\x05\x02\0\0\0\x06\0\0\0\x07\x02\0\0\0\x01\0\0\0\0\0",
+};
+
+/// The bytes that event 4 received before its process shared a segment, in record 6: `ab` become `cb`.
+const OTHER_BYTES: Change = Change {
+    from: *b"\x01\x02\0\0\0ab\x01\0\0\0\x02\0\0\0\0\0\0\0\0",
+    to: *b"\x01\x02\0\0\0cb\x01\0\0\0\x02\0\0\0\0\0\0\0\0",
 };
 
 /// Five bytes stand in a call's record before its number.
@@ -84,6 +97,31 @@ const SIGNAL_TRIALS: [Trial; 1] = [Trial {
         damaged 8 2 0\n\
         back pairs 0 instructions 24 groups 1 2\n",
 }];
+
+/// What two processes that share a segment did is told of one group: a change of either is found where the record of an
+/// event is told otherwise.
+const SEGMENT_TRIALS: [Trial; 2] = [
+    Trial {
+        change: SHORTER_SLICE,
+        text: "verify\nback copy event 7 0 1\nshow 17 mem 1 0x80000000 1\ngroups\n",
+        status: Status::Done,
+        prints: "verify differs 10 0 7 5\n\
+            damaged 6 1 18446744073709551615\n\
+            damaged 6 1 18446744073709551615\n\
+            group 1 processes 2 instructions 29\n\
+            groups 1\n",
+    },
+    Trial {
+        change: OTHER_BYTES,
+        text: "verify\nback copy event 7 0 1\nshow 17 mem 1 0x80000000 1\ngroups\n",
+        status: Status::Done,
+        prints: "verify differs 6 26 99 97\n\
+            damaged 7 97 99\n\
+            mem 62\n\
+            group 1 processes 2 instructions 30\n\
+            groups 1\n",
+    },
+];
 
 /// A session over the log of a disk ends so, and prints this.
 fn assert_ends(
@@ -137,5 +175,6 @@ fn assert_told(
 #[test]
 fn tells_damage_where_a_question_meets_it(rt: HostRuntime) -> Result<(), Fail> {
     assert_told(&rt, BESIDE, BESIDE_PRINTS, &TRIALS)?;
-    assert_told(&rt, CUT, CUT_PRINTS, &SIGNAL_TRIALS)
+    assert_told(&rt, CUT, CUT_PRINTS, &SIGNAL_TRIALS)?;
+    assert_told(&rt, SHARED, SECOND_AT_ONCE, &SEGMENT_TRIALS)
 }

@@ -2,7 +2,7 @@
 ghost use Rattle.std.specs.Prelude.{◌≡◌, ◌<◌};
 ghost use Rattle.history_index.specs.Indexes.{AreCountable, Indexes};
 
-use crate::calls::{BESIDE, BESIDE_PRINTS};
+use crate::beside::{BESIDE, BESIDE_PRINTS};
 use crate::same::assert_same;
 use acts_model::Observer;
 use arn_base::{Bytes, Cpu, NoMemory, Pair, Record, Steps};
