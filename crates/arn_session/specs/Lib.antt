@@ -3,7 +3,6 @@ pub mod Answered
 pub mod CutOff
 pub mod Halts
 pub mod Status
-pub mod Words
 pub mod Opening
 pub mod Begun
 pub mod Leaves

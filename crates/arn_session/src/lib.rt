@@ -4,8 +4,7 @@
 mod session;
 mod status;
 mod text;
-mod words;
 
+pub use arn_words::{Options, WordsError, read_words};
 pub use session::arnold;
 pub use status::{Damage, Status};
-pub use words::{Options, WordsError, are_accepted, read_words};

@@ -1,5 +1,5 @@
 // The top call: reads a source to its end, and answers each command of its text to a sink.
-ghost use Rattle.std.specs.Prelude.{◌≡◌, ◌≢◌, ◌⊎◌, ◌↔◌, ◌+◌, ◌<◌, ◌≤◌, ◌^◌, [], ℕ, List, length, drop, OnOk, IfErr, IsErrOf, IfSome, None, Some};
+ghost use Rattle.std.specs.Prelude.{◌≡◌, ◌≢◌, ◌⊎◌, ◌+◌, ◌<◌, ◌≤◌, ◌^◌, [], ℕ, List, length, drop, OnOk, IfErr, IsErrOf, IfNone, IfSome, None, Some};
 ghost use Rattle.arn_base.specs.Faults.{Rose};
 ghost use Rattle.arn_base.specs.declared.records.Differs.{Differs};
 ghost use Rattle.arn_base.specs.declared.records.Record.{Record};
@@ -9,7 +9,7 @@ ghost use Rattle.arn_session.specs.Begun.{BeginsOn, FindsOn, slots_answer, stand
 ghost use Rattle.arn_session.specs.Leaves.{Leaves, scene_of};
 ghost use Rattle.arn_session.specs.Opening.{FailsToOpen, HasBegun, HasOpened, IsOpened, NeverBegan};
 ghost use Rattle.arn_session.specs.Status.{NumbersHold, open_status_of};
-ghost use Rattle.arn_session.specs.Words.{AreAccepted};
+ghost use Rattle.arn_words.specs.Words.{AreAccepted};
 ghost use Rattle.guest_devices.specs.Slots.{is_filled};
 ghost use Rattle.history_model.specs.Broken.{first_broken};
 ghost use Rattle.log_model.specs.Records.{IsRun};
@@ -30,8 +30,8 @@ ghost use Rattle.session_runs.specs.Touches.{answering};
 
 use crate::status::{Damage, Status};
 use crate::text::session;
-use crate::words::are_accepted;
 use arn_base::{Chooser, Device, Disk, Sink, Source, Steps};
+use arn_words::{WordsError, read_words};
 use guest_devices::{Plugs, Slots};
 use history_index::IndexError;
 use log_store::{Store, logs_read_one_way, store_is_short};
@@ -41,6 +41,14 @@ use session_questions::{Asking, answers_are_of_runs};
 use session_runs::MachineRuns;
 use std::alloc::Global;
 use std::sync::ledger::Ledger;
+
+// Why the words aren't accepted, or can't be read, if so.
+fn words_error(alloc: Global, words: &[String]) -> Option<WordsError>
+    ensures none { IfNone result (AreAccepted words.now) }
+    ensures usage { result ≡ Some WordsError.Usage → ¬ AreAccepted words.now }
+{
+    read_words(alloc, words).err()
+}
 
 // Answers a text on the history of a log, with those who answer for devices and all else that is lent.
 fn answer_lent<Q: Questions + Drop, C: Chooser, A: Plugs, S: Source, K: Sink, D: Disk, L: Ledger>(
@@ -152,10 +160,12 @@ pub fn arnold<S: Source, K: Sink, D: Disk, L: Ledger>(
     steps: &mut Steps<L>,
 ) -> Status
     // The words aren't accepted: nothing is read or written.
-    ensures usage { (result ≡ Status.Usage) ↔ ¬ AreAccepted words.now }
-    ensures unread { result ≡ Status.Usage → NeverBegan source.old source.new sink.old sink.new
+    ensures usage { result ≡ Status.Usage → ¬ AreAccepted words.now }
+    ensures unaccepted { ¬ AreAccepted words.now →
+        (result ≡ Status.Usage) ⊎ (result ≡ Status.NoMemory) }
+    ensures unread { ¬ AreAccepted words.now → NeverBegan source.old source.new sink.old sink.new
         chooser.old chooser.new devices.old devices.new steps.old steps.new }
-    ensures undisturbed { result ≡ Status.Usage → disk.new ≡ disk.old }
+    ensures undisturbed { ¬ AreAccepted words.now → disk.new ≡ disk.old }
 
     // A told source was read to its end, and every line and block of it was answered.
     ensures read { result ≡ Status.Done →
@@ -324,8 +334,10 @@ pub fn arnold<S: Source, K: Sink, D: Disk, L: Ledger>(
     effects_follow::<MachineRuns, D>();
     halts_follow::<MachineRuns, D>();
     openings_follow::<MachineRuns, D>();
-    if !are_accepted(words) {
-        return Status::Usage;
+    match words_error(alloc, words) {
+        Some(WordsError::Usage) => return Status::Usage,
+        Some(WordsError::NoMemory) => return Status::NoMemory,
+        None => {}
     }
     logs_read_one_way();
     let store = match Store::open_log(alloc, disk) {

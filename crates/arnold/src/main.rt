@@ -1,5 +1,5 @@
 //! Runs a session of a recorded machine: reads lines from standard input, answers each on standard
-//! output, and keeps the history in the log that its word names.
+//! output, and keeps the history in the log that its words name.
 #![tactic(auto)]
 
 mod ending;
@@ -7,12 +7,13 @@ mod streams;
 
 ghost use Rattle.std.specs.Prelude.{◌≡◌, ◌≢◌, ◌<◌, ◌⊎◌, ◌↔◌};
 ghost use Rattle.std.specs.IoError.{error_kind};
-ghost use Rattle.arn_session.specs.Words.{AreAccepted};
+ghost use Rattle.arn_words.specs.Words.{AreAccepted};
 
 use arn_base::{Chooser, Device, StdSink, StdSource, Steps};
-use arn_session::{Status, WordsError, are_accepted, arnold, read_words};
+use arn_session::{Options, Status, WordsError, arnold, read_words};
+use arn_words::refusal_text;
 use ending::{Cause, Ending};
-use guest_devices::RoundChooser;
+use guest_devices::{RoundChooser, SeededChooser};
 use log_disk::FileDisk;
 use std::alloc::Global;
 use std::env::{self, Env};
@@ -61,8 +62,8 @@ fn ending_of<F: Files<File = File> + Clone + Drop>(
     Ending { status, cause }
 }
 
-/// A session from a reader to a writer over the log that the words name, with no devices and a new
-/// counter of steps.
+/// A session from a reader to a writer over the log that the words name, with the chooser that they
+/// ask for, no devices and a new counter of steps.
 fn session<L: Ledger, F: Files<File = File> + Clone + Drop, R: Read + Drop, W: Write + Drop>(
     alloc: Global,
     words: &[String],
@@ -84,10 +85,17 @@ fn session<L: Ledger, F: Files<File = File> + Clone + Drop, R: Read + Drop, W: W
         Err(WordsError::Usage) => return Ending::from(Status::Usage),
         Err(WordsError::NoMemory) => return Ending::from(Status::NoMemory),
     };
-    let Ok(first) = Box::new(alloc, RoundChooser::new(1_000)) else {
-        return Ending::from(Status::NoMemory);
+    let mut chooser: Box<dyn Chooser> = if options.random {
+        match Box::new(alloc, SeededChooser::new(options.seed)) {
+            Ok(chooser) => chooser,
+            Err(_) => return Ending::from(Status::NoMemory),
+        }
+    } else {
+        match Box::new(alloc, RoundChooser::new(options.round)) {
+            Ok(chooser) => chooser,
+            Err(_) => return Ending::from(Status::NoMemory),
+        }
     };
-    let mut chooser: Box<dyn Chooser> = first;
     let mut devices: Vec<Option<Box<dyn Device>>> = Vec::new(alloc);
     let mut source = Noting::new(reader);
     let mut sink = Noting::new(writer);
@@ -124,22 +132,34 @@ fn run(rt: &HostRuntime, words: &io::Result<Vec<String>>) -> Ending {
     )
 }
 
-/// The log that the words name, where they are accepted.
-fn log_of(words: &[String]) -> Option<&str> {
+/// What the words say, where they are accepted.
+fn options_of(alloc: Global, words: &io::Result<Vec<String>>) -> Option<Options> {
     match words {
-        [log] if are_accepted(words) => Some(log.as_str()),
-        _ => None,
+        Ok(words) => read_words(alloc, words.as_slice()).ok(),
+        Err(_) => None,
     }
 }
 
-/// Prints how a session ended on standard error, behind the path of its log where the words name one.
-fn report(rt: &HostRuntime, words: &io::Result<Vec<String>>, ending: &Ending) -> io::Result<()> {
-    let log = match words {
-        Ok(words) => log_of(words.as_slice()),
-        Err(_) => None,
+/// Prints what is wrong with the words, and which there are.
+fn report_words(rt: &HostRuntime, words: &io::Result<Vec<String>>) -> io::Result<()> {
+    let words = match words {
+        Ok(words) => words,
+        Err(error) => return eprintln!(rt; "arnold: can't read the words: {error}"),
     };
-    match log {
-        Some(log) => eprintln!(rt; "arnold: {log}: {ending}"),
+    match refusal_text(rt.alloc(), words.as_slice())? {
+        Some(text) => eprint!(rt; "arnold: {text}"),
+        None => Ok(()),
+    }
+}
+
+/// Prints how a session ended, behind the path of its log where the words name one.
+fn report_ending(
+    rt: &HostRuntime,
+    words: &io::Result<Vec<String>>,
+    ending: &Ending,
+) -> io::Result<()> {
+    match options_of(rt.alloc(), words) {
+        Some(options) => eprintln!(rt; "arnold: {}: {ending}", options.log.as_str()),
         None => eprintln!(rt; "arnold: {ending}"),
     }
 }
@@ -147,8 +167,11 @@ fn report(rt: &HostRuntime, words: &io::Result<Vec<String>>, ending: &Ending) ->
 fn main(rt: HostRuntime) -> ExitCode {
     let words = words(&rt);
     let ending = run(&rt, &words);
-    if ending.status != Status::Done {
-        let _ = report(&rt, &words, &ending);
-    }
+    let reported = match ending.status {
+        Status::Done => Ok(()),
+        Status::Usage => report_words(&rt, &words),
+        _ => report_ending(&rt, &words, &ending),
+    };
+    let _ = reported;
     ExitCode::from(ending.status.code())
 }

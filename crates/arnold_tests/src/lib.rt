@@ -6,6 +6,6 @@ mod full;
 #[cfg(test)]
 mod same;
 #[cfg(test)]
-mod tests;
+mod statuses;
 #[cfg(test)]
-mod words;
+mod tests;

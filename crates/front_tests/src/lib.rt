@@ -20,3 +20,5 @@ mod same;
 mod statements;
 #[cfg(test)]
 mod texts;
+#[cfg(test)]
+mod words;

@@ -1,8 +1,8 @@
 // A session over a text in memory.
-ghost use Rattle.std.specs.Prelude.{◌≡◌, ◌<◌, ◌↔◌, [], List, IfOk, map};
+ghost use Rattle.std.specs.Prelude.{◌≡◌, ◌<◌, ◌⊎◌, [], List, IfOk, map};
 ghost use Rattle.arn_base.specs.declared.records.Record.{Record};
 ghost use Rattle.session_effects.specs.Carrying.{HoldsLog};
-ghost use Rattle.arn_session.specs.Words.{AreAccepted, AreAcceptedTexts, texts};
+ghost use Rattle.arn_words.specs.Words.{AreAccepted, AreAcceptedTexts, texts};
 ghost use Rattle.session_trials.specs.Sessions.{Prints};
 
 use arn_base::{
@@ -101,7 +101,9 @@ fn run_over<D: Disk, L: Ledger>(
     ensures done { IfOk result (λ ended. ended.status ≡ Status.Done → (history : List Record) →
         HoldsLog D.Disk disk.old history →
         Prints history script.now.text.now ended.sink.held) }
-    ensures usage { IfOk result (λ ended. (ended.status ≡ Status.Usage) ↔ ¬ AreAccepted words.now) }
+    ensures usage { IfOk result (λ ended. ended.status ≡ Status.Usage → ¬ AreAccepted words.now) }
+    ensures unaccepted { IfOk result (λ ended. ¬ AreAccepted words.now →
+        (ended.status ≡ Status.Usage) ⊎ (ended.status ≡ Status.NoMemory)) }
     ensures silent { IfOk result (λ ended. ended.status ≡ Status.Usage → ended.sink.held ≡ []) }
 {
     let bytes = Bytes::from_slice(alloc, script.text)?;
@@ -139,8 +141,11 @@ pub fn run_on<D: Disk>(
     ensures done { IfOk result (λ ended. ended.status ≡ Status.Done → (history : List Record) →
         HoldsLog D.Disk disk.old history →
         Prints history script.now.text.now ended.sink.held) }
-    ensures usage { IfOk result (λ ended. (ended.status ≡ Status.Usage) ↔
+    ensures usage { IfOk result (λ ended. ended.status ≡ Status.Usage →
         ¬ AreAcceptedTexts (map (λ word. word.now) words.now)) }
+    ensures unaccepted { IfOk result (λ ended.
+        ¬ AreAcceptedTexts (map (λ word. word.now) words.now) →
+        (ended.status ≡ Status.Usage) ⊎ (ended.status ≡ Status.NoMemory)) }
     ensures silent { IfOk result (λ ended. ended.status ≡ Status.Usage → ended.sink.held ≡ []) }
 {
     let words = owned(alloc, words)?;
@@ -151,8 +156,11 @@ pub fn run_on<D: Disk>(
 pub fn run(alloc: Global, words: &[&str], script: &Script) -> Result<Ended, NoMemory>
     ensures done { IfOk result (λ ended. ended.status ≡ Status.Done →
         Prints [] script.now.text.now ended.sink.held) }
-    ensures usage { IfOk result (λ ended. (ended.status ≡ Status.Usage) ↔
+    ensures usage { IfOk result (λ ended. ended.status ≡ Status.Usage →
         ¬ AreAcceptedTexts (map (λ word. word.now) words.now)) }
+    ensures unaccepted { IfOk result (λ ended.
+        ¬ AreAcceptedTexts (map (λ word. word.now) words.now) →
+        (ended.status ≡ Status.Usage) ⊎ (ended.status ≡ Status.NoMemory)) }
     ensures silent { IfOk result (λ ended. ended.status ≡ Status.Usage → ended.sink.held ≡ []) }
 {
     let mut disk = MemDisk::new(alloc, Bytes::new(alloc));

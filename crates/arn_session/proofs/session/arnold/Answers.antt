@@ -25,17 +25,31 @@ use Rattle.arn_session.proofs.ResultLemmas.{err-at, ok-at}
 use Rattle.arn_session.proofs.StatusLemmas.{broken-is, halt_for, halt-is, numbers-of, same-error}
 use Rattle.arn_session.proofs.session.arnold.Goals as goal
 
-pub returns-then-not-are_accepted-clause-any_moment : goal.returns-then-not-are_accepted-clause-any_moment
-returns-then-not-are_accepted-clause-any_moment g c = λ history.
+pub returns-in-Some-Usage-clause-any_moment : goal.returns-in-Some-Usage-clause-any_moment
+returns-in-Some-Usage-clause-any_moment g c = λ history.
     c.effects_follow.ensures.leaves c.args.disk.now c.args.disk.now history (g.K.Sink.holds c.args.sink.now) (g.K.Sink.holds c.args.sink.now) [] (c.effects_follow.ensures.follow.nothing c.args.disk.now history (g.K.Sink.holds c.args.sink.now))
 
-pub returns-then-not-are_accepted-clause-untouched : goal.returns-then-not-are_accepted-clause-untouched
-returns-then-not-are_accepted-clause-untouched g c =
+pub returns-in-Some-Usage-clause-untouched : goal.returns-in-Some-Usage-clause-untouched
+returns-in-Some-Usage-clause-untouched g c =
     for-any _ (g.D.Disk.image c.args.disk.now) (λ bytes. IsNoLog bytes ⊎ (MOST_LOG < length bytes)) (record { untaken = refl; unput = refl; unchosen = refl; unasked = refl; idle = refl }, c.openings_follow.ensures.read c.args.disk.now)
 
-pub returns-then-not-are_accepted-clause-rests : goal.returns-then-not-are_accepted-clause-rests
-returns-then-not-are_accepted-clause-rests g c = λ not_disk not_memory history was.
+pub returns-in-Some-Usage-clause-rests : goal.returns-in-Some-Usage-clause-rests
+returns-in-Some-Usage-clause-rests g c = λ not_disk not_memory history was.
     record { more = []; at_rest = subst (IsAtRest g.D.Disk c.args.disk.now) (sym (append-nil history)) was }
+
+pub returns-in-Some-NoMemory-clause-any_moment : goal.returns-in-Some-NoMemory-clause-any_moment
+returns-in-Some-NoMemory-clause-any_moment g c = λ history.
+    c.effects_follow.ensures.leaves c.args.disk.now c.args.disk.now history (g.K.Sink.holds c.args.sink.now) (g.K.Sink.holds c.args.sink.now) [] (c.effects_follow.ensures.follow.nothing c.args.disk.now history (g.K.Sink.holds c.args.sink.now))
+
+pub returns-in-Some-NoMemory-clause-untouched : goal.returns-in-Some-NoMemory-clause-untouched
+returns-in-Some-NoMemory-clause-untouched g c =
+    for-any _ (g.D.Disk.image c.args.disk.now) (λ bytes. IsNoLog bytes ⊎ (MOST_LOG < length bytes)) (record { untaken = refl; unput = refl; unchosen = refl; unasked = refl; idle = refl }, c.openings_follow.ensures.read c.args.disk.now)
+
+pub returns-in-Some-NoMemory-clause-begun : goal.returns-in-Some-NoMemory-clause-begun
+returns-in-Some-NoMemory-clause-begun g c = λ is history log. inl (record {
+  never = record { untaken = refl; unput = refl; unchosen = refl; unasked = refl; idle = refl };
+  keeps = (c.effects_follow.ensures.follow.nothing c.args.disk.now history (g.K.Sink.holds c.args.sink.now)).keeps;
+})
 
 pub returns-in-Err-clause-any_moment : goal.returns-in-Err-clause-any_moment
 returns-in-Err-clause-any_moment g c = λ history was.

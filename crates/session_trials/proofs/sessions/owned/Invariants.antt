@@ -1,5 +1,5 @@
 use Rattle.std.proofs.Common.{◌≡◌, map, take}
-use Rattle.arn_session.specs.Words.{texts}
+use Rattle.arn_words.specs.Words.{texts}
 use Rattle.session_trials.proofs.sessions.owned.Given as goal
 
 abbrev pub invariant-loop-word : goal.invariant-loop-word

@@ -1,42 +1,7 @@
 use crate::same::assert_same;
 use arn_base::Differs;
-use arn_session::{Damage, Status, WordsError, read_words};
-use std::alloc::{AllocError, Global};
+use arn_session::{Damage, Status};
 use std::test::Fail;
-
-/// The log that the words name, or `usage`.
-fn log_or_usage(alloc: Global, texts: &[&str]) -> Result<String, AllocError> {
-    let mut words = Vec::new(alloc);
-    for text in texts {
-        words.push(String::from_str(alloc, text)?)?;
-    }
-    match read_words(alloc, words.as_slice()) {
-        Ok(options) => Ok(options.log),
-        Err(WordsError::Usage) => String::from_str(alloc, "usage"),
-        Err(WordsError::NoMemory) => Err(AllocError),
-    }
-}
-
-/// Words, and the log that they name.
-const WORDS: &[(&[&str], &str)] = &[
-    (&["log"], "log"),
-    (&["a-b"], "a-b"),
-    (&[""], ""),
-    (&[], "usage"),
-    (&["-"], "usage"),
-    (&["--log"], "usage"),
-    (&["log", "log"], "usage"),
-    (&["log", ""], "usage"),
-];
-
-#[test]
-fn words(rt: HostRuntime) -> Result<(), Fail> {
-    for (texts, wanted) in WORDS {
-        let found = log_or_usage(rt.alloc(), texts)?;
-        assert_eq!(rt; found.as_str(), *wanted);
-    }
-    Ok(())
-}
 
 const FULL: Status = Status::Full {
     log: 268_435_000,
