@@ -1,6 +1,5 @@
 -- Pipes after the entry of one changes.
-use Rattle.std.proofs.Common.{◌≡◌, ◌≢◌, ◌⊎◌, inl, inr, ℕ, zero, suc, ◌+◌, ◌<◌, ◌≤◌, ◌||◌, Bool, true, false, cond, List, [], ◌∷◌, ◌++◌, length, get_or, set, Option, None, Some, IsSome, is_some, Result, Ok, Err, OnOk, IfOk, IfSome, IfNone, take, true≢false, refl, sym, ap, subst, ◌∙◌, arith, zero-add, add-one}
-use Rattle.std.specs.Prelude.{option_and_then, option_map}
+use Rattle.std.proofs.Common.{◌≡◌, ◌≢◌, ◌⊎◌, inl, inr, ℕ, zero, suc, ◌+◌, ◌<◌, ◌≤◌, ◌||◌, Bool, true, false, cond, List, [], ◌∷◌, ◌++◌, length, get_or, set, Option, None, Some, IsSome, is_some, Result, Ok, Err, OnOk, IfSome, IfNone, take, true≢false, refl, sym, ap, subst, ◌∙◌, arith, zero-add, add-one, option_and_then, option_map}
 use Rattle.std.proofs.lemmas.Bool.{cases_eq, cases_lt}
 use Rattle.slab.specs.Slab.{Slab, get, slab_len, with_value, Updates}
 use Rattle.slab.proofs.SlabLemmas.{Updates-with_value}
@@ -26,11 +25,8 @@ nth-listed slots made n s =
     ]
 
 -- the pipe of an entry stands under its number
-pub nth-at : (s : Slab Entry) (made key n : ℕ) (e : Entry) → get s key ≡ Some e → e.number ≡ n → IsSound s.slots made → nth (listed s.slots made) n ≡ Some e.pipe
-nth-at s made key n e is number sound =
-    nth-listed s.slots made n sound
-    ∙ numbered-at s.slots key n (subst (HasNumber n) (sym is) number) (λ k o. sound.once k o n)
-    ∙ ap pipe_of is
+pub nth-at : (s : Slab Entry) (made key n : ℕ) (e : Entry) → get s key ≡ Some e → HasNumber n (get s key) → IsSound s.slots made → nth (listed s.slots made) n ≡ Some e.pipe
+nth-at s made key n e is had sound = nth-listed s.slots made n sound ∙ numbered-at s.slots key n had (λ k o. sound.once k o n) ∙ ap pipe_of is
 
 has_pipe : (n : ℕ) (o : Option Entry) → HasNumber n o → IsSome (pipe_of o)
 has_pipe n None has = absurd has
@@ -54,8 +50,7 @@ module _ (s t : Slab Entry) (key : ℕ) (x : Option Entry) (updates : Updates s 
     number-back k m here =
         elim (cases_eq k key) [
           | inl same ↦
-              let is : n ≡ m = sym (no_other m (number-here k m same here)) in
-              subst (λ (j : ℕ). HasNumber m (get s j)) (sym same) (subst (λ (i : ℕ). HasNumber i (get s key)) is was)
+              subst (λ (j : ℕ). HasNumber m (get s j)) (sym same) (subst (λ (i : ℕ). HasNumber i (get s key)) (sym (no_other m (number-here k m same here))) was)
           | inr differs ↦ number-kept k m differs here
         ]
 
@@ -80,12 +75,12 @@ module _ (s t : Slab Entry) (key : ℕ) (x : Option Entry) (updates : Updates s 
     was-listed = subst IsSome (sym (get_or-nth (listed s.slots made) n)) (nth-has s made key n was sound)
 
 -- another pipe under the same number
-module _ (s : Slab Entry) (made key n : ℕ) (e e' : Entry) (is : get s key ≡ Some e) (number : e.number ≡ n) (number' : e'.number ≡ n) (sound : IsSound s.slots made) where
+module _ (s : Slab Entry) (made key n : ℕ) (e e' : Entry) (is : get s key ≡ Some e) (had : HasNumber n (get s key)) (kept : e'.number ≡ e.number) (sound : IsSound s.slots made) where
   changes : Updates s (with_value s key e') key (Some e')
   changes = Updates-with_value s key e' (ap is_some is)
 
-  had : HasNumber n (get s key)
-  had = subst (HasNumber n) (sym is) number
+  number' : e'.number ≡ n
+  number' = kept ∙ subst (HasNumber n) is had
 
   pub has_number : HasNumber n (get (with_value s key e') key)
   has_number = subst (HasNumber n) (sym changes.changed) number'
@@ -129,12 +124,11 @@ module _ (s t : Slab Entry) (made key n : ℕ) (updates : Updates s t key None) 
 
   pub IsSound-removed : IsSound t.slots made
   IsSound-removed =
-      let less = how_many-set_none (listed s.slots made) n (was-listed s t key None updates made n was gone sound) in
       let now : how_many (listed t.slots made) ≡ how_many (set (listed s.slots made) n None) = ap how_many listed-removed in
       record {
         given = given-back s t key None updates made n was gone sound;
         once = once-back s t key None updates made n was gone sound;
-        counted = omega (arith, fewer, sound.counted, less, now);
+        counted = omega (arith, fewer, sound.counted, how_many-set_none (listed s.slots made) n (was-listed s t key None updates made n was gone sound), now);
       }
 
 -- a pipe more
@@ -152,8 +146,7 @@ module _ (s t : Slab Entry) (made key : ℕ) (e : Entry) (updates : Updates s t 
   apart : (k o m : ℕ) → k ≡ key → o ≢ key → HasNumber m (get t k) → HasNumber m (get t o) → ⊥
   apart k o m same differs here there =
       let is : e.number ≡ m = number-here s t key (Some e) updates k m same here in
-      let given = sound.given o m (number-kept s t key (Some e) updates o m differs there) in
-      absurd (omega (arith, is, next, given))
+      absurd (omega (arith, is, next, sound.given o m (number-kept s t key (Some e) updates o m differs there)))
 
   once-more : (k o m : ℕ) → HasNumber m (get t k) → HasNumber m (get t o) → k ≡ o
   once-more k o m here there =
@@ -190,9 +183,8 @@ module _ (s t : Slab Entry) (made key : ℕ) (e : Entry) (updates : Updates s t 
 
   pub IsSound-made : IsSound t.slots (made + 1)
   IsSound-made =
-      let counts = how_many-push (listed s.slots made) e.pipe in
       let now : how_many (listed t.slots (made + 1)) ≡ how_many (listed s.slots made ++ Some e.pipe ∷ []) = ap how_many listed-made in
-      record { given = given-more; once = once-more; counted = omega (arith, more, sound.counted, counts, now) }
+      record { given = given-more; once = once-more; counted = omega (arith, more, sound.counted, how_many-push (listed s.slots made) e.pipe, now) }
 
 -- how many were made
 pub length-listed : (slots : List (Option Entry)) (made : ℕ) → length (listed slots made) ≡ made
@@ -208,9 +200,9 @@ set-none (x ∷ all) (suc i) is = ap (λ (l : Pipes). x ∷ l) (set-none all i i
 pub there-numbered : (ps : Pipes) (slots : List (Option Entry)) (made n : ℕ) → listed slots made ≡ ps → IsSound slots made → IsSome (nth ps n) → IsSome (numbered slots n)
 there-numbered ps slots made n seen sound there = subst IsSome (sym (ap (λ (all : Pipes). nth all n) seen) ∙ nth-listed slots made n sound) there
 
-module _ (ps : Pipes) (s : Slab Entry) (made key n : ℕ) (e : Entry) (seen : listed s.slots made ≡ ps) (is : get s key ≡ Some e) (number : e.number ≡ n) (sound : IsSound s.slots made) where
+module _ (ps : Pipes) (s : Slab Entry) (made key n : ℕ) (e : Entry) (seen : listed s.slots made ≡ ps) (is : get s key ≡ Some e) (had : HasNumber n (get s key)) (sound : IsSound s.slots made) where
   pub found-at : nth ps n ≡ Some e.pipe
-  found-at = sym (ap (λ (all : Pipes). nth all n) seen) ∙ nth-at s made key n e is number sound
+  found-at = sym (ap (λ (all : Pipes). nth all n) seen) ∙ nth-at s made key n e is had sound
 
   -- a fact of the pipe is one of what is found
   pub at-found : (P : Option Pipe → Type 0) → P (Some e.pipe) → P (nth ps n)
@@ -218,7 +210,7 @@ module _ (ps : Pipes) (s : Slab Entry) (made key n : ℕ) (e : Entry) (seen : li
 
   pub set-at : (p : Pipe) → listed (with_value s key (record { number = e.number; pipe = p })).slots made ≡ set ps n (Some p)
   set-at p =
-      listed-changed s made key n e (record { number = e.number; pipe = p }) is number number sound
+      listed-changed s made key n e (record { number = e.number; pipe = p }) is had refl sound
       ∙ ap (λ (all : Pipes). set all n (Some p)) seen
 
   -- a change of the pipe
@@ -248,10 +240,6 @@ pub OnOk-map : {T E : Type 0} (r : Result T E) (P Q : Type 0) → (P → Q) → 
 OnOk-map (Ok v) P Q f h = f h
 OnOk-map (Err e) P Q f h = tt
 
-pub IfOk-map : {T E : Type 0} (r : Result T E) (P Q : T → Type 0) → ((v : T) → P v → Q v) → IfOk r P → IfOk r Q
-IfOk-map (Ok v) P Q f h = f v h
-IfOk-map (Err e) P Q f h = tt
-
 -- whether an end is open still
 pub if_open-not : (p : Pipe) → p.has_reader || p.has_writer ≡ false → if_open p ≡ None
 if_open-not p is = ap (λ (b : Bool). cond b (Some p) None) is
@@ -273,24 +261,21 @@ module _ (slots : List (Option Entry)) (made m : ℕ) (is : made ≡ m + 1) (non
 
   pub IsSound-shorter : IsSound slots m
   IsSound-shorter =
-      let counts = how_many-push_none (listed slots m) in
       let all : listed slots made ≡ listed slots m ++ None ∷ [] =
       ap (listed slots) (is ∙ add-one m) ∙ listed_from-push slots 0 m ∙ ap (λ (p : Option Pipe). listed slots m ++ p ∷ []) (ap (numbered slots) (zero-add m) ∙ none) in
       let now : how_many (listed slots made) ≡ how_many (listed slots m ++ None ∷ []) = ap how_many all in
       record {
         given = λ key n here. below key n here (cases_eq n m);
         once = sound.once;
-        counted = omega (arith, sound.counted, now, counts);
+        counted = omega (arith, sound.counted, now, how_many-push_none (listed slots m));
       }
     where
       below : (key n : ℕ) → HasNumber n (get_or slots key None) → (n ≡ m) ⊎ (n ≢ m) → n < m
       below key n here (inl same) =
           let has : HasNumber m (get_or slots key None) = subst (λ (k : ℕ). HasNumber k (get_or slots key None)) same here in
-          let there = has_pipe m (get_or slots key None) has in
-          absurd (true≢false (sym there ∙ ap is_some (sym (numbered-at slots key m has (λ k o. sound.once k o m)) ∙ none)))
+          absurd (true≢false (sym (has_pipe m (get_or slots key None) has) ∙ ap is_some (sym (numbered-at slots key m has (λ k o. sound.once k o m)) ∙ none)))
       below key n here (inr other) =
-          let given = sound.given key n here in
-          strictly (cases_lt n m) given
+          strictly (cases_lt n m) (sound.given key n here)
         where
           strictly : (n < m) ⊎ (m ≤ n) → n < made → n < m
           strictly (inl less) before = less

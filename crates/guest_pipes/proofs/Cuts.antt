@@ -1,6 +1,5 @@
 -- The first bytes of runs, and what is behind them.
-use Rattle.std.proofs.Common.{◌≡◌, ℕ, zero, suc, ◌+◌, ◌-◌, ◌<◌, ◌≤◌, ◌==◌, ◌&&◌, ◌++◌, ◌∙◌, Bool, true, false, if◌then◌else◌, List, [], ◌∷◌, length, slice_index_or, take, drop, min, length-append, refl, sym, ap, arith}
-use Rattle.std.proofs.lemmas.Bool.{eq-eqb, eqb-true}
+use Rattle.std.proofs.Common.{◌≡◌, ℕ, zero, suc, ◌+◌, ◌-◌, ◌<◌, ◌≤◌, ◌==◌, ◌&&◌, ◌++◌, ◌∙◌, Bool, true, false, if◌then◌else◌, List, [], ◌∷◌, length, slice_index_or, take, drop, min, length-append, refl, sym, ap, arith, eq-eqb, eqb-true}
 use Rattle.std.proofs.Math.Bool.{and-false}
 use Rattle.std.proofs.Math.Nat.{min-zero, suc-min-suc, zero-min}
 use Rattle.arn_base.specs.declared.records.Src.{Src}
@@ -125,9 +124,7 @@ drop-nil (suc n) = refl
 
 popped-run : (r : Run) (rs : List Run) (gone n : ℕ) → n ≡ r.len → r.len ≤ gone → AreRuns 0 (r ∷ rs) → gone ≤ length (places_of (r ∷ rs)) → (drop (gone - n) (places_of rs) ≡ drop gone (places_of (r ∷ rs))) × AreRuns 0 rs × (gone - n ≤ length (places_of rs))
 popped-run r rs gone n is within runs few =
-    let all = length-append (places_from r.event 0 r.len) (places_of rs) in
-    let len = length-places_from r.event 0 r.len in
-    rw is (drop-run r rs gone within, runs.2, omega (arith, within, few, all, len))
+    rw is (drop-run r rs gone within, runs.2, omega (arith, within, few, length-append (places_from r.event 0 r.len) (places_of rs), length-places_from r.event 0 r.len))
 
 pub popped : (items next : List Run) (a b : Run) (gone : ℕ) → next ≡ drop 1 items → a ≡ slice_index_or items 0 a → b ≡ slice_index_or items 0 b → a.len ≤ gone → AreRuns 0 items → gone ≤ length (places_of items) → (drop (gone - b.len) (places_of next) ≡ drop gone (places_of items)) × AreRuns 0 next × (gone - b.len ≤ length (places_of next))
 popped [] next a b gone rest isa isb within runs few = rw rest (drop-nil (gone - b.len) ∙ sym (drop-nil gone), refl, omega (arith, few))

@@ -1,6 +1,5 @@
 -- Pipes in order of number.
-use Rattle.std.proofs.Common.{◌≡◌, ◌≢◌, ℕ, zero, suc, ◌+◌, ◌<◌, ◌≤◌, ◌==◌, Bool, true, false, cond, List, [], ◌∷◌, ◌++◌, length, get_or, set, take, Option, None, Some, IsSome, is_some, refl, sym, ap, ◌∙◌, arith, true≢false, eq-eqb, eqb-true}
-use Rattle.std.specs.Prelude.{option_map}
+use Rattle.std.proofs.Common.{◌≡◌, ◌≢◌, ℕ, zero, suc, ◌+◌, ◌<◌, ◌≤◌, ◌==◌, Bool, true, false, cond, List, [], ◌∷◌, ◌++◌, length, get_or, set, take, Option, None, Some, IsSome, is_some, refl, sym, ap, ◌∙◌, arith, true≢false, eq-eqb, eqb-true, option_map}
 use Rattle.std.proofs.lemmas.List.Sums.{sum_by-append, sum_by-set}
 use Rattle.parts_model.specs.Numbered.{how_many, nth}
 use Rattle.parts_model.specs.Pipes.{Pipe, Pipes}

@@ -40,15 +40,13 @@ values-tagged (b ∷ bytes) (p ∷ places) same = ap (λ (bs : List ℕ). b ∷ 
 
 pub places-tagged : (bytes : List ℕ) (places : List Src) → length places ≡ length bytes → map (λ h. h.origin) (tagged bytes places) ≡ places
 places-tagged [] [] same = refl
-places-tagged [] (p ∷ places) same = absurd (omega (arith, same))
-places-tagged (b ∷ bytes) [] same = absurd (omega (arith, same))
 places-tagged (b ∷ bytes) (p ∷ places) same = ap (λ (ps : List Src). p ∷ ps) (places-tagged bytes places (omega (arith, same)))
+places-tagged _ _ same = absurd (omega (arith, same))
 
 pub tagged-append : (bytes more : List ℕ) (places new : List Src) → length places ≡ length bytes → tagged (bytes ++ more) (places ++ new) ≡ tagged bytes places ++ tagged more new
 tagged-append [] more [] new same = refl
-tagged-append [] more (p ∷ places) new same = absurd (omega (arith, same))
-tagged-append (b ∷ bytes) more [] new same = absurd (omega (arith, same))
 tagged-append (b ∷ bytes) more (p ∷ places) new same = ap (λ (held : List TaggedByte). record { value = b; origin = p } ∷ held) (tagged-append bytes more places new (omega (arith, same)))
+tagged-append _ more _ new same = absurd (omega (arith, same))
 
 pub tagged-held : (event at : ℕ) (bytes : List ℕ) → tagged bytes (places_from event at (length bytes)) ≡ held_from event at bytes
 tagged-held event at [] = refl
@@ -101,9 +99,7 @@ given-tagged n bytes places give same are from =
 pub gone-within : (gone : ℕ) (rs : List Run) → AreRuns gone rs → gone ≤ length (places_of rs)
 gone-within gone [] runs = omega (arith, runs)
 gone-within gone (r ∷ rs) runs =
-    let all = length-append (places_from r.event 0 r.len) (places_of rs) in
-    let len = length-places_from r.event 0 r.len in
-    omega (arith, runs.0, all, len)
+    omega (arith, runs.0, length-append (places_from r.event 0 r.len) (places_of rs), length-places_from r.event 0 r.len)
 
 pub gone-few : (gone : ℕ) (rs : List Run) → AreRuns gone rs → gone ≤ MOST_PIPE_BYTES
 gone-few gone [] runs = omega (arith, runs)
@@ -123,12 +119,11 @@ places_of-behind gone rs r within = ap (drop gone) (places_of-push rs r) ∙ dro
 pub queue-put : (head gone event : ℕ) (items bytes : List ℕ) (rs : List Run) → head ≤ length items → gone ≤ length (places_of rs) → length (drop gone (places_of rs)) ≡ length items - head → tagged (drop head (items ++ bytes)) (drop gone (places_of (rs ++ record { event = event; len = length bytes } ∷ []))) ≡ tagged (drop head items) (drop gone (places_of rs)) ++ held_from event 0 bytes
 queue-put head gone event items bytes rs within fewer placed =
     let run : Run = record { event = event; len = length bytes } in
-    let new : List Src = places_from event 0 (length bytes) in
     let places : List Src = drop gone (places_of rs) in
     let held : List ℕ = drop head items in
     ap (λ (bs : List ℕ). tagged bs (drop gone (places_of (rs ++ run ∷ [])))) (drop-append-le head items bytes within)
     ∙ ap (λ (ps : List Src). tagged (held ++ bytes) ps) (places_of-behind gone rs run fewer)
-    ∙ tagged-append held bytes places new (placed ∙ sym (length-drop head items))
+    ∙ tagged-append held bytes places (places_from event 0 (length bytes)) (placed ∙ sym (length-drop head items))
     ∙ ap (λ (more : List TaggedByte). tagged held places ++ more) (tagged-held event 0 bytes)
 
 pub queue-more : (taken head gone event : ℕ) (items bytes : List ℕ) (rs : List Run) → IsQueue taken head (length items) gone rs → 0 < length bytes → length items - head + length bytes ≤ MOST_PIPE_BYTES → taken + (length items - head) + length bytes < 2 ^ 64 → IsQueue taken head (length (items ++ bytes)) gone (rs ++ record { event = event; len = length bytes } ∷ [])
@@ -138,14 +133,12 @@ queue-more taken head gone event items bytes rs queue some few counted =
     let behind =
     ap length (places_of-behind gone rs run (gone-within gone rs queue.are_runs))
     ∙ length-append (drop gone (places_of rs)) (places_from event 0 (length bytes)) in
-    let new = length-places_from event 0 (length bytes) in
-    let was = queue.placed in
     record {
       within = omega (arith, all, queue.within);
       few = omega (arith, all, few, queue.within);
       counted = omega (arith, all, counted, queue.within);
       are_runs = AreRuns-push gone rs run queue.are_runs some (omega (arith, few));
-      placed = omega (arith, all, behind, new, was, queue.within);
+      placed = omega (arith, all, behind, length-places_from event 0 (length bytes), queue.placed, queue.within);
     }
 
 pub pushed : (rs same new : List Run) (r : Run) → same ≡ rs → new ≡ same ++ r ∷ [] → new ≡ rs ++ r ∷ []

@@ -29,8 +29,7 @@ loop-key-preserved c =
 
 pub returns-then-entry-number-clause-found : goal.returns-then-entry-number-clause-found
 returns-then-entry-number-clause-found c =
-    let at = c.in-Some.ensures.steps in
-    let found = c.loop-key.invariant.3 c.in-Some.key c.in-Some.entry.now (rw at (0, omega arith, refl)) in
+    let found = c.loop-key.invariant.3 c.in-Some.key c.in-Some.entry.now (rw c.in-Some.ensures.steps (0, omega arith, refl)) in
     subst (HasNumber c.args.number) (sym found) c.if-entry-number.true
 
 pub returns-clause-absent : goal.returns-clause-absent

@@ -1,5 +1,4 @@
-use Rattle.std.proofs.Common.{◌≡◌, ◌≤◌, drop, length}
-use Rattle.std.specs.VecDeque.{deque_len}
+use Rattle.std.proofs.Common.{◌≡◌, ◌≤◌, drop, length, deque_len}
 use Rattle.guest_pipes.specs.Runs.{AreRuns, places_of}
 use Rattle.guest_pipes.proofs.runs.drop_gone.Given as goal
 

@@ -1,5 +1,4 @@
-use Rattle.std.proofs.Common.{◌≡◌, ◌+◌, ◌++◌, ◌∙◌, ℕ, List, drop, take, length, ap, sym, arith}
-use Rattle.std.proofs.lemmas.List.{take_all}
+use Rattle.std.proofs.Common.{◌≡◌, ◌+◌, ◌++◌, ◌∙◌, ℕ, List, drop, take, length, ap, sym, arith, take_all}
 use Rattle.parts_model.specs.declared.tagged.TaggedByte.{TaggedByte}
 use Rattle.parts_model.specs.Pipes.{Pipe, room, with_put}
 use Rattle.parts_model.specs.Tagged.{held_bytes}
@@ -31,9 +30,7 @@ returns-clause-put c =
     let old : List TaggedByte = tagged (drop c.self.inside.head items) (drop c.self.inside.gone (places_of c.self.inside.runs.items)) in
     let pipe : List TaggedByte → Pipe =
     λ held. record { channel = record { taken = c.self.inside.taken; queue = held }; has_reader = c.self.inside.has_reader; has_writer = c.self.inside.has_writer } in
-    let fits = c.requires in
-    let kept = ap (λ (p : Pipe). room p) same in
-    let all : take (room (pipe old)) bytes ≡ bytes = take_all (room (pipe old)) bytes (omega (arith, kept, fits)) in
+    let all : take (room (pipe old)) bytes ≡ bytes = take_all (room (pipe old)) bytes (omega (arith, ap (λ (p : Pipe). room p) same, c.requires)) in
     ap (λ (held : List ℕ). pipe (tagged (drop c.self.inside.head held) (drop c.self.inside.gone (places_of c.push_back_reserved.new.self.items)))) c.in_ok-extend_from_slice.ensures.items
     ∙ ap (λ (rs : List Run). pipe (tagged (drop c.self.inside.head (items ++ bytes)) (drop c.self.inside.gone (places_of rs)))) runs
     ∙ ap pipe (queue-put c.self.inside.head c.self.inside.gone c.args.event items bytes c.self.inside.runs.items c.self.invariant.within (gone-within c.self.inside.gone c.self.inside.runs.items c.self.invariant.are_runs) c.self.invariant.placed)

@@ -9,16 +9,13 @@ use Rattle.guest_pipes.proofs.pipe.Pipe.give.Goals as goal
 pub overflow_add-front : goal.overflow_add-front
 overflow_add-front c =
     let queued = length-queue c.self.inside.taken c.self.inside.head c.self.inside.gone c.self.inside.held.items c.self.inside.runs.items c.self.invariant in
-    let kept = ap (λ (p : Pipe). length p.channel.queue) c.self.view_is in
-    let held = ap length c.deref.ensures.value in
-    omega (arith, queued, kept, held, c.requires, c.self.invariant.within, c.deref.type_inv.0)
+    omega (arith, queued, ap (λ (p : Pipe). length p.channel.queue) c.self.view_is, ap length c.deref.ensures.value, c.requires, c.self.invariant.within, c.deref.type_inv.0)
 
 pub slice_bounds-front-end : goal.slice_bounds-front-end
 slice_bounds-front-end c =
     let queued = length-queue c.self.inside.taken c.self.inside.head c.self.inside.gone c.self.inside.held.items c.self.inside.runs.items c.self.invariant in
     let kept = ap (λ (p : Pipe). length p.channel.queue) c.self.view_is in
-    let held = ap length c.deref.ensures.value in
-    let within : c.self.inside.head + c.args.count ≤ length c.deref.result.now = omega (arith, queued, kept, held, c.requires, c.self.invariant.within) in
+    let within : c.self.inside.head + c.args.count ≤ length c.deref.result.now = omega (arith, queued, kept, ap length c.deref.ensures.value, c.requires, c.self.invariant.within) in
     within
 
 pub returns-clause-given : goal.returns-clause-given

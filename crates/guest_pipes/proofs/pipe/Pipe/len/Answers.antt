@@ -6,6 +6,4 @@ use Rattle.guest_pipes.proofs.pipe.Pipe.len.Goals as goal
 pub returns-clause-count : goal.returns-clause-count
 returns-clause-count c =
     let queued = length-queue c.self.inside.taken c.self.inside.head c.self.inside.gone c.self.inside.held.items c.self.inside.runs.items c.self.invariant in
-    let kept = ap (λ (p : Pipe). length p.channel.queue) c.self.view_is in
-    let held = c.len.ensures in
-    omega (arith, queued, kept, held)
+    omega (arith, queued, ap (λ (p : Pipe). length p.channel.queue) c.self.view_is, c.len.ensures)

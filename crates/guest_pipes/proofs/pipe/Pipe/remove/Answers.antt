@@ -9,27 +9,23 @@ use Rattle.guest_pipes.proofs.pipe.Pipe.remove.Goals as goal
 pub overflow_add-self : goal.overflow_add-self
 overflow_add-self c =
     let queued = length-queue c.self.inside.taken c.self.inside.head c.self.inside.gone c.self.inside.held.items c.self.inside.runs.items c.self.invariant in
-    let kept = ap (λ (p : Pipe). length p.channel.queue) c.self.view_is in
-    omega (arith, queued, kept, c.requires, c.self.invariant.within, c.self.inside.held.small)
+    omega (arith, queued, ap (λ (p : Pipe). length p.channel.queue) c.self.view_is, c.requires, c.self.invariant.within, c.self.inside.held.small)
 
 pub overflow_add-self-2 : goal.overflow_add-self-2
 overflow_add-self-2 c =
     let queued = length-queue c.self.inside.taken c.self.inside.head c.self.inside.gone c.self.inside.held.items c.self.inside.runs.items c.self.invariant in
-    let kept = ap (λ (p : Pipe). length p.channel.queue) c.self.view_is in
-    omega (arith, queued, kept, c.requires, c.self.invariant.counted)
+    omega (arith, queued, ap (λ (p : Pipe). length p.channel.queue) c.self.view_is, c.requires, c.self.invariant.counted)
 
 pub overflow_cast-count : goal.overflow_cast-count
 overflow_cast-count c =
     let queued = length-queue c.self.inside.taken c.self.inside.head c.self.inside.gone c.self.inside.held.items c.self.inside.runs.items c.self.invariant in
-    let kept = ap (λ (p : Pipe). length p.channel.queue) c.self.view_is in
-    omega (arith, queued, kept, c.requires, c.self.invariant.few)
+    omega (arith, queued, ap (λ (p : Pipe). length p.channel.queue) c.self.view_is, c.requires, c.self.invariant.few)
 
 pub overflow_add-self-inside : goal.overflow_add-self-inside
 overflow_add-self-inside c =
     let queued = length-queue c.self.inside.taken c.self.inside.head c.self.inside.gone c.self.inside.held.items c.self.inside.runs.items c.self.invariant in
     let kept = ap (λ (p : Pipe). length p.channel.queue) c.self.view_is in
-    let few = gone-few c.self.inside.gone c.self.inside.runs.items c.self.invariant.are_runs in
-    omega (arith, queued, kept, few, c.requires, c.self.invariant.few)
+    omega (arith, queued, kept, gone-few c.self.inside.gone c.self.inside.runs.items c.self.invariant.are_runs, c.requires, c.self.invariant.few)
 
 pub drop_gone-self-inside-requires-clause-runs : goal.drop_gone-self-inside-requires-clause-runs
 drop_gone-self-inside-requires-clause-runs c = AreRuns-whole c.self.inside.gone c.self.inside.runs.items c.self.invariant.are_runs
@@ -39,31 +35,27 @@ drop_gone-self-inside-requires-clause-within c =
     let queued = length-queue c.self.inside.taken c.self.inside.head c.self.inside.gone c.self.inside.held.items c.self.inside.runs.items c.self.invariant in
     let kept = ap (λ (p : Pipe). length p.channel.queue) c.self.view_is in
     let within = gone-within c.self.inside.gone c.self.inside.runs.items c.self.invariant.are_runs in
-    let left = length-drop c.self.inside.gone (places_of c.self.inside.runs.items) in
-    omega (arith, queued, kept, within, left, c.requires, c.self.invariant.placed)
+    omega (arith, queued, kept, within, length-drop c.self.inside.gone (places_of c.self.inside.runs.items), c.requires, c.self.invariant.placed)
 
 pub invariant_of-self : goal.invariant_of-self
 invariant_of-self c =
     let places = places_of c.self.inside.runs.items in
     let queued = length-queue c.self.inside.taken c.self.inside.head c.self.inside.gone c.self.inside.held.items c.self.inside.runs.items c.self.invariant in
     let kept = ap (λ (p : Pipe). length p.channel.queue) c.self.view_is in
-    let left = length-drop c.self.inside.gone places in
     let now = ap length c.drop_gone-self-inside.ensures.places ∙ length-drop (c.self.inside.gone + c.args.count) places in
-    let was = c.self.invariant.placed in
     record {
       within = omega (arith, queued, kept, c.requires, c.self.invariant.within);
       few = omega (arith, c.self.invariant.few);
       counted = omega (arith, queued, kept, c.requires, c.self.invariant.counted);
       are_runs = c.drop_gone-self-inside.ensures.runs;
-      placed = omega (arith, now, left, was);
+      placed = omega (arith, now, length-drop c.self.inside.gone places, c.self.invariant.placed);
     }
 
 pub returns : goal.returns
 returns c =
     let places = places_of c.self.inside.runs.items in
     let old : List TaggedByte = tagged (drop c.self.inside.head c.self.inside.held.items) (drop c.self.inside.gone places) in
-    let kept = ap (λ (p : Pipe). length p.channel.queue) c.self.view_is in
-    let all : min c.args.count (length old) ≡ c.args.count = min-eq_left (omega (arith, kept, c.requires)) in
+    let all : min c.args.count (length old) ≡ c.args.count = min-eq_left (omega (arith, ap (λ (p : Pipe). length p.channel.queue) c.self.view_is, c.requires)) in
     let queue = queue-taken c.args.count c.self.inside.head c.self.inside.gone c.drop_gone-self-inside.result c.self.inside.held.items places (places_of c.drop_gone-self-inside.new.runs.items) c.drop_gone-self-inside.ensures.places in
     let pipe : ℕ → List TaggedByte → Pipe =
     λ n held. record { channel = record { taken = c.self.inside.taken + n; queue = held }; has_reader = c.self.inside.has_reader; has_writer = c.self.inside.has_writer } in
