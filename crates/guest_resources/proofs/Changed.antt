@@ -1,14 +1,13 @@
 -- Resources after each change.
-use Rattle.std.proofs.Common.{◌≡◌, ℕ, ◌+◌, ◌-◌, ◌<◌, ◌≤◌, ◌==◌, Bool, true, false, cond, ◌||◌, List, [], ◌∷◌, ◌++◌, length, set, take, drop, Option, None, Some, IfSome, is_some, option_map, Result, Ok, Err, OnOk, OnErr, IfOk, refl, sym, ap, ap₂, ◌∙◌, arith, subst, true≢false, ne_eqb, eq-eqb, length-append, length-drop, length-take, length-take-le, le-leb, ltb-false, ◌^◌}
-use Rattle.std.specs.Prelude.{nat_lt}
-use Rattle.std.proofs.lemmas.Bool.{eqb-true}
+use Rattle.std.proofs.Common.{◌≡◌, ℕ, ◌+◌, ◌-◌, ◌<◌, ◌≤◌, ◌==◌, Bool, true, false, cond, ◌||◌, List, [], ◌∷◌, ◌++◌, length, set, take, drop, Option, None, Some, IfSome, is_some, option_map, Result, Ok, Err, OnOk, OnErr, IfOk, refl, sym, ap, ap₂, ◌∙◌, arith, subst, true≢false, ne_eqb, eq-eqb, length-append, length-drop, length-take, length-take-le, le-leb, ltb-false, ◌^◌, nat_lt}
+use Rattle.std.proofs.lemmas.Bool.{eqb-true, or_parts}
 use Rattle.std.proofs.lemmas.Option.{same_Some}
 use Rattle.parts_model.specs.declared.limits.TheConstants.{MOST_FILE_BYTES}
 use Rattle.parts_model.specs.declared.open.Description.{Description}
-use Rattle.parts_model.specs.declared.open.Description.TheVariants.{Console, File, Reader, Writer, Connection, Listener, Device}
+use Rattle.parts_model.specs.declared.open.Description.TheVariants.{File, Device}
 use Rattle.parts_model.specs.declared.tagged.TaggedByte.{TaggedByte}
 use Rattle.parts_model.specs.Files as files
-use Rattle.parts_model.specs.Files.{Files, Name, has_name, held, if_reached, laid_over, made, next_file, fitting, reached_again, released, rewritten, unnamed, with_holder, without_holder, without_name, written}
+use Rattle.parts_model.specs.Files.{Files, Name, has_name, held, if_reached, laid_over, made, next_file, fitting, reached_again, rewritten, unnamed, with_holder, without_holder, without_name, written}
 use Rattle.parts_model.specs.Numbered.{nth}
 use Rattle.parts_model.specs.Tagged.{held_bytes}
 use Rattle.arn_model.specs.Kernel.{Opened, also_held, with_count, with_what}
@@ -66,17 +65,12 @@ made-opened-sound r path sound =
     opened-sound (record r { files = made r.files path [] }) (next_file r.files) (made-sound r path [] sound)
     (ap is_some (nth-add r.files.all (Some (record { bytes = []; holders = 0 }))))
 
--- a file is reached by a name or by a description, or it is gone
-or-false : (a b : Bool) → a || b ≡ false → b ≡ false
-or-false true b e = absurd (true≢false e)
-or-false false b e = e
-
 no-holders : (h : ℕ) → nat_lt 0 h ≡ false → h ≡ 0
 no-holders h e = omega (arith, ltb-false 0 h e)
 
 reached-by : (f : files.File) (old : Option files.File) (count : ℕ) (named : Bool) → f.holders ≡ count → ((at : ℕ) → IsIn old at → at ≤ length f.bytes) → (b : Bool) → named || nat_lt 0 f.holders ≡ b → IsSettled (cond b (Some f) None) old count
 reached-by f old count named is places true e = (is, places)
-reached-by f old count named is places false e = sym is ∙ no-holders f.holders (or-false named (nat_lt 0 f.holders) e)
+reached-by f old count named is places false e = sym is ∙ no-holders f.holders (or_parts named (nat_lt 0 f.holders) e).1
 
 reached-settled : (names : List Name) (file : ℕ) (f : files.File) (old : Option files.File) (count : ℕ) → f.holders ≡ count → ((at : ℕ) → IsIn old at → at ≤ length f.bytes) → IsSettled (if_reached names file f) old count
 reached-settled names file f old count is places = reached-by f old count (has_name names file) is places (has_name names file || nat_lt 0 f.holders) refl
@@ -138,13 +132,9 @@ released-by r n file position d is sound (Some f) found =
     (known-set r.files r.descriptions n None sound.known tt) sound.held
 
 gone-sound : (r : Resources) (n : ℕ) (what : Description) (d : ℕ) → nth r.descriptions n ≡ Some (record { what = what; descriptors = d }) → IsSound r → IsSound (record { files = settled_files (Some what) r.files; descriptions = set r.descriptions n None })
-gone-sound r n Console d is sound = other-gone r n (record { what = Console; descriptors = d }) is (λ m. refl) sound
 gone-sound r n (File file position) d is sound = released-by r n file position d is sound (nth r.files.all file) refl
-gone-sound r n (Reader pipe) d is sound = other-gone r n (record { what = Reader pipe; descriptors = d }) is (λ m. refl) sound
-gone-sound r n (Writer pipe) d is sound = other-gone r n (record { what = Writer pipe; descriptors = d }) is (λ m. refl) sound
-gone-sound r n (Connection reads writes) d is sound = other-gone r n (record { what = Connection reads writes; descriptors = d }) is (λ m. refl) sound
-gone-sound r n (Listener port) d is sound = other-gone r n (record { what = Listener port; descriptors = d }) is (λ m. refl) sound
 gone-sound r n (Device device) d is sound = absurd (known-at r n (record { what = Device device; descriptors = d }) is sound)
+gone-sound r n e d is sound = other-gone r n (record { what = e; descriptors = d }) is (λ m. refl) sound
 
 fewer-more : (r : Resources) (n : ℕ) (o : Opened) → nth r.descriptions n ≡ Some o → IsSound r → (b : Bool) → IsSound (record { files = settled_files (cond b None (Some o.what)) r.files; descriptions = cond b (set r.descriptions n (Some (with_count (λ c. c - 1) o))) (set r.descriptions n None) })
 fewer-more r n o is sound true = changed-sound r n o (with_count (λ c. c - 1) o) is (λ m. refl) (known-at r n o is sound) sound
@@ -167,13 +157,8 @@ also_held-changes r n = record { kernel = λ k. ap (λ (ds : List (Option Opened
 
 -- a place in the same file
 same-file : (what : Description) (file position m : ℕ) → is_of file what ≡ true → is_of m (File file position) ≡ is_of m what
-same-file Console file position m is = absurd (true≢false (sym is))
 same-file (File n at) file position m is = ap (λ (i : ℕ). i == m) (sym (eqb-true n file is))
-same-file (Reader pipe) file position m is = absurd (true≢false (sym is))
-same-file (Writer pipe) file position m is = absurd (true≢false (sym is))
-same-file (Connection reads writes) file position m is = absurd (true≢false (sym is))
-same-file (Listener port) file position m is = absurd (true≢false (sym is))
-same-file (Device device) file position m is = absurd (true≢false (sym is))
+same-file _ file position m is = absurd (true≢false (sym is))
 
 moved-by : (r : Resources) (n file position : ℕ) → IsSound r → IsIn (nth r.files.all file) position → (o : Option Opened) → nth r.descriptions n ≡ o → IfSome o (λ d. is_of file d.what ≡ true) → IsSound (record r { descriptions = set r.descriptions n (option_map (with_what (File file position)) o) })
 moved-by r n file position sound inside None is own = subst (λ (ds : List (Option Opened)). IsSound (record r { descriptions = ds })) (sym (set-none r.descriptions n is)) sound
@@ -224,14 +209,6 @@ pub there-in : (o : Option files.File) (at : ℕ) → IsIn o at → is_some o �
 there-in None at inside = absurd inside
 there-in (Some f) at inside = refl
 
-pub place-in : (o : Option files.File) (at : ℕ) → IsIn o at → IfSome o (λ f. at ≤ length f.bytes)
-place-in None at inside = tt
-place-in (Some f) at inside = inside
-
-pub in-place : (o : Option files.File) (at : ℕ) → is_some o ≡ true → IfSome o (λ f. at ≤ length f.bytes) → IsIn o at
-in-place None at there inside = cc
-in-place (Some f) at there inside = inside
-
 few-by : (r : Resources) (file : ℕ) → (o : Option files.File) → IfSome o (λ f. f.holders ≡ holders_of file r.descriptions) → length r.descriptions < 2 ^ 31 → IfSome o (λ f. f.holders < 2 ^ 31)
 few-by r file None held few = tt
 few-by r file (Some f) held few = omega (arith, held, few, holders-few file r.descriptions)
@@ -270,13 +247,8 @@ last-file r n file position sound is =
     (some-holder r n file position (nth r.descriptions n) refl is (last-of (nth r.descriptions n) (File file position) is))
 
 pub last-holds : (r : Resources) (n : ℕ) (what : Description) → IsSound r → last_of (nth r.descriptions n) ≡ Some what → HoldsFile r.files what
-last-holds r n Console sound is = tt
 last-holds r n (File file position) sound is = (there-in (nth r.files.all file) position (last-known r n (File file position) sound is), last-file r n file position sound is)
-last-holds r n (Reader pipe) sound is = tt
-last-holds r n (Writer pipe) sound is = tt
-last-holds r n (Connection reads writes) sound is = tt
-last-holds r n (Listener port) sound is = tt
-last-holds r n (Device device) sound is = tt
+last-holds r n _ sound is = tt
 
 -- resources with one descriptor fewer, once the files are settled
 module _ (r : Resources) (n : ℕ) (what : Option Description) (all : Files) (ds : List (Option Opened)) (last : last_of (nth r.descriptions n) ≡ what) (less : ds ≡ fewer n (nth r.descriptions n) r.descriptions) (settled : all ≡ settled_files what r.files) where

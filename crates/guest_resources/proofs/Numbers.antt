@@ -1,13 +1,8 @@
 -- Things by number, after one of them changes.
-use Rattle.std.proofs.Common.{◌≡◌, ℕ, zero, suc, ◌<◌, true, List, [], ◌∷◌, ◌++◌, length, set, Option, None, is_some, refl, sym, ap, arith, true≢false}
+use Rattle.std.proofs.Common.{◌≡◌, ℕ, zero, suc, true, List, [], ◌∷◌, ◌++◌, length, set, Option, None, is_some, refl, sym, ap, true≢false}
 use Rattle.parts_model.specs.Numbered.{nth}
 
 module _ {A : Type 0} where
-  pub nth-within : (all : List (Option A)) (n : ℕ) → is_some (nth all n) ≡ true → n < length all
-  nth-within [] n there = absurd (true≢false (sym there))
-  nth-within (x ∷ all) zero there = omega arith
-  nth-within (x ∷ all) (suc n) there = omega (arith, nth-within all n there)
-
   pub nth-set : (all : List (Option A)) (n : ℕ) (v : Option A) → is_some (nth all n) ≡ true → nth (set all n v) n ≡ v
   nth-set [] n v there = absurd (true≢false (sym there))
   nth-set (x ∷ all) zero v there = refl
@@ -33,9 +28,8 @@ module _ {A : Type 0} where
 
   pub nth-add_other : (all : List (Option A)) (x : Option A) (n : ℕ) → (n ≡ length all → ⊥) → nth (all ++ x ∷ []) n ≡ nth all n
   nth-add_other [] x zero other = absurd (other refl)
-  nth-add_other [] x (suc n) other = refl
-  nth-add_other (y ∷ all) x zero other = refl
   nth-add_other (y ∷ all) x (suc n) other = nth-add_other all x n (λ (e : n ≡ length all). other (ap (λ (k : ℕ). suc k) e))
+  nth-add_other _ x _ other = refl
 
   pub nth-behind : (all : List (Option A)) → nth all (length all) ≡ None
   nth-behind [] = refl

@@ -1,25 +1,13 @@
 -- For one descriptor after the other one more stands for what it does.
-use Rattle.std.proofs.Common.{◌≡◌, ℕ, ◌+◌, ◌-◌, ◌<◌, ◌≤◌, ◌==◌, ◌^◌, Bool, true, false, ◌&&◌, List, [], ◌∷◌, length, set, drop, get_or, Option, None, Some, is_some, option_map, refl, sym, ap, ◌∙◌, arith, subst}
+use Rattle.std.proofs.Common.{◌≡◌, ℕ, ◌+◌, ◌-◌, ◌<◌, ◌≤◌, ◌==◌, ◌^◌, Bool, true, false, List, [], ◌∷◌, length, set, drop, get_or, Option, None, Some, is_some, option_map, refl, sym, ap, ◌∙◌, arith, subst}
 use Rattle.std.specs.List.{list_all}
-use Rattle.std.proofs.lemmas.Bool.{eqb-true, eqb-false, lt-ltb, ltb-true}
+use Rattle.std.proofs.lemmas.Bool.{eqb-true, eqb-false, lt-ltb, ltb-true, and_from, and_parts}
 use Rattle.std.proofs.lemmas.List.{drop_all, drop_more}
 use Rattle.parts_model.specs.Numbered.{nth}
 use Rattle.arn_model.specs.Kernel.{Kernel, Opened, all_also_held, at_first, with_count}
 use Rattle.guest_resources.specs.Resources.{Resources, Changes, with_resources}
 use Rattle.guest_resources.specs.Rooms.{fits, has_room, have_room}
 use Rattle.guest_resources.proofs.Numbers.{nth-set, nth-set_other, set-none}
-
-both-left : (a b : Bool) → (a && b) ≡ true → a ≡ true
-both-left true b e = refl
-both-left false b e = e
-
-both-right : (a b : Bool) → (a && b) ≡ true → b ≡ true
-both-right true b e = e
-both-right false b e = cc
-
-both : (a b : Bool) → a ≡ true → b ≡ true → (a && b) ≡ true
-both true b is rest = rest
-both false b is rest = is
 
 -- fewer fit as well
 fewer-fit : (c e : ℕ) (o : Option Opened) → e ≤ c → fits c o ≡ true → fits e o ≡ true
@@ -62,7 +50,7 @@ module _ (r s : Resources) (x : Option ℕ) (changes : Changes r (all_also_held 
   rooms-after c (y ∷ ns) room =
       let first : Bool = has_room (c + 1) r.descriptions y in
       let rest : Bool = list_all (has_room (c + 1) r.descriptions) ns in
-      both (has_room c s.descriptions y) (list_all (has_room c s.descriptions) ns) (room-after c y (both-left first rest room)) (rooms-after c ns (both-right first rest room))
+      and_from (has_room c s.descriptions y) (list_all (has_room c s.descriptions) ns) (room-after c y (and_parts first rest room).0) (rooms-after c ns (and_parts first rest room).1)
 
 -- what those descriptors from a place on stand for is held, and has room
 pub record IsHolding (ds : List (Option ℕ)) (i : ℕ) (old new : Resources) : Type 0 where
@@ -88,7 +76,7 @@ rooms-at ds i d old new within holding =
 pub next-room : (ds : List (Option ℕ)) (i : ℕ) (d : Option ℕ) (old new : Resources) → i < length ds → IsHolding ds i old new → has_room 1 new.descriptions (get_or ds i d) ≡ true
 next-room ds i d old new within holding =
     fewer-room (length ds - (i + 1) + 1) 1 new.descriptions (get_or ds i d) (omega arith)
-    (both-left (has_room (length ds - (i + 1) + 1) new.descriptions (get_or ds i d)) (list_all (has_room (length ds - (i + 1) + 1) new.descriptions) (drop (i + 1) ds)) (rooms-at ds i d old new within holding))
+    (and_parts (has_room (length ds - (i + 1) + 1) new.descriptions (get_or ds i d)) (list_all (has_room (length ds - (i + 1) + 1) new.descriptions) (drop (i + 1) ds)) (rooms-at ds i d old new within holding)).0
 
 pub holding-next : (ds : List (Option ℕ)) (i : ℕ) (d : Option ℕ) (old mid new : Resources) → i < length ds → IsHolding ds i old mid → Changes mid (all_also_held (get_or ds i d ∷ [])) new → IsHolding ds (i + 1) old new
 holding-next ds i d old mid new within holding changes =
@@ -99,7 +87,7 @@ holding-next ds i d old mid new within holding changes =
           ∙ (ap (λ (l : List (Option ℕ)). all_also_held l (with_resources mid k)) (sym (drop_more ds i d within)) ∙ holding.held k));
       room =
           rooms-after mid new (get_or ds i d) changes (length ds - (i + 1)) (drop (i + 1) ds)
-          (both-right (has_room (length ds - (i + 1) + 1) mid.descriptions (get_or ds i d)) (list_all (has_room (length ds - (i + 1) + 1) mid.descriptions) (drop (i + 1) ds)) (rooms-at ds i d old mid within holding));
+          (and_parts (has_room (length ds - (i + 1) + 1) mid.descriptions (get_or ds i d)) (list_all (has_room (length ds - (i + 1) + 1) mid.descriptions) (drop (i + 1) ds)) (rooms-at ds i d old mid within holding)).1;
     }
 
 pub all-held : (ds : List (Option ℕ)) (i : ℕ) (old new : Resources) → length ds ≤ i → IsHolding ds i old new → Changes old (all_also_held ds) new

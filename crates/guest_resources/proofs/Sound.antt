@@ -2,9 +2,9 @@
 use Rattle.std.proofs.Common.{◌≡◌, ℕ, zero, suc, ◌+◌, ◌≤◌, ◌==◌, Bool, true, false, List, [], ◌∷◌, ◌++◌, length, set, Option, None, Some, IfSome, is_some, refl, sym, ap, arith, subst, true≢false}
 use Rattle.std.proofs.lemmas.Bool.{eqb-true, eqb-false}
 use Rattle.parts_model.specs.declared.open.Description.{Description}
-use Rattle.parts_model.specs.declared.open.Description.TheVariants.{Console, File, Reader, Writer, Connection, Listener, Device}
+use Rattle.parts_model.specs.declared.open.Description.TheVariants.{Console, File, Reader, Device}
 use Rattle.parts_model.specs.Files as files
-use Rattle.parts_model.specs.Files.{Files, Name, has_name, if_reached}
+use Rattle.parts_model.specs.Files.{Files, Name}
 use Rattle.parts_model.specs.Numbered.{nth}
 use Rattle.arn_model.specs.Kernel.{Opened}
 use Rattle.guest_resources.specs.Resources.{IsIn, IsKnown, AreKnown, IsSound, is_of, one_if, holding, holders_of}
@@ -56,10 +56,7 @@ known-isnt all m (File file position) none is = by (file == m) refl
     by true e = absurd (subst (λ (o : Option files.File). IsIn o position) none (subst (λ (i : ℕ). IsIn (nth all.all i) position) (eqb-true file m e) is))
     by false e = refl
 known-isnt all m (Reader pipe) none is = refl
-known-isnt all m (Writer pipe) none is = refl
-known-isnt all m (Connection reads writes) none is = refl
-known-isnt all m (Listener port) none is = refl
-known-isnt all m (Device device) none is = refl
+known-isnt all m _ none is = refl
 
 known-holds : (all : Files) (m : ℕ) (o : Option Opened) → nth all.all m ≡ None → IfSome o (λ d. IsKnown all d.what) → holding m o ≡ 0
 known-holds all m None none is = refl
@@ -78,11 +75,8 @@ module _ (old new : Files) (file : ℕ) (others : (n at : ℕ) → (n ≡ file �
       by : (b : Bool) → (n == file) ≡ b → IsIn (nth new.all n) position
       by true e = subst (λ (i : ℕ). IsIn (nth new.all i) position) (sym (eqb-true n file e)) (own e position (subst (λ (i : ℕ). IsIn (nth old.all i) position) (eqb-true n file e) is))
       by false e = others n position (eqb-false n file e) is
-  kept-what (Reader pipe) own is = tt
-  kept-what (Writer pipe) own is = tt
-  kept-what (Connection reads writes) own is = tt
-  kept-what (Listener port) own is = tt
   kept-what (Device device) own is = absurd is
+  kept-what _ own is = tt
 
   kept-one : (o : Option Opened) → ((at : ℕ) → IsIn (nth old.all file) at → IsIn (nth new.all file) at) → IfSome o (λ d. IsKnown old d.what) → IfSome o (λ d. IsKnown new d.what)
   kept-one None own is = tt
