@@ -1,6 +1,5 @@
 -- 32 bits count the places of all bytes that are written.
-use Rattle.std.proofs.Common.{◌≡◌, ℕ, zero, suc, ◌+◌, ◌-◌, ◌<◌, ◌^◌, Bool, true, false, cond, nat_le, List, [], ◌∷◌, length, filter, Option, Some, None, IfSome, slice_get, option_map, ◌==◌, refl, sym, ap, subst, ◌∙◌, arith}
-use Rattle.std.specs.Prelude.{All}
+use Rattle.std.proofs.Common.{◌≡◌, ℕ, zero, suc, ◌+◌, ◌-◌, ◌<◌, ◌^◌, Bool, true, false, cond, nat_le, List, [], ◌∷◌, length, filter, Option, Some, None, IfSome, slice_get, option_map, ◌==◌, refl, sym, ap, subst, ◌∙◌, arith, All}
 use Rattle.std.specs.List.{cons_option}
 use Rattle.std.proofs.lemmas.List.Elements.{All-nil, All-cons, All-head, All-tail, All-filter, All-map}
 use Rattle.std.proofs.lemmas.Option.{slice_get_within}
@@ -60,26 +59,12 @@ counted-bytes m file writes short =
 -- events are short, and so is what they write
 write-short : (k : ℕ) (e : Record) → event_len e < 2 ^ 32 → IfSome (written_by k e) (λ w. length w.bytes < 2 ^ 32)
 write-short k (entry.File path bytes) short = short
-write-short k (entry.Boot path give) short = tt
-write-short k (entry.Typed bytes) short = tt
-write-short k (entry.Unplug device) short = tt
-write-short k (entry.Slice pid ran) short = tt
-write-short k (entry.Signal pid signal cut handler) short = tt
-write-short k (entry.End pid status) short = tt
 write-short k (entry.Call pid number result (extra.Put file at bytes)) short = by_test (number == WRITE)
   where
     by_test : (t : Bool) → IfSome (cond t (Some (let w : Written = record { file = file; at = at; bytes = bytes } in w)) None) (λ w. length w.bytes < 2 ^ 32)
     by_test true = short
     by_test false = tt
-write-short k (entry.Call pid number result extra.Nothing) short = tt
-write-short k (entry.Call pid number result (extra.Give give)) short = tt
-write-short k (entry.Call pid number result (extra.Start start)) short = tt
-write-short k (entry.Call pid number result (extra.Console bytes)) short = tt
-write-short k (entry.Call pid number result (extra.Reply device bytes)) short = tt
-write-short k (entry.Call pid number result extra.Fault) short = tt
-write-short k (entry.Call pid number result extra.Absent) short = tt
-write-short k (entry.Call pid number result (extra.Name file path)) short = tt
-write-short k (entry.Call pid number result (extra.Sent device bytes)) short = tt
+write-short k _ short = tt
 
 pub writes-short : (b : Before) (entries : List Record) → All (λ e. event_len e < 2 ^ 32) entries → All IsShortAt (writes_in b entries)
 writes-short b [] short = All-nil IsShortAt

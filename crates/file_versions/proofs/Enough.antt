@@ -1,7 +1,6 @@
 -- Enough cells hold what a file holds.
-use Rattle.std.proofs.Common.{◌≡◌, inl, inr, ℕ, zero, suc, ◌+◌, ◌-◌, ◌<◌, ◌≤◌, ◌||◌, Bool, true, false, cond, nat_lt, nat_le, ◌==◌, List, [], ◌∷◌, length, Option, Some, None, is_some, replicate, refl, sym, ap, ◌∙◌, arith, subst}
+use Rattle.std.proofs.Common.{◌≡◌, inl, inr, ℕ, zero, suc, ◌+◌, ◌-◌, ◌<◌, ◌≤◌, ◌||◌, Bool, true, false, cond, nat_lt, nat_le, ◌==◌, List, [], ◌∷◌, length, Option, Some, None, is_some, replicate, refl, sym, ap, ◌∙◌, arith, subst, eqb-true}
 use Rattle.std.proofs.lemmas.Bool.Decides.{nat_tests}
-use Rattle.std.proofs.lemmas.Bool.{eqb-true}
 use Rattle.std.proofs.lemmas.List.{length-replicate}
 use Rattle.std.proofs.lemmas.Option.{slice_get_past}
 use Rattle.parts_model.specs.declared.tagged.TaggedByte.{TaggedByte}
@@ -13,9 +12,8 @@ use Rattle.file_versions.specs.Cells.{filled, written_len, AreCells, IsRoom}
 filled-list : (cells : ℕ → Option TaggedByte) (list : List (Option TaggedByte)) (p : ℕ) → ((k : ℕ) → k < length list → nth list k ≡ cells (p + k)) → filled list ≡ filled_from cells p (length list)
 filled-list cells [] p same = refl
 filled-list cells (c ∷ list) p same =
-    let first : c ≡ cells p = same 0 (omega arith) ∙ ap cells (omega arith) in
     let rest : filled list ≡ filled_from cells (p + 1) (length list) = filled-list cells list (p + 1) (λ k h. same (suc k) (omega (arith, h)) ∙ ap cells (omega arith)) in
-    ap (λ (x : Option TaggedByte). onto_filled x (filled list)) first ∙ ap (onto_filled (cells p)) rest
+    ap (λ (x : Option TaggedByte). onto_filled x (filled list)) (same 0 (omega arith) ∙ ap cells (omega arith)) ∙ ap (onto_filled (cells p)) rest
 
 -- an empty cell ends them
 ends-here : (cells : ℕ → Option TaggedByte) (p n : ℕ) → cells p ≡ None → filled_from cells p n ≡ []
@@ -31,8 +29,7 @@ ends-at cells p (suc n) (suc m) q more from to none =
   where
     by_test : (b : Bool) → (q == p) ≡ b → (p + 1 ≤ q → filled_from cells (p + 1) n ≡ filled_from cells (p + 1) m) → filled_from cells p (suc n) ≡ filled_from cells p (suc m)
     by_test true e rest =
-        let here : q ≡ p = eqb-true q p e in
-        let empty : cells p ≡ None = ap cells (sym here) ∙ none in
+        let empty : cells p ≡ None = ap cells (sym (eqb-true q p e)) ∙ none in
         ends-here cells p (suc n) empty ∙ sym (ends-here cells p (suc m) empty)
     by_test false e rest = ap (onto_filled (cells p)) (rest (grind (arith, nat_tests)))
 
@@ -64,9 +61,7 @@ count-or a b (suc n) = by_tests (a n) (b n) (count-or a b n)
   where
     by_tests : (s t : Bool) → count (λ k. a k || b k) n ≤ count a n + count b n → cond (s || t) 1 0 + count (λ k. a k || b k) n ≤ cond s 1 0 + count a n + (cond t 1 0 + count b n)
     by_tests true true h = omega (arith, h)
-    by_tests true false h = omega (arith, h)
-    by_tests false true h = omega (arith, h)
-    by_tests false false h = omega (arith, h)
+    by_tests _ _ h = omega (arith, h)
 
 -- a write holds as many as it has bytes
 abbrev is_laid : Write → ℕ → Bool

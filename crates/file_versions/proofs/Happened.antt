@@ -1,6 +1,5 @@
 -- What is kept of names and writes is what has happened of them by each moment.
-use Rattle.std.proofs.Common.{◌≡◌, ℕ, ◌+◌, ◌<◌, ◌≤◌, ◌^◌, ◌&&◌, Bool, true, false, cond, nat_le, List, [], ◌∷◌, map, filter, Option, Some, None, option_map, bytes_eq, refl, sym, ap, ◌∙◌, arith, add-zero, subst}
-use Rattle.std.specs.Prelude.{All}
+use Rattle.std.proofs.Common.{◌≡◌, ℕ, ◌+◌, ◌<◌, ◌≤◌, ◌^◌, ◌&&◌, Bool, true, false, cond, nat_le, List, [], ◌∷◌, map, filter, Option, Some, None, option_map, bytes_eq, refl, sym, ap, ◌∙◌, arith, add-zero, subst, All}
 use Rattle.std.specs.List.{cons_option}
 use Rattle.std.proofs.lemmas.Bool.Decides.{nat_tests}
 use Rattle.arn_base.specs.declared.records.Record.{Record}
@@ -36,14 +35,9 @@ happens m begins ends n e entries before reached = by_entry e
     was = grind (arith, nat_tests)
 
     by_entry : (e : Record) → events_from m begins ends n (e ∷ entries) ≡ cons_if (is_event e) (numbered n e) (events_from m (begin_after begins ends e) (ends + ran_in e) (n + events_in e) entries)
-    by_entry (entry.File path bytes) = rw (is, add-zero) refl
-    by_entry (entry.Boot path give) = rw (is, add-zero) refl
-    by_entry (entry.Typed bytes) = rw (is, add-zero) refl
-    by_entry (entry.Unplug device) = rw (is, add-zero) refl
     by_entry (entry.Slice pid ran) = rw add-zero refl
     by_entry (entry.Signal pid signal cut handler) = rw (was, add-zero) refl
-    by_entry (entry.Call pid number result more) = rw (is, add-zero) refl
-    by_entry (entry.End pid status) = rw (is, add-zero) refl
+    by_entry _ = rw (is, add-zero) refl
 
 -- and past it only deliveries have
 abbrev IsDelivery : Record → Type 0
@@ -67,15 +61,10 @@ only-deliveries m begins ends n (e ∷ entries) past =
     by_test false e events is are = are
 
     by_entry : (e : Record) → AreDeliveries (events_from m begins ends (n + 1) entries) → ((ran : ℕ) → AreDeliveries (events_from m ends (ends + ran) n entries)) → AreDeliveries (events_from m begins ends n (e ∷ entries))
-    by_entry (entry.File path bytes) later behind = rw isnt later
-    by_entry (entry.Boot path give) later behind = rw isnt later
-    by_entry (entry.Typed bytes) later behind = rw isnt later
-    by_entry (entry.Unplug device) later behind = rw isnt later
     by_entry (entry.Slice pid ran) later behind = behind ran
     by_entry (entry.Signal pid signal cut handler) later behind =
         by_test (nat_le begins m) (numbered n (entry.Signal pid signal cut handler)) (events_from m begins ends (n + 1) entries) tt later
-    by_entry (entry.Call pid number result more) later behind = rw isnt later
-    by_entry (entry.End pid status) later behind = rw isnt later
+    by_entry _ later behind = rw isnt later
 
 -- these change no name, and write nothing
 name-kept : (k : ℕ) (events : List Numbered) (name : List ℕ) (x : Option ℕ) → AreDeliveries events → named_from k (map (λ e. e.entry) events) name x ≡ x
@@ -84,13 +73,7 @@ name-kept k (e ∷ events) name x are = by_entry e.entry are.0 (name-kept k even
   where
     by_entry : (r : Record) → IsDelivery r → named_from k (map (λ e. e.entry) events) name x ≡ x → named_from k (r ∷ map (λ e. e.entry) events) name x ≡ x
     by_entry (entry.Signal pid signal cut handler) is rest = rest
-    by_entry (entry.File path bytes) is rest = absurd is
-    by_entry (entry.Boot path give) is rest = absurd is
-    by_entry (entry.Typed bytes) is rest = absurd is
-    by_entry (entry.Unplug device) is rest = absurd is
-    by_entry (entry.Slice pid ran) is rest = absurd is
-    by_entry (entry.Call pid number result more) is rest = absurd is
-    by_entry (entry.End pid status) is rest = absurd is
+    by_entry _ is rest = absurd is
 
 nothing-written : (k : ℕ) (events : List Numbered) → AreDeliveries events → writes_from k events ≡ []
 nothing-written k [] are = refl
@@ -98,13 +81,7 @@ nothing-written k (e ∷ events) are = by_entry e.entry are.0 (nothing-written (
   where
     by_entry : (r : Record) → IsDelivery r → writes_from (k + 0) events ≡ [] → cons_option (option_map (write_of e.number) (written_by k r)) (writes_from (k + brought_by r) events) ≡ []
     by_entry (entry.Signal pid signal cut handler) is rest = rest
-    by_entry (entry.File path bytes) is rest = absurd is
-    by_entry (entry.Boot path give) is rest = absurd is
-    by_entry (entry.Typed bytes) is rest = absurd is
-    by_entry (entry.Unplug device) is rest = absurd is
-    by_entry (entry.Slice pid ran) is rest = absurd is
-    by_entry (entry.Call pid number result more) is rest = absurd is
-    by_entry (entry.End pid status) is rest = absurd is
+    by_entry _ is rest = absurd is
 
 -- the file that a name stands for after a record, where so many files were brought before it
 abbrev name_by : ℕ → List ℕ → Record → Option ℕ → Option ℕ
@@ -113,13 +90,7 @@ name_by k name other x = named_by (name_told other) name x
 
 names-next : (k : ℕ) (e : Record) (entries : List Record) (name : List ℕ) (x : Option ℕ) → named_from k (e ∷ entries) name x ≡ named_from (k + brought_by e) entries name (name_by k name e x)
 names-next k (entry.File path bytes) entries name x = refl
-names-next k (entry.Boot path give) entries name x = rw add-zero refl
-names-next k (entry.Typed bytes) entries name x = rw add-zero refl
-names-next k (entry.Unplug device) entries name x = rw add-zero refl
-names-next k (entry.Slice pid ran) entries name x = rw add-zero refl
-names-next k (entry.Signal pid signal cut handler) entries name x = rw add-zero refl
-names-next k (entry.Call pid number result more) entries name x = rw add-zero refl
-names-next k (entry.End pid status) entries name x = rw add-zero refl
+names-next k _ entries name x = rw add-zero refl
 
 -- a change of a name that there may be
 abbrev after_if : ℕ → List ℕ → Option NameAt → Option ℕ → Option ℕ
@@ -153,13 +124,7 @@ change-is m name b (entry.File path bytes) x = by_test (nat_le b.ran m)
     by_test : (t : Bool) → cond (t && bytes_eq path name) (Some b.files) x ≡ cond t (cond (bytes_eq path name) (Some b.files) x) x
     by_test true = refl
     by_test false = refl
-change-is m name b (entry.Boot path give) x = changed-is m name b.ran NoName x
-change-is m name b (entry.Typed bytes) x = changed-is m name b.ran NoName x
-change-is m name b (entry.Unplug device) x = changed-is m name b.ran NoName x
-change-is m name b (entry.Slice pid ran) x = changed-is m name b.ran NoName x
-change-is m name b (entry.Signal pid signal cut handler) x = changed-is m name b.ran NoName x
-change-is m name b (entry.Call pid number result more) x = changed-is m name b.ran (name_told (entry.Call pid number result more)) x
-change-is m name b (entry.End pid status) x = changed-is m name b.ran NoName x
+change-is m name b e x = changed-is m name b.ran (name_told e) x
 
 -- past a moment, no name changes any more
 names-past : (m : ℕ) (name : List ℕ) (b : Before) (entries : List Record) (x : Option ℕ) → m < b.ran → named_until m name (names_in b entries) x ≡ x
@@ -174,34 +139,16 @@ names-past m name b (e ∷ entries) x past =
 -- a slice changes none
 no-event : (k : ℕ) (name : List ℕ) (e : Record) (x : Option ℕ) → is_event e ≡ false → name_by k name e x ≡ x
 no-event k name (entry.Slice pid ran) x isnt = refl
-no-event k name (entry.File path bytes) x isnt = cc
-no-event k name (entry.Boot path give) x isnt = cc
-no-event k name (entry.Typed bytes) x isnt = cc
-no-event k name (entry.Unplug device) x isnt = cc
-no-event k name (entry.Signal pid signal cut handler) x isnt = cc
-no-event k name (entry.Call pid number result more) x isnt = cc
-no-event k name (entry.End pid status) x isnt = cc
+no-event k name _ x isnt = cc
 
 no-file : (k : ℕ) (e : Record) → is_event e ≡ false → k + brought_by e ≡ k
 no-file k (entry.Slice pid ran) isnt = add-zero k
-no-file k (entry.File path bytes) isnt = cc
-no-file k (entry.Boot path give) isnt = cc
-no-file k (entry.Typed bytes) isnt = cc
-no-file k (entry.Unplug device) isnt = cc
-no-file k (entry.Signal pid signal cut handler) isnt = cc
-no-file k (entry.Call pid number result more) isnt = cc
-no-file k (entry.End pid status) isnt = cc
+no-file k _ isnt = cc
 
 -- the slice at hand begins before it ends
 begins-before : (begins ends : ℕ) (e : Record) → begins ≤ ends → begin_after begins ends e ≤ ends + ran_in e
 begins-before begins ends (entry.File path bytes) before = omega (arith, before)
-begins-before begins ends (entry.Boot path give) before = omega (arith, before)
-begins-before begins ends (entry.Typed bytes) before = omega (arith, before)
-begins-before begins ends (entry.Unplug device) before = omega (arith, before)
-begins-before begins ends (entry.Slice pid ran) before = omega (arith, before)
-begins-before begins ends (entry.Signal pid signal cut handler) before = omega (arith, before)
-begins-before begins ends (entry.Call pid number result more) before = omega (arith, before)
-begins-before begins ends (entry.End pid status) before = omega (arith, before)
+begins-before begins ends _ before = omega (arith, before)
 
 names-told : (m : ℕ) (name : List ℕ) (b : Before) (begins : ℕ) (entries : List Record) (x : Option ℕ) → begins ≤ b.ran
     → named_until m name (names_in b entries) x ≡ named_from b.files (map (λ e. e.entry) (events_from m begins b.ran b.events entries)) name x
@@ -252,13 +199,7 @@ written-past m file b (e ∷ entries) past = by_write (written_by b.files e) (wr
 
 no-write : (k : ℕ) (e : Record) → is_event e ≡ false → written_by k e ≡ None
 no-write k (entry.Slice pid ran) isnt = refl
-no-write k (entry.File path bytes) isnt = cc
-no-write k (entry.Boot path give) isnt = cc
-no-write k (entry.Typed bytes) isnt = cc
-no-write k (entry.Unplug device) isnt = cc
-no-write k (entry.Signal pid signal cut handler) isnt = cc
-no-write k (entry.Call pid number result more) isnt = cc
-no-write k (entry.End pid status) isnt = cc
+no-write k _ isnt = cc
 
 writes-told : (m file : ℕ) (b : Before) (begins : ℕ) (entries : List Record) → begins ≤ b.ran
     → writes_until m file (writes_in b entries) ≡ filter (is_to file) (writes_from b.files (events_from m begins b.ran b.events entries))

@@ -14,10 +14,9 @@ is_name name key = bytes_eq name key.now
 
 -- two tests that hold together are the same
 same_test : (a b : Bool) → (a ≡ true → b ≡ true) → (b ≡ true → a ≡ true) → a ≡ b
-same_test true true f g = refl
 same_test true false f g = sym (f refl)
 same_test false true f g = g refl
-same_test false false f g = refl
+same_test _ _ f g = refl
 
 bytes_eq-swap : (xs ys : List ℕ) → bytes_eq xs ys ≡ bytes_eq ys xs
 bytes_eq-swap xs ys =
@@ -51,8 +50,7 @@ changes_of-set_other path name (e ∷ es) v other = by_test (bytes_eq path e.0.n
   where
     by_test : (b : Bool) → bytes_eq path e.0.now ≡ b → changes_of name (names_of (set_value (is_name path) es v)) ≡ changes_of name (names_of es) → changes_of name (names_of (cond b ((e.0, v) ∷ es) (e ∷ set_value (is_name path) es v))) ≡ changes_of name (names_of (e ∷ es))
     by_test true is rest =
-        let same : path ≡ e.0.now = (bytes_eq-Decides path e.0.now).0 is in
-        let isnt : bytes_eq name e.0.now ≡ false = ap (bytes_eq name) (sym same) ∙ other in
+        let isnt : bytes_eq name e.0.now ≡ false = ap (bytes_eq name) (sym ((bytes_eq-Decides path e.0.now).0 is)) ∙ other in
         ap (λ (t : Bool). cond t v.items (changes_of name (names_of es))) isnt ∙ sym (ap (λ (t : Bool). cond t e.1.items (changes_of name (names_of es))) isnt)
     by_test false is rest = ap (λ (changes : List Change). cond (bytes_eq name e.0.now) e.1.items changes) rest
 

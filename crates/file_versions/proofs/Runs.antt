@@ -1,6 +1,5 @@
 -- Origins grow behind as they grow in front.
-use Rattle.std.proofs.Common.{◌≡◌, ℕ, ◌+◌, ◌<◌, ◌++◌, ◌∙◌, ◌==◌, ◌&&◌, Bool, true, false, cond, List, [], ◌∷◌, Option, None, Some, option_to_list, length, map, take, get_or, append-nil, append_assoc, refl, sym, ap, subst, arith}
-use Rattle.std.proofs.lemmas.Bool.{eqb-true}
+use Rattle.std.proofs.Common.{◌≡◌, ℕ, ◌+◌, ◌<◌, ◌++◌, ◌∙◌, ◌==◌, ◌&&◌, Bool, true, false, cond, List, [], ◌∷◌, Option, None, Some, option_to_list, length, map, take, get_or, append-nil, append_assoc, refl, sym, ap, subst, arith, eqb-true}
 use Rattle.std.proofs.lemmas.List.{take_more, map-append}
 use Rattle.arn_base.specs.declared.records.Src.{Src}
 use Rattle.arn_base.specs.declared.records.Origin.{Origin}
@@ -39,9 +38,8 @@ origins-push (q ∷ places) p = ap (onto_origins q) (origins-push places p) ∙ 
 
 -- a place behind a last origin
 with_place-last : (front : List Origin) (o : Origin) (p : Src) → with_place (front ++ o ∷ []) p ≡ front ++ cond (goes_on o p) (record o { len = o.len + 1 } ∷ []) (o ∷ one_origin p ∷ [])
-with_place-last [] o p = refl
-with_place-last (f ∷ []) o p = refl
 with_place-last (f ∷ g ∷ front) o p = ap (λ (os : List Origin). f ∷ os) (with_place-last (g ∷ front) o p)
+with_place-last _ o p = refl
 
 -- there is a last origin where there is any
 abbrev pub HasLast : List Origin → Option Origin → Type 0

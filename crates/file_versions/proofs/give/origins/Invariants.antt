@@ -1,5 +1,4 @@
-use Rattle.std.proofs.Common.{take}
-use Rattle.std.specs.Prelude.{All}
+use Rattle.std.proofs.Common.{take, All}
 use Rattle.file_versions.specs.Cells.{IsCounted}
 use Rattle.file_versions.proofs.Runs.{AreRuns, places_in}
 use Rattle.file_versions.proofs.give.origins.Given as goal

@@ -1,5 +1,4 @@
-use Rattle.std.proofs.Common.{◌∙◌, drop, length, sym, subst}
-use Rattle.std.proofs.lemmas.List.{take_at}
+use Rattle.std.proofs.Common.{◌∙◌, drop, length, sym, subst, take_at}
 use Rattle.file_versions.specs.Cells.{AreCells}
 use Rattle.file_versions.specs.Tables.{writes_until}
 use Rattle.file_versions.proofs.Enough.{laid-cells}

@@ -1,4 +1,4 @@
-use Rattle.std.proofs.Common.{◌≡◌, ℕ, [], ◌∷◌, ◌++◌, List, None, Some, bytes_eq, ap, sym, ◌∙◌}
+use Rattle.std.proofs.Common.{◌≡◌, ℕ, [], ◌∷◌, ◌++◌, List, None, bytes_eq, ap, sym, ◌∙◌}
 use Rattle.std.specs.Borrow.{Bor}
 use Rattle.std.specs.Global.{Vec}
 use Rattle.std.specs.Map.{lookup}
@@ -13,12 +13,10 @@ use Rattle.file_versions.proofs.names.Names.add.Goals.{in-Some-1, in-None-1}
 pub returns-in_ok-push-in-Some : goal.returns-in_ok-push-in-Some
 returns-in_ok-push-in-Some c m name =
     let es : List (Bor (List ℕ) × Vec Change) = c.self.inside.changes.entries in
-    let key = c.naming.inside.path in
     let change : Change = record { moment = c.naming.inside.moment; file = c.naming.inside.file } in
     let longer = c.push.new.self in
-    let found : lookup (is_name key.now) es ≡ Some c.in-Some.changes.now = sym c.in-Some.ensures.value in
     ap (λ (es : List (Bor (List ℕ) × Vec Change)). file_until m name (names_of es)) (c.get_mut.follows.holds longer).0
-    ∙ file_until-set m name key.now change es c.in-Some.changes.now longer found c.in_ok-push-in-Some.ensures.items
+    ∙ file_until-set m name c.naming.inside.path.now change es c.in-Some.changes.now longer (sym c.in-Some.ensures.value) c.in_ok-push-in-Some.ensures.items
     ∙ ap (λ (n : NameAt). name_after m name n (file_until m name (names_of es))) c.naming.view_is
     ∙ ap (λ (names : List NameChanges). name_after m name c.args.naming.now (file_until m name names)) c.self.view_is
 

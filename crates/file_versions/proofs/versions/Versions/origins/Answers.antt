@@ -1,5 +1,4 @@
-use Rattle.std.proofs.Common.{◌∙◌, Some, List, map, option_map, sym, subst, ap}
-use Rattle.std.specs.Prelude.{All}
+use Rattle.std.proofs.Common.{◌∙◌, Some, List, map, option_map, sym, subst, ap, All}
 use Rattle.arn_base.specs.declared.records.Origin.{Origin}
 use Rattle.parts_model.specs.declared.tagged.TaggedByte.{TaggedByte}
 use Rattle.parts_model.specs.Tagged.{origins_of}
