@@ -1,7 +1,7 @@
 -- Stored origins are of earlier events, where no record is broken.
-use Rattle.std.proofs.Common.{◌≡◌, ℕ, zero, suc, ◌+◌, ◌-◌, ◌<◌, ◌==◌, ◌||◌, ◌&&◌, Bool, true, false, not, if◌then◌else◌, List, [], ◌∷◌, ◌++◌, length, filter, Option, Some, None, refl, ap, sym, ◌∙◌, arith, length-append, nat_lt, subst, slice_get, cond, option_map, option_and_then}
+use Rattle.std.proofs.Common.{◌≡◌, ℕ, zero, suc, ◌+◌, ◌-◌, ◌<◌, ◌==◌, ◌||◌, Bool, true, false, not, if◌then◌else◌, List, [], ◌∷◌, ◌++◌, length, filter, Option, Some, None, refl, ap, sym, ◌∙◌, arith, length-append, nat_lt, subst, slice_get, cond, option_map, option_and_then}
 use Rattle.std.specs.List.{list_all}
-use Rattle.std.proofs.lemmas.Bool.{true≢false}
+use Rattle.std.proofs.lemmas.Bool.{true≢false, and_parts, not-false, or_parts}
 use Rattle.std.proofs.lemmas.Option.{none-some, same_Some, slice_get_within}
 use Rattle.std.proofs.lemmas.List.Elements.{filter-append}
 use Rattle.arn_base.specs.declared.records.Give.{Give}
@@ -16,22 +16,6 @@ use Rattle.lineage_model.specs.Joined.{origin_at, origin_of}
 -- stored origins are of events below n
 abbrev pub AreEarlier : ℕ → Record → Type 0
 AreEarlier n e = (k : ℕ) (src : Src) → origin_of e k ≡ Some src → src.event < n
-
-both_true : (a b : Bool) → (a && b) ≡ true → (a ≡ true) × (b ≡ true)
-both_true true b h = (refl, h)
-both_true false b h = absurd (true≢false (sym h))
-
-right : (a b : Bool) → (a || b) ≡ false → b ≡ false
-right true b h = absurd (true≢false h)
-right false b h = h
-
-left : (a b : Bool) → (a || b) ≡ false → a ≡ false
-left true b h = absurd (true≢false h)
-left false b h = refl
-
-unnot : (b : Bool) → not b ≡ false → b ≡ true
-unnot true h = refl
-unnot false h = absurd (true≢false h)
 
 abbrev rest-number : List Record → Record → Bool
 rest-number before e = misnumbers before (child_in e) || misplaces_start e
@@ -50,10 +34,10 @@ rest-process before e = lacks_process before e || rest-slice before e
 
 has-origins : (before : List Record) (e : Record) → cant_follow before e ≡ false → are_origins before (give_of e) ≡ true
 has-origins before e h =
-    let process = right (comes_wrong before e) (rest-process before e) h in
-    let slice = right (lacks_process before e) (rest-slice before e) process in
-    let origins = right (lacks_slice before e) (rest-origins before e) slice in
-    unnot (are_origins before (give_of e)) (left (not (are_origins before (give_of e))) (rest-blocks before e) origins)
+    let process = (or_parts (comes_wrong before e) (rest-process before e) h).1 in
+    let slice = (or_parts (lacks_process before e) (rest-slice before e) process).1 in
+    let origins = (or_parts (lacks_slice before e) (rest-origins before e) slice).1 in
+    not-false (are_origins before (give_of e)) (or_parts (not (are_origins before (give_of e))) (rest-blocks before e) origins).0
 
 -- an origin lies in an event that is there
 lies-below : (before : List Record) (o : Origin) (e : Option Record) → slice_get (events before) o.event ≡ e → lies_in_event o (option_map event_len e) ≡ true → o.event < length (events before)
@@ -63,7 +47,7 @@ lies-below before o (Some e) is h = slice_get_within (events before) o.event e i
 origin-below : (before : List Record) (origins : List Origin) → list_all (is_origin before) origins ≡ true → (k : ℕ) (src : Src) → origin_at origins k ≡ Some src → src.event < length (events before)
 origin-below before [] all k src is = absurd (none-some src is)
 origin-below before (o ∷ origins) all k src is =
-    let both = both_true (is_origin before o) (list_all (is_origin before) origins) all in
+    let both = and_parts (is_origin before o) (list_all (is_origin before) origins) all in
     by_test (nat_lt k o.len) (lies-below before o (event_at before o.event) refl both.0) (origin-below before origins both.1 (k - o.len) src) is
   where
     by_test : (b : Bool) → o.event < length (events before) → (origin_at origins (k - o.len) ≡ Some src → src.event < length (events before)) → cond b (Some (record { event = o.event; at = o.at + k })) (origin_at origins (k - o.len)) ≡ Some src → src.event < length (events before)
@@ -72,7 +56,7 @@ origin-below before (o ∷ origins) all k src is =
 
 give-below : (before : List Record) (give : Option Give) → are_origins before give ≡ true → (k : ℕ) (src : Src) → option_and_then (λ (g : Give). origin_at g.origins k) give ≡ Some src → src.event < length (events before)
 give-below before None h k src is = absurd (none-some src is)
-give-below before (Some give) h k src is = origin-below before give.origins (both_true (list_all (is_origin before) give.origins) (origins_len give.origins == length give.bytes) h).0 k src is
+give-below before (Some give) h k src is = origin-below before give.origins (and_parts (list_all (is_origin before) give.origins) (origins_len give.origins == length give.bytes) h).0 k src is
 
 module _ (before : List Record) (e : Record) (entries : List Record) where
   follows-by : (b : Bool) → cant_follow before e ≡ b → (if b then Some (length before) else broken_from (before ++ e ∷ []) entries) ≡ None → (b ≡ false) × (broken_from (before ++ e ∷ []) entries ≡ None)
@@ -86,10 +70,9 @@ module _ (before : List Record) (e : Record) (entries : List Record) where
   count-next b is = ap length (filter-append is_event before (e ∷ [])) ∙ (length-append (events before) (filter is_event (e ∷ [])) ∙ ap (λ (n : ℕ). length (events before) + n) (by_test (is_event e) b is))
     where
       by_test : (a b : Bool) → a ≡ b → length (cond a (e ∷ []) []) ≡ cond b 1 0
-      by_test true true h = refl
-      by_test false false h = refl
       by_test true false h = absurd (true≢false h)
       by_test false true h = absurd (true≢false (sym h))
+      by_test _ _ h = refl
 
 earlier-from : (before rest : List Record) → broken_from before rest ≡ None → (j : ℕ) (e : Record) → slice_get (events rest) j ≡ Some e → AreEarlier (length (events before) + j) e
 earlier-from before [] h j e is = absurd (none-some e is)

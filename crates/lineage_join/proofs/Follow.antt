@@ -1,6 +1,7 @@
 -- What waits leads to what its byte is reached by, and so does what is put in its place.
 use Rattle.std.proofs.Common.{◌≡◌, ◌⊎◌, ◌↔◌, ℕ, ◌+◌, ◌*◌, ◌<◌, ◌≤◌, false, List, [], map, flat_map, Contains, Option, Some, None, option_and_then, refl, sym, ap, subst, ◌∙◌, inl, inr, arith}
 use Rattle.std.proofs.lemmas.List.Elements.{All-contains}
+use Rattle.std.proofs.lemmas.Bool.{cond-false}
 use Rattle.arn_base.specs.declared.records.Pair.{Pair}
 use Rattle.arn_base.specs.declared.records.Record.{Record}
 use Rattle.arn_base.specs.declared.records.Src.{Src}
@@ -8,7 +9,7 @@ use Rattle.acts_model.specs.Records.{event_len}
 use Rattle.history_model.specs.Broken.{first_broken}
 use Rattle.history_model.specs.Events.{event_at}
 use Rattle.history_model.specs.Exchanges.{founded}
-use Rattle.lineage_model.specs.Flow.{At, Byte, StartRegister, StartSlot, StartMemory}
+use Rattle.lineage_model.specs.Flow.{At, Byte}
 use Rattle.lineage_model.specs.Joined.{Reaching, is_source, origin_of, from_origin, from_item, from_event, source_byte}
 use Rattle.lineage_model.specs.Tracking.{EventByte}
 use Rattle.set_store.specs.declared.item.Item.{Item}
@@ -24,7 +25,7 @@ use Rattle.lineage_join.proofs.Hits.{mapped, unmapped}
 use Rattle.lineage_join.proofs.Keys.{rank-small}
 use Rattle.lineage_join.proofs.Members.{in-flat, from-flat}
 use Rattle.lineage_join.proofs.Rises.{none_in, front, cases}
-use Rattle.lineage_join.proofs.Stands.{item-stands, kind-of-byte, pass}
+use Rattle.lineage_join.proofs.Stands.{item-stands, kind-of-byte}
 use Rattle.lineage_join.proofs.Unfolds.{goes}
 
 both-lead : (from : Wait → List EventByte) (old more new : List Wait) → HasBoth old more new → (p : Pair) → Leads from new p ↔ (Leads from old p ⊎ Leads from more p)
@@ -73,7 +74,7 @@ module _ (entries : List Record) (items : ℕ → At → List EventByte) (stands
   pub received-followed : (old new : List Wait) (w : Wait) (e : Record) → w.kind ≡ kind.Received → event_at entries w.event ≡ Some e → is_source e ≡ false → HasBoth old (origin_waits w.byte (origin_of e w.at)) new → IsFollowed from old w new
   received-followed old new w e k is plain h =
       let same : from w ≡ from_origin all (origin_of e w.at) =
-      ap (from_kind (event_at entries) all w.event w.at) k ∙ (ap (from_taken all w.event w.at) is ∙ pass (is_source e) (source_byte w.event (event_len e) (Byte w.at)) (from_origin all (origin_of e w.at)) plain) in
+      ap (from_kind (event_at entries) all w.event w.at) k ∙ (ap (from_taken all w.event w.at) is ∙ cond-false (is_source e) (source_byte w.event (event_len e) (Byte w.at)) (from_origin all (origin_of e w.at)) plain) in
       followed from old (origin_waits w.byte (origin_of e w.at)) new w h
       (λ p. subst (λ (l : List EventByte). Leads from (origin_waits w.byte (origin_of e w.at)) p ↔ ((w.byte ≡ p.byte) × Contains l (source_of p))) (sym same) (origin-leads w.byte (origin_of e w.at) p))
       (origin-low w (origin_of e w.at) (λ src o. earlier entries stands w.event e is w.at src o))
@@ -84,9 +85,7 @@ module _ (entries : List Record) (items : ℕ → At → List EventByte) (stands
 
   place-low : (w : Wait) → 1 ≤ rank w.kind → (n : ℕ) (at : At) → IsThere (event_at entries n) at → Precedes n at w.event → n * 3 + rank (kind_by (option_and_then founded (event_at entries n))) < level w
   place-low w high n (Byte k) there low = let none : rank (kind_by (option_and_then founded (event_at entries n))) ≡ 0 = ap rank (kind-of-byte (event_at entries) all n k (event_at entries n) there) in omega arith
-  place-low w high n (StartRegister r i) there low = let small = rank-small (kind_by (option_and_then founded (event_at entries n))) in omega arith
-  place-low w high n (StartSlot r i) there low = let small = rank-small (kind_by (option_and_then founded (event_at entries n))) in omega arith
-  place-low w high n (StartMemory a) there low = let small = rank-small (kind_by (option_and_then founded (event_at entries n))) in omega arith
+  place-low w high n _ there low = let small = rank-small (kind_by (option_and_then founded (event_at entries n))) in omega arith
 
   module _ (w : Wait) (at : At) (its : List Item) (are : AreItems its (items w.event at)) where
     -- what waits by an item is one of a byte
@@ -125,5 +124,5 @@ module _ (entries : List Record) (items : ℕ → At → List EventByte) (stands
     pub items-followed : (old new : List Wait) (e : Record) → from w ≡ all w.event at → 1 ≤ rank w.kind → event_at entries w.event ≡ Some e → is_source e ≡ false → HasBoth old (map (waits w.byte) its) new → IsFollowed from old w new
     items-followed old new e here high is plain h =
         let by : from w ≡ flat_map (from_item (event_at entries) all) (items w.event at) =
-        here ∙ (goes entries items stands fit w.event at ∙ (ap (from_event (event_at entries) all w.event at (items w.event at)) is ∙ pass (is_source e) (source_byte w.event (event_len e) at) (flat_map (from_item (event_at entries) all) (items w.event at)) plain)) in
+        here ∙ (goes entries items stands fit w.event at ∙ (ap (from_event (event_at entries) all w.event at (items w.event at)) is ∙ cond-false (is_source e) (source_byte w.event (event_len e) at) (flat_map (from_item (event_at entries) all) (items w.event at)) plain)) in
         followed from old (map (waits w.byte) its) new w h (items-lead by) (items-low high)

@@ -1,11 +1,8 @@
 -- The pairs that a set holds.
-use Rattle.std.proofs.Common.{◌≡◌, List, [], ◌∷◌, map, Contains, refl, sym, ap, subst, ◌∙◌, inl, inr}
+use Rattle.std.proofs.Common.{◌≡◌, List, [], ◌∷◌, map, Contains, refl, sym, ap, subst, ◌∙◌, inl, inr, nat_cmp, Ordering, Less, Equal}
 use Rattle.std.specs.BTreeSet.{insert_key}
 use Rattle.std.specs.List.{AllByRecursion}
 use Rattle.std.specs.List.Sorted.{IsStrictlySortedBy}
-use Rattle.std.specs.Ordering.{nat_cmp}
-use Rattle.std.specs.declared.cmp.Ordering.{Ordering}
-use Rattle.std.specs.declared.cmp.Ordering.TheVariants.{Less, Equal}
 use Rattle.arn_base.specs.declared.records.Pair.{Pair}
 use Rattle.lineage_join.specs.contracts.found.HitOrd.TheImpl as hit_order
 use Rattle.lineage_join.specs.declared.found.Hit.{Hit}

@@ -1,12 +1,8 @@
 -- How what waits is ordered.
-use Rattle.std.proofs.Common.{◌≡◌, ◌⊎◌, ◌↔◌, ℕ, ◌+◌, ◌*◌, ◌^◌, ◌<◌, ◌≤◌, List, [], ◌∷◌, ◌++◌, Contains, refl, sym, ap, subst, ◌∙◌, inl, inr, arith}
-use Rattle.std.specs.Prelude.{All}
+use Rattle.std.proofs.Common.{◌≡◌, ◌⊎◌, ◌↔◌, ℕ, ◌+◌, ◌*◌, ◌^◌, ◌<◌, ◌≤◌, List, [], ◌∷◌, ◌++◌, Contains, refl, sym, ap, subst, ◌∙◌, inl, inr, arith, All, Ordering, Less, Equal, Greater, IfSome, IfNone}
 use Rattle.std.specs.BTreeSet.{insert_key}
 use Rattle.std.specs.Ordering.{nat_cmp, ordering_then, match_ordering}
-use Rattle.std.specs.declared.cmp.Ordering.{Ordering}
-use Rattle.std.specs.declared.cmp.Ordering.TheVariants.{Less, Equal, Greater}
 use Rattle.std.proofs.lemmas.Cmp.{ranked}
-use Rattle.std.specs.Option.{IfSome, IfNone}
 use Rattle.std.proofs.Common.{Option, Some, None}
 use Rattle.std.proofs.lemmas.Map.Views.{All-insert_key}
 use Rattle.std.proofs.lemmas.List.Elements.{All-contains, All-cons, All-head, All-tail, Contains-push_cases, Contains-append_left, Contains-push}
@@ -42,9 +38,8 @@ then-less Equal p h = inr (refl, h)
 then-less Greater p h = absurd (cc)
 
 pub then-equal : (o p : Ordering) → ordering_then o p ≡ Equal → (o ≡ Equal) × (p ≡ Equal)
-then-equal Less p h = absurd (cc)
 then-equal Equal p h = (refl, h)
-then-equal Greater p h = absurd (cc)
+then-equal _ p h = absurd (cc)
 
 less : (n m : ℕ) → nat_cmp n m ≡ Less → n < m
 less n m h = ranked n m Less (sym h)
@@ -66,22 +61,16 @@ code-less e f k l a b x y r s t h = elim (then-less (nat_cmp e f) _ h) [
 
 pub rank-small : (k : Kind) → rank k < 3
 rank-small kind.Received = omega arith
-rank-small kind.Byte = omega arith
-rank-small kind.Start = omega arith
+rank-small _ = omega arith
 
 pub falls : (v w : Wait) → IsNumbered v → wait_cmp v w ≡ Less → code v < code w
 falls v w n h = code-less v.event w.event (rank v.kind) (rank w.kind) v.at w.at v.byte w.byte (rank-small v.kind) n.at n.byte (sym (by-numbers v.event w.event v.at w.at v.byte w.byte v.kind w.kind) ∙ h)
 
 same-rank : (k l : Kind) → rank k ≡ rank l → k ≡ l
 same-rank kind.Received kind.Received h = refl
-same-rank kind.Received kind.Byte h = absurd (omega arith)
-same-rank kind.Received kind.Start h = absurd (omega arith)
-same-rank kind.Byte kind.Received h = absurd (omega arith)
 same-rank kind.Byte kind.Byte h = refl
-same-rank kind.Byte kind.Start h = absurd (omega arith)
-same-rank kind.Start kind.Received h = absurd (omega arith)
-same-rank kind.Start kind.Byte h = absurd (omega arith)
 same-rank kind.Start kind.Start h = refl
+same-rank _ _ h = absurd (omega arith)
 
 pub ties : (v w : Wait) → wait_cmp v w ≡ Equal → v ≡ w
 ties v w h =

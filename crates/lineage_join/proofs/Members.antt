@@ -1,11 +1,10 @@
 -- Members of lists that grow, are mapped and are joined.
-use Rattle.std.proofs.Common.{◌≡◌, ℕ, ◌+◌, ◌<◌, ◌≤◌, nat_lt, Bool, true, false, cond, List, [], ◌∷◌, ◌++◌, length, map, flat_map, take, Contains, refl, sym, ap, subst, ◌∙◌, inl, inr, arith, get_or, true≢false}
-use Rattle.std.specs.Prelude.{Result, Ok, Err, OnOk}
+use Rattle.std.proofs.Common.{◌≡◌, ℕ, ◌+◌, ◌<◌, nat_lt, Bool, true, false, cond, List, [], ◌∷◌, ◌++◌, length, map, flat_map, take, Contains, refl, sym, ap, subst, ◌∙◌, inl, inr, arith, get_or, true≢false, Result, Ok, Err, OnOk}
 use Rattle.std.proofs.lemmas.Bool.Decides.{nat_tests}
 use Rattle.std.proofs.lemmas.List.{map-append, take_more, take_all}
 use Rattle.std.proofs.lemmas.List.Elements.{Contains-append_left, Contains-append_right, Contains-append_cases, Contains-push, Contains-push_cases}
 use Rattle.arn_base.specs.declared.records.Pair.{Pair}
-use Rattle.lineage_model.specs.Flow.{At, Byte, StartRegister, StartSlot, StartMemory}
+use Rattle.lineage_model.specs.Flow.{At, Byte}
 use Rattle.lineage_model.specs.Joined.{source_byte}
 use Rattle.lineage_model.specs.Tracking.{EventByte}
 use Rattle.lineage_join.specs.Rising.{source_of}
@@ -13,9 +12,6 @@ use Rattle.lineage_join.specs.Waits.{HasAlso, HasBoth, HasPairs}
 use Rattle.lineage_join.proofs.Rises.{none_in, front, behind, cases}
 
 module _ {X : Type 0} where
-  pub both-none : (old : List X) → HasBoth old [] old
-  both-none old x = (λ c. inl c, λ s. elim s [ inl c ↦ c | inr c ↦ absurd (none_in x c) ])
-
   pub both-one : (old new : List X) (more : X) → HasAlso old more new → HasBoth old (more ∷ []) new
   both-one old new more h x = (
     λ c. elim ((h x).0 c) [ inl d ↦ inl d | inr e ↦ inr (subst (λ y. Contains (more ∷ []) y) e (front more [])) ],
@@ -51,9 +47,7 @@ module _ {X Y : Type 0} (f : X → List Y) where
 
 abbrev number : At → ℕ
 number (Byte k) = k
-number (StartRegister r i) = 0
-number (StartSlot r i) = 0
-number (StartMemory k) = 0
+number _ = 0
 
 -- a source byte that is there, and one that isn't
 module _ (old : List Pair) (byte event len at : ℕ) where
@@ -73,14 +67,6 @@ module _ (old : List Pair) (byte event len at : ℕ) where
       same : (p : Pair) → byte ≡ p.byte → own ≡ source_of p → record { event = event; at = at; byte = byte } ≡ p
       same p e f = λ i. record { event = (f i).event; at = number (f i).at; byte = e i }
 
-  pub passed : len ≤ at → HasPairs old byte (source_byte event len (Byte at)) old
-  passed h = subst (λ (bytes : List EventByte). HasPairs old byte bytes old) (sym (gone (nat_lt at len) (grind (arith, nat_tests)))) (λ p. (λ c. inl c, λ s. elim s [ inl c ↦ c | inr c ↦ absurd (none_in (source_of p) c.1) ]))
-    where
-      gone : (b : Bool) → b ≡ false → cond {A = List EventByte} b (record { event = event; at = Byte at } ∷ []) [] ≡ []
-      gone true e = absurd (true≢false e)
-      gone false e = refl
-
--- one more of a list that is mapped
 pub push-item : {X Y : Type 0} (f : X → Y) (old mid new : List Y) (xs : List X) (i : ℕ) (d : X) → i < length xs → HasBoth old (map f (take i xs)) mid → HasAlso mid (f (get_or xs i d)) new → HasBoth old (map f (take (i + 1) xs)) new
 push-item {X} {Y} f old mid new xs i d h both also =
     let more : map f (take (i + 1) xs) ≡ map f (take i xs) ++ f (get_or xs i d) ∷ [] = ap (map f) (take_more xs i d h) ∙ map-append f (take i xs) (get_or xs i d ∷ []) in
@@ -88,9 +74,6 @@ push-item {X} {Y} f old mid new xs i d h both also =
 
 pub all-items : {X Y : Type 0} (f : X → Y) (old new : List Y) (xs : List X) (i : ℕ) → i ≡ length xs → HasBoth old (map f (take i xs)) new → HasBoth old (map f xs) new
 all-items {X} {Y} f old new xs i h both = subst (λ (list : List X). HasBoth old (map f list) new) (take_all i xs (omega arith)) both
-
-pub pairs-none : (old : List Pair) (byte : ℕ) → HasPairs old byte [] old
-pairs-none old byte p = (λ c. inl c, λ s. elim s [ inl c ↦ c | inr c ↦ absurd (none_in (source_of p) c.1) ])
 
 pub on-ok : {E : Type 0} (A B : Type 0) (r : Result (Unit {0}) E) → (A → B) → OnOk r A → OnOk r B
 on-ok A B (Ok x) f h = f h

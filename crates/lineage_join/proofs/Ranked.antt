@@ -1,11 +1,9 @@
 -- The pairs that answer rise, and their members are those of the sources.
-use Rattle.std.proofs.Common.{◌≡◌, ◌⊎◌, ◌↔◌, ℕ, zero, suc, ◌+◌, ◌<◌, ◌≤◌, ◌==◌, ◌||◌, ◌&&◌, nat_lt, Bool, true, false, cond, true≢false, List, [], ◌∷◌, ◌++◌, Contains, refl, sym, ap, subst, ◌∙◌, inl, inr, arith}
+use Rattle.std.proofs.Common.{◌≡◌, ◌⊎◌, ◌↔◌, ℕ, zero, suc, ◌+◌, ◌<◌, ◌≤◌, ◌==◌, ◌||◌, ◌&&◌, nat_lt, Bool, true, false, cond, true≢false, List, [], ◌∷◌, ◌++◌, Contains, refl, sym, ap, subst, ◌∙◌, inl, inr, arith, Ordering, Less, Equal, Greater}
 use Rattle.std.specs.List.{AllByRecursion}
 use Rattle.std.specs.List.Sorted.{IsStrictlySortedBy}
 use Rattle.std.specs.Ordering.{nat_cmp, ordering_then, ordering_reverse}
-use Rattle.std.specs.declared.cmp.Ordering.{Ordering}
-use Rattle.std.specs.declared.cmp.Ordering.TheVariants.{Less, Equal, Greater}
-use Rattle.std.proofs.lemmas.Bool.{eqb-true}
+use Rattle.std.proofs.lemmas.Bool.{eqb-true, and_parts}
 use Rattle.std.proofs.lemmas.Bool.Decides.{nat_tests}
 use Rattle.std.proofs.lemmas.List.Elements.{Contains-append_left, Contains-append_right, Contains-append_cases}
 use Rattle.arn_base.specs.declared.records.Pair.{Pair}
@@ -36,10 +34,6 @@ first-greater false true false true s h = absurd (true≢false s)
 first-greater false true false false s h = refl
 first-greater false false k r s h = refl
 
-both_true : (a b : Bool) → (a && b) ≡ true → (a ≡ true) × (b ≡ true)
-both_true true b h = (refl, h)
-both_true false b h = absurd (true≢false (sym h))
-
 -- two pairs of one byte of the target
 by-source : (a b : Pair) → a.byte ≡ b.byte → pair_cmp a b ≡ ordering_then (nat_cmp a.event b.event) (nat_cmp a.at b.at)
 by-source a b h = ap (λ (o : Ordering). ordering_then o (ordering_then (nat_cmp a.event b.event) (nat_cmp a.at b.at))) (cmp-same a.byte b.byte h)
@@ -54,7 +48,7 @@ above-else a b h s f =
 
 one-source : (a b : Pair) → a.byte ≡ b.byte → has_same_source a b ≡ true → a ≡ b
 one-source a b h s =
-    let both = both_true (a.event == b.event) (a.at == b.at) s in
+    let both = and_parts (a.event == b.event) (a.at == b.at) s in
     same (eqb-true a.event b.event both.0) (eqb-true a.at b.at both.1) h
   where
     same : a.event ≡ b.event → a.at ≡ b.at → a.byte ≡ b.byte → a ≡ b
@@ -108,9 +102,7 @@ ranked-rises k a (b ∷ ps) h all r =
 module _ (k : ℕ) where
   next-of : (event : ℕ) (at : At) (ps : List Pair) → OfByte k ps → OfByte k (all_ranked (pair_at k event at) ps)
   next-of event (Byte a) ps h = ranked-all (λ p. p.byte ≡ k) (record { event = event; at = a; byte = k }) ps refl h
-  next-of event (StartRegister r i) ps h = h
-  next-of event (StartSlot r i) ps h = h
-  next-of event (StartMemory a) ps h = h
+  next-of event _ ps h = h
 
   pub byte-of : (bytes : List EventByte) → OfByte k (byte_pairs k bytes)
   byte-of [] = tt
@@ -118,9 +110,7 @@ module _ (k : ℕ) where
 
   next-rises : (event : ℕ) (at : At) (ps : List Pair) → OfByte k ps → IsRising ps → IsRising (all_ranked (pair_at k event at) ps)
   next-rises event (Byte a) ps h r = ranked-rises k (record { event = event; at = a; byte = k }) ps refl h r
-  next-rises event (StartRegister b i) ps h r = r
-  next-rises event (StartSlot b i) ps h r = r
-  next-rises event (StartMemory a) ps h r = r
+  next-rises event _ ps h r = r
 
   pub byte-rises : (bytes : List EventByte) → IsRising (byte_pairs k bytes)
   unfolding IsStrictlySortedBy
@@ -132,9 +122,7 @@ module _ (k : ℕ) where
 
   abbrev byte_at : At → ℕ
   byte_at (Byte a) = a
-  byte_at (StartRegister r i) = 0
-  byte_at (StartSlot r i) = 0
-  byte_at (StartMemory a) = 0
+  byte_at _ = 0
 
   passed : (b : EventByte) (bytes : List EventByte) (ps : List Pair) (p : Pair) → ((b ≡ source_of p) → ⊥) → (Contains ps p ↔ OfSources bytes p) → Contains ps p ↔ OfSources (b ∷ bytes) p
   passed b bytes ps p apart more = (

@@ -1,5 +1,5 @@
 -- Where the record of an event stands.
-use Rattle.std.proofs.Common.{◌≡◌, ℕ, zero, suc, ◌+◌, ◌-◌, ◌≤◌, Bool, true, false, cond, List, [], ◌∷◌, Option, Some, None, slice_get, refl, ap, sym, ◌∙◌, arith}
+use Rattle.std.proofs.Common.{◌≡◌, ℕ, zero, suc, ◌+◌, ◌-◌, ◌≤◌, Bool, true, false, cond, List, [], ◌∷◌, Option, Some, slice_get, ap, sym, ◌∙◌, arith}
 use Rattle.std.proofs.lemmas.Option.{none-some, same_Some}
 use Rattle.arn_base.specs.declared.records.Record.{Record}
 use Rattle.acts_model.specs.Records.{is_event}
@@ -22,17 +22,5 @@ found-from first (e ∷ entries) n place h = by_test (is_event e) (λ m. found-f
     by_test true later (suc m) k = further m (later m k)
     by_test false later m k = further m (later m k)
 
-none-from : (first : ℕ) (entries : List Record) (n : ℕ) → slice_get (places_from first entries) n ≡ None → slice_get (events entries) n ≡ None
-none-from first [] n h = refl
-none-from first (e ∷ entries) n h = by_test (is_event e) (λ m. none-from (first + 1) entries m) n h
-  where
-    by_test : (b : Bool) → ((m : ℕ) → slice_get (places_from (first + 1) entries) m ≡ None → slice_get (events entries) m ≡ None) → (m : ℕ) → slice_get (cond b (first ∷ places_from (first + 1) entries) (places_from (first + 1) entries)) m ≡ None → slice_get (cond b (e ∷ events entries) (events entries)) m ≡ None
-    by_test true later zero k = absurd (none-some first (sym k))
-    by_test true later (suc m) k = later m k
-    by_test false later m k = later m k
-
 pub found : (entries : List Record) (n place : ℕ) → event_place entries n ≡ Some place → slice_get entries place ≡ event_at entries n
 found entries n place h = let same : place - 0 ≡ place = omega arith in ap (slice_get entries) (sym same) ∙ (found-from 0 entries n place h).1
-
-pub missing : (entries : List Record) (n : ℕ) → event_place entries n ≡ None → event_at entries n ≡ None
-missing entries n h = none-from 0 entries n h

@@ -1,10 +1,9 @@
 -- Pairs that rise and have the same members are one list.
-use Rattle.std.proofs.Common.{◌≡◌, ◌⊎◌, ◌↔◌, ℕ, zero, suc, ◌<◌, List, [], ◌∷◌, ◌++◌, length, slice_index_or, Contains, refl, sym, ap, subst, ◌∙◌, inl, inr, arith}
+use Rattle.std.proofs.Common.{◌≡◌, ◌⊎◌, ◌↔◌, ℕ, zero, suc, ◌<◌, List, [], ◌∷◌, ◌++◌, length, slice_index_or, Contains, refl, sym, ap, subst, ◌∙◌, inl, inr, arith, Less, Greater}
 use Rattle.std.specs.List.{AllByRecursion}
 use Rattle.std.specs.List.Sorted.{IsStrictlySortedBy}
 use Rattle.std.specs.Cmp.{IsTotalOrder}
 use Rattle.std.specs.Cmp.Rules.{comparing}
-use Rattle.std.specs.declared.cmp.Ordering.TheVariants.{Less, Greater}
 use Rattle.std.specs.Ordering.{ordering_reverse}
 use Rattle.arn_base.specs.declared.records.Pair.{Pair}
 use Rattle.lineage_join.specs.Rising.{pair_cmp, IsRising}
@@ -70,10 +69,9 @@ same_list [] (y ∷ ys) r s same = absurd (none_in y ((same y).1 (front y ys)))
 same_list (x ∷ xs) [] r s same = absurd (none_in x ((same x).0 (front x xs)))
 same_list (x ∷ xs) (y ∷ ys) r s same =
     let e = same_front x y xs ys r s same in
-    let t : IsRising (x ∷ ys) = subst (λ z. IsRising (z ∷ ys)) (sym e) s in
     let both : HaveSame (x ∷ xs) (x ∷ ys) = subst (λ z. HaveSame (x ∷ xs) (z ∷ ys)) (sym e) same in
     let back : HaveSame (x ∷ ys) (x ∷ xs) = λ p. ((both p).1, (both p).0) in
-    ap (λ z. z ∷ xs) e ∙ ap (λ zs. y ∷ zs) (same_list xs ys r.1 s.1 (λ p. (rest x xs ys r both p, rest x ys xs t back p)))
+    ap (λ z. z ∷ xs) e ∙ ap (λ zs. y ∷ zs) (same_list xs ys r.1 s.1 (λ p. (rest x xs ys r both p, rest x ys xs (subst (λ z. IsRising (z ∷ ys)) (sym e) s) back p)))
 
 -- rising lists of which one is below the other
 pub append-rises : (xs ys : List Pair) → IsRising xs → IsRising ys → AllByRecursion (λ x. AllByRecursion (λ y. pair_cmp x y ≡ Less) ys) xs → IsRising (xs ++ ys)

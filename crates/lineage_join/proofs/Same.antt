@@ -1,11 +1,10 @@
 -- The same answers reach the same, however far one looks.
-use Rattle.std.proofs.Common.{◌≡◌, ℕ, zero, suc, Bool, true, false, cond, List, [], ◌∷◌, flat_map, Option, Some, None, IsTrue, refl, ap, ◌∙◌}
-use Rattle.std.specs.Prelude.{All}
+use Rattle.std.proofs.Common.{◌≡◌, ℕ, zero, suc, Bool, true, false, cond, List, [], ◌∷◌, flat_map, Option, Some, None, IsTrue, refl, ap, ◌∙◌, All}
 use Rattle.arn_base.specs.declared.records.Record.{Record}
 use Rattle.arn_base.specs.declared.records.Src.{Src}
 use Rattle.acts_model.specs.Records.{event_len}
 use Rattle.history_model.specs.Events.{event_at, how_many}
-use Rattle.lineage_model.specs.Flow.{At, Byte, StartRegister, StartSlot, StartMemory}
+use Rattle.lineage_model.specs.Flow.{At, Byte}
 use Rattle.lineage_model.specs.Joined.{Reaching, is_source, origin_of, from_origin, from_received, from_item_at, from_item, source_byte, from_event, reached}
 use Rattle.lineage_model.specs.Tracking.{EventByte}
 use Rattle.lineage_join.specs.Alike.{LeadsAt, LeadsOn, AreSame, ReachSame}
@@ -33,9 +32,7 @@ module _ (entries : List Record) (follows : ℕ → At → Bool) where
 
     item-same : (event : ℕ) (at : At) → LeadsAt (event_at entries) follows event at → from_item_at (event_at entries) a event at ≡ from_item_at (event_at entries) b event at
     item-same event (Byte k) h = received-same event k (event_at entries event) h
-    item-same event (StartRegister r i) h = one event (StartRegister r i) h
-    item-same event (StartSlot r i) h = one event (StartSlot r i) h
-    item-same event (StartMemory k) h = one event (StartMemory k) h
+    item-same event e h = one event e h
 
     event-same : (event : ℕ) (at : At) (xs ys : List EventByte) → xs ≡ ys → All (LeadsOn (event_at entries) follows) xs → (o : Option Record) → from_event (event_at entries) a event at xs o ≡ from_event (event_at entries) b event at ys o
     event-same event at xs ys same leads None = refl

@@ -1,7 +1,7 @@
 -- What an item stands for, by its number and its event's record.
-use Rattle.std.proofs.Common.{◌≡◌, ℕ, ◌+◌, ◌-◌, ◌*◌, ◌/◌, ◌%◌, ◌<◌, ◌≤◌, ◌==◌, ◌&&◌, nat_lt, nat_le, Bool, true, false, cond, List, [], ◌∷◌, Option, Some, None, IsSome, IsTrue, option_and_then, refl, sym, ap, ap₂, subst, ◌∙◌, arith, true≢false}
-use Rattle.std.proofs.lemmas.Bool.{eqb-true}
+use Rattle.std.proofs.Common.{◌≡◌, ℕ, ◌+◌, ◌-◌, ◌*◌, ◌/◌, ◌%◌, ◌<◌, ◌≤◌, ◌==◌, ◌&&◌, nat_lt, nat_le, Bool, true, false, cond, List, [], ◌∷◌, Option, Some, None, IsSome, IsTrue, option_and_then, refl, sym, ap, ap₂, subst, ◌∙◌, arith, true≢false, eqb-true}
 use Rattle.std.proofs.lemmas.Bool.Decides.{nat_tests}
+use Rattle.std.proofs.lemmas.Bool.{cond-true, cond-false}
 use Rattle.arn_base.specs.declared.records.Extra.TheVariants as extra
 use Rattle.arn_base.specs.declared.records.Record.{Record}
 use Rattle.arn_base.specs.declared.records.Record.TheVariants as entry
@@ -30,32 +30,8 @@ fork-empty number result start h e =
     let none : 0 < 0 = subst (λ (n : ℕ). 0 < plain_len n result (extra.Start start)) (eqb-true number FORK e) h in omega arith
 
 pub founds-none : (e : Record) → 0 < event_len e → founded e ≡ None
-founds-none (entry.File name bytes) h = refl
-founds-none (entry.Boot name give) h = refl
-founds-none (entry.Typed bytes) h = refl
-founds-none (entry.Unplug device) h = refl
-founds-none (entry.Slice pid ran) h = refl
-founds-none (entry.Signal pid signal cut handler) h = refl
-founds-none (entry.End pid status) h = refl
 founds-none (entry.Call pid number result (extra.Start start)) h = apart (number == FORK) (is_success result) result (fork-empty number result start h)
-founds-none (entry.Call pid number result extra.Nothing) h = refl
-founds-none (entry.Call pid number result (extra.Give give)) h = refl
-founds-none (entry.Call pid number result (extra.Put file at bytes)) h = refl
-founds-none (entry.Call pid number result (extra.Console bytes)) h = refl
-founds-none (entry.Call pid number result (extra.Reply device bytes)) h = refl
-founds-none (entry.Call pid number result extra.Fault) h = refl
-founds-none (entry.Call pid number result extra.Absent) h = refl
-founds-none (entry.Call pid number result (extra.Name file path)) h = refl
-founds-none (entry.Call pid number result (extra.Sent device bytes)) h = refl
-
--- the number of a byte with which a child begins tells the byte
-pub choose : {A : Type 0} (b : Bool) (x y : A) → b ≡ true → cond b x y ≡ x
-choose true x y h = refl
-choose false x y h = absurd (true≢false (sym h))
-
-pub pass : {A : Type 0} (b : Bool) (x y : A) → b ≡ false → cond b x y ≡ y
-pass true x y h = absurd (true≢false h)
-pass false x y h = refl
+founds-none _ h = refl
 
 is-below : (n m : ℕ) → n < m → nat_lt n m ≡ true
 is-below n m h = grind (arith, nat_tests)
@@ -74,15 +50,15 @@ register-at r i h =
     let n = byte_of_register r i in
     let above = h.above in let below = h.below in let byte = h.byte in
     let tells = number-register n r i above below byte refl in
-    choose (nat_lt n 248) (StartRegister (n / 8 + 1) (n % 8)) (behind-registers n) (is-below n 248 (omega arith)) ∙ ap₂ StartRegister tells.0 tells.1
+    cond-true (nat_lt n 248) (StartRegister (n / 8 + 1) (n % 8)) (behind-registers n) (is-below n 248 (omega arith)) ∙ ap₂ StartRegister tells.0 tells.1
 
 pub slot-at : (r i : ℕ) → IsRegisterByte r i → start_at (register_bytes + byte_of_register r i) ≡ StartSlot r i
 slot-at r i h =
     let n = 248 + byte_of_register r i in
     let above = h.above in let below = h.below in let byte = h.byte in
     let tells = number-register (n - 248) r i above below byte (omega arith) in
-    pass (nat_lt n 248) (StartRegister (n / 8 + 1) (n % 8)) (behind-registers n) (isnt-below n 248 (omega arith))
-    ∙ (choose (nat_lt n 496) (StartSlot ((n - 248) / 8 + 1) ((n - 248) % 8)) (StartMemory n) (is-below n 496 (omega arith)) ∙ ap₂ StartSlot tells.0 tells.1)
+    cond-false (nat_lt n 248) (StartRegister (n / 8 + 1) (n % 8)) (behind-registers n) (isnt-below n 248 (omega arith))
+    ∙ (cond-true (nat_lt n 496) (StartSlot ((n - 248) / 8 + 1) ((n - 248) % 8)) (StartMemory n) (is-below n 496 (omega arith)) ∙ ap₂ StartSlot tells.0 tells.1)
 
 private-high : (n : ℕ) → IsTrue (is_private n) → 496 ≤ n
 private-high n h = by_test (nat_le 65536 n) (grind (arith, nat_tests)) h
@@ -94,8 +70,8 @@ private-high n h = by_test (nat_le 65536 n) (grind (arith, nat_tests)) h
 pub memory-at : (n : ℕ) → IsTrue (is_private n) → start_at n ≡ StartMemory n
 memory-at n h =
     let high = private-high n h in
-    pass (nat_lt n 248) (StartRegister (n / 8 + 1) (n % 8)) (behind-registers n) (isnt-below n 248 (omega arith))
-    ∙ pass (nat_lt n 496) (StartSlot ((n - 248) / 8 + 1) ((n - 248) % 8)) (StartMemory n) (isnt-below n 496 (omega arith))
+    cond-false (nat_lt n 248) (StartRegister (n / 8 + 1) (n % 8)) (behind-registers n) (isnt-below n 248 (omega arith))
+    ∙ cond-false (nat_lt n 496) (StartSlot ((n - 248) / 8 + 1) ((n - 248) % 8)) (StartMemory n) (isnt-below n 496 (omega arith))
 
 pub starts : (x : Option ℕ) → IsSome x → kind_by x ≡ kind.Start
 starts None h = absurd (true≢false (sym h))
@@ -122,14 +98,11 @@ module _ (event_at : ℕ → Option Record) (earlier : Reaching) (n : ℕ) where
   start-stands at b e h same = ap (from_kind event_at earlier n at) (starts (founded e) h) ∙ ap (earlier n) same
 
   by-record : (at : At) (o : Option Record) → event_at n ≡ o → IsThere o at → stands (place_of at) o ≡ from_item_at event_at earlier n at
-  by-record (Byte k) None is h = absurd h
   by-record (Byte k) (Some e) is h = received-stands k e is h
-  by-record (StartRegister r i) None is h = absurd h
   by-record (StartRegister r i) (Some e) is h = start-stands (byte_of_register r i) (StartRegister r i) e h.0 (register-at r i h.1)
-  by-record (StartSlot r i) None is h = absurd h
   by-record (StartSlot r i) (Some e) is h = start-stands (register_bytes + byte_of_register r i) (StartSlot r i) e h.0 (slot-at r i h.1)
-  by-record (StartMemory a) None is h = absurd h
   by-record (StartMemory a) (Some e) is h = start-stands a (StartMemory a) e h.0 (memory-at a h.1)
+  by-record _ None is h = absurd h
 
   -- an item that fits stands for what waits by its number
   pub item-stands : (at : At) → IsThere (event_at n) at → stands (place_of at) (event_at n) ≡ from_item_at event_at earlier n at

@@ -1,5 +1,6 @@
 -- What one step does to the pairs that come.
 use Rattle.std.proofs.Common.{◌≡◌, ℕ, ◌+◌, ◌-◌, ◌/◌, ◌%◌, nat_lt, Bool, true, false, cond, List, [], flat_map, Contains, Option, Some, None, refl, sym, ap, subst, ◌∙◌, inl, inr}
+use Rattle.std.proofs.lemmas.Bool.{cond-true}
 use Rattle.arn_base.specs.declared.records.Pair.{Pair}
 use Rattle.arn_base.specs.declared.records.Record.{Record}
 use Rattle.acts_model.specs.Records.{event_len}
@@ -17,7 +18,6 @@ use Rattle.lineage_join.specs.Places.{start_at}
 use Rattle.lineage_join.specs.Rising.{source_of}
 use Rattle.lineage_join.specs.Waits.{from_taken, from_kind, from_wait, own_bytes, HasPairs, IsFollowed, IsStepped}
 use Rattle.lineage_join.proofs.Rises.{none_in}
-use Rattle.lineage_join.proofs.Stands.{choose}
 use Rattle.lineage_join.proofs.Unfolds.{goes}
 
 -- a byte with which a child begins is none from outside
@@ -43,10 +43,10 @@ module _ (entries : List Record) (items : ℕ → At → List EventByte) (stands
   nothing event at kind.Start is = shown event (start_at at) None is
 
   outside : (event at : ℕ) (place : At) (e : Record) → event_at entries event ≡ Some e → is_source e ≡ true → all event place ≡ source_byte event (event_len e) place
-  outside event at place e is source = shown event place (Some e) is ∙ choose (is_source e) (source_byte event (event_len e) place) (flat_map (from_item (event_at entries) all) (items event place)) source
+  outside event at place e is source = shown event place (Some e) is ∙ cond-true (is_source e) (source_byte event (event_len e) place) (flat_map (from_item (event_at entries) all) (items event place)) source
 
   own : (event at : ℕ) (k : Kind) (e : Record) → event_at entries event ≡ Some e → is_source e ≡ true → from_kind (event_at entries) all event at k ≡ own_bytes event (event_len e) at k
-  own event at kind.Received e is source = ap (from_taken all event at) is ∙ choose (is_source e) (source_byte event (event_len e) (Byte at)) (from_origin all (origin_of e at)) source
+  own event at kind.Received e is source = ap (from_taken all event at) is ∙ cond-true (is_source e) (source_byte event (event_len e) (Byte at)) (from_origin all (origin_of e at)) source
   own event at kind.Byte e is source = outside event at (Byte at) e is source
   own event at kind.Start e is source = outside event at (start_at at) e is source ∙ start-none event (event_len e) at (nat_lt at 248) (nat_lt at 496) (at / 8 + 1) (at % 8) ((at - 248) / 8 + 1) ((at - 248) % 8)
 

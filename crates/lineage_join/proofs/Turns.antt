@@ -1,6 +1,5 @@
 -- What a turn of the join does: the pairs that came still come, and what waits falls.
-use Rattle.std.proofs.Common.{◌≡◌, ◌⊎◌, ◌↔◌, ℕ, ◌+◌, ◌*◌, ◌^◌, ◌<◌, ◌≤◌, List, [], map, Contains, refl, sym, ap, subst, ◌∙◌, inl, inr, arith}
-use Rattle.std.specs.Prelude.{All}
+use Rattle.std.proofs.Common.{◌≡◌, ◌⊎◌, ◌↔◌, ℕ, ◌+◌, ◌*◌, ◌^◌, ◌<◌, ◌≤◌, List, [], map, Contains, refl, sym, ap, subst, ◌∙◌, inl, inr, arith, All}
 use Rattle.std.proofs.lemmas.List.Elements.{All-contains}
 use Rattle.arn_base.specs.declared.records.Pair.{Pair}
 use Rattle.arn_base.specs.declared.records.Record.{Record}
@@ -23,9 +22,6 @@ use Rattle.lineage_join.proofs.Rises.{none_in}
 
 level-code : (x y a b c d : ℕ) → x < y → a < 2 ^ 64 → b < 2 ^ 32 → x * 2 ^ 96 + a * 2 ^ 32 + b < y * 2 ^ 96 + c * 2 ^ 32 + d
 level-code x y a b c d h s t = omega arith
-
-pub none-numbered : (ws : List Wait) → ws ≡ [] → All IsNumbered ws
-none-numbered ws is = subst (λ (l : List Wait). All IsNumbered l) (sym is) (λ k d low. absurd (omega arith))
 
 module _ (from : Wait → List EventByte) where
   taken-leads : (old mid : List Wait) (w : Wait) → IsTaken old w mid → (p : Pair) → Leads from old p ↔ (Leads from mid p ⊎ LeadsTo from w p)

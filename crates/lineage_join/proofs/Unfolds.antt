@@ -1,6 +1,5 @@
 -- What reaches a byte is the same however far one looks, if far enough.
-use Rattle.std.proofs.Common.{◌≡◌, ◌⊎◌, inl, inr, ℕ, zero, suc, ◌<◌, ◌≤◌, Bool, true, false, List, [], ◌∷◌, ◌++◌, flat_map, Option, Some, None, refl, ap, ap₂, sym, ◌∙◌, arith, cond}
-use Rattle.std.specs.Prelude.{All}
+use Rattle.std.proofs.Common.{◌≡◌, ◌⊎◌, inl, inr, ℕ, zero, suc, ◌<◌, ◌≤◌, Bool, true, false, List, [], ◌∷◌, ◌++◌, flat_map, Option, Some, None, refl, ap, ap₂, sym, ◌∙◌, arith, cond, All}
 use Rattle.std.proofs.lemmas.List.Elements.{All-head, All-tail}
 use Rattle.std.proofs.lemmas.Option.{slice_get_past}
 use Rattle.arn_base.specs.declared.records.Record.{Record}
@@ -8,7 +7,7 @@ use Rattle.arn_base.specs.declared.records.Src.{Src}
 use Rattle.acts_model.specs.Records.{event_len}
 use Rattle.history_model.specs.Broken.{first_broken}
 use Rattle.history_model.specs.Events.{events, event_at, how_many}
-use Rattle.lineage_model.specs.Flow.{At, Byte, StartRegister, StartSlot, StartMemory}
+use Rattle.lineage_model.specs.Flow.{At, Byte}
 use Rattle.lineage_model.specs.Joined.{Reaching, is_source, origin_of, from_origin, from_received, from_item_at, from_item, source_byte, from_event, reached}
 use Rattle.lineage_model.specs.Tracking.{EventByte}
 use Rattle.lineage_join.specs.Fits.{Precedes, Fits, AllFit}
@@ -43,9 +42,7 @@ module _ (entries : List Record) (stands : first_broken entries ≡ None) where
 
   item-agrees : (n m : ℕ) (at : At) (a b : Reaching) → Agree n a b → Precedes m at n → from_item_at (event_at entries) a m at ≡ from_item_at (event_at entries) b m at
   item-agrees n m (Byte k) a b same low = received-agrees n m k a b same low (event_at entries m) refl
-  item-agrees n m (StartRegister r i) a b same low = same m (StartRegister r i) low
-  item-agrees n m (StartSlot r i) a b same low = same m (StartSlot r i) low
-  item-agrees n m (StartMemory i) a b same low = same m (StartMemory i) low
+  item-agrees n m e a b same low = same m e low
 
   event-agrees : (n : ℕ) (at : At) (a b : Reaching) → Agree n a b → (items : List EventByte) → All (Fits entries n) items → (o : Option Record) → from_event (event_at entries) a n at items o ≡ from_event (event_at entries) b n at items o
   event-agrees n at a b same items fit None = refl

@@ -1,5 +1,4 @@
-use Rattle.std.proofs.Common.{subst, sym}
-use Rattle.std.specs.Prelude.{OnOk}
+use Rattle.std.proofs.Common.{subst, sym, OnOk}
 use Rattle.history_model.specs.Events.{event_at}
 use Rattle.lineage_join.specs.declared.demand.Demand.{Demand}
 use Rattle.lineage_join.specs.Waits.{HasAlso, demanded}

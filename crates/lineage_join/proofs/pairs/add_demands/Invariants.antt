@@ -1,5 +1,4 @@
-use Rattle.std.proofs.Common.{take, map}
-use Rattle.std.specs.Prelude.{All}
+use Rattle.std.proofs.Common.{take, map, All}
 use Rattle.history_model.specs.Events.{event_at}
 use Rattle.lineage_join.specs.Waits.{HasBoth, IsNumbered, demanded}
 use Rattle.lineage_join.proofs.pairs.add_demands.Given as goal

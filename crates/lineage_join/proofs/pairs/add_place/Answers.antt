@@ -1,5 +1,4 @@
-use Rattle.std.proofs.Common.{subst, sym}
-use Rattle.std.specs.Prelude.{OnOk}
+use Rattle.std.proofs.Common.{subst, sym, OnOk}
 use Rattle.lineage_join.specs.declared.demand.Place.{Place}
 use Rattle.lineage_join.specs.Waits.{HasAlso, kind_of, number_of}
 use Rattle.lineage_join.proofs.pairs.add_place.Goals as goal

@@ -1,5 +1,4 @@
-use Rattle.std.proofs.Common.{◌↔◌}
-use Rattle.std.specs.Prelude.{All}
+use Rattle.std.proofs.Common.{◌↔◌, All}
 use Rattle.arn_base.specs.declared.records.Pair.{Pair}
 use Rattle.history_model.specs.Events.{event_at}
 use Rattle.lineage_join.specs.Laws.{reaches}

@@ -1,5 +1,4 @@
-use Rattle.std.proofs.Common.{subst}
-use Rattle.std.specs.Prelude.{OnOk}
+use Rattle.std.proofs.Common.{subst, OnOk}
 use Rattle.lineage_join.specs.declared.wait.Kind.{Kind}
 use Rattle.lineage_join.specs.Waits.{HasAlso}
 use Rattle.lineage_join.proofs.step.add_item.Goals as goal

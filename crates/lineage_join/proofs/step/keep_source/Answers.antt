@@ -1,5 +1,4 @@
-use Rattle.std.proofs.Common.{subst, sym}
-use Rattle.std.specs.Prelude.{OnOk}
+use Rattle.std.proofs.Common.{subst, sym, OnOk}
 use Rattle.lineage_join.specs.declared.wait.Kind.{Kind}
 use Rattle.lineage_join.specs.Waits.{HasPairs, own_bytes}
 use Rattle.lineage_join.proofs.step.keep_source.Goals as goal

@@ -1,5 +1,4 @@
-use Rattle.std.proofs.Common.{ℕ, Option, ap, ◌∙◌, option_map}
-use Rattle.std.specs.Prelude.{unwrap_or}
+use Rattle.std.proofs.Common.{ℕ, Option, ap, ◌∙◌, option_map, unwrap_or}
 use Rattle.acts_model.specs.Records.{event_len}
 use Rattle.lineage_join.proofs.told.len_at.Goals as goal
 
