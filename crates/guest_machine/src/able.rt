@@ -1,5 +1,5 @@
 // Which processes can go on, and which of them does.
-ghost use Rattle.std.specs.Prelude.{◌≡◌, ℕ, ◌+◌, ◌<◌, ◌≤◌, ◌++◌, ◌∷◌, [], IfSome, IsTrue, length, min, slice_get};
+ghost use Rattle.std.specs.Prelude.{◌≡◌, ℕ, ◌+◌, ◌<◌, ◌≤◌, ◌++◌, ◌∷◌, [], IfSome, IsTrue, length, slice_get};
 ghost use Rattle.arn_model.specs.Turn.{is_possible, is_runnable, run_state as run_state_of, runnable};
 ghost use Rattle.guest_legs.specs.Legs.{brought, ask};
 ghost use Rattle.guest_machine.specs.Able.{AreAble, first_of};
@@ -10,10 +10,10 @@ use arn_model::RunState;
 use arrayvec::ArrayVec;
 use guest_calls::Kernel;
 use guest_legs::Pick;
-use parts_model::limits::MOST_SLICE;
+use parts_model::limits::{MOST_PROCESSES, MOST_SLICE};
 
 /// Of how many processes that can go on the numbers are kept: of all, since no more may live at once.
-pub const MOST_KEPT: usize = 64;
+pub const MOST_KEPT: usize = MOST_PROCESSES as usize;
 
 /// The processes that can go on: how many there are, and the numbers of the first of them, in order.
 #[derive(Drop)]
