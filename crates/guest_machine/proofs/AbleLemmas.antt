@@ -1,7 +1,7 @@
 -- Which processes of a list pass a test, one after the other.
-use Rattle.std.proofs.Common.{◌≡◌, ℕ, ◌+◌, ◌<◌, ◌≤◌, ◌%◌, ◌++◌, min, max, IfSome, Bool, true, List, [], ◌∷◌, length, filter, get_or, take, drop, Option, None, Some, slice_get, refl, sym, ap, subst, ◌∙◌, arith, take-append-drop}
+use Rattle.std.proofs.Common.{◌≡◌, ℕ, zero, suc, ◌+◌, ◌<◌, ◌≤◌, ◌%◌, ◌++◌, min, max, IfSome, Bool, true, false, List, [], ◌∷◌, length, filter, get_or, take, drop, Option, None, Some, slice_get, refl, sym, ap, subst, ◌∙◌, arith, append-nil, length-append, take-append-drop}
 use Rattle.std.proofs.Math.Seq.{take-length}
-use Rattle.std.proofs.lemmas.List.{drop_more}
+use Rattle.std.proofs.lemmas.List.{drop_more, take_more}
 use Rattle.std.proofs.lemmas.List.Elements.{All-get_or, filter-append, filter_passes}
 use Rattle.std.proofs.lemmas.Option.{get_or_from_slice_get, slice_get-get_or, slice_get_past, slice_get_within}
 use Rattle.arn_base.specs.declared.boxes.Choice.{Choice}
@@ -12,7 +12,9 @@ use Rattle.parts_model.specs.Processes as table
 use Rattle.guest_calls.specs.State.{State, StandsFor}
 use Rattle.parts_model.specs.declared.limits.TheConstants.{MOST_SLICE}
 use Rattle.guest_legs.specs.Legs.{ask, brought}
+use Rattle.guest_machine.specs.Able.{first_of}
 use Rattle.guest_machine.specs.Recorded.{IsReal, OfEach}
+use Rattle.guest_machine.specs.declared.able.TheConstants.{MOST_KEPT}
 use Rattle.guest_legs.specs.declared.leg.Pick.{Pick}
 
 -- so many of the first i pass
@@ -77,6 +79,72 @@ able-there s n index real some counted none =
   where
     some-none : {x : ℕ} → None ≡ Some x → ⊥
     some-none is = cc
+
+-- of kept ones one more
+pub first-more : (n : ℕ) (xs ys : List ℕ) → take n (take n xs ++ ys) ≡ take n (xs ++ ys)
+first-more zero xs ys = refl
+first-more (suc n) [] ys = refl
+first-more (suc n) (x ∷ xs) ys = ap (λ (zs : List ℕ). x ∷ zs) (first-more n xs ys)
+
+-- a kept one
+pub first-get : (n : ℕ) (xs : List ℕ) (place : ℕ) → place < n → slice_get (take n xs) place ≡ slice_get xs place
+first-get zero xs place within = absurd (omega (arith, within))
+first-get (suc n) [] place within = refl
+first-get (suc n) (x ∷ xs) zero within = refl
+first-get (suc n) (x ∷ xs) (suc place) within = first-get n xs place (omega (arith, within))
+
+-- those that all have room
+pub first-all : (n : ℕ) (xs : List ℕ) → length xs ≤ n → take n xs ≡ xs
+first-all zero [] few = refl
+first-all zero (x ∷ xs) few = absurd (omega (arith, few))
+first-all (suc n) [] few = refl
+first-all (suc n) (x ∷ xs) few = ap (λ (ys : List ℕ). x ∷ ys) (first-all n xs (omega (arith, few)))
+
+-- what a scan has found among the first i
+pub record IsScanned (s : State) (xs : List ℕ) (i n : ℕ) (first : List ℕ) : Type 0 where
+  pub passed : OfEach s (λ m. Passed (is_runnable m) xs i n)
+  pub kept : OfEach s (λ m. first ≡ first_of (filter (is_runnable m) (take i xs)))
+  pub few : n ≤ i
+
+filter-next : (f : ℕ → Bool) (xs : List ℕ) (i x : ℕ) → i < length xs → x ≡ get_or xs i 0 → filter f (take (i + 1) xs) ≡ filter f (take i xs) ++ filter f (x ∷ [])
+filter-next f xs i x within is =
+    ap (filter f) (take_more xs i 0 within ∙ ap (λ (y : ℕ). take i xs ++ y ∷ []) (sym is)) ∙ filter-append f (take i xs) (x ∷ [])
+
+filter-one : (f : ℕ → Bool) (x : ℕ) → f x ≡ true → filter f (x ∷ []) ≡ x ∷ []
+filter-one f x at = rw at refl
+
+filter-none : (f : ℕ → Bool) (x : ℕ) → f x ≡ false → filter f (x ∷ []) ≡ []
+filter-none f x at = rw at refl
+
+module _ (s : State) (xs : List ℕ) (i n x : ℕ) (able : Bool) (first : List ℕ) (within : i < length xs) (is : x ≡ get_or xs i 0) (tells : OfEach s (λ m. able ≡ is_runnable m x)) (so_far : IsScanned s xs i n first) where
+  -- one more that can go on
+  pub scanned-some : able ≡ true → (n' : ℕ) (first' : List ℕ) → n' ≡ n + 1 → first' ≡ first_of (first ++ x ∷ []) → IsScanned s xs (i + 1) n' first'
+  scanned-some does n' first' counted keeps =
+      let next : OfEach s (λ m. filter (is_runnable m) (take (i + 1) xs) ≡ filter (is_runnable m) (take i xs) ++ x ∷ []) =
+      λ m stands. filter-next (is_runnable m) xs i x within is ∙ ap (λ (ys : List ℕ). filter (is_runnable m) (take i xs) ++ ys) (filter-one (is_runnable m) x (sym (tells m stands) ∙ does)) in
+      record {
+        passed = λ m stands. omega (arith, counted, so_far.passed m stands, ap length (next m stands), length-append (filter (is_runnable m) (take i xs)) (x ∷ []));
+        kept = λ m stands.
+            keeps
+            ∙ ap (λ (ys : List ℕ). first_of (ys ++ x ∷ [])) (so_far.kept m stands)
+            ∙ first-more MOST_KEPT (filter (is_runnable m) (take i xs)) (x ∷ [])
+            ∙ ap first_of (sym (next m stands));
+        few = omega (arith, counted, so_far.few);
+      }
+
+  -- or that can't
+  pub scanned-none : able ≡ false → (n' : ℕ) (first' : List ℕ) → n' ≡ n → first' ≡ first → IsScanned s xs (i + 1) n' first'
+  scanned-none does n' first' counted keeps =
+      let next : OfEach s (λ m. filter (is_runnable m) (take (i + 1) xs) ≡ filter (is_runnable m) (take i xs)) =
+      λ m stands.
+      filter-next (is_runnable m) xs i x within is
+      ∙ ap (λ (ys : List ℕ). filter (is_runnable m) (take i xs) ++ ys) (filter-none (is_runnable m) x (sym (tells m stands) ∙ does))
+      ∙ append-nil (filter (is_runnable m) (take i xs)) in
+      record {
+        passed = λ m stands. omega (arith, counted, so_far.passed m stands, ap length (next m stands));
+        kept = λ m stands. keeps ∙ so_far.kept m stands ∙ ap first_of (sym (next m stands));
+        few = omega (arith, counted, so_far.few);
+      }
 
 -- a choice brought into range
 pub picked-by : (s : State) (told : Option Choice) (choice : Choice) (left able pid count : ℕ) → IfSome told (λ t. choice ≡ t) → OfEach s (λ m. able ≡ length (runnable m)) → OfEach s (λ m. Some pid ≡ slice_get (runnable m) (choice.index % able)) → count ≡ min (min (max choice.count 1) MOST_SLICE) left

@@ -6,3 +6,4 @@ pub mod Turns
 pub mod Laws
 pub mod Again
 pub mod Legs
+pub mod Able

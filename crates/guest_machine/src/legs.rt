@@ -43,11 +43,12 @@ impl Machine {
         let mut left = budget;
         let mut spelled = 0;
         loop {
-            if let Some(end) = leg_end(self.run_state(), left, spelled) {
+            let able = self.scan();
+            if let Some(end) = leg_end(self.standing(&able), left, spelled) {
                 let ran = budget - left;
                 return Ok(Leg { ran, end });
             }
-            let pick = self.pick_slice(left, chooser);
+            let pick = self.pick_slice(&able, left, chooser);
             let Ok(taken) = self.take_slice(pick.pid, pick.count, answers, out, steps) else {
                 return Err(NoMemory);
             };

@@ -1,4 +1,4 @@
-use crate::able::{can_go_on, pick_slice, run_state};
+use crate::able::{Able, can_go_on, pick_slice, run_state, scan};
 use crate::errors::MachineError;
 use crate::turn::{Taken, take_turn};
 use arn_base::{Bytes, Chooser, NoMemory, Record, Steps};
@@ -44,6 +44,7 @@ impl Machine {
     ghost use Rattle.guest_calls.specs.Starts.{HasNoImage};
     ghost use Rattle.guest_legs.specs.Legs.{brought, ask};
     ghost use Rattle.guest_legs.specs.Pieces.{spelled_len};
+    ghost use Rattle.guest_machine.specs.Able.{AreAble};
     ghost use Rattle.guest_machine.specs.Recorded.{HasRoom, OfEach, Runs, has_process, recorded_first};
     ghost use Rattle.guest_machine.specs.Slices.{CanTake, IsCut, RanSlice};
 
@@ -83,7 +84,8 @@ impl Machine {
     pub fn run_state(&self) -> RunState
         ensures { OfEach self.now.kernel (λ m. result ≡ run_state_of m) }
     {
-        run_state(&self.kernel)
+        let able = self.scan();
+        self.standing(&able)
     }
 
     /// Whether a process can go on. Then a slice of it is possible.
@@ -253,9 +255,25 @@ impl Machine {
         }
     }
 
-    // The slice that a chooser picks, where so many instructions are left.
-    pub(crate) fn pick_slice<C: Chooser>(&self, left: u64, chooser: &mut C) -> Pick
-        requires able { OfEach self.now.kernel (λ m. RunState.CanGoOn ≡ run_state_of m) }
+    // The processes that can go on. Each that lives is asked once.
+    pub(crate) fn scan(&self) -> Able
+        ensures { OfEach self.now.kernel (λ m. AreAble m result) }
+    {
+        scan(&self.kernel)
+    }
+
+    // How the machine stands before a slice, where these processes can go on.
+    pub(crate) fn standing(&self, able: &Able) -> RunState
+        requires able { OfEach self.now.kernel (λ m. AreAble m able.now) }
+        ensures { OfEach self.now.kernel (λ m. result ≡ run_state_of m) }
+    {
+        run_state(&self.kernel, able)
+    }
+
+    // The slice that a chooser picks, where these processes can go on and so many instructions are left.
+    pub(crate) fn pick_slice<C: Chooser>(&self, able: &Able, left: u64, chooser: &mut C) -> Pick
+        requires able { OfEach self.now.kernel (λ m. AreAble m able.now) }
+        requires can { OfEach self.now.kernel (λ m. RunState.CanGoOn ≡ run_state_of m) }
         requires left { 0 < left }
         ensures picked { OfEach self.now.kernel (λ m. IfSome (C.choices chooser.old 0) (λ choice.
             result ≡ brought (ask m left) choice)) }
@@ -265,7 +283,7 @@ impl Machine {
         ensures some { 0 < result.count }
         ensures within { result.count ≤ left }
     {
-        pick_slice(&self.kernel, left, chooser)
+        pick_slice(&self.kernel, able, left, chooser)
     }
 
     // Runs a slice as `run_slice` does, perhaps of nothing, and also tells how many bytes its records

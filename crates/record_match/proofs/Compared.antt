@@ -1,8 +1,8 @@
 -- Records that differ, and the first byte of their spellings that does.
-use Rattle.std.proofs.Common.{◌≡◌, ◌≢◌, ℕ, zero, suc, ◌+◌, ◌<◌, ◌≤◌, List, [], ◌∷◌, ◌++◌, length, get_or, take, Option, None, Some, slice_get, refl, sym, ap, ◌∙◌, arith, append_assoc, length-take, length-append, IfSome}
+use Rattle.std.proofs.Common.{◌≡◌, ◌≢◌, ℕ, zero, suc, ◌+◌, ◌<◌, ◌≤◌, List, [], ◌∷◌, ◌++◌, length, get_or, take, Option, None, Some, slice_get, refl, sym, ap, ◌∙◌, arith, append_assoc, length-append, IfSome}
 use Rattle.std.proofs.Math.Seq.{take-append-add}
-use Rattle.std.proofs.lemmas.List.{take-append-le, take_more, take-take, length-take-le}
-use Rattle.std.proofs.lemmas.Option.{get_or_from_slice_get, slice_get-get_or, slice_get_past, slice_get_within}
+use Rattle.std.proofs.lemmas.List.{take-append-le, take_more, length-take-le}
+use Rattle.std.proofs.lemmas.Option.{get_or_from_slice_get, slice_get-get_or, slice_get_within}
 use Rattle.arn_base.specs.declared.records.Record.{Record}
 use Rattle.result_log.specs.Laws.{SpelledOneWay, ReadsAsSpelled, ReadsBytes}
 use Rattle.result_log.specs.Spelling.{spelling, FitsFields, HasSpelling}
@@ -119,10 +119,3 @@ IsMismatch-here entries found matched i next entry d enough so_far lt is other a
     ap (slice_get (before ++ found)) place ∙ slice_get-back before found i ∙ slice_get-get_or found i entry lt ∙ ap (λ (e : Record). Some e) (sym is) in
     let within : d.place < length (before ++ found) = omega (arith, at.is_place, place, length-append before found, lt) in
     λ others. first-front entries (before ++ found) others d within (first_there entries (before ++ found) next (Some entry) d same there other at)
-
--- one is missing behind the first
-pub first-missing : (entries : List Record) (matched : ℕ) (d : Differs) → matched < length entries → IsDifferenceAt matched (slice_get entries matched) None d → IsFirstDifference entries (take matched entries) d
-first-missing entries matched d more at =
-    let ends : slice_get (take matched entries) matched ≡ None = slice_get_past (take matched entries) matched (omega (arith, length-take matched entries)) in
-    let before : take matched entries ≡ take matched (take matched entries) = sym (take-take matched matched entries (omega arith)) in
-    first_there entries (take matched entries) matched None d before ends (slice_get-some entries matched more) at

@@ -17,22 +17,22 @@ pub returns-in-Some-clause-leg : goal.returns-in-Some-clause-leg
 returns-in-Some-clause-leg g c m stands =
     let l = c.loop-end in
     SoFar-end g.A.Answers.answers (fresh m c.args.budget) c.args.self.now l.self (g.C.Chooser.choices c.args.chooser.now) (g.C.Chooser.choices l.chooser) c.args.answers.now l.answers c.args.out.now.items l.out.items c.args.steps.now l.steps
-    l.left l.spelled c.run_state.result c.run_state.ensures (l.invariant.so_far m stands) c.in-Some.end (sym c.leg_end.ensures ∙ c.in-Some.is) l.invariant.counts.within
+    l.left l.spelled c.standing.result c.standing.ensures (l.invariant.so_far m stands) c.in-Some.end (sym c.leg_end.ensures ∙ c.in-Some.is) l.invariant.counts.within
 
-pub pick_slice-pick-requires-clause-able : goal.pick_slice-pick-requires-clause-able
-pick_slice-pick-requires-clause-able g c m stands =
-    let goes = goes-on c.run_state.result c.loop-end.left c.loop-end.spelled (sym c.leg_end.ensures ∙ c.in_default.is) in
-    sym goes.able ∙ c.run_state.ensures m stands
+pub pick_slice-pick-requires-clause-can : goal.pick_slice-pick-requires-clause-can
+pick_slice-pick-requires-clause-can g c m stands =
+    let goes = goes-on c.standing.result c.loop-end.left c.loop-end.spelled (sym c.leg_end.ensures ∙ c.in_default.is) in
+    sym goes.able ∙ c.standing.ensures m stands
 
 pub pick_slice-pick-requires-clause-left : goal.pick_slice-pick-requires-clause-left
-pick_slice-pick-requires-clause-left g c = (goes-on c.run_state.result c.loop-end.left c.loop-end.spelled (sym c.leg_end.ensures ∙ c.in_default.is)).some
+pick_slice-pick-requires-clause-left g c = (goes-on c.standing.result c.loop-end.left c.loop-end.spelled (sym c.leg_end.ensures ∙ c.in_default.is)).some
 
 pub take_slice-requires-clause-can : goal.take_slice-requires-clause-can
 take_slice-requires-clause-can g c m stands = inl (c.pick_slice-pick.ensures.possible m stands)
 
 pub take_slice-requires-clause-room : goal.take_slice-requires-clause-room
 take_slice-requires-clause-room g c =
-    let goes = goes-on c.run_state.result c.loop-end.left c.loop-end.spelled (sym c.leg_end.ensures ∙ c.in_default.is) in
+    let goes = goes-on c.standing.result c.loop-end.left c.loop-end.spelled (sym c.leg_end.ensures ∙ c.in_default.is) in
     Counts-room c.args.self.now c.loop-end.self c.args.budget c.loop-end.left c.loop-end.spelled c.pick_slice-pick.result.count c.loop-end.invariant.counts c.requires.room goes.room c.pick_slice-pick.ensures.within
 
 pub returns-in_default-take_slice-clause-cut : goal.returns-in_default-take_slice-clause-cut
@@ -41,13 +41,13 @@ returns-in_default-take_slice-clause-cut g c m stands =
     let picked = c.pick_slice-pick.ensures in
     let n = c.take_slice.new in
     SoFar-cut g.A.Answers.answers (fresh m c.args.budget) c.args.self.now l.self (g.C.Chooser.choices c.args.chooser.now) (g.C.Chooser.choices l.chooser) c.args.answers.now l.answers c.args.out.now.items l.out.items c.args.steps.now l.steps
-    l.left l.spelled c.run_state.result c.run_state.ensures (l.invariant.so_far m stands)
+    l.left l.spelled c.standing.result c.standing.ensures (l.invariant.so_far m stands)
     c.picks_follow.ensures n.self (g.C.Chooser.choices c.pick_slice-pick.new.chooser) n.answers n.out.items n.steps c.pick_slice-pick.result (sym c.leg_end.ensures ∙ c.in_default.is) picked.picked picked.later picked.possible picked.some picked.within c.take_slice.ensures.steps
     c.in_default-take_slice.ensures.cut c.in_default-take_slice.ensures.unasked c.take_slice.ensures.at_most
 
 pub loop-end-smaller : goal.loop-end-smaller
 loop-end-smaller g c =
-    let goes = goes-on c.run_state.result c.loop-end.left c.loop-end.spelled (sym c.leg_end.ensures ∙ c.in_default.is) in
+    let goes = goes-on c.standing.result c.loop-end.left c.loop-end.spelled (sym c.leg_end.ensures ∙ c.in_default.is) in
     omega (arith, goes.room, c.in-Ok.ensures.some c.pick_slice-pick.ensures.possible c.pick_slice-pick.ensures.some)
 
 pub loop-end-preserved : goal.loop-end-preserved
@@ -61,7 +61,7 @@ loop-end-preserved g c =
     record {
       so_far = λ m stands.
           SoFar-more g.A.Answers.answers (fresh m c.args.budget) c.args.self.now l.self (g.C.Chooser.choices c.args.chooser.now) (g.C.Chooser.choices l.chooser) c.args.answers.now l.answers c.args.out.now.items l.out.items c.args.steps.now l.steps
-          l.left l.spelled c.run_state.result c.run_state.ensures (l.invariant.so_far m stands)
+          l.left l.spelled c.standing.result c.standing.ensures (l.invariant.so_far m stands)
           c.picks_follow.ensures n.self (g.C.Chooser.choices c.pick_slice-pick.new.chooser) n.answers n.out.items n.steps c.pick_slice-pick.result (sym c.leg_end.ensures ∙ c.in_default.is) picked.picked picked.later picked.possible picked.some picked.within c.take_slice.ensures.steps
           c.from-left.result c.in-Ok.taken.len e.ran ran e.len;
       counts = Counts-more c.args.self.now l.self n.self c.args.budget l.left l.spelled c.from-left.result c.in-Ok.taken.len l.invariant.counts few ran c.take_slice.ensures.events (e.some picked.possible picked.some);
