@@ -18,10 +18,11 @@ use Rattle.session_effects.specs.Effects.{Effect}
 use Rattle.session_effects.specs.Standing.{IsOpen}
 use Rattle.session_effects.specs.declared.halt.Halt.{Halt}
 use Rattle.session_effects.specs.declared.halt.Halt.TheVariants as halt
+use Rattle.session_runs.specs.Ready.{IsNotMade}
 use Rattle.session_runs.specs.Points.{Advances, Stops}
 use Rattle.session_runs.specs.Touches.{Answering, StandAs, TouchedBy, asks_in, named_at}
 use Rattle.session_runs.specs.Turns.{finished}
-use Rattle.session_commands.specs.Answering.{FindsNoRun, IsHalted, IsNoRun, IsNotBegun, IsNotMade, IsUntouched}
+use Rattle.session_commands.specs.Answering.{FindsNoRun, IsHalted, IsNoRun, IsNotBegun, IsUntouched}
 use Rattle.session_runs.specs.Standing.{Standpoint, standpoint}
 use Rattle.session_commands.specs.Cost.{cost_of_turn, machine_cost}
 use Rattle.session_commands.specs.Given.{Given}

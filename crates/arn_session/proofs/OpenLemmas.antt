@@ -133,6 +133,7 @@ module _ {D A : Type 0} (d : Ghosts D) (who : Answering A) (g : Given) (carries 
     touched = p.touched;
     one_part = p.one_part;
     by_memory = p.by_memory;
+    unmade = p.unmade;
     executed = p.executed;
   }
 

@@ -138,6 +138,7 @@ module _ {D A : Type 0} (d : Ghosts D) (who : Answering A) where
     touched = q.touched;
     one_part = q.one_part;
     by_memory = q.by_memory;
+    unmade = q.unmade;
     executed = q.executed;
   }
 
@@ -168,6 +169,7 @@ module _ {D A : Type 0} (d : Ghosts D) (who : Answering A) where
     touched = q.touched;
     one_part = q.one_part;
     by_memory = q.by_memory;
+    unmade = q.unmade;
     executed = omega (arith, q.executed, dear);
   }
 
@@ -280,6 +282,7 @@ module _ {D A : Type 0} (d : Ghosts D) (who : Answering A) where
                 (touched-append who p.touches (q.touches ++ q.lost_touches) p.slices (q.slices ++ q.lost) u.answers v.answers w.answers p.touched q.touched));
             one_part = q.one_part;
             by_memory = q.by_memory;
+            unmade = q.unmade;
             executed = omega (arith, p.executed, q.executed, cost_all);
           };
           slices = ap (λ (x : List Picked). x ++ zs) split ∙ append_assoc xs ys zs;
@@ -322,5 +325,6 @@ module _ {D A : Type 0} (d : Ghosts D) (who : Answering A) where
       touched = (refl, answers);
       one_part = omega arith;
       by_memory = inl refl;
+      unmade = inl refl;
       executed = omega (arith, cheap);
     }

@@ -90,6 +90,7 @@ module _ {A B : Type 0} (here : A) (who : Answering A) (there : Answering B) (se
     touched = TouchedBy-seen (p.touches ++ p.lost_touches) (p.slices ++ p.lost) u.answers v.answers p.touched;
     one_part = p.one_part;
     by_memory = p.by_memory;
+    unmade = p.unmade;
     executed = p.executed;
   }
 

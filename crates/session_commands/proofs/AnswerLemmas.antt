@@ -15,10 +15,11 @@ use Rattle.session_effects.specs.Printing.{PutsFront, StopsPut}
 use Rattle.session_effects.specs.Standing.{IsCause, IsOpen}
 use Rattle.session_effects.specs.declared.halt.Halt.{Halt}
 use Rattle.session_effects.specs.declared.halt.Halt.TheVariants as halt
+use Rattle.session_runs.specs.Ready.{IsNotMade}
 use Rattle.session_runs.specs.Points.{around}
 use Rattle.session_runs.specs.Touches.{Answering}
 use Rattle.session_runs.specs.Turns.{finished, prints}
-use Rattle.session_commands.specs.Answering.{BlamesRecords, BlamesRightly, IsAnswered, IsHalted, IsLineCause, IsNotBegun, IsNotMade}
+use Rattle.session_commands.specs.Answering.{BlamesRecords, BlamesRightly, IsAnswered, IsHalted, IsLineCause, IsNotBegun}
 use Rattle.session_runs.specs.Standing.{Standpoint, standpoint}
 use Rattle.session_commands.specs.Cost.{cost, machine_cost}
 use Rattle.session_commands.specs.Given.{Given}

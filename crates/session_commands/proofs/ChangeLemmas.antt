@@ -77,6 +77,7 @@ module _ {A : Type 0} (who : Answering A) (choices : ℕ → Option Choice) (ans
         touched = q.touched;
         one_part = q.one_part;
         by_memory = q.by_memory;
+        unmade = q.unmade;
         executed = omega (arith, q.executed, cheap);
       })
 

@@ -134,6 +134,7 @@ module _ {D A : Type 0} (d : Ghosts D) (who : Answering A) (names : NamedAppend)
         touched = (refl, refl);
         one_part = omega arith;
         by_memory = inl refl;
+        unmade = inl refl;
         executed = omega arith;
       }
 
@@ -205,6 +206,7 @@ module _ {D A : Type 0} (d : Ghosts D) (who : Answering A) (halts : HaltsFollow 
               (subst (λ (x : List Picked). TouchedBy who p.touches x answers answers') (sym (append-nil p.slices)) p.touched);
           one_part = omega arith;
           by_memory = inl refl;
+          unmade = inl refl;
           executed = omega (arith, p.executed, cheap, ap slices_cost (append-nil xs));
         };
         leaves =

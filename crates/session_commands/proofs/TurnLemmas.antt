@@ -184,6 +184,7 @@ module _ {D A : Type 0} (is_run : List Record → Type 0) (d : Ghosts D) (who : 
     touched = (refl, refl);
     one_part = omega arith;
     by_memory = inl refl;
+    unmade = inl refl;
     executed = omega (arith, cheap);
   }
 
@@ -220,6 +221,7 @@ module _ {D A : Type 0} (is_run : List Record → Type 0) (d : Ghosts D) (who : 
     touched = (refl, refl);
     one_part = omega arith;
     by_memory = inl refl;
+    unmade = inl refl;
     executed = omega (arith, cheap);
   }
 

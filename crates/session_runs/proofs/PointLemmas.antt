@@ -157,6 +157,7 @@ module _ {D A : Type 0} (is_run : List Record → Type 0) (d : Ghosts D) (who : 
             (touched-append who p.touches (q.touches ++ q.lost_touches) p.slices (q.slices ++ q.lost) u.answers v.answers w.answers p.touched q.touched));
         one_part = q.one_part;
         by_memory = q.by_memory;
+        unmade = q.unmade;
         executed = omega (arith, p.executed, q.executed, cost_all);
       }
     where

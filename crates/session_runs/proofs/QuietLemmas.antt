@@ -242,6 +242,7 @@ module _ {D A : Type 0} (is_run : List Record → Type 0) (d : Ghosts D) (who : 
         touched = s.touched;
         one_part = s.one_part;
         by_memory = s.by_memory;
+        unmade = s.unmade;
         executed = s.executed;
       }
     where

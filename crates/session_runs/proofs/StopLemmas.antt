@@ -114,6 +114,7 @@ module _ {D A : Type 0} (is_run : List Record → Type 0) (d : Ghosts D) (who : 
         touched = touched-at who asks slices old.answers new.answers replied;
         one_part = omega arith;
         by_memory = inr refl;
+        unmade = inr tt;
         executed = omega (arith, executed, going-cost (fresh m left) slices, ap slices_cost same_named, sum_by-cons (λ (x : Picked). x.pick.count) part []);
       }
 
@@ -160,6 +161,7 @@ module _ {D A : Type 0} (is_run : List Record → Type 0) (d : Ghosts D) (who : 
         touched = touched-at who asks slices old.answers new.answers replied;
         one_part = omega arith;
         by_memory = inl refl;
+        unmade = inl refl;
         executed = omega (arith, executed, going-cost (fresh m left) slices, ap slices_cost same_named);
       }
 
@@ -206,6 +208,7 @@ module _ {D A : Type 0} (is_run : List Record → Type 0) (d : Ghosts D) (who : 
             (subst (λ (x : List Picked). TouchedBy who (at_slices asks) x old.answers new.answers) (sym (append-nil slices)) (touched-at who asks slices old.answers new.answers replied));
         one_part = omega arith;
         by_memory = inl refl;
+        unmade = inl refl;
         executed = omega (arith, executed, going-cost (fresh m left) slices, ap slices_cost same_named, ap slices_cost (append-nil (named_at (at_slices asks) slices)));
       }
 
@@ -257,5 +260,6 @@ module _ {D A : Type 0} (is_run : List Record → Type 0) (d : Ghosts D) (who : 
         touched = (refl, refl);
         one_part = omega arith;
         by_memory = inl refl;
+        unmade = inl refl;
         executed = omega arith;
       }

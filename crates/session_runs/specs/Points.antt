@@ -11,6 +11,7 @@ use Rattle.session_effects.specs.Carrying.{IsAtCommit, StopsBetween}
 use Rattle.session_effects.specs.Effects.{Effect, committed}
 use Rattle.session_effects.specs.declared.halt.Halt.{Halt}
 use Rattle.session_effects.specs.declared.halt.Halt.TheVariants as halt
+use Rattle.session_runs.specs.Ready.{IsNotMade}
 use Rattle.session_runs.specs.Touches.{Answering, Touch, TouchedBy, asks_in, named_at, unplugged_in, unplugs_in}
 use Rattle.session_runs.specs.Turns.{Turn, Point, behind}
 
@@ -73,7 +74,7 @@ IsSpent lost undone left = (left ≡ None) ⊎ ((left ≡ Some []) × ((undone �
 -- `slices`, and say of just those devices that they were unplugged which `touches` unplug. Slices that were picked behind these and not
 -- committed are lost: those of the open leg. Without them the slices end before it; where a commit stands next, it names them, and says of
 -- just those devices that they were unplugged which the touches behind the others unplug. Where memory ran out in a slice, that one was
--- picked too, and a part of it may have run; or it ran out before an unplugging, which wasn't made.
+-- picked too, and a part of it may have run; or no machine was made for an unplugging, which wasn't made either.
 pub record Stops {D A : Type 0} (is_run : List Record → Type 0) (d : Ghosts D) (who : Answering A) (disk disk' : D) (history : List Record) (held holds : Option (List ℕ)) (why : Halt) (from : Point) (old new : Surroundings A) (cost : ℕ) : Type 0 where
   pub slices : List Picked
   pub lost : List Picked
@@ -98,5 +99,6 @@ pub record Stops {D A : Type 0} (is_run : List Record → Type 0) (d : Ghosts D)
   pub in_range : AreInRange (asks_in (touches ++ (lost_touches ++ part_touches))) (slices ++ (lost ++ part))
   pub touched : TouchedBy who (touches ++ lost_touches) (slices ++ lost) old.answers new.answers
   pub one_part : length part_touches ≤ 1
-  pub by_memory : (part_touches ≡ []) ⊎ (why ≡ halt.NoMemory)
+  pub by_memory : (part ≡ []) ⊎ (why ≡ halt.NoMemory)
+  pub unmade : (part_touches ≡ []) ⊎ IsNotMade why
   pub executed : new.steps ≤ old.steps + cost + slices_cost (named_at touches slices ++ named_at lost_touches lost) + counts part
