@@ -1,5 +1,5 @@
 -- What a session leaves, from what is known at each of its ends.
-use Rattle.std.proofs.Common.{◌≡◌, ◌≢◌, ◌⊎◌, inl, inr, ◌+◌, ◌<◌, ◌≤◌, ◌^◌, ◌++◌, ℕ, List, [], length, drop, Option, None, Some, IfSome, arith, Result, Ok, Err, OnOk, IfErr, IsErrOf, Bool, refl, subst, sym, append_assoc, ◌∷◌, ◌∙◌}
+use Rattle.std.proofs.Common.{◌≡◌, ◌≢◌, ◌⊎◌, inl, inr, ◌+◌, ◌<◌, ◌≤◌, ◌^◌, ◌++◌, ℕ, List, [], length, drop, Option, None, Some, IfSome, arith, Result, Ok, Err, IsErrOf, Bool, refl, subst, sym, append_assoc, ◌∷◌, ◌∙◌}
 use Rattle.std.proofs.lemmas.Option.{IfSome_then}
 use Rattle.arn_base.specs.declared.disk.Disk.{Ghosts}
 use Rattle.arn_base.specs.declared.records.Differs.{Differs}
@@ -14,13 +14,13 @@ use Rattle.log_store.specs.declared.size.TheConstants.{MOST_LOG}
 use Rattle.session_effects.specs.Carrying.{CarriesOut, HoldsMore, IsAtRest, IsShut, RestsMore}
 use Rattle.session_effects.specs.declared.halt.Halt.{Halt}
 use Rattle.session_effects.specs.declared.halt.Halt.TheVariants as halt
-use Rattle.session_commands.specs.Answering.{IsAnswered, IsHalted, IsNoRun}
+use Rattle.session_commands.specs.Answering.{IsHalted, IsNoRun}
 use Rattle.guest_machine.specs.Legs.{Picked}
 use Rattle.session_runs.specs.Touches.{Answering, named_at}
 use Rattle.session_runs.specs.Standing.{Standpoint, standpoint}
 use Rattle.session_commands.specs.Given.{Given}
 use Rattle.arn_session.specs.Answered.{AnswersParts, AnswersTaken, TookAtMost, TookFewer}
-use Rattle.arn_session.specs.Begun.{BeginsOn, FindsOn, Standing, standing, on_history, store_of}
+use Rattle.arn_session.specs.Begun.{BeginsOn, FindsOn, Standing, store_of}
 use Rattle.arn_session.specs.CutOff.{BeginsText, FindsOut}
 use Rattle.arn_session.specs.Leaves.{Leaves, Scene, WereTouched}
 use Rattle.arn_session.specs.Transcript.{transcript}

@@ -1,5 +1,5 @@
 -- No line unplugs a device yet.
-use Rattle.std.proofs.Common.{◌≡◌, ℕ, ◌++◌, List, [], ◌∷◌, Option, Some, None, refl, sym, ap, ◌∙◌, append_assoc, append-nil}
+use Rattle.std.proofs.Common.{◌≡◌, ℕ, ◌++◌, List, [], ◌∷◌, Option, Some, None, refl, sym, ap, ◌∙◌}
 use Rattle.arn_base.specs.declared.records.Record.{Record}
 use Rattle.arn_lines.specs.declared.answer.Refusal.{Refusal}
 use Rattle.arn_lines.specs.declared.answer.RunEnd.{RunEnd}

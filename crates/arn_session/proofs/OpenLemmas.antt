@@ -12,8 +12,7 @@ use Rattle.log_store.specs.Stores.{StoreState, IsLeftBy}
 use Rattle.log_store.specs.declared.errors.OpenError.{OpenError}
 use Rattle.log_store.specs.declared.errors.OpenError.TheVariants as opening
 use Rattle.log_store.specs.declared.size.TheConstants.{MOST_LOG}
-use Rattle.session_effects.specs.Carrying.{HoldsLog, IsAtRest, IsShut, CarriesOut, StopsBetween, RestsMore}
-use Rattle.session_effects.specs.Effects.{Effect, committed}
+use Rattle.session_effects.specs.Carrying.{HoldsLog, IsAtRest, IsShut, CarriesOut, RestsMore}
 use Rattle.session_effects.specs.Laws.{BehindHalts, OpenedCarries}
 use Rattle.session_effects.specs.declared.halt.Halt.{Halt}
 use Rattle.session_effects.specs.declared.halt.Halt.TheVariants as halt

@@ -15,7 +15,7 @@ use Rattle.arn_commands.specs.declared.command.Command.TheVariants.{Generates}
 use Rattle.log_model.specs.Laws.{BehindAppend, NamedAppend}
 use Rattle.log_model.specs.Records.{IsRun, records_from, reply_behind}
 use Rattle.log_store.specs.Stores.{StoreState}
-use Rattle.guest_machine.specs.Legs.{Ask, AreInRange, Picked, PickedBy}
+use Rattle.guest_machine.specs.Legs.{AreInRange, Picked, PickedBy}
 use Rattle.session_effects.specs.Carrying.{StopsBetween}
 use Rattle.session_effects.specs.Effects.{Effect, Prints, committed, records_of}
 use Rattle.session_effects.specs.Laws.{EffectsFollow, HaltsFollow}

@@ -5,7 +5,7 @@ use Rattle.arn_base.specs.declared.records.Record.{Record}
 use Rattle.arn_commands.specs.Commands.{EachAsks}
 use Rattle.arn_commands.specs.Parts.{text_parts}
 use Rattle.session_effects.specs.Carrying.{CarriesOut}
-use Rattle.session_effects.specs.Effects.{Effect, printed as printed_by}
+use Rattle.session_effects.specs.Effects.{printed as printed_by}
 use Rattle.session_runs.specs.Points.{Surroundings}
 use Rattle.session_runs.specs.Touches.{Answering, named_at}
 use Rattle.session_runs.specs.Turns.{Turn}

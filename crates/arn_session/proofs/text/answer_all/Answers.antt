@@ -5,15 +5,12 @@ use Rattle.arn_commands.specs.Nexts.{ReadsNext}
 use Rattle.arn_commands.specs.Reader.{ReaderState}
 use Rattle.arn_commands.specs.declared.error.ReadError.{ReadError}
 use Rattle.arn_commands.specs.declared.next.Next.{Next}
-use Rattle.log_store.specs.Stores.{StoreState}
 use Rattle.session_effects.specs.declared.halt.Halt.{Halt}
 use Rattle.session_effects.specs.declared.halt.Halt.TheVariants as halt
 use Rattle.session_runs.specs.Points.{around}
-use Rattle.session_runs.specs.Standing.{standpoint}
 use Rattle.session_runs.specs.Touches.{answering}
 use Rattle.session_commands.specs.Given.{given}
 use Rattle.arn_session.specs.Begun.{BeginsOn, standing}
-use Rattle.arn_session.specs.CutOff.{BeginsText}
 use Rattle.arn_session.proofs.CutLemmas.{BeginsText-before, BeginsText-last, BeginsText-whole, FindsOut-last, FindsOut-whole, blames-first, stops-all}
 use Rattle.arn_session.proofs.FaultLemmas.{Rose-after}
 use Rattle.arn_session.proofs.HaltLemmas.{long-was, memory-was, never-long, never-source, read-finds-none, read-never-disk, read-never-full, read-never-sink, source-was}
