@@ -46,8 +46,8 @@ touched-none who now = record { touches = []; slices = []; touched = (refl, refl
 
 module _ {D A : Type 0} {d : Ghosts D} {who : Answering A} {g : Given} where
   -- who answers was touched by slices alone, before a command and for it
-  pub touched-before : {parts : List Part} {is_there : Bool} {old new : Standpoint D A} → HaveAnswers d who g parts is_there old new → WereTouched who old.around.answers new.around.answers
-  touched-before {parts = parts} {is_there = is_there} {old = old} {new = new} p = were-touched d who g old new parts is_there p
+  pub touched-before : {parts : List Part} {is_there : Bool} {old new : Standpoint D A} (laws : Laws d who) → HaveAnswers d who g parts is_there old new → WereTouched who old.around.answers new.around.answers
+  touched-before {parts = parts} {is_there = is_there} {old = old} {new = new} laws p = were-touched d who g laws old new parts is_there p
 
   pub touched-halted : {parts : List Part} {is_there : Bool} {old mid new : Standpoint D A} {command : Command} {why : Halt} (laws : Laws d who) → HaveAnswers d who g parts is_there old mid → IsHalted d who g is_there why command mid new → WereTouched who old.around.answers new.around.answers
   touched-halted {parts = parts} {is_there = is_there} {old = old} {mid = mid} {new = new} {command = command} {why = why} laws p b =
@@ -59,7 +59,7 @@ module _ {D A : Type 0} {d : Ghosts D} {who : Answering A} {g : Given} where
         slices = stop.slices ++ stop.lost;
         touched = stop.touched;
         none_unplugged =
-            begin-none (stop.touches ++ stop.lost_touches) stop.part_touches (transcript g old.store.entries commands all).touches (transcript-none g old.store.entries commands all)
+            begin-none laws.touches.unplugs (stop.touches ++ stop.lost_touches) stop.part_touches (transcript g old.store.entries commands all).touches (transcript-none laws.touches.unplugs g old.store.entries commands all)
             (stop.are_touches ∙ sym (append_assoc stop.touches stop.lost_touches stop.part_touches));
       }
 

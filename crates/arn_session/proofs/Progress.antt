@@ -28,7 +28,7 @@ use Rattle.session_commands.specs.Lines.{needs_machine, turn}
 use Rattle.arn_session.specs.Answered.{AnswersParts, AnswersTaken, TookAtMost, TookFewer}
 use Rattle.arn_session.specs.Leaves.{WereTouched}
 use Rattle.arn_session.specs.Transcript.{needs_any, total_cost, transcript}
-use Rattle.arn_session.proofs.PointLemmas.{Advances-along, Advances-append, Laws, PickedBy-none}
+use Rattle.arn_session.proofs.PointLemmas.{Advances-along, Laws}
 use Rattle.arn_session.proofs.NoneLemmas.{begin-none, transcript-none}
 use Rattle.arn_session.proofs.StandLemmas.{answered-as, found-as, halted-as, needs-stands}
 use Rattle.arn_session.proofs.TouchLemmas.{stand-after}
@@ -175,20 +175,7 @@ module _ {D A : Type 0} (d : Ghosts D) (who : Answering A) (g : Given) where
     commands = [];
     each_asks = tt;
     cost = 0;
-    answered = record {
-      slices = [];
-      touches = [];
-      effects = [];
-      leads = λ rest. refl;
-      names = refl;
-      unplugs = refl;
-      begins = refl;
-      carries = record { stays_open = open_now; entries = sym (append-nil now.store.entries); out = laws.effects.nothing now.disk now.store.entries now.held };
-      picked = PickedBy-none now.around.choices now.around.choices (λ k. refl);
-      in_range = tt;
-      touched = (refl, refl);
-      executed = omega arith;
-    };
+    answered = laws.points.nothing finished now.around now.disk now.store now.held open_now;
     costs = λ rest. omega arith;
     needs = refl;
     unmoved = λ absent. refl;
@@ -226,7 +213,7 @@ module _ {D A : Type 0} (d : Ghosts D) (who : Answering A) (g : Given) where
       let t = mid.store.entries in
       let first = Advances-more old mid parts is_there p (command ∷ []) in
       let second = Advances-along who (turn g t command) (transcript g t (command ∷ [])) finished mid.around new.around (cost g is_there t new.store.entries command) (Carries IsRun d mid.disk new.disk mid.store new.store mid.held new.held) (transcript-one g t command) a.advances in
-      let both = Advances-append d who laws (transcript g h (p.commands ++ command ∷ [])) (transcript g t (command ∷ [])) finished old.around mid.around new.around p.cost (cost g is_there t new.store.entries command) old.disk mid.disk new.disk old.store mid.store new.store old.held mid.held new.held first second in
+      let both = laws.points.advances (transcript g h (p.commands ++ command ∷ [])) (transcript g t (command ∷ [])) finished old.around mid.around new.around p.cost (cost g is_there t new.store.entries command) old.disk mid.disk new.disk old.store mid.store new.store old.held mid.held new.held first second in
       record {
         commands = p.commands ++ command ∷ [];
         each_asks = EachAsks-push parts p.commands part command p.each_asks asks;
@@ -258,8 +245,8 @@ module _ {D A : Type 0} (d : Ghosts D) (who : Answering A) (g : Given) where
   }
 
   -- those who answer for devices were touched by slices alone
-  pub were-touched : (old new : Standpoint D A) (parts : List Part) (is_there : Bool) → HaveAnswers parts is_there old new → WereTouched who old.around.answers new.around.answers
-  were-touched old new parts is_there p =
+  pub were-touched : (laws : Laws d who) (old new : Standpoint D A) (parts : List Part) (is_there : Bool) → HaveAnswers parts is_there old new → WereTouched who old.around.answers new.around.answers
+  were-touched laws old new parts is_there p =
       let a = p.answered in
       let all : List Picked = named_at a.touches a.slices ++ [] in
       record {
@@ -267,7 +254,7 @@ module _ {D A : Type 0} (d : Ghosts D) (who : Answering A) (g : Given) where
         slices = a.slices;
         touched = a.touched;
         none_unplugged =
-            begin-none a.touches [] (transcript g old.store.entries p.commands all).touches (transcript-none g old.store.entries p.commands all)
+            begin-none laws.touches.unplugs a.touches [] (transcript g old.store.entries p.commands all).touches (transcript-none laws.touches.unplugs g old.store.entries p.commands all)
             (ap (λ (t : Turn). t.touches) (a.leads []));
       }
 
@@ -288,8 +275,8 @@ module _ {D A : Type 0} (d : Ghosts D) (who : Answering A) (g : Given) where
     pub out : (effects : List Effect) × CarriesOut IsRun d old.disk new.disk old.store.entries old.held new.held effects
     pub touched : WereTouched who old.around.answers new.around.answers
 
-  done_by : (bytes : List ℕ) (parts : List Part) (reader : ReaderState) (l0 l : Option (List ℕ)) (is_there : Bool) (old new : Standpoint D A) → Uses bytes fresh_reader reader l0 l → IsAtEnd reader l → text_parts bytes ≡ parts → HaveAnswers parts is_there old new → IsDone l0 l old new
-  done_by bytes parts reader l0 l is_there old new used end are answers =
+  done_by : (laws : Laws d who) (bytes : List ℕ) (parts : List Part) (reader : ReaderState) (l0 l : Option (List ℕ)) (is_there : Bool) (old new : Standpoint D A) → Uses bytes fresh_reader reader l0 l → IsAtEnd reader l → text_parts bytes ≡ parts → HaveAnswers parts is_there old new → IsDone l0 l old new
+  done_by laws bytes parts reader l0 l is_there old new used end are answers =
       let all = text_taken l0 l bytes (are_taken bytes reader l0 l used end.short.used_up) end.none_left in
       let whole = HaveAnswers-answers old new parts is_there answers in
       record {
@@ -297,7 +284,7 @@ module _ {D A : Type 0} (d : Ghosts D) (who : Answering A) (g : Given) where
         answered = IfSome_then l0 all (λ text f. subst (λ (x : List Part). AnswersParts who g old.store.entries x old.around new.around (CarriesOut IsRun d old.disk new.disk old.store.entries old.held new.held)) (sym (ap text_parts f.1 ∙ are)) whole);
         short = IfSome_then l0 all (λ text f. omega (arith, ap length f.1, end.short.some_room, count_taken bytes reader l0 l used end.short.used_up));
         out = (answers.answered.effects, answers.answered.carries.out);
-        touched = were-touched old new parts is_there answers;
+        touched = were-touched laws old new parts is_there answers;
       }
 
 module _ {D A : Type 0} {d : Ghosts D} {who : Answering A} {g : Given} where
@@ -337,14 +324,14 @@ module _ {D A : Type 0} {d : Ghosts D} {who : Answering A} {g : Given} where
   }
 
   -- the text ended behind a whole part
-  pub IsDone-end : {l0 l1 l2 : Option (List ℕ)} {r r' : ReaderState} {is_there : Bool} {old new : Standpoint D A} → Progress d who g l0 l1 r is_there old new → ReadsEnd r r' l1 l2 → IsDone d who g l0 l2 old new
-  IsDone-end {l0 = l0} {l1 = l1} {l2 = l2} {r = r} {r' = r'} {is_there = is_there} {old = old} {new = new} p read =
-      done_by d who g (p.seen ++ []) p.parts r' l0 l2 is_there old new (Uses-append p.seen [] fresh_reader r r' l0 l1 l2 p.used read.used) read.at_end (p.parts_are [] ∙ append-nil p.parts) p.answers
+  pub IsDone-end : {l0 l1 l2 : Option (List ℕ)} {r r' : ReaderState} {is_there : Bool} {old new : Standpoint D A} (laws : Laws d who) → Progress d who g l0 l1 r is_there old new → ReadsEnd r r' l1 l2 → IsDone d who g l0 l2 old new
+  IsDone-end {l0 = l0} {l1 = l1} {l2 = l2} {r = r} {r' = r'} {is_there = is_there} {old = old} {new = new} laws p read =
+      done_by d who g laws (p.seen ++ []) p.parts r' l0 l2 is_there old new (Uses-append p.seen [] fresh_reader r r' l0 l1 l2 p.used read.used) read.at_end (p.parts_are [] ∙ append-nil p.parts) p.answers
 
   -- the text ended with a part
   pub IsDone-last : {l0 l1 l2 : Option (List ℕ)} {r r' : ReaderState} {is_there : Bool} {old mid new : Standpoint D A} {command : Command} (laws : Laws d who) → Progress d who g l0 l1 r is_there old mid → ReadsLast command r r' l1 l2 → IsAnswered d who g is_there command mid new → IsDone d who g l0 l2 old new
   IsDone-last {l0 = l0} {l1 = l1} {l2 = l2} {r = r} {r' = r'} {is_there = is_there} {old = old} {mid = mid} {new = new} {command = command} laws p read a =
-      done_by d who g (p.seen ++ read.bytes) (p.parts ++ read.part ∷ []) r' l0 l2 (is_there || needs_machine g mid.store.entries command) old new (Uses-append p.seen read.bytes fresh_reader r r' l0 l1 l2 p.used read.used) read.at_end
+      done_by d who g laws (p.seen ++ read.bytes) (p.parts ++ read.part ∷ []) r' l0 l2 (is_there || needs_machine g mid.store.entries command) old new (Uses-append p.seen read.bytes fresh_reader r r' l0 l1 l2 p.used read.used) read.at_end
       (p.parts_are read.bytes ∙ ap (λ (x : List Part). p.parts ++ x) read.is_last)
       (HaveAnswers-push d who g laws old mid new p.parts is_there (is_there || needs_machine g mid.store.entries command) read.part command refl read.asks p.answers a)
 

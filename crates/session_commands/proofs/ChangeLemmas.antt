@@ -85,9 +85,9 @@ module _ {A : Type 0} (who : Answering A) (choices : ℕ → Option Choice) (ans
 module _ {D A : Type 0} (is_run : List Record → Type 0) (d : Ghosts D) (who : Answering A) (halts : HaltsFollow is_run d) (points : PointsFollow is_run d who) where
   pub Stops-last : (from : Point) (u : Surroundings A) (choices : ℕ → Option Choice) (answers : A) (steps : ℕ) (old new : D) (s0 s1 : StoreState) (h0 h1 : Option (List ℕ)) → Advances who from finished u (around choices answers steps) 0 (Carries is_run d old new s0 s1 h0 h1) → Stops is_run d who old new s0.entries h0 h1 halt.NoMemory from u (around choices answers steps) 0
   Stops-last from u choices answers steps old new s0 s1 h0 h1 p =
-      points.stops from finished u (around choices answers steps) (around choices answers steps) 0 0 old new new s0 s1 h0 h1 h1 halt.NoMemory p
+      (points.stops from finished u (around choices answers steps) (around choices answers steps) 0 0 old new new s0 s1 h0 h1 h1 halt.NoMemory p
       (Stops-nothing is_run d who halts choices answers new s1.entries h1 halt.NoMemory finished steps steps 0 still-finished
-      (halts.nothing new s1.entries h1 halt.NoMemory [] (inl refl, inl refl)) (omega arith))
+      (halts.nothing new s1.entries h1 halt.NoMemory [] (inl refl, inl refl)) (omega arith))).stops
 
 -- the records from before are the first of those that are there now
 pub take-known : (old new : List Record) (more : List Record) → new ≡ old ++ more → take (length old) new ≡ old

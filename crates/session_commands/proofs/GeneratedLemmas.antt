@@ -238,7 +238,7 @@ module _ {D A : Type 0} (d : Ghosts D) (who : Answering A) (g : Given) (is_there
       let all = cost g is_there store.entries s1.entries (Generates image typed processes) in
       let first : Advances who point (prints text) u v 0 (Carries IsRun d disk disk' store s1 h0 mid_held) = subst (λ (s : StoreState). Advances who (generator_turn g.told s.entries image typed processes) (prints text) u v 0 (Carries IsRun d disk disk' s s1 h0 mid_held)) same p in
       let second = Advances-prints IsRun d who laws choices' answers' disk' s1 mid_held h1 (prints text) there_steps steps' asked text refl first.carries.stays_open put telling in
-      let both = points.advances point (prints text) finished u v w 0 asked disk disk' disk' store s1 s1 h0 mid_held h1 first second in
+      let both = (points.advances point (prints text) finished u v w 0 asked disk disk' disk' store s1 s1 h0 mid_held h1 first second).advances in
       let whole = Advances-later who choices answers point finished steps mid (0 + asked) all w (Carries IsRun d disk disk' store s1 h0 h1) (omega (arith, cheap, cost-generator g store.entries image typed processes is_there s1.entries accepted)) both in
       subst (λ (s : StoreState). IsAnswered d who g is_there (Generates image typed processes) (standpoint disk store h0 (around choices answers steps)) (standpoint disk' s h1 w)) (sym same_behind)
       (record {
