@@ -165,7 +165,7 @@ module _ {D A : Type 0} (d : Ghosts D) (who : Answering A) (g : Given) where
           effects = a.effects;
           leads = a.leads;
           names = a.names;
-          unplugs = a.unplugs;
+          unplugged = a.unplugged;
           begins = a.begins;
           carries =
               subst (λ (x : D). CarriesOut IsRun d old.disk x old.store.entries old.held new.held a.effects) (sym same.disk)

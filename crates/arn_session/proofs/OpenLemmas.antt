@@ -97,7 +97,7 @@ module _ {D A : Type 0} (d : Ghosts D) (who : Answering A) (g : Given) (carries 
     effects = p.effects;
     leads = p.leads;
     names = p.names;
-    unplugs = p.unplugs;
+    unplugged = p.unplugged;
     begins = p.begins;
     carries = carries old mid new entries h0 h1 opening p.effects p.carries;
     picked = p.picked;
@@ -120,10 +120,10 @@ module _ {D A : Type 0} (d : Ghosts D) (who : Answering A) (g : Given) (carries 
     are_touches = p.are_touches;
     stopped = halts old mid new entries entries h0 h0 h1 why [] p.done p.undone (sym (append-nil entries)) opening p.stopped;
     names = p.names;
-    unplugs = p.unplugs;
+    unplugged = p.unplugged;
     begins = p.begins;
     names_lost = p.names_lost;
-    unplugs_lost = p.unplugs_lost;
+    unplugged_lost = p.unplugged_lost;
     without = p.without;
     spent = p.spent;
     many = p.many;

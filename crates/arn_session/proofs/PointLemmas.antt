@@ -66,7 +66,7 @@ module _ {A : Type 0} (who : Answering A) where
     effects = p.effects;
     leads = λ rest. same (named_at p.touches p.slices ++ rest) ∙ p.leads rest;
     names = p.names;
-    unplugs = p.unplugs;
+    unplugged = p.unplugged;
     begins = p.begins;
     carries = p.carries;
     picked = p.picked;
@@ -97,10 +97,10 @@ module _ {D A : Type 0} (d : Ghosts D) (who : Answering A) where
     are_touches = ap (λ (t : Turn). t.touches) (same (named_at q.touches q.slices ++ (named_at q.lost_touches q.lost ++ q.part))) ∙ q.are_touches;
     stopped = q.stopped;
     names = q.names;
-    unplugs = q.unplugs;
+    unplugged = q.unplugged;
     begins = q.begins;
     names_lost = q.names_lost;
-    unplugs_lost = q.unplugs_lost;
+    unplugged_lost = q.unplugged_lost;
     without = without-along a a' q.lost q.done (named_at q.touches q.slices) (same (named_at q.touches q.slices)) q.without;
     spent = subst (λ (o : Option (List Picked)). IsSpent q.lost q.undone o) (sym (ap (λ (t : Turn). t.left) (same (named_at q.touches q.slices ++ named_at q.lost_touches q.lost)))) q.spent;
     many = q.many;
@@ -128,10 +128,10 @@ module _ {D A : Type 0} (d : Ghosts D) (who : Answering A) where
     are_touches = q.are_touches;
     stopped = q.stopped;
     names = q.names;
-    unplugs = q.unplugs;
+    unplugged = q.unplugged;
     begins = q.begins;
     names_lost = q.names_lost;
-    unplugs_lost = q.unplugs_lost;
+    unplugged_lost = q.unplugged_lost;
     without = q.without;
     spent = q.spent;
     many = q.many;
@@ -161,10 +161,10 @@ module _ {D A : Type 0} (d : Ghosts D) (who : Answering A) where
         subst (λ (x : D). StopsBetween IsRun d disk x history h0 h1 why [] []) (sym same_disk)
         (subst (λ (x : Option (List ℕ)). StopsBetween IsRun d disk disk history h0 x why [] []) (sym same_held) stopped);
     names = refl;
-    unplugs = refl;
+    unplugged = refl;
     begins = refl;
     names_lost = λ entries at. absurd (no-commit entries at);
-    unplugs_lost = λ entries at. absurd (no-commit entries at);
+    unplugged_lost = λ entries at. absurd (no-commit entries at);
     without = inl refl;
     spent = inr (refl, inr refl);
     many = refl;

@@ -124,7 +124,7 @@ module _ {A : Type 0} (who : Answering A) where
     effects = p.effects;
     leads = p.leads;
     names = p.names;
-    unplugs = p.unplugs;
+    unplugged = p.unplugged;
     begins = p.begins;
     carries = then p.effects p.carries;
     picked = p.picked;
@@ -155,7 +155,7 @@ module _ {D A : Type 0} (d : Ghosts D) (who : Answering A) (g : Given) where
     effects = p.answered.effects;
     leads = leads-more g old.store.entries new.store.entries p.commands more (named_at p.answered.touches p.answered.slices) p.answered.effects p.answered.touches p.answered.carries.entries p.answered.leads;
     names = p.answered.names;
-    unplugs = p.answered.unplugs;
+    unplugged = p.answered.unplugged;
     begins = p.answered.begins;
     carries = p.answered.carries;
     picked = p.answered.picked;
@@ -231,7 +231,7 @@ module _ {D A : Type 0} (d : Ghosts D) (who : Answering A) (g : Given) where
         on_run = λ here. run-more is_there h t command p.unmoved p.on_run a.on_run (sym there ∙ here);
         stands =
             stand-after who laws.kept g.filled t new.store.entries a.advances.effects a.advances.touches a.advances.slices mid.around.answers new.around.answers
-            a.advances.carries.entries a.advances.unplugs a.advances.touched p.stands;
+            a.advances.carries.entries a.advances.unplugged a.advances.touched p.stands;
       }
 
   HaveAnswers-answers : (old new : Standpoint D A) (parts : List Part) (is_there : Bool) → HaveAnswers parts is_there old new → AnswersParts who g old.store.entries parts old.around new.around (CarriesOut IsRun d old.disk new.disk old.store.entries old.held new.held)

@@ -54,7 +54,7 @@ module _ {A B : Type 0} (here : A) (who : Answering A) (there : Answering B) (se
     effects = p.effects;
     leads = p.leads;
     names = p.names;
-    unplugs = p.unplugs;
+    unplugged = p.unplugged;
     begins = p.begins;
     carries = p.carries;
     picked = p.picked;
@@ -77,10 +77,10 @@ module _ {A B : Type 0} (here : A) (who : Answering A) (there : Answering B) (se
     are_touches = p.are_touches;
     stopped = p.stopped;
     names = p.names;
-    unplugs = p.unplugs;
+    unplugged = p.unplugged;
     begins = p.begins;
     names_lost = p.names_lost;
-    unplugs_lost = p.unplugs_lost;
+    unplugged_lost = p.unplugged_lost;
     without = p.without;
     spent = p.spent;
     many = p.many;

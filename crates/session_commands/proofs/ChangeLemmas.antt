@@ -40,7 +40,7 @@ module _ {A : Type 0} (who : Answering A) (choices : ℕ → Option Choice) (ans
     effects = p.effects;
     leads = p.leads;
     names = p.names;
-    unplugs = p.unplugs;
+    unplugged = p.unplugged;
     begins = p.begins;
     carries = p.carries;
     picked = p.picked;
@@ -65,10 +65,10 @@ module _ {A : Type 0} (who : Answering A) (choices : ℕ → Option Choice) (ans
         are_touches = q.are_touches;
         stopped = q.stopped;
         names = q.names;
-        unplugs = q.unplugs;
+        unplugged = q.unplugged;
         begins = q.begins;
         names_lost = q.names_lost;
-        unplugs_lost = q.unplugs_lost;
+        unplugged_lost = q.unplugged_lost;
         without = q.without;
         spent = q.spent;
         many = q.many;
@@ -153,7 +153,7 @@ module _ {D A : Type 0} (d : Ghosts D) (who : Answering A) (g : Given) (is_there
           effects = p.effects;
           leads = p.leads;
           names = p.names;
-          unplugs = p.unplugs;
+          unplugged = p.unplugged;
           begins = p.begins;
           carries = p.carries;
           picked = p.picked;

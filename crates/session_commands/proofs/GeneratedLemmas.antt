@@ -91,7 +91,7 @@ module _ {D A : Type 0} (d : Ghosts D) (who : Answering A) (names : NamedAppend)
             ap (λ (h : List Record). behind effects [] (gen_run told h (machine_from m inputs) processes rest)) there
             ∙ ap (λ (x : Machine). behind effects [] (gen_run told s1.entries x processes rest)) (sym a.leads);
         names = p.0;
-        unplugs = p.2;
+        unplugged = p.2;
         begins = p.1;
         carries = a.carries held;
         picked = PickedBy-none choices;
@@ -122,10 +122,10 @@ module _ {D A : Type 0} (d : Ghosts D) (who : Answering A) (names : NamedAppend)
         are_touches = a.touches;
         stopped = halts.before old new history held held why h.done h.undone more h.stopped;
         names = p.0;
-        unplugs = p.2;
+        unplugged = p.2;
         begins = p.1;
         names_lost = λ entries at. (plain-next (h.undone ++ more) parts.1 entries at).0;
-        unplugs_lost = λ entries at. (plain-next (h.undone ++ more) parts.1 entries at).1;
+        unplugged_lost = λ entries at. (plain-next (h.undone ++ more) parts.1 entries at).1;
         without = inl refl;
         spent = spent-still (h.undone ++ more) (gen_from told history m inputs processes []).left a.left;
         many = refl;
@@ -188,10 +188,10 @@ module _ {D A : Type 0} (d : Ghosts D) (who : Answering A) (halts : HaltsFollow 
               halts.behind old new new s0.entries s1.entries h0 there h1 why p.effects [] (Prints text ∷ []) p.carries.entries p.carries.out
               (halts.text new s1.entries there h1 why text put);
           names = ap (λ (e : List Effect). slices_in (committed e)) (append-nil p.effects) ∙ p.names;
-          unplugs = ap (λ (e : List Effect). unplugged_in (committed e)) (append-nil p.effects) ∙ p.unplugs;
+          unplugged = ap (λ (e : List Effect). unplugged_in (committed e)) (append-nil p.effects) ∙ p.unplugged;
           begins = ap (λ (e : List Effect). reply_behind (committed e)) (append-nil p.effects) ∙ p.begins;
           names_lost = λ entries at. absurd (no-commit text entries [] at);
-          unplugs_lost = λ entries at. absurd (no-commit text entries [] at);
+          unplugged_lost = λ entries at. absurd (no-commit text entries [] at);
           without = inl refl;
           spent = inr (ap (λ (t : Turn). t.left) (p.leads []), inr refl);
           many = p.picked.many;

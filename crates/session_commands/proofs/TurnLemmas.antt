@@ -46,7 +46,7 @@ NameNone entries = (slices_in entries ≡ []) × (unplugged_in entries ≡ [])
 -- no commit among effects names a slice or unplugs a device, of those that are done and the next
 pub record IsQuiet (done undone : List Effect) : Type 0 where
   pub names : slices_in (committed done) ≡ []
-  pub unplugs : unplugged_in (committed done) ≡ []
+  pub unplugged : unplugged_in (committed done) ≡ []
   pub begins : reply_behind (committed done) ≡ None
   pub names_next : (entries : List Record) → IsAtCommit undone entries → NameNone entries
 
@@ -54,7 +54,7 @@ pub record IsQuiet (done undone : List Effect) : Type 0 where
 pub quiet-text : (text : List ℕ) (done undone : List Effect) → Prints text ∷ [] ≡ done ++ undone → IsQuiet done undone
 quiet-text text [] undone is = record {
   names = refl;
-  unplugs = refl;
+  unplugged = refl;
   begins = refl;
   names_next = λ entries at. absurd (no-commit text entries [] (subst (λ (e : List Effect). IsAtCommit e entries) (sym is) at));
 }
@@ -62,7 +62,7 @@ quiet-text text (Prints t ∷ []) undone is =
     let none : undone ≡ [] = cc in
     record {
       names = refl;
-      unplugs = refl;
+      unplugged = refl;
       begins = refl;
       names_next = λ entries at. absurd (none-next entries (subst (λ (e : List Effect). IsAtCommit e entries) none at));
     }
@@ -73,7 +73,7 @@ quiet-text text (Commits es ∷ done) undone is = absurd cc
 pub quiet-event : (entries : List Record) (text : List ℕ) (done undone : List Effect) → NameNone entries → reply_behind entries ≡ None → Commits entries ∷ Prints text ∷ [] ≡ done ++ undone → IsQuiet done undone
 quiet-event entries text [] undone none begins is = record {
   names = refl;
-  unplugs = refl;
+  unplugged = refl;
   begins = refl;
   names_next = λ others at.
       subst NameNone (sym (first-commit entries others (Prints text ∷ []) (subst (λ (e : List Effect). IsAtCommit e others) (sym is) at))) none;
@@ -83,7 +83,7 @@ quiet-event entries text (Commits es ∷ []) undone none begins is =
     let left : Prints text ∷ [] ≡ undone = cc in
     record {
       names = ap slices_in (append-nil es ∙ same) ∙ none.0;
-      unplugs = ap unplugged_in (append-nil es ∙ same) ∙ none.1;
+      unplugged = ap unplugged_in (append-nil es ∙ same) ∙ none.1;
       begins = ap reply_behind (append-nil es ∙ same) ∙ begins;
       names_next = λ others at. absurd (no-commit text others [] (subst (λ (e : List Effect). IsAtCommit e others) (sym left) at));
     }
@@ -92,7 +92,7 @@ quiet-event entries text (Commits es ∷ (Prints t ∷ [])) undone none begins i
     let left : undone ≡ [] = cc in
     record {
       names = ap slices_in (append-nil es ∙ same) ∙ none.0;
-      unplugs = ap unplugged_in (append-nil es ∙ same) ∙ none.1;
+      unplugged = ap unplugged_in (append-nil es ∙ same) ∙ none.1;
       begins = ap reply_behind (append-nil es ∙ same) ∙ begins;
       names_next = λ others at. absurd (none-next others (subst (λ (e : List Effect). IsAtCommit e others) left at));
     }
@@ -112,7 +112,7 @@ module _ {A : Type 0} (who : Answering A) (choices : ℕ → Option Choice) (ans
     effects = effects;
     leads = λ rest. ap (λ (p : Point). p rest) is ∙ turn-done effects rest;
     names = names.0;
-    unplugs = names.1;
+    unplugged = names.1;
     begins = begins;
     carries = carries;
     picked = PickedBy-none choices;
@@ -129,7 +129,7 @@ module _ {A : Type 0} (who : Answering A) (choices : ℕ → Option Choice) (ans
     effects = [];
     leads = λ rest. ap (λ (p : Point). p rest) is;
     names = refl;
-    unplugs = refl;
+    unplugged = refl;
     begins = refl;
     carries = carries;
     picked = PickedBy-none choices;
@@ -172,10 +172,10 @@ module _ {D A : Type 0} (is_run : List Record → Type 0) (d : Ghosts D) (who : 
     are_touches = ap (λ (p : Point). (p []).touches) is;
     stopped = stopped;
     names = quiet.names;
-    unplugs = quiet.unplugs;
+    unplugged = quiet.unplugged;
     begins = quiet.begins;
     names_lost = λ entries at. (quiet.names_next entries at).0;
-    unplugs_lost = λ entries at. (quiet.names_next entries at).1;
+    unplugged_lost = λ entries at. (quiet.names_next entries at).1;
     without = inl refl;
     spent = inr (ap (λ (p : Point). (p []).left) is, inr refl);
     many = refl;
@@ -209,10 +209,10 @@ module _ {D A : Type 0} (is_run : List Record → Type 0) (d : Ghosts D) (who : 
     are_touches = still.touches;
     stopped = stopped;
     names = refl;
-    unplugs = refl;
+    unplugged = refl;
     begins = refl;
     names_lost = λ entries at. (still.names entries at).0;
-    unplugs_lost = λ entries at. (still.names entries at).1;
+    unplugged_lost = λ entries at. (still.names entries at).1;
     without = inl refl;
     spent = spent-still (from []).effects (from []).left still.left;
     many = refl;

@@ -73,7 +73,7 @@ module _ {D A : Type 0} {is_run : List Record → Type 0} {d : Ghosts D} {who : 
     effects = [];
     leads = λ rest. refl;
     names = refl;
-    unplugs = refl;
+    unplugged = refl;
     begins = refl;
     carries = record { stays_open = open_now; entries = sym (append-nil store.entries); out = laws.effects.nothing disk store.entries held };
     picked = PickedBy-none now.choices;
@@ -100,7 +100,7 @@ module _ {D A : Type 0} {is_run : List Record → Type 0} {d : Ghosts D} {who : 
               ∙ ap (λ (t : Turn). behind p.effects p.touches t) (q.leads rest)
               ∙ behind-behind p.effects q.effects p.touches q.touches (c rest);
           names = names-append laws.names p.effects q.effects xs ys q.begins p.names q.names ∙ sym split;
-          unplugs = unplugs-behind p.effects q.effects (unplugs_in p.touches) (unplugs_in q.touches) p.unplugs q.unplugs ∙ sym (laws.touches.unplugs p.touches q.touches);
+          unplugged = unplugs-behind p.effects q.effects (unplugs_in p.touches) (unplugs_in q.touches) p.unplugged q.unplugged ∙ sym (laws.touches.unplugs p.touches q.touches);
           begins = begins-append laws.begins p.effects q.effects p.begins q.begins;
           carries = Carries-append old mid new s0 s1 s2 h0 h1 h2 p.effects q.effects p.carries q.carries;
           picked =
@@ -147,10 +147,10 @@ module _ {D A : Type 0} {is_run : List Record → Type 0} {d : Ghosts D} {who : 
           are_touches = ap (λ (t : Turn). t.touches) lead_part ∙ ap (λ (e : List Touch). p.touches ++ e) q.are_touches ∙ sym (append_assoc p.touches q.touches (q.lost_touches ++ q.part_touches));
           stopped = laws.halts.behind old mid new s0.entries s1.entries h0 h1 h2 why p.effects q.done q.undone p.carries.entries p.carries.out q.stopped;
           names = names-append laws.names p.effects q.done xs ys q.begins p.names q.names ∙ sym split;
-          unplugs = unplugs-behind p.effects q.done (unplugs_in p.touches) (unplugs_in q.touches) p.unplugs q.unplugs ∙ sym (laws.touches.unplugs p.touches q.touches);
+          unplugged = unplugs-behind p.effects q.done (unplugs_in p.touches) (unplugs_in q.touches) p.unplugged q.unplugged ∙ sym (laws.touches.unplugs p.touches q.touches);
           begins = begins-append laws.begins p.effects q.done p.begins q.begins;
           names_lost = q.names_lost;
-          unplugs_lost = q.unplugs_lost;
+          unplugged_lost = q.unplugged_lost;
           without = without q.without alone;
           spent = subst (λ (o : Option (List Picked)). IsSpent q.lost q.undone o) (sym (ap (λ (t : Turn). t.left) lead)) q.spent;
           many = omega (arith, p.picked.many, q.many, ap (λ (x : List Ask). length x) (asks-append p.touches q.touches), length-append (asks_in p.touches) (asks_in q.touches), length-append p.slices q.slices);

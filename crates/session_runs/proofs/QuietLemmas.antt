@@ -193,7 +193,7 @@ module _ {D A : Type 0} (is_run : List Record → Type 0) (d : Ghosts D) (who : 
             ∙ ap (λ (x : List Touch). behind (quiet a.effects) x (prints (text (s0.entries ++ committed (quiet a.effects))) rest)) (append-nil a.touches)
             ∙ ap (λ (h : List Record). behind (quiet a.effects) a.touches (prints (text h) rest)) (sym carries.entries);
         names = ap slices_in (quiet-committed a.effects) ∙ a.names;
-        unplugs = ap unplugged_in (quiet-committed a.effects) ∙ a.unplugs;
+        unplugged = ap unplugged_in (quiet-committed a.effects) ∙ a.unplugged;
         begins = ap reply_behind (quiet-committed a.effects) ∙ a.begins;
         carries = carries;
         picked = a.picked;
@@ -228,10 +228,10 @@ module _ {D A : Type 0} (is_run : List Record → Type 0) (d : Ghosts D) (who : 
         are_touches = told-touches (quiet_turn with_part) with_part.left (tells with_part) ∙ s.are_touches;
         stopped = halts.before old new history held held why (quiet s.done) (quiet s.undone) told (follow.halts old new history h0 h1 held why s.done s.undone not_sink s.stopped);
         names = ap slices_in (quiet-committed s.done) ∙ s.names;
-        unplugs = ap unplugged_in (quiet-committed s.done) ∙ s.unplugs;
+        unplugged = ap unplugged_in (quiet-committed s.done) ∙ s.unplugged;
         begins = ap reply_behind (quiet-committed s.done) ∙ s.begins;
         names_lost = λ entries at. s.names_lost entries (commit-next s.undone told entries (told-none t.left (tells t) entries) texts at);
-        unplugs_lost = λ entries at. s.unplugs_lost entries (commit-next s.undone told entries (told-none t.left (tells t) entries) texts at);
+        unplugged_lost = λ entries at. s.unplugged_lost entries (commit-next s.undone told entries (told-none t.left (tells t) entries) texts at);
         without = cut s.done alone (tells alone) s.without;
         spent =
             subst (λ (o : Option (List Picked)). IsSpent s.lost (quiet s.undone ++ told) o) (sym (told-left (quiet_turn t) t.left (tells t) refl))

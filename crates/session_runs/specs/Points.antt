@@ -53,7 +53,7 @@ pub record Advances {A : Type 0} (who : Answering A) (from to : Point) (old new 
   pub effects : List Effect
   pub leads : (rest : List Picked) → from (named_at touches slices ++ rest) ≡ behind effects touches (to rest)
   pub names : slices_in (committed effects) ≡ named_at touches slices
-  pub unplugs : unplugged_in (committed effects) ≡ unplugs_in touches
+  pub unplugged : unplugged_in (committed effects) ≡ unplugs_in touches
   pub begins : reply_behind (committed effects) ≡ None
   pub carries : carried effects
   pub picked : PickedBy old.choices new.choices (asks_in touches) slices
@@ -88,10 +88,10 @@ pub record Stops {D A : Type 0} (is_run : List Record → Type 0) (d : Ghosts D)
   pub are_touches : (from (named_at touches slices ++ (named_at lost_touches lost ++ part))).touches ≡ touches ++ (lost_touches ++ part_touches)
   pub stopped : StopsBetween is_run d disk disk' history held holds why done undone
   pub names : slices_in (committed done) ≡ named_at touches slices
-  pub unplugs : unplugged_in (committed done) ≡ unplugs_in touches
+  pub unplugged : unplugged_in (committed done) ≡ unplugs_in touches
   pub begins : reply_behind (committed done) ≡ None
   pub names_lost : (entries : List Record) → IsAtCommit undone entries → slices_in entries ≡ named_at lost_touches lost
-  pub unplugs_lost : (entries : List Record) → IsAtCommit undone entries → unplugged_in entries ≡ unplugs_in (lost_touches ++ part_touches)
+  pub unplugged_lost : (entries : List Record) → IsAtCommit undone entries → unplugged_in entries ≡ unplugs_in (lost_touches ++ part_touches)
   pub without : (lost ≡ []) ⊎ EndsWithin done (from (named_at touches slices))
   pub spent : IsSpent lost undone (from (named_at touches slices ++ named_at lost_touches lost)).left
   pub many : length (asks_in touches) ≡ length slices
