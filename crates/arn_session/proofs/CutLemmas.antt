@@ -21,7 +21,7 @@ use Rattle.session_effects.specs.declared.halt.Halt.TheVariants as halt
 use Rattle.session_runs.specs.Laws.{StopsBy}
 use Rattle.session_runs.specs.Ready.{IsNotMade}
 use Rattle.session_runs.specs.Points.{Advances, Stops}
-use Rattle.session_runs.specs.Touches.{Answering, StandAs, TouchedBy, asks_in, named_at}
+use Rattle.session_runs.specs.Touches.{Answering, TouchedBy, asks_in, named_at}
 use Rattle.session_runs.specs.Turns.{finished}
 use Rattle.session_commands.specs.Answering.{FindsNoRun, IsHalted, IsNoRun, IsNotBegun, IsUntouched}
 use Rattle.session_runs.specs.Standing.{Standpoint, standpoint}
@@ -32,6 +32,7 @@ use Rattle.arn_session.specs.CutOff.{BeginsText, FindsOut, IsBegun}
 use Rattle.arn_session.specs.Transcript.{needs_any, total_cost, transcript}
 use Rattle.arn_session.proofs.PointLemmas.{Laws, PickedBy-same, Stops-along, Stops-dearer, Stops-finished}
 use Rattle.arn_session.proofs.Progress.{Advances-more, EachAsks-push, HaveAnswers, Progress, Progress-start, are_taken, costs-more, count_taken, parts-more, text_taken, wholes-more}
+use Rattle.arn_session.proofs.TouchLemmas.{StandAs}
 use Rattle.arn_session.proofs.TranscriptLemmas.{needs-push, transcript-one}
 use Rattle.arn_session.proofs.UseLemmas.{Uses-append, Uses-none}
 

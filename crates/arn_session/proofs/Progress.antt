@@ -18,7 +18,7 @@ use Rattle.session_effects.specs.Effects.{Effect, committed}
 use Rattle.session_effects.specs.Standing.{Carries, IsOpen}
 use Rattle.session_runs.specs.Points.{Advances, Surroundings}
 use Rattle.session_effects.specs.declared.halt.Halt.{Halt}
-use Rattle.session_runs.specs.Touches.{Answering, StandAs, named_at}
+use Rattle.session_runs.specs.Touches.{Answering, named_at}
 use Rattle.session_runs.specs.Turns.{Point, Turn, finished}
 use Rattle.session_commands.specs.Answering.{FindsNoRun, IsAnswered, IsHalted}
 use Rattle.session_runs.specs.Standing.{Standpoint}
@@ -31,7 +31,7 @@ use Rattle.arn_session.specs.Transcript.{needs_any, total_cost, transcript}
 use Rattle.arn_session.proofs.PointLemmas.{Advances-along, Laws}
 use Rattle.arn_session.proofs.NoneLemmas.{begin-none, transcript-none}
 use Rattle.arn_session.proofs.StandLemmas.{answered-as, found-as, halted-as, needs-stands}
-use Rattle.arn_session.proofs.TouchLemmas.{stand-after}
+use Rattle.arn_session.proofs.TouchLemmas.{StandAs, stand-after}
 use Rattle.arn_session.proofs.TranscriptLemmas.{commits-none, cost-push, leads-more, needs-push, transcript-one}
 use Rattle.arn_session.proofs.UseLemmas.{Uses-append, Uses-none}
 

@@ -12,7 +12,7 @@ use Rattle.guest_machine.specs.Legs.{Picked}
 use Rattle.session_effects.specs.Effects.{committed}
 use Rattle.session_effects.specs.declared.halt.Halt.{Halt}
 use Rattle.session_runs.specs.Standing.{Proceeds, Standpoint}
-use Rattle.session_runs.specs.Touches.{Answering, StandAs, named_at}
+use Rattle.session_runs.specs.Touches.{Answering, named_at}
 use Rattle.session_runs.specs.Turns.{Point, finished}
 use Rattle.session_commands.specs.Answering.{FindsNoRun, IsAnswered, IsHalted}
 use Rattle.session_commands.specs.Cost.{asked_cost, cost, cost_of_turn, machine_cost}
@@ -20,6 +20,7 @@ use Rattle.session_commands.specs.Given.{Given, given}
 use Rattle.session_commands.specs.Lines.{needs_machine, turn, turn_unless}
 use Rattle.session_commands.specs.Rows.{LineRow, row_of}
 use Rattle.arn_session.proofs.PointLemmas.{Stops-along}
+use Rattle.arn_session.proofs.TouchLemmas.{StandAs}
 
 module _ {A : Type 0} (who : Answering A) (g : Given) (history : List Record) (now : A) (stand : StandAs who g.filled history now) where
   row-stands : (l : Line) → row_of (given g.told (who.filled now)) history l ≡ row_of g history l

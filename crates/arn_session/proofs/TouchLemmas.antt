@@ -9,8 +9,20 @@ use Rattle.parts_model.specs.Replies.{Answered}
 use Rattle.guest_devices.specs.Answers.{Asked}
 use Rattle.guest_machine.specs.Legs.{Picked}
 use Rattle.session_effects.specs.Effects.{Effect, committed}
-use Rattle.session_runs.specs.Touches.{Answering, Touch, AtSlice, AtUnplug, TouchedBy, StandAs, is_gone, unplugged_by, unplugged_in, unplugs_in}
+use Rattle.session_runs.specs.Touches.{Answering, Touch, AtSlice, AtUnplug, TouchedBy, unplugged_by, unplugged_in, unplugs_in}
 use Rattle.arn_session.proofs.ReplyLemmas.{RepliesIn-stays}
+
+-- a device is one of these
+abbrev is_one : List ℕ → ℕ → Bool
+is_one devices n = list_any (λ m. m == n) devices
+
+-- the device of this number is one of those that a history unplugged
+abbrev is_gone : List Record → ℕ → Bool
+is_gone history n = is_one (unplugged_in history) n
+
+-- what a history didn't unplug is there where it was at first
+abbrev pub StandAs : {A : Type 0} → Answering A → (ℕ → Bool) → List Record → A → Type 0
+StandAs who filled history now = (n : ℕ) → is_gone history n ≡ false → who.filled now n ≡ filled n
 
 unplugged-append : (entries more : List Record) → unplugged_in (entries ++ more) ≡ unplugged_in entries ++ unplugged_in more
 unplugged-append entries more = filter_map-append unplugged_by entries more
@@ -33,10 +45,6 @@ and-not false b c = refl
 or-parts : (a b : Bool) → (a || b) ≡ false → (a ≡ false) × (b ≡ false)
 or-parts true b is = absurd cc
 or-parts false b is = (refl, is)
-
--- a device is one of these
-abbrev is_one : List ℕ → ℕ → Bool
-is_one devices n = list_any (λ m. m == n) devices
 
 -- a device is there behind touches, if it was and wasn't unplugged
 filled-after : {A : Type 0} (who : Answering A) → Keeps who → (n : ℕ) (touches : List Touch) (slices : List Picked) (old new : A) → TouchedBy who touches slices old new → who.filled new n ≡ (who.filled old n && not (is_one (unplugs_in touches) n))
