@@ -42,16 +42,14 @@ quiet-committed (Prints text ∷ effects) = quiet-committed effects
 abbrev Legs : ℕ → List Effect → Type 0
 Legs most [] = Unit {0}
 Legs most (Prints text ∷ more) = more ≡ []
-Legs most (Commits entries ∷ []) = ⊥
-Legs most (Commits entries ∷ Commits others ∷ more) = ⊥
 Legs most (Commits entries ∷ Prints text ∷ more) = (left : ℕ) × (length (slices_in entries) + left ≤ most) × ((quiet more ≡ []) ⊎ (0 < left)) × Legs left more
+Legs most _ = ⊥
 
 Legs-more : (few most : ℕ) (effects : List Effect) → few ≤ most → Legs few effects → Legs most effects
 Legs-more few most [] le legs = tt
 Legs-more few most (Prints text ∷ more) le legs = legs
-Legs-more few most (Commits entries ∷ []) le legs = absurd legs
-Legs-more few most (Commits entries ∷ Commits others ∷ more) le legs = absurd legs
 Legs-more few most (Commits entries ∷ Prints text ∷ more) le legs = (legs.0, omega (arith, le, legs.1), legs.2, legs.3)
+Legs-more few most _ le legs = absurd legs
 
 some-behind : (done : List Effect) (effect : Effect) (more : List Effect) → done ++ effect ∷ more ≡ [] → ⊥
 some-behind [] effect more is = cc
@@ -75,9 +73,8 @@ legs-text most (Commits entries ∷ Prints first ∷ done) text more legs = elim
 legs-last : (few most : ℕ) (done : List Effect) (text : List ℕ) (more : List Effect) → Legs few done → Legs most (done ++ Prints text ∷ more) → more ≡ []
 legs-last few most [] text more whole legs = legs
 legs-last few most (Prints first ∷ done) text more whole legs = absurd (some-behind done (Prints text) more legs)
-legs-last few most (Commits entries ∷ []) text more whole legs = absurd whole
-legs-last few most (Commits entries ∷ Commits others ∷ done) text more whole legs = absurd whole
 legs-last few most (Commits entries ∷ Prints first ∷ done) text more whole legs = legs-last whole.0 legs.0 done text more whole.3 legs.3
+legs-last few most _ text more whole legs = absurd whole
 
 -- a run that ends
 legs-ended : (most first : ℕ) (entries : List Record) (text : List ℕ) → length (slices_in entries) ≤ most → Legs most (leg_effects first entries ++ Prints text ∷ [])
