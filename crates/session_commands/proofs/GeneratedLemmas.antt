@@ -1,6 +1,5 @@
 -- The generator's line as points of a session.
-use Rattle.std.proofs.Common.{◌≡◌, ◌⊎◌, inl, inr, ℕ, ◌+◌, ◌≤◌, ◌++◌, Bool, true, false, List, [], ◌∷◌, Option, Some, None, option_map, Result, Ok, Err, OnOk, refl, sym, ap, ◌∙◌, subst, append_assoc, append-nil, arith}
-use Rattle.std.specs.Prelude.{if◌then◌else◌, is_none}
+use Rattle.std.proofs.Common.{◌≡◌, ◌⊎◌, inl, inr, ℕ, ◌+◌, ◌≤◌, ◌++◌, Bool, false, List, [], ◌∷◌, Option, Some, None, option_map, Result, Ok, Err, OnOk, refl, sym, ap, ◌∙◌, subst, append_assoc, append-nil, arith, if◌then◌else◌, is_none}
 use Rattle.std.proofs.lemmas.Grind.{flat_map-append}
 use Rattle.arn_base.specs.declared.boxes.Choice.{Choice}
 use Rattle.arn_base.specs.declared.disk.Disk.{Ghosts}
@@ -148,9 +147,6 @@ module _ (g : Given) (history : List Record) (image typed : List ℕ) (processes
 
   pub turn-generator : generator_refusal history ≡ None → turn g history (Generates image typed processes) ≡ generator_turn g.told history image typed processes
   turn-generator is = ap (λ (o : Option Refusal). turn_unless o (generator_turn g.told history image typed processes)) is
-
-  pub needs-generator : generator_refusal history ≡ None → needs_machine g history (Generates image typed processes) ≡ true
-  needs-generator is = ap (λ (o : Option Refusal). is_none o) is
 
   -- what it costs: the machine, and its telling by the history behind it
   cost-generator : (is_there : Bool) (more : List Record) → generator_refusal history ≡ None → machine_cost is_there history + g.told.generated_cost more ≤ cost g is_there history more (Generates image typed processes)

@@ -66,8 +66,7 @@ quiet-text text (Prints t ∷ []) undone is =
       begins = refl;
       names_next = λ entries at. absurd (none-next entries (subst (λ (e : List Effect). IsAtCommit e entries) none at));
     }
-quiet-text text (Prints t ∷ (e ∷ done)) undone is = absurd cc
-quiet-text text (Commits es ∷ done) undone is = absurd cc
+quiet-text text _ undone is = absurd cc
 
 -- the records of an event, and its number
 pub quiet-event : (entries : List Record) (text : List ℕ) (done undone : List Effect) → NameNone entries → reply_behind entries ≡ None → Commits entries ∷ Prints text ∷ [] ≡ done ++ undone → IsQuiet done undone
@@ -96,9 +95,7 @@ quiet-event entries text (Commits es ∷ (Prints t ∷ [])) undone none begins i
       begins = ap reply_behind (append-nil es ∙ same) ∙ begins;
       names_next = λ others at. absurd (none-next others (subst (λ (e : List Effect). IsAtCommit e others) left at));
     }
-quiet-event entries text (Commits es ∷ (Prints t ∷ (e ∷ done))) undone none begins is = absurd cc
-quiet-event entries text (Commits es ∷ (Commits more ∷ done)) undone none begins is = absurd cc
-quiet-event entries text (Prints t ∷ done) undone none begins is = absurd cc
+quiet-event entries text _ undone none begins is = absurd cc
 
 turn-done : (effects : List Effect) (rest : List Picked) → does effects [] rest ≡ behind effects [] (finished rest)
 turn-done effects rest = ap (λ (e : List Effect). let t : Turn = record { effects = e; touches = []; left = Some rest } in t) (sym (append-nil effects))

@@ -40,9 +40,8 @@ PickedBy-none choices = record { many = refl; each = λ k. nothing (choices k) k
 -- slices in range behind others
 pub in-range-append : (asks more : List Ask) (slices others : List Picked) → length asks ≡ length slices → AreInRange asks slices → AreInRange more others → AreInRange (asks ++ more) (slices ++ others)
 in-range-append [] more [] others many first second = second
-in-range-append [] more (s ∷ slices) others many first second = absurd (omega (arith, many))
-in-range-append (a ∷ asks) more [] others many first second = absurd (omega (arith, many))
 in-range-append (a ∷ asks) more (s ∷ slices) others many first second = (first.0, in-range-append asks more slices others (omega (arith, many)) first.1 second)
+in-range-append _ more _ others many first second = absurd (omega (arith, many))
 
 -- what holds of touches, of effects, of records and of slices that follow one another
 pub record Laws {D A : Type 0} (is_run : List Record → Type 0) (d : Ghosts D) (who : Answering A) : Type 0 where
