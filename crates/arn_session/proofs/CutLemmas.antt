@@ -67,11 +67,7 @@ module _ {D A : Type 0} (d : Ghosts D) (who : Answering A) (g : Given) where
   not-made : (laws : Laws d who) (disk : D) (history : List Record) (held : Option (List ℕ)) (why : Halt) → IsNotMade why → StopsBetween IsRun d disk disk history held held why [] []
   not-made laws disk history held (halt.Differs at) is = laws.halts.nothing disk history held (halt.Differs at) [] (refl, refl)
   not-made laws disk history held halt.NoMemory is = laws.halts.nothing disk history held halt.NoMemory [] (inl refl, inl refl)
-  not-made laws disk history held halt.Source is = absurd is
-  not-made laws disk history held halt.Long is = absurd is
-  not-made laws disk history held halt.Sink is = absurd is
-  not-made laws disk history held halt.Disk is = absurd is
-  not-made laws disk history held (halt.Full log payload) is = absurd is
+  not-made laws disk history held _ is = absurd is
 
   stops-here : (laws : Laws d who) (old mid new : Standpoint D A) (parts : List Part) (is_there : Bool) (why : Halt) (n : ℕ) (p : HaveAnswers d who g parts is_there old mid) → machine_cost is_there mid.store.entries ≤ n → IsNotBegun why is_there mid new → Stops IsRun d who old.disk new.disk old.store.entries old.held new.held why (transcript g old.store.entries p.commands) old.around new.around (p.cost + n)
   stops-here laws old mid new parts is_there why n p dear b =

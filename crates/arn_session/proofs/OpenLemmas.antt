@@ -43,10 +43,7 @@ not-opened P (Some bytes) history log fits = λ bad. elim bad [
 -- a log that wasn't opened
 pub never-opened : (error : OpenError) → HasOpened (open_status_of error) → ⊥
 never-opened (opening.TooLong len) has = has
-never-opened (opening.NotLog at) has = has
-never-opened (opening.Malformed at) has = has
-never-opened opening.Disk has = has
-never-opened opening.NoMemory has = has
+never-opened _ has = has
 
 -- in any case
 pub for-any : (P : Type 0) (o : Option (List ℕ)) (Q : List ℕ → Type 0) → P → IfSome o (λ bytes. Q bytes → P)

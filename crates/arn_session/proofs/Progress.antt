@@ -38,9 +38,8 @@ use Rattle.arn_session.proofs.UseLemmas.{Uses-append, Uses-none}
 -- one more part asks for this
 pub EachAsks-push : (parts : List Part) (commands : List Command) (part : Part) (command : Command) → EachAsks parts commands → Asks part command → EachAsks (parts ++ part ∷ []) (commands ++ command ∷ [])
 EachAsks-push [] [] part command each asks = (asks, tt)
-EachAsks-push [] (c ∷ commands) part command each asks = absurd each
-EachAsks-push (p ∷ parts) [] part command each asks = absurd each
 EachAsks-push (p ∷ parts) (c ∷ commands) part command each asks = (each.0, EachAsks-push parts commands part command each.1 asks)
+EachAsks-push _ _ part command each asks = absurd each
 
 -- what one of two tells
 or-left : (a b : Bool) → (a || b) ≡ false → a ≡ false
