@@ -58,17 +58,17 @@ pub PickedBy-same : (before after now : ℕ → Option Choice) (asks : List Ask)
 PickedBy-same before after now asks slices same p = record { many = p.many; each = p.each; later = λ k. same k ∙ p.later k }
 
 module _ {A : Type 0} (who : Answering A) where
-  -- the first point may be written in another way
-  abbrev pub Advances-along : (a a' b : Point) (u v : Surroundings A) (cost : ℕ) (carried : List Effect → Type 0) → ((slices : List Picked) → a' slices ≡ a slices) → Advances who a b u v cost carried → Advances who a' b u v cost carried
-  Advances-along a a' b u v cost carried same p = record {
+  -- the points, and what was carried out, may be told in another way
+  abbrev pub Advances-as : (a a' b b' : Point) (u v : Surroundings A) (cost : ℕ) (carried now : List Effect → Type 0) (p : Advances who a b u v cost carried) → ((rest : List Picked) → a' (named_at p.touches p.slices ++ rest) ≡ behind p.effects p.touches (b' rest)) → now p.effects → Advances who a' b' u v cost now
+  Advances-as a a' b b' u v cost carried now p leads carries = record {
     slices = p.slices;
     touches = p.touches;
     effects = p.effects;
-    leads = λ rest. same (named_at p.touches p.slices ++ rest) ∙ p.leads rest;
+    leads = leads;
     names = p.names;
     unplugged = p.unplugged;
     begins = p.begins;
-    carries = p.carries;
+    carries = carries;
     picked = p.picked;
     in_range = p.in_range;
     touched = p.touched;
@@ -83,8 +83,9 @@ no-commit : (entries : List Record) → IsAtCommit [] entries → ⊥
 no-commit entries at = let e = at.is_commit in cc
 
 module _ {D A : Type 0} (d : Ghosts D) (who : Answering A) where
-  abbrev pub Stops-along : (a a' : Point) (u v : Surroundings A) (cost : ℕ) (old new : D) (history : List Record) (h0 h1 : Option (List ℕ)) (why : Halt) → ((slices : List Picked) → a' slices ≡ a slices) → Stops IsRun d who old new history h0 h1 why a u v cost → Stops IsRun d who old new history h0 h1 why a' u v cost
-  Stops-along a a' u v cost old new history h0 h1 why same q = record {
+  -- the point may be told in another way, it may have cost more, and the disk may have been another
+  abbrev pub Stops-as : (a a' : Point) (u v : Surroundings A) (cost most : ℕ) (old mid new : D) (history : List Record) (h0 h1 : Option (List ℕ)) (why : Halt) → ((slices : List Picked) → a' slices ≡ a slices) → cost ≤ most → (q : Stops IsRun d who mid new history h0 h1 why a u v cost) → StopsBetween IsRun d old new history h0 h1 why q.done q.undone → Stops IsRun d who old new history h0 h1 why a' u v most
+  Stops-as a a' u v cost most old mid new history h0 h1 why same dear q stopped = record {
     slices = q.slices;
     lost = q.lost;
     part = q.part;
@@ -95,7 +96,7 @@ module _ {D A : Type 0} (d : Ghosts D) (who : Answering A) where
     undone = q.undone;
     are_effects = ap (λ (t : Turn). t.effects) (same (named_at q.touches q.slices ++ named_at q.lost_touches q.lost)) ∙ q.are_effects;
     are_touches = ap (λ (t : Turn). t.touches) (same (named_at q.touches q.slices ++ (named_at q.lost_touches q.lost ++ q.part))) ∙ q.are_touches;
-    stopped = q.stopped;
+    stopped = stopped;
     names = q.names;
     unplugged = q.unplugged;
     begins = q.begins;
@@ -110,39 +111,14 @@ module _ {D A : Type 0} (d : Ghosts D) (who : Answering A) where
     one_part = q.one_part;
     by_memory = q.by_memory;
     unmade = q.unmade;
-    executed = q.executed;
-  }
-
-  -- it may have cost more
-  abbrev pub Stops-dearer : (a : Point) (u v : Surroundings A) (cost most : ℕ) (old new : D) (history : List Record) (h0 h1 : Option (List ℕ)) (why : Halt) → cost ≤ most → Stops IsRun d who old new history h0 h1 why a u v cost → Stops IsRun d who old new history h0 h1 why a u v most
-  Stops-dearer a u v cost most old new history h0 h1 why dear q = record {
-    slices = q.slices;
-    lost = q.lost;
-    part = q.part;
-    touches = q.touches;
-    lost_touches = q.lost_touches;
-    part_touches = q.part_touches;
-    done = q.done;
-    undone = q.undone;
-    are_effects = q.are_effects;
-    are_touches = q.are_touches;
-    stopped = q.stopped;
-    names = q.names;
-    unplugged = q.unplugged;
-    begins = q.begins;
-    names_lost = q.names_lost;
-    unplugged_lost = q.unplugged_lost;
-    without = q.without;
-    spent = q.spent;
-    many = q.many;
-    picked = q.picked;
-    in_range = q.in_range;
-    touched = q.touched;
-    one_part = q.one_part;
-    by_memory = q.by_memory;
-    unmade = q.unmade;
     executed = omega (arith, q.executed, dear);
   }
+
+  abbrev pub Stops-along : (a a' : Point) (u v : Surroundings A) (cost : ℕ) (old new : D) (history : List Record) (h0 h1 : Option (List ℕ)) (why : Halt) → ((slices : List Picked) → a' slices ≡ a slices) → Stops IsRun d who old new history h0 h1 why a u v cost → Stops IsRun d who old new history h0 h1 why a' u v cost
+  Stops-along a a' u v cost old new history h0 h1 why same q = Stops-as a a' u v cost cost old old new history h0 h1 why same (omega arith) q q.stopped
+
+  abbrev pub Stops-dearer : (a : Point) (u v : Surroundings A) (cost most : ℕ) (old new : D) (history : List Record) (h0 h1 : Option (List ℕ)) (why : Halt) → cost ≤ most → Stops IsRun d who old new history h0 h1 why a u v cost → Stops IsRun d who old new history h0 h1 why a u v most
+  Stops-dearer a u v cost most old new history h0 h1 why dear q = Stops-as a a u v cost most old old new history h0 h1 why (λ slices. refl) dear q q.stopped
 
   -- nothing more was to be done, and nothing was
   abbrev pub Stops-finished : (u v : Surroundings A) (cost : ℕ) (disk disk' : D) (history : List Record) (h0 h1 : Option (List ℕ)) (why : Halt) → disk' ≡ disk → h1 ≡ h0 → ((k : ℕ) → v.choices k ≡ u.choices k) → v.answers ≡ u.answers → v.steps ≤ u.steps + cost → StopsBetween IsRun d disk disk history h0 h0 why [] [] → Stops IsRun d who disk disk' history h0 h1 why finished u v cost

@@ -28,7 +28,7 @@ use Rattle.session_commands.specs.Lines.{needs_machine, turn}
 use Rattle.arn_session.specs.Answered.{AnswersParts, AnswersTaken, TookAtMost, TookFewer}
 use Rattle.arn_session.specs.Leaves.{WereTouched}
 use Rattle.arn_session.specs.Transcript.{needs_any, total_cost, transcript}
-use Rattle.arn_session.proofs.PointLemmas.{Advances-along, Laws}
+use Rattle.arn_session.proofs.PointLemmas.{Advances-as, Laws}
 use Rattle.arn_session.proofs.NoneLemmas.{begin-none, transcript-none}
 use Rattle.arn_session.proofs.StandLemmas.{answered-as, found-as, halted-as, needs-stands}
 use Rattle.arn_session.proofs.TouchLemmas.{StandAs, stand-after}
@@ -114,24 +114,6 @@ took_at_most most bytes reader l0 (Some rest) come few =
     let some : Option (List ℕ) = Some rest in
     subst (λ (o : Option (List ℕ)). TookAtMost most o some) (sym come) (omega (arith, few, length-append bytes (reader.ahead ++ rest), length-append reader.ahead rest))
 
-module _ {A : Type 0} (who : Answering A) where
-  -- other effects may be said to be carried out
-  abbrev pub Advances-carried : (a b : Point) (u v : Surroundings A) (n : ℕ) (carried now : List Effect → Type 0) → ((effects : List Effect) → carried effects → now effects) → Advances who a b u v n carried → Advances who a b u v n now
-  Advances-carried a b u v n carried now then p = record {
-    slices = p.slices;
-    touches = p.touches;
-    effects = p.effects;
-    leads = p.leads;
-    names = p.names;
-    unplugged = p.unplugged;
-    begins = p.begins;
-    carries = then p.effects p.carries;
-    picked = p.picked;
-    in_range = p.in_range;
-    touched = p.touched;
-    executed = p.executed;
-  }
-
 module _ {D A : Type 0} (d : Ghosts D) (who : Answering A) (g : Given) where
   -- These parts were answered: all that they ask for was carried out. The machine is there where one of them needed it, and else nothing was
   -- committed. What they cost is told whatever slices follow.
@@ -148,20 +130,11 @@ module _ {D A : Type 0} (d : Ghosts D) (who : Answering A) (g : Given) where
 
   -- more commands go on where these ended
   abbrev pub Advances-more : (old new : Standpoint D A) (parts : List Part) (is_there : Bool) (p : HaveAnswers parts is_there old new) (more : List Command) → Advances who (transcript g old.store.entries (p.commands ++ more)) (transcript g new.store.entries more) old.around new.around p.cost (Carries IsRun d old.disk new.disk old.store new.store old.held new.held)
-  Advances-more old new parts is_there p more = record {
-    slices = p.answered.slices;
-    touches = p.answered.touches;
-    effects = p.answered.effects;
-    leads = leads-more g old.store.entries new.store.entries p.commands more (named_at p.answered.touches p.answered.slices) p.answered.effects p.answered.touches p.answered.carries.entries p.answered.leads;
-    names = p.answered.names;
-    unplugged = p.answered.unplugged;
-    begins = p.answered.begins;
-    carries = p.answered.carries;
-    picked = p.answered.picked;
-    in_range = p.answered.in_range;
-    touched = p.answered.touched;
-    executed = p.answered.executed;
-  }
+  Advances-more old new parts is_there p more =
+      let carried : List Effect → Type 0 = Carries IsRun d old.disk new.disk old.store new.store old.held new.held in
+      Advances-as who (transcript g old.store.entries p.commands) (transcript g old.store.entries (p.commands ++ more)) finished (transcript g new.store.entries more) old.around new.around p.cost carried carried p.answered
+      (leads-more g old.store.entries new.store.entries p.commands more (named_at p.answered.touches p.answered.slices) p.answered.effects p.answered.touches p.answered.carries.entries p.answered.leads)
+      p.answered.carries
 
   -- what one more command costs
   pub costs-more : (old new : Standpoint D A) (parts : List Part) (is_there : Bool) (command : Command) (p : HaveAnswers parts is_there old new) (taken more : List Picked) → taken ≡ named_at p.answered.touches p.answered.slices ++ more → p.cost + cost_of_turn g is_there new.store.entries command (turn g new.store.entries command more) ≤ total_cost g old.store.entries (p.commands ++ command ∷ []) taken
@@ -211,7 +184,10 @@ module _ {D A : Type 0} (d : Ghosts D) (who : Answering A) (g : Given) where
       let h = old.store.entries in
       let t = mid.store.entries in
       let first = Advances-more old mid parts is_there p (command ∷ []) in
-      let second = Advances-along who (turn g t command) (transcript g t (command ∷ [])) finished mid.around new.around (cost g is_there t new.store.entries command) (Carries IsRun d mid.disk new.disk mid.store new.store mid.held new.held) (transcript-one g t command) a.advances in
+      let carried : List Effect → Type 0 = Carries IsRun d mid.disk new.disk mid.store new.store mid.held new.held in
+      let second =
+      Advances-as who (turn g t command) (transcript g t (command ∷ [])) finished finished mid.around new.around (cost g is_there t new.store.entries command) carried carried a.advances
+      (λ rest. transcript-one g t command (named_at a.advances.touches a.advances.slices ++ rest) ∙ a.advances.leads rest) a.advances.carries in
       let both = laws.points.advances (transcript g h (p.commands ++ command ∷ [])) (transcript g t (command ∷ [])) finished old.around mid.around new.around p.cost (cost g is_there t new.store.entries command) old.disk mid.disk new.disk old.store mid.store new.store old.held mid.held new.held first second in
       record {
         commands = p.commands ++ command ∷ [];
@@ -238,7 +214,7 @@ module _ {D A : Type 0} (d : Ghosts D) (who : Answering A) (g : Given) where
     commands = p.commands;
     each_asks = p.each_asks;
     cost = p.cost;
-    answered = Advances-carried who (transcript g old.store.entries p.commands) finished old.around new.around p.cost (Carries IsRun d old.disk new.disk old.store new.store old.held new.held) (CarriesOut IsRun d old.disk new.disk old.store.entries old.held new.held) (λ effects carries. carries.out) p.answered;
+    answered = Advances-as who (transcript g old.store.entries p.commands) (transcript g old.store.entries p.commands) finished finished old.around new.around p.cost (Carries IsRun d old.disk new.disk old.store new.store old.held new.held) (CarriesOut IsRun d old.disk new.disk old.store.entries old.held new.held) p.answered p.answered.leads p.answered.carries.out;
     costs = subst (λ (x : List Picked). p.cost ≤ total_cost g old.store.entries p.commands x) (append-nil (named_at p.answered.touches p.answered.slices)) (p.costs []);
     on_run = λ needed. p.on_run (p.needs ∙ needed);
   }
