@@ -18,18 +18,21 @@ use Rattle.session_effects.specs.Effects.{Effect}
 use Rattle.session_effects.specs.Standing.{IsOpen}
 use Rattle.session_effects.specs.declared.halt.Halt.{Halt}
 use Rattle.session_effects.specs.declared.halt.Halt.TheVariants as halt
+use Rattle.session_runs.specs.Laws.{StopsBy}
+use Rattle.session_runs.specs.Ready.{IsNotMade}
 use Rattle.session_runs.specs.Points.{Advances, Stops}
-use Rattle.session_runs.specs.Touches.{Answering, StandAs, TouchedBy, asks_in, named_at}
+use Rattle.session_runs.specs.Touches.{Answering, TouchedBy, asks_in, named_at}
 use Rattle.session_runs.specs.Turns.{finished}
-use Rattle.session_commands.specs.Answering.{FindsNoRun, IsHalted, IsNoRun, IsNotBegun, IsNotMade, IsUntouched}
+use Rattle.session_commands.specs.Answering.{FindsNoRun, IsHalted, IsNoRun, IsNotBegun, IsUntouched}
 use Rattle.session_runs.specs.Standing.{Standpoint, standpoint}
 use Rattle.session_commands.specs.Cost.{cost_of_turn, machine_cost}
 use Rattle.session_commands.specs.Given.{Given}
 use Rattle.session_commands.specs.Lines.{needs_machine, turn}
 use Rattle.arn_session.specs.CutOff.{BeginsText, FindsOut, IsBegun}
 use Rattle.arn_session.specs.Transcript.{needs_any, total_cost, transcript}
-use Rattle.arn_session.proofs.PointLemmas.{Behind, Laws, PickedBy-same, Stops-along, Stops-behind, Stops-dearer, Stops-finished}
+use Rattle.arn_session.proofs.PointLemmas.{Laws, PickedBy-same, Stops-along, Stops-dearer, Stops-finished}
 use Rattle.arn_session.proofs.Progress.{Advances-more, EachAsks-push, HaveAnswers, Progress, Progress-start, are_taken, costs-more, count_taken, parts-more, text_taken, wholes-more}
+use Rattle.arn_session.proofs.TouchLemmas.{StandAs}
 use Rattle.arn_session.proofs.TranscriptLemmas.{needs-push, transcript-one}
 use Rattle.arn_session.proofs.UseLemmas.{Uses-append, Uses-none}
 
@@ -54,9 +57,9 @@ record Begins (text : List ℕ) (left : Option (List ℕ)) (parts : List Part) :
 
 module _ {D A : Type 0} (d : Ghosts D) (who : Answering A) (g : Given) where
   -- a command was begun behind others, and halted
-  pub stops-more : (laws : Laws d who) (old mid new : Standpoint D A) (parts : List Part) (is_there : Bool) (command : Command) (why : Halt) (n : ℕ) (p : HaveAnswers d who g parts is_there old mid) (q : Stops IsRun d who mid.disk new.disk mid.store.entries mid.held new.held why (turn g mid.store.entries command) mid.around new.around n) → Behind d who (transcript g old.store.entries (p.commands ++ command ∷ [])) old.around new.around (p.cost + n) old.disk new.disk old.store.entries old.held new.held why (named_at p.answered.touches p.answered.slices) (named_at q.touches q.slices ++ named_at q.lost_touches q.lost)
+  pub stops-more : (laws : Laws d who) (old mid new : Standpoint D A) (parts : List Part) (is_there : Bool) (command : Command) (why : Halt) (n : ℕ) (p : HaveAnswers d who g parts is_there old mid) (q : Stops IsRun d who mid.disk new.disk mid.store.entries mid.held new.held why (turn g mid.store.entries command) mid.around new.around n) → StopsBy IsRun d who (transcript g old.store.entries (p.commands ++ command ∷ [])) old.around new.around (p.cost + n) old.disk new.disk old.store.entries old.held new.held why (named_at p.answered.touches p.answered.slices ++ (named_at q.touches q.slices ++ named_at q.lost_touches q.lost))
   stops-more laws old mid new parts is_there command why n p q =
-      Stops-behind d who laws (transcript g old.store.entries (p.commands ++ command ∷ [])) (transcript g mid.store.entries (command ∷ [])) old.around mid.around new.around p.cost n old.disk mid.disk new.disk old.store mid.store old.held mid.held new.held why
+      laws.points.stops (transcript g old.store.entries (p.commands ++ command ∷ [])) (transcript g mid.store.entries (command ∷ [])) old.around mid.around new.around p.cost n old.disk mid.disk new.disk old.store mid.store old.held mid.held new.held why
       (Advances-more d who g old mid parts is_there p (command ∷ []))
       (Stops-along d who (turn g mid.store.entries command) (transcript g mid.store.entries (command ∷ [])) mid.around new.around n mid.disk new.disk mid.store.entries mid.held new.held why (transcript-one g mid.store.entries command) q)
 
@@ -64,17 +67,13 @@ module _ {D A : Type 0} (d : Ghosts D) (who : Answering A) (g : Given) where
   not-made : (laws : Laws d who) (disk : D) (history : List Record) (held : Option (List ℕ)) (why : Halt) → IsNotMade why → StopsBetween IsRun d disk disk history held held why [] []
   not-made laws disk history held (halt.Differs at) is = laws.halts.nothing disk history held (halt.Differs at) [] (refl, refl)
   not-made laws disk history held halt.NoMemory is = laws.halts.nothing disk history held halt.NoMemory [] (inl refl, inl refl)
-  not-made laws disk history held halt.Source is = absurd is
-  not-made laws disk history held halt.Long is = absurd is
-  not-made laws disk history held halt.Sink is = absurd is
-  not-made laws disk history held halt.Disk is = absurd is
-  not-made laws disk history held (halt.Full log payload) is = absurd is
+  not-made laws disk history held _ is = absurd is
 
   stops-here : (laws : Laws d who) (old mid new : Standpoint D A) (parts : List Part) (is_there : Bool) (why : Halt) (n : ℕ) (p : HaveAnswers d who g parts is_there old mid) → machine_cost is_there mid.store.entries ≤ n → IsNotBegun why is_there mid new → Stops IsRun d who old.disk new.disk old.store.entries old.held new.held why (transcript g old.store.entries p.commands) old.around new.around (p.cost + n)
   stops-here laws old mid new parts is_there why n p dear b =
       let cheap : new.around.steps ≤ mid.around.steps + n = omega (arith, b.executed, dear) in
-      (Stops-behind d who laws (transcript g old.store.entries p.commands) finished old.around mid.around new.around p.cost n old.disk mid.disk new.disk old.store mid.store old.held mid.held new.held why p.answered
-      (Stops-finished d who laws mid.around new.around n mid.disk new.disk mid.store.entries mid.held new.held why b.untouched.disk b.untouched.held b.untouched.choices b.untouched.answers cheap (not-made laws mid.disk mid.store.entries mid.held why b.not_made))).stops
+      (laws.points.stops (transcript g old.store.entries p.commands) finished old.around mid.around new.around p.cost n old.disk mid.disk new.disk old.store mid.store old.held mid.held new.held why p.answered
+      (Stops-finished d who mid.around new.around n mid.disk new.disk mid.store.entries mid.held new.held why b.untouched.disk b.untouched.held b.untouched.choices b.untouched.answers cheap (not-made laws mid.disk mid.store.entries mid.held why b.not_made))).stops
 
   -- where one of those that were begun needs the machine, the history is that of a run, or of the last one nothing was done
   begun-on-run : (laws : Laws d who) (old mid new : Standpoint D A) (parts : List Part) (is_there : Bool) (command : Command) (why : Halt) (n : ℕ) (p : HaveAnswers d who g parts is_there old mid) → (needs_machine g mid.store.entries command ≡ true → machine_cost is_there mid.store.entries ≤ n) → (needs_machine g mid.store.entries command ≡ true → IsRun mid.store.entries ⊎ IsNotBegun why is_there mid new) → needs_any g old.store.entries (p.commands ++ command ∷ []) ≡ true → IsRun old.store.entries ⊎ Stops IsRun d who old.disk new.disk old.store.entries old.held new.held why (transcript g old.store.entries p.commands) old.around new.around (p.cost + n)
@@ -163,7 +162,7 @@ module _ {D A : Type 0} (d : Ghosts D) (who : Answering A) (g : Given) where
           effects = a.effects;
           leads = a.leads;
           names = a.names;
-          unplugs = a.unplugs;
+          unplugged = a.unplugged;
           begins = a.begins;
           carries =
               subst (λ (x : D). CarriesOut IsRun d old.disk x old.store.entries old.held new.held a.effects) (sym same.disk)
@@ -220,9 +219,9 @@ module _ {D A : Type 0} {d : Ghosts D} {who : Answering A} {g : Given} where
       let parts : text_parts p.seen ≡ p.parts = ap text_parts (sym (append-nil p.seen)) ∙ p.parts_are [] ∙ append-nil p.parts in
       let wholes : whole_parts p.seen ≡ p.parts = ap whole_parts (sym (append-nil p.seen)) ∙ p.wholes_are [] ∙ append-nil p.parts in
       let none : commands ≡ commands ++ [] = sym (append-nil commands) in
-      let stop = Stops-behind d who laws (transcript g old.store.entries (commands ++ [])) finished old.around now.around now.around p.answers.cost 0 old.disk now.disk now.disk old.store now.store old.held now.held now.held why
+      let stop = laws.points.stops (transcript g old.store.entries (commands ++ [])) finished old.around now.around now.around p.answers.cost 0 old.disk now.disk now.disk old.store now.store old.held now.held now.held why
       (Advances-more d who g old now p.parts is_there p.answers [])
-      (Stops-finished d who laws now.around now.around 0 now.disk now.disk now.store.entries now.held now.held why refl refl (λ k. refl) refl (omega arith) (not-made d who g laws now.disk now.store.entries now.held why is)) in
+      (Stops-finished d who now.around now.around 0 now.disk now.disk now.store.entries now.held now.held why refl refl (λ k. refl) refl (omega arith) (not-made d who g laws now.disk now.store.entries now.held why is)) in
       let taken = named_at stop.stops.touches stop.stops.slices ++ named_at stop.stops.lost_touches stop.stops.lost in
       let costs : p.answers.cost ≤ total_cost g old.store.entries (commands ++ []) taken =
       subst (λ (x : List Picked). p.answers.cost ≤ total_cost g old.store.entries (commands ++ []) x) (sym stop.slices)

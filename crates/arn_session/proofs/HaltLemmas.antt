@@ -10,19 +10,16 @@ use Rattle.arn_session.specs.Halts.{read_halt_of}
 
 pub source-was : (error : ReadError) → read_halt_of error ≡ halt.Source → error ≡ read.Source
 source-was read.Source is = refl
-source-was read.Long is = cc is
-source-was read.NoMemory is = cc is
+source-was _ is = cc is
 
 pub long-was : (error : ReadError) → read_halt_of error ≡ halt.Long → error ≡ read.Long
-long-was read.Source is = cc is
 long-was read.Long is = refl
-long-was read.NoMemory is = cc is
+long-was _ is = cc is
 
 -- an error of the reading finds out nothing of the records
 pub read-finds-none : (error : ReadError) (d : Differs) → read_halt_of error ≡ halt.Differs d → ⊥
 read-finds-none read.Source d is = cc is
-read-finds-none read.Long d is = cc is
-read-finds-none read.NoMemory d is = cc is
+read-finds-none _ d is = cc is
 
 -- where the reading ended neither at the source nor at the bound, memory ran out
 pub memory-was : (P : Halt → Type 0) (error : ReadError) → P halt.NoMemory → read_halt_of error ≢ halt.Source → read_halt_of error ≢ halt.Long → P (read_halt_of error)
@@ -33,34 +30,23 @@ memory-was P read.NoMemory p not_source not_long = p
 -- nor does it come of the sink, the disk or a full log
 pub read-never-sink : (error : ReadError) → read_halt_of error ≡ halt.Sink → ⊥
 read-never-sink read.Source is = cc is
-read-never-sink read.Long is = cc is
-read-never-sink read.NoMemory is = cc is
+read-never-sink _ is = cc is
 
 pub read-never-disk : (error : ReadError) → read_halt_of error ≡ halt.Disk → ⊥
 read-never-disk read.Source is = cc is
-read-never-disk read.Long is = cc is
-read-never-disk read.NoMemory is = cc is
+read-never-disk _ is = cc is
 
 pub read-never-full : (error : ReadError) (log payload : ℕ) → read_halt_of error ≡ halt.Full log payload → ⊥
 read-never-full read.Source log payload is = cc is
-read-never-full read.Long log payload is = cc is
-read-never-full read.NoMemory log payload is = cc is
+read-never-full _ log payload is = cc is
 
 -- a command halts neither by the source nor by the bound
 pub never-source : (why : Halt) (d0 d1 s0 s1 : ℕ) → IsLineCause why d0 d1 s0 s1 → why ≡ halt.Source → ⊥
 never-source halt.Source d0 d1 s0 s1 cause is = cause
 never-source halt.Long d0 d1 s0 s1 cause is = cause
-never-source halt.NoMemory d0 d1 s0 s1 cause is = cc is
-never-source halt.Sink d0 d1 s0 s1 cause is = cc is
-never-source halt.Disk d0 d1 s0 s1 cause is = cc is
-never-source (halt.Full log payload) d0 d1 s0 s1 cause is = cc is
-never-source (halt.Differs d) d0 d1 s0 s1 cause is = cc is
+never-source _ d0 d1 s0 s1 cause is = cc is
 
 pub never-long : (why : Halt) (d0 d1 s0 s1 : ℕ) → IsLineCause why d0 d1 s0 s1 → why ≡ halt.Long → ⊥
 never-long halt.Source d0 d1 s0 s1 cause is = cause
 never-long halt.Long d0 d1 s0 s1 cause is = cause
-never-long halt.NoMemory d0 d1 s0 s1 cause is = cc is
-never-long halt.Sink d0 d1 s0 s1 cause is = cc is
-never-long halt.Disk d0 d1 s0 s1 cause is = cc is
-never-long (halt.Full log payload) d0 d1 s0 s1 cause is = cc is
-never-long (halt.Differs d) d0 d1 s0 s1 cause is = cc is
+never-long _ d0 d1 s0 s1 cause is = cc is

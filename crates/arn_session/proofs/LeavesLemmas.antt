@@ -1,5 +1,5 @@
 -- What a session leaves, from what is known at each of its ends.
-use Rattle.std.proofs.Common.{◌≡◌, ◌≢◌, ◌⊎◌, inl, inr, ◌+◌, ◌<◌, ◌≤◌, ◌^◌, ◌++◌, ℕ, List, [], length, drop, Option, None, Some, IfSome, arith, Result, Ok, Err, OnOk, IfErr, IsErrOf, Bool, refl, subst, sym, append_assoc, ◌∷◌, ◌∙◌}
+use Rattle.std.proofs.Common.{◌≡◌, ◌≢◌, ◌⊎◌, inl, inr, ◌+◌, ◌<◌, ◌≤◌, ◌^◌, ◌++◌, ℕ, List, [], length, drop, Option, None, Some, IfSome, arith, Result, Ok, Err, IsErrOf, Bool, refl, subst, sym, append_assoc, ◌∷◌, ◌∙◌}
 use Rattle.std.proofs.lemmas.Option.{IfSome_then}
 use Rattle.arn_base.specs.declared.disk.Disk.{Ghosts}
 use Rattle.arn_base.specs.declared.records.Differs.{Differs}
@@ -14,13 +14,13 @@ use Rattle.log_store.specs.declared.size.TheConstants.{MOST_LOG}
 use Rattle.session_effects.specs.Carrying.{CarriesOut, HoldsMore, IsAtRest, IsShut, RestsMore}
 use Rattle.session_effects.specs.declared.halt.Halt.{Halt}
 use Rattle.session_effects.specs.declared.halt.Halt.TheVariants as halt
-use Rattle.session_commands.specs.Answering.{IsAnswered, IsHalted, IsNoRun}
+use Rattle.session_commands.specs.Answering.{IsHalted, IsNoRun}
 use Rattle.guest_legs.specs.Legs.{Picked}
 use Rattle.session_runs.specs.Touches.{Answering, named_at}
 use Rattle.session_runs.specs.Standing.{Standpoint, standpoint}
 use Rattle.session_commands.specs.Given.{Given}
 use Rattle.arn_session.specs.Answered.{AnswersParts, AnswersTaken, TookAtMost, TookFewer}
-use Rattle.arn_session.specs.Begun.{BeginsOn, FindsOn, Standing, standing, on_history, store_of}
+use Rattle.arn_session.specs.Begun.{BeginsOn, FindsOn, Standing, store_of}
 use Rattle.arn_session.specs.CutOff.{BeginsText, FindsOut}
 use Rattle.arn_session.specs.Leaves.{Leaves, Scene, WereTouched}
 use Rattle.arn_session.specs.Transcript.{transcript}
@@ -46,8 +46,8 @@ touched-none who now = record { touches = []; slices = []; touched = (refl, refl
 
 module _ {D A : Type 0} {d : Ghosts D} {who : Answering A} {g : Given} where
   -- who answers was touched by slices alone, before a command and for it
-  pub touched-before : {parts : List Part} {is_there : Bool} {old new : Standpoint D A} → HaveAnswers d who g parts is_there old new → WereTouched who old.around.answers new.around.answers
-  touched-before {parts = parts} {is_there = is_there} {old = old} {new = new} p = were-touched d who g old new parts is_there p
+  pub touched-before : {parts : List Part} {is_there : Bool} {old new : Standpoint D A} (laws : Laws d who) → HaveAnswers d who g parts is_there old new → WereTouched who old.around.answers new.around.answers
+  touched-before {parts = parts} {is_there = is_there} {old = old} {new = new} laws p = were-touched d who g laws old new parts is_there p
 
   pub touched-halted : {parts : List Part} {is_there : Bool} {old mid new : Standpoint D A} {command : Command} {why : Halt} (laws : Laws d who) → HaveAnswers d who g parts is_there old mid → IsHalted d who g is_there why command mid new → WereTouched who old.around.answers new.around.answers
   touched-halted {parts = parts} {is_there = is_there} {old = old} {mid = mid} {new = new} {command = command} {why = why} laws p b =
@@ -59,7 +59,7 @@ module _ {D A : Type 0} {d : Ghosts D} {who : Answering A} {g : Given} where
         slices = stop.slices ++ stop.lost;
         touched = stop.touched;
         none_unplugged =
-            begin-none (stop.touches ++ stop.lost_touches) stop.part_touches (transcript g old.store.entries commands all).touches (transcript-none g old.store.entries commands all)
+            begin-none laws.touches.unplugs (stop.touches ++ stop.lost_touches) stop.part_touches (transcript g old.store.entries commands all).touches (transcript-none laws.touches.unplugs g old.store.entries commands all)
             (stop.are_touches ∙ sym (append_assoc stop.touches stop.lost_touches stop.part_touches));
       }
 

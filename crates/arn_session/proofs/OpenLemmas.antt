@@ -12,8 +12,7 @@ use Rattle.log_store.specs.Stores.{StoreState, IsLeftBy}
 use Rattle.log_store.specs.declared.errors.OpenError.{OpenError}
 use Rattle.log_store.specs.declared.errors.OpenError.TheVariants as opening
 use Rattle.log_store.specs.declared.size.TheConstants.{MOST_LOG}
-use Rattle.session_effects.specs.Carrying.{HoldsLog, IsAtRest, IsShut, CarriesOut, StopsBetween, RestsMore}
-use Rattle.session_effects.specs.Effects.{Effect, committed}
+use Rattle.session_effects.specs.Carrying.{HoldsLog, IsAtRest, IsShut, CarriesOut, RestsMore}
 use Rattle.session_effects.specs.Laws.{BehindHalts, OpenedCarries}
 use Rattle.session_effects.specs.declared.halt.Halt.{Halt}
 use Rattle.session_effects.specs.declared.halt.Halt.TheVariants as halt
@@ -27,6 +26,7 @@ use Rattle.arn_session.specs.Opening.{HasOpened, IsOpened}
 use Rattle.arn_session.specs.Status.{open_status_of}
 use Rattle.arn_session.specs.declared.status.Status.{Status}
 use Rattle.arn_session.specs.declared.status.Status.TheVariants as status
+use Rattle.arn_session.proofs.PointLemmas.{Advances-as, Stops-as}
 
 -- the bytes of a log that was opened
 pub told-both : (o : Option (List ℕ)) (history : List Record) (s : Status) → IfSome o (λ bytes. IsLog bytes history) → IfSome o (λ bytes. length bytes ≤ MOST_LOG) → IfSome o (IsOpened s)
@@ -44,10 +44,7 @@ not-opened P (Some bytes) history log fits = λ bad. elim bad [
 -- a log that wasn't opened
 pub never-opened : (error : OpenError) → HasOpened (open_status_of error) → ⊥
 never-opened (opening.TooLong len) has = has
-never-opened (opening.NotLog at) has = has
-never-opened (opening.Malformed at) has = has
-never-opened opening.Disk has = has
-never-opened opening.NoMemory has = has
+never-opened _ has = has
 
 -- in any case
 pub for-any : (P : Type 0) (o : Option (List ℕ)) (Q : List ℕ → Type 0) → P → IfSome o (λ bytes. Q bytes → P)
@@ -92,49 +89,13 @@ module _ {D : Type 0} (d : Ghosts D) where
 
 module _ {D A : Type 0} (d : Ghosts D) (who : Answering A) (g : Given) (carries : OpenedCarries IsRun d) (halts : BehindHalts IsRun d) (old mid new : D) (h0 h1 : Option (List ℕ)) (u v : Surroundings A) (entries : List Record) (opening : CarriesOut IsRun d old mid entries h0 h0 []) where
   abbrev Advances-opened : (a b : Point) (n : ℕ) → Advances who a b u v n (CarriesOut IsRun d mid new entries h0 h1) → Advances who a b u v n (CarriesOut IsRun d old new entries h0 h1)
-  Advances-opened a b n p = record {
-    slices = p.slices;
-    touches = p.touches;
-    effects = p.effects;
-    leads = p.leads;
-    names = p.names;
-    unplugs = p.unplugs;
-    begins = p.begins;
-    carries = carries old mid new entries h0 h1 opening p.effects p.carries;
-    picked = p.picked;
-    in_range = p.in_range;
-    touched = p.touched;
-    executed = p.executed;
-  }
+  Advances-opened a b n p =
+      Advances-as who a a b b u v n (CarriesOut IsRun d mid new entries h0 h1) (CarriesOut IsRun d old new entries h0 h1) p p.leads (carries old mid new entries h0 h1 opening p.effects p.carries)
 
   abbrev Stops-opened : (why : Halt) (from : Point) (n : ℕ) → Stops IsRun d who mid new entries h0 h1 why from u v n → Stops IsRun d who old new entries h0 h1 why from u v n
-  Stops-opened why from n p = record {
-    slices = p.slices;
-    lost = p.lost;
-    part = p.part;
-    touches = p.touches;
-    lost_touches = p.lost_touches;
-    part_touches = p.part_touches;
-    done = p.done;
-    undone = p.undone;
-    are_effects = p.are_effects;
-    are_touches = p.are_touches;
-    stopped = halts old mid new entries entries h0 h0 h1 why [] p.done p.undone (sym (append-nil entries)) opening p.stopped;
-    names = p.names;
-    unplugs = p.unplugs;
-    begins = p.begins;
-    names_lost = p.names_lost;
-    unplugs_lost = p.unplugs_lost;
-    without = p.without;
-    spent = p.spent;
-    many = p.many;
-    picked = p.picked;
-    in_range = p.in_range;
-    touched = p.touched;
-    one_part = p.one_part;
-    by_memory = p.by_memory;
-    executed = p.executed;
-  }
+  Stops-opened why from n p =
+      Stops-as d who from from u v n n old mid new entries h0 h1 why (λ slices. refl) (omega arith) p
+      (halts old mid new entries entries h0 h0 h1 why [] p.done p.undone (sym (append-nil entries)) opening p.stopped)
 
   Answers-behind : (parts : List Part) → AnswersParts who g entries parts u v (CarriesOut IsRun d mid new entries h0 h1) → AnswersParts who g entries parts u v (CarriesOut IsRun d old new entries h0 h1)
   Answers-behind parts a = record {

@@ -18,7 +18,7 @@ use Rattle.session_effects.specs.Effects.{Effect, committed}
 use Rattle.session_effects.specs.Standing.{Carries, IsOpen}
 use Rattle.session_runs.specs.Points.{Advances, Surroundings}
 use Rattle.session_effects.specs.declared.halt.Halt.{Halt}
-use Rattle.session_runs.specs.Touches.{Answering, StandAs, named_at}
+use Rattle.session_runs.specs.Touches.{Answering, named_at}
 use Rattle.session_runs.specs.Turns.{Point, Turn, finished}
 use Rattle.session_commands.specs.Answering.{FindsNoRun, IsAnswered, IsHalted}
 use Rattle.session_runs.specs.Standing.{Standpoint}
@@ -28,19 +28,18 @@ use Rattle.session_commands.specs.Lines.{needs_machine, turn}
 use Rattle.arn_session.specs.Answered.{AnswersParts, AnswersTaken, TookAtMost, TookFewer}
 use Rattle.arn_session.specs.Leaves.{WereTouched}
 use Rattle.arn_session.specs.Transcript.{needs_any, total_cost, transcript}
-use Rattle.arn_session.proofs.PointLemmas.{Advances-along, Advances-append, Laws, PickedBy-none}
+use Rattle.arn_session.proofs.PointLemmas.{Advances-as, Laws}
 use Rattle.arn_session.proofs.NoneLemmas.{begin-none, transcript-none}
 use Rattle.arn_session.proofs.StandLemmas.{answered-as, found-as, halted-as, needs-stands}
-use Rattle.arn_session.proofs.TouchLemmas.{stand-after}
+use Rattle.arn_session.proofs.TouchLemmas.{StandAs, stand-after}
 use Rattle.arn_session.proofs.TranscriptLemmas.{commits-none, cost-push, leads-more, needs-push, transcript-one}
 use Rattle.arn_session.proofs.UseLemmas.{Uses-append, Uses-none}
 
 -- one more part asks for this
 pub EachAsks-push : (parts : List Part) (commands : List Command) (part : Part) (command : Command) → EachAsks parts commands → Asks part command → EachAsks (parts ++ part ∷ []) (commands ++ command ∷ [])
 EachAsks-push [] [] part command each asks = (asks, tt)
-EachAsks-push [] (c ∷ commands) part command each asks = absurd each
-EachAsks-push (p ∷ parts) [] part command each asks = absurd each
 EachAsks-push (p ∷ parts) (c ∷ commands) part command each asks = (each.0, EachAsks-push parts commands part command each.1 asks)
+EachAsks-push _ _ part command each asks = absurd each
 
 -- what one of two tells
 or-left : (a b : Bool) → (a || b) ≡ false → a ≡ false
@@ -115,24 +114,6 @@ took_at_most most bytes reader l0 (Some rest) come few =
     let some : Option (List ℕ) = Some rest in
     subst (λ (o : Option (List ℕ)). TookAtMost most o some) (sym come) (omega (arith, few, length-append bytes (reader.ahead ++ rest), length-append reader.ahead rest))
 
-module _ {A : Type 0} (who : Answering A) where
-  -- other effects may be said to be carried out
-  abbrev pub Advances-carried : (a b : Point) (u v : Surroundings A) (n : ℕ) (carried now : List Effect → Type 0) → ((effects : List Effect) → carried effects → now effects) → Advances who a b u v n carried → Advances who a b u v n now
-  Advances-carried a b u v n carried now then p = record {
-    slices = p.slices;
-    touches = p.touches;
-    effects = p.effects;
-    leads = p.leads;
-    names = p.names;
-    unplugs = p.unplugs;
-    begins = p.begins;
-    carries = then p.effects p.carries;
-    picked = p.picked;
-    in_range = p.in_range;
-    touched = p.touched;
-    executed = p.executed;
-  }
-
 module _ {D A : Type 0} (d : Ghosts D) (who : Answering A) (g : Given) where
   -- These parts were answered: all that they ask for was carried out. The machine is there where one of them needed it, and else nothing was
   -- committed. What they cost is told whatever slices follow.
@@ -149,20 +130,11 @@ module _ {D A : Type 0} (d : Ghosts D) (who : Answering A) (g : Given) where
 
   -- more commands go on where these ended
   abbrev pub Advances-more : (old new : Standpoint D A) (parts : List Part) (is_there : Bool) (p : HaveAnswers parts is_there old new) (more : List Command) → Advances who (transcript g old.store.entries (p.commands ++ more)) (transcript g new.store.entries more) old.around new.around p.cost (Carries IsRun d old.disk new.disk old.store new.store old.held new.held)
-  Advances-more old new parts is_there p more = record {
-    slices = p.answered.slices;
-    touches = p.answered.touches;
-    effects = p.answered.effects;
-    leads = leads-more g old.store.entries new.store.entries p.commands more (named_at p.answered.touches p.answered.slices) p.answered.effects p.answered.touches p.answered.carries.entries p.answered.leads;
-    names = p.answered.names;
-    unplugs = p.answered.unplugs;
-    begins = p.answered.begins;
-    carries = p.answered.carries;
-    picked = p.answered.picked;
-    in_range = p.answered.in_range;
-    touched = p.answered.touched;
-    executed = p.answered.executed;
-  }
+  Advances-more old new parts is_there p more =
+      let carried : List Effect → Type 0 = Carries IsRun d old.disk new.disk old.store new.store old.held new.held in
+      Advances-as who (transcript g old.store.entries p.commands) (transcript g old.store.entries (p.commands ++ more)) finished (transcript g new.store.entries more) old.around new.around p.cost carried carried p.answered
+      (leads-more g old.store.entries new.store.entries p.commands more (named_at p.answered.touches p.answered.slices) p.answered.effects p.answered.touches p.answered.carries.entries p.answered.leads)
+      p.answered.carries
 
   -- what one more command costs
   pub costs-more : (old new : Standpoint D A) (parts : List Part) (is_there : Bool) (command : Command) (p : HaveAnswers parts is_there old new) (taken more : List Picked) → taken ≡ named_at p.answered.touches p.answered.slices ++ more → p.cost + cost_of_turn g is_there new.store.entries command (turn g new.store.entries command more) ≤ total_cost g old.store.entries (p.commands ++ command ∷ []) taken
@@ -175,20 +147,7 @@ module _ {D A : Type 0} (d : Ghosts D) (who : Answering A) (g : Given) where
     commands = [];
     each_asks = tt;
     cost = 0;
-    answered = record {
-      slices = [];
-      touches = [];
-      effects = [];
-      leads = λ rest. refl;
-      names = refl;
-      unplugs = refl;
-      begins = refl;
-      carries = record { stays_open = open_now; entries = sym (append-nil now.store.entries); out = laws.effects.nothing now.disk now.store.entries now.held };
-      picked = PickedBy-none now.around.choices now.around.choices (λ k. refl);
-      in_range = tt;
-      touched = (refl, refl);
-      executed = omega arith;
-    };
+    answered = laws.points.nothing finished now.around now.disk now.store now.held open_now;
     costs = λ rest. omega arith;
     needs = refl;
     unmoved = λ absent. refl;
@@ -225,8 +184,11 @@ module _ {D A : Type 0} (d : Ghosts D) (who : Answering A) (g : Given) where
       let h = old.store.entries in
       let t = mid.store.entries in
       let first = Advances-more old mid parts is_there p (command ∷ []) in
-      let second = Advances-along who (turn g t command) (transcript g t (command ∷ [])) finished mid.around new.around (cost g is_there t new.store.entries command) (Carries IsRun d mid.disk new.disk mid.store new.store mid.held new.held) (transcript-one g t command) a.advances in
-      let both = Advances-append d who laws (transcript g h (p.commands ++ command ∷ [])) (transcript g t (command ∷ [])) finished old.around mid.around new.around p.cost (cost g is_there t new.store.entries command) old.disk mid.disk new.disk old.store mid.store new.store old.held mid.held new.held first second in
+      let carried : List Effect → Type 0 = Carries IsRun d mid.disk new.disk mid.store new.store mid.held new.held in
+      let second =
+      Advances-as who (turn g t command) (transcript g t (command ∷ [])) finished finished mid.around new.around (cost g is_there t new.store.entries command) carried carried a.advances
+      (λ rest. transcript-one g t command (named_at a.advances.touches a.advances.slices ++ rest) ∙ a.advances.leads rest) a.advances.carries in
+      let both = laws.points.advances (transcript g h (p.commands ++ command ∷ [])) (transcript g t (command ∷ [])) finished old.around mid.around new.around p.cost (cost g is_there t new.store.entries command) old.disk mid.disk new.disk old.store mid.store new.store old.held mid.held new.held first second in
       record {
         commands = p.commands ++ command ∷ [];
         each_asks = EachAsks-push parts p.commands part command p.each_asks asks;
@@ -244,7 +206,7 @@ module _ {D A : Type 0} (d : Ghosts D) (who : Answering A) (g : Given) where
         on_run = λ here. run-more is_there h t command p.unmoved p.on_run a.on_run (sym there ∙ here);
         stands =
             stand-after who laws.kept g.filled t new.store.entries a.advances.effects a.advances.touches a.advances.slices mid.around.answers new.around.answers
-            a.advances.carries.entries a.advances.unplugs a.advances.touched p.stands;
+            a.advances.carries.entries a.advances.unplugged a.advances.touched p.stands;
       }
 
   HaveAnswers-answers : (old new : Standpoint D A) (parts : List Part) (is_there : Bool) → HaveAnswers parts is_there old new → AnswersParts who g old.store.entries parts old.around new.around (CarriesOut IsRun d old.disk new.disk old.store.entries old.held new.held)
@@ -252,14 +214,14 @@ module _ {D A : Type 0} (d : Ghosts D) (who : Answering A) (g : Given) where
     commands = p.commands;
     each_asks = p.each_asks;
     cost = p.cost;
-    answered = Advances-carried who (transcript g old.store.entries p.commands) finished old.around new.around p.cost (Carries IsRun d old.disk new.disk old.store new.store old.held new.held) (CarriesOut IsRun d old.disk new.disk old.store.entries old.held new.held) (λ effects carries. carries.out) p.answered;
+    answered = Advances-as who (transcript g old.store.entries p.commands) (transcript g old.store.entries p.commands) finished finished old.around new.around p.cost (Carries IsRun d old.disk new.disk old.store new.store old.held new.held) (CarriesOut IsRun d old.disk new.disk old.store.entries old.held new.held) p.answered p.answered.leads p.answered.carries.out;
     costs = subst (λ (x : List Picked). p.cost ≤ total_cost g old.store.entries p.commands x) (append-nil (named_at p.answered.touches p.answered.slices)) (p.costs []);
     on_run = λ needed. p.on_run (p.needs ∙ needed);
   }
 
   -- those who answer for devices were touched by slices alone
-  pub were-touched : (old new : Standpoint D A) (parts : List Part) (is_there : Bool) → HaveAnswers parts is_there old new → WereTouched who old.around.answers new.around.answers
-  were-touched old new parts is_there p =
+  pub were-touched : (laws : Laws d who) (old new : Standpoint D A) (parts : List Part) (is_there : Bool) → HaveAnswers parts is_there old new → WereTouched who old.around.answers new.around.answers
+  were-touched laws old new parts is_there p =
       let a = p.answered in
       let all : List Picked = named_at a.touches a.slices ++ [] in
       record {
@@ -267,7 +229,7 @@ module _ {D A : Type 0} (d : Ghosts D) (who : Answering A) (g : Given) where
         slices = a.slices;
         touched = a.touched;
         none_unplugged =
-            begin-none a.touches [] (transcript g old.store.entries p.commands all).touches (transcript-none g old.store.entries p.commands all)
+            begin-none laws.touches.unplugs a.touches [] (transcript g old.store.entries p.commands all).touches (transcript-none laws.touches.unplugs g old.store.entries p.commands all)
             (ap (λ (t : Turn). t.touches) (a.leads []));
       }
 
@@ -288,8 +250,8 @@ module _ {D A : Type 0} (d : Ghosts D) (who : Answering A) (g : Given) where
     pub out : (effects : List Effect) × CarriesOut IsRun d old.disk new.disk old.store.entries old.held new.held effects
     pub touched : WereTouched who old.around.answers new.around.answers
 
-  done_by : (bytes : List ℕ) (parts : List Part) (reader : ReaderState) (l0 l : Option (List ℕ)) (is_there : Bool) (old new : Standpoint D A) → Uses bytes fresh_reader reader l0 l → IsAtEnd reader l → text_parts bytes ≡ parts → HaveAnswers parts is_there old new → IsDone l0 l old new
-  done_by bytes parts reader l0 l is_there old new used end are answers =
+  done_by : (laws : Laws d who) (bytes : List ℕ) (parts : List Part) (reader : ReaderState) (l0 l : Option (List ℕ)) (is_there : Bool) (old new : Standpoint D A) → Uses bytes fresh_reader reader l0 l → IsAtEnd reader l → text_parts bytes ≡ parts → HaveAnswers parts is_there old new → IsDone l0 l old new
+  done_by laws bytes parts reader l0 l is_there old new used end are answers =
       let all = text_taken l0 l bytes (are_taken bytes reader l0 l used end.short.used_up) end.none_left in
       let whole = HaveAnswers-answers old new parts is_there answers in
       record {
@@ -297,7 +259,7 @@ module _ {D A : Type 0} (d : Ghosts D) (who : Answering A) (g : Given) where
         answered = IfSome_then l0 all (λ text f. subst (λ (x : List Part). AnswersParts who g old.store.entries x old.around new.around (CarriesOut IsRun d old.disk new.disk old.store.entries old.held new.held)) (sym (ap text_parts f.1 ∙ are)) whole);
         short = IfSome_then l0 all (λ text f. omega (arith, ap length f.1, end.short.some_room, count_taken bytes reader l0 l used end.short.used_up));
         out = (answers.answered.effects, answers.answered.carries.out);
-        touched = were-touched old new parts is_there answers;
+        touched = were-touched laws old new parts is_there answers;
       }
 
 module _ {D A : Type 0} {d : Ghosts D} {who : Answering A} {g : Given} where
@@ -337,14 +299,14 @@ module _ {D A : Type 0} {d : Ghosts D} {who : Answering A} {g : Given} where
   }
 
   -- the text ended behind a whole part
-  pub IsDone-end : {l0 l1 l2 : Option (List ℕ)} {r r' : ReaderState} {is_there : Bool} {old new : Standpoint D A} → Progress d who g l0 l1 r is_there old new → ReadsEnd r r' l1 l2 → IsDone d who g l0 l2 old new
-  IsDone-end {l0 = l0} {l1 = l1} {l2 = l2} {r = r} {r' = r'} {is_there = is_there} {old = old} {new = new} p read =
-      done_by d who g (p.seen ++ []) p.parts r' l0 l2 is_there old new (Uses-append p.seen [] fresh_reader r r' l0 l1 l2 p.used read.used) read.at_end (p.parts_are [] ∙ append-nil p.parts) p.answers
+  pub IsDone-end : {l0 l1 l2 : Option (List ℕ)} {r r' : ReaderState} {is_there : Bool} {old new : Standpoint D A} (laws : Laws d who) → Progress d who g l0 l1 r is_there old new → ReadsEnd r r' l1 l2 → IsDone d who g l0 l2 old new
+  IsDone-end {l0 = l0} {l1 = l1} {l2 = l2} {r = r} {r' = r'} {is_there = is_there} {old = old} {new = new} laws p read =
+      done_by d who g laws (p.seen ++ []) p.parts r' l0 l2 is_there old new (Uses-append p.seen [] fresh_reader r r' l0 l1 l2 p.used read.used) read.at_end (p.parts_are [] ∙ append-nil p.parts) p.answers
 
   -- the text ended with a part
   pub IsDone-last : {l0 l1 l2 : Option (List ℕ)} {r r' : ReaderState} {is_there : Bool} {old mid new : Standpoint D A} {command : Command} (laws : Laws d who) → Progress d who g l0 l1 r is_there old mid → ReadsLast command r r' l1 l2 → IsAnswered d who g is_there command mid new → IsDone d who g l0 l2 old new
   IsDone-last {l0 = l0} {l1 = l1} {l2 = l2} {r = r} {r' = r'} {is_there = is_there} {old = old} {mid = mid} {new = new} {command = command} laws p read a =
-      done_by d who g (p.seen ++ read.bytes) (p.parts ++ read.part ∷ []) r' l0 l2 (is_there || needs_machine g mid.store.entries command) old new (Uses-append p.seen read.bytes fresh_reader r r' l0 l1 l2 p.used read.used) read.at_end
+      done_by d who g laws (p.seen ++ read.bytes) (p.parts ++ read.part ∷ []) r' l0 l2 (is_there || needs_machine g mid.store.entries command) old new (Uses-append p.seen read.bytes fresh_reader r r' l0 l1 l2 p.used read.used) read.at_end
       (p.parts_are read.bytes ∙ ap (λ (x : List Part). p.parts ++ x) read.is_last)
       (HaveAnswers-push d who g laws old mid new p.parts is_there (is_there || needs_machine g mid.store.entries command) read.part command refl read.asks p.answers a)
 

@@ -16,15 +16,13 @@ use Rattle.guest_machine.specs.Slices.{RepliesAt, RepliesIf, RepliesIn, RepliesO
 -- what answered, and what that made of it, seen otherwise
 module _ {A B : Type 0} (replies : A → Asked → Answered → A → Type 0) (replies' : B → Asked → Answered → B → Type 0) (see : A → B) (seen : (a : A) (asked : Asked) (answer : Answered) (a' : A) → replies a asked answer a' → replies' (see a) asked answer (see a')) where
   RepliesTo-seen : (v : View) (r : Request) (reply : Option Answered) (a a' : A) → RepliesTo replies v r reply a a' → RepliesTo replies' v r reply (see a) (see a')
-  RepliesTo-seen v Waits reply a a' p = (p.0, ap see p.1)
-  RepliesTo-seen v (Does d) reply a a' p = (p.0, ap see p.1)
   RepliesTo-seen v (Asks q) None a a' p = absurd p
   RepliesTo-seen v (Asks q) (Some answer) a a' p = seen a (asked_of v q) answer a' p
+  RepliesTo-seen v _ reply a a' p = (p.0, ap see p.1)
 
   RepliesAt-seen : (m : Machine) (pid : ℕ) (v : View) (e : Effect) (reply : Option Answered) (a a' : A) → RepliesAt replies m pid v e reply a a' → RepliesAt replies' m pid v e reply (see a) (see a')
-  RepliesAt-seen m pid v (Next instr cpu memory) reply a a' p = (p.0, ap see p.1)
   RepliesAt-seen m pid v Call reply a a' p = RepliesTo-seen v (request m pid v) reply a a' p
-  RepliesAt-seen m pid v (End status) reply a a' p = (p.0, ap see p.1)
+  RepliesAt-seen m pid v _ reply a a' p = (p.0, ap see p.1)
 
   RepliesOf-seen : (m : Machine) (pid : ℕ) (there : Option View) (reply : Option Answered) (a a' : A) → RepliesOf replies m pid there reply a a' → RepliesOf replies' m pid there reply (see a) (see a')
   RepliesOf-seen m pid None reply a a' p = (p.0, ap see p.1)
@@ -45,15 +43,13 @@ module _ {A N : Type 0} (replies : A → Asked → Answered → A → Type 0) (n
   Stays n asked answer n' = n' ≡ n
 
   To-stays : (v : View) (r : Request) (reply : Option Answered) (n n' : N) → RepliesTo Stays v r reply n n' → n' ≡ n
-  To-stays v Waits reply n n' p = p.1
-  To-stays v (Does d) reply n n' p = p.1
   To-stays v (Asks q) None n n' p = absurd p
   To-stays v (Asks q) (Some answer) n n' p = p
+  To-stays v _ reply n n' p = p.1
 
   At-stays : (m : Machine) (pid : ℕ) (v : View) (e : Effect) (reply : Option Answered) (n n' : N) → RepliesAt Stays m pid v e reply n n' → n' ≡ n
-  At-stays m pid v (Next instr cpu memory) reply n n' p = p.1
   At-stays m pid v Call reply n n' p = To-stays v (request m pid v) reply n n' p
-  At-stays m pid v (End status) reply n n' p = p.1
+  At-stays m pid v _ reply n n' p = p.1
 
   Of-stays : (m : Machine) (pid : ℕ) (there : Option View) (reply : Option Answered) (n n' : N) → RepliesOf Stays m pid there reply n n' → n' ≡ n
   Of-stays m pid None reply n n' p = p.1

@@ -1,5 +1,5 @@
 -- What surrounds a machine, seen otherwise where devices answer.
-use Rattle.std.proofs.Common.{◌≡◌, ◌≢◌, ◌⊎◌, inl, inr, ℕ, ◌++◌, Bool, true, false, nat_lt, List, [], ◌∷◌, length, Option, None, Some, Result, Ok, Err, OnOk, IfErr, IfSome, IsErrOf, refl, sym, ap, ◌∙◌, subst}
+use Rattle.std.proofs.Common.{◌≡◌, inl, inr, ℕ, ◌++◌, List, [], ◌∷◌, Option, Result, Ok, Err, OnOk, IfErr, ap, ◌∙◌}
 use Rattle.std.proofs.lemmas.Option.{IfSome_then}
 use Rattle.arn_base.specs.declared.disk.Disk.{Ghosts}
 use Rattle.arn_base.specs.declared.records.Record.{Record}
@@ -11,16 +11,15 @@ use Rattle.guest_devices.specs.Answers.{Asked}
 use Rattle.guest_legs.specs.Legs.{Picked}
 use Rattle.session_effects.specs.Effects as effects
 use Rattle.session_effects.specs.declared.halt.Halt.{Halt}
-use Rattle.session_effects.specs.declared.halt.Halt.TheVariants as halt
 use Rattle.session_runs.specs.Points.{Advances, Stops, Surroundings, around}
 use Rattle.session_runs.specs.Touches.{Answering, Touch, AtSlice, AtUnplug, TouchedBy}
 use Rattle.session_runs.specs.Turns.{Point}
-use Rattle.session_runs.specs.Standing.{Standpoint, standpoint}
+use Rattle.session_runs.specs.Standing.{standpoint}
 use Rattle.arn_session.specs.Answered.{AnswersParts, AnswersTaken}
 use Rattle.arn_session.specs.CutOff.{BeginsText, FindsOut}
 use Rattle.arn_session.specs.Leaves.{Leaves, Scene, WereTouched}
 use Rattle.session_commands.specs.Given.{Given}
-use Rattle.arn_session.specs.Begun.{BeginsOn, FindsOn, Standing, standing, on_history, store_of}
+use Rattle.arn_session.specs.Begun.{BeginsOn, FindsOn, Standing, standing, store_of}
 use Rattle.arn_session.proofs.ReplyLemmas.{RepliesIn-seen, RepliesIn-stays}
 
 -- what follows of a call that succeeded, of one that failed
@@ -55,7 +54,7 @@ module _ {A B : Type 0} (here : A) (who : Answering A) (there : Answering B) (se
     effects = p.effects;
     leads = p.leads;
     names = p.names;
-    unplugs = p.unplugs;
+    unplugged = p.unplugged;
     begins = p.begins;
     carries = p.carries;
     picked = p.picked;
@@ -78,10 +77,10 @@ module _ {A B : Type 0} (here : A) (who : Answering A) (there : Answering B) (se
     are_touches = p.are_touches;
     stopped = p.stopped;
     names = p.names;
-    unplugs = p.unplugs;
+    unplugged = p.unplugged;
     begins = p.begins;
     names_lost = p.names_lost;
-    unplugs_lost = p.unplugs_lost;
+    unplugged_lost = p.unplugged_lost;
     without = p.without;
     spent = p.spent;
     many = p.many;
@@ -90,6 +89,7 @@ module _ {A B : Type 0} (here : A) (who : Answering A) (there : Answering B) (se
     touched = TouchedBy-seen (p.touches ++ p.lost_touches) (p.slices ++ p.lost) u.answers v.answers p.touched;
     one_part = p.one_part;
     by_memory = p.by_memory;
+    unmade = p.unmade;
     executed = p.executed;
   }
 

@@ -1,5 +1,5 @@
 -- A command does the same by the devices as they are now as by those that were there when the session began.
-use Rattle.std.proofs.Common.{◌≡◌, ◌≤◌, ℕ, ◌+◌, ◌++◌, Bool, if◌then◌else◌, List, refl, sym, ap, ◌∙◌, subst, inl, inr}
+use Rattle.std.proofs.Common.{◌≡◌, ◌≤◌, ℕ, ◌+◌, ◌++◌, Bool, if◌then◌else◌, List, refl, sym, ap, ◌∙◌, subst}
 use Rattle.std.specs.Prelude.{◌&&◌, is_none}
 use Rattle.arn_base.specs.declared.disk.Disk.{Ghosts}
 use Rattle.arn_base.specs.declared.records.Differs.{Differs}
@@ -12,14 +12,15 @@ use Rattle.guest_legs.specs.Legs.{Picked}
 use Rattle.session_effects.specs.Effects.{committed}
 use Rattle.session_effects.specs.declared.halt.Halt.{Halt}
 use Rattle.session_runs.specs.Standing.{Proceeds, Standpoint}
-use Rattle.session_runs.specs.Touches.{Answering, StandAs, named_at}
-use Rattle.session_runs.specs.Turns.{Point, Turn, finished}
+use Rattle.session_runs.specs.Touches.{Answering, named_at}
+use Rattle.session_runs.specs.Turns.{Point, finished}
 use Rattle.session_commands.specs.Answering.{FindsNoRun, IsAnswered, IsHalted}
 use Rattle.session_commands.specs.Cost.{asked_cost, cost, cost_of_turn, machine_cost}
 use Rattle.session_commands.specs.Given.{Given, given}
 use Rattle.session_commands.specs.Lines.{needs_machine, turn, turn_unless}
 use Rattle.session_commands.specs.Rows.{LineRow, row_of}
 use Rattle.arn_session.proofs.PointLemmas.{Stops-along}
+use Rattle.arn_session.proofs.TouchLemmas.{StandAs}
 
 module _ {A : Type 0} (who : Answering A) (g : Given) (history : List Record) (now : A) (stand : StandAs who g.filled history now) where
   row-stands : (l : Line) → row_of (given g.told (who.filled now)) history l ≡ row_of g history l

@@ -1,7 +1,6 @@
 -- Which halt or which refusal a status is of.
-use Rattle.std.proofs.Common.{◌≡◌, ◌≢◌, ◌+◌, ◌<◌, ℕ, Option, None, Some, refl, subst, sym, ap, ◌∙◌}
+use Rattle.std.proofs.Common.{◌≡◌, ◌+◌, ◌<◌, ℕ, Option, None, Some, refl, subst, sym, ap, ◌∙◌}
 use Rattle.log_store.specs.declared.size.TheConstants.{MOST_LOG}
-use Rattle.log_store.specs.Causes.{BlamesBytes}
 use Rattle.log_store.specs.declared.errors.OpenError.{OpenError}
 use Rattle.log_store.specs.declared.errors.OpenError.TheVariants as opening
 use Rattle.arn_session.specs.Status.{NumbersHold, status_of, open_status_of}
@@ -13,28 +12,18 @@ use Rattle.session_effects.specs.declared.halt.Halt.TheVariants as halt
 
 -- the halt of a status, if there is one
 abbrev pub halt_for : Status → Option Halt
-halt_for status.Done = None
-halt_for status.Usage = None
 halt_for status.Disk = Some halt.Disk
-halt_for (status.Damaged (damage.TooLong len)) = None
-halt_for (status.Damaged (damage.NotLog at)) = None
-halt_for (status.Damaged (damage.Malformed at)) = None
-halt_for (status.Damaged (damage.Broken place)) = None
 halt_for (status.Damaged (damage.Differs d)) = Some (halt.Differs d)
 halt_for status.NoMemory = Some halt.NoMemory
 halt_for status.Source = Some halt.Source
 halt_for status.Sink = Some halt.Sink
 halt_for (status.Full log payload) = Some (halt.Full log payload)
 halt_for status.Long = Some halt.Long
+halt_for _ = None
 
 halt_for-status : (why : Halt) → halt_for (status_of why) ≡ Some why
 halt_for-status halt.NoMemory = refl
-halt_for-status halt.Source = refl
-halt_for-status halt.Sink = refl
-halt_for-status halt.Long = refl
-halt_for-status halt.Disk = refl
-halt_for-status (halt.Full log payload) = refl
-halt_for-status (halt.Differs d) = refl
+halt_for-status _ = refl
 
 -- a status that comes of a halt comes of this one
 pub halt-is : (why : Halt) (s : Status) (h : Halt) → s ≡ status_of why → halt_for s ≡ Some h → why ≡ h
@@ -42,51 +31,22 @@ halt-is why s h is for =
     let same : Some why ≡ Some h = sym (ap halt_for is ∙ halt_for-status why) ∙ for in
     cc same
 
--- a status comes of no halt
-pub no-halt : (why : Halt) (s : Status) → s ≡ status_of why → halt_for s ≡ None → ⊥
-no-halt why s is none =
-    let same : Some why ≡ None = sym (ap halt_for is ∙ halt_for-status why) ∙ none in
-    cc same
-
--- the status of a refusal for the bytes of the log comes of no halt
-pub no-halt-open : (why : Halt) (error : OpenError) → BlamesBytes error → open_status_of error ≡ status_of why → ⊥
-no-halt-open why (opening.TooLong len) blames is = no-halt why (open_status_of (opening.TooLong len)) is refl
-no-halt-open why (opening.NotLog at) blames is = no-halt why (open_status_of (opening.NotLog at)) is refl
-no-halt-open why (opening.Malformed at) blames is = no-halt why (open_status_of (opening.Malformed at)) is refl
-no-halt-open why opening.Disk blames is = blames
-no-halt-open why opening.NoMemory blames is = blames
-
 -- the refusal of a status, if there is one
 abbrev pub error_for : Status → Option OpenError
-error_for status.Done = None
-error_for status.Usage = None
 error_for status.Disk = Some opening.Disk
 error_for (status.Damaged (damage.TooLong len)) = Some (opening.TooLong len)
 error_for (status.Damaged (damage.NotLog at)) = Some (opening.NotLog at)
 error_for (status.Damaged (damage.Malformed at)) = Some (opening.Malformed at)
-error_for (status.Damaged (damage.Broken place)) = None
-error_for (status.Damaged (damage.Differs d)) = None
 error_for status.NoMemory = Some opening.NoMemory
-error_for status.Source = None
-error_for status.Sink = None
-error_for (status.Full log payload) = None
-error_for status.Long = None
+error_for _ = None
 
 error_for-status : (error : OpenError) → error_for (open_status_of error) ≡ Some error
 error_for-status (opening.TooLong len) = refl
-error_for-status (opening.NotLog at) = refl
-error_for-status (opening.Malformed at) = refl
-error_for-status opening.Disk = refl
-error_for-status opening.NoMemory = refl
+error_for-status _ = refl
 
 pub error-is : (error : OpenError) (s : Status) (e : OpenError) → s ≡ open_status_of error → error_for s ≡ Some e → error ≡ e
 error-is error s e is for =
     let same : Some error ≡ Some e = sym (ap error_for is ∙ error_for-status error) ∙ for in
-    cc same
-
-pub no-error : (error : OpenError) (s : Status) → s ≡ open_status_of error → error_for s ≡ None → ⊥
-no-error error s is none =
-    let same : Some error ≡ None = sym (ap error_for is ∙ error_for-status error) ∙ none in
     cc same
 
 -- two refusals with one status are one
@@ -99,13 +59,8 @@ broken-is a b is = cc is
 
 -- the numbers of a halt's status hold where a full log has no room
 numbers-at : (why : Halt) → ((log payload : ℕ) → why ≡ halt.Full log payload → MOST_LOG < log + 5 + payload) → NumbersHold (status_of why)
-numbers-at halt.NoMemory full = tt
-numbers-at halt.Source full = tt
-numbers-at halt.Sink full = tt
-numbers-at halt.Long full = tt
-numbers-at halt.Disk full = tt
 numbers-at (halt.Full log payload) full = full log payload refl
-numbers-at (halt.Differs d) full = tt
+numbers-at _ full = tt
 
 pub numbers-of : (why : Halt) (s : Status) → s ≡ status_of why → ((log payload : ℕ) → why ≡ halt.Full log payload → MOST_LOG < log + 5 + payload) → NumbersHold s
 numbers-of why s is full = subst NumbersHold (sym is) (numbers-at why full)

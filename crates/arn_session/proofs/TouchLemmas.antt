@@ -1,57 +1,31 @@
--- Touches: how they append, and which devices are there behind them.
-use Rattle.std.proofs.Common.{◌≡◌, ◌⊎◌, inl, inr, ℕ, ◌++◌, Bool, true, false, List, [], ◌∷◌, length, Option, refl, sym, ap, ◌∙◌, subst, arith}
+-- Which devices are there behind touches.
+use Rattle.std.proofs.Common.{◌≡◌, ℕ, ◌++◌, Bool, true, false, List, [], ◌∷◌, refl, sym, ap, ◌∙◌}
 use Rattle.std.specs.Prelude.{◌&&◌, ◌==◌, ◌||◌, not}
 use Rattle.std.specs.List.{list_any}
-use Rattle.std.proofs.lemmas.Grind.{flat_map-append}
 use Rattle.std.proofs.lemmas.List.Elements.{filter_map-append}
 use Rattle.std.proofs.lemmas.List.Folds.{list_any-append}
 use Rattle.arn_base.specs.declared.records.Record.{Record}
 use Rattle.parts_model.specs.Replies.{Answered}
 use Rattle.guest_devices.specs.Answers.{Asked}
-use Rattle.guest_legs.specs.LegLaws.{all_named, as_named}
-use Rattle.guest_legs.specs.Legs.{Ask, Picked}
-use Rattle.session_effects.specs.Effects.{Effect, committed, records_of}
-use Rattle.session_runs.specs.Touches.{Answering, Touch, AtSlice, AtUnplug, TouchedBy, StandAs, asks_in, is_gone, named_at, unplugged_by, unplugged_in, unplugs_in}
+use Rattle.guest_legs.specs.Legs.{Picked}
+use Rattle.session_effects.specs.Effects.{Effect, committed}
+use Rattle.session_runs.specs.Touches.{Answering, Touch, AtSlice, AtUnplug, TouchedBy, unplugged_by, unplugged_in, unplugs_in}
 use Rattle.arn_session.proofs.ReplyLemmas.{RepliesIn-stays}
 
-all_named-append : (asks more : List Ask) (slices others : List Picked) → length asks ≡ length slices → all_named (asks ++ more) (slices ++ others) ≡ all_named asks slices ++ all_named more others
-all_named-append [] more [] others many = refl
-all_named-append [] more (s ∷ slices) others many = absurd (omega (arith, many))
-all_named-append (a ∷ asks) more [] others many = absurd (omega (arith, many))
-all_named-append (a ∷ asks) more (s ∷ slices) others many =
-    ap (λ (x : List Picked). as_named a.machine s ∷ x) (all_named-append asks more slices others (omega (arith, many)))
+-- a device is one of these
+abbrev is_one : List ℕ → ℕ → Bool
+is_one devices n = list_any (λ m. m == n) devices
 
-pub asks-append : (touches more : List Touch) → asks_in (touches ++ more) ≡ asks_in touches ++ asks_in more
-asks-append [] more = refl
-asks-append (AtSlice ask ∷ touches) more = ap (λ (x : List Ask). ask ∷ x) (asks-append touches more)
-asks-append (AtUnplug n ∷ touches) more = asks-append touches more
+-- the device of this number is one of those that a history unplugged
+abbrev is_gone : List Record → ℕ → Bool
+is_gone history n = is_one (unplugged_in history) n
 
-pub unplugs-append : (touches more : List Touch) → unplugs_in (touches ++ more) ≡ unplugs_in touches ++ unplugs_in more
-unplugs-append [] more = refl
-unplugs-append (AtSlice ask ∷ touches) more = unplugs-append touches more
-unplugs-append (AtUnplug n ∷ touches) more = ap (λ (x : List ℕ). n ∷ x) (unplugs-append touches more)
-
-pub named-append : (touches more : List Touch) (slices others : List Picked) → length (asks_in touches) ≡ length slices → named_at (touches ++ more) (slices ++ others) ≡ named_at touches slices ++ named_at more others
-named-append touches more slices others many =
-    ap (λ (x : List Ask). all_named x (slices ++ others)) (asks-append touches more) ∙ all_named-append (asks_in touches) (asks_in more) slices others many
-
-pub touched-append : {A : Type 0} (who : Answering A) (touches more : List Touch) (slices others : List Picked) (old between new : A) → TouchedBy who touches slices old between → TouchedBy who more others between new → TouchedBy who (touches ++ more) (slices ++ others) old new
-touched-append {A} who [] more slices others old between new p q =
-    subst (λ (x : List Picked). TouchedBy who more (x ++ others) old new) (sym p.0) (subst (λ (x : A). TouchedBy who more others x new) p.1 q)
-touched-append who (AtUnplug n ∷ touches) more slices others old between new p q = (p.0, p.1, touched-append who touches more slices others p.0 between new p.2 q)
-touched-append who (AtSlice ask ∷ touches) more [] others old between new p q = absurd p
-touched-append who (AtSlice ask ∷ touches) more (s ∷ slices) others old between new p q = (p.0, p.1, touched-append who touches more slices others p.0 between new p.2 q)
+-- what a history didn't unplug is there where it was at first
+abbrev pub StandAs : {A : Type 0} → Answering A → (ℕ → Bool) → List Record → A → Type 0
+StandAs who filled history now = (n : ℕ) → is_gone history n ≡ false → who.filled now n ≡ filled n
 
 unplugged-append : (entries more : List Record) → unplugged_in (entries ++ more) ≡ unplugged_in entries ++ unplugged_in more
 unplugged-append entries more = filter_map-append unplugged_by entries more
-
--- what effects unplug behind others
-pub unplugs-behind : (xs ys : List Effect) (ts us : List ℕ) → unplugged_in (committed xs) ≡ ts → unplugged_in (committed ys) ≡ us → unplugged_in (committed (xs ++ ys)) ≡ ts ++ us
-unplugs-behind xs ys ts us p q =
-    ap unplugged_in (flat_map-append records_of xs ys)
-    ∙ unplugged-append (committed xs) (committed ys)
-    ∙ ap (λ (l : List ℕ). l ++ unplugged_in (committed ys)) p
-    ∙ ap (λ (l : List ℕ). ts ++ l) q
 
 -- which devices are there behind an answer, and behind an unplugging
 pub record Keeps {A : Type 0} (who : Answering A) : Type 0 where
@@ -71,10 +45,6 @@ and-not false b c = refl
 or-parts : (a b : Bool) → (a || b) ≡ false → (a ≡ false) × (b ≡ false)
 or-parts true b is = absurd cc
 or-parts false b is = (refl, is)
-
--- a device is one of these
-abbrev is_one : List ℕ → ℕ → Bool
-is_one devices n = list_any (λ m. m == n) devices
 
 -- a device is there behind touches, if it was and wasn't unplugged
 filled-after : {A : Type 0} (who : Answering A) → Keeps who → (n : ℕ) (touches : List Touch) (slices : List Picked) (old new : A) → TouchedBy who touches slices old new → who.filled new n ≡ (who.filled old n && not (is_one (unplugs_in touches) n))

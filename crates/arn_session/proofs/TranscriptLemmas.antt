@@ -1,6 +1,5 @@
 -- What the commands of a session do behind others, and what they cost.
-use Rattle.std.proofs.Common.{◌≡◌, ℕ, ◌+◌, ◌≤◌, ◌||◌, ◌++◌, Bool, true, false, if◌then◌else◌, List, [], ◌∷◌, Option, Some, None, is_none, refl, sym, ap, ◌∙◌, subst, append_assoc, append-nil, arith}
-use Rattle.std.specs.Prelude.{◌&&◌}
+use Rattle.std.proofs.Common.{◌≡◌, ℕ, ◌+◌, ◌≤◌, ◌||◌, ◌++◌, Bool, true, false, if◌then◌else◌, List, [], ◌∷◌, Option, Some, None, is_none, refl, sym, ap, ◌∙◌, subst, append_assoc, append-nil, arith, ◌&&◌}
 use Rattle.std.proofs.lemmas.Bool.{false≢true}
 use Rattle.std.proofs.lemmas.List.Folds.{list_any-append}
 use Rattle.arn_base.specs.declared.records.Record.{Record}
@@ -118,21 +117,17 @@ module _ (g : Given) where
 
   -- a command that doesn't need the machine commits nothing
   commits-unless : (history : List Record) (l : Line) (why : Option Refusal) (slices : List Picked) → ((row_of g history l).needs_machine && is_none why) ≡ false → committed (turn_unless why (row_of g history l).turn slices).effects ≡ []
-  commits-unless history l (Some why) slices isnt = refl
   commits-unless history (line.File name bytes) None slices isnt = absurd (false≢true (sym isnt))
   commits-unless history (line.Boot name) None slices isnt = absurd (false≢true (sym isnt))
   commits-unless history (line.Type bytes) None slices isnt = absurd (false≢true (sym isnt))
   commits-unless history (line.Run count) None slices isnt = absurd (false≢true (sym isnt))
-  commits-unless history l None slices isnt = refl
+  commits-unless history l _ slices isnt = refl
 
   commits-refused : (point : Point) (why : Option Refusal) (slices : List Picked) → is_none why ≡ false → committed (turn_unless why point slices).effects ≡ []
   commits-refused point (Some why) slices isnt = refl
   commits-refused point None slices isnt = absurd (false≢true (sym isnt))
 
   pub commits-none : (history : List Record) (command : Command) (slices : List Picked) → needs_machine g history command ≡ false → committed (turn g history command slices).effects ≡ []
-  commits-none history PassedOver slices isnt = refl
-  commits-none history TooLong slices isnt = refl
-  commits-none history Unreadable slices isnt = refl
   commits-none history (Says l) slices isnt = commits-unless history l (row_of g history l).refusal slices isnt
-  commits-none history (Faulty at) slices isnt = refl
   commits-none history (Generates image typed processes) slices isnt = commits-refused (generator_turn g.told history image typed processes) (generator_refusal history) slices isnt
+  commits-none history _ slices isnt = refl

@@ -12,13 +12,11 @@ ghost use Rattle.session_runs.specs.Touches.{answering};
 use arn_base::{Chooser, Disk, Sink, Source};
 use arn_commands::{Commands, Next, ReadError};
 use guest_devices::Plugs;
-use guest_machine::picks_follow;
-use log_model::named_append;
 use log_store::Store;
 use session_commands::{Kept, answer};
 use session_effects::{Halt, Outside, causes_follow, effects_follow, goings_follow, halts_follow};
 use session_model::Questions;
-use session_runs::MachineRuns;
+use session_runs::{MachineRuns, points_follow, touches_follow};
 use std::alloc::Global;
 use std::sync::ledger::Ledger;
 
@@ -55,8 +53,8 @@ fn answer_all<Q: Questions, S: Source, C: Chooser, A: Plugs, D: Disk, K: Sink, L
     halts_follow::<MachineRuns, D>();
     causes_follow::<D>();
     goings_follow::<C, A, D, K, L>();
-    named_append();
-    picks_follow();
+    touches_follow::<A>();
+    points_follow::<MachineRuns, D, A>();
     loop {
         let next = match commands.next(source) {
             Ok(next) => next,
@@ -90,8 +88,8 @@ pub fn session<Q: Questions + Drop, S: Source, C: Chooser, A: Plugs, D: Disk, K:
     effects_follow::<MachineRuns, D>();
     halts_follow::<MachineRuns, D>();
     goings_follow::<C, A, D, K, L>();
-    named_append();
-    picks_follow();
+    touches_follow::<A>();
+    points_follow::<MachineRuns, D, A>();
     let mut commands = Commands::new(alloc)?;
     let mut kept = Kept {
         alloc,

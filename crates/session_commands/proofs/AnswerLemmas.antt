@@ -1,7 +1,6 @@
 -- Answers to commands, and where they halt.
-use Rattle.std.proofs.Common.{◌≡◌, inl, inr, ℕ, ◌+◌, ◌≤◌, ◌++◌, Bool, true, false, List, [], Option, None, Some, option_map, Result, Ok, Err, IfErr, OnOk, refl, sym, ap, ◌∙◌, subst, append-nil, arith}
+use Rattle.std.proofs.Common.{◌≡◌, inl, inr, ℕ, ◌+◌, ◌≤◌, ◌++◌, Bool, true, false, List, [], Option, None, Some, option_map, Result, Ok, Err, IfErr, OnOk, refl, sym, ap, ◌∙◌, subst, append-nil, arith, ◌||◌}
 use Rattle.std.proofs.lemmas.Bool.{false≢true}
-use Rattle.std.specs.Prelude.{◌||◌}
 use Rattle.arn_base.specs.declared.boxes.Choice.{Choice}
 use Rattle.arn_base.specs.declared.disk.Disk.{Ghosts}
 use Rattle.arn_base.specs.declared.records.Record.{Record}
@@ -15,10 +14,11 @@ use Rattle.session_effects.specs.Printing.{PutsFront, StopsPut}
 use Rattle.session_effects.specs.Standing.{IsCause, IsOpen}
 use Rattle.session_effects.specs.declared.halt.Halt.{Halt}
 use Rattle.session_effects.specs.declared.halt.Halt.TheVariants as halt
+use Rattle.session_runs.specs.Ready.{IsNotMade}
 use Rattle.session_runs.specs.Points.{around}
 use Rattle.session_runs.specs.Touches.{Answering}
 use Rattle.session_runs.specs.Turns.{finished, prints}
-use Rattle.session_commands.specs.Answering.{BlamesRecords, BlamesRightly, IsAnswered, IsHalted, IsLineCause, IsNotBegun, IsNotMade}
+use Rattle.session_commands.specs.Answering.{BlamesRecords, BlamesRightly, IsAnswered, IsHalted, IsLineCause, IsNotBegun}
 use Rattle.session_runs.specs.Standing.{Standpoint, standpoint}
 use Rattle.session_commands.specs.Cost.{cost, machine_cost}
 use Rattle.session_commands.specs.Given.{Given}
@@ -28,12 +28,10 @@ use Rattle.session_commands.proofs.TurnLemmas.{Advances-nothing, Advances-prints
 -- what halts a part of a line may halt the line
 pub line-cause : (why : Halt) (d0 d1 s0 s1 : ℕ) → IsCause why d0 d1 s0 s1 → IsLineCause why d0 d1 s0 s1
 line-cause halt.NoMemory d0 d1 s0 s1 is = tt
-line-cause halt.Source d0 d1 s0 s1 is = absurd is
 line-cause halt.Sink d0 d1 s0 s1 is = is
-line-cause halt.Long d0 d1 s0 s1 is = absurd is
 line-cause halt.Disk d0 d1 s0 s1 is = is
 line-cause (halt.Full log payload) d0 d1 s0 s1 is = is
-line-cause (halt.Differs d) d0 d1 s0 s1 is = absurd is
+line-cause _ d0 d1 s0 s1 is = absurd is
 
 pub line-causes : {T : Type 0} (result : Result T Halt) (d s0 s1 : ℕ) → IfErr result (λ why. (faults : ℕ) → IsCause why faults faults s0 s1) → IfErr result (λ why. IsLineCause why d d s0 s1)
 line-causes (Ok x) d s0 s1 causes = tt
@@ -47,22 +45,18 @@ never-rose (inr most) = omega arith
 -- a text halts by no fault of the disk, whatever the disk did before
 pub text-cause : (why : Halt) (d0 d1 s0 s1 : ℕ) → ((faults : ℕ) → IsCause why faults faults s0 s1) → IsLineCause why d0 d1 s0 s1
 text-cause halt.NoMemory d0 d1 s0 s1 causes = tt
-text-cause halt.Source d0 d1 s0 s1 causes = absurd (causes 0)
 text-cause halt.Sink d0 d1 s0 s1 causes = causes 0
-text-cause halt.Long d0 d1 s0 s1 causes = absurd (causes 0)
 text-cause halt.Disk d0 d1 s0 s1 causes = absurd (never-rose (causes 0))
 text-cause (halt.Full log payload) d0 d1 s0 s1 causes = causes 0
-text-cause (halt.Differs d) d0 d1 s0 s1 causes = absurd (causes 0)
+text-cause _ d0 d1 s0 s1 causes = absurd (causes 0)
 
 -- what puts no text halts by no fault of the sink, whatever the sink did before
 pub disk-cause : (why : Halt) (d0 d1 s0 s1 : ℕ) → ((faults : ℕ) → IsCause why d0 d1 faults faults) → IsLineCause why d0 d1 s0 s1
 disk-cause halt.NoMemory d0 d1 s0 s1 causes = tt
-disk-cause halt.Source d0 d1 s0 s1 causes = absurd (causes 0)
 disk-cause halt.Sink d0 d1 s0 s1 causes = absurd (never-rose (causes 0))
-disk-cause halt.Long d0 d1 s0 s1 causes = absurd (causes 0)
 disk-cause halt.Disk d0 d1 s0 s1 causes = causes 0
 disk-cause (halt.Full log payload) d0 d1 s0 s1 causes = causes 0
-disk-cause (halt.Differs d) d0 d1 s0 s1 causes = absurd (causes 0)
+disk-cause _ d0 d1 s0 s1 causes = absurd (causes 0)
 
 -- what holds of an error by two facts
 pub err-both : {T : Type 0} (result : Result T Halt) (P Q R : Halt → Type 0) → ((why : Halt) → P why → Q why → R why) → IfErr result P → IfErr result Q → IfErr result R
@@ -76,12 +70,8 @@ put-nothing text (Some before) = record { put = []; left = text; are_bytes = ref
 
 pub not-made-cause : (why : Halt) (d0 d1 s0 s1 : ℕ) → IsNotMade why → IsLineCause why d0 d1 s0 s1
 not-made-cause halt.NoMemory d0 d1 s0 s1 is = tt
-not-made-cause halt.Source d0 d1 s0 s1 is = absurd is
-not-made-cause halt.Sink d0 d1 s0 s1 is = absurd is
-not-made-cause halt.Long d0 d1 s0 s1 is = absurd is
-not-made-cause halt.Disk d0 d1 s0 s1 is = absurd is
-not-made-cause (halt.Full log payload) d0 d1 s0 s1 is = absurd is
 not-made-cause (halt.Differs d) d0 d1 s0 s1 is = tt
+not-made-cause _ d0 d1 s0 s1 is = absurd is
 
 -- what holds where a machine is there or was made
 pub or-false : (b n : Bool) → n ≡ false → b ≡ (b || n)
@@ -99,23 +89,13 @@ or-true false n one = sym one
 module _ {D A : Type 0} (g : Given) (is_there : Bool) (command : Command) where
   -- what halts a part of a line doesn't blame records
   pub cause-blames : (why : Halt) (d0 d1 s0 s1 : ℕ) (old new : Standpoint D A) → IsCause why d0 d1 s0 s1 → BlamesRightly g is_there why command old new
-  cause-blames halt.NoMemory d0 d1 s0 s1 old new is = tt
-  cause-blames halt.Source d0 d1 s0 s1 old new is = tt
-  cause-blames halt.Sink d0 d1 s0 s1 old new is = tt
-  cause-blames halt.Long d0 d1 s0 s1 old new is = tt
-  cause-blames halt.Disk d0 d1 s0 s1 old new is = tt
-  cause-blames (halt.Full log payload) d0 d1 s0 s1 old new is = tt
   cause-blames (halt.Differs at) d0 d1 s0 s1 old new is = absurd is
+  cause-blames _ d0 d1 s0 s1 old new is = tt
 
   -- nor does a text
   put-blames : (why : Halt) (text : List ℕ) (h0 h1 : Option (List ℕ)) (old new : Standpoint D A) → StopsPut why text h0 h1 → BlamesRightly g is_there why command old new
-  put-blames halt.NoMemory text h0 h1 old new is = tt
-  put-blames halt.Source text h0 h1 old new is = tt
-  put-blames halt.Sink text h0 h1 old new is = tt
-  put-blames halt.Long text h0 h1 old new is = tt
-  put-blames halt.Disk text h0 h1 old new is = tt
-  put-blames (halt.Full log payload) text h0 h1 old new is = tt
   put-blames (halt.Differs at) text h0 h1 old new is = absurd is
+  put-blames _ text h0 h1 old new is = tt
 
   pub blames-text : {T : Type 0} (result : Result T Halt) (text : List ℕ) (h0 h1 : Option (List ℕ)) (old new : Standpoint D A) → IfErr result (λ why. StopsPut why text h0 h1) → IfErr result (λ why. BlamesRightly g is_there why command old new)
   blames-text (Ok x) text h0 h1 old new put = tt
@@ -138,12 +118,7 @@ module _ {D A : Type 0} (g : Given) (is_there : Bool) (command : Command) where
       needs = needs;
       not_begun = not-begun (halt.Differs at) disk store store' held steps steps' is same cheap;
     }
-    blames-not-made halt.NoMemory disk store store' held steps steps' is same blames absent needs cheap = tt
-    blames-not-made halt.Source disk store store' held steps steps' is same blames absent needs cheap = tt
-    blames-not-made halt.Long disk store store' held steps steps' is same blames absent needs cheap = tt
-    blames-not-made halt.Sink disk store store' held steps steps' is same blames absent needs cheap = tt
-    blames-not-made halt.Disk disk store store' held steps steps' is same blames absent needs cheap = tt
-    blames-not-made (halt.Full log payload) disk store store' held steps steps' is same blames absent needs cheap = tt
+    blames-not-made _ disk store store' held steps steps' is same blames absent needs cheap = tt
 
 module _ {D A : Type 0} (d : Ghosts D) (who : Answering A) (g : Given) (is_there : Bool) (command : Command) (choices : ℕ → Option Choice) (answers : A) where
   -- a text answers a command
@@ -185,8 +160,4 @@ module _ {D A : Type 0} (d : Ghosts D) (who : Answering A) (g : Given) (is_there
       stopped : (why : Halt) → IsNotMade why → StopsBetween IsRun d disk disk store.entries held held why [] (turn g store.entries command []).effects
       stopped (halt.Differs at) is = halts.nothing disk store.entries held (halt.Differs at) (turn g store.entries command []).effects (refl, refl)
       stopped halt.NoMemory is = halts.nothing disk store.entries held halt.NoMemory (turn g store.entries command []).effects (inl refl, inl refl)
-      stopped halt.Source is = absurd is
-      stopped halt.Long is = absurd is
-      stopped halt.Sink is = absurd is
-      stopped halt.Disk is = absurd is
-      stopped (halt.Full log payload) is = absurd is
+      stopped _ is = absurd is

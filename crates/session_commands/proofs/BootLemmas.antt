@@ -1,8 +1,6 @@
 -- Which inputs a history takes behind others: an image that was brought can be booted, and behind a boot bytes can be typed.
-use Rattle.std.proofs.Common.{◌≡◌, ◌≤◌, ℕ, ◌++◌, Bool, true, false, List, [], ◌∷◌, Option, Some, None, length, refl, sym, ap, ◌∙◌, ◌||◌}
-use Rattle.std.specs.Prelude.{◌&&◌, IsTrue, bytes_eq, if◌then◌else◌, is_none, nat_le, not, option_and_then, option_map}
+use Rattle.std.proofs.Common.{◌≡◌, ◌≤◌, ℕ, ◌++◌, Bool, true, false, List, [], ◌∷◌, Option, Some, None, length, refl, sym, ap, ◌∙◌, ◌||◌, ◌&&◌, IsTrue, bytes_eq, if◌then◌else◌, is_none, nat_le, not, option_and_then, option_map, le-leb}
 use Rattle.std.specs.List.{list_any}
-use Rattle.std.proofs.lemmas.Bool.{le-leb}
 use Rattle.std.proofs.lemmas.List.Folds.{list_any-append}
 use Rattle.std.proofs.lemmas.Slice.Eq.{bytes_eq-Decides}
 use Rattle.arn_base.specs.declared.records.Record.{Record}

@@ -1,6 +1,5 @@
 -- Points from which a session goes on where instructions were executed before it.
-use Rattle.std.proofs.Common.{◌≡◌, inl, ℕ, ◌+◌, ◌≤◌, ◌++◌, Bool, true, List, [], Option, Some, None, IfSome, Result, Ok, Err, OnOk, IfErr, IsErrAnd, refl, sym, ap, ◌∙◌, subst, take, length, length-append, arith, ◌||◌}
-use Rattle.std.specs.Prelude.{is_some}
+use Rattle.std.proofs.Common.{◌≡◌, inl, ℕ, ◌+◌, ◌≤◌, ◌++◌, Bool, true, List, [], Option, Some, None, IfSome, Result, Ok, Err, OnOk, IfErr, IsErrAnd, refl, sym, ap, ◌∙◌, subst, take, length, length-append, arith, ◌||◌, is_some}
 use Rattle.std.proofs.Math.Seq.{take-append_seam}
 use Rattle.arn_base.specs.declared.boxes.Choice.{Choice}
 use Rattle.arn_base.specs.declared.disk.Disk.{Ghosts}
@@ -40,7 +39,7 @@ module _ {A : Type 0} (who : Answering A) (choices : ℕ → Option Choice) (ans
     effects = p.effects;
     leads = p.leads;
     names = p.names;
-    unplugs = p.unplugs;
+    unplugged = p.unplugged;
     begins = p.begins;
     carries = p.carries;
     picked = p.picked;
@@ -65,10 +64,10 @@ module _ {A : Type 0} (who : Answering A) (choices : ℕ → Option Choice) (ans
         are_touches = q.are_touches;
         stopped = q.stopped;
         names = q.names;
-        unplugs = q.unplugs;
+        unplugged = q.unplugged;
         begins = q.begins;
         names_lost = q.names_lost;
-        unplugs_lost = q.unplugs_lost;
+        unplugged_lost = q.unplugged_lost;
         without = q.without;
         spent = q.spent;
         many = q.many;
@@ -77,6 +76,7 @@ module _ {A : Type 0} (who : Answering A) (choices : ℕ → Option Choice) (ans
         touched = q.touched;
         one_part = q.one_part;
         by_memory = q.by_memory;
+        unmade = q.unmade;
         executed = omega (arith, q.executed, cheap);
       })
 
@@ -84,9 +84,9 @@ module _ {A : Type 0} (who : Answering A) (choices : ℕ → Option Choice) (ans
 module _ {D A : Type 0} (is_run : List Record → Type 0) (d : Ghosts D) (who : Answering A) (halts : HaltsFollow is_run d) (points : PointsFollow is_run d who) where
   pub Stops-last : (from : Point) (u : Surroundings A) (choices : ℕ → Option Choice) (answers : A) (steps : ℕ) (old new : D) (s0 s1 : StoreState) (h0 h1 : Option (List ℕ)) → Advances who from finished u (around choices answers steps) 0 (Carries is_run d old new s0 s1 h0 h1) → Stops is_run d who old new s0.entries h0 h1 halt.NoMemory from u (around choices answers steps) 0
   Stops-last from u choices answers steps old new s0 s1 h0 h1 p =
-      points.stops from finished u (around choices answers steps) (around choices answers steps) 0 0 old new new s0 s1 h0 h1 h1 halt.NoMemory p
+      (points.stops from finished u (around choices answers steps) (around choices answers steps) 0 0 old new new s0 s1 h0 h1 h1 halt.NoMemory p
       (Stops-nothing is_run d who halts choices answers new s1.entries h1 halt.NoMemory finished steps steps 0 still-finished
-      (halts.nothing new s1.entries h1 halt.NoMemory [] (inl refl, inl refl)) (omega arith))
+      (halts.nothing new s1.entries h1 halt.NoMemory [] (inl refl, inl refl)) (omega arith))).stops
 
 -- the records from before are the first of those that are there now
 pub take-known : (old new : List Record) (more : List Record) → new ≡ old ++ more → take (length old) new ≡ old
@@ -152,7 +152,7 @@ module _ {D A : Type 0} (d : Ghosts D) (who : Answering A) (g : Given) (is_there
           effects = p.effects;
           leads = p.leads;
           names = p.names;
-          unplugs = p.unplugs;
+          unplugged = p.unplugged;
           begins = p.begins;
           carries = p.carries;
           picked = p.picked;

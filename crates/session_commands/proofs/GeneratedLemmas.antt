@@ -1,6 +1,5 @@
 -- The generator's line as points of a session.
-use Rattle.std.proofs.Common.{◌≡◌, ◌⊎◌, inl, inr, ℕ, ◌+◌, ◌≤◌, ◌++◌, Bool, true, false, List, [], ◌∷◌, Option, Some, None, option_map, Result, Ok, Err, OnOk, refl, sym, ap, ◌∙◌, subst, append_assoc, append-nil, arith}
-use Rattle.std.specs.Prelude.{if◌then◌else◌, is_none}
+use Rattle.std.proofs.Common.{◌≡◌, ◌⊎◌, inl, inr, ℕ, ◌+◌, ◌≤◌, ◌++◌, Bool, false, List, [], ◌∷◌, Option, Some, None, option_map, Result, Ok, Err, OnOk, refl, sym, ap, ◌∙◌, subst, append_assoc, append-nil, arith, if◌then◌else◌, is_none}
 use Rattle.std.proofs.lemmas.Grind.{flat_map-append}
 use Rattle.arn_base.specs.declared.boxes.Choice.{Choice}
 use Rattle.arn_base.specs.declared.disk.Disk.{Ghosts}
@@ -15,7 +14,7 @@ use Rattle.arn_commands.specs.declared.command.Command.TheVariants.{Generates}
 use Rattle.log_model.specs.Laws.{BehindAppend, NamedAppend}
 use Rattle.log_model.specs.Records.{IsRun, records_from, reply_behind}
 use Rattle.log_store.specs.Stores.{StoreState}
-use Rattle.guest_legs.specs.Legs.{Ask, AreInRange, Picked, PickedBy}
+use Rattle.guest_legs.specs.Legs.{AreInRange, Picked, PickedBy}
 use Rattle.session_effects.specs.Carrying.{StopsBetween}
 use Rattle.session_effects.specs.Effects.{Effect, Prints, committed, records_of}
 use Rattle.session_effects.specs.Laws.{EffectsFollow, HaltsFollow}
@@ -91,7 +90,7 @@ module _ {D A : Type 0} (d : Ghosts D) (who : Answering A) (names : NamedAppend)
             ap (λ (h : List Record). behind effects [] (gen_run told h (machine_from m inputs) processes rest)) there
             ∙ ap (λ (x : Machine). behind effects [] (gen_run told s1.entries x processes rest)) (sym a.leads);
         names = p.0;
-        unplugs = p.2;
+        unplugged = p.2;
         begins = p.1;
         carries = a.carries held;
         picked = PickedBy-none choices;
@@ -122,10 +121,10 @@ module _ {D A : Type 0} (d : Ghosts D) (who : Answering A) (names : NamedAppend)
         are_touches = a.touches;
         stopped = halts.before old new history held held why h.done h.undone more h.stopped;
         names = p.0;
-        unplugs = p.2;
+        unplugged = p.2;
         begins = p.1;
         names_lost = λ entries at. (plain-next (h.undone ++ more) parts.1 entries at).0;
-        unplugs_lost = λ entries at. (plain-next (h.undone ++ more) parts.1 entries at).1;
+        unplugged_lost = λ entries at. (plain-next (h.undone ++ more) parts.1 entries at).1;
         without = inl refl;
         spent = spent-still (h.undone ++ more) (gen_from told history m inputs processes []).left a.left;
         many = refl;
@@ -134,6 +133,7 @@ module _ {D A : Type 0} (d : Ghosts D) (who : Answering A) (names : NamedAppend)
         touched = (refl, refl);
         one_part = omega arith;
         by_memory = inl refl;
+        unmade = inl refl;
         executed = omega arith;
       }
 
@@ -147,9 +147,6 @@ module _ (g : Given) (history : List Record) (image typed : List ℕ) (processes
 
   pub turn-generator : generator_refusal history ≡ None → turn g history (Generates image typed processes) ≡ generator_turn g.told history image typed processes
   turn-generator is = ap (λ (o : Option Refusal). turn_unless o (generator_turn g.told history image typed processes)) is
-
-  pub needs-generator : generator_refusal history ≡ None → needs_machine g history (Generates image typed processes) ≡ true
-  needs-generator is = ap (λ (o : Option Refusal). is_none o) is
 
   -- what it costs: the machine, and its telling by the history behind it
   cost-generator : (is_there : Bool) (more : List Record) → generator_refusal history ≡ None → machine_cost is_there history + g.told.generated_cost more ≤ cost g is_there history more (Generates image typed processes)
@@ -187,10 +184,10 @@ module _ {D A : Type 0} (d : Ghosts D) (who : Answering A) (halts : HaltsFollow 
               halts.behind old new new s0.entries s1.entries h0 there h1 why p.effects [] (Prints text ∷ []) p.carries.entries p.carries.out
               (halts.text new s1.entries there h1 why text put);
           names = ap (λ (e : List Effect). slices_in (committed e)) (append-nil p.effects) ∙ p.names;
-          unplugs = ap (λ (e : List Effect). unplugged_in (committed e)) (append-nil p.effects) ∙ p.unplugs;
+          unplugged = ap (λ (e : List Effect). unplugged_in (committed e)) (append-nil p.effects) ∙ p.unplugged;
           begins = ap (λ (e : List Effect). reply_behind (committed e)) (append-nil p.effects) ∙ p.begins;
           names_lost = λ entries at. absurd (no-commit text entries [] at);
-          unplugs_lost = λ entries at. absurd (no-commit text entries [] at);
+          unplugged_lost = λ entries at. absurd (no-commit text entries [] at);
           without = inl refl;
           spent = inr (ap (λ (t : Turn). t.left) (p.leads []), inr refl);
           many = p.picked.many;
@@ -205,6 +202,7 @@ module _ {D A : Type 0} (d : Ghosts D) (who : Answering A) (halts : HaltsFollow 
               (subst (λ (x : List Picked). TouchedBy who p.touches x answers answers') (sym (append-nil p.slices)) p.touched);
           one_part = omega arith;
           by_memory = inl refl;
+          unmade = inl refl;
           executed = omega (arith, p.executed, cheap, ap slices_cost (append-nil xs));
         };
         leaves =
@@ -236,7 +234,7 @@ module _ {D A : Type 0} (d : Ghosts D) (who : Answering A) (g : Given) (is_there
       let all = cost g is_there store.entries s1.entries (Generates image typed processes) in
       let first : Advances who point (prints text) u v 0 (Carries IsRun d disk disk' store s1 h0 mid_held) = subst (λ (s : StoreState). Advances who (generator_turn g.told s.entries image typed processes) (prints text) u v 0 (Carries IsRun d disk disk' s s1 h0 mid_held)) same p in
       let second = Advances-prints IsRun d who laws choices' answers' disk' s1 mid_held h1 (prints text) there_steps steps' asked text refl first.carries.stays_open put telling in
-      let both = points.advances point (prints text) finished u v w 0 asked disk disk' disk' store s1 s1 h0 mid_held h1 first second in
+      let both = (points.advances point (prints text) finished u v w 0 asked disk disk' disk' store s1 s1 h0 mid_held h1 first second).advances in
       let whole = Advances-later who choices answers point finished steps mid (0 + asked) all w (Carries IsRun d disk disk' store s1 h0 h1) (omega (arith, cheap, cost-generator g store.entries image typed processes is_there s1.entries accepted)) both in
       subst (λ (s : StoreState). IsAnswered d who g is_there (Generates image typed processes) (standpoint disk store h0 (around choices answers steps)) (standpoint disk' s h1 w)) (sym same_behind)
       (record {

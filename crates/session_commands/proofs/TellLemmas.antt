@@ -1,7 +1,6 @@
 -- What the records of a history tell of its machine, and what a line says that isn't refused.
-use Rattle.std.proofs.Common.{◌≡◌, ◌≢◌, ◌⊎◌, inl, inr, ◌<◌, ◌^◌, ℕ, Bool, true, false, List, Option, Some, None, Result, Err, IfErr, length, refl, sym, ap, ◌∙◌, subst, arith}
+use Rattle.std.proofs.Common.{◌≡◌, ◌≢◌, ◌⊎◌, inl, inr, ◌<◌, ◌^◌, ℕ, Bool, true, false, List, Option, Some, None, Result, Err, IfErr, length, refl, sym, ap, ◌∙◌, subst, arith, IsNone, IsTrue, if◌then◌else◌, is_none, nat_lt, not, option_and_then, option_map}
 use Rattle.std.proofs.lemmas.Bool.{false≢true}
-use Rattle.std.specs.Prelude.{IsNone, IsTrue, if◌then◌else◌, is_none, nat_lt, not, option_and_then, option_map}
 use Rattle.arn_base.specs.declared.records.Record.{Record}
 use Rattle.parts_model.specs.Files.{Files, find_file, file_bytes}
 use Rattle.parts_model.specs.Image.{Image, is_image, read_as_image}

@@ -46,7 +46,7 @@ NameNone entries = (slices_in entries ≡ []) × (unplugged_in entries ≡ [])
 -- no commit among effects names a slice or unplugs a device, of those that are done and the next
 pub record IsQuiet (done undone : List Effect) : Type 0 where
   pub names : slices_in (committed done) ≡ []
-  pub unplugs : unplugged_in (committed done) ≡ []
+  pub unplugged : unplugged_in (committed done) ≡ []
   pub begins : reply_behind (committed done) ≡ None
   pub names_next : (entries : List Record) → IsAtCommit undone entries → NameNone entries
 
@@ -54,7 +54,7 @@ pub record IsQuiet (done undone : List Effect) : Type 0 where
 pub quiet-text : (text : List ℕ) (done undone : List Effect) → Prints text ∷ [] ≡ done ++ undone → IsQuiet done undone
 quiet-text text [] undone is = record {
   names = refl;
-  unplugs = refl;
+  unplugged = refl;
   begins = refl;
   names_next = λ entries at. absurd (no-commit text entries [] (subst (λ (e : List Effect). IsAtCommit e entries) (sym is) at));
 }
@@ -62,18 +62,17 @@ quiet-text text (Prints t ∷ []) undone is =
     let none : undone ≡ [] = cc in
     record {
       names = refl;
-      unplugs = refl;
+      unplugged = refl;
       begins = refl;
       names_next = λ entries at. absurd (none-next entries (subst (λ (e : List Effect). IsAtCommit e entries) none at));
     }
-quiet-text text (Prints t ∷ (e ∷ done)) undone is = absurd cc
-quiet-text text (Commits es ∷ done) undone is = absurd cc
+quiet-text text _ undone is = absurd cc
 
 -- the records of an event, and its number
 pub quiet-event : (entries : List Record) (text : List ℕ) (done undone : List Effect) → NameNone entries → reply_behind entries ≡ None → Commits entries ∷ Prints text ∷ [] ≡ done ++ undone → IsQuiet done undone
 quiet-event entries text [] undone none begins is = record {
   names = refl;
-  unplugs = refl;
+  unplugged = refl;
   begins = refl;
   names_next = λ others at.
       subst NameNone (sym (first-commit entries others (Prints text ∷ []) (subst (λ (e : List Effect). IsAtCommit e others) (sym is) at))) none;
@@ -83,7 +82,7 @@ quiet-event entries text (Commits es ∷ []) undone none begins is =
     let left : Prints text ∷ [] ≡ undone = cc in
     record {
       names = ap slices_in (append-nil es ∙ same) ∙ none.0;
-      unplugs = ap unplugged_in (append-nil es ∙ same) ∙ none.1;
+      unplugged = ap unplugged_in (append-nil es ∙ same) ∙ none.1;
       begins = ap reply_behind (append-nil es ∙ same) ∙ begins;
       names_next = λ others at. absurd (no-commit text others [] (subst (λ (e : List Effect). IsAtCommit e others) (sym left) at));
     }
@@ -92,13 +91,11 @@ quiet-event entries text (Commits es ∷ (Prints t ∷ [])) undone none begins i
     let left : undone ≡ [] = cc in
     record {
       names = ap slices_in (append-nil es ∙ same) ∙ none.0;
-      unplugs = ap unplugged_in (append-nil es ∙ same) ∙ none.1;
+      unplugged = ap unplugged_in (append-nil es ∙ same) ∙ none.1;
       begins = ap reply_behind (append-nil es ∙ same) ∙ begins;
       names_next = λ others at. absurd (none-next others (subst (λ (e : List Effect). IsAtCommit e others) left at));
     }
-quiet-event entries text (Commits es ∷ (Prints t ∷ (e ∷ done))) undone none begins is = absurd cc
-quiet-event entries text (Commits es ∷ (Commits more ∷ done)) undone none begins is = absurd cc
-quiet-event entries text (Prints t ∷ done) undone none begins is = absurd cc
+quiet-event entries text _ undone none begins is = absurd cc
 
 turn-done : (effects : List Effect) (rest : List Picked) → does effects [] rest ≡ behind effects [] (finished rest)
 turn-done effects rest = ap (λ (e : List Effect). let t : Turn = record { effects = e; touches = []; left = Some rest } in t) (sym (append-nil effects))
@@ -112,7 +109,7 @@ module _ {A : Type 0} (who : Answering A) (choices : ℕ → Option Choice) (ans
     effects = effects;
     leads = λ rest. ap (λ (p : Point). p rest) is ∙ turn-done effects rest;
     names = names.0;
-    unplugs = names.1;
+    unplugged = names.1;
     begins = begins;
     carries = carries;
     picked = PickedBy-none choices;
@@ -129,7 +126,7 @@ module _ {A : Type 0} (who : Answering A) (choices : ℕ → Option Choice) (ans
     effects = [];
     leads = λ rest. ap (λ (p : Point). p rest) is;
     names = refl;
-    unplugs = refl;
+    unplugged = refl;
     begins = refl;
     carries = carries;
     picked = PickedBy-none choices;
@@ -172,10 +169,10 @@ module _ {D A : Type 0} (is_run : List Record → Type 0) (d : Ghosts D) (who : 
     are_touches = ap (λ (p : Point). (p []).touches) is;
     stopped = stopped;
     names = quiet.names;
-    unplugs = quiet.unplugs;
+    unplugged = quiet.unplugged;
     begins = quiet.begins;
     names_lost = λ entries at. (quiet.names_next entries at).0;
-    unplugs_lost = λ entries at. (quiet.names_next entries at).1;
+    unplugged_lost = λ entries at. (quiet.names_next entries at).1;
     without = inl refl;
     spent = inr (ap (λ (p : Point). (p []).left) is, inr refl);
     many = refl;
@@ -184,6 +181,7 @@ module _ {D A : Type 0} (is_run : List Record → Type 0) (d : Ghosts D) (who : 
     touched = (refl, refl);
     one_part = omega arith;
     by_memory = inl refl;
+    unmade = inl refl;
     executed = omega (arith, cheap);
   }
 
@@ -208,10 +206,10 @@ module _ {D A : Type 0} (is_run : List Record → Type 0) (d : Ghosts D) (who : 
     are_touches = still.touches;
     stopped = stopped;
     names = refl;
-    unplugs = refl;
+    unplugged = refl;
     begins = refl;
     names_lost = λ entries at. (still.names entries at).0;
-    unplugs_lost = λ entries at. (still.names entries at).1;
+    unplugged_lost = λ entries at. (still.names entries at).1;
     without = inl refl;
     spent = spent-still (from []).effects (from []).left still.left;
     many = refl;
@@ -220,6 +218,7 @@ module _ {D A : Type 0} (is_run : List Record → Type 0) (d : Ghosts D) (who : 
     touched = (refl, refl);
     one_part = omega arith;
     by_memory = inl refl;
+    unmade = inl refl;
     executed = omega (arith, cheap);
   }
 

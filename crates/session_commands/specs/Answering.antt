@@ -11,6 +11,7 @@ use Rattle.arn_commands.specs.declared.command.Command.{Command}
 use Rattle.session_effects.specs.Effects.{Effect}
 use Rattle.session_effects.specs.declared.halt.Halt.{Halt}
 use Rattle.session_effects.specs.declared.halt.Halt.TheVariants as halt
+use Rattle.session_runs.specs.Ready.{IsNotMade}
 use Rattle.session_runs.specs.Standing.{HaltsBehind, Proceeds, Standpoint}
 use Rattle.session_runs.specs.Touches.{Answering, named_at}
 use Rattle.session_runs.specs.Turns.{finished}
@@ -49,16 +50,6 @@ BlamesRecords halt.Long history = Unit {0}
 BlamesRecords halt.Sink history = Unit {0}
 BlamesRecords halt.Disk history = Unit {0}
 BlamesRecords (halt.Full log payload) history = Unit {0}
-
--- what keeps a machine from being made: the records, or want of memory
-abbrev pub IsNotMade : Halt → Type 0
-IsNotMade (halt.Differs d) = Unit {0}
-IsNotMade halt.NoMemory = Unit {0}
-IsNotMade halt.Source = ⊥
-IsNotMade halt.Long = ⊥
-IsNotMade halt.Sink = ⊥
-IsNotMade halt.Disk = ⊥
-IsNotMade (halt.Full log payload) = ⊥
 
 -- nothing was carried out, and no slice taken
 pub record IsUntouched {D A : Type 0} (old new : Standpoint D A) : Type 0 where

@@ -147,17 +147,17 @@ pub fn make_event(
     alloc: Global,
     store: &Store,
     machine: &mut Machine,
-    given: &Incoming<'_>,
+    incoming: &Incoming<'_>,
 ) -> Result<Event, NoMemory>
     requires ready { IsReady machine.old store.now.entries }
-    requires fits { IncomingFits given.now }
-    requires accepted { incoming_refusal store.now.entries given.now ≡ None }
+    requires fits { IncomingFits incoming.now }
+    requires accepted { incoming_refusal store.now.entries incoming.now ≡ None }
     ensures ready { IfOk result
         (λ event. IsReady machine.new (store.now.entries ++ event.entries.items)) }
-    ensures made { IfOk result (IsEvent (machine_of store.now.entries) (input_of given.now)) }
+    ensures made { IfOk result (IsEvent (machine_of store.now.entries) (input_of incoming.now)) }
     ensures spelled { IfOk result (λ event. All HasSpelling event.entries.items) }
 {
-    match *given {
+    match *incoming {
         Incoming::File { name, bytes } => file_event(alloc, store, machine, name, bytes),
         Incoming::Boot { name } => boot_event(alloc, store, machine, name),
         Incoming::Typed { bytes } => typed_event(alloc, store, machine, bytes),
@@ -199,22 +199,22 @@ pub fn add_event<C: Chooser, A: Plugs, D: Disk, K: Sink, L: Ledger>(
     alloc: Global,
     store: &mut Store,
     machine: &mut Machine,
-    given: &Incoming<'_>,
+    incoming: &Incoming<'_>,
     outside: &mut Outside<C, A, D, K, L>,
 ) -> Result<(), Halt>
     requires open { IsOpen D.Disk store.old outside.old.disk.now }
     requires ready { IsReady machine.old store.old.entries }
-    requires fits { IncomingFits given.now }
-    requires accepted { incoming_refusal store.old.entries given.now ≡ None }
+    requires fits { IncomingFits incoming.now }
+    requires accepted { incoming_refusal store.old.entries incoming.now ≡ None }
     ensures ready { OnOk result (IsReady machine.new store.new.entries) }
     ensures advances { OnOk result (
         Proceeds D.Disk (answering A.answers A.unplugs A.filled)
-        (does (event_effects (machine_of store.old.entries) (input_of given.now)) []) finished 0
+        (does (event_effects (machine_of store.old.entries) (input_of incoming.now)) []) finished 0
         (standing C.choices K.holds store.old outside.old)
         (standing C.choices K.holds store.new outside.new)) }
     ensures stops { IfErr result (λ halt.
         HaltsBehind D.Disk (answering A.answers A.unplugs A.filled) halt
-        (does (event_effects (machine_of store.old.entries) (input_of given.now)) []) 0
+        (does (event_effects (machine_of store.old.entries) (input_of incoming.now)) []) 0
         (standing C.choices K.holds store.old outside.old)
         (standing C.choices K.holds store.new outside.new)) }
     ensures cause { IfErr result (λ halt.
@@ -223,6 +223,6 @@ pub fn add_event<C: Chooser, A: Plugs, D: Disk, K: Sink, L: Ledger>(
 {
     effects_follow::<MachineRuns, D>();
     halts_follow::<MachineRuns, D>();
-    let event = make_event(alloc, store, machine, given)?;
+    let event = make_event(alloc, store, machine, incoming)?;
     finish(store, event, outside.disk, outside.text, outside.sink)
 }

@@ -329,27 +329,27 @@ fn commit_event<D: Disk>(
     alloc: Global,
     store: &mut Store,
     machine: &mut Machine,
-    given: &Incoming<'_>,
+    incoming: &Incoming<'_>,
     disk: &mut D,
 ) -> Result<(), Halt>
     requires open { IsOpen D.Disk store.old disk.old }
     requires ready { IsReady machine.old store.old.entries }
-    requires fits { IncomingFits given.now }
-    requires accepted { incoming_refusal store.old.entries given.now ≡ None }
+    requires fits { IncomingFits incoming.now }
+    requires accepted { incoming_refusal store.old.entries incoming.now ≡ None }
     ensures ready { OnOk result (IsReady machine.new store.new.entries) }
     ensures carries { (held : Option (List ℕ)) → OnOk result (
         Carries IsRun D.Disk disk.old disk.new store.old store.new held held
-        (event_commits (machine_of store.old.entries) (input_of given.now ∷ []))) }
+        (event_commits (machine_of store.old.entries) (input_of incoming.now ∷ []))) }
     ensures stops { (held : Option (List ℕ)) → IfErr result (λ halt. HaltsIn
         (StopsBetween IsRun D.Disk disk.old disk.new store.old.entries held held halt)
-        (event_commits (machine_of store.old.entries) (input_of given.now ∷ []))) }
+        (event_commits (machine_of store.old.entries) (input_of incoming.now ∷ []))) }
     ensures cause { IfErr result (λ halt. (faults : ℕ) →
         IsCause halt (D.faults disk.old) (D.faults disk.new) faults faults) }
     ensures later { GoesOn D.image D.faults disk.old disk.new }
 {
     effects_follow::<MachineRuns, D>();
     halts_follow::<MachineRuns, D>();
-    let event = make_event(alloc, store, machine, given)?;
+    let event = make_event(alloc, store, machine, incoming)?;
     commit::<MachineRuns, D>(store, disk, event.entries)
 }
 

@@ -2,7 +2,8 @@
 ghost use Rattle.std.specs.Prelude.{◌≡◌, ◌+◌, ◌≤◌, All, is_some, length, take, IfErr, None, OnOk};
 ghost use Rattle.log_model.specs.Records.{IsRun};
 ghost use Rattle.result_log.specs.Spelling.{HasSpelling};
-ghost use Rattle.session_commands.specs.Answering.{BlamesRecords, IsNotMade};
+ghost use Rattle.session_commands.specs.Answering.{BlamesRecords};
+ghost use Rattle.session_runs.specs.Ready.{IsNotMade};
 ghost use Rattle.session_commands.specs.Cost.{machine_cost};
 ghost use Rattle.session_commands.specs.Halts.{rebuild_halt_of};
 ghost use Rattle.session_commands.specs.Kept.{IsSound, IsThere};

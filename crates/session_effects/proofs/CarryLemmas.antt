@@ -72,24 +72,21 @@ commit-before rest more next (inl none) = inl none
 commit-before rest more next (inr i) = inr (IsInCommit-before rest more next i)
 
 Stopped-before : {D : Type 0} (d : Ghosts D) (disk : D) (why : Halt) (rest more : List Effect) (put : List ℕ) (next : List Effect) → Stopped d disk why rest put next → Stopped d disk why (rest ++ more) put next
-Stopped-before d disk halt.Source rest more put next s = s
-Stopped-before d disk halt.Long rest more put next s = s
 Stopped-before d disk halt.Sink rest more put next s = (s.0, IsInText-before rest more put s.0 s.1, s.2, s.3)
 Stopped-before d disk halt.Disk rest more put next s = (IsInCommit-before rest more next s.0, s.1)
 Stopped-before d disk (halt.Full log payload) rest more put next s = (s.0, IsAtCommit-before rest more s.0 s.1, s.2, s.3, s.4, s.5, s.6)
-Stopped-before d disk (halt.Differs at) rest more put next s = s
 Stopped-before d disk halt.NoMemory rest more put next s =
     (text-before rest more put s.0, commit-before rest more next s.1)
+Stopped-before d disk _ rest more put next s = s
 
 -- nothing is left open but where the disk failed or memory ran out
 Stopped-next : {D : Type 0} (d : Ghosts D) (disk : D) (why : Halt) (rest : List Effect) (put : List ℕ) (next : List Effect) → why ≢ halt.Disk → why ≢ halt.NoMemory → Stopped d disk why rest put next → next ≡ []
-Stopped-next d disk halt.Source rest put next not_disk not_memory s = absurd s
-Stopped-next d disk halt.Long rest put next not_disk not_memory s = absurd s
 Stopped-next d disk halt.Sink rest put next not_disk not_memory s = s.3
 Stopped-next d disk halt.Disk rest put next not_disk not_memory s = absurd (not_disk refl)
 Stopped-next d disk (halt.Full log payload) rest put next not_disk not_memory s = s.3
 Stopped-next d disk (halt.Differs at) rest put next not_disk not_memory s = s.1
 Stopped-next d disk halt.NoMemory rest put next not_disk not_memory s = absurd (not_memory refl)
+Stopped-next d disk _ rest put next not_disk not_memory s = absurd s
 
 module _ {D : Type 0} (is_run : List Record → Type 0) (d : Ghosts D) where
   -- one run of effects behind another

@@ -20,7 +20,3 @@ printed-one text = append-nil text
 pub history-append : (history : List Record) (first others : List Effect) → (history ++ committed first) ++ committed others ≡ history ++ committed (first ++ others)
 history-append history first others =
     append_assoc history (committed first) (committed others) ∙ ap (λ (x : List Record). history ++ x) (sym (committed-append first others))
-
--- the history behind effects that commit nothing
-pub history-none : (history : List Record) → history ++ [] ≡ history
-history-none history = append-nil history

@@ -38,7 +38,4 @@ pub IsCause-after : (why : Halt) (d0 d1 d2 s0 s1 s2 : ℕ) → NeverFalls d0 d1 
 IsCause-after halt.Disk d0 d1 d2 s0 s1 s2 first second put more is = Rose-after d0 d1 d2 first second is
 IsCause-after halt.Sink d0 d1 d2 s0 s1 s2 first second put more is = Rose-after s0 s1 s2 put more is
 IsCause-after halt.NoMemory d0 d1 d2 s0 s1 s2 first second put more is = tt
-IsCause-after (halt.Full log payload) d0 d1 d2 s0 s1 s2 first second put more is = is
-IsCause-after (halt.Differs d) d0 d1 d2 s0 s1 s2 first second put more is = is
-IsCause-after halt.Source d0 d1 d2 s0 s1 s2 first second put more is = is
-IsCause-after halt.Long d0 d1 d2 s0 s1 s2 first second put more is = is
+IsCause-after _ d0 d1 d2 s0 s1 s2 first second put more is = is

@@ -46,9 +46,6 @@ module _ {D : Type 0} (is_run : List Record → Type 0) (d : Ghosts D) where
   store-history one_way disk history store log recovered =
       one_way log.bytes store.entries history (told-at (d.image disk) log.bytes (λ bytes. IsLog bytes store.entries) log.is_image recovered) log.is_log
 
-  pub rest-log : (disk : D) (history : List Record) → IsAtRest d disk history → HoldsLog d disk history
-  rest-log disk history was = record { bytes = was.bytes; is_image = was.is_image; is_log = was.is_log }
-
   -- what an opening leaves at any moment
   pub open-moments : (old new : D) (history : List Record) → IfSome (d.image old) (λ bytes. Only bytes (d.may_leave old) → LeavesOnly d.moment d.left_since old new (KeepsRecords bytes)) → IsAtRest d old history → LeavesOnly d.moment d.left_since old new (HoldsMore is_run history)
   open-moments old new history any was =
@@ -123,8 +120,7 @@ module _ {D : Type 0} (is_run : List Record → Type 0) (d : Ghosts D) where
   -- a disk at rest again, behind its opening
   pub Rests-opened : (old mid new : D) (entries history : List Record) (held : Option (List ℕ)) → entries ≡ history → CarriesOut is_run d old mid entries held held [] → (IsAtRest d mid entries → RestsMore d new entries) → IsAtRest d old history → RestsMore d new history
   Rests-opened old mid new entries history held same opening session was =
-      let here : IsAtRest d old entries = subst (IsAtRest d old) (sym same) was in
-      subst (RestsMore d new) same (session (subst (IsAtRest d mid) (append-nil entries) (opening.rests here)))
+      subst (RestsMore d new) same (session (subst (IsAtRest d mid) (append-nil entries) (opening.rests (subst (IsAtRest d old) (sym same) was))))
 
   -- nothing at all was done with a disk
   pub only-read-none : OnlyNow D d → (disk : D) → IsOnlyRead d.image d.may_leave d.moment d.left_since disk disk

@@ -1,21 +1,17 @@
 -- Bytes in the middle of being put, and a sink that stops there.
-use Rattle.std.proofs.Common.{◌≡◌, ◌≢◌, ◌-◌, ◌++◌, ℕ, List, [], ◌∷◌, length, take, drop, Option, option_map, Result, Ok, Err, IfErr, IsErrAnd, refl, sym, ap, ◌∙◌, subst, append_assoc, append-nil, arith}
-use Rattle.std.proofs.lemmas.List.{take-append-drop, take_all, length-drop}
+use Rattle.std.proofs.Common.{◌≡◌, ◌≢◌, ◌-◌, ◌++◌, ℕ, List, length, take, drop, Option, option_map, Result, Ok, Err, IfErr, IsErrAnd, refl, sym, ap, ◌∙◌, subst, append_assoc, arith, take-append-drop, take_all, length-drop}
 use Rattle.arn_base.specs.declared.errors.Stop.{Stop}
 use Rattle.arn_base.specs.declared.errors.Stop.TheVariants as stop
 use Rattle.session_effects.specs.declared.halt.Halt.{Halt}
 use Rattle.session_effects.specs.Printing.{PutsLess, StopsPut}
 use Rattle.session_effects.specs.Halts.{halt_of}
-use Rattle.session_effects.proofs.CarryLemmas.{held-none, held-more}
+use Rattle.session_effects.proofs.CarryLemmas.{held-more}
 
 -- bytes in the middle of being put
 pub record PutSoFar (bytes rest : List ℕ) (held holds : Option (List ℕ)) : Type 0 where
   pub put : List ℕ
   pub are_bytes : bytes ≡ put ++ rest
   pub printed : holds ≡ option_map (λ before. before ++ put) held
-
-pub PutSoFar-start : (bytes : List ℕ) (held : Option (List ℕ)) → PutSoFar bytes bytes held held
-PutSoFar-start bytes held = record { put = []; are_bytes = refl; printed = held-none held }
 
 pub PutSoFar-more : (bytes rest rest' : List ℕ) (count : ℕ) (h0 h1 h2 : Option (List ℕ)) → PutSoFar bytes rest h0 h1 → h2 ≡ option_map (λ before. before ++ take count rest) h1 → rest' ≡ drop count rest → PutSoFar bytes rest' h0 h2
 PutSoFar-more bytes rest rest' count h0 h1 h2 p put is = record {
@@ -27,11 +23,6 @@ PutSoFar-more bytes rest rest' count h0 h1 h2 p put is = record {
 -- all bytes behind the first ones
 pub take-rest : (bytes : List ℕ) (count : ℕ) → take (length bytes - count) (drop count bytes) ≡ drop count bytes
 take-rest bytes count = ap (λ (n : ℕ). take n (drop count bytes)) (sym (length-drop count bytes)) ∙ take_all (length (drop count bytes)) (drop count bytes) (omega arith)
-
--- all bytes were put
-pub PutSoFar-all : (bytes rest : List ℕ) (held holds : Option (List ℕ)) → PutSoFar bytes rest held holds → length rest ≡ 0 → holds ≡ option_map (λ before. before ++ bytes) held
-PutSoFar-all bytes [] held holds p none = p.printed ∙ ap (λ (x : List ℕ). option_map (λ before. before ++ x) held) (sym (p.are_bytes ∙ append-nil p.put))
-PutSoFar-all bytes (byte ∷ rest) held holds p none = absurd (omega (arith, none))
 
 -- not all bytes were put
 pub PutSoFar-less : (bytes rest : List ℕ) (h0 h1 h2 : Option (List ℕ)) → PutSoFar bytes rest h0 h1 → length rest ≢ 0 → h2 ≡ h1 → PutsLess bytes h0 h2

@@ -68,8 +68,6 @@ commit-quiet : (rest next : List Effect) → IsInCommit rest next → quiet next
 commit-quiet rest next i = ap quiet i.is_next ∙ sym i.is_next
 
 next-quiet : {D : Type 0} (d : Ghosts D) (disk : D) (why : Halt) (rest : List Effect) (put : List ℕ) (next : List Effect) → Stopped d disk why rest put next → quiet next ≡ next
-next-quiet d disk halt.Source rest put next s = absurd s
-next-quiet d disk halt.Long rest put next s = absurd s
 next-quiet d disk halt.Sink rest put next s = none-quiet next s.3
 next-quiet d disk halt.Disk rest put next s = commit-quiet rest next s.0
 next-quiet d disk (halt.Full log payload) rest put next s = none-quiet next s.3
@@ -78,6 +76,7 @@ next-quiet d disk halt.NoMemory rest put next s = elim s.1 [
   | inl none ↦ none-quiet next none
   | inr i ↦ commit-quiet rest next i
 ]
+next-quiet d disk _ rest put next s = absurd s
 
 -- a commit that stands next stands next without the texts behind it
 IsAtCommit-quiet : (rest : List Effect) (entries : List Record) → IsAtCommit rest entries → IsAtCommit (quiet rest) entries
@@ -87,8 +86,6 @@ IsInCommit-quiet : (rest next : List Effect) → IsInCommit rest next → IsInCo
 IsInCommit-quiet rest next i = record { entries = i.entries; is_at = IsAtCommit-quiet rest i.entries i.is_at; is_next = i.is_next }
 
 Stopped-quiet : {D : Type 0} (d : Ghosts D) (disk : D) (why : Halt) (rest : List Effect) (put : List ℕ) (next : List Effect) → why ≢ halt.Sink → Stopped d disk why rest put next → Stopped d disk why (quiet rest) [] next
-Stopped-quiet d disk halt.Source rest put next not_sink s = s
-Stopped-quiet d disk halt.Long rest put next not_sink s = s
 Stopped-quiet d disk halt.Sink rest put next not_sink s = absurd (not_sink refl)
 Stopped-quiet d disk halt.Disk rest put next not_sink s = (IsInCommit-quiet rest next s.0, refl)
 Stopped-quiet d disk (halt.Full log payload) rest put next not_sink s = (s.0, IsAtCommit-quiet rest s.0 s.1, refl, s.3, s.4, s.5, s.6)
@@ -98,6 +95,7 @@ Stopped-quiet d disk halt.NoMemory rest put next not_sink s = (inl refl, commit-
     commit-or-none : (next ≡ []) ⊎ IsInCommit rest next → (next ≡ []) ⊎ IsInCommit (quiet rest) next
     commit-or-none (inl none) = inl none
     commit-or-none (inr i) = inr (IsInCommit-quiet rest next i)
+Stopped-quiet d disk _ rest put next not_sink s = s
 
 module _ {D : Type 0} (is_run : List Record → Type 0) (d : Ghosts D) where
   Keeps-quiet : (old new : D) (history : List Record) (done next : List Effect) → quiet next ≡ next → Keeps is_run d old new history done next → Keeps is_run d old new history (quiet done) next

@@ -1,5 +1,5 @@
 -- One effect: a text that is printed, or records that are committed.
-use Rattle.std.proofs.Common.{◌≡◌, inl, inr, ℕ, ◌≤◌, ◌++◌, List, [], ◌∷◌, length, Option, Some, None, option_map, IfSome, is_some, true, false, refl, sym, ap, subst, ◌∙◌, append-nil}
+use Rattle.std.proofs.Common.{◌≡◌, inl, inr, ℕ, ◌≤◌, ◌++◌, List, [], ◌∷◌, length, Option, option_map, IfSome, is_some, refl, sym, ap, subst, ◌∙◌, append-nil}
 use Rattle.arn_base.specs.declared.records.Record.{Record}
 use Rattle.arn_base.specs.Disk.{Only}
 use Rattle.log_store.specs.Log.{IsLog}
@@ -118,11 +118,7 @@ module _ {D : Type 0} (is_run : List Record → Type 0) (d : Ghosts D) where
   pub halts-text : MayStay D d → OnlyNow D d → (disk : D) (history : List Record) (h0 h1 : Option (List ℕ)) (why : Halt) (text : List ℕ) → StopsPut why text h0 h1 → StopsBetween is_run d disk disk history h0 h1 why [] (Prints text ∷ [])
   halts-text stays only_now disk history h0 h1 halt.Sink text p = stops_in stays only_now disk history h0 h1 halt.Sink text p.front (p.front.left, in_text text p.front.put p.front.left p.front.are_bytes, p.some_left, refl)
   halts-text stays only_now disk history h0 h1 halt.NoMemory text p = stops_in stays only_now disk history h0 h1 halt.NoMemory text p (inr (p.left, in_text text p.put p.left p.are_bytes), inl refl)
-  halts-text stays only_now disk history h0 h1 halt.Source text p = absurd p
-  halts-text stays only_now disk history h0 h1 halt.Long text p = absurd p
-  halts-text stays only_now disk history h0 h1 halt.Disk text p = absurd p
-  halts-text stays only_now disk history h0 h1 (halt.Full log payload) text p = absurd p
-  halts-text stays only_now disk history h0 h1 (halt.Differs at) text p = absurd p
+  halts-text stays only_now disk history h0 h1 _ text p = absurd p
 
   pub StopsAt-text : MayStay D d → OnlyNow D d → (disk : D) (history : List Record) (h0 h1 : Option (List ℕ)) (why : Halt) (text : List ℕ) → StopsPut why text h0 h1 → StopsAt is_run d disk disk history h0 h1 why [] (Prints text ∷ [])
   StopsAt-text stays only_now disk history h0 h1 why text p = stops-of is_run d disk disk history h0 h1 why [] (Prints text ∷ []) (halts-text stays only_now disk history h0 h1 why text p)

@@ -1,7 +1,6 @@
 -- The first difference of two lists of records.
-use Rattle.std.proofs.Common.{◌≡◌, ◌≢◌, ℕ, zero, suc, ◌+◌, ◌==◌, Bool, true, false, List, [], ◌∷◌, Option, Some, None, ap, arith, drop, get_or, refl, slice_get, sym, take, ◌∙◌, if◌then◌else◌}
+use Rattle.std.proofs.Common.{◌≡◌, ◌≢◌, ℕ, zero, suc, ◌+◌, ◌==◌, Bool, true, false, List, [], ◌∷◌, Option, Some, None, ap, arith, drop, get_or, refl, slice_get, sym, take, ◌∙◌, if◌then◌else◌, ◌↔◌, Err, IsErrOf, Ok, OnOk, Result}
 use Rattle.std.proofs.lemmas.Bool.Decides.{nat_tests}
-use Rattle.std.specs.Prelude.{◌↔◌, Err, IsErrOf, Ok, OnOk, Result}
 use Rattle.std.specs.Result.{result_err}
 use Rattle.log_model.specs.Records.{IsRun, named, records}
 use Rattle.arn_base.specs.declared.records.Differs.{Differs}
@@ -36,9 +35,7 @@ told d place at said found place_is at_is said_is found_is =
 bytes-first : (place at k : ℕ) (said found : List ℕ) (d : Differs) → take k said ≡ take k found → slice_get said k ≡ d.said → slice_get found k ≡ d.found → d.said ≢ d.found → d.place ≡ place → d.at ≡ at + k → bytes_from place at said found ≡ d
 bytes-first place at k [] [] d same said_is found_is differ place_is at_is = absurd (differ (sym said_is ∙ found_is))
 bytes-first place at zero (s ∷ said) [] d same said_is found_is differ place_is at_is = told d place at (Some s) None place_is (omega (arith, at_is)) said_is found_is
-bytes-first place at (suc k) (s ∷ said) [] d same said_is found_is differ place_is at_is = cc same
 bytes-first place at zero [] (f ∷ found) d same said_is found_is differ place_is at_is = told d place at None (Some f) place_is (omega (arith, at_is)) said_is found_is
-bytes-first place at (suc k) [] (f ∷ found) d same said_is found_is differ place_is at_is = cc same
 bytes-first place at zero (s ∷ said) (f ∷ found) d same said_is found_is differ place_is at_is =
     let others : s ≢ f = λ (e : s ≡ f). differ (sym said_is ∙ ap Some e ∙ found_is) in
     rw (other-test s f others) (told d place at (Some s) (Some f) place_is (omega (arith, at_is)) said_is found_is)
@@ -46,6 +43,7 @@ bytes-first place at (suc k) (s ∷ said) (f ∷ found) d same said_is found_is 
     let first : s ≡ f = ap (λ (xs : List ℕ). get_or xs 0 0) same in
     let rest : take k said ≡ take k found = ap (drop 1) same in
     rw (ap (λ (n : ℕ). n == f) first ∙ same-test f) (bytes-first place (at + 1) k said found d rest said_is found_is differ place_is (omega (arith, at_is)))
+bytes-first place at (suc k) _ _ d same said_is found_is differ place_is at_is = cc same
 
 -- what `verify` says of records that differ isn't that they are a run's
 no-run-line : (d : Differs) → verify_line (Some d) ≢ verify_line None
@@ -72,12 +70,11 @@ module _ (compare : RecordsCompare) where
 
   none-same : (place : ℕ) (said found : List Record) → records_from place said found ≡ None → said ≡ found
   none-same place [] [] none = refl
-  none-same place (s ∷ said) [] none = cc
-  none-same place [] (f ∷ found) none = cc
   none-same place (s ∷ said) (f ∷ found) none =
       let first : s ≡ f = (compare s f).0 (chosen-none (same_record s f) _ _ none) in
       let rest : said ≡ found = none-same (place + 1) said found (chosen-rest (same_record s f) _ _ none) in
       cc
+  none-same place _ _ none = cc
 
   -- records that are the same up to one that differs, whose spelling does
   records-first : (place k : ℕ) (said found : List Record) (d : Differs) → take k said ≡ take k found → slice_get said k ≢ slice_get found k
@@ -85,9 +82,7 @@ module _ (compare : RecordsCompare) where
       → slice_get (spelling_if (slice_get found k)) d.at ≡ d.found → d.said ≢ d.found → d.place ≡ place + k → records_from place said found ≡ Some d
   records-first place k [] [] d same others bytes said_is found_is differ place_is = absurd (others refl)
   records-first place zero (s ∷ said) [] d same others bytes said_is found_is differ place_is = ap Some (bytes-first place 0 d.at (spelling s) [] d bytes said_is found_is differ (omega (arith, place_is)) (omega arith))
-  records-first place (suc k) (s ∷ said) [] d same others bytes said_is found_is differ place_is = cc same
   records-first place zero [] (f ∷ found) d same others bytes said_is found_is differ place_is = ap Some (bytes-first place 0 d.at [] (spelling f) d bytes said_is found_is differ (omega (arith, place_is)) (omega arith))
-  records-first place (suc k) [] (f ∷ found) d same others bytes said_is found_is differ place_is = cc same
   records-first place zero (s ∷ said) (f ∷ found) d same others bytes said_is found_is differ place_is =
       let other : same_record s f ≡ false = not-true (same_record s f) (λ (yes : same_record s f ≡ true). others (ap Some ((compare s f).0 yes))) in
       rw other (ap Some (bytes-first place 0 d.at (spelling s) (spelling f) d bytes said_is found_is differ (omega (arith, place_is)) (omega arith)))
@@ -95,6 +90,7 @@ module _ (compare : RecordsCompare) where
       let first : s ≡ f = ap (λ (xs : List Record). get_or xs 0 s) same in
       let rest : take k said ≡ take k found = ap (drop 1) same in
       rw ((compare s f).1 first) (records-first (place + 1) k said found d rest others bytes said_is found_is differ (omega (arith, place_is)))
+  records-first place (suc k) _ _ d same others bytes said_is found_is differ place_is = cc same
 
   -- the first difference is what is told
   pub first-told : (entries : List Record) (d : Differs) → IsFirstDifference entries (records (named entries)) d → difference entries ≡ Some d

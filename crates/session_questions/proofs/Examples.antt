@@ -1,6 +1,5 @@
 -- Literal examples of what is printed for questions.
-use Rattle.std.proofs.Common.{◌≡◌, [], ◌∷◌, List, refl}
-use Rattle.std.specs.Prelude.{codes}
+use Rattle.std.proofs.Common.{◌≡◌, [], ◌∷◌, List, refl, codes}
 use Rattle.arn_base.specs.declared.records.Extra.TheVariants as extra
 use Rattle.arn_base.specs.declared.records.Record.{Record}
 use Rattle.arn_base.specs.declared.records.Record.TheVariants as entry

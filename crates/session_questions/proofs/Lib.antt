@@ -3,7 +3,7 @@ mod Spelled
 mod Counted
 mod Ranges
 mod Far
-mod Held
+mod Sought
 mod Printed
 mod Written
 mod OfRuns

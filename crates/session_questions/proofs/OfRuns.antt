@@ -1,9 +1,8 @@
 -- Answers on the records of a run.
-use Rattle.std.proofs.Common.{◌≡◌, ◌∙◌, ℕ, zero, suc, ◌<◌, ◌≤◌, ◌&&◌, nat_le, nat_lt, Bool, true, false, if◌then◌else◌, List, [], ◌∷◌, ◌++◌, length, filter, Option, Some, None, is_some, refl, sym, ap, ap₂, arith, sum_by}
+use Rattle.std.proofs.Common.{◌≡◌, ◌∙◌, ℕ, zero, suc, ◌<◌, ◌≤◌, ◌&&◌, nat_le, nat_lt, Bool, true, false, if◌then◌else◌, List, [], ◌∷◌, ◌++◌, length, filter, Option, Some, None, is_some, refl, sym, ap, ap₂, arith, sum_by, ◌↔◌, Contains, slice_get}
 use Rattle.std.proofs.lemmas.List.Elements.{All-cons, All-head, All-nil, All-tail}
 use Rattle.std.proofs.lemmas.List.Sums.{sum_by-cons}
 use Rattle.std.specs.List.{All, flat_map, range_with_len, sum}
-use Rattle.std.specs.Prelude.{◌↔◌, Contains, slice_get}
 use Rattle.acts_model.specs.Bodies.{View, seen}
 use Rattle.arn_base.specs.declared.records.Pair.{Pair}
 use Rattle.arn_base.specs.declared.records.Record.{Record}

@@ -1,6 +1,5 @@
 -- What is printed of an answer.
-use Rattle.std.proofs.Common.{◌≡◌, ◌∙◌, ◌++◌, List, ℕ, append_assoc, length, ap}
-use Rattle.std.specs.Prelude.{flat_map}
+use Rattle.std.proofs.Common.{◌≡◌, ◌∙◌, ◌++◌, List, ℕ, append_assoc, length, ap, flat_map}
 use Rattle.arn_base.specs.declared.records.Pair.{Pair}
 use Rattle.arn_lines.specs.Texts.{count_text, pair_text}
 use Rattle.session_questions.specs.Texts.{pairs_text}

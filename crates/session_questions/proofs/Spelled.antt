@@ -1,8 +1,7 @@
 -- How long the spellings of records are.
-use Rattle.std.proofs.Common.{◌≡◌, ℕ, ◌+◌, ◌≤◌, ◌<◌, ◌^◌, ◌++◌, ◌&&◌, ◌==◌, Bool, true, false, cond, nat_le, List, [], ◌∷◌, length, length-append, unwrap_or, refl, arith}
+use Rattle.std.proofs.Common.{◌≡◌, ℕ, ◌+◌, ◌≤◌, ◌<◌, ◌^◌, ◌++◌, ◌&&◌, ◌==◌, Bool, true, false, cond, nat_le, List, [], ◌∷◌, length, length-append, unwrap_or, refl, arith, All}
 use Rattle.std.proofs.lemmas.Bool.Decides.{nat_tests}
 use Rattle.std.proofs.lemmas.List.Elements.{All-cons, All-nil}
-use Rattle.std.specs.List.{All}
 use Rattle.byteorder.specs.Numbers.{length-bytes_low_first}
 use Rattle.arn_base.specs.declared.records.Extra.{Extra}
 use Rattle.arn_base.specs.declared.records.Extra.TheVariants as extra
@@ -72,11 +71,7 @@ held-le (extra.Reply device bytes) n le =
     let held = behind-it (length bytes) (field 1 5) (field 4 device ++ counted bytes) (behind-it (length bytes) (field 4 device) (counted bytes) (counted-le bytes)) in omega (arith, held)
 held-le (extra.Sent device bytes) n le =
     let held = behind-it (length bytes) (field 1 9) (field 4 device ++ counted bytes) (behind-it (length bytes) (field 4 device) (counted bytes) (counted-le bytes)) in omega (arith, held)
-held-le extra.Nothing n le = omega (arith, le)
-held-le (extra.Start start) n le = omega (arith, le)
-held-le extra.Fault n le = omega (arith, le)
-held-le extra.Absent n le = omega (arith, le)
-held-le (extra.Name file path) n le = omega (arith, le)
+held-le _ n le = omega (arith, le)
 
 bit-le : (b : Bool) → cond b 1 0 ≤ 1
 bit-le true = omega arith
@@ -89,14 +84,12 @@ event-le (entry.File name bytes) =
 event-le (entry.Boot name g) =
     let held = behind-it (length g.bytes) (field 1 2) (named name ++ give_fields g) (behind-it (length g.bytes) (named name) (give_fields g) (in-front (length g.bytes) (counted g.bytes) (origins_fields g.origins) (counted-le g.bytes))) in omega (arith, held)
 event-le (entry.Typed bytes) = let held = behind-it (length bytes) (field 1 3) (counted bytes) (counted-le bytes) in omega (arith, held)
-event-le (entry.Unplug device) = omega arith
-event-le (entry.Slice pid ran) = omega arith
 event-le (entry.Signal pid signal cut handler) = let bit = bit-le (handler == 0) in omega (arith, bit)
 event-le (entry.Call pid number answer did) =
     let held = held-le did (plain_len number answer did) (plain-le number answer did) in
     let all = behind-it (length (extra_fields did)) (field 1 7) (field 4 pid ++ field 8 number ++ field 8 answer ++ extra_fields did) (behind-it (length (extra_fields did)) (field 4 pid) (field 8 number ++ field 8 answer ++ extra_fields did) (behind-it (length (extra_fields did)) (field 8 number) (field 8 answer ++ extra_fields did) (behind-it (length (extra_fields did)) (field 8 answer) (extra_fields did) (omega arith)))) in
     omega (arith, held, all)
-event-le (entry.End pid status) = omega arith
+event-le _ = omega arith
 
 -- records are no more than the bytes that spell them
 pub few-records : (entries : List Record) → length entries ≤ length (spellings entries)
@@ -118,27 +111,13 @@ countable entries short =
 -- what was written to the console is spelled
 console-le : (more : Extra) → length (to_console more) ≤ length (extra_fields more)
 console-le (extra.Console bytes) = behind-it (length bytes) (field 1 4) (counted bytes) (counted-le bytes)
-console-le (extra.Give g) = omega arith
-console-le (extra.Put file at bytes) = omega arith
-console-le (extra.Reply device bytes) = omega arith
-console-le (extra.Sent device bytes) = omega arith
-console-le extra.Nothing = omega arith
-console-le (extra.Start start) = omega arith
-console-le extra.Fault = omega arith
-console-le extra.Absent = omega arith
-console-le (extra.Name file path) = omega arith
+console-le _ = omega arith
 
 written-le : (e : Record) → length (written_by e) ≤ length (spelling e)
-written-le (entry.File name bytes) = omega arith
-written-le (entry.Boot name g) = omega arith
-written-le (entry.Typed bytes) = omega arith
-written-le (entry.Unplug device) = omega arith
-written-le (entry.Slice pid ran) = omega arith
-written-le (entry.Signal pid signal cut handler) = omega arith
 written-le (entry.Call pid number answer did) =
     let n = length (to_console did) in
     behind-it n (field 1 7) (field 4 pid ++ field 8 number ++ field 8 answer ++ extra_fields did) (behind-it n (field 4 pid) (field 8 number ++ field 8 answer ++ extra_fields did) (behind-it n (field 8 number) (field 8 answer ++ extra_fields did) (behind-it n (field 8 answer) (extra_fields did) (console-le did))))
-written-le (entry.End pid status) = omega arith
+written-le _ = omega arith
 
 all-written-le : (entries : List Record) → length (written entries) ≤ length (spellings entries)
 all-written-le [] = omega arith

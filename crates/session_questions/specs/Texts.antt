@@ -24,6 +24,8 @@ use Rattle.query_model.specs.declared.held.Held.{Held}
 use Rattle.query_engine.specs.Asked.{in_file, in_memory, in_register, ran_for_held, ran_for_named}
 use Rattle.query_engine.specs.Forth.{ran_forth}
 use Rattle.query_engine.specs.States.{is_held}
+use Rattle.query_engine.specs.declared.engine.Target.{Target}
+use Rattle.query_engine.specs.declared.engine.Target.TheVariants as target
 use Rattle.session_reports.specs.Events.{events_text}
 use Rattle.session_reports.specs.Files.{show_file_text}
 use Rattle.session_reports.specs.Groups.{groups_text}
@@ -108,6 +110,14 @@ back_telling entries linkage (sought.Event event from len) = event_telling (oper
 back_telling entries linkage (sought.Memory moment pid at len) = held_telling (operands linkage) entries (in_memory moment pid at len)
 back_telling entries linkage (sought.Register moment pid register) = held_telling (operands linkage) entries (in_register moment pid register)
 back_telling entries linkage (sought.Name moment name from len) = named_telling (operands linkage) entries (in_file moment name from len)
+
+-- where those of a target of the engine come from, and what is told where none has such bytes
+abbrev pub target_telling : Linkage → List Record → Option Target → Telling
+target_telling linkage entries None = record { text = refusal_text NoPoint; cost = 0 }
+target_telling linkage entries (Some (target.Event event from len)) = event_telling (operands linkage) entries event from len
+target_telling linkage entries (Some (target.Mem moment pid at len)) = held_telling (operands linkage) entries (in_memory moment pid at len)
+target_telling linkage entries (Some (target.Reg moment pid reg)) = held_telling (operands linkage) entries (in_register moment pid reg)
+target_telling linkage entries (Some (target.Name moment name from len)) = named_telling (operands linkage) entries (in_file moment name from len)
 
 -- what was held at a moment: for what a process held its group runs again up to it
 abbrev pub show_telling : List Record → ℕ → Aspect → Telling

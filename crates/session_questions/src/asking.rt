@@ -6,8 +6,8 @@ ghost use Rattle.log_store.specs.Log.{spellings};
 ghost use Rattle.log_store.specs.declared.size.TheConstants.{MOST_LOG};
 ghost use Rattle.session_questions.specs.Texts as texts;
 
-use crate::bytes::EventBytes;
 use crate::short::{short_logs_are_countable, short_runs_stand};
+use crate::sinks::EventBytes;
 use crate::verify::report_verify;
 use arn_base::{NoMemory, Record, Steps};
 use arn_lines::Question;

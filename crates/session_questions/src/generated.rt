@@ -10,7 +10,7 @@ ghost use Rattle.session_questions.specs.Generated.{writes_cost, generated_cost,
 
 use crate::Asking;
 use crate::short::short_logs_are_countable;
-use crate::sources::target;
+use crate::targets::event_target;
 use arn_base::{NoMemory, Record, Steps};
 use generator::{push_gen, written_by, written_sum};
 use query_engine::QueryError;
@@ -47,7 +47,7 @@ impl Asking {
         if len == 0 {
             return Ok(0);
         }
-        let Some(target) = target(entries, event, 0, len) else {
+        let Some(target) = event_target(entries, event, 0, len) else {
             return Err(QueryError::NoPoint);
         };
         let answer = self

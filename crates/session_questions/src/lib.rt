@@ -2,13 +2,13 @@
 #![tactic(auto)]
 
 mod asking;
-mod bytes;
 mod generated;
 mod of_runs;
 mod short;
 mod shown;
 mod sinks;
 mod sources;
+mod targets;
 mod verify;
 
 pub use asking::Asking;

@@ -6,7 +6,7 @@ ghost use Rattle.session_questions.specs.Texts.{show_telling};
 use crate::Asking;
 use arn_base::{NoMemory, Record, Steps};
 use arn_lines::Aspect;
-use session_reports::{report_file, report_mem, report_procs, report_regs};
+use session_reports::{MemoryBytes, report_file, report_mem, report_procs, report_regs};
 use std::sync::ledger::Ledger;
 
 impl Asking {
@@ -30,7 +30,13 @@ impl Asking {
                 report_regs(text, entries, &self.index, moment, *pid, steps)
             }
             Aspect::Memory { pid, at, len } => {
-                report_mem(text, entries, &self.index, moment, *pid, *at, *len, steps)
+                let bytes = MemoryBytes {
+                    moment,
+                    pid: *pid,
+                    at: *at,
+                    len: *len,
+                };
+                report_mem(text, entries, &self.index, bytes, steps)
             }
             Aspect::File { name } => {
                 report_file(text, entries, &self.index, moment, name.as_slice())

@@ -5,7 +5,6 @@ ghost use Rattle.rv64_model.specs.Carries.{operands};
 ghost use Rattle.session_questions.specs.Texts.{forth_telling, reached_text};
 
 use crate::Asking;
-use crate::bytes::EventBytes;
 use crate::sources::push_pairs;
 use arn_base::{NoMemory, Record, Steps};
 use arn_lines::{Refusal, push_forth, push_refusal};
@@ -13,6 +12,14 @@ use query_engine::Answer;
 use rv64_model::Linkage;
 use session_reports::push_error;
 use std::sync::ledger::Ledger;
+
+/// Bytes of an event.
+#[derive(Clone, Copy)]
+pub(crate) struct EventBytes {
+    pub event: u64,
+    pub from: u64,
+    pub len: u64,
+}
 
 // Appends what is answered: the pairs, and the line that counts them.
 fn push_reached(text: &mut String, answer: &Answer) -> Result<(), NoMemory>

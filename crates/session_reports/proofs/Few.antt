@@ -1,6 +1,6 @@
 -- 32 bits count the processes of a history.
-use Rattle.std.proofs.Common.{◌≡◌, inl, inr, ℕ, zero, suc, ◌+◌, ◌<◌, ◌≤◌, ◌^◌, ◌==◌, ◌||◌, ◌&&◌, nat_le, Bool, true, false, not, if◌then◌else◌, List, [], ◌∷◌, ◌++◌, length, max, Some, None, is_some, refl, ap, sym, slice_get, ◌∙◌, arith, length-append}
-use Rattle.std.proofs.lemmas.Bool.{true≢false}
+use Rattle.std.proofs.Common.{◌≡◌, inl, inr, ℕ, zero, suc, ◌+◌, ◌<◌, ◌≤◌, ◌^◌, ◌==◌, ◌&&◌, nat_le, Bool, true, false, not, if◌then◌else◌, List, [], ◌∷◌, ◌++◌, length, max, Some, None, is_some, refl, ap, sym, slice_get, ◌∙◌, arith, length-append}
+use Rattle.std.proofs.lemmas.Bool.{true≢false, or_parts, and_right}
 use Rattle.std.proofs.lemmas.Bool.Decides.{eqb_tells, nat_tests}
 use Rattle.std.proofs.lemmas.Option.{none-some}
 use Rattle.arn_base.specs.declared.records.Record.{Record}
@@ -25,31 +25,19 @@ made-one before true result h =
 made-one before false result h = omega arith
 
 after-one : (before : List Record) (e : Record) → misnumbers before (child_in e) ≡ false → greatest_after e (greatest before) ≤ greatest before + 1
-after-one before (entry.File name bytes) h = omega arith
-after-one before (entry.Boot name give) h = omega arith
-after-one before (entry.Typed bytes) h = omega arith
-after-one before (entry.Unplug device) h = omega arith
-after-one before (entry.Slice pid ran) h = omega arith
-after-one before (entry.Signal pid signal cut handler) h = omega arith
 after-one before (entry.Call pid number result more) h = made-one before ((number == FORK) && is_success result) result h
-after-one before (entry.End pid status) h = omega arith
+after-one before _ h = omega arith
 
 last : (entries : List Record) (n : ℕ) (e : Record) → greatest_from n (entries ++ e ∷ []) ≡ greatest_after e (greatest_from n entries)
 last [] n e = refl
 last (x ∷ entries) n e = last entries (greatest_after x n) e
 
-neither : (a b : Bool) → (a || b) ≡ false → (a ≡ false) × (b ≡ false)
-neither true b h = absurd (true≢false h)
-neither false b h = (refl, h)
-
 numbered : (before : List Record) (e : Record) → cant_follow before e ≡ false → misnumbers before (child_in e) ≡ false
 numbered before e h =
-    let process = (neither (comes_wrong before e) _ h).1 in
-    let slice = (neither (lacks_process before e) _ process).1 in
-    let origins = (neither (lacks_slice before e) _ slice).1 in
-    let blocks = (neither (not (are_origins before (give_of e))) _ origins).1 in
-    let number = (neither (has_blocks_wrong (start_in e)) _ blocks).1 in
-    (neither (misnumbers before (child_in e)) (misplaces_start e) number).0
+    let slice = (or_parts (lacks_process before e) _ (or_parts (comes_wrong before e) _ h).1).1 in
+    let blocks = (or_parts (not (are_origins before (give_of e))) _ (or_parts (lacks_slice before e) _ slice).1).1 in
+    let number = (or_parts (has_blocks_wrong (start_in e)) _ blocks).1 in
+    (or_parts (misnumbers before (child_in e)) (misplaces_start e) number).0
 
 follows : (before : List Record) (e : Record) (entries : List Record) (b : Bool) → cant_follow before e ≡ b → (if b then Some (length before) else broken_from (before ++ e ∷ []) entries) ≡ None
     → (cant_follow before e ≡ false) × (broken_from (before ++ e ∷ []) entries ≡ None)
@@ -61,9 +49,8 @@ few-from before [] h few = omega (arith, few)
 few-from before (e ∷ entries) h few =
     let f = follows before e entries (cant_follow before e) refl h in
     let push : greatest (before ++ e ∷ []) ≡ greatest_after e (greatest before) = last before 0 e in
-    let one = after-one before e (numbered before e f.0) in
     let len : length (before ++ e ∷ []) ≡ length before + 1 = length-append before (e ∷ []) in
-    let rest = few-from (before ++ e ∷ []) entries f.1 (omega (arith, push, one, len, few)) in
+    let rest = few-from (before ++ e ∷ []) entries f.1 (omega (arith, push, after-one before e (numbered before e f.0), len, few)) in
     omega (arith, rw push at rest, len)
 
 some-within : (groups : List ℕ) (i : ℕ) → is_some (slice_get groups i) ≡ true → i < length groups
@@ -78,13 +65,8 @@ grouped-within groups (suc i) h = omega (arith, some-within groups i h)
 -- who has a group is one of them
 grouped-few : (t : Tables) (entries : List Record) (pid : ℕ) → AreCountable entries → Indexes t entries → is_some (group_of entries pid) ≡ true → pid < 2 ^ 32
 grouped-few t entries pid countable i h =
-    let within = grouped-within t.families.groups pid (ap is_some (i.families.groups pid) ∙ h) in
     let all : greatest entries ≤ 0 + length entries = few-from [] entries i.stands (omega arith) in
-    omega (arith, within, i.families.processes, all, countable.few)
-
-neither-there : (b : Bool) → (b && false) ≡ false
-neither-there true = refl
-neither-there false = refl
+    omega (arith, grouped-within t.families.groups pid (ap is_some (i.families.groups pid) ∙ h), i.families.processes, all, countable.few)
 
 -- no process has a number that 32 bits don't count
 pub far_process : (t : Tables) (entries : List Record) (moment pid : ℕ) → LivesHaveGroups → AreCountable entries → Indexes t entries → 2 ^ 32 ≤ pid → is_member entries moment pid ≡ false
@@ -92,7 +74,7 @@ far_process t entries moment pid law countable i far = by_test (lives_at entries
   where
     by_test : (b : Bool) → lives_at entries moment pid ≡ b → (is_moment entries moment && b) ≡ false
     by_test true lives = absurd (omega (arith, far, grouped-few t entries pid countable i (law entries moment pid i.stands lives)))
-    by_test false lives = neither-there (is_moment entries moment)
+    by_test false lives = and_right (is_moment entries moment) false refl
 
 -- so it has no bytes
 pub far_range : (t : Tables) (entries : List Record) (moment pid at len : ℕ) → LivesHaveGroups → AreCountable entries → Indexes t entries → 2 ^ 32 ≤ pid → is_memory_range entries moment pid at len ≡ false
@@ -103,4 +85,4 @@ far_range t entries moment pid at len law countable i far =
 pub long_range : (entries : List Record) (moment pid at len : ℕ) → 2 ^ 32 ≤ len → is_memory_range entries moment pid at len ≡ false
 long_range entries moment pid at len long =
     let most : nat_le len MOST_ASKED ≡ false = grind (arith, nat_tests) in
-    ap (λ (b : Bool). is_member entries moment pid && (b && is_present (is_some (segment_at entries moment pid)) at len)) most ∙ neither-there (is_member entries moment pid)
+    ap (λ (b : Bool). is_member entries moment pid && (b && is_present (is_some (segment_at entries moment pid)) at len)) most ∙ and_right (is_member entries moment pid) false refl

@@ -1,7 +1,6 @@
 -- Events are numbered in the order of their records.
-use Rattle.std.proofs.Common.{◌≡◌, ℕ, zero, suc, ◌+◌, ◌<◌, ◌≤◌, Bool, true, false, cond, List, [], ◌∷◌, ◌++◌, Some, append_assoc, append-nil, arith, ap, get_or, length, refl, slice_get, sym, take, ◌∙◌}
+use Rattle.std.proofs.Common.{◌≡◌, ℕ, zero, suc, ◌+◌, ◌<◌, ◌≤◌, Bool, true, false, cond, List, [], ◌∷◌, ◌++◌, Some, append_assoc, append-nil, arith, ap, get_or, length, refl, slice_get, sym, take, ◌∙◌, flat_map}
 use Rattle.std.specs.List.{range_with_len}
-use Rattle.std.specs.Prelude.{flat_map}
 use Rattle.arn_base.specs.declared.records.Record.{Record}
 use Rattle.acts_model.specs.Records.{is_event}
 use Rattle.history_model.specs.Events.{event_at, events, how_many}

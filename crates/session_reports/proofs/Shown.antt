@@ -1,6 +1,5 @@
 -- What is printed where a past state can't be shown.
-use Rattle.std.proofs.Common.{◌≡◌, ◌≢◌, ℕ, Bool, List, Option, ap, if◌then◌else◌, refl, sym, ◌∙◌}
-use Rattle.std.specs.Prelude.{Err, Ok, OnOk, Result}
+use Rattle.std.proofs.Common.{◌≡◌, ◌≢◌, ℕ, Bool, List, Option, ap, if◌then◌else◌, refl, sym, ◌∙◌, Err, Ok, OnOk, Result}
 use Rattle.acts_model.specs.Bodies.{View}
 use Rattle.arn_lines.specs.declared.answer.Refusal.TheVariants.{NoPoint}
 use Rattle.arn_lines.specs.Texts.{refusal_text}

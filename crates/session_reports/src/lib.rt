@@ -14,4 +14,4 @@ pub use far::far_is_nowhere;
 pub use files::report_file;
 pub use groups::report_groups;
 pub use processes::report_procs;
-pub use states::{push_error, report_mem, report_regs};
+pub use states::{MemoryBytes, push_error, report_mem, report_regs};

@@ -14,6 +14,24 @@ use report_texts::{push_mem, push_regs};
 use state_viewer::{QueryError, memory, registers};
 use std::sync::ledger::Ledger;
 
+/// Bytes that a process has at a moment.
+#[derive(Clone, Copy, Debug)]
+pub struct MemoryBytes {
+    pub moment: u64,
+    pub pid: u64,
+    pub at: u64,
+    pub len: u64,
+}
+
+// The same of a process and a length that 32 bits count.
+#[derive(Clone, Copy)]
+struct NearBytes {
+    moment: u64,
+    pid: u32,
+    at: u64,
+    len: u32,
+}
+
 /// Appends why nothing is told, unless memory ran out.
 pub fn push_error(text: &mut String, error: QueryError) -> Result<(), NoMemory>
     ensures ok { OnOk result (string_bytes text.new ≡ string_bytes text.old ++ error_text error) }
@@ -52,27 +70,25 @@ fn push_mem_of<L: Ledger>(
     text: &mut String,
     entries: &[Record],
     index: &Index,
-    moment: u64,
-    pid: u32,
-    at: u64,
-    len: u32,
+    near: NearBytes,
     steps: &mut Steps<L>,
 ) -> Result<(), NoMemory>
     requires countable { AreCountable entries.now }
     requires known { Indexes index.now entries.now }
-    ensures ok { OnOk result (string_bytes text.new ≡
-        string_bytes text.old ++ show_mem_text entries.now moment pid at len) }
+    ensures ok { OnOk result (string_bytes text.new ≡ string_bytes text.old
+        ++ show_mem_text entries.now near.moment near.pid near.at near.len) }
     ensures err { OnErr result (string_bytes text.new ≡ string_bytes text.old) }
-    ensures steps { steps.new ≤ steps.old + show_mem_cost entries.now moment pid at len }
+    ensures steps { steps.new ≤ steps.old
+        + show_mem_cost entries.now near.moment near.pid near.at near.len }
 {
     match memory(
         *text.allocator(),
         entries,
         index,
-        moment,
-        pid,
-        at,
-        len,
+        near.moment,
+        near.pid,
+        near.at,
+        near.len,
         steps,
     ) {
         Ok(bytes) => push_mem(text, bytes.as_slice()),
@@ -105,32 +121,36 @@ pub fn report_regs<L: Ledger>(
     push_regs_of(text, entries, index, moment, pid, steps)
 }
 
-/// Appends so many bytes at an address of a process at a moment; or that its group's records disagree.
-/// Bytes that it doesn't have then, or that are too many, are refused.
+/// Appends bytes that a process has at a moment; or that its group's records disagree. Bytes that it
+/// doesn't have then, or that are too many, are refused.
 #[tactic(auto, using(crate::proofs::Few::far_process, crate::proofs::Few::far_range, crate::proofs::Few::long_range))]
 pub fn report_mem<L: Ledger>(
     text: &mut String,
     entries: &[Record],
     index: &Index,
-    moment: u64,
-    pid: u64,
-    at: u64,
-    len: u64,
+    bytes: MemoryBytes,
     steps: &mut Steps<L>,
 ) -> Result<(), NoMemory>
     requires countable { AreCountable entries.now }
     requires known { Indexes index.now entries.now }
-    ensures ok { OnOk result (string_bytes text.new ≡
-        string_bytes text.old ++ show_mem_text entries.now moment pid at len) }
+    ensures ok { OnOk result (string_bytes text.new ≡ string_bytes text.old
+        ++ show_mem_text entries.now bytes.moment bytes.pid bytes.at bytes.len) }
     ensures err { OnErr result (string_bytes text.new ≡ string_bytes text.old) }
-    ensures steps { steps.new ≤ steps.old + show_mem_cost entries.now moment pid at len }
+    ensures steps { steps.new ≤ steps.old
+        + show_mem_cost entries.now bytes.moment bytes.pid bytes.at bytes.len }
 {
     lives_have_groups();
-    let Ok(pid) = u32::try_from(pid) else {
+    let Ok(pid) = u32::try_from(bytes.pid) else {
         return push_refusal(text, Refusal::NoPoint);
     };
-    let Ok(len) = u32::try_from(len) else {
+    let Ok(len) = u32::try_from(bytes.len) else {
         return push_refusal(text, Refusal::NoPoint);
     };
-    push_mem_of(text, entries, index, moment, pid, at, len, steps)
+    let near = NearBytes {
+        moment: bytes.moment,
+        pid,
+        at: bytes.at,
+        len,
+    };
+    push_mem_of(text, entries, index, near, steps)
 }

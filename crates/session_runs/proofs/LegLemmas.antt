@@ -98,7 +98,7 @@ Advances-leg who budget m m' left left' slices end old new carried begin same op
           ∙ ap (λ (x : Machine). behind (leg_effects m.events g.entries) touches (run_from budget (begun x g.left) rest)) (sym is)
           ∙ ap (λ (x : ℕ). behind (leg_effects m.events g.entries) touches (run_from budget (begun m' x) rest)) (sym is_left);
       names = ap slices_in (leg-committed m.events g.entries) ∙ names-leg m.events m left slices same ∙ sym same_named;
-      unplugs = ap unplugged_in (leg-committed m.events g.entries) ∙ unplugs-leg m left slices same ∙ sym (at-unplugs asks);
+      unplugged = ap unplugged_in (leg-committed m.events g.entries) ∙ unplugs-leg m left slices same ∙ sym (at-unplugs asks);
       begins = ap reply_behind (leg-committed m.events g.entries) ∙ begins-leg begin m left slices;
       carries = carries;
       picked = subst (λ (x : List Ask). PickedBy old.choices new.choices x slices) (sym (asks-at asks)) picked;

@@ -17,16 +17,9 @@ committed-append xs ys = flat_map-append records_of xs ys
 
 pub all_named-append : (asks more : List Ask) (slices others : List Picked) → length asks ≡ length slices → all_named (asks ++ more) (slices ++ others) ≡ all_named asks slices ++ all_named more others
 all_named-append [] more [] others many = refl
-all_named-append [] more (s ∷ slices) others many = absurd (omega (arith, many))
-all_named-append (a ∷ asks) more [] others many = absurd (omega (arith, many))
 all_named-append (a ∷ asks) more (s ∷ slices) others many =
     ap (λ (x : List Picked). as_named a.machine s ∷ x) (all_named-append asks more slices others (omega (arith, many)))
-
-pub all_named-length : (asks : List Ask) (slices : List Picked) → length asks ≡ length slices → length (all_named asks slices) ≡ length slices
-all_named-length [] [] many = refl
-all_named-length [] (s ∷ slices) many = absurd (omega (arith, many))
-all_named-length (a ∷ asks) [] many = absurd (omega (arith, many))
-all_named-length (a ∷ asks) (s ∷ slices) many = omega (arith, all_named-length asks slices (omega (arith, many)))
+all_named-append _ more _ others many = absurd (omega (arith, many))
 
 -- the slices that inputs are
 pub slices-inputs : (slices : List Picked) → filter_map slice_in (map input_of slices) ≡ slices

@@ -42,16 +42,14 @@ quiet-committed (Prints text ∷ effects) = quiet-committed effects
 abbrev Legs : ℕ → List Effect → Type 0
 Legs most [] = Unit {0}
 Legs most (Prints text ∷ more) = more ≡ []
-Legs most (Commits entries ∷ []) = ⊥
-Legs most (Commits entries ∷ Commits others ∷ more) = ⊥
 Legs most (Commits entries ∷ Prints text ∷ more) = (left : ℕ) × (length (slices_in entries) + left ≤ most) × ((quiet more ≡ []) ⊎ (0 < left)) × Legs left more
+Legs most _ = ⊥
 
 Legs-more : (few most : ℕ) (effects : List Effect) → few ≤ most → Legs few effects → Legs most effects
 Legs-more few most [] le legs = tt
 Legs-more few most (Prints text ∷ more) le legs = legs
-Legs-more few most (Commits entries ∷ []) le legs = absurd legs
-Legs-more few most (Commits entries ∷ Commits others ∷ more) le legs = absurd legs
 Legs-more few most (Commits entries ∷ Prints text ∷ more) le legs = (legs.0, omega (arith, le, legs.1), legs.2, legs.3)
+Legs-more few most _ le legs = absurd legs
 
 some-behind : (done : List Effect) (effect : Effect) (more : List Effect) → done ++ effect ∷ more ≡ [] → ⊥
 some-behind [] effect more is = cc
@@ -75,9 +73,8 @@ legs-text most (Commits entries ∷ Prints first ∷ done) text more legs = elim
 legs-last : (few most : ℕ) (done : List Effect) (text : List ℕ) (more : List Effect) → Legs few done → Legs most (done ++ Prints text ∷ more) → more ≡ []
 legs-last few most [] text more whole legs = legs
 legs-last few most (Prints first ∷ done) text more whole legs = absurd (some-behind done (Prints text) more legs)
-legs-last few most (Commits entries ∷ []) text more whole legs = absurd whole
-legs-last few most (Commits entries ∷ Commits others ∷ done) text more whole legs = absurd whole
 legs-last few most (Commits entries ∷ Prints first ∷ done) text more whole legs = legs-last whole.0 legs.0 done text more whole.3 legs.3
+legs-last few most _ text more whole legs = absurd whole
 
 -- a run that ends
 legs-ended : (most first : ℕ) (entries : List Record) (text : List ℕ) → length (slices_in entries) ≤ most → Legs most (leg_effects first entries ++ Prints text ∷ [])
@@ -193,7 +190,7 @@ module _ {D A : Type 0} (is_run : List Record → Type 0) (d : Ghosts D) (who : 
             ∙ ap (λ (x : List Touch). behind (quiet a.effects) x (prints (text (s0.entries ++ committed (quiet a.effects))) rest)) (append-nil a.touches)
             ∙ ap (λ (h : List Record). behind (quiet a.effects) a.touches (prints (text h) rest)) (sym carries.entries);
         names = ap slices_in (quiet-committed a.effects) ∙ a.names;
-        unplugs = ap unplugged_in (quiet-committed a.effects) ∙ a.unplugs;
+        unplugged = ap unplugged_in (quiet-committed a.effects) ∙ a.unplugged;
         begins = ap reply_behind (quiet-committed a.effects) ∙ a.begins;
         carries = carries;
         picked = a.picked;
@@ -228,10 +225,10 @@ module _ {D A : Type 0} (is_run : List Record → Type 0) (d : Ghosts D) (who : 
         are_touches = told-touches (quiet_turn with_part) with_part.left (tells with_part) ∙ s.are_touches;
         stopped = halts.before old new history held held why (quiet s.done) (quiet s.undone) told (follow.halts old new history h0 h1 held why s.done s.undone not_sink s.stopped);
         names = ap slices_in (quiet-committed s.done) ∙ s.names;
-        unplugs = ap unplugged_in (quiet-committed s.done) ∙ s.unplugs;
+        unplugged = ap unplugged_in (quiet-committed s.done) ∙ s.unplugged;
         begins = ap reply_behind (quiet-committed s.done) ∙ s.begins;
         names_lost = λ entries at. s.names_lost entries (commit-next s.undone told entries (told-none t.left (tells t) entries) texts at);
-        unplugs_lost = λ entries at. s.unplugs_lost entries (commit-next s.undone told entries (told-none t.left (tells t) entries) texts at);
+        unplugged_lost = λ entries at. s.unplugged_lost entries (commit-next s.undone told entries (told-none t.left (tells t) entries) texts at);
         without = cut s.done alone (tells alone) s.without;
         spent =
             subst (λ (o : Option (List Picked)). IsSpent s.lost (quiet s.undone ++ told) o) (sym (told-left (quiet_turn t) t.left (tells t) refl))
@@ -242,6 +239,7 @@ module _ {D A : Type 0} (is_run : List Record → Type 0) (d : Ghosts D) (who : 
         touched = s.touched;
         one_part = s.one_part;
         by_memory = s.by_memory;
+        unmade = s.unmade;
         executed = s.executed;
       }
     where

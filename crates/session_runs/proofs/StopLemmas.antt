@@ -100,10 +100,10 @@ module _ {D A : Type 0} (is_run : List Record → Type 0) (d : Ghosts D) (who : 
             ∙ ap (λ (x : List Ask). at_slices x ++ AtSlice (ask_of g) ∷ []) same.asks;
         stopped = halts.nothing disk history held halt.NoMemory [] (inl refl, inl refl);
         names = refl;
-        unplugs = refl;
+        unplugged = refl;
         begins = refl;
         names_lost = λ entries at. absurd (none-next entries at);
-        unplugs_lost = λ entries at. absurd (none-next entries at);
+        unplugged_lost = λ entries at. absurd (none-next entries at);
         without = cut-alone budget m left slices opens;
         spent = inl (ap (λ (t : Turn). t.left) lead);
         many = refl;
@@ -115,6 +115,7 @@ module _ {D A : Type 0} (is_run : List Record → Type 0) (d : Ghosts D) (who : 
         touched = touched-at who asks slices old.answers new.answers replied;
         one_part = omega arith;
         by_memory = inr refl;
+        unmade = inr tt;
         executed = omega (arith, executed, going-cost (fresh m left) slices, ap slices_cost same_named, sum_by-cons (λ (x : Picked). x.pick.count) part []);
       }
 
@@ -148,10 +149,10 @@ module _ {D A : Type 0} (is_run : List Record → Type 0) (d : Ghosts D) (who : 
             ∙ ap (λ (x : List Touch). at_slices asks ++ x) (alone-touches budget (begun g.machine g.left));
         stopped = stopped (Prints text ∷ next.effects);
         names = refl;
-        unplugs = refl;
+        unplugged = refl;
         begins = refl;
         names_lost = λ entries at. ap slices_in (first-commit g.entries entries (Prints text ∷ next.effects) at) ∙ names-leg m.events m left slices same ∙ sym same_named;
-        unplugs_lost = λ entries at.
+        unplugged_lost = λ entries at.
             ap unplugged_in (first-commit g.entries entries (Prints text ∷ next.effects) at) ∙ unplugs-leg m left slices same ∙ sym (ap unplugs_in (append-nil (at_slices asks)) ∙ at-unplugs asks);
         without = cut-alone budget m left slices opens;
         spent = spent-behind budget g (ap (λ (t : Turn). t.left) lead) (inl some-effects);
@@ -161,6 +162,7 @@ module _ {D A : Type 0} (is_run : List Record → Type 0) (d : Ghosts D) (who : 
         touched = touched-at who asks slices old.answers new.answers replied;
         one_part = omega arith;
         by_memory = inl refl;
+        unmade = inl refl;
         executed = omega (arith, executed, going-cost (fresh m left) slices, ap slices_cost same_named);
       }
 
@@ -193,10 +195,10 @@ module _ {D A : Type 0} (is_run : List Record → Type 0) (d : Ghosts D) (who : 
             halts.before disk disk' history h0 h1 why (Commits g.entries ∷ []) (Prints text ∷ []) next.effects
             (halts.behind disk disk' disk' history there h0 h0 h1 why (Commits g.entries ∷ []) [] (Prints text ∷ []) is carried (halts.text disk' there h0 h1 why text put));
         names = ap slices_in (append-nil g.entries) ∙ names-leg m.events m left slices same ∙ sym same_named;
-        unplugs = ap unplugged_in (append-nil g.entries) ∙ unplugs-leg m left slices same ∙ sym (at-unplugs asks);
+        unplugged = ap unplugged_in (append-nil g.entries) ∙ unplugs-leg m left slices same ∙ sym (at-unplugs asks);
         begins = ap reply_behind (append-nil g.entries) ∙ begins-leg begin m left slices;
         names_lost = λ entries at. absurd (no-commit text entries next.effects at);
-        unplugs_lost = λ entries at. absurd (no-commit text entries next.effects at);
+        unplugged_lost = λ entries at. absurd (no-commit text entries next.effects at);
         without = inl refl;
         spent = spent-behind budget g (ap (λ (t : Turn). t.left) lead) (inr refl);
         many = omega (arith, asks-many (fresh m left) slices, ap (λ (x : List Ask). length x) (asks-at asks));
@@ -207,6 +209,7 @@ module _ {D A : Type 0} (is_run : List Record → Type 0) (d : Ghosts D) (who : 
             (subst (λ (x : List Picked). TouchedBy who (at_slices asks) x old.answers new.answers) (sym (append-nil slices)) (touched-at who asks slices old.answers new.answers replied));
         one_part = omega arith;
         by_memory = inl refl;
+        unmade = inl refl;
         executed = omega (arith, executed, going-cost (fresh m left) slices, ap slices_cost same_named, ap slices_cost (append-nil (named_at (at_slices asks) slices)));
       }
 
@@ -218,7 +221,7 @@ Advances-end who budget m left end now carried is carries = record {
   effects = Prints (ran_text (budget - left) end) ∷ [];
   leads = λ rest. run_from-ended budget (begun m left) rest end is;
   names = refl;
-  unplugs = refl;
+  unplugged = refl;
   begins = refl;
   carries = carries;
   picked = PickedBy-none now.choices;
@@ -246,10 +249,10 @@ module _ {D A : Type 0} (is_run : List Record → Type 0) (d : Ghosts D) (who : 
         are_touches = ap (λ (t : Turn). t.touches) lead;
         stopped = halts.text disk history h0 h1 why text put;
         names = refl;
-        unplugs = refl;
+        unplugged = refl;
         begins = refl;
         names_lost = λ entries at. absurd (no-commit text entries [] at);
-        unplugs_lost = λ entries at. absurd (no-commit text entries [] at);
+        unplugged_lost = λ entries at. absurd (no-commit text entries [] at);
         without = inl refl;
         spent = inr (ap (λ (t : Turn). t.left) lead, inr refl);
         many = refl;
@@ -258,5 +261,6 @@ module _ {D A : Type 0} (is_run : List Record → Type 0) (d : Ghosts D) (who : 
         touched = (refl, refl);
         one_part = omega arith;
         by_memory = inl refl;
+        unmade = inl refl;
         executed = omega arith;
       }

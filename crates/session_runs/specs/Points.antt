@@ -11,6 +11,7 @@ use Rattle.session_effects.specs.Carrying.{IsAtCommit, StopsBetween}
 use Rattle.session_effects.specs.Effects.{Effect, committed}
 use Rattle.session_effects.specs.declared.halt.Halt.{Halt}
 use Rattle.session_effects.specs.declared.halt.Halt.TheVariants as halt
+use Rattle.session_runs.specs.Ready.{IsNotMade}
 use Rattle.session_runs.specs.Touches.{Answering, Touch, TouchedBy, asks_in, named_at, unplugged_in, unplugs_in}
 use Rattle.session_runs.specs.Turns.{Turn, Point, behind}
 
@@ -52,7 +53,7 @@ pub record Advances {A : Type 0} (who : Answering A) (from to : Point) (old new 
   pub effects : List Effect
   pub leads : (rest : List Picked) → from (named_at touches slices ++ rest) ≡ behind effects touches (to rest)
   pub names : slices_in (committed effects) ≡ named_at touches slices
-  pub unplugs : unplugged_in (committed effects) ≡ unplugs_in touches
+  pub unplugged : unplugged_in (committed effects) ≡ unplugs_in touches
   pub begins : reply_behind (committed effects) ≡ None
   pub carries : carried effects
   pub picked : PickedBy old.choices new.choices (asks_in touches) slices
@@ -73,7 +74,7 @@ IsSpent lost undone left = (left ≡ None) ⊎ ((left ≡ Some []) × ((undone �
 -- `slices`, and say of just those devices that they were unplugged which `touches` unplug. Slices that were picked behind these and not
 -- committed are lost: those of the open leg. Without them the slices end before it; where a commit stands next, it names them, and says of
 -- just those devices that they were unplugged which the touches behind the others unplug. Where memory ran out in a slice, that one was
--- picked too, and a part of it may have run; or it ran out before an unplugging, which wasn't made.
+-- picked too, and a part of it may have run; or no machine was made for an unplugging, which wasn't made either.
 pub record Stops {D A : Type 0} (is_run : List Record → Type 0) (d : Ghosts D) (who : Answering A) (disk disk' : D) (history : List Record) (held holds : Option (List ℕ)) (why : Halt) (from : Point) (old new : Surroundings A) (cost : ℕ) : Type 0 where
   pub slices : List Picked
   pub lost : List Picked
@@ -87,10 +88,10 @@ pub record Stops {D A : Type 0} (is_run : List Record → Type 0) (d : Ghosts D)
   pub are_touches : (from (named_at touches slices ++ (named_at lost_touches lost ++ part))).touches ≡ touches ++ (lost_touches ++ part_touches)
   pub stopped : StopsBetween is_run d disk disk' history held holds why done undone
   pub names : slices_in (committed done) ≡ named_at touches slices
-  pub unplugs : unplugged_in (committed done) ≡ unplugs_in touches
+  pub unplugged : unplugged_in (committed done) ≡ unplugs_in touches
   pub begins : reply_behind (committed done) ≡ None
   pub names_lost : (entries : List Record) → IsAtCommit undone entries → slices_in entries ≡ named_at lost_touches lost
-  pub unplugs_lost : (entries : List Record) → IsAtCommit undone entries → unplugged_in entries ≡ unplugs_in (lost_touches ++ part_touches)
+  pub unplugged_lost : (entries : List Record) → IsAtCommit undone entries → unplugged_in entries ≡ unplugs_in (lost_touches ++ part_touches)
   pub without : (lost ≡ []) ⊎ EndsWithin done (from (named_at touches slices))
   pub spent : IsSpent lost undone (from (named_at touches slices ++ named_at lost_touches lost)).left
   pub many : length (asks_in touches) ≡ length slices
@@ -98,5 +99,6 @@ pub record Stops {D A : Type 0} (is_run : List Record → Type 0) (d : Ghosts D)
   pub in_range : AreInRange (asks_in (touches ++ (lost_touches ++ part_touches))) (slices ++ (lost ++ part))
   pub touched : TouchedBy who (touches ++ lost_touches) (slices ++ lost) old.answers new.answers
   pub one_part : length part_touches ≤ 1
-  pub by_memory : (part_touches ≡ []) ⊎ (why ≡ halt.NoMemory)
+  pub by_memory : (part ≡ []) ⊎ (why ≡ halt.NoMemory)
+  pub unmade : (part_touches ≡ []) ⊎ IsNotMade why
   pub executed : new.steps ≤ old.steps + cost + slices_cost (named_at touches slices ++ named_at lost_touches lost) + counts part

@@ -1,6 +1,5 @@
 -- What touches those who answer for devices: slices, each where it is asked for, and lines that unplug a device.
-use Rattle.std.specs.Prelude.{◌≡◌, ◌==◌, ℕ, Bool, false, List, [], ◌∷◌, filter_map, Option, Some, None}
-use Rattle.std.specs.List.{list_any}
+use Rattle.std.specs.Prelude.{◌≡◌, ℕ, Bool, List, [], ◌∷◌, filter_map, Option, Some, None}
 use Rattle.arn_base.specs.declared.records.Record.{Record}
 use Rattle.arn_base.specs.declared.records.Record.TheVariants as entry
 use Rattle.parts_model.specs.Replies.{Answered}
@@ -58,11 +57,3 @@ unplugged_by other = None
 -- the devices that records say were unplugged, in order
 abbrev pub unplugged_in : List Record → List ℕ
 unplugged_in entries = filter_map unplugged_by entries
-
--- device n is one of them
-abbrev pub is_gone : List Record → ℕ → Bool
-is_gone history n = list_any (λ m. m == n) (unplugged_in history)
-
--- what a history didn't unplug is there where it was at first
-abbrev pub StandAs : {A : Type 0} → Answering A → (ℕ → Bool) → List Record → A → Type 0
-StandAs who filled history now = (n : ℕ) → is_gone history n ≡ false → who.filled now n ≡ filled n

@@ -1,6 +1,6 @@
-// What holds of points, and of what lies between them.
+// What holds of touches, of points, and of what lies between them.
 ghost use Rattle.session_runs.specs.Ends.{RunsEnd};
-ghost use Rattle.session_runs.specs.Laws.{PointsFollow};
+ghost use Rattle.session_runs.specs.Laws.{PointsFollow, TouchesFollow};
 ghost use Rattle.session_runs.specs.Quiet.{QuietPointsFollow};
 ghost use Rattle.session_runs.specs.Touches.{answering};
 
@@ -11,10 +11,16 @@ use guest_machine::picks_follow;
 use log_model::{events_recorded, named_append, records_append};
 use session_effects::{Runs, effects_follow, halts_follow, quiet_follows};
 
+/// What touches those who answer for devices follows one another.
+pub fn touches_follow<A: Plugs>()
+    ensures { TouchesFollow (answering A.answers A.unplugs A.filled) }
+{}
+
 /// What lies between points follows one another, and where a session halts behind it.
 pub fn points_follow<R: Runs, D: Disk, A: Plugs>()
     ensures { PointsFollow R.is_run D.Disk (answering A.answers A.unplugs A.filled) }
 {
+    touches_follow::<A>();
     picks_follow();
     named_append();
     effects_follow::<R, D>();

@@ -13,9 +13,9 @@ use Rattle.arn_session.specs.Transcript.{text_of}
 abbrev pub no_devices : Given
 no_devices = given told (λ n. false)
 
--- every part of the text was answered on this history, with some slices, and nothing else was printed
-pub record Prints (history : List Record) (text printed : List ℕ) : Type 0 where
+-- every part of the text was answered on this history by a session that was handed this, with some slices, and nothing else was printed
+pub record Prints (g : Given) (history : List Record) (text printed : List ℕ) : Type 0 where
   pub commands : List Command
   pub each_asks : EachAsks (text_parts text) commands
   pub slices : List Picked
-  pub all : printed ≡ text_of no_devices history commands slices
+  pub all : printed ≡ text_of g history commands slices

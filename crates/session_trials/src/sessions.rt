@@ -3,7 +3,7 @@ ghost use Rattle.std.specs.Prelude.{◌≡◌, ◌<◌, ◌⊎◌, [], List, IfO
 ghost use Rattle.arn_base.specs.declared.records.Record.{Record};
 ghost use Rattle.session_effects.specs.Carrying.{HoldsLog};
 ghost use Rattle.arn_words.specs.Words.{AreAccepted, AreAcceptedTexts, texts};
-ghost use Rattle.session_trials.specs.Sessions.{Prints};
+ghost use Rattle.session_trials.specs.Sessions.{Prints, no_devices};
 
 use arn_base::{
     Bytes, Choice, Chooser, Device, Disk, NoMemory, Numbers, SliceSource, Steps, VecSink,
@@ -100,7 +100,7 @@ fn run_over<D: Disk, L: Ledger>(
 
     ensures done { IfOk result (λ ended. ended.status ≡ Status.Done → (history : List Record) →
         HoldsLog D.Disk disk.old history →
-        Prints history script.now.text.now ended.sink.held) }
+        Prints no_devices history script.now.text.now ended.sink.held) }
     ensures usage { IfOk result (λ ended. ended.status ≡ Status.Usage → ¬ AreAccepted words.now) }
     ensures unaccepted { IfOk result (λ ended. ¬ AreAccepted words.now →
         (ended.status ≡ Status.Usage) ⊎ (ended.status ≡ Status.NoMemory)) }
@@ -140,7 +140,7 @@ pub fn run_on<D: Disk>(
 ) -> Result<Ended, NoMemory>
     ensures done { IfOk result (λ ended. ended.status ≡ Status.Done → (history : List Record) →
         HoldsLog D.Disk disk.old history →
-        Prints history script.now.text.now ended.sink.held) }
+        Prints no_devices history script.now.text.now ended.sink.held) }
     ensures usage { IfOk result (λ ended. ended.status ≡ Status.Usage →
         ¬ AreAcceptedTexts (map (λ word. word.now) words.now)) }
     ensures unaccepted { IfOk result (λ ended.
@@ -155,7 +155,7 @@ pub fn run_on<D: Disk>(
 /// Runs a session with these words over a fresh log.
 pub fn run(alloc: Global, words: &[&str], script: &Script) -> Result<Ended, NoMemory>
     ensures done { IfOk result (λ ended. ended.status ≡ Status.Done →
-        Prints [] script.now.text.now ended.sink.held) }
+        Prints no_devices [] script.now.text.now ended.sink.held) }
     ensures usage { IfOk result (λ ended. ended.status ≡ Status.Usage →
         ¬ AreAcceptedTexts (map (λ word. word.now) words.now)) }
     ensures unaccepted { IfOk result (λ ended.

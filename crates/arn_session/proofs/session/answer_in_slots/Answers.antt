@@ -1,4 +1,3 @@
-use Rattle.std.proofs.Common.{◌≡◌}
 use Rattle.guest_devices.specs.Slots.{is_filled}
 use Rattle.session_runs.specs.Points.{around}
 use Rattle.session_commands.specs.Given.{given}

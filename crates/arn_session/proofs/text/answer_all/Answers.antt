@@ -5,15 +5,12 @@ use Rattle.arn_commands.specs.Nexts.{ReadsNext}
 use Rattle.arn_commands.specs.Reader.{ReaderState}
 use Rattle.arn_commands.specs.declared.error.ReadError.{ReadError}
 use Rattle.arn_commands.specs.declared.next.Next.{Next}
-use Rattle.log_store.specs.Stores.{StoreState}
 use Rattle.session_effects.specs.declared.halt.Halt.{Halt}
 use Rattle.session_effects.specs.declared.halt.Halt.TheVariants as halt
 use Rattle.session_runs.specs.Points.{around}
-use Rattle.session_runs.specs.Standing.{standpoint}
 use Rattle.session_runs.specs.Touches.{answering}
 use Rattle.session_commands.specs.Given.{given}
 use Rattle.arn_session.specs.Begun.{BeginsOn, standing}
-use Rattle.arn_session.specs.CutOff.{BeginsText}
 use Rattle.arn_session.proofs.CutLemmas.{BeginsText-before, BeginsText-last, BeginsText-whole, FindsOut-last, FindsOut-whole, blames-first, stops-all}
 use Rattle.arn_session.proofs.FaultLemmas.{Rose-after}
 use Rattle.arn_session.proofs.HaltLemmas.{long-was, memory-was, never-long, never-source, read-finds-none, read-never-disk, read-never-full, read-never-sink, source-was}
@@ -25,7 +22,7 @@ use Rattle.arn_session.proofs.text.answer_all.Goals as goal
 
 pub loop-next-init : goal.loop-next-init
 loop-next-init g c =
-    let laws = laws-of {who = (answering g.A.Answers.answers g.A.Plugs.unplugs g.A.Plugs.filled)} c.effects_follow.ensures.follow c.halts_follow.ensures c.named_append.ensures.named c.named_append.ensures.behind c.picks_follow.ensures (record { keeps = g.met.A.Plugs.keeps; drops = g.met.A.Plugs.drops }) in
+    let laws = laws-of {who = (answering g.A.Answers.answers g.A.Plugs.unplugs g.A.Plugs.filled)} c.touches_follow.ensures c.points_follow.ensures c.halts_follow.ensures (record { keeps = g.met.A.Plugs.keeps; drops = g.met.A.Plugs.drops }) in
     record {
       progress = rw (c.requires.fresh, c.requires.bare) (Progress-start laws (λ n is. refl) c.requires.«open»);
       is_open = c.requires.«open»;
@@ -42,7 +39,7 @@ loop-next-smaller g c =
 
 pub loop-next-preserved : goal.loop-next-preserved
 loop-next-preserved g c =
-    let laws = laws-of {who = (answering g.A.Answers.answers g.A.Plugs.unplugs g.A.Plugs.filled)} c.effects_follow.ensures.follow c.halts_follow.ensures c.named_append.ensures.named c.named_append.ensures.behind c.picks_follow.ensures (record { keeps = g.met.A.Plugs.keeps; drops = g.met.A.Plugs.drops }) in
+    let laws = laws-of {who = (answering g.A.Answers.answers g.A.Plugs.unplugs g.A.Plugs.filled)} c.touches_follow.ensures c.points_follow.ensures c.halts_follow.ensures (record { keeps = g.met.A.Plugs.keeps; drops = g.met.A.Plugs.drops }) in
     let read = subst (λ (n : Next). ReadsNext n c.loop-next.commands c.next.new.self (g.S.Source.left c.loop-next.source) (g.S.Source.left c.next.new.source)) c.in-More.is c.in-Ok.ensures.next in
     let now = c.loop-next.invariant.progress in
     let did = c.in_ok-answer-in-More.ensures in
@@ -58,7 +55,7 @@ loop-next-preserved g c =
 -- the reading ended, and the source did or the bound was reached
 pub returns-in-Err-clause-leaves : goal.returns-in-Err-clause-leaves
 returns-in-Err-clause-leaves g c =
-    let laws = laws-of {who = (answering g.A.Answers.answers g.A.Plugs.unplugs g.A.Plugs.filled)} c.effects_follow.ensures.follow c.halts_follow.ensures c.named_append.ensures.named c.named_append.ensures.behind c.picks_follow.ensures (record { keeps = g.met.A.Plugs.keeps; drops = g.met.A.Plugs.drops }) in
+    let laws = laws-of {who = (answering g.A.Answers.answers g.A.Plugs.unplugs g.A.Plugs.filled)} c.touches_follow.ensures c.points_follow.ensures c.halts_follow.ensures (record { keeps = g.met.A.Plugs.keeps; drops = g.met.A.Plugs.drops }) in
     let now = c.loop-next.invariant.progress in
     let did = now.answers.answered in
     let l = g.S.Source.left c.args.source.now in
@@ -72,7 +69,7 @@ returns-in-Err-clause-leaves g c =
         at_most = TookAtMost-part now c.next.ensures.used c.next.ensures.still_within;
         any_moment = c.effects_follow.ensures.leaves c.args.outside.now.disk.now c.loop-next.outside.disk.now c.args.kept.now.store.entries (g.K.Sink.holds c.args.outside.now.sink.now) (g.K.Sink.holds c.loop-next.outside.sink.now) did.effects did.carries.out;
         later = c.loop-next.invariant.goes_on.later;
-        touched = touched-before now.answers;
+        touched = touched-before laws now.answers;
       };
       stops =
           subst (λ (h : Halt). h ≢ halt.Source → h ≢ halt.Long → IfSome l (λ text. BeginsOn g.D.Disk (answering g.A.Answers.answers g.A.Plugs.unplugs g.A.Plugs.filled) (given g.Q.Questions.told (g.A.Plugs.filled c.args.outside.now.answers.now)) c.args.kept.now.store.entries (standing c.args.outside.now.disk.now (g.K.Sink.holds c.args.outside.now.sink.now) (around (g.C.Chooser.choices c.args.outside.now.chooser.now) c.args.outside.now.answers.now c.args.outside.now.steps.now)) (standing c.loop-next.outside.disk.now (g.K.Sink.holds c.loop-next.outside.sink.now) (around (g.C.Chooser.choices c.loop-next.outside.chooser.now) c.loop-next.outside.answers.now c.loop-next.outside.steps.now)) h text left)) (sym c.read_halt.ensures)
@@ -99,7 +96,7 @@ returns-in-Err-clause-leaves g c =
 -- the answer to a whole part was begun
 pub returns-in_err-answer-in-More-clause-leaves : goal.returns-in_err-answer-in-More-clause-leaves
 returns-in_err-answer-in-More-clause-leaves g c =
-    let laws = laws-of {who = (answering g.A.Answers.answers g.A.Plugs.unplugs g.A.Plugs.filled)} c.effects_follow.ensures.follow c.halts_follow.ensures c.named_append.ensures.named c.named_append.ensures.behind c.picks_follow.ensures (record { keeps = g.met.A.Plugs.keeps; drops = g.met.A.Plugs.drops }) in
+    let laws = laws-of {who = (answering g.A.Answers.answers g.A.Plugs.unplugs g.A.Plugs.filled)} c.touches_follow.ensures c.points_follow.ensures c.halts_follow.ensures (record { keeps = g.met.A.Plugs.keeps; drops = g.met.A.Plugs.drops }) in
     let now = c.loop-next.invariant.progress in
     let l = g.S.Source.left c.args.source.now in
     let left = g.S.Source.left c.next.new.source in
@@ -140,7 +137,7 @@ returns-in_err-answer-in-More-clause-leaves g c =
 -- the text ended with a part
 pub returns-in-Last-clause-leaves : goal.returns-in-Last-clause-leaves
 returns-in-Last-clause-leaves g c =
-    let laws = laws-of {who = (answering g.A.Answers.answers g.A.Plugs.unplugs g.A.Plugs.filled)} c.effects_follow.ensures.follow c.halts_follow.ensures c.named_append.ensures.named c.named_append.ensures.behind c.picks_follow.ensures (record { keeps = g.met.A.Plugs.keeps; drops = g.met.A.Plugs.drops }) in
+    let laws = laws-of {who = (answering g.A.Answers.answers g.A.Plugs.unplugs g.A.Plugs.filled)} c.touches_follow.ensures c.points_follow.ensures c.halts_follow.ensures (record { keeps = g.met.A.Plugs.keeps; drops = g.met.A.Plugs.drops }) in
     let now = c.loop-next.invariant.progress in
     let l = g.S.Source.left c.args.source.now in
     let left = g.S.Source.left c.next.new.source in
@@ -195,16 +192,17 @@ returns-in-Last-clause-leaves g c =
 -- the text ended behind a whole part
 pub returns-in-End-clause-leaves : goal.returns-in-End-clause-leaves
 returns-in-End-clause-leaves g c =
+    let laws = laws-of {who = (answering g.A.Answers.answers g.A.Plugs.unplugs g.A.Plugs.filled)} c.touches_follow.ensures c.points_follow.ensures c.halts_follow.ensures (record { keeps = g.met.A.Plugs.keeps; drops = g.met.A.Plugs.drops }) in
     let now = c.loop-next.invariant.progress in
     let did = now.answers.answered in
     let read = subst (λ (n : Next). ReadsNext n c.loop-next.commands c.next.new.self (g.S.Source.left c.loop-next.source) (g.S.Source.left c.next.new.source)) c.in-End.is c.in-Ok.ensures.next in
-    let done = IsDone-end now read in
+    let done = IsDone-end laws now read in
     leaves-done _ (record {
       goes = record {
         at_most = TookAtMost-part now c.next.ensures.used c.next.ensures.still_within;
         any_moment = c.effects_follow.ensures.leaves c.args.outside.now.disk.now c.loop-next.outside.disk.now c.args.kept.now.store.entries (g.K.Sink.holds c.args.outside.now.sink.now) (g.K.Sink.holds c.loop-next.outside.sink.now) did.effects did.carries.out;
         later = c.loop-next.invariant.goes_on.later;
-        touched = touched-before now.answers;
+        touched = touched-before laws now.answers;
       };
       read = done.read;
       answered = done.answered;

@@ -14,7 +14,7 @@ use Rattle.arn_session.proofs.text.session.Goals as goal
 
 pub returns-in_err-commands-clause-leaves : goal.returns-in_err-commands-clause-leaves
 returns-in_err-commands-clause-leaves g c =
-    let laws = laws-of {who = (answering g.A.Answers.answers g.A.Plugs.unplugs g.A.Plugs.filled)} c.effects_follow.ensures.follow c.halts_follow.ensures c.named_append.ensures.named c.named_append.ensures.behind c.picks_follow.ensures (record { keeps = g.met.A.Plugs.keeps; drops = g.met.A.Plugs.drops }) in
+    let laws = laws-of {who = (answering g.A.Answers.answers g.A.Plugs.unplugs g.A.Plugs.filled)} c.touches_follow.ensures c.points_follow.ensures c.halts_follow.ensures (record { keeps = g.met.A.Plugs.keeps; drops = g.met.A.Plugs.drops }) in
     let p = err_from_is_err_and c.from_residual.result c.from_residual.ensures.1 in
     let held = (g.K.Sink.holds c.args.outside.now.sink.now) in
     let disk = c.args.outside.now.disk.now in

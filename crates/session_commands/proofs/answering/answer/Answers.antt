@@ -1,5 +1,4 @@
-use Rattle.std.proofs.Common.{◌≡◌, ◌∙◌, OnOk, IfErr, ap, is_some, refl, subst, sym, arith}
-use Rattle.std.specs.Prelude.{◌||◌}
+use Rattle.std.proofs.Common.{◌≡◌, ◌∙◌, OnOk, IfErr, ap, is_some, refl, subst, sym, arith, ◌||◌}
 use Rattle.arn_lines.specs.Texts.{refusal_text}
 use Rattle.arn_lines.specs.declared.answer.Refusal.{Refusal}
 use Rattle.arn_lines.specs.declared.answer.Refusal.TheVariants.{NoLong, NoLine}

@@ -1,5 +1,4 @@
-use Rattle.std.proofs.Common.{ℕ, List, ◌++◌, ◌∙◌, ap, option_map, subst}
-use Rattle.std.specs.Prelude.{string_bytes}
+use Rattle.std.proofs.Common.{ℕ, List, ◌++◌, ◌∙◌, ap, option_map, subst, string_bytes}
 use Rattle.std.proofs.lemmas.Result.{on_ok_weaker}
 use Rattle.session_effects.specs.Printing.{StopsPut}
 use Rattle.session_effects.specs.declared.halt.Halt.TheVariants as halt

@@ -19,10 +19,10 @@ use Rattle.session_commands.proofs.events.add_event.Goals as goal
 pub returns-in_err-event-clause-stops : goal.returns-in_err-event-clause-stops
 returns-in_err-event-clause-stops g c =
     let m = machine_of c.args.store.now.entries in
-    let i = input_of c.args.given.now in
+    let i = input_of c.args.incoming.now in
     let o = c.args.outside.now in
     err-same c.from_residual.result halt.NoMemory _ c.from_residual.ensures.1
-    (event-stop g.D.Disk (answering g.A.Answers.answers g.A.Plugs.unplugs g.A.Plugs.filled) (g.C.Chooser.choices o.chooser.now) o.answers.now o.steps.now m i (plain-given m c.args.given.now) (does (event_effects m i) []) refl c.halts_follow.ensures halt.NoMemory o.disk.now o.disk.now c.args.store.now.entries (g.K.Sink.holds o.sink.now) (g.K.Sink.holds o.sink.now)
+    (event-stop g.D.Disk (answering g.A.Answers.answers g.A.Plugs.unplugs g.A.Plugs.filled) (g.C.Chooser.choices o.chooser.now) o.answers.now o.steps.now m i (plain-given m c.args.incoming.now) (does (event_effects m i) []) refl c.halts_follow.ensures halt.NoMemory o.disk.now o.disk.now c.args.store.now.entries (g.K.Sink.holds o.sink.now) (g.K.Sink.holds o.sink.now)
     (Halts-before g.D.Disk c.effects_follow.ensures.follow c.halts_follow.ensures o.disk.now c.args.store.now.entries (g.K.Sink.holds o.sink.now) halt.NoMemory (event_effects m i) refl))
 
 pub finish-requires-clause-run : goal.finish-requires-clause-run
@@ -38,19 +38,19 @@ returns-clause-ready g c =
 pub returns-clause-advances : goal.returns-clause-advances
 returns-clause-advances g c =
     let m = machine_of c.args.store.now.entries in
-    let i = input_of c.args.given.now in
+    let i = input_of c.args.incoming.now in
     let o = c.args.outside.now in
     let is = event-effects m i c.in_ok-event.event c.in_ok-event.ensures.made in
-    event-advances g.D.Disk (answering g.A.Answers.answers g.A.Plugs.unplugs g.A.Plugs.filled) (g.C.Chooser.choices o.chooser.now) o.answers.now o.steps.now m i (plain-given m c.args.given.now) (does (event_effects m i) []) refl
+    event-advances g.D.Disk (answering g.A.Answers.answers g.A.Plugs.unplugs g.A.Plugs.filled) (g.C.Chooser.choices o.chooser.now) o.answers.now o.steps.now m i (plain-given m c.args.incoming.now) (does (event_effects m i) []) refl
     c.finish.result o.disk.now c.finish.new.disk c.args.store.now c.finish.new.store (g.K.Sink.holds o.sink.now) (g.K.Sink.holds c.finish.new.sink)
     (subst (λ (e : List Effect). OnOk c.finish.result (Carries IsRun g.D.Disk o.disk.now c.finish.new.disk c.args.store.now c.finish.new.store (g.K.Sink.holds o.sink.now) (g.K.Sink.holds c.finish.new.sink) e)) is c.finish.ensures.carries)
 
 pub returns-clause-stops : goal.returns-clause-stops
 returns-clause-stops g c =
     let m = machine_of c.args.store.now.entries in
-    let i = input_of c.args.given.now in
+    let i = input_of c.args.incoming.now in
     let o = c.args.outside.now in
     let is = event-effects m i c.in_ok-event.event c.in_ok-event.ensures.made in
-    event-stops g.D.Disk (answering g.A.Answers.answers g.A.Plugs.unplugs g.A.Plugs.filled) (g.C.Chooser.choices o.chooser.now) o.answers.now o.steps.now m i (plain-given m c.args.given.now) (does (event_effects m i) []) refl
+    event-stops g.D.Disk (answering g.A.Answers.answers g.A.Plugs.unplugs g.A.Plugs.filled) (g.C.Chooser.choices o.chooser.now) o.answers.now o.steps.now m i (plain-given m c.args.incoming.now) (does (event_effects m i) []) refl
     c.halts_follow.ensures c.finish.result o.disk.now c.finish.new.disk c.args.store.now.entries (g.K.Sink.holds o.sink.now) (g.K.Sink.holds c.finish.new.sink)
     (subst (λ (e : List Effect). IfErr c.finish.result (λ halt. HaltsIn (StopsBetween IsRun g.D.Disk o.disk.now c.finish.new.disk c.args.store.now.entries (g.K.Sink.holds o.sink.now) (g.K.Sink.holds c.finish.new.sink) halt) e)) is c.finish.ensures.stops)

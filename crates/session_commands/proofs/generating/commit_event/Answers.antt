@@ -17,7 +17,7 @@ use Rattle.session_commands.proofs.generating.commit_event.Goals as goal
 pub returns-in_err-event-clause-stops : goal.returns-in_err-event-clause-stops
 returns-in_err-event-clause-stops g c held =
     err-same c.from_residual.result halt.NoMemory _ c.from_residual.ensures.1
-    (Halts-before g.D.Disk c.effects_follow.ensures.follow c.halts_follow.ensures c.args.disk.now c.args.store.now.entries held halt.NoMemory (event_commits (machine_of c.args.store.now.entries) (input_of c.args.given.now ∷ [])) refl)
+    (Halts-before g.D.Disk c.effects_follow.ensures.follow c.halts_follow.ensures c.args.disk.now c.args.store.now.entries held halt.NoMemory (event_commits (machine_of c.args.store.now.entries) (input_of c.args.incoming.now ∷ [])) refl)
 
 pub commit-requires-clause-run : goal.commit-requires-clause-run
 commit-requires-clause-run g c is_run = c.in_ok-event.ensures.ready.is_run
@@ -39,7 +39,7 @@ returns-clause-stops g c held =
     err-both c.commit.result _ _ _
     (λ why stopped again. record {
       done = [];
-      undone = event_commits (machine_of c.args.store.now.entries) (input_of c.args.given.now ∷ []);
+      undone = event_commits (machine_of c.args.store.now.entries) (input_of c.args.incoming.now ∷ []);
       are_effects = refl;
       stopped = subst (λ (e : List Effect). StopsBetween IsRun g.D.Disk c.args.disk.now c.commit.new.disk c.args.store.now.entries held held why [] e) (ap (λ (x : List Record). Commits x ∷ []) c.in_ok-event.ensures.made.are_records) (stopped held);
     })

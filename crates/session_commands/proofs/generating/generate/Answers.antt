@@ -1,5 +1,4 @@
-use Rattle.std.proofs.Common.{List, length, ap, ◌∙◌, is_some, refl, subst, sym, arith}
-use Rattle.std.specs.Prelude.{All}
+use Rattle.std.proofs.Common.{List, length, ap, ◌∙◌, is_some, refl, subst, sym, arith, All}
 use Rattle.arn_base.specs.declared.records.Record.{Record}
 use Rattle.arn_commands.specs.declared.command.Command.TheVariants.{Generates}
 use Rattle.log_store.specs.Stores.{StoreState}

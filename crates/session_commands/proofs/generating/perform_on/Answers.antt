@@ -29,8 +29,8 @@ returns-clause-advances g c told processes =
     let u = around (g.C.Chooser.choices c.args.outside.now.chooser.now) c.args.outside.now.answers.now c.args.outside.now.steps.now in
     let done : AreCommitted g.D.Disk c.args.outside.now.disk.now c.commit_events.new.disk c.args.store.now s inputs = record { carries = c.in_ok-commit_events.ensures.carries; leads = c.in_ok-commit_events.ensures.leads } in
     on_ok_weaker c.run_quietly.result
-    (λ q. c.points_follow.ensures.advances (generator_turn told c.args.store.now.entries c.args.image.now c.args.typed.now processes) (gen_run told s.entries (machine_of s.entries) processes) (prints (told.generated n.store.entries processes)) u u (around (g.C.Chooser.choices n.outside.chooser.now) n.outside.answers.now n.outside.steps.now) 0 0 c.args.outside.now.disk.now c.commit_events.new.disk n.outside.disk.now c.args.store.now s n.store held held (g.K.Sink.holds n.outside.sink.now)
-    (Advances-events g.D.Disk (answering g.A.Answers.answers g.A.Plugs.unplugs g.A.Plugs.filled) c.named_append.ensures.named c.named_append.ensures.behind told processes (g.C.Chooser.choices c.args.outside.now.chooser.now) c.args.outside.now.answers.now c.args.outside.now.steps.now c.args.outside.now.disk.now c.commit_events.new.disk c.args.store.now s held inputs (plain-events (machine_of c.args.store.now.entries) c.args.image.now c.args.typed.now) done) q)
+    (λ q. (c.points_follow.ensures.advances (generator_turn told c.args.store.now.entries c.args.image.now c.args.typed.now processes) (gen_run told s.entries (machine_of s.entries) processes) (prints (told.generated n.store.entries processes)) u u (around (g.C.Chooser.choices n.outside.chooser.now) n.outside.answers.now n.outside.steps.now) 0 0 c.args.outside.now.disk.now c.commit_events.new.disk n.outside.disk.now c.args.store.now s n.store held held (g.K.Sink.holds n.outside.sink.now)
+    (Advances-events g.D.Disk (answering g.A.Answers.answers g.A.Plugs.unplugs g.A.Plugs.filled) c.named_append.ensures.named c.named_append.ensures.behind told processes (g.C.Chooser.choices c.args.outside.now.chooser.now) c.args.outside.now.answers.now c.args.outside.now.steps.now c.args.outside.now.disk.now c.commit_events.new.disk c.args.store.now s held inputs (plain-events (machine_of c.args.store.now.entries) c.args.image.now c.args.typed.now) done) q).advances)
     (c.run_quietly.ensures.advances told processes)
 
 pub returns-clause-stops : goal.returns-clause-stops
@@ -42,8 +42,8 @@ returns-clause-stops g c told processes =
     let u = around (g.C.Chooser.choices c.args.outside.now.chooser.now) c.args.outside.now.answers.now c.args.outside.now.steps.now in
     let done : AreCommitted g.D.Disk c.args.outside.now.disk.now c.commit_events.new.disk c.args.store.now s inputs = record { carries = c.in_ok-commit_events.ensures.carries; leads = c.in_ok-commit_events.ensures.leads } in
     err-both c.run_quietly.result _ _ _
-    (λ why q cause. c.points_follow.ensures.stops (generator_turn told c.args.store.now.entries c.args.image.now c.args.typed.now processes) (gen_run told s.entries (machine_of s.entries) processes) u u (around (g.C.Chooser.choices n.outside.chooser.now) n.outside.answers.now n.outside.steps.now) 0 0 c.args.outside.now.disk.now c.commit_events.new.disk n.outside.disk.now c.args.store.now s held held (g.K.Sink.holds n.outside.sink.now) why
-    (Advances-events g.D.Disk (answering g.A.Answers.answers g.A.Plugs.unplugs g.A.Plugs.filled) c.named_append.ensures.named c.named_append.ensures.behind told processes (g.C.Chooser.choices c.args.outside.now.chooser.now) c.args.outside.now.answers.now c.args.outside.now.steps.now c.args.outside.now.disk.now c.commit_events.new.disk c.args.store.now s held inputs (plain-events (machine_of c.args.store.now.entries) c.args.image.now c.args.typed.now) done) q)
+    (λ why q cause. (c.points_follow.ensures.stops (generator_turn told c.args.store.now.entries c.args.image.now c.args.typed.now processes) (gen_run told s.entries (machine_of s.entries) processes) u u (around (g.C.Chooser.choices n.outside.chooser.now) n.outside.answers.now n.outside.steps.now) 0 0 c.args.outside.now.disk.now c.commit_events.new.disk n.outside.disk.now c.args.store.now s held held (g.K.Sink.holds n.outside.sink.now) why
+    (Advances-events g.D.Disk (answering g.A.Answers.answers g.A.Plugs.unplugs g.A.Plugs.filled) c.named_append.ensures.named c.named_append.ensures.behind told processes (g.C.Chooser.choices c.args.outside.now.chooser.now) c.args.outside.now.answers.now c.args.outside.now.steps.now c.args.outside.now.disk.now c.commit_events.new.disk c.args.store.now s held inputs (plain-events (machine_of c.args.store.now.entries) c.args.image.now c.args.typed.now) done) q).stops)
     (c.run_quietly.ensures.stops told processes) c.run_quietly.ensures.cause
 
 pub returns-clause-cause : goal.returns-clause-cause

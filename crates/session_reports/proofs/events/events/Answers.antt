@@ -1,5 +1,4 @@
-use Rattle.std.proofs.Common.{ap, sym, ◌∙◌}
-use Rattle.std.specs.String.{string_bytes}
+use Rattle.std.proofs.Common.{ap, sym, ◌∙◌, string_bytes}
 use Rattle.session_reports.proofs.Numbered.{listed-event, listed-slice}
 use Rattle.session_reports.proofs.events.events.Goals as goal
 use Rattle.session_reports.proofs.events.events.Goals.{then-is_event+in_ok-push_one, else-is_event}

@@ -1,6 +1,4 @@
-use Rattle.std.proofs.Common.{◌++◌, List, ℕ, ap, get_or, sym, take, ◌∙◌}
-use Rattle.std.specs.Prelude.{flat_map}
-use Rattle.std.specs.String.{string_bytes}
+use Rattle.std.proofs.Common.{◌++◌, List, ℕ, ap, get_or, sym, take, ◌∙◌, flat_map, string_bytes}
 use Rattle.std.proofs.lemmas.List.{flat_map_more, take_more}
 use Rattle.session_reports.specs.Groups.{group_text}
 use Rattle.session_reports.proofs.groups.push_each.Goals as goal

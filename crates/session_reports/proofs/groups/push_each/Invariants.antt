@@ -1,6 +1,4 @@
-use Rattle.std.proofs.Common.{◌≡◌, ◌++◌, List, take}
-use Rattle.std.specs.Prelude.{flat_map}
-use Rattle.std.specs.String.{string_bytes}
+use Rattle.std.proofs.Common.{◌≡◌, ◌++◌, List, take, flat_map, string_bytes}
 use Rattle.arn_base.specs.declared.records.Record.{Record}
 use Rattle.history_index.specs.Indexes.{Indexes}
 use Rattle.session_reports.specs.Groups.{group_text}

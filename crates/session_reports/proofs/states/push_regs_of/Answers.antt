@@ -1,5 +1,4 @@
-use Rattle.std.proofs.Common.{◌++◌, List, ℕ, ap, ◌∙◌}
-use Rattle.std.specs.String.{string_bytes}
+use Rattle.std.proofs.Common.{◌++◌, List, ℕ, ap, ◌∙◌, string_bytes}
 use Rattle.past_lives.specs.Members.{is_member}
 use Rattle.session_reports.proofs.Shown.{error-shown, on_both}
 use Rattle.session_reports.specs.States.{regs_of}

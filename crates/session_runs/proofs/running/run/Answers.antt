@@ -19,9 +19,9 @@ returns-in_err-leg-clause-stops g c =
     let why = c.in_err-leg.field-0.0 in
     let choices = g.C.Chooser.choices in
     err-same c.from_residual.result why _ c.from_residual.ensures.1
-    (c.points_follow.ensures.stops (runs.run (machine_of c.args.store.now.entries) c.args.count) (run_from c.args.count (begun (machine_of l.store.entries) l.left))
+    ((c.points_follow.ensures.stops (runs.run (machine_of c.args.store.now.entries) c.args.count) (run_from c.args.count (begun (machine_of l.store.entries) l.left))
     (around (choices c.args.outside.now.chooser.now) c.args.outside.now.answers.now c.args.outside.now.steps.now) (around (choices l.outside.chooser.now) l.outside.answers.now l.outside.steps.now) (around (choices n.outside.chooser.now) n.outside.answers.now n.outside.steps.now) 0 0 c.args.outside.now.disk.now l.outside.disk.now n.outside.disk.now c.args.store.now l.store
-    (g.K.Sink.holds c.args.outside.now.sink.now) (g.K.Sink.holds l.outside.sink.now) (g.K.Sink.holds n.outside.sink.now) why l.invariant.so_far (c.in_err-leg.ensures.stops c.args.count))
+    (g.K.Sink.holds c.args.outside.now.sink.now) (g.K.Sink.holds l.outside.sink.now) (g.K.Sink.holds n.outside.sink.now) why l.invariant.so_far (c.in_err-leg.ensures.stops c.args.count)).stops)
 
 pub loop-end-preserved : goal.loop-end-preserved
 loop-end-preserved g c =
@@ -32,9 +32,9 @@ loop-end-preserved g c =
     record {
       ready = e.ready;
       so_far =
-          c.points_follow.ensures.advances (runs.run (machine_of c.args.store.now.entries) c.args.count) (run_from c.args.count (begun (machine_of l.store.entries) l.left)) (run_from c.args.count (begun (machine_of n.store.entries) (l.left - c.in_ok-leg.leg.ran)))
+          (c.points_follow.ensures.advances (runs.run (machine_of c.args.store.now.entries) c.args.count) (run_from c.args.count (begun (machine_of l.store.entries) l.left)) (run_from c.args.count (begun (machine_of n.store.entries) (l.left - c.in_ok-leg.leg.ran)))
           (around (choices c.args.outside.now.chooser.now) c.args.outside.now.answers.now c.args.outside.now.steps.now) (around (choices l.outside.chooser.now) l.outside.answers.now l.outside.steps.now) (around (choices n.outside.chooser.now) n.outside.answers.now n.outside.steps.now) 0 0 c.args.outside.now.disk.now l.outside.disk.now n.outside.disk.now c.args.store.now l.store n.store
-          (g.K.Sink.holds c.args.outside.now.sink.now) (g.K.Sink.holds l.outside.sink.now) (g.K.Sink.holds n.outside.sink.now) l.invariant.so_far (e.advances c.args.count);
+          (g.K.Sink.holds c.args.outside.now.sink.now) (g.K.Sink.holds l.outside.sink.now) (g.K.Sink.holds n.outside.sink.now) l.invariant.so_far (e.advances c.args.count)).advances;
       ended = subst (λ o. IfSome o (λ e. ends (begun (machine_of n.store.entries) (l.left - c.in_ok-leg.leg.ran)) ≡ Some e)) (sym c.run_end-end.ensures) (told-some _ _ e.end);
       within = omega (arith, l.invariant.within);
       goes_on = c.goings_follow.ensures.later c.args.outside.now l.outside n.outside l.invariant.goes_on c.run_leg.ensures.goes_on;
@@ -49,11 +49,11 @@ returns-clause-advances g c =
     let ended : ends (begun (machine_of l.store.entries) l.left) ≡ Some end = if-some l.end end (λ e. ends (begun (machine_of l.store.entries) l.left) ≡ Some e) c.in-Some.is l.invariant.ended in
     on_ok_weaker c.print_ran.result
     (λ put.
-    c.points_follow.ensures.advances (runs.run (machine_of c.args.store.now.entries) c.args.count) (run_from c.args.count (begun (machine_of l.store.entries) l.left)) finished
+    (c.points_follow.ensures.advances (runs.run (machine_of c.args.store.now.entries) c.args.count) (run_from c.args.count (begun (machine_of l.store.entries) l.left)) finished
     (around (choices c.args.outside.now.chooser.now) c.args.outside.now.answers.now c.args.outside.now.steps.now) (around (choices l.outside.chooser.now) l.outside.answers.now l.outside.steps.now) (around (choices l.outside.chooser.now) l.outside.answers.now l.outside.steps.now) 0 0 c.args.outside.now.disk.now l.outside.disk.now l.outside.disk.now c.args.store.now l.store l.store
     (holds c.args.outside.now.sink.now) (holds l.outside.sink.now) (holds c.print_ran.new.sink) l.invariant.so_far
     (Advances-end (answering g.A.Answers.answers g.A.Plugs.unplugs g.A.Plugs.filled) c.args.count (machine_of l.store.entries) l.left end (around (choices l.outside.chooser.now) l.outside.answers.now l.outside.steps.now) _ ended
-    (Carries-text IsRun g.D.Disk c.effects_follow.ensures.follow l.outside.disk.now l.store (holds l.outside.sink.now) (holds c.print_ran.new.sink) _ l.invariant.so_far.carries.stays_open put)))
+    (Carries-text IsRun g.D.Disk c.effects_follow.ensures.follow l.outside.disk.now l.store (holds l.outside.sink.now) (holds c.print_ran.new.sink) _ l.invariant.so_far.carries.stays_open put))).advances)
     c.print_ran.ensures.ok
 
 pub returns-clause-stops : goal.returns-clause-stops
@@ -65,10 +65,10 @@ returns-clause-stops g c =
     let ended : ends (begun (machine_of l.store.entries) l.left) ≡ Some end = if-some l.end end (λ e. ends (begun (machine_of l.store.entries) l.left) ≡ Some e) c.in-Some.is l.invariant.ended in
     IfErr-weaker c.print_ran.result _ _
     (λ why put.
-    c.points_follow.ensures.stops (runs.run (machine_of c.args.store.now.entries) c.args.count) (run_from c.args.count (begun (machine_of l.store.entries) l.left))
+    (c.points_follow.ensures.stops (runs.run (machine_of c.args.store.now.entries) c.args.count) (run_from c.args.count (begun (machine_of l.store.entries) l.left))
     (around (choices c.args.outside.now.chooser.now) c.args.outside.now.answers.now c.args.outside.now.steps.now) (around (choices l.outside.chooser.now) l.outside.answers.now l.outside.steps.now) (around (choices l.outside.chooser.now) l.outside.answers.now l.outside.steps.now) 0 0 c.args.outside.now.disk.now l.outside.disk.now l.outside.disk.now c.args.store.now l.store
     (holds c.args.outside.now.sink.now) (holds l.outside.sink.now) (holds c.print_ran.new.sink) why l.invariant.so_far
-    (Stops-end IsRun g.D.Disk (answering g.A.Answers.answers g.A.Plugs.unplugs g.A.Plugs.filled) c.halts_follow.ensures c.args.count (machine_of l.store.entries) l.left end l.outside.disk.now l.store.entries (holds l.outside.sink.now) (holds c.print_ran.new.sink) why (around (choices l.outside.chooser.now) l.outside.answers.now l.outside.steps.now) ended put))
+    (Stops-end IsRun g.D.Disk (answering g.A.Answers.answers g.A.Plugs.unplugs g.A.Plugs.filled) c.halts_follow.ensures c.args.count (machine_of l.store.entries) l.left end l.outside.disk.now l.store.entries (holds l.outside.sink.now) (holds c.print_ran.new.sink) why (around (choices l.outside.chooser.now) l.outside.answers.now l.outside.steps.now) ended put)).stops)
     c.print_ran.ensures.stops
 
 -- putting the last line goes on

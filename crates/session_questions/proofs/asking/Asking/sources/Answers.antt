@@ -1,23 +1,23 @@
-use Rattle.std.proofs.Common.{◌≡◌, ◌++◌, List, ℕ, OnOk, string_bytes, subst, sym}
-use Rattle.arn_lines.specs.declared.line.Sought.{Sought}
-use Rattle.query_engine.specs.Asked.{in_file}
-use Rattle.rv64_model.specs.Carries.{operands}
-use Rattle.session_questions.specs.Texts.{back_telling, named_telling}
+-- What is told of bytes is what is told of the target that they are.
+use Rattle.std.proofs.Common.{◌≤◌, ◌+◌, ◌∙◌, ap, string_bytes, subst, sym}
+use Rattle.std.proofs.lemmas.Result.{on_ok_weaker}
+use Rattle.session_questions.specs.Texts.{Telling, back_telling, target_telling}
+use Rattle.session_questions.proofs.Sought.{cost-failed, put-answered}
 use Rattle.session_questions.proofs.asking.Asking.sources.Goals as goal
 
-pub returns-in-Memory-clause-text : goal.returns-in-Memory-clause-text
-returns-in-Memory-clause-text g c =
-    subst (λ (s : Sought). OnOk c.memory_sources.result (string_bytes c.memory_sources.new.text ≡ string_bytes c.args.text.now ++ (back_telling c.args.entries.now c.args.linkage s).text))
-    (sym c.in-Memory.is) c.memory_sources.ensures.text
+pub returns-in-Ok-clause-text : goal.returns-in-Ok-clause-text
+returns-in-Ok-clause-text g c =
+    let entries = c.args.entries.now in
+    let linkage = c.args.linkage in
+    let told = c.in_ok-target.ensures linkage ∙ ap (target_telling linkage entries) c.in-Some.is in
+    on_ok_weaker c.push_answer.result
+    (put-answered linkage entries (back_telling entries linkage c.args.sought.now) c.in-Some.target c.in-Ok.answer (string_bytes c.args.text.now) (string_bytes c.push_answer.new.text) told c.in-Ok.ensures.ok)
+    c.push_answer.ensures
 
-pub returns-in-Register-clause-text : goal.returns-in-Register-clause-text
-returns-in-Register-clause-text g c =
-    subst (λ (s : Sought). OnOk c.register_sources.result (string_bytes c.register_sources.new.text ≡ string_bytes c.args.text.now ++ (back_telling c.args.entries.now c.args.linkage s).text))
-    (sym c.in-Register.is) c.register_sources.ensures.text
-
-pub returns-in-Name-clause-text : goal.returns-in-Name-clause-text
-returns-in-Name-clause-text g c =
-    subst (λ (s : Sought). OnOk c.name_sources.result (string_bytes c.name_sources.new.text ≡ string_bytes c.args.text.now ++ (back_telling c.args.entries.now c.args.linkage s).text))
-    (sym c.in-Name.is)
-    (subst (λ (n : List ℕ). OnOk c.name_sources.result (string_bytes c.name_sources.new.text ≡ string_bytes c.args.text.now ++ (named_telling (operands c.args.linkage) c.args.entries.now (in_file c.in-Name.moment n c.in-Name.from c.in-Name.len)).text))
-    c.as_slice.ensures c.name_sources.ensures.text)
+pub returns-clause-steps : goal.returns-clause-steps
+returns-clause-steps g c =
+    let entries = c.args.entries.now in
+    let linkage = c.args.linkage in
+    let told = c.in_ok-target.ensures linkage ∙ ap (target_telling linkage entries) c.in-Some.is in
+    subst (λ (t : Telling). c.back.new.steps ≤ c.args.steps.now + t.cost) (sym told)
+    (cost-failed linkage entries c.in-Some.target c.in-Err.error c.args.steps.now c.back.new.steps c.in-Err.ensures.err c.in-Err.ensures.unasked c.back.ensures.bounded)
