@@ -14,7 +14,7 @@ pub enum Status {
     #[error("done")]
     Done,
     /// The words aren't accepted.
-    #[error("usage: arnold LOG, where LOG is the path of the log, in UTF-8 and without - in front")]
+    #[error("the words aren't accepted")]
     Usage,
     /// The disk failed.
     #[error("the disk failed")]

@@ -18,11 +18,7 @@ const OTHERWISE: Differs = Differs {
 /// Statuses, and the codes and texts of each.
 const STATUSES: &[(Status, u8, &str)] = &[
     (Status::Done, 0, "done"),
-    (
-        Status::Usage,
-        2,
-        "usage: arnold LOG, where LOG is the path of the log, in UTF-8 and without - in front",
-    ),
+    (Status::Usage, 2, "the words aren't accepted"),
     (Status::Disk, 3, "the disk failed"),
     (
         Status::Damaged(Damage::TooLong { len: 268_435_457 }),

@@ -43,6 +43,10 @@ const WORDS: &[(&[&str], &str)] = &[
     (&["--round", "1", "log"], "\"log\" 1 0 false"),
     (&["--round=7", "log", "--random"], "\"log\" 7 0 true"),
     (&["--random", "--seed=3", "log"], "\"log\" 1000 3 true"),
+    (
+        &["--round", "5", "--seed", "3", "--random", "log"],
+        "\"log\" 5 3 true",
+    ),
     (&["log", "--seed", "18446744073709551616"], "usage"),
     (&["log", "--seed", "-1"], "usage"),
     (&["log", "--seed", "1x"], "usage"),

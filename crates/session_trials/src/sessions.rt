@@ -104,7 +104,7 @@ fn run_over<D: Disk, L: Ledger>(
     ensures usage { IfOk result (λ ended. ended.status ≡ Status.Usage → ¬ AreAccepted words.now) }
     ensures unaccepted { IfOk result (λ ended. ¬ AreAccepted words.now →
         (ended.status ≡ Status.Usage) ⊎ (ended.status ≡ Status.NoMemory)) }
-    ensures silent { IfOk result (λ ended. ended.status ≡ Status.Usage → ended.sink.held ≡ []) }
+    ensures silent { IfOk result (λ ended. ¬ AreAccepted words.now → ended.sink.held ≡ []) }
 {
     let bytes = Bytes::from_slice(alloc, script.text)?;
     let fails = numbers(alloc, script.source_fails)?;
@@ -146,7 +146,8 @@ pub fn run_on<D: Disk>(
     ensures unaccepted { IfOk result (λ ended.
         ¬ AreAcceptedTexts (map (λ word. word.now) words.now) →
         (ended.status ≡ Status.Usage) ⊎ (ended.status ≡ Status.NoMemory)) }
-    ensures silent { IfOk result (λ ended. ended.status ≡ Status.Usage → ended.sink.held ≡ []) }
+    ensures silent { IfOk result (λ ended.
+        ¬ AreAcceptedTexts (map (λ word. word.now) words.now) → ended.sink.held ≡ []) }
 {
     let words = owned(alloc, words)?;
     run_over::<D, Brand>(alloc, words.as_slice(), script, disk, Blank::new(1))
@@ -161,7 +162,8 @@ pub fn run(alloc: Global, words: &[&str], script: &Script) -> Result<Ended, NoMe
     ensures unaccepted { IfOk result (λ ended.
         ¬ AreAcceptedTexts (map (λ word. word.now) words.now) →
         (ended.status ≡ Status.Usage) ⊎ (ended.status ≡ Status.NoMemory)) }
-    ensures silent { IfOk result (λ ended. ended.status ≡ Status.Usage → ended.sink.held ≡ []) }
+    ensures silent { IfOk result (λ ended.
+        ¬ AreAcceptedTexts (map (λ word. word.now) words.now) → ended.sink.held ≡ []) }
 {
     let mut disk = MemDisk::new(alloc, Bytes::new(alloc));
     run_on(alloc, words, script, &mut disk)
