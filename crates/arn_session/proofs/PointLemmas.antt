@@ -79,7 +79,7 @@ pub without-along : (a a' : Point) (lost : List Picked) (done : List Effect) (ta
 without-along a a' lost done taken same (inl none) = inl none
 without-along a a' lost done taken same (inr cut) = inr (subst (λ (t : Turn). EndsWithin done t) (sym same) cut)
 
-no-commit : (entries : List Record) → IsAtCommit [] entries → ⊥
+pub no-commit : (entries : List Record) → IsAtCommit [] entries → ⊥
 no-commit entries at = let e = at.is_commit in cc
 
 module _ {D A : Type 0} (d : Ghosts D) (who : Answering A) where

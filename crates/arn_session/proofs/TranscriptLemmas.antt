@@ -117,11 +117,12 @@ module _ (g : Given) where
 
   -- a command that doesn't need the machine commits nothing
   commits-unless : (history : List Record) (l : Line) (why : Option Refusal) (slices : List Picked) → ((row_of g history l).needs_machine && is_none why) ≡ false → committed (turn_unless why (row_of g history l).turn slices).effects ≡ []
+  commits-unless history l (Some why) slices isnt = refl
   commits-unless history (line.File name bytes) None slices isnt = absurd (false≢true (sym isnt))
   commits-unless history (line.Boot name) None slices isnt = absurd (false≢true (sym isnt))
   commits-unless history (line.Type bytes) None slices isnt = absurd (false≢true (sym isnt))
   commits-unless history (line.Run count) None slices isnt = absurd (false≢true (sym isnt))
-  commits-unless history l _ slices isnt = refl
+  commits-unless history l None slices isnt = refl
 
   commits-refused : (point : Point) (why : Option Refusal) (slices : List Picked) → is_none why ≡ false → committed (turn_unless why point slices).effects ≡ []
   commits-refused point (Some why) slices isnt = refl
