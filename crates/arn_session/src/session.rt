@@ -111,27 +111,38 @@ fn answer_in_slots<
     answer_lent(alloc, store, questions, source, slots, outside)
 }
 
-// The same with devices that are lent.
+// The same with devices that are lent, and all else by itself.
 fn answer_text<Q: Questions + Drop, C: Chooser, V: Device, S: Source, K: Sink, D: Disk, L: Ledger>(
     alloc: Global,
     store: Store,
     questions: Q,
-    source: &mut S,
+    chooser: &mut C,
     devices: &mut Vec<Option<V>>,
-    outside: &mut Outside<C, (), D, K, L>,
+    source: &mut S,
+    sink: &mut K,
+    disk: &mut D,
+    steps: &mut Steps<L>,
 ) -> Result<(), Halt>
-    requires open { IsOpen D.Disk store outside.old.disk.now }
+    requires open { IsOpen D.Disk store disk.old }
     requires known { Q.knows questions store.entries }
-    ensures leaves { Leaves D.Disk (slots_answer V.Device)
+    ensures { Leaves D.Disk (slots_answer V.Device)
         (given Q.told (is_filled devices.old.items)) store.entries result
-        (scene_of S.Source K.Sink source.old outside.old.sink.now outside.old.disk.now
-        (around (C.choices outside.old.chooser.now) devices.old.items outside.old.steps.now))
-        (scene_of S.Source K.Sink source.new outside.new.sink.now outside.new.disk.now
-        (around (C.choices outside.new.chooser.now) devices.new.items outside.new.steps.now)) }
-    ensures same { IsSame outside.old outside.new }
+        (scene_of S.Source K.Sink source.old sink.old disk.old
+        (around (C.choices chooser.old) devices.old.items steps.old))
+        (scene_of S.Source K.Sink source.new sink.new disk.new
+        (around (C.choices chooser.new) devices.new.items steps.new)) }
 {
+    let mut text = String::new(alloc);
     let mut slots = Slots { devices };
-    answer_in_slots(alloc, store, questions, source, &mut slots, outside)
+    let mut outside = Outside {
+        chooser,
+        answers: &mut (),
+        disk,
+        sink,
+        steps,
+        text: &mut text,
+    };
+    answer_in_slots(alloc, store, questions, source, &mut slots, &mut outside)
 }
 
 /// Does all that the program does: opens the log, reads the source command by command, commits what
@@ -339,16 +350,9 @@ pub fn arnold<S: Source, K: Sink, D: Disk, L: Ledger>(
         Err(IndexError::Broken { place }) => return Status::Damaged(Damage::Broken { place }),
         Err(IndexError::NoMemory) => return Status::NoMemory,
     };
-    let mut text = String::new(alloc);
-    let mut outside = Outside {
-        chooser,
-        answers: &mut (),
-        disk,
-        sink,
-        steps,
-        text: &mut text,
-    };
-    match answer_text(alloc, store, questions, source, devices, &mut outside) {
+    match answer_text(
+        alloc, store, questions, chooser, devices, source, sink, disk, steps,
+    ) {
         Ok(()) => Status::Done,
         Err(halt) => Status::from(halt),
     }

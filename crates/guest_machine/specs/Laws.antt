@@ -1,12 +1,8 @@
 -- What holds of runs and their records.
 use Rattle.std.specs.Prelude.{◌≡◌, ◌<◌, ◌≤◌, ◌^◌, ℕ, List, ◌++◌, length}
 use Rattle.arn_base.specs.declared.records.Record.{Record}
-use Rattle.parts_model.specs.Replies.{Answered}
 use Rattle.arn_model.specs.Run.{Input, machine_after}
 use Rattle.log_model.specs.Records.{records, named}
-use Rattle.guest_devices.specs.Answers.{Asked}
-use Rattle.guest_legs.specs.Legs.{Ask, Picked}
-use Rattle.guest_machine.specs.Legs.{RepliedBy}
 use Rattle.guest_machine.specs.Recorded.{Recorded, Runs, IsAfter, HasRoom}
 
 -- inputs that run after others lead to what both lead to
@@ -27,8 +23,3 @@ NamedFollow = (r : Recorded) (inputs : List Input) → IsAfter r inputs → IsAf
 abbrev pub RecordsLeaveRoom : Type 0
 RecordsLeaveRoom =
     (r : Recorded) (inputs : List Input) (events instructions : ℕ) → IsAfter r inputs → length (records inputs) < 2 ^ 63 → events ≤ 2 ^ 63 → instructions ≤ 2 ^ 64 → HasRoom r events instructions
-
--- replies to slices that follow others
-abbrev pub RepliesFollow : {A : Type 0} → (A → Asked → Answered → A → Type 0) → Type 0
-RepliesFollow {A} answers =
-    (old between new : A) (asks more : List Ask) (slices others : List Picked) → RepliedBy answers asks slices old between → RepliedBy answers more others between new → RepliedBy answers (asks ++ more) (slices ++ others) old new

@@ -1,7 +1,6 @@
 // What holds of runs and their records.
-ghost use Rattle.guest_machine.specs.Laws.{NamedFollow, RecordsFollow, RecordsLeaveRoom, RepliesFollow, RunsFollow};
+ghost use Rattle.guest_machine.specs.Laws.{NamedFollow, RecordsFollow, RecordsLeaveRoom, RunsFollow};
 
-use guest_devices::Answers;
 use log_model::{named_runs_again, records_bound};
 
 /// Runs follow one another.
@@ -27,8 +26,3 @@ pub fn records_leave_room()
 {
     records_bound();
 }
-
-/// Replies to slices follow one another.
-pub fn replies_follow<A: Answers>()
-    ensures { RepliesFollow A.answers }
-{}

@@ -74,7 +74,7 @@ IsSpent lost undone left = (left ≡ None) ⊎ ((left ≡ Some []) × ((undone �
 -- `slices`, and say of just those devices that they were unplugged which `touches` unplug. Slices that were picked behind these and not
 -- committed are lost: those of the open leg. Without them the slices end before it; where a commit stands next, it names them, and says of
 -- just those devices that they were unplugged which the touches behind the others unplug. Where memory ran out in a slice, that one was
--- picked too, and a part of it may have run; or no machine was made for an unplugging, which wasn't made either.
+-- picked too, and a part of it may have run; or memory ran out before an unplugging, or no machine was made for it: then it wasn't made.
 pub record Stops {D A : Type 0} (is_run : List Record → Type 0) (d : Ghosts D) (who : Answering A) (disk disk' : D) (history : List Record) (held holds : Option (List ℕ)) (why : Halt) (from : Point) (old new : Surroundings A) (cost : ℕ) : Type 0 where
   pub slices : List Picked
   pub lost : List Picked
