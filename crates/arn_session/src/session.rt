@@ -1,5 +1,5 @@
 // The top call: reads a source to its end, and answers each command of its text to a sink.
-ghost use Rattle.std.specs.Prelude.{◌≡◌, ◌≢◌, ◌⊎◌, ◌+◌, ◌<◌, ◌≤◌, ◌^◌, [], ℕ, List, length, drop, OnOk, IfErr, IsErrOf, IfNone, IfSome, None, Some};
+ghost use Rattle.std.specs.Prelude.{◌≡◌, ◌≢◌, ◌⊎◌, ◌+◌, ◌<◌, ◌≤◌, ◌^◌, [], ℕ, List, length, drop, IfNone, IfSome, None, Some};
 ghost use Rattle.arn_base.specs.Faults.{Rose};
 ghost use Rattle.arn_base.specs.declared.records.Differs.{Differs};
 ghost use Rattle.arn_base.specs.declared.records.Record.{Record};
