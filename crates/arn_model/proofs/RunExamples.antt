@@ -111,7 +111,10 @@ typed-behind = (refl, refl, refl, refl)
 unplugs :
     ((unplug_step (at_event_5 kernel) 7).after.kernel ≡ record kernel { unplugged = 7 ∷ [] })
     × (events_of (unplug_step (at_event_5 kernel) 7 ∷ []) ≡ record { number = 5; entry = entry.Unplug 7 } ∷ [])
-unplugs = (refl, refl)
+    -- it is unplugged where another was before, and not before the boot
+    × (events_of (input_steps (at_event_5 (record kernel { unplugged = 7 ∷ [] })) (Unplug 8)) ≡ record { number = 5; entry = entry.Unplug 8 } ∷ [])
+    × (input_steps at_first (Unplug 7) ≡ [])
+unplugs = (refl, refl, refl, refl)
 
 -- process 1 runs `li a7, 1; li a0, 7; ecall`, with signal 2 pending and a handler, or calm
 abbrev exit_machine : Handling → Machine

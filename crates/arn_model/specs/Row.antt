@@ -47,13 +47,9 @@ answered m pid v (Here device) reply = device_opened m pid device (is_here reply
 answered m pid v (Reads device at len) reply = device_read m device at (to_read len reply)
 answered m pid v (Writes device at len) reply = device_write m device at (read v at len) (to_write len reply)
 
--- the calls that are built. Any other answers as one that there isn't
+-- the calls that there are. Any other answers that there is no such call
 abbrev pub built_calls : List ℕ
-built_calls = EXIT ∷ FORK ∷ EXEC ∷ WAIT ∷ GETPID ∷ KILL ∷ SIGACTION ∷ SIGRETURN ∷ OPEN ∷ CLOSE ∷ READ ∷ WRITE ∷ SEEK ∷ DUP ∷ PIPE ∷ UNLINK ∷ SHM ∷ LISTEN ∷ CONNECT ∷ ACCEPT ∷ YIELD ∷ []
-
--- whether devices can be unplugged yet
-abbrev pub can_unplug : Bool
-can_unplug = false
+built_calls = EXIT ∷ FORK ∷ EXEC ∷ WAIT ∷ GETPID ∷ KILL ∷ SIGACTION ∷ SIGRETURN ∷ OPEN ∷ CLOSE ∷ READ ∷ WRITE ∷ SEEK ∷ DUP ∷ PIPE ∷ UNLINK ∷ SHM ∷ LISTEN ∷ CONNECT ∷ ACCEPT ∷ DEVICE ∷ YIELD ∷ []
 
 abbrev pub is_built : ℕ → Bool
 is_built n = list_any (λ b. b == n) built_calls

@@ -15,7 +15,6 @@ use Rattle.acts_model.specs.Moved.{Event, Outside, From, Range, ConsoleByte, Fil
 use Rattle.acts_model.specs.Transfers.{Arrives, holds_of, transfer}
 use Rattle.acts_model.specs.Views.{cpu_at}
 use Rattle.arn_model.specs.Kernel.{Kernel, Machine, at_first, booted}
-use Rattle.arn_model.specs.Row.{can_unplug}
 use Rattle.arn_model.specs.Step.{Step}
 use Rattle.arn_model.specs.TransferCalls.{was_unplugged}
 use Rattle.arn_model.specs.Turn.{after_steps, turn, steps_of, is_possible}
@@ -111,7 +110,7 @@ boot_found m path (Some file) = boot_from m path file (file_bytes m.kernel.files
 
 -- a device is unplugged once
 abbrev pub may_unplug : Machine → ℕ → Bool
-may_unplug m device = can_unplug && (is_booted m && not (was_unplugged m.kernel device))
+may_unplug m device = is_booted m && not (was_unplugged m.kernel device)
 
 -- the steps of an input: what it does where it can, else nothing
 abbrev pub input_steps : Machine → Input → List Step

@@ -11,7 +11,6 @@ use Rattle.parts_model.specs.Files.{Name, file_among, find_file, next_file}
 use Rattle.acts_model.specs.Moved.{Event}
 use Rattle.acts_model.specs.Records.{is_event, NameChange, name_told}
 use Rattle.arn_model.specs.Kernel.{Machine}
-use Rattle.arn_model.specs.Row.{can_unplug}
 use Rattle.arn_model.specs.Run as run
 use Rattle.arn_model.specs.Run.{may_unplug}
 use Rattle.arn_model.specs.Step.{Step}
@@ -106,8 +105,7 @@ pub not-both : (b : Bool) → b ≡ true → b ≡ false → ⊥
 not-both b e f = cc
 
 pub unplugged-booted : (m : Machine) (device : ℕ) → may_unplug m device ≡ true → run.is_booted m ≡ true
-unplugged-booted m device may =
-    let rest = not (was_unplugged m.kernel device) in first-of (run.is_booted m) rest (second-of can_unplug (run.is_booted m && rest) may)
+unplugged-booted m device may = first-of (run.is_booted m) (not (was_unplugged m.kernel device)) may
 
 pub names-keep : (name : List ℕ) (m : Machine) (s : Step) (old : Naming) → Facts m s → NamesAre name m old → NamesAre name s.after (by_event (named_at name) s.moved.inside.event old)
 names-keep name m s old h1 h2 = grind (arith, nat_tests, stays-booted, seen-booted, inner-named, same-change, not-both, not-true, first-of, free-none, second-of, pushed, length_push, unplugged-booted)

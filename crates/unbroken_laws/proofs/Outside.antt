@@ -11,7 +11,6 @@ use Rattle.parts_model.specs.Processes.{Processes, live_process}
 use Rattle.parts_model.specs.Replies.{Answered}
 use Rattle.parts_model.specs.Tagged.{values, given}
 use Rattle.arn_model.specs.Kernel.{Machine}
-use Rattle.arn_model.specs.Row.{can_unplug}
 use Rattle.arn_model.specs.Run as run
 use Rattle.arn_model.specs.Run.{Input, File, Boot, Typed, Unplug, Slice, can_add, may_unplug, file_step, typed_step, unplug_step, boot_step, boot_from, boot_found, input_steps, after_input, instructions_in}
 use Rattle.arn_model.specs.Sound.{IsSoundMachine}
@@ -100,9 +99,7 @@ if-slice before m pid count reply true e says facts known =
 if-slice before m pid count reply false e says facts known = come before m [] (goes-none before m known)
 
 unplug-booted : (m : Machine) (device : ℕ) → may_unplug m device ≡ true → run.is_booted m ≡ true
-unplug-booted m device e =
-    let fresh : Bool = not (was_unplugged m.kernel device) in
-    (and_parts (run.is_booted m) fresh (and_parts can_unplug (run.is_booted m && fresh) e).1).0
+unplug-booted m device e = (and_parts (run.is_booted m) (not (was_unplugged m.kernel device)) e).0
 
 pub input-comes : (before : List Record) (m : Machine) (i : Input) → Says before m → Along Facts m (input_steps m i) → Known before m → Come before (input_records i (input_steps m i)) (after_input m i)
 input-comes before m (File path bytes) says facts known =
