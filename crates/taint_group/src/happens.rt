@@ -8,8 +8,9 @@ ghost use Rattle.taint_group.specs.Groups.{IsSoundGroup, kept_of};
 ghost use Rattle.taint_state.specs.Kept.{shown};
 
 use crate::group::Group;
+use acts_model::{event_len, process_of};
 use arn_base::{Cpu, NoMemory, Record};
-use taint_state::{Deed, acts_have_len, deed_of, event_len, process_of};
+use taint_state::{Deed, acts_have_len, deed_of};
 
 /// The number of a process. 2^32 or more count as want of memory.
 fn narrow_pid(number: u64) -> Result<u32, NoMemory>

@@ -6,7 +6,7 @@ ghost use Rattle.acts_model.specs.Views.{argument as argument_of};
 ghost use Rattle.parts_model.specs.Image.{read_as_image};
 ghost use Rattle.taint_state.specs.Deeds.{deed_as, layout_of};
 
-use crate::told::is_success;
+use acts_model::is_success;
 use arn_base::{Cpu, Extra, Record};
 use parts_model::calls;
 use parts_model::limits::MOST_TRANSFER;

@@ -6,7 +6,6 @@ mod deeds;
 mod heard;
 mod law;
 mod point;
-mod told;
 
 pub use deeds::{Deed, Layout, deed_of};
 pub use heard::{ChildStart, HeardEvent, HeardEvents, Moved};
@@ -16,4 +15,3 @@ pub use law::{
     shares_show, starts_show, stays_apart,
 };
 pub use point::Point;
-pub use told::{event_len, process_of};
