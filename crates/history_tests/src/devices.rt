@@ -1,9 +1,9 @@
 // Sessions whose programs read and write devices, and what is printed for them.
 use crate::same::assert_same;
-use arn_base::{Bytes, Device, Reply};
+use arn_base::{Bytes, Device, Numbers, Reply};
 use arn_session::Status;
 use guest_devices::{ScriptDevice, ScriptReply};
-use log_disk::MemDisk;
+use log_disk::{FuseDisk, MemDisk};
 use session_trials::{Script, run_with};
 use std::process::Abort;
 use std::test::Fail;
@@ -169,4 +169,35 @@ fn a_device_takes_what_fits(rt: HostRuntime) -> Result<(), Fail> {
     let mut disk = MemDisk::new(rt.alloc(), Bytes::new(rt.alloc()));
     let mut devices = vec![in rt.alloc(); Some(device(&rt)?)]?;
     assert_prints(&rt, &mut disk, &mut devices, WRITER, WRITER_PRINTS)
+}
+
+/// A device is unplugged behind two other events.
+const UNPLUGGED: &str = "\
+    asm p\n\
+    ecall\n\
+    end\n\
+    boot p\n\
+    unplug 0\n";
+
+/// A session on an empty disk of which this call fails ends there. The device is gone then.
+fn assert_gone(rt: &(impl Abort + AllocGlobal), call: u32) -> Result<(), Fail> {
+    let mut fails = Numbers::new(rt.alloc());
+    fails.push(call)?;
+    let mut disk = FuseDisk::new(rt.alloc(), Bytes::new(rt.alloc()), fails);
+    let mut devices = vec![in rt.alloc(); Some(device(rt)?)]?;
+    let script = Script::of(UNPLUGGED.as_bytes());
+    let ended = run_with(rt.alloc(), &["log"], &script, &mut disk, &mut devices)?;
+    assert_same(rt, (call, ended.status), (call, Status::Disk));
+    assert_same(rt, ended.sink.bytes(), b"event 0\nevent 1\n".as_slice());
+    assert_same(rt, (call, devices[0].is_none()), (call, true));
+    Ok(())
+}
+
+#[test]
+fn a_device_is_gone_though_the_commit_fails(rt: HostRuntime) -> Result<(), Fail> {
+    // The opening takes four calls of the disk, and so does each commit.
+    for call in 12..16 {
+        assert_gone(&rt, call)?;
+    }
+    Ok(())
 }
