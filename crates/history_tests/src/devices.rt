@@ -1,6 +1,6 @@
 // Sessions whose programs read and write devices, and what is printed for them.
 use crate::same::assert_same;
-use arn_base::{Bytes, Device, Numbers, Reply};
+use arn_base::{Bytes, Device, Numbers};
 use arn_session::Status;
 use guest_devices::{ScriptDevice, ScriptReply};
 use log_disk::{FuseDisk, MemDisk};
@@ -122,53 +122,45 @@ fn device(rt: &impl AllocGlobal) -> Result<Box<dyn Device>, Fail> {
     Ok(Box::new(rt.alloc(), device)?)
 }
 
-/// A session with these devices over the log of a disk prints this.
+/// So many such devices in slots, from slot 0 on.
+fn devices(rt: &impl AllocGlobal, count: usize) -> Result<Vec<Option<Box<dyn Device>>>, Fail> {
+    let mut slots = Vec::new(rt.alloc());
+    for _ in 0..count {
+        slots.push(Some(device(rt)?))?;
+    }
+    Ok(slots)
+}
+
+/// A session with so many devices over the log of a disk prints this, and leaves these slots filled.
 fn assert_prints(
     rt: &(impl Abort + AllocGlobal),
     disk: &mut MemDisk,
-    devices: &mut Vec<Option<Box<dyn Device>>>,
     text: &str,
     prints: &str,
+    count: usize,
+    filled: &[bool],
 ) -> Result<(), Fail> {
     let script = Script::of(text.as_bytes());
-    let ended = run_with(rt.alloc(), &["log"], &script, disk, devices)?;
+    let ended = run_with(rt.alloc(), &["log"], &script, disk, devices(rt, count)?)?;
     assert_same(rt, ended.status, Status::Done);
     let told = String::from_utf8_lossy(rt.alloc(), ended.sink.bytes())?;
     assert_same(rt, told.as_str(), prints);
+    assert_same(rt, ended.filled.as_slice(), filled);
     Ok(())
 }
 
 #[test]
 fn a_device_gives_until_it_is_unplugged(rt: HostRuntime) -> Result<(), Fail> {
     let mut disk = MemDisk::new(rt.alloc(), Bytes::new(rt.alloc()));
-    let mut devices = vec![in rt.alloc(); Some(device(&rt)?)]?;
-    assert_prints(&rt, &mut disk, &mut devices, READER, READER_PRINTS)?;
-    assert!(rt; devices[0].is_none());
-    let mut none = Vec::new(rt.alloc());
-    assert_prints(&rt, &mut disk, &mut none, LATER, LATER_PRINTS)
-}
-
-#[test]
-fn one_that_is_gone_is_never_asked(rt: HostRuntime) -> Result<(), Fail> {
-    let mut disk = MemDisk::new(rt.alloc(), Bytes::new(rt.alloc()));
-    let mut devices = vec![in rt.alloc(); Some(device(&rt)?)]?;
-    assert_prints(&rt, &mut disk, &mut devices, READER, READER_PRINTS)?;
-    let mut others = vec![in rt.alloc(); Some(device(&rt)?), Some(device(&rt)?)]?;
-    assert_prints(&rt, &mut disk, &mut others, AGAIN, AGAIN_PRINTS)?;
-    assert!(rt; others[1].is_none());
-    // The new device is as it was: its first reply is the fault.
-    match &mut others[0] {
-        Some(device) => assert_same(&rt, device.ask(&mut [0; 2]), Reply::Fault),
-        None => return Err(Fail::new("the device in slot 0 is gone")),
-    }
-    Ok(())
+    assert_prints(&rt, &mut disk, READER, READER_PRINTS, 1, &[false])?;
+    assert_prints(&rt, &mut disk, LATER, LATER_PRINTS, 0, &[])?;
+    assert_prints(&rt, &mut disk, AGAIN, AGAIN_PRINTS, 2, &[true, false])
 }
 
 #[test]
 fn a_device_takes_what_fits(rt: HostRuntime) -> Result<(), Fail> {
     let mut disk = MemDisk::new(rt.alloc(), Bytes::new(rt.alloc()));
-    let mut devices = vec![in rt.alloc(); Some(device(&rt)?)]?;
-    assert_prints(&rt, &mut disk, &mut devices, WRITER, WRITER_PRINTS)
+    assert_prints(&rt, &mut disk, WRITER, WRITER_PRINTS, 1, &[true])
 }
 
 /// A device is unplugged behind two other events.
@@ -184,12 +176,11 @@ fn assert_gone(rt: &(impl Abort + AllocGlobal), call: u32) -> Result<(), Fail> {
     let mut fails = Numbers::new(rt.alloc());
     fails.push(call)?;
     let mut disk = FuseDisk::new(rt.alloc(), Bytes::new(rt.alloc()), fails);
-    let mut devices = vec![in rt.alloc(); Some(device(rt)?)]?;
     let script = Script::of(UNPLUGGED.as_bytes());
-    let ended = run_with(rt.alloc(), &["log"], &script, &mut disk, &mut devices)?;
+    let ended = run_with(rt.alloc(), &["log"], &script, &mut disk, devices(rt, 1)?)?;
     assert_same(rt, (call, ended.status), (call, Status::Disk));
     assert_same(rt, ended.sink.bytes(), b"event 0\nevent 1\n".as_slice());
-    assert_same(rt, (call, devices[0].is_none()), (call, true));
+    assert_same(rt, ended.filled.as_slice(), [false].as_slice());
     Ok(())
 }
 
