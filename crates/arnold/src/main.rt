@@ -9,11 +9,12 @@ ghost use Rattle.std.specs.Prelude.{◌≡◌, ◌≢◌, ◌<◌, ◌⊎◌, �
 ghost use Rattle.std.specs.IoError.{error_kind};
 ghost use Rattle.arn_words.specs.Words.{AreAccepted};
 
-use arn_base::{Chooser, Device, StdSink, StdSource, Steps};
+use arn_base::{Chooser, Device, NoMemory, StdSink, StdSource, Steps};
 use arn_session::{Options, Status, WordsError, arnold, read_words};
 use arn_words::refusal_text;
 use ending::{Cause, Ending};
-use guest_devices::{RoundChooser, SeededChooser};
+use guest_devices::{EntropyDevice, RoundChooser, SeededChooser, SilentDevice};
+use host_clock::ClockDevice;
 use log_disk::FileDisk;
 use std::alloc::Global;
 use std::env::{self, Env};
@@ -21,7 +22,7 @@ use std::fs::File;
 use std::io::{self, ErrorKind, Read, Write};
 use std::marker::Brand;
 use std::process::ExitCode;
-use std::rt::Files;
+use std::rt::{Clock, Files};
 use std::sync::ledger::{Blank, Ledger};
 use streams::Noting;
 
@@ -62,12 +63,43 @@ fn ending_of<F: Files<File = File> + Clone + Drop>(
     Ending { status, cause }
 }
 
+/// The chooser that the words ask for.
+fn chooser_of(alloc: Global, options: &Options) -> Result<Box<dyn Chooser>, NoMemory> {
+    if options.random {
+        Ok(Box::new(alloc, SeededChooser::new(options.seed))?)
+    } else {
+        Ok(Box::new(alloc, RoundChooser::new(options.round))?)
+    }
+}
+
+/// The devices of the program, by their slots: the clock, the entropy device with a seed, and the
+/// silent device.
+fn devices_of<C: Clock + Drop>(
+    alloc: Global,
+    clock: C,
+    seed: u64,
+) -> Result<Vec<Option<Box<dyn Device>>>, NoMemory> {
+    let clock: Box<dyn Device> = Box::new(alloc, ClockDevice::new(clock))?;
+    let entropy: Box<dyn Device> = Box::new(alloc, EntropyDevice::new(seed))?;
+    let silent: Box<dyn Device> = Box::new(alloc, SilentDevice::new())?;
+    let mut devices = Vec::with_capacity(alloc, 3)?;
+    devices.push(Some(clock))?;
+    devices.push(Some(entropy))?;
+    devices.push(Some(silent))?;
+    Ok(devices)
+}
+
 /// A session from a reader to a writer over the log that the words name, with the chooser that they
-/// ask for, no devices and a new counter of steps.
-fn session<L: Ledger, F: Files<File = File> + Clone + Drop, R: Read + Drop, W: Write + Drop>(
+/// ask for, the program's devices and a new counter of steps.
+fn session<
+    L: Ledger,
+    H: Files<File = File> + Clock + Clone + Drop,
+    R: Read + Drop,
+    W: Write + Drop,
+>(
     alloc: Global,
     words: &[String],
-    files: F,
+    host: H,
     reader: R,
     writer: W,
     blank: Blank,
@@ -85,21 +117,15 @@ fn session<L: Ledger, F: Files<File = File> + Clone + Drop, R: Read + Drop, W: W
         Err(WordsError::Usage) => return Ending::from(Status::Usage),
         Err(WordsError::NoMemory) => return Ending::from(Status::NoMemory),
     };
-    let mut chooser: Box<dyn Chooser> = if options.random {
-        match Box::new(alloc, SeededChooser::new(options.seed)) {
-            Ok(chooser) => chooser,
-            Err(_) => return Ending::from(Status::NoMemory),
-        }
-    } else {
-        match Box::new(alloc, RoundChooser::new(options.round)) {
-            Ok(chooser) => chooser,
-            Err(_) => return Ending::from(Status::NoMemory),
-        }
+    let (Ok(clock), Ok(mut chooser)) = (host.clone(), chooser_of(alloc, &options)) else {
+        return Ending::from(Status::NoMemory);
     };
-    let mut devices: Vec<Option<Box<dyn Device>>> = Vec::new(alloc);
+    let Ok(mut devices) = devices_of(alloc, clock, options.seed) else {
+        return Ending::from(Status::NoMemory);
+    };
     let mut source = Noting::new(reader);
     let mut sink = Noting::new(writer);
-    let mut disk = FileDisk::new(files, options.log);
+    let mut disk = FileDisk::new(host, options.log);
     let status = arnold(
         alloc,
         words,
@@ -119,13 +145,13 @@ fn run(rt: &HostRuntime, words: &io::Result<Vec<String>>) -> Ending {
         Ok(words) => words,
         Err(error) => return Ending::from(status_of(error)),
     };
-    let Ok(files) = rt.clone() else {
+    let Ok(host) = rt.clone() else {
         return Ending::from(Status::NoMemory);
     };
     session::<Brand, _, _, _>(
         rt.alloc(),
         words.as_slice(),
-        files,
+        host,
         rt.stdin(),
         rt.stdout(),
         Blank::new(1),

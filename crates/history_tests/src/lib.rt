@@ -8,6 +8,8 @@ mod changed;
 #[cfg(test)]
 mod choices;
 #[cfg(test)]
+mod devices;
+#[cfg(test)]
 mod engines;
 #[cfg(test)]
 mod printing;

@@ -1,10 +1,12 @@
 use crate::same::assert_same;
-use arn_base::{Bytes, Choice, Chooser, Device, Reply};
+use arn_base::{Bytes, Choice, Chooser, Device, Reply, Took};
 use guest_devices::{
     Answer, Answers, EntropyDevice, ScriptDevice, ScriptReply, SeededChooser, Slots, unplug,
 };
+use host_clock::ClockDevice;
 use std::process::Abort;
 use std::test::Fail;
+use std::time::{SystemTime, UNIX_EPOCH};
 
 #[test]
 fn words_fill_each_buffer(rt: HostRuntime) {
@@ -64,5 +66,28 @@ fn a_box_is_unplugged_once(rt: HostRuntime) -> Result<(), Fail> {
     assert!(rt; !unplug(&mut devices, 0));
     assert!(rt; !unplug(&mut devices, 1));
     assert!(rt; !unplug(&mut devices, 2));
+    Ok(())
+}
+
+// The nanoseconds since 1970 by the clock of the host.
+fn now(rt: &HostRuntime) -> Result<u128, Fail> {
+    Ok(SystemTime::now(rt)?.duration_since(UNIX_EPOCH)?.as_nanos())
+}
+
+#[test]
+fn the_clock_gives_the_time_of_the_host(rt: HostRuntime) -> Result<(), Fail> {
+    let mut clock = ClockDevice::new(rt.clone()?);
+    let mut long = [0xff; 10];
+    let before = now(&rt)?;
+    assert_same(&rt, clock.ask(&mut long), Reply::Gave(8));
+    let after = now(&rt)?;
+    assert_same(&rt, [long[8], long[9]], [0xff, 0xff]);
+    let time = u128::from(u64::from_le_bytes([
+        long[0], long[1], long[2], long[3], long[4], long[5], long[6], long[7],
+    ]));
+    assert!(rt; before <= time && time <= after);
+    let mut short = [0xff; 3];
+    assert_same(&rt, clock.ask(&mut short), Reply::Gave(3));
+    assert_same(&rt, clock.put(&[1, 2]), Took::Count(2));
     Ok(())
 }

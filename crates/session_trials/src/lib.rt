@@ -3,4 +3,4 @@
 
 mod sessions;
 
-pub use sessions::{Ended, Schedule, Script, run, run_on};
+pub use sessions::{Ended, Schedule, Script, run, run_on, run_with};

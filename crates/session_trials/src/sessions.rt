@@ -3,6 +3,9 @@ ghost use Rattle.std.specs.Prelude.{◌≡◌, ◌<◌, ◌⊎◌, [], List, IfO
 ghost use Rattle.arn_base.specs.declared.records.Record.{Record};
 ghost use Rattle.session_effects.specs.Carrying.{HoldsLog};
 ghost use Rattle.arn_words.specs.Words.{AreAccepted, AreAcceptedTexts, texts};
+ghost use Rattle.guest_devices.specs.Slots.{is_filled};
+ghost use Rattle.session_commands.specs.Given.{given};
+ghost use Rattle.session_questions.specs.Texts.{told};
 ghost use Rattle.session_trials.specs.Sessions.{Prints, no_devices};
 
 use arn_base::{
@@ -62,11 +65,12 @@ impl Script<'_> {
     }
 }
 
-/// How a session ended, and what holds what it printed.
+/// How a session ended, what holds what it printed, and which of its slots hold a device then.
 #[derive(Drop)]
 pub struct Ended {
     pub status: Status,
     pub sink: VecSink,
+    pub filled: Vec<bool>,
 }
 
 fn numbers(alloc: Global, calls: &[u32]) -> Result<Numbers, NoMemory> {
@@ -87,11 +91,21 @@ fn owned(alloc: Global, words: &[&str]) -> Result<Vec<String>, NoMemory>
     Ok(made)
 }
 
+// Which slots hold a device.
+fn filled_of(alloc: Global, devices: &[Option<Box<dyn Device>>]) -> Result<Vec<bool>, NoMemory> {
+    let mut filled = Vec::new(alloc);
+    for slot in devices {
+        filled.push(slot.is_some())?;
+    }
+    Ok(filled)
+}
+
 fn run_over<D: Disk, L: Ledger>(
     alloc: Global,
     words: &[String],
     script: &Script,
     disk: &mut D,
+    mut devices: Vec<Option<Box<dyn Device>>>,
     blank: Blank,
 ) -> Result<Ended, NoMemory>
     requires name { blank.name ≡ L.name }
@@ -100,7 +114,8 @@ fn run_over<D: Disk, L: Ledger>(
 
     ensures done { IfOk result (λ ended. ended.status ≡ Status.Done → (history : List Record) →
         HoldsLog D.Disk disk.old history →
-        Prints no_devices history script.now.text.now ended.sink.held) }
+        Prints (given told (is_filled devices.items)) history
+        script.now.text.now ended.sink.held) }
     ensures usage { IfOk result (λ ended. ended.status ≡ Status.Usage → ¬ AreAccepted words.now) }
     ensures unaccepted { IfOk result (λ ended. ¬ AreAccepted words.now →
         (ended.status ≡ Status.Usage) ⊎ (ended.status ≡ Status.NoMemory)) }
@@ -117,7 +132,6 @@ fn run_over<D: Disk, L: Ledger>(
             Box::new(alloc, ScriptChooser::new(Vec::from_slice(alloc, choices)?))?
         }
     };
-    let mut devices: Vec<Option<Box<dyn Device>>> = Vec::new(alloc);
     let status = arnold(
         alloc,
         words,
@@ -128,10 +142,46 @@ fn run_over<D: Disk, L: Ledger>(
         &mut devices,
         &mut Steps::<L>::new(blank),
     );
-    Ok(Ended { status, sink })
+    let filled = filled_of(alloc, devices.as_slice())?;
+    Ok(Ended {
+        status,
+        sink,
+        filled,
+    })
 }
 
-/// Runs a session with these words over the log of a disk.
+/// Runs a session with these words over the log of a disk, with devices in slots.
+pub fn run_with<D: Disk>(
+    alloc: Global,
+    words: &[&str],
+    script: &Script,
+    disk: &mut D,
+    devices: Vec<Option<Box<dyn Device>>>,
+) -> Result<Ended, NoMemory>
+    ensures done { IfOk result (λ ended. ended.status ≡ Status.Done → (history : List Record) →
+        HoldsLog D.Disk disk.old history →
+        Prints (given told (is_filled devices.items)) history
+        script.now.text.now ended.sink.held) }
+    ensures usage { IfOk result (λ ended. ended.status ≡ Status.Usage →
+        ¬ AreAcceptedTexts (map (λ word. word.now) words.now)) }
+    ensures unaccepted { IfOk result (λ ended.
+        ¬ AreAcceptedTexts (map (λ word. word.now) words.now) →
+        (ended.status ≡ Status.Usage) ⊎ (ended.status ≡ Status.NoMemory)) }
+    ensures silent { IfOk result (λ ended.
+        ¬ AreAcceptedTexts (map (λ word. word.now) words.now) → ended.sink.held ≡ []) }
+{
+    let words = owned(alloc, words)?;
+    run_over::<D, Brand>(
+        alloc,
+        words.as_slice(),
+        script,
+        disk,
+        devices,
+        Blank::new(1),
+    )
+}
+
+/// Runs a session with these words over the log of a disk, without devices.
 pub fn run_on<D: Disk>(
     alloc: Global,
     words: &[&str],
@@ -149,8 +199,7 @@ pub fn run_on<D: Disk>(
     ensures silent { IfOk result (λ ended.
         ¬ AreAcceptedTexts (map (λ word. word.now) words.now) → ended.sink.held ≡ []) }
 {
-    let words = owned(alloc, words)?;
-    run_over::<D, Brand>(alloc, words.as_slice(), script, disk, Blank::new(1))
+    run_with(alloc, words, script, disk, Vec::new(alloc))
 }
 
 /// Runs a session with these words over a fresh log.

@@ -1,4 +1,4 @@
-use Rattle.session_trials.proofs.sessions.run_on.Given as goal
+use Rattle.session_trials.proofs.sessions.run_with.Given as goal
 
 abbrev pub ghosts-run_over : goal.ghosts-run_over
 ghosts-run_over g a = record { name = a.blank.name; parts = a.blank.parts }

@@ -1,0 +1,194 @@
+// Sessions whose programs read and write devices, and what is printed for them.
+use crate::same::assert_same;
+use arn_base::{Bytes, Device, Numbers};
+use arn_session::Status;
+use guest_devices::{ScriptDevice, ScriptReply};
+use log_disk::{FuseDisk, MemDisk};
+use session_trials::{Script, run_with};
+use std::process::Abort;
+use std::test::Fail;
+
+/// Opens device 0, and then reads two bytes from it over and over.
+const READER: &str = "\
+    asm p\n\
+    li a7, 21; li a0, 0; ecall\n\
+    again:\n\
+    li a7, 11; li a0, 3; addi a1, sp, -16; li a2, 2; ecall; j again\n\
+    end\n\
+    unplug 0\n\
+    boot p\n\
+    run 3\n\
+    run 5\n\
+    run 6\n\
+    unplug 0\n\
+    run 6\n\
+    unplug 0\n";
+
+/// The device fails, and gives two of three bytes. When it is gone, a read of it fails too.
+const READER_PRINTS: &str = "\
+    event 0\n\
+    no boot\n\
+    event 1\n\
+    ran 3 budget\n\
+    ran 5 budget\n\
+    ran 6 budget\n\
+    event 5\n\
+    ran 6 budget\n\
+    no device\n";
+
+/// What is asked of that, with no device, in a later session.
+const LATER: &str = "\
+    events\n\
+    back copy mem 20 1 0x4fff0 2\n\
+    forth copy 4 0 2\n\
+    verify\n\
+    unplug 0\n";
+
+const LATER_PRINTS: &str = "\
+    event 0 0 - file 60\n\
+    event 1 0 1 boot 60\n\
+    event 2 3 1 call.21.3 0\n\
+    event 3 8 1 call.11.-5 0\n\
+    event 4 14 1 call.11.2 2\n\
+    event 5 14 - unplug.0 0\n\
+    event 6 20 1 call.11.-19 0\n\
+    events 7\n\
+    pair 4 0 0\n\
+    pair 4 1 1\n\
+    back pairs 2 instructions 20 groups 1\n\
+    forth pairs 0 instructions 20 groups 1\n\
+    verify run\n\
+    no device\n";
+
+/// A new device in the slot of one that is gone isn't asked.
+const AGAIN: &str = "\
+    run 6\n\
+    unplug 0\n\
+    unplug 1\n\
+    unplug 0x10000000000000000\n\
+    unplug 18446744073709551615\n\
+    unplug 01\n";
+
+const AGAIN_PRINTS: &str = "\
+    ran 6 budget\n\
+    no device\n\
+    event 8\n\
+    no line\n\
+    no device\n\
+    no line\n";
+
+/// Writes two typed bytes to device 0 twice, which takes three bytes in all.
+const WRITER: &str = "\
+    asm p\n\
+    li a7, 21; li a0, 0; ecall\n\
+    li a7, 11; li a0, 0; addi a1, sp, -16; li a2, 2; ecall\n\
+    li a7, 12; li a0, 3; ecall\n\
+    li a0, 3; ecall\n\
+    li a0, 3; ecall\n\
+    li a7, 1; li a0, 0; ecall\n\
+    end\n\
+    boot p\n\
+    type 6162\n\
+    run 100\n\
+    events\n\
+    forth copy 2 0 2\n";
+
+const WRITER_PRINTS: &str = "\
+    event 0\n\
+    event 1\n\
+    event 2\n\
+    ran 18 done\n\
+    event 0 0 - file 96\n\
+    event 1 0 1 boot 96\n\
+    event 2 0 - type 2\n\
+    event 3 3 1 call.21.3 0\n\
+    event 4 8 1 call.11.2 2\n\
+    event 5 11 1 call.12.2 2\n\
+    event 6 13 1 call.12.1 1\n\
+    event 7 15 1 call.12.0 0\n\
+    event 8 18 1 call.1.0 1\n\
+    events 9\n\
+    pair 5 0 0\n\
+    pair 6 0 0\n\
+    pair 5 1 1\n\
+    forth pairs 3 instructions 18 groups 1\n";
+
+/// A device that fails once, then gives three bytes at once, and takes three bytes.
+fn device(rt: &impl AllocGlobal) -> Result<Box<dyn Device>, Fail> {
+    let mut replies = Vec::new(rt.alloc());
+    replies.push(ScriptReply::Fault)?;
+    replies.push(ScriptReply::Bytes(Bytes::from_slice(rt.alloc(), &[1, 2, 3])?))?;
+    let device = ScriptDevice::new(rt.alloc(), replies, 3)?;
+    Ok(Box::new(rt.alloc(), device)?)
+}
+
+/// So many such devices in slots, from slot 0 on.
+fn devices(rt: &impl AllocGlobal, count: usize) -> Result<Vec<Option<Box<dyn Device>>>, Fail> {
+    let mut slots = Vec::new(rt.alloc());
+    for _ in 0..count {
+        slots.push(Some(device(rt)?))?;
+    }
+    Ok(slots)
+}
+
+/// A session with so many devices over the log of a disk prints this, and leaves these slots filled.
+fn assert_prints(
+    rt: &(impl Abort + AllocGlobal),
+    disk: &mut MemDisk,
+    text: &str,
+    prints: &str,
+    count: usize,
+    filled: &[bool],
+) -> Result<(), Fail> {
+    let script = Script::of(text.as_bytes());
+    let ended = run_with(rt.alloc(), &["log"], &script, disk, devices(rt, count)?)?;
+    assert_same(rt, ended.status, Status::Done);
+    let told = String::from_utf8_lossy(rt.alloc(), ended.sink.bytes())?;
+    assert_same(rt, told.as_str(), prints);
+    assert_same(rt, ended.filled.as_slice(), filled);
+    Ok(())
+}
+
+#[test]
+fn a_device_gives_until_it_is_unplugged(rt: HostRuntime) -> Result<(), Fail> {
+    let mut disk = MemDisk::new(rt.alloc(), Bytes::new(rt.alloc()));
+    assert_prints(&rt, &mut disk, READER, READER_PRINTS, 1, &[false])?;
+    assert_prints(&rt, &mut disk, LATER, LATER_PRINTS, 0, &[])?;
+    assert_prints(&rt, &mut disk, AGAIN, AGAIN_PRINTS, 2, &[true, false])
+}
+
+#[test]
+fn a_device_takes_what_fits(rt: HostRuntime) -> Result<(), Fail> {
+    let mut disk = MemDisk::new(rt.alloc(), Bytes::new(rt.alloc()));
+    assert_prints(&rt, &mut disk, WRITER, WRITER_PRINTS, 1, &[true])
+}
+
+/// A device is unplugged behind two other events.
+const UNPLUGGED: &str = "\
+    asm p\n\
+    ecall\n\
+    end\n\
+    boot p\n\
+    unplug 0\n";
+
+/// A session on an empty disk of which this call fails ends there. The device is gone then.
+fn assert_gone(rt: &(impl Abort + AllocGlobal), call: u32) -> Result<(), Fail> {
+    let mut fails = Numbers::new(rt.alloc());
+    fails.push(call)?;
+    let mut disk = FuseDisk::new(rt.alloc(), Bytes::new(rt.alloc()), fails);
+    let script = Script::of(UNPLUGGED.as_bytes());
+    let ended = run_with(rt.alloc(), &["log"], &script, &mut disk, devices(rt, 1)?)?;
+    assert_same(rt, (call, ended.status), (call, Status::Disk));
+    assert_same(rt, ended.sink.bytes(), b"event 0\nevent 1\n".as_slice());
+    assert_same(rt, ended.filled.as_slice(), [false].as_slice());
+    Ok(())
+}
+
+#[test]
+fn a_device_is_gone_though_the_commit_fails(rt: HostRuntime) -> Result<(), Fail> {
+    // The opening takes four calls of the disk, and so does each commit.
+    for call in 12..16 {
+        assert_gone(&rt, call)?;
+    }
+    Ok(())
+}
