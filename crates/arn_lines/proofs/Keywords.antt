@@ -6,7 +6,7 @@ use Rattle.arn_lines.specs.declared.line.Line.{Line}
 use Rattle.arn_lines.specs.declared.line.Line.TheVariants as line
 use Rattle.arn_lines.specs.declared.line.Question.{Question}
 use Rattle.arn_lines.specs.declared.line.Question.TheVariants as question
-use Rattle.arn_lines.specs.Grammar.{IsBoot, IsFile, IsLine, IsRun, IsType}
+use Rattle.arn_lines.specs.Grammar.{IsBoot, IsFile, IsLine, IsRun, IsType, IsUnplug}
 use Rattle.arn_lines.specs.Pieces.{IsFirstWord, SaysNothing}
 use Rattle.arn_lines.specs.Questions.{IsQuestion}
 use Rattle.arn_lines.specs.Words.{IsBytes, IsHex, IsName, IsNumber, space}
@@ -21,6 +21,7 @@ pub data LineKind : Type 0 where
   AtBoot : LineKind
   AtType : LineKind
   AtRun : LineKind
+  AtUnplug : LineKind
   AtQuestion : LineKind
 
 abbrev pub line_kind : List ℕ → LineKind
@@ -29,6 +30,7 @@ line_kind text =
     else if get_or text 0 0 == 98 then (if get_or text 1 0 == 111 then AtBoot else AtQuestion)
     else if get_or text 0 0 == 116 then AtType
     else if get_or text 0 0 == 114 then AtRun
+    else if get_or text 0 0 == 117 then AtUnplug
     else AtQuestion
 
 abbrev pub IsLineOf : LineKind → List ℕ → Line → Type 0
@@ -36,6 +38,7 @@ IsLineOf AtFile text l = (name : List ℕ) × (bytes : List ℕ) × (l ≡ line.
 IsLineOf AtBoot text l = (name : List ℕ) × (l ≡ line.Boot name) × IsBoot text name
 IsLineOf AtType text l = (bytes : List ℕ) × (l ≡ line.Type bytes) × IsType text bytes
 IsLineOf AtRun text l = (count : ℕ) × (l ≡ line.Run count) × IsRun text count
+IsLineOf AtUnplug text l = (device : ℕ) × (l ≡ line.Unplug device) × IsUnplug text device
 IsLineOf AtQuestion text l = (q : Question) × (l ≡ line.Asks q) × IsQuestion text q
 
 question-kind : (text : List ℕ) (q : Question) → IsQuestion text q → line_kind text ≡ AtQuestion
@@ -50,6 +53,8 @@ IsLine-kind text (line.File name bytes) h =
 IsLine-kind text (line.Boot name) h = subst (λ xs. IsLineOf (line_kind xs) text (line.Boot name)) (sym h.is_text) (name, refl, h)
 IsLine-kind text (line.Type bytes) h = subst (λ xs. IsLineOf (line_kind xs) text (line.Type bytes)) (sym h.is_text) (bytes, refl, h)
 IsLine-kind text (line.Run count) h = subst (λ xs. IsLineOf (line_kind xs) text (line.Run count)) (sym h.is_text) (count, refl, h)
+IsLine-kind text (line.Unplug device) h =
+    subst (λ xs. IsLineOf (line_kind xs) text (line.Unplug device)) (sym h.is_text) (device, refl, h)
 IsLine-kind text (line.Asks q) h =
     subst (λ kind. IsLineOf kind text (line.Asks q)) (sym (question-kind text q h)) (q, refl, h)
 
@@ -63,6 +68,12 @@ pub no_run_line : (text : List ℕ) → ((count : ℕ) → ¬ IsRun (codes "run 
 no_run_line text none l h =
     let run : IsLineOf AtRun (codes "run " ++ text) l = IsLine-kind (codes "run " ++ text) l h in
     none run.0 run.2
+
+pub no_unplug_line : (text : List ℕ) → ((device : ℕ) → ¬ IsNumber text device) → SaysNothing (codes "unplug " ++ text)
+no_unplug_line text none l h =
+    let unplug : IsLineOf AtUnplug (codes "unplug " ++ text) l = IsLine-kind (codes "unplug " ++ text) l h in
+    let same : unplug.2.number ≡ text = sym (ap (drop 7) unplug.2.is_text) in
+    none unplug.0 (rw same at unplug.2.is_number)
 
 -- the words of a `file` line are those that its text splits into
 pub IsFile-parts : (text word rest name bytes : List ℕ) → IsFirstWord text word rest → IsFile (codes "file " ++ text) name bytes
@@ -127,6 +138,11 @@ IsRun-same text m n a b =
     let same : b.number ≡ a.number = ap (drop 4) (sym b.is_text ∙ a.is_text) in
     IsNumber-same a.number m n a.is_number (rw same at b.is_number)
 
+IsUnplug-same : (text : List ℕ) (m n : ℕ) → IsUnplug text m → IsUnplug text n → m ≡ n
+IsUnplug-same text m n a b =
+    let same : b.number ≡ a.number = ap (drop 7) (sym b.is_text ∙ a.is_text) in
+    IsNumber-same a.number m n a.is_number (rw same at b.is_number)
+
 IsLineOf-same : (kind : LineKind) (text : List ℕ) (a b : Line) → IsLineOf kind text a → IsLineOf kind text b → a ≡ b
 IsLineOf-same AtFile text a b h k =
     let same = IsFile-same text h.0 h.1 k.0 k.1 h.3 k.3 in
@@ -137,6 +153,8 @@ IsLineOf-same AtType text a b h k =
     cc (h.1, k.1, IsType-same text h.0 k.0 h.2 k.2)
 IsLineOf-same AtRun text a b h k =
     cc (h.1, k.1, IsRun-same text h.0 k.0 h.2 k.2)
+IsLineOf-same AtUnplug text a b h k =
+    cc (h.1, k.1, IsUnplug-same text h.0 k.0 h.2 k.2)
 IsLineOf-same AtQuestion text a b h k =
     cc (h.1, k.1, IsQuestion-same text h.0 k.0 h.2 k.2)
 

@@ -33,6 +33,12 @@ pub record IsRun (text : List ℕ) (count : ℕ) : Type 0 where
   pub at_most : count ≤ MOST_RUN
   pub is_text : text ≡ codes "run " ++ number
 
+-- `unplug N`
+pub record IsUnplug (text : List ℕ) (device : ℕ) : Type 0 where
+  pub number : List ℕ
+  pub is_number : IsNumber number device
+  pub is_text : text ≡ codes "unplug " ++ number
+
 -- the name in a line `asm NAME`, which opens a block: the lines behind it, up to `end`, belong to it
 abbrev pub block_name : List ℕ → Option (List ℕ)
 block_name text = if bytes_eq (take 4 text) (codes "asm ") && is_name (drop 4 text) then Some (drop 4 text) else None
@@ -43,6 +49,7 @@ IsLine text (line.File name bytes) = IsFile text name bytes
 IsLine text (line.Boot name) = IsBoot text name
 IsLine text (line.Type bytes) = IsType text bytes
 IsLine text (line.Run count) = IsRun text count
+IsLine text (line.Unplug device) = IsUnplug text device
 IsLine text (line.Asks asked) = IsQuestion text asked
 
 -- `gen SEED N`, which the generator answers with N processes

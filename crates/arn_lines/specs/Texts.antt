@@ -6,7 +6,7 @@ use Rattle.arn_base.specs.declared.records.Pair.{Pair}
 use Rattle.arn_lines.specs.declared.answer.RunEnd.{RunEnd}
 use Rattle.arn_lines.specs.declared.answer.RunEnd.TheVariants.{Done, Stalled, Budget}
 use Rattle.arn_lines.specs.declared.answer.Refusal.{Refusal}
-use Rattle.arn_lines.specs.declared.answer.Refusal.TheVariants.{NoLong, NoLine, NoBoot, NoBooted, NoAsm, NoName, NoImage, NoPoint}
+use Rattle.arn_lines.specs.declared.answer.Refusal.TheVariants.{NoLong, NoLine, NoBoot, NoBooted, NoAsm, NoName, NoImage, NoDevice, NoPoint}
 
 abbrev pub line_end : List ℕ
 line_end = 10 ∷ []
@@ -49,6 +49,7 @@ refusal_text NoBooted = codes "no booted" ++ line_end
 refusal_text (NoAsm line) = codes "no asm " ++ decimal line ++ line_end
 refusal_text NoName = codes "no name" ++ line_end
 refusal_text NoImage = codes "no image" ++ line_end
+refusal_text NoDevice = codes "no device" ++ line_end
 refusal_text NoPoint = codes "no point" ++ line_end
 
 -- `pair E A K`

@@ -26,6 +26,8 @@ pub enum Refusal {
     NoName,
     /// The file is no image of a program.
     NoImage,
+    /// There is no such device, or it was unplugged.
+    NoDevice,
     /// There are no such bytes to ask for.
     NoPoint,
 }

@@ -54,6 +54,14 @@ fn run_line(text: &[u8]) -> Option<Line>
     (count <= MOST_RUN).then_some(Line::Run { count })
 }
 
+fn unplug_line(text: &[u8]) -> Option<Line>
+    ensures some { IfSome result (IsLine (codes "unplug " ++ text.now)) }
+    ensures none { IfNone result (SaysNothing (codes "unplug " ++ text.now)) }
+{
+    let device = number(text)?;
+    Some(Line::Unplug { device })
+}
+
 // The line that the text says, whatever its length.
 fn said(alloc: Global, text: &[u8]) -> Result<Option<Line>, NoMemory>
     ensures some { IfOk result (λ found. IfSome found (IsLine text.now)) }
@@ -70,6 +78,9 @@ fn said(alloc: Global, text: &[u8]) -> Result<Option<Line>, NoMemory>
     }
     if let Some(rest) = after(text, b"run ") {
         return Ok(run_line(rest));
+    }
+    if let Some(rest) = after(text, b"unplug ") {
+        return Ok(unplug_line(rest));
     }
     Ok(question(alloc, text)?.map(|question| Line::Asks { question }))
 }

@@ -93,6 +93,8 @@ pub enum Line {
     Type { bytes: Bytes },
     /// Up to so many instructions.
     Run { count: u64 },
+    /// The end of a device: nothing answers for it any more.
+    Unplug { device: u64 },
     /// A question about the history.
     Asks { question: Question },
 }

@@ -82,6 +82,7 @@ pub fn push_refusal(text: &mut String, refusal: Refusal) -> Result<(), NoMemory>
         Refusal::NoAsm { line } => return push_no_asm(text, line),
         Refusal::NoName => "no name\n",
         Refusal::NoImage => "no image\n",
+        Refusal::NoDevice => "no device\n",
         Refusal::NoPoint => "no point\n",
     };
     Ok(text.push_str(line)?)

@@ -105,6 +105,7 @@ done-call m pid v n d name put at call k =
           files = λ file. kept-after m.events file (entry.Call pid n (result_of d.act) d.extra) put c.put (file_bytes m.kernel.files file) (file_bytes d.kernel.files file) (k.kept file);
           last = k.last;
           writes = subst (WritesInside m.kernel.files) (sym c.put) k.writes;
+          unplugged = k.unplugged;
         }
 
 -- a call that returns, and moves nothing

@@ -37,6 +37,7 @@ pub record KernelTells (k : Kernel) (event : ℕ) (bytes : List ℕ) (outgoing :
   pub sound : IsSound k → IsSound new
   pub grows : length k.processes ≤ length new.processes
   pub few : length new.processes ≤ length k.processes + 1
+  pub unplugged : new.unplugged ≡ k.unplugged
 
 pub kept-same : (event file : ℕ) (o p : Option (List TaggedByte)) → FileSame o p → FileKept event None file o p
 kept-same event file o p h1 = grind (arith, nat_tests)
@@ -59,6 +60,7 @@ tells-then k event bytes outgoing life name put mid new t q =
       sound = λ s. q.sound (t.sound s);
       grows = let a = t.grows in let b = q.grows in omega arith;
       few = let a = t.few in let b = q.few in omega arith;
+      unplugged = q.unplugged ∙ t.unplugged;
     }
 
 -- a quiet change first, and then one that leaves files
@@ -112,6 +114,7 @@ table-ended pid s event k =
       sound = λ h. record { fits = h.fits; named = h.named; there = h.there };
       grows = let e = length-map (table.with_process k.processes pid (option_and_then (table.with_end (status_at event s)) (process k.processes pid))) (option_and_then (table.orphan pid)) in let g = length-with_process k.processes pid (option_and_then (table.with_end (status_at event s)) (process k.processes pid)) in omega arith;
       few = let e = length-map (table.with_process k.processes pid (option_and_then (table.with_end (status_at event s)) (process k.processes pid))) (option_and_then (table.orphan pid)) in let g = length-with_process k.processes pid (option_and_then (table.with_end (status_at event s)) (process k.processes pid)) in omega arith;
+      unplugged = refl;
     }
   where
     by_test : (q : ℕ) (h : TaggedByte) (b : Bool) → (q == pid) ≡ b → status_in (option_and_then (table.orphan pid) (cond b (option_and_then (table.with_end (status_at event s)) (process k.processes q)) (process k.processes q))) ≡ Some h → (outgoing_byte event (s ∷ []) (Some (status_of pid)) (StatusByte q) ≡ Some h) ⊎ ((outgoing_byte event (s ∷ []) (Some (status_of pid)) (StatusByte q) ≡ None) × (table.status_of k.processes q ≡ Some h))

@@ -46,7 +46,7 @@ open-found-tells m pid v path at (Some file) e =
     (named (opens_file pid file m.kernel) (quiet-tells m.kernel m.events [] (opens_file pid file m.kernel) (quiet-opens_file pid file m.kernel (at.sound.named path file e)))))
   where
     named : (k : Kernel) → KernelTells m.kernel m.events [] None NoLife NoName None k → KernelTells m.kernel m.events [] None NoLife (Names path file) None k
-    named k t = record { holds = t.holds; living = t.living; names = λ name. t.names name ∙ found-names m.kernel.files.names path file e name; kept = t.kept; last = t.last; writes = t.writes; sound = t.sound; grows = t.grows; few = t.few }
+    named k t = record { holds = t.holds; living = t.living; names = λ name. t.names name ∙ found-names m.kernel.files.names path file e name; kept = t.kept; last = t.last; writes = t.writes; sound = t.sound; grows = t.grows; few = t.few; unplugged = t.unplugged }
 
 open-new-tells : (m : Machine) (pid : ℕ) (v : View) (path : List ℕ) → At m pid v OPEN → RequestTells m pid v OPEN (open_new m pid path)
 open-new-tells m pid v path at =

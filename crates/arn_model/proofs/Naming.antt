@@ -146,6 +146,7 @@ unnamed-tells k event path file =
       sound = λ s. q.sound (sound s);
       grows = omega arith;
       few = omega arith;
+      unplugged = refl;
     }
   where
     same : (b : KernelByte) (h : TaggedByte) → kernel_byte (record k { files = record k.files { names = without_name k.files.names path } }) b ≡ Some h → kernel_byte k b ≡ Some h

@@ -156,6 +156,7 @@ piped-tells k event pipe p bytes there fits =
       sound = λ s. record { fits = s.fits; named = s.named; there = s.there };
       grows = omega arith;
       few = omega arith;
+      unplugged = refl;
     }
   where
     own : (o : Option Pipe) (n : ℕ) (h : TaggedByte) → o ≡ Some p → pipe_byte (option_map (λ q. with_put q bytes event) o) n ≡ Some h → (put_byte event bytes (within (channel_end p.channel) (length bytes) n) ≡ Some h) ⊎ ((within (channel_end p.channel) (length bytes) n ≡ None) × (pipe_byte o n ≡ Some h))
@@ -241,6 +242,7 @@ written-tells k event file at bytes fits was inside =
       };
       grows = omega arith;
       few = omega arith;
+      unplugged = refl;
     }
   where
     put : Option Written

@@ -59,9 +59,10 @@ pub record Quiet (old new : Kernel) : Type 0 where
   pub sound : IsSound old → IsSound new
   pub grows : length old.processes ≤ length new.processes
   pub few : length new.processes ≤ length old.processes
+  pub unplugged : new.unplugged ≡ old.unplugged
 
 pub quiet-refl : (k : Kernel) → Quiet k k
-quiet-refl k = record { last = last-refl k.files; bytes = λ b h e. e; lives = λ q. refl; names = refl; files = λ file. file-same (file_bytes k.files file) (file_bytes k.files file) refl; sound = λ s. s; grows = omega arith; few = omega arith }
+quiet-refl k = record { last = last-refl k.files; bytes = λ b h e. e; lives = λ q. refl; names = refl; files = λ file. file-same (file_bytes k.files file) (file_bytes k.files file) refl; sound = λ s. s; grows = omega arith; few = omega arith; unplugged = refl }
 
 pub quiet-trans : (k l m : Kernel) → Quiet k l → Quiet l m → Quiet k m
 quiet-trans k l m h1 h2 = grind (arith, nat_tests, file-through, last-trans)
@@ -147,7 +148,7 @@ quiet-ports k ps = grind (arith, common_steps, nat_tests, last-refl, file-same)
 -- the console
 pub quiet-console : (k : Kernel) (c : Channel) → ((n : ℕ) → Less (at_position c n) (at_position k.console n)) → Quiet k (record k { console = c })
 quiet-console k c h =
-    record { last = last-refl k.files; bytes = bytes; lives = λ q. refl; names = refl; files = λ file. file-same (file_bytes k.files file) (file_bytes k.files file) refl; sound = λ s. record { fits = s.fits; named = s.named; there = s.there }; grows = omega arith; few = omega arith }
+    record { last = last-refl k.files; bytes = bytes; lives = λ q. refl; names = refl; files = λ file. file-same (file_bytes k.files file) (file_bytes k.files file) refl; sound = λ s. record { fits = s.fits; named = s.named; there = s.there }; grows = omega arith; few = omega arith; unplugged = refl }
   where
     bytes : (b : KernelByte) → Less (kernel_byte (record k { console = c }) b) (kernel_byte k b)
     bytes b = grind (arith, nat_tests)

@@ -9,7 +9,7 @@ use Rattle.acts_model.specs.Bodies.{nobody, body_at, memory_at, put, remove}
 use Rattle.acts_model.specs.Moved.{Outside, ConsoleByte, FileByte}
 use Rattle.acts_model.specs.Transfers.{Arrives, Runs, Exits, Delivers}
 use Rattle.acts_model.specs.Views.{cpu_at}
-use Rattle.arn_model.specs.Kernel.{Kernel, Machine, Handling, booted}
+use Rattle.arn_model.specs.Kernel.{Kernel, Machine, Handling, at_first, booted}
 use Rattle.arn_model.specs.Row.{row, answered}
 use Rattle.arn_model.specs.Run.{Input, File, Boot, Typed, Unplug, Slice, input_steps, after_input, steps_from, run, machine_after, events_of, instructions_in, within, state_at, unplug_step}
 use Rattle.arn_model.specs.Step.{Step}

@@ -19,7 +19,7 @@ use Rattle.arn_model.specs.Laws as laws
 use Rattle.arn_model.specs.Run.{machine_from, Input, File, Boot, Typed, Unplug, Slice, is_booted, file_step, typed_step, unplug_step, boot_step, can_add, boot_from, boot_found, may_unplug, input_steps, after_input, steps_from, run}
 use Rattle.arn_model.specs.Step.{Step}
 use Rattle.arn_model.specs.Sound.{IsSound, IsSoundMachine}
-use Rattle.arn_model.specs.Tells.{lives, StepTells, Boots, Adds, Types, HasNumbers, Along}
+use Rattle.arn_model.specs.Tells.{lives, StepTells, Boots, Adds, Types, Unplugs, HasNumbers, Along}
 use Rattle.arn_model.specs.Turn.{after_steps, turn, steps_of, is_possible}
 use Rattle.arn_model.proofs.Closing.{lives_in, quiet-opens, quiet-also_held, quiet-placed}
 use Rattle.arn_model.proofs.Effects.{forked-process}
@@ -131,7 +131,17 @@ typed-good m bytes s e =
     }
 
 unplug-good : (m : Machine) (device : ℕ) → MachineSound m → may_unplug m device ≡ true → StepGood m (unplug_step m device)
-unplug-good m device h1 h2 = grind (arith, nat_tests, fit-same)
+unplug-good m device s e =
+    record {
+      sound =
+          record {
+            kernel = record { fits = s.kernel.fits; named = s.kernel.named; there = s.kernel.there };
+            bodies = fit-same m.bodies (lives m.kernel) (lives (unplug_step m device).after.kernel) s.bodies (λ q. refl);
+          };
+      grows = omega arith;
+      few = omega arith;
+      tells = λ few. Unplugs device e refl;
+    }
 
 pub input-good : (m : Machine) (i : Input) → MachineSound m → Along StepGood m (input_steps m i)
 input-good m (File path bytes) s = by_test (can_add m path bytes) refl
@@ -151,7 +161,8 @@ input-good m (Typed bytes) s = by_test (is_booted m) refl
 input-good m (Unplug device) s = by_test (may_unplug m device) refl
   where
     by_test : (b : Bool) → may_unplug m device ≡ b → Along StepGood m (if b then unplug_step m device ∷ [] else [])
-    by_test b h1 = grind (arith, nat_tests, unplug-good)
+    by_test true e = (unplug-good m device s e, tt)
+    by_test false e = tt
 input-good m (Slice pid count reply) s = by_test (is_possible m pid count)
   where
     by_test : (b : Bool) → Along StepGood m (if b then steps_of (turn count pid reply m) else [])

@@ -155,6 +155,8 @@ pub record EventTells (m : Machine) (pid : ℕ) (v : View) (d : Doing) (entry : 
   pub files : (file : ℕ) → FileAfter m.events entry file (file_bytes m.kernel.files file) (file_bytes d.kernel.files file)
   pub last : FilesLast m.kernel.files d.kernel.files
   pub writes : WritesInside m.kernel.files (put_told entry)
+  -- no device is unplugged
+  pub unplugged : d.kernel.unplugged ≡ m.kernel.unplugged
 
 -- what a step of a run is
 pub data StepTells (m : Machine) (s : Step) : Type 0 where

@@ -30,6 +30,7 @@ fn shown_line(alloc: Global, line: &Line) -> Result<String, AllocError> {
         Line::Boot { name } => format!(in alloc; "boot {:?}", name.as_slice()),
         Line::Type { bytes } => format!(in alloc; "type {:?}", bytes.as_slice()),
         Line::Run { count } => format!(in alloc; "run {count}"),
+        Line::Unplug { device } => format!(in alloc; "unplug {device}"),
         Line::Asks { question } => shown_question(alloc, question),
     }
 }
@@ -156,6 +157,21 @@ const LINES: &[(&str, &str)] = &[
     ("run 1f", "unreadable"),
     ("run +5", "unreadable"),
     ("run -5", "unreadable"),
+    ("unplug 0", "unplug 0"),
+    ("unplug 0x1F", "unplug 31"),
+    ("unplug 1000000001", "unplug 1000000001"),
+    (
+        "unplug 18446744073709551615",
+        "unplug 18446744073709551615",
+    ),
+    ("unplug 18446744073709551616", "unreadable"),
+    ("unplug 01", "unreadable"),
+    ("unplug", "unreadable"),
+    ("unplug ", "unreadable"),
+    ("unplug  1", "unreadable"),
+    ("unplug 1 ", "unreadable"),
+    ("unplug 1 2", "unreadable"),
+    ("Unplug 1", "unreadable"),
     ("asm p", "unreadable"),
     ("asm ", "unreadable"),
     ("asm", "unreadable"),
@@ -494,6 +510,7 @@ const REFUSALS: &[(Refusal, &str)] = &[
     ),
     (Refusal::NoName, "no name\n"),
     (Refusal::NoImage, "no image\n"),
+    (Refusal::NoDevice, "no device\n"),
     (Refusal::NoPoint, "no point\n"),
 ];
 

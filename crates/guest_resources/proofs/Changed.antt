@@ -4,7 +4,7 @@ use Rattle.std.proofs.lemmas.Bool.{eqb-true, or_parts}
 use Rattle.std.proofs.lemmas.Option.{same_Some}
 use Rattle.parts_model.specs.declared.limits.TheConstants.{MOST_FILE_BYTES}
 use Rattle.parts_model.specs.declared.open.Description.{Description}
-use Rattle.parts_model.specs.declared.open.Description.TheVariants.{File, Device}
+use Rattle.parts_model.specs.declared.open.Description.TheVariants.{File}
 use Rattle.parts_model.specs.declared.tagged.TaggedByte.{TaggedByte}
 use Rattle.parts_model.specs.Files as files
 use Rattle.parts_model.specs.Files.{Files, Name, has_name, held, if_reached, laid_over, made, next_file, fitting, reached_again, rewritten, unnamed, with_holder, without_holder, without_name, written}
@@ -133,7 +133,7 @@ released-by r n file position d is sound (Some f) found =
 
 gone-sound : (r : Resources) (n : ℕ) (what : Description) (d : ℕ) → nth r.descriptions n ≡ Some (record { what = what; descriptors = d }) → IsSound r → IsSound (record { files = settled_files (Some what) r.files; descriptions = set r.descriptions n None })
 gone-sound r n (File file position) d is sound = released-by r n file position d is sound (nth r.files.all file) refl
-gone-sound r n (Device device) d is sound = absurd (known-at r n (record { what = Device device; descriptors = d }) is sound)
+
 gone-sound r n e d is sound = other-gone r n (record { what = e; descriptors = d }) is (λ m. refl) sound
 
 fewer-more : (r : Resources) (n : ℕ) (o : Opened) → nth r.descriptions n ≡ Some o → IsSound r → (b : Bool) → IsSound (record { files = settled_files (cond b None (Some o.what)) r.files; descriptions = cond b (set r.descriptions n (Some (with_count (λ c. c - 1) o))) (set r.descriptions n None) })

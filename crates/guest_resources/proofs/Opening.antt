@@ -2,7 +2,7 @@
 use Rattle.std.proofs.Common.{◌≡◌, ℕ, ◌-◌, false, List, [], ◌∷◌, ◌++◌, length, take, Option, Some, IfSome, Result, OnOk, OnErr, refl, sym, ap, ◌∙◌, arith, subst, length-append}
 use Rattle.std.proofs.Math.Seq.{take-append_seam}
 use Rattle.parts_model.specs.declared.open.Description.{Description}
-use Rattle.parts_model.specs.declared.open.Description.TheVariants.{Console, File, Device}
+use Rattle.parts_model.specs.declared.open.Description.TheVariants.{Console, File}
 use Rattle.parts_model.specs.Files.{Files}
 use Rattle.parts_model.specs.Numbered.{nth}
 use Rattle.arn_model.specs.Kernel.{Kernel, Opened, at_first, with_new}
@@ -23,13 +23,11 @@ without_last r = record r { descriptions = take (length r.descriptions - 1) r.de
 channel-known : (all : Files) (what : Description) → IsChannel what → IsKnown all what
 channel-known all Console is = absurd is
 channel-known all (File file position) is = absurd is
-channel-known all (Device device) is = absurd is
 channel-known all _ is = tt
 
 is_of-channel : (m : ℕ) (what : Description) → IsChannel what → is_of m what ≡ false
 is_of-channel m Console is = absurd is
 is_of-channel m (File file position) is = absurd is
-is_of-channel m (Device device) is = absurd is
 is_of-channel m _ is = refl
 
 holders_of-channel : (m : ℕ) (ds : List (Option Opened)) (what : Description) → IsChannel what → holders_of m (ds ++ Some (opened_for_one what) ∷ []) ≡ holders_of m ds

@@ -2,7 +2,7 @@
 use Rattle.std.proofs.Common.{◌≡◌, ℕ, zero, suc, ◌+◌, ◌≤◌, ◌==◌, Bool, true, false, List, [], ◌∷◌, ◌++◌, length, set, Option, None, Some, IfSome, is_some, refl, sym, ap, arith, subst, true≢false}
 use Rattle.std.proofs.lemmas.Bool.{eqb-true, eqb-false}
 use Rattle.parts_model.specs.declared.open.Description.{Description}
-use Rattle.parts_model.specs.declared.open.Description.TheVariants.{Console, File, Reader, Device}
+use Rattle.parts_model.specs.declared.open.Description.TheVariants.{Console, File, Reader}
 use Rattle.parts_model.specs.Files as files
 use Rattle.parts_model.specs.Files.{Files, Name}
 use Rattle.parts_model.specs.Numbered.{nth}
@@ -75,7 +75,6 @@ module _ (old new : Files) (file : ℕ) (others : (n at : ℕ) → (n ≡ file �
       by : (b : Bool) → (n == file) ≡ b → IsIn (nth new.all n) position
       by true e = subst (λ (i : ℕ). IsIn (nth new.all i) position) (sym (eqb-true n file e)) (own e position (subst (λ (i : ℕ). IsIn (nth old.all i) position) (eqb-true n file e) is))
       by false e = others n position (eqb-false n file e) is
-  kept-what (Device device) own is = absurd is
   kept-what _ own is = tt
 
   kept-one : (o : Option Opened) → ((at : ℕ) → IsIn (nth old.all file) at → IsIn (nth new.all file) at) → IfSome o (λ d. IsKnown old d.what) → IfSome o (λ d. IsKnown new d.what)

@@ -29,7 +29,7 @@ abbrev pub IsIn : Option files.File → ℕ → Type 0
 IsIn None at = ⊥
 IsIn (Some f) at = at ≤ length f.bytes
 
--- what can be open: no device yet, and a file that is there, at a place in it
+-- what can be open: a file that is there, at a place in it, and all that is no file
 abbrev pub IsKnown : Files → Description → Type 0
 IsKnown all Console = Unit {0}
 IsKnown all (File file position) = IsIn (nth all.all file) position
@@ -37,7 +37,7 @@ IsKnown all (Reader pipe) = Unit {0}
 IsKnown all (Writer pipe) = Unit {0}
 IsKnown all (Connection reads writes) = Unit {0}
 IsKnown all (Listener port) = Unit {0}
-IsKnown all (Device device) = ⊥
+IsKnown all (Device device) = Unit {0}
 
 -- a description that is no file
 abbrev pub IsNoFile : Description → Type 0
@@ -49,7 +49,7 @@ IsNoFile (Connection reads writes) = Unit {0}
 IsNoFile (Listener port) = Unit {0}
 IsNoFile (Device device) = Unit {0}
 
--- ends of pipes, and ports
+-- ends of pipes, ports, and devices
 abbrev pub IsChannel : Description → Type 0
 IsChannel Console = ⊥
 IsChannel (File file position) = ⊥
@@ -57,7 +57,7 @@ IsChannel (Reader pipe) = Unit {0}
 IsChannel (Writer pipe) = Unit {0}
 IsChannel (Connection reads writes) = Unit {0}
 IsChannel (Listener port) = Unit {0}
-IsChannel (Device device) = ⊥
+IsChannel (Device device) = Unit {0}
 
 -- the last that was opened is a channel, for which one descriptor stands
 pub record EndsWithChannel (descriptions : List (Option Opened)) : Type 0 where

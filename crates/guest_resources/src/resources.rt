@@ -256,7 +256,7 @@ impl Resources {
         Some(what)
     }
 
-    /// Opens a channel for one descriptor, and answers its number.
+    /// Opens a channel or a device for one descriptor, and answers its number.
     pub fn open_channel(&mut self, what: Description) -> Result<u32, NoMemory>
         requires { IsChannel what }
         ensures opened { OnOk result (Changes self.old (with_new what) self.new) }
@@ -289,7 +289,7 @@ impl Resources {
         }
     }
 
-    /// Takes the channel that was opened last back, as if it weren't opened.
+    /// Takes the channel or the device that was opened last back, as if it weren't opened.
     pub fn remove_last(&mut self)
         requires { EndsWithChannel self.old.descriptions }
         ensures { self.new ≡ record self.old {

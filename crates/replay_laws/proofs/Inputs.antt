@@ -12,7 +12,7 @@ use Rattle.parts_model.specs.Tagged.{values}
 use Rattle.acts_model.specs.Bodies.{View, seen}
 use Rattle.acts_model.specs.Moved.{is_instruction}
 use Rattle.arn_model.specs.Kernel.{Machine}
-use Rattle.arn_model.specs.Run.{Input, File, Boot, Typed, Unplug, Slice, input_steps, after_input, steps_from, is_booted, can_add, may_unplug, boot_found, boot_from, boot_step, file_step, typed_step}
+use Rattle.arn_model.specs.Run.{Input, File, Boot, Typed, Unplug, Slice, input_steps, after_input, steps_from, is_booted, can_add, may_unplug, boot_found, boot_from, boot_step, file_step, typed_step, unplug_step}
 use Rattle.arn_model.specs.Sound.{IsSoundMachine}
 use Rattle.arn_model.specs.Step.{Step}
 use Rattle.arn_model.specs.Tells.{Along}
@@ -84,7 +84,8 @@ takes m (Typed bytes) = by_test (is_booted m) refl
 takes m (Unplug device) = by_test (may_unplug m device) refl
   where
     by_test : (b : Bool) → may_unplug m device ≡ b → Takes m (Unplug device)
-    by_test b h1 = grind (arith, nat_tests, cond-true, cond-false)
+    by_test true e = Comes (unplug_step m device) (entry.Unplug device) (cond-true (may_unplug m device) (unplug_step m device ∷ []) [] e) (λ steps. refl) (record { records = refl; bodies = refl; events = refl; booted = refl; uncounted = refl; part = λ gs g. refl; stands = λ g until t. refl; groups = λ gs. refl })
+    by_test false e = Rests (cond-false (may_unplug m device) (unplug_step m device ∷ []) [] e)
 takes m (Slice pid count reply) = by_test (is_possible m pid count) refl
   where
     by_test : (b : Bool) → is_possible m pid count ≡ b → Takes m (Slice pid count reply)

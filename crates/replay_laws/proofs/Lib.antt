@@ -18,5 +18,6 @@ pub mod TellsLives
 pub mod TellsSegments
 pub mod TellsNames
 pub mod TellsBrought
+pub mod TellsUnplugged
 pub mod TellsRuns
 pub mod TellsEvents

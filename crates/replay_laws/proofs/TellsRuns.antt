@@ -16,6 +16,7 @@ use Rattle.arn_model.specs.Turn.{after_steps}
 use Rattle.history_model.specs.Moments.{Numbered, lives_by, segment_at, segments_by, segments_told, events_until}
 use Rattle.history_model.specs.Names as names
 use Rattle.history_model.specs.Names.{named_from, is_file, brought_from}
+use Rattle.history_model.specs.Unplugged.{unplugged_in}
 use Rattle.log_model.specs.Laws.{EventsRecorded}
 use Rattle.log_model.specs.Records.{records}
 use Rattle.replay_laws.specs.Laws as laws
@@ -24,6 +25,7 @@ use Rattle.replay_laws.proofs.TellsBrought.{Brought, BroughtIs, UntilBooted, bri
 use Rattle.replay_laws.proofs.TellsNames.{Naming, NamesAre, named_at, names-keep, names-fold, named-kept, boot-kept}
 use Rattle.replay_laws.proofs.TellsSegments.{SegmentsAre, segments-keep, segments-first, segments-fold}
 use Rattle.replay_laws.proofs.TellsSteps.{Facts, run-facts, within-along, fold_events, fold-keeps, as_numbered, numbered-events, events-counted}
+use Rattle.replay_laws.proofs.TellsUnplugged.{UnpluggedAre, unplugs, unplugs-keep, unplugs-fold, unplugged-kept}
 use Rattle.replay_laws.proofs.TellsUntil.{events-until, from-total}
 
 -- of a run
@@ -57,6 +59,12 @@ records-tell-runs parts tell append sound recorded inputs few =
           ∙ names-fold name (events_of steps) none_named
           ∙ (fold-keeps (named_at name) (NamesAre name) (names-keep name) at_first steps none_named facts (record { file = refl; next = λ none. refl })).file
           ∙ sym (ap (λ (m : Machine). find_file m.kernel.files name) reached);
+      unplugged =
+          unplugged-kept (records inputs)
+          ∙ ap unplugged_in (recorded inputs)
+          ∙ unplugs-fold (events_of steps) []
+          ∙ fold-keeps unplugs UnpluggedAre unplugs-keep at_first steps [] facts refl
+          ∙ sym (ap (λ (m : Machine). m.kernel.unplugged) reached);
       brought = λ none name. brought-at name ∙ (files-are none name).bytes;
       may_bring =
           λ none name.

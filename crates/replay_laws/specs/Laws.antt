@@ -13,6 +13,7 @@ use Rattle.history_model.specs.Events.{how_many}
 use Rattle.history_model.specs.Groups.{Groups, group_of, is_number}
 use Rattle.history_model.specs.Moments.{total, events_until, lives_at, segment_at}
 use Rattle.history_model.specs.Names as names
+use Rattle.history_model.specs.Unplugged.{unplugged_in}
 use Rattle.log_model.specs.Records.{records}
 use Rattle.replay_laws.specs.Heard.{heard_at}
 
@@ -45,13 +46,14 @@ pub record TellsMoment (inputs : List Input) (moment pid : ℕ) : Type 0 where
 abbrev pub named_bytes : Files → List ℕ → Option (List ℕ)
 named_bytes files name = option_map values (option_and_then (file_bytes files) (find_file files name))
 
--- the records tell how many instructions have run and how many events there have been, whether a process was made, and which file a name
--- stands for; and until a process is made, the bytes of files, and whether one more may be brought
+-- the records tell how many instructions have run and how many events there have been, whether a process was made, which file a name
+-- stands for, and which devices were unplugged; and until a process is made, the bytes of files, and whether one more may be brought
 pub record TellsRun (inputs : List Input) : Type 0 where
   pub instructions : total (records inputs) ≡ instructions_in (run.run inputs)
   pub events : how_many (records inputs) ≡ (machine_after inputs).events
   pub booted : names.is_booted (records inputs) ≡ run.is_booted (machine_after inputs)
   pub named : (name : List ℕ) → names.file_named (records inputs) name ≡ find_file (machine_after inputs).kernel.files name
+  pub unplugged : unplugged_in (records inputs) ≡ (machine_after inputs).kernel.unplugged
   pub brought : run.is_booted (machine_after inputs) ≡ false → (name : List ℕ) → names.brought (records inputs) name ≡ named_bytes (machine_after inputs).kernel.files name
   pub may_bring : run.is_booted (machine_after inputs) ≡ false → (name : List ℕ) → names.may_bring (records inputs) name ≡ is_free (machine_after inputs).kernel.files name
 

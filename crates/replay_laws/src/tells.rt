@@ -5,7 +5,8 @@ use arn_model::{runs_append, runs_sound, steps_tell, turns_have_parts};
 use log_model::events_recorded;
 
 /// What the records of a run tell of it: how many instructions and events there were, whether a process
-/// was made, and which file a name stands for; where fewer than 2^63 processes have been made.
+/// was made, which file a name stands for, and which devices were unplugged; where fewer than 2^63 processes
+/// have been made.
 pub fn records_tell_runs()
     ensures { RecordsTellRuns }
 {

@@ -17,7 +17,7 @@ use Rattle.parts_model.specs.Tagged.{held_from, values, given, origins_of, onto_
 use Rattle.acts_model.specs.Moved.{KernelByte, ConsoleByte, FileByte, StatusByte, Range, place_in, Incoming}
 use Rattle.acts_model.specs.Records.{event_len, give_of}
 use Rattle.arn_model.specs.Kernel.{Kernel, Machine, booted}
-use Rattle.arn_model.specs.Run.{file_step, typed_step}
+use Rattle.arn_model.specs.Run.{file_step, typed_step, unplug_step}
 use Rattle.arn_model.specs.Tells.{kernel_byte, at_position, HoldsAfter, outgoing_byte, put_byte, Receives}
 use Rattle.history_model.specs.Broken.{is_origin, lies_in_event, are_origins, origins_len}
 use Rattle.history_model.specs.Events.{events, len_of}
@@ -100,6 +100,11 @@ channel-put c event bytes p h h1 = grind (arith, nat_tests, held-at, get-append)
 pub typed-put : (m : Machine) (bytes : List ℕ) → OldOrPut m.events (length bytes) m.kernel (typed_step m bytes).after.kernel
 typed-put m bytes (ConsoleByte p) h e = channel-put m.kernel.console m.events bytes p h e
 typed-put m bytes _ h e = inl e
+
+-- an unplugging puts nothing
+pub unplug-put : (m : Machine) (device : ℕ) → OldOrPut m.events 0 m.kernel (unplug_step m device).after.kernel
+unplug-put m device (ConsoleByte p) h e = inl e
+unplug-put m device _ h e = inl e
 
 nth-push : {A : Type 0} (xs : List (Option A)) (x : Option A) (j : ℕ) → (nth (xs ++ x ∷ []) j ≡ nth xs j) ⊎ (nth (xs ++ x ∷ []) j ≡ x)
 nth-push [] x zero = inr refl

@@ -19,7 +19,7 @@ use Rattle.history_model.specs.Broken.{are_origins, has_blocks_wrong, start_in, 
 use Rattle.history_model.specs.Events.{events}
 use Rattle.unbroken_laws.proofs.Counted.{Counted}
 use Rattle.unbroken_laws.proofs.Inputs.{CountedBy, CountsRight}
-use Rattle.unbroken_laws.proofs.Lies.{AllLie, OldOrPut, lie-after, holds-put, typed-put, file-put, boot-put, Gives, receives-gives, origins-fine}
+use Rattle.unbroken_laws.proofs.Lies.{AllLie, OldOrPut, lie-after, holds-put, typed-put, unplug-put, file-put, boot-put, Gives, receives-gives, origins-fine}
 
 -- what is known of each step of a run
 pub record Facts (m : Machine) (s : Step) : Type 0 where
@@ -78,7 +78,9 @@ kind-of m s (Adds path bytes may is) =
 kind-of m s (Types bytes booted is) =
     subst (Kind m) (sym is)
     (IsEvent (entry.Typed bytes) (record { event = refl; counts = refl; is = refl; puts = typed-put m bytes; gives = tt; lives = λ inner. absurd (false≢true inner) }))
-kind-of m s (Unplugs device may is) = grind (arith, nat_tests)
+kind-of m s (Unplugs device may is) =
+    subst (Kind m) (sym is)
+    (IsEvent (entry.Unplug device) (record { event = refl; counts = refl; is = refl; puts = unplug-put m device; gives = tt; lives = λ inner. absurd (false≢true inner) }))
 
 -- what records tell of the machine that they lead to
 pub record Known (before : List Record) (m : Machine) : Type 0 where
