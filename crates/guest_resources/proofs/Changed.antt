@@ -133,7 +133,6 @@ released-by r n file position d is sound (Some f) found =
 
 gone-sound : (r : Resources) (n : ℕ) (what : Description) (d : ℕ) → nth r.descriptions n ≡ Some (record { what = what; descriptors = d }) → IsSound r → IsSound (record { files = settled_files (Some what) r.files; descriptions = set r.descriptions n None })
 gone-sound r n (File file position) d is sound = released-by r n file position d is sound (nth r.files.all file) refl
-
 gone-sound r n e d is sound = other-gone r n (record { what = e; descriptors = d }) is (λ m. refl) sound
 
 fewer-more : (r : Resources) (n : ℕ) (o : Opened) → nth r.descriptions n ≡ Some o → IsSound r → (b : Bool) → IsSound (record { files = settled_files (cond b None (Some o.what)) r.files; descriptions = cond b (set r.descriptions n (Some (with_count (λ c. c - 1) o))) (set r.descriptions n None) })
