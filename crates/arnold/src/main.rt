@@ -96,14 +96,7 @@ fn session<
     H: Files<File = File> + Clock + Clone + Drop,
     R: Read + Drop,
     W: Write + Drop,
->(
-    alloc: Global,
-    words: &[String],
-    host: H,
-    reader: R,
-    writer: W,
-    blank: Blank,
-) -> Ending
+>(alloc: Global, words: &[String], host: H, reader: R, writer: W, blank: Blank) -> Ending
     requires name { blank.name ≡ L.name }
     requires parts { blank.parts ≡ L.parts }
     requires some { 0 < blank.parts }

@@ -56,7 +56,10 @@ impl<R: Clock + Drop> Device for ClockDevice<R> {
 
 // The time of a clock, where it tells one from 1970 on that 64 bits hold.
 fn nanoseconds<R: Clock>(clock: &R) -> Option<u64> {
-    let since = SystemTime::now(clock).ok()?.duration_since(UNIX_EPOCH).ok()?;
+    let since = SystemTime::now(clock)
+        .ok()?
+        .duration_since(UNIX_EPOCH)
+        .ok()?;
     u64::try_from(since.as_nanos()).ok()
 }
 
