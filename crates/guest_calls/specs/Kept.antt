@@ -17,7 +17,7 @@ abbrev pub state_of : Inside → State
 state_of k =
     record {
       guests = k.bodies;
-      kernel = (tables_of k.bodies k.procs k.resources k.channels k.console).kernel;
+      kernel = (tables_of k.bodies k.procs k.resources k.channels k.console k.unplugged).kernel;
       events = k.events;
     }
 

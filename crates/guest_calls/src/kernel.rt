@@ -1,9 +1,10 @@
 // The kernel, and what it knows of processes.
-ghost use Rattle.std.specs.Prelude.{◌≡◌, ◌≢◌, ◌+◌, ◌<◌, ◌^◌, ◌↔◌, nat_lt, false, [], length, Err, IfErr, OnOk, OnErr, IsNone, IsSome, IsTrue};
+ghost use Rattle.std.specs.Prelude.{◌≡◌, ◌≢◌, ◌+◌, ◌<◌, ◌^◌, ◌↔◌, nat_lt, false, true, [], length, Err, Ok, IfErr, OnOk, OnErr, IsNone, IsSome, IsTrue};
 ghost use Rattle.parts_model.specs.declared.limits.TheConstants.{MOST_FILE_BYTES};
 ghost use Rattle.parts_model.specs.Files.{find_file, is_full};
 ghost use Rattle.parts_model.specs.Processes.{live};
-ghost use Rattle.arn_model.specs.Run.{file_step, typed_step};
+ghost use Rattle.arn_model.specs.Run.{file_step, typed_step, unplug_step};
+ghost use Rattle.arn_model.specs.TransferCalls.{was_unplugged};
 ghost use Rattle.guest_bodies.specs.Shown.{IsLive};
 ghost use Rattle.guest_calls.specs.State.{Becomes, IsNext, state_first};
 ghost use Rattle.guest_calls.specs.Tables.{tables_in};
@@ -14,12 +15,12 @@ use guest_channels::Channels;
 use guest_files::FileError;
 use guest_procs::Procs;
 use guest_requests::Tables;
-use guest_resources::{Console, Resources};
+use guest_resources::{Console, Resources, Unplugged};
 use std::alloc::Global;
 use std::marker::Model;
 
 /// Processes, and what they have to do with each other and with the outside: what they have open,
-/// files, pipes and ports, and the console.
+/// files, pipes and ports, the console, and the devices that were unplugged.
 #[derive(Drop)]
 pub struct Kernel {
     pub(crate) alloc: Global,
@@ -28,6 +29,7 @@ pub struct Kernel {
     pub(crate) resources: Resources,
     pub(crate) channels: Channels,
     pub(crate) console: Console,
+    pub(crate) unplugged: Unplugged,
     pub(crate) booted: bool,
     pub(crate) events: u64,
 }
@@ -56,6 +58,7 @@ impl Kernel {
             resources: Resources::new(alloc),
             channels: Channels::new(alloc),
             console: Console::new(alloc),
+            unplugged: Unplugged::new(alloc),
             booted: false,
             events: 0,
         }
@@ -99,6 +102,7 @@ impl Kernel {
             &self.resources,
             &self.channels,
             &self.console,
+            &self.unplugged,
         )
     }
 
@@ -136,5 +140,21 @@ impl Kernel {
         self.console.put(bytes, event)?;
         self.events += 1;
         Ok(())
+    }
+
+    /// Unplugs a device of this number. False comes exactly where it was unplugged before.
+    pub fn unplug(&mut self, device: u32) -> Result<bool, NoMemory>
+        requires room { self.old.events + 1 < 2 ^ 64 }
+        ensures unplugged { result ≡ Ok true →
+            Becomes self.old (λ m. (unplug_step m device).after) self.new }
+        ensures before { (result ≡ Ok false) ↔ IsTrue (was_unplugged self.old.kernel device) }
+        ensures same { result ≡ Ok false → self.new ≡ self.old }
+        ensures err { OnErr result (self.new ≡ self.old) }
+    {
+        if !self.unplugged.add(device)? {
+            return Ok(false);
+        }
+        self.events += 1;
+        Ok(true)
     }
 }

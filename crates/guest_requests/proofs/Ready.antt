@@ -52,6 +52,8 @@ module _ (m : Machine) (pid : ℕ) (v : View) where
   reading-ready (reading.Takes at count) ready comes = sym (ap is_waiting comes)
   reading-ready (reading.Reads at most place) ready comes = sym comes.1
   reading-ready (reading.Drains at most pipe) ready comes = sym comes.1
+  reading-ready reading.Absent ready comes = sym (ap is_waiting comes)
+  reading-ready (reading.Asks device at most) ready comes = sym (ap is_waiting comes)
 
   pub writing-waits : (r : Writing) → r ≡ writing.Waits → IsWriting r m v (write_row m pid v) → true ≡ is_waiting (write_row m pid v)
   writing-waits r is comes = sym (ap is_waiting (subst (λ (x : Writing). IsWriting x m v (write_row m pid v)) is comes))
@@ -62,6 +64,8 @@ module _ (m : Machine) (pid : ℕ) (v : View) where
   writing-ready (writing.Prints at count) ready comes = sym (ap is_waiting comes)
   writing-ready (writing.Puts at count place) ready comes = sym (ap is_waiting comes ∙ put-ready m at (read v at count) place (place.position == MOST_FILE_BYTES))
   writing-ready (writing.Pours at count pipe) ready comes = sym comes.1
+  writing-ready writing.Absent ready comes = sym (ap is_waiting comes)
+  writing-ready (writing.Asks device at count) ready comes = sym (ap is_waiting comes)
 
   pub wait-waits : (r : Waiting) → r ≡ waiting.Waits → IsWait r m v (wait_row m pid v) → true ≡ is_waiting (wait_row m pid v)
   wait-waits r is comes = sym (ap is_waiting (subst (λ (x : Waiting). IsWait x m v (wait_row m pid v)) is comes))

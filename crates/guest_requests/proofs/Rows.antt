@@ -1,5 +1,5 @@
 -- What a call of a number comes to, and which calls are always ready.
-use Rattle.std.proofs.Common.{◌≡◌, ◌≢◌, ℕ, ◌==◌, Bool, true, false, cond, ◌||◌, ◌&&◌, List, [], ◌∷◌, Option, None, Some, refl, sym, ap, ap₂, ◌∙◌, subst, ne_eqb, true≢false}
+use Rattle.std.proofs.Common.{◌≡◌, ◌≢◌, ℕ, ◌^◌, ◌==◌, Bool, true, false, cond, ◌||◌, ◌&&◌, List, [], ◌∷◌, Option, None, Some, refl, sym, ap, ap₂, ◌∙◌, subst, ne_eqb, true≢false}
 use Rattle.std.specs.Prelude.{if◌then◌else◌, is_none, is_some, nat_lt, not}
 use Rattle.std.specs.List.{list_any}
 use Rattle.std.proofs.lemmas.Bool.{eqb-true}
@@ -19,8 +19,8 @@ use Rattle.parts_model.specs.Files.{find_file, file_bytes, is_full, made, next_f
 use Rattle.acts_model.specs.Bodies.{View}
 use Rattle.acts_model.specs.Views.{argument, call_number, can_reach}
 use Rattle.rv64_model.specs.Instruction.{Effect, Next, Call, End}
-use Rattle.arn_model.specs.ChannelCalls.{accept_row, connect_row, listen_row, pipe_row}
-use Rattle.arn_model.specs.Doing.{Request, Does, Refusal, refuse, refused, returns, unless_refused}
+use Rattle.arn_model.specs.ChannelCalls.{accept_row, connect_row, device_asked, device_row, listen_row, pipe_row}
+use Rattle.arn_model.specs.Doing.{Request, Does, Asks, Here, Question, Refusal, refuse, refused, returns, unless_refused}
 use Rattle.arn_model.specs.FileCalls.{close_opened, close_row, dup_opened, dup_row, file_len, has_no_room, open_found, open_new, open_row, opened_as, seek_in, seek_opened, seek_row, seek_what, unlink_found, unlink_row}
 use Rattle.arn_model.specs.Kernel.{Kernel, Machine, also_held, description_of, next_descriptor, placed, room_for, what_is, with_description}
 use Rattle.arn_model.specs.Paths.{isnt_path_len, path_of}
@@ -28,7 +28,7 @@ use Rattle.arn_model.specs.ProcessCalls.{exec_bytes, exec_doing, exec_file, exec
 use Rattle.arn_model.specs.Row.{row, built_calls, is_built, request, is_waiting}
 use Rattle.arn_model.specs.SignalCalls.{kill_row, shm_row, sigaction_row, sigreturn_row}
 use Rattle.arn_model.specs.Step.{waits_at}
-use Rattle.arn_model.specs.TransferCalls.{read_row, write_row}
+use Rattle.arn_model.specs.TransferCalls.{absent, read_row, unless_unplugged, was_unplugged, write_row}
 use Rattle.guest_requests.specs.Calls.{ComeToRows, OthersAreReady}
 use Rattle.guest_requests.specs.Standing.{can_wait, is_call}
 
@@ -158,6 +158,15 @@ module _ (m : Machine) (pid : ℕ) (v : View) where
       let port : ℕ = argument v.body.cpu 0 in
       unless-ready m.kernel (refuse CONNECTION_REFUSED (not (can_connect m.kernel.ports port)) ∷ refuse NO_DESCRIPTOR_ROOM (has_no_room m.kernel pid) ∷ refuse NO_ROOM (nat_lt (free_pipes m.kernel.pipes) 2) ∷ []) _ refl
 
+  unplugged-ready : (device : ℕ) (question : Question) → is_waiting (unless_unplugged m device question) ≡ false
+  unplugged-ready device question = if-ready (was_unplugged m.kernel device) (Does (absent m.kernel)) (Asks question) refl refl
+
+  asked-ready : (device : ℕ) → is_waiting (device_asked m device) ≡ false
+  asked-ready device = if-ready (nat_lt device (2 ^ 32)) (unless_unplugged m device (Here device)) (Does (absent m.kernel)) (unplugged-ready device (Here device)) refl
+
+  device-ready : is_waiting (device_row m pid v) ≡ false
+  device-ready = unless-ready m.kernel (refuse NO_DESCRIPTOR_ROOM (has_no_room m.kernel pid) ∷ []) (device_asked m (argument v.body.cpu 0)) (asked-ready (argument v.body.cpu 0))
+
   kill-ready : is_waiting (kill_row m pid v) ≡ false
   kill-ready =
       let target : ℕ = argument v.body.cpu 0 in
@@ -253,6 +262,10 @@ module _ (m : Machine) (pid : ℕ) (v : View) where
   unfolding row
   row-accept = refl
 
+  pub row-device : row 21 m pid v ≡ device_row m pid v
+  unfolding row
+  row-device = refl
+
   pub row-yield : row 22 m pid v ≡ yield_row m pid v
   unfolding row
   row-yield = refl
@@ -304,8 +317,11 @@ module _ (m : Machine) (pid : ℕ) (v : View) where
                                         (
                                           λ ready. absurd (true≢false ready),
                                           (
-                                            λ ready. ap is_waiting row-yield,
-                                            tt,
+                                            λ ready. ap is_waiting row-device ∙ device-ready,
+                                            (
+                                              λ ready. ap is_waiting row-yield,
+                                              tt,
+                                            ),
                                           ),
                                         ),
                                       ),
@@ -396,6 +412,7 @@ come-to-rows =
       listen = λ m pid v is. request-built m pid v 18 (listen_row m pid v) is refl (row-listen m pid v);
       connect = λ m pid v is. request-built m pid v 19 (connect_row m pid v) is refl (row-connect m pid v);
       accept = λ m pid v is. request-accept m pid v is;
+      device = λ m pid v is. request-built m pid v 21 (device_row m pid v) is refl (row-device m pid v);
       yield = λ m pid v is. request-built m pid v 22 (yield_row m pid v) is refl (row-yield m pid v);
     }
 

@@ -1,9 +1,9 @@
 -- The table of calls, by their numbers.
 use Rattle.std.specs.Prelude.{◌≡◌, ℕ, false}
-use Rattle.parts_model.specs.declared.calls.TheConstants.{ACCEPT, CLOSE, CONNECT, DUP, EXEC, EXIT, FORK, GETPID, KILL, LISTEN, OPEN, PIPE, READ, SEEK, SHM, SIGACTION, SIGRETURN, UNLINK, WAIT, WRITE, YIELD}
+use Rattle.parts_model.specs.declared.calls.TheConstants.{ACCEPT, CLOSE, CONNECT, DEVICE, DUP, EXEC, EXIT, FORK, GETPID, KILL, LISTEN, OPEN, PIPE, READ, SEEK, SHM, SIGACTION, SIGRETURN, UNLINK, WAIT, WRITE, YIELD}
 use Rattle.acts_model.specs.Bodies.{View}
 use Rattle.acts_model.specs.Views.{call_number}
-use Rattle.arn_model.specs.ChannelCalls.{accept_row, connect_row, listen_row, pipe_row}
+use Rattle.arn_model.specs.ChannelCalls.{accept_row, connect_row, device_row, listen_row, pipe_row}
 use Rattle.arn_model.specs.Doing.{Request}
 use Rattle.arn_model.specs.FileCalls.{close_row, dup_row, open_row, seek_row, unlink_row}
 use Rattle.arn_model.specs.Kernel.{Machine}
@@ -39,6 +39,7 @@ pub record ComeToRows : Type 0 where
   pub listen : ComesTo LISTEN listen_row
   pub connect : ComesTo CONNECT connect_row
   pub accept : ComesTo ACCEPT accept_row
+  pub device : ComesTo DEVICE device_row
   pub yield : ComesTo YIELD yield_row
 
 -- a call of another number than those that may wait doesn't

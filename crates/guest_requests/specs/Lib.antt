@@ -3,6 +3,7 @@ pub mod Paths
 pub mod Transfers
 pub mod Waits
 pub mod Accepts
+pub mod Openings
 pub mod Signalling
 pub mod Standing
 pub mod Calls

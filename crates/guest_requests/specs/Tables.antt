@@ -27,8 +27,8 @@ pub record Tables : Type 0 where
   pub kernel : Kernel
 
 -- the kernel of these parts
-abbrev pub tables_of : Guests → Processes → Resources → Channels → Channel → Tables
-tables_of guests processes resources channels console =
+abbrev pub tables_of : Guests → Processes → Resources → Channels → Channel → List ℕ → Tables
+tables_of guests processes resources channels console unplugged =
     record {
       guests = guests;
       kernel =
@@ -40,7 +40,7 @@ tables_of guests processes resources channels console =
             files = resources.files;
             descriptions = resources.descriptions;
             ports = channels.ports;
-            unplugged = [];
+            unplugged = unplugged;
           };
     }
 

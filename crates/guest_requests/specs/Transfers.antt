@@ -8,10 +8,11 @@ use Rattle.parts_model.specs.Pipes.{can_put, can_take}
 use Rattle.acts_model.specs.Bodies.{View}
 use Rattle.acts_model.specs.Moved.{ConsoleByte}
 use Rattle.acts_model.specs.Views.{argument, bytes_in, read}
-use Rattle.arn_model.specs.Doing.{Request, Waits, Does, returns}
+use Rattle.arn_model.specs.Doing as doing
+use Rattle.arn_model.specs.Doing.{Request, Waits, Does, Asks, returns}
 use Rattle.arn_model.specs.Kernel.{Kernel, Machine, what_is}
 use Rattle.arn_model.specs.Row.{is_waiting}
-use Rattle.arn_model.specs.TransferCalls.{cut, if_moving, read_console, read_file, read_pipe, read_what, receiving, write_console, write_file, write_pipe, write_what}
+use Rattle.arn_model.specs.TransferCalls.{absent, cut, if_moving, read_console, read_file, read_pipe, read_what, receiving, unless_unplugged, write_console, write_file, write_pipe, write_what}
 use Rattle.guest_resources.specs.Resources.{IsIn, is_of}
 use Rattle.guest_requests.specs.declared.reading.Place.{Place}
 use Rattle.guest_requests.specs.declared.reading.Reading.{Reading}
@@ -67,6 +68,8 @@ IsReading reading.Waits m request = request ≡ Waits
 IsReading (reading.Takes at count) m request = request ≡ taking m at count
 IsReading (reading.Reads at most place) m request = (request ≡ reading_at m at most place) × (is_waiting request ≡ false)
 IsReading (reading.Drains at most pipe) m request = (request ≡ draining m at most pipe) × (is_waiting request ≡ false)
+IsReading reading.Absent m request = request ≡ Does (absent m.kernel)
+IsReading (reading.Asks device at most) m request = request ≡ Asks (doing.Reads device at most)
 
 -- so many bytes wait in the console's queue, the place is there, the pipe is ready, and no more are moved than may be
 abbrev pub CanTake : Reading → Kernel → Type 0
@@ -75,6 +78,8 @@ CanTake reading.Waits k = Unit {0}
 CanTake (reading.Takes at count) k = (count ≤ length k.console.queue) × (count ≤ MOST_TRANSFER)
 CanTake (reading.Reads at most place) k = IsOpenAt k place × (most ≤ MOST_TRANSFER)
 CanTake (reading.Drains at most pipe) k = CanDrain k pipe × (0 < most) × (most ≤ MOST_TRANSFER)
+CanTake reading.Absent k = Unit {0}
+CanTake (reading.Asks device at most) k = most ≤ MOST_TRANSFER
 
 -- what a write comes to
 abbrev pub IsWriting : Writing → Machine → View → Request → Type 0
@@ -83,6 +88,8 @@ IsWriting writing.Waits m v request = request ≡ Waits
 IsWriting (writing.Prints at count) m v request = request ≡ write_console m at (read v at count)
 IsWriting (writing.Puts at count place) m v request = request ≡ writing_at m at (read v at count) place
 IsWriting (writing.Pours at count pipe) m v request = (request ≡ pouring m at (read v at count) pipe) × (is_waiting request ≡ false)
+IsWriting writing.Absent m v request = request ≡ Does (absent m.kernel)
+IsWriting (writing.Asks device at count) m v request = request ≡ Asks (doing.Writes device at count)
 
 -- the bytes and the place are there, the pipe is ready, and no more are moved than may be
 abbrev pub CanPrint : Writing → Kernel → View → Type 0
@@ -91,6 +98,8 @@ CanPrint writing.Waits k v = Unit {0}
 CanPrint (writing.Prints at count) k v = IsSome (bytes_in v at count) × (count ≤ MOST_TRANSFER)
 CanPrint (writing.Puts at count place) k v = IsOpenAt k place × IsSome (bytes_in v at count) × (count ≤ MOST_TRANSFER)
 CanPrint (writing.Pours at count pipe) k v = CanPour k pipe × IsSome (bytes_in v at count) × (count ≤ MOST_TRANSFER)
+CanPrint writing.Absent k v = Unit {0}
+CanPrint (writing.Asks device at count) k v = IsSome (bytes_in v at count) × (count ≤ MOST_TRANSFER)
 
 -- a read from the console
 abbrev pub console_read : Machine → View → Request
@@ -133,6 +142,20 @@ pipe_write m v pipe =
     let count = argument v.body.cpu 2 in
     let at = argument v.body.cpu 1 in
     if_moving m v at count (pouring m at (read v at (cut count)) pipe)
+
+-- a read from a device
+abbrev pub from_device : Machine → View → ℕ → Request
+from_device m v device =
+    let count = argument v.body.cpu 2 in
+    let at = argument v.body.cpu 1 in
+    if_moving m v at count (unless_unplugged m device (doing.Reads device at (cut count)))
+
+-- a write to one
+abbrev pub to_device : Machine → View → ℕ → Request
+to_device m v device =
+    let count = argument v.body.cpu 2 in
+    let at = argument v.body.cpu 1 in
+    if_moving m v at count (unless_unplugged m device (doing.Writes device at (cut count)))
 
 -- a read from a description of this number
 abbrev pub number_read : Machine → View → ℕ → Request

@@ -1,11 +1,12 @@
 // What reads come to.
 ghost use Rattle.std.specs.Prelude.{◌≡◌, ◌<◌, ◌≤◌};
 ghost use Rattle.parts_model.specs.declared.limits.TheConstants.{MOST_TRANSFER};
+ghost use Rattle.arn_model.specs.Doing.{Reads};
 ghost use Rattle.arn_model.specs.Kernel.{Machine};
-ghost use Rattle.arn_model.specs.TransferCalls.{read_row};
+ghost use Rattle.arn_model.specs.TransferCalls.{read_row, unless_unplugged};
 ghost use Rattle.guest_bodies.specs.Shown.{IsLive};
 ghost use Rattle.guest_requests.specs.Tables.{OfTables};
-ghost use Rattle.guest_requests.specs.Transfers.{CanTake, IsOpenAt, IsReading, console_read, draining, file_read, number_read, pipe_read};
+ghost use Rattle.guest_requests.specs.Transfers.{CanTake, IsOpenAt, IsReading, console_read, draining, file_read, from_device, number_read, pipe_read};
 
 use crate::arguments::{argument, error};
 use crate::ranges::moving;
@@ -34,6 +35,10 @@ pub enum Reading {
     Reads { at: u64, most: u32, place: Place },
     /// It receives at an address the first bytes of a pipe, at most so many.
     Drains { at: u64, most: u32, pipe: u32 },
+    /// There is no such device, since it was unplugged.
+    Absent,
+    /// It asks a device, and receives at an address what that gives, at most so many bytes.
+    Asks { device: u32, at: u64, most: u64 },
 }
 
 impl<'a> Tables<'a> {
@@ -70,7 +75,7 @@ impl<'a> Tables<'a> {
             ),
             Some(Description::Reader { pipe }) => self.reading_pipe(pid, pipe),
             Some(Description::Connection { reads, writes: _ }) => self.reading_pipe(pid, reads),
-            Some(Description::Device { device: _ }) => unreachable!(),
+            Some(Description::Device { device }) => self.reading_device(pid, device),
             _ => Reading::Answers {
                 answer: error(BAD_DESCRIPTOR),
             },
@@ -112,6 +117,32 @@ impl<'a> Tables<'a> {
                 },
             },
         }
+    }
+
+    // What a read from a device comes to.
+    fn reading_device(&self, pid: u32, device: u32) -> Reading
+        requires { IsLive self.now.guests pid }
+        ensures reading { OfTables self.now pid (λ m v. IsReading result m (from_device m v device)) }
+        ensures within { CanTake result self.now.kernel }
+    {
+        let at = argument(self.bodies, pid, 1);
+        match moving(self.bodies, pid, at, argument(self.bodies, pid, 2)) {
+            Err(answer) => Reading::Answers { answer },
+            Ok(most) => self.asking(device, at, most),
+        }
+    }
+
+    // What a read of at most so many bytes from a device comes to.
+    fn asking(&self, device: u32, at: u64, most: u64) -> Reading
+        requires { most ≤ MOST_TRANSFER }
+        ensures reading { (m : Machine) → self.now.kernel ≡ m.kernel →
+            IsReading result m (unless_unplugged m device (Reads device at most)) }
+        ensures within { CanTake result self.now.kernel }
+    {
+        if self.was_unplugged(device) {
+            return Reading::Absent;
+        }
+        Reading::Asks { device, at, most }
     }
 
     // What a read from a pipe comes to.

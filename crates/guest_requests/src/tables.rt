@@ -4,6 +4,7 @@ ghost use Rattle.std.specs.Result.{result_ok};
 ghost use Rattle.parts_model.specs.Processes.{status_of};
 ghost use Rattle.arn_model.specs.FileCalls.{has_no_room};
 ghost use Rattle.arn_model.specs.Kernel.{description_of, descriptors_of, opened, room_for, what_is};
+ghost use Rattle.arn_model.specs.TransferCalls.{was_unplugged};
 ghost use Rattle.guest_bodies.specs.Shown.{IsLive};
 ghost use Rattle.guest_procs.specs.Answers.{WaitFails, lowest_ended};
 ghost use Rattle.guest_procs.specs.Status.{status_byte};
@@ -14,14 +15,15 @@ ghost use Rattle.guest_requests.specs.Tables.{AreThere, tables_of};
 use guest_bodies::Bodies;
 use guest_channels::Channels;
 use guest_procs::{Ended, ProcError, Procs};
-use guest_resources::{Console, Resources};
+use guest_resources::{Console, Resources, Unplugged};
 use parts_model::Description;
 use std::marker::Model;
 
 /// How many processes are made at most, those that are gone among them.
 const MOST_MADE: usize = 0x8000_0000;
 
-/// Processes, what they have open, and the console, while it is decided what a call comes to.
+/// Processes, what they have open, the console and the devices that were unplugged, while it is
+/// decided what a call comes to.
 #[derive(Drop)]
 pub struct Tables<'a> {
     pub(crate) bodies: &'a Bodies,
@@ -29,6 +31,7 @@ pub struct Tables<'a> {
     pub(crate) resources: &'a Resources,
     pub(crate) channels: &'a Channels,
     pub(crate) console: &'a Console,
+    pub(crate) unplugged: &'a Unplugged,
 }
 
 impl<'a> Model for Tables<'a> {
@@ -39,7 +42,7 @@ impl<'a> Model for Tables<'a> {
     ghost use Rattle.guest_requests.specs.Tables.{AreThere, tables_of};
 
     ghost view = { λ t. tables_of t.bodies.now t.procs.now t.resources.now t.channels.now
-        t.console.now };
+        t.console.now t.unplugged.now };
 
     ghost invariant = { λ t. AreThere t.bodies.now t.procs.now };
 }
@@ -51,10 +54,11 @@ impl<'a> Tables<'a> {
         resources: &'a Resources,
         channels: &'a Channels,
         console: &'a Console,
+        unplugged: &'a Unplugged,
     ) -> Tables<'a>
         requires { AreThere bodies.now procs.now }
-        ensures { result ≡
-            tables_of bodies.now procs.now resources.now channels.now console.now }
+        ensures { result ≡ tables_of bodies.now procs.now resources.now channels.now
+            console.now unplugged.now }
     {
         Tables {
             bodies,
@@ -62,6 +66,7 @@ impl<'a> Tables<'a> {
             resources,
             channels,
             console,
+            unplugged,
         }
     }
 
@@ -122,6 +127,13 @@ impl<'a> Tables<'a> {
         ensures why { IfErr result (WaitFails self.now.kernel.processes pid) }
     {
         self.procs.next_ended(pid)
+    }
+
+    /// Whether a device was unplugged.
+    pub(crate) fn was_unplugged(&self, device: u32) -> bool
+        ensures { result ≡ was_unplugged self.now.kernel device }
+    {
+        self.unplugged.contains(device)
     }
 
     /// How many bytes wait at the console.

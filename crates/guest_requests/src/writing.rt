@@ -3,11 +3,12 @@ ghost use Rattle.std.specs.Prelude.{◌≡◌, ◌≤◌, IfSome, IsSome};
 ghost use Rattle.parts_model.specs.declared.limits.TheConstants.{MOST_TRANSFER};
 ghost use Rattle.acts_model.specs.Bodies.{View};
 ghost use Rattle.acts_model.specs.Views.{bytes_in, read};
+ghost use Rattle.arn_model.specs.Doing.{Writes};
 ghost use Rattle.arn_model.specs.Kernel.{Machine};
-ghost use Rattle.arn_model.specs.TransferCalls.{write_row};
+ghost use Rattle.arn_model.specs.TransferCalls.{unless_unplugged, write_row};
 ghost use Rattle.guest_bodies.specs.Shown.{IsLive, seen_in};
 ghost use Rattle.guest_requests.specs.Tables.{OfTables};
-ghost use Rattle.guest_requests.specs.Transfers.{CanPrint, IsOpenAt, IsWriting, console_write, file_write, number_write, pipe_write, pouring};
+ghost use Rattle.guest_requests.specs.Transfers.{CanPrint, IsOpenAt, IsWriting, console_write, file_write, number_write, pipe_write, pouring, to_device};
 
 use crate::arguments::{argument, error};
 use crate::ranges::moving;
@@ -30,6 +31,10 @@ pub enum Writing {
     /// It gives a pipe so many bytes from an address, or as many of them as fit. Where nothing reads
     /// the pipe, it fails.
     Pours { at: u64, count: u64, pipe: u32 },
+    /// There is no such device, since it was unplugged.
+    Absent,
+    /// It hands a device so many bytes from an address.
+    Asks { device: u32, at: u64, count: u64 },
 }
 
 impl<'a> Tables<'a> {
@@ -66,7 +71,7 @@ impl<'a> Tables<'a> {
             ),
             Some(Description::Writer { pipe }) => self.writing_pipe(pid, pipe),
             Some(Description::Connection { reads: _, writes }) => self.writing_pipe(pid, writes),
-            Some(Description::Device { device: _ }) => unreachable!(),
+            Some(Description::Device { device }) => self.writing_device(pid, device),
             _ => Writing::Answers {
                 answer: error(BAD_DESCRIPTOR),
             },
@@ -98,6 +103,33 @@ impl<'a> Tables<'a> {
             Err(answer) => Writing::Answers { answer },
             Ok(count) => Writing::Prints { at, count },
         }
+    }
+
+    // What a write to a device comes to.
+    fn writing_device(&self, pid: u32, device: u32) -> Writing
+        requires { IsLive self.now.guests pid }
+        ensures writing { OfTables self.now pid (λ m v. IsWriting result m v (to_device m v device)) }
+        ensures within { IfSome (seen_in self.now.guests pid) (CanPrint result self.now.kernel) }
+    {
+        let at = argument(self.bodies, pid, 1);
+        match moving(self.bodies, pid, at, argument(self.bodies, pid, 2)) {
+            Err(answer) => Writing::Answers { answer },
+            Ok(count) => self.handing(pid, device, at, count),
+        }
+    }
+
+    // What a write of so many bytes to a device comes to.
+    fn handing(&self, pid: u32, device: u32, at: u64, count: u64) -> Writing
+        requires reach { IfSome (seen_in self.now.guests pid) (λ v. IsSome (bytes_in v at count)) }
+        requires few { count ≤ MOST_TRANSFER }
+        ensures writing { (m : Machine) → (v : View) → self.now.kernel ≡ m.kernel →
+            IsWriting result m v (unless_unplugged m device (Writes device at count)) }
+        ensures within { IfSome (seen_in self.now.guests pid) (CanPrint result self.now.kernel) }
+    {
+        if self.was_unplugged(device) {
+            return Writing::Absent;
+        }
+        Writing::Asks { device, at, count }
     }
 
     // What a write to a pipe comes to.
