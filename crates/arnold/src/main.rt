@@ -117,7 +117,10 @@ fn session<
         Err(WordsError::Usage) => return Ending::from(Status::Usage),
         Err(WordsError::NoMemory) => return Ending::from(Status::NoMemory),
     };
-    let (Ok(clock), Ok(mut chooser)) = (host.clone(), chooser_of(alloc, &options)) else {
+    let Ok(clock) = host.clone() else {
+        return Ending::from(Status::NoMemory);
+    };
+    let Ok(mut chooser) = chooser_of(alloc, &options) else {
         return Ending::from(Status::NoMemory);
     };
     let Ok(mut devices) = devices_of(alloc, clock, options.seed) else {
