@@ -74,7 +74,7 @@ fn chooser_of(alloc: Global, options: &Options) -> Result<Box<dyn Chooser>, NoMe
 
 /// The devices of the program, by their slots: the clock, the entropy device with a seed, and the
 /// silent device.
-fn devices_of<C: Clock + Drop>(
+fn devices_of<C: Clock + Drop + 'static>(
     alloc: Global,
     clock: C,
     seed: u64,
@@ -93,7 +93,7 @@ fn devices_of<C: Clock + Drop>(
 /// ask for, the program's devices and a new counter of steps.
 fn session<
     L: Ledger,
-    H: Files<File = File> + Clock + Clone + Drop,
+    H: Files<File = File> + Clock + Clone + Drop + 'static,
     R: Read + Drop,
     W: Write + Drop,
 >(
