@@ -74,7 +74,7 @@ fn chooser_of(alloc: Global, options: &Options) -> Result<Box<dyn Chooser>, NoMe
 
 /// The devices of the program, by their slots: the clock, the entropy device with a seed, and the
 /// silent device.
-fn devices_of<C: Clock + Drop>(
+fn devices_of<C: Clock + Drop + 'static>(
     alloc: Global,
     clock: C,
     seed: u64,
@@ -93,7 +93,7 @@ fn devices_of<C: Clock + Drop>(
 /// ask for, the program's devices and a new counter of steps.
 fn session<
     L: Ledger,
-    H: Files<File = File> + Clock + Clone + Drop,
+    H: Files<File = File> + Clock + Clone + Drop + 'static,
     R: Read + Drop,
     W: Write + Drop,
 >(alloc: Global, words: &[String], host: H, reader: R, writer: W, blank: Blank) -> Ending
@@ -110,7 +110,10 @@ fn session<
         Err(WordsError::Usage) => return Ending::from(Status::Usage),
         Err(WordsError::NoMemory) => return Ending::from(Status::NoMemory),
     };
-    let (Ok(clock), Ok(mut chooser)) = (host.clone(), chooser_of(alloc, &options)) else {
+    let Ok(clock) = host.clone() else {
+        return Ending::from(Status::NoMemory);
+    };
+    let Ok(mut chooser) = chooser_of(alloc, &options) else {
         return Ending::from(Status::NoMemory);
     };
     let Ok(mut devices) = devices_of(alloc, clock, options.seed) else {
