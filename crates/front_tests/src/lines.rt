@@ -160,10 +160,7 @@ const LINES: &[(&str, &str)] = &[
     ("unplug 0", "unplug 0"),
     ("unplug 0x1F", "unplug 31"),
     ("unplug 1000000001", "unplug 1000000001"),
-    (
-        "unplug 18446744073709551615",
-        "unplug 18446744073709551615",
-    ),
+    ("unplug 18446744073709551615", "unplug 18446744073709551615"),
     ("unplug 18446744073709551616", "unreadable"),
     ("unplug 01", "unreadable"),
     ("unplug", "unreadable"),
