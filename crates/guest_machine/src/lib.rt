@@ -9,6 +9,7 @@ mod legs;
 mod machine;
 mod rebuild;
 mod turn;
+mod unplug;
 
 pub use arn_base::Differs;
 pub use arn_model::RunState;
