@@ -18,3 +18,5 @@ pub mod LegLemmas
 pub mod UnaskedCalls
 pub mod AskedLemmas
 pub mod TookLemmas
+pub mod SeenLemmas
+pub mod InSlotsLemmas

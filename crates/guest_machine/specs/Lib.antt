@@ -10,3 +10,4 @@ pub mod Able
 pub mod Asked
 pub mod Took
 pub mod TookLaws
+pub mod InSlots

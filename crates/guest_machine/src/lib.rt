@@ -3,6 +3,7 @@
 
 mod able;
 mod again;
+mod boxed;
 mod errors;
 mod law;
 mod legs;

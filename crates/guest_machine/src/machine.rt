@@ -46,7 +46,7 @@ impl Machine {
     ghost use Rattle.guest_legs.specs.Legs.{brought, ask};
     ghost use Rattle.guest_legs.specs.Pieces.{spelled_len};
     ghost use Rattle.guest_machine.specs.Able.{AreAble};
-    ghost use Rattle.guest_machine.specs.Recorded.{HasRoom, OfEach, Runs, has_process, recorded_first};
+    ghost use Rattle.guest_machine.specs.Recorded.{HasRoom, IsReal, OfEach, Runs, has_process, recorded_first};
     ghost use Rattle.guest_machine.specs.Slices.{CanTake, IsCut, RanSlice};
 
     /// The machine before anything has come from outside.
@@ -239,6 +239,13 @@ impl Machine {
             Ok(taken) => Ok(taken.ran),
             Err(NoMemory) => Err(NoMemory),
         }
+    }
+
+    // A machine stands for one of the definitions.
+    pub(crate) fn is_real(&self)
+        ensures { IsReal self.now.kernel }
+    {
+        let _ = &self.kernel;
     }
 
     // Unplugs the device of this number, wherever it is.
