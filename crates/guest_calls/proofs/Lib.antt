@@ -13,6 +13,7 @@ pub mod Piped
 pub mod Opening
 pub mod Pieces
 pub mod Stands
+pub mod Asks
 pub mod Watches
 pub mod Called
 pub mod Children

@@ -4,6 +4,7 @@ pub mod Opened
 pub mod Kept
 pub mod Acted
 pub mod Steps
+pub mod Asked
 pub mod Fits
 pub mod Running
 pub mod Starts

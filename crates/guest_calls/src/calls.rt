@@ -1,11 +1,13 @@
 // The table of calls.
-ghost use Rattle.std.specs.Prelude.{◌≡◌, ◌+◌, ◌<◌, ◌^◌, ◌↔◌, false, IfOk, IfSome, IsErrOf, IsTrue, OnErr};
+ghost use Rattle.std.specs.Prelude.{◌≡◌, ◌≢◌, ◌+◌, ◌<◌, ◌^◌, ◌↔◌, false, IfOk, IfSome, IsErrOf, IsTrue, OnErr};
+ghost use Rattle.parts_model.specs.declared.calls.TheConstants.{DEVICE};
 ghost use Rattle.acts_model.specs.Views.{call_number, stands_at};
 ghost use Rattle.rv64_model.specs.Instruction.{Call};
 ghost use Rattle.arn_model.specs.Row.{is_waiting, request};
 ghost use Rattle.guest_bodies.specs.Shown.{IsLive, seen_in};
 ghost use Rattle.guest_requests.specs.Standing.{can_wait};
 ghost use Rattle.guest_calls.specs.Acted.{Carried};
+ghost use Rattle.guest_calls.specs.Asked.{Ended};
 ghost use Rattle.guest_calls.specs.Fits.{IsShort};
 ghost use Rattle.guest_calls.specs.State.{IsNext, OfProcess};
 ghost use Rattle.guest_calls.specs.Steps.{Performed};
@@ -16,19 +18,20 @@ use arn_base::NoMemory;
 use guest_devices::Answers;
 use guest_requests::{calls_come_to_rows, error, others_are_ready};
 use parts_model::calls::{
-    ACCEPT, CLOSE, CONNECT, DUP, EXEC, EXIT, FORK, GETPID, KILL, LISTEN, OPEN, PIPE, READ, SEEK,
-    SHM, SIGACTION, SIGRETURN, UNLINK, WAIT, WRITE, YIELD,
+    ACCEPT, CLOSE, CONNECT, DEVICE, DUP, EXEC, EXIT, FORK, GETPID, KILL, LISTEN, OPEN, PIPE, READ,
+    SEEK, SHM, SIGACTION, SIGRETURN, UNLINK, WAIT, WRITE, YIELD,
 };
 use parts_model::refusals::NO_SUCH_CALL;
 
 impl Kernel {
-    // Carries out a call that is always ready.
+    // Carries out a call that is always ready, and asks no device.
     fn carry_out_ready(&mut self, pid: u32, number: u64) -> Result<Done, NoMemory>
         requires live { IsLive self.old.guests pid }
         requires room { self.old.events + 1 < 2 ^ 64 }
         requires number { IfSome (seen_in self.old.guests pid) (λ v.
             number ≡ call_number v.body.cpu) }
         requires ready { can_wait number ≡ false }
+        requires alone { number ≢ DEVICE }
         ensures carried { IfOk result (λ done. OfProcess self.old pid (λ m v.
             Carried (request m pid v) done m pid v self.new)) }
         ensures short { IfOk result (λ done. IsShort done.extra) }
@@ -57,22 +60,24 @@ impl Kernel {
         }
     }
 
-    // Carries out a call that asks no device.
-    fn carry_out(&mut self, pid: u32) -> Result<Done, CallStop>
+    // Carries out the call at which a process stands.
+    fn carry_out<A: Answers>(&mut self, pid: u32, answers: &mut A) -> Result<Done, CallStop>
         requires live { IsLive self.old.guests pid }
         requires room { self.old.events + 1 < 2 ^ 64 }
-        ensures carried { IfOk result (λ done. OfProcess self.old pid (λ m v.
-            Carried (request m pid v) done m pid v self.new)) }
+        ensures ended { IfOk result (λ done. OfProcess self.old pid (λ m v.
+            Ended A.answers answers.old answers.new (request m pid v) done m pid v self.new)) }
         ensures short { IfOk result (λ done. IsShort done.extra) }
         ensures waits { OfProcess self.old pid (λ m v.
             IsErrOf result CallStop.NotReady ↔ IsTrue (is_waiting (request m pid v))) }
         ensures err { OnErr result (self.new ≡ self.old) }
+        ensures unasked { OnErr result (answers.new ≡ answers.old) }
     {
         calls_come_to_rows();
         others_are_ready();
         match self.call_number(pid) {
-            READ => self.read(pid),
-            WRITE => self.write(pid),
+            READ => self.read(pid, answers),
+            WRITE => self.write(pid, answers),
+            DEVICE => self.device(pid, answers),
             WAIT => self.wait(pid),
             ACCEPT => self.accept(pid),
             number => Ok(self.carry_out_ready(pid, number)?),
@@ -99,6 +104,6 @@ impl Kernel {
         ensures err { OnErr result (self.new ≡ self.old) }
         ensures unasked { OnErr result (answers.new ≡ answers.old) }
     {
-        self.carry_out(pid)
+        self.carry_out(pid, answers)
     }
 }

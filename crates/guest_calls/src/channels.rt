@@ -24,8 +24,8 @@ use parts_model::refusals::{
 use parts_model::{Conn, Description};
 
 impl Kernel {
-    // The lowest free descriptor of a process stands for a description, and is the call's result.
-    fn answers_one(&mut self, pid: u32, description: u32) -> Done
+    /// The lowest free descriptor of a process stands for a description, and is the call's result.
+    pub(crate) fn answers_one(&mut self, pid: u32, description: u32) -> Done
         requires live { IsLive self.old.guests pid }
         requires room { self.old.events + 1 < 2 ^ 64 }
         requires free { has_no_room self.old.kernel pid ≡ false }

@@ -7,6 +7,7 @@ mod booting;
 mod calls;
 mod channels;
 mod descriptors;
+mod devices;
 mod executing;
 mod files;
 mod forking;

@@ -1,4 +1,4 @@
-use Rattle.std.proofs.Common.{◌≡◌, ◌∙◌, ℕ, true, false, ap, refl, subst, IfSome, is_some}
+use Rattle.std.proofs.Common.{◌≡◌, ◌∙◌, ℕ, ap, refl, subst, IfSome, is_some}
 use Rattle.acts_model.specs.Acts.{Shares}
 use Rattle.acts_model.specs.Bodies.{View}
 use Rattle.arn_model.specs.Doing.{returns as returns_of}

@@ -1,6 +1,5 @@
 use Rattle.std.proofs.Common.{◌≡◌, ◌∙◌, ℕ, false, ap, sym, is_some}
 use Rattle.parts_model.specs.Signals.{is_signal}
-use Rattle.acts_model.specs.Views.{argument}
 use Rattle.arn_model.specs.Doing.{returns as returns_of}
 use Rattle.arn_model.specs.SignalCalls.{sigaction_row}
 use Rattle.guest_calls.specs.Handled.{handling_as}
