@@ -142,6 +142,13 @@ impl Kernel {
         Ok(())
     }
 
+    /// Whether a device of this number was unplugged.
+    pub fn was_unplugged(&self, device: u32) -> bool
+        ensures { result ≡ was_unplugged self.now.kernel device }
+    {
+        self.unplugged.contains(device)
+    }
+
     /// Unplugs a device of this number. False comes exactly where it was unplugged before.
     pub fn unplug(&mut self, device: u32) -> Result<bool, NoMemory>
         requires room { self.old.events + 1 < 2 ^ 64 }

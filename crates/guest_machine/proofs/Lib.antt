@@ -15,3 +15,8 @@ pub mod Rebuilt
 pub mod AgainLemmas
 pub mod PickLemmas
 pub mod LegLemmas
+pub mod UnaskedCalls
+pub mod AskedLemmas
+pub mod TookLemmas
+pub mod SeenLemmas
+pub mod InSlotsLemmas

@@ -7,3 +7,7 @@ pub mod Laws
 pub mod Again
 pub mod Legs
 pub mod Able
+pub mod Asked
+pub mod Took
+pub mod TookLaws
+pub mod InSlots

@@ -40,9 +40,9 @@ pub fn run_named<L: Ledger>(
         Record::File { name, bytes } => add_file(machine, name.as_slice(), bytes.as_slice(), out),
         Record::Boot { name, .. } => boot(machine, name.as_slice(), out),
         Record::Typed { bytes } => type_in(machine, bytes.as_slice(), out),
+        Record::Unplug { device } => unplug(machine, *device, out),
         Record::Slice { pid, ran } => run_slice(machine, *pid, *ran, behind, out, steps),
-        Record::Unplug { .. } | Record::Signal { .. } | Record::Call { .. } | Record::End { .. } =>
-            Ok(()),
+        Record::Signal { .. } | Record::Call { .. } | Record::End { .. } => Ok(()),
     }
 }
 
@@ -94,6 +94,20 @@ fn type_in(machine: &mut Machine, bytes: &[u8], out: &mut Vec<Record>) -> Result
         (All HasSpelling out.old.items → All HasSpelling out.new.items) }
 {
     match machine.type_in(bytes, out) {
+        Ok(_) => Ok(()),
+        Err(error) => unless_no_memory(error),
+    }
+}
+
+// Unplugs a device, if it can be unplugged.
+fn unplug(machine: &mut Machine, device: u32, out: &mut Vec<Record>) -> Result<(), NoMemory>
+    requires room { HasRoom machine.old 2 MOST_SLICE }
+    ensures runs { OnOk result (OfEach machine.old.kernel (λ m. Runs m
+        (input.Unplug device ∷ []) machine.old machine.new out.old.items out.new.items)) }
+    ensures spelled { OnOk result
+        (All HasSpelling out.old.items → All HasSpelling out.new.items) }
+{
+    match machine.unplug_number(device, out) {
         Ok(_) => Ok(()),
         Err(error) => unless_no_memory(error),
     }

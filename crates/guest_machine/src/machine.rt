@@ -38,6 +38,7 @@ impl Machine {
     ghost use Rattle.parts_model.specs.declared.limits.TheConstants.{MOST_FILE_BYTES};
     ghost use Rattle.arn_model.specs.Run.{is_free};
     ghost use Rattle.arn_model.specs.Run as input;
+    ghost use Rattle.arn_model.specs.TransferCalls.{was_unplugged};
     ghost use Rattle.arn_model.specs.Turn.{is_possible, is_runnable, run_state as run_state_of, runnable};
     ghost use Rattle.result_log.specs.Spelling.{HasSpelling};
     ghost use Rattle.guest_bodies.specs.Shown.{IsLive};
@@ -45,7 +46,7 @@ impl Machine {
     ghost use Rattle.guest_legs.specs.Legs.{brought, ask};
     ghost use Rattle.guest_legs.specs.Pieces.{spelled_len};
     ghost use Rattle.guest_machine.specs.Able.{AreAble};
-    ghost use Rattle.guest_machine.specs.Recorded.{HasRoom, OfEach, Runs, has_process, recorded_first};
+    ghost use Rattle.guest_machine.specs.Recorded.{HasRoom, IsReal, OfEach, Runs, has_process, recorded_first};
     ghost use Rattle.guest_machine.specs.Slices.{CanTake, IsCut, RanSlice};
 
     /// The machine before anything has come from outside.
@@ -238,6 +239,53 @@ impl Machine {
             Ok(taken) => Ok(taken.ran),
             Err(NoMemory) => Err(NoMemory),
         }
+    }
+
+    // A machine stands for one of the definitions.
+    pub(crate) fn is_real(&self)
+        ensures { IsReal self.now.kernel }
+    {
+        let _ = &self.kernel;
+    }
+
+    // Unplugs the device of this number, wherever it is.
+    pub(crate) fn unplug_number(
+        &mut self,
+        device: u32,
+        out: &mut Vec<Record>,
+    ) -> Result<u64, MachineError>
+        requires room { HasRoom self.old 1 0 }
+
+        ensures event { IfOk result (λ event. event ≡ self.old.kernel.events) }
+        ensures next { OnOk result (self.new.kernel.events ≡ self.old.kernel.events + 1) }
+        ensures runs { OnOk result (OfEach self.old.kernel (λ m.
+            Runs m (input.Unplug device ∷ []) self.old self.new out.old.items out.new.items)) }
+        ensures spelled { OnOk result
+            (All HasSpelling out.old.items → All HasSpelling out.new.items) }
+
+        ensures not_booted { IsErrOf result MachineError.NotBooted ↔
+            (has_process self.old.kernel ≡ false) }
+        ensures no_device { IsErrOf result MachineError.NoDevice ↔
+            (IsTrue (has_process self.old.kernel) ×
+            IsTrue (was_unplugged self.old.kernel.kernel device)) }
+        ensures only { IfErr result (λ e. (e ≡ MachineError.NotBooted) ⊎
+            (e ≡ MachineError.NoDevice) ⊎ (e ≡ MachineError.NoMemory)) }
+        ensures err { OnErr result (self.new ≡ self.old) }
+        ensures unrecorded { OnErr result (out.new.items ≡ out.old.items) }
+    {
+        if !self.is_booted() {
+            return Err(MachineError::NotBooted);
+        }
+        if self.kernel.was_unplugged(device) {
+            return Err(MachineError::NoDevice);
+        }
+        out.reserve(1)?;
+        let event = self.kernel.events();
+        if !self.kernel.unplug(device)? {
+            return Err(MachineError::NoDevice);
+        }
+        out.push_reserved(Record::Unplug { device });
+        Ok(event)
     }
 
     // Whether a slice may be taken. One of no instruction that delivers no signal does nothing.

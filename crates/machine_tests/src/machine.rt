@@ -2,12 +2,14 @@ ghost use Rattle.std.specs.Prelude.{◌≡◌, ◌<◌, IsTrue};
 ghost use Rattle.parts_model.specs.Files.{is_name};
 ghost use Rattle.guest_machine.specs.Recorded.{HasRoom};
 
+mod devices;
 mod legs;
 mod parts;
 mod rebuild;
 
 use crate::same::assert_same;
 use arn_base::{NoMemory, Record, Steps};
+use devices::{asking_legs, unplug_none};
 use guest_devices::Told;
 use guest_machine::{Leg, Machine, MachineError, RunState};
 use legs::{chosen_leg, round_leg};
@@ -30,6 +32,20 @@ pub(crate) static ECHO: [u8; 68] = [
     0x93, 0x08, 0xc0, 0x00, 0x13, 0x05, 0x10, 0x00, 0x73, 0x00, 0x00, 0x00,
     // three, of which the last is the call exit
     0x93, 0x08, 0x10, 0x00, 0x13, 0x05, 0x00, 0x00, 0x73, 0x00, 0x00, 0x00,
+];
+
+// Opens device 0, and reads two bytes of it again and again.
+pub(crate) static ASKS: [u8; 68] = [
+    // ARNIMG01, entry and load address
+    0x41, 0x52, 0x4e, 0x49, 0x4d, 0x47, 0x30, 0x31, 0x00, 0x00, 0x01, 0x00, 0x00, 0x00, 0x00, 0x00,
+    0x00, 0x00, 0x01, 0x00, 0x00, 0x00, 0x00, 0x00,
+    // three instructions, of which the last is the call device
+    0x93, 0x08, 0x50, 0x01, 0x13, 0x05, 0x00, 0x00, 0x73, 0x00, 0x00, 0x00,
+    // five, of which the last is the call read
+    0x93, 0x08, 0xb0, 0x00, 0x13, 0x05, 0x30, 0x00, 0x93, 0x05, 0x01, 0xff, 0x13, 0x06, 0x20, 0x00,
+    0x73, 0x00, 0x00, 0x00,
+    // a jump back to these, and two words that aren't reached
+    0x6f, 0xf0, 0xdf, 0xfe, 0x00, 0x00, 0x00, 0x00, 0x00, 0x00, 0x00, 0x00,
 ];
 
 fn slice_counted<L: Ledger>(
@@ -113,6 +129,8 @@ enum Step {
     Adds(Result<u64, MachineError>),
     // The file "p" is added, with zeros.
     AddsZeros(Result<u64, MachineError>),
+    // The file "p" is added, which asks a device.
+    AddsAsking(Result<u64, MachineError>),
     // The file "p" is booted.
     Boots(Result<u64, MachineError>),
     // "abc" is typed.
@@ -123,6 +141,10 @@ enum Step {
     Rounds(u64, Leg),
     // A leg runs whose slices a script chooses.
     Chosen(Leg),
+    // Legs run with such budgets, with a device in slot 0, which is unplugged between them.
+    Asks([u64; 2], [Leg; 2]),
+    // No slot holds a device, and one is to be unplugged.
+    Unplugs(Result<u64, MachineError>),
     // The machine stands so.
     Stands(RunState),
     // It had so many events, and ran so many instructions.
@@ -141,6 +163,7 @@ fn take(
     match step {
         Step::Adds(wanted) => assert_same(rt, add_file(rt, machine, &ECHO, out), wanted),
         Step::AddsZeros(wanted) => assert_same(rt, add_file(rt, machine, &[0; 68], out), wanted),
+        Step::AddsAsking(wanted) => assert_same(rt, add_file(rt, machine, &ASKS, out), wanted),
         Step::Boots(wanted) => assert_same(rt, boot(rt, machine, b"p", out), wanted),
         Step::Types(wanted) => assert_same(rt, type_abc(rt, machine, out), wanted),
         Step::Runs(wanted) => assert_same(rt, slice(rt, machine, out)?, wanted),
@@ -148,6 +171,14 @@ fn take(
             assert_same(rt, round_leg(rt, machine, budget, out)?, wanted)
         }
         Step::Chosen(wanted) => assert_same(rt, chosen_leg(rt, alloc, machine, out)?, wanted),
+        Step::Asks(budgets, wanted) => {
+            assert_same(
+                rt,
+                asking_legs(rt, alloc, machine, budgets, out),
+                Ok(wanted),
+            )
+        }
+        Step::Unplugs(wanted) => assert_same(rt, unplug_none(rt, alloc, machine, out), wanted),
         Step::Stands(wanted) => assert_same(rt, machine.run_state(), wanted),
         Step::Counted(events, instructions) => {
             assert_same(

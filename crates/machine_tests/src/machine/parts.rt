@@ -2,7 +2,7 @@
 ghost use Rattle.std.specs.Prelude.{All, IfOk};
 ghost use Rattle.result_log.specs.Spelling.{ExtraHasSpelling, GiveHasSpelling, HasSpelling, IsCounted};
 
-use super::ECHO;
+use super::{ASKS, ECHO};
 use arn_base::{Bytes, Extra, Give, NoMemory, Origin, Origins, Record};
 use std::alloc::Global;
 
@@ -25,7 +25,19 @@ pub(crate) enum Part {
     Exit,
     // An end by fault, with status 0.
     End,
-    // Device 0 is unplugged.
+    // The file "p" is the one that asks a device.
+    AskingFile,
+    // That one is booted.
+    AskingBoot,
+    // Device 0 is opened.
+    Opened,
+    // A read of it fails.
+    Failed,
+    // It gives these bytes to a read.
+    Replied([u8; 2]),
+    // A read finds that it isn't there.
+    Absent,
+    // It is unplugged.
     Unplug,
 }
 
@@ -67,19 +79,19 @@ fn call(number: u64, answer: u64, extra: Extra) -> Record
     }
 }
 
-fn file(alloc: Global) -> Result<Record, NoMemory>
+fn file(alloc: Global, image: &[u8; 68]) -> Result<Record, NoMemory>
     ensures { IfOk result HasSpelling }
 {
     let name = Bytes::from_slice(alloc, b"p")?;
-    let bytes = Bytes::from_slice(alloc, &ECHO)?;
+    let bytes = Bytes::from_slice(alloc, image)?;
     Ok(Record::File { name, bytes })
 }
 
-fn boot(alloc: Global) -> Result<Record, NoMemory>
+fn boot(alloc: Global, image: &[u8; 68]) -> Result<Record, NoMemory>
     ensures { IfOk result HasSpelling }
 {
     let name = Bytes::from_slice(alloc, b"p")?;
-    let give = give(alloc, &ECHO, 0, 68)?;
+    let give = give(alloc, image, 0, 68)?;
     Ok(Record::Boot { name, give })
 }
 
@@ -104,18 +116,31 @@ fn write(alloc: Global, bytes: [u8; 3]) -> Result<Record, NoMemory>
     Ok(call(12, 3, Extra::Console { bytes }))
 }
 
+fn replied(alloc: Global, bytes: [u8; 2]) -> Result<Record, NoMemory>
+    ensures { IfOk result HasSpelling }
+{
+    let bytes = Bytes::from_slice(alloc, &bytes)?;
+    Ok(call(11, 2, Extra::Reply { device: 0, bytes }))
+}
+
 fn record(alloc: Global, part: Part) -> Result<Record, NoMemory>
     ensures { IfOk result HasSpelling }
 {
     match part {
-        Part::File => file(alloc),
-        Part::Boot => boot(alloc),
+        Part::File => file(alloc, &ECHO),
+        Part::Boot => boot(alloc, &ECHO),
         Part::Typed => typed(alloc),
         Part::Slice(ran) => Ok(Record::Slice { pid: 1, ran }),
         Part::Read => read(alloc),
         Part::Write(bytes) => write(alloc, bytes),
         Part::Exit => Ok(call(1, 0, Extra::Nothing)),
         Part::End => Ok(Record::End { pid: 1, status: 0 }),
+        Part::AskingFile => file(alloc, &ASKS),
+        Part::AskingBoot => boot(alloc, &ASKS),
+        Part::Opened => Ok(call(21, 3, Extra::Nothing)),
+        Part::Failed => Ok(call(11, u64::MAX - 4, Extra::Fault)),
+        Part::Replied(bytes) => replied(alloc, bytes),
+        Part::Absent => Ok(call(11, u64::MAX - 18, Extra::Absent)),
         Part::Unplug => Ok(Record::Unplug { device: 0 }),
     }
 }

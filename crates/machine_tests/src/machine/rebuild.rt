@@ -128,16 +128,19 @@ fn tells_the_record_of_a_refused_input(rt: HostRuntime) -> Result<(), Fail> {
 }
 
 #[test]
+fn unplugs_a_device_again(rt: HostRuntime) -> Result<(), Fail> {
+    let once = &[Part::File, Part::Boot, Part::Unplug];
+    check(&rt, rt.alloc(), once, Ok((true, 3, 0)))?;
+    Ok(())
+}
+
+#[test]
 fn tells_records_that_no_input_makes(rt: HostRuntime) -> Result<(), Fail> {
-    let parts = &[
-        Part::File,
-        Part::Boot,
-        Part::Typed,
-        Part::Slice(5),
-        Part::Read,
-        Part::Unplug,
-    ];
-    let unplugged = differs(5, 0, Some(4), None);
-    check(&rt, rt.alloc(), parts, unplugged)?;
+    let twice = &[Part::File, Part::Boot, Part::Unplug, Part::Unplug];
+    let not_there = differs(3, 0, Some(4), None);
+    check(&rt, rt.alloc(), twice, not_there)?;
+    let early = &[Part::File, Part::Unplug];
+    let not_booted = differs(1, 0, Some(4), None);
+    check(&rt, rt.alloc(), early, not_booted)?;
     Ok(())
 }
