@@ -22,7 +22,8 @@ const READER: &str = "\
     run 6\n\
     unplug 0\n\
     run 6\n\
-    unplug 0\n";
+    unplug 0\n\
+    back copy mem 20 1 0x4fff0 2\n";
 
 /// The device fails, and gives two of three bytes. When it is gone, a read of it fails too.
 const READER_PRINTS: &str = "\
@@ -34,7 +35,10 @@ const READER_PRINTS: &str = "\
     ran 6 budget\n\
     event 5\n\
     ran 6 budget\n\
-    no device\n";
+    no device\n\
+    pair 4 0 0\n\
+    pair 4 1 1\n\
+    back pairs 2 instructions 20 groups 1\n";
 
 /// What is asked of that, with no device, in a later session.
 const LATER: &str = "\
@@ -63,6 +67,7 @@ const LATER_PRINTS: &str = "\
 /// A new device in the slot of one that is gone isn't asked.
 const AGAIN: &str = "\
     run 6\n\
+    events\n\
     unplug 0\n\
     unplug 1\n\
     unplug 0x10000000000000000\n\
@@ -71,6 +76,15 @@ const AGAIN: &str = "\
 
 const AGAIN_PRINTS: &str = "\
     ran 6 budget\n\
+    event 0 0 - file 60\n\
+    event 1 0 1 boot 60\n\
+    event 2 3 1 call.21.3 0\n\
+    event 3 8 1 call.11.-5 0\n\
+    event 4 14 1 call.11.2 2\n\
+    event 5 14 - unplug.0 0\n\
+    event 6 20 1 call.11.-19 0\n\
+    event 7 26 1 call.11.-19 0\n\
+    events 8\n\
     no device\n\
     event 8\n\
     no line\n\
@@ -112,6 +126,91 @@ const WRITER_PRINTS: &str = "\
     pair 6 0 0\n\
     pair 5 1 1\n\
     forth pairs 3 instructions 18 groups 1\n";
+
+/// Opens devices that aren't there, and one that is; reads and writes no bytes of it, and bytes at an address that no
+/// window has; reads until it gives none. When it is gone, does so again by two descriptors, closes one, opens it again, and
+/// opens others with all descriptors in use.
+const REFUSED: &str = "\
+    asm p\n\
+    li a7, 21; li a0, 5; ecall\n\
+    li a0, 1; slli a0, a0, 32; ecall\n\
+    li a0, 0; ecall\n\
+    li a7, 11; li a0, 3; li a1, 0; li a2, 0; ecall\n\
+    li a0, 3; li a2, 4; ecall\n\
+    li a7, 12; li a0, 3; li a2, 0; ecall\n\
+    li a0, 3; li a2, 4; ecall\n\
+    li a7, 14; li a0, 3; ecall\n\
+    li a7, 11; li a0, 4; addi a1, sp, -16; li a2, 2; ecall\n\
+    li a0, 3; ecall\n\
+    li a0, 4; ecall\n\
+    li a7, 22; ecall\n\
+    li a7, 11; li a0, 4; ecall\n\
+    li a0, 3; li a1, 0; ecall\n\
+    li a0, 3; li a2, 0; ecall\n\
+    li a7, 12; li a0, 3; addi a1, sp, -16; li a2, 2; ecall\n\
+    li a7, 10; li a0, 3; ecall\n\
+    li a7, 21; li a0, 0; ecall\n\
+    li a0, 1; ecall\n\
+    fill:\n\
+    li a7, 14; li a0, 3; ecall\n\
+    blt a0, zero, full\n\
+    j fill\n\
+    full:\n\
+    li a7, 21; li a0, 1; ecall\n\
+    li a0, 9; ecall\n\
+    li a7, 1; li a0, 0; ecall\n\
+    end\n\
+    boot p\n\
+    run 37\n\
+    unplug 0\n\
+    run 500\n\
+    events\n";
+
+/// What is printed for that, with two devices. The room for a descriptor is looked for before the device.
+const REFUSED_PRINTS: &str = "\
+    event 0\n\
+    event 1\n\
+    ran 37 budget\n\
+    event 14\n\
+    ran 89 done\n\
+    event 0 0 - file 312\n\
+    event 1 0 1 boot 312\n\
+    event 2 3 1 call.21.-19 0\n\
+    event 3 6 1 call.21.-19 0\n\
+    event 4 8 1 call.21.3 0\n\
+    event 5 13 1 call.11.0 0\n\
+    event 6 16 1 call.11.-14 0\n\
+    event 7 20 1 call.12.0 0\n\
+    event 8 23 1 call.12.-14 0\n\
+    event 9 26 1 call.14.4 0\n\
+    event 10 31 1 call.11.-5 0\n\
+    event 11 33 1 call.11.2 2\n\
+    event 12 35 1 call.11.0 0\n\
+    event 13 37 1 call.22.0 0\n\
+    event 14 37 - unplug.0 0\n\
+    event 15 40 1 call.11.-19 0\n\
+    event 16 43 1 call.11.-14 0\n\
+    event 17 46 1 call.11.0 0\n\
+    event 18 51 1 call.12.-19 0\n\
+    event 19 54 1 call.10.0 0\n\
+    event 20 57 1 call.21.-19 0\n\
+    event 21 59 1 call.21.3 0\n\
+    event 22 62 1 call.14.5 0\n\
+    event 23 67 1 call.14.6 0\n\
+    event 24 72 1 call.14.7 0\n\
+    event 25 77 1 call.14.8 0\n\
+    event 26 82 1 call.14.9 0\n\
+    event 27 87 1 call.14.10 0\n\
+    event 28 92 1 call.14.11 0\n\
+    event 29 97 1 call.14.12 0\n\
+    event 30 102 1 call.14.13 0\n\
+    event 31 107 1 call.14.14 0\n\
+    event 32 112 1 call.14.15 0\n\
+    event 33 117 1 call.14.-24 0\n\
+    event 34 121 1 call.21.-24 0\n\
+    event 35 123 1 call.21.-24 0\n\
+    event 36 126 1 call.1.0 1\n\
+    events 37\n";
 
 /// A device that fails once, then gives three bytes at once, and takes three bytes.
 fn device(rt: &impl AllocGlobal) -> Result<Box<dyn Device>, Fail> {
@@ -155,6 +254,12 @@ fn a_device_gives_until_it_is_unplugged(rt: HostRuntime) -> Result<(), Fail> {
     assert_prints(&rt, &mut disk, READER, READER_PRINTS, 1, &[false])?;
     assert_prints(&rt, &mut disk, LATER, LATER_PRINTS, 0, &[])?;
     assert_prints(&rt, &mut disk, AGAIN, AGAIN_PRINTS, 2, &[true, false])
+}
+
+#[test]
+fn what_is_refused_asks_no_device(rt: HostRuntime) -> Result<(), Fail> {
+    let mut disk = MemDisk::new(rt.alloc(), Bytes::new(rt.alloc()));
+    assert_prints(&rt, &mut disk, REFUSED, REFUSED_PRINTS, 2, &[false, true])
 }
 
 #[test]
