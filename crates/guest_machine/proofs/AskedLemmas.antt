@@ -1,5 +1,5 @@
 -- What a slice asks is answered, and the record of its call holds the answer.
-use Rattle.std.proofs.Common.{◌≡◌, ℕ, ◌≤◌, ◌++◌, Bool, true, false, cond, min, nat_lt, List, [], ◌∷◌, length, map, take, filter_map, flat_map, Option, None, Some, option_map, option_to_list, unwrap_or, refl, sym, ap, subst, ◌∙◌, arith, append-nil, length-take}
+use Rattle.std.proofs.Common.{◌≡◌, ℕ, ◌≤◌, ◌++◌, Bool, true, false, cond, min, nat_lt, List, [], ◌∷◌, length, map, take, Option, None, Some, option_map, option_to_list, unwrap_or, refl, sym, ap, subst, ◌∙◌, arith, append-nil, length-take}
 use Rattle.std.proofs.lemmas.Bool.{cond-true}
 use Rattle.std.proofs.lemmas.List.{take_min}
 use Rattle.std.proofs.lemmas.List.Concat.{flat_map-append}
@@ -15,9 +15,9 @@ use Rattle.acts_model.specs.Bodies.{View, seen}
 use Rattle.acts_model.specs.Views.{reach, read, stands_at}
 use Rattle.arn_model.specs.Doing.{Question, Here, Reads, Writes, Request, Waits, Does, Asks}
 use Rattle.arn_model.specs.Kernel.{Machine}
-use Rattle.arn_model.specs.Parts.{ArePlain, Calls, Ends, MaybeDelivery, MaybeLast, TurnsHaveParts}
+use Rattle.arn_model.specs.Parts.{Calls, Ends, MaybeDelivery, MaybeLast, TurnsHaveParts}
 use Rattle.arn_model.specs.Row.{answered, does, request}
-use Rattle.arn_model.specs.Run.{Input, Slice, after_input, input_steps}
+use Rattle.arn_model.specs.Run.{Input, Slice, input_steps}
 use Rattle.arn_model.specs.Step.{Step, call_step, last_by}
 use Rattle.arn_model.specs.TransferCalls.{device_read, device_write}
 use Rattle.arn_model.specs.Turn.{after_steps, is_possible, last_in, plains, steps_of, turn}

@@ -1,5 +1,5 @@
 -- Legs whose devices are in slots, which follow the records that the leg adds.
-use Rattle.std.proofs.Common.{◌≡◌, ℕ, List, [], ◌++◌, map, Option, Result, Ok, Err, IfOk, OnOk, OnErr, sym, ap, subst, ◌∙◌, append_assoc, append-nil}
+use Rattle.std.proofs.Common.{ℕ, List, [], ◌++◌, map, Option, Result, Ok, Err, IfOk, OnOk, OnErr, ap, subst, ◌∙◌, append_assoc, append-nil}
 use Rattle.arn_base.specs.declared.boxes.Choice.{Choice}
 use Rattle.arn_base.specs.declared.boxes.Device.{Ghosts}
 use Rattle.arn_base.specs.declared.records.Record.{Record}

@@ -1,5 +1,5 @@
 -- What slices and their records say of each slot.
-use Rattle.std.proofs.Common.{◌≡◌, ◌≢◌, ◌⊎◌, inl, inr, ℕ, zero, suc, ◌+◌, ◌-◌, ◌<◌, ◌≤◌, ◌^◌, ◌==◌, ◌&&◌, ◌||◌, not, Bool, true, false, cond, ◌++◌, List, [], ◌∷◌, length, map, take, min, flat_map, Option, Some, None, IfSome, IsNone, is_some, slice_get, option_and_then, option_map, refl, sym, ap, ◌∙◌, subst, append-nil, append_assoc, length-append, length-take, zero-add, arith}
+use Rattle.std.proofs.Common.{◌≡◌, ◌≢◌, ◌⊎◌, inl, inr, ℕ, zero, suc, ◌+◌, ◌==◌, ◌&&◌, ◌||◌, not, Bool, true, false, cond, ◌++◌, List, [], ◌∷◌, length, map, take, flat_map, Option, Some, None, IfSome, is_some, slice_get, option_and_then, option_map, refl, sym, ap, ◌∙◌, subst, append-nil, append_assoc, length-append, length-take, zero-add, arith}
 use Rattle.std.specs.List.{list_any}
 use Rattle.std.proofs.lemmas.Bool.Decides.{eqb_tells}
 use Rattle.std.proofs.lemmas.List.{take_all}
@@ -97,9 +97,6 @@ take-again len bytes = take_all len (take (countable len) bytes) (omega (arith, 
 as-told : (len : ℕ) (told : DeviceReply) → to_read len (Some (answer_of (cut_to len told))) ≡ told_reply len told
 as-told len Faults = refl
 as-told len (Gives bytes) = ap (λ (l : List ℕ). replies.Reads l) (take-again len bytes)
-
-bytes-of : Read → List (List ℕ)
-bytes-of read = reply_bytes read.reply
 
 module _ {D : Type 0} (d : Ghosts D) (n : ℕ) where
   -- nothing came to the slot

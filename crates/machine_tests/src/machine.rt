@@ -9,7 +9,7 @@ mod rebuild;
 
 use crate::same::assert_same;
 use arn_base::{NoMemory, Record, Steps};
-use devices::{asking_legs, unplug_none};
+use devices::{Asked, ask, unplug_none};
 use guest_devices::Told;
 use guest_machine::{Leg, Machine, MachineError, RunState};
 use legs::{chosen_leg, round_leg};
@@ -142,7 +142,7 @@ enum Step {
     // A leg runs whose slices a script chooses.
     Chosen(Leg),
     // Legs run with such budgets, with a device in slot 0, which is unplugged between them.
-    Asks([u64; 2], [Leg; 2]),
+    Asks([u64; 2], Asked),
     // No slot holds a device, and one is to be unplugged.
     Unplugs(Result<u64, MachineError>),
     // The machine stands so.
@@ -172,11 +172,7 @@ fn take(
         }
         Step::Chosen(wanted) => assert_same(rt, chosen_leg(rt, alloc, machine, out)?, wanted),
         Step::Asks(budgets, wanted) => {
-            assert_same(
-                rt,
-                asking_legs(rt, alloc, machine, budgets, out),
-                Ok(wanted),
-            )
+            assert_same(rt, ask(rt, alloc, machine, budgets, out)?, wanted)
         }
         Step::Unplugs(wanted) => assert_same(rt, unplug_none(rt, alloc, machine, out), wanted),
         Step::Stands(wanted) => assert_same(rt, machine.run_state(), wanted),

@@ -19,16 +19,31 @@ fn script(alloc: Global) -> Result<ScriptDevice, NoMemory> {
     ScriptDevice::new(alloc, replies, 0)
 }
 
-// A leg with the device in slot 0, and one behind it where it is unplugged. Boxes are handed to the
-// machine only where they are made.
-fn legs_counted<L: Ledger>(
+// What came of a leg with the device in slot 0, of unplugging it, and of a leg behind that.
+#[derive(Clone, Copy, Debug, Drop, PartialEq, Eq)]
+pub(crate) struct Asked {
+    pub(crate) first: Leg,
+    pub(crate) unplugged: Result<u64, MachineError>,
+    pub(crate) second: Leg,
+}
+
+fn assert_few(rt: &impl Abort, machine: &Machine)
+    ensures events { machine.now.kernel.events < 100 }
+    ensures instructions { machine.now.instructions < 100 }
+{
+    assert!(rt; machine.events() < 100);
+    assert!(rt; machine.instructions() < 100);
+}
+
+// Boxes are handed to the machine only where they are made.
+fn ask_counted<L: Ledger>(
     rt: &impl Abort,
     alloc: Global,
     machine: &mut Machine,
     budgets: [u64; 2],
     out: &mut Vec<Record>,
     blank: Blank,
-) -> Result<[Leg; 2], MachineError>
+) -> Result<Asked, NoMemory>
     requires name { blank.name ≡ L.name }
     requires parts { blank.parts ≡ L.parts }
     requires some { 0 < blank.parts }
@@ -37,28 +52,27 @@ fn legs_counted<L: Ledger>(
     let mut chooser: Box<dyn Chooser> = Box::new(alloc, RoundChooser::new(1_000))?;
     let device: Box<dyn Device> = Box::new(alloc, script(alloc)?)?;
     let mut devices = vec![in alloc; Some(device)]?;
-    assert!(rt; machine.events() < 100);
-    assert!(rt; machine.instructions() < 100);
+    assert_few(rt, machine);
     let first = machine.run_leg_boxed(budgets[0], &mut chooser, &mut devices, out, &mut steps)?;
-    assert!(rt; machine.events() < 100);
-    assert!(rt; machine.instructions() < 100);
-    machine.unplug(0, &mut devices, out)?;
-    assert!(rt; devices[0].is_none());
-    assert!(rt; machine.events() < 100);
-    assert!(rt; machine.instructions() < 100);
+    assert_few(rt, machine);
+    let unplugged = machine.unplug(0, &mut devices, out);
+    assert_few(rt, machine);
     let second = machine.run_leg_boxed(budgets[1], &mut chooser, &mut devices, out, &mut steps)?;
-    Ok([first, second])
+    Ok(Asked {
+        first,
+        unplugged,
+        second,
+    })
 }
 
-// The same with its steps counted.
-pub(crate) fn asking_legs(
+pub(crate) fn ask(
     rt: &impl Abort,
     alloc: Global,
     machine: &mut Machine,
     budgets: [u64; 2],
     out: &mut Vec<Record>,
-) -> Result<[Leg; 2], MachineError> {
-    legs_counted::<Brand>(rt, alloc, machine, budgets, out, Blank::new(1))
+) -> Result<Asked, NoMemory> {
+    ask_counted::<Brand>(rt, alloc, machine, budgets, out, Blank::new(1))
 }
 
 // Device 0 is unplugged where no slot holds one.
@@ -69,8 +83,7 @@ pub(crate) fn unplug_none(
     out: &mut Vec<Record>,
 ) -> Result<u64, MachineError> {
     let mut devices: Vec<Option<Box<dyn Device>>> = Vec::new(alloc);
-    assert!(rt; machine.events() < 100);
-    assert!(rt; machine.instructions() < 100);
+    assert_few(rt, machine);
     machine.unplug(0, &mut devices, out)
 }
 
@@ -82,30 +95,37 @@ const fn spent(ran: u64) -> Leg {
     }
 }
 
-// It opens the device and reads it twice. Then the device is gone, and isn't there for a third read.
+// The program opens the device and reads it twice, and once more behind the unplugging.
+pub(crate) const ASKED: &[Part] = &[
+    Part::AskingFile,
+    Part::AskingBoot,
+    Part::Slice(3),
+    Part::Opened,
+    Part::Slice(5),
+    Part::Failed,
+    Part::Slice(6),
+    Part::Replied([1, 2]),
+    Part::Unplug,
+    Part::Slice(6),
+    Part::Absent,
+];
+
 #[test]
 fn a_device_is_asked_until_it_is_unplugged(rt: HostRuntime) -> Result<(), Fail> {
+    let asked = Asked {
+        first: spent(14),
+        unplugged: Ok(5),
+        second: spent(6),
+    };
     let steps = &[
         Step::AddsAsking(Ok(0)),
         Step::Unplugs(Err(MachineError::NotBooted)),
         Step::Boots(Ok(1)),
         Step::Unplugs(Err(MachineError::NoDevice)),
-        Step::Asks([14, 6], [spent(14), spent(6)]),
+        Step::Asks([14, 6], asked),
+        Step::Unplugs(Err(MachineError::NoDevice)),
         Step::Counted(7, 20),
     ];
-    let parts = &[
-        Part::AskingFile,
-        Part::AskingBoot,
-        Part::Slice(3),
-        Part::Opened,
-        Part::Slice(5),
-        Part::Failed,
-        Part::Slice(6),
-        Part::Replied([1, 2]),
-        Part::Unplug,
-        Part::Slice(6),
-        Part::Absent,
-    ];
-    check(&rt, rt.alloc(), steps, parts)?;
+    check(&rt, rt.alloc(), steps, ASKED)?;
     Ok(())
 }

@@ -2,6 +2,7 @@
 ghost use Rattle.std.specs.Prelude.{◌≡◌, ◌<◌, All};
 ghost use Rattle.result_log.specs.Spelling.{HasSpelling};
 
+use super::devices::ASKED;
 use super::parts::WHOLE;
 use super::{Part, records};
 use crate::same::assert_same;
@@ -127,10 +128,10 @@ fn tells_the_record_of_a_refused_input(rt: HostRuntime) -> Result<(), Fail> {
     Ok(())
 }
 
+// No device is there, and each call has the answer that was recorded.
 #[test]
 fn unplugs_a_device_again(rt: HostRuntime) -> Result<(), Fail> {
-    let once = &[Part::File, Part::Boot, Part::Unplug];
-    check(&rt, rt.alloc(), once, Ok((true, 3, 0)))?;
+    check(&rt, rt.alloc(), ASKED, Ok((true, 7, 20)))?;
     Ok(())
 }
 
