@@ -57,7 +57,7 @@ record Begins (text : List ℕ) (left : Option (List ℕ)) (parts : List Part) :
 
 module _ {D A : Type 0} (d : Ghosts D) (who : Answering A) (g : Given) where
   -- a command was begun behind others, and halted
-  pub stops-more : (laws : Laws d who) (old mid new : Standpoint D A) (parts : List Part) (is_there : Bool) (command : Command) (why : Halt) (n : ℕ) (p : HaveAnswers d who g parts is_there old mid) (q : Stops IsRun d who mid.disk new.disk mid.store.entries mid.held new.held why (turn g mid.store.entries command) mid.around new.around n) → StopsBy IsRun d who (transcript g old.store.entries (p.commands ++ command ∷ [])) old.around new.around (p.cost + n) old.disk new.disk old.store.entries old.held new.held why (named_at p.answered.touches p.answered.slices ++ (named_at q.touches q.slices ++ named_at q.lost_touches q.lost))
+  pub stops-more : (laws : Laws d who) (old mid new : Standpoint D A) (parts : List Part) (is_there : Bool) (command : Command) (why : Halt) (n : ℕ) (p : HaveAnswers d who g parts is_there old mid) (q : Stops IsRun d who mid.disk new.disk mid.store.entries mid.held new.held why (turn g mid.store.entries command) mid.around new.around n) → StopsBy IsRun d who (transcript g old.store.entries (p.commands ++ command ∷ [])) old.around new.around (p.cost + n) old.disk new.disk old.store.entries old.held new.held why (named_at p.answered.touches p.answered.slices ++ (named_at q.touches q.slices ++ named_at q.lost_touches q.lost)) (p.answered.touches ++ (q.touches ++ q.lost_touches))
   stops-more laws old mid new parts is_there command why n p q =
       laws.points.stops (transcript g old.store.entries (p.commands ++ command ∷ [])) (transcript g mid.store.entries (command ∷ [])) old.around mid.around new.around p.cost n old.disk mid.disk new.disk old.store mid.store old.held mid.held new.held why
       (Advances-more d who g old mid parts is_there p (command ∷ []))

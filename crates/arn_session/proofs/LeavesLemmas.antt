@@ -1,5 +1,6 @@
 -- What a session leaves, from what is known at each of its ends.
-use Rattle.std.proofs.Common.{◌≡◌, ◌≢◌, ◌⊎◌, inl, inr, ◌+◌, ◌<◌, ◌≤◌, ◌^◌, ◌++◌, ℕ, List, [], length, drop, Option, None, Some, IfSome, arith, Result, Ok, Err, IsErrOf, Bool, refl, subst, sym, append_assoc, ◌∷◌, ◌∙◌}
+use Rattle.std.proofs.Common.{◌≡◌, ◌≢◌, ◌⊎◌, inl, inr, ◌+◌, ◌<◌, ◌≤◌, ◌^◌, ◌++◌, ℕ, List, [], length, drop, Option, None, Some, IfSome, arith, Result, Ok, Err, IsErrOf, Bool, true, false, refl, subst, sym, ap, append_assoc, ◌∷◌, ◌∙◌}
+use Rattle.std.proofs.lemmas.Bool.{false≢true}
 use Rattle.std.proofs.lemmas.Option.{IfSome_then}
 use Rattle.arn_base.specs.declared.disk.Disk.{Ghosts}
 use Rattle.arn_base.specs.declared.records.Differs.{Differs}
@@ -15,20 +16,24 @@ use Rattle.session_effects.specs.Carrying.{CarriesOut, HoldsMore, IsAtRest, IsSh
 use Rattle.session_effects.specs.declared.halt.Halt.{Halt}
 use Rattle.session_effects.specs.declared.halt.Halt.TheVariants as halt
 use Rattle.session_commands.specs.Answering.{IsHalted, IsNoRun}
-use Rattle.guest_legs.specs.Legs.{Picked}
-use Rattle.session_runs.specs.Touches.{Answering, named_at}
+use Rattle.guest_legs.specs.LegLaws.{all_named, as_named}
+use Rattle.guest_legs.specs.Legs.{Ask, AreInRange, Picked}
+use Rattle.history_model.specs.Unplugged.{unplugged_in}
+use Rattle.session_runs.specs.Touches.{Answering, AtSlice, AtUnplug, Touch, asks_in, named_at}
 use Rattle.session_runs.specs.Standing.{Standpoint, standpoint}
 use Rattle.session_commands.specs.Given.{Given}
+use Rattle.session_commands.specs.Lines.{needs_machine, turn}
 use Rattle.arn_session.specs.Answered.{AnswersParts, AnswersTaken, TookAtMost, TookFewer}
 use Rattle.arn_session.specs.Begun.{BeginsOn, FindsOn, Standing, store_of}
 use Rattle.arn_session.specs.CutOff.{BeginsText, FindsOut}
-use Rattle.arn_session.specs.Leaves.{Leaves, Scene, WereTouched}
-use Rattle.arn_session.specs.Transcript.{transcript}
+use Rattle.arn_session.specs.Gone.{GoneBefore, WereSpared, WereTouched}
+use Rattle.arn_session.specs.Leaves.{Leaves, Scene}
 use Rattle.arn_session.proofs.CutLemmas.{stops-more}
-use Rattle.arn_session.proofs.NoneLemmas.{begin-none, transcript-none}
+use Rattle.arn_session.proofs.GoneLemmas.{GoneBefore-append, turn-gone}
 use Rattle.arn_session.proofs.PointLemmas.{Laws}
-use Rattle.arn_session.proofs.Progress.{HaveAnswers, were-touched}
+use Rattle.arn_session.proofs.Progress.{HaveAnswers, gone-behind, were-touched}
 use Rattle.arn_session.proofs.SlotLemmas.{Begins-seen, Finds-seen}
+use Rattle.arn_session.proofs.TouchLemmas.{and-true, spared-so, touched-many}
 
 module _ {D A : Type 0} (d : Ghosts D) (who : Answering A) (g : Given) where
   -- the store over the disk doesn't matter where a session begins
@@ -41,27 +46,77 @@ module _ {D A : Type 0} (d : Ghosts D) (who : Answering A) (g : Given) where
       IfSome_then l all (λ text b. Finds-seen here who who (λ a. a) (λ a asked answer a' p. p) (λ n a a' p. p) d g old new store (store_of []) text left (b (store_of [])))
 
 -- who isn't touched is the same
-pub touched-none : {A : Type 0} (who : Answering A) (now : A) → WereTouched who now now
-touched-none who now = record { touches = []; slices = []; touched = (refl, refl); none_unplugged = refl }
+pub untouched : {A : Type 0} (who : Answering A) (now : A) → WereTouched who now now
+untouched who now = record { touches = []; slices = []; touched = (refl, refl); filled = λ device. sym (and-true (who.filled now device)) }
+
+pub touched-none : {A : Type 0} (who : Answering A) (gone : List ℕ) (now : A) → WereSpared who gone now now
+unfolding untouched
+touched-none who gone now = record { were = untouched who now; spared = tt }
+
+-- a history may be told in another way
+pub spared-same : {A : Type 0} {who : Answering A} {old new : A} (h history : List Record) → h ≡ history → WereSpared who (unplugged_in h) old new → WereSpared who (unplugged_in history) old new
+spared-same {A} {who} {old} {new} h history same w = subst (λ (x : List Record). WereSpared who (unplugged_in x) old new) same w
+
+-- asks in range are so without others behind them
+in-range-first : (asks more : List Ask) (slices others : List Picked) → length asks ≡ length slices → AreInRange (asks ++ more) (slices ++ others) → AreInRange asks slices
+in-range-first [] more slices others many all = tt
+in-range-first (a ∷ asks) more [] others many all = tt
+in-range-first (a ∷ asks) more (s ∷ slices) others many all = (all.0, in-range-first asks more slices others (omega (arith, many)) all.1)
+
+asks-append : (touches more : List Touch) → asks_in (touches ++ more) ≡ asks_in touches ++ asks_in more
+asks-append [] more = refl
+asks-append (AtSlice ask ∷ touches) more = ap (λ (x : List Ask). ask ∷ x) (asks-append touches more)
+asks-append (AtUnplug n ∷ touches) more = asks-append touches more
+
+all_named-append : (asks more : List Ask) (slices others : List Picked) → length asks ≡ length slices → all_named (asks ++ more) (slices ++ others) ≡ all_named asks slices ++ all_named more others
+all_named-append [] more [] others many = refl
+all_named-append (a ∷ asks) more (s ∷ slices) others many =
+    ap (λ (x : List Picked). as_named a.machine s ∷ x) (all_named-append asks more slices others (omega (arith, many)))
+all_named-append _ more _ others many = absurd (omega (arith, many))
 
 module _ {D A : Type 0} {d : Ghosts D} {who : Answering A} {g : Given} where
-  -- who answers was touched by slices alone, before a command and for it
-  pub touched-before : {parts : List Part} {is_there : Bool} {old new : Standpoint D A} (laws : Laws d who) → HaveAnswers d who g parts is_there old new → WereTouched who old.around.answers new.around.answers
+  -- who answers was touched before a command and for it, and wasn't asked for what was gone
+  pub touched-before : {parts : List Part} {is_there : Bool} {old new : Standpoint D A} (laws : Laws d who) → HaveAnswers d who g parts is_there old new → WereSpared who (unplugged_in old.store.entries) old.around.answers new.around.answers
   touched-before {parts = parts} {is_there = is_there} {old = old} {new = new} laws p = were-touched d who g laws old new parts is_there p
 
-  pub touched-halted : {parts : List Part} {is_there : Bool} {old mid new : Standpoint D A} {command : Command} {why : Halt} (laws : Laws d who) → HaveAnswers d who g parts is_there old mid → IsHalted d who g is_there why command mid new → WereTouched who old.around.answers new.around.answers
+  -- a command that halted asks no device that is gone
+  halted-gone : (laws : Laws d who) (is_there : Bool) (mid new : Standpoint D A) (command : Command) (why : Halt) (b : IsHalted d who g is_there why command mid new) → (needs_machine g mid.store.entries command ≡ true → IsRun mid.store.entries) → GoneBefore (unplugged_in mid.store.entries) (b.stops.touches ++ b.stops.lost_touches)
+  halted-gone laws is_there mid new command why b on_run =
+      let q = b.stops in
+      let touches : List Touch = q.touches ++ q.lost_touches in
+      let slices : List Picked = q.slices ++ q.lost in
+      let many : length (asks_in touches) ≡ length slices = touched-many who touches slices mid.around.answers new.around.answers q.touched in
+      let all : touches ++ q.part_touches ≡ q.touches ++ (q.lost_touches ++ q.part_touches) = append_assoc q.touches q.lost_touches q.part_touches in
+      let in_range : AreInRange (asks_in touches ++ asks_in q.part_touches) (slices ++ q.part) =
+      subst (λ (x : List Ask). AreInRange x (slices ++ q.part)) (ap asks_in (sym all) ∙ asks-append touches q.part_touches)
+      (subst (AreInRange (asks_in (q.touches ++ (q.lost_touches ++ q.part_touches)))) (sym (append_assoc q.slices q.lost q.part)) q.in_range) in
+      let taken : named_at touches slices ++ q.part ≡ named_at q.touches q.slices ++ (named_at q.lost_touches q.lost ++ q.part) =
+      ap (λ (x : List Ask). all_named x slices ++ q.part) (asks-append q.touches q.lost_touches)
+      ∙ ap (λ (x : List Picked). x ++ q.part) (all_named-append (asks_in q.touches) (asks_in q.lost_touches) q.slices q.lost q.many)
+      ∙ append_assoc (named_at q.touches q.slices) (named_at q.lost_touches q.lost) q.part in
+      turn-gone laws.gone g mid.store.entries touches q.part_touches slices q.part many (in-range-first (asks_in touches) (asks_in q.part_touches) slices q.part many in_range) command on_run
+      (ap (λ (x : List Picked). (turn g mid.store.entries command x).touches) taken ∙ q.are_touches ∙ sym all)
+
+  touched-behind : (laws : Laws d who) (parts : List Part) (is_there : Bool) (old mid new : Standpoint D A) (command : Command) (why : Halt) → HaveAnswers d who g parts is_there old mid → IsHalted d who g is_there why command mid new → (needs_machine g mid.store.entries command ≡ true → IsRun mid.store.entries) → WereSpared who (unplugged_in old.store.entries) old.around.answers new.around.answers
+  touched-behind laws parts is_there old mid new command why p b on_run =
+      let gone : List ℕ = unplugged_in old.store.entries in
+      let stop = stops-more d who g laws old mid new parts is_there command why b.beside p b.stops in
+      let others : List Touch = b.stops.touches ++ b.stops.lost_touches in
+      spared-so who laws.kept gone (stop.stops.touches ++ stop.stops.lost_touches) (stop.stops.slices ++ stop.stops.lost) old.around.answers new.around.answers stop.stops.touched
+      (subst (GoneBefore gone) (sym stop.touches)
+      (GoneBefore-append gone p.answered.touches others p.gone (subst (λ (l : List ℕ). GoneBefore l others) (gone-behind d who g old mid parts is_there p) (halted-gone laws is_there mid new command why b on_run))))
+
+  -- where no machine was made for it, no one was touched
+  pub touched-halted : {parts : List Part} {is_there : Bool} {old mid new : Standpoint D A} {command : Command} {why : Halt} (laws : Laws d who) → HaveAnswers d who g parts is_there old mid → IsHalted d who g is_there why command mid new → WereSpared who (unplugged_in old.store.entries) old.around.answers new.around.answers
   touched-halted {parts = parts} {is_there = is_there} {old = old} {mid = mid} {new = new} {command = command} {why = why} laws p b =
-      let stop = (stops-more d who g laws old mid new parts is_there command why b.beside p b.stops).stops in
-      let commands : List Command = p.commands ++ command ∷ [] in
-      let all : List Picked = named_at stop.touches stop.slices ++ (named_at stop.lost_touches stop.lost ++ stop.part) in
-      record {
-        touches = stop.touches ++ stop.lost_touches;
-        slices = stop.slices ++ stop.lost;
-        touched = stop.touched;
-        none_unplugged =
-            begin-none laws.touches.unplugs (stop.touches ++ stop.lost_touches) stop.part_touches (transcript g old.store.entries commands all).touches (transcript-none laws.touches.unplugs g old.store.entries commands all)
-            (stop.are_touches ∙ sym (append_assoc stop.touches stop.lost_touches stop.part_touches));
-      }
+      by (needs_machine g mid.store.entries command) refl
+    where
+      by : (needs : Bool) → needs_machine g mid.store.entries command ≡ needs → WereSpared who (unplugged_in old.store.entries) old.around.answers new.around.answers
+      by false none = touched-behind laws parts is_there old mid new command why p b (λ needed. absurd (false≢true (sym none ∙ needed)))
+      by true needed = elim (b.on_run needed) [
+        | inl run ↦ touched-behind laws parts is_there old mid new command why p b (λ x. run)
+        | inr none ↦ subst (λ (x : A). WereSpared who (unplugged_in old.store.entries) old.around.answers x) (sym none.untouched.answers) (touched-before laws p)
+      ]
 
 -- where nothing was taken, no more was than so much
 pub untaken : (l : Option (List ℕ)) → TookAtMost (2 ^ 40) l l
@@ -74,7 +129,7 @@ module _ {D A : Type 0} (d : Ghosts D) (who : Answering A) (g : Given) (history 
     pub at_most : TookAtMost (2 ^ 40) old.left new.left
     pub any_moment : IsAtRest d old.stands.disk history → LeavesOnly d.moment d.left_since old.stands.disk new.stands.disk (HoldsMore IsRun history)
     pub later : GoesOn d.image d.faults old.stands.disk new.stands.disk
-    pub touched : WereTouched who old.stands.around.answers new.stands.around.answers
+    pub touched : WereSpared who (unplugged_in history) old.stands.around.answers new.stands.around.answers
 
   -- the text was answered to its end
   pub record Ends : Type 0 where

@@ -3,7 +3,7 @@ mod ResultLemmas
 mod HaltLemmas
 mod ReplyLemmas
 mod TouchLemmas
-mod NoneLemmas
+mod GoneLemmas
 mod StandLemmas
 mod PointLemmas
 mod TranscriptLemmas

@@ -14,17 +14,19 @@ use Rattle.session_runs.specs.Laws.{PointsFollow, TouchesFollow}
 use Rattle.session_runs.specs.Points.{Advances, EndsWithin, IsSpent, Stops, Surroundings}
 use Rattle.session_runs.specs.Touches.{Answering, Touch, named_at}
 use Rattle.session_runs.specs.Turns.{Point, Turn, behind, finished}
+use Rattle.arn_session.specs.Gone.{GoneLaws}
 use Rattle.arn_session.proofs.TouchLemmas.{Keeps}
 
--- what holds of touches and of points that follow one another, of halts, and of which devices are there
+-- what holds of touches and of points that follow one another, of halts, and of which devices are there and which are gone
 pub record Laws {D A : Type 0} (d : Ghosts D) (who : Answering A) : Type 0 where
   pub touches : TouchesFollow who
   pub points : PointsFollow IsRun d who
   pub halts : HaltsFollow IsRun d
   pub kept : Keeps who
+  pub gone : GoneLaws
 
-pub laws-of : {D A : Type 0} {d : Ghosts D} {who : Answering A} → TouchesFollow who → PointsFollow IsRun d who → HaltsFollow IsRun d → Keeps who → Laws d who
-laws-of touches points halts kept = record { touches = touches; points = points; halts = halts; kept = kept }
+pub laws-of : {D A : Type 0} {d : Ghosts D} {who : Answering A} → TouchesFollow who → PointsFollow IsRun d who → HaltsFollow IsRun d → Keeps who → GoneLaws → Laws d who
+laws-of touches points halts kept gone = record { touches = touches; points = points; halts = halts; kept = kept; gone = gone }
 
 turn-of : (e e' : List Effect) (a a' : List Touch) (l : Option (List Picked)) → e ≡ e' → a ≡ a' → (let t : Turn = record { effects = e; touches = a; left = l } in t) ≡ (let t : Turn = record { effects = e'; touches = a'; left = l } in t)
 turn-of e e' a a' l p q =

@@ -11,27 +11,28 @@ use Rattle.arn_commands.specs.Commands.{Asks, EachAsks}
 use Rattle.arn_commands.specs.Nexts.{IsWholePart, ReadsMore, ReadsLast, ReadsEnd, ReadsPart}
 use Rattle.arn_commands.specs.Parts.{Part, text_parts, whole_parts}
 use Rattle.arn_commands.specs.Reader.{ReaderState, fresh_reader, to_come, Uses, UsesSome, StopsShort, IsAtEnd}
+use Rattle.history_model.specs.Unplugged.{unplugged_in}
 use Rattle.log_model.specs.Records.{IsRun}
 use Rattle.guest_legs.specs.Legs.{Picked}
 use Rattle.session_effects.specs.Carrying.{CarriesOut}
 use Rattle.session_effects.specs.Effects.{Effect, committed}
 use Rattle.session_effects.specs.Standing.{Carries, IsOpen}
-use Rattle.session_runs.specs.Points.{Advances, Surroundings}
+use Rattle.session_runs.specs.Points.{Advances}
 use Rattle.session_effects.specs.declared.halt.Halt.{Halt}
-use Rattle.session_runs.specs.Touches.{Answering, named_at}
-use Rattle.session_runs.specs.Turns.{Point, Turn, finished}
+use Rattle.session_runs.specs.Touches.{Answering, named_at, unplugs_in}
+use Rattle.session_runs.specs.Turns.{Turn, finished}
 use Rattle.session_commands.specs.Answering.{FindsNoRun, IsAnswered, IsHalted}
 use Rattle.session_runs.specs.Standing.{Standpoint}
 use Rattle.session_commands.specs.Cost.{cost, cost_of_turn}
 use Rattle.session_commands.specs.Given.{Given, given}
 use Rattle.session_commands.specs.Lines.{needs_machine, turn}
 use Rattle.arn_session.specs.Answered.{AnswersParts, AnswersTaken, TookAtMost, TookFewer}
-use Rattle.arn_session.specs.Leaves.{WereTouched}
+use Rattle.arn_session.specs.Gone.{GoneBefore, WereSpared}
 use Rattle.arn_session.specs.Transcript.{needs_any, total_cost, transcript}
 use Rattle.arn_session.proofs.PointLemmas.{Advances-as, Laws}
-use Rattle.arn_session.proofs.NoneLemmas.{begin-none, transcript-none}
+use Rattle.arn_session.proofs.GoneLemmas.{GoneBefore-append, none-gone, turn-gone}
 use Rattle.arn_session.proofs.StandLemmas.{answered-as, found-as, halted-as, needs-stands}
-use Rattle.arn_session.proofs.TouchLemmas.{StandAs, stand-after}
+use Rattle.arn_session.proofs.TouchLemmas.{StandAs, spared-so, stand-after, unplugged-append}
 use Rattle.arn_session.proofs.TranscriptLemmas.{commits-none, cost-push, leads-more, needs-push, transcript-one}
 use Rattle.arn_session.proofs.UseLemmas.{Uses-append, Uses-none}
 
@@ -127,6 +128,7 @@ module _ {D A : Type 0} (d : Ghosts D) (who : Answering A) (g : Given) where
     pub unmoved : is_there ≡ false → new.store.entries ≡ old.store.entries
     pub on_run : is_there ≡ true → IsRun old.store.entries
     pub stands : StandAs who g.filled new.store.entries new.around.answers
+    pub gone : GoneBefore (unplugged_in old.store.entries) answered.touches
 
   -- more commands go on where these ended
   abbrev pub Advances-more : (old new : Standpoint D A) (parts : List Part) (is_there : Bool) (p : HaveAnswers parts is_there old new) (more : List Command) → Advances who (transcript g old.store.entries (p.commands ++ more)) (transcript g new.store.entries more) old.around new.around p.cost (Carries IsRun d old.disk new.disk old.store new.store old.held new.held)
@@ -153,6 +155,9 @@ module _ {D A : Type 0} (d : Ghosts D) (who : Answering A) (g : Given) where
     unmoved = λ absent. refl;
     on_run = λ there. absurd (false≢true there);
     stands = stands;
+    gone =
+        let a = laws.points.nothing finished now.around now.disk now.store now.held open_now in
+        none-gone (unplugged_in now.store.entries) a.touches [] (ap (λ (t : Turn). t.touches) (a.leads []));
   }
 
   -- the history behind a command
@@ -178,6 +183,18 @@ module _ {D A : Type 0} (d : Ghosts D) (who : Answering A) (g : Given) where
   run-more : (is_there : Bool) (history there : List Record) (command : Command) → (is_there ≡ false → there ≡ history) → (is_there ≡ true → IsRun history) → (needs_machine g there command ≡ true → IsRun there) → (is_there || needs_machine g there command) ≡ true → IsRun history
   run-more true history there command unmoved was made needed = was refl
   run-more false history there command unmoved was made needed = subst IsRun (unmoved refl) (made needed)
+
+  -- what is gone behind these parts
+  pub gone-behind : (old mid : Standpoint D A) (parts : List Part) (is_there : Bool) (p : HaveAnswers parts is_there old mid) → unplugged_in mid.store.entries ≡ unplugged_in old.store.entries ++ unplugs_in p.answered.touches
+  gone-behind old mid parts is_there p =
+      let a = p.answered in
+      ap unplugged_in a.carries.entries ∙ unplugged-append old.store.entries (committed a.effects) ∙ ap (λ (l : List ℕ). unplugged_in old.store.entries ++ l) a.unplugged
+
+  -- a command asks no device that is gone
+  gone-answered : (laws : Laws d who) (is_there : Bool) (command : Command) (mid new : Standpoint D A) (a : IsAnswered d who g is_there command mid new) → GoneBefore (unplugged_in mid.store.entries) a.advances.touches
+  gone-answered laws is_there command mid new a =
+      let q = a.advances in
+      turn-gone laws.gone g mid.store.entries q.touches [] q.slices [] q.picked.many q.in_range command a.on_run (ap (λ (t : Turn). t.touches) (q.leads []))
 
   HaveAnswers-push : (laws : Laws d who) (old mid new : Standpoint D A) (parts : List Part) (is_there now_there : Bool) (part : Part) (command : Command) → now_there ≡ (is_there || needs_machine g mid.store.entries command) → Asks part command → HaveAnswers parts is_there old mid → IsAnswered d who g is_there command mid new → HaveAnswers (parts ++ part ∷ []) now_there old new
   HaveAnswers-push laws old mid new parts is_there now_there part command there asks p a =
@@ -207,6 +224,7 @@ module _ {D A : Type 0} (d : Ghosts D) (who : Answering A) (g : Given) where
         stands =
             stand-after who laws.kept g.filled t new.store.entries a.advances.effects a.advances.touches a.advances.slices mid.around.answers new.around.answers
             a.advances.carries.entries a.advances.unplugged a.advances.touched p.stands;
+        gone = subst (GoneBefore (unplugged_in h)) (sym both.touches) (GoneBefore-append (unplugged_in h) p.answered.touches a.advances.touches p.gone (subst (λ (l : List ℕ). GoneBefore l a.advances.touches) (gone-behind old mid parts is_there p) (gone-answered laws is_there command mid new a)));
       }
 
   HaveAnswers-answers : (old new : Standpoint D A) (parts : List Part) (is_there : Bool) → HaveAnswers parts is_there old new → AnswersParts who g old.store.entries parts old.around new.around (CarriesOut IsRun d old.disk new.disk old.store.entries old.held new.held)
@@ -219,19 +237,11 @@ module _ {D A : Type 0} (d : Ghosts D) (who : Answering A) (g : Given) where
     on_run = λ needed. p.on_run (p.needs ∙ needed);
   }
 
-  -- those who answer for devices were touched by slices alone
-  pub were-touched : (laws : Laws d who) (old new : Standpoint D A) (parts : List Part) (is_there : Bool) → HaveAnswers parts is_there old new → WereTouched who old.around.answers new.around.answers
+  -- those who answer for devices were touched for these parts
+  pub were-touched : (laws : Laws d who) (old new : Standpoint D A) (parts : List Part) (is_there : Bool) → HaveAnswers parts is_there old new → WereSpared who (unplugged_in old.store.entries) old.around.answers new.around.answers
   were-touched laws old new parts is_there p =
       let a = p.answered in
-      let all : List Picked = named_at a.touches a.slices ++ [] in
-      record {
-        touches = a.touches;
-        slices = a.slices;
-        touched = a.touched;
-        none_unplugged =
-            begin-none laws.touches.unplugs a.touches [] (transcript g old.store.entries p.commands all).touches (transcript-none laws.touches.unplugs g old.store.entries p.commands all)
-            (ap (λ (t : Turn). t.touches) (a.leads []));
-      }
+      spared-so who laws.kept (unplugged_in old.store.entries) a.touches a.slices old.around.answers new.around.answers a.touched p.gone
 
   -- whole parts were read and answered
   pub record Progress (left left' : Option (List ℕ)) (reader : ReaderState) (is_there : Bool) (old new : Standpoint D A) : Type 0 where
@@ -248,7 +258,7 @@ module _ {D A : Type 0} (d : Ghosts D) (who : Answering A) (g : Given) where
     pub answered : IfSome left (λ text. AnswersParts who g old.store.entries (text_parts text) old.around new.around (CarriesOut IsRun d old.disk new.disk old.store.entries old.held new.held))
     pub short : IfSome left (λ text. length text < 2 ^ 40)
     pub out : (effects : List Effect) × CarriesOut IsRun d old.disk new.disk old.store.entries old.held new.held effects
-    pub touched : WereTouched who old.around.answers new.around.answers
+    pub touched : WereSpared who (unplugged_in old.store.entries) old.around.answers new.around.answers
 
   done_by : (laws : Laws d who) (bytes : List ℕ) (parts : List Part) (reader : ReaderState) (l0 l : Option (List ℕ)) (is_there : Bool) (old new : Standpoint D A) → Uses bytes fresh_reader reader l0 l → IsAtEnd reader l → text_parts bytes ≡ parts → HaveAnswers parts is_there old new → IsDone l0 l old new
   done_by laws bytes parts reader l0 l is_there old new used end are answers =

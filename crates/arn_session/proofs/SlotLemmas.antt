@@ -1,5 +1,5 @@
 -- What surrounds a machine, seen otherwise where devices answer.
-use Rattle.std.proofs.Common.{◌≡◌, inl, inr, ℕ, ◌++◌, List, [], ◌∷◌, Option, Result, Ok, Err, OnOk, IfErr, ap, ◌∙◌}
+use Rattle.std.proofs.Common.{◌≡◌, inl, inr, ℕ, ◌++◌, ◌&&◌, not, Bool, List, [], ◌∷◌, Option, Result, Ok, Err, OnOk, IfErr, sym, ap, ◌∙◌}
 use Rattle.std.proofs.lemmas.Option.{IfSome_then}
 use Rattle.arn_base.specs.declared.disk.Disk.{Ghosts}
 use Rattle.arn_base.specs.declared.records.Record.{Record}
@@ -17,7 +17,8 @@ use Rattle.session_runs.specs.Turns.{Point}
 use Rattle.session_runs.specs.Standing.{standpoint}
 use Rattle.arn_session.specs.Answered.{AnswersParts, AnswersTaken}
 use Rattle.arn_session.specs.CutOff.{BeginsText, FindsOut}
-use Rattle.arn_session.specs.Leaves.{Leaves, Scene, WereTouched}
+use Rattle.arn_session.specs.Gone.{WereTouched, unplugs_it}
+use Rattle.arn_session.specs.Leaves.{Leaves, Scene}
 use Rattle.session_commands.specs.Given.{Given}
 use Rattle.arn_session.specs.Begun.{BeginsOn, FindsOn, Standing, standing, store_of}
 use Rattle.arn_session.proofs.ReplyLemmas.{RepliesIn-seen, RepliesIn-stays}
@@ -150,8 +151,8 @@ module _ {A B : Type 0} (here : A) (who : Answering A) (there : Answering B) (se
   abbrev pub see_scene : {D : Type 0} → Scene D A → Scene D B
   see_scene s = record { stands = standing s.stands.disk s.stands.held (see_around s.stands.around); left = s.left; source_faults = s.source_faults; sink_faults = s.sink_faults }
 
-  pub Leaves-seen : {D : Type 0} (d : Ghosts D) (g : Given) (history : List Record) (r : Result (Unit {0}) Halt) (old new : Scene D A) → Leaves d who g history r old new → Leaves d there g history r (see_scene old) (see_scene new)
-  Leaves-seen d g history r old new p = record {
+  pub Leaves-seen : {D : Type 0} (d : Ghosts D) (g : Given) (history : List Record) (r : Result (Unit {0}) Halt) (old new : Scene D A) → ((a : A) (device : ℕ) → there.filled (see a) device ≡ who.filled a device) → Leaves d who g history r old new → Leaves d there g history r (see_scene old) (see_scene new)
+  Leaves-seen d g history r old new same p = record {
     read = p.read;
     answered = OnOk-then r p.answered (λ all. IfSome_then old.left all (λ text a. Answers-seen g history (text_parts text) old.stands.around new.stands.around _ a));
     short = p.short;
@@ -173,10 +174,16 @@ module _ {A B : Type 0} (here : A) (who : Answering A) (there : Answering B) (se
     full = p.full;
     later = p.later;
     touched = record {
-      touches = p.touched.touches;
-      slices = p.touched.slices;
-      touched = TouchedBy-seen p.touched.touches p.touched.slices old.stands.around.answers new.stands.around.answers p.touched.touched;
-      none_unplugged = p.touched.none_unplugged;
+      were = record {
+        touches = p.touched.were.touches;
+        slices = p.touched.were.slices;
+        touched = TouchedBy-seen p.touched.were.touches p.touched.were.slices old.stands.around.answers new.stands.around.answers p.touched.were.touched;
+        filled = λ device.
+            same new.stands.around.answers device
+            ∙ p.touched.were.filled device
+            ∙ ap (λ (b : Bool). b && not (unplugs_it p.touched.were.touches device)) (sym (same old.stands.around.answers device));
+      };
+      spared = p.touched.spared;
     };
   }
 

@@ -1,14 +1,17 @@
 -- A command does the same by the devices as they are now as by those that were there when the session began.
-use Rattle.std.proofs.Common.{◌≡◌, ◌≤◌, ℕ, ◌+◌, ◌++◌, Bool, if◌then◌else◌, List, refl, sym, ap, ◌∙◌, subst}
-use Rattle.std.specs.Prelude.{◌&&◌, is_none}
+use Rattle.std.proofs.Common.{◌≡◌, ◌≤◌, ◌^◌, ℕ, ◌+◌, ◌++◌, Bool, true, false, if◌then◌else◌, List, Some, refl, sym, ap, ◌∙◌, subst}
+use Rattle.std.specs.Prelude.{◌&&◌, is_none, nat_lt, not}
 use Rattle.arn_base.specs.declared.disk.Disk.{Ghosts}
 use Rattle.arn_base.specs.declared.records.Differs.{Differs}
 use Rattle.arn_base.specs.declared.records.Record.{Record}
+use Rattle.arn_lines.specs.declared.answer.Refusal.TheVariants.{NoBoot, NoDevice}
 use Rattle.arn_lines.specs.declared.line.Line.{Line}
 use Rattle.arn_lines.specs.declared.line.Line.TheVariants as line
 use Rattle.arn_commands.specs.declared.command.Command.{Command}
 use Rattle.arn_commands.specs.declared.command.Command.TheVariants.{PassedOver, TooLong, Unreadable, Says, Faulty, Generates}
 use Rattle.guest_legs.specs.Legs.{Picked}
+use Rattle.history_model.specs.Names.{is_booted}
+use Rattle.history_model.specs.Unplugged.{is_gone}
 use Rattle.session_effects.specs.Effects.{committed}
 use Rattle.session_effects.specs.declared.halt.Halt.{Halt}
 use Rattle.session_runs.specs.Standing.{Proceeds, Standpoint}
@@ -18,16 +21,33 @@ use Rattle.session_commands.specs.Answering.{FindsNoRun, IsAnswered, IsHalted}
 use Rattle.session_commands.specs.Cost.{asked_cost, cost, cost_of_turn, machine_cost}
 use Rattle.session_commands.specs.Given.{Given, given}
 use Rattle.session_commands.specs.Lines.{needs_machine, turn, turn_unless}
-use Rattle.session_commands.specs.Rows.{LineRow, row_of}
+use Rattle.session_commands.specs.Refusals.{can_unplug, is_there, refused_if}
+use Rattle.session_commands.specs.Rows.{LineRow, row_of, unplugs}
 use Rattle.arn_session.proofs.PointLemmas.{Stops-along}
 use Rattle.arn_session.proofs.TouchLemmas.{StandAs}
 
 module _ {A : Type 0} (who : Answering A) (g : Given) (history : List Record) (now : A) (stand : StandAs who g.filled history now) where
+  none-both : (a b c : Bool) → c ≡ true → (a && not c) ≡ (b && not c)
+  none-both true true c is = refl
+  none-both false false c is = refl
+  none-both true false c is = ap not is
+  none-both false true c is = sym (ap not is)
+
+  -- what is gone can't be unplugged, and what isn't is there as it was
+  can-stands : (device : ℕ) → can_unplug (who.filled now) history device ≡ can_unplug g.filled history device
+  can-stands device = by (is_gone history device) refl
+    where
+      by : (gone : Bool) → is_gone history device ≡ gone → can_unplug (who.filled now) history device ≡ can_unplug g.filled history device
+      by true is = none-both (is_there (who.filled now) device) (is_there g.filled device) (is_gone history device) is
+      by false is = ap (λ (b : Bool). (nat_lt device (2 ^ 32) && b) && not (is_gone history device)) (stand device is)
+
   row-stands : (l : Line) → row_of (given g.told (who.filled now)) history l ≡ row_of g history l
   row-stands (line.File name bytes) = refl
   row-stands (line.Boot name) = refl
   row-stands (line.Type bytes) = refl
   row-stands (line.Run count) = refl
+  row-stands (line.Unplug device) =
+      ap (λ (b : Bool). unplugs history (if is_booted history then refused_if (not b) NoDevice else Some NoBoot) device) (can-stands device)
   row-stands (line.Asks question) = refl
 
   pub turn-stands : (c : Command) → turn (given g.told (who.filled now)) history c ≡ turn g history c

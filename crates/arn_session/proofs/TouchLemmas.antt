@@ -1,5 +1,5 @@
 -- Which devices are there behind touches.
-use Rattle.std.proofs.Common.{◌≡◌, ℕ, ◌++◌, Bool, true, false, List, [], ◌∷◌, refl, sym, ap, ◌∙◌}
+use Rattle.std.proofs.Common.{◌≡◌, ℕ, ◌++◌, Bool, true, false, List, [], ◌∷◌, length, refl, sym, ap, ◌∙◌, arith}
 use Rattle.std.specs.Prelude.{◌&&◌, ◌==◌, ◌||◌, not}
 use Rattle.std.specs.List.{list_any}
 use Rattle.std.proofs.lemmas.List.Elements.{filter_map-append}
@@ -9,22 +9,20 @@ use Rattle.parts_model.specs.Replies.{Answered}
 use Rattle.guest_devices.specs.Answers.{Asked}
 use Rattle.guest_legs.specs.Legs.{Picked}
 use Rattle.session_effects.specs.Effects.{Effect, committed}
-use Rattle.session_runs.specs.Touches.{Answering, Touch, AtSlice, AtUnplug, TouchedBy, unplugged_by, unplugged_in, unplugs_in}
+use Rattle.session_runs.specs.Touches.{Answering, Touch, AtSlice, AtUnplug, TouchedBy, asks_in, unplugs_in}
+use Rattle.history_model.specs.Unplugged.{is_gone, unplugged_by, unplugged_in}
+use Rattle.arn_session.specs.Gone.{GoneBefore, WereSpared}
 use Rattle.arn_session.proofs.ReplyLemmas.{RepliesIn-stays}
 
 -- a device is one of these
 abbrev is_one : List ℕ → ℕ → Bool
 is_one devices n = list_any (λ m. m == n) devices
 
--- the device of this number is one of those that a history unplugged
-abbrev is_gone : List Record → ℕ → Bool
-is_gone history n = is_one (unplugged_in history) n
-
 -- what a history didn't unplug is there where it was at first
 abbrev pub StandAs : {A : Type 0} → Answering A → (ℕ → Bool) → List Record → A → Type 0
 StandAs who filled history now = (n : ℕ) → is_gone history n ≡ false → who.filled now n ≡ filled n
 
-unplugged-append : (entries more : List Record) → unplugged_in (entries ++ more) ≡ unplugged_in entries ++ unplugged_in more
+pub unplugged-append : (entries more : List Record) → unplugged_in (entries ++ more) ≡ unplugged_in entries ++ unplugged_in more
 unplugged-append entries more = filter_map-append unplugged_by entries more
 
 -- which devices are there behind an answer, and behind an unplugging
@@ -32,7 +30,7 @@ pub record Keeps {A : Type 0} (who : Answering A) : Type 0 where
   pub keeps : (old new : A) (asked : Asked) (answer : Answered) → who.answers old asked answer new → (n : ℕ) → who.filled new n ≡ who.filled old n
   pub drops : (old new : A) (m : ℕ) → who.unplugs m old new → (n : ℕ) → who.filled new n ≡ (who.filled old n && not (m == n))
 
-and-true : (a : Bool) → (a && not false) ≡ a
+pub and-true : (a : Bool) → (a && not false) ≡ a
 and-true true = refl
 and-true false = refl
 
@@ -58,6 +56,25 @@ filled-after who k n (AtSlice ask ∷ touches) (s ∷ slices) old new h =
     filled-after who k n touches slices h.0 new h.2
     ∙ ap (λ (x : Bool). x && not (is_one (unplugs_in touches) n))
     (RepliesIn-stays who.answers (λ a. who.filled a n) (λ a asked answer a' p. k.keeps a a' asked answer p n) s.pick.count s.pick.pid ask.machine s.reply old h.0 h.1)
+
+-- those who answer, by touches that were made and ask for nothing that is gone
+pub spared-so : {A : Type 0} (who : Answering A) → Keeps who → (gone : List ℕ) (touches : List Touch) (slices : List Picked) (old new : A) → TouchedBy who touches slices old new → GoneBefore gone touches → WereSpared who gone old new
+spared-so who k gone touches slices old new touched spared = record {
+  were = record {
+    touches = touches;
+    slices = slices;
+    touched = touched;
+    filled = λ device. filled-after who k device touches slices old new touched;
+  };
+  spared = spared;
+}
+
+-- each slice was asked for
+pub touched-many : {A : Type 0} (who : Answering A) (touches : List Touch) (slices : List Picked) (old new : A) → TouchedBy who touches slices old new → length (asks_in touches) ≡ length slices
+touched-many who [] slices old new h = sym (ap (λ (x : List Picked). length x) h.0)
+touched-many who (AtUnplug n ∷ touches) slices old new h = touched-many who touches slices h.0 new h.2
+touched-many who (AtSlice ask ∷ touches) [] old new h = absurd h
+touched-many who (AtSlice ask ∷ touches) (s ∷ slices) old new h = omega (arith, touched-many who touches slices h.0 new h.2)
 
 -- they stand as the history says, and still do behind touches whose records it has too
 pub stand-after : {A : Type 0} (who : Answering A) → Keeps who → (filled : ℕ → Bool) (history there : List Record) (effects : List Effect) (touches : List Touch) (slices : List Picked) (old new : A) → there ≡ history ++ committed effects → unplugged_in (committed effects) ≡ unplugs_in touches → TouchedBy who touches slices old new → StandAs who filled history old → StandAs who filled there new

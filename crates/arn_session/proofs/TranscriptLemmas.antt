@@ -122,6 +122,7 @@ module _ (g : Given) where
   commits-unless history (line.Boot name) None slices isnt = absurd (false≢true (sym isnt))
   commits-unless history (line.Type bytes) None slices isnt = absurd (false≢true (sym isnt))
   commits-unless history (line.Run count) None slices isnt = absurd (false≢true (sym isnt))
+  commits-unless history (line.Unplug device) None slices isnt = absurd (false≢true (sym isnt))
   commits-unless history l None slices isnt = refl
 
   commits-refused : (point : Point) (why : Option Refusal) (slices : List Picked) → is_none why ≡ false → committed (turn_unless why point slices).effects ≡ []

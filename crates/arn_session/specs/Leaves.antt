@@ -8,20 +8,21 @@ use Rattle.arn_base.specs.declared.streams.Sink as sinks
 use Rattle.arn_base.specs.declared.streams.Source as sources
 use Rattle.arn_base.specs.Faults.{Rose}
 use Rattle.arn_commands.specs.Parts.{text_parts, whole_parts}
+use Rattle.history_model.specs.Unplugged.{unplugged_in}
 use Rattle.log_model.specs.Records.{IsRun}
 use Rattle.log_store.specs.Stops.{GoesOn, LeavesOnly}
 use Rattle.log_store.specs.declared.size.TheConstants.{MOST_LOG}
-use Rattle.guest_legs.specs.Legs.{Picked}
 use Rattle.session_effects.specs.Carrying.{CarriesOut, HoldsMore, IsAtRest, IsShut, RestsMore}
 use Rattle.session_effects.specs.declared.halt.Halt.{Halt}
 use Rattle.session_effects.specs.declared.halt.Halt.TheVariants as halt
 use Rattle.session_effects.specs.declared.outside.Outside.{Outside}
 use Rattle.session_commands.specs.Answering.{IsNoRun}
 use Rattle.session_runs.specs.Points.{Surroundings, around}
-use Rattle.session_runs.specs.Touches.{Answering, Touch, TouchedBy, unplugs_in}
+use Rattle.session_runs.specs.Touches.{Answering}
 use Rattle.session_commands.specs.Given.{Given}
 use Rattle.arn_session.specs.Answered.{AnswersParts, AnswersTaken, TookAtMost, TookFewer}
 use Rattle.arn_session.specs.Begun.{BeginsOn, FindsOn, Standing, standing}
+use Rattle.arn_session.specs.Gone.{WereSpared}
 
 -- how it stands around a session, what is left of its source if that tells, and how often source and sink have failed
 pub record Scene (D A : Type 0) : Type 0 where
@@ -42,14 +43,6 @@ scene_of s k source sink disk around = record {
 -- of a source and of what is lent
 abbrev pub scene : {S C A D K L : Type 0} → sources.Ghosts S → choosers.Ghosts C → sinks.Ghosts K → S → Outside C A D K L → Scene D A
 scene s c k source o = scene_of s k source o.sink.now o.disk.now (around (c.choices o.chooser.now) o.answers.now o.steps.now)
-
--- Those who answer for devices were touched in this order and not otherwise: they were asked where slices ask, and nowhere else. No device was
--- unplugged, since no line does that yet.
-pub record WereTouched {A : Type 0} (who : Answering A) (old new : A) : Type 0 where
-  pub touches : List Touch
-  pub slices : List Picked
-  pub touched : TouchedBy who touches slices old new
-  pub none_unplugged : unplugs_in touches ≡ []
 
 module _ {D A : Type 0} (d : Ghosts D) (who : Answering A) (g : Given) (history : List Record) where
   pub record Leaves (result : Result (Unit {0}) Halt) (old new : Scene D A) : Type 0 where
@@ -80,6 +73,6 @@ module _ {D A : Type 0} (d : Ghosts D) (who : Answering A) (g : Given) (history 
     pub sink : IsErrOf result halt.Sink → Rose old.sink_faults new.sink_faults
     pub disk : IsErrOf result halt.Disk → Rose (d.faults old.stands.disk) (d.faults new.stands.disk)
     pub full : (log payload : ℕ) → IsErrOf result (halt.Full log payload) → MOST_LOG < log + 5 + payload
-    -- the disk goes on, and devices were touched by slices alone
+    -- the disk goes on, and what was unplugged in the history or since isn't asked any more
     pub later : GoesOn d.image d.faults old.stands.disk new.stands.disk
-    pub touched : WereTouched who old.stands.around.answers new.stands.around.answers
+    pub touched : WereSpared who (unplugged_in history) old.stands.around.answers new.stands.around.answers

@@ -5,4 +5,5 @@ pub mod Halts
 pub mod Status
 pub mod Opening
 pub mod Begun
+pub mod Gone
 pub mod Leaves

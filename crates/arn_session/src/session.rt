@@ -6,12 +6,14 @@ ghost use Rattle.arn_base.specs.declared.records.Record.{Record};
 ghost use Rattle.arn_commands.specs.Parts.{text_parts, whole_parts};
 ghost use Rattle.arn_session.specs.Answered.{AnswersParts, AnswersTaken, TookAtMost, TookFewer};
 ghost use Rattle.arn_session.specs.Begun.{BeginsOn, FindsOn, slots_answer, standing};
+ghost use Rattle.arn_session.specs.Gone.{WereSpared, WereTouched};
 ghost use Rattle.arn_session.specs.Leaves.{Leaves, scene_of};
 ghost use Rattle.arn_session.specs.Opening.{FailsToOpen, HasBegun, HasOpened, IsOpened, NeverBegan};
 ghost use Rattle.arn_session.specs.Status.{NumbersHold, open_status_of};
 ghost use Rattle.arn_words.specs.Words.{AreAccepted};
 ghost use Rattle.guest_devices.specs.Slots.{is_filled};
 ghost use Rattle.history_model.specs.Broken.{first_broken};
+ghost use Rattle.history_model.specs.Unplugged.{unplugged_in};
 ghost use Rattle.log_model.specs.Records.{IsRun};
 ghost use Rattle.log_store.specs.Causes.{IsCauseOf, BlamesBytes};
 ghost use Rattle.log_store.specs.Refused.{IsNoLog};
@@ -294,6 +296,17 @@ pub fn arnold<S: Source, K: Sink, D: Disk, L: Ledger>(
         (around (⟦<Box<dyn Chooser> as Chooser>⟧.choices chooser.new) devices.new.items steps.new)
         (CarriesOut IsRun D.Disk disk.old disk.new
         history (K.holds sink.old) (K.holds sink.new)) }
+
+    // However the call ends, devices were asked where slices ask and lines unplugged them, in some
+    // order, and nothing else came to them: a slot is filled exactly where it was and none of these
+    // unplugged it.
+    ensures slots { WereTouched (slots_answer ⟦<Box<dyn Device> as Device>⟧)
+        devices.old.items devices.new.items }
+
+    // What was unplugged in the history or since isn't asked any more.
+    ensures gone { (history : List Record) → HoldsLog D.Disk disk.old history →
+        WereSpared (slots_answer ⟦<Box<dyn Device> as Device>⟧) (unplugged_in history)
+        devices.old.items devices.new.items }
 
     // However the call ends, a stop at any moment since it began leaves a log of the history and
     // of more records behind it: of a run, if it was one. Which records these are, the clauses

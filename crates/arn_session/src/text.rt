@@ -1,6 +1,7 @@
 // Reads a source to its end, and does what each command of its text asks for.
 ghost use Rattle.std.specs.Prelude.{◌≡◌, false, is_some};
 ghost use Rattle.arn_commands.specs.Reader.{fresh_reader};
+ghost use Rattle.arn_session.specs.Gone.{GoneLaws};
 ghost use Rattle.arn_session.specs.Halts.{read_halt_of};
 ghost use Rattle.arn_session.specs.Leaves.{Leaves, scene};
 ghost use Rattle.session_effects.specs.Outside.{IsSame};
@@ -11,8 +12,12 @@ ghost use Rattle.session_runs.specs.Touches.{answering};
 
 use arn_base::{Chooser, Disk, Sink, Source};
 use arn_commands::{Commands, Next, ReadError};
+use arn_model::runs_append;
 use guest_devices::Plugs;
+use guest_machine::legs_as_named;
+use log_model::records_append;
 use log_store::Store;
+use replay_laws::records_tell_runs;
 use session_commands::{Kept, answer};
 use session_effects::{Halt, Outside, causes_follow, effects_follow, goings_follow, halts_follow};
 use session_model::Questions;
@@ -29,6 +34,16 @@ fn read_halt(error: ReadError) -> Halt
         ReadError::Long => Halt::Long,
         ReadError::NoMemory => Halt::NoMemory,
     }
+}
+
+// What the records of runs tell of devices that were unplugged.
+fn gone_laws()
+    ensures { GoneLaws }
+{
+    records_tell_runs();
+    records_append();
+    runs_append();
+    legs_as_named();
 }
 
 // Reads the source to its end, and does what each command asks for on what is kept of a history. It
@@ -55,6 +70,7 @@ fn answer_all<Q: Questions, S: Source, C: Chooser, A: Plugs, D: Disk, K: Sink, L
     goings_follow::<C, A, D, K, L>();
     touches_follow::<A>();
     points_follow::<MachineRuns, D, A>();
+    gone_laws();
     loop {
         let next = match commands.next(source) {
             Ok(next) => next,
@@ -90,6 +106,7 @@ pub fn session<Q: Questions + Drop, S: Source, C: Chooser, A: Plugs, D: Disk, K:
     goings_follow::<C, A, D, K, L>();
     touches_follow::<A>();
     points_follow::<MachineRuns, D, A>();
+    gone_laws();
     let mut commands = Commands::new(alloc)?;
     let mut kept = Kept {
         alloc,

@@ -152,7 +152,7 @@ module _ {D A : Type 0} (d : Ghosts D) (who : Answering A) (g : Given) (is_there
   pub halted-not-made : (halts : HaltsFollow IsRun d) (why : Halt) (disk : D) (store store' : StoreState) (held : Option (List ℕ)) (steps steps' : ℕ) → IsNotMade why → store' ≡ store → IsStill (turn g store.entries command) → steps' ≤ steps + machine_cost is_there store.entries → ((behind : List Record) → machine_cost is_there store.entries ≤ cost g is_there store.entries behind command) → IsHalted d who g is_there why command (standpoint disk store held (around choices answers steps)) (standpoint disk store' held (around choices answers steps'))
   halted-not-made halts why disk store store' held steps steps' is same still made costs = record {
     beside = machine_cost is_there store.entries;
-    stops = Stops-nothing IsRun d who halts choices answers disk store.entries held why (turn g store.entries command) steps steps' (machine_cost is_there store.entries) still (stopped why is) made;
+    stops = Stops-nothing IsRun d who halts choices answers disk store.entries held why (turn g store.entries command) steps steps' (machine_cost is_there store.entries) still (inr is) (stopped why is) made;
     costs = costs _;
     on_run = λ needed. inr (not-begun g is_there command choices answers why disk store store' held steps steps' is same made);
   }

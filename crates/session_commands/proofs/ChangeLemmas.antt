@@ -85,7 +85,7 @@ module _ {D A : Type 0} (is_run : List Record → Type 0) (d : Ghosts D) (who : 
   pub Stops-last : (from : Point) (u : Surroundings A) (choices : ℕ → Option Choice) (answers : A) (steps : ℕ) (old new : D) (s0 s1 : StoreState) (h0 h1 : Option (List ℕ)) → Advances who from finished u (around choices answers steps) 0 (Carries is_run d old new s0 s1 h0 h1) → Stops is_run d who old new s0.entries h0 h1 halt.NoMemory from u (around choices answers steps) 0
   Stops-last from u choices answers steps old new s0 s1 h0 h1 p =
       (points.stops from finished u (around choices answers steps) (around choices answers steps) 0 0 old new new s0 s1 h0 h1 h1 halt.NoMemory p
-      (Stops-nothing is_run d who halts choices answers new s1.entries h1 halt.NoMemory finished steps steps 0 still-finished
+      (Stops-nothing is_run d who halts choices answers new s1.entries h1 halt.NoMemory finished steps steps 0 still-finished (inl refl)
       (halts.nothing new s1.entries h1 halt.NoMemory [] (inl refl, inl refl)) (omega arith))).stops
 
 -- the records from before are the first of those that are there now

@@ -1,21 +1,22 @@
 -- Literal examples of what commands do, and why lines are refused.
-use Rattle.std.proofs.Common.{◌≡◌, ℕ, [], ◌∷◌, List, Option, None, Some, Bool, false, true, refl, arith}
+use Rattle.std.proofs.Common.{◌≡◌, ℕ, ◌++◌, [], ◌∷◌, List, Option, None, Some, Bool, false, true, refl, arith}
 use Rattle.arn_base.specs.declared.boxes.Choice.{Choice}
 use Rattle.arn_base.specs.declared.records.Record.{Record}
 use Rattle.arn_base.specs.declared.records.Record.TheVariants as entry
 use Rattle.log_store.specs.Stores.{StoreState}
-use Rattle.arn_lines.specs.declared.answer.Refusal.TheVariants.{NoBoot, NoBooted, NoAsm, NoName, NoImage, NoLong}
+use Rattle.arn_lines.specs.declared.answer.Refusal.TheVariants.{NoBoot, NoBooted, NoAsm, NoName, NoImage, NoDevice, NoLong}
 use Rattle.arn_lines.specs.declared.line.Line.TheVariants as line
 use Rattle.arn_lines.specs.declared.line.Question.{Question}
 use Rattle.arn_lines.specs.Texts.{refusal_text}
 use Rattle.arn_commands.specs.declared.command.Command.TheVariants.{PassedOver, TooLong, Says, Generates}
 use Rattle.session_effects.specs.Effects.{Prints}
 use Rattle.session_effects.specs.declared.halt.Halt.TheVariants as halt
+use Rattle.session_model.specs.Questions.{Told}
 use Rattle.session_runs.specs.Points.{around}
 use Rattle.session_commands.specs.Answering.{IsNotBegun}
 use Rattle.session_runs.specs.Standing.{Standpoint, standpoint}
 use Rattle.session_commands.specs.Generator.{gen_name}
-use Rattle.session_commands.specs.Given.{Given}
+use Rattle.session_commands.specs.Given.{Given, given}
 use Rattle.session_commands.specs.Lines.{needs_machine, turn}
 use Rattle.session_commands.specs.Refusals.{fault_refusal, generator_refusal}
 use Rattle.session_commands.specs.Rows.{row_of}
@@ -33,6 +34,32 @@ runs_early g = refl
 
 types_early : (g : Given) → (row_of g [] (line.Type (104 ∷ []))).refusal ≡ Some NoBoot
 types_early g = refl
+
+-- nor is a device unplugged, which is told first
+unplugs_early : (g : Given) → (row_of g [] (line.Unplug 0)).refusal ≡ Some NoBoot
+unplugs_early g = refl
+
+-- behind it one is that is there, if the history didn't unplug it
+unplugs_none : (told : Told) → (row_of (given told (λ n. false)) a_boot (line.Unplug 0)).refusal ≡ Some NoDevice
+unfolding a_boot
+unplugs_none told = refl
+
+unplugs_one : (told : Told) → (row_of (given told (λ n. true)) a_boot (line.Unplug 3)).refusal ≡ None
+unfolding a_boot
+unplugs_one told = refl
+
+unplugs_again : (told : Told) → (row_of (given told (λ n. true)) (a_boot ++ entry.Unplug 3 ∷ []) (line.Unplug 3)).refusal ≡ Some NoDevice
+unfolding a_boot
+unplugs_again told = refl
+
+unplugs_another : (told : Told) → (row_of (given told (λ n. true)) (a_boot ++ entry.Unplug 3 ∷ []) (line.Unplug 2)).refusal ≡ None
+unfolding a_boot
+unplugs_another told = refl
+
+-- a device's number has 32 bits
+unplugs_far : (told : Told) → (row_of (given told (λ n. true)) a_boot (line.Unplug 4294967296)).refusal ≡ Some NoDevice
+unfolding a_boot
+unplugs_far told = refl
 
 -- behind it nothing is brought, and nothing boots again
 brings_late : (g : Given) → (row_of g a_boot (line.File (98 ∷ []) [])).refusal ≡ Some NoBooted

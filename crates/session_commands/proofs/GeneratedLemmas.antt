@@ -27,7 +27,8 @@ use Rattle.session_runs.specs.Points.{Advances, Stops, Surroundings, around, sli
 use Rattle.session_runs.specs.Quiet.{quiet_turn, quietly, then_told}
 use Rattle.session_runs.specs.Ready.{machine_of}
 use Rattle.session_runs.specs.Runs.{begun, ended, ends, run, unless_ended}
-use Rattle.session_runs.specs.Touches.{Answering, Touch, TouchedBy, asks_in, named_at, unplugged_in}
+use Rattle.session_runs.specs.Touches.{Answering, Touch, TouchedBy, asks_in, named_at}
+use Rattle.history_model.specs.Unplugged.{unplugged_in}
 use Rattle.session_runs.specs.Turns.{Point, Turn, behind, cut_off, finished, prints}
 use Rattle.session_commands.specs.Answering.{HaltsIn, IsAnswered, IsHalted}
 use Rattle.session_runs.specs.Standing.{standpoint}
@@ -40,7 +41,7 @@ use Rattle.session_commands.proofs.AnswerLemmas.{put-nothing}
 use Rattle.session_commands.proofs.ChangeLemmas.{Advances-later, Stops-later}
 use Rattle.session_commands.proofs.LineLemmas.{plain-boot, plain-file, plain-typed}
 use Rattle.session_commands.proofs.QuietLemmas.{AllPlain, AreCommitted, commits-are, plain-append, plain-committed, plain-done, plain-next}
-use Rattle.session_commands.proofs.TurnLemmas.{Advances-prints, IsStill, PickedBy-none, no-commit, spent-still}
+use Rattle.session_commands.proofs.TurnLemmas.{Advances-prints, IsStill, PickedBy-none, no-commit, spent-still, still-untouched}
 use Rattle.session_model.specs.Questions.{Told}
 
 -- a turn without slices touches nothing, leaves none, and names none
@@ -72,7 +73,7 @@ alone-from told history m inputs processes plain =
 pub still-generator : (told : Told) (history : List Record) (image typed : List ℕ) (processes : ℕ) → IsStill (generator_turn told history image typed processes)
 still-generator told history image typed processes =
     let a = alone-from told history (machine_of history) (gen_inputs image typed) processes (plain-events (machine_of history) image typed) in
-    record { touches = a.touches; left = a.left; names = plain-next (generator_turn told history image typed processes []).effects a.plain }
+    still-untouched (generator_turn told history image typed processes) a.touches a.left (plain-next (generator_turn told history image typed processes []).effects a.plain)
 
 module _ {D A : Type 0} (d : Ghosts D) (who : Answering A) (names : NamedAppend) (behind_law : BehindAppend) (told : Told) (processes : ℕ) (choices : ℕ → Option Choice) (answers : A) (steps : ℕ) where
   -- events were committed

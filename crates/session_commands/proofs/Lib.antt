@@ -6,6 +6,7 @@ mod PartLemmas
 mod AnswerLemmas
 mod ChangeLemmas
 mod EventLemmas
+mod UnplugLemmas
 mod BootLemmas
 mod QuietLemmas
 mod GeneratedLemmas

@@ -2,6 +2,7 @@
 use Rattle.std.proofs.Common.{◌≡◌, ◌⊎◌, ◌≤◌, inl, inr, sym, ℕ, ◌++◌, Bool, true, false, List, [], ◌∷◌, Option, Some, None, refl, ap, ◌∙◌, subst, append-nil, arith, ◌&&◌, if◌then◌else◌, is_none}
 use Rattle.std.proofs.lemmas.Bool.{false≢true}
 use Rattle.arn_base.specs.declared.records.Record.{Record}
+use Rattle.arn_base.specs.declared.records.Record.TheVariants as entry
 use Rattle.parts_model.specs.Files.{find_file, file_bytes}
 use Rattle.parts_model.specs.Image.{is_image}
 use Rattle.parts_model.specs.Tagged.{values}
@@ -20,16 +21,16 @@ use Rattle.session_effects.specs.Effects.{Prints, committed}
 use Rattle.session_runs.specs.Points.{slices_in}
 use Rattle.session_runs.specs.Ready.{machine_of}
 use Rattle.session_runs.specs.Runs.{begun, ended, ends, run, unless_ended}
-use Rattle.session_runs.specs.Touches.{unplugged_in}
+use Rattle.history_model.specs.Unplugged.{unplugged_in}
 use Rattle.session_runs.specs.Turns.{Point, cut_off, does, finished, prints}
 use Rattle.session_commands.specs.Cost.{cost, machine_cost}
-use Rattle.session_commands.specs.Events.{event_effects, input_of}
+use Rattle.session_commands.specs.Events.{event_effects, input_of, unplugging}
 use Rattle.session_commands.specs.Given.{Given}
 use Rattle.session_commands.specs.Lines.{needs_machine, turn, turn_unless}
 use Rattle.session_commands.specs.Rows.{LineTells, row_of}
 use Rattle.session_commands.specs.declared.events.Incoming.{Incoming}
 use Rattle.session_commands.specs.declared.events.Incoming.TheVariants as incoming
-use Rattle.session_commands.proofs.TurnLemmas.{IsStill, NameNone, first-commit, no-commit, none-next, still-does}
+use Rattle.session_commands.proofs.TurnLemmas.{IsStill, NameNone, first-commit, no-commit, none-next, still-does, still-untouched}
 
 -- records that name no slice, begin with nothing that a slice ends with, and unplug nothing
 abbrev pub IsPlain : List Record → Type 0
@@ -92,7 +93,7 @@ still-text : (text : List ℕ) → IsStill (prints text)
 still-text text = still-does (prints text) (Prints text ∷ []) refl (λ entries at. absurd (no-commit text entries [] at))
 
 still-run : (m : Machine) (count : ℕ) → IsStill (run m count)
-still-run m count = record { touches = none_touched (ends (begun m count)); left = none_left (ends (begun m count)); names = no_names (ends (begun m count)) }
+still-run m count = still-untouched (run m count) (none_touched (ends (begun m count))) (none_left (ends (begun m count))) (no_names (ends (begun m count)))
   where
     none_touched : (o : Option RunEnd) → (unless_ended o (λ end. ended count (begun m count) end []) cut_off).touches ≡ []
     none_touched None = refl
@@ -106,12 +107,24 @@ still-run m count = record { touches = none_touched (ends (begun m count)); left
     no_names None entries at = absurd (none-next entries at)
     no_names (Some end) entries at = absurd (no-commit _ entries [] at)
 
+-- a device that is unplugged
+pub still-unplugging : (m : Machine) (device : ℕ) → IsStill (unplugging m device)
+still-unplugging m device = record {
+  one = omega arith;
+  none_asked = refl;
+  left = inr refl;
+  names = λ entries at.
+      let same = first-commit (entry.Unplug device ∷ []) entries (Prints (event_text m.events) ∷ []) at in
+      (ap slices_in same, ap unplugged_in same);
+}
+
 -- without slices no line asks for one
 pub still-line : (g : Given) (history : List Record) (l : Line) → IsStill (row_of g history l).turn
 still-line g history (line.File name bytes) = still-event (machine_of history) (File name bytes) _ refl (plain-file (machine_of history) name bytes)
 still-line g history (line.Boot name) = still-event (machine_of history) (Boot name) _ refl (plain-boot (machine_of history) name)
 still-line g history (line.Type bytes) = still-event (machine_of history) (Typed bytes) _ refl (plain-typed (machine_of history) bytes)
 still-line g history (line.Run count) = still-run (machine_of history) count
+still-line g history (line.Unplug device) = still-unplugging (machine_of history) device
 still-line g history l = still-text _
 
 -- a line that needs no machine prints a text, and does nothing else
@@ -124,6 +137,7 @@ text-line g history (line.File name bytes) none = absurd (false≢true (sym none
 text-line g history (line.Boot name) none = absurd (false≢true (sym none))
 text-line g history (line.Type bytes) none = absurd (false≢true (sym none))
 text-line g history (line.Run count) none = absurd (false≢true (sym none))
+text-line g history (line.Unplug device) none = absurd (false≢true (sym none))
 text-line g history l none = record { text = _; is = refl }
 
 -- texts that are all that a line prints are one
@@ -133,22 +147,24 @@ text-same g history l text other a b =
     cc
 
 -- no other line needs the machine, and none of the others is refused
-pub others-need-none : (g : Given) (history : List Record) (l : Line) → ((name bytes : List ℕ) → l ≡ line.File name bytes → ⊥) → ((name : List ℕ) → l ≡ line.Boot name → ⊥) → ((bytes : List ℕ) → l ≡ line.Type bytes → ⊥) → ((count : ℕ) → l ≡ line.Run count → ⊥) → (row_of g history l).needs_machine ≡ false
-others-need-none g history (line.File name bytes) file boot typed run = absurd (file name bytes refl)
-others-need-none g history (line.Boot name) file boot typed run = absurd (boot name refl)
-others-need-none g history (line.Type bytes) file boot typed run = absurd (typed bytes refl)
-others-need-none g history (line.Run count) file boot typed run = absurd (run count refl)
-others-need-none g history l file boot typed run = refl
+pub others-need-none : (g : Given) (history : List Record) (l : Line) → ((name bytes : List ℕ) → l ≡ line.File name bytes → ⊥) → ((name : List ℕ) → l ≡ line.Boot name → ⊥) → ((bytes : List ℕ) → l ≡ line.Type bytes → ⊥) → ((count : ℕ) → l ≡ line.Run count → ⊥) → ((device : ℕ) → l ≡ line.Unplug device → ⊥) → (row_of g history l).needs_machine ≡ false
+others-need-none g history (line.File name bytes) file boot typed run unplug = absurd (file name bytes refl)
+others-need-none g history (line.Boot name) file boot typed run unplug = absurd (boot name refl)
+others-need-none g history (line.Type bytes) file boot typed run unplug = absurd (typed bytes refl)
+others-need-none g history (line.Run count) file boot typed run unplug = absurd (run count refl)
+others-need-none g history (line.Unplug device) file boot typed run unplug = absurd (unplug device refl)
+others-need-none g history l file boot typed run unplug = refl
 
-pub others-are-answered : (g : Given) (history : List Record) (l : Line) → ((name bytes : List ℕ) → l ≡ line.File name bytes → ⊥) → ((name : List ℕ) → l ≡ line.Boot name → ⊥) → ((bytes : List ℕ) → l ≡ line.Type bytes → ⊥) → ((count : ℕ) → l ≡ line.Run count → ⊥) → (row_of g history l).refusal ≡ None
-others-are-answered g history (line.File name bytes) file boot typed run = absurd (file name bytes refl)
-others-are-answered g history (line.Boot name) file boot typed run = absurd (boot name refl)
-others-are-answered g history (line.Type bytes) file boot typed run = absurd (typed bytes refl)
-others-are-answered g history (line.Run count) file boot typed run = absurd (run count refl)
-others-are-answered g history l file boot typed run = refl
+pub others-are-answered : (g : Given) (history : List Record) (l : Line) → ((name bytes : List ℕ) → l ≡ line.File name bytes → ⊥) → ((name : List ℕ) → l ≡ line.Boot name → ⊥) → ((bytes : List ℕ) → l ≡ line.Type bytes → ⊥) → ((count : ℕ) → l ≡ line.Run count → ⊥) → ((device : ℕ) → l ≡ line.Unplug device → ⊥) → (row_of g history l).refusal ≡ None
+others-are-answered g history (line.File name bytes) file boot typed run unplug = absurd (file name bytes refl)
+others-are-answered g history (line.Boot name) file boot typed run unplug = absurd (boot name refl)
+others-are-answered g history (line.Type bytes) file boot typed run unplug = absurd (typed bytes refl)
+others-are-answered g history (line.Run count) file boot typed run unplug = absurd (run count refl)
+others-are-answered g history (line.Unplug device) file boot typed run unplug = absurd (unplug device refl)
+others-are-answered g history l file boot typed run unplug = refl
 
 pub still-finished : IsStill finished
-still-finished = record { touches = refl; left = inr refl; names = λ entries at. absurd (none-next entries at) }
+still-finished = still-untouched finished refl (inr refl) (λ entries at. absurd (none-next entries at))
 
 -- a refused line prints why; one that isn't goes on
 pub turn-refused : (g : Given) (history : List Record) (l : Line) (why : Refusal) → (row_of g history l).refusal ≡ Some why → turn g history (Says l) ≡ prints (refusal_text why)

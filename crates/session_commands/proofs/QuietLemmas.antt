@@ -18,7 +18,7 @@ use Rattle.session_effects.specs.declared.halt.Halt.{Halt}
 use Rattle.session_effects.specs.declared.halt.Halt.TheVariants as halt
 use Rattle.session_runs.specs.Points.{slice_in, slices_in}
 use Rattle.session_runs.specs.Ready.{machine_of}
-use Rattle.session_runs.specs.Touches.{unplugged_by, unplugged_in}
+use Rattle.history_model.specs.Unplugged.{unplugged_by, unplugged_in}
 use Rattle.session_commands.specs.Answering.{HaltsIn}
 use Rattle.session_commands.specs.Generator.{event_commits}
 use Rattle.session_commands.proofs.AnswerLemmas.{never-rose}

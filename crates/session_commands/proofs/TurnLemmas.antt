@@ -1,11 +1,11 @@
 -- Points of a session for which no slice is taken, and where a session stops there.
-use Rattle.std.proofs.Common.{◌≡◌, ◌⊎◌, inl, inr, ℕ, ◌+◌, ◌≤◌, ◌++◌, List, [], ◌∷◌, Option, Some, None, IfSome, option_map, slice_get, refl, sym, ap, ◌∙◌, subst, append-nil, arith}
+use Rattle.std.proofs.Common.{◌≡◌, ◌⊎◌, inl, inr, ℕ, ◌+◌, ◌≤◌, ◌++◌, List, [], ◌∷◌, Option, Some, None, IfSome, option_map, length, slice_get, refl, sym, ap, ◌∙◌, subst, append-nil, arith}
 use Rattle.arn_base.specs.declared.boxes.Choice.{Choice}
 use Rattle.arn_base.specs.declared.disk.Disk.{Ghosts}
 use Rattle.arn_base.specs.declared.records.Record.{Record}
 use Rattle.log_model.specs.Records.{reply_behind}
 use Rattle.log_store.specs.Stores.{StoreState}
-use Rattle.guest_legs.specs.Legs.{Ask, Picked, PickedBy, brought}
+use Rattle.guest_legs.specs.Legs.{Ask, AreInRange, Picked, PickedBy, brought}
 use Rattle.session_effects.specs.Carrying.{IsAtCommit, StopsBetween}
 use Rattle.session_effects.specs.Effects.{Effect, Commits, Prints, committed}
 use Rattle.session_effects.specs.Laws.{EffectsFollow, HaltsFollow}
@@ -13,7 +13,9 @@ use Rattle.session_effects.specs.Printing.{StopsPut}
 use Rattle.session_effects.specs.Standing.{Carries, IsOpen}
 use Rattle.session_effects.specs.declared.halt.Halt.{Halt}
 use Rattle.session_runs.specs.Points.{Advances, IsSpent, Stops, around, slices_in}
-use Rattle.session_runs.specs.Touches.{Answering, unplugged_in}
+use Rattle.history_model.specs.Unplugged.{unplugged_in}
+use Rattle.session_runs.specs.Ready.{IsNotMade}
+use Rattle.session_runs.specs.Touches.{Answering, Touch, asks_in, unplugs_in}
 use Rattle.session_runs.specs.Turns.{Turn, Point, behind, does, finished, prints}
 
 -- the k-th slice is the k-th choice brought into range
@@ -135,11 +137,22 @@ module _ {A : Type 0} (who : Answering A) (choices : ℕ → Option Choice) (ans
     executed = omega (arith, cheap);
   }
 
--- without slices nothing is touched, and none is left; no commit that stands next names one or unplugs a device
+-- Without slices none is asked for and none is left, and one device is unplugged at most. A commit that stands next names no slice, and says
+-- of just that device that it was unplugged.
 pub record IsStill (from : Point) : Type 0 where
-  pub touches : (from []).touches ≡ []
+  pub one : length (from []).touches ≤ 1
+  pub none_asked : asks_in (from []).touches ≡ []
   pub left : ((from []).left ≡ None) ⊎ ((from []).left ≡ Some [])
-  pub names : (entries : List Record) → IsAtCommit (from []).effects entries → NameNone entries
+  pub names : (entries : List Record) → IsAtCommit (from []).effects entries → (slices_in entries ≡ []) × (unplugged_in entries ≡ unplugs_in (from []).touches)
+
+-- where nothing is touched
+pub still-untouched : (from : Point) → (from []).touches ≡ [] → ((from []).left ≡ None) ⊎ ((from []).left ≡ Some []) → ((entries : List Record) → IsAtCommit (from []).effects entries → NameNone entries) → IsStill from
+still-untouched from none left names = record {
+  one = omega (arith, ap (λ (x : List Touch). length x) none);
+  none_asked = ap asks_in none;
+  left = left;
+  names = λ entries at. ((names entries at).0, (names entries at).1 ∙ sym (ap unplugs_in none));
+}
 
 pub spent-still : (undone : List Effect) (left : Option (List Picked)) → (left ≡ None) ⊎ (left ≡ Some []) → IsSpent [] undone left
 spent-still undone left (inl none) = inl none
@@ -147,11 +160,8 @@ spent-still undone left (inr all) = inr (all, inr refl)
 
 -- effects alone are still
 pub still-does : (from : Point) (effects : List Effect) → from ≡ does effects [] → ((entries : List Record) → IsAtCommit effects entries → NameNone entries) → IsStill from
-still-does from effects is names = record {
-  touches = ap (λ (p : Point). (p []).touches) is;
-  left = inr (ap (λ (p : Point). (p []).left) is);
-  names = λ entries at. names entries (subst (λ (p : Point). IsAtCommit (p []).effects entries) is at);
-}
+still-does from effects is names =
+    still-untouched from (ap (λ (p : Point). (p []).touches) is) (inr (ap (λ (p : Point). (p []).left) is)) (λ entries at. names entries (subst (λ (p : Point). IsAtCommit (p []).effects entries) is at))
 
 module _ {D A : Type 0} (is_run : List Record → Type 0) (d : Ghosts D) (who : Answering A) (halts : HaltsFollow is_run d) (choices : ℕ → Option Choice) (answers : A) where
   -- effects stop somewhere
@@ -192,18 +202,18 @@ module _ {D A : Type 0} (is_run : List Record → Type 0) (d : Ghosts D) (who : 
       (quiet-text text [] (Prints text ∷ []) refl) (halts.text disk history h0 h1 why text put) cheap
 
   -- nothing was done: a halt that says no more than that
-  pub Stops-nothing : (disk : D) (history : List Record) (held : Option (List ℕ)) (why : Halt) (from : Point) (steps steps' cost : ℕ) → IsStill from → StopsBetween is_run d disk disk history held held why [] (from []).effects → steps' ≤ steps + cost → Stops is_run d who disk disk history held held why from (around choices answers steps) (around choices answers steps') cost
-  Stops-nothing disk history held why from steps steps' cost still stopped cheap = record {
+  pub Stops-nothing : (disk : D) (history : List Record) (held : Option (List ℕ)) (why : Halt) (from : Point) (steps steps' cost : ℕ) → IsStill from → ((from []).touches ≡ []) ⊎ IsNotMade why → StopsBetween is_run d disk disk history held held why [] (from []).effects → steps' ≤ steps + cost → Stops is_run d who disk disk history held held why from (around choices answers steps) (around choices answers steps') cost
+  Stops-nothing disk history held why from steps steps' cost still unmade stopped cheap = record {
     slices = [];
     lost = [];
     part = [];
     touches = [];
     lost_touches = [];
-    part_touches = [];
+    part_touches = (from []).touches;
     done = [];
     undone = (from []).effects;
     are_effects = refl;
-    are_touches = still.touches;
+    are_touches = refl;
     stopped = stopped;
     names = refl;
     unplugged = refl;
@@ -213,12 +223,12 @@ module _ {D A : Type 0} (is_run : List Record → Type 0) (d : Ghosts D) (who : 
     without = inl refl;
     spent = spent-still (from []).effects (from []).left still.left;
     many = refl;
-    picked = PickedBy-none choices;
-    in_range = tt;
+    picked = subst (λ (x : List Ask). PickedBy choices choices x []) (sym still.none_asked) (PickedBy-none choices);
+    in_range = subst (λ (x : List Ask). AreInRange x []) (sym still.none_asked) tt;
     touched = (refl, refl);
-    one_part = omega arith;
+    one_part = still.one;
     by_memory = inl refl;
-    unmade = inl refl;
+    unmade = unmade;
     executed = omega (arith, cheap);
   }
 

@@ -8,9 +8,9 @@ use Rattle.arn_lines.specs.declared.line.Line.TheVariants as line
 use Rattle.session_runs.specs.Ready.{machine_of}
 use Rattle.session_runs.specs.Runs.{run}
 use Rattle.session_runs.specs.Turns.{Point, does, prints}
-use Rattle.session_commands.specs.Events.{event_effects}
+use Rattle.session_commands.specs.Events.{event_effects, unplugging}
 use Rattle.session_commands.specs.Given.{Given}
-use Rattle.session_commands.specs.Refusals.{boot_refusal, bring_refusal, early_refusal}
+use Rattle.session_commands.specs.Refusals.{boot_refusal, bring_refusal, early_refusal, unplug_refusal}
 
 pub record LineRow : Type 0 where
   -- why the line is refused on a history, if it is
@@ -35,6 +35,10 @@ becomes history refusal i = record {
 abbrev pub runs : List Record → Option Refusal → ℕ → LineRow
 runs history refusal count = record { refusal = refusal; needs_machine = true; turn = run (machine_of history) count; cost = 0 }
 
+-- a line that unplugs a device
+abbrev pub unplugs : List Record → Option Refusal → ℕ → LineRow
+unplugs history refusal device = record { refusal = refusal; needs_machine = true; turn = unplugging (machine_of history) device; cost = 0 }
+
 -- a line that prints a text, and does nothing else
 abbrev pub tells : List ℕ → ℕ → LineRow
 tells text cost = record { refusal = None; needs_machine = false; turn = prints text; cost = cost }
@@ -45,6 +49,7 @@ row_of g history (line.File name bytes) = becomes history (bring_refusal history
 row_of g history (line.Boot name) = becomes history (boot_refusal history name) (Boot name)
 row_of g history (line.Type bytes) = becomes history (early_refusal history) (Typed bytes)
 row_of g history (line.Run count) = runs history (early_refusal history) count
+row_of g history (line.Unplug device) = unplugs history (unplug_refusal g.filled history device) device
 row_of g history (line.Asks question) = tells (g.told.text history question) (g.told.cost history question)
 
 -- all that a line does that isn't refused is to print this

@@ -27,6 +27,7 @@ use crate::printing::print_refusal;
 use crate::ready::{make_machine, tell_questions};
 use crate::refusals::fault_refusal;
 use crate::rows::{needs_machine, refusal_of};
+use crate::unplugging::unplug_device;
 use arn_base::{Chooser, Disk, NoMemory, Sink, Steps};
 use arn_commands::Command;
 use arn_lines::{Line, Refusal};
@@ -139,7 +140,7 @@ fn answer_line<Q: Questions, C: Chooser, A: Plugs, D: Disk, K: Sink, L: Ledger>(
 {
     effects_follow::<MachineRuns, D>();
     halts_follow::<MachineRuns, D>();
-    if let Some(why) = refusal_of(kept.store.entries(), line) {
+    if let Some(why) = refusal_of(kept.store.entries(), line, &*outside.answers) {
         return print_refusal(outside.text, why, outside.sink);
     }
     if needs_machine(line) {
@@ -206,9 +207,11 @@ fn push_told<Q: Questions, L: Ledger>(
             kept.questions
                 .answer(kept.store.entries(), question, text, steps)
         }
-        Line::File { .. } | Line::Boot { .. } | Line::Type { .. } | Line::Run { .. } => {
-            unreachable!()
-        }
+        Line::File { .. }
+        | Line::Boot { .. }
+        | Line::Type { .. }
+        | Line::Run { .. }
+        | Line::Unplug { .. } => unreachable!(),
     }
 }
 
@@ -353,6 +356,7 @@ fn go_on<C: Chooser, A: Plugs, D: Disk, K: Sink, L: Ledger>(
             add_event(alloc, store, machine, &Incoming::Typed { bytes }, outside)
         }
         Line::Run { count } => run(alloc, store, machine, *count, outside),
+        Line::Unplug { device } => unplug_device(alloc, store, machine, *device, outside),
         _ => unreachable!(),
     }
 }

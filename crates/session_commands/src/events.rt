@@ -51,8 +51,8 @@ pub struct Event {
     pub entries: Vec<Record>,
 }
 
-// Memory ran out: nothing else keeps from becoming an event what isn't refused.
-fn no_memory(error: MachineError) -> NoMemory
+/// Memory ran out: nothing else keeps from becoming an event what isn't refused.
+pub fn no_memory(error: MachineError) -> NoMemory
     requires { error ≡ fails.NoMemory }
 {
     match error {
@@ -164,8 +164,8 @@ pub fn make_event(
     }
 }
 
-// Commits the records of an event, and then prints its number.
-fn finish<D: Disk, K: Sink>(
+/// Commits the records of an event, and then prints its number.
+pub fn finish<D: Disk, K: Sink>(
     store: &mut Store,
     event: Event,
     disk: &mut D,

@@ -11,6 +11,7 @@ mod printing;
 mod ready;
 mod refusals;
 mod rows;
+mod unplugging;
 
 pub use answering::answer;
 pub use kept::Kept;

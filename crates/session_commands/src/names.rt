@@ -1,6 +1,7 @@
-// What the records of a history tell of names, until a process is made.
+// What the records of a history tell of names until a process is made, and of devices.
 ghost use Rattle.std.specs.Prelude.{◌≡◌, IfSome, IfNone, count_by, option_map};
 ghost use Rattle.history_model.specs.Names as names;
+ghost use Rattle.history_model.specs.Unplugged.{is_gone};
 
 use arn_base::Record;
 use parts_model::limits::MOST_FILES;
@@ -54,4 +55,18 @@ pub fn may_bring(entries: &[Record], name: &[u8]) -> bool
     ensures { result ≡ names.may_bring entries.now name.now }
 {
     brought(entries, name).is_none() && file_count(entries) < MOST_FILES
+}
+
+/// Whether a device was unplugged.
+pub fn is_gone(entries: &[Record], device: u64) -> bool
+    ensures { result ≡ is_gone entries.now device }
+{
+    for entry in entries {
+        if let Record::Unplug { device: gone } = entry {
+            if u64::from(*gone) == device {
+                return true;
+            }
+        }
+    }
+    false
 }

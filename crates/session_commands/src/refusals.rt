@@ -1,10 +1,11 @@
 // Why lines are refused.
 ghost use Rattle.std.specs.Prelude.{◌≡◌, option_map};
-ghost use Rattle.session_commands.specs.Refusals.{boot_refusal, bring_refusal, early_refusal, fault_refusal, file_refusal, generator_refusal, refused_if};
+ghost use Rattle.session_commands.specs.Refusals.{boot_refusal, bring_refusal, can_unplug, early_refusal, fault_refusal, file_refusal, generator_refusal, is_there, refused_if, unplug_refusal};
 
-use crate::names::{brought, is_booted, may_bring};
+use crate::names::{brought, is_booted, is_gone, may_bring};
 use arn_base::Record;
 use arn_lines::Refusal;
+use guest_devices::Plugs;
 use guest_image::parse;
 
 fn refused_if(refused: bool, why: Refusal) -> Option<Refusal>
@@ -48,6 +49,33 @@ pub fn early_refusal(entries: &[Record]) -> Option<Refusal>
     ensures { result ≡ early_refusal entries.now }
 {
     refused_if(!is_booted(entries), Refusal::NoBoot)
+}
+
+// Whether a device is there, whose number has 32 bits.
+fn is_there<A: Plugs>(answers: &A, device: u64) -> bool
+    ensures { result ≡ is_there (A.filled answers.now) device }
+{
+    if device >= 1 << 32 {
+        return false;
+    }
+    answers.is_filled(device as u32)
+}
+
+// Whether a device is there that the history didn't unplug.
+fn can_unplug<A: Plugs>(entries: &[Record], device: u64, answers: &A) -> bool
+    ensures { result ≡ can_unplug (A.filled answers.now) entries.now device }
+{
+    is_there(answers, device) && !is_gone(entries, device)
+}
+
+/// Why a device isn't unplugged, if so.
+pub fn unplug_refusal<A: Plugs>(entries: &[Record], device: u64, answers: &A) -> Option<Refusal>
+    ensures { result ≡ unplug_refusal (A.filled answers.now) entries.now device }
+{
+    if !is_booted(entries) {
+        return Some(Refusal::NoBoot);
+    }
+    refused_if(!can_unplug(entries, device, answers), Refusal::NoDevice)
 }
 
 /// Why a block is refused whose program has a fault on this line.

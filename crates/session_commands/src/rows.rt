@@ -2,22 +2,26 @@
 // needs none.
 ghost use Rattle.std.specs.Prelude.{◌≡◌, List};
 ghost use Rattle.arn_base.specs.declared.records.Record.{Record};
-ghost use Rattle.session_commands.specs.Given.{Given};
+ghost use Rattle.session_commands.specs.Given.{Given, given};
 ghost use Rattle.session_commands.specs.Rows.{row_of};
+ghost use Rattle.session_model.specs.Questions.{Told};
 
-use crate::refusals::{boot_refusal, bring_refusal, early_refusal};
+use crate::refusals::{boot_refusal, bring_refusal, early_refusal, unplug_refusal};
 use arn_base::Record;
 use arn_lines::{Line, Refusal};
+use guest_devices::Plugs;
 
-/// Why a line is refused, if it is. The line and the records of the history tell, and no machine is
-/// needed.
-pub fn refusal_of(entries: &[Record], line: &Line) -> Option<Refusal>
-    ensures { (g : Given) → result ≡ (row_of g entries.now line.now).refusal }
+/// Why a line is refused, if it is. The line, the records of the history and the devices that are there
+/// tell, and no machine is needed.
+pub fn refusal_of<A: Plugs>(entries: &[Record], line: &Line, answers: &A) -> Option<Refusal>
+    ensures { (told : Told) → result ≡
+        (row_of (given told (A.filled answers.now)) entries.now line.now).refusal }
 {
     match line {
         Line::File { name, .. } => bring_refusal(entries, name.as_slice()),
         Line::Boot { name } => boot_refusal(entries, name.as_slice()),
         Line::Type { .. } | Line::Run { .. } => early_refusal(entries),
+        Line::Unplug { device } => unplug_refusal(entries, *device, answers),
         _ => None,
     }
 }
@@ -28,7 +32,11 @@ pub fn needs_machine(line: &Line) -> bool
         result ≡ (row_of g history line.now).needs_machine }
 {
     match line {
-        Line::File { .. } | Line::Boot { .. } | Line::Type { .. } | Line::Run { .. } => true,
+        Line::File { .. }
+        | Line::Boot { .. }
+        | Line::Type { .. }
+        | Line::Run { .. }
+        | Line::Unplug { .. } => true,
         _ => false,
     }
 }

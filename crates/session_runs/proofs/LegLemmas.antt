@@ -5,6 +5,7 @@ use Rattle.arn_model.specs.Kernel.{Machine, at_first}
 use Rattle.arn_model.specs.Laws.{EachRunAppends}
 use Rattle.arn_model.specs.Run.{Input, instructions_in, machine_after, steps_from}
 use Rattle.arn_model.specs.Turn.{run_state}
+use Rattle.history_model.specs.Unplugged.{unplugged_in}
 use Rattle.log_model.specs.Laws.{NamedAppend, RecordsAreRun, RecordsBegin}
 use Rattle.log_model.specs.Records.{IsRun, named, records, records_from, reply_behind}
 use Rattle.guest_legs.specs.declared.leg.LegEnd.{LegEnd}
@@ -18,7 +19,7 @@ use Rattle.session_effects.specs.Effects.{Effect, Commits, Prints}
 use Rattle.session_runs.specs.Points.{Advances, EndsWithin, Surroundings, slice_in, slices_cost, slices_in}
 use Rattle.session_runs.specs.Ready.{IsReady, machine_of}
 use Rattle.session_runs.specs.Runs.{begun, leg_effects, run_from}
-use Rattle.session_runs.specs.Touches.{Answering, named_at, unplugged_in}
+use Rattle.session_runs.specs.Touches.{Answering, named_at}
 use Rattle.session_runs.specs.Turns.{Turn, behind}
 use Rattle.session_runs.proofs.NamedLemmas.{slices-inputs}
 use Rattle.session_runs.proofs.TouchLemmas.{asks-at, at-unplugs, at_slices, named-at, touched-at, unplugged-slices}

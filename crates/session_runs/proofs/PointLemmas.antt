@@ -81,7 +81,7 @@ module _ {D A : Type 0} {is_run : List Record → Type 0} {d : Ghosts D} {who : 
     executed = omega arith;
   }
 
-  pub Advances-append : (a b c : Point) (u v w : Surroundings A) (cost more : ℕ) (old mid new : D) (s0 s1 s2 : StoreState) (h0 h1 h2 : Option (List ℕ)) (p : Advances who a b u v cost (Carries is_run d old mid s0 s1 h0 h1)) (q : Advances who b c v w more (Carries is_run d mid new s1 s2 h1 h2)) → AdvancesBy is_run d who a c u w (cost + more) old new s0 s2 h0 h2 (named_at p.touches p.slices ++ named_at q.touches q.slices)
+  pub Advances-append : (a b c : Point) (u v w : Surroundings A) (cost more : ℕ) (old mid new : D) (s0 s1 s2 : StoreState) (h0 h1 h2 : Option (List ℕ)) (p : Advances who a b u v cost (Carries is_run d old mid s0 s1 h0 h1)) (q : Advances who b c v w more (Carries is_run d mid new s1 s2 h1 h2)) → AdvancesBy is_run d who a c u w (cost + more) old new s0 s2 h0 h2 (named_at p.touches p.slices ++ named_at q.touches q.slices) (p.touches ++ q.touches)
   Advances-append a b c u v w cost more old mid new s0 s1 s2 h0 h1 h2 p q =
       let xs : List Picked = named_at p.touches p.slices in
       let ys : List Picked = named_at q.touches q.slices in
@@ -112,10 +112,11 @@ module _ {D A : Type 0} {is_run : List Record → Type 0} {d : Ghosts D} {who : 
           executed = omega (arith, p.executed, q.executed, ap slices_cost split, slices_cost-append xs ys);
         };
         slices = split;
+        touches = refl;
       }
 
   -- a session that goes on to a point and halts behind it halts behind where it began
-  pub Stops-behind : (a b : Point) (u v w : Surroundings A) (cost more : ℕ) (old mid new : D) (s0 s1 : StoreState) (h0 h1 h2 : Option (List ℕ)) (why : Halt) (p : Advances who a b u v cost (Carries is_run d old mid s0 s1 h0 h1)) (q : Stops is_run d who mid new s1.entries h1 h2 why b v w more) → StopsBy is_run d who a u w (cost + more) old new s0.entries h0 h2 why (named_at p.touches p.slices ++ (named_at q.touches q.slices ++ named_at q.lost_touches q.lost))
+  pub Stops-behind : (a b : Point) (u v w : Surroundings A) (cost more : ℕ) (old mid new : D) (s0 s1 : StoreState) (h0 h1 h2 : Option (List ℕ)) (why : Halt) (p : Advances who a b u v cost (Carries is_run d old mid s0 s1 h0 h1)) (q : Stops is_run d who mid new s1.entries h1 h2 why b v w more) → StopsBy is_run d who a u w (cost + more) old new s0.entries h0 h2 why (named_at p.touches p.slices ++ (named_at q.touches q.slices ++ named_at q.lost_touches q.lost)) (p.touches ++ (q.touches ++ q.lost_touches))
   Stops-behind a b u v w cost more old mid new s0 s1 h0 h1 h2 why p q =
       let xs : List Picked = named_at p.touches p.slices in
       let ys : List Picked = named_at q.touches q.slices in
@@ -171,6 +172,7 @@ module _ {D A : Type 0} {is_run : List Record → Type 0} {d : Ghosts D} {who : 
           executed = omega (arith, p.executed, q.executed, cost_all);
         };
         slices = ap (λ (x : List Picked). x ++ zs) split ∙ append_assoc xs ys zs;
+        touches = append_assoc p.touches q.touches q.lost_touches;
       }
     where
       without : (q.lost ≡ []) ⊎ EndsWithin q.done (b (named_at q.touches q.slices)) → a (named_at (p.touches ++ q.touches) (p.slices ++ q.slices)) ≡ behind p.effects p.touches (b (named_at q.touches q.slices)) → (q.lost ≡ []) ⊎ EndsWithin (p.effects ++ q.done) (a (named_at (p.touches ++ q.touches) (p.slices ++ q.slices)))

@@ -9,6 +9,7 @@ use Rattle.arn_model.specs.Run.{Input, input_steps, machine_after}
 use Rattle.log_model.specs.Laws.{EventsRecorded, RecordsAppend}
 use Rattle.log_model.specs.Records.{input_records, named, reply_behind}
 use Rattle.log_store.specs.Stores.{StoreState}
+use Rattle.history_model.specs.Unplugged.{unplugged_in}
 use Rattle.guest_legs.specs.LegLaws.{all_named}
 use Rattle.guest_legs.specs.Legs.{Ask, Picked, ask_of, input_of}
 use Rattle.session_effects.specs.Carrying.{IsAtCommit}
@@ -22,7 +23,7 @@ use Rattle.session_runs.specs.Points.{Advances, EndsWithin, IsSpent, Stops, Surr
 use Rattle.session_runs.specs.Quiet.{quietly, quiet_turn, then_told}
 use Rattle.session_runs.specs.Ready.{machine_of}
 use Rattle.session_runs.specs.Runs.{Running, begun, effects_of, ended, ends, is_full, leg_effects, run, run_after, run_from, unless_ended}
-use Rattle.session_runs.specs.Touches.{Answering, Touch, AtSlice, asks_in, named_at, unplugged_in}
+use Rattle.session_runs.specs.Touches.{Answering, Touch, AtSlice, asks_in, named_at}
 use Rattle.session_runs.specs.Turns.{Point, Turn, behind, cut_off, finished, followed_by, prints}
 use Rattle.session_runs.proofs.CountLemmas.{machine-more, slice-names, slices-both}
 use Rattle.session_runs.proofs.LegLemmas.{first-commit, no-commit, none-next}

@@ -9,6 +9,7 @@ use Rattle.arn_lines.specs.declared.answer.RunEnd.{RunEnd}
 use Rattle.arn_lines.specs.Texts.{ran_text}
 use Rattle.arn_model.specs.Kernel.{Machine}
 use Rattle.arn_model.specs.Run.{instructions_in, steps_from}
+use Rattle.history_model.specs.Unplugged.{unplugged_in}
 use Rattle.log_model.specs.Laws.{RecordsBegin}
 use Rattle.log_model.specs.Records.{reply_behind}
 use Rattle.guest_devices.specs.Answers.{Asked}
@@ -26,7 +27,7 @@ use Rattle.session_effects.specs.declared.halt.Halt.TheVariants as halt
 use Rattle.session_runs.specs.Outputs.{outputs_text}
 use Rattle.session_runs.specs.Points.{Advances, IsSpent, Stops, Surroundings, slices_cost, slices_in}
 use Rattle.session_runs.specs.Runs.{begun, ends, leg_effects, run_from}
-use Rattle.session_runs.specs.Touches.{Answering, Touch, AtSlice, TouchedBy, asks_in, named_at, unplugged_in, unplugs_in}
+use Rattle.session_runs.specs.Touches.{Answering, Touch, AtSlice, TouchedBy, asks_in, named_at, unplugs_in}
 use Rattle.session_runs.specs.Turns.{Turn, behind, cut_off, finished}
 use Rattle.session_runs.proofs.LegLemmas.{begins-leg, cut-alone, first-commit, lead-named, names-leg, no-commit, none-next, unplugs-leg}
 use Rattle.session_runs.proofs.PointLemmas.{PickedBy-none, in-range-append}

@@ -5,11 +5,12 @@ use Rattle.arn_base.specs.declared.records.Record.{Record}
 use Rattle.arn_base.specs.declared.records.Record.TheVariants as entry
 use Rattle.arn_model.specs.Run.{Input, File, Boot, Typed, Unplug, Slice}
 use Rattle.log_model.specs.Records.{named}
+use Rattle.history_model.specs.Unplugged.{unplugged_by, unplugged_in}
 use Rattle.guest_legs.specs.Legs.{Ask, Picked, input_of}
 use Rattle.guest_machine.specs.Legs.{RepliedBy}
 use Rattle.guest_legs.specs.LegLaws.{all_named}
 use Rattle.session_effects.specs.Effects.{Effect, committed}
-use Rattle.session_runs.specs.Touches.{Answering, Touch, AtSlice, AtUnplug, TouchedBy, asks_in, named_at, unplugged_by, unplugged_in, unplugs_in}
+use Rattle.session_runs.specs.Touches.{Answering, Touch, AtSlice, AtUnplug, TouchedBy, asks_in, named_at, unplugs_in}
 use Rattle.session_runs.proofs.NamedLemmas.{all_named-append, committed-append}
 
 -- the touches of slices

@@ -6,13 +6,14 @@ use Rattle.arn_base.specs.declared.disk.Disk.{Ghosts}
 use Rattle.arn_base.specs.declared.records.Record.{Record}
 use Rattle.arn_model.specs.Run.{Input, File, Boot, Typed, Unplug, Slice}
 use Rattle.log_model.specs.Records.{named, reply_behind}
+use Rattle.history_model.specs.Unplugged.{unplugged_in}
 use Rattle.guest_legs.specs.Legs.{AreInRange, Picked, PickedBy}
 use Rattle.session_effects.specs.Carrying.{IsAtCommit, StopsBetween}
 use Rattle.session_effects.specs.Effects.{Effect, committed}
 use Rattle.session_effects.specs.declared.halt.Halt.{Halt}
 use Rattle.session_effects.specs.declared.halt.Halt.TheVariants as halt
 use Rattle.session_runs.specs.Ready.{IsNotMade}
-use Rattle.session_runs.specs.Touches.{Answering, Touch, TouchedBy, asks_in, named_at, unplugged_in, unplugs_in}
+use Rattle.session_runs.specs.Touches.{Answering, Touch, TouchedBy, asks_in, named_at, unplugs_in}
 use Rattle.session_runs.specs.Turns.{Turn, Point, behind}
 
 -- the slice that an input is

@@ -1,7 +1,5 @@
 -- What touches those who answer for devices: slices, each where it is asked for, and lines that unplug a device.
-use Rattle.std.specs.Prelude.{◌≡◌, ℕ, Bool, List, [], ◌∷◌, filter_map, Option, Some, None}
-use Rattle.arn_base.specs.declared.records.Record.{Record}
-use Rattle.arn_base.specs.declared.records.Record.TheVariants as entry
+use Rattle.std.specs.Prelude.{◌≡◌, ℕ, Bool, List, [], ◌∷◌}
 use Rattle.parts_model.specs.Replies.{Answered}
 use Rattle.guest_devices.specs.Answers.{Asked}
 use Rattle.guest_legs.specs.Legs.{Ask, Picked}
@@ -48,12 +46,3 @@ TouchedBy {A} who (AtUnplug n ∷ touches) slices old new = (between : A) × who
 TouchedBy who (AtSlice ask ∷ touches) [] old new = ⊥
 TouchedBy {A} who (AtSlice ask ∷ touches) (s ∷ slices) old new =
     (between : A) × RepliesIn who.answers s.pick.count s.pick.pid ask.machine s.reply old between × TouchedBy who touches slices between new
-
--- the device that a record says was unplugged
-abbrev pub unplugged_by : Record → Option ℕ
-unplugged_by (entry.Unplug device) = Some device
-unplugged_by other = None
-
--- the devices that records say were unplugged, in order
-abbrev pub unplugged_in : List Record → List ℕ
-unplugged_in entries = filter_map unplugged_by entries

@@ -4,6 +4,7 @@ use Rattle.arn_commands.specs.Parts.{whole_parts}
 use Rattle.history_index.specs.Errors.{TellsBroken}
 use Rattle.history_index.specs.declared.errors.IndexError.{IndexError}
 use Rattle.history_model.specs.Broken.{first_broken}
+use Rattle.history_model.specs.Unplugged.{unplugged_in}
 use Rattle.log_store.specs.Causes.{IsCauseOf, BlamesBytes}
 use Rattle.log_store.specs.Refused.{IsNoLog}
 use Rattle.log_store.specs.Stops.{IsOnlyRead}
@@ -21,6 +22,7 @@ use Rattle.arn_session.specs.declared.status.Damage.TheVariants as damage
 use Rattle.arn_session.proofs.FaultLemmas.{Rose-after}
 use Rattle.arn_session.specs.Opening.{HasOpened}
 use Rattle.arn_session.proofs.OpenLemmas.{left-shut, never-opened, rest-log, rests-opened, Begins-opened, Answers-opened, Taken-opened, Finds-opened, log-is-none, not-opened, for-any, with-never, told-both}
+use Rattle.arn_session.proofs.LeavesLemmas.{spared-same, touched-none, untouched}
 use Rattle.arn_session.proofs.ResultLemmas.{err-at, ok-at}
 use Rattle.arn_session.proofs.StatusLemmas.{broken-is, halt_for, halt-is, numbers-of, same-error}
 use Rattle.arn_session.proofs.session.arnold.Goals as goal
@@ -294,3 +296,47 @@ returns-in-Err-answer_text-clause-shut g c = λ has.
     (λ is. subst HasOpened (c.from-in-Err-answer_text.ensures ∙ ap status_of is) has)
     (λ is. subst HasOpened (c.from-in-Err-answer_text.ensures ∙ ap status_of is) has)
     (left-shut g.D.Disk c.open_log.new.disk c.in-Ok.store c.in-Ok.ensures.left)
+
+pub returns-in-Some-Usage-clause-slots : goal.returns-in-Some-Usage-clause-slots
+returns-in-Some-Usage-clause-slots g c = untouched _ c.args.devices.now.items
+
+pub returns-in-Some-Usage-clause-gone : goal.returns-in-Some-Usage-clause-gone
+returns-in-Some-Usage-clause-gone g c = λ history log. touched-none _ (unplugged_in history) c.args.devices.now.items
+
+pub returns-in-Some-NoMemory-clause-slots : goal.returns-in-Some-NoMemory-clause-slots
+returns-in-Some-NoMemory-clause-slots g c = untouched _ c.args.devices.now.items
+
+pub returns-in-Some-NoMemory-clause-gone : goal.returns-in-Some-NoMemory-clause-gone
+returns-in-Some-NoMemory-clause-gone g c = λ history log. touched-none _ (unplugged_in history) c.args.devices.now.items
+
+pub returns-in-Err-clause-slots : goal.returns-in-Err-clause-slots
+returns-in-Err-clause-slots g c = untouched _ c.args.devices.now.items
+
+pub returns-in-Err-clause-gone : goal.returns-in-Err-clause-gone
+returns-in-Err-clause-gone g c = λ history log. touched-none _ (unplugged_in history) c.args.devices.now.items
+
+pub returns-in-Err-Broken-clause-slots : goal.returns-in-Err-Broken-clause-slots
+returns-in-Err-Broken-clause-slots g c = untouched _ c.args.devices.now.items
+
+pub returns-in-Err-Broken-clause-gone : goal.returns-in-Err-Broken-clause-gone
+returns-in-Err-Broken-clause-gone g c = λ history log. touched-none _ (unplugged_in history) c.args.devices.now.items
+
+pub returns-in-Err-NoMemory-clause-slots : goal.returns-in-Err-NoMemory-clause-slots
+returns-in-Err-NoMemory-clause-slots g c = untouched _ c.args.devices.now.items
+
+pub returns-in-Err-NoMemory-clause-gone : goal.returns-in-Err-NoMemory-clause-gone
+returns-in-Err-NoMemory-clause-gone g c = λ history log. touched-none _ (unplugged_in history) c.args.devices.now.items
+
+pub returns-in-Ok-answer_text-clause-slots : goal.returns-in-Ok-answer_text-clause-slots
+returns-in-Ok-answer_text-clause-slots g c = c.answer_text.ensures.touched.were
+
+pub returns-in-Ok-answer_text-clause-gone : goal.returns-in-Ok-answer_text-clause-gone
+returns-in-Ok-answer_text-clause-gone g c = λ history log.
+    spared-same c.in-Ok.store.entries history (c.openings_follow.ensures.history c.args.disk.now history c.in-Ok.store log c.in-Ok.ensures.recovered) c.answer_text.ensures.touched
+
+pub returns-in-Err-answer_text-clause-slots : goal.returns-in-Err-answer_text-clause-slots
+returns-in-Err-answer_text-clause-slots g c = c.answer_text.ensures.touched.were
+
+pub returns-in-Err-answer_text-clause-gone : goal.returns-in-Err-answer_text-clause-gone
+returns-in-Err-answer_text-clause-gone g c = λ history log.
+    spared-same c.in-Ok.store.entries history (c.openings_follow.ensures.history c.args.disk.now history c.in-Ok.store log c.in-Ok.ensures.recovered) c.answer_text.ensures.touched

@@ -22,7 +22,7 @@ use Rattle.arn_session.proofs.text.answer_all.Goals as goal
 
 pub loop-next-init : goal.loop-next-init
 loop-next-init g c =
-    let laws = laws-of {who = (answering g.A.Answers.answers g.A.Plugs.unplugs g.A.Plugs.filled)} c.touches_follow.ensures c.points_follow.ensures c.halts_follow.ensures (record { keeps = g.met.A.Plugs.keeps; drops = g.met.A.Plugs.drops }) in
+    let laws = laws-of {who = (answering g.A.Answers.answers g.A.Plugs.unplugs g.A.Plugs.filled)} c.touches_follow.ensures c.points_follow.ensures c.halts_follow.ensures (record { keeps = g.met.A.Plugs.keeps; drops = g.met.A.Plugs.drops }) c.gone_laws.ensures in
     record {
       progress = rw (c.requires.fresh, c.requires.bare) (Progress-start laws (λ n is. refl) c.requires.«open»);
       is_open = c.requires.«open»;
@@ -39,7 +39,7 @@ loop-next-smaller g c =
 
 pub loop-next-preserved : goal.loop-next-preserved
 loop-next-preserved g c =
-    let laws = laws-of {who = (answering g.A.Answers.answers g.A.Plugs.unplugs g.A.Plugs.filled)} c.touches_follow.ensures c.points_follow.ensures c.halts_follow.ensures (record { keeps = g.met.A.Plugs.keeps; drops = g.met.A.Plugs.drops }) in
+    let laws = laws-of {who = (answering g.A.Answers.answers g.A.Plugs.unplugs g.A.Plugs.filled)} c.touches_follow.ensures c.points_follow.ensures c.halts_follow.ensures (record { keeps = g.met.A.Plugs.keeps; drops = g.met.A.Plugs.drops }) c.gone_laws.ensures in
     let read = subst (λ (n : Next). ReadsNext n c.loop-next.commands c.next.new.self (g.S.Source.left c.loop-next.source) (g.S.Source.left c.next.new.source)) c.in-More.is c.in-Ok.ensures.next in
     let now = c.loop-next.invariant.progress in
     let did = c.in_ok-answer-in-More.ensures in
@@ -55,7 +55,7 @@ loop-next-preserved g c =
 -- the reading ended, and the source did or the bound was reached
 pub returns-in-Err-clause-leaves : goal.returns-in-Err-clause-leaves
 returns-in-Err-clause-leaves g c =
-    let laws = laws-of {who = (answering g.A.Answers.answers g.A.Plugs.unplugs g.A.Plugs.filled)} c.touches_follow.ensures c.points_follow.ensures c.halts_follow.ensures (record { keeps = g.met.A.Plugs.keeps; drops = g.met.A.Plugs.drops }) in
+    let laws = laws-of {who = (answering g.A.Answers.answers g.A.Plugs.unplugs g.A.Plugs.filled)} c.touches_follow.ensures c.points_follow.ensures c.halts_follow.ensures (record { keeps = g.met.A.Plugs.keeps; drops = g.met.A.Plugs.drops }) c.gone_laws.ensures in
     let now = c.loop-next.invariant.progress in
     let did = now.answers.answered in
     let l = g.S.Source.left c.args.source.now in
@@ -96,7 +96,7 @@ returns-in-Err-clause-leaves g c =
 -- the answer to a whole part was begun
 pub returns-in_err-answer-in-More-clause-leaves : goal.returns-in_err-answer-in-More-clause-leaves
 returns-in_err-answer-in-More-clause-leaves g c =
-    let laws = laws-of {who = (answering g.A.Answers.answers g.A.Plugs.unplugs g.A.Plugs.filled)} c.touches_follow.ensures c.points_follow.ensures c.halts_follow.ensures (record { keeps = g.met.A.Plugs.keeps; drops = g.met.A.Plugs.drops }) in
+    let laws = laws-of {who = (answering g.A.Answers.answers g.A.Plugs.unplugs g.A.Plugs.filled)} c.touches_follow.ensures c.points_follow.ensures c.halts_follow.ensures (record { keeps = g.met.A.Plugs.keeps; drops = g.met.A.Plugs.drops }) c.gone_laws.ensures in
     let now = c.loop-next.invariant.progress in
     let l = g.S.Source.left c.args.source.now in
     let left = g.S.Source.left c.next.new.source in
@@ -137,7 +137,7 @@ returns-in_err-answer-in-More-clause-leaves g c =
 -- the text ended with a part
 pub returns-in-Last-clause-leaves : goal.returns-in-Last-clause-leaves
 returns-in-Last-clause-leaves g c =
-    let laws = laws-of {who = (answering g.A.Answers.answers g.A.Plugs.unplugs g.A.Plugs.filled)} c.touches_follow.ensures c.points_follow.ensures c.halts_follow.ensures (record { keeps = g.met.A.Plugs.keeps; drops = g.met.A.Plugs.drops }) in
+    let laws = laws-of {who = (answering g.A.Answers.answers g.A.Plugs.unplugs g.A.Plugs.filled)} c.touches_follow.ensures c.points_follow.ensures c.halts_follow.ensures (record { keeps = g.met.A.Plugs.keeps; drops = g.met.A.Plugs.drops }) c.gone_laws.ensures in
     let now = c.loop-next.invariant.progress in
     let l = g.S.Source.left c.args.source.now in
     let left = g.S.Source.left c.next.new.source in
@@ -192,7 +192,7 @@ returns-in-Last-clause-leaves g c =
 -- the text ended behind a whole part
 pub returns-in-End-clause-leaves : goal.returns-in-End-clause-leaves
 returns-in-End-clause-leaves g c =
-    let laws = laws-of {who = (answering g.A.Answers.answers g.A.Plugs.unplugs g.A.Plugs.filled)} c.touches_follow.ensures c.points_follow.ensures c.halts_follow.ensures (record { keeps = g.met.A.Plugs.keeps; drops = g.met.A.Plugs.drops }) in
+    let laws = laws-of {who = (answering g.A.Answers.answers g.A.Plugs.unplugs g.A.Plugs.filled)} c.touches_follow.ensures c.points_follow.ensures c.halts_follow.ensures (record { keeps = g.met.A.Plugs.keeps; drops = g.met.A.Plugs.drops }) c.gone_laws.ensures in
     let now = c.loop-next.invariant.progress in
     let did = now.answers.answered in
     let read = subst (λ (n : Next). ReadsNext n c.loop-next.commands c.next.new.self (g.S.Source.left c.loop-next.source) (g.S.Source.left c.next.new.source)) c.in-End.is c.in-Ok.ensures.next in

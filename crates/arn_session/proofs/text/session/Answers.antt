@@ -1,6 +1,7 @@
 -- Nothing was carried out before the reader was there.
 use Rattle.std.proofs.Common.{[], inl, inr, refl}
 use Rattle.std.proofs.lemmas.Result.{err_from_is_err_and}
+use Rattle.history_model.specs.Unplugged.{unplugged_in}
 use Rattle.session_effects.specs.declared.halt.Halt.TheVariants as halt
 use Rattle.session_runs.specs.Points.{around}
 use Rattle.session_runs.specs.Standing.{standpoint}
@@ -14,7 +15,7 @@ use Rattle.arn_session.proofs.text.session.Goals as goal
 
 pub returns-in_err-commands-clause-leaves : goal.returns-in_err-commands-clause-leaves
 returns-in_err-commands-clause-leaves g c =
-    let laws = laws-of {who = (answering g.A.Answers.answers g.A.Plugs.unplugs g.A.Plugs.filled)} c.touches_follow.ensures c.points_follow.ensures c.halts_follow.ensures (record { keeps = g.met.A.Plugs.keeps; drops = g.met.A.Plugs.drops }) in
+    let laws = laws-of {who = (answering g.A.Answers.answers g.A.Plugs.unplugs g.A.Plugs.filled)} c.touches_follow.ensures c.points_follow.ensures c.halts_follow.ensures (record { keeps = g.met.A.Plugs.keeps; drops = g.met.A.Plugs.drops }) c.gone_laws.ensures in
     let p = err_from_is_err_and c.from_residual.result c.from_residual.ensures.1 in
     let held = (g.K.Sink.holds c.args.outside.now.sink.now) in
     let disk = c.args.outside.now.disk.now in
@@ -24,7 +25,7 @@ returns-in_err-commands-clause-leaves g c =
         at_most = untaken (g.S.Source.left c.args.source.now);
         any_moment = c.effects_follow.ensures.leaves disk disk c.args.store.entries held held [] (c.effects_follow.ensures.follow.nothing disk c.args.store.entries held);
         later = (c.goings_follow.ensures.still c.args.outside.now).later;
-        touched = touched-none _ c.args.outside.now.answers.now;
+        touched = touched-none _ (unplugged_in c.args.store.entries) c.args.outside.now.answers.now;
       };
       stops = λ not_source not_long.
           begins-on g.D.Disk (answering g.A.Answers.answers g.A.Plugs.unplugs g.A.Plugs.filled) (given g.Q.Questions.told (g.A.Plugs.filled c.args.outside.now.answers.now)) c.args.outside.now.answers.now (standing c.args.outside.now.disk.now (g.K.Sink.holds c.args.outside.now.sink.now) (around (g.C.Chooser.choices c.args.outside.now.chooser.now) c.args.outside.now.answers.now c.args.outside.now.steps.now)) (standing c.args.outside.now.disk.now (g.K.Sink.holds c.args.outside.now.sink.now) (around (g.C.Chooser.choices c.args.outside.now.chooser.now) c.args.outside.now.answers.now c.args.outside.now.steps.now)) c.args.store halt.NoMemory (g.S.Source.left c.args.source.now) (g.S.Source.left c.args.source.now)

@@ -7,7 +7,7 @@ use Rattle.session_runs.specs.Ready.{machine_of}
 use Rattle.session_runs.specs.Runs.{run}
 use Rattle.session_runs.specs.Standing.{HaltsBehind, Proceeds, standpoint}
 use Rattle.session_runs.specs.Turns.{Point, does, finished}
-use Rattle.session_commands.specs.Events.{event_effects}
+use Rattle.session_commands.specs.Events.{event_effects, unplugging}
 use Rattle.session_commands.specs.Given.{given}
 use Rattle.session_commands.specs.Rows.{row_of}
 use Rattle.session_runs.specs.Touches.{answering}
@@ -87,3 +87,21 @@ returns-in-Run-clause-stops g c told =
     let old = standpoint o.disk.now c.args.store.now (g.K.Sink.holds o.sink.now) (around (g.C.Chooser.choices o.chooser.now) o.answers.now o.steps.now) in
     let new = standpoint n.outside.disk.now n.store (g.K.Sink.holds n.outside.sink.now) (around (g.C.Chooser.choices n.outside.chooser.now) n.outside.answers.now n.outside.steps.now) in
     subst (λ (p : Point). IfErr c.run.result (λ halt. HaltsBehind g.D.Disk (answering g.A.Answers.answers g.A.Plugs.unplugs g.A.Plugs.filled) halt p 0 old new)) (sym is) c.run.ensures.stops
+
+pub returns-in-Unplug-clause-advances : goal.returns-in-Unplug-clause-advances
+returns-in-Unplug-clause-advances g c told =
+    let o = c.args.outside.now in
+    let n = c.unplug_device.new in
+    let is : (row_of (given told (g.A.Plugs.filled c.args.outside.now.answers.now)) c.args.store.now.entries c.args.line.now).turn ≡ unplugging (machine_of c.args.store.now.entries) c.in-Unplug.device = ap (λ (l : Line). (row_of (given told (g.A.Plugs.filled c.args.outside.now.answers.now)) c.args.store.now.entries l).turn) c.in-Unplug.is in
+    let old = standpoint o.disk.now c.args.store.now (g.K.Sink.holds o.sink.now) (around (g.C.Chooser.choices o.chooser.now) o.answers.now o.steps.now) in
+    let new = standpoint n.outside.disk.now n.store (g.K.Sink.holds n.outside.sink.now) (around (g.C.Chooser.choices n.outside.chooser.now) n.outside.answers.now n.outside.steps.now) in
+    subst (λ (p : Point). OnOk c.unplug_device.result (Proceeds g.D.Disk (answering g.A.Answers.answers g.A.Plugs.unplugs g.A.Plugs.filled) p finished 0 old new)) (sym is) c.unplug_device.ensures.advances
+
+pub returns-in-Unplug-clause-stops : goal.returns-in-Unplug-clause-stops
+returns-in-Unplug-clause-stops g c told =
+    let o = c.args.outside.now in
+    let n = c.unplug_device.new in
+    let is : (row_of (given told (g.A.Plugs.filled c.args.outside.now.answers.now)) c.args.store.now.entries c.args.line.now).turn ≡ unplugging (machine_of c.args.store.now.entries) c.in-Unplug.device = ap (λ (l : Line). (row_of (given told (g.A.Plugs.filled c.args.outside.now.answers.now)) c.args.store.now.entries l).turn) c.in-Unplug.is in
+    let old = standpoint o.disk.now c.args.store.now (g.K.Sink.holds o.sink.now) (around (g.C.Chooser.choices o.chooser.now) o.answers.now o.steps.now) in
+    let new = standpoint n.outside.disk.now n.store (g.K.Sink.holds n.outside.sink.now) (around (g.C.Chooser.choices n.outside.chooser.now) n.outside.answers.now n.outside.steps.now) in
+    subst (λ (p : Point). IfErr c.unplug_device.result (λ halt. HaltsBehind g.D.Disk (answering g.A.Answers.answers g.A.Plugs.unplugs g.A.Plugs.filled) halt p 0 old new)) (sym is) c.unplug_device.ensures.stops

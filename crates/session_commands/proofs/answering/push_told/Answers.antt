@@ -18,7 +18,10 @@ unreachable-requires g c =
         | inl is ↦ false≢true (sym (needless (line.Boot is.0) is.1))
         | inr others ↦ elim others [
           | inl is ↦ false≢true (sym (needless (line.Type is.0) is.1))
-          | inr is ↦ false≢true (sym (needless (line.Run is.0) is.1))
+          | inr last ↦ elim last [
+            | inl is ↦ false≢true (sym (needless (line.Run is.0) is.1))
+            | inr is ↦ false≢true (sym (needless (line.Unplug is.0) is.1))
+          ]
         ]
       ]
     ]

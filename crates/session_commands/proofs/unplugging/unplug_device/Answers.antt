@@ -1,0 +1,49 @@
+use Rattle.std.proofs.Common.{IfErr, List, OnOk, subst}
+use Rattle.arn_lines.specs.Texts.{event_text}
+use Rattle.log_model.specs.Records.{IsRun}
+use Rattle.session_effects.specs.Carrying.{StopsBetween}
+use Rattle.session_effects.specs.Effects.{Effect}
+use Rattle.session_effects.specs.Standing.{Carries}
+use Rattle.session_effects.specs.declared.halt.Halt.TheVariants as halt
+use Rattle.session_runs.specs.Ready.{machine_of}
+use Rattle.session_runs.specs.Touches.{answering}
+use Rattle.session_commands.specs.Answering.{HaltsIn}
+use Rattle.session_commands.proofs.ChangeLemmas.{err-same}
+use Rattle.session_commands.proofs.PartLemmas.{ready-carried}
+use Rattle.session_commands.proofs.UnplugLemmas.{Advances-unplugged, Stops-before, Stops-unplugged, unplug-effects}
+use Rattle.session_commands.proofs.unplugging.unplug_device.Goals as goal
+
+pub returns-in_err-event-clause-stops : goal.returns-in_err-event-clause-stops
+returns-in_err-event-clause-stops g c =
+    let o = c.args.outside.now in
+    err-same c.from_residual.result halt.NoMemory _ c.from_residual.ensures.1
+    (Stops-before g.D.Disk (answering g.A.Answers.answers g.A.Plugs.unplugs g.A.Plugs.filled) (g.C.Chooser.choices o.chooser.now) o.answers.now c.unplug_event.new.answers o.steps.now (machine_of c.args.store.now.entries) c.args.device
+    c.halts_follow.ensures o.disk.now c.args.store.now.entries (g.K.Sink.holds o.sink.now) c.in_err-event.ensures.kept)
+
+pub finish-requires-clause-run : goal.finish-requires-clause-run
+finish-requires-clause-run g c is_run = c.in_ok-event.ensures.ready.is_run
+
+pub returns-clause-ready : goal.returns-clause-ready
+returns-clause-ready g c =
+    let o = c.args.outside.now in
+    let event = c.in_ok-event.event in
+    ready-carried g.D.Disk c.effects_follow.ensures.follow c.halts_follow.ensures c.finish.result o.disk.now c.finish.new.disk c.args.store.now c.finish.new.store (g.K.Sink.holds o.sink.now) (g.K.Sink.holds c.finish.new.sink)
+    event.entries.items (event_text event.number) c.unplug_event.new.machine c.in_ok-event.ensures.ready c.finish.ensures.carries
+
+pub returns-clause-advances : goal.returns-clause-advances
+returns-clause-advances g c =
+    let m = machine_of c.args.store.now.entries in
+    let o = c.args.outside.now in
+    let is = unplug-effects m c.args.device c.in_ok-event.event c.in_ok-event.ensures.number c.in_ok-event.ensures.recorded in
+    Advances-unplugged g.D.Disk (answering g.A.Answers.answers g.A.Plugs.unplugs g.A.Plugs.filled) (g.C.Chooser.choices o.chooser.now) o.answers.now c.unplug_event.new.answers o.steps.now m c.args.device
+    c.finish.result o.disk.now c.finish.new.disk c.args.store.now c.finish.new.store (g.K.Sink.holds o.sink.now) (g.K.Sink.holds c.finish.new.sink) c.in_ok-event.ensures.unplugged
+    (subst (λ (e : List Effect). OnOk c.finish.result (Carries IsRun g.D.Disk o.disk.now c.finish.new.disk c.args.store.now c.finish.new.store (g.K.Sink.holds o.sink.now) (g.K.Sink.holds c.finish.new.sink) e)) is c.finish.ensures.carries)
+
+pub returns-clause-stops : goal.returns-clause-stops
+returns-clause-stops g c =
+    let m = machine_of c.args.store.now.entries in
+    let o = c.args.outside.now in
+    let is = unplug-effects m c.args.device c.in_ok-event.event c.in_ok-event.ensures.number c.in_ok-event.ensures.recorded in
+    Stops-unplugged g.D.Disk (answering g.A.Answers.answers g.A.Plugs.unplugs g.A.Plugs.filled) (g.C.Chooser.choices o.chooser.now) o.answers.now c.unplug_event.new.answers o.steps.now m c.args.device
+    c.finish.result o.disk.now c.finish.new.disk c.args.store.now.entries (g.K.Sink.holds o.sink.now) (g.K.Sink.holds c.finish.new.sink) c.in_ok-event.ensures.unplugged
+    (subst (λ (e : List Effect). IfErr c.finish.result (λ halt. HaltsIn (StopsBetween IsRun g.D.Disk o.disk.now c.finish.new.disk c.args.store.now.entries (g.K.Sink.holds o.sink.now) (g.K.Sink.holds c.finish.new.sink) halt) e)) is c.finish.ensures.stops)
