@@ -84,7 +84,7 @@ impl Machine {
         self.unplug_in_slots(device, &mut Slots { devices }, out)
     }
 
-    // `run_leg` at slots: what their devices gave and took is what the records say.
+    // `run_leg_from` at slots: what their devices gave and took is what the records say.
     fn run_leg_in_slots<C: Chooser, V: Device, L: Ledger>(
         &mut self,
         budget: u64,
@@ -113,12 +113,12 @@ impl Machine {
     {
         turns_have_parts();
         self.is_real();
-        self.run_leg(budget, chooser, slots, out, steps)
+        self.run_leg_from(budget, chooser, slots, out, steps)
     }
 
-    /// `run_leg` at a boxed chooser and boxed devices in slots. What the devices gave and took is
-    /// what the records say.
-    pub fn run_leg_boxed<L: Ledger>(
+    /// `run_leg_from` at a boxed chooser and boxed devices in slots. What the devices gave and took
+    /// is what the records say.
+    pub fn run_leg<L: Ledger>(
         &mut self,
         budget: u64,
         chooser: &mut Box<dyn Chooser>,

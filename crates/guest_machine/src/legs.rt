@@ -16,7 +16,7 @@ impl Machine {
     /// Runs slices that a chooser picks until no process lives, none can go on, the budget is spent,
     /// or the records' spellings have reached `MOST_LEG` bytes. Where memory runs out, what ran is
     /// recorded.
-    pub fn run_leg<C: Chooser, A: Answers, L: Ledger>(
+    pub fn run_leg_from<C: Chooser, A: Answers, L: Ledger>(
         &mut self,
         budget: u64,
         chooser: &mut C,

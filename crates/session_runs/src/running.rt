@@ -109,7 +109,7 @@ fn run_leg<C: Chooser, A: Plugs, D: Disk, K: Sink, L: Ledger>(
     history_laws();
     let event = machine.events();
     let mut entries = Vec::new(alloc);
-    let leg = machine.run_leg(
+    let leg = machine.run_leg_from(
         left,
         outside.chooser,
         outside.answers,

@@ -53,11 +53,11 @@ fn ask_counted<L: Ledger>(
     let device: Box<dyn Device> = Box::new(alloc, script(alloc)?)?;
     let mut devices = vec![in alloc; Some(device)]?;
     assert_few(rt, machine);
-    let first = machine.run_leg_boxed(budgets[0], &mut chooser, &mut devices, out, &mut steps)?;
+    let first = machine.run_leg(budgets[0], &mut chooser, &mut devices, out, &mut steps)?;
     assert_few(rt, machine);
     let unplugged = machine.unplug(0, &mut devices, out);
     assert_few(rt, machine);
-    let second = machine.run_leg_boxed(budgets[1], &mut chooser, &mut devices, out, &mut steps)?;
+    let second = machine.run_leg(budgets[1], &mut chooser, &mut devices, out, &mut steps)?;
     Ok(Asked {
         first,
         unplugged,

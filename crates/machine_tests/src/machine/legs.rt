@@ -27,7 +27,7 @@ fn leg_counted<C: Chooser, L: Ledger>(
 {
     let mut steps = Steps::<L>::new(blank);
     let mut devices = Told { entry: None };
-    machine.run_leg(budget, chooser, &mut devices, out, &mut steps)
+    machine.run_leg_from(budget, chooser, &mut devices, out, &mut steps)
 }
 
 fn leg_with_room<C: Chooser>(

@@ -18,8 +18,8 @@ use Rattle.session_runs.proofs.StopLemmas.{Stops-lost, Stops-memory, Stops-text,
 use Rattle.session_runs.proofs.TakenLemmas.{Advances-taken, Carries-leg, Carries-none, Taken, ends-taken, err-same, leg-text, more-taken, room-for, taken}
 use Rattle.session_runs.proofs.running.run_leg.Goals as goal
 
-pub run_leg-requires : goal.run_leg-requires
-run_leg-requires g c = record {
+pub run_leg_from-requires : goal.run_leg_from-requires
+run_leg_from-requires g c = record {
   room = room-for c.history_laws.ensures.room c.args.machine.now c.args.store.now.entries _ c.args.left c.requires.ready c.count_records.ensures (omega arith) (omega (arith, c.requires.few));
 }
 
@@ -29,11 +29,11 @@ returns-in_err-leg-clause-stops g c =
     let m = machine_of history in
     let cut = c.in_err-leg.ensures.cut m c.requires.ready.is_after.leads in
     let old = around (g.C.Chooser.choices c.args.outside.now.chooser.now) c.args.outside.now.answers.now c.args.outside.now.steps.now in
-    let new = around (g.C.Chooser.choices c.run_leg.new.chooser) c.run_leg.new.answers c.run_leg.new.steps in
+    let new = around (g.C.Chooser.choices c.run_leg_from.new.chooser) c.run_leg_from.new.answers c.run_leg_from.new.steps in
     err-same c.from_residual.result halt.NoMemory _ c.from_residual.ensures.1
     (λ budget.
     Stops-memory IsRun g.D.Disk (answering g.A.Answers.answers g.A.Plugs.unplugs g.A.Plugs.filled) c.halts_follow.ensures budget m c.args.left cut.slices (c.history_laws.ensures.legs (named history) c.args.left [] cut.slices cut.took.in_range) cut.took.open_before c.args.outside.now.disk.now history (g.K.Sink.holds c.args.outside.now.sink.now) old new (unanswered cut.lost) cut.is_open cut.picked cut.took.in_range cut.in_range cut.took.replied
-    (cut-executed g.A.Answers.answers m c.args.left c.args.machine.now c.run_leg.new.self old.choices new.choices c.args.outside.now.answers.now c.run_leg.new.answers c.new-entries.result.items c.run_leg.new.out.items old.steps new.steps cut))
+    (cut-executed g.A.Answers.answers m c.args.left c.args.machine.now c.run_leg_from.new.self old.choices new.choices c.args.outside.now.answers.now c.run_leg_from.new.answers c.new-entries.result.items c.run_leg_from.new.out.items old.steps new.steps cut))
 
 nothing : (xs : List Record) → length xs ≡ 0 → xs ≡ []
 nothing [] none = refl
@@ -50,14 +50,14 @@ returns-then-is_empty-clause-ready g c =
     let m = machine_of history in
     let laws = c.history_laws.ensures in
     let leg = c.in_ok-leg.leg in
-    let entries = c.run_leg.new.out.items in
+    let entries = c.run_leg_from.new.out.items in
     let is_leg = c.in_ok-leg.ensures.leg m c.requires.ready.is_after.leads in
     let old = around (g.C.Chooser.choices c.args.outside.now.chooser.now) c.args.outside.now.answers.now c.args.outside.now.steps.now in
-    let new = around (g.C.Chooser.choices c.run_leg.new.chooser) c.run_leg.new.answers c.run_leg.new.steps in
-    let t : Taken g.A.Answers.answers m c.args.left leg entries old new = taken g.A.Answers.answers laws.legs history c.args.left leg c.args.machine.now c.run_leg.new.self old.choices new.choices c.args.outside.now.answers.now c.run_leg.new.answers c.new-entries.result.items entries old.steps new.steps is_leg c.new-entries.ensures.items in
-    let none : entries ≡ [] = nothing entries (sym c.run_leg.new.out.ok.0 ∙ eqb-true c.run_leg.new.out.len 0 (sym c.is_empty.ensures ∙ c.if-is_empty.true)) in
+    let new = around (g.C.Chooser.choices c.run_leg_from.new.chooser) c.run_leg_from.new.answers c.run_leg_from.new.steps in
+    let t : Taken g.A.Answers.answers m c.args.left leg entries old new = taken g.A.Answers.answers laws.legs history c.args.left leg c.args.machine.now c.run_leg_from.new.self old.choices new.choices c.args.outside.now.answers.now c.run_leg_from.new.answers c.new-entries.result.items entries old.steps new.steps is_leg c.new-entries.ensures.items in
+    let none : entries ≡ [] = nothing entries (sym c.run_leg_from.new.out.ok.0 ∙ eqb-true c.run_leg_from.new.out.len 0 (sym c.is_empty.ensures ∙ c.if-is_empty.true)) in
     let same : history ≡ history ++ entries = sym (ap (λ (x : List Record). history ++ x) none ∙ append-nil history) in
-    subst (λ (x : List Record). IsReady c.run_leg.new.self x) (sym same) (ready-recorded laws.named laws.records laws.runs laws.are_run c.args.machine.now c.run_leg.new.self history (map input_of is_leg.slices) c.new-entries.result.items entries c.requires.ready is_leg.took.runs c.new-entries.ensures.items)
+    subst (λ (x : List Record). IsReady c.run_leg_from.new.self x) (sym same) (ready-recorded laws.named laws.records laws.runs laws.are_run c.args.machine.now c.run_leg_from.new.self history (map input_of is_leg.slices) c.new-entries.result.items entries c.requires.ready is_leg.took.runs c.new-entries.ensures.items)
 
 pub returns-then-is_empty-clause-advances : goal.returns-then-is_empty-clause-advances
 returns-then-is_empty-clause-advances g c budget =
@@ -65,12 +65,12 @@ returns-then-is_empty-clause-advances g c budget =
     let m = machine_of history in
     let laws = c.history_laws.ensures in
     let leg = c.in_ok-leg.leg in
-    let entries = c.run_leg.new.out.items in
+    let entries = c.run_leg_from.new.out.items in
     let is_leg = c.in_ok-leg.ensures.leg m c.requires.ready.is_after.leads in
     let old = around (g.C.Chooser.choices c.args.outside.now.chooser.now) c.args.outside.now.answers.now c.args.outside.now.steps.now in
-    let new = around (g.C.Chooser.choices c.run_leg.new.chooser) c.run_leg.new.answers c.run_leg.new.steps in
-    let t : Taken g.A.Answers.answers m c.args.left leg entries old new = taken g.A.Answers.answers laws.legs history c.args.left leg c.args.machine.now c.run_leg.new.self old.choices new.choices c.args.outside.now.answers.now c.run_leg.new.answers c.new-entries.result.items entries old.steps new.steps is_leg c.new-entries.ensures.items in
-    let none : entries ≡ [] = nothing entries (sym c.run_leg.new.out.ok.0 ∙ eqb-true c.run_leg.new.out.len 0 (sym c.is_empty.ensures ∙ c.if-is_empty.true)) in
+    let new = around (g.C.Chooser.choices c.run_leg_from.new.chooser) c.run_leg_from.new.answers c.run_leg_from.new.steps in
+    let t : Taken g.A.Answers.answers m c.args.left leg entries old new = taken g.A.Answers.answers laws.legs history c.args.left leg c.args.machine.now c.run_leg_from.new.self old.choices new.choices c.args.outside.now.answers.now c.run_leg_from.new.answers c.new-entries.result.items entries old.steps new.steps is_leg c.new-entries.ensures.items in
+    let none : entries ≡ [] = nothing entries (sym c.run_leg_from.new.out.ok.0 ∙ eqb-true c.run_leg_from.new.out.len 0 (sym c.is_empty.ensures ∙ c.if-is_empty.true)) in
     let same : history ≡ history ++ entries = sym (ap (λ (x : List Record). history ++ x) none ∙ append-nil history) in
     let holds = g.K.Sink.holds c.args.outside.now.sink.now in
     let carries : Carries IsRun g.D.Disk c.args.outside.now.disk.now c.args.outside.now.disk.now c.args.store.now c.args.store.now holds holds (leg_effects m.events entries) =
@@ -84,12 +84,12 @@ returns-then-is_empty-clause-end g c =
     let m = machine_of history in
     let laws = c.history_laws.ensures in
     let leg = c.in_ok-leg.leg in
-    let entries = c.run_leg.new.out.items in
+    let entries = c.run_leg_from.new.out.items in
     let is_leg = c.in_ok-leg.ensures.leg m c.requires.ready.is_after.leads in
     let old = around (g.C.Chooser.choices c.args.outside.now.chooser.now) c.args.outside.now.answers.now c.args.outside.now.steps.now in
-    let new = around (g.C.Chooser.choices c.run_leg.new.chooser) c.run_leg.new.answers c.run_leg.new.steps in
-    let t : Taken g.A.Answers.answers m c.args.left leg entries old new = taken g.A.Answers.answers laws.legs history c.args.left leg c.args.machine.now c.run_leg.new.self old.choices new.choices c.args.outside.now.answers.now c.run_leg.new.answers c.new-entries.result.items entries old.steps new.steps is_leg c.new-entries.ensures.items in
-    let none : entries ≡ [] = nothing entries (sym c.run_leg.new.out.ok.0 ∙ eqb-true c.run_leg.new.out.len 0 (sym c.is_empty.ensures ∙ c.if-is_empty.true)) in
+    let new = around (g.C.Chooser.choices c.run_leg_from.new.chooser) c.run_leg_from.new.answers c.run_leg_from.new.steps in
+    let t : Taken g.A.Answers.answers m c.args.left leg entries old new = taken g.A.Answers.answers laws.legs history c.args.left leg c.args.machine.now c.run_leg_from.new.self old.choices new.choices c.args.outside.now.answers.now c.run_leg_from.new.answers c.new-entries.result.items entries old.steps new.steps is_leg c.new-entries.ensures.items in
+    let none : entries ≡ [] = nothing entries (sym c.run_leg_from.new.out.ok.0 ∙ eqb-true c.run_leg_from.new.out.len 0 (sym c.is_empty.ensures ∙ c.if-is_empty.true)) in
     let same : history ≡ history ++ entries = sym (ap (λ (x : List Record). history ++ x) none ∙ append-nil history) in
     ends-taken (answering g.A.Answers.answers g.A.Plugs.unplugs g.A.Plugs.filled) laws.names laws.begin laws.append history history c.args.left leg entries old new t same
 
@@ -99,12 +99,12 @@ returns-then-is_empty-clause-more g c more =
     let m = machine_of history in
     let laws = c.history_laws.ensures in
     let leg = c.in_ok-leg.leg in
-    let entries = c.run_leg.new.out.items in
+    let entries = c.run_leg_from.new.out.items in
     let is_leg = c.in_ok-leg.ensures.leg m c.requires.ready.is_after.leads in
     let old = around (g.C.Chooser.choices c.args.outside.now.chooser.now) c.args.outside.now.answers.now c.args.outside.now.steps.now in
-    let new = around (g.C.Chooser.choices c.run_leg.new.chooser) c.run_leg.new.answers c.run_leg.new.steps in
-    let t : Taken g.A.Answers.answers m c.args.left leg entries old new = taken g.A.Answers.answers laws.legs history c.args.left leg c.args.machine.now c.run_leg.new.self old.choices new.choices c.args.outside.now.answers.now c.run_leg.new.answers c.new-entries.result.items entries old.steps new.steps is_leg c.new-entries.ensures.items in
-    let none : entries ≡ [] = nothing entries (sym c.run_leg.new.out.ok.0 ∙ eqb-true c.run_leg.new.out.len 0 (sym c.is_empty.ensures ∙ c.if-is_empty.true)) in
+    let new = around (g.C.Chooser.choices c.run_leg_from.new.chooser) c.run_leg_from.new.answers c.run_leg_from.new.steps in
+    let t : Taken g.A.Answers.answers m c.args.left leg entries old new = taken g.A.Answers.answers laws.legs history c.args.left leg c.args.machine.now c.run_leg_from.new.self old.choices new.choices c.args.outside.now.answers.now c.run_leg_from.new.answers c.new-entries.result.items entries old.steps new.steps is_leg c.new-entries.ensures.items in
+    let none : entries ≡ [] = nothing entries (sym c.run_leg_from.new.out.ok.0 ∙ eqb-true c.run_leg_from.new.out.len 0 (sym c.is_empty.ensures ∙ c.if-is_empty.true)) in
     let same : history ≡ history ++ entries = sym (ap (λ (x : List Record). history ++ x) none ∙ append-nil history) in
     more-taken (answering g.A.Answers.answers g.A.Plugs.unplugs g.A.Plugs.filled) laws.names laws.begin laws.append history history c.args.left leg entries old new t same more
 
@@ -119,12 +119,12 @@ returns-in_err-push_outputs-clause-stops g c =
     let m = machine_of history in
     let laws = c.history_laws.ensures in
     let leg = c.in_ok-leg.leg in
-    let entries = c.run_leg.new.out.items in
+    let entries = c.run_leg_from.new.out.items in
     let is_leg = c.in_ok-leg.ensures.leg m c.requires.ready.is_after.leads in
     let old = around (g.C.Chooser.choices c.args.outside.now.chooser.now) c.args.outside.now.answers.now c.args.outside.now.steps.now in
-    let new = around (g.C.Chooser.choices c.run_leg.new.chooser) c.run_leg.new.answers c.run_leg.new.steps in
-    let t : Taken g.A.Answers.answers m c.args.left leg entries old new = taken g.A.Answers.answers laws.legs history c.args.left leg c.args.machine.now c.run_leg.new.self old.choices new.choices c.args.outside.now.answers.now c.run_leg.new.answers c.new-entries.result.items entries old.steps new.steps is_leg c.new-entries.ensures.items in
-    let some : 0 < length entries = there-are entries (λ none. eqb-false c.run_leg.new.out.len 0 (sym c.is_empty.ensures ∙ c.if-is_empty.false) (c.run_leg.new.out.ok.0 ∙ none)) in
+    let new = around (g.C.Chooser.choices c.run_leg_from.new.chooser) c.run_leg_from.new.answers c.run_leg_from.new.steps in
+    let t : Taken g.A.Answers.answers m c.args.left leg entries old new = taken g.A.Answers.answers laws.legs history c.args.left leg c.args.machine.now c.run_leg_from.new.self old.choices new.choices c.args.outside.now.answers.now c.run_leg_from.new.answers c.new-entries.result.items entries old.steps new.steps is_leg c.new-entries.ensures.items in
+    let some : 0 < length entries = there-are entries (λ none. eqb-false c.run_leg_from.new.out.len 0 (sym c.is_empty.ensures ∙ c.if-is_empty.false) (c.run_leg_from.new.out.ok.0 ∙ none)) in
     let some_taken : 0 < length (going_by (fresh m c.args.left) t.slices).entries = subst (λ (x : List Record). 0 < length x) t.are some in
     let holds = g.K.Sink.holds c.args.outside.now.sink.now in
     err-same c.from_residual-in_err-push_outputs.result halt.NoMemory _ c.from_residual-in_err-push_outputs.ensures.1
@@ -138,12 +138,12 @@ commit-requires-clause-run g c =
     let m = machine_of history in
     let laws = c.history_laws.ensures in
     let leg = c.in_ok-leg.leg in
-    let entries = c.run_leg.new.out.items in
+    let entries = c.run_leg_from.new.out.items in
     let is_leg = c.in_ok-leg.ensures.leg m c.requires.ready.is_after.leads in
     let old = around (g.C.Chooser.choices c.args.outside.now.chooser.now) c.args.outside.now.answers.now c.args.outside.now.steps.now in
-    let new = around (g.C.Chooser.choices c.run_leg.new.chooser) c.run_leg.new.answers c.run_leg.new.steps in
-    let t : Taken g.A.Answers.answers m c.args.left leg entries old new = taken g.A.Answers.answers laws.legs history c.args.left leg c.args.machine.now c.run_leg.new.self old.choices new.choices c.args.outside.now.answers.now c.run_leg.new.answers c.new-entries.result.items entries old.steps new.steps is_leg c.new-entries.ensures.items in
-    λ was. (ready-recorded laws.named laws.records laws.runs laws.are_run c.args.machine.now c.run_leg.new.self history (map input_of is_leg.slices) c.new-entries.result.items entries c.requires.ready is_leg.took.runs c.new-entries.ensures.items).is_run
+    let new = around (g.C.Chooser.choices c.run_leg_from.new.chooser) c.run_leg_from.new.answers c.run_leg_from.new.steps in
+    let t : Taken g.A.Answers.answers m c.args.left leg entries old new = taken g.A.Answers.answers laws.legs history c.args.left leg c.args.machine.now c.run_leg_from.new.self old.choices new.choices c.args.outside.now.answers.now c.run_leg_from.new.answers c.new-entries.result.items entries old.steps new.steps is_leg c.new-entries.ensures.items in
+    λ was. (ready-recorded laws.named laws.records laws.runs laws.are_run c.args.machine.now c.run_leg_from.new.self history (map input_of is_leg.slices) c.new-entries.result.items entries c.requires.ready is_leg.took.runs c.new-entries.ensures.items).is_run
 
 pub returns-in_err-commit-clause-stops : goal.returns-in_err-commit-clause-stops
 returns-in_err-commit-clause-stops g c =
@@ -151,12 +151,12 @@ returns-in_err-commit-clause-stops g c =
     let m = machine_of history in
     let laws = c.history_laws.ensures in
     let leg = c.in_ok-leg.leg in
-    let entries = c.run_leg.new.out.items in
+    let entries = c.run_leg_from.new.out.items in
     let is_leg = c.in_ok-leg.ensures.leg m c.requires.ready.is_after.leads in
     let old = around (g.C.Chooser.choices c.args.outside.now.chooser.now) c.args.outside.now.answers.now c.args.outside.now.steps.now in
-    let new = around (g.C.Chooser.choices c.run_leg.new.chooser) c.run_leg.new.answers c.run_leg.new.steps in
-    let t : Taken g.A.Answers.answers m c.args.left leg entries old new = taken g.A.Answers.answers laws.legs history c.args.left leg c.args.machine.now c.run_leg.new.self old.choices new.choices c.args.outside.now.answers.now c.run_leg.new.answers c.new-entries.result.items entries old.steps new.steps is_leg c.new-entries.ensures.items in
-    let some : 0 < length entries = there-are entries (λ none. eqb-false c.run_leg.new.out.len 0 (sym c.is_empty.ensures ∙ c.if-is_empty.false) (c.run_leg.new.out.ok.0 ∙ none)) in
+    let new = around (g.C.Chooser.choices c.run_leg_from.new.chooser) c.run_leg_from.new.answers c.run_leg_from.new.steps in
+    let t : Taken g.A.Answers.answers m c.args.left leg entries old new = taken g.A.Answers.answers laws.legs history c.args.left leg c.args.machine.now c.run_leg_from.new.self old.choices new.choices c.args.outside.now.answers.now c.run_leg_from.new.answers c.new-entries.result.items entries old.steps new.steps is_leg c.new-entries.ensures.items in
+    let some : 0 < length entries = there-are entries (λ none. eqb-false c.run_leg_from.new.out.len 0 (sym c.is_empty.ensures ∙ c.if-is_empty.false) (c.run_leg_from.new.out.ok.0 ∙ none)) in
     let some_taken : 0 < length (going_by (fresh m c.args.left) t.slices).entries = subst (λ (x : List Record). 0 < length x) t.are some in
     let holds = g.K.Sink.holds c.args.outside.now.sink.now in
     let why = c.in_err-commit.field-0.0 in
@@ -172,12 +172,12 @@ returns-in_err-put_all-clause-stops g c =
     let m = machine_of history in
     let laws = c.history_laws.ensures in
     let leg = c.in_ok-leg.leg in
-    let entries = c.run_leg.new.out.items in
+    let entries = c.run_leg_from.new.out.items in
     let is_leg = c.in_ok-leg.ensures.leg m c.requires.ready.is_after.leads in
     let old = around (g.C.Chooser.choices c.args.outside.now.chooser.now) c.args.outside.now.answers.now c.args.outside.now.steps.now in
-    let new = around (g.C.Chooser.choices c.run_leg.new.chooser) c.run_leg.new.answers c.run_leg.new.steps in
-    let t : Taken g.A.Answers.answers m c.args.left leg entries old new = taken g.A.Answers.answers laws.legs history c.args.left leg c.args.machine.now c.run_leg.new.self old.choices new.choices c.args.outside.now.answers.now c.run_leg.new.answers c.new-entries.result.items entries old.steps new.steps is_leg c.new-entries.ensures.items in
-    let some : 0 < length entries = there-are entries (λ none. eqb-false c.run_leg.new.out.len 0 (sym c.is_empty.ensures ∙ c.if-is_empty.false) (c.run_leg.new.out.ok.0 ∙ none)) in
+    let new = around (g.C.Chooser.choices c.run_leg_from.new.chooser) c.run_leg_from.new.answers c.run_leg_from.new.steps in
+    let t : Taken g.A.Answers.answers m c.args.left leg entries old new = taken g.A.Answers.answers laws.legs history c.args.left leg c.args.machine.now c.run_leg_from.new.self old.choices new.choices c.args.outside.now.answers.now c.run_leg_from.new.answers c.new-entries.result.items entries old.steps new.steps is_leg c.new-entries.ensures.items in
+    let some : 0 < length entries = there-are entries (λ none. eqb-false c.run_leg_from.new.out.len 0 (sym c.is_empty.ensures ∙ c.if-is_empty.false) (c.run_leg_from.new.out.ok.0 ∙ none)) in
     let some_taken : 0 < length (going_by (fresh m c.args.left) t.slices).entries = subst (λ (x : List Record). 0 < length x) t.are some in
     let holds = g.K.Sink.holds c.args.outside.now.sink.now in
     let why = c.in_err-put_all.field-0.0 in
@@ -196,13 +196,13 @@ returns-clause-ready g c =
     let m = machine_of history in
     let laws = c.history_laws.ensures in
     let leg = c.in_ok-leg.leg in
-    let entries = c.run_leg.new.out.items in
+    let entries = c.run_leg_from.new.out.items in
     let is_leg = c.in_ok-leg.ensures.leg m c.requires.ready.is_after.leads in
     let old = around (g.C.Chooser.choices c.args.outside.now.chooser.now) c.args.outside.now.answers.now c.args.outside.now.steps.now in
-    let new = around (g.C.Chooser.choices c.run_leg.new.chooser) c.run_leg.new.answers c.run_leg.new.steps in
-    let t : Taken g.A.Answers.answers m c.args.left leg entries old new = taken g.A.Answers.answers laws.legs history c.args.left leg c.args.machine.now c.run_leg.new.self old.choices new.choices c.args.outside.now.answers.now c.run_leg.new.answers c.new-entries.result.items entries old.steps new.steps is_leg c.new-entries.ensures.items in
+    let new = around (g.C.Chooser.choices c.run_leg_from.new.chooser) c.run_leg_from.new.answers c.run_leg_from.new.steps in
+    let t : Taken g.A.Answers.answers m c.args.left leg entries old new = taken g.A.Answers.answers laws.legs history c.args.left leg c.args.machine.now c.run_leg_from.new.self old.choices new.choices c.args.outside.now.answers.now c.run_leg_from.new.answers c.new-entries.result.items entries old.steps new.steps is_leg c.new-entries.ensures.items in
     let all : c.commit.new.store.entries ≡ history ++ entries = (c.in_ok-commit.ensures.carries (g.K.Sink.holds c.args.outside.now.sink.now)).entries ∙ ap (λ (x : List Record). history ++ x) (append-nil entries) in
-    subst (λ (x : List Record). IsReady c.run_leg.new.self x) (sym all) (ready-recorded laws.named laws.records laws.runs laws.are_run c.args.machine.now c.run_leg.new.self history (map input_of is_leg.slices) c.new-entries.result.items entries c.requires.ready is_leg.took.runs c.new-entries.ensures.items)
+    subst (λ (x : List Record). IsReady c.run_leg_from.new.self x) (sym all) (ready-recorded laws.named laws.records laws.runs laws.are_run c.args.machine.now c.run_leg_from.new.self history (map input_of is_leg.slices) c.new-entries.result.items entries c.requires.ready is_leg.took.runs c.new-entries.ensures.items)
 
 pub returns-clause-advances : goal.returns-clause-advances
 returns-clause-advances g c budget =
@@ -210,12 +210,12 @@ returns-clause-advances g c budget =
     let m = machine_of history in
     let laws = c.history_laws.ensures in
     let leg = c.in_ok-leg.leg in
-    let entries = c.run_leg.new.out.items in
+    let entries = c.run_leg_from.new.out.items in
     let is_leg = c.in_ok-leg.ensures.leg m c.requires.ready.is_after.leads in
     let old = around (g.C.Chooser.choices c.args.outside.now.chooser.now) c.args.outside.now.answers.now c.args.outside.now.steps.now in
-    let new = around (g.C.Chooser.choices c.run_leg.new.chooser) c.run_leg.new.answers c.run_leg.new.steps in
-    let t : Taken g.A.Answers.answers m c.args.left leg entries old new = taken g.A.Answers.answers laws.legs history c.args.left leg c.args.machine.now c.run_leg.new.self old.choices new.choices c.args.outside.now.answers.now c.run_leg.new.answers c.new-entries.result.items entries old.steps new.steps is_leg c.new-entries.ensures.items in
-    let some : 0 < length entries = there-are entries (λ none. eqb-false c.run_leg.new.out.len 0 (sym c.is_empty.ensures ∙ c.if-is_empty.false) (c.run_leg.new.out.ok.0 ∙ none)) in
+    let new = around (g.C.Chooser.choices c.run_leg_from.new.chooser) c.run_leg_from.new.answers c.run_leg_from.new.steps in
+    let t : Taken g.A.Answers.answers m c.args.left leg entries old new = taken g.A.Answers.answers laws.legs history c.args.left leg c.args.machine.now c.run_leg_from.new.self old.choices new.choices c.args.outside.now.answers.now c.run_leg_from.new.answers c.new-entries.result.items entries old.steps new.steps is_leg c.new-entries.ensures.items in
+    let some : 0 < length entries = there-are entries (λ none. eqb-false c.run_leg_from.new.out.len 0 (sym c.is_empty.ensures ∙ c.if-is_empty.false) (c.run_leg_from.new.out.ok.0 ∙ none)) in
     let some_taken : 0 < length (going_by (fresh m c.args.left) t.slices).entries = subst (λ (x : List Record). 0 < length x) t.are some in
     let holds = g.K.Sink.holds c.args.outside.now.sink.now in
     let carried = c.in_ok-commit.ensures.carries holds in
@@ -230,11 +230,11 @@ returns-clause-end g c =
     let m = machine_of history in
     let laws = c.history_laws.ensures in
     let leg = c.in_ok-leg.leg in
-    let entries = c.run_leg.new.out.items in
+    let entries = c.run_leg_from.new.out.items in
     let is_leg = c.in_ok-leg.ensures.leg m c.requires.ready.is_after.leads in
     let old = around (g.C.Chooser.choices c.args.outside.now.chooser.now) c.args.outside.now.answers.now c.args.outside.now.steps.now in
-    let new = around (g.C.Chooser.choices c.run_leg.new.chooser) c.run_leg.new.answers c.run_leg.new.steps in
-    let t : Taken g.A.Answers.answers m c.args.left leg entries old new = taken g.A.Answers.answers laws.legs history c.args.left leg c.args.machine.now c.run_leg.new.self old.choices new.choices c.args.outside.now.answers.now c.run_leg.new.answers c.new-entries.result.items entries old.steps new.steps is_leg c.new-entries.ensures.items in
+    let new = around (g.C.Chooser.choices c.run_leg_from.new.chooser) c.run_leg_from.new.answers c.run_leg_from.new.steps in
+    let t : Taken g.A.Answers.answers m c.args.left leg entries old new = taken g.A.Answers.answers laws.legs history c.args.left leg c.args.machine.now c.run_leg_from.new.self old.choices new.choices c.args.outside.now.answers.now c.run_leg_from.new.answers c.new-entries.result.items entries old.steps new.steps is_leg c.new-entries.ensures.items in
     let all : c.commit.new.store.entries ≡ history ++ entries = (c.in_ok-commit.ensures.carries (g.K.Sink.holds c.args.outside.now.sink.now)).entries ∙ ap (λ (x : List Record). history ++ x) (append-nil entries) in
     ends-taken (answering g.A.Answers.answers g.A.Plugs.unplugs g.A.Plugs.filled) laws.names laws.begin laws.append history c.commit.new.store.entries c.args.left leg entries old new t all
 
@@ -244,10 +244,10 @@ returns-clause-more g c more =
     let m = machine_of history in
     let laws = c.history_laws.ensures in
     let leg = c.in_ok-leg.leg in
-    let entries = c.run_leg.new.out.items in
+    let entries = c.run_leg_from.new.out.items in
     let is_leg = c.in_ok-leg.ensures.leg m c.requires.ready.is_after.leads in
     let old = around (g.C.Chooser.choices c.args.outside.now.chooser.now) c.args.outside.now.answers.now c.args.outside.now.steps.now in
-    let new = around (g.C.Chooser.choices c.run_leg.new.chooser) c.run_leg.new.answers c.run_leg.new.steps in
-    let t : Taken g.A.Answers.answers m c.args.left leg entries old new = taken g.A.Answers.answers laws.legs history c.args.left leg c.args.machine.now c.run_leg.new.self old.choices new.choices c.args.outside.now.answers.now c.run_leg.new.answers c.new-entries.result.items entries old.steps new.steps is_leg c.new-entries.ensures.items in
+    let new = around (g.C.Chooser.choices c.run_leg_from.new.chooser) c.run_leg_from.new.answers c.run_leg_from.new.steps in
+    let t : Taken g.A.Answers.answers m c.args.left leg entries old new = taken g.A.Answers.answers laws.legs history c.args.left leg c.args.machine.now c.run_leg_from.new.self old.choices new.choices c.args.outside.now.answers.now c.run_leg_from.new.answers c.new-entries.result.items entries old.steps new.steps is_leg c.new-entries.ensures.items in
     let all : c.commit.new.store.entries ≡ history ++ entries = (c.in_ok-commit.ensures.carries (g.K.Sink.holds c.args.outside.now.sink.now)).entries ∙ ap (λ (x : List Record). history ++ x) (append-nil entries) in
     more-taken (answering g.A.Answers.answers g.A.Plugs.unplugs g.A.Plugs.filled) laws.names laws.begin laws.append history c.commit.new.store.entries c.args.left leg entries old new t all more

@@ -1,7 +1,7 @@
 use Rattle.std.proofs.Common.{◌≡◌, inl, ℕ, ◌+◌, ◌≤◌, ◌∙◌, ap, sym, arith}
 use Rattle.guest_legs.specs.Legs.{fresh}
 use Rattle.guest_machine.proofs.LegLemmas.{Counts-more, Counts-room, Counts-start, SoFar-cut, SoFar-end, SoFar-more, SoFar-start, goes-on}
-use Rattle.guest_machine.proofs.machine.Machine.run_leg.Goals as goal
+use Rattle.guest_machine.proofs.machine.Machine.run_leg_from.Goals as goal
 
 pub loop-end-init : goal.loop-end-init
 loop-end-init g c = record {

@@ -4,7 +4,7 @@ use Rattle.guest_legs.specs.Legs.{fresh}
 use Rattle.guest_machine.specs.Recorded.{OfEach}
 use Rattle.guest_legs.specs.declared.leg.TheConstants.{MOST_LEG}
 use Rattle.guest_machine.proofs.LegLemmas.{Counts, SoFar}
-use Rattle.guest_machine.proofs.machine.Machine.run_leg.Given as goal
+use Rattle.guest_machine.proofs.machine.Machine.run_leg_from.Given as goal
 
 abbrev pub invariant-loop-end : goal.invariant-loop-end
 invariant-loop-end g l =
