@@ -105,6 +105,7 @@ module _ {D A : Type 0} (d : Ghosts D) (who : Answering A) (g : Given) (carries 
     answered = Advances-opened _ _ a.cost a.answered;
     costs = a.costs;
     on_run = a.on_run;
+    spared = a.spared;
   }
 
   Begins-behind : (why : Halt) (text : List ℕ) (l : Option (List ℕ)) → BeginsOn d who g entries (standing mid h0 u) (standing new h1 v) why text l → BeginsOn d who g entries (standing old h0 u) (standing new h1 v) why text l

@@ -235,6 +235,7 @@ module _ {D A : Type 0} (d : Ghosts D) (who : Answering A) (g : Given) where
     answered = Advances-as who (transcript g old.store.entries p.commands) (transcript g old.store.entries p.commands) finished finished old.around new.around p.cost (Carries IsRun d old.disk new.disk old.store new.store old.held new.held) (CarriesOut IsRun d old.disk new.disk old.store.entries old.held new.held) p.answered p.answered.leads p.answered.carries.out;
     costs = subst (λ (x : List Picked). p.cost ≤ total_cost g old.store.entries p.commands x) (append-nil (named_at p.answered.touches p.answered.slices)) (p.costs []);
     on_run = λ needed. p.on_run (p.needs ∙ needed);
+    spared = p.gone;
   }
 
   -- those who answer for devices were touched for these parts

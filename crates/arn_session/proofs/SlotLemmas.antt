@@ -103,6 +103,7 @@ module _ {A B : Type 0} (here : A) (who : Answering A) (there : Answering B) (se
     answered = Advances-seen _ _ u v a.cost carried a.answered;
     costs = a.costs;
     on_run = a.on_run;
+    spared = a.spared;
   }
 
   pub Taken-seen : (g : Given) (history : List Record) (l l' : Option (List ℕ)) (parts : List ℕ → List Part) (u v : Surroundings A) (carried : List effects.Effect → Type 0) → AnswersTaken who g history l l' parts u v carried → AnswersTaken there g history l l' parts (see_around u) (see_around v) carried

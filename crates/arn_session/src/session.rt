@@ -297,9 +297,9 @@ pub fn arnold<S: Source, K: Sink, D: Disk, L: Ledger>(
         (CarriesOut IsRun D.Disk disk.old disk.new
         history (K.holds sink.old) (K.holds sink.new)) }
 
-    // However the call ends, devices were asked where slices ask and lines unplugged them, in some
-    // order, and nothing else came to them: a slot is filled exactly where it was and none of these
-    // unplugged it.
+    // However the call ends, nothing came to devices but what slices ask and unpluggings, one after
+    // the other; which these were, the clauses above say by the text. A slot is filled exactly where
+    // it was and none of them unplugged it.
     ensures slots { WereTouched (slots_answer ⟦<Box<dyn Device> as Device>⟧)
         devices.old.items devices.new.items }
 
