@@ -109,7 +109,7 @@ module _ {A : Type 0} (answers : A → Asked → Answered → A → Type 0) (rep
       if-replied (nat_lt (length plain) count) (after_steps (delivered pid m) plain) pid h
 
   -- the record of a call
-  to-holds : (m : Machine) (pid : ℕ) (v : View) (r : Request) → Unasked r → RepliesTo answers v r reply old new → AreOfAnswer (asked_by v r) reply (last_extras (option_map (call_step m pid v) (does m pid v reply r)))
+  to-holds : (m : Machine) (pid : ℕ) (v : View) (r : Request) → Unasked m r → RepliesTo answers v r reply old new → AreOfAnswer (asked_by v r) reply (last_extras (option_map (call_step m pid v) (does m pid v reply r)))
   unfolding Unasked
   to-holds m pid v Waits unasked h = tt
   to-holds m pid v (Does d) unasked h = (unasked, tt)
@@ -211,7 +211,7 @@ answered-none m pid v (Here device) = tt
 answered-none m pid v (Reads device at len) = tt
 answered-none m pid v (Writes device at len) = tt
 
-to-none : (m : Machine) (pid : ℕ) (v : View) (r : Request) → Unasked r → HoldNoAnswer (last_extras (option_map (call_step m pid v) (does m pid v None r)))
+to-none : (m : Machine) (pid : ℕ) (v : View) (r : Request) → Unasked m r → HoldNoAnswer (last_extras (option_map (call_step m pid v) (does m pid v None r)))
 unfolding Unasked
 to-none m pid v Waits unasked = tt
 to-none m pid v (Does d) unasked = (unasked, tt)

@@ -17,6 +17,7 @@ pub mod PickLemmas
 pub mod LegLemmas
 pub mod UnaskedCalls
 pub mod AskedLemmas
+pub mod GoneLemmas
 pub mod TookLemmas
 pub mod SeenLemmas
 pub mod InSlotsLemmas

@@ -1,5 +1,5 @@
 -- What comes from outside: what it does, and when it is refused.
-use Rattle.std.proofs.Common.{◌≡◌, ℕ, ◌+◌, true, List, refl, arith}
+use Rattle.std.proofs.Common.{◌≡◌, ℕ, ◌+◌, ◌∙◌, Bool, true, false, List, Result, Ok, refl, sym, arith}
 use Rattle.std.proofs.lemmas.Bool.Decides.{nat_tests}
 use Rattle.arn_base.specs.declared.records.Give.{Give}
 use Rattle.parts_model.specs.Files.{is_name}
@@ -27,3 +27,11 @@ boot-next old new name give real booted = becomes-next old new (λ m. (boot_step
 -- a name, by what a file's name is
 pub named : (path : List ℕ) → is_name path ≡ true → IsName path
 named path is = (grind (arith, nat_tests), grind (arith, nat_tests))
+
+-- a number that wasn't unplugged before is added
+clash : true ≡ false → ⊥
+clash is = cc
+
+pub is-added : {E : Type 0} (r : Result Bool E) (added was : Bool) → r ≡ Ok added → (r ≡ Ok false → was ≡ true) → was ≡ false → r ≡ Ok true
+is-added r true was is before not = is
+is-added r false was is before not = absurd (clash (sym (before is) ∙ not))

@@ -11,3 +11,4 @@ pub mod Asked
 pub mod Took
 pub mod TookLaws
 pub mod InSlots
+pub mod Gone

@@ -1,4 +1,5 @@
 // What holds of runs and their records.
+ghost use Rattle.guest_machine.specs.Gone.{GoneUnasked};
 ghost use Rattle.guest_machine.specs.Laws.{NamedFollow, RecordsFollow, RecordsLeaveRoom, RunsFollow};
 ghost use Rattle.guest_machine.specs.TookLaws.{AnswersAreRecorded, SlotsFollow, TookBy};
 
@@ -37,6 +38,11 @@ pub fn answers_are_recorded<A: Answers>()
 {
     turns_have_parts();
 }
+
+/// A device that was unplugged isn't asked.
+pub fn gone_unasked()
+    ensures { GoneUnasked }
+{}
 
 /// What devices in slots gave and took is what the records say, slice by slice and in a whole leg.
 pub fn slots_follow<D: Device>()

@@ -17,8 +17,8 @@ pub use arn_model::RunState;
 pub use errors::MachineError;
 pub use guest_legs::{Leg, LegEnd, MOST_LEG, Pick, leg_end, legs_as_named, picks_follow};
 pub use law::{
-    answers_are_recorded, named_follow, records_follow, records_leave_room, runs_follow,
-    slots_follow,
+    answers_are_recorded, gone_unasked, named_follow, records_follow, records_leave_room,
+    runs_follow, slots_follow,
 };
 pub use machine::Machine;
 pub use record_match::{RebuildError, records_compare};

@@ -281,9 +281,8 @@ impl Machine {
         }
         out.reserve(1)?;
         let event = self.kernel.events();
-        if !self.kernel.unplug(device)? {
-            return Err(MachineError::NoDevice);
-        }
+        // It wasn't unplugged before, so this adds it.
+        self.kernel.unplug(device)?;
         out.push_reserved(Record::Unplug { device });
         Ok(event)
     }
