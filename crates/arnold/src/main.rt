@@ -9,7 +9,7 @@ ghost use Rattle.std.specs.Prelude.{◌≡◌, ◌≢◌, ◌<◌, ◌⊎◌, �
 ghost use Rattle.std.specs.IoError.{error_kind};
 ghost use Rattle.arn_words.specs.Words.{AreAccepted};
 
-use arn_base::{Chooser, Device, NoMemory, StdSink, StdSource, Steps};
+use arn_base::{Chooser, Device, StdSink, StdSource, Steps};
 use arn_session::{Options, Status, WordsError, arnold, read_words};
 use arn_words::refusal_text;
 use ending::{Cause, Ending};
@@ -22,7 +22,7 @@ use std::fs::File;
 use std::io::{self, ErrorKind, Read, Write};
 use std::marker::Brand;
 use std::process::ExitCode;
-use std::rt::{Clock, Files};
+use std::rt::Files;
 use std::sync::ledger::{Blank, Ledger};
 use streams::Noting;
 
@@ -63,40 +63,21 @@ fn ending_of<F: Files<File = File> + Clone + Drop>(
     Ending { status, cause }
 }
 
-/// The chooser that the words ask for.
-fn chooser_of(alloc: Global, options: &Options) -> Result<Box<dyn Chooser>, NoMemory> {
-    if options.random {
-        Ok(Box::new(alloc, SeededChooser::new(options.seed))?)
-    } else {
-        Ok(Box::new(alloc, RoundChooser::new(options.round))?)
-    }
-}
-
-/// The devices of the program, by their slots: the clock, the entropy device with a seed, and the
-/// silent device.
-fn devices_of<C: Clock + Drop + 'static>(
-    alloc: Global,
-    clock: C,
-    seed: u64,
-) -> Result<Vec<Option<Box<dyn Device>>>, NoMemory> {
-    let clock: Box<dyn Device> = Box::new(alloc, ClockDevice::new(clock))?;
-    let entropy: Box<dyn Device> = Box::new(alloc, EntropyDevice::new(seed))?;
-    let silent: Box<dyn Device> = Box::new(alloc, SilentDevice::new())?;
-    let mut devices = Vec::with_capacity(alloc, 3)?;
-    devices.push(Some(clock))?;
-    devices.push(Some(entropy))?;
-    devices.push(Some(silent))?;
-    Ok(devices)
-}
-
 /// A session from a reader to a writer over the log that the words name, with the chooser that they
-/// ask for, the program's devices and a new counter of steps.
+/// ask for, a clock and the other two devices of the program, and a new counter of steps.
 fn session<
     L: Ledger,
-    H: Files<File = File> + Clock + Clone + Drop + 'static,
+    H: Files<File = File> + AllocGlobal + Clone + Drop,
     R: Read + Drop,
     W: Write + Drop,
->(alloc: Global, words: &[String], host: H, reader: R, writer: W, blank: Blank) -> Ending
+>(
+    words: &[String],
+    host: H,
+    clock: Box<dyn Device>,
+    reader: R,
+    writer: W,
+    blank: Blank,
+) -> Ending
     requires name { blank.name ≡ L.name }
     requires parts { blank.parts ≡ L.parts }
     requires some { 0 < blank.parts }
@@ -105,18 +86,32 @@ fn session<
         (result.status ≡ Status.Usage) ⊎ (result.status ≡ Status.NoMemory) }
     ensures usage { result.status ≡ Status.Usage → ¬ AreAccepted words.now }
 {
+    let alloc = host.alloc();
     let options = match read_words(alloc, words) {
         Ok(options) => options,
         Err(WordsError::Usage) => return Ending::from(Status::Usage),
         Err(WordsError::NoMemory) => return Ending::from(Status::NoMemory),
     };
-    let Ok(clock) = host.clone() else {
-        return Ending::from(Status::NoMemory);
+    let mut chooser: Box<dyn Chooser> = if options.random {
+        match Box::new(alloc, SeededChooser::new(options.seed)) {
+            Ok(chooser) => chooser,
+            Err(_) => return Ending::from(Status::NoMemory),
+        }
+    } else {
+        match Box::new(alloc, RoundChooser::new(options.round)) {
+            Ok(chooser) => chooser,
+            Err(_) => return Ending::from(Status::NoMemory),
+        }
     };
-    let Ok(mut chooser) = chooser_of(alloc, &options) else {
-        return Ending::from(Status::NoMemory);
+    let entropy: Box<dyn Device> = match Box::new(alloc, EntropyDevice::new(options.seed)) {
+        Ok(device) => device,
+        Err(_) => return Ending::from(Status::NoMemory),
     };
-    let Ok(mut devices) = devices_of(alloc, clock, options.seed) else {
+    let silent: Box<dyn Device> = match Box::new(alloc, SilentDevice::new()) {
+        Ok(device) => device,
+        Err(_) => return Ending::from(Status::NoMemory),
+    };
+    let Ok(mut devices) = vec![in alloc; Some(clock), Some(entropy), Some(silent)] else {
         return Ending::from(Status::NoMemory);
     };
     let mut source = Noting::new(reader);
@@ -144,10 +139,17 @@ fn run(rt: &HostRuntime, words: &io::Result<Vec<String>>) -> Ending {
     let Ok(host) = rt.clone() else {
         return Ending::from(Status::NoMemory);
     };
+    let Ok(hand) = rt.clone() else {
+        return Ending::from(Status::NoMemory);
+    };
+    let clock: Box<dyn Device> = match Box::new(rt.alloc(), ClockDevice::new(hand)) {
+        Ok(clock) => clock,
+        Err(_) => return Ending::from(Status::NoMemory),
+    };
     session::<Brand, _, _, _>(
-        rt.alloc(),
         words.as_slice(),
         host,
+        clock,
         rt.stdin(),
         rt.stdout(),
         Blank::new(1),
