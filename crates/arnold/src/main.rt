@@ -70,14 +70,7 @@ fn session<
     H: Files<File = File> + AllocGlobal + Clone + Drop,
     R: Read + Drop,
     W: Write + Drop,
->(
-    words: &[String],
-    host: H,
-    clock: Box<dyn Device>,
-    reader: R,
-    writer: W,
-    blank: Blank,
-) -> Ending
+>(words: &[String], host: H, clock: Box<dyn Device>, reader: R, writer: W, blank: Blank) -> Ending
     requires name { blank.name ≡ L.name }
     requires parts { blank.parts ≡ L.parts }
     requires some { 0 < blank.parts }
