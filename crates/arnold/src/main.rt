@@ -24,7 +24,7 @@ use std::marker::Brand;
 use std::process::ExitCode;
 use std::rt::Files;
 use std::sync::ledger::{Blank, Ledger};
-use streams::Noting;
+use streams::Streams;
 
 /// The words behind the program's name.
 fn words<R: Env + AllocGlobal>(rt: &R) -> io::Result<Vec<String>> {
@@ -63,14 +63,16 @@ fn ending_of<F: Files<File = File> + Clone + Drop>(
     Ending { status, cause }
 }
 
-/// A session from a reader to a writer over the log that the words name, with the chooser that they
-/// ask for, a clock and the other two devices of the program, and a new counter of steps.
-fn session<
-    L: Ledger,
-    H: Files<File = File> + AllocGlobal + Clone + Drop,
-    R: Read + Drop,
-    W: Write + Drop,
->(words: &[String], host: H, clock: Box<dyn Device>, reader: R, writer: W, blank: Blank) -> Ending
+/// A session over a disk, with these streams, this chooser and these devices, and a new counter of
+/// steps.
+fn session<L: Ledger, H: Files<File = File> + Clone + Drop, R: Read + Drop, W: Write + Drop>(
+    words: &[String],
+    mut disk: FileDisk<H>,
+    mut chooser: Box<dyn Chooser>,
+    mut devices: Vec<Option<Box<dyn Device>>>,
+    streams: Streams<R, W>,
+    blank: Blank,
+) -> Ending
     requires name { blank.name ≡ L.name }
     requires parts { blank.parts ≡ L.parts }
     requires some { 0 < blank.parts }
@@ -79,37 +81,9 @@ fn session<
         (result.status ≡ Status.Usage) ⊎ (result.status ≡ Status.NoMemory) }
     ensures usage { result.status ≡ Status.Usage → ¬ AreAccepted words.now }
 {
-    let alloc = host.alloc();
-    let options = match read_words(alloc, words) {
-        Ok(options) => options,
-        Err(WordsError::Usage) => return Ending::from(Status::Usage),
-        Err(WordsError::NoMemory) => return Ending::from(Status::NoMemory),
-    };
-    let mut chooser: Box<dyn Chooser> = if options.random {
-        match Box::new(alloc, SeededChooser::new(options.seed)) {
-            Ok(chooser) => chooser,
-            Err(_) => return Ending::from(Status::NoMemory),
-        }
-    } else {
-        match Box::new(alloc, RoundChooser::new(options.round)) {
-            Ok(chooser) => chooser,
-            Err(_) => return Ending::from(Status::NoMemory),
-        }
-    };
-    let entropy: Box<dyn Device> = match Box::new(alloc, EntropyDevice::new(options.seed)) {
-        Ok(device) => device,
-        Err(_) => return Ending::from(Status::NoMemory),
-    };
-    let silent: Box<dyn Device> = match Box::new(alloc, SilentDevice::new()) {
-        Ok(device) => device,
-        Err(_) => return Ending::from(Status::NoMemory),
-    };
-    let Ok(mut devices) = vec![in alloc; Some(clock), Some(entropy), Some(silent)] else {
-        return Ending::from(Status::NoMemory);
-    };
-    let mut source = Noting::new(reader);
-    let mut sink = Noting::new(writer);
-    let mut disk = FileDisk::new(host, options.log);
+    let alloc = *devices.allocator();
+    let mut source = streams.source;
+    let mut sink = streams.sink;
     let status = arnold(
         alloc,
         words,
@@ -123,11 +97,17 @@ fn session<
     ending_of(status, &disk, source.error, sink.error)
 }
 
-/// Does all of it, and tells how it ended.
+/// Makes what the words ask for: the chooser, the clock, the entropy device with their seed, and the
+/// silent device. Runs the session over the log that they name, and tells how it ended.
 fn run(rt: &HostRuntime, words: &io::Result<Vec<String>>) -> Ending {
     let words = match words {
         Ok(words) => words,
         Err(error) => return Ending::from(status_of(error)),
+    };
+    let options = match read_words(rt.alloc(), words.as_slice()) {
+        Ok(options) => options,
+        Err(WordsError::Usage) => return Ending::from(Status::Usage),
+        Err(WordsError::NoMemory) => return Ending::from(Status::NoMemory),
     };
     let Ok(host) = rt.clone() else {
         return Ending::from(Status::NoMemory);
@@ -135,16 +115,38 @@ fn run(rt: &HostRuntime, words: &io::Result<Vec<String>>) -> Ending {
     let Ok(hand) = rt.clone() else {
         return Ending::from(Status::NoMemory);
     };
+    let chooser: Box<dyn Chooser> = if options.random {
+        match Box::new(rt.alloc(), SeededChooser::new(options.seed)) {
+            Ok(chooser) => chooser,
+            Err(_) => return Ending::from(Status::NoMemory),
+        }
+    } else {
+        match Box::new(rt.alloc(), RoundChooser::new(options.round)) {
+            Ok(chooser) => chooser,
+            Err(_) => return Ending::from(Status::NoMemory),
+        }
+    };
     let clock: Box<dyn Device> = match Box::new(rt.alloc(), ClockDevice::new(hand)) {
-        Ok(clock) => clock,
+        Ok(device) => device,
         Err(_) => return Ending::from(Status::NoMemory),
+    };
+    let entropy: Box<dyn Device> = match Box::new(rt.alloc(), EntropyDevice::new(options.seed)) {
+        Ok(device) => device,
+        Err(_) => return Ending::from(Status::NoMemory),
+    };
+    let silent: Box<dyn Device> = match Box::new(rt.alloc(), SilentDevice::new()) {
+        Ok(device) => device,
+        Err(_) => return Ending::from(Status::NoMemory),
+    };
+    let Ok(devices) = vec![in rt.alloc(); Some(clock), Some(entropy), Some(silent)] else {
+        return Ending::from(Status::NoMemory);
     };
     session::<Brand, _, _, _>(
         words.as_slice(),
-        host,
-        clock,
-        rt.stdin(),
-        rt.stdout(),
+        FileDisk::new(host, options.log),
+        chooser,
+        devices,
+        Streams::new(rt.stdin(), rt.stdout()),
         Blank::new(1),
     )
 }

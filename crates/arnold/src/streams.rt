@@ -17,6 +17,22 @@ impl<T> Noting<T> {
     }
 }
 
+/// What a session reads, and what it writes.
+#[derive(Drop)]
+pub struct Streams<R, W> {
+    pub source: Noting<R>,
+    pub sink: Noting<W>,
+}
+
+impl<R, W> Streams<R, W> {
+    pub fn new(reader: R, writer: W) -> Streams<R, W> {
+        Streams {
+            source: Noting::new(reader),
+            sink: Noting::new(writer),
+        }
+    }
+}
+
 /// The error of an answer.
 fn error_of(answer: &io::Result<usize>) -> Option<io::Error> {
     match answer {
