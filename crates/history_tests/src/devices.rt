@@ -1,6 +1,6 @@
 // Sessions whose programs read and write devices, and what is printed for them.
 use crate::same::assert_same;
-use arn_base::{Bytes, Device, Numbers};
+use arn_base::{Bytes, Device, Numbers, Reply, Took};
 use arn_session::Status;
 use guest_devices::{ScriptDevice, ScriptReply};
 use log_disk::{FuseDisk, MemDisk};
@@ -268,6 +268,72 @@ fn a_device_takes_what_fits(rt: HostRuntime) -> Result<(), Fail> {
     assert_prints(&rt, &mut disk, WRITER, WRITER_PRINTS, 1, &[true])
 }
 
+/// A device that fails at each call.
+#[derive(Drop)]
+struct Broken;
+
+impl Device for Broken {
+    ghost use Rattle.std.specs.Prelude.{None, Some, true};
+    ghost use Rattle.arn_base.specs.Device.{Faults};
+
+    ghost replies = { λ _ _. Some Faults };
+
+    ghost room = { λ _. None };
+
+    ghost took = { λ _. None };
+
+    ghost put_faults = { λ _ _. Some true };
+
+    fn ask(&mut self, _buf: &mut [u8]) -> Reply {
+        Reply::Fault
+    }
+
+    fn put(&mut self, _bytes: &[u8]) -> Took {
+        Took::Fault
+    }
+}
+
+/// Writes two bytes to device 0, and reads two; a child does so by the same descriptor.
+const FAULTS: &str = "\
+    asm p\n\
+    li a7, 21; li a0, 0; ecall\n\
+    li a7, 2; ecall\n\
+    li a7, 12; li a0, 3; addi a1, sp, -16; li a2, 2; ecall\n\
+    li a7, 11; li a0, 3; ecall\n\
+    li a7, 1; li a0, 0; ecall\n\
+    end\n\
+    boot p\n\
+    run 100\n\
+    events\n";
+
+const FAULTS_PRINTS: &str = "\
+    event 0\n\
+    event 1\n\
+    ran 27 done\n\
+    event 0 0 - file 88\n\
+    event 1 0 1 boot 88\n\
+    event 2 3 1 call.21.3 0\n\
+    event 3 5 1 call.2.2 0\n\
+    event 4 10 1 call.12.-5 0\n\
+    event 5 15 2 call.12.-5 0\n\
+    event 6 18 1 call.11.-5 0\n\
+    event 7 21 2 call.11.-5 0\n\
+    event 8 24 1 call.1.0 1\n\
+    event 9 27 2 call.1.0 1\n\
+    events 10\n";
+
+#[test]
+fn a_device_fails(rt: HostRuntime) -> Result<(), Fail> {
+    let mut disk = MemDisk::new(rt.alloc(), Bytes::new(rt.alloc()));
+    let device: Box<dyn Device> = Box::new(rt.alloc(), Broken)?;
+    let slots = vec![in rt.alloc(); Some(device)]?;
+    let script = Script::of(FAULTS.as_bytes());
+    let ended = run_with(rt.alloc(), &["log"], &script, &mut disk, slots)?;
+    let told = String::from_utf8_lossy(rt.alloc(), ended.sink.bytes())?;
+    assert_same(&rt, told.as_str(), FAULTS_PRINTS);
+    Ok(())
+}
+
 /// A device is unplugged behind two other events.
 const UNPLUGGED: &str = "\
     asm p\n\
@@ -296,4 +362,25 @@ fn a_device_is_gone_though_the_commit_fails(rt: HostRuntime) -> Result<(), Fail>
         assert_gone(&rt, call)?;
     }
     Ok(())
+}
+
+/// What a later session is told of that.
+const UNPLUGGED_EVENTS: &str = "\
+    event 0 0 - file 28\n\
+    event 1 0 1 boot 28\n\
+    event 2 0 - unplug.0 0\n\
+    events 3\n";
+
+#[test]
+fn a_device_is_gone_though_the_answer_is_lost(rt: HostRuntime) -> Result<(), Fail> {
+    let mut disk = MemDisk::new(rt.alloc(), Bytes::new(rt.alloc()));
+    let script = Script {
+        sink_fails: &[2],
+        ..Script::of(UNPLUGGED.as_bytes())
+    };
+    let ended = run_with(rt.alloc(), &["log"], &script, &mut disk, devices(&rt, 1)?)?;
+    assert_same(&rt, ended.status, Status::Sink);
+    assert_same(&rt, ended.sink.bytes(), b"event 0\nevent 1\n".as_slice());
+    assert_same(&rt, ended.filled.as_slice(), [false].as_slice());
+    assert_prints(&rt, &mut disk, "events\n", UNPLUGGED_EVENTS, 1, &[true])
 }
