@@ -5,13 +5,3 @@ use std::process::Abort;
 pub(crate) fn assert_same<T: PartialEq + Debug + Drop>(rt: &impl Abort, found: T, wanted: T) {
     assert_eq!(rt; found, wanted);
 }
-
-// The same, of a row that has a name.
-pub(crate) fn assert_same_at<T: PartialEq + Debug + Drop>(
-    rt: &impl Abort,
-    name: &str,
-    found: T,
-    wanted: T,
-) {
-    assert_eq!(rt; found, wanted, "{name}");
-}

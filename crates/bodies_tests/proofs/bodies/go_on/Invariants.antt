@@ -1,4 +1,4 @@
-use Rattle.machine_tests.proofs.bodies.go_on.Given as goal
+use Rattle.bodies_tests.proofs.bodies.go_on.Given as goal
 
 abbrev pub ghosts-run_counted : goal.ghosts-run_counted
 ghosts-run_counted g a = record { name = a.blank.name; parts = a.blank.parts }

@@ -1,5 +1,5 @@
 use Rattle.std.proofs.Common.{length}
-use Rattle.machine_tests.proofs.instructions.flat.+number.Given as goal
+use Rattle.core_tests.proofs.instructions.flat.+number.Given as goal
 
 abbrev pub decreases-number : goal.decreases-number
 decreases-number l = length l.bytes.now

@@ -1,4 +1,4 @@
-use Rattle.machine_tests.proofs.instructions.step_once.Given as goal
+use Rattle.core_tests.proofs.instructions.step_once.Given as goal
 
 abbrev pub ghosts-step_counted : goal.ghosts-step_counted
 ghosts-step_counted a = record { name = a.blank.name; parts = a.blank.parts }

@@ -1,6 +1,6 @@
 use Rattle.std.proofs.Common.{◌≡◌, ◌-◌, ◌++◌, length, take}
 use Rattle.arn_base.specs.Window.{bytes_of}
-use Rattle.machine_tests.proofs.instructions.flat.spell.Given as goal
+use Rattle.core_tests.proofs.instructions.flat.spell.Given as goal
 
 -- what is written, and what the rest of the number will be, are all the bytes
 abbrev pub invariant-loop-byte : goal.invariant-loop-byte

@@ -1,7 +1,7 @@
 use Rattle.std.proofs.Common.{◌≡◌, ℕ, suc, ◌+◌, ◌*◌, ◌^◌, ◌<◌, ◌≤◌, length, arith}
 use Rattle.std.proofs.lemmas.Nat.{pow-add}
 use Rattle.std.proofs.Math.Nat.{pow-le-pow_right}
-use Rattle.machine_tests.proofs.instructions.flat.+number.Goals as goal
+use Rattle.core_tests.proofs.instructions.flat.+number.Goals as goal
 
 -- one more byte below the others
 below_pow : (n k b m : ℕ) → n ≡ suc k → b < 256 → m < 2 ^ (8 * k) → b + 256 * m < 2 ^ (8 * n)

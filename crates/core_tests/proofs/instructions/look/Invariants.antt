@@ -1,4 +1,4 @@
-use Rattle.machine_tests.proofs.bodies.look_ahead.Given as goal
+use Rattle.core_tests.proofs.instructions.look.Given as goal
 
 abbrev pub ghosts-look_counted : goal.ghosts-look_counted
 ghosts-look_counted g a = record { name = a.blank.name; parts = a.blank.parts }

@@ -2,7 +2,7 @@ use Rattle.std.proofs.Common.{◌≡◌, ℕ, suc, ◌+◌, ◌-◌, ◌/◌, �
 use Rattle.std.proofs.Math.Seq.{take-length}
 use Rattle.std.proofs.lemmas.List.{length-set, take_more_set}
 use Rattle.arn_base.specs.Window.{bytes_of}
-use Rattle.machine_tests.proofs.instructions.flat.spell.Goals as goal
+use Rattle.core_tests.proofs.instructions.flat.spell.Goals as goal
 
 -- the lowest byte, and those of the rest
 bytes_of-more : (k m n : ℕ) → k ≡ suc m → bytes_of k n ≡ n % 256 ∷ bytes_of m (n / 256)

@@ -1,0 +1,7 @@
+//! The bodies of processes.
+#![tactic(auto)]
+
+#[cfg(test)]
+mod bodies;
+#[cfg(test)]
+mod same;

@@ -1,0 +1,7 @@
+//! Single instructions.
+#![tactic(auto)]
+
+#[cfg(test)]
+mod instructions;
+#[cfg(test)]
+mod same;
