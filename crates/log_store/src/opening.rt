@@ -60,7 +60,15 @@ pub fn open_bytes<D: Disk>(alloc: Global, disk: &mut D, bytes: &[u8]) -> Result<
     if bytes.len() <= FRESH.len() {
         return open_fresh(alloc, disk, bytes);
     }
-    open_named(alloc, disk, bytes)
+    logs_read_one_way();
+    records_spelled_one_way();
+    let found = read_log(alloc, bytes)?;
+    let gate = (bytes.len() - found.end.len()) as u64;
+    close_end(disk, gate, found.end)?;
+    Ok(Opened {
+        entries: found.entries,
+        log_len: gate + 1,
+    })
 }
 
 fn open_fresh<D: Disk>(alloc: Global, disk: &mut D, bytes: &[u8]) -> Result<Opened, OpenError>
@@ -96,46 +104,5 @@ fn open_fresh<D: Disk>(alloc: Global, disk: &mut D, bytes: &[u8]) -> Result<Open
     Ok(Opened {
         entries: Vec::new(alloc),
         log_len: FRESH.len() as u64,
-    })
-}
-
-fn open_named<D: Disk>(alloc: Global, disk: &mut D, bytes: &[u8]) -> Result<Opened, OpenError>
-    requires long { 9 < length bytes.now }
-    requires short { length bytes.now ≤ MOST_LOG }
-    requires told { IfSome (D.image disk.old) (λ told. told ≡ bytes.now) }
-
-    ensures recovered { IfOk result (λ opened. IsLog bytes.now opened.entries.items) }
-    ensures spelled { IfOk result (λ opened. All HasSpelling opened.entries.items) }
-    ensures sized { IfOk result (λ opened.
-        length (spellings opened.entries.items) ≤ opened.log_len) }
-    ensures left { IfOk result (λ opened.
-        IfSome (D.image disk.new) (IsLeft opened.entries.items opened.log_len)) }
-    ensures shut { OnOk result ((commits : List (List Record)) → IsLogOf bytes.now commits →
-        IfSome (D.image disk.new) (λ told. IsClosedLogOf told commits)) }
-    ensures ends { IfOk result (λ opened. (commits : List (List Record)) →
-        IsLogOf bytes.now commits → opened.log_len ≡ length (closed_log commits)) }
-    ensures len { IfOk result (λ opened. (9 ≤ opened.log_len) × (opened.log_len ≤ MOST_LOG)) }
-    ensures durable { OnOk result (NothingPending D.image D.may_leave disk.old →
-        NothingPending D.image D.may_leave disk.new) }
-
-    ensures any_moment { IfSome (D.image disk.old) (λ told. Only told (D.may_leave disk.old) →
-        LeavesOnly D.moment D.left_since disk.old disk.new (KeepsRecords told)) }
-
-    ensures untouched { IsNoLog bytes.now → disk.new ≡ disk.old }
-    ensures closed { (records : List Record) → IsClosedLog bytes.now records →
-        disk.new ≡ disk.old }
-    ensures refused { IfErr result (IsCauseOf bytes.now) }
-    ensures unchanged { IfErr result (λ error. BlamesBytes error → disk.new ≡ disk.old) }
-    ensures cause { IsErrOf result OpenError.Disk → Rose (D.faults disk.old) (D.faults disk.new) }
-    ensures later { GoesOn D.image D.faults disk.old disk.new }
-{
-    logs_read_one_way();
-    records_spelled_one_way();
-    let found = read_log(alloc, bytes)?;
-    let gate = (bytes.len() - found.end.len()) as u64;
-    close_end(disk, gate, found.end)?;
-    Ok(Opened {
-        entries: found.entries,
-        log_len: gate + 1,
     })
 }

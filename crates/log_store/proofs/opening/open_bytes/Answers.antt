@@ -9,7 +9,7 @@ use Rattle.log_store.proofs.Reopening.{bad_cause, found_closes, found_ends, foun
 use Rattle.log_store.proofs.Sizes.{found-sized}
 use Rattle.log_store.proofs.Spellings.{found_spelled}
 use Rattle.log_store.proofs.Told.{told_after, told_weaker}
-use Rattle.log_store.proofs.opening.open_named.Goals as goal
+use Rattle.log_store.proofs.opening.open_bytes.Goals as goal
 
 pub returns-in_err-found-clause-any_moment : goal.returns-in_err-found-clause-any_moment
 returns-in_err-found-clause-any_moment g c =
