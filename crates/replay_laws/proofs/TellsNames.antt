@@ -1,5 +1,5 @@
 -- The records tell which file a name stands for.
-use Rattle.std.proofs.Common.{◌≡◌, ℕ, ◌+◌, ◌&&◌, not, Bool, true, false, cond, List, [], ◌∷◌, ◌++◌, Option, None, Some, is_some, map, filter, bytes_eq, refl, sym, ap, ◌∙◌, arith}
+use Rattle.std.proofs.Common.{◌≡◌, ℕ, ◌+◌, ◌&&◌, not, Bool, true, false, cond, List, [], ◌∷◌, ◌++◌, Option, None, Some, is_some, map, filter, bytes_eq, refl, arith}
 use Rattle.std.proofs.lemmas.Bool.Decides.{nat_tests}
 use Rattle.std.specs.List.{list_any}
 use Rattle.std.proofs.lemmas.List.{length_push}
@@ -28,29 +28,7 @@ same-change change name before = grind (arith, nat_tests)
 -- a new name behind the others is found, where it was free
 pub pushed : (all : List Name) (path : List ℕ) (file : ℕ) → file_among all path ≡ None → (name : List ℕ) → cond (bytes_eq path name) (Some file) (file_among all name) ≡ file_among (all ++ record { path = path; file = file } ∷ []) name
 pushed [] path file free name = refl
-pushed (x ∷ all) path file free name = by_tests (bytes_eq x.path path) refl (bytes_eq x.path name) refl (bytes_eq path name) refl (λ none. pushed all path file none name) free
-  where
-    same-path : (a b : List ℕ) → bytes_eq a b ≡ true → a ≡ b
-    same-path a b e = (bytes_eq-Decides a b).0 e
-
-    other-path : (a b : List ℕ) → a ≡ b → bytes_eq a b ≡ true
-    other-path a b e = (bytes_eq-Decides a b).1 e
-
-    clash : bytes_eq x.path path ≡ false → bytes_eq x.path name ≡ true → bytes_eq path name ≡ true → ⊥
-    clash e f g = differs (sym e ∙ other-path x.path path (same-path x.path name f ∙ sym (same-path path name g)))
-      where
-        differs : false ≡ true → ⊥
-        differs e = cc
-
-    by_tests : (b : Bool) → bytes_eq x.path path ≡ b → (c : Bool) → bytes_eq x.path name ≡ c → (t : Bool) → bytes_eq path name ≡ t
-        → (file_among all path ≡ None → cond (bytes_eq path name) (Some file) (file_among all name) ≡ file_among (all ++ record { path = path; file = file } ∷ []) name)
-        → cond b (Some x.file) (file_among all path) ≡ None
-        → cond t (Some file) (cond c (Some x.file) (file_among all name)) ≡ cond c (Some x.file) (file_among (all ++ record { path = path; file = file } ∷ []) name)
-    by_tests true e c f t g rest free = cc
-    by_tests false e true f true g rest free = absurd (clash e f g)
-    by_tests false e true f false g rest free = refl
-    by_tests false e false f t g rest free =
-        ap (λ (b : Bool). cond b (Some file) (file_among all name)) (sym g) ∙ rest free
+pushed (x ∷ all) path file free name = grind (arith, nat_tests, bytes_eq-Decides, pushed all path file)
 
 -- slices tell nothing of names
 pub named-kept : (n : ℕ) (entries : List Record) (name : List ℕ) (before : Option ℕ) → named_from n entries name before ≡ named_from n (filter is_event entries) name before
