@@ -56,29 +56,7 @@ same-change _ name before = refl
 -- a new name behind the others is found, where it was free
 pushed : (all : List Name) (path : List ℕ) (file : ℕ) → file_among all path ≡ None → (name : List ℕ) → cond (bytes_eq path name) (Some file) (file_among all name) ≡ file_among (all ++ record { path = path; file = file } ∷ []) name
 pushed [] path file free name = refl
-pushed (x ∷ all) path file free name = by_tests (bytes_eq x.path path) refl (bytes_eq x.path name) refl (bytes_eq path name) refl (λ none. pushed all path file none name) free
-  where
-    same-path : (a b : List ℕ) → bytes_eq a b ≡ true → a ≡ b
-    same-path a b e = (bytes_eq-Decides a b).0 e
-
-    other-path : (a b : List ℕ) → a ≡ b → bytes_eq a b ≡ true
-    other-path a b e = (bytes_eq-Decides a b).1 e
-
-    clash : bytes_eq x.path path ≡ false → bytes_eq x.path name ≡ true → bytes_eq path name ≡ true → ⊥
-    clash e f g = differs (sym e ∙ other-path x.path path (same-path x.path name f ∙ sym (same-path path name g)))
-      where
-        differs : false ≡ true → ⊥
-        differs e = cc
-
-    by_tests : (b : Bool) → bytes_eq x.path path ≡ b → (c : Bool) → bytes_eq x.path name ≡ c → (t : Bool) → bytes_eq path name ≡ t
-        → (file_among all path ≡ None → cond (bytes_eq path name) (Some file) (file_among all name) ≡ file_among (all ++ record { path = path; file = file } ∷ []) name)
-        → cond b (Some x.file) (file_among all path) ≡ None
-        → cond t (Some file) (cond c (Some x.file) (file_among all name)) ≡ cond c (Some x.file) (file_among (all ++ record { path = path; file = file } ∷ []) name)
-    by_tests true e c f t g rest free = cc
-    by_tests false e true f true g rest free = absurd (clash e f g)
-    by_tests false e true f false g rest free = refl
-    by_tests false e false f t g rest free =
-        ap (λ (b : Bool). cond b (Some file) (file_among all name)) (sym g) ∙ rest free
+pushed (x ∷ all) path file free name = grind (arith, nat_tests, bytes_eq-Decides, pushed all path file)
 
 -- what a record that brings no file does to names
 entry-named : (brought : ℕ) (e : Record) (entries : List Record) (name : List ℕ) (before : Option ℕ) → is_file e ≡ false → named_from brought (e ∷ entries) name before ≡ named_from brought entries name (named_by (name_told e) name before)
