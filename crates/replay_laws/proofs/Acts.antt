@@ -15,6 +15,7 @@ use Rattle.replay_laws.proofs.Blocks.{blocks-whole}
 use Rattle.replay_laws.proofs.Sized.{StartsWell, acted-whole, instr-whole}
 use Rattle.replay_laws.proofs.Owned.{Owner, Private, Shared, Fits, fits-later, segment-later, changed-same, changed-other}
 use Rattle.replay_laws.proofs.Agrees.{Joint, Good, if_own, joint-become, joint-later}
+use Rattle.window_laws.specs.Lengths.{KeepsLengths}
 
 -- whose the memory is that an act makes
 abbrev pub made_for : ℕ → Option ℕ → Act → Owner
@@ -65,8 +66,8 @@ both true s f a o h = rw h refl
 both false s f a o h = rw h refl
 
 -- an act of p at event e, in the whole machine and in group g alone
-pub joint-done : (g : ℕ) (owner : ℕ → Owner) (gs : Groups) (e p : ℕ) (w o : Bodies) (act : Act) (v : View) → seen w p ≡ Some v → GroupsFit gs p act → StartsWell v act → Joint g owner gs e w o → Joint g (changed owner e (made_for p (gs p) act)) gs (e + 1) (founded act e (beginning_of v) (done_by p e act (Some v) w)) (begun_bodies g e act v (if_own (is_number g (gs p)) (done_by p e act (Some v) o) o))
-joint-done g owner gs e p w o act v is fit starts h = by_act act fit starts
+pub joint-done : KeepsLengths → (g : ℕ) (owner : ℕ → Owner) (gs : Groups) (e p : ℕ) (w o : Bodies) (act : Act) (v : View) → seen w p ≡ Some v → GroupsFit gs p act → StartsWell v act → Joint g owner gs e w o → Joint g (changed owner e (made_for p (gs p) act)) gs (e + 1) (founded act e (beginning_of v) (done_by p e act (Some v) w)) (begun_bodies g e act v (if_own (is_number g (gs p)) (done_by p e act (Some v) o) o))
+joint-done keeps g owner gs e p w o act v is fit starts h = by_act act fit starts
   where
     good : Good owner gs e p v
     good = seen-good g owner gs e p w o v is h
@@ -76,7 +77,7 @@ joint-done g owner gs e p w o act v is fit starts h = by_act act fit starts
     itself act starts =
         let owner' = changed owner e (made_for p (gs p) act) in
         joint-become g owner' gs (e + 1) p (acted e act v) w o
-        (both-good owner' gs (e + 1) p (acted e act v) (acted-fits owner gs e p act v good.fits) (acted-whole e act v starts good.whole))
+        (both-good owner' gs (e + 1) p (acted e act v) (acted-fits owner gs e p act v good.fits) (acted-whole keeps e act v starts good.whole))
         (joint-later g owner owner' gs e (e + 1) w o (kept-owner owner e (made_for p (gs p) act)) (omega arith) h)
 
     forks : (c : ℕ) → gs c ≡ gs p → Joint g (changed owner e (Private c)) gs (e + 1) (done_by p e (Forks c) (Some v) w) (if_own (is_number g (gs p)) (done_by p e (Forks c) (Some v) o) o)
@@ -111,9 +112,9 @@ joint-done g owner gs e p w o act v is fit starts h = by_act act fit starts
     by_act act k s = itself act s
 
 -- an instruction
-pub joint-moved : (g : ℕ) (owner : ℕ → Owner) (gs : Groups) (n p : ℕ) (w o : Bodies) (v : View) (instr : Instr) (cpu : Cpu) (memory : List Window) → seen w p ≡ Some v → stands_at v ≡ Next instr cpu memory → Joint g owner gs n w o → Joint g owner gs n (put p (after_instr cpu memory v) w) (if_own (is_number g (gs p)) (put p (after_instr cpu memory v) o) o)
-joint-moved g owner gs n p w o v instr cpu memory is next h =
+pub joint-moved : KeepsLengths → (g : ℕ) (owner : ℕ → Owner) (gs : Groups) (n p : ℕ) (w o : Bodies) (v : View) (instr : Instr) (cpu : Cpu) (memory : List Window) → seen w p ≡ Some v → stands_at v ≡ Next instr cpu memory → Joint g owner gs n w o → Joint g owner gs n (put p (after_instr cpu memory v) w) (if_own (is_number g (gs p)) (put p (after_instr cpu memory v) o) o)
+joint-moved keeps g owner gs n p w o v instr cpu memory is next h =
     let good = seen-good g owner gs n p w o v is h in
     let fits : Fits owner gs n p (with_cpu cpu v).body = record { window = good.fits.window; segment = good.fits.segment } in
     joint-become g owner gs n p (Some (after_instr cpu memory v)) w o
-    (record { fits = reach-fits owner gs n p memory (with_cpu cpu v) fits; whole = instr-whole v instr cpu memory good.whole next }) h
+    (record { fits = reach-fits owner gs n p memory (with_cpu cpu v) fits; whole = instr-whole keeps v instr cpu memory good.whole next }) h

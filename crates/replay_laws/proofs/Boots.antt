@@ -22,6 +22,7 @@ use Rattle.replay_laws.proofs.Places.{put-body, put-memory}
 use Rattle.replay_laws.proofs.Sized.{acted-whole}
 use Rattle.replay_laws.proofs.Owned.{Owner, Private, changed-same, changed-other}
 use Rattle.replay_laws.proofs.Agrees.{Joint, Good, if_own, joint-become, joint-later}
+use Rattle.window_laws.specs.Lengths.{KeepsLengths}
 
 -- what is put is seen
 seen-put : (p : ℕ) (v : View) (b : Bodies) → v.body.segment ≡ None → v.segment ≡ [] → seen (put p v b) p ≡ Some v
@@ -60,13 +61,13 @@ twice false f h o = refl
 boot-bodies : (e : ℕ) (file : List ℕ) (b : Bodies) → boot_bodies e file b ≡ put 1 (started e (read_as_image file) (read (unborn e) 0 0)) (put 1 (unborn e) b)
 boot-bodies e file b = ap (λ (o : Option View). done_by 1 e (boot_act file) o (put 1 (unborn e) b)) (seen-put 1 (unborn e) b refl refl)
 
-pub boot-joint : (g e : ℕ) (owner : ℕ → Owner) (gs : Groups) (file : List ℕ) (w o : Bodies) → is_image file ≡ true → Joint g owner gs e w o → Joint g (changed owner e (Private 1)) gs (e + 1) (boot_bodies e file w) (if_own (is_number g (gs 1)) (boot_bodies e file o) o)
-boot-joint g e owner gs file w o image h =
+pub boot-joint : KeepsLengths → (g e : ℕ) (owner : ℕ → Owner) (gs : Groups) (file : List ℕ) (w o : Bodies) → is_image file ≡ true → Joint g owner gs e w o → Joint g (changed owner e (Private 1)) gs (e + 1) (boot_bodies e file w) (if_own (is_number g (gs 1)) (boot_bodies e file o) o)
+boot-joint keeps g e owner gs file w o image h =
     let owner' = changed owner e (Private 1) in
     let v = unborn e in
     let v' = started e (read_as_image file) (read v 0 0) in
     let good : Good owner' gs (e + 1) 1 v = record { fits = record { window = (omega arith, changed-same owner e (Private 1)); segment = tt }; whole = unborn-whole e } in
-    let good' : Good owner' gs (e + 1) 1 v' = record { fits = record { window = (omega arith, changed-same owner e (Private 1)); segment = tt }; whole = acted-whole e (boot_act file) v (image, refl) (unborn-whole e) } in
+    let good' : Good owner' gs (e + 1) 1 v' = record { fits = record { window = (omega arith, changed-same owner e (Private 1)); segment = tt }; whole = acted-whole keeps e (boot_act file) v (image, refl) (unborn-whole e) } in
     let born = joint-become g owner' gs (e + 1) 1 (Some v) w o good (joint-later g owner owner' gs e (e + 1) w o (λ k lt. changed-other owner e (Private 1) k (λ s. omega arith)) (omega arith) h) in
     let all = joint-become g owner' gs (e + 1) 1 (Some v') (put 1 v w) (if_own (is_number g (gs 1)) (put 1 v o) o) good' born in
     subst (λ (x : Bodies). Joint g owner' gs (e + 1) x (if_own (is_number g (gs 1)) (boot_bodies e file o) o)) (sym (boot-bodies e file w))

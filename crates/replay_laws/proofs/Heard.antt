@@ -26,6 +26,7 @@ use Rattle.replay_laws.proofs.Agrees.{Agrees, Joint, if_own, same-seen, number-t
 use Rattle.replay_laws.proofs.Acts.{made_for, GroupsFit, begun_bodies, joint-done, joint-moved}
 use Rattle.replay_laws.proofs.Told.{begun_own, begun_inside, event-tale}
 use Rattle.replay_laws.proofs.Steps.{plains-all, JointAt}
+use Rattle.window_laws.specs.Lengths.{KeepsLengths}
 
 bodies-if : (b : Bool) (x y : Own) → (cond b x y).bodies ≡ cond b x.bodies y.bodies
 bodies-if true x y = refl
@@ -98,10 +99,10 @@ more-plain g owner gs p k m v instr cpu memory o steps e next h to =
     by_test : (ran event end_event before : ℕ) (t : Bool) → is_number g (gs p) ≡ t → alone.plains (slice_at p ran event end_event) (suc before) (cond t k 0) (cond t (noted_ran p v instr cpu memory o) o) ≡ Makes to.own → alone.plains (slice_at p ran event end_event) before (cond t k 0) (cond t (noted_ran p v instr cpu memory o) o) ≡ Makes to.own → alone.plains (slice_at p ran event end_event) before (cond t (suc k) 0) o ≡ Makes to.own
     by_test ran event end_event before t h1 h2 h3 = grind (arith, nat_tests, once, number-true)
 
-ran-joint : (g : ℕ) (owner : ℕ → Owner) (gs : Groups) (m : Machine) (p : ℕ) (v : View) (instr : Instr) (cpu : Cpu) (memory : List Window) (o : Own) → seen m.bodies p ≡ Some v → stands_at v ≡ Next instr cpu memory → JointAt g owner gs m o.bodies → JointAt g owner gs (plain_step m p v instr cpu memory).after (own_ran g gs p v instr cpu memory o).bodies
-ran-joint g owner gs m p v instr cpu memory o e next h =
+ran-joint : KeepsLengths → (g : ℕ) (owner : ℕ → Owner) (gs : Groups) (m : Machine) (p : ℕ) (v : View) (instr : Instr) (cpu : Cpu) (memory : List Window) (o : Own) → seen m.bodies p ≡ Some v → stands_at v ≡ Next instr cpu memory → JointAt g owner gs m o.bodies → JointAt g owner gs (plain_step m p v instr cpu memory).after (own_ran g gs p v instr cpu memory o).bodies
+ran-joint keeps g owner gs m p v instr cpu memory o e next h =
     subst (λ (b : Bodies). JointAt g owner gs (plain_step m p v instr cpu memory).after b) (sym (bodies-if (mine gs g p) (noted_ran p v instr cpu memory o) o))
-    (joint-moved g owner gs m.events p m.bodies o.bodies v instr cpu memory e next h)
+    (joint-moved keeps g owner gs m.events p m.bodies o.bodies v instr cpu memory e next h)
 
 -- each first part of the steps, from any agreement
 abbrev PlainParts : ℕ → (ℕ → Owner) → Groups → ℕ → Machine → List Step → Type 0
@@ -111,13 +112,13 @@ no-parts : (g : ℕ) (owner : ℕ → Owner) (gs : Groups) (p : ℕ) (m : Machin
 no-parts g owner gs p m o zero h l = no-plain g owner gs p m o h
 no-parts g owner gs p m o (suc k) h l = absurd (omega arith)
 
-more-parts : (g : ℕ) (owner : ℕ → Owner) (gs : Groups) (p : ℕ) (m : Machine) (v : View) (instr : Instr) (cpu : Cpu) (memory : List Window) (rest : List Step) → seen m.bodies p ≡ Some v → stands_at v ≡ Next instr cpu memory → PlainParts g owner gs p (plain_step m p v instr cpu memory).after rest → PlainParts g owner gs p m (plain_step m p v instr cpu memory ∷ rest)
-more-parts g owner gs p m v instr cpu memory rest e next ih o zero h l = no-plain g owner gs p m o h
-more-parts g owner gs p m v instr cpu memory rest e next ih o (suc k) h l =
-    more-plain g owner gs p k m v instr cpu memory o (take k rest) e next h (ih (own_ran g gs p v instr cpu memory o) k (ran-joint g owner gs m p v instr cpu memory o e next h) (omega arith))
+more-parts : KeepsLengths → (g : ℕ) (owner : ℕ → Owner) (gs : Groups) (p : ℕ) (m : Machine) (v : View) (instr : Instr) (cpu : Cpu) (memory : List Window) (rest : List Step) → seen m.bodies p ≡ Some v → stands_at v ≡ Next instr cpu memory → PlainParts g owner gs p (plain_step m p v instr cpu memory).after rest → PlainParts g owner gs p m (plain_step m p v instr cpu memory ∷ rest)
+more-parts keeps g owner gs p m v instr cpu memory rest e next ih o zero h l = no-plain g owner gs p m o h
+more-parts keeps g owner gs p m v instr cpu memory rest e next ih o (suc k) h l =
+    more-plain g owner gs p k m v instr cpu memory o (take k rest) e next h (ih (own_ran g gs p v instr cpu memory o) k (ran-joint keeps g owner gs m p v instr cpu memory o e next h) (omega arith))
 
-pub plains-joint : (g : ℕ) (owner : ℕ → Owner) (gs : Groups) (n p : ℕ) (m : Machine) (o : Own) (k : ℕ) → JointAt g owner gs m o.bodies → k ≤ length (plains n p m) → PlainTo g owner gs p k m o (take k (plains n p m))
-plains-joint g owner gs n p m = plains-all p (PlainParts g owner gs p) (no-parts g owner gs p) (more-parts g owner gs p) n m
+pub plains-joint : KeepsLengths → (g : ℕ) (owner : ℕ → Owner) (gs : Groups) (n p : ℕ) (m : Machine) (o : Own) (k : ℕ) → JointAt g owner gs m o.bodies → k ≤ length (plains n p m) → PlainTo g owner gs p k m o (take k (plains n p m))
+plains-joint keeps g owner gs n p m = plains-all p (PlainParts g owner gs p) (no-parts g owner gs p) (more-parts keeps g owner gs p) n m
 
 -- what happens inside at an event
 abbrev pub act_inside : Machine → ℕ → View → Act → Record → Inside
@@ -143,9 +144,9 @@ own-bodies g gs m p v act r o = grind (arith, nat_tests, begun-bodies, begun_bod
 pub own-inside : (g : ℕ) (gs : Groups) (m : Machine) (p : ℕ) (v : View) (d : Doing) (r : Record) (o : Own) → EventTells m p v d r → (own_after g gs m p v d.act r o).inside ≡ o.inside ++ part gs g (event_step m p v d r).moved.inside
 own-inside g gs m p v d r o h1 = grind (arith, nat_tests, begun-inside, inside-if, append_assoc, event-tale)
 
-pub event-joint : (g : ℕ) (owner : ℕ → Owner) (gs : Groups) (m : Machine) (p : ℕ) (v : View) (d : Doing) (r : Record) (o : Own) → EventTells m p v d r → GroupsFit gs p d.act → JointAt g owner gs m o.bodies → JointAt g (changed owner m.events (made_for p (gs p) d.act)) gs (event_step m p v d r).after (own_after g gs m p v d.act r o).bodies
-event-joint g owner gs m p v d r o t fit h =
-    let j = joint-done g owner gs m.events p m.bodies o.bodies d.act v t.seen fit (event-tale m p v d r t).starts h in
+pub event-joint : KeepsLengths → (g : ℕ) (owner : ℕ → Owner) (gs : Groups) (m : Machine) (p : ℕ) (v : View) (d : Doing) (r : Record) (o : Own) → EventTells m p v d r → GroupsFit gs p d.act → JointAt g owner gs m o.bodies → JointAt g (changed owner m.events (made_for p (gs p) d.act)) gs (event_step m p v d r).after (own_after g gs m p v d.act r o).bodies
+event-joint keeps g owner gs m p v d r o t fit h =
+    let j = joint-done keeps g owner gs m.events p m.bodies o.bodies d.act v t.seen fit (event-tale m p v d r t).starts h in
     let owner' = changed owner m.events (made_for p (gs p) d.act) in
     let own : Bodies = begun_bodies g m.events d.act v (if_own (mine gs g p) (done_by p m.events d.act (Some v) o.bodies) o.bodies) in
     let j' = subst (λ (z : Option View). Joint g owner' gs (m.events + 1) (founded d.act m.events (beginning_of v) (done_by p m.events d.act z m.bodies)) own) (sym t.seen) j in

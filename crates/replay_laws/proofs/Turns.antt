@@ -25,6 +25,7 @@ use Rattle.replay_laws.proofs.Acts.{made_for, GroupsFit}
 use Rattle.replay_laws.proofs.Told.{groups_after, BeginsChild, event-tale}
 use Rattle.replay_laws.proofs.Steps.{Known, along-rest, after-append, next, live-number, told, count, counted, told-none, told-more, count-none, count-more, FirstIs, LastIs, first-tells, last-tells, ArePlain, plains-plain, told-plain, count-plain, within-plain, within-part, Kept, plains-keep, event-counts, JointAt}
 use Rattle.replay_laws.proofs.Heard.{parts-append, mine, slice_at, RunsTo, PlainTo, plains-joint, does, own_did, own_after, own-inside, event-joint}
+use Rattle.window_laws.specs.Lengths.{KeepsLengths}
 
 -- a standing in a slice whose begin is reached
 abbrev pub stand : Own → Groups → ℕ → ℕ → Bool → ℕ → ℕ → ℕ → Standing
@@ -100,8 +101,8 @@ unchanged-fits : (gs : Groups) (p : ℕ) (act : Act) → groups_after p act gs �
 unchanged-fits gs p act h1 = grind (arith, nat_tests, changed-same)
 
 -- instructions alone
-plain-rest : (g : ℕ) (gs ts : Groups) (until now : ℕ) (owner : ℕ → Owner) (o : Own) (m : Machine) (n p : ℕ) → JointAt g owner gs m o.bodies → RestEnds g gs until now o ts m p (plains n p m ++ [])
-plain-rest g gs ts until now owner o m n p h =
+plain-rest : KeepsLengths → (g : ℕ) (gs ts : Groups) (until now : ℕ) (owner : ℕ → Owner) (o : Own) (m : Machine) (n p : ℕ) → JointAt g owner gs m o.bodies → RestEnds g gs until now o ts m p (plains n p m ++ [])
+plain-rest keeps g gs ts until now owner o m n p h =
     let S = plains n p m ++ [] in
     subst (λ (rs : List Record). StepsEnd g gs until (now + count S) o.inside m (within (until - now) S) S (replayed g until (behind g gs until now o ts m.events (count S) p) rs)) (sym (told-plain (plains n p m) [] plain ∙ told-none)) (by_order (nat_le (until - now) (length (plains n p m))) refl)
   where
@@ -130,13 +131,13 @@ plain-rest g gs ts until now owner o m n p h =
     by_order : (b : Bool) → nat_le (until - now) (length (plains n p m)) ≡ b → StepsEnd g gs until (now + count (plains n p m ++ [])) o.inside m (within (until - now) (plains n p m ++ [])) (plains n p m ++ []) (behind g gs until now o ts m.events (count (plains n p m ++ [])) p)
     by_order true e =
         let le = leb-true (until - now) (length (plains n p m)) e in
-        ends (until - now) (let c = all in omega arith) (subst (PlainTo g owner gs p (until - now) m o) (sym (within-part (until - now) (plains n p m) [] plain tt le)) (plains-joint g owner gs n p m o (until - now) h le))
+        ends (until - now) (let c = all in omega arith) (subst (PlainTo g owner gs p (until - now) m o) (sym (within-part (until - now) (plains n p m) [] plain tt le)) (plains-joint keeps g owner gs n p m o (until - now) h le))
     by_order false e =
         let lt = leb-false (until - now) (length (plains n p m)) e in
         let len = length (plains n p m) in
         let over : len + (until - now - len) ≡ until - now = omega arith in
         let whole : within (until - now) (plains n p m ++ []) ≡ plains n p m = ap (λ i. within i (plains n p m ++ [])) (sym over) ∙ (within-plain (until - now - len) (plains n p m) [] plain ∙ append-nil (plains n p m)) in
-        let to = subst (PlainTo g owner gs p len m o) (take_all len (plains n p m) (le_refl len)) (plains-joint g owner gs n p m o len h (le_refl len)) in
+        let to = subst (PlainTo g owner gs p len m o) (take_all len (plains n p m) (le_refl len)) (plains-joint keeps g owner gs n p m o len h (le_refl len)) in
         ends len (let c = all in omega arith) (subst (PlainTo g owner gs p len m o) (sym whole) to)
 
 -- instructions, and then a call or an end
@@ -144,9 +145,9 @@ abbrev last_act : Machine → ℕ → List Step → View → Doing → Record �
 last_act m p A v d r = A ++ (event_step (after_steps m A) p v d r ∷ [])
 
 -- the end is reached
-full-end : (g : ℕ) (gs ts : Groups) (until now : ℕ) (owner : ℕ → Owner) (o : Own) (m : Machine) (p : ℕ) (A : List Step) (v : View) (d : Doing) (r : Record) → ArePlain A → Kept m (after_steps m A) → PlainTo g owner gs p (length A) m o A → EventTells (after_steps m A) p v d r → GroupsFit gs p d.act → ts p ≡ gs p → (c : ℕ) → c ≡ suc (length A) → now + c ≤ until
+full-end : KeepsLengths → (g : ℕ) (gs ts : Groups) (until now : ℕ) (owner : ℕ → Owner) (o : Own) (m : Machine) (p : ℕ) (A : List Step) (v : View) (d : Doing) (r : Record) → ArePlain A → Kept m (after_steps m A) → PlainTo g owner gs p (length A) m o A → EventTells (after_steps m A) p v d r → GroupsFit gs p d.act → ts p ≡ gs p → (c : ℕ) → c ≡ suc (length A) → now + c ≤ until
     → StepsEnd g gs until (now + c) o.inside m (within (until - now) (last_act m p A v d r)) (last_act m p A v d r) (after_last g p r (stand o ts m.events (now + c) true (cond (mine gs g p) (min c (until - now)) 0) p c))
-full-end g gs ts until now owner o m p A v d r plain kept to t fit same c len early =
+full-end keeps g gs ts until now owner o m p A v d r plain kept to t fit same c len early =
     let s = event_step (after_steps m A) p v d r in
     let m2 = after_steps m A in
     let owed : min c (until - now) ≡ suc (length A) = omega arith in
@@ -163,7 +164,7 @@ full-end g gs ts until now owner o m p A v d r plain kept to t fit same c len ea
       owner = changed owner m2.events (made_for p (gs p) d.act);
       own = own_after g gs m2 p v d.act r to.own;
       settled = λ event end_event. refl;
-      joint = subst (λ (x : Machine). JointAt g (changed owner m2.events (made_for p (gs p) d.act)) gs x (own_after g gs m2 p v d.act r to.own).bodies) (sym all) (event-joint g owner gs m2 p v d r to.own t fit to.joint);
+      joint = subst (λ (x : Machine). JointAt g (changed owner m2.events (made_for p (gs p) d.act)) gs x (own_after g gs m2 p v d.act r to.own).bodies) (sym all) (event-joint keeps g owner gs m2 p v d r to.own t fit to.joint);
       inside = own-inside g gs m2 p v d r to.own t ∙ (ap (λ xs. xs ++ part gs g s.moved.inside) to.inside ∙ (append_assoc o.inside (parts gs g A) (part gs g s.moved.inside) ∙ ap (λ xs. o.inside ++ xs) (ap (λ xs. parts gs g A ++ xs) (sym (append-nil (part gs g s.moved.inside))) ∙ sym (parts-append gs g A (s ∷ [])))));
       events = ap (λ (x : Machine). x.events) (sym all);
       moment = refl;
@@ -178,8 +179,8 @@ cut-end : (g : ℕ) (gs ts : Groups) (until now : ℕ) (owner : ℕ → Owner) (
     → StepsEnd g gs until (now + c) o.inside m (within (until - now) (last_act m p A v d r)) (last_act m p A v d r) (after_last g p r (stand o ts m.events (now + c) false (cond (mine gs g p) (min c (until - now)) 0) p c))
 cut-end g gs ts until now owner o m p A v d r h1 h2 h3 h4 c h5 h6 h7 = grind (arith, nat_tests, after-append, within-part)
 
-last-rest : (g : ℕ) (gs ts : Groups) (until now : ℕ) (owner : ℕ → Owner) (o : Own) (m : Machine) (n p : ℕ) (s : Step) → now ≤ until → JointAt g owner gs m o.bodies → ts p ≡ gs p → Below gs ts m (plains n p m ++ (s ∷ [])) → LastIs (after_steps m (plains n p m)) p s → RestEnds g gs until now o ts m p (plains n p m ++ (s ∷ []))
-last-rest g gs ts until now owner o m n p s early h same below last =
+last-rest : KeepsLengths → (g : ℕ) (gs ts : Groups) (until now : ℕ) (owner : ℕ → Owner) (o : Own) (m : Machine) (n p : ℕ) (s : Step) → now ≤ until → JointAt g owner gs m o.bodies → ts p ≡ gs p → Below gs ts m (plains n p m ++ (s ∷ [])) → LastIs (after_steps m (plains n p m)) p s → RestEnds g gs until now o ts m p (plains n p m ++ (s ∷ []))
+last-rest keeps g gs ts until now owner o m n p s early h same below last =
     let A = plains n p m in
     let m2 = after_steps m A in
     let x = event_step m2 p last.view last.doing last.entry in
@@ -203,22 +204,22 @@ last-rest g gs ts until now owner o m n p s early h same below last =
     by_order : GroupsFit gs p last.doing.act → (c : ℕ) → c ≡ suc (length (plains n p m)) → (b : Bool) → nat_le (now + c) until ≡ b → StepsEnd g gs until (now + c) o.inside m (within (until - now) (last_act m p (plains n p m) last.view last.doing last.entry)) (last_act m p (plains n p m) last.view last.doing last.entry) (after_last g p last.entry (stand o ts m.events (now + c) b (cond (mine gs g p) (min c (until - now)) 0) p c))
     by_order fit c len true e =
         let all = length (plains n p m) in
-        let to = subst (PlainTo g owner gs p all m o) (take_all all (plains n p m) (le_refl all)) (plains-joint g owner gs n p m o all h (le_refl all)) in
-        full-end g gs ts until now owner o m p (plains n p m) last.view last.doing last.entry plain kept to last.tells fit same c len (leb-true (now + c) until e)
+        let to = subst (PlainTo g owner gs p all m o) (take_all all (plains n p m) (le_refl all)) (plains-joint keeps g owner gs n p m o all h (le_refl all)) in
+        full-end keeps g gs ts until now owner o m p (plains n p m) last.view last.doing last.entry plain kept to last.tells fit same c len (leb-true (now + c) until e)
     by_order fit c len false e =
         let gt = leb-false (now + c) until e in
         let late : until - now ≤ length (plains n p m) = omega arith in
-        cut-end g gs ts until now owner o m p (plains n p m) last.view last.doing last.entry plain kept (plains-joint g owner gs n p m o (until - now) h late) (event-counts (after_steps m (plains n p m)) p last.view last.doing last.entry ∙ last.counted) c len late e
+        cut-end g gs ts until now owner o m p (plains n p m) last.view last.doing last.entry plain kept (plains-joint keeps g owner gs n p m o (until - now) h late) (event-counts (after_steps m (plains n p m)) p last.view last.doing last.entry ∙ last.counted) c len late e
 
 -- what follows a delivery, or stands without one
-rest-ends : (g : ℕ) (gs ts : Groups) (until now : ℕ) (owner : ℕ → Owner) (o : Own) (m : Machine) (n p : ℕ) (reply : Option Answered) → now ≤ until → JointAt g owner gs m o.bodies → ts p ≡ gs p → Along Known m (plains n p m ++ option_to_list (last_of n p reply m (plains n p m))) → Below gs ts m (plains n p m ++ option_to_list (last_of n p reply m (plains n p m))) → RestEnds g gs until now o ts m p (plains n p m ++ option_to_list (last_of n p reply m (plains n p m)))
-rest-ends g gs ts until now owner o m n p reply early h same known below = by_last (last_of n p reply m (plains n p m)) (last-tells m p n reply (plains n p m)) known below
+rest-ends : KeepsLengths → (g : ℕ) (gs ts : Groups) (until now : ℕ) (owner : ℕ → Owner) (o : Own) (m : Machine) (n p : ℕ) (reply : Option Answered) → now ≤ until → JointAt g owner gs m o.bodies → ts p ≡ gs p → Along Known m (plains n p m ++ option_to_list (last_of n p reply m (plains n p m))) → Below gs ts m (plains n p m ++ option_to_list (last_of n p reply m (plains n p m))) → RestEnds g gs until now o ts m p (plains n p m ++ option_to_list (last_of n p reply m (plains n p m)))
+rest-ends keeps g gs ts until now owner o m n p reply early h same known below = by_last (last_of n p reply m (plains n p m)) (last-tells m p n reply (plains n p m)) known below
   where
     by_last : (l : Option Step) → IfSome l (λ s. StepTells (after_steps m (plains n p m)) s → LastIs (after_steps m (plains n p m)) p s) → Along Known m (plains n p m ++ option_to_list l) → Below gs ts m (plains n p m ++ option_to_list l) → RestEnds g gs until now o ts m p (plains n p m ++ option_to_list l)
-    by_last None k known below = plain-rest g gs ts until now owner o m n p h
+    by_last None k known below = plain-rest keeps g gs ts until now owner o m n p h
     by_last (Some s) k known below =
         let last = k (along-rest Known m (plains n p m) (s ∷ []) known).0.tells in
-        last-rest g gs ts until now owner o m n p s early h same below last
+        last-rest keeps g gs ts until now owner o m n p s early h same below last
 
 -- a standing between two turns
 pub record Stood (g : ℕ) (gs : Groups) (now : ℕ) (t : Standing) (m : Machine) : Type 0 where
@@ -236,8 +237,8 @@ abbrev TurnGoal : ℕ → Groups → ℕ → ℕ → ℕ → List Inside → Sta
 TurnGoal g gs until now p heard t m steps = StepsEnd g gs until (now + count steps) heard m (within (until - now) steps) steps (replayed g until (after_slice g until p (count steps) t) (told steps))
 
 -- the records of a turn, whatever happened in it
-pub turn-ends : (g : ℕ) (gs : Groups) (until now n p : ℕ) (reply : Option Answered) (t : Standing) (m : Machine) (h : Stood g gs now t m) → now ≤ until → t.groups p ≡ gs p → Along Known m (steps_of (turn n p reply m)) → Below gs t.groups m (steps_of (turn n p reply m)) → TurnGoal g gs until now p h.own.inside t m (steps_of (turn n p reply m))
-turn-ends g gs until now n p reply t m h early same known below = by_first (delivery_in m p (seen m.bodies p)) (first-tells m p) known below
+pub turn-ends : KeepsLengths → (g : ℕ) (gs : Groups) (until now n p : ℕ) (reply : Option Answered) (t : Standing) (m : Machine) (h : Stood g gs now t m) → now ≤ until → t.groups p ≡ gs p → Along Known m (steps_of (turn n p reply m)) → Below gs t.groups m (steps_of (turn n p reply m)) → TurnGoal g gs until now p h.own.inside t m (steps_of (turn n p reply m))
+turn-ends keeps g gs until now n p reply t m h early same known below = by_first (delivery_in m p (seen m.bodies p)) (first-tells m p) known below
   where
     with_first : (v : View) (d : Doing) (r : Record) → EventTells m p v d r → ((g until : ℕ) (t : Standing) → after_record g until t r ≡ after_signal g p r t) → is_call_or_end r ≡ false → ((x : Groups) → groups_told r x ≡ x) → ((g e : ℕ) (own : Own) → begins_by g e r own ≡ Makes own) → Along Known m (steps_of (turn_from n p reply (Some (event_step m p v d r)) (event_step m p v d r).after)) → Below gs t.groups m (steps_of (turn_from n p reply (Some (event_step m p v d r)) (event_step m p v d r).after)) → TurnGoal g gs until now p h.own.inside t m (steps_of (turn_from n p reply (Some (event_step m p v d r)) (event_step m p v d r).after))
     with_first v d r tells signals uncounted regroups none known below =
@@ -249,7 +250,7 @@ turn-ends g gs until now n p reply t m h early same known below = by_first (deli
         let first = within (until - now) S in
         let owner1 = changed h.owner m.events (made_for p (gs p) d.act) in
         let below1 : Below gs t.groups m1 S = λ q l. sym (ap (λ (rs : List Record). groups_from rs t.groups q) (told-more s S) ∙ ap (λ (x : Groups). groups_from (told S) x q) (regroups t.groups)) ∙ below q l in
-        let rest = rest-ends g gs t.groups until now owner1 o1 m1 n p reply early (event-joint g h.owner gs m p v d r h.own tells (unchanged-fits gs p d.act (sym ((event-tale m p v d r tells).groups gs) ∙ regroups gs)) h.joint) same known.1 below1 in
+        let rest = rest-ends keeps g gs t.groups until now owner1 o1 m1 n p reply early (event-joint keeps g h.owner gs m p v d r h.own tells (unchanged-fits gs p d.act (sym ((event-tale m p v d r tells).groups gs) ∙ regroups gs)) h.joint) same known.1 below1 in
         let same_count : count (s ∷ S) ≡ c = count-more s S ∙ ap (λ (b : Bool). counted b c) (event-counts m p v d r ∙ uncounted) in
         let path : after_record g until (after_slice g until p c t) r ≡ behind g gs until now o1 t.groups m1.events c p =
         ap (λ t. after_record g until t r) (slice-step g gs until now p c t m h early same)
@@ -267,7 +268,7 @@ turn-ends g gs until now n p reply t m h early same known below = by_first (deli
     by_first : (d : Option Step) → IfSome d (λ s. StepTells m s → FirstIs m p s) → Along Known m (steps_of (turn_from n p reply d (after_first m d))) → Below gs t.groups m (steps_of (turn_from n p reply d (after_first m d))) → TurnGoal g gs until now p h.own.inside t m (steps_of (turn_from n p reply d (after_first m d)))
     by_first None k known below =
         let S = plains n p m ++ option_to_list (last_of n p reply m (plains n p m)) in
-        subst (λ (x : Standing). StepsEnd g gs until (now + count S) h.own.inside m (within (until - now) S) S (replayed g until x (told S))) (sym (slice-step g gs until now p (count S) t m h early same)) (rest-ends g gs t.groups until now h.owner h.own m n p reply early h.joint same known below)
+        subst (λ (x : Standing). StepsEnd g gs until (now + count S) h.own.inside m (within (until - now) S) S (replayed g until x (told S))) (sym (slice-step g gs until now p (count S) t m h early same)) (rest-ends keeps g gs t.groups until now h.owner h.own m n p reply early h.joint same known below)
     by_first (Some d) k known below =
         let f = k known.0.tells in
         let known' = subst (λ (d : Step). Along Known m (steps_of (turn_from n p reply (Some d) d.after))) f.is known in

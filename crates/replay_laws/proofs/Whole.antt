@@ -33,6 +33,7 @@ use Rattle.replay_laws.proofs.Heard.{parts-append}
 use Rattle.replay_laws.proofs.Turns.{Settles, Ends, Stood, turn-ends}
 use Rattle.replay_laws.proofs.Late.{made-settled, nothing-later, replayed-append, replayed-groups, groups-append}
 use Rattle.replay_laws.proofs.Inputs.{IsOutside, Takes, Rests, Comes, Begins, Turns, takes, none-recorded, input-groups, along-numbers, later-groups, sound-first, stays-booted}
+use Rattle.window_laws.specs.Lengths.{KeepsLengths}
 
 -- the records of an input that takes these steps, and of what follows
 abbrev all_records : Input → Machine → List Step → List Input → List Record
@@ -134,8 +135,8 @@ comes-goes g gs until now i inputs m t h ended idle early go s r told out known 
     (subst (λ (xs : List Step). Reaches g gs (replayed g until t' (records_from s.after inputs)) h.own.inside m xs) (sym same) all))
 
 -- the boot
-boot-goes : (g : ℕ) (gs : Groups) (until now : ℕ) (i : Input) (inputs : List Input) (m : Machine) (t : Standing) (h : Stood g gs now t m) → t.is_ended ≡ true → (is_booted m ≡ false → t.owed ≡ 0) → now ≤ until → Goes g gs until inputs → (path : List ℕ) (file : ℕ) (held : List TaggedByte) → input_records i (boot_step m path file held ∷ []) ≡ entry.Boot path (given held) ∷ [] → is_booted m ≡ false → is_image (values held) ≡ true → InputGoal g gs until now i inputs m t h.own.inside (boot_step m path file held ∷ [])
-boot-goes g gs until now i inputs m t h ended idle early go path file held told first image known sound final =
+boot-goes : KeepsLengths → (g : ℕ) (gs : Groups) (until now : ℕ) (i : Input) (inputs : List Input) (m : Machine) (t : Standing) (h : Stood g gs now t m) → t.is_ended ≡ true → (is_booted m ≡ false → t.owed ≡ 0) → now ≤ until → Goes g gs until inputs → (path : List ℕ) (file : ℕ) (held : List TaggedByte) → input_records i (boot_step m path file held ∷ []) ≡ entry.Boot path (given held) ∷ [] → is_booted m ≡ false → is_image (values held) ≡ true → InputGoal g gs until now i inputs m t h.own.inside (boot_step m path file held ∷ [])
+boot-goes keeps g gs until now i inputs m t h ended idle early go path file held told first image known sound final =
     let r = entry.Boot path (given held) in
     let s = boot_step m path file held in
     let rest_records = records_from s.after inputs in
@@ -149,7 +150,7 @@ boot-goes g gs until now i inputs m t h ended idle early go path file held told 
     ap (λ (b : Bool). made_if (b && (g == 1)) t.made (boots t.events r)) ended
     ∙ (ap₂ (λ (x : Made) (e : ℕ). made_if (g == 1) x (boots e r)) (made-settled h.own t (idle first) h.settled) h.events
     ∙ boot-made g m.events path (given held) h.own gs one image) in
-    let joint = boot-joint g m.events h.owner gs (values held) m.bodies h.own.bodies image h.joint in
+    let joint = boot-joint keeps g m.events h.owner gs (values held) m.bodies h.own.bodies image h.joint in
     let joint' = subst (λ (b : Bodies). JointAt g (changed h.owner m.events (Private 1)) gs s.after b) (sym (boot-own-bodies mine m.events r (values held) h.own)) joint in
     let h' : Stood g gs now t' s.after = record {
       owner = changed h.owner m.events (Private 1);
@@ -204,8 +205,8 @@ all-groups : (i : Input) (m : Machine) (steps : List Step) (inputs : List Input)
 all-groups i m steps inputs x q h1 h2 = grind (arith, nat_tests, along-first, along-numbers, groups-append, later-groups, along-rest, input-groups, told-groups)
 
 -- a turn
-some-goes : (g : ℕ) (gs : Groups) (until now : ℕ) (i : Input) (inputs : List Input) (m : Machine) (t : Standing) (h : Stood g gs now t m) → now ≤ until → Goes g gs until inputs → (pid count' : ℕ) (reply : Option Answered) (v : View) → ((steps : List Step) → input_records i steps ≡ slice_records pid steps) → seen m.bodies pid ≡ Some v → (s : Step) (ss : List Step) → steps_of (turn count' pid reply m) ≡ s ∷ ss → InputGoal g gs until now i inputs m t h.own.inside (s ∷ ss)
-some-goes g gs until now i inputs m t h early go pid count' reply v slices sees s ss is known sound final =
+some-goes : KeepsLengths → (g : ℕ) (gs : Groups) (until now : ℕ) (i : Input) (inputs : List Input) (m : Machine) (t : Standing) (h : Stood g gs now t m) → now ≤ until → Goes g gs until inputs → (pid count' : ℕ) (reply : Option Answered) (v : View) → ((steps : List Step) → input_records i steps ≡ slice_records pid steps) → seen m.bodies pid ≡ Some v → (s : Step) (ss : List Step) → steps_of (turn count' pid reply m) ≡ s ∷ ss → InputGoal g gs until now i inputs m t h.own.inside (s ∷ ss)
+some-goes keeps g gs until now i inputs m t h early go pid count' reply v slices sees s ss is known sound final =
     let S : List Step = s ∷ ss in
     let c = count S in
     let m' = after_steps m S in
@@ -220,7 +221,7 @@ some-goes g gs until now i inputs m t h early go pid count' reply v slices sees 
     ∙ (ap (λ (x : Groups). x q) (sym (groups-append (input_records i S) (records_from m' inputs) t.groups)) ∙ final q)) in
     let known_turn = subst (λ (xs : List Step). Along Known m xs) (sym is) (along-first Known m S (steps_from m' inputs) known) in
     let below_turn = subst (λ (xs : List Step). (q : ℕ) → q < next (after_steps m xs) → groups_from (told xs) t.groups q ≡ gs q) (sym is) below in
-    let ends = turn-ends g gs until now count' pid reply t m h early same known_turn below_turn in
+    let ends = turn-ends keeps g gs until now count' pid reply t m h early same known_turn below_turn in
     let ends' = subst (λ (xs : List Step). Ends g gs until (now + count xs) (h.own.inside ++ parts gs g (within (until - now) xs)) (replayed g until (after_slice g until pid (count xs) t) (told xs)) (after_steps m (within (until - now) xs)) (after_steps m xs)) is ends in
     let t1 = replayed g until (after_slice g until pid c t) (told S) in
     let groups : t1.groups ≡ groups_from (input_records i S) t.groups = replayed-groups g until (told S) (after_slice g until pid c t) ∙ sym (input-groups i S t.groups) in
@@ -239,20 +240,20 @@ some-goes g gs until now i inputs m t h early go pid count' reply v slices sees 
     by_order e groups booted false k =
         cut-off g gs until now inputs h.own.inside m (s ∷ ss) (replayed g until (after_slice g until pid (count (s ∷ ss)) t) (told (s ∷ ss))) e early (leb-false (count (s ∷ ss)) (until - now) k)
 
-inputs-reach : (g : ℕ) (gs : Groups) (until : ℕ) (inputs : List Input) → Goes g gs until inputs
-inputs-reach g gs until [] now t m h b early = record { owner = h.owner; own = h.own; is = h.settled; joint = h.joint; inside = sym (append-nil h.own.inside) }
-inputs-reach g gs until (i ∷ inputs) now t m h b early = by_input (takes m i) (inputs-reach g gs until inputs) b.known b.sound b.final
+inputs-reach : KeepsLengths → (g : ℕ) (gs : Groups) (until : ℕ) (inputs : List Input) → Goes g gs until inputs
+inputs-reach keeps g gs until [] now t m h b early = record { owner = h.owner; own = h.own; is = h.settled; joint = h.joint; inside = sym (append-nil h.own.inside) }
+inputs-reach keeps g gs until (i ∷ inputs) now t m h b early = by_input (takes m i) (inputs-reach keeps g gs until inputs) b.known b.sound b.final
   where
     turn-goes : (pid count' : ℕ) (reply : Option Answered) (v : View) → ((steps : List Step) → input_records i steps ≡ slice_records pid steps) → seen m.bodies pid ≡ Some v → Goes g gs until inputs → (S : List Step) → steps_of (turn count' pid reply m) ≡ S → InputGoal g gs until now i inputs m t h.own.inside S
     turn-goes pid count' reply v slices sees go [] is = none-goes g gs until now i inputs m t h b.ended b.idle early go
-    turn-goes pid count' reply v slices sees go (s ∷ ss) is = some-goes g gs until now i inputs m t h early go pid count' reply v slices sees s ss is
+    turn-goes pid count' reply v slices sees go (s ∷ ss) is = some-goes keeps g gs until now i inputs m t h early go pid count' reply v slices sees s ss is
 
     by_input : Takes m i → Goes g gs until inputs → InputGoal g gs until now i inputs m t h.own.inside (input_steps m i)
     by_input (Rests is) go = subst (InputGoal g gs until now i inputs m t h.own.inside) (sym is) (none-goes g gs until now i inputs m t h b.ended b.idle early go)
     by_input (Comes s r is told out) go =
         subst (InputGoal g gs until now i inputs m t h.own.inside) (sym is) (comes-goes g gs until now i inputs m t h b.ended b.idle early go s r (told (s ∷ []) ∙ out.records) out)
     by_input (Begins path file held is told first image) go =
-        subst (InputGoal g gs until now i inputs m t h.own.inside) (sym is) (boot-goes g gs until now i inputs m t h b.ended b.idle early go path file held (told (boot_step m path file held ∷ [])) first image)
+        subst (InputGoal g gs until now i inputs m t h.own.inside) (sym is) (boot-goes keeps g gs until now i inputs m t h b.ended b.idle early go path file held (told (boot_step m path file held ∷ [])) first image)
     by_input (Turns pid count' reply v is told sees) go = turn-goes pid count' reply v told sees go (input_steps m i) (sym is)
 
 -- at first there is nobody
@@ -262,16 +263,16 @@ nobody-joint g owner gs = grind (arith, nat_tests, nobody-at)
 first-stood : (g : ℕ) (gs : Groups) → Stood g gs 0 alone.at_first at_first
 first-stood g gs = record { owner = λ k. Private 0; own = nothing_own; settled = λ event end_event. refl; joint = nobody-joint g (λ k. Private 0) gs; events = refl; moment = refl }
 
-pub passes : StepsTell → EachRunIsSound → EachRunAppends → GroupsPassThrough
+pub passes : KeepsLengths → StepsTell → EachRunIsSound → EachRunAppends → GroupsPassThrough
 unfolding first-stood
-passes tell sound append inputs g moment few =
+passes keeps tell sound append inputs g moment few =
     let gs = group_of (records inputs) in
     let all = run inputs in
     let sounds = sound inputs in
     let known = along-known at_first all (tell inputs few) sounds.along sounds.numbers in
     let there : machine_after inputs ≡ after_steps at_first all = (append at_first inputs []).reached in
     let b : Before g gs alone.at_first at_first inputs = record { ended = refl; idle = λ e. refl; known = known; sound = subst IsSoundMachine there sounds.last; final = λ q. refl } in
-    let e = inputs-reach g gs moment inputs 0 alone.at_first at_first (first-stood g gs) b (omega arith) in
+    let e = inputs-reach keeps g gs moment inputs 0 alone.at_first at_first (first-stood g gs) b (omega arith) in
     let zero_off : moment - 0 ≡ moment = omega arith in
     let j = subst (λ (k : ℕ). JointAt g e.owner gs (after_steps at_first (within k all)) e.own.bodies) zero_off e.joint in
     let t = replayed g moment alone.at_first (records inputs) in
