@@ -1,15 +1,14 @@
 -- What a process sees is no more than a window and a segment have room for, whatever an instruction or an act does.
-use Rattle.std.proofs.Common.{is_some, ◌≡◌, ℕ, suc, ◌+◌, ◌-◌, ◌*◌, ◌≤◌, List, [], ◌∷◌, ◌++◌, length, take, drop, Option, Some, None, IfSome, All, unwrap_or, Bool, true, false, ◌&&◌, if◌then◌else◌, arith, nat_le, nat_lt, length-take, length-drop, length-append, length-take-le}
+use Rattle.std.proofs.Common.{◌≡◌, ℕ, suc, ◌+◌, ◌-◌, ◌*◌, ◌≤◌, List, [], ◌∷◌, ◌++◌, length, take, drop, Option, Some, None, IfSome, All, true, false, ◌&&◌, arith, nat_le, nat_lt, subst, sym, length-take, length-drop, length-append}
 use Rattle.std.proofs.lemmas.Bool.Decides.{nat_tests}
 use Rattle.std.proofs.lemmas.Bool.{and_parts, or_parts, leb-true, ltb-false}
 use Rattle.std.proofs.lemmas.List.{length-replicate}
 use Rattle.arn_base.specs.Disk.{overwrite}
 use Rattle.arn_base.specs.declared.machine.Block.{Block}
 use Rattle.arn_base.specs.declared.machine.Cpu.{Cpu}
-use Rattle.arn_base.specs.Window.{Window, is_whole_in, window_bytes, window_with, bytes_at, with_bytes, bytes_of}
+use Rattle.arn_base.specs.Window.{Window, with_bytes}
 use Rattle.rv64_isa.specs.declared.instruction.Instr.{Instr}
-use Rattle.rv64_isa.specs.Decoded.{decoded}
-use Rattle.rv64_model.specs.Instruction.{Effect, Next, Call, End, jumps, branches, loads, stores, executed, executed_if, fetched, advanced}
+use Rattle.rv64_model.specs.Instruction.{Next}
 use Rattle.parts_model.specs.declared.limits.TheConstants.{WINDOW_START, WINDOW_LEN, SEGMENT_LEN, BLOCK_LEN, MOST_BLOCK_BYTES}
 use Rattle.parts_model.specs.Blocks.{with_blocks}
 use Rattle.parts_model.specs.Image.{Image, read_as_image}
@@ -17,87 +16,30 @@ use Rattle.parts_model.specs.Memory.{zeros}
 use Rattle.acts_model.specs.Acts.{Act, Returns, Receives, Gives, Starts, Forks, Founds, Shares, Leaves, Delivers, Exits, Faults, Dies, acted, restored}
 use Rattle.acts_model.specs.Bodies.{View}
 use Rattle.acts_model.specs.Disagreement.{is_outside, isnt_block}
-use Rattle.acts_model.specs.Views.{reach, read, with_reach, stands_at, after_instr, among_zeros, block_at, window_at_start}
+use Rattle.acts_model.specs.Views.{reach, read, with_cpu, with_reach, stands_at, after_instr, among_zeros, block_at, window_at_start}
 use Rattle.history_model.specs.Broken.{rise_from}
-use Rattle.rv64_model.specs.declared.statuses.TheConstants.{BAD_ACCESS}
+use Rattle.window_laws.specs.Lengths.{KeepsLengths, lengths}
 
--- the first of windows is a private one, and the next a segment
-abbrev Rooms : List Window → Type 0
+-- of windows with such lengths the first is a private one, and the next a segment
+abbrev Rooms : List ℕ → Type 0
 Rooms [] = Unit {0}
-Rooms (w ∷ []) = length w.bytes ≤ WINDOW_LEN
-Rooms (w ∷ s ∷ more) = (length w.bytes ≤ WINDOW_LEN) × (length s.bytes ≤ SEGMENT_LEN)
+Rooms (len ∷ []) = len ≤ WINDOW_LEN
+Rooms (len ∷ other ∷ more) = (len ≤ WINDOW_LEN) × (other ≤ SEGMENT_LEN)
 
 pub record HasRooms (v : View) : Type 0 where
   pub window : length v.window ≤ WINDOW_LEN
   pub segment : length v.segment ≤ SEGMENT_LEN
 
-overwritten-len : (old : List ℕ) (at : ℕ) (bytes : List ℕ) → at + length bytes ≤ length old → length (overwrite old at bytes) ≡ length old
-overwritten-len old at bytes l =
-    let a = length-take-le at old (omega arith) in
-    let b = length-append (take at old) bytes in
-    let c = length-append (take at old ++ bytes) (drop (at + length bytes) old) in
-    let d = length-drop (at + length bytes) old in
-    omega arith
-
-whole-len : (w : Window) (at : ℕ) (bytes : List ℕ) → is_whole_in w at (length bytes) ≡ true → length (window_with w at bytes).bytes ≡ length w.bytes
-whole-len w at bytes h1 = grind (arith, nat_tests, and_parts, leb-true, overwritten-len)
-
-with-rooms : (ws : List Window) (at : ℕ) (bytes : List ℕ) → Rooms ws → Rooms (with_bytes ws at bytes)
-with-rooms ws at bytes h1 = grind (arith, nat_tests, whole-len)
-
-reach-rooms : (v : View) → HasRooms v → Rooms (reach v)
+reach-rooms : (v : View) → HasRooms v → Rooms (lengths (reach v))
 reach-rooms v h1 = grind (arith, nat_tests)
 
-with_reach-rooms : (ws : List Window) (v : View) → Rooms ws → HasRooms v → HasRooms (with_reach ws v)
+with_reach-rooms : (ws : List Window) (v : View) → Rooms (lengths ws) → HasRooms v → HasRooms (with_reach ws v)
 with_reach-rooms ws v h1 h2 = grind (arith, nat_tests)
 
--- what is read has no more bytes than were asked for
-read-few : (ws : List Window) (at len : ℕ) → length (unwrap_or (bytes_at ws at len) []) ≤ len
-read-few [] at len = omega arith
-read-few (w ∷ ws) at len = by_test (is_whole_in w at len) (read-few ws at len)
-  where
-    by_test : (b : Bool) → length (unwrap_or (bytes_at ws at len) []) ≤ len → length (unwrap_or (if b then Some (window_bytes w at len) else bytes_at ws at len) []) ≤ len
-    by_test true ih = let a = length-take len (drop (at - w.from) w.bytes) in omega arith
-    by_test false ih = ih
-
--- instructions
-
-abbrev RoomyEffect : Effect → Type 0
-RoomyEffect (Next instr cpu memory) = Rooms memory
-RoomyEffect Call = Unit {0}
-RoomyEffect (End status) = Unit {0}
-
-jumps-rooms : (instr : Instr) (cpu : Cpu) (ws : List Window) (rd target : ℕ) → Rooms ws → RoomyEffect (jumps instr cpu ws rd target)
-jumps-rooms instr cpu ws rd target h1 = grind (arith, nat_tests)
-
-branches-rooms : (instr : Instr) (cpu : Cpu) (ws : List Window) (b : Bool) (target : ℕ) → Rooms ws → RoomyEffect (branches instr cpu ws b target)
-branches-rooms instr cpu ws false target h = h
-branches-rooms instr cpu ws true target h = jumps-rooms instr cpu ws 0 target h
-
-loads-rooms : (instr : Instr) (cpu : Cpu) (ws : List Window) (rd : ℕ) (o : Option ℕ) → Rooms ws → RoomyEffect (loads instr cpu ws rd o)
-loads-rooms instr cpu ws rd None h = tt
-loads-rooms instr cpu ws rd (Some value) h = h
-
-stores-rooms : (instr : Instr) (cpu : Cpu) (ws : List Window) (at len value : ℕ) → Rooms ws → RoomyEffect (stores instr cpu ws at len value)
-stores-rooms instr cpu ws at len value h = by_test (is_some (bytes_at ws at len))
-  where
-    by_test : (b : Bool) → RoomyEffect (if b then Next instr (advanced cpu) (with_bytes ws at (bytes_of len value)) else End BAD_ACCESS)
-    by_test true = with-rooms ws at (bytes_of len value) h
-    by_test false = tt
-
-executed-rooms : (instr : Instr) (cpu : Cpu) (ws : List Window) → Rooms ws → RoomyEffect (executed instr cpu ws)
-executed-rooms instr cpu ws h1 = grind (arith, nat_tests, branches-rooms, jumps-rooms, loads-rooms, stores-rooms)
-
-executed_if-rooms : (o : Option Instr) (cpu : Cpu) (ws : List Window) → Rooms ws → RoomyEffect (executed_if o cpu ws)
-executed_if-rooms None cpu ws h = tt
-executed_if-rooms (Some instr) cpu ws h = executed-rooms instr cpu ws h
-
-fetched-rooms : (o : Option ℕ) (cpu : Cpu) (ws : List Window) → Rooms ws → RoomyEffect (fetched o cpu ws)
-fetched-rooms None cpu ws h = tt
-fetched-rooms (Some word) cpu ws h = executed_if-rooms (decoded word) cpu ws h
-
-pub instr-rooms : (v : View) (instr : Instr) (cpu : Cpu) (memory : List Window) → HasRooms v → stands_at v ≡ Next instr cpu memory → HasRooms (after_instr cpu memory v)
-instr-rooms v instr cpu memory h1 h2 = grind (arith, nat_tests, fetched-rooms, reach-rooms, with_reach-rooms)
+pub instr-rooms : KeepsLengths → (v : View) (instr : Instr) (cpu : Cpu) (memory : List Window) → HasRooms v → stands_at v ≡ Next instr cpu memory → HasRooms (after_instr cpu memory v)
+instr-rooms keeps v instr cpu memory s stands =
+    with_reach-rooms memory (with_cpu cpu v) (subst Rooms (sym (keeps.instructions v instr cpu memory stands)) (reach-rooms v s))
+    (record { window = s.window; segment = s.segment })
 
 -- acts
 
@@ -113,10 +55,10 @@ start-len image block l =
     let c = length-append (take (block_at (length block) - WINDOW_START) zeroed) block in
     omega arith
 
-block-few : (v : View) (block len : ℕ) → isnt_block v block len ≡ false → length (read v block len) ≤ MOST_BLOCK_BYTES
-block-few v block len e =
-    let l = ltb-false MOST_BLOCK_BYTES len (or_parts (nat_lt MOST_BLOCK_BYTES len) (is_outside v block len) e).0 in
-    let r = read-few (reach v) block len in
+block-few : KeepsLengths → (v : View) (block len : ℕ) → isnt_block v block len ≡ false → length (read v block len) ≤ MOST_BLOCK_BYTES
+block-few keeps v block len h1 =
+    let l = ltb-false MOST_BLOCK_BYTES len (or_parts (nat_lt MOST_BLOCK_BYTES len) (is_outside v block len) h1).0 in
+    let r = keeps.reads (reach v) block len in
     omega arith
 
 restored-rooms : (o : Option Cpu) (v : View) → HasRooms v → HasRooms (restored o v)
@@ -127,22 +69,22 @@ pub zeros-len : (n : ℕ) → length (zeros n) ≡ n
 unfolding zeros
 zeros-len n = length-replicate {A = ℕ} n 0
 
-pub acted-rooms : (event : ℕ) (act : Act) (v : View) → StartsWell v act → HasRooms v → IfSome (acted event act v) HasRooms
-acted-rooms event (Returns result) v h s = record { window = s.window; segment = s.segment }
-acted-rooms event (Receives at bytes result) v h s =
-    let r = with_reach-rooms (with_bytes (reach v) at bytes) v (with-rooms (reach v) at bytes (reach-rooms v s)) s in
+pub acted-rooms : KeepsLengths → (event : ℕ) (act : Act) (v : View) → StartsWell v act → HasRooms v → IfSome (acted event act v) HasRooms
+acted-rooms keeps event (Returns result) v h s = record { window = s.window; segment = s.segment }
+acted-rooms keeps event (Receives at bytes result) v h s =
+    let r = with_reach-rooms (with_bytes (reach v) at bytes) v (subst Rooms (sym (keeps.writes (reach v) at bytes)) (reach-rooms v s)) s in
     record { window = r.window; segment = r.segment }
-acted-rooms event (Gives at len result) v h s = record { window = s.window; segment = s.segment }
-acted-rooms event (Starts file block block_len) v h s =
-    record { window = start-len (read_as_image file) (read v block block_len) (block-few v block block_len h); segment = omega arith }
-acted-rooms event (Forks child) v h s = record { window = s.window; segment = s.segment }
-acted-rooms event (Founds child) v h s = record { window = s.window; segment = s.segment }
-acted-rooms event Shares v h s = record { window = s.window; segment = (let e = zeros-len SEGMENT_LEN in omega arith) }
-acted-rooms event Leaves v h s = restored-rooms v.body.slot v s
-acted-rooms event (Delivers signal handler cut) v h s = record { window = s.window; segment = s.segment }
-acted-rooms event Exits v h s = tt
-acted-rooms event (Faults status) v h s = tt
-acted-rooms event (Dies signal cut) v h s = tt
+acted-rooms keeps event (Gives at len result) v h s = record { window = s.window; segment = s.segment }
+acted-rooms keeps event (Starts file block block_len) v h s =
+    record { window = start-len (read_as_image file) (read v block block_len) (block-few keeps v block block_len h); segment = omega arith }
+acted-rooms keeps event (Forks child) v h s = record { window = s.window; segment = s.segment }
+acted-rooms keeps event (Founds child) v h s = record { window = s.window; segment = s.segment }
+acted-rooms keeps event Shares v h s = record { window = s.window; segment = (let e = zeros-len SEGMENT_LEN in omega arith) }
+acted-rooms keeps event Leaves v h s = restored-rooms v.body.slot v s
+acted-rooms keeps event (Delivers signal handler cut) v h s = record { window = s.window; segment = s.segment }
+acted-rooms keeps event Exits v h s = tt
+acted-rooms keeps event (Faults status) v h s = tt
+acted-rooms keeps event (Dies signal cut) v h s = tt
 
 -- how a child begins
 

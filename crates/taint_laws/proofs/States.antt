@@ -28,6 +28,7 @@ use Rattle.taint_laws.proofs.Rooms.{HasRooms, acted-rooms, instr-rooms, zeros-le
 use Rattle.taint_laws.proofs.Sound.{ChildCounted, Fits, Marks, Sound, begun-sound, done-sound, fits-later, mark, mark-here, mark-same, nobody-sound, put-sound, seen-rooms, sound-later, unheld-by}
 use Rattle.taint_laws.proofs.Told.{with-same}
 use Rattle.taint_laws.proofs.Whole.{ActsWell, inside-whole, instr-whole}
+use Rattle.window_laws.specs.Lengths.{KeepsLengths}
 
 -- a list with one more step
 
@@ -118,8 +119,8 @@ is-seen shared n most b pid v h1 h2 = grind (arith, nat_tests, leb-false, leb-tr
 
 -- an instruction
 
-pub plain-state : (n most pid : ℕ) (own : Own) (v : View) (effect : Effect) → seen own.bodies pid ≡ Some v → stands_at v ≡ effect → State n most own → IfSome (plain_by pid own v effect) (State n most)
-plain-state n most pid own v (Next instr cpu memory) e stands s =
+pub plain-state : KeepsLengths → (n most pid : ℕ) (own : Own) (v : View) (effect : Effect) → seen own.bodies pid ≡ Some v → stands_at v ≡ effect → State n most own → IfSome (plain_by pid own v effect) (State n most)
+plain-state keeps n most pid own v (Next instr cpu memory) e stands s =
     let is = is-seen s.shared n most own.bodies pid v s.sound e in
     let same = instr-holds cpu memory v in
     let w = after_instr cpu memory v in
@@ -128,18 +129,18 @@ plain-state n most pid own v (Next instr cpu memory) e stands s =
     (put pid w own.bodies) s
     (record {
       shared = s.shared;
-      sound = put-sound s.shared n most pid w own.bodies (subst (Fits s.shared n) (sym same) is.fits) (instr-rooms v instr cpu memory is.rooms stands) is.counted s.sound;
+      sound = put-sound s.shared n most pid w own.bodies (subst (Fits s.shared n) (sym same) is.fits) (instr-rooms keeps v instr cpu memory is.rooms stands) is.counted s.sound;
       step = follows.Steps pid instr (ap (λ (o : Option Holds). option_map (instr_inside pid instr v.body.cpu) o) is.holds);
       possible = instr-whole (holds_of v.body) v instr cpu memory is.rooms stands;
       new = tt;
       holds = λ p. kept-holders pid v w own.bodies p is.holds same;
       unheard = s.unheard;
     })
-plain-state n most pid own v Call e stands s = tt
-plain-state n most pid own v (End status) e stands s = tt
+plain-state keeps n most pid own v Call e stands s = tt
+plain-state keeps n most pid own v (End status) e stands s = tt
 
-pub plain_in-state : (n most pid : ℕ) (own : Own) → State n most own → IfSome (plain_in pid own (seen own.bodies pid)) (State n most)
-plain_in-state n most pid own h1 = grind (arith, nat_tests, plain-state)
+pub plain_in-state : KeepsLengths → (n most pid : ℕ) (own : Own) → State n most own → IfSome (plain_in pid own (seen own.bodies pid)) (State n most)
+plain_in-state keeps n most pid own h1 = grind (arith, nat_tests, plain-state keeps)
 
 -- an act
 
@@ -176,10 +177,10 @@ act-possible event most most' pid own v (Founds child) s h a c =
 act-possible event most most' pid own v Shares s h a c = unheld-all event most event own (omega arith) s
 act-possible event most most' pid own v act s h a c = tt
 
-pub act-state : (event most most' pid : ℕ) (e : Record) (own : Own) (v : View) (act : Act) → most ≤ most' → State event most own → seen own.bodies pid ≡ Some v
+pub act-state : KeepsLengths → (event most most' pid : ℕ) (e : Record) (own : Own) (v : View) (act : Act) → most ≤ most' → State event most own → seen own.bodies pid ≡ Some v
     → process_of e ≡ Some pid → ((h : Holders) → with_booted event e h ≡ h) → act_of v.body.cpu e ≡ Some act → ActsWell v act → IsChild most most' act
     → State (event + 1) most' (noted (event_inside pid event e v.body.cpu (holds_of v.body) act) (done pid event act own.bodies) own)
-act-state event most most' pid e own v act more s sees process plain tells well child =
+act-state keeps event most most' pid e own v act more s sees process plain tells well child =
     let is = is-seen s.shared event most own.bodies pid v s.sound sees in
     let marks = mark event act s.shared in
     let same = mark-same event act s.shared in
@@ -192,7 +193,7 @@ act-state event most most' pid e own v act more s sees process plain tells well 
       shared = marks;
       sound = done-sound marks event most' pid act v own.bodies (mark-here event act s.shared)
           (fits-later s.shared marks event (event + 1) (holds_of v.body) same (omega arith) is.fits) is.rooms
-          (acted-rooms event act v (starts-well v act well) is.rooms) (omega arith) (child-counted most most' act child) later;
+          (acted-rooms keeps event act v (starts-well v act well) is.rooms) (omega arith) (child-counted most most' act child) later;
       step = follows.Hears event e
           (ap (λ (h : Holders). event_step h event e v.body.cpu) (plain (holders_in own.bodies))
           ∙ (ap (λ (o : Option ℕ). option_and_then (event_of (holders_in own.bodies) event e v.body.cpu) o) process
@@ -207,10 +208,10 @@ act-state event most most' pid e own v act more s sees process plain tells well 
 
 -- the boot
 
-pub boot-state : (event most most' : ℕ) (name : List ℕ) (give : Give) (own : Own) → most ≤ most' → 1 ≤ most' → State event most own
+pub boot-state : KeepsLengths → (event most most' : ℕ) (name : List ℕ) (give : Give) (own : Own) → most ≤ most' → 1 ≤ most' → State event most own
     → State (event + 1) most' (noted (event_inside 1 event (entry.Boot name give) (unborn event).body.cpu (holds_of (unborn event).body) (Starts give.bytes 0 0))
     (done 1 event (Starts give.bytes 0 0) (put 1 (unborn event) own.bodies)) own)
-boot-state event most most' name give own more one s =
+boot-state keeps event most most' name give own more one s =
     let act : Act = Starts give.bytes 0 0 in
     let e : Record = entry.Boot name give in
     let u = unborn event in
@@ -229,7 +230,7 @@ boot-state event most most' name give own more one s =
     let after : Bodies = done_by 1 event act (Some v) b in
     let adds : Adds event most (event + 1) most' own i after = record {
       shared = marks;
-      sound = done-sound marks event most' 1 act v b here is.fits is.rooms (acted-rooms event act v refl is.rooms) one tt sound;
+      sound = done-sound marks event most' 1 act v b here is.fits is.rooms (acted-rooms keeps event act v refl is.rooms) one tt sound;
       step = follows.Hears event e refl;
       possible = (λ p ne. unheld-all event most event own (omega arith) s p, tt);
       new = ap is_some (s.unheard event (omega arith));

@@ -4,11 +4,14 @@ ghost use Rattle.taint_state.specs.Shown.{Tracking};
 ghost use Rattle.taint_laws.specs.Laws.{FollowsHolders, HearsEvents, ToldHears, ToldHolds, ToldShows, UnheardHaveNone};
 
 use taint_state::stays_apart;
+use window_laws::instructions_keep_lengths;
 
 /// What happens inside a group alone is what its members do, by what they hold, and is possible.
 pub fn follows_holders()
     ensures { FollowsHolders }
-{}
+{
+    instructions_keep_lengths();
+}
 
 /// Who was told of all that happened inside a group shows what tracking the group alone by lists says.
 pub fn told_shows()
