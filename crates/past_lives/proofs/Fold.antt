@@ -31,6 +31,7 @@ use Rattle.past_lives.proofs.Sound.{nobody-sound}
 use Rattle.past_lives.proofs.Standing.{Ends, Happening, and_then-ends, child-after, ends-ends, happens-ends, held_if, is-new, last-made, live_if, more-after, number-tells, number-told, settled-ends, stranger-state, told-child}
 use Rattle.past_lives.proofs.Steps.{State, begins-state, boot-state, live_after, sounds-later, starts-well}
 use Rattle.past_lives.proofs.Tells.{IsChild, Tells, other-lives}
+use Rattle.window_laws.specs.Lengths.{KeepsLengths}
 
 -- who lives behind records, all of whose events have happened
 
@@ -66,7 +67,7 @@ forked-founded n pid child more groups le h = changed-founded n groups child (gr
 called-founded : (n pid number result : ℕ) (more : Extra) (groups : Groups) → AreFounded n groups → AreFounded (greatest_after (entry.Call pid number result more) n) (groups_told (entry.Call pid number result more) groups)
 called-founded n pid number result more groups h1 = grind (arith, nat_tests, forked-founded, founded-later)
 
-module _ (W : Type 0) (g until : ℕ) where
+module _ (W : Type 0) (keeps : W → KeepsLengths) (g until : ℕ) where
   -- a standing behind records: where the open slice is, what the greatest number of a process is, who lives behind them all, and whether
   -- a process was made; and what was told of the events that have happened
   record Reached (b : Behind) (most : ℕ) (past : ℕ → Bool) (booted : Bool) (begins : ℕ) (live : ℕ → Bool) (held : ℕ → Option ℕ) (t : Standing) : Type 0 where
@@ -92,7 +93,7 @@ module _ (W : Type 0) (g until : ℕ) where
 
   slice-reached : (pid ran : ℕ) (b : Behind) (most : ℕ) (past : ℕ → Bool) (booted : Bool) (begins : ℕ) (live : ℕ → Bool) (held : ℕ → Option ℕ) (t : Standing) → past pid ≡ true → booted ≡ true
       → Reached b most past booted begins live held t → Reached (ASlice pid) most past booted t.moment live held (after_slice g until pid ran t)
-  slice-reached pid ran b most past booted begins live held t h1 h2 h3 = grind (arith, nat_tests, settled-ends, eqb-true, lower)
+  slice-reached pid ran b most past booted begins live held t h1 h2 h3 = grind (arith, nat_tests, settled-ends W keeps g t.events most t.groups live held t, eqb-true, lower)
 
   -- a delivery
   delivered-behind : (p pid handler : ℕ) (b : Behind) → ((q : ℕ) → is_behind q b ≡ true → p ≡ q) → (q : ℕ) → is_behind q (behind_signal pid handler b) ≡ true → (p ≡ q) × (is_behind pid b ≡ true) × (pid ≡ q) × (not (handler == 0) ≡ true)
@@ -134,7 +135,7 @@ module _ (W : Type 0) (g until : ℕ) where
           (λ own s. record { lives = s.lives; sounds = λ w. sounds-later t.events (t.events + 1) own.bodies (omega arith) (s.sounds w) })
       by_tests true true k n =
           and_then-ends (State W g t.events most t.groups live held) (State W g (t.events + 1) most t.groups (live_after e live) held) t.made (happens pid t.events e) made
-          (λ own s. happens-ends W g t.events most most pid t.groups live held e own (omega arith) happening unfounded (number-tells g (t.groups pid) n) (alive k) s)
+          (λ own s. happens-ends W keeps g t.events most most pid t.groups live held e own (omega arith) happening unfounded (number-tells g (t.groups pid) n) (alive k) s)
       by_tests true false k n =
           ends-ends (State W g t.events most t.groups live held) (State W g (t.events + 1) most t.groups (live_after e live) held) t.made made
           (λ own s. stranger-state W g t.events most most pid t.groups live held e own (omega arith) happening unfounded (number-told g (t.groups pid) n) s)
@@ -181,7 +182,7 @@ module _ (W : Type 0) (g until : ℕ) where
       let does = λ (cpu : Cpu). subst (λ (p : ℕ). Does t.events p e (call_act (kind_of number) cpu result more)) (sym same) (call-does t.events pid number result more cpu) in
       record {
         made = subst (λ (h : Bool). Ends (State W g (t.events + 1) (greatest_after e most) (groups_told e t.groups) (live_if h e live) (held_if h t.events e held)) (after_last g pid e t).made) r.ended
-            (last-made W g pid most (greatest_after e most) live held e t (record {
+            (last-made W keeps g pid most (greatest_after e most) live held e t (record {
               more = more-after e most;
               same = same;
               happening = record { act = λ cpu. call_act (kind_of number) cpu result more; tells = λ cpu. refl; does = does; child = λ cpu. told-child before e _ checks.numbers (does cpu).told };
@@ -216,7 +217,7 @@ module _ (W : Type 0) (g until : ℕ) where
       let same = of-slice pid (behind before) t.pid checks.slice r.slice in
       record {
         made = subst (λ (h : Bool). Ends (State W g (t.events + 1) most (groups_told e t.groups) (live_if h e live) (held_if h t.events e held)) (after_last g pid e t).made) r.ended
-            (last-made W g pid most most live held e t (record {
+            (last-made W keeps g pid most most live held e t (record {
               more = omega arith;
               same = same;
               happening = record { act = λ cpu. Faults status; tells = λ cpu. refl; does = λ cpu. subst (λ (p : ℕ). Does t.events p e (Faults status)) (sym same) (end-does t.events pid status); child = λ cpu. tt };
@@ -244,7 +245,7 @@ module _ (W : Type 0) (g until : ℕ) where
       by_wrong : (w : Option Wrong) → wrong_with (unborn event) (stands_at (unborn event)) (entry.Boot name give) ≡ w
           → Ends (State W g (event + 1) (max most 1) (groups_told (entry.Boot name give) groups) (live_after (entry.Boot name give) live) (segments_told event (entry.Boot name give) held))
           (unless_wrong event w (act_done 1 event (entry.Boot name give) (unborn event) (act_of (unborn event).body.cpu (entry.Boot name give)) (record own { bodies = put 1 (unborn event) own.bodies })))
-      by_wrong None w = boot-state W g event most groups live held name give own (starts-well (unborn event) give.bytes 0 0 extra.Nothing w).0 s _ refl
+      by_wrong None w = boot-state W keeps g event most groups live held name give own (starts-well (unborn event) give.bytes 0 0 extra.Nothing w).0 s _ refl
       by_wrong (Some wrong) w = tt
 
   boot-made : (name : List ℕ) (give : Give) (most : ℕ) (live : ℕ → Bool) (held : ℕ → Option ℕ) (t : Standing) → t.is_ended ≡ true → Ends (State W g t.events most t.groups live held) t.made
@@ -411,7 +412,7 @@ module _ (W : Type 0) (g until : ℕ) where
   all-told : (rest before : List Record) (begins : ℕ) (live : ℕ → Bool) (held : ℕ → Option ℕ) (t : Standing) → broken_from before rest ≡ None → (W → All HasWholeBlocks rest)
       → Reached (behind before) (greatest before) (λ p. lived before p false) (is_booted before) begins live held t
       → Ends (Told (groups_from rest t.groups) (events_from until begins t.moment t.events rest) live held) (settled (replayed g until t rest))
-  all-told [] before begins live held t broken whole r = grind (arith, nat_tests, settled-ends W g t.events (greatest before) t.groups live held)
+  all-told [] before begins live held t broken whole r = grind (arith, nat_tests, settled-ends W keeps g t.events (greatest before) t.groups live held)
   all-told (e ∷ rest) before begins live held t broken whole r =
       let more = follows before e rest broken in
       let first = record-reached before e begins live held t more.0 (λ w. whole w 0 e (omega arith)) r in

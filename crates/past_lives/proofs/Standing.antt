@@ -20,6 +20,7 @@ use Rattle.past_lives.proofs.Records.{child-number}
 use Rattle.past_lives.proofs.Sizes.{StartsWell}
 use Rattle.past_lives.proofs.Steps.{State, act-state, live_after, plain-state, record-well, sounds-later}
 use Rattle.past_lives.proofs.Tells.{IsChild, IsFounding, Tells, later-act-lives, lives-as, stranger-lives}
+use Rattle.window_laws.specs.Lengths.{KeepsLengths}
 
 -- what holds of what was made, unless the records disagree
 abbrev pub Ends : (Own → Type 0) → Made → Type 0
@@ -59,14 +60,14 @@ pub record Happening (event most most' pid : ℕ) (e : Record) : Type 0 where
   pub does : (cpu : Cpu) → Does event pid e (act cpu)
   pub child : (cpu : Cpu) → IsChild most most' (act cpu)
 
-module _ (W : Type 0) (g : ℕ) where
+module _ (W : Type 0) (keeps : W → KeepsLengths) (g : ℕ) where
   -- instructions
 
   plains-ends : (n most : ℕ) (groups : Groups) (live : ℕ → Bool) (held : ℕ → Option ℕ) (slice : Slice) (ran left : ℕ) (own : Own) → State W g n most groups live held own
       → Ends (State W g n most groups live held) (plains slice ran left own)
   plains-ends n most groups live held slice ran zero own s = s
   plains-ends n most groups live held slice ran (suc left) own s =
-      by_plain (plain_in slice.pid own (seen own.bodies slice.pid)) (plain-state W g n most slice.pid groups live held own s) (plains-ends n most groups live held slice (suc ran) left)
+      by_plain (plain_in slice.pid own (seen own.bodies slice.pid)) (plain-state W keeps g n most slice.pid groups live held own s) (plains-ends n most groups live held slice (suc ran) left)
     where
       by_plain : (o : Option Own) → IfSome o (State W g n most groups live held) → ((own : Own) → State W g n most groups live held own → Ends (State W g n most groups live held) (plains slice (suc ran) left own))
           → Ends (State W g n most groups live held) (plain_or slice ran o (plains slice (suc ran) left))
@@ -92,7 +93,7 @@ module _ (W : Type 0) (g : ℕ) where
           let cpu = v.body.cpu in
           let starts : StartsWell v (h.act v.body.cpu) = subst (λ (o : Option Act). IfSome o (StartsWell v)) (h.tells cpu) well in
           subst (λ (o : Option Act). Ends (State W g (event + 1) most' (groups_told e groups) (live_after e live) (segments_told event e held)) (act_done pid event e v o own)) (sym (h.tells cpu))
-          (act-state W g event most most' pid groups live held e own v (h.act cpu) (h.does cpu) more (h.child cpu) (λ f. unfounded (told-founding g e (h.act cpu) (h.does cpu).told f)) is sees starts s _ refl)
+          (act-state W keeps g event most most' pid groups live held e own v (h.act cpu) (h.does cpu) more (h.child cpu) (λ f. unfounded (told-founding g e (h.act cpu) (h.does cpu).told f)) is sees starts s _ refl)
 
       by_wrong : (v : View) → seen own.bodies pid ≡ Some v → (w : Option Wrong) → wrong_with v (stands_at v) e ≡ w
           → Ends (State W g (event + 1) most' (groups_told e groups) (live_after e live) (segments_told event e held)) (unless_wrong event w (act_done pid event e v (act_of v.body.cpu e) own))
@@ -112,6 +113,7 @@ module _ (W : Type 0) (g : ℕ) where
       (plains slice 0 left own) (happens slice.pid slice.event e) (plains-ends slice.event most groups live held slice 0 left own s)
       (λ o k. happens-ends slice.event most most' slice.pid groups live held e o more h unfounded is alive k)
 
+module _ (W : Type 0) (g : ℕ) where
   -- an event of a process that isn't a member
   pub stranger-state : (event most most' pid : ℕ) (groups : Groups) (live : ℕ → Bool) (held : ℕ → Option ℕ) (e : Record) (own : Own) → most ≤ most' → Happening event most most' pid e → (IsFounded g e → ⊥)
       → (groups pid ≡ Some g → ⊥) → State W g event most groups live held own → State W g (event + 1) most' (groups_told e groups) (live_after e live) (segments_told event e held) own
@@ -177,15 +179,15 @@ Before W g most live held t = State W g t.events most t.groups live held
 abbrev After : (W : Type 0) (g most' : ℕ) (live : ℕ → Bool) (held : ℕ → Option ℕ) → Record → Standing → Own → Type 0
 After W g most' live held e t = State W g (t.events + 1) most' (groups_told e t.groups) (live_after e live) (segments_told t.events e held)
 
-pub last-made : (W : Type 0) (g pid most most' : ℕ) (live : ℕ → Bool) (held : ℕ → Option ℕ) (e : Record) (t : Standing) → Lasts W g pid most most' live held e t
+pub last-made : (W : Type 0) (keeps : W → KeepsLengths) (g pid most most' : ℕ) (live : ℕ → Bool) (held : ℕ → Option ℕ) (e : Record) (t : Standing) → Lasts W g pid most most' live held e t
     → Ends (State W g (t.events + 1) most' (groups_told e t.groups) (live_if t.is_ended e live) (held_if t.is_ended t.events e held)) (after_last g pid e t).made
-last-made W g pid most most' live held e t l = by_ended t.is_ended refl
+last-made W keeps g pid most most' live held e t l = by_ended t.is_ended refl
   where
     own : t.is_ended ≡ true → t.groups pid ≡ Some g → Ends (After W g most' live held e t) (made_if true (made_if true t.made (ends_slice (slice_of t) t.owed e)) (begins_by g t.events e))
     own ended is =
         and_then-ends (After W g most' live held e t) (After W g most' live held e t) (and_then t.made (ends_slice (slice_of t) t.owed e)) (begins_by g t.events e)
         (and_then-ends (Before W g most live held t) (After W g most' live held e t) t.made (ends_slice (slice_of t) t.owed e) l.made
-        (λ o s. slice-ends W g most most' t.groups live held (slice_of t) t.owed e o l.more l.happening l.none (l.unfounded is) (ap t.groups l.same ∙ is) (ap live l.same ∙ l.alive ended) s))
+        (λ o s. slice-ends W keeps g most most' t.groups live held (slice_of t) t.owed e o l.more l.happening l.none (l.unfounded is) (ap t.groups l.same ∙ is) (ap live l.same ∙ l.alive ended) s))
         (λ o s. begins-ends (After W g most' live held e t) g t.events e o (λ start starts f. absurd (l.unfounded is f)) (λ no. s))
 
     other : (t.groups pid ≡ Some g → ⊥) → Ends (After W g most' live held e t) (made_if true (made_if false t.made (ends_slice (slice_of t) t.owed e)) (begins_by g t.events e))

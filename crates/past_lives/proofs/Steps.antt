@@ -9,7 +9,7 @@ use Rattle.arn_base.specs.declared.records.Give.{Give}
 use Rattle.arn_base.specs.declared.records.Record.{Record}
 use Rattle.arn_base.specs.declared.records.Record.TheVariants as entry
 use Rattle.arn_base.specs.declared.records.Start.{Start}
-use Rattle.rv64_model.specs.Instruction.{Effect, Next, Call}
+use Rattle.rv64_model.specs.Instruction.{Effect, Next}
 use Rattle.parts_model.specs.Image.{is_image}
 use Rattle.parts_model.specs.declared.limits.TheConstants.{WINDOW_LEN}
 use Rattle.parts_model.specs.Replies.{is_success}
@@ -28,6 +28,7 @@ use Rattle.past_lives.proofs.Does.{Does, IsFounded, act_groups, act_held, act_li
 use Rattle.past_lives.proofs.Sizes.{HasSizes, StartsWell, acted-sizes, instr-sizes, zeros-len}
 use Rattle.past_lives.proofs.Sound.{Fits, Marks, Sound, begun-sound, done-sound, fits-later, mark, mark-here, mark-same, put-sound, reach-body, sound-later}
 use Rattle.past_lives.proofs.Tells.{IsChild, IsFounding, Lives, born-lives, is-live, lives-as, own-lives, put-lives}
+use Rattle.window_laws.specs.Lengths.{KeepsLengths}
 
 -- windows and segments are whole
 
@@ -45,13 +46,13 @@ record IsSized (shared : Marks) (n : ℕ) (v : View) : Type 0 where
 is-sized : (shared : Marks) (n : ℕ) (b : Bodies) (pid : ℕ) (v : View) → Sound shared n b → seen b pid ≡ Some v → IsSized shared n v
 is-sized shared n b pid v h1 h2 = grind (arith, nat_tests, same_Some)
 
-plain-sounds : (n pid : ℕ) (b : Bodies) (v : View) (effect : Effect) → seen b pid ≡ Some v → stands_at v ≡ effect → Sounds n b
+plain-sounds : KeepsLengths → (n pid : ℕ) (b : Bodies) (v : View) (effect : Effect) → seen b pid ≡ Some v → stands_at v ≡ effect → Sounds n b
     → (own : Own) → own.bodies ≡ b → IfSome (plain_by pid own v effect) (λ (o : Own). Sounds n o.bodies)
-plain-sounds n pid b v (Next instr cpu memory) sees stands s own is = grind (arith, nat_tests, reach-body memory (with_cpu cpu v), put-sound s.shared, instr-sizes v instr cpu memory (is-sized s.shared n b pid v s.sound sees).sizes stands)
-plain-sounds n pid b v _ sees stands s own is = tt
+plain-sounds keeps n pid b v (Next instr cpu memory) sees stands s own is = grind (arith, nat_tests, reach-body memory (with_cpu cpu v), put-sound s.shared, instr-sizes keeps v instr cpu memory (is-sized s.shared n b pid v s.sound sees).sizes stands)
+plain-sounds keeps n pid b v _ sees stands s own is = tt
 
-act-sounds : (event pid : ℕ) (b : Bodies) (v : View) (act : Act) → StartsWell v act → seen b pid ≡ Some v → Sounds event b → Sounds (event + 1) (done pid event act b)
-act-sounds event pid b v act well sees s =
+act-sounds : KeepsLengths → (event pid : ℕ) (b : Bodies) (v : View) (act : Act) → StartsWell v act → seen b pid ≡ Some v → Sounds event b → Sounds (event + 1) (done pid event act b)
+act-sounds keeps event pid b v act well sees s =
     let z = is-sized s.shared event b pid v s.sound sees in
     let marks = mark event act s.shared in
     let same = mark-same event act s.shared in
@@ -60,15 +61,15 @@ act-sounds event pid b v act well sees s =
     let after : Bodies = done_by pid event act (Some v) b in
     let there : Sounds (event + 1) after = record {
       shared = marks;
-      sound = done-sound marks event pid act v b (mark-here event act s.shared) fits z.sizes (acted-sizes event act v well z.sizes) later;
+      sound = done-sound marks event pid act v b (mark-here event act s.shared) fits z.sizes (acted-sizes keeps event act v well z.sizes) later;
     } in
     subst (Sounds (event + 1)) (sym (ap (λ (o : Option View). done_by pid event act o b) sees)) there
 
 first-seen : (event : ℕ) (b : Bodies) → seen (put 1 (unborn event) b) 1 ≡ Some (view (put 1 (unborn event) b) (unborn event).body)
 first-seen event b = ap (λ (o : Option Body). option_map (view (put 1 (unborn event) b)) o) (put-body 1 (unborn event) b 1)
 
-boot-sounds : (event : ℕ) (file : List ℕ) (b : Bodies) → is_image file ≡ true → Sounds event b → Sounds (event + 1) (done 1 event (Starts file 0 0) (put 1 (unborn event) b))
-boot-sounds event file b image s =
+boot-sounds : KeepsLengths → (event : ℕ) (file : List ℕ) (b : Bodies) → is_image file ≡ true → Sounds event b → Sounds (event + 1) (done 1 event (Starts file 0 0) (put 1 (unborn event) b))
+boot-sounds keeps event file b image s =
     let act : Act = Starts file 0 0 in
     let u = unborn event in
     let marks = mark event act s.shared in
@@ -83,7 +84,7 @@ boot-sounds event file b image s =
     let after : Bodies = done_by 1 event act (Some v) c in
     let there : Sounds (event + 1) after = record {
       shared = marks;
-      sound = done-sound marks event 1 act v c here z.fits z.sizes (acted-sizes event act v (image, refl) z.sizes) sound;
+      sound = done-sound marks event 1 act v c here z.fits z.sizes (acted-sizes keeps event act v (image, refl) z.sizes) sound;
     } in
     subst (Sounds (event + 1)) (sym (ap (λ (o : Option View). done_by 1 event act o c) sees)) there
 
@@ -156,9 +157,9 @@ same-lives : (g : ℕ) (groups : Groups) (most : ℕ) (live : ℕ → Bool) (hel
     → Lives g groups most live held b → Lives g groups most live held (put pid w b)
 same-lives g groups most live held b pid v w h1 h2 h3 = grind (arith, nat_tests, eqb-true, put-body, same_Some)
 
-pub plain-state : (W : Type 0) (g n most pid : ℕ) (groups : Groups) (live : ℕ → Bool) (held : ℕ → Option ℕ) (own : Own) → State W g n most groups live held own
+pub plain-state : (W : Type 0) (keeps : W → KeepsLengths) (g n most pid : ℕ) (groups : Groups) (live : ℕ → Bool) (held : ℕ → Option ℕ) (own : Own) → State W g n most groups live held own
     → IfSome (plain_in pid own (seen own.bodies pid)) (State W g n most groups live held)
-plain-state W g n most pid groups live held own s = by_view (seen own.bodies pid) refl
+plain-state W keeps g n most pid groups live held own s = by_view (seen own.bodies pid) refl
   where
     by_effect : (v : View) (effect : Effect) → seen own.bodies pid ≡ Some v → IfSome (plain_by pid own v effect) (λ (o : Own). W → Sounds n o.bodies) → IfSome (plain_by pid own v effect) (State W g n most groups live held)
     by_effect v effect h1 h2 = grind (arith, nat_tests, same-lives, reach-body)
@@ -167,17 +168,20 @@ plain-state W g n most pid groups live held own s = by_view (seen own.bodies pid
     under o h1 = grind (arith, nat_tests)
 
     by_view : (o : Option View) → seen own.bodies pid ≡ o → IfSome (plain_in pid own o) (State W g n most groups live held)
-    by_view o h1 = grind (arith, nat_tests, by_effect, under, plain-sounds)
+    by_view None sees = tt
+    by_view (Some v) sees =
+        by_effect v (stands_at v) sees
+        (under (plain_by pid own v (stands_at v)) (λ w. plain-sounds (keeps w) n pid own.bodies v (stands_at v) sees refl (s.sounds w) own refl))
 
 -- the act of a member
-pub act-state : (W : Type 0) (g event most most' pid : ℕ) (groups : Groups) (live : ℕ → Bool) (held : ℕ → Option ℕ) (e : Record) (own : Own) (v : View) (act : Act)
+pub act-state : (W : Type 0) (keeps : W → KeepsLengths) (g event most most' pid : ℕ) (groups : Groups) (live : ℕ → Bool) (held : ℕ → Option ℕ) (e : Record) (own : Own) (v : View) (act : Act)
     → Does event pid e act → most ≤ most' → IsChild most most' act → (IsFounding g act → ⊥) → groups pid ≡ Some g → seen own.bodies pid ≡ Some v → StartsWell v act
     → State W g event most groups live held own
     → (after : Own) → after.bodies ≡ done pid event act own.bodies → State W g (event + 1) most' (groups_told e groups) (live_after e live) (segments_told event e held) after
-act-state W g event most most' pid groups live held e own v act does more child unfounding is sees well s after bodies =
+act-state W keeps g event most most' pid groups live held e own v act does more child unfounding is sees well s after bodies =
     record {
       lives = subst (Lives g (groups_told e groups) most' (live_after e live) (segments_told event e held)) (sym (bodies ∙ ends)) changes;
-      sounds = λ w. subst (Sounds (event + 1)) (sym bodies) (act-sounds event pid own.bodies v act well sees (s.sounds w));
+      sounds = λ w. subst (Sounds (event + 1)) (sym bodies) (act-sounds (keeps w) event pid own.bodies v act well sees (s.sounds w));
     }
   where
     ends : done pid event act own.bodies ≡ done_by pid event act (Some v) own.bodies
@@ -190,14 +194,14 @@ act-state W g event most most' pid groups live held e own v act does more child 
         (own-lives g event groups most most' live held own.bodies pid v act more child unfounding (is-live g groups most live held own.bodies pid v is sees s.lives) s.lives)
 
 -- the boot
-pub boot-state : (W : Type 0) (g event most : ℕ) (groups : Groups) (live : ℕ → Bool) (held : ℕ → Option ℕ) (name : List ℕ) (give : Give) (own : Own) → is_image give.bytes ≡ true
+pub boot-state : (W : Type 0) (keeps : W → KeepsLengths) (g event most : ℕ) (groups : Groups) (live : ℕ → Bool) (held : ℕ → Option ℕ) (name : List ℕ) (give : Give) (own : Own) → is_image give.bytes ≡ true
     → State W g event most groups live held own
     → (after : Own) → after.bodies ≡ done 1 event (Starts give.bytes 0 0) (put 1 (unborn event) own.bodies)
     → State W g (event + 1) (max most 1) (groups_told (entry.Boot name give) groups) (live_after (entry.Boot name give) live) (segments_told event (entry.Boot name give) held) after
-boot-state W g event most groups live held name give own image s after bodies =
+boot-state W keeps g event most groups live held name give own image s after bodies =
     record {
       lives = subst (Lives g (groups_told e groups) (max most 1) (live_after e live) (segments_told event e held)) (sym (bodies ∙ ends)) changes;
-      sounds = λ w. subst (Sounds (event + 1)) (sym bodies) (boot-sounds event give.bytes own.bodies image (s.sounds w));
+      sounds = λ w. subst (Sounds (event + 1)) (sym bodies) (boot-sounds (keeps w) event give.bytes own.bodies image (s.sounds w));
     }
   where
     e : Record

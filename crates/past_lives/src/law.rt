@@ -3,6 +3,7 @@ ghost use Rattle.past_lives.specs.Laws.{LivesHaveGroups, MembersAreSeen, Windows
 
 use crate::blocks::blocks_are_whole;
 use arn_base::Record;
+use window_laws::instructions_keep_lengths;
 
 /// Who has a body in a group alone, and which segment it holds, is told by the records themselves.
 pub fn members_are_seen()
@@ -13,6 +14,7 @@ pub fn members_are_seen()
 pub fn windows_are_whole(entries: &[Record])
     ensures { WindowsAreWhole entries.now }
 {
+    instructions_keep_lengths();
     blocks_are_whole(entries);
 }
 

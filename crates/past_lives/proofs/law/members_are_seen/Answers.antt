@@ -15,7 +15,7 @@ segment (Some x) live held t = t.1
 
 pub returns : goal.returns
 returns c entries g moment own broken is pid group =
-    let told = (alone-told ⊥ g moment entries own broken (λ w. absurd w) is).0 pid group in
+    let told = (alone-told ⊥ (λ w. absurd w) g moment entries own broken (λ w. absurd w) is).0 pid group in
     record {
       lives = lives (body_at own.bodies pid) (lives_at entries moment pid) (segment_at entries moment pid) told;
       segment = segment (body_at own.bodies pid) (lives_at entries moment pid) (segment_at entries moment pid) told;

@@ -15,5 +15,5 @@ reaches (Some v) h = reaches-present v (h v refl)
 pub returns : goal.returns
 returns c g moment own broken is pid =
     let entries = c.args.entries.now in
-    let sized = (alone-told (All HasWholeBlocks entries) g moment entries own broken (λ w. w) is).1 c.blocks_are_whole.ensures pid in
+    let sized = (alone-told (All HasWholeBlocks entries) (λ w. c.instructions_keep_lengths.ensures) g moment entries own broken (λ w. w) is).1 c.blocks_are_whole.ensures pid in
     reaches (seen own.bodies pid) sized
