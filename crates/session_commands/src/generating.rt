@@ -1,5 +1,5 @@
 // The generator: its program is brought as a file, booted and run on bytes that are typed.
-ghost use Rattle.std.specs.Prelude.{◌≡◌, ◌||◌, ◌+◌, ◌<◌, ◌≤◌, ◌^◌, ◌++◌, [], ◌∷◌, ℕ, List, Option, All, None, OnOk, IfErr, is_some, length, option_map, true};
+ghost use Rattle.std.specs.Prelude.{◌≡◌, ◌||◌, ◌+◌, ◌<◌, ◌≤◌, ◌^◌, ◌++◌, [], ◌∷◌, ℕ, List, Option, All, None, OnOk, IfErr, is_some, length, option_map};
 ghost use Rattle.arn_base.specs.Faults.{NeverFalls};
 ghost use Rattle.arn_commands.specs.Sizes.{IsBootable};
 ghost use Rattle.arn_commands.specs.declared.command.Command.TheVariants.{Generates};
@@ -106,57 +106,11 @@ pub fn answer_generator<Q: Questions, C: Chooser, A: Plugs, D: Disk, K: Sink, L:
 {
     effects_follow::<MachineRuns, D>();
     halts_follow::<MachineRuns, D>();
+    points_follow::<MachineRuns, D, A>();
+    causes_follow::<D>();
     if let Some(why) = generator_refusal(kept.store.entries()) {
         return print_refusal(outside.text, why, outside.sink);
     }
-    generate(kept, image, typed, processes, outside)
-}
-
-// Does it where it isn't refused.
-fn generate<Q: Questions, C: Chooser, A: Plugs, D: Disk, K: Sink, L: Ledger>(
-    kept: &mut Kept<Q>,
-    image: &[u8],
-    typed: &[u8],
-    processes: u64,
-    outside: &mut Outside<C, A, D, K, L>,
-) -> Result<(), Halt>
-    requires open { IsOpen D.Disk kept.old.store outside.old.disk.now }
-    requires sound { IsSound Q.knows kept.old.machine kept.old.questions kept.old.store.entries }
-    requires image { IsBootable image.now }
-    requires typed { length typed.now < 2 ^ 32 }
-    requires accepted { generator_refusal_by kept.old.store.entries ≡ None }
-
-    ensures sound { OnOk result
-        (IsSound Q.knows kept.new.machine kept.new.questions kept.new.store.entries) }
-    ensures there { OnOk result (is_some kept.new.machine ≡ true) }
-    ensures answered { OnOk result
-        (IsAnswered D.Disk (answering A.answers A.unplugs A.filled)
-        (given Q.told (A.filled outside.old.answers.now))
-        (is_some kept.old.machine) (Generates image.now typed.now processes)
-        (standing C.choices K.holds kept.old.store outside.old)
-        (standing C.choices K.holds kept.new.store outside.new)) }
-
-    ensures halted { IfErr result (λ halt.
-        IsHalted D.Disk (answering A.answers A.unplugs A.filled)
-        (given Q.told (A.filled outside.old.answers.now))
-        (is_some kept.old.machine) halt (Generates image.now typed.now processes)
-        (standing C.choices K.holds kept.old.store outside.old)
-        (standing C.choices K.holds kept.new.store outside.new)) }
-    ensures blames { IfErr result (λ halt.
-        BlamesRightly (given Q.told (A.filled outside.old.answers.now))
-        (is_some kept.old.machine) halt (Generates image.now typed.now processes)
-        (standing C.choices K.holds kept.old.store outside.old)
-        (standing C.choices K.holds kept.new.store outside.new)) }
-    ensures cause { IfErr result (λ halt. IsLineCause halt
-        (D.faults outside.old.disk.now) (D.faults outside.new.disk.now)
-        (K.faults outside.old.sink.now) (K.faults outside.new.sink.now)) }
-
-    ensures goes_on { GoesOnOutside D.Disk K.faults outside.old outside.new }
-{
-    effects_follow::<MachineRuns, D>();
-    halts_follow::<MachineRuns, D>();
-    points_follow::<MachineRuns, D, A>();
-    causes_follow::<D>();
     make_machine(kept, outside.steps)?;
     let known = kept.store.entries().len();
     perform(kept, image, typed, outside)?;
