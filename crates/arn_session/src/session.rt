@@ -113,40 +113,6 @@ fn answer_in_slots<
     answer_lent(alloc, store, questions, source, slots, outside)
 }
 
-// The same with devices that are lent, and all else by itself.
-fn answer_text<Q: Questions + Drop, C: Chooser, V: Device, S: Source, K: Sink, D: Disk, L: Ledger>(
-    alloc: Global,
-    store: Store,
-    questions: Q,
-    chooser: &mut C,
-    devices: &mut Vec<Option<V>>,
-    source: &mut S,
-    sink: &mut K,
-    disk: &mut D,
-    steps: &mut Steps<L>,
-) -> Result<(), Halt>
-    requires open { IsOpen D.Disk store disk.old }
-    requires known { Q.knows questions store.entries }
-    ensures { Leaves D.Disk (slots_answer V.Device)
-        (given Q.told (is_filled devices.old.items)) store.entries result
-        (scene_of S.Source K.Sink source.old sink.old disk.old
-        (around (C.choices chooser.old) devices.old.items steps.old))
-        (scene_of S.Source K.Sink source.new sink.new disk.new
-        (around (C.choices chooser.new) devices.new.items steps.new)) }
-{
-    let mut text = String::new(alloc);
-    let mut slots = Slots { devices };
-    let mut outside = Outside {
-        chooser,
-        answers: &mut (),
-        disk,
-        sink,
-        steps,
-        text: &mut text,
-    };
-    answer_in_slots(alloc, store, questions, source, &mut slots, &mut outside)
-}
-
 /// Does all that the program does: opens the log, reads the source command by command, commits what
 /// each adds to the history, and answers it to the sink.
 ///
@@ -363,9 +329,17 @@ pub fn arnold<S: Source, K: Sink, D: Disk, L: Ledger>(
         Err(IndexError::Broken { place }) => return Status::Damaged(Damage::Broken { place }),
         Err(IndexError::NoMemory) => return Status::NoMemory,
     };
-    match answer_text(
-        alloc, store, questions, chooser, devices, source, sink, disk, steps,
-    ) {
+    let mut text = String::new(alloc);
+    let mut slots = Slots { devices };
+    let mut outside = Outside {
+        chooser,
+        answers: &mut (),
+        disk,
+        sink,
+        steps,
+        text: &mut text,
+    };
+    match answer_in_slots(alloc, store, questions, source, &mut slots, &mut outside) {
         Ok(()) => Status::Done,
         Err(halt) => Status::from(halt),
     }

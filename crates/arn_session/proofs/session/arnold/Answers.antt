@@ -131,153 +131,169 @@ pub returns-in-Err-NoMemory-clause-untouched : goal.returns-in-Err-NoMemory-clau
 returns-in-Err-NoMemory-clause-untouched g c =
     not-opened _ (g.D.Disk.image c.args.disk.now) c.in-Ok.store.entries c.in-Ok.ensures.recovered c.in-Ok.ensures.short
 
-pub returns-in-Ok-answer_text-clause-answered : goal.returns-in-Ok-answer_text-clause-answered
-returns-in-Ok-answer_text-clause-answered g c = λ is history log.
-    Answers-opened g.D.Disk _ (given told (is_filled c.args.devices.now.items)) c.openings_follow.ensures.behind c.halts_follow.ensures.behind c.args.disk.now c.open_log.new.disk c.answer_text.new.disk
-    (g.K.Sink.holds c.args.sink.now) (g.K.Sink.holds c.answer_text.new.sink) _ _ c.in-Ok.store.entries
+pub returns-in-Ok-answer_in_slots-clause-answered : goal.returns-in-Ok-answer_in_slots-clause-answered
+returns-in-Ok-answer_in_slots-clause-answered g c = λ is history log.
+    rw (c.chooser-1.given.1 (sym c.answer_in_slots.ensures.same.chooser), c.devices-1.given.1 (sym c.answer_in_slots.ensures.slots), c.disk-1.given.1 (sym c.answer_in_slots.ensures.same.disk), c.sink-1.given.1 (sym c.answer_in_slots.ensures.same.sink), c.steps-1.given.1 (sym c.answer_in_slots.ensures.same.steps)) (
+    Answers-opened g.D.Disk _ (given told (is_filled c.args.devices.now.items)) c.openings_follow.ensures.behind c.halts_follow.ensures.behind c.args.disk.now c.open_log.new.disk c.answer_in_slots.new.outside.disk.now
+    (g.K.Sink.holds c.args.sink.now) (g.K.Sink.holds c.answer_in_slots.new.outside.sink.now) _ _ c.in-Ok.store.entries
     (c.openings_follow.ensures.carries c.args.disk.now c.open_log.new.disk c.in-Ok.store (g.K.Sink.holds c.args.sink.now) c.in-Ok.ensures.later.tells c.in-Ok.ensures.left c.in-Ok.ensures.durable c.in-Ok.ensures.any_moment c.in-Ok.ensures.shut)
     history (c.openings_follow.ensures.history c.args.disk.now history c.in-Ok.store log c.in-Ok.ensures.recovered)
-    (g.S.Source.left c.args.source.now) (ok-at c.answer_text.result _ _ c.in-Ok-answer_text.is c.answer_text.ensures.answered)
+    (g.S.Source.left c.args.source.now) (ok-at c.answer_in_slots.result _ _ c.in-Ok-answer_in_slots.is c.answer_in_slots.ensures.leaves.answered))
 
-pub returns-in-Ok-answer_text-clause-any_moment : goal.returns-in-Ok-answer_text-clause-any_moment
-returns-in-Ok-answer_text-clause-any_moment g c = λ history was.
-    c.openings_follow.ensures.leaves_behind c.args.disk.now c.open_log.new.disk c.answer_text.new.disk c.in-Ok.store.entries history (g.K.Sink.holds c.args.sink.now)
+pub returns-in-Ok-answer_in_slots-clause-any_moment : goal.returns-in-Ok-answer_in_slots-clause-any_moment
+returns-in-Ok-answer_in_slots-clause-any_moment g c = λ history was.
+    rw (c.disk-1.given.1 (sym c.answer_in_slots.ensures.same.disk)) (
+    c.openings_follow.ensures.leaves_behind c.args.disk.now c.open_log.new.disk c.answer_in_slots.new.outside.disk.now c.in-Ok.store.entries history (g.K.Sink.holds c.args.sink.now)
     (c.openings_follow.ensures.history c.args.disk.now history c.in-Ok.store (rest-log g.D.Disk c.args.disk.now history was) c.in-Ok.ensures.recovered)
     (c.openings_follow.ensures.carries c.args.disk.now c.open_log.new.disk c.in-Ok.store (g.K.Sink.holds c.args.sink.now) c.in-Ok.ensures.later.tells c.in-Ok.ensures.left c.in-Ok.ensures.durable c.in-Ok.ensures.any_moment c.in-Ok.ensures.shut)
-    c.in-Ok.ensures.any_moment c.answer_text.ensures.any_moment was
+    c.in-Ok.ensures.any_moment c.answer_in_slots.ensures.leaves.any_moment was)
 
-pub returns-in-Ok-answer_text-clause-opened : goal.returns-in-Ok-answer_text-clause-opened
-returns-in-Ok-answer_text-clause-opened g c =
+pub returns-in-Ok-answer_in_slots-clause-opened : goal.returns-in-Ok-answer_in_slots-clause-opened
+returns-in-Ok-answer_in_slots-clause-opened g c =
     told-both (g.D.Disk.image c.args.disk.now) c.in-Ok.store.entries status.Done c.in-Ok.ensures.recovered c.in-Ok.ensures.short
 
-pub returns-in-Ok-answer_text-clause-untouched : goal.returns-in-Ok-answer_text-clause-untouched
-returns-in-Ok-answer_text-clause-untouched g c =
+pub returns-in-Ok-answer_in_slots-clause-untouched : goal.returns-in-Ok-answer_in_slots-clause-untouched
+returns-in-Ok-answer_in_slots-clause-untouched g c =
     not-opened _ (g.D.Disk.image c.args.disk.now) c.in-Ok.store.entries c.in-Ok.ensures.recovered c.in-Ok.ensures.short
 
-pub returns-in-Ok-answer_text-clause-stands : goal.returns-in-Ok-answer_text-clause-stands
-returns-in-Ok-answer_text-clause-stands g c = λ begun history log.
+pub returns-in-Ok-answer_in_slots-clause-stands : goal.returns-in-Ok-answer_in_slots-clause-stands
+returns-in-Ok-answer_in_slots-clause-stands g c = λ begun history log.
     subst (λ (h : List Record). first_broken h ≡ None) (c.openings_follow.ensures.history c.args.disk.now history c.in-Ok.store log c.in-Ok.ensures.recovered)
     (subst (λ (h : List Record). first_broken h ≡ None) c.entries.ensures c.in-Ok-new.ensures.known.stands)
 
-pub returns-in-Err-answer_text-clause-stands : goal.returns-in-Err-answer_text-clause-stands
-returns-in-Err-answer_text-clause-stands g c = λ begun history log.
+pub returns-clause-stands : goal.returns-clause-stands
+returns-clause-stands g c = λ begun history log.
     subst (λ (h : List Record). first_broken h ≡ None) (c.openings_follow.ensures.history c.args.disk.now history c.in-Ok.store log c.in-Ok.ensures.recovered)
     (subst (λ (h : List Record). first_broken h ≡ None) c.entries.ensures c.in-Ok-new.ensures.known.stands)
 
-pub returns-in-Ok-answer_text-clause-rests : goal.returns-in-Ok-answer_text-clause-rests
-returns-in-Ok-answer_text-clause-rests g c = λ not_disk not_memory history was.
-    c.openings_follow.ensures.rests_behind c.args.disk.now c.open_log.new.disk c.answer_text.new.disk c.in-Ok.store.entries history (g.K.Sink.holds c.args.sink.now)
+pub returns-in-Ok-answer_in_slots-clause-rests : goal.returns-in-Ok-answer_in_slots-clause-rests
+returns-in-Ok-answer_in_slots-clause-rests g c = λ not_disk not_memory history was.
+    rw (c.disk-1.given.1 (sym c.answer_in_slots.ensures.same.disk)) (
+    c.openings_follow.ensures.rests_behind c.args.disk.now c.open_log.new.disk c.answer_in_slots.new.outside.disk.now c.in-Ok.store.entries history (g.K.Sink.holds c.args.sink.now)
     (c.openings_follow.ensures.history c.args.disk.now history c.in-Ok.store (rest-log g.D.Disk c.args.disk.now history was) c.in-Ok.ensures.recovered)
     (c.openings_follow.ensures.carries c.args.disk.now c.open_log.new.disk c.in-Ok.store (g.K.Sink.holds c.args.sink.now) c.in-Ok.ensures.later.tells c.in-Ok.ensures.left c.in-Ok.ensures.durable c.in-Ok.ensures.any_moment c.in-Ok.ensures.shut)
-    (ok-at c.answer_text.result _ _ c.in-Ok-answer_text.is c.answer_text.ensures.rests) was
+    (ok-at c.answer_in_slots.result _ _ c.in-Ok-answer_in_slots.is c.answer_in_slots.ensures.leaves.rests) was)
 
-pub returns-in-Err-answer_text-clause-any_moment : goal.returns-in-Err-answer_text-clause-any_moment
-returns-in-Err-answer_text-clause-any_moment g c = λ history was.
-    c.openings_follow.ensures.leaves_behind c.args.disk.now c.open_log.new.disk c.answer_text.new.disk c.in-Ok.store.entries history (g.K.Sink.holds c.args.sink.now)
+pub returns-clause-any_moment : goal.returns-clause-any_moment
+returns-clause-any_moment g c = λ history was.
+    rw (c.disk-1.given.1 (sym c.answer_in_slots.ensures.same.disk)) (
+    c.openings_follow.ensures.leaves_behind c.args.disk.now c.open_log.new.disk c.answer_in_slots.new.outside.disk.now c.in-Ok.store.entries history (g.K.Sink.holds c.args.sink.now)
     (c.openings_follow.ensures.history c.args.disk.now history c.in-Ok.store (rest-log g.D.Disk c.args.disk.now history was) c.in-Ok.ensures.recovered)
     (c.openings_follow.ensures.carries c.args.disk.now c.open_log.new.disk c.in-Ok.store (g.K.Sink.holds c.args.sink.now) c.in-Ok.ensures.later.tells c.in-Ok.ensures.left c.in-Ok.ensures.durable c.in-Ok.ensures.any_moment c.in-Ok.ensures.shut)
-    c.in-Ok.ensures.any_moment c.answer_text.ensures.any_moment was
+    c.in-Ok.ensures.any_moment c.answer_in_slots.ensures.leaves.any_moment was)
 
-pub returns-in-Err-answer_text-clause-disk : goal.returns-in-Err-answer_text-clause-disk
-returns-in-Err-answer_text-clause-disk g c = λ is.
-    Rose-after _ _ _ c.in-Ok.ensures.later.never_falls c.answer_text.ensures.later.never_falls (c.answer_text.ensures.disk (c.in-Err-answer_text.is ∙ ap (λ (x : Halt). Err x) (halt-is c.in-Err-answer_text.halt c.from-in-Err-answer_text.result halt.Disk c.from-in-Err-answer_text.ensures (ap halt_for is))))
+pub returns-clause-disk : goal.returns-clause-disk
+returns-clause-disk g c = λ is.
+    rw (c.disk-1.given.1 (sym c.answer_in_slots.ensures.same.disk)) (
+    Rose-after _ _ _ c.in-Ok.ensures.later.never_falls c.answer_in_slots.ensures.leaves.later.never_falls (c.answer_in_slots.ensures.leaves.disk (c.in-Err-answer_in_slots.is ∙ ap (λ (x : Halt). Err x) (halt-is c.in-Err-answer_in_slots.halt c.from-in-Err-answer_in_slots.result halt.Disk c.from-in-Err-answer_in_slots.ensures (ap halt_for is)))))
 
-pub returns-in-Err-answer_text-clause-opened : goal.returns-in-Err-answer_text-clause-opened
-returns-in-Err-answer_text-clause-opened g c =
-    told-both (g.D.Disk.image c.args.disk.now) c.in-Ok.store.entries c.from-in-Err-answer_text.result c.in-Ok.ensures.recovered c.in-Ok.ensures.short
+pub returns-clause-opened : goal.returns-clause-opened
+returns-clause-opened g c =
+    told-both (g.D.Disk.image c.args.disk.now) c.in-Ok.store.entries c.from-in-Err-answer_in_slots.result c.in-Ok.ensures.recovered c.in-Ok.ensures.short
 
-pub returns-in-Err-answer_text-clause-untouched : goal.returns-in-Err-answer_text-clause-untouched
-returns-in-Err-answer_text-clause-untouched g c =
+pub returns-clause-untouched : goal.returns-clause-untouched
+returns-clause-untouched g c =
     not-opened _ (g.D.Disk.image c.args.disk.now) c.in-Ok.store.entries c.in-Ok.ensures.recovered c.in-Ok.ensures.short
 
-pub returns-in-Err-answer_text-clause-cut : goal.returns-in-Err-answer_text-clause-cut
-returns-in-Err-answer_text-clause-cut g c = λ is history log.
-    Begins-opened g.D.Disk _ (given told (is_filled c.args.devices.now.items)) c.openings_follow.ensures.behind c.halts_follow.ensures.behind c.args.disk.now c.open_log.new.disk c.answer_text.new.disk
-    (g.K.Sink.holds c.args.sink.now) (g.K.Sink.holds c.answer_text.new.sink) _ _ c.in-Ok.store.entries
+pub returns-clause-cut : goal.returns-clause-cut
+returns-clause-cut g c = λ is history log.
+    rw (c.chooser-1.given.1 (sym c.answer_in_slots.ensures.same.chooser), c.devices-1.given.1 (sym c.answer_in_slots.ensures.slots), c.disk-1.given.1 (sym c.answer_in_slots.ensures.same.disk), c.sink-1.given.1 (sym c.answer_in_slots.ensures.same.sink), c.steps-1.given.1 (sym c.answer_in_slots.ensures.same.steps)) (
+    Begins-opened g.D.Disk _ (given told (is_filled c.args.devices.now.items)) c.openings_follow.ensures.behind c.halts_follow.ensures.behind c.args.disk.now c.open_log.new.disk c.answer_in_slots.new.outside.disk.now
+    (g.K.Sink.holds c.args.sink.now) (g.K.Sink.holds c.answer_in_slots.new.outside.sink.now) _ _ c.in-Ok.store.entries
     (c.openings_follow.ensures.carries c.args.disk.now c.open_log.new.disk c.in-Ok.store (g.K.Sink.holds c.args.sink.now) c.in-Ok.ensures.later.tells c.in-Ok.ensures.left c.in-Ok.ensures.durable c.in-Ok.ensures.any_moment c.in-Ok.ensures.shut)
     history (c.openings_follow.ensures.history c.args.disk.now history c.in-Ok.store log c.in-Ok.ensures.recovered)
-    c.in-Err-answer_text.halt halt.Sink (halt-is c.in-Err-answer_text.halt c.from-in-Err-answer_text.result halt.Sink c.from-in-Err-answer_text.ensures (ap halt_for is))
-    (λ e. cc) (λ e. cc) (g.S.Source.left c.args.source.now) (g.S.Source.left c.answer_text.new.source) (err-at c.answer_text.result _ c.in-Err-answer_text.halt c.in-Err-answer_text.is c.answer_text.ensures.stops)
+    c.in-Err-answer_in_slots.halt halt.Sink (halt-is c.in-Err-answer_in_slots.halt c.from-in-Err-answer_in_slots.result halt.Sink c.from-in-Err-answer_in_slots.ensures (ap halt_for is))
+    (λ e. cc) (λ e. cc) (g.S.Source.left c.args.source.now) (g.S.Source.left c.answer_in_slots.new.source) (err-at c.answer_in_slots.result _ c.in-Err-answer_in_slots.halt c.in-Err-answer_in_slots.is c.answer_in_slots.ensures.leaves.stops))
 
-pub returns-in-Err-answer_text-clause-stopped : goal.returns-in-Err-answer_text-clause-stopped
-returns-in-Err-answer_text-clause-stopped g c = λ is history log. inr (
-    Begins-opened g.D.Disk _ (given told (is_filled c.args.devices.now.items)) c.openings_follow.ensures.behind c.halts_follow.ensures.behind c.args.disk.now c.open_log.new.disk c.answer_text.new.disk
-    (g.K.Sink.holds c.args.sink.now) (g.K.Sink.holds c.answer_text.new.sink) _ _ c.in-Ok.store.entries
+pub returns-clause-stopped : goal.returns-clause-stopped
+returns-clause-stopped g c = λ is history log.
+    rw (c.chooser-1.given.1 (sym c.answer_in_slots.ensures.same.chooser), c.devices-1.given.1 (sym c.answer_in_slots.ensures.slots), c.disk-1.given.1 (sym c.answer_in_slots.ensures.same.disk), c.sink-1.given.1 (sym c.answer_in_slots.ensures.same.sink), c.steps-1.given.1 (sym c.answer_in_slots.ensures.same.steps)) (
+    inr (
+    Begins-opened g.D.Disk _ (given told (is_filled c.args.devices.now.items)) c.openings_follow.ensures.behind c.halts_follow.ensures.behind c.args.disk.now c.open_log.new.disk c.answer_in_slots.new.outside.disk.now
+    (g.K.Sink.holds c.args.sink.now) (g.K.Sink.holds c.answer_in_slots.new.outside.sink.now) _ _ c.in-Ok.store.entries
     (c.openings_follow.ensures.carries c.args.disk.now c.open_log.new.disk c.in-Ok.store (g.K.Sink.holds c.args.sink.now) c.in-Ok.ensures.later.tells c.in-Ok.ensures.left c.in-Ok.ensures.durable c.in-Ok.ensures.any_moment c.in-Ok.ensures.shut)
     history (c.openings_follow.ensures.history c.args.disk.now history c.in-Ok.store log c.in-Ok.ensures.recovered)
-    c.in-Err-answer_text.halt halt.Disk (halt-is c.in-Err-answer_text.halt c.from-in-Err-answer_text.result halt.Disk c.from-in-Err-answer_text.ensures (ap halt_for is))
-    (λ e. cc) (λ e. cc) (g.S.Source.left c.args.source.now) (g.S.Source.left c.answer_text.new.source) (err-at c.answer_text.result _ c.in-Err-answer_text.halt c.in-Err-answer_text.is c.answer_text.ensures.stops))
+    c.in-Err-answer_in_slots.halt halt.Disk (halt-is c.in-Err-answer_in_slots.halt c.from-in-Err-answer_in_slots.result halt.Disk c.from-in-Err-answer_in_slots.ensures (ap halt_for is))
+    (λ e. cc) (λ e. cc) (g.S.Source.left c.args.source.now) (g.S.Source.left c.answer_in_slots.new.source) (err-at c.answer_in_slots.result _ c.in-Err-answer_in_slots.halt c.in-Err-answer_in_slots.is c.answer_in_slots.ensures.leaves.stops)))
 
-pub returns-in-Err-answer_text-clause-full : goal.returns-in-Err-answer_text-clause-full
-returns-in-Err-answer_text-clause-full g c = λ at payload is history log.
-    Begins-opened g.D.Disk _ (given told (is_filled c.args.devices.now.items)) c.openings_follow.ensures.behind c.halts_follow.ensures.behind c.args.disk.now c.open_log.new.disk c.answer_text.new.disk
-    (g.K.Sink.holds c.args.sink.now) (g.K.Sink.holds c.answer_text.new.sink) _ _ c.in-Ok.store.entries
+pub returns-clause-full : goal.returns-clause-full
+returns-clause-full g c = λ at payload is history log.
+    rw (c.chooser-1.given.1 (sym c.answer_in_slots.ensures.same.chooser), c.devices-1.given.1 (sym c.answer_in_slots.ensures.slots), c.disk-1.given.1 (sym c.answer_in_slots.ensures.same.disk), c.sink-1.given.1 (sym c.answer_in_slots.ensures.same.sink), c.steps-1.given.1 (sym c.answer_in_slots.ensures.same.steps)) (
+    Begins-opened g.D.Disk _ (given told (is_filled c.args.devices.now.items)) c.openings_follow.ensures.behind c.halts_follow.ensures.behind c.args.disk.now c.open_log.new.disk c.answer_in_slots.new.outside.disk.now
+    (g.K.Sink.holds c.args.sink.now) (g.K.Sink.holds c.answer_in_slots.new.outside.sink.now) _ _ c.in-Ok.store.entries
     (c.openings_follow.ensures.carries c.args.disk.now c.open_log.new.disk c.in-Ok.store (g.K.Sink.holds c.args.sink.now) c.in-Ok.ensures.later.tells c.in-Ok.ensures.left c.in-Ok.ensures.durable c.in-Ok.ensures.any_moment c.in-Ok.ensures.shut)
     history (c.openings_follow.ensures.history c.args.disk.now history c.in-Ok.store log c.in-Ok.ensures.recovered)
-    c.in-Err-answer_text.halt (halt.Full at payload) (halt-is c.in-Err-answer_text.halt c.from-in-Err-answer_text.result (halt.Full at payload) c.from-in-Err-answer_text.ensures (ap halt_for is))
-    (λ e. cc) (λ e. cc) (g.S.Source.left c.args.source.now) (g.S.Source.left c.answer_text.new.source) (err-at c.answer_text.result _ c.in-Err-answer_text.halt c.in-Err-answer_text.is c.answer_text.ensures.stops)
+    c.in-Err-answer_in_slots.halt (halt.Full at payload) (halt-is c.in-Err-answer_in_slots.halt c.from-in-Err-answer_in_slots.result (halt.Full at payload) c.from-in-Err-answer_in_slots.ensures (ap halt_for is))
+    (λ e. cc) (λ e. cc) (g.S.Source.left c.args.source.now) (g.S.Source.left c.answer_in_slots.new.source) (err-at c.answer_in_slots.result _ c.in-Err-answer_in_slots.halt c.in-Err-answer_in_slots.is c.answer_in_slots.ensures.leaves.stops))
 
-pub returns-in-Err-answer_text-clause-begun : goal.returns-in-Err-answer_text-clause-begun
-returns-in-Err-answer_text-clause-begun g c = λ is history log. inr (
-    Begins-opened g.D.Disk _ (given told (is_filled c.args.devices.now.items)) c.openings_follow.ensures.behind c.halts_follow.ensures.behind c.args.disk.now c.open_log.new.disk c.answer_text.new.disk
-    (g.K.Sink.holds c.args.sink.now) (g.K.Sink.holds c.answer_text.new.sink) _ _ c.in-Ok.store.entries
+pub returns-clause-begun : goal.returns-clause-begun
+returns-clause-begun g c = λ is history log.
+    rw (c.chooser-1.given.1 (sym c.answer_in_slots.ensures.same.chooser), c.devices-1.given.1 (sym c.answer_in_slots.ensures.slots), c.disk-1.given.1 (sym c.answer_in_slots.ensures.same.disk), c.sink-1.given.1 (sym c.answer_in_slots.ensures.same.sink), c.steps-1.given.1 (sym c.answer_in_slots.ensures.same.steps)) (
+    inr (
+    Begins-opened g.D.Disk _ (given told (is_filled c.args.devices.now.items)) c.openings_follow.ensures.behind c.halts_follow.ensures.behind c.args.disk.now c.open_log.new.disk c.answer_in_slots.new.outside.disk.now
+    (g.K.Sink.holds c.args.sink.now) (g.K.Sink.holds c.answer_in_slots.new.outside.sink.now) _ _ c.in-Ok.store.entries
     (c.openings_follow.ensures.carries c.args.disk.now c.open_log.new.disk c.in-Ok.store (g.K.Sink.holds c.args.sink.now) c.in-Ok.ensures.later.tells c.in-Ok.ensures.left c.in-Ok.ensures.durable c.in-Ok.ensures.any_moment c.in-Ok.ensures.shut)
     history (c.openings_follow.ensures.history c.args.disk.now history c.in-Ok.store log c.in-Ok.ensures.recovered)
-    c.in-Err-answer_text.halt halt.NoMemory (halt-is c.in-Err-answer_text.halt c.from-in-Err-answer_text.result halt.NoMemory c.from-in-Err-answer_text.ensures (ap halt_for is))
-    (λ e. cc) (λ e. cc) (g.S.Source.left c.args.source.now) (g.S.Source.left c.answer_text.new.source) (err-at c.answer_text.result _ c.in-Err-answer_text.halt c.in-Err-answer_text.is c.answer_text.ensures.stops))
+    c.in-Err-answer_in_slots.halt halt.NoMemory (halt-is c.in-Err-answer_in_slots.halt c.from-in-Err-answer_in_slots.result halt.NoMemory c.from-in-Err-answer_in_slots.ensures (ap halt_for is))
+    (λ e. cc) (λ e. cc) (g.S.Source.left c.args.source.now) (g.S.Source.left c.answer_in_slots.new.source) (err-at c.answer_in_slots.result _ c.in-Err-answer_in_slots.halt c.in-Err-answer_in_slots.is c.answer_in_slots.ensures.leaves.stops)))
 
-pub returns-in-Err-answer_text-clause-taken : goal.returns-in-Err-answer_text-clause-taken
-returns-in-Err-answer_text-clause-taken g c = λ which history log.
-    Taken-opened g.D.Disk _ (given told (is_filled c.args.devices.now.items)) c.openings_follow.ensures.behind c.halts_follow.ensures.behind c.args.disk.now c.open_log.new.disk c.answer_text.new.disk
-    (g.K.Sink.holds c.args.sink.now) (g.K.Sink.holds c.answer_text.new.sink) _ _ c.in-Ok.store.entries
+pub returns-clause-taken : goal.returns-clause-taken
+returns-clause-taken g c = λ which history log.
+    rw (c.chooser-1.given.1 (sym c.answer_in_slots.ensures.same.chooser), c.devices-1.given.1 (sym c.answer_in_slots.ensures.slots), c.disk-1.given.1 (sym c.answer_in_slots.ensures.same.disk), c.sink-1.given.1 (sym c.answer_in_slots.ensures.same.sink), c.steps-1.given.1 (sym c.answer_in_slots.ensures.same.steps)) (
+    Taken-opened g.D.Disk _ (given told (is_filled c.args.devices.now.items)) c.openings_follow.ensures.behind c.halts_follow.ensures.behind c.args.disk.now c.open_log.new.disk c.answer_in_slots.new.outside.disk.now
+    (g.K.Sink.holds c.args.sink.now) (g.K.Sink.holds c.answer_in_slots.new.outside.sink.now) _ _ c.in-Ok.store.entries
     (c.openings_follow.ensures.carries c.args.disk.now c.open_log.new.disk c.in-Ok.store (g.K.Sink.holds c.args.sink.now) c.in-Ok.ensures.later.tells c.in-Ok.ensures.left c.in-Ok.ensures.durable c.in-Ok.ensures.any_moment c.in-Ok.ensures.shut)
     history (c.openings_follow.ensures.history c.args.disk.now history c.in-Ok.store log c.in-Ok.ensures.recovered)
-    (g.S.Source.left c.args.source.now) (g.S.Source.left c.answer_text.new.source) whole_parts
-    (c.answer_text.ensures.taken (elim which [
-      | inl is ↦ inl (c.in-Err-answer_text.is ∙ ap (λ (x : Halt). Err x) (halt-is c.in-Err-answer_text.halt c.from-in-Err-answer_text.result halt.Source c.from-in-Err-answer_text.ensures (ap halt_for is)))
-      | inr is ↦ inr (c.in-Err-answer_text.is ∙ ap (λ (x : Halt). Err x) (halt-is c.in-Err-answer_text.halt c.from-in-Err-answer_text.result halt.Long c.from-in-Err-answer_text.ensures (ap halt_for is)))
-    ]))
+    (g.S.Source.left c.args.source.now) (g.S.Source.left c.answer_in_slots.new.source) whole_parts
+    (c.answer_in_slots.ensures.leaves.taken (elim which [
+      | inl is ↦ inl (c.in-Err-answer_in_slots.is ∙ ap (λ (x : Halt). Err x) (halt-is c.in-Err-answer_in_slots.halt c.from-in-Err-answer_in_slots.result halt.Source c.from-in-Err-answer_in_slots.ensures (ap halt_for is)))
+      | inr is ↦ inr (c.in-Err-answer_in_slots.is ∙ ap (λ (x : Halt). Err x) (halt-is c.in-Err-answer_in_slots.halt c.from-in-Err-answer_in_slots.result halt.Long c.from-in-Err-answer_in_slots.ensures (ap halt_for is)))
+    ])))
 
-pub returns-in-Err-answer_text-clause-differs : goal.returns-in-Err-answer_text-clause-differs
-returns-in-Err-answer_text-clause-differs g c = λ d is history log.
-    let why : c.in-Err-answer_text.halt ≡ halt.Differs d = (halt-is c.in-Err-answer_text.halt c.from-in-Err-answer_text.result (halt.Differs d) c.from-in-Err-answer_text.ensures (ap halt_for is)) in
-    let err = c.in-Err-answer_text.is ∙ ap (λ (x : Halt). Err x) why in (
-      subst (λ h. IsNoRun h d) (c.openings_follow.ensures.history c.args.disk.now history c.in-Ok.store log c.in-Ok.ensures.recovered) (c.answer_text.ensures.blames d err),
-      Finds-opened g.D.Disk _ (given told (is_filled c.args.devices.now.items)) c.openings_follow.ensures.behind c.halts_follow.ensures.behind c.args.disk.now c.open_log.new.disk c.answer_text.new.disk
-          (g.K.Sink.holds c.args.sink.now) (g.K.Sink.holds c.answer_text.new.sink) _ _ c.in-Ok.store.entries
+pub returns-clause-differs : goal.returns-clause-differs
+returns-clause-differs g c = λ d is history log.
+    let why : c.in-Err-answer_in_slots.halt ≡ halt.Differs d = (halt-is c.in-Err-answer_in_slots.halt c.from-in-Err-answer_in_slots.result (halt.Differs d) c.from-in-Err-answer_in_slots.ensures (ap halt_for is)) in
+    let err = c.in-Err-answer_in_slots.is ∙ ap (λ (x : Halt). Err x) why in
+    rw (c.chooser-1.given.1 (sym c.answer_in_slots.ensures.same.chooser), c.devices-1.given.1 (sym c.answer_in_slots.ensures.slots), c.disk-1.given.1 (sym c.answer_in_slots.ensures.same.disk), c.sink-1.given.1 (sym c.answer_in_slots.ensures.same.sink), c.steps-1.given.1 (sym c.answer_in_slots.ensures.same.steps)) ((
+      subst (λ h. IsNoRun h d) (c.openings_follow.ensures.history c.args.disk.now history c.in-Ok.store log c.in-Ok.ensures.recovered) (c.answer_in_slots.ensures.leaves.blames d err),
+      Finds-opened g.D.Disk _ (given told (is_filled c.args.devices.now.items)) c.openings_follow.ensures.behind c.halts_follow.ensures.behind c.args.disk.now c.open_log.new.disk c.answer_in_slots.new.outside.disk.now
+          (g.K.Sink.holds c.args.sink.now) (g.K.Sink.holds c.answer_in_slots.new.outside.sink.now) _ _ c.in-Ok.store.entries
           (c.openings_follow.ensures.carries c.args.disk.now c.open_log.new.disk c.in-Ok.store (g.K.Sink.holds c.args.sink.now) c.in-Ok.ensures.later.tells c.in-Ok.ensures.left c.in-Ok.ensures.durable c.in-Ok.ensures.any_moment c.in-Ok.ensures.shut)
           history (c.openings_follow.ensures.history c.args.disk.now history c.in-Ok.store log c.in-Ok.ensures.recovered)
-          (g.S.Source.left c.args.source.now) (g.S.Source.left c.answer_text.new.source) (c.answer_text.ensures.finds d err),
-    )
+          (g.S.Source.left c.args.source.now) (g.S.Source.left c.answer_in_slots.new.source) (c.answer_in_slots.ensures.leaves.finds d err),
+    ))
 
-pub returns-in-Err-answer_text-clause-rests : goal.returns-in-Err-answer_text-clause-rests
-returns-in-Err-answer_text-clause-rests g c = λ not_disk not_memory history was.
-    c.openings_follow.ensures.rests_behind c.args.disk.now c.open_log.new.disk c.answer_text.new.disk c.in-Ok.store.entries history (g.K.Sink.holds c.args.sink.now)
+pub returns-clause-rests : goal.returns-clause-rests
+returns-clause-rests g c = λ not_disk not_memory history was.
+    rw (c.disk-1.given.1 (sym c.answer_in_slots.ensures.same.disk)) (
+    c.openings_follow.ensures.rests_behind c.args.disk.now c.open_log.new.disk c.answer_in_slots.new.outside.disk.now c.in-Ok.store.entries history (g.K.Sink.holds c.args.sink.now)
     (c.openings_follow.ensures.history c.args.disk.now history c.in-Ok.store (rest-log g.D.Disk c.args.disk.now history was) c.in-Ok.ensures.recovered)
     (c.openings_follow.ensures.carries c.args.disk.now c.open_log.new.disk c.in-Ok.store (g.K.Sink.holds c.args.sink.now) c.in-Ok.ensures.later.tells c.in-Ok.ensures.left c.in-Ok.ensures.durable c.in-Ok.ensures.any_moment c.in-Ok.ensures.shut)
-    ((err-at c.answer_text.result _ c.in-Err-answer_text.halt c.in-Err-answer_text.is c.answer_text.ensures.still_rests) (λ is. not_disk (c.from-in-Err-answer_text.ensures ∙ ap status_of is)) (λ is. not_memory (c.from-in-Err-answer_text.ensures ∙ ap status_of is))) was
+    ((err-at c.answer_in_slots.result _ c.in-Err-answer_in_slots.halt c.in-Err-answer_in_slots.is c.answer_in_slots.ensures.leaves.still_rests) (λ is. not_disk (c.from-in-Err-answer_in_slots.ensures ∙ ap status_of is)) (λ is. not_memory (c.from-in-Err-answer_in_slots.ensures ∙ ap status_of is))) was)
 
-pub returns-in-Ok-answer_text-clause-read : goal.returns-in-Ok-answer_text-clause-read
-returns-in-Ok-answer_text-clause-read g c = λ is. ok-at c.answer_text.result _ _ c.in-Ok-answer_text.is c.answer_text.ensures.read
+pub returns-in-Ok-answer_in_slots-clause-read : goal.returns-in-Ok-answer_in_slots-clause-read
+returns-in-Ok-answer_in_slots-clause-read g c = λ is. ok-at c.answer_in_slots.result _ _ c.in-Ok-answer_in_slots.is c.answer_in_slots.ensures.leaves.read
 
-pub returns-in-Ok-answer_text-clause-short : goal.returns-in-Ok-answer_text-clause-short
-returns-in-Ok-answer_text-clause-short g c = λ is. ok-at c.answer_text.result _ _ c.in-Ok-answer_text.is c.answer_text.ensures.short
+pub returns-in-Ok-answer_in_slots-clause-short : goal.returns-in-Ok-answer_in_slots-clause-short
+returns-in-Ok-answer_in_slots-clause-short g c = λ is. ok-at c.answer_in_slots.result _ _ c.in-Ok-answer_in_slots.is c.answer_in_slots.ensures.leaves.short
 
-pub returns-in-Err-answer_text-clause-source : goal.returns-in-Err-answer_text-clause-source
-returns-in-Err-answer_text-clause-source g c = λ is. c.answer_text.ensures.source (c.in-Err-answer_text.is ∙ ap (λ (x : Halt). Err x) (halt-is c.in-Err-answer_text.halt c.from-in-Err-answer_text.result halt.Source c.from-in-Err-answer_text.ensures (ap halt_for is)))
+pub returns-clause-source : goal.returns-clause-source
+returns-clause-source g c = λ is. c.answer_in_slots.ensures.leaves.source (c.in-Err-answer_in_slots.is ∙ ap (λ (x : Halt). Err x) (halt-is c.in-Err-answer_in_slots.halt c.from-in-Err-answer_in_slots.result halt.Source c.from-in-Err-answer_in_slots.ensures (ap halt_for is)))
 
-pub returns-in-Err-answer_text-clause-sink : goal.returns-in-Err-answer_text-clause-sink
-returns-in-Err-answer_text-clause-sink g c = λ is. c.answer_text.ensures.sink (c.in-Err-answer_text.is ∙ ap (λ (x : Halt). Err x) (halt-is c.in-Err-answer_text.halt c.from-in-Err-answer_text.result halt.Sink c.from-in-Err-answer_text.ensures (ap halt_for is)))
+pub returns-clause-sink : goal.returns-clause-sink
+returns-clause-sink g c = λ is.
+    rw (c.sink-1.given.1 (sym c.answer_in_slots.ensures.same.sink)) (
+    c.answer_in_slots.ensures.leaves.sink (c.in-Err-answer_in_slots.is ∙ ap (λ (x : Halt). Err x) (halt-is c.in-Err-answer_in_slots.halt c.from-in-Err-answer_in_slots.result halt.Sink c.from-in-Err-answer_in_slots.ensures (ap halt_for is))))
 
-pub returns-in-Err-answer_text-clause-early : goal.returns-in-Err-answer_text-clause-early
-returns-in-Err-answer_text-clause-early g c = λ is. c.answer_text.ensures.early (c.in-Err-answer_text.is ∙ ap (λ (x : Halt). Err x) (halt-is c.in-Err-answer_text.halt c.from-in-Err-answer_text.result halt.Source c.from-in-Err-answer_text.ensures (ap halt_for is)))
+pub returns-clause-early : goal.returns-clause-early
+returns-clause-early g c = λ is. c.answer_in_slots.ensures.leaves.early (c.in-Err-answer_in_slots.is ∙ ap (λ (x : Halt). Err x) (halt-is c.in-Err-answer_in_slots.halt c.from-in-Err-answer_in_slots.result halt.Source c.from-in-Err-answer_in_slots.ensures (ap halt_for is)))
 
-pub returns-in-Err-answer_text-clause-long : goal.returns-in-Err-answer_text-clause-long
-returns-in-Err-answer_text-clause-long g c = λ is. c.answer_text.ensures.long (c.in-Err-answer_text.is ∙ ap (λ (x : Halt). Err x) (halt-is c.in-Err-answer_text.halt c.from-in-Err-answer_text.result halt.Long c.from-in-Err-answer_text.ensures (ap halt_for is)))
+pub returns-clause-long : goal.returns-clause-long
+returns-clause-long g c = λ is. c.answer_in_slots.ensures.leaves.long (c.in-Err-answer_in_slots.is ∙ ap (λ (x : Halt). Err x) (halt-is c.in-Err-answer_in_slots.halt c.from-in-Err-answer_in_slots.result halt.Long c.from-in-Err-answer_in_slots.ensures (ap halt_for is)))
 
-pub returns-in-Err-answer_text-clause-numbers : goal.returns-in-Err-answer_text-clause-numbers
-returns-in-Err-answer_text-clause-numbers g c =
-    numbers-of c.in-Err-answer_text.halt c.from-in-Err-answer_text.result c.from-in-Err-answer_text.ensures (λ log payload is. c.answer_text.ensures.full log payload (c.in-Err-answer_text.is ∙ ap (λ (x : Halt). Err x) is))
+pub returns-clause-numbers : goal.returns-clause-numbers
+returns-clause-numbers g c =
+    numbers-of c.in-Err-answer_in_slots.halt c.from-in-Err-answer_in_slots.result c.from-in-Err-answer_in_slots.ensures (λ log payload is. c.answer_in_slots.ensures.leaves.full log payload (c.in-Err-answer_in_slots.is ∙ ap (λ (x : Halt). Err x) is))
 
 pub returns-in-Err-clause-shut : goal.returns-in-Err-clause-shut
 returns-in-Err-clause-shut g c = λ has. absurd (never-opened c.in-Err.error (subst HasOpened c.from.ensures has))
@@ -285,17 +301,19 @@ returns-in-Err-clause-shut g c = λ has. absurd (never-opened c.in-Err.error (su
 pub returns-in-Err-Broken-clause-shut : goal.returns-in-Err-Broken-clause-shut
 returns-in-Err-Broken-clause-shut g c = λ has. left-shut g.D.Disk c.open_log.new.disk c.in-Ok.store c.in-Ok.ensures.left
 
-pub returns-in-Ok-answer_text-clause-shut : goal.returns-in-Ok-answer_text-clause-shut
-returns-in-Ok-answer_text-clause-shut g c = λ has.
-    (ok-at c.answer_text.result _ _ c.in-Ok-answer_text.is c.answer_text.ensures.shuts)
-    (left-shut g.D.Disk c.open_log.new.disk c.in-Ok.store c.in-Ok.ensures.left)
+pub returns-in-Ok-answer_in_slots-clause-shut : goal.returns-in-Ok-answer_in_slots-clause-shut
+returns-in-Ok-answer_in_slots-clause-shut g c = λ has.
+    rw (c.disk-1.given.1 (sym c.answer_in_slots.ensures.same.disk)) (
+    (ok-at c.answer_in_slots.result _ _ c.in-Ok-answer_in_slots.is c.answer_in_slots.ensures.leaves.shuts)
+    (left-shut g.D.Disk c.open_log.new.disk c.in-Ok.store c.in-Ok.ensures.left))
 
-pub returns-in-Err-answer_text-clause-shut : goal.returns-in-Err-answer_text-clause-shut
-returns-in-Err-answer_text-clause-shut g c = λ has.
-    (err-at c.answer_text.result _ c.in-Err-answer_text.halt c.in-Err-answer_text.is c.answer_text.ensures.still_shuts)
-    (λ is. subst HasOpened (c.from-in-Err-answer_text.ensures ∙ ap status_of is) has)
-    (λ is. subst HasOpened (c.from-in-Err-answer_text.ensures ∙ ap status_of is) has)
-    (left-shut g.D.Disk c.open_log.new.disk c.in-Ok.store c.in-Ok.ensures.left)
+pub returns-clause-shut : goal.returns-clause-shut
+returns-clause-shut g c = λ has.
+    rw (c.disk-1.given.1 (sym c.answer_in_slots.ensures.same.disk)) (
+    (err-at c.answer_in_slots.result _ c.in-Err-answer_in_slots.halt c.in-Err-answer_in_slots.is c.answer_in_slots.ensures.leaves.still_shuts)
+    (λ is. subst HasOpened (c.from-in-Err-answer_in_slots.ensures ∙ ap status_of is) has)
+    (λ is. subst HasOpened (c.from-in-Err-answer_in_slots.ensures ∙ ap status_of is) has)
+    (left-shut g.D.Disk c.open_log.new.disk c.in-Ok.store c.in-Ok.ensures.left))
 
 pub returns-in-Some-Usage-clause-slots : goal.returns-in-Some-Usage-clause-slots
 returns-in-Some-Usage-clause-slots g c = untouched _ c.args.devices.now.items
@@ -327,16 +345,22 @@ returns-in-Err-NoMemory-clause-slots g c = untouched _ c.args.devices.now.items
 pub returns-in-Err-NoMemory-clause-gone : goal.returns-in-Err-NoMemory-clause-gone
 returns-in-Err-NoMemory-clause-gone g c = λ history log. touched-none _ (unplugged_in history) c.args.devices.now.items
 
-pub returns-in-Ok-answer_text-clause-slots : goal.returns-in-Ok-answer_text-clause-slots
-returns-in-Ok-answer_text-clause-slots g c = c.answer_text.ensures.touched.were
+pub returns-in-Ok-answer_in_slots-clause-slots : goal.returns-in-Ok-answer_in_slots-clause-slots
+returns-in-Ok-answer_in_slots-clause-slots g c =
+    rw (c.devices-1.given.1 (sym c.answer_in_slots.ensures.slots)) (
+    c.answer_in_slots.ensures.leaves.touched.were)
 
-pub returns-in-Ok-answer_text-clause-gone : goal.returns-in-Ok-answer_text-clause-gone
-returns-in-Ok-answer_text-clause-gone g c = λ history log.
-    spared-same c.in-Ok.store.entries history (c.openings_follow.ensures.history c.args.disk.now history c.in-Ok.store log c.in-Ok.ensures.recovered) c.answer_text.ensures.touched
+pub returns-in-Ok-answer_in_slots-clause-gone : goal.returns-in-Ok-answer_in_slots-clause-gone
+returns-in-Ok-answer_in_slots-clause-gone g c = λ history log.
+    rw (c.devices-1.given.1 (sym c.answer_in_slots.ensures.slots)) (
+    spared-same c.in-Ok.store.entries history (c.openings_follow.ensures.history c.args.disk.now history c.in-Ok.store log c.in-Ok.ensures.recovered) c.answer_in_slots.ensures.leaves.touched)
 
-pub returns-in-Err-answer_text-clause-slots : goal.returns-in-Err-answer_text-clause-slots
-returns-in-Err-answer_text-clause-slots g c = c.answer_text.ensures.touched.were
+pub returns-clause-slots : goal.returns-clause-slots
+returns-clause-slots g c =
+    rw (c.devices-1.given.1 (sym c.answer_in_slots.ensures.slots)) (
+    c.answer_in_slots.ensures.leaves.touched.were)
 
-pub returns-in-Err-answer_text-clause-gone : goal.returns-in-Err-answer_text-clause-gone
-returns-in-Err-answer_text-clause-gone g c = λ history log.
-    spared-same c.in-Ok.store.entries history (c.openings_follow.ensures.history c.args.disk.now history c.in-Ok.store log c.in-Ok.ensures.recovered) c.answer_text.ensures.touched
+pub returns-clause-gone : goal.returns-clause-gone
+returns-clause-gone g c = λ history log.
+    rw (c.devices-1.given.1 (sym c.answer_in_slots.ensures.slots)) (
+    spared-same c.in-Ok.store.entries history (c.openings_follow.ensures.history c.args.disk.now history c.in-Ok.store log c.in-Ok.ensures.recovered) c.answer_in_slots.ensures.leaves.touched)
