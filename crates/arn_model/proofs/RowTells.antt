@@ -1,4 +1,4 @@
--- What every row of the table of calls tells, built or not.
+-- What every row of the table of calls tells, and what a call tells that there is not.
 use Rattle.std.proofs.Common.{◌≡◌, ℕ, refl, subst, Bool, true, false, ◌==◌, if◌then◌else◌, arith, eqb-true}
 use Rattle.std.proofs.lemmas.Bool.Decides.{nat_tests}
 use Rattle.parts_model.specs.declared.calls.TheConstants.{EXIT, FORK, EXEC, WAIT, GETPID, KILL, SIGACTION, SIGRETURN, OPEN, CLOSE, READ, WRITE, SEEK, DUP, PIPE, UNLINK, SHM, LISTEN, CONNECT, ACCEPT, DEVICE, YIELD}
@@ -46,7 +46,7 @@ row-tells m pid v n at =
     pick m pid v n YIELD _ _ at (yield-tells m pid v) (λ e.
     refused-tells m pid v n NO_SUCH_CALL at x refl))))))))))))))))))))))
 
--- the refusal of a call that isn't built; exit is
+-- the refusal of a call that there is not; exit is
 pub request-tells : (m : Machine) (pid : ℕ) (v : View) → At m pid v (call_number v.body.cpu) → RequestTells m pid v (call_number v.body.cpu) (request m pid v)
 request-tells m pid v at = by_test (is_built (call_number v.body.cpu)) refl
   where

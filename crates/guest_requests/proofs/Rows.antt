@@ -274,7 +274,7 @@ module _ (m : Machine) (pid : ℕ) (v : View) where
   abbrev IsReady : ℕ → Type 0
   IsReady n = can_wait n ≡ false → is_waiting (row n m pid v) ≡ false
 
-  -- each of those that are built
+  -- each call that there is
   each-ready : Each IsReady built_calls
   each-ready = (
     λ ready. ap is_waiting row-exit,
@@ -344,7 +344,7 @@ module _ (m : Machine) (pid : ℕ) (v : View) where
     ),
   )
 
-  -- a call that is built comes to its row
+  -- a call that there is comes to its row
   pub request-built : (n : ℕ) (comes : Request) → call_number v.body.cpu ≡ n → is_built n ≡ true → row n m pid v ≡ comes → request m pid v ≡ comes
   request-built n comes is built same =
       ap (λ x. if is_built x then row x m pid v else refused NO_SUCH_CALL m.kernel) is

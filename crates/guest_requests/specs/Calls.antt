@@ -17,7 +17,7 @@ use Rattle.guest_requests.specs.Standing.{can_wait}
 abbrev pub ComesTo : ℕ → (Machine → ℕ → View → Request) → Type 0
 ComesTo n one = (m : Machine) (pid : ℕ) (v : View) → call_number v.body.cpu ≡ n → request m pid v ≡ one m pid v
 
--- each call that is built comes to its row
+-- each call comes to its row
 pub record ComeToRows : Type 0 where
   pub exit : ComesTo EXIT exit_row
   pub fork : ComesTo FORK fork_row

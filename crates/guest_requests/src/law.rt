@@ -1,7 +1,7 @@
 // What calls come to, by their numbers.
 ghost use Rattle.guest_requests.specs.Calls.{ComeToRows, OthersAreReady};
 
-/// Each call that is built comes to its row.
+/// Each call comes to its row.
 pub fn calls_come_to_rows()
     ensures { ComeToRows }
 {}
