@@ -1,7 +1,6 @@
 -- Which devices are gone where slices are asked for.
-use Rattle.std.proofs.Common.{◌≡◌, ℕ, ◌++◌, ◌&&◌, Bool, true, false, if◌then◌else◌, List, [], ◌∷◌, length, filter_map, Option, Some, None, is_none, refl, sym, ap, ◌∙◌, subst, append_assoc, append-nil, arith}
+use Rattle.std.proofs.Common.{◌≡◌, ℕ, ◌++◌, ◌&&◌, Bool, true, false, if◌then◌else◌, List, [], ◌∷◌, length, Option, Some, None, is_none, refl, sym, ap, ◌∙◌, subst, append_assoc, append-nil, arith}
 use Rattle.arn_base.specs.declared.records.Record.{Record}
-use Rattle.arn_base.specs.declared.records.Record.TheVariants as entry
 use Rattle.arn_commands.specs.declared.command.Command.{Command}
 use Rattle.arn_commands.specs.declared.command.Command.TheVariants.{PassedOver, TooLong, Unreadable, Says, Faulty, Generates}
 use Rattle.arn_lines.specs.declared.answer.Refusal.{Refusal}
@@ -10,7 +9,7 @@ use Rattle.arn_lines.specs.declared.line.Line.{Line}
 use Rattle.arn_lines.specs.declared.line.Line.TheVariants as line
 use Rattle.arn_lines.specs.declared.line.TheConstants.{MOST_RUN}
 use Rattle.arn_model.specs.Kernel.{Machine, at_first}
-use Rattle.arn_model.specs.Run.{Input, File, Boot, Typed, Unplug, Slice, after_input, boot_found, boot_from, boot_step, can_add, file_step, is_booted, machine_after, machine_from, typed_step}
+use Rattle.arn_model.specs.Run.{Input, File, Boot, Typed, after_input, boot_found, boot_from, boot_step, can_add, file_step, is_booted, machine_after, machine_from, typed_step}
 use Rattle.arn_model.specs.Tells.{HasNumbers}
 use Rattle.guest_legs.specs.LegLaws.{SameAsNamed, as_named}
 use Rattle.guest_legs.specs.Legs.{Ask, AreInRange, Going, IsInRange, Picked, ask, ask_of, input_of}
@@ -50,26 +49,6 @@ one-gone gone n [] more is = tt
 one-gone gone n (AtUnplug m ∷ []) more is = tt
 one-gone gone n (AtSlice a ∷ touches) more is = absurd cc
 one-gone gone n (AtUnplug m ∷ (t ∷ touches)) more is = absurd cc
-
--- the device that an input unplugs
-abbrev unplugged_with : Input → Option ℕ
-unplugged_with (File name bytes) = None
-unplugged_with (Boot name) = None
-unplugged_with (Typed bytes) = None
-unplugged_with (Unplug device) = Some device
-unplugged_with (Slice pid count reply) = None
-
--- records unplug what their inputs do
-unplugged-named : (entries : List Record) → unplugged_in entries ≡ filter_map unplugged_with (named entries)
-unplugged-named [] = refl
-unplugged-named (entry.File name bytes ∷ entries) = unplugged-named entries
-unplugged-named (entry.Boot name give ∷ entries) = unplugged-named entries
-unplugged-named (entry.Typed bytes ∷ entries) = unplugged-named entries
-unplugged-named (entry.Unplug device ∷ entries) = ap (λ (l : List ℕ). device ∷ l) (unplugged-named entries)
-unplugged-named (entry.Slice pid ran ∷ entries) = unplugged-named entries
-unplugged-named (entry.Signal pid signal cut handler ∷ entries) = unplugged-named entries
-unplugged-named (entry.Call pid number result extra ∷ entries) = unplugged-named entries
-unplugged-named (entry.End pid status ∷ entries) = unplugged-named entries
 
 -- what comes from outside before a run unplugs nothing
 file-none : (m : Machine) (path bytes : List ℕ) (b : Bool) → unplugged_in (event_records (if b then file_step m path bytes ∷ [] else []) ++ []) ≡ []
@@ -168,7 +147,7 @@ module _ (laws : GoneLaws) where
       let g : Going = record { machine = m; left = left; entries = [] } in
       let same : SameAsNamed g (s ∷ []) = laws.legs inputs left [] (s ∷ []) (in_range, tt) in
       let entries : records_from m (input_of (as_named m s) ∷ []) ≡ records_from m (input_of s ∷ []) = ap (λ (x : Going). x.entries ++ []) same.leads in
-      ap unplugged_in entries ∙ unplugged-named (records_from m (input_of s ∷ [])) ∙ ap (λ (l : List Input). filter_map unplugged_with l) same.names
+      ap unplugged_in entries ∙ laws.slices (records_from m (input_of s ∷ [])) (as_named m s ∷ []) same.names
 
   unplugged-slice : (gone : List ℕ) (m : Machine) (left : ℕ) (s : Picked) → IsInRange (ask m left) s.pick → Unplugged gone m → Unplugged gone (after_input m (input_of (as_named m s)))
   unplugged-slice gone m left s in_range u =

@@ -7,6 +7,7 @@ use Rattle.guest_legs.specs.LegLaws.{LegsAsNamed}
 use Rattle.guest_legs.specs.Legs.{Picked}
 use Rattle.log_model.specs.Laws.{RecordsAppend}
 use Rattle.replay_laws.specs.Laws.{RecordsTellRuns}
+use Rattle.session_runs.specs.Laws.{SlicesUnplugNothing}
 use Rattle.session_runs.specs.Touches.{Answering, Touch, AtSlice, AtUnplug, TouchedBy, unplugs_in}
 
 -- touches unplug this device
@@ -39,3 +40,4 @@ pub record GoneLaws : Type 0 where
   pub records : RecordsAppend
   pub runs : EachRunAppends
   pub legs : LegsAsNamed
+  pub slices : SlicesUnplugNothing

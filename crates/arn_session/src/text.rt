@@ -21,7 +21,7 @@ use replay_laws::records_tell_runs;
 use session_commands::{Kept, answer};
 use session_effects::{Halt, Outside, causes_follow, effects_follow, goings_follow, halts_follow};
 use session_model::Questions;
-use session_runs::{MachineRuns, points_follow, touches_follow};
+use session_runs::{MachineRuns, points_follow, slices_unplug_nothing, touches_follow};
 use std::alloc::Global;
 use std::sync::ledger::Ledger;
 
@@ -44,6 +44,7 @@ fn gone_laws()
     records_append();
     runs_append();
     legs_as_named();
+    slices_unplug_nothing();
 }
 
 // Reads the source to its end, and does what each command asks for on what is kept of a history. It

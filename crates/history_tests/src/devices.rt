@@ -91,7 +91,7 @@ const AGAIN_PRINTS: &str = "\
     no device\n\
     no line\n";
 
-/// Writes two typed bytes to device 0 twice, which takes three bytes in all.
+/// Writes two typed bytes to device 0 three times, which takes three bytes in all.
 const WRITER: &str = "\
     asm p\n\
     li a7, 21; li a0, 0; ecall\n\

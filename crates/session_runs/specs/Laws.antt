@@ -1,8 +1,10 @@
 -- What holds of touches, of points and of what lies between them.
-use Rattle.std.specs.Prelude.{◌≡◌, ℕ, ◌+◌, List, ◌++◌, Option}
+use Rattle.std.specs.Prelude.{◌≡◌, ℕ, ◌+◌, List, [], ◌++◌, map, Option}
 use Rattle.arn_base.specs.declared.disk.Disk.{Ghosts}
 use Rattle.arn_base.specs.declared.records.Record.{Record}
-use Rattle.guest_legs.specs.Legs.{Picked}
+use Rattle.guest_legs.specs.Legs.{Picked, input_of}
+use Rattle.history_model.specs.Unplugged.{unplugged_in}
+use Rattle.log_model.specs.Records.{named}
 use Rattle.log_store.specs.Stores.{StoreState}
 use Rattle.session_effects.specs.Standing.{Carries, IsOpen}
 use Rattle.session_effects.specs.declared.halt.Halt.{Halt}
@@ -13,6 +15,10 @@ use Rattle.session_runs.specs.Touches.{Answering, Touch, TouchedBy, named_at, un
 -- touches unplug what those unplug of which they are made
 abbrev pub UnplugsFollow : Type 0
 UnplugsFollow = (touches more : List Touch) → unplugs_in (touches ++ more) ≡ unplugs_in touches ++ unplugs_in more
+
+-- records that name slices alone unplug nothing
+abbrev pub SlicesUnplugNothing : Type 0
+SlicesUnplugNothing = (entries : List Record) (slices : List Picked) → named entries ≡ map input_of slices → unplugged_in entries ≡ []
 
 -- touches follow one another, with the slices of both
 pub record TouchesFollow {A : Type 0} (who : Answering A) : Type 0 where

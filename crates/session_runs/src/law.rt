@@ -1,6 +1,6 @@
 // What holds of touches, of points, and of what lies between them.
 ghost use Rattle.session_runs.specs.Ends.{RunsEnd};
-ghost use Rattle.session_runs.specs.Laws.{PointsFollow, TouchesFollow};
+ghost use Rattle.session_runs.specs.Laws.{PointsFollow, SlicesUnplugNothing, TouchesFollow};
 ghost use Rattle.session_runs.specs.Quiet.{QuietPointsFollow};
 ghost use Rattle.session_runs.specs.Touches.{answering};
 
@@ -14,6 +14,11 @@ use session_effects::{Runs, effects_follow, halts_follow, quiet_follows};
 /// What touches those who answer for devices follows one another.
 pub fn touches_follow<A: Plugs>()
     ensures { TouchesFollow (answering A.answers A.unplugs A.filled) }
+{}
+
+/// Records that name slices alone unplug nothing.
+pub fn slices_unplug_nothing()
+    ensures { SlicesUnplugNothing }
 {}
 
 /// What lies between points follows one another, and where a session halts behind it.

@@ -18,12 +18,14 @@ static void print_hex(const uint8_t *bytes, size_t len)
 
 int main(void)
 {
-    int64_t time = 0, later = 0;
+    int64_t times[3] = {0};
     uint8_t bytes[8];
     int64_t clock = device(0), entropy = device(1), silent = device(2);
     if (clock < 0 || entropy < 0 || silent < 0 || device(3) != E_NO_DEVICE)
         return 1;
-    if (read(clock, &time, 8) != 8 || read(clock, &later, 20) != 8 || time < YEAR_2024 || later < time)
+    if (read(clock, &times[0], 8) != 8 || read(clock, &times[1], 16) != 8)
+        return 2;
+    if (times[0] < YEAR_2024 || times[1] < times[0])
         return 2;
     if (read(clock, bytes, 3) != 3 || write(clock, "abc", 3) != 3)
         return 3;
