@@ -9,7 +9,9 @@ mod ready;
 mod running;
 mod runs;
 
-pub use law::{points_follow, quiet_points_follow, runs_end, slices_unplug_nothing, touches_follow};
+pub use law::{
+    points_follow, quiet_points_follow, runs_end, slices_unplug_nothing, touches_follow,
+};
 pub use ready::{count_records, history_laws};
 pub use running::run;
 pub use runs::MachineRuns;
