@@ -2,6 +2,7 @@ pub mod Follows
 pub mod Fresh
 pub mod HeldTold
 pub mod Kept
+pub mod Led
 pub mod Running
 pub mod Shown
 pub mod Told

@@ -15,11 +15,11 @@ ghost use Rattle.guest_bodies.specs.Shown.{IsFresh, IsInside, IsLive, fresh_watc
 ghost use Rattle.guest_bodies.specs.Told.{FailsAt, IsStop, ToldMany};
 
 use crate::guest::{Guest, Shared, begin, boot};
+use crate::held;
 use crate::running::Stood;
 use crate::starting::First;
 use crate::table::{fork, make_room, release};
 use crate::windows::window_of;
-use crate::{held, told};
 use acts_model::Observer;
 use arn_base::{Blocks, Cpu, NoMemory, Start, Steps};
 use guest_mem::Segment;
@@ -146,7 +146,7 @@ impl Bodies {
         ensures watches { KeepsWatches self.old self.new }
     {
         match &mut self.guests[pid as usize] {
-            Some(guest) => told::run_told(guest, &mut self.segments, pid, count, observer, steps),
+            Some(guest) => held::run_told(guest, &mut self.segments, pid, count, observer, steps),
             None => unreachable!(),
         }
     }

@@ -1,18 +1,21 @@
 // Access of a process to its memories: the private window, and the segment in the table.
-ghost use Rattle.std.specs.Prelude.{◌≡◌, ◌≢◌, ◌≤◌, ◌+◌, IfOk, None, length, option_copied};
+ghost use Rattle.std.specs.Prelude.{◌≡◌, ◌≢◌, ◌<◌, ◌≤◌, ◌+◌, IfOk, OnErr, None, length, option_copied};
 ghost use Rattle.acts_model.specs.Views.{bytes_in, reach, read, stands_at, written};
+ghost use Rattle.guest_bodies.specs.HeldTold.{HeldFails, HeldMany};
 ghost use Rattle.guest_bodies.specs.Kept.{IfHeld, IfKey, held_bytes, lent, view_of, with_held, with_key};
 ghost use Rattle.guest_bodies.specs.Running.{MovesMany, StopsAt, stop_count};
+ghost use Rattle.guest_bodies.specs.Told.{IsStop};
 ghost use Rattle.parts_model.specs.Blocks.{blocks_of};
 ghost use Rattle.rv64_core.specs.Outcome.{Tells, OnStop};
-ghost use Rattle.rv64_core.specs.Prospect.{Foretells, IsPlanned};
-ghost use Rattle.rv64_model.specs.Instruction.{Next};
+ghost use Rattle.rv64_core.specs.Prospect.{Foretells};
 
 use crate::guest::Guest;
 use crate::running::{self, Stood};
+use crate::told;
+use acts_model::Observer;
 use arn_base::{Blocks, NoMemory, Steps};
 use guest_mem::Segment;
-use rv64_core::{Outcome, Planned, Prospect};
+use rv64_core::{Outcome, Prospect};
 use std::alloc::Global;
 use std::sync::ledger::Ledger;
 
@@ -138,9 +141,47 @@ pub fn run<L: Ledger>(
     }
 }
 
+/// Runs so many instructions of a process, or fewer where the next one doesn't follow, and says how
+/// many. The observer is told of each before it. The one at which it stops is counted too. The segment
+/// that the process may hold is brought to it once.
+#[inline]
+pub fn run_told<O: Observer, L: Ledger>(
+    guest: &mut Guest,
+    segments: &mut Vec<Option<Segment>>,
+    pid: u32,
+    count: u32,
+    observer: &mut O,
+    steps: &mut Steps<L>,
+) -> Result<u32, NoMemory>
+    requires { IfHeld guest.old.segment segments.old.items }
+    ensures told { IfOk result (λ ran. HeldMany O.runs pid ran guest.old segments.old.items
+        guest.new segments.new.items observer.old observer.new) }
+    ensures within { IfOk result (λ ran. ran ≤ count) }
+    ensures stops { IfOk result (λ ran. ran < count →
+        IsStop (stands_at (view_of segments.new.items guest.new))) }
+    ensures counted { IfOk result (λ ran. ran ≡ count → steps.new ≡ steps.old + ran) }
+    ensures stopped { IfOk result (λ ran. ran < count → steps.new ≡ steps.old + ran + 1) }
+    ensures failed { OnErr result (HeldFails O.runs pid count guest.old segments.old.items
+        guest.new segments.new.items observer.old steps.old steps.new) }
+    ensures bounded { steps.new ≤ steps.old + count }
+{
+    match guest.segment {
+        Some(_) => {
+            lend(guest, segments);
+            let cpu = &mut guest.cpu;
+            let ran = told::run_told(cpu, &mut guest.memory, pid, count, observer, steps);
+            take_back(guest, segments);
+            ran
+        }
+        None => {
+            let cpu = &mut guest.cpu;
+            told::run_told(cpu, &mut guest.memory.space, pid, count, observer, steps)
+        }
+    }
+}
+
 /// Says what the instruction at which the process stands would come to, and counts it. The segment that
 /// the process may hold is brought to it.
-#[inline(never)]
 pub fn next_lent<L: Ledger>(
     guest: &mut Guest,
     segments: &mut Vec<Option<Segment>>,
@@ -158,48 +199,6 @@ pub fn next_lent<L: Ledger>(
     let prospect = rv64_core::next_instr(&guest.cpu, &guest.memory, steps);
     take_back(guest, segments);
     prospect
-}
-
-// The same as `execute`, with the segment that the process may hold brought to it. The instruction
-// comes by value, so that the caller may keep its own in registers.
-#[inline(never)]
-fn execute_lent(guest: &mut Guest, segments: &mut Vec<Option<Segment>>, planned: Planned)
-    requires held { IfHeld guest.old.segment segments.old.items }
-    requires next { IsPlanned planned guest.old.cpu
-        (stands_at (view_of segments.old.items guest.old)) }
-    ensures effect { stands_at (view_of segments.old.items guest.old) ≡
-        Next planned.instr guest.new.cpu (reach (view_of segments.new.items guest.new)) }
-    ensures guest { guest.new ≡
-        record guest.old { cpu = guest.new.cpu; memory = guest.new.memory } }
-    ensures segments { segments.new.items ≡ with_held guest.old.segment
-        (held_bytes segments.new.items guest.old.segment) segments.old.items }
-{
-    lend(guest, segments);
-    let Ok(()) = rv64_core::execute(&planned, &mut guest.cpu, &mut guest.memory) else {
-        unreachable!()
-    };
-    take_back(guest, segments);
-}
-
-/// Executes the instruction that `next_instr` planned.
-#[inline(always)]
-pub fn execute(guest: &mut Guest, segments: &mut Vec<Option<Segment>>, planned: &Planned)
-    requires held { IfHeld guest.old.segment segments.old.items }
-    requires next { IsPlanned planned.now guest.old.cpu
-        (stands_at (view_of segments.old.items guest.old)) }
-    ensures effect { stands_at (view_of segments.old.items guest.old) ≡
-        Next planned.now.instr guest.new.cpu (reach (view_of segments.new.items guest.new)) }
-    ensures guest { guest.new ≡
-        record guest.old { cpu = guest.new.cpu; memory = guest.new.memory } }
-    ensures segments { segments.new.items ≡ with_held guest.old.segment
-        (held_bytes segments.new.items guest.old.segment) segments.old.items }
-{
-    if guest.segment.is_some() {
-        return execute_lent(guest, segments, *planned);
-    }
-    let Ok(()) = rv64_core::execute(planned, &mut guest.cpu, &mut guest.memory.space) else {
-        unreachable!()
-    };
 }
 
 /// A process receives bytes at an address, where they lie whole in one window.

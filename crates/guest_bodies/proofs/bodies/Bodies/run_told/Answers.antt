@@ -1,18 +1,18 @@
-use Rattle.std.proofs.Common.{◌<◌, ℕ, Err, Ok, OnErr, Result}
-use Rattle.std.proofs.lemmas.Result.{IfOk-weaker}
+use Rattle.std.proofs.Common.{◌<◌, ℕ}
+use Rattle.std.proofs.lemmas.Result.{IfOk-weaker, on_err_weaker}
 use Rattle.guest_bodies.specs.HeldTold.{HeldFails}
+use Rattle.guest_bodies.proofs.Changes.{there-of}
+use Rattle.guest_bodies.proofs.HeldTold.{answer-runs}
 use Rattle.guest_bodies.proofs.InPlace.{place}
 use Rattle.guest_bodies.proofs.Tolds.{none-there, runs-kept, runs-watches, stops-there, told-many}
 use Rattle.guest_bodies.proofs.bodies.Bodies.run_told.Goals as goal
 
-on-err : {T E : Type 0} (r : Result T E) (P Q : Type 0) → (P → Q) → OnErr r P → OnErr r Q
-on-err (Ok value) P Q so holds = tt
-on-err (Err error) P Q so holds = so holds
-
 pub invariant_of-self : goal.invariant_of-self
 invariant_of-self g c =
     let at = place c.args.self.now c.self.inside.guests.items c.self.inside.segments.items c.args.pid c.index_mut.result.now c.in-Some.guest c.run_told.new.guest c.self.view_is c.self.invariant.sound c.requires.live c.index_mut.ensures.value c.in-Some.is in
-    runs-kept at c.run_told.new.segments.items c.run_told.ensures.runs c.self.invariant.held
+    let runs = answer-runs g.O.Observer.runs c.args.pid c.run_told.result c.args.count c.in-Some.guest c.self.inside.segments.items c.run_told.new.guest c.run_told.new.segments.items c.args.observer.now c.run_told.new.observer c.args.steps.now c.run_told.new.steps
+    (there-of c.args.pid c.in-Some.guest c.self.inside.guests.items c.self.inside.segments.items at.sound at.stands) c.run_told.ensures.told c.run_told.ensures.failed in
+    runs-kept at c.run_told.new.segments.items runs c.self.invariant.held
 
 pub unreachable-requires : goal.unreachable-requires
 unreachable-requires g c =
@@ -35,12 +35,14 @@ returns-clause-stops g c =
 pub returns-clause-watches : goal.returns-clause-watches
 returns-clause-watches g c =
     let at = place c.args.self.now c.self.inside.guests.items c.self.inside.segments.items c.args.pid c.index_mut.result.now c.in-Some.guest c.run_told.new.guest c.self.view_is c.self.invariant.sound c.requires.live c.index_mut.ensures.value c.in-Some.is in
-    runs-watches at c.run_told.new.segments.items c.run_told.ensures.runs
+    let runs = answer-runs g.O.Observer.runs c.args.pid c.run_told.result c.args.count c.in-Some.guest c.self.inside.segments.items c.run_told.new.guest c.run_told.new.segments.items c.args.observer.now c.run_told.new.observer c.args.steps.now c.run_told.new.steps
+    (there-of c.args.pid c.in-Some.guest c.self.inside.guests.items c.self.inside.segments.items at.sound at.stands) c.run_told.ensures.told c.run_told.ensures.failed in
+    runs-watches at c.run_told.new.segments.items runs
 
 pub returns-clause-failed : goal.returns-clause-failed
 returns-clause-failed g c =
     let at = place c.args.self.now c.self.inside.guests.items c.self.inside.segments.items c.args.pid c.index_mut.result.now c.in-Some.guest c.run_told.new.guest c.self.view_is c.self.invariant.sound c.requires.live c.index_mut.ensures.value c.in-Some.is in
-    on-err c.run_told.result _ _
+    on_err_weaker c.run_told.result
     (λ (f : HeldFails g.O.Observer.runs c.args.pid c.args.count c.in-Some.guest c.self.inside.segments.items c.run_told.new.guest c.run_told.new.segments.items c.args.observer.now c.args.steps.now c.run_told.new.steps). record {
       ran = f.ran;
       observer = f.observer;
