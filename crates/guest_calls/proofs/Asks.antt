@@ -1,8 +1,6 @@
 -- Calls that may ask a device.
-use Rattle.std.proofs.Common.{◌≡◌, ℕ, ◌≤◌, true, List, ◌++◌, length, take, min, Some, IfOk, IfSome, refl, sym, ap, ap₂, ◌∙◌, subst, arith}
-use Rattle.std.specs.Prelude.{Result}
+use Rattle.std.proofs.Common.{◌≡◌, ℕ, ◌≤◌, true, List, ◌++◌, length, take, min, Some, IfSome, refl, sym, ap, ap₂, ◌∙◌, subst, arith}
 use Rattle.std.proofs.lemmas.List.{length-take-le, take_all}
-use Rattle.std.proofs.lemmas.Result.{IfOk-weaker}
 use Rattle.std.proofs.Math.Seq.{take-append_seam}
 use Rattle.arn_base.specs.declared.records.Extra.TheVariants as extra
 use Rattle.parts_model.specs.declared.open.Description.TheVariants.{Device}
@@ -10,7 +8,7 @@ use Rattle.parts_model.specs.Replies.{Answered, GaveBytes, TookBytes, Failed, Is
 use Rattle.parts_model.specs.Replies as replies
 use Rattle.acts_model.specs.Acts.{Act, Gives, Receives, Returns}
 use Rattle.acts_model.specs.Bodies.{View}
-use Rattle.acts_model.specs.Views.{call_number, read}
+use Rattle.acts_model.specs.Views.{read}
 use Rattle.arn_model.specs.ChannelCalls.{device_opened}
 use Rattle.arn_model.specs.Doing as doing
 use Rattle.arn_model.specs.Doing.{Doing, Question, Request, Does, Asks}
@@ -20,7 +18,6 @@ use Rattle.arn_model.specs.TransferCalls.{absent, device_failed, device_read, de
 use Rattle.guest_bodies.specs.Follows.{IsResult}
 use Rattle.guest_bodies.specs.Shown.{seen_in}
 use Rattle.guest_devices.specs.Answers as devices
-use Rattle.guest_requests.specs.Calls.{ComesTo}
 use Rattle.guest_requests.specs.Tables.{OfTables, Tables}
 use Rattle.guest_calls.specs.Acted.{Acted, Carried}
 use Rattle.guest_calls.specs.Asked.{Replied, Ended, Alone, Asking}
@@ -28,7 +25,6 @@ use Rattle.guest_calls.specs.State.{State, OfProcess}
 use Rattle.guest_calls.specs.Steps.{Performed, RepliesTo, asked_of}
 use Rattle.guest_calls.specs.Tables.{tables_in}
 use Rattle.guest_calls.specs.declared.outcomes.Done.{Done}
-use Rattle.guest_calls.proofs.Called.{called}
 use Rattle.guest_calls.proofs.Carries.{acted-across}
 use Rattle.guest_calls.proofs.Requests.{performed}
 use Rattle.guest_calls.proofs.Stands.{machine_with, of_process, acted-stands, at-seen, of-tables}
@@ -160,19 +156,6 @@ module _ {A : Type 0} (answers : A → devices.Asked → Answered → A → Type
               stands = acted-stands old new pid v b (device_opened (machine_with b old) pid device true) shows there refl;
             };
       })
-
-  -- a call of a number that comes to this
-  module _ (number n : ℕ) (one : Machine → ℕ → View → Request) (told : IfSome (seen_in old.guests pid) (λ w. number ≡ call_number w.body.cpu)) (is : number ≡ n) (comes : ComesTo n one) where
-    pub ended-calls : {E : Type 0} (r : Result Done E) → IfOk r (λ (d : Done). OfProcess old pid (λ m v. Ended answers asked asked' (one m pid v) d m pid v new)) → IfOk r (λ (d : Done). OfProcess old pid (λ m v. Ended answers asked asked' (request m pid v) d m pid v new))
-    ended-calls r ended =
-        IfOk-weaker r (λ (d : Done). OfProcess old pid (λ m v. Ended answers asked asked' (one m pid v) d m pid v new)) (λ (d : Done). OfProcess old pid (λ m v. Ended answers asked asked' (request m pid v) d m pid v new))
-        (λ d ends m v stands sees. subst (λ (r : Request). Ended answers asked asked' r d m pid v new) (sym (comes m pid v (called old pid number n m v stands sees told is))) (ends m v stands sees)) ended
-
-  -- a call that asks no device
-  pub alone-calls : {E : Type 0} (r : Result Done E) → asked' ≡ asked → IfOk r (λ (d : Done). OfProcess old pid (λ m v. Carried (request m pid v) d m pid v new)) → IfOk r (λ (d : Done). OfProcess old pid (λ m v. Ended answers asked asked' (request m pid v) d m pid v new))
-  alone-calls r same carried =
-      IfOk-weaker r (λ (d : Done). OfProcess old pid (λ m v. Carried (request m pid v) d m pid v new)) (λ (d : Done). OfProcess old pid (λ m v. Ended answers asked asked' (request m pid v) d m pid v new))
-      (λ d carries m v stands sees. Alone same (carries m v stands sees)) carried
 
 same-doing : (x y : Doing) → Does x ≡ Does y → x ≡ y
 same-doing x y same = cc

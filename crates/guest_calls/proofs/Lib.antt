@@ -14,6 +14,7 @@ pub mod Opening
 pub mod Pieces
 pub mod Stands
 pub mod Asks
+pub mod Tries
 pub mod Watches
 pub mod Called
 pub mod Children

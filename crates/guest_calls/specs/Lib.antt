@@ -6,6 +6,7 @@ pub mod Acted
 pub mod Steps
 pub mod Asked
 pub mod Fits
+pub mod Tried
 pub mod Running
 pub mod Starts
 pub mod Forks

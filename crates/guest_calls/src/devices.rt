@@ -1,17 +1,16 @@
 // Calls that ask devices: device, and reads and writes of what it opens.
-ghost use Rattle.std.specs.Prelude.{◌≡◌, ◌+◌, ◌<◌, ◌≤◌, ◌^◌, ◌↔◌, false, IfOk, IfSome, IsErrOf, IsSome, IsTrue, OnErr, take};
+ghost use Rattle.std.specs.Prelude.{◌≡◌, ◌+◌, ◌<◌, ◌≤◌, ◌^◌, false, IfOk, IfSome, IsSome, OnErr, take};
 ghost use Rattle.parts_model.specs.declared.limits.TheConstants.{MOST_TRANSFER};
-ghost use Rattle.acts_model.specs.Views.{bytes_in};
+ghost use Rattle.acts_model.specs.Views.{bytes_in, error};
 ghost use Rattle.arn_model.specs.ChannelCalls.{device_row};
-ghost use Rattle.arn_model.specs.Doing.{Does, Here, Reads, Writes};
+ghost use Rattle.arn_model.specs.Doing.{Does, Here, Reads, Writes, returning};
 ghost use Rattle.arn_model.specs.FileCalls.{has_no_room};
-ghost use Rattle.arn_model.specs.Row.{is_waiting};
-ghost use Rattle.arn_model.specs.TransferCalls.{absent, device_failed};
 ghost use Rattle.guest_bodies.specs.Shown.{IsLive, seen_in};
 ghost use Rattle.guest_calls.specs.Acted.{Carried};
-ghost use Rattle.guest_calls.specs.Asked.{Ended, Replied};
+ghost use Rattle.guest_calls.specs.Asked.{Replied};
 ghost use Rattle.guest_calls.specs.Fits.{IsShort};
 ghost use Rattle.guest_calls.specs.State.{OfProcess};
+ghost use Rattle.guest_calls.specs.Tried.{Tried};
 
 use crate::kernel::Kernel;
 use crate::outcomes::{CallStop, Done};
@@ -31,35 +30,20 @@ fn front_of(mut buffer: Vec<u8>, count: u32) -> Bytes
 }
 
 impl Kernel {
-    // A call ends since a device failed.
-    fn fails(&mut self, pid: u32) -> Done
+    /// A call ends since no device answers it: with an error, and with this in its record.
+    pub(crate) fn fails(&mut self, pid: u32, refusal: u64, more: Extra) -> Done
         requires live { IsLive self.old.guests pid }
         requires room { self.old.events + 1 < 2 ^ 64 }
+        requires some { 0 < refusal }
         ensures carried { OfProcess self.old pid (λ m v.
-            Carried (Does (device_failed m.kernel)) result m pid v self.new) }
-        ensures extra { result.extra ≡ Extra.Fault }
+            Carried (Does (returning (error refusal) more m.kernel)) result m pid v self.new) }
+        ensures extra { result.extra ≡ more }
     {
-        let answer = error(DEVICE_FAULT);
+        let answer = error(refusal);
         self.returns(pid, answer);
         Done {
             result: answer,
-            extra: Extra::Fault,
-        }
-    }
-
-    /// A call ends since there is no such device.
-    pub(crate) fn lacks(&mut self, pid: u32) -> Done
-        requires live { IsLive self.old.guests pid }
-        requires room { self.old.events + 1 < 2 ^ 64 }
-        ensures carried { OfProcess self.old pid (λ m v.
-            Carried (Does (absent m.kernel)) result m pid v self.new) }
-        ensures extra { result.extra ≡ Extra.Absent }
-    {
-        let answer = error(NO_DEVICE);
-        self.returns(pid, answer);
-        Done {
-            result: answer,
-            extra: Extra::Absent,
+            extra: more,
         }
     }
 
@@ -91,8 +75,8 @@ impl Kernel {
                     extra: Extra::Reply { device, bytes },
                 })
             }
-            Answer::Fault => Ok(self.fails(pid)),
-            Answer::Absent => Ok(self.lacks(pid)),
+            Answer::Fault => Ok(self.fails(pid, DEVICE_FAULT, Extra::Fault)),
+            Answer::Absent => Ok(self.fails(pid, NO_DEVICE, Extra::Absent)),
         }
     }
 
@@ -126,8 +110,8 @@ impl Kernel {
                     extra: Extra::Sent { device, bytes },
                 })
             }
-            Answer::Fault => Ok(self.fails(pid)),
-            Answer::Absent => Ok(self.lacks(pid)),
+            Answer::Fault => Ok(self.fails(pid, DEVICE_FAULT, Extra::Fault)),
+            Answer::Absent => Ok(self.fails(pid, NO_DEVICE, Extra::Absent)),
         }
     }
 
@@ -135,17 +119,11 @@ impl Kernel {
     pub(crate) fn device<A: Answers>(&mut self, pid: u32, answers: &mut A) -> Result<Done, CallStop>
         requires live { IsLive self.old.guests pid }
         requires room { self.old.events + 1 < 2 ^ 64 }
-        ensures ended { IfOk result (λ done. OfProcess self.old pid (λ m v.
-            Ended A.answers answers.old answers.new (device_row m pid v) done m pid v self.new)) }
-        ensures short { IfOk result (λ done. IsShort done.extra) }
-        ensures waits { OfProcess self.old pid (λ m v.
-            IsErrOf result CallStop.NotReady ↔ IsTrue (is_waiting (device_row m pid v))) }
-        ensures err { OnErr result (self.new ≡ self.old) }
-        ensures unasked { OnErr result (answers.new ≡ answers.old) }
+        ensures { Tried A.answers answers.old answers.new device_row pid result self.old self.new }
     {
         match self.tables().opening(pid) {
             Opening::Answers { answer } => Ok(self.answers(pid, answer)),
-            Opening::Absent => Ok(self.lacks(pid)),
+            Opening::Absent => Ok(self.fails(pid, NO_DEVICE, Extra::Absent)),
             Opening::Asks { device } => Ok(self.open_device(pid, device, answers)?),
         }
     }
@@ -171,6 +149,6 @@ impl Kernel {
             return Ok(self.answers_one(pid, number));
         }
         self.resources.remove_last();
-        Ok(self.lacks(pid))
+        Ok(self.fails(pid, NO_DEVICE, Extra::Absent))
     }
 }

@@ -1,15 +1,14 @@
 // The calls that move bytes: read and write.
-ghost use Rattle.std.specs.Prelude.{◌≡◌, ◌+◌, ◌<◌, ◌≤◌, ◌^◌, ◌↔◌, IfOk, IfSome, IsErrOf, IsSome, IsTrue, OnErr, length, take};
+ghost use Rattle.std.specs.Prelude.{◌≡◌, ◌+◌, ◌<◌, ◌≤◌, ◌^◌, IfOk, IfSome, IsSome, OnErr, length};
 ghost use Rattle.parts_model.specs.declared.limits.TheConstants.{MOST_TRANSFER};
 ghost use Rattle.acts_model.specs.Views.{bytes_in, read};
-ghost use Rattle.arn_model.specs.Row.{is_waiting};
 ghost use Rattle.arn_model.specs.TransferCalls.{read_row, write_console, write_row};
 ghost use Rattle.guest_bodies.specs.Shown.{IsLive, seen_in};
 ghost use Rattle.guest_requests.specs.Transfers.{CanDrain, CanPour, IsOpenAt, draining, pouring, reading_at, taking, writing_at};
 ghost use Rattle.guest_calls.specs.Acted.{Carried};
-ghost use Rattle.guest_calls.specs.Asked.{Ended};
 ghost use Rattle.guest_calls.specs.Fits.{IsShort};
 ghost use Rattle.guest_calls.specs.State.{OfProcess};
+ghost use Rattle.guest_calls.specs.Tried.{Tried};
 
 use crate::kernel::Kernel;
 use crate::outcomes::{CallStop, Done};
@@ -19,20 +18,14 @@ use guest_devices::Answers;
 use guest_give::give_of;
 use guest_requests::{Place, Reading, Writing, copy_of, error, first_of};
 use parts_model::limits::MOST_PIPE_BYTES;
-use parts_model::refusals::{BROKEN_PIPE, NO_ROOM};
+use parts_model::refusals::{BROKEN_PIPE, NO_DEVICE, NO_ROOM};
 
 impl Kernel {
     /// The call `read(descriptor, address, count)`.
     pub(crate) fn read<A: Answers>(&mut self, pid: u32, answers: &mut A) -> Result<Done, CallStop>
         requires live { IsLive self.old.guests pid }
         requires room { self.old.events + 1 < 2 ^ 64 }
-        ensures ended { IfOk result (λ done. OfProcess self.old pid (λ m v.
-            Ended A.answers answers.old answers.new (read_row m pid v) done m pid v self.new)) }
-        ensures short { IfOk result (λ done. IsShort done.extra) }
-        ensures waits { OfProcess self.old pid (λ m v.
-            IsErrOf result CallStop.NotReady ↔ IsTrue (is_waiting (read_row m pid v))) }
-        ensures err { OnErr result (self.new ≡ self.old) }
-        ensures unasked { OnErr result (answers.new ≡ answers.old) }
+        ensures { Tried A.answers answers.old answers.new read_row pid result self.old self.new }
     {
         match self.tables().reading(pid) {
             Reading::Waits => Err(CallStop::NotReady),
@@ -40,7 +33,7 @@ impl Kernel {
             Reading::Takes { at, count } => Ok(self.take(pid, at, count)?),
             Reading::Reads { at, most, place } => Ok(self.take_from_file(pid, at, most, place)?),
             Reading::Drains { at, most, pipe } => Ok(self.drain(pid, at, most, pipe)?),
-            Reading::Absent => Ok(self.lacks(pid)),
+            Reading::Absent => Ok(self.fails(pid, NO_DEVICE, Extra::Absent)),
             Reading::Asks { device, at, most } => {
                 Ok(self.read_device(pid, device, at, most, answers)?)
             }
@@ -135,13 +128,7 @@ impl Kernel {
     pub(crate) fn write<A: Answers>(&mut self, pid: u32, answers: &mut A) -> Result<Done, CallStop>
         requires live { IsLive self.old.guests pid }
         requires room { self.old.events + 1 < 2 ^ 64 }
-        ensures ended { IfOk result (λ done. OfProcess self.old pid (λ m v.
-            Ended A.answers answers.old answers.new (write_row m pid v) done m pid v self.new)) }
-        ensures short { IfOk result (λ done. IsShort done.extra) }
-        ensures waits { OfProcess self.old pid (λ m v.
-            IsErrOf result CallStop.NotReady ↔ IsTrue (is_waiting (write_row m pid v))) }
-        ensures err { OnErr result (self.new ≡ self.old) }
-        ensures unasked { OnErr result (answers.new ≡ answers.old) }
+        ensures { Tried A.answers answers.old answers.new write_row pid result self.old self.new }
     {
         match self.tables().writing(pid) {
             Writing::Waits => Err(CallStop::NotReady),
@@ -149,7 +136,7 @@ impl Kernel {
             Writing::Prints { at, count } => Ok(self.print(pid, at, count)?),
             Writing::Puts { at, count, place } => Ok(self.put(pid, at, count, place)?),
             Writing::Pours { at, count, pipe } => Ok(self.pour(pid, at, count, pipe)?),
-            Writing::Absent => Ok(self.lacks(pid)),
+            Writing::Absent => Ok(self.fails(pid, NO_DEVICE, Extra::Absent)),
             Writing::Asks { device, at, count } => {
                 Ok(self.write_device(pid, device, at, count, answers)?)
             }

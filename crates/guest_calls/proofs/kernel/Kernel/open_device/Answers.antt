@@ -26,6 +26,6 @@ returns-clause-replied g c =
     let still : state_of (record c.self.inside { resources = c.remove_last.new.self }) ≡ c.args.self.now =
     same-state c.self.inside c.remove_last.new.self c.self.inside.channels (c.remove_last.ensures ∙ taken-back c.self.inside.resources c.open_channel.new.self (Device c.args.device) c.in_ok-number.ensures.opened) refl
     ∙ c.self.view_is in
-    replied g.A.Answers.answers c.args.answers.now c.here.new.self c.args.pid c.args.self.now c.lacks.new.self (Here c.args.device) IsAbsent c.lacks.result (λ m. absent m.kernel) (λ m v. here-absent m c.args.pid v c.args.device)
+    replied g.A.Answers.answers c.args.answers.now c.here.new.self c.args.pid c.args.self.now c.fails.new.self (Here c.args.device) IsAbsent c.fails.result (λ m. absent m.kernel) (λ m v. here-absent m c.args.pid v c.args.device)
     (λ v sees. c.if-here.ensures)
-    (subst (λ (s : State). OfProcess s c.args.pid (λ m v. Carried (Does (absent m.kernel)) c.lacks.result m c.args.pid v c.lacks.new.self)) still c.lacks.ensures.carried)
+    (subst (λ (s : State). OfProcess s c.args.pid (λ m v. Carried (Does (absent m.kernel)) c.fails.result m c.args.pid v c.fails.new.self)) still c.fails.ensures.carried)

@@ -26,5 +26,5 @@ returns-in-Fault-clause-replied g c =
 pub returns-in-Absent-clause-replied : goal.returns-in-Absent-clause-replied
 returns-in-Absent-clause-replied g c =
     let whole : length c.as_mut_slice.result.now ≡ c.args.most = c.as_mut_slice.ensures.len ∙ c.in_ok-buffer.ensures.len in
-    replied g.A.Answers.answers c.args.answers.now c.ask.new.self c.args.pid c.args.self.now c.lacks.new.self (Reads c.args.device c.args.at c.args.most) IsAbsent c.lacks.result (λ m. absent m.kernel) (λ m v. read-absent m c.args.pid v c.args.device c.args.at c.args.most)
-    (λ v sees. subst (λ (n : ℕ). g.A.Answers.answers c.args.answers.now (devices.Reads c.args.device n) IsAbsent c.ask.new.self) whole c.in-Absent.ensures.answers) c.lacks.ensures.carried
+    replied g.A.Answers.answers c.args.answers.now c.ask.new.self c.args.pid c.args.self.now c.fails-in-Absent.new.self (Reads c.args.device c.args.at c.args.most) IsAbsent c.fails-in-Absent.result (λ m. absent m.kernel) (λ m v. read-absent m c.args.pid v c.args.device c.args.at c.args.most)
+    (λ v sees. subst (λ (n : ℕ). g.A.Answers.answers c.args.answers.now (devices.Reads c.args.device n) IsAbsent c.ask.new.self) whole c.in-Absent.ensures.answers) c.fails-in-Absent.ensures.carried

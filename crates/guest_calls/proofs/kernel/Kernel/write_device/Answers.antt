@@ -29,6 +29,6 @@ pub returns-in-Absent-clause-replied : goal.returns-in-Absent-clause-replied
 returns-in-Absent-clause-replied g c =
     let told : IfSome (seen_in c.args.self.now.guests c.args.pid) (λ v. c.in_ok-bytes.bytes ≡ read v c.args.at c.args.count) =
     subst (λ (s : State). IfSome (seen_in s.guests c.args.pid) (λ v. c.in_ok-bytes.bytes ≡ read v c.args.at c.args.count)) c.self.view_is c.in_ok-bytes.ensures.read in
-    replied g.A.Answers.answers c.args.answers.now c.put.new.self c.args.pid c.args.self.now c.lacks.new.self (Writes c.args.device c.args.at c.args.count) IsAbsent c.lacks.result (λ m. absent m.kernel) (λ m v. write-absent m c.args.pid v c.args.device c.args.at c.args.count)
+    replied g.A.Answers.answers c.args.answers.now c.put.new.self c.args.pid c.args.self.now c.fails-in-Absent.new.self (Writes c.args.device c.args.at c.args.count) IsAbsent c.fails-in-Absent.result (λ m. absent m.kernel) (λ m v. write-absent m c.args.pid v c.args.device c.args.at c.args.count)
     (λ v sees. subst (λ (x : List ℕ). g.A.Answers.answers c.args.answers.now (devices.Writes c.args.device x) IsAbsent c.put.new.self)
-    (c.as_slice.ensures ∙ at-seen (seen_in c.args.self.now.guests c.args.pid) v (λ (w : View). c.in_ok-bytes.bytes ≡ read w c.args.at c.args.count) sees told) c.in-Absent.ensures.answers) c.lacks.ensures.carried
+    (c.as_slice.ensures ∙ at-seen (seen_in c.args.self.now.guests c.args.pid) v (λ (w : View). c.in_ok-bytes.bytes ≡ read w c.args.at c.args.count) sees told) c.in-Absent.ensures.answers) c.fails-in-Absent.ensures.carried
