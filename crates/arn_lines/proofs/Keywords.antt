@@ -64,6 +64,12 @@ no_file_line text none l h =
     let file : IsLineOf AtFile (codes "file " ++ text) l = IsLine-kind (codes "file " ++ text) l h in
     none file.0 file.1 file.3
 
+pub no_type_line : (text : List ℕ) → ((bytes : List ℕ) → ¬ IsBytes text bytes) → SaysNothing (codes "type " ++ text)
+no_type_line text none l h =
+    let typed : IsLineOf AtType (codes "type " ++ text) l = IsLine-kind (codes "type " ++ text) l h in
+    let same : typed.2.hex ≡ text = sym (ap (drop 5) typed.2.is_text) in
+    none typed.0 (rw same at typed.2.is_bytes)
+
 pub no_run_line : (text : List ℕ) → ((count : ℕ) → ¬ IsRun (codes "run " ++ text) count) → SaysNothing (codes "run " ++ text)
 no_run_line text none l h =
     let run : IsLineOf AtRun (codes "run " ++ text) l = IsLine-kind (codes "run " ++ text) l h in

@@ -1,7 +1,7 @@
 // Lines of a session, read.
 ghost use Rattle.std.specs.Prelude.{◌≡◌, ℕ, ◌<◌, ◌↔◌, List, ◌++◌, length, IsTrue, IfOk, IfSome, IfNone, codes, option_map};
 ghost use Rattle.arn_lines.specs.Grammar.{IsGen, IsLine, IsPassedOver, Reads, block_name};
-ghost use Rattle.arn_lines.specs.Pieces.{SaysNothing};
+ghost use Rattle.arn_lines.specs.Pieces.{AsksNothing, SaysNothing};
 
 use crate::questions::{question, two_numbers};
 use crate::words::{after, bytes, is_name, name, number, split_word};
@@ -36,14 +36,20 @@ fn boot_line(alloc: Global, text: &[u8]) -> Result<Option<Line>, NoMemory>
     ensures some { IfOk result (λ found. IfSome found (IsLine (codes "boot " ++ text.now))) }
     ensures none { IfOk result (λ found. IfNone found (SaysNothing (codes "boot " ++ text.now))) }
 {
-    Ok(name(alloc, text)?.map(|name| Line::Boot { name }))
+    let Some(name) = name(alloc, text)? else {
+        return Ok(None);
+    };
+    Ok(Some(Line::Boot { name }))
 }
 
 fn type_line(alloc: Global, text: &[u8]) -> Result<Option<Line>, NoMemory>
     ensures some { IfOk result (λ found. IfSome found (IsLine (codes "type " ++ text.now))) }
     ensures none { IfOk result (λ found. IfNone found (SaysNothing (codes "type " ++ text.now))) }
 {
-    Ok(bytes(alloc, text)?.map(|bytes| Line::Type { bytes }))
+    let Some(bytes) = bytes(alloc, text)? else {
+        return Ok(None);
+    };
+    Ok(Some(Line::Type { bytes }))
 }
 
 fn run_line(text: &[u8]) -> Option<Line>
@@ -60,6 +66,17 @@ fn unplug_line(text: &[u8]) -> Option<Line>
 {
     let device = number(text)?;
     Some(Line::Unplug { device })
+}
+
+// The question that the text asks, as a line.
+fn asks_line(alloc: Global, text: &[u8]) -> Result<Option<Line>, NoMemory>
+    ensures some { IfOk result (λ found. IfSome found (IsLine text.now)) }
+    ensures none { IfOk result (λ found. IfNone found (AsksNothing text.now)) }
+{
+    let Some(question) = question(alloc, text)? else {
+        return Ok(None);
+    };
+    Ok(Some(Line::Asks { question }))
 }
 
 // The line that the text says, whatever its length.
@@ -82,7 +99,7 @@ fn said(alloc: Global, text: &[u8]) -> Result<Option<Line>, NoMemory>
     if let Some(rest) = after(text, b"unplug ") {
         return Ok(unplug_line(rest));
     }
-    Ok(question(alloc, text)?.map(|question| Line::Asks { question }))
+    asks_line(alloc, text)
 }
 
 // The seed and the number of processes in a line `gen SEED N`, whatever its length.

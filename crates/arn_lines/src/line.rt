@@ -11,7 +11,7 @@ pub const MOST_RUN: u64 = 1_000_000_000;
 pub const MOST_GENERATED: u64 = 32;
 
 /// Of which bytes is asked where they come from.
-#[derive(Debug, Drop)]
+#[derive(Drop)]
 pub enum Sought {
     /// The `len` bytes of an event from byte `from` on.
     Event {
@@ -42,7 +42,7 @@ pub enum Sought {
 }
 
 /// What is shown of a moment.
-#[derive(Debug, Drop)]
+#[derive(Drop)]
 pub enum Aspect {
     /// The registers of a process.
     Registers { pid: u64 },
@@ -55,7 +55,7 @@ pub enum Aspect {
 }
 
 /// A question about the history. It changes nothing.
-#[derive(Debug, Drop)]
+#[derive(Drop)]
 pub enum Question {
     /// What the machine held at a moment.
     Show {
@@ -83,7 +83,7 @@ pub enum Question {
 }
 
 /// What a line asks for.
-#[derive(Debug, Drop)]
+#[derive(Drop)]
 pub enum Line {
     /// A boot file, before boot.
     File { name: Bytes, bytes: Bytes },
@@ -100,7 +100,7 @@ pub enum Line {
 }
 
 /// What a line of the text is that stands by itself.
-#[derive(Debug, Drop)]
+#[derive(Drop)]
 pub enum LineReading {
     /// Empty, or a comment.
     PassedOver,

@@ -16,12 +16,16 @@ fn linkage(word: &[u8]) -> Option<Linkage>
     ensures some { IfSome result (IsLinkage word.now) }
     ensures none { IfNone result ((linkage : Linkage) → ¬ IsLinkage word.now linkage) }
 {
-    match word {
-        b"copy" => Some(Linkage::Copy),
-        b"data" => Some(Linkage::Data),
-        b"index" => Some(Linkage::Index),
-        _ => None,
+    if word == b"copy".as_slice() {
+        return Some(Linkage::Copy);
     }
+    if word == b"data".as_slice() {
+        return Some(Linkage::Data);
+    }
+    if word == b"index".as_slice() {
+        return Some(Linkage::Index);
+    }
+    None
 }
 
 // The number at the start, and what stands behind the space after it.
@@ -50,6 +54,17 @@ fn three_numbers(text: &[u8]) -> Option<(u64, u64, u64)>
     Some((first, second, third))
 }
 
+fn file_aspect(alloc: Global, text: &[u8]) -> Result<Option<Aspect>, NoMemory>
+    ensures some { IfOk result (λ found. IfSome found (IsAspect (codes "file " ++ text.now))) }
+    ensures none { IfOk result (λ found. IfNone found
+        ((aspect : Aspect) → ¬ IsAspect (codes "file " ++ text.now) aspect)) }
+{
+    let Some(name) = name(alloc, text)? else {
+        return Ok(None);
+    };
+    Ok(Some(Aspect::File { name }))
+}
+
 // What is shown of the moment that stands before this text.
 fn aspect(alloc: Global, text: &[u8]) -> Result<Option<Aspect>, NoMemory>
     ensures some { IfOk result (λ found. IfSome found (IsAspect text.now)) }
@@ -63,9 +78,9 @@ fn aspect(alloc: Global, text: &[u8]) -> Result<Option<Aspect>, NoMemory>
         return Ok(three_numbers(rest).map(|(pid, at, len)| Aspect::Memory { pid, at, len }));
     }
     if let Some(rest) = after(text, b"file ") {
-        return Ok(name(alloc, rest)?.map(|name| Aspect::File { name }));
+        return file_aspect(alloc, rest);
     }
-    Ok(matches!(text, b"procs").then_some(Aspect::Processes))
+    Ok((text == b"procs".as_slice()).then_some(Aspect::Processes))
 }
 
 fn show_question(alloc: Global, text: &[u8]) -> Result<Option<Question>, NoMemory>
@@ -75,7 +90,10 @@ fn show_question(alloc: Global, text: &[u8]) -> Result<Option<Question>, NoMemor
     let Some((moment, rest)) = next_number(text) else {
         return Ok(None);
     };
-    Ok(aspect(alloc, rest)?.map(|aspect| Question::Show { moment, aspect }))
+    let Some(aspect) = aspect(alloc, rest)? else {
+        return Ok(None);
+    };
+    Ok(Some(Question::Show { moment, aspect }))
 }
 
 fn memory_sought(text: &[u8]) -> Option<Sought>
@@ -108,7 +126,10 @@ fn named_sought(alloc: Global, text: &[u8]) -> Result<Option<Sought>, NoMemory>
     let Some((from, len)) = two_numbers(range) else {
         return Ok(None);
     };
-    Ok(name(alloc, word)?.map(|name| Sought::Name {
+    let Some(name) = name(alloc, word)? else {
+        return Ok(None);
+    };
+    Ok(Some(Sought::Name {
         moment,
         name,
         from,
@@ -151,7 +172,10 @@ fn back_question(alloc: Global, text: &[u8]) -> Result<Option<Question>, NoMemor
     let Some(linkage) = linkage(word) else {
         return Ok(None);
     };
-    Ok(sought(alloc, rest)?.map(|sought| Question::Back { linkage, sought }))
+    let Some(sought) = sought(alloc, rest)? else {
+        return Ok(None);
+    };
+    Ok(Some(Question::Back { linkage, sought }))
 }
 
 fn forth_question(text: &[u8]) -> Option<Question>
@@ -176,12 +200,16 @@ fn word_question(text: &[u8]) -> Option<Question>
     ensures no_events { IfNone result (text.now ≢ codes "events") }
     ensures no_verify { IfNone result (text.now ≢ codes "verify") }
 {
-    match text {
-        b"groups" => Some(Question::Groups),
-        b"events" => Some(Question::Events),
-        b"verify" => Some(Question::Verify),
-        _ => None,
+    if text == b"groups".as_slice() {
+        return Some(Question::Groups);
     }
+    if text == b"events".as_slice() {
+        return Some(Question::Events);
+    }
+    if text == b"verify".as_slice() {
+        return Some(Question::Verify);
+    }
+    None
 }
 
 // The question that the text asks.

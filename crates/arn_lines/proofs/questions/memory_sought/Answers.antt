@@ -1,4 +1,4 @@
-use Rattle.std.proofs.Common.{[], ◌∷◌}
+use Rattle.std.proofs.Common.{[], ◌∷◌, refl}
 use Rattle.arn_lines.proofs.Asks.{no_sought_memory}
 use Rattle.arn_lines.proofs.Lists.{AreNumbers-rest}
 use Rattle.arn_lines.proofs.questions.memory_sought.Goals as goal
@@ -14,3 +14,10 @@ returns-in_err-pid-clause-none c =
     (no_sought_memory c.args.text.now
     (λ moment pid at len are.
     c.in_err-pid.ensures.none pid at len (AreNumbers-rest c.args.text.now c.in_ok-moment.rest.now c.in_ok-moment.moment moment pid (at ∷ len ∷ []) c.in_ok-moment.ensures.some are)))
+
+pub returns-clause-some : goal.returns-clause-some
+returns-clause-some c = record {
+  numbers = c.args.text.now;
+  are_numbers = (c.in_ok-moment.rest.now, c.in_ok-moment.ensures.some, c.in_ok-pid.ensures.some);
+  is_text = refl;
+}

@@ -10,3 +10,6 @@ pub returns-in_err-second-clause-none : goal.returns-in_err-second-clause-none
 returns-in_err-second-clause-none c =
     rw c.from_residual-in_err-second.ensures
     (λ a b n are. c.in_err-second.ensures.none b n (AreNumbers-rest c.args.text.now c.in_ok-first.rest.now c.in_ok-first.first a b (n ∷ []) c.in_ok-first.ensures.some are))
+
+pub returns-clause-some : goal.returns-clause-some
+returns-clause-some c = (c.in_ok-first.rest.now, c.in_ok-first.ensures.some, c.in_ok-second.ensures.some)
