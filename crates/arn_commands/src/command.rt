@@ -14,7 +14,7 @@ use guest_asm::{AsmError, assemble};
 use std::alloc::Global;
 
 /// What a line of a session asks for, with its block where it has one.
-#[derive(Debug, Drop)]
+#[derive(Drop)]
 pub enum Command {
     /// Nothing: an empty line, or a comment.
     PassedOver,

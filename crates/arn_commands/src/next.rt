@@ -1,7 +1,7 @@
 use crate::command::Command;
 
 /// What comes next in a text.
-#[derive(Debug, Drop)]
+#[derive(Drop)]
 pub enum Next {
     /// A command, behind which others may stand.
     More { command: Command },
