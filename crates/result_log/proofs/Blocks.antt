@@ -13,7 +13,8 @@ use Rattle.schedule_log.specs.Fields.{field}
 use Rattle.schedule_log.specs.Laws.{AreBytes, FieldOneWay, FieldSpelled}
 use Rattle.result_log.specs.States.{block_fields, blocks_fields, cpu_fields, slot_fields, start_fields, BeginsBlocks, BeginsCpu, BeginsSlot, BeginsStart, FitsBlock}
 use Rattle.result_log.specs.Pieces.{StartsExtra, StartsNoExtra, StartsSomeExtra}
-use Rattle.result_log.proofs.OneWay.{cpu-one, first, slot-one, start-parts}
+use Rattle.result_log.proofs.Tags.{extra-kind, DidStart, IsExtraOf}
+use Rattle.result_log.proofs.OneWay.{cpu-one, slot-one, start-parts}
 
 -- how many bytes the fields of blocks take
 pub length-blocks : (blocks : List Block) → All FitsBlock blocks → length (flat_map block_fields blocks) ≡ 258 * length blocks
@@ -113,23 +114,25 @@ start_stands two bytes cpu slot fields rest small b =
 -- what a call did that starts is a start's parts, where its tag says so
 pub no-start : (bytes : List ℕ) → ((cpu : Cpu) (slot : Option Cpu) (fields rest : List ℕ) → ¬ BeginsStart bytes cpu slot fields rest)
     → StartsNoExtra (2 ∷ bytes)
-no-start bytes h (extra.Start s) rest b =
+no-start bytes h did rest b =
+    let start : IsExtraOf DidStart bytes did rest = extra-kind (2 ∷ bytes) did rest b in
+    let s = start.0 in
+    let is = start.2 in
     let fields = flat_map block_fields s.blocks in
     let last = blocks_fields s.blocks ++ rest in
     let behind = slot_fields s.slot ++ last in
     h s.cpu s.slot fields rest (record {
       behind = behind;
       last = last;
-      is_cpu = record { fits = b.fits.0; is_bytes = ap (drop 1) b.is_bytes ∙ start-parts s rest };
-      is_slot = record { fits = b.fits.1; is_bytes = refl };
+      is_cpu = record { fits = is.fits.0; is_bytes = is.is_bytes ∙ start-parts s rest };
+      is_slot = record { fits = is.fits.1; is_bytes = refl };
       are_blocks = record {
         count = length s.blocks;
-        fits = b.has_spelling;
-        is_whole = length-blocks s.blocks b.fits.2;
+        fits = is.has_spelling;
+        is_whole = length-blocks s.blocks is.fits.2;
         is_bytes = refl;
       };
     })
-no-start bytes h did rest b = let e = ap first b.is_bytes in absurd (omega (arith, e))
 
 -- no start's parts begin the bytes where no slot stands behind the processor
 pub no-start-by-slot : FieldOneWay → (bytes behind : List ℕ) (p : Cpu) → BeginsCpu bytes p behind

@@ -6,3 +6,4 @@ pub mod Options
 pub mod Places
 pub mod Records
 pub mod Starting
+pub mod Tags

@@ -11,6 +11,7 @@ use Rattle.exchange_log.specs.Gives.{give_fields, GiveOneWay}
 use Rattle.result_log.specs.Pieces.{call_head}
 use Rattle.result_log.specs.Laws.{SpelledOneWay}
 use Rattle.result_log.specs.Spelling.{extra_fields, spelling, ExtraHasSpelling, FitsExtra, FitsFields, HasSpelling}
+use Rattle.result_log.proofs.Tags.{extra-kind, extra_kind, IsExtraOf}
 use Rattle.result_log.proofs.OneWay.{first, start-one}
 
 -- the numbers before the tag of a call, one behind the other
@@ -34,35 +35,42 @@ module _ (field-one : FieldOneWay) (flag-one : FlagOneWay) (counted-one : Counte
       let bytes = counted-one x y s t is_x is_y number.1 in
       (number.0, bytes.0, bytes.1)
 
+  -- a tag, and the fields behind it, tell what a call did
+  extra-told : (a b : Extra) (s t : List ℕ) → ExtraHasSpelling a → FitsExtra a
+      → IsExtraOf (extra_kind (first (extra_fields a ++ s))) (drop 1 (extra_fields a ++ s)) b t → (a ≡ b) × (s ≡ t)
+  extra-told extra.Nothing b s t is fits k = (sym k.0, k.1)
+  extra-told (extra.Give g) b s t is fits k =
+      let one = give-one g k.0 s t is k.2.has_spelling fits k.2.fits k.2.is_bytes in
+      (ap extra.Give one.0 ∙ sym k.1, one.1)
+  extra-told (extra.Start g) b s t is fits k =
+      let one = start-one field-one g k.0 s t is k.2.has_spelling fits k.2.fits k.2.is_bytes in
+      (ap extra.Start one.0 ∙ sym k.1, one.1)
+  extra-told (extra.Put m i x) b s t is fits k =
+      let file = field-one 4 m k.0 (field 4 i ++ counted x ++ s) (field 4 k.1 ++ counted k.2 ++ t) fits.0 k.4.fits.0 k.4.is_bytes in
+      let one = device-one i k.1 x k.2 s t fits.1 k.4.fits.1 is k.4.is_counted file.1 in (
+        ap (λ n. extra.Put n i x) file.0 ∙ ap (λ n. extra.Put k.0 n x) one.0 ∙ ap (λ n. extra.Put k.0 k.1 n) one.1 ∙ sym k.3,
+        one.2,
+      )
+  extra-told (extra.Console x) b s t is fits k =
+      let one = counted-one x k.0 s t is k.2.is_counted k.2.is_bytes in
+      (ap extra.Console one.0 ∙ sym k.1, one.1)
+  extra-told (extra.Reply m x) b s t is fits k =
+      let one = device-one m k.0 x k.1 s t fits k.3.fits is k.3.is_counted k.3.is_bytes in
+      (ap (λ n. extra.Reply n x) one.0 ∙ ap (λ n. extra.Reply k.0 n) one.1 ∙ sym k.2, one.2)
+  extra-told extra.Fault b s t is fits k = (sym k.0, k.1)
+  extra-told extra.Absent b s t is fits k = (sym k.0, k.1)
+  extra-told (extra.Name m x) b s t is fits k =
+      let file = field-one 4 m k.0 (named x ++ s) (named k.1 ++ t) fits k.3.fits k.3.is_bytes in
+      let one = named-one x k.1 s t is k.3.is_name file.1 in
+      (ap (λ n. extra.Name n x) file.0 ∙ ap (λ n. extra.Name k.0 n) one.0 ∙ sym k.2, one.1)
+  extra-told (extra.Sent m x) b s t is fits k =
+      let one = device-one m k.0 x k.1 s t fits k.3.fits is k.3.is_counted k.3.is_bytes in
+      (ap (λ n. extra.Sent n x) one.0 ∙ ap (λ n. extra.Sent k.0 n) one.1 ∙ sym k.2, one.2)
+
   extra-one : (a b : Extra) (s t : List ℕ) → ExtraHasSpelling a → ExtraHasSpelling b → FitsExtra a → FitsExtra b
       → extra_fields a ++ s ≡ extra_fields b ++ t → (a ≡ b) × (s ≡ t)
-  extra-one extra.Nothing extra.Nothing s t is_a is_b fits_a fits_b e = (refl, ap (drop 1) e)
-  extra-one (extra.Give g) (extra.Give h) s t is_a is_b fits_a fits_b e =
-      let one = give-one g h s t is_a is_b fits_a fits_b (ap (drop 1) e) in
-      (ap extra.Give one.0, one.1)
-  extra-one (extra.Start g) (extra.Start h) s t is_a is_b fits_a fits_b e =
-      let one = start-one field-one g h s t is_a is_b fits_a fits_b (ap (drop 1) e) in
-      (ap extra.Start one.0, one.1)
-  extra-one (extra.Put m i x) (extra.Put n j y) s t is_a is_b fits_a fits_b e =
-      let file = field-one 4 m n (field 4 i ++ counted x ++ s) (field 4 j ++ counted y ++ t) fits_a.0 fits_b.0 (ap (drop 1) e) in
-      let one = device-one i j x y s t fits_a.1 fits_b.1 is_a is_b file.1 in
-      (ap (λ k. extra.Put k i x) file.0 ∙ ap (λ k. extra.Put n k x) one.0 ∙ ap (λ k. extra.Put n j k) one.1, one.2)
-  extra-one (extra.Console x) (extra.Console y) s t is_a is_b fits_a fits_b e =
-      let one = counted-one x y s t is_a is_b (ap (drop 1) e) in
-      (ap extra.Console one.0, one.1)
-  extra-one (extra.Reply m x) (extra.Reply n y) s t is_a is_b fits_a fits_b e =
-      let one = device-one m n x y s t fits_a fits_b is_a is_b (ap (drop 1) e) in
-      (ap (λ k. extra.Reply k x) one.0 ∙ ap (λ k. extra.Reply n k) one.1, one.2)
-  extra-one extra.Fault extra.Fault s t is_a is_b fits_a fits_b e = (refl, ap (drop 1) e)
-  extra-one extra.Absent extra.Absent s t is_a is_b fits_a fits_b e = (refl, ap (drop 1) e)
-  extra-one (extra.Name m x) (extra.Name n y) s t is_a is_b fits_a fits_b e =
-      let file = field-one 4 m n (named x ++ s) (named y ++ t) fits_a fits_b (ap (drop 1) e) in
-      let one = named-one x y s t is_a is_b file.1 in
-      (ap (λ k. extra.Name k x) file.0 ∙ ap (λ k. extra.Name n k) one.0, one.1)
-  extra-one (extra.Sent m x) (extra.Sent n y) s t is_a is_b fits_a fits_b e =
-      let one = device-one m n x y s t fits_a fits_b is_a is_b (ap (drop 1) e) in
-      (ap (λ k. extra.Sent k x) one.0 ∙ ap (λ k. extra.Sent n k) one.1, one.2)
-  extra-one a b s t is_a is_b fits_a fits_b e = let k = ap first e in absurd (omega (arith, k))
+  extra-one a b s t is_a is_b fits_a fits_b e =
+      extra-told a b s t is_a fits_a (extra-kind (extra_fields a ++ s) b t (record { has_spelling = is_b; fits = fits_b; is_bytes = e }))
 
   call-one : (p q n m r w : ℕ) (a b : Extra) (s t : List ℕ) → FitsFields (entry.Call p n r a) → FitsFields (entry.Call q m w b)
       → ExtraHasSpelling a → ExtraHasSpelling b → spelling (entry.Call p n r a) ++ s ≡ spelling (entry.Call q m w b) ++ t

@@ -1,6 +1,6 @@
 use Rattle.std.proofs.Common.{rules}
 use Rattle.result_log.proofs.Options.{OnErr-always}
-use Rattle.result_log.proofs.Starting.{boot_stands, no-boot-by-give}
+use Rattle.result_log.proofs.Starting.{boot_stands, no-boot-by-give, no-boot-by-name}
 use Rattle.result_log.proofs.get.get_boot.Goals as goal
 
 pub returns-in_err-give-clause-err : goal.returns-in_err-give-clause-err
@@ -16,3 +16,6 @@ pub returns-in_err-name-clause-err : goal.returns-in_err-name-clause-err
 returns-in_err-name-clause-err c =
     OnErr-always c.from_residual-in_err-name.result
     (boot_stands c.args.bytes.now c.in-Some.name.now c.in-Some.behind.now (search rules) (c.in-Some-2.give, (c.in-Some-2.rest.now, search rules)))
+
+pub returns-in_default-clause-ok : goal.returns-in_default-clause-ok
+returns-in_default-clause-ok c = no-boot-by-name c.args.bytes.now (search rules)

@@ -3,7 +3,7 @@ use Rattle.arn_base.specs.declared.records.Record.{Record}
 use Rattle.arn_base.specs.declared.records.Record.TheVariants as entry
 use Rattle.schedule_log.specs.Fields.{BeginsCounted, BeginsNamed}
 use Rattle.result_log.specs.Pieces.{Starts}
-use Rattle.result_log.proofs.Starting.{file-starts, no-file-by-bytes}
+use Rattle.result_log.proofs.Starting.{file-starts, no-file-by-bytes, no-file-by-name}
 use Rattle.result_log.proofs.Options.{OnErr-always}
 use Rattle.result_log.proofs.get.get_file.Goals as goal
 
@@ -26,3 +26,6 @@ pub returns-in_err-bytes-clause-err : goal.returns-in_err-bytes-clause-err
 returns-in_err-bytes-clause-err c =
     OnErr-always c.from_residual-in_err-bytes.result
     (file_stands c.args.bytes.now c.in-Some.name.now c.in-Some.behind.now c.in-Some-split_counted.content.now c.in-Some-split_counted.rest.now (search rules) (search rules))
+
+pub returns-in_default-clause-ok : goal.returns-in_default-clause-ok
+returns-in_default-clause-ok c = no-file-by-name c.args.bytes.now (search rules)

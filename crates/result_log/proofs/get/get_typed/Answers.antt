@@ -4,6 +4,7 @@ use Rattle.arn_base.specs.declared.records.Record.TheVariants as entry
 use Rattle.schedule_log.specs.Fields.{BeginsCounted}
 use Rattle.result_log.specs.Pieces.{Starts}
 use Rattle.result_log.proofs.Options.{OnErr-always}
+use Rattle.result_log.proofs.Starting.{no-typed}
 use Rattle.result_log.proofs.get.get_typed.Goals as goal
 
 -- a typed piece's record stands there, whether or not there is memory for it
@@ -16,3 +17,6 @@ pub returns-in_err-bytes-clause-err : goal.returns-in_err-bytes-clause-err
 returns-in_err-bytes-clause-err c =
     OnErr-always c.from_residual.result
     (typed_stands c.args.bytes.now c.in-Some.content.now c.in-Some.rest.now (search rules))
+
+pub returns-in_default-clause-ok : goal.returns-in_default-clause-ok
+returns-in_default-clause-ok c = no-typed c.args.bytes.now (search rules)
