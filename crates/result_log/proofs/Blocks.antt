@@ -1,5 +1,5 @@
 -- The fields of a start, read as a start.
-use Rattle.std.proofs.Common.{◌≡◌, ℕ, zero, suc, ◌*◌, ◌≤◌, ◌<◌, List, [], ◌∷◌, ◌++◌, length, take, drop, flat_map, refl, sym, ap, subst, ◌∙◌, append_assoc, length-append, length-drop, length-take, arith}
+use Rattle.std.proofs.Common.{◌≡◌, ℕ, zero, suc, ◌*◌, ◌≤◌, ◌<◌, List, [], ◌∷◌, ◌++◌, length, take, drop, flat_map, refl, sym, ap, subst, ◌∙◌, length-append, length-drop, length-take, arith}
 use Rattle.std.specs.Prelude.{Option}
 use Rattle.std.specs.List.{All}
 use Rattle.std.proofs.lemmas.List.{take-append-drop}
@@ -11,7 +11,7 @@ use Rattle.arn_base.specs.declared.records.Start.{Start}
 use Rattle.arn_base.specs.declared.records.Extra.TheVariants as extra
 use Rattle.schedule_log.specs.Fields.{field}
 use Rattle.schedule_log.specs.Laws.{AreBytes, FieldOneWay, FieldSpelled}
-use Rattle.result_log.specs.States.{block_fields, blocks_fields, cpu_fields, slot_fields, start_fields, BeginsBlocks, BeginsCpu, BeginsSlot, BeginsStart, FitsBlock}
+use Rattle.result_log.specs.States.{block_fields, blocks_fields, cpu_fields, slot_fields, BeginsBlocks, BeginsCpu, BeginsSlot, BeginsStart, FitsBlock}
 use Rattle.result_log.specs.Pieces.{StartsExtra, StartsNoExtra, StartsSomeExtra}
 use Rattle.result_log.proofs.Tags.{extra-kind, DidStart, IsExtraOf}
 use Rattle.result_log.proofs.OneWay.{cpu-one, slot-one, start-parts}

@@ -1,6 +1,7 @@
 pub mod Answering
 pub mod Blocks
 pub mod Examples
+pub mod Growing
 pub mod OneWay
 pub mod Options
 pub mod Places

@@ -8,11 +8,10 @@ use Rattle.arn_base.specs.declared.records.Record.{Record}
 use Rattle.arn_base.specs.declared.records.Record.TheVariants as entry
 use Rattle.schedule_log.specs.declared.signals.Delivery.{Delivery}
 use Rattle.schedule_log.specs.Schedule.{BeginsSignal, BeginsSlice}
-use Rattle.schedule_log.specs.Fields.{counted, field, named, BeginsCounted, BeginsNamed, IsCounted}
+use Rattle.schedule_log.specs.Fields.{counted, named, BeginsCounted, BeginsNamed, IsCounted}
 use Rattle.exchange_log.specs.Gives.{give_fields, FitsOrigin, GiveHasSpelling, StartsGive}
 use Rattle.std.specs.List.{All}
 use Rattle.result_log.specs.Pieces.{BeginsDevice, BeginsPath, BeginsPut, Starts, StartsExtra}
-use Rattle.result_log.specs.Spelling.{extra_fields, spelling, ExtraHasSpelling, FitsExtra}
 use Rattle.result_log.specs.States.{start_fields, FitsStart, StartHasSpelling}
 use Rattle.result_log.proofs.OneWay.{first}
 

@@ -9,10 +9,10 @@ ghost use Rattle.result_log.specs.Reading.{Reads};
 ghost use Rattle.result_log.specs.Spelling.{spelling, ExtraHasSpelling, FitsFields, HasSpelling};
 
 use crate::kinds::{BOOT, CALL, END, FILE, TYPED, UNPLUG};
-use crate::put_extras::put_extra;
+use crate::put_extras::{put_extra, put_kind};
 use arn_base::{Extra, Give, NoMemory, Record};
 use exchange_log::put_give;
-use schedule_log::fields::{put_bytes, put_name, put_u8, put_u32, put_u64};
+use schedule_log::fields::{put_bytes, put_name, put_u8, put_u64};
 use schedule_log::{Delivery, put_signal, put_slice};
 
 fn put_file(out: &mut Vec<u8>, name: &[u8], bytes: &[u8]) -> Result<(), NoMemory>
@@ -53,8 +53,7 @@ fn put_unplug(out: &mut Vec<u8>, device: u32) -> Result<(), NoMemory>
     ensures ok { OnOk result (out.new.items ≡ out.old.items ++ spelling (kind.Unplug device)) }
     ensures err { OnErr result (LeavesFront out.old.items out.new.items) }
 {
-    put_u8(out, UNPLUG)?;
-    put_u32(out, device)
+    put_kind(out, UNPLUG, device)
 }
 
 // Appends what stands before the tag of a call.
@@ -63,8 +62,7 @@ fn put_call_head(out: &mut Vec<u8>, pid: u32, number: u64, answer: u64) -> Resul
         (out.new.items ≡ out.old.items ++ call_head pid number answer) }
     ensures err { OnErr result (LeavesFront out.old.items out.new.items) }
 {
-    put_u8(out, CALL)?;
-    put_u32(out, pid)?;
+    put_kind(out, CALL, pid)?;
     put_u64(out, number)?;
     put_u64(out, answer)
 }
@@ -90,8 +88,7 @@ fn put_end(out: &mut Vec<u8>, pid: u32, status: u8) -> Result<(), NoMemory>
     ensures ok { OnOk result (out.new.items ≡ out.old.items ++ spelling (kind.End pid status)) }
     ensures err { OnErr result (LeavesFront out.old.items out.new.items) }
 {
-    put_u8(out, END)?;
-    put_u32(out, pid)?;
+    put_kind(out, END, pid)?;
     put_u8(out, status)
 }
 

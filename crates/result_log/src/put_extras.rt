@@ -10,14 +10,22 @@ use arn_base::{Extra, NoMemory};
 use exchange_log::put_give;
 use schedule_log::fields::{put_bytes, put_name, put_u8, put_u32};
 
+// Appends the byte of a kind, and the number behind it.
+pub(crate) fn put_kind(out: &mut Vec<u8>, kind: u8, number: u32) -> Result<(), NoMemory>
+    ensures ok { OnOk result (out.new.items ≡ out.old.items ++ field 1 kind ++ field 4 number) }
+    ensures err { OnErr result (LeavesFront out.old.items out.new.items) }
+{
+    put_u8(out, kind)?;
+    put_u32(out, number)
+}
+
 fn put_put(out: &mut Vec<u8>, file: u32, at: u32, bytes: &[u8]) -> Result<(), NoMemory>
     requires { IsCounted bytes.now }
     ensures ok { OnOk result
         (out.new.items ≡ out.old.items ++ extra_fields (did.Put file at bytes.now)) }
     ensures err { OnErr result (LeavesFront out.old.items out.new.items) }
 {
-    put_u8(out, PUT)?;
-    put_u32(out, file)?;
+    put_kind(out, PUT, file)?;
     put_u32(out, at)?;
     put_bytes(out, bytes)
 }
@@ -29,8 +37,7 @@ fn put_device(out: &mut Vec<u8>, tag: u8, device: u32, bytes: &[u8]) -> Result<(
         (out.new.items ≡ out.old.items ++ field 1 tag ++ field 4 device ++ counted bytes.now) }
     ensures err { OnErr result (LeavesFront out.old.items out.new.items) }
 {
-    put_u8(out, tag)?;
-    put_u32(out, device)?;
+    put_kind(out, tag, device)?;
     put_bytes(out, bytes)
 }
 
@@ -40,8 +47,7 @@ fn put_path(out: &mut Vec<u8>, file: u32, path: &[u8]) -> Result<(), NoMemory>
         (out.new.items ≡ out.old.items ++ extra_fields (did.Name file path.now)) }
     ensures err { OnErr result (LeavesFront out.old.items out.new.items) }
 {
-    put_u8(out, NAME)?;
-    put_u32(out, file)?;
+    put_kind(out, NAME, file)?;
     put_name(out, path)
 }
 

@@ -29,3 +29,8 @@ returns-in_err-bytes-clause-err c =
 
 pub returns-in_default-clause-ok : goal.returns-in_default-clause-ok
 returns-in_default-clause-ok c = no-file-by-name c.args.bytes.now (search rules)
+
+pub returns-clause-ok : goal.returns-clause-ok
+returns-clause-ok c =
+    rw (c.in_ok-name.ensures, c.in_ok-bytes.ensures)
+    (file-starts c.args.bytes.now c.in-Some.name.now c.in-Some.behind.now c.in-Some-split_counted.content.now c.in-Some-split_counted.rest.now c.in-Some.ensures.some c.in-Some-split_counted.ensures.some)

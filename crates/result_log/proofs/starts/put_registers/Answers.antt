@@ -1,0 +1,24 @@
+use Rattle.std.proofs.Common.{take, ap, ◌++◌, ◌∙◌, arith}
+use Rattle.std.proofs.lemmas.List.{take_all}
+use Rattle.schedule_log.specs.Fields.{field}
+use Rattle.result_log.specs.States.{registers_fields}
+use Rattle.result_log.proofs.Growing.{spelled-more}
+use Rattle.result_log.proofs.Options.{OnErr-always}
+use Rattle.result_log.proofs.starts.put_registers.Goals as goal
+
+pub loop-register-preserved : goal.loop-register-preserved
+loop-register-preserved c =
+    spelled-more (field 8) c.args.registers.now c.loop-register.register-index 0 c.args.out.now.items c.loop-register.out.items c.put_u64.new.out.items
+    (omega arith) c.loop-register.invariant c.in_ok-put_u64.ensures.ok
+
+pub returns-in_err-put_u64-clause-err : goal.returns-in_err-put_u64-clause-err
+returns-in_err-put_u64-clause-err c =
+    OnErr-always c.from_residual.result (record {
+      more = registers_fields (take c.loop-register.register-index c.args.registers.now);
+      is_bytes = c.in_err-put_u64.ensures.err ∙ c.loop-register.invariant;
+    })
+
+pub returns-clause-ok : goal.returns-clause-ok
+returns-clause-ok c =
+    c.loop-register.invariant
+    ∙ ap (λ xs. c.args.out.now.items ++ registers_fields xs) (take_all c.loop-register.register-index c.args.registers.now (omega arith))
