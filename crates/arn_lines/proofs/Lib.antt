@@ -8,6 +8,7 @@ pub mod FirstWords
 pub mod Lists
 pub mod Asks
 pub mod QuestionKinds
+pub mod Joined
 pub mod Keywords
 pub mod GenWords
 pub mod OneWay
