@@ -136,7 +136,7 @@ module _ {D A : Type 0} (d : Ghosts D) (who : Answering A) (g : Given) (is_there
   halted-text halts (Ok x) disk store store' h0 h1 text steps steps' n is none cheap costs put = tt
   halted-text halts (Err why) disk store store' h0 h1 text steps steps' n is none cheap costs put = record {
     beside = n;
-    stops = Stops-prints IsRun d who halts choices answers disk store.entries h0 h1 why (turn g store.entries command) steps steps' n text is put cheap;
+    stops = (Stops-prints IsRun d who halts choices answers disk store.entries h0 h1 why (turn g store.entries command) steps steps' n text is put cheap).stops;
     costs = costs _;
     on_run = λ needed. absurd (false≢true (sym none ∙ needed));
   }
@@ -144,7 +144,7 @@ module _ {D A : Type 0} (d : Ghosts D) (who : Answering A) (g : Given) (is_there
   -- a command that asks for nothing
   pub answered-nothing : (laws : EffectsFollow IsRun d) (disk : D) (store : StoreState) (held : Option (List ℕ)) (steps : ℕ) → turn g store.entries command ≡ finished → needs_machine g store.entries command ≡ false → IsOpen d store disk → IsAnswered d who g is_there command (standpoint disk store held (around choices answers steps)) (standpoint disk store held (around choices answers steps))
   answered-nothing laws disk store held steps is none open_now = record {
-    advances = Advances-nothing IsRun d who laws choices answers disk store held (turn g store.entries command) steps (cost g is_there store.entries store.entries command) is open_now;
+    advances = Advances-nothing IsRun d who laws choices answers disk store held (turn g store.entries command) finished steps steps (cost g is_there store.entries store.entries command) is open_now (omega arith);
     on_run = λ needed. absurd (false≢true (sym none ∙ needed));
   }
 

@@ -1,5 +1,5 @@
 -- Points from which a session goes on where instructions were executed before it.
-use Rattle.std.proofs.Common.{◌≡◌, inl, ℕ, ◌+◌, ◌≤◌, ◌++◌, Bool, true, List, [], Option, Some, None, IfSome, Result, Ok, Err, OnOk, IfErr, IsErrAnd, refl, sym, ap, ◌∙◌, subst, take, length, length-append, arith, ◌||◌, is_some}
+use Rattle.std.proofs.Common.{◌≡◌, inl, ℕ, ◌+◌, ◌≤◌, ◌++◌, Bool, true, List, [], Option, Some, None, IfSome, Result, Ok, Err, OnOk, IfErr, IsErrAnd, refl, sym, ap, ◌∙◌, subst, take, length, length-append, add-zero, arith, ◌||◌, is_some}
 use Rattle.std.proofs.Math.Seq.{take-append_seam}
 use Rattle.arn_base.specs.declared.boxes.Choice.{Choice}
 use Rattle.arn_base.specs.declared.disk.Disk.{Ghosts}
@@ -9,9 +9,8 @@ use Rattle.log_store.specs.Stores.{StoreState}
 use Rattle.guest_machine.specs.Recorded.{Recorded}
 use Rattle.arn_commands.specs.declared.command.Command.TheVariants.{Says}
 use Rattle.arn_lines.specs.declared.line.Line.{Line}
-use Rattle.session_effects.specs.Effects.{Effect}
-use Rattle.session_effects.specs.Laws.{HaltsFollow}
-use Rattle.session_effects.specs.Standing.{Carries}
+use Rattle.session_effects.specs.Laws.{EffectsFollow, HaltsFollow}
+use Rattle.session_effects.specs.Standing.{Carries, IsOpen}
 use Rattle.session_effects.specs.declared.halt.Halt.{Halt}
 use Rattle.session_effects.specs.declared.halt.Halt.TheVariants as halt
 use Rattle.session_runs.specs.Laws.{PointsFollow}
@@ -26,59 +25,24 @@ use Rattle.session_commands.specs.Given.{Given}
 use Rattle.session_commands.specs.Kept.{IsSound, IsThere}
 use Rattle.session_commands.specs.Lines.{turn}
 use Rattle.session_commands.specs.Rows.{row_of}
-use Rattle.session_commands.proofs.LineLemmas.{cost-machine, still-finished, turn-line}
-use Rattle.session_commands.proofs.TurnLemmas.{Stops-nothing}
+use Rattle.session_commands.proofs.LineLemmas.{cost-changed, cost-machine, still-finished, turn-line}
+use Rattle.session_commands.proofs.TurnLemmas.{Advances-nothing, Stops-nothing}
 use Rattle.session_commands.proofs.AnswerLemmas.{or-true}
 
-module _ {A : Type 0} (who : Answering A) (choices : ℕ → Option Choice) (answers : A) where
-  -- what was executed before is part of the cost
-  pub Advances-later : (from to : Point) (steps mid more cost : ℕ) (new : Surroundings A) (carried : List Effect → Type 0) → mid + more ≤ steps + cost → Advances who from to (around choices answers mid) new more carried → Advances who from to (around choices answers steps) new cost carried
-  Advances-later from to steps mid more cost new carried cheap p = record {
-    slices = p.slices;
-    touches = p.touches;
-    effects = p.effects;
-    leads = p.leads;
-    names = p.names;
-    unplugged = p.unplugged;
-    begins = p.begins;
-    carries = p.carries;
-    picked = p.picked;
-    in_range = p.in_range;
-    touched = p.touched;
-    executed = omega (arith, p.executed, cheap);
-  }
+-- what was executed before is part of the cost
+module _ {D A : Type 0} (d : Ghosts D) (who : Answering A) (laws : EffectsFollow IsRun d) (points : PointsFollow IsRun d who) (choices : ℕ → Option Choice) (answers : A) (disk : D) (store : StoreState) (held : Option (List ℕ)) (open_now : IsOpen d store disk) (from to : Point) (is : from ≡ to) (steps mid beside : ℕ) (cheap : mid ≤ steps + beside) where
+  before : Advances who from to (around choices answers steps) (around choices answers mid) beside (Carries IsRun d disk disk store store held held)
+  before = Advances-nothing IsRun d who laws choices answers disk store held from to steps mid beside is open_now cheap
 
-  pub Stops-later : {D : Type 0} (is_run : List Record → Type 0) (d : Ghosts D) (disk disk' : D) (history : List Record) (held holds : Option (List ℕ)) (why : Halt) (from to : Point) (steps mid cost : ℕ) (new : Surroundings A) → to ≡ from → mid ≤ steps + cost → Stops is_run d who disk disk' history held holds why from (around choices answers mid) new 0 → Stops is_run d who disk disk' history held holds why to (around choices answers steps) new cost
-  Stops-later is_run d disk disk' history held holds why from to steps mid cost new same cheap q =
-      subst (λ (p : Point). Stops is_run d who disk disk' history held holds why p (around choices answers steps) new cost) (sym same)
-      (record {
-        slices = q.slices;
-        lost = q.lost;
-        part = q.part;
-        touches = q.touches;
-        lost_touches = q.lost_touches;
-        part_touches = q.part_touches;
-        done = q.done;
-        undone = q.undone;
-        are_effects = q.are_effects;
-        are_touches = q.are_touches;
-        stopped = q.stopped;
-        names = q.names;
-        unplugged = q.unplugged;
-        begins = q.begins;
-        names_lost = q.names_lost;
-        unplugged_lost = q.unplugged_lost;
-        without = q.without;
-        spent = q.spent;
-        many = q.many;
-        picked = q.picked;
-        in_range = q.in_range;
-        touched = q.touched;
-        one_part = q.one_part;
-        by_memory = q.by_memory;
-        unmade = q.unmade;
-        executed = omega (arith, q.executed, cheap);
-      })
+  pub Advances-later : (end : Point) (new : Surroundings A) (disk' : D) (store' : StoreState) (holds : Option (List ℕ)) → Advances who to end (around choices answers mid) new 0 (Carries IsRun d disk disk' store store' held holds) → Advances who from end (around choices answers steps) new beside (Carries IsRun d disk disk' store store' held holds)
+  Advances-later end new disk' store' holds p =
+      subst (λ (n : ℕ). Advances who from end (around choices answers steps) new n (Carries IsRun d disk disk' store store' held holds)) (add-zero beside)
+      (points.advances from to end (around choices answers steps) (around choices answers mid) new beside 0 disk disk disk' store store store' held held holds before p).advances
+
+  pub Stops-later : (disk' : D) (holds : Option (List ℕ)) (why : Halt) (new : Surroundings A) → Stops IsRun d who disk disk' store.entries held holds why to (around choices answers mid) new 0 → Stops IsRun d who disk disk' store.entries held holds why from (around choices answers steps) new beside
+  Stops-later disk' holds why new q =
+      subst (λ (n : ℕ). Stops IsRun d who disk disk' store.entries held holds why from (around choices answers steps) new n) (add-zero beside)
+      (points.stops from to (around choices answers steps) (around choices answers mid) new beside 0 disk disk disk' store store held held holds why before q).stops
 
 -- memory ran out where all was carried out
 module _ {D A : Type 0} (is_run : List Record → Type 0) (d : Ghosts D) (who : Answering A) (halts : HaltsFollow is_run d) (points : PointsFollow is_run d who) where
@@ -146,48 +110,36 @@ module _ {D A : Type 0} (d : Ghosts D) (who : Answering A) (g : Given) (is_there
   answered-change (Ok x) disk disk' store' h0 h1 old new is_run p = record {
     advances =
         subst (λ (from : Point). Advances who from finished old new (cost g is_there store.entries store'.entries (Says l)) (Carries IsRun d disk disk' store store' h0 h1)) (sym (turn-line g store.entries l accepted))
-        (record {
-          slices = p.slices;
-          touches = p.touches;
-          effects = p.effects;
-          leads = p.leads;
-          names = p.names;
-          unplugged = p.unplugged;
-          begins = p.begins;
-          carries = p.carries;
-          picked = p.picked;
-          in_range = p.in_range;
-          touched = p.touched;
-          executed = omega (arith, p.executed, cost-machine g is_there store.entries store'.entries l needs accepted);
-        });
+        (subst (λ (n : ℕ). Advances who (row_of g store.entries l).turn finished old new n (Carries IsRun d disk disk' store store' h0 h1)) (cost-changed g is_there store.entries store'.entries l needs accepted) p);
     on_run = λ needed. is_run;
   }
   answered-change (Err e) disk disk' store' h0 h1 old new is_run p = tt
 
-  module _ (halts : HaltsFollow IsRun d) (points : PointsFollow IsRun d who) (choices : ℕ → Option Choice) (answers : A) (steps mid : ℕ) (cheap : mid ≤ steps + machine_cost is_there store.entries) where
-    -- with the machine, which was made before
-    pub advances-changed : (disk disk' : D) (there store' behind : StoreState) (h0 h1 : Option (List ℕ)) (new : Surroundings A) → there ≡ store → behind ≡ store' → Advances who (row_of g there.entries l).turn finished (around choices answers mid) new 0 (Carries IsRun d disk disk' there store' h0 h1) → Advances who (row_of g store.entries l).turn finished (around choices answers steps) new (machine_cost is_there store.entries) (Carries IsRun d disk disk' store behind h0 h1)
-    advances-changed disk disk' there store' behind h0 h1 new same same_behind p =
-        Advances-later who choices answers (row_of g store.entries l).turn finished steps mid 0 (machine_cost is_there store.entries) new (Carries IsRun d disk disk' store behind h0 h1) (omega (arith, cheap))
-        (subst (λ (s : StoreState). Advances who (row_of g store.entries l).turn finished (around choices answers mid) new 0 (Carries IsRun d disk disk' store s h0 h1)) (sym same_behind)
-        (subst (λ (s : StoreState). Advances who (row_of g s.entries l).turn finished (around choices answers mid) new 0 (Carries IsRun d disk disk' s store' h0 h1)) same p))
+-- the same behind the machine that was made or was there
+module _ {D A : Type 0} (d : Ghosts D) (who : Answering A) (g : Given) (is_there : Bool) (l : Line) (store : StoreState) (needs : (row_of g store.entries l).needs_machine ≡ true) (accepted : (row_of g store.entries l).refusal ≡ None) (laws : EffectsFollow IsRun d) (halts : HaltsFollow IsRun d) (points : PointsFollow IsRun d who) (choices : ℕ → Option Choice) (answers : A) (steps mid : ℕ) (cheap : mid ≤ steps + machine_cost is_there store.entries) (disk : D) (h0 : Option (List ℕ)) (open_now : IsOpen d store disk) (is_run : IsRun store.entries) (there : StoreState) (same : there ≡ store) where
+  -- it was carried out
+  pub advances-changed : (disk' : D) (store' behind : StoreState) (h1 : Option (List ℕ)) (new : Surroundings A) → behind ≡ store' → Advances who (row_of g there.entries l).turn finished (around choices answers mid) new 0 (Carries IsRun d disk disk' there store' h0 h1) → Advances who (row_of g store.entries l).turn finished (around choices answers steps) new (machine_cost is_there store.entries) (Carries IsRun d disk disk' store behind h0 h1)
+  advances-changed disk' store' behind h1 new same_behind p =
+      Advances-later d who laws points choices answers disk store h0 open_now (row_of g store.entries l).turn (row_of g store.entries l).turn refl steps mid (machine_cost is_there store.entries) cheap finished new disk' behind h1
+      (subst (λ (s : StoreState). Advances who (row_of g store.entries l).turn finished (around choices answers mid) new 0 (Carries IsRun d disk disk' store s h0 h1)) (sym same_behind)
+      (subst (λ (s : StoreState). Advances who (row_of g s.entries l).turn finished (around choices answers mid) new 0 (Carries IsRun d disk disk' s store' h0 h1)) same p))
 
-    -- it halted somewhere
-    pub halted-changed : (disk disk' : D) (there store' : StoreState) (h0 h1 : Option (List ℕ)) (why : Halt) (new : Surroundings A) → there ≡ store → IsRun store.entries → Stops IsRun d who disk disk' there.entries h0 h1 why (row_of g there.entries l).turn (around choices answers mid) new 0 → IsHalted d who g is_there why (Says l) (standpoint disk store h0 (around choices answers steps)) (standpoint disk' store' h1 new)
-    halted-changed disk disk' there store' h0 h1 why new same is_run q = record {
-      beside = machine_cost is_there store.entries;
-      stops =
-          Stops-later who choices answers IsRun d disk disk' store.entries h0 h1 why (row_of g store.entries l).turn (turn g store.entries (Says l)) steps mid (machine_cost is_there store.entries) new (turn-line g store.entries l accepted) cheap
-          (subst (λ (s : StoreState). Stops IsRun d who disk disk' s.entries h0 h1 why (row_of g s.entries l).turn (around choices answers mid) new 0) same q);
-      costs = cost-machine g is_there store.entries store.entries l needs accepted;
-      on_run = λ needed. inl is_run;
-    }
+  -- it halted somewhere
+  pub halted-changed : (disk' : D) (store' : StoreState) (h1 : Option (List ℕ)) (why : Halt) (new : Surroundings A) → Stops IsRun d who disk disk' there.entries h0 h1 why (row_of g there.entries l).turn (around choices answers mid) new 0 → IsHalted d who g is_there why (Says l) (standpoint disk store h0 (around choices answers steps)) (standpoint disk' store' h1 new)
+  halted-changed disk' store' h1 why new q = record {
+    beside = machine_cost is_there store.entries;
+    stops =
+        Stops-later d who laws points choices answers disk store h0 open_now (turn g store.entries (Says l)) (row_of g store.entries l).turn (turn-line g store.entries l accepted) steps mid (machine_cost is_there store.entries) cheap disk' h1 why new
+        (subst (λ (s : StoreState). Stops IsRun d who disk disk' s.entries h0 h1 why (row_of g s.entries l).turn (around choices answers mid) new 0) same q);
+    costs = cost-machine g is_there store.entries store.entries l needs accepted;
+    on_run = λ needed. inl is_run;
+  }
 
-    -- memory ran out behind all of it
-    pub halted-unheard : (disk disk' : D) (there store' behind : StoreState) (h0 h1 : Option (List ℕ)) (choices' : ℕ → Option Choice) (answers' : A) (steps' : ℕ) → there ≡ store → IsRun store.entries → Advances who (row_of g there.entries l).turn finished (around choices answers mid) (around choices' answers' steps') 0 (Carries IsRun d disk disk' there store' h0 h1) → IsHalted d who g is_there halt.NoMemory (Says l) (standpoint disk store h0 (around choices answers steps)) (standpoint disk' behind h1 (around choices' answers' steps'))
-    halted-unheard disk disk' there store' behind h0 h1 choices' answers' steps' same is_run p =
-        halted-changed disk disk' there behind h0 h1 halt.NoMemory (around choices' answers' steps') same is_run
-        (Stops-last IsRun d who halts points (row_of g there.entries l).turn (around choices answers mid) choices' answers' steps' disk disk' there store' h0 h1 p)
+  -- memory ran out behind all of it
+  pub halted-unheard : (disk' : D) (store' behind : StoreState) (h1 : Option (List ℕ)) (choices' : ℕ → Option Choice) (answers' : A) (steps' : ℕ) → Advances who (row_of g there.entries l).turn finished (around choices answers mid) (around choices' answers' steps') 0 (Carries IsRun d disk disk' there store' h0 h1) → IsHalted d who g is_there halt.NoMemory (Says l) (standpoint disk store h0 (around choices answers steps)) (standpoint disk' behind h1 (around choices' answers' steps'))
+  halted-unheard disk' store' behind h1 choices' answers' steps' p =
+      halted-changed disk' behind h1 halt.NoMemory (around choices' answers' steps')
+      (Stops-last IsRun d who halts points (row_of g there.entries l).turn (around choices answers mid) choices' answers' steps' disk disk' there store' h0 h1 p)
 
 -- what questions know of the records from before
 pub heard-before : (Q : Type 0) (knows : Q → List Record → Type 0) (q q' : Q) (store there new : StoreState) (before entries more : List Record) (known : ℕ) → knows q store.entries → q' ≡ q → there ≡ store → before ≡ there.entries → known ≡ length before → entries ≡ new.entries → new.entries ≡ there.entries ++ more → knows q' (take known entries)

@@ -39,8 +39,8 @@ module _ {D A : Type 0} (d : Ghosts D) (who : Answering A) (choices : ℕ → Op
   -- they halted
   pub event-stop : (halts : HaltsFollow IsRun d) (why : Halt) (old new : D) (history : List Record) (h0 h1 : Option (List ℕ)) → HaltsIn (StopsBetween IsRun d old new history h0 h1 why) (event_effects m i) → Stops IsRun d who old new history h0 h1 why from (around choices answers steps) (around choices answers steps) 0
   event-stop halts why old new history h0 h1 h =
-      Stops-does IsRun d who halts choices answers old new history h0 h1 why from steps steps 0 (event_effects m i) h.done h.undone is h.are_effects
-      (quiet-event (records_from m (i ∷ [])) (event_text m.events) h.done h.undone (plain.0, plain.2) plain.1 h.are_effects) h.stopped (omega arith)
+      (Stops-does IsRun d who halts choices answers old new history h0 h1 why from steps steps 0 (event_effects m i) h.done h.undone is h.are_effects
+      (quiet-event (records_from m (i ∷ [])) (event_text m.events) h.done h.undone (plain.0, plain.2) plain.1 h.are_effects) h.stopped (omega arith)).stops
 
   pub event-stops : {T : Type 0} (halts : HaltsFollow IsRun d) (result : Result T Halt) (old new : D) (history : List Record) (h0 h1 : Option (List ℕ)) → IfErr result (λ why. HaltsIn (StopsBetween IsRun d old new history h0 h1 why) (event_effects m i)) → IfErr result (λ why. Stops IsRun d who old new history h0 h1 why from (around choices answers steps) (around choices answers steps) 0)
   event-stops halts (Ok x) old new history h0 h1 halted = tt

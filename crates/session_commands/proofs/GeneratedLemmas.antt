@@ -1,5 +1,5 @@
 -- The generator's line as points of a session.
-use Rattle.std.proofs.Common.{◌≡◌, ◌⊎◌, inl, inr, ℕ, ◌+◌, ◌≤◌, ◌++◌, Bool, false, List, [], ◌∷◌, Option, Some, None, option_map, Result, Ok, Err, OnOk, refl, sym, ap, ◌∙◌, subst, append_assoc, append-nil, arith, if◌then◌else◌, is_none}
+use Rattle.std.proofs.Common.{◌≡◌, ◌⊎◌, inl, inr, ℕ, ◌+◌, ◌≤◌, ◌++◌, Bool, List, [], ◌∷◌, Option, Some, None, option_map, Result, Ok, Err, OnOk, refl, sym, ap, ◌∙◌, subst, append_assoc, append-nil, arith, if◌then◌else◌, is_none}
 use Rattle.std.proofs.lemmas.Grind.{flat_map-append}
 use Rattle.arn_base.specs.declared.boxes.Choice.{Choice}
 use Rattle.arn_base.specs.declared.disk.Disk.{Ghosts}
@@ -8,28 +8,26 @@ use Rattle.arn_model.specs.Kernel.{Machine}
 use Rattle.arn_model.specs.Run.{Input, File, Boot, after_input, machine_from}
 use Rattle.arn_lines.specs.declared.answer.Refusal.{Refusal}
 use Rattle.arn_lines.specs.declared.answer.RunEnd.{RunEnd}
-use Rattle.arn_lines.specs.Texts.{refusal_text}
 use Rattle.arn_lines.specs.declared.line.TheConstants.{MOST_RUN}
 use Rattle.arn_commands.specs.declared.command.Command.TheVariants.{Generates}
 use Rattle.log_model.specs.Laws.{BehindAppend, NamedAppend}
-use Rattle.log_model.specs.Records.{IsRun, records_from, reply_behind}
+use Rattle.log_model.specs.Records.{IsRun, records_from}
 use Rattle.log_store.specs.Stores.{StoreState}
-use Rattle.guest_legs.specs.Legs.{AreInRange, Picked, PickedBy}
+use Rattle.guest_legs.specs.Legs.{Picked}
 use Rattle.session_effects.specs.Carrying.{StopsBetween}
 use Rattle.session_effects.specs.Effects.{Effect, Prints, committed, records_of}
 use Rattle.session_effects.specs.Laws.{EffectsFollow, HaltsFollow}
 use Rattle.session_effects.specs.Printing.{StopsPut}
-use Rattle.session_effects.specs.Standing.{Carries}
+use Rattle.session_effects.specs.Standing.{Carries, IsOpen}
 use Rattle.session_effects.specs.declared.halt.Halt.{Halt}
 use Rattle.session_effects.specs.declared.halt.Halt.TheVariants as halt
 use Rattle.session_runs.specs.Laws.{PointsFollow}
-use Rattle.session_runs.specs.Points.{Advances, Stops, Surroundings, around, slices_cost, slices_in}
+use Rattle.session_runs.specs.Points.{Advances, Stops, Surroundings, around}
 use Rattle.session_runs.specs.Quiet.{quiet_turn, quietly, then_told}
 use Rattle.session_runs.specs.Ready.{machine_of}
 use Rattle.session_runs.specs.Runs.{begun, ended, ends, run, unless_ended}
-use Rattle.session_runs.specs.Touches.{Answering, Touch, TouchedBy, asks_in, named_at}
-use Rattle.history_model.specs.Unplugged.{unplugged_in}
-use Rattle.session_runs.specs.Turns.{Point, Turn, behind, cut_off, finished, prints}
+use Rattle.session_runs.specs.Touches.{Answering, named_at}
+use Rattle.session_runs.specs.Turns.{Turn, behind, cut_off, finished, prints}
 use Rattle.session_commands.specs.Answering.{HaltsIn, IsAnswered, IsHalted}
 use Rattle.session_runs.specs.Standing.{standpoint}
 use Rattle.session_commands.specs.Cost.{cost, machine_cost}
@@ -41,7 +39,7 @@ use Rattle.session_commands.proofs.AnswerLemmas.{put-nothing}
 use Rattle.session_commands.proofs.ChangeLemmas.{Advances-later, Stops-later}
 use Rattle.session_commands.proofs.LineLemmas.{plain-boot, plain-file, plain-typed}
 use Rattle.session_commands.proofs.QuietLemmas.{AllPlain, AreCommitted, commits-are, plain-append, plain-committed, plain-done, plain-next}
-use Rattle.session_commands.proofs.TurnLemmas.{Advances-prints, IsStill, PickedBy-none, no-commit, spent-still, still-untouched}
+use Rattle.session_commands.proofs.TurnLemmas.{Advances-prints, IsStill, PickedBy-none, Stops-prints, spent-still, still-untouched}
 use Rattle.session_model.specs.Questions.{Told}
 
 -- a turn without slices touches nothing, leaves none, and names none
@@ -138,19 +136,13 @@ module _ {D A : Type 0} (d : Ghosts D) (who : Answering A) (names : NamedAppend)
         executed = omega arith;
       }
 
--- what the generator's line does that is refused, and that isn't
+-- what the generator's line does that isn't refused
 module _ (g : Given) (history : List Record) (image typed : List ℕ) (processes : ℕ) where
-  pub turn-refused : (why : Refusal) → generator_refusal history ≡ Some why → turn g history (Generates image typed processes) ≡ prints (refusal_text why)
-  turn-refused why is = ap (λ (o : Option Refusal). turn_unless o (generator_turn g.told history image typed processes)) is
-
-  pub needs-refused : (why : Refusal) → generator_refusal history ≡ Some why → needs_machine g history (Generates image typed processes) ≡ false
-  needs-refused why is = ap (λ (o : Option Refusal). is_none o) is
-
   pub turn-generator : generator_refusal history ≡ None → turn g history (Generates image typed processes) ≡ generator_turn g.told history image typed processes
   turn-generator is = ap (λ (o : Option Refusal). turn_unless o (generator_turn g.told history image typed processes)) is
 
   -- what it costs: the machine, and its telling by the history behind it
-  cost-generator : (is_there : Bool) (more : List Record) → generator_refusal history ≡ None → machine_cost is_there history + g.told.generated_cost more ≤ cost g is_there history more (Generates image typed processes)
+  cost-generator : (is_there : Bool) (more : List Record) → generator_refusal history ≡ None → machine_cost is_there history + g.told.generated_cost more ≡ cost g is_there history more (Generates image typed processes)
   cost-generator is_there more is =
       let made : (if needs_machine g history (Generates image typed processes) then machine_cost is_there history else 0) ≡ machine_cost is_there history = ap (λ (o : Option Refusal). if is_none o then machine_cost is_there history else 0) is in
       let asked : (if is_none (generator_refusal history) then g.told.generated_cost more else 0) ≡ g.told.generated_cost more = ap (λ (o : Option Refusal). if is_none o then g.told.generated_cost more else 0) is in
@@ -159,127 +151,82 @@ module _ (g : Given) (history : List Record) (image typed : List ℕ) (processes
   pub cost-made : (is_there : Bool) (more : List Record) → generator_refusal history ≡ None → machine_cost is_there history ≤ cost g is_there history more (Generates image typed processes)
   cost-made is_there more is = omega (arith, cost-generator is_there more is)
 
--- it halted in a text behind all else, which leaves this history
-record HaltsTold {D A : Type 0} (d : Ghosts D) (who : Answering A) (from : Point) (u w : Surroundings A) (cost : ℕ) (old new : D) (history there : List Record) (h0 h1 : Option (List ℕ)) (why : Halt) : Type 0 where
-  pub stops : Stops IsRun d who old new history h0 h1 why from u w cost
-  pub leaves : history ++ committed (from (named_at stops.touches stops.slices ++ named_at stops.lost_touches stops.lost)).effects ≡ there
-
-module _ {D A : Type 0} (d : Ghosts D) (who : Answering A) (halts : HaltsFollow IsRun d) where
-  halts-told : (from : Point) (text : List ℕ) (choices choices' : ℕ → Option Choice) (answers answers' : A) (steps mid there_steps steps' cost : ℕ) (old new : D) (s0 s1 : StoreState) (h0 there h1 : Option (List ℕ)) (why : Halt) → Advances who from (prints text) (around choices answers mid) (around choices' answers' there_steps) 0 (Carries IsRun d old new s0 s1 h0 there) → StopsPut why text there h1 → mid + steps' ≤ steps + cost + there_steps
-      → HaltsTold d who from (around choices answers steps) (around choices' answers' steps') cost old new s0.entries s1.entries h0 h1 why
-  halts-told from text choices choices' answers answers' steps mid there_steps steps' cost old new s0 s1 h0 there h1 why p put cheap =
-      let xs : List Picked = named_at p.touches p.slices in
-      record {
-        stops = record {
-          slices = p.slices;
-          lost = [];
-          part = [];
-          touches = p.touches;
-          lost_touches = [];
-          part_touches = [];
-          done = p.effects ++ [];
-          undone = Prints text ∷ [];
-          are_effects = ap (λ (t : Turn). t.effects) (p.leads []) ∙ ap (λ (e : List Effect). e ++ Prints text ∷ []) (sym (append-nil p.effects));
-          are_touches = ap (λ (t : Turn). t.touches) (p.leads []);
-          stopped =
-              halts.behind old new new s0.entries s1.entries h0 there h1 why p.effects [] (Prints text ∷ []) p.carries.entries p.carries.out
-              (halts.text new s1.entries there h1 why text put);
-          names = ap (λ (e : List Effect). slices_in (committed e)) (append-nil p.effects) ∙ p.names;
-          unplugged = ap (λ (e : List Effect). unplugged_in (committed e)) (append-nil p.effects) ∙ p.unplugged;
-          begins = ap (λ (e : List Effect). reply_behind (committed e)) (append-nil p.effects) ∙ p.begins;
-          names_lost = λ entries at. absurd (no-commit text entries [] at);
-          unplugged_lost = λ entries at. absurd (no-commit text entries [] at);
-          without = inl refl;
-          spent = inr (ap (λ (t : Turn). t.left) (p.leads []), inr refl);
-          many = p.picked.many;
-          picked =
-              subst (λ (x : List Touch). PickedBy choices choices' (asks_in x) (p.slices ++ [])) (sym (append-nil p.touches))
-              (subst (λ (x : List Picked). PickedBy choices choices' (asks_in p.touches) x) (sym (append-nil p.slices)) p.picked);
-          in_range =
-              subst (λ (x : List Touch). AreInRange (asks_in x) (p.slices ++ [])) (sym (append-nil p.touches))
-              (subst (λ (x : List Picked). AreInRange (asks_in p.touches) x) (sym (append-nil p.slices)) p.in_range);
-          touched =
-              subst (λ (x : List Touch). TouchedBy who x (p.slices ++ []) answers answers') (sym (append-nil p.touches))
-              (subst (λ (x : List Picked). TouchedBy who p.touches x answers answers') (sym (append-nil p.slices)) p.touched);
-          one_part = omega arith;
-          by_memory = inl refl;
-          unmade = inl refl;
-          executed = omega (arith, p.executed, cheap, ap slices_cost (append-nil xs));
-        };
-        leaves =
-            ap (λ (t : Turn). s0.entries ++ committed t.effects) (p.leads [])
-            ∙ ap (λ (x : List Record). s0.entries ++ x) (flat_map-append records_of p.effects (Prints text ∷ []) ∙ append-nil (committed p.effects))
-            ∙ sym p.carries.entries;
-      }
-
-module _ {D A : Type 0} (d : Ghosts D) (who : Answering A) (g : Given) (is_there : Bool) (image typed : List ℕ) (processes : ℕ) (store : StoreState) (accepted : generator_refusal store.entries ≡ None) (choices : ℕ → Option Choice) (answers : A) (steps mid : ℕ) (cheap : mid ≤ steps + machine_cost is_there store.entries) where
-  -- what it did, by a store that is still the same
-  pub advances-kept : (disk disk' : D) (there s1 kept : StoreState) (held holds : Option (List ℕ)) (new : Surroundings A) → kept ≡ s1
-      → Advances who (generator_turn g.told there.entries image typed processes) (prints (g.told.generated s1.entries processes)) (around choices answers mid) new 0 (Carries IsRun d disk disk' there s1 held holds)
-      → Advances who (generator_turn g.told there.entries image typed processes) (prints (g.told.generated kept.entries processes)) (around choices answers mid) new 0 (Carries IsRun d disk disk' there kept held holds)
-  advances-kept disk disk' there s1 kept held holds new same p =
-      subst (λ (s : StoreState). Advances who (generator_turn g.told there.entries image typed processes) (prints (g.told.generated s.entries processes)) (around choices answers mid) new 0 (Carries IsRun d disk disk' there s held holds)) (sym same) p
+-- the generator's line, behind the machine that was made or was there
+module _ {D A : Type 0} (d : Ghosts D) (who : Answering A) (g : Given) (is_there : Bool) (image typed : List ℕ) (processes : ℕ) (store : StoreState) (accepted : generator_refusal store.entries ≡ None) (laws : EffectsFollow IsRun d) (halts : HaltsFollow IsRun d) (points : PointsFollow IsRun d who) (choices : ℕ → Option Choice) (answers : A) (steps mid : ℕ) (cheap : mid ≤ steps + machine_cost is_there store.entries) (disk : D) (h0 : Option (List ℕ)) (open_now : IsOpen d store disk) (is_run : IsRun store.entries) (there : StoreState) (same : there ≡ store) where
+  -- what it did before it is told, by a store that is still the same
+  untold : (disk' : D) (s1 kept : StoreState) (holds : Option (List ℕ)) (new : Surroundings A) → kept ≡ s1
+      → Advances who (generator_turn g.told there.entries image typed processes) (prints (g.told.generated s1.entries processes)) (around choices answers mid) new 0 (Carries IsRun d disk disk' there s1 h0 holds)
+      → Advances who (turn g store.entries (Generates image typed processes)) (prints (g.told.generated kept.entries processes)) (around choices answers steps) new (machine_cost is_there store.entries) (Carries IsRun d disk disk' store kept h0 holds)
+  untold disk' s1 kept holds new same_kept p =
+      Advances-later d who laws points choices answers disk store h0 open_now (turn g store.entries (Generates image typed processes)) (generator_turn g.told store.entries image typed processes) (turn-generator g store.entries image typed processes accepted) steps mid (machine_cost is_there store.entries) cheap (prints (g.told.generated kept.entries processes)) new disk' kept holds
+      (subst (λ (s : StoreState). Advances who (generator_turn g.told store.entries image typed processes) (prints (g.told.generated s.entries processes)) (around choices answers mid) new 0 (Carries IsRun d disk disk' store s h0 holds)) (sym same_kept)
+      (subst (λ (s : StoreState). Advances who (generator_turn g.told s.entries image typed processes) (prints (g.told.generated s1.entries processes)) (around choices answers mid) new 0 (Carries IsRun d disk disk' s s1 h0 holds)) same p))
 
   -- it was carried out and told
-  pub answered-told : {T : Type 0} (laws : EffectsFollow IsRun d) (points : PointsFollow IsRun d who) (result : Result T Halt) (disk disk' : D) (there s1 s2 : StoreState) (h0 mid_held h1 : Option (List ℕ)) (choices' : ℕ → Option Choice) (answers' : A) (there_steps steps' : ℕ) → there ≡ store → s2 ≡ s1 → IsRun store.entries
-      → Advances who (generator_turn g.told there.entries image typed processes) (prints (g.told.generated s1.entries processes)) (around choices answers mid) (around choices' answers' there_steps) 0 (Carries IsRun d disk disk' there s1 h0 mid_held) → steps' ≤ there_steps + g.told.generated_cost s1.entries → OnOk result (h1 ≡ option_map (λ before. before ++ g.told.generated s1.entries processes) mid_held)
+  pub answered-told : {T : Type 0} (result : Result T Halt) (disk' : D) (s1 kept s2 : StoreState) (mid_held h1 : Option (List ℕ)) (choices' : ℕ → Option Choice) (answers' : A) (there_steps steps' : ℕ) → kept ≡ s1 → s2 ≡ kept
+      → Advances who (generator_turn g.told there.entries image typed processes) (prints (g.told.generated s1.entries processes)) (around choices answers mid) (around choices' answers' there_steps) 0 (Carries IsRun d disk disk' there s1 h0 mid_held) → steps' ≤ there_steps + g.told.generated_cost kept.entries → OnOk result (h1 ≡ option_map (λ before. before ++ g.told.generated kept.entries processes) mid_held)
       → OnOk result (IsAnswered d who g is_there (Generates image typed processes) (standpoint disk store h0 (around choices answers steps)) (standpoint disk' s2 h1 (around choices' answers' steps')))
-  answered-told laws points (Err e) disk disk' there s1 s2 h0 mid_held h1 choices' answers' there_steps steps' same same_behind is_run p telling put = tt
-  answered-told laws points (Ok x) disk disk' there s1 s2 h0 mid_held h1 choices' answers' there_steps steps' same same_behind is_run p telling put =
-      let point = generator_turn g.told store.entries image typed processes in
-      let text = g.told.generated s1.entries processes in
-      let u = around choices answers mid in
+  answered-told (Err e) disk' s1 kept s2 mid_held h1 choices' answers' there_steps steps' same_kept same_behind p telling put = tt
+  answered-told (Ok x) disk' s1 kept s2 mid_held h1 choices' answers' there_steps steps' same_kept same_behind p telling put =
+      let from = turn g store.entries (Generates image typed processes) in
+      let text = g.told.generated kept.entries processes in
+      let u = around choices answers steps in
       let v = around choices' answers' there_steps in
       let w = around choices' answers' steps' in
-      let asked = g.told.generated_cost s1.entries in
-      let all = cost g is_there store.entries s1.entries (Generates image typed processes) in
-      let first : Advances who point (prints text) u v 0 (Carries IsRun d disk disk' store s1 h0 mid_held) = subst (λ (s : StoreState). Advances who (generator_turn g.told s.entries image typed processes) (prints text) u v 0 (Carries IsRun d disk disk' s s1 h0 mid_held)) same p in
-      let second = Advances-prints IsRun d who laws choices' answers' disk' s1 mid_held h1 (prints text) there_steps steps' asked text refl first.carries.stays_open put telling in
-      let both = (points.advances point (prints text) finished u v w 0 asked disk disk' disk' store s1 s1 h0 mid_held h1 first second).advances in
-      let whole = Advances-later who choices answers point finished steps mid (0 + asked) all w (Carries IsRun d disk disk' store s1 h0 h1) (omega (arith, cheap, cost-generator g store.entries image typed processes is_there s1.entries accepted)) both in
-      subst (λ (s : StoreState). IsAnswered d who g is_there (Generates image typed processes) (standpoint disk store h0 (around choices answers steps)) (standpoint disk' s h1 w)) (sym same_behind)
+      let asked = g.told.generated_cost kept.entries in
+      let first = untold disk' s1 kept mid_held v same_kept p in
+      let second = Advances-prints IsRun d who laws choices' answers' disk' kept mid_held h1 (prints text) there_steps steps' asked text refl first.carries.stays_open put telling in
+      subst (λ (s : StoreState). IsAnswered d who g is_there (Generates image typed processes) (standpoint disk store h0 u) (standpoint disk' s h1 w)) (sym same_behind)
       (record {
-        advances = subst (λ (from : Point). Advances who from finished (around choices answers steps) w all (Carries IsRun d disk disk' store s1 h0 h1)) (sym (turn-generator g store.entries image typed processes accepted)) whole;
+        advances =
+            subst (λ (n : ℕ). Advances who from finished u w n (Carries IsRun d disk disk' store kept h0 h1)) (cost-generator g store.entries image typed processes is_there kept.entries accepted)
+            (points.advances from (prints text) finished u v w (machine_cost is_there store.entries) asked disk disk' disk' store kept kept h0 mid_held h1 first second).advances;
         on_run = λ needed. is_run;
       })
 
-  module _ (halts : HaltsFollow IsRun d) where
-    -- it halted before it was told
-    pub halted-untold : (disk disk' : D) (there s1 : StoreState) (h0 h1 : Option (List ℕ)) (why : Halt) (new : Surroundings A) → there ≡ store → IsRun store.entries → Stops IsRun d who disk disk' there.entries h0 h1 why (generator_turn g.told there.entries image typed processes) (around choices answers mid) new 0
-        → IsHalted d who g is_there why (Generates image typed processes) (standpoint disk store h0 (around choices answers steps)) (standpoint disk' s1 h1 new)
-    halted-untold disk disk' there s1 h0 h1 why new same is_run q = record {
-      beside = machine_cost is_there store.entries;
-      stops =
-          Stops-later who choices answers IsRun d disk disk' store.entries h0 h1 why (generator_turn g.told store.entries image typed processes) (turn g store.entries (Generates image typed processes)) steps mid (machine_cost is_there store.entries) new (turn-generator g store.entries image typed processes accepted) cheap
-          (subst (λ (s : StoreState). Stops IsRun d who disk disk' s.entries h0 h1 why (generator_turn g.told s.entries image typed processes) (around choices answers mid) new 0) same q);
-      costs = cost-made g store.entries image typed processes is_there _ accepted;
-      on_run = λ needed. inl is_run;
-    }
+  -- it halted before it was told
+  pub halted-untold : (disk' : D) (s1 : StoreState) (h1 : Option (List ℕ)) (why : Halt) (new : Surroundings A) → Stops IsRun d who disk disk' there.entries h0 h1 why (generator_turn g.told there.entries image typed processes) (around choices answers mid) new 0
+      → IsHalted d who g is_there why (Generates image typed processes) (standpoint disk store h0 (around choices answers steps)) (standpoint disk' s1 h1 new)
+  halted-untold disk' s1 h1 why new q = record {
+    beside = machine_cost is_there store.entries;
+    stops =
+        Stops-later d who laws points choices answers disk store h0 open_now (turn g store.entries (Generates image typed processes)) (generator_turn g.told store.entries image typed processes) (turn-generator g store.entries image typed processes accepted) steps mid (machine_cost is_there store.entries) cheap disk' h1 why new
+        (subst (λ (s : StoreState). Stops IsRun d who disk disk' s.entries h0 h1 why (generator_turn g.told s.entries image typed processes) (around choices answers mid) new 0) same q);
+    costs = cost-made g store.entries image typed processes is_there _ accepted;
+    on_run = λ needed. inl is_run;
+  }
 
-    -- it halted where it was told
-    pub halted-told : (disk disk' : D) (there s1 s2 : StoreState) (h0 mid_held h1 : Option (List ℕ)) (why : Halt) (choices' : ℕ → Option Choice) (answers' : A) (there_steps steps' : ℕ) → there ≡ store → IsRun store.entries
-        → Advances who (generator_turn g.told there.entries image typed processes) (prints (g.told.generated s1.entries processes)) (around choices answers mid) (around choices' answers' there_steps) 0 (Carries IsRun d disk disk' there s1 h0 mid_held) → steps' ≤ there_steps + g.told.generated_cost s1.entries → StopsPut why (g.told.generated s1.entries processes) mid_held h1
-        → IsHalted d who g is_there why (Generates image typed processes) (standpoint disk store h0 (around choices answers steps)) (standpoint disk' s2 h1 (around choices' answers' steps'))
-    halted-told disk disk' there s1 s2 h0 mid_held h1 why choices' answers' there_steps steps' same is_run p telling put =
-        let text = g.told.generated s1.entries processes in
-        let all = machine_cost is_there store.entries + g.told.generated_cost s1.entries in
-        let from = turn g store.entries (Generates image typed processes) in
-        let v = around choices' answers' there_steps in
-        let first : Advances who from (prints text) (around choices answers mid) v 0 (Carries IsRun d disk disk' store s1 h0 mid_held) =
-        subst (λ (x : Point). Advances who x (prints text) (around choices answers mid) v 0 (Carries IsRun d disk disk' store s1 h0 mid_held)) (sym (turn-generator g store.entries image typed processes accepted))
-        (subst (λ (s : StoreState). Advances who (generator_turn g.told s.entries image typed processes) (prints text) (around choices answers mid) v 0 (Carries IsRun d disk disk' s s1 h0 mid_held)) same p) in
-        let halted = halts-told d who halts from text choices choices' answers answers' steps mid there_steps steps' all disk disk' store s1 h0 mid_held h1 why first put (omega (arith, cheap, telling)) in
-        record {
-          beside = all;
-          stops = halted.stops;
-          costs = subst (λ (h : List Record). all ≤ cost g is_there store.entries h (Generates image typed processes)) (sym halted.leaves) (cost-generator g store.entries image typed processes is_there s1.entries accepted);
-          on_run = λ needed. inl is_run;
-        }
+  -- it halted where it was told
+  pub halted-told : (disk' : D) (s1 kept s2 : StoreState) (mid_held h1 : Option (List ℕ)) (why : Halt) (choices' : ℕ → Option Choice) (answers' : A) (there_steps steps' : ℕ) → kept ≡ s1
+      → Advances who (generator_turn g.told there.entries image typed processes) (prints (g.told.generated s1.entries processes)) (around choices answers mid) (around choices' answers' there_steps) 0 (Carries IsRun d disk disk' there s1 h0 mid_held) → steps' ≤ there_steps + g.told.generated_cost kept.entries → StopsPut why (g.told.generated kept.entries processes) mid_held h1
+      → IsHalted d who g is_there why (Generates image typed processes) (standpoint disk store h0 (around choices answers steps)) (standpoint disk' s2 h1 (around choices' answers' steps'))
+  halted-told disk' s1 kept s2 mid_held h1 why choices' answers' there_steps steps' same_kept p telling put =
+      let from = turn g store.entries (Generates image typed processes) in
+      let text = g.told.generated kept.entries processes in
+      let u = around choices answers steps in
+      let v = around choices' answers' there_steps in
+      let w = around choices' answers' steps' in
+      let asked = g.told.generated_cost kept.entries in
+      let all = machine_cost is_there store.entries + asked in
+      let first = untold disk' s1 kept mid_held v same_kept p in
+      let second = Stops-prints IsRun d who halts choices' answers' disk' kept.entries mid_held h1 why (prints text) there_steps steps' asked text refl put telling in
+      let both = points.stops from (prints text) u v w (machine_cost is_there store.entries) asked disk disk' disk' store kept h0 mid_held h1 why first second.stops in
+      let xs = named_at first.touches first.slices in
+      let leads : from (named_at both.stops.touches both.stops.slices ++ named_at both.stops.lost_touches both.stops.lost) ≡ behind first.effects first.touches (prints text []) = ap from (both.slices ∙ ap (λ (x : List Picked). xs ++ x) second.slices) ∙ first.leads [] in
+      let leaves : store.entries ++ committed (from (named_at both.stops.touches both.stops.slices ++ named_at both.stops.lost_touches both.stops.lost)).effects ≡ kept.entries =
+      ap (λ (t : Turn). store.entries ++ committed t.effects) leads
+      ∙ ap (λ (x : List Record). store.entries ++ x) (flat_map-append records_of first.effects (Prints text ∷ []) ∙ append-nil (committed first.effects))
+      ∙ sym first.carries.entries in
+      record {
+        beside = all;
+        stops = both.stops;
+        costs = subst (λ (h : List Record). all ≤ cost g is_there store.entries h (Generates image typed processes)) (sym leaves) (omega (arith, cost-generator g store.entries image typed processes is_there kept.entries accepted));
+        on_run = λ needed. inl is_run;
+      }
 
-    -- memory ran out before anything of its text was put
-    pub halted-unheard : (disk disk' : D) (there s1 s2 : StoreState) (held holds : Option (List ℕ)) (choices' : ℕ → Option Choice) (answers' : A) (steps' : ℕ) → there ≡ store → IsRun store.entries
-        → Advances who (generator_turn g.told there.entries image typed processes) (prints (g.told.generated s1.entries processes)) (around choices answers mid) (around choices' answers' steps') 0 (Carries IsRun d disk disk' there s1 held holds)
-        → IsHalted d who g is_there halt.NoMemory (Generates image typed processes) (standpoint disk store held (around choices answers steps)) (standpoint disk' s2 holds (around choices' answers' steps'))
-    halted-unheard disk disk' there s1 s2 held holds choices' answers' steps' same is_run p =
-        halted-told disk disk' there s1 s2 held holds holds halt.NoMemory choices' answers' steps' steps' same is_run p (omega arith)
-        (put-nothing (g.told.generated s1.entries processes) holds)
+  -- memory ran out before anything of its text was put
+  pub halted-unheard : (disk' : D) (s1 s2 : StoreState) (holds : Option (List ℕ)) (choices' : ℕ → Option Choice) (answers' : A) (steps' : ℕ)
+      → Advances who (generator_turn g.told there.entries image typed processes) (prints (g.told.generated s1.entries processes)) (around choices answers mid) (around choices' answers' steps') 0 (Carries IsRun d disk disk' there s1 h0 holds)
+      → IsHalted d who g is_there halt.NoMemory (Generates image typed processes) (standpoint disk store h0 (around choices answers steps)) (standpoint disk' s2 holds (around choices' answers' steps'))
+  halted-unheard disk' s1 s2 holds choices' answers' steps' p =
+      halted-told disk' s1 s1 s2 holds holds halt.NoMemory choices' answers' steps' steps' refl p (omega arith) (put-nothing (g.told.generated s1.entries processes) holds)

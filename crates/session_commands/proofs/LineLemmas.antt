@@ -15,7 +15,8 @@ use Rattle.arn_lines.specs.declared.answer.RunEnd.{RunEnd}
 use Rattle.arn_lines.specs.declared.line.Line.{Line}
 use Rattle.arn_lines.specs.declared.line.Line.TheVariants as line
 use Rattle.arn_lines.specs.Texts.{event_text, refusal_text}
-use Rattle.arn_commands.specs.declared.command.Command.TheVariants.{Says}
+use Rattle.arn_commands.specs.declared.command.Command.{Command}
+use Rattle.arn_commands.specs.declared.command.Command.TheVariants.{Generates, PassedOver, Says}
 use Rattle.session_effects.specs.Carrying.{IsAtCommit}
 use Rattle.session_effects.specs.Effects.{Prints, committed}
 use Rattle.session_runs.specs.Points.{slices_in}
@@ -25,8 +26,9 @@ use Rattle.history_model.specs.Unplugged.{unplugged_in}
 use Rattle.session_runs.specs.Turns.{Point, cut_off, does, finished, prints}
 use Rattle.session_commands.specs.Cost.{cost, machine_cost}
 use Rattle.session_commands.specs.Events.{event_effects, input_of, unplugging}
+use Rattle.session_commands.specs.Generator.{generator_turn}
 use Rattle.session_commands.specs.Given.{Given}
-use Rattle.session_commands.specs.Lines.{needs_machine, turn, turn_unless}
+use Rattle.session_commands.specs.Lines.{command_refusal, needs_machine, turn, turn_unless}
 use Rattle.session_commands.specs.Rows.{LineTells, row_of}
 use Rattle.session_commands.specs.declared.events.Incoming.{Incoming}
 use Rattle.session_commands.specs.declared.events.Incoming.TheVariants as incoming
@@ -166,19 +168,32 @@ others-are-answered g history l file boot typed run unplug = refl
 pub still-finished : IsStill finished
 still-finished = still-untouched finished refl (inr refl) (λ entries at. absurd (none-next entries at))
 
--- a refused line prints why; one that isn't goes on
-pub turn-refused : (g : Given) (history : List Record) (l : Line) (why : Refusal) → (row_of g history l).refusal ≡ Some why → turn g history (Says l) ≡ prints (refusal_text why)
-turn-refused g history l why is = ap (λ (o : Option Refusal). turn_unless o (row_of g history l).turn) is
-
-pub turn-line : (g : Given) (history : List Record) (l : Line) → (row_of g history l).refusal ≡ None → turn g history (Says l) ≡ (row_of g history l).turn
-turn-line g history l is = ap (λ (o : Option Refusal). turn_unless o (row_of g history l).turn) is
-
 and-false : (b : Bool) → (b && false) ≡ false
 and-false true = refl
 and-false false = refl
 
-pub needs-refused : (g : Given) (history : List Record) (l : Line) (why : Refusal) → (row_of g history l).refusal ≡ Some why → needs_machine g history (Says l) ≡ false
-needs-refused g history l why is = ap (λ (o : Option Refusal). (row_of g history l).needs_machine && is_none o) is ∙ and-false (row_of g history l).needs_machine
+-- a refused command prints why, and needs no machine
+pub turn-refused : (g : Given) (history : List Record) (command : Command) (why : Refusal) → command_refusal g history command ≡ Some why → turn g history command ≡ prints (refusal_text why)
+turn-refused g history PassedOver why is = absurd cc
+turn-refused g history (Says l) why is = ap (λ (o : Option Refusal). turn_unless o (row_of g history l).turn) is
+turn-refused g history (Generates image typed processes) why is = ap (λ (o : Option Refusal). turn_unless o (generator_turn g.told history image typed processes)) is
+turn-refused g history _ why is = ap (λ (o : Option Refusal). turn_unless o finished) is
+
+pub needs-refused : (g : Given) (history : List Record) (command : Command) (why : Refusal) → command_refusal g history command ≡ Some why → needs_machine g history command ≡ false
+needs-refused g history (Says l) why is = ap (λ (o : Option Refusal). (row_of g history l).needs_machine && is_none o) is ∙ and-false (row_of g history l).needs_machine
+needs-refused g history (Generates image typed processes) why is = ap (λ (o : Option Refusal). is_none o) is
+needs-refused g history _ why is = refl
+
+-- what is neither passed over nor a line nor the generator's is refused
+pub others-refused : (g : Given) (history : List Record) (command : Command) → command_refusal g history command ≡ None → (command ≡ PassedOver → ⊥) → ((l : Line) → command ≡ Says l → ⊥) → ((image typed : List ℕ) (processes : ℕ) → command ≡ Generates image typed processes → ⊥) → ⊥
+others-refused g history PassedOver none passed says generates = passed refl
+others-refused g history (Says l) none passed says generates = says l refl
+others-refused g history (Generates image typed processes) none passed says generates = generates image typed processes refl
+others-refused g history _ none passed says generates = absurd cc
+
+-- a line that isn't refused goes on
+pub turn-line : (g : Given) (history : List Record) (l : Line) → (row_of g history l).refusal ≡ None → turn g history (Says l) ≡ (row_of g history l).turn
+turn-line g history l is = ap (λ (o : Option Refusal). turn_unless o (row_of g history l).turn) is
 
 pub needs-none : (g : Given) (history : List Record) (l : Line) → (row_of g history l).needs_machine ≡ false → needs_machine g history (Says l) ≡ false
 needs-none g history l none = ap (λ (b : Bool). b && is_none (row_of g history l).refusal) none
@@ -186,11 +201,18 @@ needs-none g history l none = ap (λ (b : Bool). b && is_none (row_of g history 
 pub needs-one : (g : Given) (history : List Record) (l : Line) → (row_of g history l).needs_machine ≡ true → (row_of g history l).refusal ≡ None → needs_machine g history (Says l) ≡ true
 needs-one g history l needs is = ap (λ (b : Bool). b && is_none (row_of g history l).refusal) needs ∙ ap (λ (o : Option Refusal). true && is_none o) is
 
--- what a line costs, whatever the history behind it
-pub cost-machine : (g : Given) (is_there : Bool) (history behind : List Record) (l : Line) → (row_of g history l).needs_machine ≡ true → (row_of g history l).refusal ≡ None → machine_cost is_there history ≤ cost g is_there history behind (Says l)
-cost-machine g is_there history behind l needs is =
+-- what a line costs, whatever the history behind it: the machine alone, where it needs that
+row-free : (g : Given) (history : List Record) (l : Line) → (row_of g history l).needs_machine ≡ true → (row_of g history l).cost ≡ 0
+row-free g history (line.Asks question) needs = absurd (false≢true needs)
+row-free g history _ needs = refl
+
+pub cost-changed : (g : Given) (is_there : Bool) (history behind : List Record) (l : Line) → (row_of g history l).needs_machine ≡ true → (row_of g history l).refusal ≡ None → machine_cost is_there history ≡ cost g is_there history behind (Says l)
+cost-changed g is_there history behind l needs is =
     let e : (if needs_machine g history (Says l) then machine_cost is_there history else 0) ≡ machine_cost is_there history = ap (λ (b : Bool). if b then machine_cost is_there history else 0) (needs-one g history l needs is) in
-    omega (arith, e)
+    omega (arith, e, row-free g history l needs)
+
+pub cost-machine : (g : Given) (is_there : Bool) (history behind : List Record) (l : Line) → (row_of g history l).needs_machine ≡ true → (row_of g history l).refusal ≡ None → machine_cost is_there history ≤ cost g is_there history behind (Says l)
+cost-machine g is_there history behind l needs is = omega (arith, cost-changed g is_there history behind l needs is)
 
 pub cost-told : (g : Given) (is_there : Bool) (history behind : List Record) (l : Line) → (row_of g history l).cost ≤ cost g is_there history behind (Says l)
 cost-told g is_there history behind l = omega arith

@@ -12,6 +12,7 @@ use Rattle.session_effects.specs.Laws.{EffectsFollow, HaltsFollow}
 use Rattle.session_effects.specs.Printing.{StopsPut}
 use Rattle.session_effects.specs.Standing.{Carries, IsOpen}
 use Rattle.session_effects.specs.declared.halt.Halt.{Halt}
+use Rattle.session_runs.specs.Laws.{StopsBy}
 use Rattle.session_runs.specs.Points.{Advances, IsSpent, Stops, around, slices_in}
 use Rattle.history_model.specs.Unplugged.{unplugged_in}
 use Rattle.session_runs.specs.Ready.{IsNotMade}
@@ -120,23 +121,6 @@ module _ {A : Type 0} (who : Answering A) (choices : ℕ → Option Choice) (ans
     executed = omega (arith, cheap);
   }
 
-  -- nothing more was to be done
-  pub Advances-still : (from : Point) (steps steps' cost : ℕ) (carried : List Effect → Type 0) → from ≡ finished → carried [] → steps' ≤ steps + cost → Advances who from finished (around choices answers steps) (around choices answers steps') cost carried
-  Advances-still from steps steps' cost carried is carries cheap = record {
-    slices = [];
-    touches = [];
-    effects = [];
-    leads = λ rest. ap (λ (p : Point). p rest) is;
-    names = refl;
-    unplugged = refl;
-    begins = refl;
-    carries = carries;
-    picked = PickedBy-none choices;
-    in_range = tt;
-    touched = (refl, refl);
-    executed = omega (arith, cheap);
-  }
-
 -- Without slices none is asked for and none is left, and one device is unplugged at most. A commit that stands next names no slice, and says
 -- of just that device that it was unplugged.
 pub record IsStill (from : Point) : Type 0 where
@@ -165,38 +149,42 @@ still-does from effects is names =
 
 module _ {D A : Type 0} (is_run : List Record → Type 0) (d : Ghosts D) (who : Answering A) (halts : HaltsFollow is_run d) (choices : ℕ → Option Choice) (answers : A) where
   -- effects stop somewhere
-  pub Stops-does : (disk disk' : D) (history : List Record) (h0 h1 : Option (List ℕ)) (why : Halt) (from : Point) (steps steps' cost : ℕ) (effects done undone : List Effect) → from ≡ does effects [] → effects ≡ done ++ undone → IsQuiet done undone → StopsBetween is_run d disk disk' history h0 h1 why done undone → steps' ≤ steps + cost → Stops is_run d who disk disk' history h0 h1 why from (around choices answers steps) (around choices answers steps') cost
+  pub Stops-does : (disk disk' : D) (history : List Record) (h0 h1 : Option (List ℕ)) (why : Halt) (from : Point) (steps steps' cost : ℕ) (effects done undone : List Effect) → from ≡ does effects [] → effects ≡ done ++ undone → IsQuiet done undone → StopsBetween is_run d disk disk' history h0 h1 why done undone → steps' ≤ steps + cost → StopsBy is_run d who from (around choices answers steps) (around choices answers steps') cost disk disk' history h0 h1 why [] []
   Stops-does disk disk' history h0 h1 why from steps steps' cost effects done undone is are quiet stopped cheap = record {
-    slices = [];
-    lost = [];
-    part = [];
-    touches = [];
-    lost_touches = [];
-    part_touches = [];
-    done = done;
-    undone = undone;
-    are_effects = ap (λ (p : Point). (p []).effects) is ∙ are;
-    are_touches = ap (λ (p : Point). (p []).touches) is;
-    stopped = stopped;
-    names = quiet.names;
-    unplugged = quiet.unplugged;
-    begins = quiet.begins;
-    names_lost = λ entries at. (quiet.names_next entries at).0;
-    unplugged_lost = λ entries at. (quiet.names_next entries at).1;
-    without = inl refl;
-    spent = inr (ap (λ (p : Point). (p []).left) is, inr refl);
-    many = refl;
-    picked = PickedBy-none choices;
-    in_range = tt;
-    touched = (refl, refl);
-    one_part = omega arith;
-    by_memory = inl refl;
-    unmade = inl refl;
-    executed = omega (arith, cheap);
+    stops = record {
+      slices = [];
+      lost = [];
+      part = [];
+      touches = [];
+      lost_touches = [];
+      part_touches = [];
+      done = done;
+      undone = undone;
+      are_effects = ap (λ (p : Point). (p []).effects) is ∙ are;
+      are_touches = ap (λ (p : Point). (p []).touches) is;
+      stopped = stopped;
+      names = quiet.names;
+      unplugged = quiet.unplugged;
+      begins = quiet.begins;
+      names_lost = λ entries at. (quiet.names_next entries at).0;
+      unplugged_lost = λ entries at. (quiet.names_next entries at).1;
+      without = inl refl;
+      spent = inr (ap (λ (p : Point). (p []).left) is, inr refl);
+      many = refl;
+      picked = PickedBy-none choices;
+      in_range = tt;
+      touched = (refl, refl);
+      one_part = omega arith;
+      by_memory = inl refl;
+      unmade = inl refl;
+      executed = omega (arith, cheap);
+    };
+    slices = refl;
+    touches = refl;
   }
 
   -- a text stops somewhere
-  pub Stops-prints : (disk : D) (history : List Record) (h0 h1 : Option (List ℕ)) (why : Halt) (from : Point) (steps steps' cost : ℕ) (text : List ℕ) → from ≡ prints text → StopsPut why text h0 h1 → steps' ≤ steps + cost → Stops is_run d who disk disk history h0 h1 why from (around choices answers steps) (around choices answers steps') cost
+  pub Stops-prints : (disk : D) (history : List Record) (h0 h1 : Option (List ℕ)) (why : Halt) (from : Point) (steps steps' cost : ℕ) (text : List ℕ) → from ≡ prints text → StopsPut why text h0 h1 → steps' ≤ steps + cost → StopsBy is_run d who from (around choices answers steps) (around choices answers steps') cost disk disk history h0 h1 why [] []
   Stops-prints disk history h0 h1 why from steps steps' cost text is put cheap =
       Stops-does disk disk history h0 h1 why from steps steps' cost (Prints text ∷ []) [] (Prints text ∷ []) is refl
       (quiet-text text [] (Prints text ∷ []) refl) (halts.text disk history h0 h1 why text put) cheap
@@ -239,7 +227,19 @@ module _ {D A : Type 0} (is_run : List Record → Type 0) (d : Ghosts D) (who : 
       Advances-does who choices answers from (Prints text ∷ []) steps steps' cost (Carries is_run d disk disk store store h0 h1) is (refl, refl) refl
       (record { stays_open = open_now; entries = sym (append-nil store.entries); out = laws.text disk store.entries h0 h1 text put }) cheap
 
-  pub Advances-nothing : (disk : D) (store : StoreState) (held : Option (List ℕ)) (from : Point) (steps cost : ℕ) → from ≡ finished → IsOpen d store disk → Advances who from finished (around choices answers steps) (around choices answers steps) cost (Carries is_run d disk disk store store held held)
-  Advances-nothing disk store held from steps cost is open_now =
-      Advances-still who choices answers from steps steps cost (Carries is_run d disk disk store store held held) is
-      (record { stays_open = open_now; entries = sym (append-nil store.entries); out = laws.nothing disk store.entries held }) (omega arith)
+  -- nothing was done, but some was executed
+  pub Advances-nothing : (disk : D) (store : StoreState) (held : Option (List ℕ)) (from to : Point) (steps steps' cost : ℕ) → from ≡ to → IsOpen d store disk → steps' ≤ steps + cost → Advances who from to (around choices answers steps) (around choices answers steps') cost (Carries is_run d disk disk store store held held)
+  Advances-nothing disk store held from to steps steps' cost is open_now cheap = record {
+    slices = [];
+    touches = [];
+    effects = [];
+    leads = λ rest. ap (λ (p : Point). p rest) is;
+    names = refl;
+    unplugged = refl;
+    begins = refl;
+    carries = record { stays_open = open_now; entries = sym (append-nil store.entries); out = laws.nothing disk store.entries held };
+    picked = PickedBy-none choices;
+    in_range = tt;
+    touched = (refl, refl);
+    executed = omega (arith, cheap);
+  }

@@ -12,6 +12,15 @@ use Rattle.session_commands.specs.Given.{Given}
 use Rattle.session_commands.specs.Refusals.{fault_refusal, generator_refusal}
 use Rattle.session_commands.specs.Rows.{row_of}
 
+-- why a command is refused, if it is
+abbrev pub command_refusal : Given → List Record → Command → Option Refusal
+command_refusal g history PassedOver = None
+command_refusal g history TooLong = Some NoLong
+command_refusal g history Unreadable = Some NoLine
+command_refusal g history (Says l) = (row_of g history l).refusal
+command_refusal g history (Faulty at) = Some (fault_refusal history at)
+command_refusal g history (Generates image typed processes) = generator_refusal history
+
 -- a refusal is printed, and changes nothing
 abbrev pub turn_unless : Option Refusal → Point → Point
 turn_unless (Some why) goes_on = prints (refusal_text why)

@@ -25,12 +25,11 @@ use crate::generating::answer_generator;
 use crate::kept::Kept;
 use crate::printing::print_refusal;
 use crate::ready::{make_machine, tell_questions};
-use crate::refusals::fault_refusal;
-use crate::rows::{needs_machine, refusal_of};
+use crate::rows::{command_refusal, needs_machine};
 use crate::unplugging::unplug_device;
 use arn_base::{Chooser, Disk, NoMemory, Sink, Steps};
 use arn_commands::Command;
-use arn_lines::{Line, Refusal};
+use arn_lines::Line;
 use guest_devices::Plugs;
 use guest_machine::Machine;
 use log_store::{Store, store_is_short};
@@ -79,16 +78,12 @@ pub fn answer<Q: Questions, C: Chooser, A: Plugs, D: Disk, K: Sink, L: Ledger>(
 {
     effects_follow::<MachineRuns, D>();
     halts_follow::<MachineRuns, D>();
-    points_follow::<MachineRuns, D, A>();
+    if let Some(why) = command_refusal(kept.store.entries(), &command, &*outside.answers) {
+        return print_refusal(outside.text, why, outside.sink);
+    }
     match command {
         Command::PassedOver => Ok(()),
-        Command::TooLong => print_refusal(outside.text, Refusal::NoLong, outside.sink),
-        Command::Unreadable => print_refusal(outside.text, Refusal::NoLine, outside.sink),
         Command::Says { line } => answer_line(kept, &line, outside),
-        Command::Faulty { at } => {
-            let why = fault_refusal(kept.store.entries(), at);
-            print_refusal(outside.text, why, outside.sink)
-        }
         Command::Generates {
             image,
             typed,
@@ -97,10 +92,11 @@ pub fn answer<Q: Questions, C: Chooser, A: Plugs, D: Disk, K: Sink, L: Ledger>(
             let (image, typed) = (image.as_slice(), typed.as_slice());
             answer_generator(kept, image, typed, processes, outside)
         }
+        _ => unreachable!(),
     }
 }
 
-// Does what a line of the grammar says.
+// Does what a line of the grammar says that isn't refused.
 fn answer_line<Q: Questions, C: Chooser, A: Plugs, D: Disk, K: Sink, L: Ledger>(
     kept: &mut Kept<Q>,
     line: &Line,
@@ -109,6 +105,8 @@ fn answer_line<Q: Questions, C: Chooser, A: Plugs, D: Disk, K: Sink, L: Ledger>(
     requires open { IsOpen D.Disk kept.old.store outside.old.disk.now }
     requires sound { IsSound Q.knows kept.old.machine kept.old.questions kept.old.store.entries }
     requires fits { LineFits line.now }
+    requires accepted { (row_of (given Q.told (A.filled outside.old.answers.now))
+        kept.old.store.entries line.now).refusal ≡ None }
 
     ensures sound { OnOk result
         (IsSound Q.knows kept.new.machine kept.new.questions kept.new.store.entries) }
@@ -140,9 +138,6 @@ fn answer_line<Q: Questions, C: Chooser, A: Plugs, D: Disk, K: Sink, L: Ledger>(
 {
     effects_follow::<MachineRuns, D>();
     halts_follow::<MachineRuns, D>();
-    if let Some(why) = refusal_of(kept.store.entries(), line, &*outside.answers) {
-        return print_refusal(outside.text, why, outside.sink);
-    }
     if needs_machine(line) {
         return change(kept, line, outside);
     }

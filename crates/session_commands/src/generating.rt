@@ -17,7 +17,7 @@ ghost use Rattle.session_commands.specs.Generator.{event_commits, gen_inputs, ge
 ghost use Rattle.session_commands.specs.Given.{given};
 ghost use Rattle.session_commands.specs.Kept.{IsSound, IsThere};
 ghost use Rattle.session_commands.specs.Lines.{needs_machine};
-ghost use Rattle.session_commands.specs.Refusals.{generator_refusal as generator_refusal_by};
+ghost use Rattle.session_commands.specs.Refusals.{generator_refusal};
 ghost use Rattle.session_model.specs.Questions.{Told};
 ghost use Rattle.session_runs.specs.Ready.{IsReady, machine_of};
 ghost use Rattle.session_runs.specs.Standing.{HaltsBehind, Proceeds, standing};
@@ -26,9 +26,7 @@ ghost use Rattle.session_runs.specs.Turns.{prints};
 
 use crate::events::{Incoming, make_event};
 use crate::kept::Kept;
-use crate::printing::print_refusal;
 use crate::ready::{make_machine, tell_questions};
-use crate::refusals::generator_refusal;
 use arn_base::{Chooser, Disk, Sink, Steps, Stop};
 use arn_lines::MOST_RUN;
 use arn_model::runs_sound;
@@ -61,7 +59,7 @@ impl Sink for Silence {
     }
 }
 
-/// Does what the generator's line asks for.
+/// Does what the generator's line asks for, which isn't refused.
 pub fn answer_generator<Q: Questions, C: Chooser, A: Plugs, D: Disk, K: Sink, L: Ledger>(
     kept: &mut Kept<Q>,
     image: &[u8],
@@ -73,6 +71,7 @@ pub fn answer_generator<Q: Questions, C: Chooser, A: Plugs, D: Disk, K: Sink, L:
     requires sound { IsSound Q.knows kept.old.machine kept.old.questions kept.old.store.entries }
     requires image { IsBootable image.now }
     requires typed { length typed.now < 2 ^ 32 }
+    requires accepted { generator_refusal kept.old.store.entries ≡ None }
 
     ensures sound { OnOk result
         (IsSound Q.knows kept.new.machine kept.new.questions kept.new.store.entries) }
@@ -108,9 +107,6 @@ pub fn answer_generator<Q: Questions, C: Chooser, A: Plugs, D: Disk, K: Sink, L:
     halts_follow::<MachineRuns, D>();
     points_follow::<MachineRuns, D, A>();
     causes_follow::<D>();
-    if let Some(why) = generator_refusal(kept.store.entries()) {
-        return print_refusal(outside.text, why, outside.sink);
-    }
     make_machine(kept, outside.steps)?;
     let known = kept.store.entries().len();
     perform(kept, image, typed, outside)?;
@@ -158,7 +154,7 @@ fn perform<Q: Questions, C: Chooser, A: Plugs, D: Disk, K: Sink, L: Ledger>(
     requires there { IsThere kept.old.machine kept.old.store.entries }
     requires image { IsBootable image.now }
     requires typed { length typed.now < 2 ^ 32 }
-    requires accepted { generator_refusal_by kept.old.store.entries ≡ None }
+    requires accepted { generator_refusal kept.old.store.entries ≡ None }
     ensures there { OnOk result (IsThere kept.new.machine kept.new.store.entries) }
     ensures questions { kept.new.questions ≡ kept.old.questions }
     ensures advances { (told : Told) (processes : ℕ) → OnOk result (
@@ -195,7 +191,7 @@ fn perform_on<C: Chooser, A: Plugs, D: Disk, K: Sink, L: Ledger>(
     requires ready { IsReady machine.old store.old.entries }
     requires image { IsBootable image.now }
     requires typed { length typed.now < 2 ^ 32 }
-    requires accepted { generator_refusal_by store.old.entries ≡ None }
+    requires accepted { generator_refusal store.old.entries ≡ None }
     ensures ready { OnOk result (IsReady machine.new store.new.entries) }
     ensures advances { (told : Told) (processes : ℕ) → OnOk result (
         Proceeds D.Disk (answering A.answers A.unplugs A.filled)
@@ -233,7 +229,7 @@ fn commit_events<D: Disk>(
     requires ready { IsReady machine.old store.old.entries }
     requires image { IsBootable image.now }
     requires typed { length typed.now < 2 ^ 32 }
-    requires accepted { generator_refusal_by store.old.entries ≡ None }
+    requires accepted { generator_refusal store.old.entries ≡ None }
     ensures ready { OnOk result (IsReady machine.new store.new.entries) }
     ensures leads { OnOk result (machine_of store.new.entries ≡
         machine_from (machine_of store.old.entries) (gen_inputs image.now typed.now)) }

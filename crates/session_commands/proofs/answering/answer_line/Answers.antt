@@ -1,6 +1,5 @@
-use Rattle.std.proofs.Common.{◌≡◌, ◌∙◌, Some, None, ap, is_some, refl, sym, arith, true, false}
+use Rattle.std.proofs.Common.{◌≡◌, ◌∙◌, ap, is_some, sym, true, false}
 use Rattle.std.proofs.lemmas.Result.{on_ok_weaker}
-use Rattle.arn_lines.specs.Texts.{refusal_text}
 use Rattle.arn_commands.specs.declared.command.Command.TheVariants.{Says}
 use Rattle.session_runs.specs.Points.{around}
 use Rattle.session_runs.specs.Standing.{standpoint}
@@ -10,62 +9,33 @@ use Rattle.session_runs.specs.Touches.{answering}
 use Rattle.session_commands.specs.Given.{given}
 use Rattle.session_commands.proofs.AnswerLemmas.{OnOk-always, answered-text, blames-text, err-both, halted-text, line-causes, or-false}
 use Rattle.session_commands.proofs.ChangeLemmas.{answered-change, some-there, sound-asked}
-use Rattle.session_commands.proofs.LineLemmas.{cost-told, needs-none, needs-one, needs-refused, text-line, turn-line, turn-refused}
+use Rattle.session_commands.proofs.LineLemmas.{cost-told, needs-none, needs-one, text-line, turn-line}
 use Rattle.session_commands.proofs.answering.answer_line.Goals as goal
-
-pub returns-in-Some-clause-answered : goal.returns-in-Some-clause-answered
-returns-in-Some-clause-answered g c =
-    let why : (row_of (given g.Q.Questions.told (g.A.Plugs.filled c.args.outside.now.answers.now)) c.args.kept.now.store.entries c.args.line.now).refusal ≡ Some c.in-Some.why = sym (rw c.entries.ensures at (c.refusal_of.ensures g.Q.Questions.told)) ∙ c.in-Some.is in
-    answered-text g.D.Disk (answering g.A.Answers.answers g.A.Plugs.unplugs g.A.Plugs.filled) (given g.Q.Questions.told (g.A.Plugs.filled c.args.outside.now.answers.now)) (is_some c.args.kept.now.machine) (Says c.args.line.now) (g.C.Chooser.choices c.args.outside.now.chooser.now) c.args.outside.now.answers.now c.effects_follow.ensures.follow c.print_refusal.result c.args.outside.now.disk.now c.args.kept.now.store c.args.kept.now.store (g.K.Sink.holds c.args.outside.now.sink.now) (g.K.Sink.holds c.print_refusal.new.sink) (refusal_text c.in-Some.why) c.args.outside.now.steps.now c.args.outside.now.steps.now 0 refl
-    (turn-refused (given g.Q.Questions.told (g.A.Plugs.filled c.args.outside.now.answers.now)) c.args.kept.now.store.entries c.args.line.now c.in-Some.why why) (needs-refused (given g.Q.Questions.told (g.A.Plugs.filled c.args.outside.now.answers.now)) c.args.kept.now.store.entries c.args.line.now c.in-Some.why why) c.requires.«open» (omega arith) (λ behind. omega arith) c.print_refusal.ensures.ok
-
-pub returns-in-Some-clause-halted : goal.returns-in-Some-clause-halted
-returns-in-Some-clause-halted g c =
-    let why : (row_of (given g.Q.Questions.told (g.A.Plugs.filled c.args.outside.now.answers.now)) c.args.kept.now.store.entries c.args.line.now).refusal ≡ Some c.in-Some.why = sym (rw c.entries.ensures at (c.refusal_of.ensures g.Q.Questions.told)) ∙ c.in-Some.is in
-    halted-text g.D.Disk (answering g.A.Answers.answers g.A.Plugs.unplugs g.A.Plugs.filled) (given g.Q.Questions.told (g.A.Plugs.filled c.args.outside.now.answers.now)) (is_some c.args.kept.now.machine) (Says c.args.line.now) (g.C.Chooser.choices c.args.outside.now.chooser.now) c.args.outside.now.answers.now c.halts_follow.ensures c.print_refusal.result c.args.outside.now.disk.now c.args.kept.now.store c.args.kept.now.store (g.K.Sink.holds c.args.outside.now.sink.now) (g.K.Sink.holds c.print_refusal.new.sink) (refusal_text c.in-Some.why) c.args.outside.now.steps.now c.args.outside.now.steps.now 0
-    (turn-refused (given g.Q.Questions.told (g.A.Plugs.filled c.args.outside.now.answers.now)) c.args.kept.now.store.entries c.args.line.now c.in-Some.why why) (needs-refused (given g.Q.Questions.told (g.A.Plugs.filled c.args.outside.now.answers.now)) c.args.kept.now.store.entries c.args.line.now c.in-Some.why why) (omega arith) (λ behind. omega arith) c.print_refusal.ensures.stops
-
-pub returns-in-Some-clause-blames : goal.returns-in-Some-clause-blames
-returns-in-Some-clause-blames g c =
-    blames-text (given g.Q.Questions.told (g.A.Plugs.filled c.args.outside.now.answers.now)) (is_some c.args.kept.now.machine) (Says c.args.line.now) c.print_refusal.result (refusal_text c.in-Some.why) (g.K.Sink.holds c.args.outside.now.sink.now) (g.K.Sink.holds c.print_refusal.new.sink) (standpoint c.args.outside.now.disk.now c.args.kept.now.store (g.K.Sink.holds c.args.outside.now.sink.now) (around (g.C.Chooser.choices c.args.outside.now.chooser.now) c.args.outside.now.answers.now c.args.outside.now.steps.now)) (standpoint c.args.outside.now.disk.now c.args.kept.now.store (g.K.Sink.holds c.print_refusal.new.sink) (around (g.C.Chooser.choices c.args.outside.now.chooser.now) c.args.outside.now.answers.now c.args.outside.now.steps.now)) c.print_refusal.ensures.stops
-
-pub returns-in-Some-clause-cause : goal.returns-in-Some-clause-cause
-returns-in-Some-clause-cause g c =
-    line-causes c.print_refusal.result (g.D.Disk.faults c.args.outside.now.disk.now) (g.K.Sink.faults c.args.outside.now.sink.now) (g.K.Sink.faults c.print_refusal.new.sink) c.print_refusal.ensures.cause
-
-pub returns-in-Some-clause-there : goal.returns-in-Some-clause-there
-returns-in-Some-clause-there g c =
-    let why : (row_of (given g.Q.Questions.told (g.A.Plugs.filled c.args.outside.now.answers.now)) c.args.kept.now.store.entries c.args.line.now).refusal ≡ Some c.in-Some.why = sym (rw c.entries.ensures at (c.refusal_of.ensures g.Q.Questions.told)) ∙ c.in-Some.is in
-    OnOk-always c.print_refusal.result (or-false (is_some c.args.kept.now.machine) (needs_machine (given g.Q.Questions.told (g.A.Plugs.filled c.args.outside.now.answers.now)) c.args.kept.now.store.entries (Says c.args.line.now)) (needs-refused (given g.Q.Questions.told (g.A.Plugs.filled c.args.outside.now.answers.now)) c.args.kept.now.store.entries c.args.line.now c.in-Some.why why))
 
 pub returns-then-needs_machine-clause-there : goal.returns-then-needs_machine-clause-there
 returns-then-needs_machine-clause-there g c =
-    let accepted : (row_of (given g.Q.Questions.told (g.A.Plugs.filled c.args.outside.now.answers.now)) c.args.kept.now.store.entries c.args.line.now).refusal ≡ None = sym (rw c.entries.ensures at (c.refusal_of.ensures g.Q.Questions.told)) ∙ c.in_default.is in
     let needs : (row_of (given g.Q.Questions.told (g.A.Plugs.filled c.args.outside.now.answers.now)) c.args.kept.now.store.entries c.args.line.now).needs_machine ≡ true = sym (c.needs_machine.ensures (given g.Q.Questions.told (g.A.Plugs.filled c.args.outside.now.answers.now)) c.args.kept.now.store.entries) ∙ c.if-needs_machine.true in
-    on_ok_weaker c.change.result (λ some. some-there c.change.new.kept.machine (is_some c.args.kept.now.machine) (needs_machine (given g.Q.Questions.told (g.A.Plugs.filled c.args.outside.now.answers.now)) c.args.kept.now.store.entries (Says c.args.line.now)) some (needs-one (given g.Q.Questions.told (g.A.Plugs.filled c.args.outside.now.answers.now)) c.args.kept.now.store.entries c.args.line.now needs accepted)) c.change.ensures.there
+    on_ok_weaker c.change.result (λ some. some-there c.change.new.kept.machine (is_some c.args.kept.now.machine) (needs_machine (given g.Q.Questions.told (g.A.Plugs.filled c.args.outside.now.answers.now)) c.args.kept.now.store.entries (Says c.args.line.now)) some (needs-one (given g.Q.Questions.told (g.A.Plugs.filled c.args.outside.now.answers.now)) c.args.kept.now.store.entries c.args.line.now needs c.requires.accepted)) c.change.ensures.there
 
 pub returns-then-needs_machine-clause-answered : goal.returns-then-needs_machine-clause-answered
 returns-then-needs_machine-clause-answered g c =
-    let accepted : (row_of (given g.Q.Questions.told (g.A.Plugs.filled c.args.outside.now.answers.now)) c.args.kept.now.store.entries c.args.line.now).refusal ≡ None = sym (rw c.entries.ensures at (c.refusal_of.ensures g.Q.Questions.told)) ∙ c.in_default.is in
     let needs : (row_of (given g.Q.Questions.told (g.A.Plugs.filled c.args.outside.now.answers.now)) c.args.kept.now.store.entries c.args.line.now).needs_machine ≡ true = sym (c.needs_machine.ensures (given g.Q.Questions.told (g.A.Plugs.filled c.args.outside.now.answers.now)) c.args.kept.now.store.entries) ∙ c.if-needs_machine.true in
-    answered-change g.D.Disk (answering g.A.Answers.answers g.A.Plugs.unplugs g.A.Plugs.filled) (given g.Q.Questions.told (g.A.Plugs.filled c.args.outside.now.answers.now)) (is_some c.args.kept.now.machine) c.args.line.now c.args.kept.now.store needs accepted c.change.result c.args.outside.now.disk.now c.change.new.outside.disk.now c.change.new.kept.store (g.K.Sink.holds c.args.outside.now.sink.now) (g.K.Sink.holds c.change.new.outside.sink.now)
+    answered-change g.D.Disk (answering g.A.Answers.answers g.A.Plugs.unplugs g.A.Plugs.filled) (given g.Q.Questions.told (g.A.Plugs.filled c.args.outside.now.answers.now)) (is_some c.args.kept.now.machine) c.args.line.now c.args.kept.now.store needs c.requires.accepted c.change.result c.args.outside.now.disk.now c.change.new.outside.disk.now c.change.new.kept.store (g.K.Sink.holds c.args.outside.now.sink.now) (g.K.Sink.holds c.change.new.outside.sink.now)
     (around (g.C.Chooser.choices c.args.outside.now.chooser.now) c.args.outside.now.answers.now c.args.outside.now.steps.now) (around (g.C.Chooser.choices c.change.new.outside.chooser.now) c.change.new.outside.answers.now c.change.new.outside.steps.now) c.change.ensures.on_run c.change.ensures.advances
 
 pub returns-clause-answered : goal.returns-clause-answered
 returns-clause-answered g c =
-    let accepted : (row_of (given g.Q.Questions.told (g.A.Plugs.filled c.args.outside.now.answers.now)) c.args.kept.now.store.entries c.args.line.now).refusal ≡ None = sym (rw c.entries.ensures at (c.refusal_of.ensures g.Q.Questions.told)) ∙ c.in_default.is in
     let none : (row_of (given g.Q.Questions.told (g.A.Plugs.filled c.args.outside.now.answers.now)) c.args.kept.now.store.entries c.args.line.now).needs_machine ≡ false = sym (c.needs_machine.ensures (given g.Q.Questions.told (g.A.Plugs.filled c.args.outside.now.answers.now)) c.args.kept.now.store.entries) ∙ c.if-needs_machine.false in
     let t = text-line (given g.Q.Questions.told (g.A.Plugs.filled c.args.outside.now.answers.now)) c.args.kept.now.store.entries c.args.line.now none in
     answered-text g.D.Disk (answering g.A.Answers.answers g.A.Plugs.unplugs g.A.Plugs.filled) (given g.Q.Questions.told (g.A.Plugs.filled c.args.outside.now.answers.now)) (is_some c.args.kept.now.machine) (Says c.args.line.now) (g.C.Chooser.choices c.args.outside.now.chooser.now) c.args.outside.now.answers.now c.effects_follow.ensures.follow c.tell.result c.args.outside.now.disk.now c.args.kept.now.store c.tell.new.kept.store (g.K.Sink.holds c.args.outside.now.sink.now) (g.K.Sink.holds c.tell.new.sink) t.text c.args.outside.now.steps.now c.tell.new.steps ((row_of (given g.Q.Questions.told (g.A.Plugs.filled c.args.outside.now.answers.now)) c.args.kept.now.store.entries c.args.line.now).cost) c.tell.ensures.store
-    (turn-line (given g.Q.Questions.told (g.A.Plugs.filled c.args.outside.now.answers.now)) c.args.kept.now.store.entries c.args.line.now accepted ∙ t.is) (needs-none (given g.Q.Questions.told (g.A.Plugs.filled c.args.outside.now.answers.now)) c.args.kept.now.store.entries c.args.line.now none) c.requires.«open» (c.tell.ensures.steps (g.A.Plugs.filled c.args.outside.now.answers.now)) (λ behind. cost-told (given g.Q.Questions.told (g.A.Plugs.filled c.args.outside.now.answers.now)) (is_some c.args.kept.now.machine) c.args.kept.now.store.entries behind c.args.line.now) (on_ok_weaker c.tell.result (λ ok. ok (g.A.Plugs.filled c.args.outside.now.answers.now) t.text t.is) c.tell.ensures.ok)
+    (turn-line (given g.Q.Questions.told (g.A.Plugs.filled c.args.outside.now.answers.now)) c.args.kept.now.store.entries c.args.line.now c.requires.accepted ∙ t.is) (needs-none (given g.Q.Questions.told (g.A.Plugs.filled c.args.outside.now.answers.now)) c.args.kept.now.store.entries c.args.line.now none) c.requires.«open» (c.tell.ensures.steps (g.A.Plugs.filled c.args.outside.now.answers.now)) (λ behind. cost-told (given g.Q.Questions.told (g.A.Plugs.filled c.args.outside.now.answers.now)) (is_some c.args.kept.now.machine) c.args.kept.now.store.entries behind c.args.line.now) (on_ok_weaker c.tell.result (λ ok. ok (g.A.Plugs.filled c.args.outside.now.answers.now) t.text t.is) c.tell.ensures.ok)
 
 pub returns-clause-halted : goal.returns-clause-halted
 returns-clause-halted g c =
-    let accepted : (row_of (given g.Q.Questions.told (g.A.Plugs.filled c.args.outside.now.answers.now)) c.args.kept.now.store.entries c.args.line.now).refusal ≡ None = sym (rw c.entries.ensures at (c.refusal_of.ensures g.Q.Questions.told)) ∙ c.in_default.is in
     let none : (row_of (given g.Q.Questions.told (g.A.Plugs.filled c.args.outside.now.answers.now)) c.args.kept.now.store.entries c.args.line.now).needs_machine ≡ false = sym (c.needs_machine.ensures (given g.Q.Questions.told (g.A.Plugs.filled c.args.outside.now.answers.now)) c.args.kept.now.store.entries) ∙ c.if-needs_machine.false in
     let t = text-line (given g.Q.Questions.told (g.A.Plugs.filled c.args.outside.now.answers.now)) c.args.kept.now.store.entries c.args.line.now none in
     halted-text g.D.Disk (answering g.A.Answers.answers g.A.Plugs.unplugs g.A.Plugs.filled) (given g.Q.Questions.told (g.A.Plugs.filled c.args.outside.now.answers.now)) (is_some c.args.kept.now.machine) (Says c.args.line.now) (g.C.Chooser.choices c.args.outside.now.chooser.now) c.args.outside.now.answers.now c.halts_follow.ensures c.tell.result c.args.outside.now.disk.now c.args.kept.now.store c.tell.new.kept.store (g.K.Sink.holds c.args.outside.now.sink.now) (g.K.Sink.holds c.tell.new.sink) t.text c.args.outside.now.steps.now c.tell.new.steps ((row_of (given g.Q.Questions.told (g.A.Plugs.filled c.args.outside.now.answers.now)) c.args.kept.now.store.entries c.args.line.now).cost)
-    (turn-line (given g.Q.Questions.told (g.A.Plugs.filled c.args.outside.now.answers.now)) c.args.kept.now.store.entries c.args.line.now accepted ∙ t.is) (needs-none (given g.Q.Questions.told (g.A.Plugs.filled c.args.outside.now.answers.now)) c.args.kept.now.store.entries c.args.line.now none) (c.tell.ensures.steps (g.A.Plugs.filled c.args.outside.now.answers.now)) (λ behind. cost-told (given g.Q.Questions.told (g.A.Plugs.filled c.args.outside.now.answers.now)) (is_some c.args.kept.now.machine) c.args.kept.now.store.entries behind c.args.line.now) (err-both c.tell.result _ _ _ (λ why put again. put (g.A.Plugs.filled c.args.outside.now.answers.now) t.text t.is) c.tell.ensures.stops c.tell.ensures.stops)
+    (turn-line (given g.Q.Questions.told (g.A.Plugs.filled c.args.outside.now.answers.now)) c.args.kept.now.store.entries c.args.line.now c.requires.accepted ∙ t.is) (needs-none (given g.Q.Questions.told (g.A.Plugs.filled c.args.outside.now.answers.now)) c.args.kept.now.store.entries c.args.line.now none) (c.tell.ensures.steps (g.A.Plugs.filled c.args.outside.now.answers.now)) (λ behind. cost-told (given g.Q.Questions.told (g.A.Plugs.filled c.args.outside.now.answers.now)) (is_some c.args.kept.now.machine) c.args.kept.now.store.entries behind c.args.line.now) (err-both c.tell.result _ _ _ (λ why put again. put (g.A.Plugs.filled c.args.outside.now.answers.now) t.text t.is) c.tell.ensures.stops c.tell.ensures.stops)
 
 pub returns-clause-blames : goal.returns-clause-blames
 returns-clause-blames g c =
@@ -93,6 +63,3 @@ tell-requires-clause-needless g c given = sym (c.needs_machine.ensures given c.a
 
 pub change-requires-clause-needs : goal.change-requires-clause-needs
 change-requires-clause-needs g c given = sym (c.needs_machine.ensures given c.args.kept.now.store.entries) ∙ c.if-needs_machine.true
-
-pub change-requires-clause-accepted : goal.change-requires-clause-accepted
-change-requires-clause-accepted g c = sym (rw c.entries.ensures at (c.refusal_of.ensures g.Q.Questions.told)) ∙ c.in_default.is

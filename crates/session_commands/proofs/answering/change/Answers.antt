@@ -41,9 +41,9 @@ returns-in_err-carry_out-clause-halted g c =
     let why = c.in_err-carry_out.field-0.0 in
     let n = c.carry_out.new in
     err-same c.from_residual-in_err-carry_out.result why _ c.from_residual-in_err-carry_out.ensures.1
-    (halted-changed g.D.Disk (answering g.A.Answers.answers g.A.Plugs.unplugs g.A.Plugs.filled) (given g.Q.Questions.told (g.A.Plugs.filled c.args.outside.now.answers.now)) (is_some c.args.kept.now.machine) c.args.line.now c.args.kept.now.store (c.requires.needs (given g.Q.Questions.told (g.A.Plugs.filled c.args.outside.now.answers.now))) c.requires.accepted c.halts_follow.ensures c.points_follow.ensures (g.C.Chooser.choices c.args.outside.now.chooser.now) c.args.outside.now.answers.now c.args.outside.now.steps.now c.make_machine.new.steps c.make_machine.ensures.steps
-    c.args.outside.now.disk.now n.outside.disk.now c.make_machine.new.kept.store n.kept.store (g.K.Sink.holds c.args.outside.now.sink.now) (g.K.Sink.holds n.outside.sink.now) why (around (g.C.Chooser.choices n.outside.chooser.now) n.outside.answers.now n.outside.steps.now) c.make_machine.ensures.store (there-run c.make_machine.new.kept.machine c.args.kept.now.store.entries c.in_ok-make_machine.ensures.there)
-    (c.in_err-carry_out.ensures.stops g.Q.Questions.told))
+    (halted-changed g.D.Disk (answering g.A.Answers.answers g.A.Plugs.unplugs g.A.Plugs.filled) (given g.Q.Questions.told (g.A.Plugs.filled c.args.outside.now.answers.now)) (is_some c.args.kept.now.machine) c.args.line.now c.args.kept.now.store (c.requires.needs (given g.Q.Questions.told (g.A.Plugs.filled c.args.outside.now.answers.now))) c.requires.accepted c.effects_follow.ensures.follow c.halts_follow.ensures c.points_follow.ensures (g.C.Chooser.choices c.args.outside.now.chooser.now) c.args.outside.now.answers.now c.args.outside.now.steps.now c.make_machine.new.steps c.make_machine.ensures.steps
+    c.args.outside.now.disk.now (g.K.Sink.holds c.args.outside.now.sink.now) c.requires.«open» (there-run c.make_machine.new.kept.machine c.args.kept.now.store.entries c.in_ok-make_machine.ensures.there) c.make_machine.new.kept.store c.make_machine.ensures.store
+    n.outside.disk.now n.kept.store (g.K.Sink.holds n.outside.sink.now) why (around (g.C.Chooser.choices n.outside.chooser.now) n.outside.answers.now n.outside.steps.now) (c.in_err-carry_out.ensures.stops g.Q.Questions.told))
 
 pub returns-in_err-carry_out-clause-blames : goal.returns-in_err-carry_out-clause-blames
 returns-in_err-carry_out-clause-blames g c =
@@ -60,9 +60,9 @@ pub returns-in_err-tell_questions-clause-halted : goal.returns-in_err-tell_quest
 returns-in_err-tell_questions-clause-halted g c =
     let n = c.carry_out.new in
     err-same c.from_residual-in_err-tell_questions.result halt.NoMemory _ c.from_residual-in_err-tell_questions.ensures.1
-    (halted-unheard g.D.Disk (answering g.A.Answers.answers g.A.Plugs.unplugs g.A.Plugs.filled) (given g.Q.Questions.told (g.A.Plugs.filled c.args.outside.now.answers.now)) (is_some c.args.kept.now.machine) c.args.line.now c.args.kept.now.store (c.requires.needs (given g.Q.Questions.told (g.A.Plugs.filled c.args.outside.now.answers.now))) c.requires.accepted c.halts_follow.ensures c.points_follow.ensures (g.C.Chooser.choices c.args.outside.now.chooser.now) c.args.outside.now.answers.now c.args.outside.now.steps.now c.make_machine.new.steps c.make_machine.ensures.steps
-    c.args.outside.now.disk.now n.outside.disk.now c.make_machine.new.kept.store n.kept.store c.tell_questions.new.kept.store (g.K.Sink.holds c.args.outside.now.sink.now) (g.K.Sink.holds n.outside.sink.now) (g.C.Chooser.choices n.outside.chooser.now) n.outside.answers.now n.outside.steps.now c.make_machine.ensures.store (there-run c.make_machine.new.kept.machine c.args.kept.now.store.entries c.in_ok-make_machine.ensures.there)
-    (c.in_ok-carry_out.ensures.advances g.Q.Questions.told))
+    (halted-unheard g.D.Disk (answering g.A.Answers.answers g.A.Plugs.unplugs g.A.Plugs.filled) (given g.Q.Questions.told (g.A.Plugs.filled c.args.outside.now.answers.now)) (is_some c.args.kept.now.machine) c.args.line.now c.args.kept.now.store (c.requires.needs (given g.Q.Questions.told (g.A.Plugs.filled c.args.outside.now.answers.now))) c.requires.accepted c.effects_follow.ensures.follow c.halts_follow.ensures c.points_follow.ensures (g.C.Chooser.choices c.args.outside.now.chooser.now) c.args.outside.now.answers.now c.args.outside.now.steps.now c.make_machine.new.steps c.make_machine.ensures.steps
+    c.args.outside.now.disk.now (g.K.Sink.holds c.args.outside.now.sink.now) c.requires.«open» (there-run c.make_machine.new.kept.machine c.args.kept.now.store.entries c.in_ok-make_machine.ensures.there) c.make_machine.new.kept.store c.make_machine.ensures.store
+    n.outside.disk.now n.kept.store c.tell_questions.new.kept.store (g.K.Sink.holds n.outside.sink.now) (g.C.Chooser.choices n.outside.chooser.now) n.outside.answers.now n.outside.steps.now (c.in_ok-carry_out.ensures.advances g.Q.Questions.told))
 
 pub returns-in_err-tell_questions-clause-blames : goal.returns-in_err-tell_questions-clause-blames
 returns-in_err-tell_questions-clause-blames g c = err-same c.from_residual-in_err-tell_questions.result halt.NoMemory _ c.from_residual-in_err-tell_questions.ensures.1 tt
@@ -73,9 +73,9 @@ returns-in_err-tell_questions-clause-cause g c = err-same c.from_residual-in_err
 pub returns-clause-advances : goal.returns-clause-advances
 returns-clause-advances g c =
     let n = c.carry_out.new in
-    advances-changed g.D.Disk (answering g.A.Answers.answers g.A.Plugs.unplugs g.A.Plugs.filled) (given g.Q.Questions.told (g.A.Plugs.filled c.args.outside.now.answers.now)) (is_some c.args.kept.now.machine) c.args.line.now c.args.kept.now.store (c.requires.needs (given g.Q.Questions.told (g.A.Plugs.filled c.args.outside.now.answers.now))) c.requires.accepted c.halts_follow.ensures c.points_follow.ensures (g.C.Chooser.choices c.args.outside.now.chooser.now) c.args.outside.now.answers.now c.args.outside.now.steps.now c.make_machine.new.steps c.make_machine.ensures.steps
-    c.args.outside.now.disk.now n.outside.disk.now c.make_machine.new.kept.store n.kept.store c.tell_questions.new.kept.store (g.K.Sink.holds c.args.outside.now.sink.now) (g.K.Sink.holds n.outside.sink.now) (around (g.C.Chooser.choices n.outside.chooser.now) n.outside.answers.now n.outside.steps.now) c.make_machine.ensures.store c.tell_questions.ensures.store
-    (c.in_ok-carry_out.ensures.advances g.Q.Questions.told)
+    advances-changed g.D.Disk (answering g.A.Answers.answers g.A.Plugs.unplugs g.A.Plugs.filled) (given g.Q.Questions.told (g.A.Plugs.filled c.args.outside.now.answers.now)) (is_some c.args.kept.now.machine) c.args.line.now c.args.kept.now.store (c.requires.needs (given g.Q.Questions.told (g.A.Plugs.filled c.args.outside.now.answers.now))) c.requires.accepted c.effects_follow.ensures.follow c.halts_follow.ensures c.points_follow.ensures (g.C.Chooser.choices c.args.outside.now.chooser.now) c.args.outside.now.answers.now c.args.outside.now.steps.now c.make_machine.new.steps c.make_machine.ensures.steps
+    c.args.outside.now.disk.now (g.K.Sink.holds c.args.outside.now.sink.now) c.requires.«open» (there-run c.make_machine.new.kept.machine c.args.kept.now.store.entries c.in_ok-make_machine.ensures.there) c.make_machine.new.kept.store c.make_machine.ensures.store
+    n.outside.disk.now n.kept.store c.tell_questions.new.kept.store (g.K.Sink.holds n.outside.sink.now) (around (g.C.Chooser.choices n.outside.chooser.now) n.outside.answers.now n.outside.steps.now) c.tell_questions.ensures.store (c.in_ok-carry_out.ensures.advances g.Q.Questions.told)
 
 pub tell_questions-requires-clause-inside : goal.tell_questions-requires-clause-inside
 tell_questions-requires-clause-inside g c =

@@ -1,12 +1,9 @@
-use Rattle.std.proofs.Common.{◌≡◌, ◌≢◌, ◌∙◌, Option, None, Some, is_none, is_some, refl, sym, arith, List, length, ap, subst, All}
-use Rattle.arn_lines.specs.Texts.{refusal_text}
-use Rattle.arn_lines.specs.declared.answer.Refusal.{Refusal}
+use Rattle.std.proofs.Common.{◌∙◌, is_none, is_some, refl, sym, arith, List, length, ap, subst, All}
 use Rattle.arn_commands.specs.declared.command.Command.TheVariants.{Generates}
-use Rattle.session_commands.specs.Refusals.{generator_refusal}
 use Rattle.session_runs.specs.Touches.{answering}
 use Rattle.session_commands.specs.Given.{given}
-use Rattle.session_commands.proofs.AnswerLemmas.{answered-text, halted-text, line-causes, or-true, OnOk-always, cause-blames, disk-cause, err-both, halted-not-made, text-cause}
-use Rattle.session_commands.proofs.GeneratedLemmas.{needs-refused, turn-refused, advances-kept, answered-told, cost-made, halted-told, halted-unheard, halted-untold, still-generator, turn-generator}
+use Rattle.session_commands.proofs.AnswerLemmas.{or-true, OnOk-always, cause-blames, disk-cause, err-both, halted-not-made, text-cause}
+use Rattle.session_commands.proofs.GeneratedLemmas.{answered-told, cost-made, halted-told, halted-unheard, halted-untold, still-generator, turn-generator}
 use Rattle.arn_base.specs.declared.records.Record.{Record}
 use Rattle.log_store.specs.Stores.{StoreState}
 use Rattle.result_log.specs.Spelling.{HasSpelling}
@@ -20,45 +17,23 @@ use Rattle.session_commands.proofs.ChangeLemmas.{err-same, few-known, heard-befo
 use Rattle.session_commands.proofs.TurnLemmas.{IsStill}
 use Rattle.session_commands.proofs.generating.answer_generator.Goals as goal
 
--- what isn't a refusal is none
-none-left : (o : Option Refusal) → ((why : Refusal) → o ≢ Some why) → o ≡ None
-none-left None other = refl
-none-left (Some why) other = absurd (other why refl)
-
-pub returns-in-Some-clause-answered : goal.returns-in-Some-clause-answered
-returns-in-Some-clause-answered g c =
-    let why : generator_refusal c.args.kept.now.store.entries ≡ Some c.in-Some.why = sym (rw c.entries.ensures at c.generator_refusal.ensures) ∙ c.in-Some.is in
-    answered-text g.D.Disk (answering g.A.Answers.answers g.A.Plugs.unplugs g.A.Plugs.filled) (given g.Q.Questions.told (g.A.Plugs.filled c.args.outside.now.answers.now)) (is_some c.args.kept.now.machine) (Generates c.args.image.now c.args.typed.now c.args.processes) (g.C.Chooser.choices c.args.outside.now.chooser.now) c.args.outside.now.answers.now c.effects_follow.ensures.follow c.print_refusal.result c.args.outside.now.disk.now c.args.kept.now.store c.args.kept.now.store (g.K.Sink.holds c.args.outside.now.sink.now) (g.K.Sink.holds c.print_refusal.new.sink) (refusal_text c.in-Some.why) c.args.outside.now.steps.now c.args.outside.now.steps.now 0 refl
-    (turn-refused (given g.Q.Questions.told (g.A.Plugs.filled c.args.outside.now.answers.now)) c.args.kept.now.store.entries c.args.image.now c.args.typed.now c.args.processes c.in-Some.why why) (needs-refused (given g.Q.Questions.told (g.A.Plugs.filled c.args.outside.now.answers.now)) c.args.kept.now.store.entries c.args.image.now c.args.typed.now c.args.processes c.in-Some.why why) c.requires.«open» (omega arith) (λ behind. omega arith) c.print_refusal.ensures.ok
-
-pub returns-in-Some-clause-halted : goal.returns-in-Some-clause-halted
-returns-in-Some-clause-halted g c =
-    let why : generator_refusal c.args.kept.now.store.entries ≡ Some c.in-Some.why = sym (rw c.entries.ensures at c.generator_refusal.ensures) ∙ c.in-Some.is in
-    halted-text g.D.Disk (answering g.A.Answers.answers g.A.Plugs.unplugs g.A.Plugs.filled) (given g.Q.Questions.told (g.A.Plugs.filled c.args.outside.now.answers.now)) (is_some c.args.kept.now.machine) (Generates c.args.image.now c.args.typed.now c.args.processes) (g.C.Chooser.choices c.args.outside.now.chooser.now) c.args.outside.now.answers.now c.halts_follow.ensures c.print_refusal.result c.args.outside.now.disk.now c.args.kept.now.store c.args.kept.now.store (g.K.Sink.holds c.args.outside.now.sink.now) (g.K.Sink.holds c.print_refusal.new.sink) (refusal_text c.in-Some.why) c.args.outside.now.steps.now c.args.outside.now.steps.now 0
-    (turn-refused (given g.Q.Questions.told (g.A.Plugs.filled c.args.outside.now.answers.now)) c.args.kept.now.store.entries c.args.image.now c.args.typed.now c.args.processes c.in-Some.why why) (needs-refused (given g.Q.Questions.told (g.A.Plugs.filled c.args.outside.now.answers.now)) c.args.kept.now.store.entries c.args.image.now c.args.typed.now c.args.processes c.in-Some.why why) (omega arith) (λ behind. omega arith) c.print_refusal.ensures.stops
-
-pub returns-in-Some-clause-cause : goal.returns-in-Some-clause-cause
-returns-in-Some-clause-cause g c =
-    line-causes c.print_refusal.result (g.D.Disk.faults c.args.outside.now.disk.now) (g.K.Sink.faults c.args.outside.now.sink.now) (g.K.Sink.faults c.print_refusal.new.sink) c.print_refusal.ensures.cause
-
 pub returns-in_err-make_machine-clause-halted : goal.returns-in_err-make_machine-clause-halted
 returns-in_err-make_machine-clause-halted g c =
-    let accepted : generator_refusal c.args.kept.now.store.entries ≡ None = sym (rw c.entries.ensures at c.generator_refusal.ensures) ∙ none-left c.generator_refusal.result c.in_default.not-Some in
     let why = c.in_err-make_machine.field-0.0 in
     let still : IsStill (turn (given g.Q.Questions.told (g.A.Plugs.filled c.args.outside.now.answers.now)) c.args.kept.now.store.entries (Generates c.args.image.now c.args.typed.now c.args.processes)) =
-    subst IsStill (sym (turn-generator (given g.Q.Questions.told (g.A.Plugs.filled c.args.outside.now.answers.now)) c.args.kept.now.store.entries c.args.image.now c.args.typed.now c.args.processes accepted)) (still-generator g.Q.Questions.told c.args.kept.now.store.entries c.args.image.now c.args.typed.now c.args.processes) in
+    subst IsStill (sym (turn-generator (given g.Q.Questions.told (g.A.Plugs.filled c.args.outside.now.answers.now)) c.args.kept.now.store.entries c.args.image.now c.args.typed.now c.args.processes c.requires.accepted)) (still-generator g.Q.Questions.told c.args.kept.now.store.entries c.args.image.now c.args.typed.now c.args.processes) in
     err-same c.from_residual.result why _ c.from_residual.ensures.1
     (halted-not-made g.D.Disk (answering g.A.Answers.answers g.A.Plugs.unplugs g.A.Plugs.filled) (given g.Q.Questions.told (g.A.Plugs.filled c.args.outside.now.answers.now)) (is_some c.args.kept.now.machine) (Generates c.args.image.now c.args.typed.now c.args.processes) (g.C.Chooser.choices c.args.outside.now.chooser.now) c.args.outside.now.answers.now c.halts_follow.ensures why c.args.outside.now.disk.now c.args.kept.now.store c.make_machine.new.kept.store (g.K.Sink.holds c.args.outside.now.sink.now) c.args.outside.now.steps.now c.make_machine.new.steps c.in_err-make_machine.ensures.not_made c.make_machine.ensures.store still c.make_machine.ensures.steps
-    (λ behind. cost-made (given g.Q.Questions.told (g.A.Plugs.filled c.args.outside.now.answers.now)) c.args.kept.now.store.entries c.args.image.now c.args.typed.now c.args.processes (is_some c.args.kept.now.machine) behind accepted))
+    (λ behind. cost-made (given g.Q.Questions.told (g.A.Plugs.filled c.args.outside.now.answers.now)) c.args.kept.now.store.entries c.args.image.now c.args.typed.now c.args.processes (is_some c.args.kept.now.machine) behind c.requires.accepted))
 
 pub returns-in_err-perform-clause-halted : goal.returns-in_err-perform-clause-halted
 returns-in_err-perform-clause-halted g c =
-    let accepted : generator_refusal c.args.kept.now.store.entries ≡ None = sym (rw c.entries.ensures at c.generator_refusal.ensures) ∙ none-left c.generator_refusal.result c.in_default.not-Some in
     let why = c.in_err-perform.field-0.0 in
     let n = c.perform.new in
     err-same c.from_residual-in_err-perform.result why _ c.from_residual-in_err-perform.ensures.1
-    (halted-untold g.D.Disk (answering g.A.Answers.answers g.A.Plugs.unplugs g.A.Plugs.filled) (given g.Q.Questions.told (g.A.Plugs.filled c.args.outside.now.answers.now)) (is_some c.args.kept.now.machine) c.args.image.now c.args.typed.now c.args.processes c.args.kept.now.store accepted (g.C.Chooser.choices c.args.outside.now.chooser.now) c.args.outside.now.answers.now c.args.outside.now.steps.now c.make_machine.new.steps c.make_machine.ensures.steps c.halts_follow.ensures c.args.outside.now.disk.now n.outside.disk.now c.make_machine.new.kept.store n.kept.store (g.K.Sink.holds c.args.outside.now.sink.now) (g.K.Sink.holds n.outside.sink.now) why (around (g.C.Chooser.choices n.outside.chooser.now) n.outside.answers.now n.outside.steps.now) c.make_machine.ensures.store (there-run c.make_machine.new.kept.machine c.args.kept.now.store.entries c.in_ok-make_machine.ensures.there)
-    (c.in_err-perform.ensures.stops g.Q.Questions.told c.args.processes))
+    (halted-untold g.D.Disk (answering g.A.Answers.answers g.A.Plugs.unplugs g.A.Plugs.filled) (given g.Q.Questions.told (g.A.Plugs.filled c.args.outside.now.answers.now)) (is_some c.args.kept.now.machine) c.args.image.now c.args.typed.now c.args.processes c.args.kept.now.store c.requires.accepted c.effects_follow.ensures.follow c.halts_follow.ensures c.points_follow.ensures (g.C.Chooser.choices c.args.outside.now.chooser.now) c.args.outside.now.answers.now c.args.outside.now.steps.now c.make_machine.new.steps c.make_machine.ensures.steps
+    c.args.outside.now.disk.now (g.K.Sink.holds c.args.outside.now.sink.now) c.requires.«open» (there-run c.make_machine.new.kept.machine c.args.kept.now.store.entries c.in_ok-make_machine.ensures.there) c.make_machine.new.kept.store c.make_machine.ensures.store
+    n.outside.disk.now n.kept.store (g.K.Sink.holds n.outside.sink.now) why (around (g.C.Chooser.choices n.outside.chooser.now) n.outside.answers.now n.outside.steps.now) (c.in_err-perform.ensures.stops g.Q.Questions.told c.args.processes))
 
 pub returns-in_err-perform-clause-blames : goal.returns-in_err-perform-clause-blames
 returns-in_err-perform-clause-blames g c =
@@ -73,28 +48,26 @@ returns-in_err-perform-clause-cause g c =
 
 pub returns-in_err-tell_questions-clause-halted : goal.returns-in_err-tell_questions-clause-halted
 returns-in_err-tell_questions-clause-halted g c =
-    let accepted : generator_refusal c.args.kept.now.store.entries ≡ None = sym (rw c.entries.ensures at c.generator_refusal.ensures) ∙ none-left c.generator_refusal.result c.in_default.not-Some in
     let n = c.perform.new in
     err-same c.from_residual-in_err-tell_questions.result halt.NoMemory _ c.from_residual-in_err-tell_questions.ensures.1
-    (halted-unheard g.D.Disk (answering g.A.Answers.answers g.A.Plugs.unplugs g.A.Plugs.filled) (given g.Q.Questions.told (g.A.Plugs.filled c.args.outside.now.answers.now)) (is_some c.args.kept.now.machine) c.args.image.now c.args.typed.now c.args.processes c.args.kept.now.store accepted (g.C.Chooser.choices c.args.outside.now.chooser.now) c.args.outside.now.answers.now c.args.outside.now.steps.now c.make_machine.new.steps c.make_machine.ensures.steps c.halts_follow.ensures c.args.outside.now.disk.now n.outside.disk.now c.make_machine.new.kept.store n.kept.store c.tell_questions.new.kept.store (g.K.Sink.holds c.args.outside.now.sink.now) (g.K.Sink.holds n.outside.sink.now) (g.C.Chooser.choices n.outside.chooser.now) n.outside.answers.now n.outside.steps.now c.make_machine.ensures.store (there-run c.make_machine.new.kept.machine c.args.kept.now.store.entries c.in_ok-make_machine.ensures.there)
-    (c.in_ok-perform.ensures.advances g.Q.Questions.told c.args.processes))
+    (halted-unheard g.D.Disk (answering g.A.Answers.answers g.A.Plugs.unplugs g.A.Plugs.filled) (given g.Q.Questions.told (g.A.Plugs.filled c.args.outside.now.answers.now)) (is_some c.args.kept.now.machine) c.args.image.now c.args.typed.now c.args.processes c.args.kept.now.store c.requires.accepted c.effects_follow.ensures.follow c.halts_follow.ensures c.points_follow.ensures (g.C.Chooser.choices c.args.outside.now.chooser.now) c.args.outside.now.answers.now c.args.outside.now.steps.now c.make_machine.new.steps c.make_machine.ensures.steps
+    c.args.outside.now.disk.now (g.K.Sink.holds c.args.outside.now.sink.now) c.requires.«open» (there-run c.make_machine.new.kept.machine c.args.kept.now.store.entries c.in_ok-make_machine.ensures.there) c.make_machine.new.kept.store c.make_machine.ensures.store
+    n.outside.disk.now n.kept.store c.tell_questions.new.kept.store (g.K.Sink.holds n.outside.sink.now) (g.C.Chooser.choices n.outside.chooser.now) n.outside.answers.now n.outside.steps.now (c.in_ok-perform.ensures.advances g.Q.Questions.told c.args.processes))
 
 pub returns-clause-answered : goal.returns-clause-answered
 returns-clause-answered g c =
-    let accepted : generator_refusal c.args.kept.now.store.entries ≡ None = sym (rw c.entries.ensures at c.generator_refusal.ensures) ∙ none-left c.generator_refusal.result c.in_default.not-Some in
     let n = c.perform.new in
-    answered-told g.D.Disk (answering g.A.Answers.answers g.A.Plugs.unplugs g.A.Plugs.filled) (given g.Q.Questions.told (g.A.Plugs.filled c.args.outside.now.answers.now)) (is_some c.args.kept.now.machine) c.args.image.now c.args.typed.now c.args.processes c.args.kept.now.store accepted (g.C.Chooser.choices c.args.outside.now.chooser.now) c.args.outside.now.answers.now c.args.outside.now.steps.now c.make_machine.new.steps c.make_machine.ensures.steps c.effects_follow.ensures.follow c.points_follow.ensures c.tell.result c.args.outside.now.disk.now n.outside.disk.now c.make_machine.new.kept.store c.tell_questions.new.kept.store c.tell.new.kept.store (g.K.Sink.holds c.args.outside.now.sink.now) (g.K.Sink.holds n.outside.sink.now) (g.K.Sink.holds c.tell.new.sink) (g.C.Chooser.choices n.outside.chooser.now) n.outside.answers.now n.outside.steps.now c.tell.new.steps c.make_machine.ensures.store c.tell.ensures.store (there-run c.make_machine.new.kept.machine c.args.kept.now.store.entries c.in_ok-make_machine.ensures.there)
-    (advances-kept g.D.Disk (answering g.A.Answers.answers g.A.Plugs.unplugs g.A.Plugs.filled) (given g.Q.Questions.told (g.A.Plugs.filled c.args.outside.now.answers.now)) (is_some c.args.kept.now.machine) c.args.image.now c.args.typed.now c.args.processes c.args.kept.now.store accepted (g.C.Chooser.choices c.args.outside.now.chooser.now) c.args.outside.now.answers.now c.args.outside.now.steps.now c.make_machine.new.steps c.make_machine.ensures.steps c.args.outside.now.disk.now n.outside.disk.now c.make_machine.new.kept.store n.kept.store c.tell_questions.new.kept.store (g.K.Sink.holds c.args.outside.now.sink.now) (g.K.Sink.holds n.outside.sink.now) (around (g.C.Chooser.choices n.outside.chooser.now) n.outside.answers.now n.outside.steps.now) c.tell_questions.ensures.store
-    (c.in_ok-perform.ensures.advances g.Q.Questions.told c.args.processes)) c.tell.ensures.steps c.tell.ensures.ok
+    answered-told g.D.Disk (answering g.A.Answers.answers g.A.Plugs.unplugs g.A.Plugs.filled) (given g.Q.Questions.told (g.A.Plugs.filled c.args.outside.now.answers.now)) (is_some c.args.kept.now.machine) c.args.image.now c.args.typed.now c.args.processes c.args.kept.now.store c.requires.accepted c.effects_follow.ensures.follow c.halts_follow.ensures c.points_follow.ensures (g.C.Chooser.choices c.args.outside.now.chooser.now) c.args.outside.now.answers.now c.args.outside.now.steps.now c.make_machine.new.steps c.make_machine.ensures.steps
+    c.args.outside.now.disk.now (g.K.Sink.holds c.args.outside.now.sink.now) c.requires.«open» (there-run c.make_machine.new.kept.machine c.args.kept.now.store.entries c.in_ok-make_machine.ensures.there) c.make_machine.new.kept.store c.make_machine.ensures.store
+    c.tell.result n.outside.disk.now n.kept.store c.tell_questions.new.kept.store c.tell.new.kept.store (g.K.Sink.holds n.outside.sink.now) (g.K.Sink.holds c.tell.new.sink) (g.C.Chooser.choices n.outside.chooser.now) n.outside.answers.now n.outside.steps.now c.tell.new.steps c.tell_questions.ensures.store c.tell.ensures.store (c.in_ok-perform.ensures.advances g.Q.Questions.told c.args.processes) c.tell.ensures.steps c.tell.ensures.ok
 
 pub returns-clause-halted : goal.returns-clause-halted
 returns-clause-halted g c =
-    let accepted : generator_refusal c.args.kept.now.store.entries ≡ None = sym (rw c.entries.ensures at c.generator_refusal.ensures) ∙ none-left c.generator_refusal.result c.in_default.not-Some in
     let n = c.perform.new in
     err-both c.tell.result _ _ _
-    (λ why put again. halted-told g.D.Disk (answering g.A.Answers.answers g.A.Plugs.unplugs g.A.Plugs.filled) (given g.Q.Questions.told (g.A.Plugs.filled c.args.outside.now.answers.now)) (is_some c.args.kept.now.machine) c.args.image.now c.args.typed.now c.args.processes c.args.kept.now.store accepted (g.C.Chooser.choices c.args.outside.now.chooser.now) c.args.outside.now.answers.now c.args.outside.now.steps.now c.make_machine.new.steps c.make_machine.ensures.steps c.halts_follow.ensures c.args.outside.now.disk.now n.outside.disk.now c.make_machine.new.kept.store c.tell_questions.new.kept.store c.tell.new.kept.store (g.K.Sink.holds c.args.outside.now.sink.now) (g.K.Sink.holds n.outside.sink.now) (g.K.Sink.holds c.tell.new.sink) why (g.C.Chooser.choices n.outside.chooser.now) n.outside.answers.now n.outside.steps.now c.tell.new.steps c.make_machine.ensures.store (there-run c.make_machine.new.kept.machine c.args.kept.now.store.entries c.in_ok-make_machine.ensures.there)
-    (advances-kept g.D.Disk (answering g.A.Answers.answers g.A.Plugs.unplugs g.A.Plugs.filled) (given g.Q.Questions.told (g.A.Plugs.filled c.args.outside.now.answers.now)) (is_some c.args.kept.now.machine) c.args.image.now c.args.typed.now c.args.processes c.args.kept.now.store accepted (g.C.Chooser.choices c.args.outside.now.chooser.now) c.args.outside.now.answers.now c.args.outside.now.steps.now c.make_machine.new.steps c.make_machine.ensures.steps c.args.outside.now.disk.now n.outside.disk.now c.make_machine.new.kept.store n.kept.store c.tell_questions.new.kept.store (g.K.Sink.holds c.args.outside.now.sink.now) (g.K.Sink.holds n.outside.sink.now) (around (g.C.Chooser.choices n.outside.chooser.now) n.outside.answers.now n.outside.steps.now) c.tell_questions.ensures.store
-    (c.in_ok-perform.ensures.advances g.Q.Questions.told c.args.processes)) c.tell.ensures.steps put)
+    (λ why put again. halted-told g.D.Disk (answering g.A.Answers.answers g.A.Plugs.unplugs g.A.Plugs.filled) (given g.Q.Questions.told (g.A.Plugs.filled c.args.outside.now.answers.now)) (is_some c.args.kept.now.machine) c.args.image.now c.args.typed.now c.args.processes c.args.kept.now.store c.requires.accepted c.effects_follow.ensures.follow c.halts_follow.ensures c.points_follow.ensures (g.C.Chooser.choices c.args.outside.now.chooser.now) c.args.outside.now.answers.now c.args.outside.now.steps.now c.make_machine.new.steps c.make_machine.ensures.steps
+    c.args.outside.now.disk.now (g.K.Sink.holds c.args.outside.now.sink.now) c.requires.«open» (there-run c.make_machine.new.kept.machine c.args.kept.now.store.entries c.in_ok-make_machine.ensures.there) c.make_machine.new.kept.store c.make_machine.ensures.store
+    n.outside.disk.now n.kept.store c.tell_questions.new.kept.store c.tell.new.kept.store (g.K.Sink.holds n.outside.sink.now) (g.K.Sink.holds c.tell.new.sink) why (g.C.Chooser.choices n.outside.chooser.now) n.outside.answers.now n.outside.steps.now c.tell.new.steps c.tell_questions.ensures.store (c.in_ok-perform.ensures.advances g.Q.Questions.told c.args.processes) c.tell.ensures.steps put)
     c.tell.ensures.stops c.tell.ensures.stops
 
 pub returns-clause-cause : goal.returns-clause-cause
@@ -139,10 +112,9 @@ returns-clause-sound g c =
 
 pub returns-clause-there : goal.returns-clause-there
 returns-clause-there g c =
-    let accepted : generator_refusal c.args.kept.now.store.entries ≡ None = sym (rw c.entries.ensures at c.generator_refusal.ensures) ∙ none-left c.generator_refusal.result c.in_default.not-Some in
     OnOk-always c.tell.result
     (ap is_some (c.tell.ensures.machine ∙ c.tell_questions.ensures.machine) ∙ there-some c.perform.new.kept.machine c.perform.new.kept.store.entries c.in_ok-perform.ensures.there
-    ∙ or-true (is_some c.args.kept.now.machine) _ (ap is_none accepted))
+    ∙ or-true (is_some c.args.kept.now.machine) _ (ap is_none c.requires.accepted))
 
 pub tell_questions-requires-clause-run : goal.tell_questions-requires-clause-run
 tell_questions-requires-clause-run g c = there-run c.perform.new.kept.machine c.perform.new.kept.store.entries c.in_ok-perform.ensures.there
