@@ -31,18 +31,18 @@ use Rattle.session_commands.proofs.AnswerLemmas.{or-true}
 
 -- what was executed before is part of the cost
 module _ {D A : Type 0} (d : Ghosts D) (who : Answering A) (laws : EffectsFollow IsRun d) (points : PointsFollow IsRun d who) (choices : ℕ → Option Choice) (answers : A) (disk : D) (store : StoreState) (held : Option (List ℕ)) (open_now : IsOpen d store disk) (from to : Point) (is : from ≡ to) (steps mid beside : ℕ) (cheap : mid ≤ steps + beside) where
-  before : Advances who from to (around choices answers steps) (around choices answers mid) beside (Carries IsRun d disk disk store store held held)
-  before = Advances-nothing IsRun d who laws choices answers disk store held from to steps mid beside is open_now cheap
+  made : Advances who from to (around choices answers steps) (around choices answers mid) beside (Carries IsRun d disk disk store store held held)
+  made = Advances-nothing IsRun d who laws choices answers disk store held from to steps mid beside is open_now cheap
 
   pub Advances-later : (end : Point) (new : Surroundings A) (disk' : D) (store' : StoreState) (holds : Option (List ℕ)) → Advances who to end (around choices answers mid) new 0 (Carries IsRun d disk disk' store store' held holds) → Advances who from end (around choices answers steps) new beside (Carries IsRun d disk disk' store store' held holds)
   Advances-later end new disk' store' holds p =
       subst (λ (n : ℕ). Advances who from end (around choices answers steps) new n (Carries IsRun d disk disk' store store' held holds)) (add-zero beside)
-      (points.advances from to end (around choices answers steps) (around choices answers mid) new beside 0 disk disk disk' store store store' held held holds before p).advances
+      (points.advances from to end (around choices answers steps) (around choices answers mid) new beside 0 disk disk disk' store store store' held held holds made p).advances
 
   pub Stops-later : (disk' : D) (holds : Option (List ℕ)) (why : Halt) (new : Surroundings A) → Stops IsRun d who disk disk' store.entries held holds why to (around choices answers mid) new 0 → Stops IsRun d who disk disk' store.entries held holds why from (around choices answers steps) new beside
   Stops-later disk' holds why new q =
       subst (λ (n : ℕ). Stops IsRun d who disk disk' store.entries held holds why from (around choices answers steps) new n) (add-zero beside)
-      (points.stops from to (around choices answers steps) (around choices answers mid) new beside 0 disk disk disk' store store held held holds why before q).stops
+      (points.stops from to (around choices answers steps) (around choices answers mid) new beside 0 disk disk disk' store store held held holds why made q).stops
 
 -- memory ran out where all was carried out
 module _ {D A : Type 0} (is_run : List Record → Type 0) (d : Ghosts D) (who : Answering A) (halts : HaltsFollow is_run d) (points : PointsFollow is_run d who) where
