@@ -1,8 +1,7 @@
+use crate::same::assert_same;
 use arn_base::NoMemory;
 use set_store::{Item, Sets};
-use std::alloc::Global;
 use std::process::Abort;
-use std::test::Fail;
 
 const FIRST: Item = Item { event: 1, at: 0 };
 
@@ -31,16 +30,12 @@ fn union(rt: &impl Abort, sets: &mut Sets, a: usize, b: usize) -> Result<usize, 
     sets.union(a, b)
 }
 
-// What is asked of sets, whatever is remembered.
-fn check(rt: &impl Abort, alloc: Global, memo: u32) -> Result<(), Fail> {
-    let mut sets = Sets::new(alloc, memo)?;
-    let empty = sets.empty();
-    let a = single(&mut sets, FIRST)?;
-    let b = single(&mut sets, SECOND)?;
-    let both = union(rt, &mut sets, b, a)?;
-    assert!(rt; has(&sets, both, &[FIRST, SECOND])?);
-    assert!(rt; contains(&sets, both, SECOND) && !contains(&sets, a, SECOND));
-    // Two pairs in turn: a memo of one has dropped each of them before it is asked again.
+// Two pairs in turn: a memo of one has dropped each of them before it is asked again.
+fn ask_unions(
+    rt: &impl Abort,
+    sets: &mut Sets,
+    [empty, a, b, both]: [usize; 4],
+) -> Result<(), NoMemory> {
     for (first, second, wanted) in [
         (a, both, both),
         (a, b, both),
@@ -50,21 +45,37 @@ fn check(rt: &impl Abort, alloc: Global, memo: u32) -> Result<(), Fail> {
         (a, empty, a),
         (empty, b, b),
     ] {
-        let found = union(rt, &mut sets, first, second)?;
-        assert_eq!(rt; found, wanted, "of {first} and {second}");
+        let found = union(rt, sets, first, second)?;
+        assert_same(rt, (first, second, found), (first, second, wanted));
     }
-    assert!(rt; single(&mut sets, FIRST)? == a);
-    assert!(rt; has(&sets, empty, &[])?);
-    assert!(rt; has(&sets, both, &[FIRST, SECOND])?);
+    Ok(())
+}
+
+// What is asked of sets, whatever is remembered.
+fn ask(rt: &impl Abort, sets: &mut Sets) -> Result<(), NoMemory> {
+    let empty = sets.empty();
+    let a = single(sets, FIRST)?;
+    let b = single(sets, SECOND)?;
+    let both = union(rt, sets, b, a)?;
+    assert!(rt; has(sets, both, &[FIRST, SECOND])?);
+    assert!(rt; contains(sets, both, SECOND) && !contains(sets, a, SECOND));
+    ask_unions(rt, sets, [empty, a, b, both])?;
+    assert!(rt; single(sets, FIRST)? == a);
+    assert!(rt; has(sets, empty, &[])?);
+    assert!(rt; has(sets, both, &[FIRST, SECOND])?);
     // The empty set, two of one member, and their union.
     assert!(rt; sets.len() == 4);
     Ok(())
 }
 
+fn check(rt: &(impl Abort + AllocGlobal), memo: u32) -> Result<(), NoMemory> {
+    let mut sets = Sets::new(rt.alloc(), memo)?;
+    ask(rt, &mut sets)
+}
+
 #[test]
-fn equal_sets_have_equal_numbers(rt: HostRuntime) -> Result<(), Fail> {
-    for memo in [0, 1, 65_536] {
-        check(&rt, rt.alloc(), memo)?;
-    }
-    Ok(())
+fn equal_sets_have_equal_numbers(rt: HostRuntime) -> Result<(), NoMemory> {
+    check(&rt, 0)?;
+    check(&rt, 1)?;
+    check(&rt, 65_536)
 }
