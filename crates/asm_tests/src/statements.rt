@@ -1,8 +1,9 @@
+use crate::same::assert_same;
 use asm_text::{Number, Statement, StatementReading, read};
 use rv64_isa::Reg;
 use std::alloc::{AllocError, Global};
 use std::fmt::Debug;
-use std::test::Fail;
+use std::process::Abort;
 
 fn shown_number(alloc: Global, number: Number) -> Result<String, AllocError> {
     match number {
@@ -196,12 +197,15 @@ const CASES: &[(&str, &str)] = &[
     (".zero 1, 2", "Operand"),
 ];
 
-#[test]
-fn statements_are_read(rt: HostRuntime) -> Result<(), Fail> {
-    let alloc = rt.alloc();
+fn assert_statements(rt: &(impl Abort + AllocGlobal)) -> Result<(), AllocError> {
     for (text, wanted) in CASES {
-        let found = shown(alloc, text)?;
-        assert_eq!(rt; found.as_str(), *wanted, "{text}");
+        let found = shown(rt.alloc(), text)?;
+        assert_same(rt, (*text, found.as_str()), (*text, *wanted));
     }
     Ok(())
+}
+
+#[test]
+fn statements_are_read(rt: HostRuntime) -> Result<(), AllocError> {
+    assert_statements(&rt)
 }
