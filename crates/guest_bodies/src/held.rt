@@ -49,7 +49,7 @@ fn take_back(guest: &mut Guest, segments: &mut Vec<Option<Segment>>)
     }
 }
 
-// The same, with the segment that the process may hold brought to it.
+// The same as `step`, with the segment that the process may hold brought to it.
 fn step_lent<L: Ledger>(
     guest: &mut Guest,
     segments: &mut Vec<Option<Segment>>,
@@ -100,27 +100,8 @@ pub fn step<L: Ledger>(
     }
 }
 
-// The same as `run`, with the segment that the process may hold brought to it once.
-fn run_lent<L: Ledger>(
-    guest: &mut Guest,
-    segments: &mut Vec<Option<Segment>>,
-    count: u32,
-    steps: &mut Steps<L>,
-) -> Stood
-    requires { IfHeld guest.old.segment segments.old.items }
-    ensures tick { steps.new ≡ steps.old + result.ran + stop_count result.outcome }
-    ensures many { MovesMany result.ran
-        guest.old segments.old.items guest.new segments.new.items }
-    ensures stops { StopsAt result.outcome result.ran count
-        (stands_at (view_of segments.new.items guest.new)) }
-{
-    lend(guest, segments);
-    let stood = running::run(&mut guest.cpu, &mut guest.memory, count, steps);
-    take_back(guest, segments);
-    stood
-}
-
-/// Runs up to so many instructions of a process that the next one follows, and counts them.
+/// Runs up to so many instructions of a process that the next one follows, and counts them. The segment
+/// that the process may hold is brought to it once.
 #[inline]
 pub fn run<L: Ledger>(
     guest: &mut Guest,
@@ -136,7 +117,12 @@ pub fn run<L: Ledger>(
         (stands_at (view_of segments.new.items guest.new)) }
 {
     match guest.segment {
-        Some(_) => run_lent(guest, segments, count, steps),
+        Some(_) => {
+            lend(guest, segments);
+            let stood = running::run(&mut guest.cpu, &mut guest.memory, count, steps);
+            take_back(guest, segments);
+            stood
+        }
         None => running::run(&mut guest.cpu, &mut guest.memory.space, count, steps),
     }
 }
