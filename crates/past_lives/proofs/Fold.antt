@@ -23,7 +23,7 @@ use Rattle.history_model.specs.Broken.{Behind, Nowhere, ASlice, ADelivery, behin
 use Rattle.history_model.specs.Groups.{Groups, group_forked, groups_from, groups_told, is_number}
 use Rattle.history_model.specs.Moments.{Numbered, changed, events_from, if_happened, lives_by, segments_by, segments_told, total}
 use Rattle.history_model.specs.Names.{is_boot, is_booted}
-use Rattle.past_lives.specs.Blocks.{HasWholeBlocks}
+use Rattle.window_laws.specs.Blocks.{HasWholeBlocks}
 use Rattle.past_lives.proofs.Does.{Does, IsFounded, call-does, end-does, signal-does}
 use Rattle.past_lives.proofs.Records.{Stands, follows, greatest-append}
 use Rattle.past_lives.proofs.Sizes.{HasSizes, blocks-len, zeros-len}

@@ -1,4 +1,3 @@
-pub mod Blocks
 pub mod Happened
 pub mod Members
 pub mod Laws

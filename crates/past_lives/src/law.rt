@@ -1,9 +1,8 @@
 // What a group alone holds of its processes.
 ghost use Rattle.past_lives.specs.Laws.{LivesHaveGroups, MembersAreSeen, WindowsAreWhole};
 
-use crate::blocks::blocks_are_whole;
 use arn_base::Record;
-use window_laws::instructions_keep_lengths;
+use window_laws::{blocks_are_whole, instructions_keep_lengths};
 
 /// Who has a body in a group alone, and which segment it holds, is told by the records themselves.
 pub fn members_are_seen()

@@ -2,7 +2,6 @@
 //! records alone.
 #![tactic(auto)]
 
-mod blocks;
 mod events;
 mod law;
 mod lives;

@@ -13,7 +13,7 @@ use Rattle.lineage_join.specs.declared.demand.Demand.{Demand}
 use Rattle.lineage_model.specs.Flow.{Byte}
 use Rattle.query_model.specs.Answers.{event_groups, event_pairs, moment_of}
 use Rattle.query_model.specs.Sources.{reaching}
-use Rattle.taint_laws.specs.Follows.{HasWholeBlocks}
+use Rattle.window_laws.specs.Blocks.{HasWholeBlocks}
 use Rattle.query_engine.specs.Demands.{byte_demands}
 use Rattle.query_engine.specs.Following.{Following, HasFollowed, IsOf, items_followed}
 use Rattle.query_engine.specs.Laws.{Laws}

@@ -15,7 +15,7 @@ use Rattle.lineage_model.specs.Flow.{At, Byte, StartRegister, StartSlot, StartMe
 use Rattle.lineage_model.specs.Tracking.{EventByte}
 use Rattle.parts_model.specs.declared.limits.TheConstants.{MOST_ASKED}
 use Rattle.query_model.specs.Sources.{items_in, tracked_at}
-use Rattle.taint_laws.specs.Follows.{HasWholeBlocks}
+use Rattle.window_laws.specs.Blocks.{HasWholeBlocks}
 use Rattle.taint_state.specs.Kept.{Kept}
 use Rattle.taint_state.specs.Shown.{IsRegisterByte}
 use Rattle.query_engine.specs.Following.{Following, HasFollowed, IsOf, has_byte, is_register_byte, is_there, items_by, items_followed, items_kept, tracker_of}

@@ -13,7 +13,7 @@ use Rattle.replay_steps.specs.declared.errors.ReplayError.{ReplayError}
 use Rattle.replay_steps.specs.declared.errors.ReplayError.TheVariants as replay_error
 use Rattle.replayer.specs.Bounds.{RunsBefore, ran_before}
 use Rattle.replayer.specs.Replays.{Replays}
-use Rattle.taint_laws.specs.Follows.{HasWholeBlocks}
+use Rattle.window_laws.specs.Blocks.{HasWholeBlocks}
 use Rattle.taint_laws.specs.Laws.{FollowsHolders, ToldHears, ToldHolds, ToldShows, following}
 use Rattle.taint_state.specs.Goes.{nothing_tracked}
 use Rattle.taint_state.specs.Kept.{Kept, shown}

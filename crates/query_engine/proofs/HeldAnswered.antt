@@ -25,7 +25,7 @@ use Rattle.query_model.specs.States.{HasByte, held_items, held_pairs, held_sourc
 use Rattle.query_model.specs.declared.held.Held.{Held}
 use Rattle.query_model.specs.declared.held.Part.{Part}
 use Rattle.query_model.specs.declared.held.Part.TheVariants as part
-use Rattle.taint_laws.specs.Follows.{HasWholeBlocks}
+use Rattle.window_laws.specs.Blocks.{HasWholeBlocks}
 use Rattle.query_laws.specs.Laws.{GroupsAreConnected, GroupsAreOne}
 use Rattle.query_engine.specs.Following.{Following, HasFollowed, IsFollowing, IsOf, items_followed, tracker_of}
 use Rattle.query_engine.specs.Laws.{Laws, LawsOfStates}

@@ -15,7 +15,7 @@ use Rattle.lineage_model.specs.Pairs.{pairs_from}
 use Rattle.lineage_model.specs.Tracking.{EventByte}
 use Rattle.parts_model.specs.declared.tagged.TaggedByte.{TaggedByte}
 use Rattle.query_model.specs.Names.{writer_of, written_groups, written_pairs, written_sources}
-use Rattle.taint_laws.specs.Follows.{HasWholeBlocks}
+use Rattle.window_laws.specs.Blocks.{HasWholeBlocks}
 use Rattle.query_laws.specs.Names.{AreWritten}
 use Rattle.query_engine.specs.Following.{Following, HasFollowed, IsOf, items_followed}
 use Rattle.query_engine.specs.Laws.{LawsOfNames}

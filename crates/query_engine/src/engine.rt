@@ -31,7 +31,7 @@ use replayer::QueryError;
 use rv64_model::Linkage;
 use std::alloc::Global;
 use std::sync::ledger::Ledger;
-use taint_laws::blocks_are_whole;
+use window_laws::blocks_are_whole;
 
 /// Of which bytes is asked where they come from.
 #[derive(Debug, Drop)]

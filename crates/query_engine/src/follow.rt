@@ -13,8 +13,9 @@ use replayer::{QueryError, replay};
 use rv64_model::Linkage;
 use std::alloc::Global;
 use std::sync::ledger::Ledger;
-use taint_laws::{blocks_are_whole, follows_holders, told_hears, told_holds, told_keeps};
+use taint_laws::{follows_holders, told_hears, told_holds, told_keeps};
 use taint_tracker::Tracker;
+use window_laws::blocks_are_whole;
 
 /// Replays a group up to a moment, and follows where its bytes come from.
 pub fn follow<L: Ledger>(

@@ -21,7 +21,7 @@ use parts_model::limits::MOST_ASKED;
 use replayer::QueryError;
 use rv64_model::Linkage;
 use std::alloc::Global;
-use taint_laws::blocks_are_whole;
+use window_laws::blocks_are_whole;
 
 /// The bytes of the file that has a name at a moment, each with the event byte that last wrote it.
 pub fn version(

@@ -24,7 +24,7 @@ use lineage_join::{Found, join, pairs_are_one, record_at};
 use parts_model::calls::WRITE;
 use rv64_model::Linkage;
 use std::alloc::Global;
-use taint_laws::blocks_are_whole;
+use window_laws::blocks_are_whole;
 
 /// Whether an event is a write whose bytes go to a file, to the console or to a device.
 fn is_sink(entry: &Record) -> bool

@@ -20,8 +20,8 @@ use query_model::{Held, Part};
 use rv64_model::Linkage;
 use set_store::Item;
 use std::alloc::Global;
-use taint_laws::blocks_are_whole;
 use taint_tracker::Point;
+use window_laws::blocks_are_whole;
 
 /// How many registers there are, x0 among them.
 const REGISTERS: u8 = 32;

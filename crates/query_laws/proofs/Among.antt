@@ -15,7 +15,7 @@ use Rattle.lineage_model.specs.Flow.{At}
 use Rattle.lineage_model.specs.Tracking.{EventByte}
 use Rattle.query_model.specs.Sinks.{is_among, items_among}
 use Rattle.query_model.specs.Sources.{items_in}
-use Rattle.taint_laws.specs.Follows.{HasWholeBlocks}
+use Rattle.window_laws.specs.Blocks.{HasWholeBlocks}
 use Rattle.taint_laws.specs.Laws.{FollowsHolders}
 use Rattle.taint_state.specs.Lens.{ActsHaveLen}
 use Rattle.query_laws.specs.Forth.{ReachingIsAmong}

@@ -30,7 +30,7 @@ use Rattle.arn_model.specs.Tells.{Adds, Along, Boots, EventTells, Happens, HasNu
 use Rattle.history_model.specs.Broken.{first_broken, misplaces_start}
 use Rattle.log_model.specs.Laws.{EventsRecorded}
 use Rattle.log_model.specs.Records.{records}
-use Rattle.taint_laws.specs.Follows.{AreWhole, HasWholeBlocks}
+use Rattle.window_laws.specs.Blocks.{AreWhole, HasWholeBlocks}
 use Rattle.query_laws.proofs.Lists.{kept-in}
 use Rattle.query_laws.proofs.Mapped.{in-map}
 use Rattle.query_laws.proofs.Origins.{is-placed}

@@ -22,7 +22,8 @@ use Rattle.lineage_model.specs.Flow.{At, Byte}
 use Rattle.lineage_model.specs.Tracking.{EventByte, untracked}
 use Rattle.query_model.specs.Sources.{items_in, items_at, tracked_of, tracked_at}
 use Rattle.taint_flow.specs.Names.{loaded_len}
-use Rattle.taint_laws.specs.Follows.{HasWholeBlocks, holders_from, none_heard, none_holds}
+use Rattle.taint_laws.specs.Follows.{holders_from, none_heard, none_holds}
+use Rattle.window_laws.specs.Blocks.{HasWholeBlocks}
 use Rattle.taint_laws.specs.Laws.{FollowsHolders}
 use Rattle.taint_state.specs.Lens.{ActsHaveLen}
 use Rattle.taint_state.specs.Shown.{IsRegisterByte}

@@ -25,7 +25,7 @@ use Rattle.query_model.specs.Sources.{items_at, reaching}
 use Rattle.query_model.specs.States.{HasByte, in_memory, items_among, items_made, location_of, set_at, set_of}
 use Rattle.query_model.specs.declared.held.Part.{Part}
 use Rattle.query_model.specs.declared.held.Part.TheVariants as part
-use Rattle.taint_laws.specs.Follows.{HasWholeBlocks}
+use Rattle.window_laws.specs.Blocks.{HasWholeBlocks}
 use Rattle.taint_laws.specs.Laws.{FollowsHolders}
 use Rattle.taint_state.specs.Lens.{ActsHaveLen}
 use Rattle.query_laws.specs.Received.{IsConnected, IsReceivedBy}

@@ -20,7 +20,7 @@ use Rattle.lineage_model.specs.Tracking.{EventByte}
 use Rattle.query_model.specs.Forth.{first_groups, forth_groups, has_copy, is_copy}
 use Rattle.query_model.specs.Sinks.{is_among, items_among}
 use Rattle.query_model.specs.Sources.{items_at, items_in, reaching, tracked_at}
-use Rattle.taint_laws.specs.Follows.{HasWholeBlocks}
+use Rattle.window_laws.specs.Blocks.{HasWholeBlocks}
 use Rattle.query_laws.specs.Forth.{HadFirst, Read, Took}
 use Rattle.query_laws.specs.Received.{HasTaken, IsItem, IsReceivedBy, ItemsAreReceived}
 use Rattle.query_laws.proofs.AskedForth.{forth-connected}

@@ -20,7 +20,7 @@ use Rattle.lineage_model.specs.Tracking.{EventByte}
 use Rattle.query_model.specs.Forth.{forth_groups}
 use Rattle.query_model.specs.Sinks.{forth_pairs, is_among, is_outward, is_sink, items_among, reaching_among, sinks_reached}
 use Rattle.query_model.specs.Sources.{items_at, reaching}
-use Rattle.taint_laws.specs.Follows.{HasWholeBlocks}
+use Rattle.window_laws.specs.Blocks.{HasWholeBlocks}
 use Rattle.query_laws.specs.ForthOfRuns.{ForthLosesNothing, IsSinkPair}
 use Rattle.query_laws.specs.Received.{ItemsAreReceived}
 use Rattle.query_laws.proofs.Links.{is-number}

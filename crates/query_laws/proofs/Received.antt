@@ -16,7 +16,8 @@ use Rattle.history_model.specs.Broken.{first_broken}
 use Rattle.lineage_model.specs.Flow.{At}
 use Rattle.lineage_model.specs.Tracking.{EventByte, untracked}
 use Rattle.query_model.specs.Sources.{tracked_of}
-use Rattle.taint_laws.specs.Follows.{HasWholeBlocks, holders_from, none_heard, none_holds}
+use Rattle.taint_laws.specs.Follows.{holders_from, none_heard, none_holds}
+use Rattle.window_laws.specs.Blocks.{HasWholeBlocks}
 use Rattle.taint_laws.specs.Laws.{FollowsHolders}
 use Rattle.taint_state.specs.Lens.{ActsHaveLen}
 use Rattle.query_laws.specs.Received.{IsItem, ItemsAreReceived}

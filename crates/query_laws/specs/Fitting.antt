@@ -11,7 +11,7 @@ use Rattle.lineage_model.specs.Flow.{At}
 use Rattle.lineage_model.specs.Joined.{reached}
 use Rattle.lineage_model.specs.Tracking.{EventByte}
 use Rattle.query_model.specs.Sources.{items_at, reaching}
-use Rattle.taint_laws.specs.Follows.{HasWholeBlocks}
+use Rattle.window_laws.specs.Blocks.{HasWholeBlocks}
 use Rattle.query_laws.specs.Received.{IsConnected}
 
 -- these items are those of groups alone, each at a byte that its event has, or none

@@ -17,7 +17,7 @@ use Rattle.lineage_model.specs.Joined.{Reaching, is_source}
 use Rattle.lineage_model.specs.Tracking.{EventByte}
 use Rattle.query_model.specs.Forth.{first_groups, groups_forth, has_copy}
 use Rattle.query_model.specs.Sinks.{is_among, is_sink, items_among, reaching_among, sinks_reached}
-use Rattle.taint_laws.specs.Follows.{HasWholeBlocks}
+use Rattle.window_laws.specs.Blocks.{HasWholeBlocks}
 
 -- the groups that are asked are those that can have received bytes from these, rising
 abbrev pub ForthIsConnected : Type 0

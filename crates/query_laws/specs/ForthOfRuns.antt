@@ -14,7 +14,7 @@ use Rattle.lineage_model.specs.Joined.{Reaching}
 use Rattle.log_model.specs.Records.{records}
 use Rattle.query_model.specs.Sinks.{forth_disagreement, forth_pairs, is_sink}
 use Rattle.query_model.specs.Sources.{reaching}
-use Rattle.taint_laws.specs.Follows.{HasWholeBlocks}
+use Rattle.window_laws.specs.Blocks.{HasWholeBlocks}
 use Rattle.query_laws.specs.OfRuns.{whole_points}
 
 -- byte `pair.at` of its event went out, and byte `from + pair.byte` of the event that is asked about is in what reached it

@@ -21,7 +21,7 @@ use Rattle.query_model.specs.Names.{Named, named_bytes, part_of, writer_of, writ
 use Rattle.query_model.specs.Sources.{items_at}
 use Rattle.rv64_model.specs.Carries.{Table, operands}
 use Rattle.rv64_model.specs.declared.linkage.Linkage.{Linkage}
-use Rattle.taint_laws.specs.Follows.{HasWholeBlocks}
+use Rattle.window_laws.specs.Blocks.{HasWholeBlocks}
 use Rattle.version_laws.specs.OfRuns.{version_in}
 use Rattle.query_laws.specs.Received.{IsConnected}
 

@@ -13,7 +13,7 @@ use Rattle.lineage_model.specs.Joined.{is_source}
 use Rattle.lineage_model.specs.Tracking.{EventByte}
 use Rattle.query_model.specs.Linked.{groups_back}
 use Rattle.query_model.specs.Sources.{tracked_at}
-use Rattle.taint_laws.specs.Follows.{HasWholeBlocks}
+use Rattle.window_laws.specs.Blocks.{HasWholeBlocks}
 
 -- the record's event has byte k, which came from outside, or is received with its origin
 pub record TakesByte (k : ℕ) (e : Record) : Type 0 where

@@ -21,7 +21,7 @@ use Rattle.log_model.specs.Records.{records}
 use Rattle.query_model.specs.Sources.{items_at}
 use Rattle.query_model.specs.States.{HasByte, held_disagreement, held_items, held_pairs, held_sources, part_len, set_of}
 use Rattle.query_model.specs.declared.held.Held.{Held}
-use Rattle.taint_laws.specs.Follows.{HasWholeBlocks}
+use Rattle.window_laws.specs.Blocks.{HasWholeBlocks}
 use Rattle.query_laws.specs.Received.{IsConnected}
 
 -- Each item of a byte that a process holds is a byte that its event has, under the operands of a linkage.

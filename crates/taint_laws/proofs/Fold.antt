@@ -20,7 +20,8 @@ use Rattle.history_model.specs.Broken.{Behind, Nowhere, ASlice, ADelivery, behin
 use Rattle.history_model.specs.Groups.{Groups, group_forked, groups_told, is_number}
 use Rattle.history_model.specs.Moments.{changed}
 use Rattle.taint_state.specs.Steps.{Holders}
-use Rattle.taint_laws.specs.Follows.{HasWholeBlocks, with_booted}
+use Rattle.taint_laws.specs.Follows.{with_booted}
+use Rattle.window_laws.specs.Blocks.{HasWholeBlocks}
 use Rattle.taint_laws.specs.Laws.{Followed}
 use Rattle.taint_laws.proofs.Records.{Ends, begins-ends, can-follow, child-after, child-number, more-after, record-child, start-room, un-not}
 use Rattle.taint_laws.proofs.Records as records

@@ -16,7 +16,7 @@ use Rattle.acts_model.specs.Acts.{Act, Delivers, Dies, beginning_in}
 use Rattle.acts_model.specs.Told.{Kind, Fork, Exec, Wait, Sigreturn, Read, Write, Shm, Other, kind_of, call_act, act_of}
 use Rattle.history_model.specs.Alone.{Own, Made, Makes, Fails, begins, begins_by, begins_if, call_start}
 use Rattle.history_model.specs.Broken.{cant_follow, child_in, greatest, greatest_after, has_blocks_wrong, lacks_slice, misnumbers, start_in}
-use Rattle.taint_laws.specs.Follows.{HasWholeBlocks}
+use Rattle.window_laws.specs.Blocks.{HasWholeBlocks}
 use Rattle.taint_laws.proofs.Rooms.{blocks-room, zeros-len}
 use Rattle.taint_laws.proofs.States.{IsChild}
 

@@ -1,16 +1,11 @@
 -- That the steps inside a group are those of its members, by what these hold.
-use Rattle.std.specs.Prelude.{◌≡◌, ℕ, List, [], ◌∷◌, length, Option, Some, None, IfSome, IsNone, option_map}
-use Rattle.std.specs.List.{All}
-use Rattle.arn_base.specs.declared.machine.Block.{Block}
+use Rattle.std.specs.Prelude.{◌≡◌, ℕ, List, [], ◌∷◌, Option, Some, None, IsNone, option_map}
 use Rattle.arn_base.specs.declared.records.Record.{Record}
 use Rattle.arn_base.specs.declared.records.Record.TheVariants as entry
-use Rattle.arn_base.specs.declared.records.Start.{Start}
 use Rattle.rv64_isa.specs.declared.instruction.Instr.{Instr}
-use Rattle.parts_model.specs.declared.limits.TheConstants.{BLOCK_LEN}
 use Rattle.acts_model.specs.Bodies.{Bodies, body_at}
 use Rattle.acts_model.specs.Moved.{Event, Inside}
 use Rattle.acts_model.specs.Transfers.{holds_of}
-use Rattle.history_model.specs.Broken.{start_in}
 use Rattle.taint_state.specs.Goes.{Hearings, begin_inside, heard_after}
 use Rattle.taint_state.specs.Steps.{Holders, event_step, fresh_holds, holders_after, instr_step, with_holder}
 
@@ -62,11 +57,3 @@ IsNew heard (Some event) = IsNone (heard event.number)
 abbrev pub AreNew : Hearings → List Inside → Type 0
 AreNew heard [] = Unit {0}
 AreNew heard (inside ∷ list) = IsNew heard inside.event × AreNew (heard_after inside heard) list
-
--- blocks have as many bytes as a block has
-abbrev pub AreWhole : List Block → Type 0
-AreWhole blocks = All (λ (block : Block). length block.bytes ≡ BLOCK_LEN) blocks
-
--- so have those with which a child begins
-abbrev pub HasWholeBlocks : Record → Type 0
-HasWholeBlocks e = IfSome (start_in e) (λ (start : Start). AreWhole start.blocks)

@@ -16,7 +16,8 @@ use Rattle.replay_steps.specs.Notices.{Listener, Told, notices}
 use Rattle.taint_state.specs.Goes.{ArePossible, Hearing, TakesBegin, TakesInstr, TakesEvent, hearings_of, nothing_tracked}
 use Rattle.taint_state.specs.Shown.{Shows, Tracking}
 use Rattle.taint_state.specs.Steps.{holders_of}
-use Rattle.taint_laws.specs.Follows.{AreNew, AreSteps, HasWholeBlocks, heard_from, holders_from, holders_in, none_heard, none_holds}
+use Rattle.taint_laws.specs.Follows.{AreNew, AreSteps, heard_from, holders_from, holders_in, none_heard, none_holds}
+use Rattle.window_laws.specs.Blocks.{HasWholeBlocks}
 
 -- the steps are those of members, are possible, are events that weren't heard before, and come to what the bodies hold
 pub record Followed (own : Own) : Type 0 where

@@ -1,7 +1,7 @@
 use Rattle.std.proofs.Common.{◌≡◌, ℕ, All, Option, Some, None, IfSome, is_some, refl}
 use Rattle.acts_model.specs.Bodies.{View, seen}
 use Rattle.acts_model.specs.Views.{can_reach}
-use Rattle.past_lives.specs.Blocks.{HasWholeBlocks}
+use Rattle.window_laws.specs.Blocks.{HasWholeBlocks}
 use Rattle.past_lives.specs.Members.{is_present}
 use Rattle.past_lives.proofs.Fold.{alone-told}
 use Rattle.past_lives.proofs.Reach.{reaches-present}

@@ -1,7 +1,7 @@
 // That blocks are whole, which their type says.
 ghost use Rattle.std.specs.Prelude.{◌≡◌, All, length};
 ghost use Rattle.parts_model.specs.declared.limits.TheConstants.{BLOCK_LEN};
-ghost use Rattle.taint_laws.specs.Follows.{AreWhole, HasWholeBlocks};
+ghost use Rattle.window_laws.specs.Blocks.{AreWhole, HasWholeBlocks};
 
 use arn_base::{Block, Extra, Record};
 

@@ -2,8 +2,8 @@ use Rattle.std.proofs.Common.{◌≡◌, ◌≤◌, length, subst, arith, take_a
 use Rattle.std.proofs.lemmas.List.Elements.{All-more}
 use Rattle.arn_base.specs.declared.machine.Block.{Block}
 use Rattle.parts_model.specs.declared.limits.TheConstants.{BLOCK_LEN}
-use Rattle.past_lives.specs.Blocks.{AreWhole}
-use Rattle.past_lives.proofs.blocks.are_whole.Goals as goal
+use Rattle.window_laws.specs.Blocks.{AreWhole}
+use Rattle.window_laws.proofs.blocks.are_whole.Goals as goal
 
 pub loop-block-preserved : goal.loop-block-preserved
 loop-block-preserved c =

@@ -1,7 +1,7 @@
 use Rattle.std.proofs.Common.{◌≤◌, length, All, subst, arith, take_all}
 use Rattle.std.proofs.lemmas.List.Elements.{All-more}
-use Rattle.past_lives.specs.Blocks.{HasWholeBlocks}
-use Rattle.past_lives.proofs.blocks.blocks_are_whole.Goals as goal
+use Rattle.window_laws.specs.Blocks.{HasWholeBlocks}
+use Rattle.window_laws.proofs.blocks.blocks_are_whole.Goals as goal
 
 pub loop-entry-preserved : goal.loop-entry-preserved
 loop-entry-preserved c =
