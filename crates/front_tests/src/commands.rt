@@ -1,9 +1,9 @@
 use crate::same::assert_same;
-use arn_base::{Bytes, Numbers, SliceSource};
+use arn_base::{Bytes, NoMemory, Numbers, SliceSource};
 use arn_commands::{Command, Commands, Next, ReadError, parts_ask_one_way};
 use arn_lines::{Line, MOST_LINE};
 use std::alloc::{AllocError, Global};
-use std::test::Fail;
+use std::process::Abort;
 
 /// `asm p`, the line `li a0, 1` and `end`, as an image: the instruction is as clang assembles it.
 const IMAGE: &[u8] = b"ARNIMG01\
@@ -47,39 +47,28 @@ fn push_command(
     text.push_str(behind)
 }
 
-// Writes what came next, and answers whether more may come.
+// Writes what came next.
 fn push_next(
     text: &mut String,
     alloc: Global,
-    next: Result<Next, ReadError>,
-) -> Result<bool, AllocError> {
+    next: &Result<Next, ReadError>,
+) -> Result<(), AllocError> {
     match next {
-        Ok(Next::More { command }) => {
-            push_command(text, alloc, "", &command, ", ")?;
-            Ok(true)
-        }
-        Ok(Next::Last { command }) => {
-            push_command(text, alloc, "last ", &command, "")?;
-            Ok(false)
-        }
-        Ok(Next::End) => {
-            text.push_str("end")?;
-            Ok(false)
-        }
-        Err(error) => {
-            write!(text, "{error}")?;
-            Ok(false)
-        }
+        Ok(Next::More { command }) => push_command(text, alloc, "", command, ", "),
+        Ok(Next::Last { command }) => push_command(text, alloc, "last ", command, ""),
+        Ok(Next::End) => text.push_str("end"),
+        Err(error) => Ok(write!(text, "{error}")?),
     }
 }
 
 // The commands that a source gives, and how they end, as text.
-fn shown_commands(alloc: Global, source: &mut SliceSource, most: u64) -> Result<String, Fail> {
+fn shown_commands(alloc: Global, source: &mut SliceSource, most: u64) -> Result<String, NoMemory> {
     let mut commands = Commands::new(alloc)?;
     let mut text = String::new(alloc);
     for _ in 0..most {
         let next = commands.next(source);
-        if !push_next(&mut text, alloc, next)? {
+        push_next(&mut text, alloc, &next)?;
+        if !matches!(next, Ok(Next::More { .. })) {
             break;
         }
     }
@@ -87,7 +76,7 @@ fn shown_commands(alloc: Global, source: &mut SliceSource, most: u64) -> Result<
 }
 
 // The commands of a text that comes in pieces of so many bytes at most.
-fn shown_text(alloc: Global, text: &[u8], piece: usize) -> Result<String, Fail> {
+fn shown_text(alloc: Global, text: &[u8], piece: usize) -> Result<String, NoMemory> {
     let bytes = Bytes::from_slice(alloc, text)?;
     let mut source = SliceSource::in_pieces(bytes, Numbers::new(alloc), piece);
     shown_commands(alloc, &mut source, text.len() as u64 + 1)
@@ -135,12 +124,12 @@ const TEXTS: &[(&str, &str)] = &[
     ("asm p\necall\r\nend\n", "faulty 1, end"),
 ];
 
-#[test]
-fn texts_are_read(rt: HostRuntime) -> Result<(), Fail> {
+// The texts are read in one piece, and byte by byte.
+fn assert_texts(rt: &(impl Abort + AllocGlobal)) -> Result<(), NoMemory> {
     for (text, wanted) in TEXTS {
         for piece in [text.len(), 1] {
             let found = shown_text(rt.alloc(), text.as_bytes(), piece)?;
-            assert_same(&rt, (*text, found.as_str()), (*text, *wanted));
+            assert_same(rt, (*text, found.as_str()), (*text, *wanted));
         }
     }
     Ok(())
@@ -188,29 +177,36 @@ const LONG_LINES: &[(&str, u8, usize, &str, &str)] = &[
     ),
 ];
 
-#[test]
-fn lines_have_a_mebibyte_at_most(rt: HostRuntime) -> Result<(), Fail> {
+// What is read of lines that are nearly too long, and of longer ones.
+fn assert_long_read(rt: &(impl Abort + AllocGlobal)) -> Result<(), NoMemory> {
     for (front, byte, count, back, wanted) in LONG_LINES {
         let text = around(rt.alloc(), front, *byte, *count, back)?;
         let found = shown_text(rt.alloc(), text.as_slice(), text.len())?;
-        assert_same(&rt, (*count, found.as_str()), (*count, *wanted));
+        assert_same(rt, (*count, found.as_str()), (*count, *wanted));
     }
     Ok(())
 }
 
-#[test]
-fn a_failing_source_gives_up_a_block(rt: HostRuntime) -> Result<(), Fail> {
+// The source gives one byte at once, and its call 14 fails, which gives up a block.
+fn assert_given_up(rt: &(impl Abort + AllocGlobal)) -> Result<(), NoMemory> {
     let bytes = Bytes::from_slice(rt.alloc(), b"run 1\nasm p\necall\nend\n")?;
     let mut fails = Numbers::new(rt.alloc());
     fails.push(14)?;
     let mut source = SliceSource::in_pieces(bytes, fails, 1);
     let found = shown_commands(rt.alloc(), &mut source, 5)?;
-    assert_same(&rt, found.as_str(), "run 1, the source failed");
+    assert_same(rt, found.as_str(), "run 1, the source failed");
     Ok(())
 }
 
+#[test]
+fn texts_are_read(rt: HostRuntime) -> Result<(), NoMemory> {
+    assert_texts(&rt)?;
+    assert_long_read(&rt)?;
+    assert_given_up(&rt)
+}
+
 // The first command of a text, behind which others may stand.
-fn first_command(alloc: Global, text: &[u8]) -> Result<Option<Command>, Fail> {
+fn first_command(alloc: Global, text: &[u8]) -> Result<Option<Command>, ReadError> {
     let text = Bytes::from_slice(alloc, text)?;
     let mut source = SliceSource::new(text, Numbers::new(alloc));
     let mut commands = Commands::new(alloc)?;
@@ -220,8 +216,7 @@ fn first_command(alloc: Global, text: &[u8]) -> Result<Option<Command>, Fail> {
     }
 }
 
-#[test]
-fn a_block_is_its_image(rt: HostRuntime) -> Result<(), Fail> {
+fn assert_image(rt: &(impl Abort + AllocGlobal)) -> Result<(), ReadError> {
     let command = first_command(rt.alloc(), b"asm p\nli a0, 1\nend\n")?;
     parts_ask_one_way();
     let Some(
@@ -232,12 +227,11 @@ fn a_block_is_its_image(rt: HostRuntime) -> Result<(), Fail> {
     else {
         panic!(rt; "no file")
     };
-    assert_same(&rt, bytes.as_slice(), IMAGE);
+    assert_same(rt, bytes.as_slice(), IMAGE);
     Ok(())
 }
 
-#[test]
-fn a_line_of_the_generator_is_its_program(rt: HostRuntime) -> Result<(), Fail> {
+fn assert_generated(rt: &(impl Abort + AllocGlobal)) -> Result<(), ReadError> {
     let command = first_command(rt.alloc(), b"gen 7 12\n")?;
     let Some(
         Command::Generates {
@@ -250,6 +244,12 @@ fn a_line_of_the_generator_is_its_program(rt: HostRuntime) -> Result<(), Fail> {
         panic!(rt; "no program")
     };
     assert!(rt; image.as_slice().starts_with(b"ARNIMG01"));
-    assert_same(&rt, (typed.len(), processes), (4_096, 12));
+    assert_same(rt, (typed.len(), processes), (4_096, 12));
     Ok(())
+}
+
+#[test]
+fn blocks_and_lines_of_the_generator_are_images(rt: HostRuntime) -> Result<(), ReadError> {
+    assert_image(&rt)?;
+    assert_generated(&rt)
 }

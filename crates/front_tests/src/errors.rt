@@ -3,9 +3,9 @@ use crate::same::assert_same;
 use arn_commands::ReadError;
 use asm_text::AsmKind;
 use guest_asm::AsmError;
+use std::alloc::AllocError;
 use std::fmt::Display;
 use std::process::Abort;
-use std::test::Fail;
 
 // Errors, and the texts that are wanted.
 type Shown<E> = (E, &'static str);
@@ -31,7 +31,7 @@ const READING: &[Shown<ReadError>] = &[
 fn assert_shown<E: Display>(
     rt: &(impl Abort + AllocGlobal),
     cases: &[Shown<E>],
-) -> Result<(), Fail> {
+) -> Result<(), AllocError> {
     for (error, wanted) in cases {
         let text = error.to_string(rt.alloc())?;
         assert_same(rt, text.as_str(), *wanted);
@@ -39,8 +39,12 @@ fn assert_shown<E: Display>(
     Ok(())
 }
 
+fn assert_all_shown(rt: &(impl Abort + AllocGlobal)) -> Result<(), AllocError> {
+    assert_shown(rt, ASSEMBLING)?;
+    assert_shown(rt, READING)
+}
+
 #[test]
-fn errors_show_why(rt: HostRuntime) -> Result<(), Fail> {
-    assert_shown(&rt, ASSEMBLING)?;
-    assert_shown(&rt, READING)
+fn errors_show_why(rt: HostRuntime) -> Result<(), AllocError> {
+    assert_all_shown(&rt)
 }

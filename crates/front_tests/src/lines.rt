@@ -1,5 +1,5 @@
 use crate::same::assert_same;
-use arn_base::Pair;
+use arn_base::{NoMemory, Pair};
 use arn_lines::{
     Aspect, Line, LineReading, MOST_LINE, Question, Refusal, RunEnd, Sought, block_name, push_back,
     push_damaged, push_event, push_forth, push_out, push_pair, push_ran, push_refusal, read_line,
@@ -7,7 +7,6 @@ use arn_lines::{
 use rv64_model::Linkage;
 use std::alloc::{AllocError, Global};
 use std::process::Abort;
-use std::test::Fail;
 
 // A reading as text, with the bytes of words as lists of numbers.
 fn shown(alloc: Global, reading: &LineReading) -> Result<String, AllocError> {
@@ -107,7 +106,10 @@ fn linkage_word(linkage: Linkage) -> &'static str {
 }
 
 /// These are the readings of these lines.
-fn assert_readings(rt: &(impl Abort + AllocGlobal), cases: &[(&str, &str)]) -> Result<(), Fail> {
+fn assert_readings(
+    rt: &(impl Abort + AllocGlobal),
+    cases: &[(&str, &str)],
+) -> Result<(), NoMemory> {
     for (line, wanted) in cases {
         let reading = read_line(rt.alloc(), line.as_bytes())?;
         let found = shown(rt.alloc(), &reading)?;
@@ -174,11 +176,6 @@ const LINES: &[(&str, &str)] = &[
     ("asm", "unreadable"),
 ];
 
-#[test]
-fn lines_are_read(rt: HostRuntime) -> Result<(), Fail> {
-    assert_readings(&rt, LINES)
-}
-
 /// Lines of the generator, and what is read of each.
 const GENERATORS: &[(&str, &str)] = &[
     ("gen 7 12", "generates 7 12"),
@@ -190,11 +187,6 @@ const GENERATORS: &[(&str, &str)] = &[
     ("gen  7 1", "unreadable"),
     ("gen 7 1 ", "unreadable"),
 ];
-
-#[test]
-fn lines_of_the_generator_are_read(rt: HostRuntime) -> Result<(), Fail> {
-    assert_readings(&rt, GENERATORS)
-}
 
 /// Questions, and what is read of each.
 const QUESTIONS: &[(&str, &str)] = &[
@@ -249,9 +241,15 @@ const QUESTIONS: &[(&str, &str)] = &[
     ("verify", "verify"),
 ];
 
+fn assert_all_readings(rt: &(impl Abort + AllocGlobal)) -> Result<(), NoMemory> {
+    assert_readings(rt, LINES)?;
+    assert_readings(rt, GENERATORS)?;
+    assert_readings(rt, QUESTIONS)
+}
+
 #[test]
-fn questions_are_read(rt: HostRuntime) -> Result<(), Fail> {
-    assert_readings(&rt, QUESTIONS)
+fn lines_are_read(rt: HostRuntime) -> Result<(), NoMemory> {
+    assert_all_readings(&rt)
 }
 
 /// Lines that are nearly questions.
@@ -335,13 +333,17 @@ const NO_QUESTIONS: &[&str] = &[
     "Verify",
 ];
 
-#[test]
-fn what_is_no_question_is_unreadable(rt: HostRuntime) -> Result<(), Fail> {
+fn assert_unreadable(rt: &(impl Abort + AllocGlobal)) -> Result<(), NoMemory> {
     for line in NO_QUESTIONS {
         let reading = read_line(rt.alloc(), line.as_bytes())?;
         assert!(rt; matches!(reading, LineReading::Unreadable), "at {line}");
     }
     Ok(())
+}
+
+#[test]
+fn what_is_no_question_is_unreadable(rt: HostRuntime) -> Result<(), NoMemory> {
+    assert_unreadable(&rt)
 }
 
 /// First lines of blocks and other lines, and the block's name.
@@ -364,66 +366,72 @@ const BLOCKS: &[(&str, Option<&str>)] = &[
     ("", None),
 ];
 
-#[test]
-fn blocks_are_named(rt: HostRuntime) {
+fn assert_blocks(rt: &impl Abort) {
     for (line, wanted) in BLOCKS {
         let found = block_name(line.as_bytes());
         let name = wanted.map(|name| name.as_bytes());
-        assert_same(&rt, (*line, found), (*line, name));
+        assert_same(rt, (*line, found), (*line, name));
     }
 }
 
-// Whether a `boot` line is read whose name has so many bytes.
-fn boots(alloc: Global, len: usize) -> Result<bool, Fail> {
-    let name = "n".repeat(alloc, len)?;
-    let line = format!(in alloc; "boot {name}")?;
-    match read_line(alloc, line.as_bytes())? {
+#[test]
+fn blocks_are_named(rt: HostRuntime) {
+    assert_blocks(&rt)
+}
+
+// A word for a reading.
+fn kind(reading: &LineReading) -> &'static str {
+    match reading {
         LineReading::Says {
             line: Line::Boot { .. },
-        } => Ok(true),
-        LineReading::Unreadable => Ok(false),
-        _ => Err(Fail::from("another reading")),
-    }
-}
-
-#[test]
-fn names_have_64_bytes_at_most(rt: HostRuntime) -> Result<(), Fail> {
-    let read = [boots(rt.alloc(), 64)?, boots(rt.alloc(), 65)?];
-    assert_same(&rt, read, [true, false]);
-    Ok(())
-}
-
-#[test]
-fn names_of_blocks_have_64_bytes_at_most(rt: HostRuntime) -> Result<(), Fail> {
-    let longest = "n".repeat(rt.alloc(), 64)?;
-    let line = format!(in rt.alloc(); "asm {longest}")?;
-    assert_same(&rt, block_name(line.as_bytes()), Some(longest.as_bytes()));
-    let line = format!(in rt.alloc(); "asm {longest}n")?;
-    assert_same(&rt, block_name(line.as_bytes()), None);
-    Ok(())
-}
-
-// Whether a `file` line is read that is `extra` bytes longer than a line may be.
-fn reads_file(alloc: Global, extra: usize) -> Result<bool, Fail> {
-    let mut line = Vec::from_slice(alloc, b"file pp ")?;
-    let zeros = vec![in alloc; b'0'; MOST_LINE - 8]?;
-    line.extend_from_slice(zeros.as_slice())?;
-    let zeros = vec![in alloc; b'0'; extra]?;
-    line.extend_from_slice(zeros.as_slice())?;
-    match read_line(alloc, line.as_slice())? {
+        } => "boot",
         LineReading::Says {
             line: Line::File { .. },
-        } => Ok(true),
-        LineReading::TooLong => Ok(false),
-        _ => Err(Fail::from("another reading")),
+        } => "file",
+        LineReading::Unreadable => "unreadable",
+        LineReading::TooLong => "too long",
+        _ => "another",
     }
 }
 
-#[test]
-fn lines_have_a_mebibyte_at_most(rt: HostRuntime) -> Result<(), Fail> {
-    let read = [reads_file(rt.alloc(), 0)?, reads_file(rt.alloc(), 2)?];
-    assert_same(&rt, read, [true, false]);
+// How a `boot` line is read whose name has so many bytes.
+fn boot_kind(alloc: Global, len: usize) -> Result<&'static str, NoMemory> {
+    let name = "n".repeat(alloc, len)?;
+    let line = format!(in alloc; "boot {name}")?;
+    Ok(kind(&read_line(alloc, line.as_bytes())?))
+}
+
+// The block that a name of so many bytes opens has this name.
+fn assert_named(
+    rt: &(impl Abort + AllocGlobal),
+    len: usize,
+    is_named: bool,
+) -> Result<(), NoMemory> {
+    let name = "n".repeat(rt.alloc(), len)?;
+    let line = format!(in rt.alloc(); "asm {name}")?;
+    let wanted = is_named.then_some(name.as_bytes());
+    assert_same(rt, block_name(line.as_bytes()), wanted);
     Ok(())
+}
+
+fn assert_names(rt: &(impl Abort + AllocGlobal)) -> Result<(), NoMemory> {
+    let read = [boot_kind(rt.alloc(), 64)?, boot_kind(rt.alloc(), 65)?];
+    assert_same(rt, read, ["boot", "unreadable"]);
+    assert_named(rt, 64, true)?;
+    assert_named(rt, 65, false)
+}
+
+#[test]
+fn names_have_64_bytes_at_most(rt: HostRuntime) -> Result<(), NoMemory> {
+    assert_names(&rt)
+}
+
+// How a `file` line is read whose bytes have so many digits. Eight bytes stand before them.
+fn file_kind(alloc: Global, digits: usize) -> Result<&'static str, NoMemory> {
+    let mut line = Vec::from_slice(alloc, b"file pp ")?;
+    let zeros = vec![in alloc; b'0'; digits]?;
+    line.extend_from_slice(zeros.as_slice())?;
+    Ok(kind(&read_line(alloc, line.as_slice())?))
 }
 
 // This is read of a line of so many times a byte.
@@ -432,7 +440,7 @@ fn assert_reads_long(
     byte: u8,
     count: usize,
     wanted: &str,
-) -> Result<(), Fail> {
+) -> Result<(), NoMemory> {
     let line = vec![in rt.alloc(); byte; count]?;
     let reading = read_line(rt.alloc(), line.as_slice())?;
     let found = shown(rt.alloc(), &reading)?;
@@ -440,41 +448,53 @@ fn assert_reads_long(
     Ok(())
 }
 
-#[test]
-fn long_nonsense_is_too_long(rt: HostRuntime) -> Result<(), Fail> {
-    assert_reads_long(&rt, b' ', MOST_LINE, "unreadable")?;
-    assert_reads_long(&rt, b' ', MOST_LINE + 1, "too long")
+// Nonsense is too long, and a comment is passed over.
+fn assert_longest(rt: &(impl Abort + AllocGlobal)) -> Result<(), NoMemory> {
+    let longest = file_kind(rt.alloc(), MOST_LINE - 8)?;
+    let longer = file_kind(rt.alloc(), MOST_LINE - 6)?;
+    assert_same(rt, [longest, longer], ["file", "too long"]);
+    assert_reads_long(rt, b' ', MOST_LINE, "unreadable")?;
+    assert_reads_long(rt, b' ', MOST_LINE + 1, "too long")?;
+    assert_reads_long(rt, b'#', MOST_LINE + 1, "passed over")
 }
 
 #[test]
-fn long_comments_are_passed_over(rt: HostRuntime) -> Result<(), Fail> {
-    assert_reads_long(&rt, b'#', MOST_LINE + 1, "passed over")
+fn lines_have_a_mebibyte_at_most(rt: HostRuntime) -> Result<(), NoMemory> {
+    assert_longest(&rt)
 }
 
-#[test]
-fn answers_are_written(rt: HostRuntime) -> Result<(), Fail> {
+// What is told of events and of runs.
+fn push_told(text: &mut String) -> Result<(), NoMemory> {
+    push_event(text, 0)?;
+    push_out(text, 4, 1, b"abc")?;
+    push_out(text, 5, 2, b"")?;
+    push_out(text, 6, 4294967295, &[0x80, 0xff, 0x0a])?;
+    push_ran(text, 11, RunEnd::Done)?;
+    push_ran(text, 4, RunEnd::Stalled)?;
+    push_ran(text, 1_000_000, RunEnd::Budget)
+}
+
+const PAIR: &Pair = &Pair {
+    event: 2,
+    at: 94,
+    byte: 1,
+};
+
+// What is answered to questions.
+fn push_answers(text: &mut String) -> Result<(), NoMemory> {
+    push_pair(text, PAIR)?;
+    push_back(text, 3, 11, &[1])?;
+    push_back(text, 0, 0, &[])?;
+    push_back(text, 3, u128::MAX, &[1, 3, 4294967295])?;
+    push_forth(text, 1, 22, &[1, 2])?;
+    push_forth(text, 0, 0, &[])?;
+    push_damaged(text, 10, 22, 12)
+}
+
+fn assert_answers(rt: &(impl Abort + AllocGlobal)) -> Result<(), NoMemory> {
     let mut text = String::new(rt.alloc());
-    push_event(&mut text, 0)?;
-    push_out(&mut text, 4, 1, b"abc")?;
-    push_out(&mut text, 5, 2, b"")?;
-    push_out(&mut text, 6, 4294967295, &[0x80, 0xff, 0x0a])?;
-    push_ran(&mut text, 11, RunEnd::Done)?;
-    push_ran(&mut text, 4, RunEnd::Stalled)?;
-    push_ran(&mut text, 1_000_000, RunEnd::Budget)?;
-    push_pair(
-        &mut text,
-        &Pair {
-            event: 2,
-            at: 94,
-            byte: 1,
-        },
-    )?;
-    push_back(&mut text, 3, 11, &[1])?;
-    push_back(&mut text, 0, 0, &[])?;
-    push_back(&mut text, 3, u128::MAX, &[1, 3, 4294967295])?;
-    push_forth(&mut text, 1, 22, &[1, 2])?;
-    push_forth(&mut text, 0, 0, &[])?;
-    push_damaged(&mut text, 10, 22, 12)?;
+    push_told(&mut text)?;
+    push_answers(&mut text)?;
     let wanted = "event 0
 out 4 1 616263
 out 5 2 -
@@ -490,8 +510,13 @@ forth pairs 1 instructions 22 groups 1 2
 forth pairs 0 instructions 0 groups -
 damaged 10 22 12
 ";
-    assert_same(&rt, text.as_str(), wanted);
+    assert_same(rt, text.as_str(), wanted);
     Ok(())
+}
+
+#[test]
+fn answers_are_written(rt: HostRuntime) -> Result<(), NoMemory> {
+    assert_answers(&rt)
 }
 
 /// Refusals, and what is written for each.
@@ -511,12 +536,16 @@ const REFUSALS: &[(Refusal, &str)] = &[
     (Refusal::NoPoint, "no point\n"),
 ];
 
-#[test]
-fn refusals_are_written(rt: HostRuntime) -> Result<(), Fail> {
+fn assert_refusals(rt: &(impl Abort + AllocGlobal)) -> Result<(), NoMemory> {
     for (refusal, wanted) in REFUSALS {
         let mut text = String::new(rt.alloc());
         push_refusal(&mut text, *refusal)?;
-        assert_same(&rt, text.as_str(), *wanted);
+        assert_same(rt, text.as_str(), *wanted);
     }
     Ok(())
+}
+
+#[test]
+fn refusals_are_written(rt: HostRuntime) -> Result<(), NoMemory> {
+    assert_refusals(&rt)
 }

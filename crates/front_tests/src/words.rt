@@ -1,7 +1,7 @@
 use crate::same::assert_same;
 use arn_words::{WordsError, read_words, refusal_text};
 use std::alloc::{AllocError, Global};
-use std::test::Fail;
+use std::process::Abort;
 
 fn owned(alloc: Global, texts: &[&str]) -> Result<Vec<String>, AllocError> {
     let mut words = Vec::new(alloc);
@@ -73,11 +73,10 @@ const WORDS: &[(&[&str], &str)] = &[
     (&["log", "--seed", "+007"], "\"log\" 1000 7 false"),
 ];
 
-#[test]
-fn words_say_how_to_run(rt: HostRuntime) -> Result<(), Fail> {
+fn assert_said(rt: &(impl Abort + AllocGlobal)) -> Result<(), AllocError> {
     for (texts, wanted) in WORDS {
         let found = said(rt.alloc(), texts)?;
-        assert_same(&rt, found.as_str(), *wanted);
+        assert_same(rt, found.as_str(), *wanted);
     }
     Ok(())
 }
@@ -104,12 +103,20 @@ const CAUSES: &[(&[&str], &str)] = &[
     ),
 ];
 
-#[test]
-fn refused_words_are_told_what_is_wrong(rt: HostRuntime) -> Result<(), Fail> {
+fn assert_refused(rt: &(impl Abort + AllocGlobal)) -> Result<(), AllocError> {
     for (texts, wanted) in CAUSES {
         let found = refusal(rt.alloc(), texts)?;
-        assert_same(&rt, found.as_str().starts_with(*wanted), true);
-        assert_same(&rt, found.as_str().is_empty(), wanted.is_empty());
+        let told = (
+            found.as_str().starts_with(*wanted),
+            found.as_str().is_empty(),
+        );
+        assert_same(rt, told, (true, wanted.is_empty()));
     }
     Ok(())
+}
+
+#[test]
+fn words_say_how_to_run_or_what_is_wrong(rt: HostRuntime) -> Result<(), AllocError> {
+    assert_said(&rt)?;
+    assert_refused(&rt)
 }
