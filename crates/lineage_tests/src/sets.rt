@@ -7,6 +7,8 @@ const FIRST: Item = Item { event: 1, at: 0 };
 
 const SECOND: Item = Item { event: 2, at: 5 };
 
+const THIRD: Item = Item { event: 4, at: 70 };
+
 // Whether these are the members of a set.
 fn has(sets: &Sets, set: usize, wanted: &[Item]) -> Result<bool, NoMemory> {
     if set < sets.len() {
@@ -71,6 +73,43 @@ fn ask(rt: &impl Abort, sets: &mut Sets) -> Result<(), NoMemory> {
 fn check(rt: &(impl Abort + AllocGlobal), memo: u32) -> Result<(), NoMemory> {
     let mut sets = Sets::new(rt.alloc(), memo)?;
     ask(rt, &mut sets)
+}
+
+// Carries a set over, and looks how many sets there are then.
+fn carry(
+    rt: &(impl Abort + AllocGlobal),
+    from: &Sets,
+    into: &mut Sets,
+    set: usize,
+    wanted: &[Item],
+    len: usize,
+) -> Result<(), NoMemory> {
+    let mut noted = vec![in rt.alloc(); 0; from.len()]?;
+    let numbers = noted.as_mut_slice();
+    let number = into.carry(from, numbers, set)?;
+    assert!(rt; has(into, number, wanted)?);
+    assert!(rt; into.len() == len);
+    let again = into.carry(from, numbers, set)?;
+    assert_same(rt, (set, again), (set, number));
+    Ok(())
+}
+
+#[test]
+fn what_is_named_is_carried_over(rt: HostRuntime) -> Result<(), NoMemory> {
+    let mut from = Sets::new(rt.alloc(), 1)?;
+    let a = single(&mut from, FIRST)?;
+    let c = single(&mut from, THIRD)?;
+    let b = single(&mut from, SECOND)?;
+    let both = union(&rt, &mut from, a, b)?;
+    let all = union(&rt, &mut from, both, c)?;
+    let mut into = Sets::new(rt.alloc(), 1)?;
+    // The empty set is there, and one that isn't there is empty.
+    carry(&rt, &from, &mut into, 0, &[], 1)?;
+    carry(&rt, &from, &mut into, from.len(), &[], 1)?;
+    // Both of its members are, and nothing else.
+    carry(&rt, &from, &mut into, both, &[FIRST, SECOND], 4)?;
+    carry(&rt, &from, &mut into, b, &[SECOND], 4)?;
+    carry(&rt, &from, &mut into, all, &[FIRST, SECOND, THIRD], 6)
 }
 
 #[test]

@@ -1,5 +1,7 @@
 // The nodes of a trie.
-ghost use Rattle.std.specs.Prelude.{◌≡◌, ◌↔◌, ◌⊎◌, ◌<◌, ◌≤◌, ◌-◌, ◌/◌, ◌^◌, ◌++◌, Contains, IfOk, IsTrue};
+ghost use Rattle.std.specs.Prelude.{◌≡◌, ◌↔◌, ◌⊎◌, ◌<◌, ◌≤◌, ◌+◌, ◌-◌, ◌/◌, ◌%◌, ◌^◌, [], ◌∷◌, ◌++◌, Contains, IfOk, IsTrue};
+ghost use Rattle.set_store.specs.declared.item.Item.{Item};
+ghost use Rattle.set_store.specs.Sets.{IsNear, IsUnionOf};
 ghost use Rattle.set_store.specs.Tries.{IsRow, byte_of, items_of, place};
 
 use crate::item::Item;
@@ -88,6 +90,55 @@ pub fn has(row: Row, item: Item) -> bool
         return false;
     }
     row.mask >> (item.at % ROW_LEN) & 1 == 1
+}
+
+/// The row of one item.
+pub fn row_of(item: Item) -> Row
+    ensures row { IsRow result }
+    ensures event { result.event ≡ item.event }
+    ensures place { result.row ≡ item.at / 64 }
+    ensures members { items_of result ≡ item ∷ [] }
+{
+    Row {
+        event: item.event,
+        row: item.at / ROW_LEN,
+        mask: 1 << (item.at % ROW_LEN),
+    }
+}
+
+/// A row with one more of its items.
+fn with(row: Row, item: Item) -> Row
+    requires row { IsRow row }
+    requires event { row.event ≡ item.event }
+    requires place { row.row ≡ item.at / 64 }
+    ensures row { IsRow result }
+    ensures event { result.event ≡ row.event }
+    ensures place { result.row ≡ row.row }
+    ensures members { IsUnionOf (items_of result) (items_of row) (item ∷ []) }
+{
+    Row {
+        mask: row.mask | 1 << (item.at % ROW_LEN),
+        ..row
+    }
+}
+
+/// The row of so many bytes of an event that follow each other, where they lie in one.
+pub fn neighbours(first: Item, len: u64) -> Row
+    requires some { 0 < len }
+    requires inside { first.at % 64 + len ≤ 64 }
+    ensures row { IsRow result }
+    ensures event { result.event ≡ first.event }
+    ensures place { result.row ≡ first.at / 64 }
+    ensures members { (item : Item) → Contains (items_of result) item ↔ IsNear first len item }
+{
+    if len == 1 {
+        return row_of(first);
+    }
+    let last = Item {
+        event: first.event,
+        at: first.at + (len - 1),
+    };
+    with(neighbours(first, len - 1), last)
 }
 
 // Pushes the item of one byte, where the row has it.

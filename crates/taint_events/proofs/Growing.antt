@@ -1,7 +1,7 @@
 -- Received bytes, as they are numbered.
 use Rattle.std.proofs.Common.{◌≡◌, ℕ, ◌+◌, ◌*◌, ◌-◌, ◌<◌, ◌≤◌, List, length, slice_index, sym, subst, ◌∙◌, arith}
 use Rattle.parts_model.specs.declared.limits.TheConstants.{WINDOW_START}
-use Rattle.taint_sets.specs.Numbered.{AreReceivedFrom, IsItem, Numbered, StandAsBefore}
+use Rattle.taint_spans.specs.Numbered.{AreReceivedFrom, IsItem, Numbered, StandAsBefore}
 use Rattle.taint_pages.specs.Pages.{AreUnset}
 use Rattle.taint_pages.specs.declared.page.Unset.TheVariants.{From}
 use Rattle.taint_pages.specs.Rows.{byte_in}

@@ -1,7 +1,7 @@
 -- The numbers of a member that begins without a parent: each byte is an item by itself.
 use Rattle.std.specs.Prelude.{◌≡◌, ◌≢◌, ℕ, ◌+◌, ◌-◌, ◌*◌, ◌<◌, List, length, slice_index}
 use Rattle.parts_model.specs.declared.limits.TheConstants.{WINDOW_START}
-use Rattle.taint_sets.specs.Numbered.{IsItem, Numbered}
+use Rattle.taint_spans.specs.Numbered.{IsItem, Numbered}
 use Rattle.taint_events.specs.Starting.{window_len}
 use Rattle.taint_pages.specs.Rows.{byte_in}
 

@@ -1,6 +1,6 @@
 -- The numbers of an event's bytes.
 use Rattle.std.specs.Prelude.{◌≡◌, ℕ, ◌<◌, List, length, slice_index}
-use Rattle.taint_sets.specs.Numbered.{IsItem, Numbered}
+use Rattle.taint_spans.specs.Numbered.{IsItem, Numbered}
 use Rattle.taint_pages.specs.Rows.{byte_in}
 
 -- so many bytes, each of which takes nothing

@@ -1,6 +1,6 @@
 // A member that begins without a parent.
 ghost use Rattle.std.specs.Prelude.{◌≡◌, ◌<◌, ◌≤◌, ◌+◌, ◌^◌, None, IfOk};
-ghost use Rattle.taint_sets.specs.Numbered.{StandAsBefore};
+ghost use Rattle.taint_spans.specs.Numbered.{StandAsBefore};
 ghost use Rattle.taint_events.specs.Beginning.{AreItemsFrom, AreItemsOfRow, BeginsRegisters, Counts, CountsRegister};
 
 use arn_base::NoMemory;
@@ -9,7 +9,7 @@ use rv64_isa::Reg;
 use std::alloc::Global;
 use taint_members::MemberSets;
 use taint_pages::{Row, SetNumbers, Unset};
-use taint_sets::ByteSets;
+use taint_spans::SpanSets;
 
 /// How many pages a private window has.
 const WINDOW_PAGES: usize = 64;
@@ -43,7 +43,7 @@ fn count_row(first: u32) -> Row
 }
 
 /// A member that begins without a parent: each byte is an item by itself, but for x10.
-pub fn begun(alloc: Global, sets: &mut ByteSets, event: u64) -> Result<MemberSets, NoMemory>
+pub fn begun(alloc: Global, sets: &mut SpanSets, event: u64) -> Result<MemberSets, NoMemory>
     ensures registers { IfOk result (λ member. BeginsRegisters sets.new event member.registers) }
     ensures slot { IfOk result (λ member. AreItemsOfRow sets.new event 248 member.slot) }
     ensures window { IfOk result (λ member. AreItemsFrom sets.new event member.window) }

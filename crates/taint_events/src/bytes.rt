@@ -1,6 +1,6 @@
 // The numbers of the sets of the bytes of an event.
 ghost use Rattle.std.specs.Prelude.{◌≡◌, ◌<◌, ◌^◌, IfOk, OnOk};
-ghost use Rattle.taint_sets.specs.Numbered.{StandAsBefore};
+ghost use Rattle.taint_spans.specs.Numbered.{StandAsBefore};
 ghost use Rattle.taint_events.specs.Bytes.{AreEmpty, AreGiven, AreReceived, IsStatus};
 ghost use Rattle.taint_members.specs.Access.{HoldsKey, number_at};
 
@@ -9,7 +9,7 @@ use rv64_isa::Reg;
 use std::alloc::Global;
 use taint_members::{MemberSets, number};
 use taint_pages::SetNumbers;
-use taint_sets::ByteSets;
+use taint_spans::SpanSets;
 
 /// How many bytes an event moves at most: there is no memory for more.
 const MOST: usize = 0x7fff_ffff;
@@ -38,7 +38,7 @@ pub fn empty(alloc: Global, len: usize) -> Result<Vec<u32>, NoMemory>
 /// So many received bytes, each of which is an item by itself.
 pub fn received(
     alloc: Global,
-    sets: &mut ByteSets,
+    sets: &mut SpanSets,
     event: u64,
     len: usize,
 ) -> Result<Vec<u32>, NoMemory>

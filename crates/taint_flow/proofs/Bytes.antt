@@ -6,7 +6,7 @@ use Rattle.arn_base.specs.declared.errors.NoMemory.{NoMemory}
 use Rattle.rv64_model.specs.Carries.{Operand, Left, Right, Loaded, Address}
 use Rattle.set_store.specs.declared.item.Item.{Item}
 use Rattle.set_store.specs.Sets.{IsUnionOf}
-use Rattle.taint_sets.specs.Numbered.{IsSet, Numbered, StandAsBefore, members_of}
+use Rattle.taint_spans.specs.Numbered.{IsSet, Numbered, StandAsBefore, members_of}
 use Rattle.link_rules.specs.declared.masks.Operands.{Operands}
 use Rattle.link_rules.specs.Masks.{has_byte, is_in}
 use Rattle.taint_flow.specs.Gathered.{AddsByte, AreNumbers, Gathers, Includes, IsAmong, IsTaken, TakesBytes, byte_count, number_of}

@@ -5,7 +5,7 @@ use Rattle.std.proofs.lemmas.Bool.{ltb-true, ltb-false, lt-ltb}
 use Rattle.arn_base.specs.declared.errors.NoMemory.{NoMemory}
 use Rattle.rv64_model.specs.Carries.{Operand, Left, Right, Loaded, both, first_bytes, taken_if}
 use Rattle.set_store.specs.declared.item.Item.{Item}
-use Rattle.taint_sets.specs.Numbered.{IsSet, Numbered, members_of}
+use Rattle.taint_spans.specs.Numbered.{IsSet, Numbered, members_of}
 use Rattle.taint_flow.specs.declared.flow.Flow.{Flow}
 use Rattle.taint_flow.specs.declared.flow.Flow.TheVariants.{First, Second, Memory, Rising, Carried, Whole, Bytewise}
 use Rattle.taint_flow.specs.Flow.{IsFlow, IsWidth, Moves, reach}

@@ -7,7 +7,7 @@ use Rattle.std.proofs.lemmas.List.Elements.{Contains-append_left, Contains-appen
 use Rattle.rv64_model.specs.Carries.{Operand, Left, Right, below, both, first_bytes}
 use Rattle.set_store.specs.declared.item.Item.{Item}
 use Rattle.set_store.specs.Sets.{IsUnionOf}
-use Rattle.taint_sets.specs.Numbered.{IsSet, Numbered, StandAsBefore, members_of}
+use Rattle.taint_spans.specs.Numbered.{IsSet, Numbered, StandAsBefore, members_of}
 use Rattle.taint_flow.specs.Flow.{IsWidth, reach}
 use Rattle.taint_flow.specs.Gathered.{Includes}
 use Rattle.taint_flow.specs.Results.{TakesOperands}

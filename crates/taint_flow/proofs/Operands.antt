@@ -5,7 +5,7 @@ use Rattle.std.proofs.lemmas.Bool.{ltb-true, ltb-false}
 use Rattle.std.proofs.lemmas.Grind.{get_or-set_at}
 use Rattle.std.proofs.lemmas.List.{get_or-set_other}
 use Rattle.rv64_model.specs.Carries.{Operand}
-use Rattle.taint_sets.specs.Numbered.{IsSet, Numbered, StandAsBefore}
+use Rattle.taint_spans.specs.Numbered.{IsSet, Numbered, StandAsBefore}
 use Rattle.link_rules.specs.declared.masks.Operands.{Operands}
 use Rattle.link_rules.specs.Masks.{is_in}
 use Rattle.taint_flow.specs.Gathered.{AreNumbers, Gathers, number_of}

@@ -2,7 +2,7 @@
 use Rattle.std.specs.Prelude.{◌≡◌, ◌⊎◌, ◌↔◌, ℕ, ◌^◌, ◌<◌, IsTrue, List, length, slice_index, Contains}
 use Rattle.rv64_model.specs.Carries.{Operand, Left, Right, Loaded, Address}
 use Rattle.set_store.specs.declared.item.Item.{Item}
-use Rattle.taint_sets.specs.Numbered.{IsSet, Numbered, members_of}
+use Rattle.taint_spans.specs.Numbered.{IsSet, Numbered, members_of}
 use Rattle.link_rules.specs.declared.masks.Operands.{Operands}
 use Rattle.link_rules.specs.Masks.{has_byte, is_in}
 

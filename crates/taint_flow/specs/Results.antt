@@ -2,7 +2,7 @@
 use Rattle.std.specs.Prelude.{◌≡◌, ◌↔◌, ℕ, ◌<◌, List, length, slice_index, Contains}
 use Rattle.rv64_model.specs.Carries.{Operand}
 use Rattle.set_store.specs.declared.item.Item.{Item}
-use Rattle.taint_sets.specs.Numbered.{IsSet, Numbered, members_of}
+use Rattle.taint_spans.specs.Numbered.{IsSet, Numbered, members_of}
 use Rattle.taint_flow.specs.Gathered.{byte_count}
 
 -- an item is in the set of one of these operands

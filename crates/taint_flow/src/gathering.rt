@@ -1,13 +1,13 @@
 // The set of several bytes.
 ghost use Rattle.std.specs.Prelude.{◌≡◌, ◌-◌, ◌<◌, if◌then◌else◌, IfOk, IsTrue, slice_index};
 ghost use Rattle.set_store.specs.Sets.{IsUnionOf};
-ghost use Rattle.taint_sets.specs.Numbered.{IsSet, StandAsBefore, members_of};
+ghost use Rattle.taint_spans.specs.Numbered.{IsSet, StandAsBefore, members_of};
 ghost use Rattle.link_rules.specs.Masks.{has_byte};
 ghost use Rattle.taint_flow.specs.Gathered.{AreNumbers, AddsByte, Gathers, Includes, TakesBytes, byte_count};
 
 use arn_base::NoMemory;
 use link_rules::Operands;
-use taint_sets::ByteSets;
+use taint_spans::SpanSets;
 
 /// All bytes of a register.
 const ALL: u8 = 0b1111_1111;
@@ -25,7 +25,7 @@ fn has(mask: u8, byte: u8) -> bool
 /// mask has that: nothing new comes where both have the same number.
 #[inline(always)]
 fn with_byte(
-    sets: &mut ByteSets,
+    sets: &mut SpanSets,
     set: u32,
     mask: u8,
     byte: u8,
@@ -51,7 +51,7 @@ fn with_byte(
 }
 
 /// The set with the members of all bytes' sets besides that a mask has.
-fn with_bytes(sets: &mut ByteSets, start: u32, mask: u8, numbers: &[u32]) -> Result<u32, NoMemory>
+fn with_bytes(sets: &mut SpanSets, start: u32, mask: u8, numbers: &[u32]) -> Result<u32, NoMemory>
     requires start { IsSet sets.old start }
     requires numbers { AreNumbers sets.old numbers.now }
     ensures takes { IfOk result (TakesBytes sets.old sets.new numbers.now mask byte_count start) }
@@ -76,7 +76,7 @@ fn address_bytes(masks: Operands) -> u8
 
 /// The set of the bytes that masks name, of two registers and of what is loaded.
 pub fn gather(
-    sets: &mut ByteSets,
+    sets: &mut SpanSets,
     masks: Operands,
     first: &[u32],
     second: &[u32],

@@ -11,12 +11,12 @@ ghost use Rattle.taint_flow.specs.Results.{AreResults};
 use crate::flow::{Flow, of_load, of_store};
 use rv64_isa::Instr;
 use rv64_model::Linkage;
-use taint_sets::ByteSets;
+use taint_spans::SpanSets;
 
 /// Whether an instruction moves the sets of the bytes that it loads to a register as they are. The sets are asked for what is
 /// promised of the empty one alone.
 #[inline(always)]
-pub fn moves_loaded(sets: &ByteSets, linkage: Linkage, instr: &Instr) -> bool
+pub fn moves_loaded(sets: &SpanSets, linkage: Linkage, instr: &Instr) -> bool
     ensures moves { IsTrue result ↔ MovesLoaded linkage instr.now }
     ensures results { MovesLoaded linkage instr.now → (first second loaded numbers : List ℕ) →
         AreNumbers sets.now loaded → Moves loaded (loaded_len instr.now) numbers →
@@ -34,7 +34,7 @@ pub fn moves_loaded(sets: &ByteSets, linkage: Linkage, instr: &Instr) -> bool
 /// Whether an instruction moves the sets of a register's bytes to those that it stores as they are. The sets are asked for what is
 /// promised of the empty one alone.
 #[inline(always)]
-pub fn moves_stored(sets: &ByteSets, linkage: Linkage, instr: &Instr) -> bool
+pub fn moves_stored(sets: &SpanSets, linkage: Linkage, instr: &Instr) -> bool
     ensures moves { IsTrue result ↔ MovesStored linkage instr.now }
     ensures results { MovesStored linkage instr.now → (first second loaded numbers : List ℕ) →
         AreNumbers sets.now second → Moves second (stored_len instr.now) numbers →

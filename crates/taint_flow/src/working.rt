@@ -2,18 +2,18 @@
 ghost use Rattle.std.specs.Prelude.{ℕ, List, IfOk, ◌++◌, ◌-◌, ◌<◌, slice_index};
 ghost use Rattle.rv64_model.specs.Carries.{Left, Right, both, first_bytes};
 ghost use Rattle.set_store.specs.Sets.{IsUnionOf};
-ghost use Rattle.taint_sets.specs.Numbered.{IsSet, StandAsBefore, members_of};
+ghost use Rattle.taint_spans.specs.Numbered.{IsSet, StandAsBefore, members_of};
 ghost use Rattle.taint_flow.specs.Flow.{IsWidth, reach};
 ghost use Rattle.taint_flow.specs.Gathered.{AreNumbers, Includes, byte_count, number_of};
 ghost use Rattle.taint_flow.specs.Results.{AreResults};
 
 use arn_base::NoMemory;
-use taint_sets::ByteSets;
+use taint_spans::SpanSets;
 
 /// The set with the members of a byte's set besides. It has those of the byte below, if there is one: nothing new comes where
 /// both have the same number.
 #[inline(always)]
-fn with_next(sets: &mut ByteSets, set: u32, numbers: &[u32], byte: usize) -> Result<u32, NoMemory>
+fn with_next(sets: &mut SpanSets, set: u32, numbers: &[u32], byte: usize) -> Result<u32, NoMemory>
     requires set { IsSet sets.old set }
     requires numbers { AreNumbers sets.old numbers.now }
     requires byte { byte < byte_count }
@@ -30,7 +30,7 @@ fn with_next(sets: &mut ByteSets, set: u32, numbers: &[u32], byte: usize) -> Res
 }
 
 /// Each byte of a result of so many bytes is worked out from that of the register and all below it; the bytes above are its sign.
-pub fn rising(sets: &mut ByteSets, first: &[u32], width: usize) -> Result<[u32; 8], NoMemory>
+pub fn rising(sets: &mut SpanSets, first: &[u32], width: usize) -> Result<[u32; 8], NoMemory>
     requires first { AreNumbers sets.old first.now }
     requires width { IsWidth width }
     ensures results { (second loaded : List ℕ) → IfOk result (AreResults sets.old sets.new
@@ -52,7 +52,7 @@ pub fn rising(sets: &mut ByteSets, first: &[u32], width: usize) -> Result<[u32; 
 
 /// The same of two registers.
 pub fn carried(
-    sets: &mut ByteSets,
+    sets: &mut SpanSets,
     first: &[u32],
     second: &[u32],
     width: usize,
@@ -80,7 +80,7 @@ pub fn carried(
 }
 
 /// Each byte is worked out from the lowest bytes of the register, so many as this says.
-pub fn whole(sets: &mut ByteSets, first: &[u32], width: usize) -> Result<[u32; 8], NoMemory>
+pub fn whole(sets: &mut SpanSets, first: &[u32], width: usize) -> Result<[u32; 8], NoMemory>
     requires first { AreNumbers sets.old first.now }
     requires width { IsWidth width }
     ensures results { (second loaded : List ℕ) → IfOk result (AreResults sets.old sets.new
@@ -94,7 +94,7 @@ pub fn whole(sets: &mut ByteSets, first: &[u32], width: usize) -> Result<[u32; 8
 /// The set of a byte of both registers. It is that of the byte below where both have the same numbers there.
 #[inline(always)]
 fn in_place(
-    sets: &mut ByteSets,
+    sets: &mut SpanSets,
     below: u32,
     first: &[u32],
     second: &[u32],
@@ -120,7 +120,7 @@ fn in_place(
 }
 
 /// Each byte is worked out from those of both registers in its place.
-pub fn bytewise(sets: &mut ByteSets, first: &[u32], second: &[u32]) -> Result<[u32; 8], NoMemory>
+pub fn bytewise(sets: &mut SpanSets, first: &[u32], second: &[u32]) -> Result<[u32; 8], NoMemory>
     requires first { AreNumbers sets.old first.now }
     requires second { AreNumbers sets.old second.now }
     ensures results { (loaded : List ℕ) → IfOk result (AreResults sets.old sets.new

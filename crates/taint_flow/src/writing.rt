@@ -1,7 +1,7 @@
 // The sets of an instruction's result.
 ghost use Rattle.std.specs.Prelude.{◌≡◌, ◌↔◌, ℕ, List, [], IfOk, IfSome, IsSome, IsTrue, length, replicate, slice_index};
 ghost use Rattle.rv64_model.specs.Carries.{operands};
-ghost use Rattle.taint_sets.specs.Numbered.{IsSet, StandAsBefore, members_of};
+ghost use Rattle.taint_spans.specs.Numbered.{IsSet, StandAsBefore, members_of};
 ghost use Rattle.taint_flow.specs.Flow.{IsFlow, Moves};
 ghost use Rattle.taint_flow.specs.Gathered.{AreNumbers, byte_count, number_of};
 ghost use Rattle.taint_flow.specs.Results.{AreResults};
@@ -14,11 +14,11 @@ use arn_base::NoMemory;
 use link_rules::inputs;
 use rv64_isa::Instr;
 use rv64_model::Linkage;
-use taint_sets::ByteSets;
+use taint_spans::SpanSets;
 
 // The empty set for each byte.
 #[inline(always)]
-fn none(sets: &ByteSets) -> [u32; 8]
+fn none(sets: &SpanSets) -> [u32; 8]
     ensures numbers { result ≡ replicate 8 0 }
     ensures empty { members_of sets.now 0 ≡ [] }
     ensures set { IsSet sets.now 0 }
@@ -29,7 +29,7 @@ fn none(sets: &ByteSets) -> [u32; 8]
 
 // The first numbers as they are.
 #[inline(always)]
-fn moved(sets: &ByteSets, numbers: &[u32], count: u8) -> [u32; 8]
+fn moved(sets: &SpanSets, numbers: &[u32], count: u8) -> [u32; 8]
     requires { length numbers.now ≡ byte_count }
     ensures moves { Moves numbers.now count result }
     ensures empty { members_of sets.now 0 ≡ [] }
@@ -56,7 +56,7 @@ fn is_empty(numbers: &[u32]) -> bool
 // that of the caller needs no place in memory.
 #[inline(never)]
 fn mixed(
-    sets: &mut ByteSets,
+    sets: &mut SpanSets,
     linkage: Linkage,
     instr: Instr,
     first: &[u32],
@@ -86,7 +86,7 @@ fn mixed(
 
 // The sets of what an instruction works out.
 fn worked(
-    sets: &mut ByteSets,
+    sets: &mut SpanSets,
     flow: Flow,
     linkage: Linkage,
     instr: &Instr,
@@ -118,7 +118,7 @@ fn worked(
 /// the bytes of rs1 and rs2, and of those that it loads.
 #[inline(always)]
 pub fn results(
-    sets: &mut ByteSets,
+    sets: &mut SpanSets,
     linkage: Linkage,
     instr: &Instr,
     first: &[u32],
@@ -145,7 +145,7 @@ pub fn results(
 /// The sets of the bytes of a result none of which takes anything, of an instruction that accesses no memory. What its
 /// registers have needs no look.
 #[inline(always)]
-pub fn silent(sets: &ByteSets, linkage: Linkage, instr: &Instr) -> Option<[u32; 8]>
+pub fn silent(sets: &SpanSets, linkage: Linkage, instr: &Instr) -> Option<[u32; 8]>
     ensures silent { IsSome result ↔ IsSilent linkage instr.now }
     ensures results { (first second loaded : List ℕ) → IfSome result (AreResults sets.now sets.now
         (number_of first second loaded) (operands linkage instr.now)) }

@@ -1,7 +1,7 @@
 -- How tables of a group change by a step of one member that leaves the segments as they are.
 use Rattle.std.specs.Prelude.{◌≡◌, ◌≢◌, ◌⊎◌, ℕ, List, slice_set, Option, Some, None, option_map}
 use Rattle.parts_model.specs.Numbered.{nth}
-use Rattle.taint_sets.specs.Numbered.{StandAsBefore}
+use Rattle.taint_spans.specs.Numbered.{StandAsBefore}
 use Rattle.taint_members.specs.declared.member.MemberSets.{MemberSets}
 use Rattle.taint_steps.specs.Table.{Tables}
 use Rattle.rv64_model.specs.declared.linkage.Linkage.{Linkage}

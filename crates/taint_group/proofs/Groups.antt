@@ -4,7 +4,7 @@ use Rattle.std.proofs.Math.Seq.{take-append_seam}
 use Rattle.arn_base.specs.declared.machine.Cpu.{Cpu}
 use Rattle.rv64_isa.specs.declared.instruction.Instr.{Instr}
 use Rattle.parts_model.specs.Numbered.{nth}
-use Rattle.taint_sets.specs.Numbered.{Numbered, StandAsBefore}
+use Rattle.taint_spans.specs.Numbered.{Numbered, StandAsBefore}
 use Rattle.taint_members.specs.declared.member.MemberSets.{MemberSets}
 use Rattle.taint_steps.specs.Table.{RunsMember, Tables}
 use Rattle.rv64_model.specs.declared.linkage.Linkage.{Linkage}

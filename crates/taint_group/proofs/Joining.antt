@@ -4,7 +4,7 @@ use Rattle.arn_base.specs.declared.machine.Cpu.{Cpu}
 use Rattle.arn_base.specs.declared.records.Record.{Record}
 use Rattle.arn_base.specs.declared.records.Record.TheVariants as entry
 use Rattle.parts_model.specs.Numbered.{nth}
-use Rattle.taint_sets.specs.Numbered.{Numbered, StandAsBefore}
+use Rattle.taint_spans.specs.Numbered.{Numbered, StandAsBefore}
 use Rattle.acts_model.specs.Records.{event_len}
 use Rattle.acts_model.specs.Transfers.{Forks, Holds, Receives, Transfer, place_of}
 use Rattle.acts_model.specs.Views.{cpu_at}

@@ -11,3 +11,4 @@ pub mod Turning
 pub mod Joining
 pub mod Sharing
 pub mod Happening
+mod Carrying

@@ -23,7 +23,7 @@ use Rattle.taint_group.proofs.Groups.{tables_with}
 use Rattle.taint_group.proofs.Joining.{GoesAt, goes-there, tables-there}
 use Rattle.taint_group.proofs.Tables.{at-some, nth-map, nth-other, nth-set}
 use Rattle.taint_group.proofs.Turning.{nth-past, stand-still}
-use Rattle.taint_sets.specs.Numbered.{Numbered}
+use Rattle.taint_spans.specs.Numbered.{Numbered}
 
 -- what is kept of a member with this segment
 abbrev pub kept_by : Segments → MemberSets → Option Shared → KeptMember

@@ -6,7 +6,7 @@ use Rattle.rv64_isa.specs.declared.instruction.Instr.{Instr}
 use Rattle.rv64_model.specs.Operands.{accessed, stored_len}
 use Rattle.parts_model.specs.declared.limits.TheConstants.{WINDOW_START, SEGMENT_START}
 use Rattle.parts_model.specs.Numbered.{nth}
-use Rattle.taint_sets.specs.Numbered.{IsSet, StandAsBefore}
+use Rattle.taint_spans.specs.Numbered.{IsSet, StandAsBefore}
 use Rattle.acts_model.specs.Transfers.{is_private, is_shared}
 use Rattle.taint_members.specs.Access.{ByTest, HoldsKey, Segments, WritesHeld, held_numbers}
 use Rattle.taint_members.specs.declared.member.MemberSets.{MemberSets}

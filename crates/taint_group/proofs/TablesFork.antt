@@ -1,7 +1,7 @@
 -- How tables of a group change where a member makes a child in the group.
 use Rattle.std.specs.Prelude.{◌≡◌, ◌≢◌, ℕ, List, Some}
 use Rattle.parts_model.specs.Numbered.{nth}
-use Rattle.taint_sets.specs.Numbered.{StandAsBefore}
+use Rattle.taint_spans.specs.Numbered.{StandAsBefore}
 use Rattle.taint_members.specs.declared.member.MemberSets.{MemberSets}
 use Rattle.taint_steps.specs.Table.{Tables}
 use Rattle.rv64_model.specs.declared.linkage.Linkage.{Linkage}

@@ -1,7 +1,7 @@
 -- One member of a group changes, and an event is heard.
 use Rattle.std.proofs.Common.{◌≡◌, ◌⊎◌, inl, ℕ, zero, suc, ◌≤◌, ◌<◌, List, [], ◌∷◌, length, slice_index_or, Option, Some, None, IfSome, IsSomeAnd, option_map, refl, sym, subst, ap, ◌∙◌, arith}
 use Rattle.parts_model.specs.Numbered.{nth}
-use Rattle.taint_sets.specs.Numbered.{Numbered, StandAsBefore}
+use Rattle.taint_spans.specs.Numbered.{Numbered, StandAsBefore}
 use Rattle.acts_model.specs.Moved.{Inside}
 use Rattle.taint_members.specs.Access.{held_numbers}
 use Rattle.taint_members.specs.declared.member.MemberSets.{MemberSets}

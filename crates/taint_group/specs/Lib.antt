@@ -1,4 +1,5 @@
 pub mod Tables
+pub mod Carried
 pub mod Groups
 pub mod Moves
 pub mod Turns

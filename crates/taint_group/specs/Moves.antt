@@ -9,7 +9,7 @@ use Rattle.taint_members.specs.declared.member.MemberSets.{MemberSets}
 use Rattle.taint_members.specs.declared.member.Shared.{Shared}
 use Rattle.taint_state.specs.Shown.{register_bytes}
 use Rattle.taint_group.specs.Tables.{HaveOneKey}
-use Rattle.taint_sets.specs.Numbered.{Numbered}
+use Rattle.taint_spans.specs.Numbered.{Numbered}
 
 -- a member begins at a number
 pub record Places (pid : ℕ) (m : MemberSets) (old new : List (Option MemberSets)) : Type 0 where

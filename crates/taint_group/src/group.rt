@@ -12,19 +12,19 @@ use std::alloc::Global;
 use taint_events::empty;
 use taint_members::MemberSets;
 use taint_pages::SetNumbers;
-use taint_sets::ByteSets;
+use taint_spans::SpanSets;
 use taint_state::{HeardEvents, returns_show, runs_keep, runs_show};
 use taint_steps::run_member;
 
 /// How many unions are remembered at most.
-const MEMO: u32 = 65_536;
+pub(crate) const MEMO: u32 = 65_536;
 
 /// What is kept of a group: of its members by number, of segments by key, and of its events in
 /// order.
 #[derive(Drop)]
 pub struct Group {
     pub linkage: Linkage,
-    pub sets: ByteSets,
+    pub sets: SpanSets,
     pub members: Vec<Option<MemberSets>>,
     pub segments: Vec<SetNumbers>,
     pub heard: HeardEvents,
@@ -58,17 +58,30 @@ impl Group {
     {
         Ok(Group {
             linkage,
-            sets: ByteSets::new(alloc, MEMO)?,
+            sets: SpanSets::new(alloc, MEMO)?,
             members: Vec::new(alloc),
             segments: Vec::new(alloc),
             heard: HeardEvents::new(alloc),
         })
     }
 
-    /// A member runs an instruction that the next one follows. After an error nothing is known of
-    /// what is kept.
+    /// A member runs an instruction that the next one follows. Where there are many sets, those that
+    /// nobody names go first. After an error nothing is known of what is kept.
     #[inline(always)]
     pub fn instruction(&mut self, pid: u32, instr: &Instr, before: &Cpu) -> Result<(), NoMemory>
+        requires sound { IsSoundGroup self.old }
+        ensures takes { OnOk result
+            (TakesInstr (shown (kept_of self.old)) pid instr.now before.now
+            (shown (kept_of self.new))) }
+        ensures sound { OnOk result (IsSoundGroup self.new) }
+    {
+        self.tidy()?;
+        self.run(pid, instr, before)
+    }
+
+    /// The same, with the sets that there are.
+    #[inline(always)]
+    fn run(&mut self, pid: u32, instr: &Instr, before: &Cpu) -> Result<(), NoMemory>
         requires sound { IsSoundGroup self.old }
         ensures takes { OnOk result
             (TakesInstr (shown (kept_of self.old)) pid instr.now before.now

@@ -63,9 +63,21 @@ impl Group {
         }
     }
 
-    /// An event happens, with the registers before it. One of no live member changes nothing. After
-    /// an error nothing is known of what is kept.
+    /// An event happens, with the registers before it. One of no live member changes nothing. Where
+    /// there are many sets, those that nobody names go first. After an error nothing is known of
+    /// what is kept.
     pub fn happened(&mut self, event: u64, entry: &Record, before: &Cpu) -> Result<(), NoMemory>
+        requires sound { IsSoundGroup self.old }
+        ensures takes { OnOk result (TakesEvent (shown (kept_of self.old))
+            event entry.now before.now (shown (kept_of self.new))) }
+        ensures sound { OnOk result (IsSoundGroup self.new) }
+    {
+        self.tidy()?;
+        self.hears(event, entry, before)
+    }
+
+    /// The same, with the sets that there are.
+    fn hears(&mut self, event: u64, entry: &Record, before: &Cpu) -> Result<(), NoMemory>
         requires sound { IsSoundGroup self.old }
         ensures takes { OnOk result (TakesEvent (shown (kept_of self.old))
             event entry.now before.now (shown (kept_of self.new))) }

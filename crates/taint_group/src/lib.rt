@@ -3,6 +3,7 @@
 #![tactic(auto)]
 
 mod begin;
+mod collects;
 mod ends;
 mod forks;
 mod founds;

@@ -1,13 +1,16 @@
 // A live member.
-ghost use Rattle.std.specs.Prelude.{◌≡◌, ◌*◌, Bool, None, Some, IfOk};
+ghost use Rattle.std.specs.Prelude.{◌≡◌, ◌*◌, Bool, None, Some, IfOk, OnOk};
 ghost use Rattle.taint_pages.specs.declared.page.Unset.TheVariants.{Zero};
 ghost use Rattle.taint_pages.specs.Pages.{AreUnset, page_len};
+ghost use Rattle.taint_members.specs.Carried.{CarriesMember};
+ghost use Rattle.taint_spans.specs.Carried.{CarriesOn};
 ghost use Rattle.taint_members.specs.Rows.{AreZero, ClearsResult, IsSaved, window_pages};
 
 use arn_base::NoMemory;
 use rv64_isa::Reg;
 use std::alloc::Global;
 use taint_pages::{Row, SetNumbers, Unset};
+use taint_spans::Carrying;
 
 /// How many pages a private window has.
 pub const WINDOW_PAGES: usize = 64;
@@ -119,6 +122,16 @@ impl MemberSets {
             made: event,
             segment: None,
         })
+    }
+
+    /// Gives each byte the number that its set has from now on.
+    pub fn carry(&mut self, carrying: &mut Carrying) -> Result<(), NoMemory>
+        ensures carried { OnOk result (CarriesMember carrying.new self.old self.new) }
+        ensures on { CarriesOn carrying.old carrying.new }
+    {
+        self.registers.carry(carrying)?;
+        self.slot.carry(carrying)?;
+        self.window.carry(carrying)
     }
 
     /// The member gets a fresh segment, in the place of one that it may hold.

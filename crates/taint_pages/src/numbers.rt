@@ -1,6 +1,8 @@
 // The numbers of a memory's bytes.
 ghost use Rattle.std.specs.Prelude.{◌≡◌, ◌<◌, ◌≤◌, ◌+◌, ◌-◌, ◌*◌, ◌%◌, ◌^◌, ◌&&◌, nat_lt, nat_le, length, slice_index, ℕ, ◌↔◌, IsTrue, false, IfOk, IfSome, OnOk, OnErr};
-ghost use Rattle.taint_pages.specs.Pages.{AreEight, AreUnset, FitsIn, Puts, Sets, SetsInside, page_len};
+ghost use Rattle.taint_pages.specs.Carried.{CarriesPages};
+ghost use Rattle.taint_spans.specs.Carried.{CarriesOn, HaveNumbers};
+ghost use Rattle.taint_pages.specs.Pages.{AreEight, AreSound, AreUnset, contents, FitsIn, Puts, Sets, SetsInside, page_len};
 ghost use Rattle.taint_pages.specs.Rows.{PutsFrom};
 
 use crate::page::{self, PAGE_LEN, Page, Unset};
@@ -9,6 +11,7 @@ use arn_base::NoMemory;
 use rv64_isa::Reg;
 use std::alloc::Global;
 use std::marker::Model;
+use taint_spans::Carrying;
 
 /// The number of the set of each byte of a memory. A page whose bytes weren't set takes no memory.
 #[derive(Debug, Drop)]
@@ -26,6 +29,21 @@ impl Model for SetNumbers {
     ghost view = { λ n. numbers_from n.unset 0 (contents n.pages.items) };
 
     ghost invariant = { λ n. AreSound n.unset (contents n.pages.items) };
+}
+
+/// Gives each byte of these pages the number that its set has from now on.
+fn carry_pages(carrying: &mut Carrying, unset: Unset, pages: &mut Vec<Page>) -> Result<(), NoMemory>
+    requires { AreSound unset (contents pages.old.items) }
+    ensures sound { AreSound unset (contents pages.new.items) }
+    ensures carried { OnOk result (CarriesPages carrying.new unset
+        (contents pages.old.items) (contents pages.new.items)) }
+    ensures on { CarriesOn carrying.old carrying.new }
+{
+    let alloc = *pages.allocator();
+    for place in 0..pages.len() {
+        page::carry_page(alloc, carrying, unset, place, &mut pages[place])?;
+    }
+    Ok(())
 }
 
 impl SetNumbers {
@@ -104,6 +122,14 @@ impl SetNumbers {
             pages,
             unset: self.unset,
         })
+    }
+
+    /// Gives each byte the number that its set has from now on.
+    pub fn carry(&mut self, carrying: &mut Carrying) -> Result<(), NoMemory>
+        ensures numbers { OnOk result (HaveNumbers carrying.new self.old self.new) }
+        ensures on { CarriesOn carrying.old carrying.new }
+    {
+        carry_pages(carrying, self.unset, &mut self.pages)
     }
 
     /// Whether there is such a byte, and so many from there on lie in its page.

@@ -1,11 +1,14 @@
 // A page of numbers.
-ghost use Rattle.std.specs.Prelude.{◌≡◌, ◌<◌, ◌≤◌, ◌+◌, ◌↔◌, ℕ, IsTrue, length, replicate, slice_index, None, Some, IfOk, IfSome, OnOk, OnErr};
+ghost use Rattle.std.specs.Prelude.{◌≡◌, ◌<◌, ◌≤◌, ◌+◌, ◌*◌, ◌↔◌, ℕ, IsTrue, length, replicate, slice_index, None, Some, IfOk, IfSome, OnOk, OnErr};
 ghost use Rattle.taint_pages.specs.declared.page.Unset.{Unset as UnsetBytes};
 ghost use Rattle.arn_base.specs.Disk.{overwrite};
+ghost use Rattle.taint_pages.specs.Carried.{CarriesPage};
+ghost use Rattle.taint_spans.specs.Carried.{CarriesOn};
 ghost use Rattle.taint_pages.specs.Pages.{AreEight, AreEightOf, FitsIn, HaveUnset, IsPage, PutsIn, SetsOne, content, number_in, page_len, unset_number};
 
 use arn_base::NoMemory;
 use std::alloc::Global;
+use taint_spans::{Carrying, FIRST_RECEIVED};
 
 /// How many bytes a page is for.
 pub const PAGE_LEN: usize = 4096;
@@ -241,6 +244,68 @@ fn made_of(
     let mut kept = unset_page(alloc, unset, base)?;
     overwrite(&mut kept, at, numbers);
     Ok(kept)
+}
+
+/// The numbers that bytes of a page which weren't set have from now on.
+fn carry_made(
+    alloc: Global,
+    carrying: &mut Carrying,
+    unset: Unset,
+    base: usize,
+) -> Result<Vec<u32>, NoMemory>
+    requires fits { FitsIn unset (base + page_len) }
+    ensures len { IfOk result (λ numbers. length numbers.items ≡ page_len) }
+    ensures carried { IfOk result (λ numbers.
+        CarriesPage carrying.new unset base None (Some numbers.items)) }
+    ensures on { CarriesOn carrying.old carrying.new }
+{
+    let mut numbers = unset_page(alloc, unset, base)?;
+    carrying.carry_all(&mut numbers)?;
+    Ok(numbers)
+}
+
+/// The same of a page at a place. It may be absent where the numbers stay, as those of received bytes do.
+fn carry_unset(
+    alloc: Global,
+    carrying: &mut Carrying,
+    unset: Unset,
+    place: usize,
+) -> Result<Page, NoMemory>
+    requires fits { FitsIn unset (place * page_len + page_len) }
+    ensures page { IfOk result (λ page. IsPage (content page)) }
+    ensures carried { IfOk result (λ page.
+        CarriesPage carrying.new unset (place * page_len) None (content page)) }
+    ensures on { CarriesOn carrying.old carrying.new }
+{
+    carrying.keeps();
+    match unset {
+        Unset::From(first) if first < FIRST_RECEIVED => {
+            Ok(Some(carry_made(alloc, carrying, unset, place * PAGE_LEN)?))
+        }
+        _ => Ok(None),
+    }
+}
+
+/// Gives each byte of the page at a place the number that its set has from now on.
+pub fn carry_page(
+    alloc: Global,
+    carrying: &mut Carrying,
+    unset: Unset,
+    place: usize,
+    page: &mut Page,
+) -> Result<(), NoMemory>
+    requires page { IsPage (content page.old) }
+    requires fits { FitsIn unset (place * page_len + page_len) }
+    ensures page { IsPage (content page.new) }
+    ensures carried { OnOk result (CarriesPage carrying.new unset (place * page_len)
+        (content page.old) (content page.new)) }
+    ensures on { CarriesOn carrying.old carrying.new }
+{
+    match page {
+        Some(numbers) => carrying.carry_all(numbers)?,
+        None => *page = carry_unset(alloc, carrying, unset, place)?,
+    }
+    Ok(())
 }
 
 /// The same page again.

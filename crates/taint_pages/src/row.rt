@@ -1,9 +1,12 @@
 // The numbers of the bytes of registers.
-ghost use Rattle.std.specs.Prelude.{◌≡◌, ◌<◌, ◌≤◌, ◌+◌, ◌*◌, ◌↔◌, ℕ, IsTrue, false, length};
+ghost use Rattle.std.specs.Prelude.{◌≡◌, ◌<◌, ◌≤◌, ◌+◌, ◌*◌, ◌↔◌, ℕ, IsTrue, false, length, OnOk};
+ghost use Rattle.taint_spans.specs.Carried.{CarriesOn, HaveNumbers};
 ghost use Rattle.taint_pages.specs.Rows.{AreBytes, PutsBytes, SetsByte, byte_in};
 
+use arn_base::NoMemory;
 use rv64_isa::Reg;
 use std::marker::Model;
+use taint_spans::Carrying;
 
 /// The number of the set of each byte of the registers. The bytes of x0 have 0.
 #[derive(Debug, Drop)]
@@ -37,6 +40,14 @@ impl Row {
         Row {
             numbers: self.numbers,
         }
+    }
+
+    /// Gives each byte the number that its set has from now on.
+    pub fn carry(&mut self, carrying: &mut Carrying) -> Result<(), NoMemory>
+        ensures numbers { OnOk result (HaveNumbers carrying.new self.old self.new) }
+        ensures on { CarriesOn carrying.old carrying.new }
+    {
+        carrying.carry_all(&mut self.numbers)
     }
 
     /// The number of a byte of a register.

@@ -1,2 +1,4 @@
+mod Carried
 mod Places
 mod Standing
+mod Stretches

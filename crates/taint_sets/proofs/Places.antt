@@ -1,20 +1,19 @@
 -- Where a number lies among runs.
-use Rattle.std.proofs.Common.{◌≡◌, ◌≢◌, ℕ, zero, suc, ◌+◌, ◌-◌, ◌^◌, ◌<◌, ◌≤◌, ◌&&◌, nat_le, nat_lt, Bool, true, false, if◌then◌else◌, List, [], ◌∷◌, ◌++◌, length, slice_index_or, Option, Some, None, refl, sym, ap, subst, ◌∙◌, arith, length-append}
+use Rattle.std.proofs.Common.{◌≡◌, ◌≢◌, ℕ, zero, suc, ◌+◌, ◌-◌, ◌^◌, ◌<◌, ◌≤◌, nat_le, nat_lt, Bool, true, false, if◌then◌else◌, List, [], ◌∷◌, ◌++◌, length, slice_index_or, Some, None, refl, sym, ap, subst, ◌∙◌, arith, length-append}
 use Rattle.std.proofs.lemmas.Bool.Decides.{nat_tests}
 use Rattle.std.proofs.lemmas.Bool.{ltb-true, ltb-false, leb-true, leb-false, le-leb}
 use Rattle.std.proofs.lemmas.List.{get_or_append_left, get_or_default, get_or_push}
 use Rattle.std.specs.List.Sorted.{IsPartitionPoint, IsPartitionedBy}
 use Rattle.set_store.specs.declared.item.Item.{Item}
 use Rattle.taint_sets.specs.declared.run.Run.{Run}
-use Rattle.taint_sets.specs.Numbered.{first_received}
 use Rattle.taint_sets.specs.Runs.{AreInOrder, IsRunBefore, has, item_among, item_in, no_run, run_at}
 use Rattle.taint_sets.specs.Sound.{IsSound}
 
 -- a number before a run, or behind it
-before-run : (run : Run) (number : ℕ) → number < run.first → has run number ≡ false
+pub before-run : (run : Run) (number : ℕ) → number < run.first → has run number ≡ false
 before-run run number h1 = grind (arith, nat_tests)
 
-behind-run : (run : Run) (number : ℕ) → run.first + run.len ≤ number → has run number ≡ false
+pub behind-run : (run : Run) (number : ℕ) → run.first + run.len ≤ number → has run number ≡ false
 behind-run run number h1 = grind (arith, nat_tests)
 
 -- the first run lacks it, or has it
@@ -36,7 +35,7 @@ lacks : (run : Run) (number : ℕ) → has run number ≡ false → item_in run 
 lacks run number e = ap (λ (t : Bool). if t then Some (record { event = run.event; at = run.at + (number - run.first) }) else None) e
 
 -- none but this one has it
-among-at : (runs : List Run) (number place : ℕ) → place < length runs → ((i : ℕ) → i < length runs → i ≢ place → has (run_at runs i) number ≡ false)
+pub among-at : (runs : List Run) (number place : ℕ) → place < length runs → ((i : ℕ) → i < length runs → i ≢ place → has (run_at runs i) number ≡ false)
     → item_among runs number ≡ item_in (run_at runs place) number
 among-at [] number place inside others = absurd (omega arith)
 among-at (run ∷ runs) number zero inside others = by (has run number) refl

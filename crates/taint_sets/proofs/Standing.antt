@@ -1,5 +1,5 @@
 -- What numbers stand for.
-use Rattle.std.proofs.Common.{◌≡◌, ◌↔◌, ℕ, zero, suc, ◌+◌, ◌^◌, ◌<◌, ◌≤◌, nat_lt, Bool, true, false, if◌then◌else◌, List, [], ◌∷◌, ◌++◌, length, slice_get, slice_index_or, Option, Some, None, IsSome, is_some, option_map, unwrap_or, Result, Ok, Err, IfOk, refl, sym, ap, subst, ◌∙◌, arith}
+use Rattle.std.proofs.Common.{◌≡◌, ◌↔◌, ℕ, zero, suc, ◌+◌, ◌^◌, ◌<◌, ◌≤◌, nat_lt, Bool, true, false, if◌then◌else◌, List, [], ◌∷◌, ◌++◌, length, slice_get, slice_index_or, Option, Some, None, is_some, option_map, unwrap_or, Result, Ok, Err, IfOk, refl, sym, ap, subst, ◌∙◌, arith}
 use Rattle.std.proofs.lemmas.Bool.{lt-ltb, le-ltb, ltb-true, ltb-false}
 use Rattle.std.proofs.lemmas.Option.{get_or_from_slice_get, slice_get-get_or, slice_get_within}
 use Rattle.set_store.specs.declared.item.Item.{Item}
@@ -7,7 +7,7 @@ use Rattle.arn_base.specs.declared.errors.NoMemory.{NoMemory}
 use Rattle.set_store.specs.Sets as stored
 use Rattle.set_store.specs.Sets.{IsUnionOf}
 use Rattle.taint_sets.specs.declared.run.Run.{Run}
-use Rattle.taint_sets.specs.Runs.{item_among, item_in}
+use Rattle.taint_sets.specs.Runs.{item_among}
 use Rattle.taint_sets.specs.Numbered.{AreReceivedFrom, IsItem, IsSet, Numbered, StandAsBefore, alone, first_received, members_of, set_at}
 use Rattle.taint_sets.specs.Sound.{IsSound}
 use Rattle.taint_sets.proofs.Places.{among-kept, among-past, among-push, has-it}
@@ -147,7 +147,7 @@ runs-grown kept runs run = stands before after keeps
 
 -- the bytes of a run that is behind all others
 pub run-received : (kept : List (List Item)) (runs : List Run) (run : Run) → IsSound runs run.first → run.first + run.len ≤ 2 ^ 32 → AreReceivedFrom (record { kept = kept; runs = runs ++ run ∷ [] }) run.event run.at run.len run.first
-run-received kept runs run sound fits = record { fits = fits; items = items }
+run-received kept runs run sound fits = record { received = sound.received; fits = fits; items = items }
   where
     items : (k : ℕ) → k < run.len → IsItem (record { kept = kept; runs = runs ++ run ∷ [] }) run.event (run.at + k) (run.first + k)
     items k below =

@@ -1,3 +1,4 @@
+pub mod Carried
 pub mod Runs
 pub mod Numbered
 pub mod Sound

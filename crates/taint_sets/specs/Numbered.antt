@@ -1,5 +1,5 @@
 -- Sets by number: those that are kept, and of each received byte the set of its item alone.
-use Rattle.std.specs.Prelude.{◌≡◌, ℕ, ◌+◌, ◌^◌, ◌<◌, ◌≤◌, nat_lt, if◌then◌else◌, List, [], ◌∷◌, slice_get, Option, IsSome, option_map, unwrap_or}
+use Rattle.std.specs.Prelude.{◌≡◌, ◌↔◌, ℕ, Contains, ◌+◌, ◌^◌, ◌<◌, ◌≤◌, nat_lt, if◌then◌else◌, List, [], ◌∷◌, slice_get, Option, IsSome, option_map, unwrap_or}
 use Rattle.set_store.specs.declared.item.Item.{Item}
 use Rattle.taint_sets.specs.declared.run.Run.{Run}
 use Rattle.taint_sets.specs.Runs.{item_among}
@@ -41,5 +41,10 @@ pub record IsItem (sets : Numbered) (event at number : ℕ) : Type 0 where
 
 -- so many bytes of an event from one on have the numbers from another one on
 pub record AreReceivedFrom (sets : Numbered) (event at count first : ℕ) : Type 0 where
+  pub received : first_received ≤ first
   pub fits : first + count ≤ 2 ^ 32
   pub items : (k : ℕ) → k < count → IsItem sets event (at + k) (first + k)
+
+-- a set has the members of so many sets whose numbers follow each other
+abbrev pub IsRowOf : Numbered → ℕ → ℕ → List Item → Type 0
+IsRowOf sets first count members = (item : Item) → Contains members item ↔ ((k : ℕ) × (k < count) × Contains (members_of sets (first + k)) item)

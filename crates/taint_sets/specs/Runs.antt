@@ -1,5 +1,5 @@
 -- Runs of received bytes, whose numbers follow each other.
-use Rattle.std.specs.Prelude.{◌≡◌, ℕ, ◌+◌, ◌-◌, ◌^◌, ◌<◌, ◌≤◌, nat_le, nat_lt, ◌&&◌, Bool, if◌then◌else◌, List, [], ◌∷◌, length, slice_index_or, Option, Some, None}
+use Rattle.std.specs.Prelude.{ℕ, ◌+◌, ◌-◌, ◌^◌, ◌<◌, ◌≤◌, nat_le, nat_lt, ◌&&◌, Bool, if◌then◌else◌, List, [], ◌∷◌, length, slice_index_or, Option, Some, None}
 use Rattle.set_store.specs.declared.item.Item.{Item}
 use Rattle.taint_sets.specs.declared.run.Run.{Run}
 
@@ -33,3 +33,7 @@ pub record AreInOrder (runs : List Run) : Type 0 where
 pub record IsRunBefore (runs : List Run) (number count : ℕ) : Type 0 where
   pub before : (i : ℕ) → i < count → (run_at runs i).first ≤ number
   pub behind : (i : ℕ) → count ≤ i → i < length runs → number < (run_at runs i).first
+
+-- the byte so far behind one
+abbrev pub byte_behind : Item → ℕ → Item
+byte_behind item k = record { event = item.event; at = item.at + k }

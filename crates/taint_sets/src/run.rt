@@ -1,6 +1,6 @@
 // Received bytes in a row.
-ghost use Rattle.std.specs.Prelude.{◌≡◌, ◌≤◌, ◌<◌, ◌+◌, ◌^◌, length};
-ghost use Rattle.taint_sets.specs.Runs.{AreInOrder, IsRunBefore, item_among, item_in};
+ghost use Rattle.std.specs.Prelude.{◌≡◌, ◌≤◌, ◌<◌, ◌+◌, ◌^◌, ℕ, IfSome, Some, length};
+ghost use Rattle.taint_sets.specs.Runs.{AreInOrder, IsRunBefore, byte_behind, item_among, item_in};
 
 use set_store::Item;
 
@@ -50,4 +50,20 @@ pub fn find(runs: &[Run], number: u32) -> Option<Item>
         return None;
     }
     item_of(&runs[count - 1], number)
+}
+
+/// The byte of a number, if one of the runs has it, and how many bytes from it on the run has, where their numbers rise.
+pub fn stretch(runs: &[Run], number: u32) -> Option<(Item, u32)>
+    requires { AreInOrder runs.now }
+    ensures some { IfSome result (λ bytes. 0 < bytes.1) }
+    ensures bytes { IfSome result (λ bytes. (k : ℕ) → k < bytes.1 →
+        item_among runs.now (number + k) ≡ Some (byte_behind bytes.0 k)) }
+{
+    let count = begun(runs, number);
+    if count == 0 {
+        return None;
+    }
+    let run = &runs[count - 1];
+    let item = item_of(run, number)?;
+    Some((item, run.len - (number - run.first)))
 }

@@ -1,8 +1,9 @@
 // The sets of bytes by number.
 ghost use Rattle.std.specs.Prelude.{◌≡◌, ◌↔◌, ◌<◌, ◌≤◌, ◌+◌, ◌^◌, ℕ, [], IfOk, IfSome, OnOk, Some, None};
+ghost use Rattle.set_store.specs.Carried.{AreCarried};
 ghost use Rattle.set_store.specs.Sets as stored;
 ghost use Rattle.set_store.specs.Sets.{IsUnionOf};
-ghost use Rattle.taint_sets.specs.Numbered.{AreReceivedFrom, IsSet, StandAsBefore, first_received, members_of};
+ghost use Rattle.taint_sets.specs.Numbered.{AreReceivedFrom, IsRowOf, IsSet, StandAsBefore, first_received, members_of};
 ghost use Rattle.taint_sets.specs.Runs.{item_among};
 
 use crate::run::{self, Run};
@@ -15,7 +16,13 @@ use std::marker::Model;
 const EMPTY: u32 = 0;
 
 /// The first number of a received byte: all numbers below are those of sets that are kept.
-const FIRST_RECEIVED: u32 = 0x8000_0000;
+pub const FIRST_RECEIVED: u32 = 0x8000_0000;
+
+/// How many sets are kept before it may be worth while to let go of some.
+const MANY: usize = 0x10_0000;
+
+/// How many bytes of an event lie in one row.
+const ROW_LEN: u32 = 64;
 
 /// The number of a set that is kept in 32 bits. There is no memory for so many that it isn't below those of received bytes.
 #[inline(always)]
@@ -31,12 +38,13 @@ fn narrow(set: usize) -> Result<u32, NoMemory>
 
 /// Sets of items by number. Each received byte is an item by itself, whose number follows from that of the first that was
 /// received with it; it is kept as a set only where it is joined with others. What is asked for is added, and nothing is
-/// taken away, so a number stands for its set as long as these are kept.
+/// taken away, so a number stands for its set as long as these are kept. What is named of them may be carried over.
 #[derive(Drop)]
 pub struct ByteSets {
     kept: Sets,
     runs: Vec<Run>,
     next: u32,
+    many: usize,
 }
 
 impl Model for ByteSets {
@@ -60,7 +68,57 @@ impl ByteSets {
             kept: Sets::new(alloc, memo)?,
             runs: Vec::new(alloc),
             next: FIRST_RECEIVED,
+            many: MANY,
         })
+    }
+
+    /// Whether so many sets are kept that those which nobody names should go: 2^20, and twice as many as were left the last
+    /// time.
+    #[inline(always)]
+    pub fn are_many(&self) -> bool {
+        self.kept.len() >= self.many
+    }
+
+    /// The sets that are kept, and sets in their place with the same received bytes, of which none but the empty one is kept.
+    /// The unions of at most `memo` pairs of these are remembered.
+    pub(crate) fn emptied(self, alloc: Global, memo: u32) -> Result<(Sets, ByteSets), NoMemory>
+        ensures kept { IfOk result (λ parts. parts.0 ≡ self.kept) }
+        ensures runs { IfOk result (λ parts. parts.1.runs ≡ self.runs) }
+    {
+        let fresh = Sets::new(alloc, memo)?;
+        let emptied = ByteSets {
+            kept: fresh,
+            runs: self.runs,
+            next: self.next,
+            many: MANY,
+        };
+        Ok((self.kept, emptied))
+    }
+
+    /// All sets that are named were carried over: only where twice as many are kept should some go again.
+    pub(crate) fn settle(&mut self)
+        ensures { self.new ≡ self.old }
+    {
+        self.many = MANY.max(self.kept.len().saturating_mul(2));
+    }
+
+    /// Carries a set of others over, whose numbers so far are noted.
+    pub(crate) fn carry(
+        &mut self,
+        from: &Sets,
+        numbers: &mut [u32],
+        set: u32,
+    ) -> Result<u32, NoMemory>
+        requires { AreCarried from.now self.old.kept numbers.old }
+        ensures small { IfOk result (λ number. number < first_received) }
+        ensures there { IfOk result (stored.IsSet self.new.kept) }
+        ensures members { IfOk result (λ number.
+            stored.members_of self.new.kept number ≡ stored.members_of from.now set) }
+        ensures noted { AreCarried from.now self.new.kept numbers.new }
+        ensures kept { stored.StandAsBefore self.old.kept self.new.kept }
+        ensures runs { self.new.runs ≡ self.old.runs }
+    {
+        narrow(self.kept.carry(from, numbers, set as usize)?)
     }
 
     /// The empty set, whose number is 0.
@@ -166,6 +224,26 @@ impl ByteSets {
         let first = self.keep(first)?;
         let second = self.keep(second)?;
         narrow(self.kept.union(first, second)?)
+    }
+
+    /// The set of the first of so many sets whose numbers follow each other, and how many these are. They are received bytes of one
+    /// row of 64, as many as there are, or one set.
+    pub fn row(&mut self, first: u32, len: u32) -> Result<(u32, u32), NoMemory>
+        requires some { 0 < len }
+        requires there { IsSet self.old first }
+        ensures few { IfOk result (λ row. (0 < row.1) × (row.1 ≤ len)) }
+        ensures set { IfOk result (λ row. IsSet self.new row.0) }
+        ensures members { IfOk result (λ row. IsRowOf self.old first row.1 (members_of self.new row.0)) }
+        ensures before { StandAsBefore self.old self.new }
+    {
+        match run::stretch(self.runs.as_slice(), first) {
+            Some((item, stretch)) if first >= FIRST_RECEIVED => {
+                let count = stretch.min(len).min(ROW_LEN - (item.at % 64) as u32);
+                let set = narrow(self.kept.neighbours(item, u64::from(count))?)?;
+                Ok((set, count))
+            }
+            _ => Ok((first, 1)),
+        }
     }
 
     /// The members of a set that is kept, none where there is no such set.

@@ -4,7 +4,7 @@ use Rattle.std.proofs.lemmas.Bool.{ltb-true, eqb-true, eqb-false}
 use Rattle.rv64_model.specs.Carries.{Table}
 use Rattle.parts_model.specs.Numbered.{nth}
 use Rattle.set_store.specs.declared.item.Item.{Item}
-use Rattle.taint_sets.specs.Numbered.{IsSet, Numbered, members_of}
+use Rattle.taint_spans.specs.Numbered.{IsSet, Numbered, members_of}
 use Rattle.acts_model.specs.Moved.{Event}
 use Rattle.acts_model.specs.Transfers.{Holds, Transfer, is_private, is_shared}
 use Rattle.lineage_model.specs.Flow.{At, Location, Register, Slot, Memory, Dependence, Prior, Received, written}

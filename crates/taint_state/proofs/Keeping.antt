@@ -5,7 +5,7 @@ use Rattle.std.proofs.lemmas.List.{get_or_past}
 use Rattle.parts_model.specs.Numbered.{nth}
 use Rattle.parts_model.specs.Image.{header_len}
 use Rattle.parts_model.specs.declared.limits.TheConstants.{WINDOW_START, SEGMENT_START}
-use Rattle.taint_sets.specs.Numbered.{IsSet, Numbered, StandAsBefore}
+use Rattle.taint_spans.specs.Numbered.{IsSet, Numbered, StandAsBefore}
 use Rattle.acts_model.specs.Moved.{Inside, within}
 use Rattle.acts_model.specs.Transfers.{Holds, is_private, is_shared}
 use Rattle.acts_model.specs.Views.{block_at}

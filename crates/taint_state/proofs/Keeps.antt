@@ -8,7 +8,7 @@ use Rattle.rv64_isa.specs.declared.instruction.Instr.{Instr}
 use Rattle.rv64_model.specs.Operands.{accessed, rd_of, stored_len}
 use Rattle.parts_model.specs.declared.limits.TheConstants.{WINDOW_START, SEGMENT_START}
 use Rattle.parts_model.specs.Numbered.{nth}
-use Rattle.taint_sets.specs.Numbered.{IsSet, Numbered, StandAsBefore}
+use Rattle.taint_spans.specs.Numbered.{IsSet, Numbered, StandAsBefore}
 use Rattle.acts_model.specs.Transfers.{is_private, is_shared}
 use Rattle.taint_members.specs.Access.{ByTest, Segments, WritesHeld, held_numbers}
 use Rattle.taint_members.specs.declared.member.MemberSets.{MemberSets}

@@ -21,3 +21,4 @@ pub mod Keeping
 pub mod Lying
 pub mod LensShown
 pub mod Ordered
+pub mod Carrying

@@ -5,7 +5,7 @@ use Rattle.parts_model.specs.declared.limits.TheConstants.{WINDOW_START, WINDOW_
 use Rattle.acts_model.specs.Transfers.{Holds, Place, is_private, is_shared, place_of}
 use Rattle.lineage_model.specs.Flow.{Location, Memory, Prior, bytes_at}
 use Rattle.lineage_model.specs.Tracking.{gather}
-use Rattle.taint_sets.specs.Numbered.{IsSet}
+use Rattle.taint_spans.specs.Numbered.{IsSet}
 use Rattle.taint_state.specs.Events.{number_at}
 use Rattle.taint_state.specs.Kept.{KeptMember, items_of}
 use Rattle.taint_state.specs.Shown.{AreItems, ShowsMember}

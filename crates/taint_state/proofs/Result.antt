@@ -2,7 +2,7 @@
 use Rattle.std.specs.Prelude.{ℕ, List, flat_map, Option, Contains}
 use Rattle.rv64_isa.specs.declared.instruction.Instr.{Instr}
 use Rattle.rv64_model.specs.Carries.{Operand, Table}
-use Rattle.taint_sets.specs.Numbered.{Numbered, members_of}
+use Rattle.taint_spans.specs.Numbered.{Numbered, members_of}
 use Rattle.acts_model.specs.Transfers.{Place}
 use Rattle.lineage_model.specs.Flow.{At, Location, operand_bytes, result_bytes}
 use Rattle.lineage_model.specs.Tracking.{EventByte, gather}

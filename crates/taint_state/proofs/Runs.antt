@@ -8,7 +8,7 @@ use Rattle.rv64_model.specs.Operands.{accessed, rd_of, stored_len}
 use Rattle.parts_model.specs.declared.limits.TheConstants.{WINDOW_START, SEGMENT_START}
 use Rattle.parts_model.specs.Numbered.{nth}
 use Rattle.set_store.specs.declared.item.Item.{Item}
-use Rattle.taint_sets.specs.Numbered.{IsSet, members_of}
+use Rattle.taint_spans.specs.Numbered.{IsSet, members_of}
 use Rattle.acts_model.specs.Moved.{Inside}
 use Rattle.acts_model.specs.Transfers.{Holds, Place, is_private, is_shared, place_at}
 use Rattle.lineage_model.specs.Flow.{At, Byte, StartRegister, StartSlot, StartMemory, Location, Memory, Prior, Register, Slot, offset, result_bytes, when}

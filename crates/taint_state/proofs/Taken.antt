@@ -7,7 +7,7 @@ use Rattle.rv64_model.specs.Carries.{Operand, Left, Right, Loaded, Address, oper
 use Rattle.rv64_model.specs.Operands.{accessed, rs1_of, rs2_of}
 use Rattle.parts_model.specs.declared.limits.TheConstants.{WINDOW_START, WINDOW_END, SEGMENT_START, SEGMENT_END}
 use Rattle.set_store.specs.declared.item.Item.{Item}
-use Rattle.taint_sets.specs.Numbered.{Numbered}
+use Rattle.taint_spans.specs.Numbered.{Numbered}
 use Rattle.acts_model.specs.Transfers.{Holds, Place, is_private, is_shared, place_at}
 use Rattle.lineage_model.specs.Flow.{Memory, Register, bytes_at, operand_bytes, register_bytes}
 use Rattle.lineage_model.specs.Tracking.{EventByte, Tracked}

@@ -4,7 +4,7 @@ use Rattle.arn_base.specs.declared.machine.Cpu.{Cpu}
 use Rattle.arn_base.specs.declared.records.Record.{Record}
 use Rattle.parts_model.specs.declared.limits.TheConstants.{SEGMENT_LEN, SEGMENT_START, WINDOW_START}
 use Rattle.parts_model.specs.Numbered.{nth}
-use Rattle.taint_sets.specs.Numbered.{StandAsBefore}
+use Rattle.taint_spans.specs.Numbered.{StandAsBefore}
 use Rattle.acts_model.specs.Moved.{Inside}
 use Rattle.acts_model.specs.Transfers.{Transfer, is_private, is_shared}
 use Rattle.taint_events.specs.Beginning.{AreItemsFrom, AreItemsOfRow, BeginsRegisters}

@@ -35,6 +35,10 @@ kept_heard heard = record { event = heard.event; numbers = numbers_of heard.move
 abbrev pub heard_in : List HeardEvent → List KeptHeard
 heard_in events = map kept_heard events
 
+-- the event at a place
+abbrev pub entry_at : List HeardEvent → ℕ → HeardEvent
+entry_at events place = slice_index_or events place (record { event = 0; moved = None })
+
 -- the number of the event at a place
 abbrev pub event_at : List HeardEvent → ℕ → ℕ
 event_at events place = let heard = slice_index_or events place (record { event = 0; moved = None }) in heard.event

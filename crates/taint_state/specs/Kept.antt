@@ -8,7 +8,7 @@ use Rattle.acts_model.specs.Transfers.{Holds}
 use Rattle.lineage_model.specs.Flow.{At, Byte, StartRegister, StartSlot, StartMemory}
 use Rattle.taint_pages.specs.Rows.{byte_in}
 use Rattle.taint_state.specs.Shown.{Heard, Member, Tracking}
-use Rattle.taint_sets.specs.Numbered.{Numbered, members_of}
+use Rattle.taint_spans.specs.Numbered.{Numbered, members_of}
 
 -- a live member: the memories that it holds, and the numbers of each byte
 pub record KeptMember : Type 0 where

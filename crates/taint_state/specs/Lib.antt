@@ -3,6 +3,7 @@ pub mod Steps
 pub mod Goes
 pub mod Asked
 pub mod Kept
+pub mod Carried
 pub mod Sound
 pub mod RunsShow
 pub mod Events

@@ -3,7 +3,7 @@ use Rattle.std.specs.Prelude.{◌≡◌, ◌≢◌, ℕ, ◌==◌, Bool, false, 
 use Rattle.arn_base.specs.declared.machine.Cpu.{Cpu}
 use Rattle.rv64_isa.specs.declared.instruction.Instr.{Instr}
 use Rattle.parts_model.specs.Numbered.{nth}
-use Rattle.taint_sets.specs.Numbered.{StandAsBefore}
+use Rattle.taint_spans.specs.Numbered.{StandAsBefore}
 use Rattle.taint_members.specs.Access.{Segments, held_numbers}
 use Rattle.taint_members.specs.declared.member.MemberSets.{MemberSets}
 use Rattle.taint_members.specs.declared.member.Shared.{Shared}

@@ -2,7 +2,7 @@
 use Rattle.std.specs.Prelude.{◌≡◌, ℕ, ◌<◌, List, [], length, slice_index, Some, None, IfSome}
 use Rattle.parts_model.specs.Numbered.{nth}
 use Rattle.parts_model.specs.declared.limits.TheConstants.{SEGMENT_LEN, WINDOW_LEN}
-use Rattle.taint_sets.specs.Numbered.{IsSet, Numbered, members_of}
+use Rattle.taint_spans.specs.Numbered.{IsSet, Numbered, members_of}
 use Rattle.taint_pages.specs.Rows.{byte_in}
 use Rattle.taint_state.specs.Kept.{Kept, KeptHeard, KeptMember, KeptStart, heard_among}
 use Rattle.taint_state.specs.Shown.{IsRegisterByte}

@@ -1,13 +1,16 @@
 // The events of a group by number.
 ghost use Rattle.std.specs.Prelude.{◌≡◌, [], IfErr, IfOk, OnOk, option_map};
+ghost use Rattle.taint_spans.specs.Carried.{CarriesOn, HaveNumbers};
+ghost use Rattle.taint_state.specs.Carried.{CarriesEvents, CarriesHeard, CarriesList, CarriesStart, IfBoth, KeepEvents};
 ghost use Rattle.taint_state.specs.Events.{Hears, plain_heard};
-ghost use Rattle.taint_state.specs.Heard.{HasMoved, IsGapFor, IsPlaceOf, heard_in, kept_child, kept_heard};
+ghost use Rattle.taint_state.specs.Heard.{HasMoved, IsGapFor, IsPlaceOf, heard_in, kept_child, kept_heard, kept_start, numbers_of, start_of};
 ghost use Rattle.taint_state.specs.Kept.{heard_among};
 
 use arn_base::NoMemory;
 use std::alloc::Global;
 use std::marker::Model;
 use taint_pages::{Row, SetNumbers};
+use taint_spans::Carrying;
 
 /// The bytes with which a child began that started a group.
 #[derive(Debug, Drop)]
@@ -64,6 +67,79 @@ fn keep_moved(
     }
 }
 
+impl ChildStart {
+    /// Gives each byte the number that its set has from now on.
+    fn carry(&mut self, carrying: &mut Carrying) -> Result<(), NoMemory>
+        ensures carried { OnOk result
+            (CarriesStart carrying.new (kept_start self.old) (kept_start self.new)) }
+        ensures on { CarriesOn carrying.old carrying.new }
+    {
+        self.registers.carry(carrying)?;
+        self.slot.carry(carrying)?;
+        self.window.carry(carrying)
+    }
+}
+
+/// The same of what a child may have begun with.
+fn carry_child(carrying: &mut Carrying, child: &mut Option<Box<ChildStart>>) -> Result<(), NoMemory>
+    ensures carried { OnOk result (IfBoth (CarriesStart carrying.new)
+        (option_map kept_child child.old) (option_map kept_child child.new)) }
+    ensures on { CarriesOn carrying.old carrying.new }
+{
+    match child {
+        Some(start) => start.carry(carrying),
+        None => Ok(()),
+    }
+}
+
+/// The same of what an event moved.
+fn carry_parts(carrying: &mut Carrying, moved: &mut Moved) -> Result<(), NoMemory>
+    ensures numbers { OnOk result
+        (HaveNumbers carrying.new moved.old.numbers.items moved.new.numbers.items) }
+    ensures start { OnOk result (IfBoth (CarriesStart carrying.new)
+        (option_map kept_child moved.old.start) (option_map kept_child moved.new.start)) }
+    ensures on { CarriesOn carrying.old carrying.new }
+{
+    carry_child(carrying, &mut moved.start)?;
+    carrying.carry_all(&mut moved.numbers)
+}
+
+/// The same of what an event may have moved.
+fn carry_moved(carrying: &mut Carrying, moved: &mut Option<Box<Moved>>) -> Result<(), NoMemory>
+    ensures numbers { OnOk result
+        (HaveNumbers carrying.new (numbers_of moved.old) (numbers_of moved.new)) }
+    ensures start { OnOk result
+        (IfBoth (CarriesStart carrying.new) (start_of moved.old) (start_of moved.new)) }
+    ensures on { CarriesOn carrying.old carrying.new }
+{
+    match moved {
+        Some(moved) => carry_parts(carrying, moved),
+        None => Ok(()),
+    }
+}
+
+/// The same of an event.
+fn carry_event(carrying: &mut Carrying, heard: &mut HeardEvent) -> Result<(), NoMemory>
+    ensures carried { OnOk result
+        (CarriesHeard carrying.new (kept_heard heard.old) (kept_heard heard.new)) }
+    ensures event { heard.new.event ≡ heard.old.event }
+    ensures on { CarriesOn carrying.old carrying.new }
+{
+    carry_moved(carrying, &mut heard.moved)
+}
+
+/// The same of each event.
+fn carry_events(carrying: &mut Carrying, list: &mut Vec<HeardEvent>) -> Result<(), NoMemory>
+    ensures carried { OnOk result (CarriesList carrying.new list.old.items list.new.items) }
+    ensures kept { KeepEvents list.old.items list.new.items }
+    ensures on { CarriesOn carrying.old carrying.new }
+{
+    for place in 0..list.len() {
+        carry_event(carrying, &mut list[place])?;
+    }
+    Ok(())
+}
+
 impl HeardEvents {
     /// None was heard.
     pub fn new(alloc: Global) -> HeardEvents
@@ -91,6 +167,15 @@ impl HeardEvents {
             Ok(place) => Some(&self.list[place]),
             Err(_) => None,
         }
+    }
+
+    /// Gives each byte the number that its set has from now on.
+    pub fn carry(&mut self, carrying: &mut Carrying) -> Result<(), NoMemory>
+        ensures carried { OnOk result
+            (CarriesEvents carrying.new (heard_in self.old) (heard_in self.new)) }
+        ensures on { CarriesOn carrying.old carrying.new }
+    {
+        carry_events(carrying, &mut self.list)
     }
 
     /// An event is heard, in the place of one that had its number.

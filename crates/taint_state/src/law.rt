@@ -1,4 +1,5 @@
 // What the steps of a group make of what is kept.
+ghost use Rattle.taint_state.specs.Carried.{CarriesShow};
 ghost use Rattle.taint_state.specs.EventsShow.{BeginsShow, DeliversShow, DiesShow, ExitsShow, FaultsShow, ForksShow, FoundsShow, GivesShow, LeavesShow, ReceivesShow, ReturnsShow, SharesShow, StartsShow};
 ghost use Rattle.taint_state.specs.Goes.{StayApart};
 ghost use Rattle.taint_state.specs.Lens.{ActsHaveLen};
@@ -12,6 +13,12 @@ pub fn runs_show()
 /// Where what is kept of a member follows an instruction, what is kept stays sound.
 pub fn runs_keep()
     ensures { RunsKeep }
+{}
+
+/// Where the sets that are named are carried over into fresh ones, what is shown stays, and what is
+/// kept stays sound.
+pub fn carries_show()
+    ensures { CarriesShow }
 {}
 
 /// Where what is kept follows a call that moves no bytes, what is shown goes on by it, and what is

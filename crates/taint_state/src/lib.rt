@@ -10,8 +10,8 @@ mod point;
 pub use deeds::{Deed, Layout, deed_of};
 pub use heard::{ChildStart, HeardEvent, HeardEvents, Moved};
 pub use law::{
-    acts_have_len, begins_show, delivers_show, dies_show, exits_show, faults_show, forks_show,
-    founds_show, gives_show, leaves_show, receives_show, returns_show, runs_keep, runs_show,
-    shares_show, starts_show, stays_apart,
+    acts_have_len, begins_show, carries_show, delivers_show, dies_show, exits_show, faults_show,
+    forks_show, founds_show, gives_show, leaves_show, receives_show, returns_show, runs_keep,
+    runs_show, shares_show, starts_show, stays_apart,
 };
 pub use point::Point;

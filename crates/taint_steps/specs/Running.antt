@@ -9,7 +9,7 @@ use Rattle.taint_members.specs.declared.member.Shared.{Shared}
 use Rattle.taint_pages.specs.Rows.{byte_in}
 use Rattle.taint_steps.specs.Taking.{Takes}
 use Rattle.rv64_model.specs.declared.linkage.Linkage.{Linkage}
-use Rattle.taint_sets.specs.Numbered.{Numbered}
+use Rattle.taint_spans.specs.Numbered.{Numbered}
 
 -- the bytes of one register have other numbers. x0 is never written
 abbrev pub WritesRegister : ℕ → List ℕ → List ℕ → List ℕ → Type 0

@@ -7,7 +7,7 @@ use Rattle.taint_members.specs.declared.member.MemberSets.{MemberSets}
 use Rattle.taint_steps.specs.Running.{Runs}
 use Rattle.taint_steps.specs.Taking.{AreSetsAt, AreSetsIn}
 use Rattle.rv64_model.specs.declared.linkage.Linkage.{Linkage}
-use Rattle.taint_sets.specs.Numbered.{Numbered}
+use Rattle.taint_spans.specs.Numbered.{Numbered}
 
 -- a member each of whose bytes has a set
 pub record IsReady (sets : Numbered) (segments : Segments) (m : MemberSets) : Type 0 where

@@ -14,7 +14,7 @@ use rv64_isa::{Instr, Reg};
 use rv64_model::Linkage;
 use taint_flow::{loaded_len, moves_loaded, moves_stored, rd, rs2, stored_len};
 use taint_members::{MemberSets, load_window, write_window};
-use taint_sets::ByteSets;
+use taint_spans::SpanSets;
 
 /// Sets the numbers of a register that isn't x0 to those of so many bytes from an address in the private window on, and zeros behind
 /// them. False says that the register is x0, or the address lies elsewhere: then nothing was done.
@@ -38,7 +38,7 @@ fn load_to(member: &mut MemberSets, at: u64, len: usize, reg: Reg) -> bool
 /// sets. False says that nothing was done.
 #[inline(always)]
 pub fn move_loaded(
-    sets: &ByteSets,
+    sets: &SpanSets,
     linkage: Linkage,
     instr: &Instr,
     before: &Cpu,
@@ -66,7 +66,7 @@ pub fn move_loaded(
 /// sets. False says that nothing was done.
 #[inline(always)]
 pub fn move_stored(
-    sets: &ByteSets,
+    sets: &SpanSets,
     linkage: Linkage,
     instr: &Instr,
     before: &Cpu,

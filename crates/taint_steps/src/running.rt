@@ -1,7 +1,7 @@
 // An instruction of a member.
 ghost use Rattle.std.specs.Prelude.{◌≡◌, take, length, unwrap_or, OnOk};
 ghost use Rattle.rv64_model.specs.Operands as operands;
-ghost use Rattle.taint_sets.specs.Numbered.{StandAsBefore};
+ghost use Rattle.taint_spans.specs.Numbered.{StandAsBefore};
 ghost use Rattle.taint_members.specs.Access.{HoldsKey};
 ghost use Rattle.taint_steps.specs.Running.{Runs, StoresSegment, StoresWindow, WritesRegister};
 ghost use Rattle.taint_steps.specs.Taking.{AreSetsAt, AreSetsIn};
@@ -15,7 +15,7 @@ use rv64_model::Linkage;
 use taint_flow::{rd, silent, stored_len};
 use taint_members::{MemberSets, write};
 use taint_pages::{Row, SetNumbers};
-use taint_sets::ByteSets;
+use taint_spans::SpanSets;
 
 /// Sets the numbers of the register that is written, if there is one that isn't x0.
 #[inline(always)]
@@ -63,7 +63,7 @@ fn store(
 // place in memory.
 #[inline(never)]
 fn run_any(
-    sets: &mut ByteSets,
+    sets: &mut SpanSets,
     linkage: Linkage,
     instr: Instr,
     before: &Cpu,
@@ -87,7 +87,7 @@ fn run_any(
 /// of what it takes.
 #[inline(always)]
 pub fn run(
-    sets: &mut ByteSets,
+    sets: &mut SpanSets,
     linkage: Linkage,
     instr: &Instr,
     before: &Cpu,

@@ -1,7 +1,7 @@
 // An instruction of a member by its number.
 ghost use Rattle.std.specs.Prelude.{◌≡◌, length, IfSome, OnOk};
 ghost use Rattle.parts_model.specs.Numbered.{nth};
-ghost use Rattle.taint_sets.specs.Numbered.{StandAsBefore};
+ghost use Rattle.taint_spans.specs.Numbered.{StandAsBefore};
 ghost use Rattle.taint_steps.specs.Table.{IsReady, RunsEntry, RunsMember};
 
 use crate::running::run;
@@ -10,12 +10,12 @@ use rv64_isa::Instr;
 use rv64_model::Linkage;
 use taint_members::MemberSets;
 use taint_pages::SetNumbers;
-use taint_sets::ByteSets;
+use taint_spans::SpanSets;
 
 /// A member runs an instruction that the next one follows, if there is one.
 #[inline(always)]
 fn run_entry(
-    sets: &mut ByteSets,
+    sets: &mut SpanSets,
     linkage: Linkage,
     instr: &Instr,
     before: &Cpu,
@@ -38,7 +38,7 @@ fn run_entry(
 /// changed.
 #[inline(always)]
 pub fn run_member(
-    sets: &mut ByteSets,
+    sets: &mut SpanSets,
     linkage: Linkage,
     instr: &Instr,
     before: &Cpu,

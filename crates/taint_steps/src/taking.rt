@@ -1,7 +1,7 @@
 // The sets of what an instruction writes.
 ghost use Rattle.std.specs.Prelude.{◌≡◌, ◌<◌, ℕ, IfOk, unwrap_or};
 ghost use Rattle.rv64_model.specs.Operands as operands;
-ghost use Rattle.taint_sets.specs.Numbered.{StandAsBefore};
+ghost use Rattle.taint_spans.specs.Numbered.{StandAsBefore};
 ghost use Rattle.taint_flow.specs.Names as names;
 ghost use Rattle.taint_members.specs.Access.{HoldsKey};
 ghost use Rattle.taint_pages.specs.Rows.{AreBytes};
@@ -14,7 +14,7 @@ use rv64_model::Linkage;
 use taint_flow::{loaded_len, results, rs1, rs2};
 use taint_members::{MemberSets, read};
 use taint_pages::{Row, SetNumbers};
-use taint_sets::ByteSets;
+use taint_spans::SpanSets;
 
 /// The numbers of no bytes.
 static NO_BYTES: [u32; 8] = [0; 8];
@@ -62,7 +62,7 @@ fn loaded(instr: &Instr, before: &Cpu, member: &MemberSets, segments: &[SetNumbe
 /// The sets of the bytes that an instruction writes to its register, or of those that it stores.
 #[inline(always)]
 pub fn taken(
-    sets: &mut ByteSets,
+    sets: &mut SpanSets,
     linkage: Linkage,
     instr: &Instr,
     before: &Cpu,

@@ -1,5 +1,5 @@
 use Rattle.std.proofs.Common.{◌≡◌, Bool, [], true, false, ap, subst, ◌∙◌}
-use Rattle.taint_sets.specs.Numbered.{IsSet}
+use Rattle.taint_spans.specs.Numbered.{IsSet}
 use Rattle.taint_group.specs.declared.group.Group.{Group}
 use Rattle.taint_group.specs.Groups.{IsSoundGroup, kept_of}
 use Rattle.taint_state.specs.Kept.{Kept}
@@ -11,7 +11,7 @@ kept-now true g now e same = absurd (cc)
 kept-now false g now e same = same
 
 -- where nothing is kept, there is no set
-no-set : IsSet (record { kept = []; runs = [] }) 0 → ⊥
+no-set : IsSet (record { sets = record { kept = []; runs = [] }; spans = [] }) 0 → ⊥
 unfolding IsSet
 no-set is = cc
 

@@ -10,7 +10,7 @@ use Rattle.taint_state.specs.Shown.{Tracking}
 
 -- no member, no event
 abbrev pub nothing_kept : Linkage → Kept
-nothing_kept linkage = record { linkage = linkage; sets = record { kept = []; runs = [] }; members = []; heard = [] }
+nothing_kept linkage = record { linkage = linkage; sets = record { sets = record { kept = []; runs = [] }; spans = [] }; members = []; heard = [] }
 
 -- what is kept of a group, if it isn't lost
 abbrev pub kept_unless : Bool → Group → Kept

@@ -5,7 +5,7 @@ ghost use Rattle.taint_tracker.specs.Items.{listed};
 use arn_base::NoMemory;
 use set_store::Item;
 use std::alloc::Global;
-use taint_sets::ByteSets;
+use taint_spans::SpanSets;
 
 /// The items of a byte of an event, as they are kept.
 #[derive(Clone, Copy)]
@@ -13,7 +13,7 @@ pub enum KeptItems<'a> {
     /// None, which needs no sets.
     Nothing,
     /// Those of one of these sets.
-    Set { sets: &'a ByteSets, set: u32 },
+    Set { sets: &'a SpanSets, set: u32 },
 }
 
 impl<'a> KeptItems<'a> {

@@ -1,5 +1,5 @@
 use Rattle.std.proofs.Common.{◌≡◌, ◌+◌, ◌*◌, ◌-◌, cond, ℕ, List, sym, ap, subst, ◌∙◌, ne_eqb, arith}
-use Rattle.taint_sets.specs.Numbered.{IsItem, Numbered, StandAsBefore}
+use Rattle.taint_spans.specs.Numbered.{IsItem, Numbered, StandAsBefore}
 use Rattle.taint_members.specs.Rows.{ClearsResult}
 use Rattle.taint_members.specs.declared.member.MemberSets.{MemberSets}
 use Rattle.taint_pages.specs.Rows.{byte_in}

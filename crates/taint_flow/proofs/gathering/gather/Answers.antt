@@ -1,5 +1,5 @@
 use Rattle.std.proofs.Common.{sym, ap, ◌∙◌}
-use Rattle.taint_sets.specs.Numbered.{members_of}
+use Rattle.taint_spans.specs.Numbered.{members_of}
 use Rattle.taint_flow.proofs.Bytes.{before-trans, gathered-if, numbers-before}
 use Rattle.taint_flow.proofs.gathering.gather.Goals as goal
 

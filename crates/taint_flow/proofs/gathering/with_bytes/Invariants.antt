@@ -1,4 +1,4 @@
-use Rattle.taint_sets.specs.Numbered.{StandAsBefore}
+use Rattle.taint_spans.specs.Numbered.{StandAsBefore}
 use Rattle.taint_flow.specs.Gathered.{TakesBytes}
 use Rattle.taint_flow.proofs.gathering.with_bytes.Given as goal
 

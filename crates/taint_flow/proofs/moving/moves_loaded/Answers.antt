@@ -1,6 +1,6 @@
 use Rattle.std.proofs.Common.{◌≡◌, [], refl, subst}
 use Rattle.rv64_model.specs.Carries.{Loaded, operands}
-use Rattle.taint_sets.specs.Numbered.{IsSet, members_of}
+use Rattle.taint_spans.specs.Numbered.{IsSet, members_of}
 use Rattle.taint_flow.specs.Names.{loaded_len}
 use Rattle.taint_flow.proofs.Flows.{moved-by}
 use Rattle.taint_flow.proofs.Moved.{loaded-table}

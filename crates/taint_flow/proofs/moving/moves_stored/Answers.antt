@@ -1,7 +1,7 @@
 use Rattle.std.proofs.Common.{◌≡◌, [], refl, subst}
 use Rattle.rv64_model.specs.Carries.{Right, operands}
 use Rattle.rv64_model.specs.Operands.{stored_len}
-use Rattle.taint_sets.specs.Numbered.{IsSet, members_of}
+use Rattle.taint_spans.specs.Numbered.{IsSet, members_of}
 use Rattle.taint_flow.proofs.Flows.{moved-by}
 use Rattle.taint_flow.proofs.Moved.{stored-table}
 use Rattle.taint_flow.proofs.moving.moves_stored.Goals as goal

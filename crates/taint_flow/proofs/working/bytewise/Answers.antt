@@ -2,7 +2,7 @@ use Rattle.std.proofs.Common.{◌≡◌, ◌+◌, ◌-◌, arith, ◌<◌, slice
 use Rattle.std.proofs.lemmas.List.{length-set}
 use Rattle.rv64_model.specs.Carries.{both}
 use Rattle.set_store.specs.Sets.{IsUnionOf}
-use Rattle.taint_sets.specs.Numbered.{members_of}
+use Rattle.taint_spans.specs.Numbered.{members_of}
 use Rattle.taint_flow.specs.Gathered.{number_of}
 use Rattle.taint_flow.proofs.Bytes.{before-trans}
 use Rattle.taint_flow.proofs.Grown.{takes-both, union-still}

@@ -1,7 +1,7 @@
 use Rattle.std.proofs.Common.{◌≡◌, ◌-◌, ◌<◌, ℕ, List, length, slice_index}
 use Rattle.rv64_model.specs.Carries.{both}
 use Rattle.set_store.specs.Sets.{IsUnionOf}
-use Rattle.taint_sets.specs.Numbered.{IsSet, StandAsBefore, members_of}
+use Rattle.taint_spans.specs.Numbered.{IsSet, StandAsBefore, members_of}
 use Rattle.taint_flow.specs.Gathered.{byte_count, number_of}
 use Rattle.taint_flow.specs.Results.{TakesOperands}
 use Rattle.taint_flow.proofs.working.bytewise.Given as goal

@@ -1,6 +1,6 @@
 use Rattle.std.proofs.Common.{◌-◌, slice_index, sym, subst}
 use Rattle.set_store.specs.Sets.{IsUnionOf}
-use Rattle.taint_sets.specs.Numbered.{members_of}
+use Rattle.taint_spans.specs.Numbered.{members_of}
 use Rattle.taint_flow.proofs.working.in_place.Goals as goal
 
 pub returns-then-second-byte-clause-members : goal.returns-then-second-byte-clause-members

@@ -1,6 +1,6 @@
 use Rattle.std.proofs.Common.{◌≡◌, ◌<◌, ℕ, ◌+◌, List, length, slice_index}
 use Rattle.rv64_model.specs.Carries.{Left, first_bytes}
-use Rattle.taint_sets.specs.Numbered.{StandAsBefore}
+use Rattle.taint_spans.specs.Numbered.{StandAsBefore}
 use Rattle.taint_flow.specs.Flow.{reach}
 use Rattle.taint_flow.specs.Gathered.{byte_count, number_of}
 use Rattle.taint_flow.specs.Results.{TakesOperands}

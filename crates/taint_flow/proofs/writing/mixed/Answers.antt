@@ -1,7 +1,7 @@
 use Rattle.std.proofs.Common.{◌≡◌, ◌<◌, slice_index, refl, sym, subst, ◌∙◌, rules}
 use Rattle.std.proofs.lemmas.List.{length-set}
 use Rattle.rv64_model.specs.Carries.{operands}
-use Rattle.taint_sets.specs.Numbered.{StandAsBefore}
+use Rattle.taint_spans.specs.Numbered.{StandAsBefore}
 use Rattle.taint_flow.specs.Gathered.{number_of}
 use Rattle.taint_flow.proofs.Bytes.{before-refl, before-trans}
 use Rattle.taint_flow.proofs.Operands.{Knows, first-byte, known-same, one-more, takes-named, takes-still}

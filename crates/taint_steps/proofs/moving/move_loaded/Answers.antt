@@ -1,6 +1,6 @@
 use Rattle.std.proofs.Common.{◌≤◌, ◌-◌, ℕ, Option, subst, sym, ap, ◌∙◌, unwrap_or}
 use Rattle.parts_model.specs.declared.limits.TheConstants.{WINDOW_START}
-use Rattle.taint_sets.specs.Numbered.{IsSet}
+use Rattle.taint_spans.specs.Numbered.{IsSet}
 use Rattle.taint_pages.specs.Rows.{PutsFrom}
 use Rattle.taint_steps.proofs.Whole.{loaded-runs}
 use Rattle.taint_steps.proofs.moving.move_loaded.Goals as goal

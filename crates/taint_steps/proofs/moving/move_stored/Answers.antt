@@ -2,7 +2,7 @@ use Rattle.std.proofs.Common.{◌≡◌, ◌≤◌, ◌-◌, ℕ, Bool, Result, 
 use Rattle.acts_model.specs.Transfers.{is_private}
 use Rattle.arn_base.specs.declared.errors.NoMemory.{NoMemory}
 use Rattle.parts_model.specs.declared.limits.TheConstants.{WINDOW_START}
-use Rattle.taint_sets.specs.Numbered.{IsSet}
+use Rattle.taint_spans.specs.Numbered.{IsSet}
 use Rattle.taint_members.specs.Access.{ByTest}
 use Rattle.taint_pages.specs.Pages.{Puts}
 use Rattle.taint_steps.specs.Taking.{IsRegister}

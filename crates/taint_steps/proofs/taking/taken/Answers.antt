@@ -5,7 +5,7 @@ use Rattle.rv64_isa.specs.declared.instruction.Instr.{Instr}
 use Rattle.rv64_model.specs.Carries.{operands}
 use Rattle.rv64_model.specs.Operands as named
 use Rattle.rv64_model.specs.declared.linkage.Linkage.{Linkage}
-use Rattle.taint_sets.specs.Numbered.{IsSet, Numbered}
+use Rattle.taint_spans.specs.Numbered.{IsSet, Numbered}
 use Rattle.taint_flow.specs.Gathered.{number_of}
 use Rattle.taint_flow.specs.Names.{loaded_len}
 use Rattle.taint_flow.specs.Results.{AreResults}

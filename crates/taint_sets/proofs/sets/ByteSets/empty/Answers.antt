@@ -1,4 +1,4 @@
-use Rattle.std.proofs.Common.{◌≡◌, [], ap, subst, ◌∙◌, arith}
+use Rattle.std.proofs.Common.{◌≡◌, [], subst, ◌∙◌, arith}
 use Rattle.set_store.specs.Sets as stored
 use Rattle.taint_sets.specs.Numbered.{IsSet, members_of}
 use Rattle.taint_sets.proofs.Standing.{kept-set}

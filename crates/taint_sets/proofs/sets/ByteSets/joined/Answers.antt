@@ -1,6 +1,4 @@
-use Rattle.std.proofs.Common.{◌≡◌, ℕ, Result, Ok, Err, IfOk, List, sym, ap, subst, ◌∙◌}
-use Rattle.arn_base.specs.declared.errors.NoMemory.{NoMemory}
-use Rattle.set_store.specs.declared.item.Item.{Item}
+use Rattle.std.proofs.Common.{ap, subst, ◌∙◌}
 use Rattle.set_store.specs.Sets as stored
 use Rattle.set_store.specs.Sets.{IsUnionOf}
 use Rattle.taint_sets.specs.Numbered.{Numbered, StandAsBefore, members_of}

@@ -1,4 +1,4 @@
-use Rattle.std.proofs.Common.{◌+◌, ◌^◌, ◌≤◌, ◌∷◌, ◌++◌, [], ℕ, List, sym, ap, subst, ◌∙◌, arith}
+use Rattle.std.proofs.Common.{◌+◌, ◌^◌, ◌≤◌, ◌∷◌, ◌++◌, [], ℕ, List, sym, subst, arith}
 use Rattle.taint_sets.specs.declared.run.Run.{Run}
 use Rattle.taint_sets.specs.Numbered.{AreReceivedFrom, StandAsBefore}
 use Rattle.taint_sets.proofs.Standing.{run-received, runs-grown}

@@ -1,0 +1,234 @@
+-- A group whose sets are carried over.
+use Rattle.std.proofs.Common.{◌≡◌, ◌≢◌, ℕ, zero, suc, ◌+◌, ◌<◌, ◌≤◌, ◌==◌, nat_lt, Bool, true, false, List, [], ◌∷◌, map, length, slice_index_or, slice_set, Option, None, Some, IfSome, option_map, refl, sym, subst, ap, ◌∙◌, arith}
+use Rattle.std.proofs.Math.ListN.{get_or-eq_default}
+use Rattle.std.proofs.lemmas.Bool.{eqb-true, eqb-false, ltb-true, ltb-false}
+use Rattle.std.proofs.lemmas.Grind.{get_or-set_at}
+use Rattle.std.proofs.lemmas.List.{get_or-set_other, length-set, get_or_default}
+use Rattle.parts_model.specs.Numbered.{nth}
+use Rattle.rv64_model.specs.declared.linkage.Linkage.{Linkage}
+use Rattle.taint_members.specs.Access.{HoldsKey, Segments, held_numbers}
+use Rattle.taint_members.specs.Carried.{CarriesMember}
+use Rattle.taint_members.specs.declared.member.MemberSets.{MemberSets}
+use Rattle.taint_members.specs.declared.member.Shared.{Shared}
+use Rattle.taint_spans.specs.Carried.{Carried, CarriesOn, HasNumber, HaveNumbers}
+use Rattle.taint_state.specs.Carried as state
+use Rattle.taint_state.specs.Carried.{CarriesEvents, CarriesShow, IfBoth}
+use Rattle.taint_state.specs.Kept.{KeptHeard, shown}
+use Rattle.taint_state.specs.RunsShow.{kept_member}
+use Rattle.taint_steps.specs.Table.{Tables}
+use Rattle.taint_group.specs.Carried.{CarriesSegments}
+use Rattle.taint_group.specs.Tables.{AreKeyed, AreSoundTables, HaveOneKey, kept_in}
+use Rattle.taint_group.proofs.Tables.{nth-map, nth-other}
+use Rattle.taint_group.proofs.Turning.{nth-past, nth-place}
+
+-- what was carried over stays so
+have-still : (a b : Carried) (was is : List ℕ) → CarriesOn a b → HaveNumbers a was is → HaveNumbers b was is
+have-still a b was is on h = record { len = h.len; each = λ k below. on.still _ _ (h.each k below) }
+
+on-twice : (a b c : Carried) → CarriesOn a b → CarriesOn b c → CarriesOn a c
+on-twice a b c f g = record { from = g.from ∙ f.from; still = λ was is h. g.still was is (f.still was is h) }
+
+member-still : (a b : Carried) (m n : MemberSets) → CarriesOn a b → CarriesMember a m n → CarriesMember b m n
+member-still a b m n on h = record {
+  registers = have-still a b m.registers n.registers on h.registers;
+  slot = have-still a b m.slot n.slot on h.slot;
+  window = have-still a b m.window n.window on h.window;
+  made = h.made;
+  segment = h.segment;
+}
+
+entry-still : (a b : Carried) (o p : Option MemberSets) → CarriesOn a b → IfBoth (CarriesMember a) o p → IfBoth (CarriesMember b) o p
+entry-still a b None None on h = tt
+entry-still a b None (Some n) on h = absurd h
+entry-still a b (Some m) None on h = absurd h
+entry-still a b (Some m) (Some n) on h = member-still a b m n on h
+
+both-if : {A : Type 0} (R : A → A → Type 0) (P Q : A → Type 0) → ((a b : A) → R a b → P a → Q b) → (o p : Option A) → IfBoth R o p → IfSome o P → IfSome p Q
+both-if R P Q goes None None h s = tt
+both-if R P Q goes None (Some b) h s = absurd h
+both-if R P Q goes (Some a) None h s = absurd h
+both-if R P Q goes (Some a) (Some b) h s = goes a b h s
+
+both-map : {A B : Type 0} (R : A → A → Type 0) (S : B → B → Type 0) (f g : A → B) → ((a b : A) → R a b → S (f a) (g b)) → (o p : Option A) → IfBoth R o p → IfBoth S (option_map f o) (option_map g p)
+both-map R S f g goes None None h = tt
+both-map R S f g goes None (Some b) h = absurd h
+both-map R S f g goes (Some a) None h = absurd h
+both-map R S f g goes (Some a) (Some b) h = goes a b h
+
+nth-here : {X : Type 0} (xs : List (Option X)) (k : ℕ) (x : Option X) → k < length xs → nth (slice_set xs k x) k ≡ x
+nth-here [] k x h = absurd (omega arith)
+nth-here (y ∷ xs) zero None h = refl
+nth-here (y ∷ xs) zero (Some x) h = refl
+nth-here (y ∷ xs) (suc k) x h = nth-here xs k x (omega arith)
+
+-- the members before a place are carried over, and those from it on aren't yet
+pub record MembersTo (begun now : Carried) (first list : List (Option MemberSets)) (place : ℕ) : Type 0 where
+  pub len : length list ≡ length first
+  pub done : (p : ℕ) → p < place → IfBoth (CarriesMember now) (nth first p) (nth list p)
+  pub rest : (p : ℕ) → place ≤ p → nth list p ≡ nth first p
+  pub on : CarriesOn begun now
+
+pub members-first : (sets : Carried) (list : List (Option MemberSets)) → MembersTo sets sets list list 0
+members-first sets list = record { len = refl; done = λ p below. absurd (omega arith); rest = λ p from. refl; on = record { from = refl; still = λ was is h. h } }
+
+pub members-on : (begun now next : Carried) (first list : List (Option MemberSets)) (place : ℕ) → MembersTo begun now first list place → CarriesOn now next → CarriesOn begun next
+members-on begun now next first list place so on = on-twice begun now next so.on on
+
+module _ (begun now next : Carried) (first list : List (Option MemberSets)) (place : ℕ) (was new : Option MemberSets) (so : MembersTo begun now first list place) (inside : place < length list) (read : was ≡ slice_index_or list place was)
+    (on : CarriesOn now next) where
+  pub members-more : IfBoth (CarriesMember next) was new → MembersTo begun next first (slice_set list place new) (place + 1)
+  members-more one = record {
+    len = length-set list place new ∙ so.len;
+    done = λ p below. by p below (p == place) refl;
+    rest = λ p behind. nth-other list place p new (λ e. omega arith) ∙ so.rest p (omega arith);
+    on = on-twice begun now next so.on on;
+  }
+    where
+      by : (p : ℕ) → p < place + 1 → (b : Bool) → (p == place) ≡ b → IfBoth (CarriesMember next) (nth first p) (nth (slice_set list place new) p)
+      by p below true e =
+          let is = eqb-true p place e in
+          subst (λ j. IfBoth (CarriesMember next) (nth first j) (nth (slice_set list place new) j)) (sym is)
+          (subst (λ o. IfBoth (CarriesMember next) (nth first place) o) (sym (nth-here list place new inside))
+          (subst (λ o. IfBoth (CarriesMember next) o new) (read ∙ sym (nth-place list place was inside) ∙ so.rest place (omega arith)) one))
+      by p below false e =
+          let apart = eqb-false p place e in
+          subst (λ o. IfBoth (CarriesMember next) (nth first p) o) (sym (nth-other list place p new apart))
+          (entry-still now next (nth first p) (nth list p) on (so.done p (omega (arith, apart))))
+
+pub members-all : (begun now : Carried) (first list : List (Option MemberSets)) (place : ℕ) → MembersTo begun now first list place → length first ≤ place → (p : ℕ) → IfBoth (CarriesMember now) (nth first p) (nth list p)
+members-all begun now first list place so all p = by (nat_lt p place) refl
+  where
+    by : (b : Bool) → nat_lt p place ≡ b → IfBoth (CarriesMember now) (nth first p) (nth list p)
+    by true e = so.done p (ltb-true p place e)
+    by false e =
+        let behind = ltb-false p place e in
+        let none = nth-past first p (omega arith) in
+        subst (λ o. IfBoth (CarriesMember now) o (nth list p)) (sym none) (subst (λ o. IfBoth (CarriesMember now) None o) (sym (so.rest p behind ∙ none)) tt)
+
+-- and so are segments
+pub record SegmentsTo (begun now : Carried) (first list : Segments) (place : ℕ) : Type 0 where
+  pub len : length list ≡ length first
+  pub done : (k : ℕ) → k < place → HaveNumbers now (slice_index_or first k []) (slice_index_or list k [])
+  pub rest : (k : ℕ) → place ≤ k → slice_index_or list k [] ≡ slice_index_or first k []
+  pub on : CarriesOn begun now
+
+pub segments-first : (sets : Carried) (list : Segments) → SegmentsTo sets sets list list 0
+segments-first sets list = record { len = refl; done = λ k below. absurd (omega arith); rest = λ k from. refl; on = record { from = refl; still = λ was is h. h } }
+
+pub segments-on : (begun now next : Carried) (first list : Segments) (place : ℕ) → SegmentsTo begun now first list place → CarriesOn now next → CarriesOn begun next
+segments-on begun now next first list place so on = on-twice begun now next so.on on
+
+module _ (begun now next : Carried) (first list : Segments) (place : ℕ) (was new : List ℕ) (so : SegmentsTo begun now first list place) (inside : place < length list) (read : was ≡ slice_index_or list place was)
+    (on : CarriesOn now next) where
+  pub segments-more : HaveNumbers next was new → SegmentsTo begun next first (slice_set list place new) (place + 1)
+  segments-more one = record {
+    len = length-set list place new ∙ so.len;
+    done = λ k below. by k below (k == place) refl;
+    rest = λ k behind. get_or-set_other list place k new [] (λ e. omega arith) ∙ so.rest k (omega arith);
+    on = on-twice begun now next so.on on;
+  }
+    where
+      by : (k : ℕ) → k < place + 1 → (b : Bool) → (k == place) ≡ b → HaveNumbers next (slice_index_or first k []) (slice_index_or (slice_set list place new) k [])
+      by k below true e =
+          let is = eqb-true k place e in
+          subst (λ l. HaveNumbers next (slice_index_or first k []) l) (sym (get_or-set_at list place k new [] is inside))
+          (subst (λ l. HaveNumbers next l new) (read ∙ get_or_default list place was [] inside ∙ ap (λ j. slice_index_or list j []) (sym is) ∙ so.rest k (omega arith)) one)
+      by k below false e =
+          let apart = eqb-false k place e in
+          subst (λ l. HaveNumbers next (slice_index_or first k []) l) (sym (get_or-set_other list place k new [] apart)) (have-still now next _ _ on (so.done k (omega (arith, apart))))
+
+pub segments-all : (begun now : Carried) (first list : Segments) (place : ℕ) → SegmentsTo begun now first list place → length first ≤ place → CarriesSegments now first list
+segments-all begun now first list place so all = record { count = so.len; each = λ k. by k (nat_lt k place) refl }
+  where
+    by : (k : ℕ) (b : Bool) → nat_lt k place ≡ b → HaveNumbers now (slice_index_or first k []) (slice_index_or list k [])
+    by k true e = so.done k (ltb-true k place e)
+    by k false e =
+        let behind = ltb-false k place e in
+        let none : slice_index_or first k [] ≡ [] = get_or-eq_default first [] (let len = so.len in omega (arith, all, behind)) in
+        subst (λ l. HaveNumbers now l (slice_index_or list k [])) (sym none) (subst (λ l. HaveNumbers now [] l) (sym (so.rest k behind ∙ none)) (record { len = refl; each = λ j below. absurd (omega arith) }))
+
+-- what is kept of a member
+module _ (sets : Carried) (s t : Segments) (carried : CarriesSegments sets s t) where
+  held : (o : Option Shared) → HaveNumbers sets (held_numbers o s) (held_numbers o t)
+  held None = record { len = refl; each = λ k below. absurd (omega arith) }
+  held (Some shared) = carried.each shared.key
+
+  member-kept : (m n : MemberSets) → CarriesMember sets m n → state.CarriesMember sets (kept_member s m) (kept_member t n)
+  member-kept m n h = record {
+    holds = λ i. record { window = h.made i; segment = option_map (λ (shared : Shared). shared.made) (h.segment i) };
+    registers = h.registers;
+    slot = h.slot;
+    window = h.window;
+    segment = subst (λ o. HaveNumbers sets (held_numbers m.segment s) (held_numbers o t)) (sym h.segment) (held m.segment);
+  }
+
+  grown : (o : Option Shared) → HoldsKey o s → HoldsKey o t
+  grown None h = tt
+  grown (Some shared) h = let same = carried.count in omega arith
+
+  holds-key : (m n : MemberSets) → CarriesMember sets m n → HoldsKey m.segment s → HoldsKey n.segment t
+  holds-key m n h k = subst (λ o. HoldsKey o t) (sym h.segment) (grown m.segment k)
+
+-- each segment that a member holds is in the table, once
+still-keyed : (sets : Carried) (x y : Tables) → CarriesSegments sets x.segments y.segments → ((p : ℕ) → IfBoth (CarriesMember sets) (nth x.members p) (nth y.members p)) → AreKeyed x → AreKeyed y
+still-keyed sets x y carried both keyed = record {
+  held = λ p.
+      both-if (CarriesMember sets) (λ (m : MemberSets). HoldsKey m.segment x.segments) (λ (m : MemberSets). HoldsKey m.segment y.segments)
+      (holds-key sets x.segments y.segments carried) (nth x.members p) (nth y.members p) (both p) (keyed.held p);
+  once = λ p q.
+      both-if (CarriesMember sets) (λ (m : MemberSets). IfSome (nth x.members q) (λ (n : MemberSets). HaveOneKey m.segment n.segment)) (λ (m : MemberSets). IfSome (nth y.members q) (λ (n : MemberSets). HaveOneKey m.segment n.segment))
+      (λ m o h one.
+      both-if (CarriesMember sets) (λ (n : MemberSets). HaveOneKey m.segment n.segment) (λ (n : MemberSets). HaveOneKey o.segment n.segment)
+      (λ n r k key. subst (λ s. HaveOneKey s r.segment) (sym h.segment) (subst (HaveOneKey m.segment) (sym k.segment) key)) (nth x.members q) (nth y.members q) (both q) one)
+      (nth x.members p) (nth y.members p) (both p) (keyed.once p q);
+}
+
+-- tables that are carried over, one after the other
+pub record Collects (begun : Carried) (linkage : Linkage) (heard fresh : List KeptHeard) (x y : Tables) : Type 0 where
+  pub members_done : Carried
+  pub segments_done : Carried
+  pub all_done : Carried
+  pub from : begun.from ≡ x.sets
+  pub zero : HasNumber begun 0 0
+  pub on_members : CarriesOn begun members_done
+  pub on_segments : CarriesOn members_done segments_done
+  pub on_events : CarriesOn segments_done all_done
+  pub members : (p : ℕ) → IfBoth (CarriesMember members_done) (nth x.members p) (nth y.members p)
+  pub segments : CarriesSegments segments_done x.segments y.segments
+  pub events : CarriesEvents all_done heard fresh
+  pub into : y.sets ≡ all_done.into
+
+pub collected : (begun : Carried) (linkage : Linkage) (heard fresh : List KeptHeard) (x y : Tables) → CarriesShow → Collects begun linkage heard fresh x y → AreSoundTables linkage heard x
+    → (shown (kept_in linkage fresh y) ≡ shown (kept_in linkage heard x)) × AreSoundTables linkage fresh y
+collected begun linkage heard fresh x y show c sound = (same.shown, record { kept = same.sound sound.kept; keyed = keyed })
+  where
+    sets : Carried
+    sets = c.all_done
+
+    last : CarriesOn c.members_done c.all_done
+    last = on-twice c.members_done c.segments_done c.all_done c.on_segments c.on_events
+
+    segments : CarriesSegments c.all_done x.segments y.segments
+    segments = record { count = c.segments.count; each = λ key. have-still c.segments_done c.all_done _ _ c.on_events (c.segments.each key) }
+
+    members : (p : ℕ) → IfBoth (CarriesMember c.all_done) (nth x.members p) (nth y.members p)
+    members p = entry-still c.members_done c.all_done (nth x.members p) (nth y.members p) last (c.members p)
+
+    kept : (p : ℕ) → IfBoth (state.CarriesMember c.all_done) (nth (map (option_map (kept_member x.segments)) x.members) p) (nth (map (option_map (kept_member y.segments)) y.members) p)
+    kept p =
+        subst (λ o. IfBoth (state.CarriesMember c.all_done) o (nth (map (option_map (kept_member y.segments)) y.members) p)) (sym (nth-map (kept_member x.segments) x.members p))
+        (subst (λ o. IfBoth (state.CarriesMember c.all_done) (option_map (kept_member x.segments) (nth x.members p)) o) (sym (nth-map (kept_member y.segments) y.members p))
+        (both-map (CarriesMember c.all_done) (state.CarriesMember c.all_done) (kept_member x.segments) (kept_member y.segments) (member-kept c.all_done x.segments y.segments segments) (nth x.members p) (nth y.members p) (members p)))
+
+    same : state.ShowsSame (kept_in linkage heard x) (kept_in linkage fresh y)
+    same = show c.all_done (kept_in linkage heard x) (kept_in linkage fresh y) (record {
+      linkage = refl;
+      from = (on-twice begun c.members_done c.all_done c.on_members last).from ∙ c.from;
+      into = c.into;
+      zero = (on-twice begun c.members_done c.all_done c.on_members last).still 0 0 c.zero;
+      members = kept;
+      heard = c.events;
+    })
+
+    keyed : AreKeyed y
+    keyed = still-keyed c.all_done x y segments members sound.keyed

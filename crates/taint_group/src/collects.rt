@@ -1,0 +1,93 @@
+// Sets that nobody names go.
+ghost use Rattle.std.specs.Prelude.{◌≡◌, ℕ, OnOk};
+ghost use Rattle.parts_model.specs.Numbered.{nth};
+ghost use Rattle.taint_members.specs.Carried.{CarriesMember};
+ghost use Rattle.taint_spans.specs.Carried.{CarriesOn};
+ghost use Rattle.taint_group.specs.Carried.{CarriesSegments};
+ghost use Rattle.taint_group.specs.Groups.{IsSoundGroup, kept_of};
+ghost use Rattle.taint_state.specs.Carried.{IfBoth};
+ghost use Rattle.taint_state.specs.Kept.{shown};
+
+use crate::group::{Group, MEMO};
+use arn_base::NoMemory;
+use std::mem;
+use taint_members::MemberSets;
+use taint_pages::SetNumbers;
+use taint_spans::{Carrying, SpanSets};
+use taint_state::carries_show;
+
+/// Gives each byte of a member that may be there the number that its set has from now on.
+fn carry_entry(carrying: &mut Carrying, entry: &mut Option<MemberSets>) -> Result<(), NoMemory>
+    ensures carried { OnOk result (IfBoth (CarriesMember carrying.new) entry.old entry.new) }
+    ensures on { CarriesOn carrying.old carrying.new }
+{
+    match entry {
+        Some(member) => member.carry(carrying),
+        None => Ok(()),
+    }
+}
+
+/// The same of each member.
+fn carry_members(
+    carrying: &mut Carrying,
+    members: &mut Vec<Option<MemberSets>>,
+) -> Result<(), NoMemory>
+    ensures carried { OnOk result ((p : ℕ) →
+        IfBoth (CarriesMember carrying.new) (nth members.old.items p) (nth members.new.items p)) }
+    ensures on { CarriesOn carrying.old carrying.new }
+{
+    for place in 0..members.len() {
+        carry_entry(carrying, &mut members[place])?;
+    }
+    Ok(())
+}
+
+/// The same of each segment.
+fn carry_segments(carrying: &mut Carrying, segments: &mut Vec<SetNumbers>) -> Result<(), NoMemory>
+    ensures carried { OnOk result
+        (CarriesSegments carrying.new segments.old.items segments.new.items) }
+    ensures on { CarriesOn carrying.old carrying.new }
+{
+    for key in 0..segments.len() {
+        segments[key].carry(carrying)?;
+    }
+    Ok(())
+}
+
+impl Group {
+    /// Carries the sets that are named over into fresh tables, and lets go of all others. After an
+    /// error nothing is known of what is kept.
+    #[inline(never)]
+    fn collect(&mut self) -> Result<(), NoMemory>
+        requires sound { IsSoundGroup self.old }
+        ensures same { OnOk result (shown (kept_of self.new) ≡ shown (kept_of self.old)) }
+        ensures sound { OnOk result (IsSoundGroup self.new) }
+    {
+        carries_show();
+        let alloc = *self.members.allocator();
+        let empty = SpanSets::new(alloc, 0)?;
+        let sets = mem::replace(&mut self.sets, empty);
+        let mut carrying = Carrying::new(alloc, sets, MEMO)?;
+        carrying.keeps();
+        carry_members(&mut carrying, &mut self.members)?;
+        carry_segments(&mut carrying, &mut self.segments)?;
+        self.heard.carry(&mut carrying)?;
+        self.sets = carrying.done();
+        Ok(())
+    }
+
+    /// Lets go of the sets that nobody names, where there are many. After an error nothing is known
+    /// of what is kept.
+    #[inline(always)]
+    pub(crate) fn tidy(&mut self) -> Result<(), NoMemory>
+        requires sound { IsSoundGroup self.old }
+        ensures same { OnOk result (shown (kept_of self.new) ≡ shown (kept_of self.old)) }
+        ensures sound { OnOk result (IsSoundGroup self.new) }
+    {
+        if self.sets.are_many() {
+            self.collect()
+        } else {
+            Ok(())
+        }
+    }
+}

@@ -1,0 +1,4 @@
+mod Members
+mod Standing
+mod Keeping
+mod Carried

@@ -1,0 +1,4 @@
+pub mod Spans
+pub mod Numbered
+pub mod Carried
+pub mod Sound

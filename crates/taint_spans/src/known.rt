@@ -1,0 +1,34 @@
+// What is remembered by place: a number that isn't 0, or 0 where there is none.
+ghost use Rattle.std.specs.Prelude.{◌≡◌, ◌⊎◌, ◌<◌, ℕ, IfSome, slice_index};
+
+use arn_base::NoMemory;
+
+/// What is remembered at a place, if anything is.
+#[inline(always)]
+pub fn known(numbers: &[u32], place: usize) -> Option<u32>
+    ensures { IfSome result (λ number. (number ≡ slice_index numbers.now place) × (0 < number)) }
+{
+    let number = *numbers.get(place)?;
+    if number > 0 { Some(number) } else { None }
+}
+
+/// Makes room behind the last place for one more, if that is it. What is remembered stays.
+#[inline(always)]
+pub fn make_room(numbers: &mut Vec<u32>, place: usize) -> Result<(), NoMemory>
+    ensures { (k : ℕ) → slice_index numbers.new.items k ≡ slice_index numbers.old.items k }
+{
+    if place == numbers.len() {
+        numbers.push(0)?;
+    }
+    Ok(())
+}
+
+/// Remembers a number at a place, if there is room. All else stays.
+pub fn remember(numbers: &mut Vec<u32>, place: usize, number: u32)
+    ensures { (k : ℕ) → (slice_index numbers.new.items k ≡ slice_index numbers.old.items k)
+        ⊎ ((k ≡ place) × (slice_index numbers.new.items k ≡ number)) }
+{
+    if place < numbers.len() {
+        numbers[place] = number;
+    }
+}

@@ -1,0 +1,11 @@
+//! Sets of bytes by number, where a union with received bytes that follow each other is put off until more is done with it.
+#![tactic(auto)]
+
+mod carrying;
+mod known;
+mod sets;
+mod settling;
+mod span;
+
+pub use carrying::Carrying;
+pub use sets::{FIRST_RECEIVED, SpanSets};
