@@ -48,6 +48,13 @@ const OTHER_BYTES: Change = Change {
     to: *b"\x01\x02\0\0\0cb\x01\0\0\0\x02\0\0\0\0\0\0\0\0",
 };
 
+/// The end of process 1, in record 3, behind the length of its commit and a slice of one instruction: the status of a word that is no
+/// instruction becomes that of another fault.
+const OTHER_STATUS: Change = Change {
+    from: *b"\x0f\0\0\0\x05\x01\0\0\0\x01\0\0\0\x08\x01\0\0\0\x84\0",
+    to: *b"\x0f\0\0\0\x05\x01\0\0\0\x01\0\0\0\x08\x01\0\0\0\x85\0",
+};
+
 /// Five bytes stand in a call's record before its number.
 const OTHER_NUMBER: Damage = Damage::Differs(Differs {
     place: 22,
@@ -123,6 +130,19 @@ const SEGMENT_TRIALS: [Trial; 2] = [
     },
 ];
 
+/// A word that is no instruction ends its process.
+const ILLEGAL: &str = "\
+    file p 41524e494d4730310000010000000000000001000000000000000000\n\
+    boot p\n\
+    run 9\n";
+
+const ILLEGAL_TRIALS: [Trial; 1] = [Trial {
+    change: OTHER_STATUS,
+    text: "verify\nback copy event 2 0 1\n",
+    status: Status::Done,
+    prints: "verify differs 3 5 133 132\ndamaged 2 133 132\n",
+}];
+
 /// A session over the log of a disk ends so, and prints this.
 fn assert_ends(
     rt: &(impl Abort + AllocGlobal),
@@ -176,5 +196,11 @@ fn assert_told(
 fn tells_damage_where_a_question_meets_it(rt: HostRuntime) -> Result<(), Fail> {
     assert_told(&rt, BESIDE, BESIDE_PRINTS, &TRIALS)?;
     assert_told(&rt, CUT, CUT_PRINTS, &SIGNAL_TRIALS)?;
-    assert_told(&rt, SHARED, SECOND_AT_ONCE, &SEGMENT_TRIALS)
+    assert_told(&rt, SHARED, SECOND_AT_ONCE, &SEGMENT_TRIALS)?;
+    assert_told(
+        &rt,
+        ILLEGAL,
+        "event 0\nevent 1\nran 1 done\n",
+        &ILLEGAL_TRIALS,
+    )
 }

@@ -334,6 +334,102 @@ fn a_device_fails(rt: HostRuntime) -> Result<(), Fail> {
     Ok(())
 }
 
+/// A device that fills each buffer with aa and, from the second byte on, bb, and then counts far more bytes
+/// than it gave or was handed.
+#[derive(Drop)]
+struct Boasting;
+
+impl Device for Boasting {
+    ghost use Rattle.std.specs.Prelude.{None};
+
+    ghost replies = { λ _ _. None };
+
+    ghost room = { λ _. None };
+
+    ghost took = { λ _. None };
+
+    ghost put_faults = { λ _ _. None };
+
+    fn ask(&mut self, buf: &mut [u8]) -> Reply {
+        let mut next = 0xaa;
+        for byte in buf.iter_mut() {
+            *byte = next;
+            next = 0xbb;
+        }
+        Reply::Gave(u32::MAX)
+    }
+
+    fn put(&mut self, _bytes: &[u8]) -> Took {
+        Took::Count(u32::MAX)
+    }
+}
+
+/// Opens device 0, and then reads two bytes from it over and over.
+const BOASTS: &str = "\
+    asm p\n\
+    li a7, 21; li a0, 0; ecall\n\
+    again:\n\
+    li a7, 11; li a0, 3; addi a1, sp, -16; li a2, 2; ecall; j again\n\
+    end\n\
+    boot p\n\
+    run 3\n\
+    run 5\n\
+    events\n\
+    show 8 mem 1 0x4ffef 4\n\
+    back copy mem 8 1 0x4fff0 2\n";
+
+const BOASTS_PRINTS: &str = "\
+    event 0\n\
+    event 1\n\
+    ran 3 budget\n\
+    ran 5 budget\n\
+    event 0 0 - file 60\n\
+    event 1 0 1 boot 60\n\
+    event 2 3 1 call.21.3 0\n\
+    event 3 8 1 call.11.2 2\n\
+    events 4\n\
+    mem 00aabb00\n\
+    pair 3 0 0\n\
+    pair 3 1 1\n\
+    back pairs 2 instructions 8 groups 1\n";
+
+/// Opens device 0, and writes two bytes to it.
+const HANDS: &str = "\
+    asm p\n\
+    li a7, 21; li a0, 0; ecall\n\
+    li a7, 12; li a0, 3; addi a1, sp, -16; li a2, 2; ecall\n\
+    li a7, 1; li a0, 0; ecall\n\
+    end\n\
+    boot p\n\
+    run 100\n\
+    events\n";
+
+const HANDS_PRINTS: &str = "\
+    event 0\n\
+    event 1\n\
+    ran 11 done\n\
+    event 0 0 - file 68\n\
+    event 1 0 1 boot 68\n\
+    event 2 3 1 call.21.3 0\n\
+    event 3 8 1 call.12.2 2\n\
+    event 4 11 1 call.1.0 1\n\
+    events 5\n";
+
+#[test]
+fn a_count_is_cut_to_what_was_asked_for(rt: HostRuntime) -> Result<(), Fail> {
+    for (text, prints) in [(BOASTS, BOASTS_PRINTS), (HANDS, HANDS_PRINTS)] {
+        let mut disk = MemDisk::new(rt.alloc(), Bytes::new(rt.alloc()));
+        let device: Box<dyn Device> = Box::new(rt.alloc(), Boasting)?;
+        let slots = vec![in rt.alloc(); Some(device)]?;
+        let script = Script::of(text.as_bytes());
+        let ended = run_with(rt.alloc(), &["log"], &script, &mut disk, slots)?;
+        assert_same(&rt, ended.status, Status::Done);
+        let told = String::from_utf8_lossy(rt.alloc(), ended.sink.bytes())?;
+        assert_same(&rt, told.as_str(), prints);
+    }
+    Ok(())
+}
+
 /// A device is unplugged behind two other events.
 const UNPLUGGED: &str = "\
     asm p\n\

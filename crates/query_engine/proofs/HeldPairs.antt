@@ -11,7 +11,6 @@ use Rattle.lineage_join.specs.Fits.{IsThere}
 use Rattle.lineage_join.specs.Laws.{PairsAreOne}
 use Rattle.lineage_join.specs.Rising.{IsRising, source_of}
 use Rattle.lineage_join.specs.declared.demand.Demand.{Demand}
-use Rattle.lineage_join.specs.declared.demand.Demand.TheVariants as demand
 use Rattle.lineage_model.specs.Joined.{Reaching, from_item}
 use Rattle.lineage_model.specs.Pairs.{pairs_from}
 use Rattle.lineage_model.specs.Tracking.{EventByte}

@@ -19,3 +19,5 @@ pub mod HeldAnswered
 pub mod Writers
 pub mod Written
 pub mod Named
+pub mod Caches
+pub mod Parts

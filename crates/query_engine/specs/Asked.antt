@@ -15,6 +15,7 @@ use Rattle.replay_steps.specs.declared.errors.QueryError.{QueryError}
 use Rattle.replay_steps.specs.declared.errors.QueryError.TheVariants as error
 use Rattle.query_engine.specs.Follows.{Explains}
 use Rattle.query_engine.specs.Names.{AnswersNamed, FailsNamed}
+use Rattle.query_engine.specs.Parts.{IsPart}
 use Rattle.query_engine.specs.States.{AnswersHeld, FailsHeld}
 use Rattle.query_engine.specs.declared.engine.Answer.{Answer}
 use Rattle.query_engine.specs.declared.engine.Target.{Target}
@@ -28,13 +29,13 @@ ran_in entries until groups = sum_by (λ g. ran_before entries g until) groups
 abbrev pub ran_for : List Record → ℕ → ℕ
 ran_for entries event = ran_in entries (moment_of entries event) (event_groups entries event)
 
--- the bytes are there, no group that is asked disagrees, and these pairs, groups and counts are the answer
+-- the bytes are there, no group that is asked disagrees, these pairs, groups and counts are the answer, and some of the groups were replayed
 pub record AnswersEvent (linkage : Linkage) (entries : List Record) (event from len : ℕ) (answer : Answer) : Type 0 where
   pub range : is_range (event_at entries event) from len ≡ true
   pub agree : event_disagreement entries event ≡ None
   pub pairs : answer.pairs ≡ event_pairs (operands linkage) entries event from len
   pub groups : answer.groups ≡ event_groups entries event
-  pub replayed : answer.replayed ≡ event_groups entries event
+  pub replayed : IsPart answer.replayed (event_groups entries event)
   pub instructions : answer.instructions ≡ count_in entries (event_groups entries event)
 
 -- there are no such bytes; or a group that is asked disagrees, or memory ran out
@@ -79,7 +80,14 @@ Fails entries (target.Mem moment pid at len) why = FailsHeld entries (in_memory 
 Fails entries (target.Reg moment pid reg) why = FailsHeld entries (in_register moment pid reg) why
 Fails entries (target.Name moment name from len) why = FailsNamed entries (in_file moment name from len) why
 
--- how many instructions a query runs, and at most so many where it fails
+-- the moment up to which groups are followed
+abbrev pub moment_asked : List Record → Target → ℕ
+moment_asked entries (target.Event event from len) = moment_of entries event
+moment_asked entries (target.Mem moment pid at len) = moment
+moment_asked entries (target.Reg moment pid reg) = moment
+moment_asked entries (target.Name moment name from len) = moment
+
+-- how many instructions a query runs at most
 abbrev pub ran_about : List Record → Target → ℕ
 ran_about entries (target.Event event from len) = ran_for entries event
 ran_about entries (target.Mem moment pid at len) = ran_for_held entries (in_memory moment pid at len)

@@ -12,19 +12,21 @@ use Rattle.replay_steps.specs.declared.errors.QueryError.{QueryError}
 use Rattle.replay_steps.specs.declared.errors.QueryError.TheVariants as error
 use Rattle.query_engine.specs.Asked.{ran_in}
 use Rattle.query_engine.specs.Follows.{Explains}
+use Rattle.query_engine.specs.Parts.{IsPart}
 use Rattle.query_engine.specs.declared.engine.Answer.{Answer}
 
 -- how many instructions the groups ran to which these bytes can have come
 abbrev pub ran_forth : List Record → ℕ → ℕ → ℕ → ℕ
 ran_forth entries event from len = ran_in entries (total entries) (forth_groups entries event from len)
 
--- the bytes are there, no group to which they can have come disagrees, and these pairs, groups and counts are the answer
+-- the bytes are there, no group to which they can have come disagrees, these pairs, groups and counts are the answer, and some of the groups
+-- were replayed
 pub record AnswersForth (linkage : Linkage) (entries : List Record) (event from len : ℕ) (answer : Answer) : Type 0 where
   pub range : is_range (event_at entries event) from len ≡ true
   pub agree : forth_disagreement entries event from len ≡ None
   pub pairs : answer.pairs ≡ forth_pairs (operands linkage) entries event from len
   pub groups : answer.groups ≡ forth_groups entries event from len
-  pub replayed : answer.replayed ≡ forth_groups entries event from len
+  pub replayed : IsPart answer.replayed (forth_groups entries event from len)
   pub instructions : answer.instructions ≡ count_in entries (forth_groups entries event from len)
 
 -- there are no such bytes; or a group to which they can have come disagrees, or memory ran out

@@ -1,6 +1,9 @@
 pub mod Laws
 pub mod Follows
 pub mod Following
+pub mod Parts
+pub mod Relations
+pub mod Engines
 pub mod Demands
 pub mod States
 pub mod Asked

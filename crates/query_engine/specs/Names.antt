@@ -12,6 +12,7 @@ use Rattle.replay_steps.specs.declared.errors.QueryError.TheVariants as error
 use Rattle.rv64_model.specs.Carries.{operands}
 use Rattle.rv64_model.specs.declared.linkage.Linkage.{Linkage}
 use Rattle.query_engine.specs.Follows.{Explains}
+use Rattle.query_engine.specs.Parts.{IsPart}
 use Rattle.query_engine.specs.declared.engine.Answer.{Answer}
 
 -- byte k takes what the event byte has that last wrote it
@@ -29,12 +30,12 @@ LacksVersion version error.NoPoint = version ≡ None
 LacksVersion version (error.Disagrees d) = ⊥
 LacksVersion version error.NoMemory = Unit {0}
 
--- no group that is asked disagrees, and these pairs, groups and counts are the answer
+-- no group that is asked disagrees, these pairs, groups and counts are the answer, and some of the groups were replayed
 pub record AnswersWritten (linkage : Linkage) (entries : List Record) (moment : ℕ) (bytes : List TaggedByte) (answer : Answer) : Type 0 where
   pub agree : written_disagreement entries moment bytes ≡ None
   pub pairs : answer.pairs ≡ written_pairs (operands linkage) entries moment bytes
   pub groups : answer.groups ≡ written_groups entries bytes
-  pub replayed : answer.replayed ≡ written_groups entries bytes
+  pub replayed : IsPart answer.replayed (written_groups entries bytes)
   pub instructions : answer.instructions ≡ count_in entries (written_groups entries bytes)
 
 -- the bytes are there, and this answers of them

@@ -22,6 +22,7 @@ use Rattle.taint_state.specs.declared.point.Point.{Point}
 use Rattle.taint_state.specs.declared.point.Point.TheVariants as point
 use Rattle.query_engine.specs.Following.{Following, tracker_of}
 use Rattle.query_engine.specs.Follows.{Explains}
+use Rattle.query_engine.specs.Parts.{IsPart}
 use Rattle.query_engine.specs.declared.engine.Answer.{Answer}
 
 -- the process lives at the moment, and has this register, or these bytes, which aren't too many to be asked for
@@ -63,13 +64,13 @@ item_demand k item = demand.Item item k
 abbrev pub held_demands : Following → Held → ℕ → List Demand
 held_demands f held n = flat_map (λ k. map (item_demand k) (told_at f held k)) (range_with_len 0 n)
 
--- the bytes are there, no group that is asked disagrees, and these pairs, groups and counts are the answer
+-- the bytes are there, no group that is asked disagrees, these pairs, groups and counts are the answer, and some of the groups were replayed
 pub record AnswersHeld (linkage : Linkage) (entries : List Record) (held : Held) (answer : Answer) : Type 0 where
   pub there : is_held entries held ≡ true
   pub agree : held_disagreement entries held ≡ None
   pub pairs : answer.pairs ≡ held_pairs (operands linkage) entries held
   pub groups : answer.groups ≡ process_groups entries held.pid
-  pub replayed : answer.replayed ≡ process_groups entries held.pid
+  pub replayed : IsPart answer.replayed (process_groups entries held.pid)
   pub instructions : answer.instructions ≡ count_in entries (process_groups entries held.pid)
 
 -- there are no such bytes; or a group that is asked disagrees, or memory ran out

@@ -1,12 +1,13 @@
 // Queries.
-ghost use Rattle.std.specs.Prelude.{◌≡◌, ◌≤◌, ◌+◌, IfErr, IfOk, IsOk, List, OnOk, length, true};
+ghost use Rattle.std.specs.Prelude.{◌≡◌, ◌≤◌, ◌+◌, IfErr, IfOk, List, length, true};
 ghost use Rattle.arn_base.specs.declared.records.Record.{Record};
 ghost use Rattle.rv64_model.specs.Carries.{operands};
 ghost use Rattle.exchange_graph.specs.Reach.{Rises};
 ghost use Rattle.history_index.specs.Indexes.{AreCountable, Indexes};
 ghost use Rattle.history_model.specs.Events.{event_at, is_range};
-ghost use Rattle.query_engine.specs.Asked.{Answers, AnswersEvent, Fails, FailsEvent, RunsNothing, in_file, ran_about, ran_for, ran_for_held, ran_for_named, ran_in};
+ghost use Rattle.query_engine.specs.Asked.{Answers, AnswersEvent, Fails, FailsEvent, RunsNothing, in_file, moment_asked, ran_about, ran_for, ran_for_held, ran_for_named, ran_in};
 ghost use Rattle.query_engine.specs.Demands.{byte_demands};
+ghost use Rattle.query_engine.specs.Engines.{HasSeen, KeepsNone, ReplaysAll, keep_of};
 ghost use Rattle.query_engine.specs.Following.{HasFollowed, IsOf};
 ghost use Rattle.query_engine.specs.Follows.{Explains};
 ghost use Rattle.query_engine.specs.Names.{AnswersNamed, AnswersWritten, FailsNamed};
@@ -16,9 +17,9 @@ ghost use Rattle.query_laws.specs.Names.{AreWritten};
 ghost use Rattle.query_model.specs.Answers.{count_in, event_groups, event_pairs, moment_of};
 ghost use Rattle.query_model.specs.Names.{written_disagreement, written_groups};
 
-use crate::follow_all::follow_all;
 use crate::followed::Followed;
 use crate::law::{laws, laws_of_names};
+use crate::relations::Relations;
 use crate::{names, states};
 use arn_base::{Bytes, NoMemory, Numbers, Pairs, Record, Steps};
 use exchange_graph::Graph;
@@ -65,7 +66,7 @@ pub enum Target {
 }
 
 /// What a query answers: source bytes beside bytes of the target, rising; the groups that are asked, and how
-/// many instructions these counted in all; and which groups were replayed for it.
+/// many instructions these counted in all; and which of them were replayed for it.
 #[derive(Debug, Drop)]
 pub struct Answer {
     pub pairs: Pairs,
@@ -74,10 +75,12 @@ pub struct Answer {
     pub replayed: Numbers,
 }
 
-/// Answers queries.
+/// Answers queries, and keeps what followed the groups that were asked lately. The records of a later query
+/// begin with those of the earlier ones.
 #[derive(Debug, Drop)]
 pub struct Engine {
     pub(crate) alloc: Global,
+    pub(crate) kept: Relations,
 }
 
 /// Whether an event is there and has these bytes, and they aren't too many to be asked for.
@@ -172,200 +175,217 @@ fn pairs(
     join(alloc, entries, index, followed, demands.as_slice())
 }
 
-/// The same numbers once more.
-pub fn copy_of(alloc: Global, numbers: &[u32]) -> Result<Numbers, NoMemory>
-    ensures { IfOk result (λ copy. copy ≡ numbers.now) }
-{
-    let mut copy = Numbers::new(alloc);
-    copy.extend_from_slice(numbers)?;
-    Ok(copy)
-}
-
-/// These pairs, beside the groups that were followed for them.
-fn answer_of(
-    alloc: Global,
-    entries: &[Record],
+/// These pairs, beside the groups that were asked for them and those that were replayed.
+pub fn answer_of(
+    _entries: &[Record],
     index: &Index,
     groups: Numbers,
     pairs: Pairs,
-) -> Result<Answer, NoMemory>
-    requires indexed { Indexes index.now entries.now }
+    replayed: Numbers,
+) -> Answer
+    requires indexed { Indexes index.now _entries.now }
     requires rises { Rises groups }
-    ensures pairs { IfOk result (λ answer. answer.pairs ≡ pairs) }
-    ensures groups { IfOk result (λ answer. answer.groups ≡ groups) }
-    ensures replayed { IfOk result (λ answer. answer.replayed ≡ groups) }
-    ensures instructions { IfOk result (λ answer. answer.instructions ≡ count_in entries.now groups) }
+    ensures pairs { result.pairs ≡ pairs }
+    ensures groups { result.groups ≡ groups }
+    ensures replayed { result.replayed ≡ replayed }
+    ensures instructions { result.instructions ≡ count_in _entries.now groups }
 {
-    let replayed = copy_of(alloc, groups.as_slice())?;
-    let instructions = count_all(entries, index, groups.as_slice());
-    Ok(Answer {
+    let instructions = count_all(_entries, index, groups.as_slice());
+    Answer {
         pairs,
         groups,
         instructions,
         replayed,
-    })
-}
-
-/// Where bytes of an event come from that it has.
-fn event_back<L: Ledger>(
-    alloc: Global,
-    entries: &[Record],
-    index: &Index,
-    linkage: Linkage,
-    event: u64,
-    from: u32,
-    len: u32,
-    steps: &mut Steps<L>,
-) -> Result<Answer, QueryError>
-    requires countable { AreCountable entries.now }
-    requires indexed { Indexes index.now entries.now }
-    requires range { is_range (event_at entries.now event) from len ≡ true }
-    ensures ok { IfOk result (AnswersEvent linkage entries.now event from len) }
-    ensures err { IfErr result (FailsEvent entries.now event from len) }
-    ensures counted { OnOk result (steps.new ≡ steps.old + ran_for entries.now event) }
-    ensures bounded { steps.new ≤ steps.old + ran_for entries.now event }
-{
-    let groups = groups_about(alloc, entries, index, event)?;
-    let until = moment_about(index, event);
-    let followed = follow_all(
-        alloc,
-        entries,
-        index,
-        linkage,
-        groups.as_slice(),
-        until,
-        steps,
-    )?;
-    let pairs = pairs(alloc, entries, index, linkage, &followed, event, from, len)?;
-    Ok(answer_of(alloc, entries, index, groups, pairs)?)
-}
-
-/// Where bytes come from that a process holds at a moment.
-fn held_back<L: Ledger>(
-    alloc: Global,
-    entries: &[Record],
-    index: &Index,
-    linkage: Linkage,
-    held: Held,
-    steps: &mut Steps<L>,
-) -> Result<Answer, QueryError>
-    requires countable { AreCountable entries.now }
-    requires indexed { Indexes index.now entries.now }
-    requires there { is_held entries.now held ≡ true }
-    ensures ok { IfOk result (AnswersHeld linkage entries.now held) }
-    ensures err { IfErr result (FailsHeld entries.now held) }
-    ensures counted { OnOk result (steps.new ≡ steps.old + ran_for_held entries.now held) }
-    ensures bounded { steps.new ≤ steps.old + ran_for_held entries.now held }
-{
-    let groups = states::groups_of(alloc, entries, index, held.pid)?;
-    let followed = follow_all(
-        alloc,
-        entries,
-        index,
-        linkage,
-        groups.as_slice(),
-        held.moment,
-        steps,
-    )?;
-    let pairs = states::pairs(alloc, entries, index, linkage, &followed, held)?;
-    Ok(answer_of(alloc, entries, index, groups, pairs)?)
-}
-
-/// Where bytes come from that a process holds at a moment, if they are there.
-fn state_back<L: Ledger>(
-    alloc: Global,
-    entries: &[Record],
-    index: &Index,
-    linkage: Linkage,
-    held: Held,
-    steps: &mut Steps<L>,
-) -> Result<Answer, QueryError>
-    requires countable { AreCountable entries.now }
-    requires indexed { Indexes index.now entries.now }
-    ensures ok { IfOk result (AnswersHeld linkage entries.now held) }
-    ensures err { IfErr result (FailsHeld entries.now held) }
-    ensures counted { OnOk result (steps.new ≡ steps.old + ran_for_held entries.now held) }
-    ensures unasked { IfErr result (λ error. RunsNothing error steps.old steps.new) }
-    ensures bounded { steps.new ≤ steps.old + ran_for_held entries.now held }
-{
-    if !states::is_held(entries, index, held) {
-        return Err(QueryError::NoPoint);
     }
-    held_back(alloc, entries, index, linkage, held, steps)
-}
-
-/// Where bytes come from that were written by a moment.
-fn written_back<L: Ledger>(
-    alloc: Global,
-    entries: &[Record],
-    index: &Index,
-    linkage: Linkage,
-    moment: u64,
-    bytes: &[TaggedByte],
-    steps: &mut Steps<L>,
-) -> Result<Answer, QueryError>
-    requires countable { AreCountable entries.now }
-    requires indexed { Indexes index.now entries.now }
-    requires few { length bytes.now ≤ MOST_ASKED }
-    requires written { AreWritten entries.now bytes.now }
-    ensures ok { IfOk result (AnswersWritten linkage entries.now moment bytes.now) }
-    ensures err { IfErr result (Explains (written_disagreement entries.now moment bytes.now)) }
-    ensures counted { OnOk result (steps.new ≡ steps.old + ran_in entries.now moment (written_groups entries.now bytes.now)) }
-    ensures bounded { steps.new ≤ steps.old + ran_in entries.now moment (written_groups entries.now bytes.now) }
-{
-    let groups = names::groups_of(alloc, entries, index, bytes)?;
-    let followed = follow_all(
-        alloc,
-        entries,
-        index,
-        linkage,
-        groups.as_slice(),
-        moment,
-        steps,
-    )?;
-    let pairs = names::pairs(alloc, entries, index, linkage, &followed, moment, bytes)?;
-    Ok(answer_of(alloc, entries, index, groups, pairs)?)
-}
-
-/// Where bytes come from that the file has that a name stands for at a moment, if they are there.
-fn name_back<L: Ledger>(
-    alloc: Global,
-    entries: &[Record],
-    index: &Index,
-    linkage: Linkage,
-    moment: u64,
-    name: &[u8],
-    from: u64,
-    len: u32,
-    steps: &mut Steps<L>,
-) -> Result<Answer, QueryError>
-    requires countable { AreCountable entries.now }
-    requires indexed { Indexes index.now entries.now }
-    ensures ok { IfOk result (AnswersNamed linkage entries.now (in_file moment name.now from len)) }
-    ensures err { IfErr result (FailsNamed entries.now (in_file moment name.now from len)) }
-    ensures counted { OnOk result (steps.new ≡ steps.old + ran_for_named entries.now (in_file moment name.now from len)) }
-    ensures unasked { IfErr result (λ error. RunsNothing error steps.old steps.new) }
-    ensures bounded { steps.new ≤ steps.old + ran_for_named entries.now (in_file moment name.now from len) }
-{
-    laws_of_names();
-    let held = names::version(alloc, entries, index, moment, name)?;
-    let Some(bytes) = names::part(held.as_slice(), from, len) else {
-        return Err(QueryError::NoPoint);
-    };
-    written_back(alloc, entries, index, linkage, moment, bytes, steps)
 }
 
 impl Engine {
-    /// An engine that keeps nothing between queries.
+    /// An engine that keeps the relations of so many groups between queries, each under one linkage.
     pub fn new(alloc: Global, keep: u32) -> Result<Engine, NoMemory>
-        ensures { IsOk result }
+        ensures none { IfOk result KeepsNone }
+        ensures seen { (entries : List Record) → IfOk result (HasSeen entries) }
+        ensures keep { IfOk result (λ engine. keep_of engine ≡ keep) }
     {
-        let _keep = keep;
-        Ok(Engine { alloc })
+        let kept = Relations::new(alloc, keep)?;
+        Ok(Engine { alloc, kept })
+    }
+
+    /// Where bytes of an event come from that it has.
+    fn event_back<L: Ledger>(
+        &mut self,
+        entries: &[Record],
+        index: &Index,
+        linkage: Linkage,
+        event: u64,
+        from: u32,
+        len: u32,
+        steps: &mut Steps<L>,
+    ) -> Result<Answer, QueryError>
+        requires countable { AreCountable entries.now }
+        requires indexed { Indexes index.now entries.now }
+        requires seen { HasSeen entries.now self.old }
+        requires range { is_range (event_at entries.now event) from len ≡ true }
+        ensures ok { IfOk result (AnswersEvent linkage entries.now event from len) }
+        ensures err { IfErr result (FailsEvent entries.now event from len) }
+        ensures counted { IfOk result (λ answer. steps.new ≡ steps.old + ran_in entries.now (moment_of entries.now event) answer.replayed) }
+        ensures bounded { steps.new ≤ steps.old + ran_for entries.now event }
+        ensures all { KeepsNone self.old → IfOk result ReplaysAll }
+        ensures seen { HasSeen entries.now self.new }
+        ensures keep { keep_of self.new ≡ keep_of self.old }
+    {
+        let groups = groups_about(self.alloc, entries, index, event)?;
+        let until = moment_about(index, event);
+        let (followed, replayed) = self.follow_all(
+            entries,
+            index,
+            linkage,
+            groups.as_slice(),
+            until,
+            steps,
+        )?;
+        let pairs = pairs(
+            self.alloc, entries, index, linkage, &followed, event, from, len,
+        )?;
+        followed.keep(entries, groups.as_slice(), &mut self.kept);
+        Ok(answer_of(entries, index, groups, pairs, replayed))
+    }
+
+    /// Where bytes come from that a process holds at a moment.
+    fn held_back<L: Ledger>(
+        &mut self,
+        entries: &[Record],
+        index: &Index,
+        linkage: Linkage,
+        held: Held,
+        steps: &mut Steps<L>,
+    ) -> Result<Answer, QueryError>
+        requires countable { AreCountable entries.now }
+        requires indexed { Indexes index.now entries.now }
+        requires seen { HasSeen entries.now self.old }
+        requires there { is_held entries.now held ≡ true }
+        ensures ok { IfOk result (AnswersHeld linkage entries.now held) }
+        ensures err { IfErr result (FailsHeld entries.now held) }
+        ensures counted { IfOk result (λ answer. steps.new ≡ steps.old + ran_in entries.now held.moment answer.replayed) }
+        ensures bounded { steps.new ≤ steps.old + ran_for_held entries.now held }
+        ensures all { KeepsNone self.old → IfOk result ReplaysAll }
+        ensures seen { HasSeen entries.now self.new }
+        ensures keep { keep_of self.new ≡ keep_of self.old }
+    {
+        let groups = states::groups_of(self.alloc, entries, index, held.pid)?;
+        let (followed, replayed) = self.follow_all(
+            entries,
+            index,
+            linkage,
+            groups.as_slice(),
+            held.moment,
+            steps,
+        )?;
+        let pairs = states::pairs(self.alloc, entries, index, linkage, &followed, held)?;
+        followed.keep(entries, groups.as_slice(), &mut self.kept);
+        Ok(answer_of(entries, index, groups, pairs, replayed))
+    }
+
+    /// Where bytes come from that a process holds at a moment, if they are there.
+    fn state_back<L: Ledger>(
+        &mut self,
+        entries: &[Record],
+        index: &Index,
+        linkage: Linkage,
+        held: Held,
+        steps: &mut Steps<L>,
+    ) -> Result<Answer, QueryError>
+        requires countable { AreCountable entries.now }
+        requires indexed { Indexes index.now entries.now }
+        requires seen { HasSeen entries.now self.old }
+        ensures ok { IfOk result (AnswersHeld linkage entries.now held) }
+        ensures err { IfErr result (FailsHeld entries.now held) }
+        ensures counted { IfOk result (λ answer. steps.new ≡ steps.old + ran_in entries.now held.moment answer.replayed) }
+        ensures unasked { IfErr result (λ error. RunsNothing error steps.old steps.new) }
+        ensures bounded { steps.new ≤ steps.old + ran_for_held entries.now held }
+        ensures all { KeepsNone self.old → IfOk result ReplaysAll }
+        ensures seen { HasSeen entries.now self.new }
+        ensures keep { keep_of self.new ≡ keep_of self.old }
+    {
+        if !states::is_held(entries, index, held) {
+            return Err(QueryError::NoPoint);
+        }
+        self.held_back(entries, index, linkage, held, steps)
+    }
+
+    /// Where bytes come from that were written by a moment.
+    fn written_back<L: Ledger>(
+        &mut self,
+        entries: &[Record],
+        index: &Index,
+        linkage: Linkage,
+        moment: u64,
+        bytes: &[TaggedByte],
+        steps: &mut Steps<L>,
+    ) -> Result<Answer, QueryError>
+        requires countable { AreCountable entries.now }
+        requires indexed { Indexes index.now entries.now }
+        requires seen { HasSeen entries.now self.old }
+        requires few { length bytes.now ≤ MOST_ASKED }
+        requires written { AreWritten entries.now bytes.now }
+        ensures ok { IfOk result (AnswersWritten linkage entries.now moment bytes.now) }
+        ensures err { IfErr result (Explains (written_disagreement entries.now moment bytes.now)) }
+        ensures counted { IfOk result (λ answer. steps.new ≡ steps.old + ran_in entries.now moment answer.replayed) }
+        ensures bounded { steps.new ≤ steps.old + ran_in entries.now moment (written_groups entries.now bytes.now) }
+        ensures all { KeepsNone self.old → IfOk result ReplaysAll }
+        ensures seen { HasSeen entries.now self.new }
+        ensures keep { keep_of self.new ≡ keep_of self.old }
+    {
+        let groups = names::groups_of(self.alloc, entries, index, bytes)?;
+        let (followed, replayed) = self.follow_all(
+            entries,
+            index,
+            linkage,
+            groups.as_slice(),
+            moment,
+            steps,
+        )?;
+        let pairs = names::pairs(
+            self.alloc, entries, index, linkage, &followed, moment, bytes,
+        )?;
+        followed.keep(entries, groups.as_slice(), &mut self.kept);
+        Ok(answer_of(entries, index, groups, pairs, replayed))
+    }
+
+    /// Where bytes come from that the file has that a name stands for at a moment, if they are there.
+    fn name_back<L: Ledger>(
+        &mut self,
+        entries: &[Record],
+        index: &Index,
+        linkage: Linkage,
+        moment: u64,
+        name: &[u8],
+        from: u64,
+        len: u32,
+        steps: &mut Steps<L>,
+    ) -> Result<Answer, QueryError>
+        requires countable { AreCountable entries.now }
+        requires indexed { Indexes index.now entries.now }
+        requires seen { HasSeen entries.now self.old }
+        ensures ok { IfOk result (AnswersNamed linkage entries.now (in_file moment name.now from len)) }
+        ensures err { IfErr result (FailsNamed entries.now (in_file moment name.now from len)) }
+        ensures counted { IfOk result (λ answer. steps.new ≡ steps.old + ran_in entries.now moment answer.replayed) }
+        ensures unasked { IfErr result (λ error. RunsNothing error steps.old steps.new) }
+        ensures bounded { steps.new ≤ steps.old + ran_for_named entries.now (in_file moment name.now from len) }
+        ensures all { KeepsNone self.old → IfOk result ReplaysAll }
+        ensures seen { HasSeen entries.now self.new }
+        ensures keep { keep_of self.new ≡ keep_of self.old }
+    {
+        laws_of_names();
+        let held = names::version(self.alloc, entries, index, moment, name)?;
+        let Some(bytes) = names::part(held.as_slice(), from, len) else {
+            return Err(QueryError::NoPoint);
+        };
+        self.written_back(entries, index, linkage, moment, bytes, steps)
     }
 
     /// Which source bytes reach bytes of a target. It replays the groups from which the target's own can
-    /// have received bytes, each up to the target's moment, and no more.
+    /// have received bytes, each up to the target's moment, and no more; and of these only the ones of which
+    /// it keeps no relation that tells the same.
     pub fn back<L: Ledger>(
         &mut self,
         entries: &[Record],
@@ -376,20 +396,24 @@ impl Engine {
     ) -> Result<Answer, QueryError>
         requires countable { AreCountable entries.now }
         requires indexed { Indexes index.now entries.now }
+        requires seen { HasSeen entries.now self.old }
         ensures ok { IfOk result (Answers linkage entries.now target.now) }
         ensures err { IfErr result (Fails entries.now target.now) }
-        ensures counted { OnOk result (steps.new ≡ steps.old + ran_about entries.now target.now) }
+        ensures counted { IfOk result (λ answer. steps.new ≡ steps.old + ran_in entries.now (moment_asked entries.now target.now) answer.replayed) }
         ensures unasked { IfErr result (λ error. RunsNothing error steps.old steps.new) }
         ensures bounded { steps.new ≤ steps.old + ran_about entries.now target.now }
+        ensures first { KeepsNone self.old → IfOk result ReplaysAll }
+        ensures without { keep_of self.old ≡ 0 → IfOk result ReplaysAll }
+        ensures seen { HasSeen entries.now self.new }
+        ensures keep { keep_of self.new ≡ keep_of self.old }
     {
+        self.kept.have_room();
         match target {
             Target::Event { event, from, len } => {
                 if !has_range(index, *event, *from, *len) {
                     return Err(QueryError::NoPoint);
                 }
-                event_back(
-                    self.alloc, entries, index, linkage, *event, *from, *len, steps,
-                )
+                self.event_back(entries, index, linkage, *event, *from, *len, steps)
             }
             Target::Mem {
                 moment,
@@ -402,7 +426,7 @@ impl Engine {
                     pid: *pid,
                     part: Part::Memory { at: *at, len: *len },
                 };
-                state_back(self.alloc, entries, index, linkage, held, steps)
+                self.state_back(entries, index, linkage, held, steps)
             }
             Target::Reg { moment, pid, reg } => {
                 let held = Held {
@@ -410,15 +434,14 @@ impl Engine {
                     pid: *pid,
                     part: Part::Register(*reg),
                 };
-                state_back(self.alloc, entries, index, linkage, held, steps)
+                self.state_back(entries, index, linkage, held, steps)
             }
             Target::Name {
                 moment,
                 name,
                 from,
                 len,
-            } => name_back(
-                self.alloc,
+            } => self.name_back(
                 entries,
                 index,
                 linkage,

@@ -1,5 +1,5 @@
 // What was followed of groups.
-ghost use Rattle.std.specs.Prelude.{◌≡◌, [], OnOk, option_map, unwrap_or};
+ghost use Rattle.std.specs.Prelude.{◌≡◌, [], IfSome, OnOk, option_map, unwrap_or};
 ghost use Rattle.history_index.specs.Indexes.{AreCountable, Indexes};
 ghost use Rattle.lineage_join.specs.Places.{at_of};
 ghost use Rattle.query_engine.specs.Follows.{Follows};
@@ -7,10 +7,13 @@ ghost use Rattle.history_model.specs.Groups.{group_of};
 ghost use Rattle.query_engine.specs.Following.{Adds, AddsOnly, HasOnly, IsFollowing, IsOf, items_followed};
 ghost use Rattle.query_engine.specs.States.{told_by};
 ghost use Rattle.query_engine.specs.Following as following;
+ghost use Rattle.query_engine.specs.Relations.{AreOf, IsRelation, room};
 ghost use Rattle.taint_tracker.specs.Items.{listed};
 ghost use Rattle.taint_state.specs.Shown.{AreItems};
 
+use crate::relations::{Relation, Relations};
 use arn_base::{NoMemory, Record};
+use group_extents::Extent;
 use history_index::Index;
 use lineage_join::{Locals, Place};
 use rv64_model::Linkage;
@@ -87,6 +90,43 @@ impl<'a> Followed<'a> {
     {
         self.trackers.insert(group, tracker)?;
         Ok(())
+    }
+
+    /// Takes out what followed a group, and how far that had come.
+    fn take(&mut self, group: u32) -> Option<Relation>
+        ensures found { IfSome result (IsRelation self.old.linkage self.old.entries group) }
+        ensures of { IsOf self.old.entries self.old.linkage self.old.until self.new }
+    {
+        let tracker = self.trackers.remove(&group)?;
+        let extent = Extent::of(self.entries, self.index, group, self.until);
+        Some(Relation { extent, tracker })
+    }
+
+    /// Takes out what followed a group, and keeps that.
+    fn keep_one(&mut self, _entries: &[Record], group: u32, kept: &mut Relations)
+        requires of { self.old.entries ≡ _entries.now }
+        requires seen { AreOf _entries.now kept.old }
+        ensures of { self.new.entries ≡ _entries.now }
+        ensures seen { AreOf _entries.now kept.new }
+        ensures room { room kept.new ≡ room kept.old }
+    {
+        let linkage = self.linkage;
+        if let Some(relation) = self.take(group) {
+            kept.put(group, linkage, relation);
+        }
+    }
+
+    /// Keeps what followed these groups.
+    pub fn keep(self, _entries: &[Record], groups: &[u32], kept: &mut Relations)
+        requires of { self.entries ≡ _entries.now }
+        requires seen { AreOf _entries.now kept.old }
+        ensures seen { AreOf _entries.now kept.new }
+        ensures room { room kept.new ≡ room kept.old }
+    {
+        let mut followed = self;
+        for group in groups {
+            followed.keep_one(_entries, *group, kept);
+        }
     }
 
     /// The items of a byte of an event, where its group was followed.

@@ -1,70 +1,68 @@
 // Queries forward.
-ghost use Rattle.std.specs.Prelude.{◌≡◌, ◌≤◌, ◌+◌, IfErr, IfOk, OnOk, true};
+ghost use Rattle.std.specs.Prelude.{◌≡◌, ◌≤◌, ◌+◌, IfErr, IfOk, true};
 ghost use Rattle.history_index.specs.Indexes.{AreCountable, Indexes};
 ghost use Rattle.history_model.specs.Events.{event_at, is_range};
-ghost use Rattle.query_engine.specs.Asked.{RunsNothing};
+ghost use Rattle.history_model.specs.Moments.{total};
+ghost use Rattle.query_engine.specs.Asked.{RunsNothing, ran_in};
+ghost use Rattle.query_engine.specs.Engines.{HasSeen, KeepsNone, ReplaysAll, keep_of};
 ghost use Rattle.query_engine.specs.Forth.{AnswersForth, FailsForth, ran_forth};
 
-use crate::engine::{Answer, Engine, copy_of, count_all, has_range};
+use crate::engine::{Answer, Engine, answer_of, has_range};
 use crate::first::{Asked, forth_groups};
-use crate::follow_all::follow_all;
 use crate::sinks::pairs_among;
 use arn_base::{Record, Steps};
 use history_index::Index;
 use replayer::QueryError;
 use rv64_model::Linkage;
-use std::alloc::Global;
 use std::sync::ledger::Ledger;
 
-/// What bytes reach that an event has.
-fn event_forth<L: Ledger>(
-    alloc: Global,
-    entries: &[Record],
-    index: &Index,
-    linkage: Linkage,
-    asked: Asked,
-    steps: &mut Steps<L>,
-) -> Result<Answer, QueryError>
-    requires countable { AreCountable entries.now }
-    requires indexed { Indexes index.now entries.now }
-    requires range { is_range (event_at entries.now asked.event) asked.from asked.len ≡ true }
-    ensures ok { IfOk result (AnswersForth linkage entries.now asked.event asked.from asked.len) }
-    ensures err { IfErr result (FailsForth entries.now asked.event asked.from asked.len) }
-    ensures counted { OnOk result (steps.new ≡ steps.old + ran_forth entries.now asked.event asked.from asked.len) }
-    ensures bounded { steps.new ≤ steps.old + ran_forth entries.now asked.event asked.from asked.len }
-{
-    let groups = forth_groups(alloc, entries, index, asked)?;
-    let followed = follow_all(
-        alloc,
-        entries,
-        index,
-        linkage,
-        groups.as_slice(),
-        index.total(),
-        steps,
-    )?;
-    let pairs = pairs_among(
-        alloc,
-        entries,
-        index,
-        linkage,
-        &followed,
-        groups.as_slice(),
-        asked,
-    )?;
-    let replayed = copy_of(alloc, groups.as_slice())?;
-    let instructions = count_all(entries, index, groups.as_slice());
-    Ok(Answer {
-        pairs,
-        groups,
-        instructions,
-        replayed,
-    })
-}
-
 impl Engine {
+    /// What bytes reach that an event has.
+    fn event_forth<L: Ledger>(
+        &mut self,
+        entries: &[Record],
+        index: &Index,
+        linkage: Linkage,
+        asked: Asked,
+        steps: &mut Steps<L>,
+    ) -> Result<Answer, QueryError>
+        requires countable { AreCountable entries.now }
+        requires indexed { Indexes index.now entries.now }
+        requires seen { HasSeen entries.now self.old }
+        requires range { is_range (event_at entries.now asked.event) asked.from asked.len ≡ true }
+        ensures ok { IfOk result (AnswersForth linkage entries.now asked.event asked.from asked.len) }
+        ensures err { IfErr result (FailsForth entries.now asked.event asked.from asked.len) }
+        ensures counted { IfOk result (λ answer. steps.new ≡ steps.old + ran_in entries.now (total entries.now) answer.replayed) }
+        ensures bounded { steps.new ≤ steps.old + ran_forth entries.now asked.event asked.from asked.len }
+        ensures all { KeepsNone self.old → IfOk result ReplaysAll }
+        ensures seen { HasSeen entries.now self.new }
+        ensures keep { keep_of self.new ≡ keep_of self.old }
+    {
+        let groups = forth_groups(self.alloc, entries, index, asked)?;
+        let (followed, replayed) = self.follow_all(
+            entries,
+            index,
+            linkage,
+            groups.as_slice(),
+            index.total(),
+            steps,
+        )?;
+        let pairs = pairs_among(
+            self.alloc,
+            entries,
+            index,
+            linkage,
+            &followed,
+            groups.as_slice(),
+            asked,
+        )?;
+        followed.keep(entries, groups.as_slice(), &mut self.kept);
+        Ok(answer_of(entries, index, groups, pairs, replayed))
+    }
+
     /// Which bytes that went out are reached by bytes of an event, of which only bytes from outside reach
-    /// any. It replays the groups to which these can have come, each up to the end, and no more.
+    /// any. It replays the groups to which these can have come, each up to the end, and no more; and of these
+    /// only the ones of which it keeps no relation that tells the same.
     pub fn forth<L: Ledger>(
         &mut self,
         entries: &[Record],
@@ -77,22 +75,21 @@ impl Engine {
     ) -> Result<Answer, QueryError>
         requires countable { AreCountable entries.now }
         requires indexed { Indexes index.now entries.now }
+        requires seen { HasSeen entries.now self.old }
         ensures ok { IfOk result (AnswersForth linkage entries.now event from len) }
         ensures err { IfErr result (FailsForth entries.now event from len) }
-        ensures counted { OnOk result (steps.new ≡ steps.old + ran_forth entries.now event from len) }
+        ensures counted { IfOk result (λ answer. steps.new ≡ steps.old + ran_in entries.now (total entries.now) answer.replayed) }
         ensures unasked { IfErr result (λ error. RunsNothing error steps.old steps.new) }
         ensures bounded { steps.new ≤ steps.old + ran_forth entries.now event from len }
+        ensures first { KeepsNone self.old → IfOk result ReplaysAll }
+        ensures without { keep_of self.old ≡ 0 → IfOk result ReplaysAll }
+        ensures seen { HasSeen entries.now self.new }
+        ensures keep { keep_of self.new ≡ keep_of self.old }
     {
+        self.kept.have_room();
         if !has_range(index, event, from, len) {
             return Err(QueryError::NoPoint);
         }
-        event_forth(
-            self.alloc,
-            entries,
-            index,
-            linkage,
-            Asked { event, from, len },
-            steps,
-        )
+        self.event_forth(entries, index, linkage, Asked { event, from, len }, steps)
     }
 }

@@ -1,4 +1,5 @@
 // What holds of queries.
+ghost use Rattle.query_engine.specs.Engines.{SeenStays};
 ghost use Rattle.query_engine.specs.Laws.{Laws, LawsOfNames, LawsOfStates};
 
 use query_laws::{
@@ -33,3 +34,8 @@ pub fn laws_of_names()
     named_are_written();
     written_is_of_bytes();
 }
+
+/// An engine whose queries so far were on records has seen those that begin with these.
+pub fn seen_stays()
+    ensures { SeenStays }
+{}

@@ -11,8 +11,12 @@ mod forth;
 mod law;
 mod law_forth;
 mod names;
+mod relations;
 mod sinks;
 mod states;
 
 pub use engine::{Answer, Engine, Target};
+pub use law::seen_stays;
+#[doc(hidden)]
+pub use relations::{Key, Relation, Relations};
 pub use replayer::{Disagrees, QueryError};

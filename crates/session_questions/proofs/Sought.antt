@@ -11,13 +11,16 @@ use Rattle.history_model.specs.Alone.{Disagrees}
 use Rattle.history_model.specs.Events.{event_at, is_range}
 use Rattle.parts_model.specs.declared.tagged.TaggedByte.{TaggedByte}
 use Rattle.query_engine.specs.Asked.{Answers, Fails, RunsNothing, in_file, in_memory, in_register, ran_about, ran_for, ran_for_bytes, ran_for_held}
+use Rattle.query_engine.specs.Forth.{AnswersForth, ran_forth}
 use Rattle.query_engine.specs.Names.{AnswersBytes}
 use Rattle.query_engine.specs.States.{AnswersHeld, FailsHeld, is_held}
 use Rattle.query_engine.specs.declared.engine.Answer.{Answer}
 use Rattle.query_engine.specs.declared.engine.Target.{Target}
 use Rattle.query_engine.specs.declared.engine.Target.TheVariants as target
-use Rattle.query_model.specs.Answers.{event_disagreement}
+use Rattle.query_model.specs.Answers.{count_in, event_disagreement}
+use Rattle.query_model.specs.Forth.{forth_groups}
 use Rattle.query_model.specs.Names.{named_bytes}
+use Rattle.query_model.specs.Sinks.{forth_disagreement, forth_pairs}
 use Rattle.query_model.specs.States.{held_disagreement}
 use Rattle.query_model.specs.declared.held.Held.{Held}
 use Rattle.replay_steps.specs.declared.errors.QueryError.{QueryError}
@@ -25,7 +28,7 @@ use Rattle.replay_steps.specs.declared.errors.QueryError.TheVariants as error
 use Rattle.rv64_model.specs.Carries.{operands}
 use Rattle.rv64_model.specs.declared.linkage.Linkage.{Linkage}
 use Rattle.session_questions.specs.Asked.{unless_damaged}
-use Rattle.session_questions.specs.Texts.{Telling, answer_text, bytes_answer, event_telling, held_telling, held_text, named_telling, sources_text, target_telling, written_text}
+use Rattle.session_questions.specs.Texts.{Telling, answer_text, bytes_answer, event_telling, forth_telling, held_telling, held_text, named_telling, reached_text, sinks_text, sources_text, target_telling, written_text}
 use Rattle.session_questions.proofs.Far.{far_memory, far_register, long_memory, many_bytes, no_register}
 use Rattle.session_reports.specs.Far.{FarIsNowhere}
 
@@ -115,3 +118,19 @@ module _ (linkage : Linkage) (entries : List Record) where
   cost-failed (target.Mem moment pid at len) why old new f same within = held-cost (in_memory moment pid at len) why old new f same within
   cost-failed (target.Reg moment pid reg) why old new f same within = held-cost (in_register moment pid reg) why old new f same within
   cost-failed (target.Name moment name from len) why old new f same within = within
+
+-- what was answered of the bytes that bytes of an event reach
+pub forth-put : (linkage : Linkage) (entries : List Record) (event from len : ℕ) (a : Answer) (old new : List ℕ) → AnswersForth linkage entries event from len a → new ≡ old ++ reached_text a.pairs a.instructions a.groups
+    → new ≡ old ++ (forth_telling (operands linkage) entries event from len).text
+forth-put linkage entries event from len a old new p put =
+    put ∙ ap (λ (x : List ℕ). old ++ x) (sym (answered-if (is_range (event_at entries event) from len) (forth_disagreement entries event from len) (sinks_text (operands linkage) entries event from len) p.range p.agree ∙ reached))
+  where
+    reached : sinks_text (operands linkage) entries event from len ≡ reached_text a.pairs a.instructions a.groups
+    reached =
+        sym (ap (λ (x : List Pair). reached_text x a.instructions a.groups) p.pairs
+        ∙ (ap (λ (x : ℕ). reached_text (forth_pairs (operands linkage) entries event from len) x a.groups) p.instructions
+        ∙ ap (λ (x : List ℕ). reached_text (forth_pairs (operands linkage) entries event from len) (count_in entries (forth_groups entries event from len)) x) p.groups))
+
+pub forth-cost : (linkage : Linkage) (entries : List Record) (event from len : ℕ) (a : Answer) (old new : ℕ) → AnswersForth linkage entries event from len a → new ≤ old + ran_forth entries event from len
+    → new ≤ old + (forth_telling (operands linkage) entries event from len).cost
+forth-cost linkage entries event from len a old new p within = cost-if (is_range (event_at entries event) from len) (ran_forth entries event from len) old new p.range within

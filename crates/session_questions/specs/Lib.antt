@@ -5,3 +5,4 @@ pub mod Counting
 pub mod Texts
 pub mod Short
 pub mod OfRuns
+pub mod Knows

@@ -1,9 +1,9 @@
 // Questions about a history.
 ghost use Rattle.std.specs.Prelude.{◌≤◌, IfErr, IfOk, length};
 ghost use Rattle.history_index.specs.Errors.{TellsBroken};
-ghost use Rattle.history_index.specs.Indexes.{Indexes};
 ghost use Rattle.log_store.specs.Log.{spellings};
 ghost use Rattle.log_store.specs.declared.size.TheConstants.{MOST_LOG};
+ghost use Rattle.session_questions.specs.Knows.{Knows};
 ghost use Rattle.session_questions.specs.Texts as texts;
 
 use crate::short::{short_logs_are_countable, short_runs_stand};
@@ -12,38 +12,33 @@ use crate::verify::report_verify;
 use arn_base::{NoMemory, Record, Steps};
 use arn_lines::Question;
 use history_index::{Index, IndexError};
-use query_engine::Engine;
+use query_engine::{Engine, seen_stays};
 use session_model::Questions;
 use session_reports::{report_events, report_groups};
 use std::alloc::Global;
-use std::marker::Model;
 use std::sync::ledger::Ledger;
 
-/// Answers questions about a history from its records, and from an index of them.
+/// Of how many groups what followed them is kept between questions, each under one linkage.
+const KEEP: u32 = 8;
+
+/// Answers questions about a history from its records, from an index of them, and from what followed groups
+/// for the questions before.
 #[derive(Debug, Drop)]
 pub struct Asking {
     pub(crate) index: Index,
     pub(crate) engine: Engine,
 }
 
-impl Model for Asking {
-    ghost use Rattle.history_index.specs.Tables.{Tables};
-
-    ghost Value = { Tables };
-
-    ghost view = { λ asking. asking.index };
-}
-
 impl Asking {
     /// Takes the records of a log.
     pub fn new(alloc: Global, entries: &[Record]) -> Result<Asking, IndexError>
         requires fits { length (spellings entries.now) ≤ MOST_LOG }
-        ensures known { IfOk result (λ asking. Indexes asking entries.now) }
+        ensures known { IfOk result (λ asking. Knows asking entries.now) }
         ensures broken { IfErr result (TellsBroken entries.now) }
     {
         short_logs_are_countable();
         let index = Index::build(alloc, entries)?;
-        let engine = Engine::new(alloc, 0)?;
+        let engine = Engine::new(alloc, KEEP)?;
         Ok(Asking { index, engine })
     }
 }
@@ -51,11 +46,12 @@ impl Asking {
 impl Questions for Asking {
     ghost told = { texts.told };
 
-    ghost knows = { λ asking entries. Indexes asking entries };
+    ghost knows = { Knows };
 
     fn extend(&mut self, entries: &[Record], from: usize) -> Result<(), NoMemory> {
         short_logs_are_countable();
         short_runs_stand();
+        seen_stays();
         match self.index.extend(entries, from) {
             Ok(()) => Ok(()),
             Err(IndexError::NoMemory) => Err(NoMemory),

@@ -2,10 +2,11 @@
 ghost use Rattle.std.specs.Prelude.{◌≡◌, ◌+◌, ◌≤◌, ◌++◌, IfErr, IfOk, OnOk, length, string_bytes};
 ghost use Rattle.acts_model.specs.Records as records;
 ghost use Rattle.generator.specs.Sums.{written_by};
-ghost use Rattle.history_index.specs.Indexes.{Indexes, AreCountable};
+ghost use Rattle.history_index.specs.Indexes.{AreCountable};
 ghost use Rattle.log_store.specs.Log.{spellings};
 ghost use Rattle.log_store.specs.declared.size.TheConstants.{MOST_LOG};
 ghost use Rattle.session_questions.specs.Counting.{AreAnswered, IsRefused};
+ghost use Rattle.session_questions.specs.Knows.{Knows};
 ghost use Rattle.session_questions.specs.Generated.{writes_cost, generated_cost, generated_text, write_of, writes};
 
 use crate::Asking;
@@ -36,8 +37,8 @@ impl Asking {
         steps: &mut Steps<L>,
     ) -> Result<u64, QueryError>
         requires countable { AreCountable entries.now }
-        requires known { Indexes self.old entries.now }
-        ensures kept { self.new ≡ self.old }
+        requires known { Knows self.old entries.now }
+        ensures known { Knows self.new entries.now }
         ensures ok { IfOk result (AreAnswered entries.now (write_of event (written_by entry.now))) }
         ensures err { IfErr result (IsRefused entries.now (write_of event (written_by entry.now))) }
         ensures steps { steps.new ≤
@@ -63,8 +64,8 @@ impl Asking {
         steps: &mut Steps<L>,
     ) -> Result<u128, QueryError>
         requires countable { AreCountable entries.now }
-        requires known { Indexes self.old entries.now }
-        ensures kept { self.new ≡ self.old }
+        requires known { Knows self.old entries.now }
+        ensures known { Knows self.new entries.now }
         ensures ok { IfOk result (AreAnswered entries.now (writes entries.now)) }
         ensures err { IfErr result (IsRefused entries.now (writes entries.now)) }
         ensures steps { steps.new ≤ steps.old + generated_cost entries.now }
@@ -90,8 +91,8 @@ impl Asking {
         steps: &mut Steps<L>,
     ) -> Result<(), NoMemory>
         requires fits { length (spellings entries.now) ≤ MOST_LOG }
-        requires known { Indexes self.old entries.now }
-        ensures kept { self.new ≡ self.old }
+        requires known { Knows self.old entries.now }
+        ensures known { Knows self.new entries.now }
         ensures text { OnOk result (string_bytes text.new ≡
             string_bytes text.old ++ generated_text entries.now processes) }
         ensures steps { steps.new ≤ steps.old + generated_cost entries.now }

@@ -20,7 +20,7 @@ impl Asking {
         steps: &mut Steps<L>,
     ) -> Result<(), NoMemory>
         requires countable { AreCountable entries.now }
-        requires known { Indexes self.now entries.now }
+        requires known { Indexes self.now.index entries.now }
         ensures text { OnOk result (string_bytes text.new ≡
             string_bytes text.old ++ (show_telling entries.now moment aspect.now).text) }
         ensures steps { steps.new ≤ steps.old + (show_telling entries.now moment aspect.now).cost }

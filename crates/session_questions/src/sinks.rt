@@ -1,7 +1,8 @@
 // Which bytes that went out others reach.
 ghost use Rattle.std.specs.Prelude.{◌≡◌, ◌+◌, ◌≤◌, ◌++◌, OnOk, string_bytes};
-ghost use Rattle.history_index.specs.Indexes.{AreCountable, Indexes};
+ghost use Rattle.history_index.specs.Indexes.{AreCountable};
 ghost use Rattle.rv64_model.specs.Carries.{operands};
+ghost use Rattle.session_questions.specs.Knows.{Knows};
 ghost use Rattle.session_questions.specs.Texts.{forth_telling, reached_text};
 
 use crate::Asking;
@@ -47,8 +48,8 @@ impl Asking {
         steps: &mut Steps<L>,
     ) -> Result<(), NoMemory>
         requires countable { AreCountable entries.now }
-        requires known { Indexes self.old entries.now }
-        ensures kept { self.new ≡ self.old }
+        requires known { Knows self.old entries.now }
+        ensures known { Knows self.new entries.now }
         ensures text { OnOk result (string_bytes text.new ≡ string_bytes text.old
             ++ (forth_telling (operands linkage) entries.now
             bytes.event bytes.from bytes.len).text) }

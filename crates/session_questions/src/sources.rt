@@ -1,7 +1,8 @@
 // Where bytes come from.
 ghost use Rattle.std.specs.Prelude.{◌≡◌, ◌+◌, ◌≤◌, ◌++◌, OnOk, flat_map, string_bytes};
 ghost use Rattle.arn_lines.specs.Texts.{pair_text};
-ghost use Rattle.history_index.specs.Indexes.{AreCountable, Indexes};
+ghost use Rattle.history_index.specs.Indexes.{AreCountable};
+ghost use Rattle.session_questions.specs.Knows.{Knows};
 ghost use Rattle.session_questions.specs.Texts.{answer_text, back_telling};
 
 use crate::Asking;
@@ -49,8 +50,8 @@ impl Asking {
         steps: &mut Steps<L>,
     ) -> Result<(), NoMemory>
         requires countable { AreCountable entries.now }
-        requires known { Indexes self.old entries.now }
-        ensures kept { self.new ≡ self.old }
+        requires known { Knows self.old entries.now }
+        ensures known { Knows self.new entries.now }
         ensures text { OnOk result (string_bytes text.new ≡
             string_bytes text.old ++ (back_telling entries.now linkage sought.now).text) }
         ensures steps { steps.new ≤

@@ -159,12 +159,12 @@ returns-in-Ok-answer_in_slots-clause-untouched g c =
 pub returns-in-Ok-answer_in_slots-clause-stands : goal.returns-in-Ok-answer_in_slots-clause-stands
 returns-in-Ok-answer_in_slots-clause-stands g c = λ begun history log.
     subst (λ (h : List Record). first_broken h ≡ None) (c.openings_follow.ensures.history c.args.disk.now history c.in-Ok.store log c.in-Ok.ensures.recovered)
-    (subst (λ (h : List Record). first_broken h ≡ None) c.entries.ensures c.in-Ok-new.ensures.known.stands)
+    (subst (λ (h : List Record). first_broken h ≡ None) c.entries.ensures c.in-Ok-new.ensures.known.indexed.stands)
 
 pub returns-clause-stands : goal.returns-clause-stands
 returns-clause-stands g c = λ begun history log.
     subst (λ (h : List Record). first_broken h ≡ None) (c.openings_follow.ensures.history c.args.disk.now history c.in-Ok.store log c.in-Ok.ensures.recovered)
-    (subst (λ (h : List Record). first_broken h ≡ None) c.entries.ensures c.in-Ok-new.ensures.known.stands)
+    (subst (λ (h : List Record). first_broken h ≡ None) c.entries.ensures c.in-Ok-new.ensures.known.indexed.stands)
 
 pub returns-in-Ok-answer_in_slots-clause-rests : goal.returns-in-Ok-answer_in_slots-clause-rests
 returns-in-Ok-answer_in_slots-clause-rests g c = λ not_disk not_memory history was.

@@ -1,7 +1,7 @@
-use Rattle.std.proofs.Common.{◌≡◌, ◌⊎◌, IsSome, sym, subst}
+use Rattle.std.proofs.Common.{◌≡◌, ◌⊎◌, IsSome, refl, sym, subst}
 use Rattle.query_engine.specs.Follows.{Follows}
-use Rattle.query_engine.specs.Following.{Following, tracker_of}
-use Rattle.query_engine.proofs.Added.{following-more, only-added}
+use Rattle.query_engine.specs.Following.{Adds, Following, tracker_of}
+use Rattle.query_engine.proofs.Added.{following-more, has-added, keeps-added, only-added}
 use Rattle.query_engine.proofs.followed.Followed.add.Goals as goal
 
 pub invariant_of-self-2 : goal.invariant_of-self-2
@@ -19,3 +19,15 @@ pub returns-clause-only : goal.returns-clause-only
 returns-clause-only c = λ h s.
     subst (λ (x : Following). IsSome (tracker_of x h) ⊎ (h ≡ c.args.group)) c.self.view_is
     (only-added c.args.group c.args.tracker c.self.inside.trackers.entries c.insert.new.self.entries c.in_ok-insert.ensures.updates.0 h s)
+
+pub returns-clause-adds : goal.returns-clause-adds
+returns-clause-adds c =
+    let i = c.self.inside in
+    let new = c.insert.new.self.entries in
+    let old : Following = record { entries = i.entries.now; linkage = i.linkage; until = i.until; trackers = i.trackers.entries } in
+    let later : Following = record { entries = i.entries.now; linkage = i.linkage; until = i.until; trackers = new } in
+    subst (λ (x : Following). Adds c.args.group x later) c.self.view_is (record {
+      of = record { entries_are = refl; linkage_is = refl; until_is = refl };
+      has = has-added c.args.group c.args.tracker i.trackers.entries new c.in_ok-insert.ensures.updates.0;
+      keeps = keeps-added c.args.group c.args.tracker i.trackers.entries new c.in_ok-insert.ensures.updates.0;
+    })

@@ -25,7 +25,7 @@ loop-entry-preserved g c =
           let first = write_of l.event (written_by item) in
           let rest = writes_from (l.event + 1) (drop (l.entry-index + 1) entries) in
           rw (w.self-is, w.steps-is, w.event-is, w.pairs-is) (record {
-            kept = w.write_pairs.ensures.kept ∙ l.invariant.kept;
+            known = w.write_pairs.ensures.known;
             leaves = goes-on entries l.pairs w.in_ok-write_pairs.field-0 _ _ first rest next w.in_ok-write_pairs.ensures.ok (ap (λ (n : ℕ). l.pairs + n) w.from.ensures) l.invariant.leaves;
             cost = cost-goes-on entries l.steps w.write_pairs.new.steps _ _ first rest next w.write_pairs.ensures.steps l.invariant.cost;
             events = omega (arith, l.invariant.events);
@@ -34,7 +34,7 @@ loop-entry-preserved g c =
       | else-is_event w ↦
           let next = next-slice entries l.event l.entry-index item c.loop-entry-test.true c.entry-item.is (sym c.is_event.ensures ∙ w.if-is_event.false) in
           rw (w.self-is, w.steps-is, w.event-is, w.pairs-is) (record {
-            kept = l.invariant.kept;
+            known = l.invariant.known;
             leaves = goes-on-as-it-is entries l.pairs l.pairs _ _ next refl l.invariant.leaves;
             cost = omega (arith, l.invariant.cost, ap (writes_cost entries) next);
             events = omega (arith, l.invariant.events);

@@ -1,7 +1,7 @@
 use Rattle.std.proofs.Common.{Some, ap, sym, ◌∙◌}
 use Rattle.query_engine.specs.Asked.{in_file}
 use Rattle.query_engine.proofs.Named.{named-is}
-use Rattle.query_engine.proofs.engine.name_back.Goals as goal
+use Rattle.query_engine.proofs.engine.Engine.name_back.Goals as goal
 
 pub written_back-requires-clause-written : goal.written_back-requires-clause-written
 written_back-requires-clause-written g c =
