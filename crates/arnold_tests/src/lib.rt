@@ -8,4 +8,6 @@ mod same;
 #[cfg(test)]
 mod statuses;
 #[cfg(test)]
+mod stops;
+#[cfg(test)]
 mod tests;

@@ -91,7 +91,7 @@ const EXCHANGES: &[Exchange] = &[
 ];
 
 /// A session that types before it runs, then asks where the output came from.
-const TYPED: &str = "\
+pub const TYPED: &str = "\
     file p 41524e494d473031000001000000000000000100000000009308b00013050000930501ff1306300073000000\
     9308c0001305100073000000930810001305000073000000\n\
     boot p\n\
@@ -325,11 +325,63 @@ fn a_failing_sink_holds_what_came_before(rt: HostRuntime) -> Result<(), Fail> {
     panic!(rt; "the answers have no end")
 }
 
+/// A session over the log of a disk ends so, and prints nothing.
+fn assert_silent(
+    rt: &(impl Abort + AllocGlobal),
+    disk: &mut MemDisk,
+    script: &Script,
+    status: Status,
+    code: u8,
+) -> Result<(), Fail> {
+    let ended = run_on(rt.alloc(), &["log"], script, disk)?;
+    assert_same(
+        rt,
+        (ended.status, ended.status.code(), ended.sink.bytes()),
+        (status, code, b"".as_slice()),
+    );
+    Ok(())
+}
+
+/// A source that fails at its first call leaves a fresh log.
+#[test]
+fn a_source_that_fails_at_once_leaves_a_fresh_log(rt: HostRuntime) -> Result<(), Fail> {
+    let mut disk = disk_of(rt.alloc(), b"")?;
+    let script = Script {
+        source_fails: &[0],
+        ..Script::of(TYPED.as_bytes())
+    };
+    assert_silent(&rt, &mut disk, &script, Status::Source, 6)?;
+    assert_same(&rt, disk.bytes(), b"ARNLOG01\0".as_slice());
+    Ok(())
+}
+
+/// What is asked of the log that a sink leaves which fails at its first call: the file is there whose
+/// answer was lost, and nothing else.
+const LOST: &str = "verify\nevents\nshow 0 file p\n";
+
+const LOST_PRINTS: &str = "\
+    verify run\n\
+    event 0 0 - file 68\n\
+    events 1\n\
+    file 41524e494d473031000001000000000000000100000000009308b00013050000930501ff1306300073000000\
+    9308c0001305100073000000930810001305000073000000\n";
+
+#[test]
+fn a_sink_that_fails_at_once_leaves_the_first_record(rt: HostRuntime) -> Result<(), Fail> {
+    let mut disk = disk_of(rt.alloc(), b"")?;
+    let script = Script {
+        sink_fails: &[0],
+        ..Script::of(TYPED.as_bytes())
+    };
+    assert_silent(&rt, &mut disk, &script, Status::Sink, 7)?;
+    assert_ends(&rt, &mut disk, LOST, Status::Done, LOST_PRINTS)
+}
+
 /// The log of the file `a` with the bytes `ab`.
 const LOG: [u8; 23] = *b"ARNLOG01\x01\x09\0\0\0\x01\x01a\x02\0\0\0ab\0";
 
 /// What the bytes become that a stop may change: what is read there, or one of these.
-const FILLS: [Option<u8>; 4] = [None, Some(0), Some(1), Some(0xff)];
+pub const FILLS: [Option<u8>; 4] = [None, Some(0), Some(1), Some(0xff)];
 
 /// The first lines of a text, each with its LF.
 fn first_lines(alloc: Global, text: &str, count: usize) -> Result<String, NoMemory> {
@@ -341,24 +393,24 @@ fn first_lines(alloc: Global, text: &str, count: usize) -> Result<String, NoMemo
     Ok(first)
 }
 
-fn disk_of(alloc: Global, bytes: &[u8]) -> Result<MemDisk, NoMemory> {
+pub fn disk_of(alloc: Global, bytes: &[u8]) -> Result<MemDisk, NoMemory> {
     Ok(MemDisk::new(alloc, Bytes::from_slice(alloc, bytes)?))
 }
 
-/// An empty disk of which one call fails.
-fn failing_disk(alloc: Global, call: u32) -> Result<FuseDisk, NoMemory> {
+/// A disk of these bytes of which one call fails.
+pub fn failing_disk(alloc: Global, bytes: &[u8], call: u32) -> Result<FuseDisk, NoMemory> {
     let mut fails = Numbers::new(alloc);
     fails.push(call)?;
-    Ok(FuseDisk::new(alloc, Bytes::new(alloc), fails))
+    Ok(FuseDisk::new(alloc, Bytes::from_slice(alloc, bytes)?, fails))
 }
 
 /// Runs a session over the log of a disk.
-fn answer<D: Disk>(alloc: Global, disk: &mut D, text: &str) -> Result<Ended, NoMemory> {
+pub fn answer<D: Disk>(alloc: Global, disk: &mut D, text: &str) -> Result<Ended, NoMemory> {
     run_on(alloc, &["log"], &Script::of(text.as_bytes()), disk)
 }
 
 /// A session over the log of a disk ends so, and prints this.
-fn assert_ends<D: Disk>(
+pub fn assert_ends<D: Disk>(
     rt: &(impl Abort + AllocGlobal),
     disk: &mut D,
     text: &str,
@@ -450,11 +502,15 @@ fn leaves_the_disk_where_words_are_refused(rt: HostRuntime) -> Result<(), Fail> 
 /// A log of one record: a slice of process 1, which was never booted.
 const NO_BOOT: &[u8] = b"ARNLOG01\x01\x09\0\0\0\x05\x01\0\0\0\x01\0\0\0\0";
 
+/// A log whose one frame holds a byte that begins no record.
+const NO_KIND: &[u8] = b"ARNLOG01\x01\x01\0\0\0\x0b\0";
+
 #[test]
 fn refuses_what_is_no_log(rt: HostRuntime) -> Result<(), Fail> {
     for (bytes, damage) in [
         (b"ARNLOG99\0\0".as_slice(), Damage::NotLog { at: 6 }),
         (&LOG[..20], Damage::Malformed { at: 8 }),
+        (NO_KIND, Damage::Malformed { at: 13 }),
         (NO_BOOT, Damage::Broken { place: 0 }),
     ] {
         let mut disk = disk_of(rt.alloc(), bytes)?;
@@ -525,13 +581,13 @@ fn tells_the_record_that_no_input_makes(rt: HostRuntime) -> Result<(), Fail> {
 }
 
 /// The log of these bytes.
-fn log_of(alloc: Global, bytes: &[u8]) -> Result<Store, OpenError> {
+pub fn log_of(alloc: Global, bytes: &[u8]) -> Result<Store, OpenError> {
     let mut disk = disk_of(alloc, bytes)?;
     Store::open_log(alloc, &mut disk)
 }
 
 /// How many records a log has, where they are the first ones of another.
-fn count_first(log: &Store, whole: &Store) -> Option<usize> {
+pub fn count_first(log: &Store, whole: &Store) -> Option<usize> {
     let records = log.entries().len();
     let first = whole.entries().get(..records)?;
     if first == log.entries() {
@@ -601,7 +657,7 @@ fn ends_at_disk(
     whole: &Store,
     call: u32,
 ) -> Result<bool, Fail> {
-    let mut disk = failing_disk(rt.alloc(), call)?;
+    let mut disk = failing_disk(rt.alloc(), b"", call)?;
     let ended = answer(rt.alloc(), &mut disk, text)?;
     let printed = ended.sink.bytes();
     if ended.status == Status::Done {
@@ -756,7 +812,7 @@ fn a_leg_is_kept_where_the_next_one_fails(rt: HostRuntime) -> Result<(), Fail> {
     let body = writes_body(alloc)?;
     let text = writes_text(alloc, body.as_str())?;
     let printed = first_writes(alloc, body.as_str(), 4)?;
-    let mut disk = failing_disk(alloc, 16)?;
+    let mut disk = failing_disk(alloc, b"", 16)?;
     assert_ends(
         &rt,
         &mut disk,

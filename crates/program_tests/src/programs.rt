@@ -428,4 +428,11 @@ pub const PROGRAMS: &[(&str, &str)] = &[
         "event 0\nevent 1\nno booted\nno booted\nno booted\nno booted\nno line\n",
     ),
     ("asm p\nli a0, 0\necall\n", "no asm 3\n"),
+    // An entry that is no multiple of 4; a body of which a byte lies behind the window; and one that ends with it.
+    (
+        "file p 41524e494d47303102000100000000000000010000000000\nboot p\n\
+        file q 41524e494d4730310000010000000000ffff0400000000004142\nboot q\n\
+        file r 41524e494d4730310000010000000000ffff04000000000041\nboot r\n",
+        "event 0\nno image\nevent 1\nno image\nevent 2\nevent 3\n",
+    ),
 ];
