@@ -134,7 +134,7 @@ fn instructions_of(
 }
 
 /// The three bytes that were typed.
-const PAIRS: &[Pair] = &[
+pub const PAIRS: &[Pair] = &[
     Pair {
         event: 2,
         at: 0,

@@ -12,6 +12,8 @@ mod devices;
 #[cfg(test)]
 mod engines;
 #[cfg(test)]
+mod kept;
+#[cfg(test)]
 mod printing;
 #[cfg(test)]
 mod same;
