@@ -18,6 +18,11 @@ use std::test::Fail;
 // addi x5, x0, 7, and ecall
 const PROGRAM: [u8; 8] = [0x93, 0x02, 0x70, 0x00, 0x73, 0x00, 0x00, 0x00];
 
+// addi x5, x0, 7, then auipc x6, 0, then sb x5, 0x1fc(x6), and ecall
+const STORE: [u8; 16] = [
+    0x93, 0x02, 0x70, 0x00, 0x17, 0x03, 0x00, 0x00, 0x23, 0x0e, 0x53, 0x1e, 0x73, 0x00, 0x00, 0x00,
+];
+
 // Entry 0x2_0004, load address 0x2_0000, and five bytes.
 const IMAGE: &[u8; 29] = b"ARNIMG01\x04\0\x02\0\0\0\0\0\0\0\x02\0\0\0\0\0ABCDE";
 
@@ -35,6 +40,15 @@ fn begun(alloc: Global) -> Result<Bodies, NoMemory>
 {
     let mut bytes = [0; 256];
     bytes[..8].copy_from_slice(&PROGRAM);
+    begun_at(alloc, bytes)
+}
+
+// Process 1, which stands at the first of these bytes.
+fn begun_at(alloc: Global, bytes: [u8; 256]) -> Result<Bodies, NoMemory>
+    ensures live { IfOk result (λ b. IsLive b 1) }
+    ensures fresh { IfOk result (λ b. IsFresh b 1) }
+    ensures alone { IfOk result (λ b. IsNone (nth b 2)) }
+{
     let mut blocks = Blocks::new(alloc);
     blocks.push(Block { number: 0, bytes })?;
     let cpu = Cpu {
@@ -73,6 +87,15 @@ fn started(alloc: Global) -> Result<Bodies, NoMemory> {
 // It has a child in its own group.
 fn forked(alloc: Global) -> Result<Bodies, NoMemory> {
     let mut bodies = begun(alloc)?;
+    bodies.forks(1, 2, 1)?;
+    Ok(bodies)
+}
+
+// It stands before a store, and has a child.
+fn storing(alloc: Global) -> Result<Bodies, NoMemory> {
+    let mut bytes = [0; 256];
+    bytes[..16].copy_from_slice(&STORE);
+    let mut bodies = begun_at(alloc, bytes)?;
     bodies.forks(1, 2, 1)?;
     Ok(bodies)
 }
@@ -196,21 +219,40 @@ fn cpu(rt: &impl Abort, bodies: &Bodies, pid: u32) -> Cpu {
 }
 
 // The bytes at an address of a process, which lives, are these.
-fn assert_bytes(rt: &impl Abort, bodies: &Bodies, pid: u32, at: u64, wanted: &[u8]) {
+fn assert_bytes(
+    rt: &impl Abort,
+    bodies: &Bodies,
+    pid: u32,
+    at: u64,
+    wanted: &[u8],
+) -> Result<(), NoMemory> {
     assert!(rt; bodies.is_live(pid));
-    assert_same(rt, bodies.bytes(pid, at, wanted.len() as u64), Some(wanted));
+    let Some(bytes) = bodies.copy(pid, at, wanted.len() as u64)? else {
+        panic!(rt; "no bytes");
+    };
+    assert_same(rt, bytes.as_slice(), wanted);
+    Ok(())
 }
 
 // The bytes at an address of a process, which lives, don't lie whole in one window.
 fn assert_no_bytes(rt: &impl Abort, bodies: &Bodies, pid: u32, at: u64, len: u64) {
     assert!(rt; bodies.is_live(pid));
-    assert_same(rt, bodies.bytes(pid, at, len), None);
+    assert!(rt; !bodies.can_reach(pid, at, len));
 }
 
 // A call of a process ends, and bytes arrive.
-fn receive(rt: &impl Abort, bodies: &mut Bodies, pid: u32, at: u64, bytes: &[u8], answer: u64) {
+fn receive(
+    rt: &impl Abort,
+    bodies: &mut Bodies,
+    pid: u32,
+    at: u64,
+    bytes: &[u8],
+    answer: u64,
+) -> Result<(), NoMemory> {
     assert!(rt; bodies.is_live(pid));
-    bodies.receives(pid, at, bytes, answer);
+    let spare = bodies.spare(bytes.len() as u64)?;
+    bodies.receives(pid, at, bytes, answer, spare);
+    Ok(())
 }
 
 // Signal 5 comes to process 1.
@@ -242,10 +284,10 @@ fn a_process_runs_to_its_call_and_receives(rt: HostRuntime) -> Result<(), Fail> 
     assert_same(&rt, step_once(&rt, &mut bodies), Outcome::Next);
     assert_same(&rt, cpu(&rt, &bodies, 1).x[4], 7);
     assert_same(&rt, step_once(&rt, &mut bodies), Outcome::Call);
-    receive(&rt, &mut bodies, 1, 0x1_0100, b"hi", 2);
+    receive(&rt, &mut bodies, 1, 0x1_0100, b"hi", 2)?;
     let cpu = cpu(&rt, &bodies, 1);
     assert_same(&rt, (cpu.pc, cpu.x[9]), (0x1_0008, 2));
-    assert_bytes(&rt, &bodies, 1, 0x1_0100, b"hi");
+    assert_bytes(&rt, &bodies, 1, 0x1_0100, b"hi")?;
     let start = start(&rt, &bodies)?;
     assert_same(&rt, (start.cpu.pc, start.blocks.len()), (0x1_000c, 2));
     Ok(())
@@ -262,12 +304,26 @@ fn a_process_runs_until_its_call(rt: HostRuntime) -> Result<(), Fail> {
 }
 
 #[test]
+fn a_store_to_a_shared_page_runs(rt: HostRuntime) -> Result<(), Fail> {
+    let mut bodies = storing(rt.alloc())?;
+    deliver(&rt, &mut bodies, 0x1_0000, false);
+    assert_same(&rt, run_some(&rt, &mut bodies, 2), (2, Outcome::Next));
+    assert_same(&rt, step_once(&rt, &mut bodies), Outcome::Next);
+    assert_same(&rt, run_some(&rt, &mut bodies, 5), (0, Outcome::Call));
+    assert_bytes(&rt, &bodies, 1, 0x1_01ff, &[0, 7, 0])?;
+    assert_bytes(&rt, &bodies, 2, 0x1_01ff, &[0, 0, 0])?;
+    deliver(&rt, &mut bodies, 0x1_0000, false);
+    assert_same(&rt, run_some(&rt, &mut bodies, 5), (3, Outcome::Call));
+    Ok(())
+}
+
+#[test]
 fn a_process_with_a_segment_runs_until_its_call(rt: HostRuntime) -> Result<(), Fail> {
     let mut bodies = with_segment(rt.alloc())?;
     deliver(&rt, &mut bodies, 0x1_0000, false);
     assert_same(&rt, run_some(&rt, &mut bodies, 5), (1, Outcome::Call));
     assert_same(&rt, cpu(&rt, &bodies, 1).x[4], 7);
-    assert_bytes(&rt, &bodies, 1, 0x8000_0000, &[0, 0]);
+    assert_bytes(&rt, &bodies, 1, 0x8000_0000, &[0, 0])?;
     Ok(())
 }
 
@@ -293,15 +349,15 @@ fn a_process_starts_anew(rt: HostRuntime) -> Result<(), Fail> {
         [cpu.pc, cpu.x[9], cpu.x[10], cpu.x[1]],
         [0x2_0004, 0x4_fffb, 5, 0x4_fff0],
     );
-    assert_bytes(&rt, &bodies, 1, 0x1_0000, &[0; 8]);
-    assert_bytes(&rt, &bodies, 1, 0x2_0000, b"ABCDE\0");
+    assert_bytes(&rt, &bodies, 1, 0x1_0000, &[0; 8])?;
+    assert_bytes(&rt, &bodies, 1, 0x2_0000, b"ABCDE\0")?;
     assert_bytes(
         &rt,
         &bodies,
         1,
         0x4_fffa,
         &[0, 0x93, 0x02, 0x70, 0x00, 0x73],
-    );
+    )?;
     Ok(())
 }
 
@@ -314,7 +370,7 @@ fn process_1_begins_from_an_image(rt: HostRuntime) -> Result<(), Fail> {
         [cpu.pc, cpu.x[9], cpu.x[10], cpu.x[1]],
         [0x2_0004, 0x5_0000, 0, 0x5_0000],
     );
-    assert_bytes(&rt, &bodies, 1, 0x1_fffc, b"\0\0\0\0ABCDE\0");
+    assert_bytes(&rt, &bodies, 1, 0x1_fffc, b"\0\0\0\0ABCDE\0")?;
     assert_no_bytes(&rt, &bodies, 1, 0x8000_0000, 1);
     Ok(())
 }
@@ -339,10 +395,10 @@ fn a_handler_begins_and_leaves(rt: HostRuntime) -> Result<(), Fail> {
 #[test]
 fn a_child_writes_what_it_never_touched(rt: HostRuntime) -> Result<(), Fail> {
     let mut bodies = forked(rt.alloc())?;
-    receive(&rt, &mut bodies, 2, 0x1_0000, b"new", 3);
+    receive(&rt, &mut bodies, 2, 0x1_0000, b"new", 3)?;
     assert_same(&rt, cpu(&rt, &bodies, 1).x[9], 2);
-    assert_bytes(&rt, &bodies, 1, 0x1_0000, &PROGRAM);
-    assert_bytes(&rt, &bodies, 2, 0x1_0000, b"new");
+    assert_bytes(&rt, &bodies, 1, 0x1_0000, &PROGRAM)?;
+    assert_bytes(&rt, &bodies, 2, 0x1_0000, b"new")?;
     Ok(())
 }
 
@@ -357,8 +413,8 @@ fn a_founded_child_holds_no_segment(rt: HostRuntime) -> Result<(), Fail> {
 #[test]
 fn a_fresh_segment_takes_bytes(rt: HostRuntime) -> Result<(), Fail> {
     let mut bodies = with_segment(rt.alloc())?;
-    receive(&rt, &mut bodies, 1, 0x8000_fffe, &[1, 2], 2);
-    assert_bytes(&rt, &bodies, 1, 0x8000_fffc, &[0, 0, 1, 2]);
+    receive(&rt, &mut bodies, 1, 0x8000_fffe, &[1, 2], 2)?;
+    assert_bytes(&rt, &bodies, 1, 0x8000_fffc, &[0, 0, 1, 2])?;
     assert_no_bytes(&rt, &bodies, 1, 0x8000_ffff, 2);
     Ok(())
 }

@@ -8,6 +8,7 @@ use Rattle.acts_model.specs.Acts.{Act, acted, joined, done}
 use Rattle.acts_model.specs.Bodies.{Bodies, View, seen, put, laid_segment}
 use Rattle.guest_bodies.specs.Follows.{Shows, Follows, KeepsWatches}
 use Rattle.guest_bodies.specs.Kept.{Segments, body_of, held_bytes, view_of, shown_of, watch_of, shown_all, with_held, IfHeld, IsWhole, SameNames, IsApart, IsSound}
+use Rattle.guest_bodies.specs.Running.{StaysAs}
 use Rattle.guest_bodies.specs.Shown.{Guests, Shown, Watch, seen_in, watch_in}
 use Rattle.guest_bodies.specs.declared.guest.Guest.{Guest}
 use Rattle.guest_bodies.specs.declared.guest.Shared.{Shared}
@@ -56,7 +57,7 @@ whole-names segs g None whole = tt
 whole-names segs g (Some s) whole = whole.1
 
 own-held : (segs : Segments) (g : Guest) → IsWhole segs g → own_segment (view_of segs g) (name_of g.segment) ≡ held_bytes segs g.segment
-own-held segs g whole = own-is g.segment g.made g.memory.space (held_bytes segs g.segment) (whole-names segs g g.segment whole) (held-none segs g.segment) (view_of segs g) refl refl refl
+own-held segs g whole = own-is g.segment g.made g.memory.space.bytes (held_bytes segs g.segment) (whole-names segs g g.segment whole) (held-none segs g.segment) (view_of segs g) refl refl refl
 
 -- what another process sees of its window
 other-window : (o : Option Shared) (k : ℕ) (bytes old : List ℕ) → IfSome o (λ s. s.made ≢ k) → laid_segment (name_of o) bytes k old ≡ old
@@ -81,7 +82,7 @@ follows-put p g all new segs segs' sound sound' changes keeps = record { shows =
     own : (b : Bodies) → seen_in (shown_all new segs') p ≡ seen (put p (view_of segs' g) b) p
     own b =
         seen-shown new segs' p ∙ (ap (option_map (view_of segs')) changes.own
-        ∙ (ap (λ (bytes : List ℕ). Some (record { body = body_of g; window = g.memory.space; segment = bytes })) (sym (own-held segs' g (subst (λ (o : Option Guest). IfSome o (IsWhole segs')) changes.own (sound'.whole p))))
+        ∙ (ap (λ (bytes : List ℕ). Some (record { body = body_of g; window = g.memory.space.bytes; segment = bytes })) (sym (own-held segs' g (subst (λ (o : Option Guest). IfSome o (IsWhole segs')) changes.own (sound'.whole p))))
         ∙ sym (seen-same p (view_of segs' g) b)))
 
     by_guest : (q : ℕ) → q ≢ p → (o : Option Guest) → nth all q ≡ o → option_map (view_of segs') o ≡ option_map (refreshed (view_of segs' g)) (option_map (view_of segs) o)
@@ -221,3 +222,12 @@ same-shown p g g' all segs segs' is same view watch =
 
     there : {o : Option Shown} → o ≡ Some (shown_of segs g) → IsSome o
     there e = ap (λ (o : Option Shown). is_some o) e
+
+-- a process with the same bytes in its window sees the same
+pub bytes-seen : (g g' : Guest) (segs : Segments) → g' ≡ record g { memory = g'.memory } → g'.memory.space.bytes ≡ g.memory.space.bytes → view_of segs g' ≡ view_of segs g
+bytes-seen g g' segs guest bytes =
+    ap (view_of segs) guest ∙ ap (λ (l : List ℕ). record (view_of segs g) { window = l }) bytes
+
+-- and so does one that stays
+pub stays-seen : (g g' : Guest) (segs segs' : Segments) → StaysAs g g' segs segs' → view_of segs' g' ≡ view_of segs g
+stays-seen g g' segs segs' stays = bytes-seen g g' segs' stays.guest stays.bytes ∙ ap (λ (l : Segments). view_of l g) stays.segments

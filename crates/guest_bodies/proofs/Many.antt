@@ -10,7 +10,7 @@ use Rattle.guest_bodies.specs.Kept.{Segments, held_bytes, view_of, watch_of, sho
 use Rattle.guest_bodies.specs.Running.{MovesAnother, MovesMany, RanMany}
 use Rattle.guest_bodies.specs.Shown.{Guests, seen_in}
 use Rattle.guest_bodies.specs.declared.guest.Guest.{Guest}
-use Rattle.guest_bodies.proofs.Changes.{set-changes, seen-shown, same-shown}
+use Rattle.guest_bodies.proofs.Changes.{set-changes, seen-shown, same-shown, stays-seen}
 use Rattle.guest_bodies.proofs.InPlace.{Place, in_place-kept, in_place-sound, moved-kept, moved-sound, moved-put, moved-watches, reach-back}
 use Rattle.guest_bodies.proofs.Numbers.{IsSome-within, nth-map, nth-set}
 
@@ -77,7 +77,7 @@ module _ (guests : Guests) (all : List (Option Guest)) (segs : Segments) (p : �
   pub along : (n : ℕ) (g' : Guest) (segs' : Segments) → MovesMany n g segs g' segs' → Along n g' segs'
   along zero g' segs' m =
       let at : Place guests all segs p g g' = record { shown = shown; sound = sound; stands = stands; changes = set-changes p (Some g') all there } in
-      let view : view_of segs' g' ≡ view_of segs g = ap (view_of segs') m.guest ∙ ap (λ (l : Segments). view_of l g) m.segments in
+      let view : view_of segs' g' ≡ view_of segs g = stays-seen g g' segs segs' m in
       let same : shown_all (set all p (Some g')) segs' ≡ guests = same-shown p g g' all segs segs' stands m.segments view (ap watch_of m.guest) ∙ shown in
       record {
         many = same;

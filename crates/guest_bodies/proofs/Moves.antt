@@ -13,6 +13,7 @@ use Rattle.guest_bodies.specs.Kept.{Segments, held_bytes, lent, view_of, with_he
 use Rattle.guest_bodies.specs.Led.{LedMany}
 use Rattle.guest_bodies.specs.Running.{LeadsMany, MovesMany, StaysAs}
 use Rattle.guest_bodies.specs.declared.guest.Guest.{Guest}
+use Rattle.guest_mem.specs.Pages.{Paged}
 use Rattle.guest_bodies.specs.declared.guest.Shared.{Shared}
 use Rattle.guest_bodies.specs.declared.reach.Reach.{Reach}
 use Rattle.guest_bodies.proofs.Counts.{next-leaves}
@@ -36,12 +37,12 @@ module _ (segs : Segments) (g : Guest) (held : IfHeld g.segment segs) where
 
   -- what it sees once its segment is brought back
   pub reach-back : (cpu : Cpu) (r : Reach) (x : Option (List ℕ)) → HasSegment r → reach (view_of (back g.segment r.segment segs) (stood cpu r x)) ≡ windows_of r
-  reach-back cpu r x some = ap (windows r.space) (back-seen segs g.segment r.segment held some)
+  reach-back cpu r x some = ap (windows r.space.bytes) (back-seen segs g.segment r.segment held some)
 
   -- an instruction at hand, as the process and the segments are kept
   module _ (instr : Instr) (cpu cpu' : Cpu) (r r' : Reach) (x : Option (List ℕ)) (some : HasSegment r) (leads : instruction cpu (windows_of r) ≡ Next instr cpu' (windows_of r')) where
     some-now : HasSegment r'
-    some-now = windows-some r'.space r.space r'.segment r.segment (next-leaves instr cpu cpu' (windows_of r) (windows_of r') leads) ∙ some
+    some-now = windows-some r'.space.bytes r.space.bytes r'.segment r.segment (next-leaves instr cpu cpu' (windows_of r) (windows_of r') leads) ∙ some
 
     next-now : stands_at (view_of (back g.segment r.segment segs) (stood cpu r x)) ≡ Next instr cpu' (reach (view_of (back g.segment r'.segment segs) (stood cpu' r' x)))
     next-now = ap (instruction cpu) (reach-back cpu r x some) ∙ (leads ∙ ap (λ (ws : List Window). Next instr cpu' ws) (sym (reach-back cpu' r' x some-now)))
@@ -53,10 +54,10 @@ module _ (segs : Segments) (g : Guest) (held : IfHeld g.segment segs) where
 
   pub lent-moves : (n : ℕ) (cpu : Cpu) (r : Reach) (x : Option (List ℕ)) → LeadsMany windows_of n g.cpu at_hand cpu r → MovesMany n g segs (stood cpu r x) (back g.segment r.segment segs) × HasSegment r
   lent-moves zero cpu r x leads =
-      let space : r.space ≡ g.memory.space = windows-space r.space g.memory.space r.segment (lent segs g.segment) leads.1 in
-      let segment : r.segment ≡ lent segs g.segment = windows-segment r.space g.memory.space r.segment (lent segs g.segment) leads.1 in (
+      let segment : r.segment ≡ lent segs g.segment = windows-segment r.space.bytes g.memory.space.bytes r.segment (lent segs g.segment) leads.1 in (
         record {
-          guest = ap₂ (λ (c : Cpu) (s : List ℕ). record g { cpu = c; memory = record { space = s; segment = x } }) leads.0 space;
+          guest = ap (λ (c : Cpu). record g { cpu = c; memory = record { space = r.space; segment = x } }) leads.0;
+          bytes = windows-space r.space.bytes g.memory.space.bytes r.segment (lent segs g.segment) leads.1;
           segments = ap (λ (m : Option (List ℕ)). back g.segment m segs) segment ∙ back-same segs g.segment held;
         },
         ap is_some segment,
@@ -81,11 +82,13 @@ module _ (segs : Segments) (g : Guest) (held : IfHeld g.segment segs) where
   module _ {A : Type 0} (runs : A → ℕ → Instr → Cpu → A → Type 0) (p : ℕ) where
     lent-told : (n : ℕ) (cpu : Cpu) (r : Reach) (x : Option (List ℕ)) (a b : A) → LedMany windows_of runs p n g.cpu at_hand a cpu r b → HeldMany runs p n g segs (stood cpu r x) (back g.segment r.segment segs) a b × HasSegment r
     lent-told zero cpu r x a b led =
+        let segment : r.segment ≡ lent segs g.segment = windows-segment r.space.bytes g.memory.space.bytes r.segment (lent segs g.segment) led.1 in
         let stays : StaysAs g (stood cpu r x) segs (back g.segment r.segment segs) = record {
-          guest = ap₂ (λ (c : Cpu) (m : Reach). record g { cpu = c; memory = record { space = m.space; segment = x } }) led.0 led.1;
-          segments = ap (λ (m : Reach). back g.segment m.segment segs) led.1 ∙ back-same segs g.segment held;
+          guest = ap (λ (c : Cpu). record g { cpu = c; memory = record { space = r.space; segment = x } }) led.0;
+          bytes = windows-space r.space.bytes g.memory.space.bytes r.segment (lent segs g.segment) led.1;
+          segments = ap (λ (m : Option (List ℕ)). back g.segment m segs) segment ∙ back-same segs g.segment held;
         } in
-        ((stays, led.2), ap (λ (m : Reach). is_some m.segment) led.1)
+        ((stays, led.2), ap is_some segment)
     lent-told (suc n) cpu r x a b led =
         let c = led.cpu_between in
         let m = led.memory_between in
@@ -114,13 +117,14 @@ module _ (segs : Segments) (g : Guest) (held : IfHeld g.segment segs) where
         (held.0, ap (instruction cpu) (reach-back cpu r k.memory.segment held.1))
 
 -- a process that holds no segment
-abbrev pub lone : List ℕ → List Window
-lone space = windows space None
+abbrev pub lone : Paged → List Window
+lone space = windows space.bytes None
 
-pub lone-moves : (segs : Segments) (g : Guest) (n : ℕ) (cpu : Cpu) (space : List ℕ) → g.segment ≡ None → LeadsMany lone n g.cpu g.memory.space cpu space → MovesMany n g segs (record g { cpu = cpu; memory = record g.memory { space = space } }) segs
+pub lone-moves : (segs : Segments) (g : Guest) (n : ℕ) (cpu : Cpu) (space : Paged) → g.segment ≡ None → LeadsMany lone n g.cpu g.memory.space cpu space → MovesMany n g segs (record g { cpu = cpu; memory = record g.memory { space = space } }) segs
 lone-moves segs g zero cpu space none leads =
     record {
-      guest = ap₂ (λ (c : Cpu) (s : List ℕ). record g { cpu = c; memory = record g.memory { space = s } }) leads.0 (windows-space space g.memory.space None None leads.1);
+      guest = ap (λ (c : Cpu). record g { cpu = c; memory = record g.memory { space = space } }) leads.0;
+      bytes = windows-space space.bytes g.memory.space.bytes None None leads.1;
       segments = refl;
     }
 lone-moves segs g (suc n) cpu space none leads =
@@ -129,17 +133,21 @@ lone-moves segs g (suc n) cpu space none leads =
       segments_between = segs;
       before = lone-moves segs g n leads.cpu_between leads.memory_between none leads.before;
       leads =
-          subst (λ (o : Option Shared). LeadsTo (instruction leads.cpu_between (windows leads.memory_between (option_map (λ (made : ℕ). held_bytes segs o) (option_map (λ (s : Shared). s.made) o)))) cpu (windows space (option_map (λ (made : ℕ). held_bytes segs o) (option_map (λ (s : Shared). s.made) o)))) (sym none) leads.leads;
+          subst (λ (o : Option Shared). LeadsTo (instruction leads.cpu_between (windows leads.memory_between.bytes (option_map (λ (made : ℕ). held_bytes segs o) (option_map (λ (s : Shared). s.made) o)))) cpu (windows space.bytes (option_map (λ (made : ℕ). held_bytes segs o) (option_map (λ (s : Shared). s.made) o)))) (sym none) leads.leads;
       guest = refl;
       segments = subst (λ (o : Option Shared). segs ≡ with_key o (Some (held_bytes segs o)) segs) (sym none) refl;
     }
 
 -- the same, where an observer is told
 module _ {A : Type 0} (runs : A → ℕ → Instr → Cpu → A → Type 0) (p : ℕ) (segs : Segments) (g : Guest) where
-  none-told : (n : ℕ) (cpu : Cpu) (space : List ℕ) (a b : A) → LedMany lone runs p n g.cpu g.memory.space a cpu space b → HeldMany runs p n (record g { segment = None }) segs (record g { cpu = cpu; memory = record g.memory { space = space }; segment = None }) segs a b
+  none-told : (n : ℕ) (cpu : Cpu) (space : Paged) (a b : A) → LedMany lone runs p n g.cpu g.memory.space a cpu space b → HeldMany runs p n (record g { segment = None }) segs (record g { cpu = cpu; memory = record g.memory { space = space }; segment = None }) segs a b
   none-told zero cpu space a b led =
       let stays : StaysAs (record g { segment = None }) (record g { cpu = cpu; memory = record g.memory { space = space }; segment = None }) segs segs =
-      record { guest = ap₂ (λ (c : Cpu) (s : List ℕ). record g { cpu = c; memory = record g.memory { space = s }; segment = None }) led.0 led.1; segments = refl } in
+      record {
+        guest = ap (λ (c : Cpu). record g { cpu = c; memory = record g.memory { space = space }; segment = None }) led.0;
+        bytes = windows-space space.bytes g.memory.space.bytes None None led.1;
+        segments = refl;
+      } in
       (stays, led.2)
   none-told (suc n) cpu space a b led = (
     record g { cpu = led.cpu_between; memory = record g.memory { space = led.memory_between }; segment = None },
@@ -149,7 +157,7 @@ module _ {A : Type 0} (runs : A → ℕ → Instr → Cpu → A → Type 0) (p :
     record { instr = led.instr; effect = led.leads; held = record { guest = refl; segments = refl }; told = led.told },
   )
 
-  pub lone-told : (n : ℕ) (cpu : Cpu) (space : List ℕ) (a b : A) → g.segment ≡ None → LedMany lone runs p n g.cpu g.memory.space a cpu space b → HeldMany runs p n g segs (record g { cpu = cpu; memory = record g.memory { space = space } }) segs a b
+  pub lone-told : (n : ℕ) (cpu : Cpu) (space : Paged) (a b : A) → g.segment ≡ None → LedMany lone runs p n g.cpu g.memory.space a cpu space b → HeldMany runs p n g segs (record g { cpu = cpu; memory = record g.memory { space = space } }) segs a b
   lone-told n cpu space a b none led =
       subst (λ (o : Option Shared). HeldMany runs p n (record g { segment = o }) segs (record g { cpu = cpu; memory = record g.memory { space = space }; segment = o }) segs a b) (sym none)
       (none-told n cpu space a b led)

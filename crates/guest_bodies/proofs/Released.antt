@@ -41,7 +41,7 @@ module _ (segs : Segments) (key : ℕ) where
   same-shown : (o : Option Guest) → holds_key key o ≡ false → option_map (shown_of (set segs key None)) o ≡ option_map (shown_of segs) o
   same-shown None isnt = refl
   same-shown (Some g) isnt =
-      ap (λ (bytes : List ℕ). Some (record { view = record { body = body_of g; window = g.memory.space; segment = bytes }; watch = watch_of g })) (other-bytes g.segment isnt)
+      ap (λ (bytes : List ℕ). Some (record { view = record { body = body_of g; window = g.memory.space.bytes; segment = bytes }; watch = watch_of g })) (other-bytes g.segment isnt)
 
   gone-shown : (all : List (Option Guest)) → is_held all key ≡ false → shown_all all (set segs key None) ≡ shown_all all segs
   gone-shown [] none = refl

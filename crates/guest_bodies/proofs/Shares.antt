@@ -73,7 +73,7 @@ module _ {guests : Guests} {all : List (Option Guest)} {segs : Segments} {p : �
   shares-follows zero =
       subst (λ (old : Guests). Follows old (done p event Shares) (shown_all (set all p (Some (sharing g event key))) segs')) at.shown
       (follows-done (shown_all all segs) (shown_all (set all p (Some (sharing g event key))) segs') p event Shares (view_of segs g) (view_of segs' (sharing g event key)) (seen-shown all segs p ∙ ap (option_map (view_of segs)) at.stands)
-      (ap (λ (b : List ℕ). Some (record { body = body_of (sharing g event key); window = g.memory.space; segment = b })) (sym (ap (λ (o : Option (List ℕ)). unwrap_or o []) there ∙ zero)))
+      (ap (λ (b : List ℕ). Some (record { body = body_of (sharing g event key); window = g.memory.space.bytes; segment = b })) (sym (ap (λ (o : Option (List ℕ)). unwrap_or o []) there ∙ zero)))
       (λ b. refl)
       (follows-put p (sharing g event key) all (set all p (Some (sharing g event key))) segs segs' at.sound shares-sound at.changes keeps))
 

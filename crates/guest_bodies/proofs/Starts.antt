@@ -38,7 +38,7 @@ booting event first =
 -- registers and window as an image and a block give them
 pub record IsFirst (file block : List ℕ) (first : First) : Type 0 where
   pub cpu : first.cpu ≡ cpu_at_start (read_as_image file).entry (length block)
-  pub space : first.space ≡ window_at_start (read_as_image file) block
+  pub space : first.space.bytes ≡ window_at_start (read_as_image file) block
 
 started-is : (segs : Segments) (event : ℕ) (file block : List ℕ) (first : First) → IsFirst file block first → view_of segs (booting event first) ≡ started event (read_as_image file) block
 started-is segs event file block first is =

@@ -13,7 +13,7 @@ use Rattle.guest_bodies.specs.Kept.{Segments, held_bytes, view_of, shown_all, wa
 use Rattle.guest_bodies.specs.Shown.{Guests, seen_in}
 use Rattle.guest_bodies.specs.Told.{IsStop, ToldMany, ToldOne}
 use Rattle.guest_bodies.specs.declared.guest.Guest.{Guest}
-use Rattle.guest_bodies.proofs.Changes.{live-there, same-shown, seen-shown, set-changes, there-of}
+use Rattle.guest_bodies.proofs.Changes.{live-there, same-shown, seen-shown, set-changes, stays-seen, there-of}
 use Rattle.guest_bodies.proofs.HeldTold.{many-runs}
 use Rattle.guest_bodies.proofs.InPlace.{Place, moved-kept, moved-put, moved-sound, moved-watches, reach-back}
 use Rattle.guest_bodies.proofs.Numbers.{nth-get_or}
@@ -86,7 +86,7 @@ module _ {A : Type 0} (runs : A → ℕ → Instr → Cpu → A → Type 0) wher
     -- all of them, one after the other
     pub told-many : (n : ℕ) (g' : Guest) (segs' : Segments) (x y : A) → HeldMany runs p n g segs g' segs' x y → ToldMany runs p n guests (shown_all (set all p (Some g')) segs') x y
     told-many zero g' segs' x y many =
-        (same-shown p g g' all segs segs' stands many.0.segments (ap (view_of segs') many.0.guest ∙ ap (λ (l : Segments). view_of l g) many.0.segments) (ap watch_of many.0.guest) ∙ shown, many.1)
+        (same-shown p g g' all segs segs' stands many.0.segments (stays-seen g g' segs segs' many.0) (ap watch_of many.0.guest) ∙ shown, many.1)
     told-many (suc n) g' segs' x y many =
         let m = many.0 in
         let ms = many.1 in

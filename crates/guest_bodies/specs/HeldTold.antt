@@ -25,7 +25,7 @@ abbrev pub HeldMany : {A : Type 0} → (A → ℕ → Instr → Cpu → A → Ty
 HeldMany runs p zero g segs g' segs' x y = StaysAs g g' segs segs' × (y ≡ x)
 HeldMany {A} runs p (suc n) g segs g' segs' x y = (m : Guest) × (ms : Segments) × (z : A) × HeldMany runs p n g segs m ms x z × HeldOne runs p m ms g' segs' z y
 
--- so many, and the observer failed at the next one, which was counted
+-- So many, and the next one, which was counted, didn't run: the observer failed at it, or its store found no memory.
 pub record HeldFails {A : Type 0} (runs : A → ℕ → Instr → Cpu → A → Type 0) (p count : ℕ) (g : Guest) (segs : Segments) (g' : Guest) (segs' : Segments) (x : A) (before after : ℕ) : Type 0 where
   pub ran : ℕ
   pub observer : A

@@ -23,7 +23,7 @@ held_bytes segments None = []
 held_bytes segments (Some s) = unwrap_or (nth segments s.key) []
 
 abbrev pub view_of : Segments → Guest → View
-view_of segments g = record { body = body_of g; window = g.memory.space; segment = held_bytes segments g.segment }
+view_of segments g = record { body = body_of g; window = g.memory.space.bytes; segment = held_bytes segments g.segment }
 
 abbrev pub watch_of : Guest → Watch
 watch_of g = record { handlers = g.signals.handlers; pending = g.signals.pending }
@@ -36,7 +36,7 @@ shown_all guests segments = map (option_map (shown_of segments)) guests
 
 -- the windows of the memories that are at hand
 abbrev pub windows_of : Reach → List Window
-windows_of r = windows r.space r.segment
+windows_of r = windows r.space.bytes r.segment
 
 -- the segment that is held, as it lies in the table
 abbrev pub lent : Segments → Option Shared → Option (List ℕ)

@@ -17,10 +17,10 @@ pub record LedAnother {M A : Type 0} (windows : M → List Window) (runs : A →
 
 -- so many, one after the other
 abbrev pub LedMany : {M A : Type 0} → (M → List Window) → (A → ℕ → Instr → Cpu → A → Type 0) → ℕ → ℕ → Cpu → M → A → Cpu → M → A → Type 0
-LedMany windows runs p zero cpu memory x cpu' memory' y = (cpu' ≡ cpu) × (memory' ≡ memory) × (y ≡ x)
+LedMany windows runs p zero cpu memory x cpu' memory' y = (cpu' ≡ cpu) × (windows memory' ≡ windows memory) × (y ≡ x)
 LedMany windows runs p (suc n) cpu memory x cpu' memory' y = LedAnother windows runs p (LedMany windows runs p n cpu memory x) cpu' memory' y
 
--- so many, and the observer failed at the next one, which was counted
+-- So many, and the next one, which was counted, didn't run: the observer failed at it, or its store found no memory.
 pub record LedFails {M A : Type 0} (windows : M → List Window) (runs : A → ℕ → Instr → Cpu → A → Type 0) (p count : ℕ) (cpu : Cpu) (memory : M) (x : A) (cpu' : Cpu) (memory' : M) (before after : ℕ) : Type 0 where
   pub ran : ℕ
   pub observer : A

@@ -3,7 +3,7 @@ use Rattle.std.specs.Prelude.{◌≡◌, ◌<◌, ℕ, zero, suc, List}
 use Rattle.arn_base.specs.Window.{Window}
 use Rattle.arn_base.specs.declared.machine.Cpu.{Cpu}
 use Rattle.acts_model.specs.Views.{reach, stands_at}
-use Rattle.rv64_core.specs.Outcome.{LeadsTo}
+use Rattle.rv64_core.specs.Outcome.{LeadsTo, WouldStore}
 use Rattle.rv64_core.specs.declared.outcome.Outcome.{Outcome}
 use Rattle.rv64_core.specs.declared.outcome.Outcome.TheVariants as outcome
 use Rattle.rv64_model.specs.Instruction.{Effect, Call, End, instruction}
@@ -24,14 +24,14 @@ abbrev pub RanMany : ℕ → ℕ → Guests → Guests → Type 0
 RanMany zero p old new = new ≡ old
 RanMany (suc n) p old new = RanAnother (RanMany n p old) p new
 
--- Why no more instructions run than so many of those that may: all that may have run, or the next one is a call or an end.
+-- Why no more instructions run than so many of those that may: all that may have run, or the next one is a call or an end, or its store found no memory.
 abbrev pub StopsAt : Outcome → ℕ → ℕ → Effect → Type 0
 StopsAt outcome.Next ran count effect = ran ≡ count
 StopsAt outcome.Call ran count effect = (ran < count) × (effect ≡ Call)
 StopsAt (outcome.End status) ran count effect = (ran < count) × (effect ≡ End status)
-StopsAt outcome.NoMemory ran count effect = ⊥
+StopsAt outcome.NoMemory ran count effect = (ran < count) × WouldStore effect
 
--- the instruction at which the process stops is counted too, if it is a call or an end
+-- the instruction at which the process stops is counted too, whatever stops it
 abbrev pub stop_count : Outcome → ℕ
 stop_count outcome.Next = 0
 stop_count outcome.Call = 1
@@ -59,9 +59,10 @@ pub record MovesAnother (Before : Guest → Segments → Type 0) (g : Guest) (se
   pub guest : g ≡ record guest_between { cpu = g.cpu; memory = g.memory }
   pub segments : segs ≡ with_held guest_between.segment (held_bytes segs guest_between.segment) segments_between
 
--- it stands as before, whatever segment is at hand
+-- it stands as before, with the same bytes in its window, whatever segment is at hand
 pub record StaysAs (old new : Guest) (segs segs' : Segments) : Type 0 where
-  pub guest : new ≡ record old { memory = record old.memory { segment = new.memory.segment } }
+  pub guest : new ≡ record old { memory = new.memory }
+  pub bytes : new.memory.space.bytes ≡ old.memory.space.bytes
   pub segments : segs' ≡ segs
 
 -- so many instructions of a process, as it and the segments are kept

@@ -23,7 +23,7 @@ abbrev pub ToldMany : {A : Type 0} → (A → ℕ → Instr → Cpu → A → Ty
 ToldMany runs p zero old new x y = (new ≡ old) × (y ≡ x)
 ToldMany {A} runs p (suc n) old new x y = (mid : Guests) × (z : A) × ToldMany runs p n old mid x z × ToldOne runs p mid new z y
 
--- So many were taken, of which the observer was told. It failed at the next one, which was counted and not taken.
+-- So many were taken, of which the observer was told. The next one was counted and not taken: the observer failed at it, or its store found no memory.
 pub record FailsAt {A : Type 0} (runs : A → ℕ → Instr → Cpu → A → Type 0) (p count : ℕ) (old new : Guests) (x : A) (before after : ℕ) : Type 0 where
   pub ran : ℕ
   pub observer : A

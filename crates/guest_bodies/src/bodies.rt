@@ -1,12 +1,13 @@
 // The bodies of live processes.
-ghost use Rattle.std.specs.Prelude.{◌≡◌, ◌≢◌, ◌≤◌, ◌<◌, ◌+◌, ◌^◌, ◌↔◌, ℕ, [], length, true, false, Some, None, IfSome, IsNone, IsTrue, All, IfOk, OnOk, OnErr, is_some, option_map, option_copied};
+ghost use Rattle.std.specs.Prelude.{◌≡◌, ◌≤◌, ◌<◌, ◌+◌, ◌^◌, ◌↔◌, ℕ, [], length, true, false, Some, None, IfSome, IsNone, IsTrue, All, IfOk, OnOk, OnErr, is_some, option_map, take};
 ghost use Rattle.acts_model.specs.Acts.{Act, Receives, Starts, Forks, Founds, Shares, Leaves, Delivers, begun, beginning_in, beginning_of, done, start_of, unborn};
 ghost use Rattle.acts_model.specs.Bodies.{put};
 ghost use Rattle.parts_model.specs.Blocks.{blocks_of};
 ghost use Rattle.parts_model.specs.Image.{is_image};
 ghost use Rattle.parts_model.specs.Numbered.{nth};
 ghost use Rattle.parts_model.specs.Signals.{can_set, due_signal, handler_of, is_signal, with_handler, with_pending, without};
-ghost use Rattle.acts_model.specs.Views.{bytes_in, stands_at};
+ghost use Rattle.acts_model.specs.Views.{bytes_in, can_reach, stands_at};
+ghost use Rattle.guest_mem.specs.Pages.{IsEnough};
 ghost use Rattle.rv64_core.specs.Outcome.{OnStop};
 ghost use Rattle.rv64_core.specs.Prospect.{Foretells};
 ghost use Rattle.guest_bodies.specs.Follows.{Follows, KeepsWatches, Ran, Rewatches, SetsWatch, IsResult, IsEnd};
@@ -21,8 +22,8 @@ use crate::starting::First;
 use crate::table::{fork, make_room, release};
 use crate::windows::window_of;
 use acts_model::Observer;
-use arn_base::{Blocks, Cpu, NoMemory, Start, Steps};
-use guest_mem::Segment;
+use arn_base::{BadAddress, Blocks, Bytes, Cpu, NoMemory, Start, Steps};
+use guest_mem::{Segment, Spare};
 use parts_model::limits::MOST_BLOCK_BYTES;
 use rv64_core::{Outcome, Prospect};
 use std::alloc::Global;
@@ -82,7 +83,6 @@ impl Bodies {
         ensures ran { Ran result pid self.old self.new }
         ensures stop { OnStop result (self.new ≡ self.old) }
         ensures watches { KeepsWatches self.old self.new }
-        ensures memory { result ≢ Outcome.NoMemory }
     {
         match &mut self.guests[pid as usize] {
             Some(guest) => held::step(guest, &mut self.segments, steps),
@@ -91,7 +91,7 @@ impl Bodies {
     }
 
     /// Runs up to so many instructions of a process, as long as the next one follows, and counts them.
-    /// A call or an end at which it stops is counted too.
+    /// A call or an end at which it stops is counted too, and so is a store that finds no memory.
     pub fn run<L: Ledger>(&mut self, pid: u32, count: u32, steps: &mut Steps<L>) -> Stood
         requires live { IsLive self.old pid }
         ensures tick { steps.new ≡ steps.old + result.ran + stop_count result.outcome }
@@ -124,7 +124,8 @@ impl Bodies {
 
     /// Runs so many instructions of a process, or fewer where it comes to a call or to its end, and
     /// says how many. The observer is told of each, with the registers before it. The one at which the
-    /// process stops is counted too, and so is the one at which the observer fails: it isn't run.
+    /// process stops is counted too, and so is one at which the observer fails or a store finds no
+    /// memory: it isn't run.
     pub fn run_told<O: Observer, L: Ledger>(
         &mut self,
         pid: u32,
@@ -151,30 +152,84 @@ impl Bodies {
         }
     }
 
+    /// Memory for so many bytes that a process receives.
+    pub fn spare(&self, len: u64) -> Result<Spare, NoMemory>
+        ensures { IfOk result (IsEnough len) }
+    {
+        Spare::new(self.alloc, len)
+    }
+
     /// A call of a process ends with a result and with bytes for it at an address. Where they don't
-    /// lie whole in one window, it gets none.
-    pub fn receives(&mut self, pid: u32, at: u64, bytes: &[u8], answer: u64)
+    /// lie whole in one window, it gets none. The memory that this may take is in hand.
+    pub fn receives(&mut self, pid: u32, at: u64, bytes: &[u8], answer: u64, spare: Spare)
         requires live { IsLive self.old pid }
+        requires enough { IsEnough (length bytes.now) spare }
         ensures follows { (event : ℕ) →
             Follows self.old (done pid event (Receives at bytes.now answer)) self.new }
         ensures watches { KeepsWatches self.old self.new }
     {
         match &mut self.guests[pid as usize] {
             Some(guest) => {
-                held::write(guest, &mut self.segments, at, bytes);
+                held::write(guest, &mut self.segments, at, bytes, spare);
                 guest.returns(answer);
             }
             None => unreachable!(),
         }
     }
 
-    /// The bytes of a range of a process's addresses, where they lie whole in one window.
-    pub fn bytes(&self, pid: u32, at: u64, len: u64) -> Option<&[u8]>
+    /// Whether a range of a process's addresses lies whole in one window.
+    pub fn can_reach(&self, pid: u32, at: u64, len: u64) -> bool
         requires live { IsLive self.now pid }
-        ensures { IfSome (seen_in self.now pid) (λ v. option_copied result ≡ bytes_in v at len) }
+        ensures { IfSome (seen_in self.now pid) (λ v. result ≡ can_reach v at len) }
     {
         match &self.guests[pid as usize] {
-            Some(guest) => held::bytes(guest, &self.segments, at, len),
+            Some(guest) => held::can_reach(guest, &self.segments, at, len),
+            None => unreachable!(),
+        }
+    }
+
+    /// Copies the bytes at an address of a process, as many as the buffer has, where they lie whole in
+    /// one window.
+    pub fn read_into(&self, pid: u32, at: u64, buf: &mut [u8]) -> Result<(), BadAddress>
+        requires live { IsLive self.now pid }
+        ensures ok { OnOk result (IfSome (seen_in self.now pid) (λ v.
+            bytes_in v at (length buf.old) ≡ Some buf.new)) }
+        ensures err { OnErr result (IfSome (seen_in self.now pid) (λ v.
+            bytes_in v at (length buf.old) ≡ None)) }
+        ensures same { OnErr result (buf.new ≡ buf.old) }
+    {
+        match &self.guests[pid as usize] {
+            Some(guest) => held::read_into(guest, &self.segments, at, buf),
+            None => unreachable!(),
+        }
+    }
+
+    /// The bytes of a range of a process's addresses, where they lie whole in one window.
+    pub fn copy(&self, pid: u32, at: u64, len: u64) -> Result<Option<Bytes>, NoMemory>
+        requires live { IsLive self.now pid }
+        ensures { IfOk result (λ copy. IfSome (seen_in self.now pid) (λ v.
+            copy ≡ bytes_in v at len)) }
+    {
+        match &self.guests[pid as usize] {
+            Some(guest) => held::copy(guest, &self.segments, at, len),
+            None => unreachable!(),
+        }
+    }
+
+    /// The first bytes of a range of a process's addresses, where it lies whole in one window.
+    pub fn first_of(
+        &self,
+        pid: u32,
+        at: u64,
+        len: u64,
+        first: u64,
+    ) -> Result<Option<Bytes>, NoMemory>
+        requires live { IsLive self.now pid }
+        ensures { IfOk result (λ copy. IfSome (seen_in self.now pid) (λ v.
+            copy ≡ option_map (take first) (bytes_in v at len))) }
+    {
+        match &self.guests[pid as usize] {
+            Some(guest) => held::first_of(guest, &self.segments, at, len, first),
             None => unreachable!(),
         }
     }
@@ -247,6 +302,17 @@ impl Bodies {
         release(&self.guests, &mut self.segments, former);
     }
 
+    // A process shares the pages of its private window with a child that it will have. This shows nothing.
+    fn share_pages(&mut self, pid: u32) -> Result<(), NoMemory>
+        requires live { IsLive self.old pid }
+        ensures { self.new ≡ self.old }
+    {
+        match &mut self.guests[pid as usize] {
+            Some(guest) => guest.share(),
+            None => unreachable!(),
+        }
+    }
+
     /// A process makes a child in its own group, whose number it gets as the call's result. The
     /// child shares its segment.
     pub fn forks(&mut self, pid: u32, child: u32, event: u64) -> Result<(), NoMemory>
@@ -258,6 +324,7 @@ impl Bodies {
             (SetsWatch child (option_map inherited (watch_in self.old pid)) self.old self.new) }
         ensures err { OnErr result (self.new ≡ self.old) }
     {
+        self.share_pages(pid)?;
         let guest = match &self.guests[pid as usize] {
             Some(parent) => parent.child(event, parent.segment)?,
             None => unreachable!(),
@@ -280,6 +347,7 @@ impl Bodies {
             (SetsWatch child (option_map inherited (watch_in self.old pid)) self.old self.new) }
         ensures err { OnErr result (self.new ≡ self.old) }
     {
+        self.share_pages(pid)?;
         let guest = match &self.guests[pid as usize] {
             Some(parent) => parent.child(event, None)?,
             None => unreachable!(),
@@ -347,8 +415,8 @@ impl Bodies {
     {
         let first = match &self.guests[pid as usize] {
             Some(guest) => {
-                let block = held::block(guest, &self.segments, at, len);
-                First::new(self.alloc, file, block)?
+                let block = held::block(self.alloc, guest, &self.segments, at, len)?;
+                First::new(self.alloc, file, block.as_slice())?
             }
             None => unreachable!(),
         };

@@ -1,7 +1,8 @@
 // One live process.
-ghost use Rattle.std.specs.Prelude.{◌≡◌, ◌<◌, ◌^◌, length, Some, None, IfOk, is_some, option_map, unwrap_or};
+ghost use Rattle.std.specs.Prelude.{◌≡◌, ◌<◌, ◌^◌, length, Some, None, IfOk, OnOk, is_some, option_map, unwrap_or};
 ghost use Rattle.acts_model.specs.Acts.{cut_off};
 ghost use Rattle.acts_model.specs.Views.{returned};
+ghost use Rattle.guest_mem.specs.Pages.{NoneOwn};
 ghost use Rattle.parts_model.specs.Blocks.{blocks_of};
 ghost use Rattle.parts_model.specs.Signals.{no_handlers, no_signals, none_pending};
 ghost use Rattle.rv64_model.specs.Registers.{with_register};
@@ -59,6 +60,15 @@ impl Guest {
         } }
     {
         self.signals.leave(&mut self.cpu)
+    }
+
+    /// Shares the pages of the private window, so that a copy of it takes no memory for them.
+    pub fn share(&mut self) -> Result<(), NoMemory>
+        ensures guest { self.new ≡ record self.old { memory = self.new.memory } }
+        ensures bytes { self.new.memory.space.bytes ≡ self.old.memory.space.bytes }
+        ensures shared { OnOk result (NoneOwn self.new.memory.space.own) }
+    {
+        self.memory.space.share()
     }
 
     /// The child of a fork. It holds this segment, and has a copy of the private window, which the
@@ -131,7 +141,7 @@ impl Guest {
         ensures start { IfOk result (λ start. start ≡ record {
           cpu = returned self.now.cpu 0;
           slot = self.now.signals.slot;
-          blocks = blocks_of self.now.memory.space;
+          blocks = blocks_of self.now.memory.space.bytes;
         }) }
         ensures few { IfOk result (λ start. length start.blocks < 2 ^ 16) }
     {

@@ -1,10 +1,11 @@
 // Access of a process to its memories: the private window, and the segment in the table.
-ghost use Rattle.std.specs.Prelude.{◌≡◌, ◌≢◌, ◌<◌, ◌≤◌, ◌+◌, IfOk, OnErr, None, length, option_copied};
-ghost use Rattle.acts_model.specs.Views.{bytes_in, reach, read, stands_at, written};
+ghost use Rattle.std.specs.Prelude.{◌≡◌, ◌<◌, ◌≤◌, ◌+◌, IfOk, OnOk, OnErr, IsErr, None, Some, length, option_copied, option_map, take};
+ghost use Rattle.acts_model.specs.Views.{bytes_in, can_reach, reach, read, stands_at, written};
 ghost use Rattle.guest_bodies.specs.HeldTold.{HeldFails, HeldMany};
 ghost use Rattle.guest_bodies.specs.Kept.{IfHeld, IfKey, held_bytes, lent, view_of, with_held, with_key};
 ghost use Rattle.guest_bodies.specs.Running.{MovesMany, StopsAt, stop_count};
 ghost use Rattle.guest_bodies.specs.Told.{IsStop};
+ghost use Rattle.guest_mem.specs.Pages.{IsEnough};
 ghost use Rattle.parts_model.specs.Blocks.{blocks_of};
 ghost use Rattle.rv64_core.specs.Outcome.{Tells, OnStop};
 ghost use Rattle.rv64_core.specs.Prospect.{Foretells};
@@ -13,8 +14,8 @@ use crate::guest::Guest;
 use crate::running::{self, Stood};
 use crate::told;
 use acts_model::Observer;
-use arn_base::{Blocks, NoMemory, Steps};
-use guest_mem::Segment;
+use arn_base::{BadAddress, Blocks, Bytes, NoMemory, Steps};
+use guest_mem::{Segment, Spare};
 use rv64_core::{Outcome, Prospect};
 use std::alloc::Global;
 use std::sync::ledger::Ledger;
@@ -66,7 +67,6 @@ fn step_lent<L: Ledger>(
     ensures stop { OnStop result
         (view_of segments.new.items guest.new ≡ view_of segments.old.items guest.old) }
     ensures table { OnStop result (segments.new.items ≡ segments.old.items) }
-    ensures memory { result ≢ Outcome.NoMemory }
 {
     lend(guest, segments);
     let outcome = rv64_core::step(&mut guest.cpu, &mut guest.memory, steps);
@@ -92,7 +92,6 @@ pub fn step<L: Ledger>(
     ensures stop { OnStop result
         (view_of segments.new.items guest.new ≡ view_of segments.old.items guest.old) }
     ensures table { OnStop result (segments.new.items ≡ segments.old.items) }
-    ensures memory { result ≢ Outcome.NoMemory }
 {
     match guest.segment {
         Some(_) => step_lent(guest, segments, steps),
@@ -187,9 +186,17 @@ pub fn next_lent<L: Ledger>(
     prospect
 }
 
-/// A process receives bytes at an address, where they lie whole in one window.
-pub fn write(guest: &mut Guest, segments: &mut Vec<Option<Segment>>, at: u64, bytes: &[u8])
-    requires { IfHeld guest.old.segment segments.old.items }
+/// A process receives bytes at an address, where they lie whole in one window, with memory that is in
+/// hand.
+pub fn write(
+    guest: &mut Guest,
+    segments: &mut Vec<Option<Segment>>,
+    at: u64,
+    bytes: &[u8],
+    spare: Spare,
+)
+    requires held { IfHeld guest.old.segment segments.old.items }
+    requires enough { IsEnough (length bytes.now) spare }
     ensures written { view_of segments.new.items guest.new ≡
         written at bytes.now (view_of segments.old.items guest.old) }
     ensures guest { guest.new ≡ record guest.old { memory = guest.new.memory } }
@@ -197,44 +204,8 @@ pub fn write(guest: &mut Guest, segments: &mut Vec<Option<Segment>>, at: u64, by
         (held_bytes segments.new.items guest.old.segment) segments.old.items }
 {
     lend(guest, segments);
-    guest.memory.write(at, bytes);
+    guest.memory.write(at, bytes, spare);
     take_back(guest, segments);
-}
-
-/// The bytes of a range of addresses, where they lie whole in one window.
-pub fn bytes<'a>(
-    guest: &'a Guest,
-    segments: &'a Vec<Option<Segment>>,
-    at: u64,
-    len: u64,
-) -> Option<&'a [u8]>
-    requires { IfHeld guest.now.segment segments.now.items }
-    ensures { option_copied result ≡ bytes_in (view_of segments.now.items guest.now) at len }
-{
-    if let Ok(bytes) = guest.memory.space.slice(at, len) {
-        return Some(bytes);
-    }
-    match &segments[guest.segment?.key] {
-        Some(segment) => segment.slice(at, len).ok(),
-        None => unreachable!(),
-    }
-}
-
-/// The bytes of a range of addresses, none where they don't lie whole in one window.
-pub fn block<'a>(
-    guest: &'a Guest,
-    segments: &'a Vec<Option<Segment>>,
-    at: u64,
-    len: u64,
-) -> &'a [u8]
-    requires { IfHeld guest.now.segment segments.now.items }
-    ensures bytes { result.now ≡ read (view_of segments.now.items guest.now) at len }
-    ensures few { length result.now ≤ len }
-{
-    match bytes(guest, segments, at, len) {
-        Some(bytes) => bytes,
-        None => &[],
-    }
 }
 
 // The segment that a process holds.
@@ -243,6 +214,92 @@ fn held_segment<'a>(guest: &'a Guest, segments: &'a Vec<Option<Segment>>) -> Opt
     ensures { option_copied result ≡ lent segments.now.items guest.now.segment }
 {
     segments[guest.segment?.key].as_ref()
+}
+
+/// Whether a range of addresses lies whole in one window.
+pub fn can_reach(guest: &Guest, segments: &Vec<Option<Segment>>, at: u64, len: u64) -> bool
+    requires { IfHeld guest.now.segment segments.now.items }
+    ensures { result ≡ can_reach (view_of segments.now.items guest.now) at len }
+{
+    guest.memory.space.can_reach(at, len)
+        || held_segment(guest, segments).is_some_and(|segment| segment.slice(at, len).is_ok())
+}
+
+/// Copies the bytes of a range of addresses, as many as the buffer has, where they lie whole in one
+/// window.
+pub fn read_into(
+    guest: &Guest,
+    segments: &Vec<Option<Segment>>,
+    at: u64,
+    buf: &mut [u8],
+) -> Result<(), BadAddress>
+    requires { IfHeld guest.now.segment segments.now.items }
+    ensures ok { OnOk result
+        (bytes_in (view_of segments.now.items guest.now) at (length buf.old) ≡ Some buf.new) }
+    ensures err { OnErr result
+        (bytes_in (view_of segments.now.items guest.now) at (length buf.old) ≡ None) }
+    ensures same { OnErr result (buf.new ≡ buf.old) }
+{
+    match (
+        guest.memory.space.read_into(at, buf),
+        held_segment(guest, segments),
+    ) {
+        (Err(BadAddress), Some(segment)) => segment.read_into(at, buf),
+        (done, _) => done,
+    }
+}
+
+/// The first bytes of a range of addresses, where it lies whole in one window.
+pub fn first_of(
+    guest: &Guest,
+    segments: &Vec<Option<Segment>>,
+    at: u64,
+    len: u64,
+    first: u64,
+) -> Result<Option<Bytes>, NoMemory>
+    requires { IfHeld guest.now.segment segments.now.items }
+    ensures { IfOk result (λ copy. copy ≡
+        option_map (take first) (bytes_in (view_of segments.now.items guest.now) at len)) }
+{
+    match (
+        guest.memory.space.first_of(at, len, first)?,
+        held_segment(guest, segments),
+    ) {
+        (None, Some(segment)) => segment.first_of(at, len, first),
+        (found, _) => Ok(found),
+    }
+}
+
+/// The bytes of a range of addresses, where they lie whole in one window.
+pub fn copy(
+    guest: &Guest,
+    segments: &Vec<Option<Segment>>,
+    at: u64,
+    len: u64,
+) -> Result<Option<Bytes>, NoMemory>
+    requires { IfHeld guest.now.segment segments.now.items }
+    ensures { IfOk result (λ copy. copy ≡ bytes_in (view_of segments.now.items guest.now) at len) }
+{
+    first_of(guest, segments, at, len, len)
+}
+
+/// The bytes of a range of addresses, none where they don't lie whole in one window.
+pub fn block(
+    alloc: Global,
+    guest: &Guest,
+    segments: &Vec<Option<Segment>>,
+    at: u64,
+    len: u64,
+) -> Result<Bytes, NoMemory>
+    requires { IfHeld guest.now.segment segments.now.items }
+    ensures bytes { IfOk result (λ block.
+        block ≡ read (view_of segments.now.items guest.now) at len) }
+    ensures few { IfOk result (λ block. length block ≤ len) }
+{
+    match copy(guest, segments, at, len)? {
+        Some(bytes) => Ok(bytes),
+        None => Ok(Bytes::new(alloc)),
+    }
 }
 
 /// The blocks that aren't all zero of the segment that a process holds, none where it holds none.

@@ -1,10 +1,12 @@
 // The memories that a process reaches.
-ghost use Rattle.std.specs.Prelude.{◌≡◌, ◌≢◌, ◌↔◌, false, length, OnOk, OnErr, IsNone, IsSome, IsTrue, Err};
-ghost use Rattle.arn_base.specs.Window.{bytes_at, with_bytes, bytes_of, IsAccessLength};
+ghost use Rattle.std.specs.Prelude.{◌≡◌, not, length};
+ghost use Rattle.std.specs.List.{list_any};
+ghost use Rattle.arn_base.specs.Window.{with_bytes};
 ghost use Rattle.guest_bodies.specs.Kept.{windows_of};
+ghost use Rattle.guest_mem.specs.Pages.{IsEnough};
 
 use arn_base::{BadAddress, Memory, StoreError};
-use guest_mem::{Segment, Space};
+use guest_mem::{Segment, Space, Spare};
 
 /// The private window of a process and, only while it runs or receives, the segment that it holds.
 /// Both are here by value, so that whoever serves one instruction can't leave others in their place.
@@ -15,11 +17,12 @@ pub struct Reach {
 }
 
 impl Reach {
-    /// Writes bytes at an address, where they lie whole in one window.
-    pub fn write(&mut self, at: u64, bytes: &[u8])
+    /// Writes bytes at an address, where they lie whole in one window, with memory that is in hand.
+    pub fn write(&mut self, at: u64, bytes: &[u8], spare: Spare)
+        requires { IsEnough (length bytes.now) spare }
         ensures { windows_of self.new ≡ with_bytes (windows_of self.old) at bytes.now }
     {
-        if self.space.write_from(at, bytes).is_err() {
+        if self.space.write_with(at, bytes, spare).is_err() {
             if let Some(segment) = &mut self.segment {
                 let _ = segment.write_from(at, bytes);
             }
@@ -30,7 +33,7 @@ impl Reach {
 impl Memory for Reach {
     ghost windows = { windows_of };
 
-    ghost wants_memory = { λ m. false };
+    ghost wants_memory = { λ r. list_any not r.space.own };
 
     #[inline(always)]
     fn load(&self, at: u64, len: u8) -> Result<u64, BadAddress> {

@@ -1,5 +1,5 @@
 // Many instructions, one behind the other.
-ghost use Rattle.std.specs.Prelude.{◌≡◌, ◌+◌, false};
+ghost use Rattle.std.specs.Prelude.{◌≡◌, ◌+◌};
 ghost use Rattle.rv64_model.specs.Instruction.{instruction};
 ghost use Rattle.guest_bodies.specs.Running.{LeadsMany, StopsAt, stop_count};
 
@@ -15,8 +15,8 @@ pub struct Stood {
     pub outcome: Outcome,
 }
 
-/// Runs up to so many instructions that the next one follows, and counts them, on a memory that wants
-/// none of its own.
+/// Runs up to so many instructions that the next one follows, and counts them. It stops before a store
+/// that finds no memory.
 #[inline(never)]
 pub fn run<M: Memory, L: Ledger>(
     cpu: &mut Cpu,
@@ -24,7 +24,6 @@ pub fn run<M: Memory, L: Ledger>(
     count: u32,
     steps: &mut Steps<L>,
 ) -> Stood
-    requires { (m : M) → M.wants_memory m ≡ false }
     ensures tick { steps.new ≡ steps.old + result.ran + stop_count result.outcome }
     ensures many { LeadsMany M.windows result.ran cpu.old memory.old cpu.new memory.new }
     ensures stops { StopsAt result.outcome result.ran count

@@ -25,7 +25,7 @@ impl First {
         requires few { length block.now ≤ MOST_BLOCK_BYTES }
         ensures cpu { IfOk result (λ first. first.cpu ≡
             cpu_at_start (read_as_image file.now).entry (length block.now)) }
-        ensures space { IfOk result (λ first. first.space ≡
+        ensures space { IfOk result (λ first. first.space.bytes ≡
             window_at_start (read_as_image file.now) block.now) }
     {
         let Ok(image) = parse(file) else {

@@ -1,5 +1,5 @@
 // Instructions of which an observer is told.
-ghost use Rattle.std.specs.Prelude.{◌≡◌, ◌≤◌, ◌<◌, ◌+◌, false, IfOk, OnErr};
+ghost use Rattle.std.specs.Prelude.{◌≡◌, ◌≤◌, ◌<◌, ◌+◌, IfOk, OnErr};
 ghost use Rattle.guest_bodies.specs.Led.{LedFails, LedMany};
 ghost use Rattle.guest_bodies.specs.Told.{IsStop};
 ghost use Rattle.rv64_model.specs.Instruction.{instruction};
@@ -10,7 +10,8 @@ use rv64_core::{Prospect, execute, next_instr};
 use std::sync::ledger::Ledger;
 
 /// Runs so many instructions, or fewer where the next one doesn't follow, and says how many. The
-/// observer is told of each before it. The one at which it stops is counted too. There is one of it
+/// observer is told of each before it. The one at which it stops is counted too, and so is one whose
+/// store finds no memory, which the observer was told of and which isn't run. There is one of it
 /// for each kind of observer and of memory, so that an instruction is compiled into the loop.
 #[inline(never)]
 pub fn run_told<M: Memory, O: Observer, L: Ledger>(
@@ -21,7 +22,6 @@ pub fn run_told<M: Memory, O: Observer, L: Ledger>(
     observer: &mut O,
     steps: &mut Steps<L>,
 ) -> Result<u32, NoMemory>
-    requires { (m : M) → M.wants_memory m ≡ false }
     ensures told { IfOk result (λ ran. LedMany M.windows O.runs pid ran
         cpu.old memory.old observer.old cpu.new memory.new observer.new) }
     ensures within { IfOk result (λ ran. ran ≤ count) }

@@ -1,34 +1,35 @@
 // The private window of a process that begins.
-ghost use Rattle.std.specs.Prelude.{◌≡◌, ◌+◌, ◌≤◌, length, IfOk, All};
+ghost use Rattle.std.specs.Prelude.{◌≡◌, ◌+◌, ◌≤◌, length, IfOk, OnOk, All};
 ghost use Rattle.arn_base.specs.Disk.{overwrite};
 ghost use Rattle.acts_model.specs.Views.{window_at_start};
 ghost use Rattle.parts_model.specs.Blocks.{with_blocks};
 ghost use Rattle.parts_model.specs.Memory.{zeros};
 ghost use Rattle.guest_bodies.specs.Shown.{IsInside};
 
-use arn_base::{Block, NoMemory};
+use arn_base::{Block, NoMemory, StoreError};
 use guest_image::Image;
 use guest_mem::Space;
 use parts_model::limits::{BLOCK_LEN, WINDOW_END, WINDOW_LEN, WINDOW_START};
 use std::alloc::Global;
 
 /// Lays bytes over those at an offset of a window.
-fn lay(space: &mut Space, offset: u64, bytes: &[u8])
-    requires length { length space.old ≡ WINDOW_LEN }
+fn lay(space: &mut Space, offset: u64, bytes: &[u8]) -> Result<(), NoMemory>
+    requires length { length space.old.bytes ≡ WINDOW_LEN }
     requires inside { offset + length bytes.now ≤ WINDOW_LEN }
-    ensures laid { space.new ≡ overwrite space.old offset bytes.now }
-    ensures length { length space.new ≡ WINDOW_LEN }
+    ensures laid { OnOk result (space.new.bytes ≡ overwrite space.old.bytes offset bytes.now) }
+    ensures length { length space.new.bytes ≡ WINDOW_LEN }
 {
     match space.write_from(WINDOW_START + offset, bytes) {
-        Ok(()) => {}
-        Err(_) => unreachable!(),
+        Ok(()) => Ok(()),
+        Err(StoreError::NoMemory) => Err(NoMemory),
+        Err(StoreError::BadAddress) => unreachable!(),
     }
 }
 
 /// The window whose blocks that aren't all zero are these.
 pub fn window_of(alloc: Global, blocks: &[Block]) -> Result<Space, NoMemory>
     requires { All IsInside blocks.now }
-    ensures { IfOk result (λ space. space ≡ with_blocks blocks.now (zeros WINDOW_LEN)) }
+    ensures { IfOk result (λ space. space.bytes ≡ with_blocks blocks.now (zeros WINDOW_LEN)) }
 {
     let mut space = Space::new(alloc)?;
     for block in blocks {
@@ -36,7 +37,7 @@ pub fn window_of(alloc: Global, blocks: &[Block]) -> Result<Space, NoMemory>
             &mut space,
             BLOCK_LEN as u64 * block.number as u64,
             &block.bytes,
-        );
+        )?;
     }
     Ok(space)
 }
@@ -52,11 +53,11 @@ pub fn first_window(
     requires low { WINDOW_START ≤ image.load }
     requires high { image.load + length body.now ≤ WINDOW_END }
     requires block { length block.now ≤ WINDOW_LEN }
-    ensures { IfOk result (λ space. space ≡ window_at_start
+    ensures { IfOk result (λ space. space.bytes ≡ window_at_start
         (record { entry = image.entry; load = image.load; body = body.now }) block.now) }
 {
     let mut space = Space::new(alloc)?;
-    lay(&mut space, image.load - WINDOW_START, body);
-    lay(&mut space, WINDOW_LEN - block.len() as u64, block);
+    lay(&mut space, image.load - WINDOW_START, body)?;
+    lay(&mut space, WINDOW_LEN - block.len() as u64, block)?;
     Ok(space)
 }

@@ -7,7 +7,7 @@ use Rattle.parts_model.specs.Numbered.{nth}
 use Rattle.parts_model.specs.Signals as signals
 use Rattle.parts_model.specs.Signals.{due, handler_of}
 use Rattle.rv64_model.specs.Instruction.{Effect, Call}
-use Rattle.rv64_core.specs.Outcome.{Tells, OnStop}
+use Rattle.rv64_core.specs.Outcome.{Tells, OnStop, WouldStore}
 use Rattle.rv64_core.specs.declared.outcome.Outcome.{Outcome}
 use Rattle.rv64_core.specs.declared.outcome.Outcome.TheVariants as outcome
 use Rattle.acts_model.specs.Acts.{Delivers, Dies}
@@ -56,6 +56,14 @@ stands-at-call outcome.Call pid old new ran stop is =
     subst (λ (o : Option View). IfSome o (λ v. stands_at v ≡ Call)) (sym (ap (λ (g : Guests). seen_in g pid) stop ∙ ran.stood)) ran.tells
 stands-at-call (outcome.End status) pid old new ran stop is = cc
 stands-at-call outcome.NoMemory pid old new ran stop is = cc
+
+-- where memory was wanted, a store stood
+pub stands-at-store : (result : Outcome) (pid : ℕ) (old new : Guests) → Ran result pid old new → result ≡ outcome.NoMemory → (v : View) → seen_in old pid ≡ Some v → WouldStore (stands_at v)
+stands-at-store outcome.Next pid old new ran is v sees = absurd (cc)
+stands-at-store outcome.Call pid old new ran is v sees = absurd (cc)
+stands-at-store (outcome.End status) pid old new ran is v sees = absurd (cc)
+stands-at-store outcome.NoMemory pid old new ran is v sees =
+    subst (λ (w : View). WouldStore (stands_at w)) (same_Some ran.before v (sym ran.stood ∙ sees)) ran.tells
 
 -- the due signal, and the handler of a signal, as the machine has them
 due-shown : (o : Option Shown) (v : View) (found : Option ℕ) → is_some o ≡ true → option_map (λ (s : Shown). s.view) o ≡ Some v → IfSome (option_map signals_of o) (λ s. found ≡ signals.due_signal s) → found ≡ due_in (option_map handling (option_map (λ (s : Shown). s.watch) o)) v

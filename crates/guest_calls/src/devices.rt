@@ -65,11 +65,12 @@ impl Kernel {
         ensures err { OnErr result (self.new ≡ self.old) }
         ensures unasked { OnErr result (answers.new ≡ answers.old) }
     {
+        let spare = self.bodies.spare(most)?;
         let mut buffer = Vec::from_elem(self.alloc, 0u8, most as usize)?;
         match answers.ask(device as u64, buffer.as_mut_slice()) {
             Answer::Gave(count) => {
                 let bytes = front_of(buffer, count);
-                self.receives(pid, at, bytes.as_slice(), count as u64);
+                self.receives(pid, at, bytes.as_slice(), count as u64, spare);
                 Ok(Done {
                     result: count as u64,
                     extra: Extra::Reply { device, bytes },
@@ -100,7 +101,7 @@ impl Kernel {
         ensures err { OnErr result (self.new ≡ self.old) }
         ensures unasked { OnErr result (answers.new ≡ answers.old) }
     {
-        let mut bytes = copy_of(self.alloc, &self.bodies, pid, at, count)?;
+        let mut bytes = copy_of(&self.bodies, pid, at, count)?;
         match answers.put(device as u64, bytes.as_slice()) {
             Answer::Gave(taken) => {
                 bytes.truncate(taken as usize);

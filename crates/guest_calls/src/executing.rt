@@ -47,7 +47,7 @@ impl Kernel {
         if lacks_block(&self.bodies, pid, block, block_len) {
             return Ok(self.answers(pid, error(BAD_ADDRESS)));
         }
-        let path = path(self.alloc, &self.bodies, pid, at, len)?;
+        let path = path(&self.bodies, pid, at, len)?;
         self.exec_path(pid, path.as_slice(), block, block_len)
     }
 

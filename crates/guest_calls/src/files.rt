@@ -39,7 +39,7 @@ impl Kernel {
         if let Some(answer) = path_refusal(&self.bodies, pid, at, len, mode > 1) {
             return Ok(self.answers(pid, answer));
         }
-        let path = path(self.alloc, &self.bodies, pid, at, len)?;
+        let path = path(&self.bodies, pid, at, len)?;
         if mode == 0 {
             self.open_found(pid, path)
         } else {
@@ -126,7 +126,7 @@ impl Kernel {
         if let Some(answer) = path_refusal(&self.bodies, pid, at, len, false) {
             return Ok(self.answers(pid, answer));
         }
-        let path = path(self.alloc, &self.bodies, pid, at, len)?;
+        let path = path(&self.bodies, pid, at, len)?;
         Ok(self.unlink_path(pid, path))
     }
 

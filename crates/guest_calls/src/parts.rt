@@ -1,5 +1,5 @@
 // What the calls are made of.
-ghost use Rattle.std.specs.Prelude.{◌≡◌, ◌+◌, ◌<◌, ◌^◌, IfSome};
+ghost use Rattle.std.specs.Prelude.{◌≡◌, ◌+◌, ◌<◌, ◌^◌, IfSome, length};
 ghost use Rattle.parts_model.specs.Signals.{due_signal};
 ghost use Rattle.acts_model.specs.Acts.{Act, Delivers, Receives};
 ghost use Rattle.acts_model.specs.Views.{argument, call_number};
@@ -8,6 +8,7 @@ ghost use Rattle.arn_model.specs.Kernel.{ended, status_at};
 ghost use Rattle.arn_model.specs.Step.{without_signal};
 ghost use Rattle.guest_bodies.specs.Follows.{IsEnd, IsResult};
 ghost use Rattle.guest_bodies.specs.Shown.{IsLive, seen_in, signals_in};
+ghost use Rattle.guest_mem.specs.Pages.{IsEnough};
 ghost use Rattle.guest_calls.specs.Acted.{Acted, Carried};
 ghost use Rattle.guest_calls.specs.State.{OfProcess};
 
@@ -15,6 +16,7 @@ use crate::kernel::Kernel;
 use crate::outcomes::Done;
 use arn_base::Extra;
 use guest_bodies::others_stay_unheld;
+use guest_mem::Spare;
 use guest_requests::{argument, call_number};
 
 impl Kernel {
@@ -48,14 +50,15 @@ impl Kernel {
     }
 
     /// A call of a process ends with a result and with bytes for it at an address. Where they don't lie
-    /// whole in one window, it gets none.
-    pub(crate) fn receives(&mut self, pid: u32, at: u64, bytes: &[u8], answer: u64)
+    /// whole in one window, it gets none. The memory that this may take is in hand.
+    pub(crate) fn receives(&mut self, pid: u32, at: u64, bytes: &[u8], answer: u64, spare: Spare)
         requires live { IsLive self.old.guests pid }
+        requires enough { IsEnough (length bytes.now) spare }
         requires room { self.old.events + 1 < 2 ^ 64 }
         ensures { Acted pid (Receives at bytes.now answer) self.old.kernel self.old self.new }
     {
         others_stay_unheld();
-        self.bodies.receives(pid, at, bytes, answer);
+        self.bodies.receives(pid, at, bytes, answer, spare);
         self.events += 1;
     }
 

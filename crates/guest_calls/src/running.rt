@@ -2,6 +2,7 @@
 ghost use Rattle.std.specs.Prelude.{◌≡◌, ◌≢◌, ◌+◌, IfSome, IsTrue, Some};
 ghost use Rattle.parts_model.specs.Signals.{is_signal};
 ghost use Rattle.acts_model.specs.Views.{stands_at};
+ghost use Rattle.rv64_core.specs.Outcome.{WouldStore};
 ghost use Rattle.rv64_model.specs.Instruction.{Call};
 ghost use Rattle.arn_model.specs.Step.{delivery_step, fault_step};
 ghost use Rattle.arn_model.specs.Turn.{can_go_on};
@@ -36,11 +37,13 @@ impl Kernel {
     pub fn step<L: Ledger>(&mut self, pid: u32, steps: &mut Steps<L>) -> Outcome
         requires live { IsLive self.old.guests pid }
         ensures tick { steps.new ≡ steps.old + 1 }
-        ensures stepped { OfProcess self.old pid (λ m v.
+        ensures stepped { result ≢ Outcome.NoMemory → OfProcess self.old pid (λ m v.
             Stepped result m pid v (stands_at v) self.old self.new) }
+        ensures no_memory { result ≡ Outcome.NoMemory → self.new ≡ self.old }
+        ensures stores { result ≡ Outcome.NoMemory →
+            OfProcess self.old pid (λ m v. WouldStore (stands_at v)) }
         ensures at_call { result ≡ Outcome.Call →
             IfSome (seen_in self.new.guests pid) (λ v. stands_at v ≡ Call) }
-        ensures memory { result ≢ Outcome.NoMemory }
         ensures alive { IsLive self.new.guests pid }
     {
         others_stay_unheld();
@@ -48,7 +51,7 @@ impl Kernel {
     }
 
     /// Runs up to so many instructions of a process, as long as the next one follows, and counts them.
-    /// A call or an end at which it stops is counted too.
+    /// A call or an end at which it stops is counted too, and so is a store that finds no memory.
     pub fn run<L: Ledger>(&mut self, pid: u32, count: u32, steps: &mut Steps<L>) -> Stood
         requires live { IsLive self.old.guests pid }
         ensures tick { steps.new ≡ steps.old + result.ran + stop_count result.outcome }

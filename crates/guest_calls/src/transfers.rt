@@ -52,9 +52,10 @@ impl Kernel {
         ensures err { OnErr result (self.new ≡ self.old) }
     {
         let give = give_of(self.alloc, self.console.front(count))?;
+        let spare = self.bodies.spare(count as u64)?;
         others_stay_unheld();
         self.bodies
-            .receives(pid, at, give.bytes.as_slice(), count as u64);
+            .receives(pid, at, give.bytes.as_slice(), count as u64, spare);
         self.console.take(count);
         self.events += 1;
         Ok(Done {
@@ -80,6 +81,7 @@ impl Kernel {
         ensures short { IfOk result (λ done. IsShort done.extra) }
         ensures err { OnErr result (self.new ≡ self.old) }
     {
+        let spare = self.bodies.spare(most as u64)?;
         let give = self.resources.read(place.file, place.position, most)?;
         let count = give.bytes.len();
         if count == 0 {
@@ -87,7 +89,7 @@ impl Kernel {
         }
         others_stay_unheld();
         self.bodies
-            .receives(pid, at, give.bytes.as_slice(), count as u64);
+            .receives(pid, at, give.bytes.as_slice(), count as u64, spare);
         self.resources
             .move_to(place.number, place.file, place.position + count as u32);
         self.events += 1;
@@ -109,6 +111,7 @@ impl Kernel {
         ensures short { IfOk result (λ done. IsShort done.extra) }
         ensures err { OnErr result (self.new ≡ self.old) }
     {
+        let spare = self.bodies.spare(most as u64)?;
         let give = self.channels.take(pipe, most)?;
         let count = give.bytes.len();
         if count == 0 {
@@ -116,7 +119,7 @@ impl Kernel {
         }
         others_stay_unheld();
         self.bodies
-            .receives(pid, at, give.bytes.as_slice(), count as u64);
+            .receives(pid, at, give.bytes.as_slice(), count as u64, spare);
         self.events += 1;
         Ok(Done {
             result: count as u64,
@@ -154,7 +157,7 @@ impl Kernel {
         ensures short { IfOk result (λ done. IsShort done.extra) }
         ensures err { OnErr result (self.new ≡ self.old) }
     {
-        let bytes = copy_of(self.alloc, &self.bodies, pid, at, count)?;
+        let bytes = copy_of(&self.bodies, pid, at, count)?;
         self.returns(pid, count);
         Ok(Done {
             result: count,
@@ -179,7 +182,7 @@ impl Kernel {
             return Ok(self.answers(pid, error(NO_ROOM)));
         }
         let fits = count.min(room);
-        let bytes = first_of(self.alloc, &self.bodies, pid, at, count, fits)?;
+        let bytes = first_of(&self.bodies, pid, at, count, fits)?;
         self.resources.write(
             place.number,
             place.file,
@@ -211,7 +214,7 @@ impl Kernel {
         ensures err { OnErr result (self.new ≡ self.old) }
     {
         let few = count.min(MOST_PIPE_BYTES);
-        let bytes = first_of(self.alloc, &self.bodies, pid, at, count, few)?;
+        let bytes = first_of(&self.bodies, pid, at, count, few)?;
         match self.channels.put(pipe, bytes.as_slice(), self.events)? {
             None => Ok(self.answers(pid, error(BROKEN_PIPE))),
             Some(taken) => {

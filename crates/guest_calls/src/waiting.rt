@@ -63,10 +63,11 @@ impl Kernel {
         ensures err { OnErr result (self.new ≡ self.old) }
     {
         let give = give_of(self.alloc, &[status_of(child)])?;
+        let spare = self.bodies.spare(1)?;
         let at = self.argument(pid, 0);
         let answer = child.pid as u64;
         self.forget(pid, child);
-        self.receives(pid, at, give.bytes.as_slice(), answer);
+        self.receives(pid, at, give.bytes.as_slice(), answer, spare);
         Ok(Done {
             result: answer,
             extra: Extra::Give(give),

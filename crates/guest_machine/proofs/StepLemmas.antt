@@ -1,5 +1,5 @@
 -- What a kernel's calls on one process are of a turn.
-use Rattle.std.proofs.Common.{◌≡◌, ◌≢◌, ℕ, zero, suc, ◌+◌, ◌-◌, ◌<◌, ◌≤◌, ◌++◌, true, false, List, [], ◌∷◌, Option, None, Some, IfSome, option_map, length, option_to_list, refl, sym, ap, subst, ◌∙◌, arith, append-nil, length-append}
+use Rattle.std.proofs.Common.{◌≡◌, ◌≢◌, ℕ, zero, suc, ◌+◌, ◌<◌, ◌≤◌, ◌++◌, true, false, List, [], ◌∷◌, Option, None, Some, IfSome, option_map, length, option_to_list, refl, sym, ap, subst, ◌∙◌, arith, length-append}
 use Rattle.arn_base.specs.declared.records.Record.{Record}
 use Rattle.arn_base.specs.declared.records.Record.TheVariants as entry
 use Rattle.rv64_core.specs.declared.outcome.Outcome.{Outcome}
@@ -115,7 +115,6 @@ plain-real m pid v o old new stands is next stepped =
 record Stops (m : Machine) (pid : ℕ) (o : Outcome) (old new : State) : Type 0 where
   effect : Effect
   at : StandsAt m pid effect
-  none : plains 1 pid m ≡ []
   same : new ≡ old
   stops : (ran n : ℕ) → ran < n → StopsAt o ran n m pid
 
@@ -126,7 +125,6 @@ stops-effect m pid v Call o old new is at other stepped =
     record {
       effect = Call;
       at = here;
-      none = ap (λ (o : Option View). steps_then (plain_in m pid o) (plains 0 pid)) is ∙ ap (λ (e : Effect). steps_then (plain_by m pid v e) (plains 0 pid)) at;
       same = stepped.1;
       stops = λ ran n within. subst (λ (o : Outcome). StopsAt o ran n m pid) (sym stepped.0) (within, here);
     }
@@ -135,38 +133,19 @@ stops-effect m pid v (End status) o old new is at other stepped =
     record {
       effect = End status;
       at = here;
-      none = ap (λ (o : Option View). steps_then (plain_in m pid o) (plains 0 pid)) is ∙ ap (λ (e : Effect). steps_then (plain_by m pid v e) (plains 0 pid)) at;
       same = stepped.1;
       stops = λ ran n within. subst (λ (o : Outcome). StopsAt o ran n m pid) (sym stepped.0) (within, here);
     }
-
--- where one doesn't run, none do
-none-more : (o : Option Step) (k pid : ℕ) → steps_then o (plains 0 pid) ≡ [] → steps_then o (plains k pid) ≡ []
-none-more None k pid none = refl
-none-more (Some s) k pid none = absurd (no_cons none)
-  where
-    no_cons : s ∷ [] ≡ [] → ⊥
-    no_cons is = cc
-
-none-plain : (k pid : ℕ) (m : Machine) → plains 1 pid m ≡ [] → plains k pid m ≡ []
-none-plain zero pid m none = refl
-none-plain (suc k) pid m none = none-more (plain_in m pid (seen m.bodies pid)) k pid none
 
 pub RanPlain-stops : (m : Machine) (pid n ran : ℕ) (v : View) (o : Outcome) (old new : State) → AfterPlain m pid ran old → ran < n → seen (after_steps m (plains ran pid m)).bodies pid ≡ Some v → o ≢ outcome.Next
     → Stepped o (after_steps m (plains ran pid m)) pid v (stands_at v) old new → RanPlain m pid n (record { ran = ran; outcome = o }) new
 RanPlain-stops m pid n ran v o old new so_far within is other stepped =
     let m1 = after_steps m (plains ran pid m) in
     let stops = stops-effect m1 pid v (stands_at v) o old new is refl other stepped in
-    let e : n ≡ ran + (n - ran) = omega (arith, within) in
-    let all : plains n pid m ≡ plains ran pid m =
-    ap (λ (k : ℕ). plains k pid m) e
-    ∙ plains-more ran (n - ran) pid m so_far.many
-    ∙ ap (λ (steps : List Step). plains ran pid m ++ steps) (none-plain (n - ran) pid m1 stops.none)
-    ∙ append-nil (plains ran pid m) in
     record {
-      many = ap length all ∙ so_far.many;
-      stands = subst (λ (steps : List Step). StandsFor new (after_steps m steps)) (sym all) (subst (λ (s : State). StandsFor s m1) (sym stops.same) so_far.stands);
-      stops = subst (λ (steps : List Step). StopsAt o ran n (after_steps m steps) pid) (sym all) (stops.stops ran n within);
+      many = so_far.many;
+      stands = subst (λ (s : State). StandsFor s m1) (sym stops.same) so_far.stands;
+      stops = stops.stops ran n within;
     }
 
 pub RanPlain-all : (m : Machine) (pid n : ℕ) (s : State) → AfterPlain m pid n s → RanPlain m pid n (record { ran = n; outcome = outcome.Next }) s
@@ -351,7 +330,8 @@ stops-by old pid n ran new outcome.Call e p stops here m stands =
 stops-by old pid n ran new (outcome.End status) e p stops here m stands =
     RunSoFar-stops old pid ran n new new (outcome.End status) p here.0 (no_ended status)
     (λ m v stands sees. subst (λ (e : Effect). Stepped (outcome.End status) m pid v e new new) (sym (at-stop (outcome.End status) ran n pid new m v stops stands sees).1) (refl, refl)) m stands
-stops-by old pid n ran new outcome.NoMemory e p stops here m stands = absurd here
+stops-by old pid n ran new outcome.NoMemory e p stops here m stands =
+    record { many = (p.ran m stands).many; stands = (p.ran m stands).stands; stops = here.0 }
 
 -- how many ran, and were counted
 pub record Few (o : Outcome) (ran n : ℕ) : Type 0 where
@@ -367,7 +347,8 @@ few outcome.Call ran n e here =
     record { within = omega (arith, here.0); some = λ (other : outcome.Call ≢ outcome.Next). here.0; counted = omega (arith, here.0); one = omega arith }
 few (outcome.End status) ran n e here =
     record { within = omega (arith, here.0); some = λ (other : outcome.End status ≢ outcome.Next). here.0; counted = omega (arith, here.0); one = omega arith }
-few outcome.NoMemory ran n e here = absurd here
+few outcome.NoMemory ran n e here =
+    record { within = omega (arith, here.0); some = λ (other : outcome.NoMemory ≢ outcome.Next). here.0; counted = omega (arith, here.0); one = omega arith }
 
 -- instructions of a process have run, as many as might or until it stands at a call or an end
 module _ (old new : State) (pid n : ℕ) (stood : Stood) (first : IsLive old.guests pid) (real : IsReal old) (live : IsLive new.guests pid) (many : SteppedMany stood.ran pid old new) (stops : AtStop stood.outcome stood.ran n new pid) where

@@ -1,24 +1,25 @@
 -- A turn, put together from its parts.
-use Rattle.std.proofs.Common.{◌≡◌, ℕ, zero, suc, ◌+◌, ◌<◌, ◌≤◌, ◌++◌, Bool, true, false, cond, nat_lt, List, [], ◌∷◌, Option, None, Some, IsSome, option_map, length, option_to_list, refl, sym, ap, subst, ◌∙◌, arith}
+use Rattle.std.proofs.Common.{◌≡◌, ◌≢◌, ℕ, zero, suc, ◌+◌, ◌-◌, ◌<◌, ◌≤◌, ◌++◌, Bool, true, false, cond, nat_lt, List, [], ◌∷◌, Option, None, Some, IsSome, option_map, length, option_to_list, refl, sym, ap, subst, ◌∙◌, append-nil, arith}
 use Rattle.std.proofs.lemmas.Bool.{cond-true, cond-false}
 use Rattle.std.proofs.lemmas.Bool.Decides.{nat_tests}
 use Rattle.arn_base.specs.declared.records.Record.{Record}
 use Rattle.rv64_core.specs.declared.outcome.Outcome.{Outcome}
 use Rattle.rv64_core.specs.declared.outcome.Outcome.TheVariants as outcome
+use Rattle.rv64_model.specs.Instruction.{Effect, Call, End}
 use Rattle.parts_model.specs.Numbered.{nth}
 use Rattle.parts_model.specs.Replies.{Answered}
 use Rattle.acts_model.specs.Bodies.{View, seen}
 use Rattle.arn_model.specs.Kernel.{Machine}
 use Rattle.arn_model.specs.Parts.{MaybeLast, TurnsHaveParts}
 use Rattle.arn_model.specs.Run.{instructions_in}
-use Rattle.arn_model.specs.Step.{Step}
+use Rattle.arn_model.specs.Step.{Step, plain_by}
 use Rattle.arn_model.specs.Turn.{after_first, after_steps, delivery_in, last_in, last_of, plain_in, plains, steps_of, steps_then, turn}
 use Rattle.log_model.specs.Records.{event_records}
 use Rattle.guest_bodies.specs.Shown.{Guests, IsLive, Shown, seen_in}
 use Rattle.guest_devices.specs.Answers.{Asked}
 use Rattle.guest_calls.specs.State.{State, StandsFor}
 use Rattle.guest_machine.specs.Slices.{RepliesIf, RepliesOf, delivered}
-use Rattle.guest_machine.specs.Turns.{Finishes, Happens, StopsAt, TookPart, TookWhole, Turn, Turned}
+use Rattle.guest_machine.specs.Turns.{Finishes, Happens, StandsAt, StopsAt, TookPart, TookWhole, Turn, Turned}
 use Rattle.guest_machine.proofs.Appends.{after_steps-append, event_records-append}
 use Rattle.guest_machine.proofs.TurnParts.{last-counted, last-one, plain-records}
 
@@ -56,22 +57,6 @@ then-few (Some s) n rest few = omega (arith, few s.after)
 pub plains-few : (n pid : ℕ) (m : Machine) → length (plains n pid m) ≤ n
 plains-few zero pid m = omega arith
 plains-few (suc n) pid m = then-few (plain_in m pid (seen m.bodies pid)) n (plains n pid) (plains-few n pid)
-
--- up to as many as there were, they are the same
-then-none : (o : Option Step) (rest : Machine → List Step) → length (steps_then o rest) ≤ 0 → [] ≡ steps_then o rest
-then-none None rest few = refl
-then-none (Some s) rest few = absurd (omega (arith, few))
-
-then-again : (o : Option Step) (k : ℕ) (rest rest' : Machine → List Step) → ((m : Machine) → length (rest' m) ≤ k → rest m ≡ rest' m) → length (steps_then o rest') ≤ suc k → steps_then o rest ≡ steps_then o rest'
-then-again None k rest rest' again few = refl
-then-again (Some s) k rest rest' again few = ap (λ (steps : List Step). s ∷ steps) (again s.after (omega (arith, few)))
-
-pub plains-again : (n k pid : ℕ) → k ≤ n → (m : Machine) → length (plains n pid m) ≤ k → plains k pid m ≡ plains n pid m
-plains-again zero zero pid most m few = refl
-plains-again zero (suc k) pid most m few = absurd (omega (arith, most))
-plains-again (suc n) zero pid most m few = then-none (plain_in m pid (seen m.bodies pid)) (plains n pid) few
-plains-again (suc n) (suc k) pid most m few =
-    then-again (plain_in m pid (seen m.bodies pid)) k (plains k pid) (plains n pid) (plains-again n k pid (omega (arith, most))) few
 
 -- where so many ran, more go on behind them
 then-more : (o : Option Step) (n k pid : ℕ) → ((m : Machine) → length (plains n pid m) ≡ n → plains (n + k) pid m ≡ plains n pid m ++ plains k pid (after_steps m (plains n pid m))) → (m : Machine) → length (steps_then o (plains n pid)) ≡ suc n
@@ -163,6 +148,42 @@ took-dead parts answers asked m pid n delivery new first dead stands =
     asks_none true = subst (λ (o : Option View). RepliesOf answers (delivered pid m) pid o None asked asked) (sym dead) (refl, refl)
     asks_none false = (refl, refl)
 
+-- where one doesn't run, none do
+none-more : (o : Option Step) (k pid : ℕ) → steps_then o (plains 0 pid) ≡ [] → steps_then o (plains k pid) ≡ []
+none-more None k pid none = refl
+none-more (Some s) k pid none = absurd (no_cons none)
+  where
+    no_cons : s ∷ [] ≡ [] → ⊥
+    no_cons is = cc
+
+none-after-one : (k pid : ℕ) (m : Machine) → plains 1 pid m ≡ [] → plains k pid m ≡ []
+none-after-one zero pid m none = refl
+none-after-one (suc k) pid m none = none-more (plain_in m pid (seen m.bodies pid)) k pid none
+
+-- behind a call or an end no more run
+at-call-none : (m : Machine) (pid : ℕ) → StandsAt m pid Call → plains 1 pid m ≡ []
+at-call-none m pid at =
+    ap (λ (o : Option View). steps_then (plain_in m pid o) (plains 0 pid)) at.sees ∙ ap (λ (e : Effect). steps_then (plain_by m pid at.view e) (plains 0 pid)) at.is
+
+at-end-none : (m : Machine) (pid status : ℕ) → StandsAt m pid (End status) → plains 1 pid m ≡ []
+at-end-none m pid status at =
+    ap (λ (o : Option View). steps_then (plain_in m pid o) (plains 0 pid)) at.sees ∙ ap (λ (e : Effect). steps_then (plain_by m pid at.view e) (plains 0 pid)) at.is
+
+none-behind : (m : Machine) (pid n ran : ℕ) → length (plains ran pid m) ≡ ran → ran < n → plains 1 pid (after_steps m (plains ran pid m)) ≡ [] → plains n pid m ≡ plains ran pid m
+none-behind m pid n ran many within none =
+    let e : n ≡ ran + (n - ran) = omega (arith, within) in
+    ap (λ (k : ℕ). plains k pid m) e
+    ∙ plains-more ran (n - ran) pid m many
+    ∙ ap (λ (steps : List Step). plains ran pid m ++ steps) (none-after-one (n - ran) pid (after_steps m (plains ran pid m)) none)
+    ∙ append-nil (plains ran pid m)
+
+-- where as many ran as might, or the next one is a call or an end, these are all
+plains-all : (o : Outcome) (m : Machine) (pid n ran : ℕ) → o ≢ outcome.NoMemory → length (plains ran pid m) ≡ ran → StopsAt o ran n (after_steps m (plains ran pid m)) pid → plains n pid m ≡ plains ran pid m
+plains-all outcome.Next m pid n ran some many stops = ap (λ (k : ℕ). plains k pid m) (sym stops)
+plains-all outcome.Call m pid n ran some many stops = none-behind m pid n ran many stops.0 (at-call-none (after_steps m (plains ran pid m)) pid stops.1)
+plains-all (outcome.End status) m pid n ran some many stops = none-behind m pid n ran many stops.0 (at-end-none (after_steps m (plains ran pid m)) pid status stops.1)
+plains-all outcome.NoMemory m pid n ran some many stops = absurd (some refl)
+
 -- all instructions ran that might
 took-spent : {A : Type 0} → TurnsHaveParts → (answers : A → Asked → Answered → A → Type 0) (asked : A) (m : Machine) (pid n : ℕ) (delivery : Option Record) (new : State)
     → event_records (option_to_list (delivery_in m pid (seen m.bodies pid))) ≡ option_to_list delivery
@@ -201,14 +222,14 @@ took-last parts answers asked asked' m pid n ran delivery last new first many wi
       turned = turned parts m pid n happens.reply delivery last step (ran + length (option_to_list last)) false new first one happens.told (omega (arith, many, counted, ap length happens.told)) happens.stands;
     }
 
-pub took-whole : {A : Type 0} → TurnsHaveParts → (answers : A → Asked → Answered → A → Type 0) (asked asked' : A) (m : Machine) (pid n : ℕ) (delivery last : Option Record) (o : Outcome) (ran : ℕ) (s new : State)
+took-all : {A : Type 0} → TurnsHaveParts → (answers : A → Asked → Answered → A → Type 0) (asked asked' : A) (m : Machine) (pid n : ℕ) (delivery last : Option Record) (o : Outcome) (ran : ℕ) (s new : State)
     → event_records (option_to_list (delivery_in m pid (seen m.bodies pid))) ≡ option_to_list delivery
     → length (plains n pid (delivered pid m)) ≡ ran
     → StandsFor s (after_steps (delivered pid m) (plains n pid (delivered pid m)))
     → StopsAt o ran n (after_steps (delivered pid m) (plains n pid (delivered pid m))) pid
     → Finishes o answers (after_steps (delivered pid m) (plains n pid (delivered pid m))) pid last asked asked' s new
     → TookWhole answers m pid n (record { delivery = delivery; ran = ran + length (option_to_list last); last = last; cut = false }) asked asked' new
-took-whole {A} parts answers asked asked' m pid n delivery last outcome.Next ran s new first many stands stops ends =
+took-all {A} parts answers asked asked' m pid n delivery last outcome.Next ran s new first many stands stops ends =
     let m1 = delivered pid m in
     let plain = plains n pid m1 in
     let s' : StandsFor new (after_steps m1 plain) = subst (λ (x : State). StandsFor x (after_steps m1 plain)) (sym ends.2) stands in
@@ -217,26 +238,47 @@ took-whole {A} parts answers asked asked' m pid n delivery last outcome.Next ran
     subst (λ (a : A). TookWhole answers m pid n (t last (ran + length (option_to_list last))) asked a new) (sym ends.1)
     (subst (λ (l : Option Record). TookWhole answers m pid n (t l (ran + length (option_to_list l))) asked asked new) (sym ends.0)
     (subst (λ (k : ℕ). TookWhole answers m pid n (t None (k + 0)) asked asked new) (sym stops) spent))
-took-whole {A} parts answers asked asked' m pid n delivery last outcome.Call ran s new first many stands stops ends = took-last parts answers asked asked' m pid n ran delivery last new first many stops.0 ends
-took-whole {A} parts answers asked asked' m pid n delivery last (outcome.End status) ran s new first many stands stops ends = took-last parts answers asked asked' m pid n ran delivery last new first many stops.0 ends
-took-whole {A} parts answers asked asked' m pid n delivery last outcome.NoMemory ran s new first many stands stops ends = absurd stops
+took-all {A} parts answers asked asked' m pid n delivery last outcome.Call ran s new first many stands stops ends = took-last parts answers asked asked' m pid n ran delivery last new first many stops.0 ends
+took-all {A} parts answers asked asked' m pid n delivery last (outcome.End status) ran s new first many stands stops ends = took-last parts answers asked asked' m pid n ran delivery last new first many stops.0 ends
+took-all {A} parts answers asked asked' m pid n delivery last outcome.NoMemory ran s new first many stands stops ends = absurd ends
 
--- the last call found no memory
+-- a turn that is finished found its memory
+finishes-some : {A : Type 0} (o : Outcome) (answers : A → Asked → Answered → A → Type 0) (m : Machine) (pid : ℕ) (last : Option Record) (asked asked' : A) (s new : State) → Finishes o answers m pid last asked asked' s new → o ≢ outcome.NoMemory
+finishes-some outcome.Next answers m pid last asked asked' s new ends = λ (e : outcome.Next ≡ outcome.NoMemory). cc
+finishes-some outcome.Call answers m pid last asked asked' s new ends = λ (e : outcome.Call ≡ outcome.NoMemory). cc
+finishes-some (outcome.End status) answers m pid last asked asked' s new ends = λ (e : outcome.End status ≡ outcome.NoMemory). cc
+finishes-some outcome.NoMemory answers m pid last asked asked' s new ends = absurd ends
+
+pub took-whole : {A : Type 0} → TurnsHaveParts → (answers : A → Asked → Answered → A → Type 0) (asked asked' : A) (m : Machine) (pid n : ℕ) (delivery last : Option Record) (o : Outcome) (ran : ℕ) (s new : State)
+    → event_records (option_to_list (delivery_in m pid (seen m.bodies pid))) ≡ option_to_list delivery
+    → length (plains ran pid (delivered pid m)) ≡ ran
+    → StandsFor s (after_steps (delivered pid m) (plains ran pid (delivered pid m)))
+    → StopsAt o ran n (after_steps (delivered pid m) (plains ran pid (delivered pid m))) pid
+    → Finishes o answers (after_steps (delivered pid m) (plains ran pid (delivered pid m))) pid last asked asked' s new
+    → TookWhole answers m pid n (record { delivery = delivery; ran = ran + length (option_to_list last); last = last; cut = false }) asked asked' new
+took-whole parts answers asked asked' m pid n delivery last o ran s new first many stands stops ends =
+    let m1 = delivered pid m in
+    let some = finishes-some o answers (after_steps m1 (plains ran pid m1)) pid last asked asked' s new ends in
+    let all : plains n pid m1 ≡ plains ran pid m1 = plains-all o m1 pid n ran some many stops in
+    took-all parts answers asked asked' m pid n delivery last o ran s new first (ap length all ∙ many)
+    (subst (λ (plain : List Step). StandsFor s (after_steps m1 plain)) (sym all) stands)
+    (subst (λ (plain : List Step). StopsAt o ran n (after_steps m1 plain) pid) (sym all) stops)
+    (subst (λ (plain : List Step). Finishes o answers (after_steps m1 plain) pid last asked asked' s new) (sym all) ends)
+
+-- a store or the last call found no memory
 pub took-part : {A : Type 0} → TurnsHaveParts → (asked asked' : A) (m : Machine) (pid n ran : ℕ) (delivery : Option Record) (new : State)
     → event_records (option_to_list (delivery_in m pid (seen m.bodies pid))) ≡ option_to_list delivery
-    → length (plains n pid (delivered pid m)) ≡ ran
+    → length (plains ran pid (delivered pid m)) ≡ ran
     → ran < n
     → asked' ≡ asked
-    → StandsFor new (after_steps (delivered pid m) (plains n pid (delivered pid m)))
+    → StandsFor new (after_steps (delivered pid m) (plains ran pid (delivered pid m)))
     → TookPart m pid n (record { delivery = delivery; ran = ran; last = None; cut = true }) asked asked' new
 took-part parts asked asked' m pid n ran delivery new first many within unasked stands =
     let m1 = delivered pid m in
-    let same : plains ran pid m1 ≡ plains n pid m1 = plains-again n ran pid (omega (arith, within)) m1 (omega (arith, many)) in
-    let long : length (plains ran pid m1) ≡ ran = ap length same ∙ many in
     let m2 = after_steps m1 (plains ran pid m1) in
     let spent : nat_lt (length (plains ran pid m1)) ran ≡ false = grind (arith, nat_tests) in
     record {
       within = within;
       unasked = unasked;
-      turned = turned parts m pid ran None delivery None None ran true new first (cond-false (nat_lt (length (plains ran pid m1)) ran) (last_in m2 pid None (seen m2.bodies pid)) None spent) refl (omega (arith, long)) (subst (λ (plain : List Step). StandsFor new (after_steps m1 plain)) (sym same) stands);
+      turned = turned parts m pid ran None delivery None None ran true new first (cond-false (nat_lt (length (plains ran pid m1)) ran) (last_in m2 pid None (seen m2.bodies pid)) None spent) refl (omega (arith, many)) stands;
     }

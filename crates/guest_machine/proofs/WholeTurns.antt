@@ -34,18 +34,13 @@ pub stops-call : (s s2 : State) (pid n : ℕ) (stood : Stood) → IsReal s → O
 stops-call s s2 pid n stood real ran is =
     let m = real.machine in
     let r = ran m real.stands in
-    stands-everywhere s2 (after_steps m (plains n pid m)) pid Call r.stands (stops-at stood.outcome stood.ran n (after_steps m (plains n pid m)) pid is r.stops)
+    stands-everywhere s2 (after_steps m (plains stood.ran pid m)) pid Call r.stands (stops-at stood.outcome stood.ran n (after_steps m (plains stood.ran pid m)) pid is r.stops)
 
 pub stops-end : (s s2 : State) (pid n : ℕ) (stood : Stood) (status : ℕ) → IsReal s → OfEach s (λ m. RanPlain m pid n stood s2) → stood.outcome ≡ outcome.End status → OfEach s2 (λ m. StandsAt m pid (End status))
 stops-end s s2 pid n stood status real ran is =
     let m = real.machine in
     let r = ran m real.stands in
-    stands-everywhere s2 (after_steps m (plains n pid m)) pid (End status) r.stands (ends-at stood.outcome stood.ran n (after_steps m (plains n pid m)) pid status is r.stops)
-
-pub stops-no_memory : (s s2 : State) (pid n : ℕ) (stood : Stood) → IsReal s → OfEach s (λ m. RanPlain m pid n stood s2) → stood.outcome ≡ outcome.NoMemory → ⊥
-stops-no_memory s s2 pid n stood real ran is =
-    let m = real.machine in
-    subst (λ (o : Outcome). StopsAt o stood.ran n (after_steps m (plains n pid m)) pid) is (ran m real.stands).stops
+    stands-everywhere s2 (after_steps m (plains stood.ran pid m)) pid (End status) r.stands (ends-at stood.outcome stood.ran n (after_steps m (plains stood.ran pid m)) pid status is r.stops)
 
 -- who doesn't live sees nothing
 dead-sees : (s : State) (m : Machine) (pid : ℕ) → StandsFor s m → (IsLive s.guests pid → ⊥) → seen m.bodies pid ≡ None
@@ -69,7 +64,7 @@ take-whole parts answers asked asked' old s1 s2 new pid n delivery last stood co
     let v = sees old m pid stands live in
     let d = Delivers-in m pid v.0 delivery s1 v.1 (delivers m v.0 stands v.1) in
     let r = ran (delivered pid m) d.1 in
-    let f = finishes (after_steps (delivered pid m) (plains n pid (delivered pid m))) r.stands in
+    let f = finishes (after_steps (delivered pid m) (plains stood.ran pid (delivered pid m))) r.stands in
     let whole = took-whole parts answers asked asked' m pid n delivery last stood.outcome stood.ran s2 new d.0 r.many r.stands r.stops f in
     subst (λ (k : ℕ). let t : Turn = record { delivery = delivery; ran = stood.ran + k; last = last; cut = false } in TookWhole answers m pid n t asked asked' new) (sym counted) whole
 
@@ -80,4 +75,4 @@ take-part parts asked asked' old s1 s2 new pid n delivery stood live delivers ra
     let v = sees old m pid stands live in
     let d = Delivers-in m pid v.0 delivery s1 v.1 (delivers m v.0 stands v.1) in
     let r = ran (delivered pid m) d.1 in
-    took-part parts asked asked' m pid n stood.ran delivery new d.0 r.many within unasked (subst (λ (s : State). StandsFor s (after_steps (delivered pid m) (plains n pid (delivered pid m)))) (sym same) r.stands)
+    took-part parts asked asked' m pid n stood.ran delivery new d.0 r.many within unasked (subst (λ (s : State). StandsFor s (after_steps (delivered pid m) (plains stood.ran pid (delivered pid m)))) (sym same) r.stands)

@@ -30,18 +30,18 @@ pub record StandsAt (m : Machine) (pid : ℕ) (effect : Effect) : Type 0 where
   pub sees : seen m.bodies pid ≡ Some view
   pub is : stands_at view ≡ effect
 
--- where instructions end: as many ran as might, or the next one is a call or an end
+-- where instructions end: as many ran as might, or the next one is a call or an end, or fewer ran for want of memory
 abbrev pub StopsAt : Outcome → ℕ → ℕ → Machine → ℕ → Type 0
 StopsAt outcome.Next ran count m pid = ran ≡ count
 StopsAt outcome.Call ran count m pid = (ran < count) × StandsAt m pid Call
 StopsAt (outcome.End status) ran count m pid = (ran < count) × StandsAt m pid (End status)
-StopsAt outcome.NoMemory ran count m pid = ⊥
+StopsAt outcome.NoMemory ran count m pid = ran < count
 
 -- instructions of a process ran, and it stands behind them
 pub record RanPlain (m : Machine) (pid count : ℕ) (stood : Stood) (new : State) : Type 0 where
-  pub many : length (plains count pid m) ≡ stood.ran
-  pub stands : StandsFor new (after_steps m (plains count pid m))
-  pub stops : StopsAt stood.outcome stood.ran count (after_steps m (plains count pid m)) pid
+  pub many : length (plains stood.ran pid m) ≡ stood.ran
+  pub stands : StandsFor new (after_steps m (plains stood.ran pid m))
+  pub stops : StopsAt stood.outcome stood.ran count (after_steps m (plains stood.ran pid m)) pid
 
 -- the call or the end at which a process stands has happened, if it is ready, and this is the record
 pub record Happens {A : Type 0} (answers : A → Asked → Answered → A → Type 0) (m : Machine) (pid : ℕ) (entry : Option Record) (asked asked' : A) (new : State) : Type 0 where
@@ -58,7 +58,7 @@ Finishes (outcome.End status) answers m pid entry asked asked' old new = Happens
 Finishes outcome.NoMemory answers m pid entry asked asked' old new = ⊥
 
 -- A turn: the record of its delivery, how many instructions ran, and the record of a call or an end by fault, which is the last of them.
--- `cut` says that its call found no memory, and isn't of it.
+-- `cut` says that a store or its call found no memory, and isn't of it.
 pub record Turn : Type 0 where
   pub delivery : Option Record
   pub ran : ℕ

@@ -20,7 +20,7 @@ use rv64_core::Outcome;
 use std::sync::ledger::Ledger;
 
 /// What a turn did: how many instructions ran, and how many bytes its records are spelled by. `cut`
-/// says that its call found no memory, and isn't of it.
+/// says that a store or its call found no memory, and isn't of it.
 #[derive(Clone, Copy, Debug)]
 pub struct Taken {
     pub ran: u32,
@@ -116,7 +116,8 @@ fn end(kernel: &mut Kernel, pid: u32, status: u8) -> Record
     Record::End { pid, status }
 }
 
-// Finishes a turn where its instructions ended, and answers the record of what happened.
+// Finishes a turn where its instructions ended, and answers the record of what happened. A store that
+// found no memory is no part of it.
 fn finish<A: Answers>(
     kernel: &mut Kernel,
     pid: u32,
@@ -129,7 +130,6 @@ fn finish<A: Answers>(
     requires at_call { outcome ≡ Outcome.Call → OfEach kernel.old (λ m. StandsAt m pid Call) }
     requires at_end { (status : ℕ) → outcome ≡ Outcome.End status →
         OfEach kernel.old (λ m. StandsAt m pid (End status)) }
-    requires memory { outcome ≢ Outcome.NoMemory }
     ensures finishes { IfOk result (λ entry. OfEach kernel.old (λ m.
         Finishes outcome A.answers m pid entry answers.old answers.new kernel.old kernel.new)) }
     ensures spelled { IfOk result (λ entry. IfSome entry HasSpelling) }
@@ -144,7 +144,7 @@ fn finish<A: Answers>(
         Outcome::Next => Ok(None),
         Outcome::Call => call(kernel, pid, answers),
         Outcome::End(status) => Ok(Some(end(kernel, pid, status))),
-        Outcome::NoMemory => unreachable!(),
+        Outcome::NoMemory => Err(NoMemory),
     }
 }
 

@@ -8,8 +8,8 @@ use Rattle.parts_model.specs.Memory.{windows}
 
 -- the windows that a view shows
 abbrev pub view_windows : View → List Window
-view_windows view = windows view.space.now (option_copied_mut view.segment)
+view_windows view = windows view.space.now.bytes (option_copied_mut view.segment)
 
 -- the windows that a view with a segment shows
 abbrev pub both_windows : SharedView → List Window
-both_windows view = windows view.space.now (Some view.segment.now)
+both_windows view = windows view.space.now.bytes (Some view.segment.now)

@@ -28,7 +28,7 @@ fn is_block_used(block: &Block) -> bool
     block.bytes.iter().any(|byte| *byte != 0)
 }
 
-fn push_if_used(blocks: &mut Blocks, block: Block) -> Result<(), NoMemory>
+pub fn push_if_used(blocks: &mut Blocks, block: Block) -> Result<(), NoMemory>
     ensures ok { OnOk result (blocks.new ≡ blocks.old ++ used_block block) }
 {
     if is_block_used(&block) {

@@ -15,15 +15,24 @@ pub struct Extent {
 }
 
 impl Extent {
+    /// The place of an address. The difference wraps: an address before the window gives a place behind its end.
+    #[inline(always)]
+    pub fn offset(self, at: u64) -> u64
+        requires { self.from + self.len < 2 ^ 64 }
+        ensures near { result ≤ self.len → at ≡ self.from + result }
+        ensures behind { self.from ≤ at → at ≡ self.from + result }
+    {
+        at.wrapping_sub(self.from)
+    }
+
     /// The place of a range among the window's bytes.
     #[inline(always)]
-    fn place(self, at: u64, len: u64) -> Result<usize, BadAddress>
+    pub fn place(self, at: u64, len: u64) -> Result<usize, BadAddress>
         requires { self.from + self.len < 2 ^ 64 }
         ensures whole { IsOk result ↔ ((self.from ≤ at) × (at + len ≤ self.from + self.len)) }
         ensures place { IfOk result (λ place. at ≡ self.from + place) }
     {
-        // The difference wraps: an address before the window gives a place behind its end.
-        let place = at.wrapping_sub(self.from);
+        let place = self.offset(at);
         if len > self.len || place > self.len - len {
             return Err(BadAddress);
         }

@@ -1,5 +1,5 @@
 // The bytes of a segment, which processes share.
-ghost use Rattle.std.specs.Prelude.{◌≡◌, ◌≢◌, ◌↔◌, false, length, IfOk, OnOk, OnErr, IsErr, IsNone, Some, Err, option_copied};
+ghost use Rattle.std.specs.Prelude.{◌≡◌, ◌≢◌, ◌↔◌, false, length, IfOk, OnOk, OnErr, IsErr, IsNone, Some, Err, option_copied, option_map, take};
 ghost use Rattle.std.specs.Result.{result_ok};
 ghost use Rattle.arn_base.specs.Window.{bytes_at, with_bytes};
 ghost use Rattle.parts_model.specs.Blocks.{blocks_of};
@@ -7,9 +7,10 @@ ghost use Rattle.parts_model.specs.Memory.{zeros, segment_window};
 
 use crate::blocks::used_blocks;
 use crate::extent::Extent;
-use arn_base::{BadAddress, Blocks, Memory, NoMemory, StoreError};
+use arn_base::{BadAddress, Blocks, Bytes, Memory, NoMemory, StoreError};
 use parts_model::limits::{SEGMENT_LEN, SEGMENT_START};
 use std::alloc::Global;
+use std::cmp::min;
 use std::marker::Model;
 
 const SHARED: Extent = Extent {
@@ -70,6 +71,21 @@ impl Segment {
     {
         buf.copy_from_slice(self.slice(at, buf.len() as u64)?);
         Ok(())
+    }
+
+    /// A copy of the first bytes of a range of addresses, where it lies whole in the shared window.
+    pub fn first_of(&self, at: u64, len: u64, first: u64) -> Result<Option<Bytes>, NoMemory>
+        ensures { IfOk result (λ copy. copy ≡
+            option_map (take first) (bytes_at (segment_window self.now) at len)) }
+    {
+        match self.slice(at, len) {
+            Ok(bytes) => {
+                let few = min(first as usize, bytes.len());
+                let copy = Bytes::from_slice(*self.bytes.allocator(), &bytes[..few])?;
+                Ok(Some(copy))
+            }
+            Err(BadAddress) => Ok(None),
+        }
     }
 
     /// Writes bytes at an address in the shared window. It takes no memory.

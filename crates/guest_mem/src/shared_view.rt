@@ -1,10 +1,13 @@
 // What a process that holds a segment sees of its memory.
-ghost use Rattle.std.specs.Prelude.{◌≡◌, ◌≢◌, ◌↔◌, false, length, OnOk, OnErr, IsErr, IsNone, IsSome, IsTrue, Some, Err};
+ghost use Rattle.std.specs.Prelude.{◌≡◌, ◌↔◌, ◌-◌, not, length, OnOk, OnErr, IsErr, IsNone, IsSome, IsTrue, Some, Err};
+ghost use Rattle.std.specs.List.{list_any};
 ghost use Rattle.arn_base.specs.Window.{bytes_at, with_bytes, bytes_of, IsAccessLength};
 ghost use Rattle.guest_mem.specs.View.{both_windows};
+ghost use Rattle.guest_mem.specs.Pages.{Lacks};
 
 use crate::{Segment, Space};
 use arn_base::{BadAddress, Memory, StoreError};
+use parts_model::limits::WINDOW_START;
 
 /// What a process that holds a segment sees: its private window and the shared window. One that holds none sees its
 /// `Space` alone.
@@ -28,13 +31,14 @@ impl SharedView<'_> {
         }
     }
 
-    /// Writes bytes at an address. It takes no memory.
+    /// Writes bytes at an address. It takes memory only where a page of the private window isn't own.
     pub fn write_from(&mut self, at: u64, bytes: &[u8]) -> Result<(), StoreError>
         ensures ok { OnOk result
             (both_windows self.new ≡ with_bytes (both_windows self.old) at bytes.now) }
         ensures bad_address { (result ≡ Err StoreError.BadAddress) ↔
             IsNone (bytes_at (both_windows self.old) at (length bytes.now)) }
-        ensures memory { result ≢ Err StoreError.NoMemory }
+        ensures lacks { (result ≡ Err StoreError.NoMemory) →
+            Lacks (at - WINDOW_START) (length bytes.now) self.old.space.now.own }
         ensures err { OnErr result (both_windows self.new ≡ both_windows self.old) }
 
         ensures same_space { self.new.space.ghost_name ≡ self.old.space.ghost_name }
@@ -50,7 +54,7 @@ impl SharedView<'_> {
 impl Memory for SharedView<'_> {
     ghost windows = { both_windows };
 
-    ghost wants_memory = { λ m. false };
+    ghost wants_memory = { λ view. list_any not view.space.now.own };
 
     fn load(&self, at: u64, len: u8) -> Result<u64, BadAddress> {
         match self.space.load(at, len) {
@@ -69,7 +73,10 @@ impl Memory for SharedView<'_> {
 
         ensures bad_address { (result ≡ Err StoreError.BadAddress) ↔
             IsNone (bytes_at (both_windows self.old) at len) }
-        ensures no_memory { (result ≡ Err StoreError.NoMemory) → IsTrue false }
+        ensures no_memory { (result ≡ Err StoreError.NoMemory) →
+            IsTrue (list_any not self.old.space.now.own) }
+        ensures lacks { (result ≡ Err StoreError.NoMemory) →
+            Lacks (at - WINDOW_START) len self.old.space.now.own }
         ensures err { OnErr result (both_windows self.new ≡ both_windows self.old) }
 
         ensures same_space { self.new.space.ghost_name ≡ self.old.space.ghost_name }

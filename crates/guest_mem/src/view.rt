@@ -1,11 +1,14 @@
 // What one process sees of its memory.
-ghost use Rattle.std.specs.Prelude.{◌≡◌, ◌≢◌, ◌↔◌, false, length, OnOk, OnErr, IsErr, IsNone, IsSome, IsTrue, Some, Err};
+ghost use Rattle.std.specs.Prelude.{◌≡◌, ◌↔◌, ◌-◌, not, length, OnOk, OnErr, IsErr, IsNone, IsSome, IsTrue, Some, Err};
 ghost use Rattle.std.specs.Option.{ghost_name_of};
+ghost use Rattle.std.specs.List.{list_any};
 ghost use Rattle.arn_base.specs.Window.{bytes_at, with_bytes, bytes_of, IsAccessLength};
 ghost use Rattle.guest_mem.specs.View.{view_windows};
+ghost use Rattle.guest_mem.specs.Pages.{Lacks};
 
 use crate::{Segment, Space};
 use arn_base::{BadAddress, Memory, StoreError};
+use parts_model::limits::WINDOW_START;
 
 /// What one process sees: its private window and, where it holds a segment, the shared window.
 #[derive(Drop)]
@@ -41,13 +44,14 @@ impl View<'_> {
         }
     }
 
-    /// Writes bytes at an address. It takes no memory.
+    /// Writes bytes at an address. It takes memory only where a page of the private window isn't own.
     pub fn write_from(&mut self, at: u64, bytes: &[u8]) -> Result<(), StoreError>
         ensures ok { OnOk result
             (view_windows self.new ≡ with_bytes (view_windows self.old) at bytes.now) }
         ensures bad_address { (result ≡ Err StoreError.BadAddress) ↔
             IsNone (bytes_at (view_windows self.old) at (length bytes.now)) }
-        ensures memory { result ≢ Err StoreError.NoMemory }
+        ensures lacks { (result ≡ Err StoreError.NoMemory) →
+            Lacks (at - WINDOW_START) (length bytes.now) self.old.space.now.own }
         ensures err { OnErr result (view_windows self.new ≡ view_windows self.old) }
 
         ensures same_space { self.new.space.ghost_name ≡ self.old.space.ghost_name }
@@ -63,7 +67,7 @@ impl View<'_> {
 impl Memory for View<'_> {
     ghost windows = { view_windows };
 
-    ghost wants_memory = { λ m. false };
+    ghost wants_memory = { λ view. list_any not view.space.now.own };
 
     fn load(&self, at: u64, len: u8) -> Result<u64, BadAddress> {
         match (self.space.load(at, len), &self.segment) {
@@ -82,7 +86,10 @@ impl Memory for View<'_> {
 
         ensures bad_address { (result ≡ Err StoreError.BadAddress) ↔
             IsNone (bytes_at (view_windows self.old) at len) }
-        ensures no_memory { (result ≡ Err StoreError.NoMemory) → IsTrue false }
+        ensures no_memory { (result ≡ Err StoreError.NoMemory) →
+            IsTrue (list_any not self.old.space.now.own) }
+        ensures lacks { (result ≡ Err StoreError.NoMemory) →
+            Lacks (at - WINDOW_START) len self.old.space.now.own }
         ensures err { OnErr result (view_windows self.new ≡ view_windows self.old) }
 
         ensures same_space { self.new.space.ghost_name ≡ self.old.space.ghost_name }

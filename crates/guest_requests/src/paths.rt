@@ -17,7 +17,6 @@ use guest_bodies::Bodies;
 use guest_image::parse;
 use parts_model::limits::MOST_NAME_BYTES;
 use parts_model::refusals::{BAD_ADDRESS, BAD_ARGUMENT};
-use std::alloc::Global;
 
 // Whether a path is no name by its length.
 fn isnt_path_len(len: u64) -> bool
@@ -42,14 +41,14 @@ pub fn path_refusal(bodies: &Bodies, pid: u32, at: u64, len: u64, is_bad: bool) 
     if isnt_path_len(len) || is_bad {
         return Some(error(BAD_ARGUMENT));
     }
-    if bodies.bytes(pid, at, len).is_none() {
+    if !bodies.can_reach(pid, at, len) {
         return Some(error(BAD_ADDRESS));
     }
     None
 }
 
 /// The path at an address of a process.
-pub fn path(alloc: Global, bodies: &Bodies, pid: u32, at: u64, len: u64) -> Result<Bytes, NoMemory>
+pub fn path(bodies: &Bodies, pid: u32, at: u64, len: u64) -> Result<Bytes, NoMemory>
     requires live { IsLive bodies.now pid }
     requires reach { IfSome (seen_in bodies.now pid) (λ v. IsSome (bytes_in v at len)) }
     requires len { isnt_path_len len ≡ false }
@@ -57,7 +56,7 @@ pub fn path(alloc: Global, bodies: &Bodies, pid: u32, at: u64, len: u64) -> Resu
         IfSome (seen_in bodies.now pid) (λ v. path ≡ path_of v at len)) }
     ensures name { IfOk result (λ path. IsTrue (is_name path)) }
 {
-    copy_of(alloc, bodies, pid, at, len)
+    copy_of(bodies, pid, at, len)
 }
 
 /// Whether bytes are an image.

@@ -13,7 +13,6 @@ use arn_base::{Bytes, NoMemory};
 use guest_bodies::Bodies;
 use parts_model::limits::MOST_TRANSFER;
 use parts_model::refusals::BAD_ADDRESS;
-use std::alloc::Global;
 
 /// How many bytes a transfer moves at most, or its result where it moves none.
 pub(crate) fn moving(bodies: &Bodies, pid: u32, at: u64, count: u64) -> Result<u64, u64>
@@ -29,7 +28,7 @@ pub(crate) fn moving(bodies: &Bodies, pid: u32, at: u64, count: u64) -> Result<u
         return Err(0);
     }
     let most = count.min(MOST_TRANSFER);
-    if bodies.bytes(pid, at, most).is_none() {
+    if !bodies.can_reach(pid, at, most) {
         return Err(error(BAD_ADDRESS));
     }
     Ok(most)
@@ -41,32 +40,25 @@ pub fn lacks_block(bodies: &Bodies, pid: u32, block: u64, len: u64) -> bool
     ensures { IfSome (seen_in bodies.now pid) (λ v.
         result ≡ (nat_lt 0 len && not (can_reach v block len))) }
 {
-    len > 0 && bodies.bytes(pid, block, len).is_none()
+    len > 0 && !bodies.can_reach(pid, block, len)
 }
 
 /// The bytes of a process, where they lie whole in one window.
-pub fn copy_of(
-    alloc: Global,
-    bodies: &Bodies,
-    pid: u32,
-    at: u64,
-    count: u64,
-) -> Result<Bytes, NoMemory>
+pub fn copy_of(bodies: &Bodies, pid: u32, at: u64, count: u64) -> Result<Bytes, NoMemory>
     requires live { IsLive bodies.now pid }
     requires reach { IfSome (seen_in bodies.now pid) (λ v. IsSome (bytes_in v at count)) }
     ensures read { IfOk result (λ bytes.
         IfSome (seen_in bodies.now pid) (λ v. bytes ≡ read v at count)) }
     ensures count { IfOk result (λ bytes. length bytes ≡ count) }
 {
-    match bodies.bytes(pid, at, count) {
-        Some(bytes) => Bytes::from_slice(alloc, bytes),
+    match bodies.copy(pid, at, count)? {
+        Some(bytes) => Ok(bytes),
         None => unreachable!(),
     }
 }
 
 /// The first bytes of a range of a process.
 pub fn first_of(
-    alloc: Global,
     bodies: &Bodies,
     pid: u32,
     at: u64,
@@ -81,8 +73,8 @@ pub fn first_of(
     ensures count { IfOk result (λ bytes. length bytes ≡ first) }
     ensures whole { IfSome (seen_in bodies.now pid) (λ v. length (read v at count) ≡ count) }
 {
-    match bodies.bytes(pid, at, count) {
-        Some(bytes) => Bytes::from_slice(alloc, &bytes[..first as usize]),
+    match bodies.first_of(pid, at, count, first)? {
+        Some(bytes) => Ok(bytes),
         None => unreachable!(),
     }
 }

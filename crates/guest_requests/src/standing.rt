@@ -6,6 +6,7 @@ ghost use Rattle.acts_model.specs.Views.{stands_at};
 ghost use Rattle.guest_bodies.specs.Shown.{IsLive, seen_in};
 ghost use Rattle.guest_requests.specs.Standing.{is_call, is_call_instr};
 
+use arn_base::BadAddress;
 use guest_bodies::Bodies;
 use rv64_isa::{Instr, decode};
 
@@ -14,9 +15,10 @@ pub(crate) fn is_at_call(bodies: &Bodies, pid: u32) -> bool
     requires { IsLive bodies.now pid }
     ensures { IfSome (seen_in bodies.now pid) (λ v. result ≡ is_call (stands_at v)) }
 {
-    match bodies.bytes(pid, bodies.cpu(pid).pc, 4) {
-        Some(bytes) => is_call_word(bytes),
-        None => false,
+    let mut word = [0; 4];
+    match bodies.read_into(pid, bodies.cpu(pid).pc, &mut word) {
+        Ok(()) => is_call_word(&word),
+        Err(BadAddress) => false,
     }
 }
 

@@ -65,11 +65,7 @@ impl<'a> Tables<'a> {
         ensures lowest { IsLowest goes_on self.now.kernel.processes pid →
             IsLowest result self.now.kernel.processes pid }
     {
-        if self
-            .bodies
-            .bytes(pid, argument(self.bodies, pid, 0), 1)
-            .is_none()
-        {
+        if !self.bodies.can_reach(pid, argument(self.bodies, pid, 0), 1) {
             return Waiting::Answers {
                 answer: error(BAD_ADDRESS),
             };

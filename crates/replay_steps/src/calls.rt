@@ -1,7 +1,7 @@
 // What calls do to processes, as their records tell.
 ghost use Rattle.std.specs.Prelude.{◌≡◌, ℕ, OnOk, None};
 ghost use Rattle.arn_base.specs.declared.records.Extra.{Extra};
-ghost use Rattle.acts_model.specs.Acts.{done};
+ghost use Rattle.acts_model.specs.Acts.{Receives, done};
 ghost use Rattle.acts_model.specs.Disagreement as disagreement;
 ghost use Rattle.acts_model.specs.Told as told;
 ghost use Rattle.acts_model.specs.Told.{call_act, exec_act, fork_act, read_act, wait_act, write_act};
@@ -65,32 +65,55 @@ fn exec(
     bodies.starts(pid, event, give.bytes.as_slice(), at, len)
 }
 
-fn wait(bodies: &mut Bodies, pid: u32, answer: u64, extra: &Extra)
+fn receive(
+    bodies: &mut Bodies,
+    pid: u32,
+    at: u64,
+    bytes: &[u8],
+    answer: u64,
+) -> Result<(), NoMemory>
     requires live { IsLive bodies.old pid }
-    ensures done { (event : ℕ) → OfSeen bodies.old pid (λ v.
-        Follows bodies.old (done pid event (wait_act v.body.cpu answer extra.now)) bodies.new) }
-    ensures lives { KeepsLives bodies.old bodies.new }
+    ensures done { (event : ℕ) → OnOk result
+        (Follows bodies.old (done pid event (Receives at bytes.now answer)) bodies.new) }
+    ensures lives { OnOk result (KeepsLives bodies.old bodies.new) }
+{
+    let spare = bodies.spare(bytes.len() as u64)?;
+    bodies.receives(pid, at, bytes, answer, spare);
+    Ok(())
+}
+
+fn wait(bodies: &mut Bodies, pid: u32, answer: u64, extra: &Extra) -> Result<(), NoMemory>
+    requires live { IsLive bodies.old pid }
+    ensures done { (event : ℕ) → OfSeen bodies.old pid (λ v. OnOk result
+        (Follows bodies.old (done pid event (wait_act v.body.cpu answer extra.now)) bodies.new)) }
+    ensures lives { OnOk result (KeepsLives bodies.old bodies.new) }
 {
     match extra {
         Extra::Give(give) => {
             let at = argument(bodies.cpu(pid), 0);
-            bodies.receives(pid, at, give.bytes.as_slice(), answer);
+            receive(bodies, pid, at, give.bytes.as_slice(), answer)
         }
-        _ => bodies.returns(pid, answer),
+        _ => {
+            bodies.returns(pid, answer);
+            Ok(())
+        }
     }
 }
 
-fn read(bodies: &mut Bodies, pid: u32, answer: u64, extra: &Extra)
+fn read(bodies: &mut Bodies, pid: u32, answer: u64, extra: &Extra) -> Result<(), NoMemory>
     requires live { IsLive bodies.old pid }
-    ensures done { (event : ℕ) → OfSeen bodies.old pid (λ v.
-        Follows bodies.old (done pid event (read_act v.body.cpu answer extra.now)) bodies.new) }
-    ensures lives { KeepsLives bodies.old bodies.new }
+    ensures done { (event : ℕ) → OfSeen bodies.old pid (λ v. OnOk result
+        (Follows bodies.old (done pid event (read_act v.body.cpu answer extra.now)) bodies.new)) }
+    ensures lives { OnOk result (KeepsLives bodies.old bodies.new) }
 {
     let at = argument(bodies.cpu(pid), 1);
     match extra {
-        Extra::Give(give) => bodies.receives(pid, at, give.bytes.as_slice(), answer),
-        Extra::Reply { bytes, .. } => bodies.receives(pid, at, bytes.as_slice(), answer),
-        _ => bodies.returns(pid, answer),
+        Extra::Give(give) => receive(bodies, pid, at, give.bytes.as_slice(), answer),
+        Extra::Reply { bytes, .. } => receive(bodies, pid, at, bytes.as_slice(), answer),
+        _ => {
+            bodies.returns(pid, answer);
+            Ok(())
+        }
     }
 }
 
@@ -145,9 +168,9 @@ pub fn call(
         CallKind::Exit => bodies.ends(pid),
         CallKind::Fork => return fork(bodies, pid, event, answer, extra),
         CallKind::Exec => return exec(bodies, pid, event, answer, extra),
-        CallKind::Wait => wait(bodies, pid, answer, extra),
+        CallKind::Wait => return wait(bodies, pid, answer, extra),
         CallKind::Sigreturn => leave(bodies, pid, answer),
-        CallKind::Read => read(bodies, pid, answer, extra),
+        CallKind::Read => return read(bodies, pid, answer, extra),
         CallKind::Shm => return share(bodies, pid, event, answer),
         CallKind::Write | CallKind::Other => bodies.returns(pid, answer),
     }

@@ -1,5 +1,5 @@
 // Events of a group's processes, as their records tell.
-ghost use Rattle.std.specs.Prelude.{◌≡◌, ◌+◌, ◌≤◌, ℕ, IfErr, IfSome, IsTrue, None, OnOk, option_and_then, option_map};
+ghost use Rattle.std.specs.Prelude.{◌≡◌, ◌+◌, ◌≤◌, ℕ, IfErr, IfOk, IfSome, IsTrue, None, OnOk, option_and_then, option_map};
 ghost use Rattle.arn_base.specs.declared.machine.Cpu.{Cpu};
 ghost use Rattle.acts_model.specs.Acts.{Act, done};
 ghost use Rattle.acts_model.specs.Disagreement.{wrong_with};
@@ -30,11 +30,11 @@ fn wrong<L: Ledger>(
     pid: u32,
     entry: &Record,
     steps: &mut Steps<L>,
-) -> Option<Finding>
+) -> Result<Option<Finding>, NoMemory>
     requires own { IsTrue (is_own entry.now) }
     requires live { IsLive bodies.old pid }
-    ensures wrong { OfSeen bodies.old pid (λ v.
-        option_map wrong_as result ≡ wrong_with v (stands_at v) entry.now) }
+    ensures wrong { IfOk result (λ wrong. OfSeen bodies.old pid (λ v.
+        option_map wrong_as wrong ≡ wrong_with v (stands_at v) entry.now)) }
     ensures same { bodies.new ≡ bodies.old }
     ensures counted { steps.new ≡ steps.old + if_ticked (is_call_or_end entry.now) }
 {
@@ -48,8 +48,8 @@ fn wrong<L: Ledger>(
             let prospect = bodies.next_instr(pid, steps);
             call_wrong(bodies, pid, prospect, *number, *result, extra)
         }
-        Record::End { status, .. } => end_wrong(bodies.next_instr(pid, steps), *status),
-        _ => None,
+        Record::End { status, .. } => Ok(end_wrong(bodies.next_instr(pid, steps), *status)),
+        _ => Ok(None),
     }
 }
 
@@ -152,7 +152,7 @@ pub fn happen<O: Observer, L: Ledger>(
     if !bodies.is_live(pid) {
         return Ok(());
     }
-    if let Some(finding) = wrong(bodies, pid, entry, steps) {
+    if let Some(finding) = wrong(bodies, pid, entry, steps)? {
         return Err(ReplayError::Disagrees(finding.at(event)));
     }
     tell(bodies, pid, event, entry, observer)?;

@@ -1,5 +1,5 @@
 // Where a record can't be what a process did.
-ghost use Rattle.std.specs.Prelude.{◌≡◌, ◌<◌, ℕ, length, option_map, option_copied};
+ghost use Rattle.std.specs.Prelude.{◌≡◌, ◌<◌, ℕ, IfOk, length, option_map};
 ghost use Rattle.acts_model.specs.Disagreement as disagreement;
 ghost use Rattle.acts_model.specs.Told as told;
 ghost use Rattle.acts_model.specs.Told.{call_act, exec_act, read_act, wait_act, write_act, is_pipe_write as is_pipe_write_of};
@@ -15,7 +15,7 @@ ghost use Rattle.replay_steps.specs.Kinds.{kind_as};
 
 use crate::Disagrees;
 use crate::kinds::{CallKind, kind_of};
-use arn_base::{Cpu, Extra};
+use arn_base::{Bytes, Cpu, Extra, NoMemory};
 use guest_bodies::Bodies;
 use guest_image::parse;
 use parts_model::limits::{MOST_BLOCK_BYTES, MOST_TRANSFER};
@@ -98,12 +98,11 @@ fn first_difference(said: &[u8], found: &[u8]) -> Option<Finding>
     None
 }
 
-fn differ_from(said: &[u8], found: Option<&[u8]>) -> Option<Finding>
-    ensures { option_map wrong_as result ≡
-        disagreement.differ_from said.now (option_copied found.entry) }
+fn differ_from(said: &[u8], found: &Option<Bytes>) -> Option<Finding>
+    ensures { option_map wrong_as result ≡ disagreement.differ_from said.now found.now }
 {
     match found {
-        Some(found) => first_difference(said, found),
+        Some(found) => first_difference(said, found.as_slice()),
         None => {
             let first = said.first()?;
             Some(Finding {
@@ -119,7 +118,7 @@ fn is_outside(bodies: &Bodies, pid: u32, at: u64, len: u64) -> bool
     ensures { OfSeen bodies.now pid (λ v.
         result ≡ disagreement.is_outside v at len) }
 {
-    len > 0 && bodies.bytes(pid, at, len).is_none()
+    len > 0 && !bodies.can_reach(pid, at, len)
 }
 
 fn unreached(bodies: &Bodies, pid: u32, at: u64, len: u64, said: u64) -> Option<Finding>
@@ -130,12 +129,18 @@ fn unreached(bodies: &Bodies, pid: u32, at: u64, len: u64, said: u64) -> Option<
     found_if(is_outside(bodies, pid, at, len), said, 0)
 }
 
-fn given_wrong(bodies: &Bodies, pid: u32, at: u64, bytes: &[u8]) -> Option<Finding>
+fn given_wrong(
+    bodies: &Bodies,
+    pid: u32,
+    at: u64,
+    bytes: &[u8],
+) -> Result<Option<Finding>, NoMemory>
     requires live { IsLive bodies.now pid }
-    ensures { OfSeen bodies.now pid (λ v. option_map wrong_as result ≡
-        disagreement.differ_from bytes.now (bytes_in v at (length bytes.now))) }
+    ensures { IfOk result (λ wrong. OfSeen bodies.now pid (λ v. option_map wrong_as wrong ≡
+        disagreement.differ_from bytes.now (bytes_in v at (length bytes.now)))) }
 {
-    differ_from(bytes, bodies.bytes(pid, at, bytes.len() as u64))
+    let found = bodies.copy(pid, at, bytes.len() as u64)?;
+    Ok(differ_from(bytes, &found))
 }
 
 fn isnt_block(bodies: &Bodies, pid: u32, at: u64, len: u64) -> bool
@@ -205,18 +210,25 @@ fn is_pipe_write(answer: u64) -> bool
     answer >= 1 && answer <= MOST_TRANSFER
 }
 
-fn write_wrong(bodies: &Bodies, pid: u32, answer: u64, extra: &Extra) -> Option<Finding>
+fn write_wrong(
+    bodies: &Bodies,
+    pid: u32,
+    answer: u64,
+    extra: &Extra,
+) -> Result<Option<Finding>, NoMemory>
     requires live { IsLive bodies.now pid }
-    ensures { OfSeen bodies.now pid (λ v. option_map wrong_as result ≡
-        disagreement.act_wrong v (write_act v.body.cpu answer extra.now) extra.now) }
+    ensures { IfOk result (λ wrong. OfSeen bodies.now pid (λ v. option_map wrong_as wrong ≡
+        disagreement.act_wrong v (write_act v.body.cpu answer extra.now) extra.now)) }
 {
     let at = argument(bodies.cpu(pid), 1);
     match extra {
         Extra::Put { bytes, .. } | Extra::Console { bytes } | Extra::Sent { bytes, .. } => {
             given_wrong(bodies, pid, at, bytes.as_slice())
         }
-        Extra::Nothing if is_pipe_write(answer) => unreached(bodies, pid, at, answer, answer),
-        _ => None,
+        Extra::Nothing if is_pipe_write(answer) => {
+            Ok(unreached(bodies, pid, at, answer, answer))
+        }
+        _ => Ok(None),
     }
 }
 
@@ -236,19 +248,20 @@ fn act_wrong(
     kind: CallKind,
     answer: u64,
     extra: &Extra,
-) -> Option<Finding>
+) -> Result<Option<Finding>, NoMemory>
     requires live { IsLive bodies.now pid }
-    ensures { OfSeen bodies.now pid (λ v. option_map wrong_as result ≡ disagreement.act_wrong
-        v (call_act (kind_as kind) v.body.cpu answer extra.now) extra.now) }
+    ensures { IfOk result (λ wrong. OfSeen bodies.now pid (λ v. option_map wrong_as wrong ≡
+        disagreement.act_wrong v (call_act (kind_as kind) v.body.cpu answer extra.now)
+        extra.now)) }
 {
-    match kind {
+    Ok(match kind {
         CallKind::Exec => exec_wrong(bodies, pid, extra),
         CallKind::Wait => wait_wrong(bodies, pid, extra),
         CallKind::Sigreturn => leave_wrong(bodies, pid, answer),
         CallKind::Read => read_wrong(bodies, pid, extra),
-        CallKind::Write => write_wrong(bodies, pid, answer, extra),
+        CallKind::Write => write_wrong(bodies, pid, answer, extra)?,
         CallKind::Exit | CallKind::Fork | CallKind::Shm | CallKind::Other => None,
-    }
+    })
 }
 
 /// What is wrong with a call's record: where the process stands, or what its act can't do.
@@ -259,18 +272,18 @@ pub fn call_wrong(
     number: u64,
     answer: u64,
     extra: &Extra,
-) -> Option<Finding>
+) -> Result<Option<Finding>, NoMemory>
     requires live { IsLive bodies.now pid }
-    ensures { OfSeen bodies.now pid (λ v. (effect : Effect) →
+    ensures { IfOk result (λ wrong. OfSeen bodies.now pid (λ v. (effect : Effect) →
         Foretells prospect v.body.cpu effect →
-        option_map wrong_as result ≡
-        disagreement.call_wrong v effect number answer extra.now) }
+        option_map wrong_as wrong ≡
+        disagreement.call_wrong v effect number answer extra.now)) }
 {
     if let Some(finding) = isnt_call(prospect, number) {
-        return Some(finding);
+        return Ok(Some(finding));
     }
     if let Some(finding) = is_other_call(bodies.cpu(pid), number) {
-        return Some(finding);
+        return Ok(Some(finding));
     }
     act_wrong(bodies, pid, kind_of(number), answer, extra)
 }

@@ -1,5 +1,5 @@
 // What a replay makes of a group.
-ghost use Rattle.std.specs.Prelude.{◌≡◌, ◌+◌, ◌≤◌, IfErr, IfOk, None, OnErr, OnOk, Some, filter, is_some, length, option_and_then, option_copied, option_map};
+ghost use Rattle.std.specs.Prelude.{◌≡◌, ◌+◌, ◌≤◌, IfErr, IfOk, None, OnErr, OnOk, Some, filter, is_some, length, option_and_then, option_map};
 ghost use Rattle.parts_model.specs.Numbered.{nth};
 ghost use Rattle.acts_model.specs.Views.{bytes_in};
 ghost use Rattle.guest_bodies.specs.Shown.{seen_in};
@@ -69,17 +69,6 @@ impl GroupState {
         state_of(*self.live.allocator(), &self.bodies, self.live.as_slice())
     }
 
-    // The bytes at an address of a member, where they lie whole in one window.
-    fn bytes(&self, pid: u32, at: u64, len: u64) -> Option<&[u8]>
-        ensures { option_copied result ≡
-            option_and_then (λ v. bytes_in v at len) (seen_in self.now pid) }
-    {
-        if !self.bodies.is_live(pid) {
-            return None;
-        }
-        self.bodies.bytes(pid, at, len)
-    }
-
     /// Copies the bytes at an address of a member, where they lie whole in one of its windows.
     pub fn read_into(&self, pid: u32, at: u64, buf: &mut [u8]) -> Result<(), BadAddress>
         ensures ok { OnOk result (option_and_then (λ v. bytes_in v at (length buf.old))
@@ -88,13 +77,10 @@ impl GroupState {
             (seen_in self.now pid) ≡ None) }
         ensures same { OnErr result (buf.new ≡ buf.old) }
     {
-        match self.bytes(pid, at, buf.len() as u64) {
-            Some(bytes) => {
-                buf.copy_from_slice(bytes);
-                Ok(())
-            }
-            None => Err(BadAddress),
+        if !self.bodies.is_live(pid) {
+            return Err(BadAddress);
         }
+        self.bodies.read_into(pid, at, buf)
     }
 }
 

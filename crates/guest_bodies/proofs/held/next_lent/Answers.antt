@@ -23,7 +23,7 @@ returns-clause-effect g c =
     let segs = c.args.segments.now.items in
     let stood : instruction c.lend.new.guest.cpu (windows_of c.lend.new.guest.memory) ≡ stands_at (view_of segs c.args.guest.now) =
     ap (λ (x : Guest). instruction x.cpu (windows_of x.memory)) c.lend.ensures.guest
-    ∙ ap (λ (x : Option (List ℕ)). instruction c.args.guest.now.cpu (windows c.args.guest.now.memory.space x)) (sym (lent-seen segs o c.requires)) in
+    ∙ ap (λ (x : Option (List ℕ)). instruction c.args.guest.now.cpu (windows c.args.guest.now.memory.space.bytes x)) (sym (lent-seen segs o c.requires)) in
     let cpu : c.lend.new.guest.cpu ≡ c.args.guest.now.cpu = ap (λ (x : Guest). x.cpu) c.lend.ensures.guest in
     subst (λ (k : Cpu). Foretells c.next_instr-prospect.result k (stands_at (view_of segs c.args.guest.now))) cpu
     (subst (λ (e : Effect). Foretells c.next_instr-prospect.result c.lend.new.guest.cpu e) stood c.next_instr-prospect.ensures.effect)

@@ -19,7 +19,7 @@ segs_is g c = c.take_back.ensures.segments ∙ ap₂ (λ (o : Option Shared) (l 
 
 stop_is : (g : Over) (c : After-take_back g) → is_some c.step-outcome.new.mem.segment ≡ is_some (lent c.args.segments.now.items c.args.guest.now.segment)
 stop_is g c =
-    windows-some c.step-outcome.new.mem.space c.args.guest.now.memory.space c.step-outcome.new.mem.segment (lent c.args.segments.now.items c.args.guest.now.segment)
+    windows-some c.step-outcome.new.mem.space.bytes c.args.guest.now.memory.space.bytes c.step-outcome.new.mem.segment (lent c.args.segments.now.items c.args.guest.now.segment)
     (told-leaves c.step-outcome.result c.lend.new.guest.cpu c.step-outcome.new.cpu (windows_of c.lend.new.guest.memory) (windows_of c.step-outcome.new.mem) c.step-outcome.ensures.effect c.step-outcome.ensures.memory
     ∙ ap (λ (x : Guest). length (windows_of x.memory)) c.lend.ensures.guest)
 
@@ -30,11 +30,11 @@ returns-clause-effect g c =
     let segs = c.args.segments.now.items in
     let stood : instruction c.lend.new.guest.cpu (windows_of c.lend.new.guest.memory) ≡ stands_at (view_of segs c.args.guest.now) =
     ap (λ (x : Guest). instruction x.cpu (windows_of x.memory)) c.lend.ensures.guest
-    ∙ ap (λ (x : Option (List ℕ)). instruction c.args.guest.now.cpu (windows c.args.guest.now.memory.space x)) (sym (lent-seen segs o c.requires)) in
+    ∙ ap (λ (x : Option (List ℕ)). instruction c.args.guest.now.cpu (windows c.args.guest.now.memory.space.bytes x)) (sym (lent-seen segs o c.requires)) in
     let after : reach (view_of c.take_back.new.segments.items c.take_back.new.guest) ≡ windows_of c.step-outcome.new.mem =
     ap (λ (x : Guest). reach (view_of c.take_back.new.segments.items x)) c.take_back.ensures.guest
-    ∙ (ap₂ (λ (l : Segments) (q : Option Shared). windows c.step-outcome.new.mem.space (option_map (λ (made : ℕ). held_bytes l q) (option_map (λ (s : Shared). s.made) q))) (segs_is g c) (ap (λ (x : Guest). x.segment) c.lend.ensures.guest)
-    ∙ ap (windows c.step-outcome.new.mem.space) (back-seen segs o m c.requires (stop_is g c))) in
+    ∙ (ap₂ (λ (l : Segments) (q : Option Shared). windows c.step-outcome.new.mem.space.bytes (option_map (λ (made : ℕ). held_bytes l q) (option_map (λ (s : Shared). s.made) q))) (segs_is g c) (ap (λ (x : Guest). x.segment) c.lend.ensures.guest)
+    ∙ ap (windows c.step-outcome.new.mem.space.bytes) (back-seen segs o m c.requires (stop_is g c))) in
     let cpu : c.take_back.new.guest.cpu ≡ c.step-outcome.new.cpu = ap (λ (x : Guest). x.cpu) c.take_back.ensures.guest in
     subst (λ (e : Effect). Tells c.step-outcome.result e c.take_back.new.guest.cpu (reach (view_of c.take_back.new.segments.items c.take_back.new.guest))) stood
     (subst (λ (ws : List Window). Tells c.step-outcome.result (instruction c.lend.new.guest.cpu (windows_of c.lend.new.guest.memory)) c.take_back.new.guest.cpu ws) (sym after)
@@ -51,12 +51,12 @@ returns-clause-stop g c =
     let segs = c.args.segments.now.items in
     let lent_guest = c.lend.new.guest in
     OnStop-both c.step-outcome.result (λ (cpu : c.step-outcome.new.cpu ≡ lent_guest.cpu) (mem : windows_of c.step-outcome.new.mem ≡ windows_of lent_guest.memory).
-    let all : windows_of c.step-outcome.new.mem ≡ windows c.args.guest.now.memory.space (lent segs o) = mem ∙ ap (λ (x : Guest). windows_of x.memory) c.lend.ensures.guest in
+    let all : windows_of c.step-outcome.new.mem ≡ windows c.args.guest.now.memory.space.bytes (lent segs o) = mem ∙ ap (λ (x : Guest). windows_of x.memory) c.lend.ensures.guest in
     let same : c.take_back.new.segments.items ≡ segs =
-    segs_is g c ∙ (ap (λ (m : Option (List ℕ)). back o m segs) (windows-segment c.step-outcome.new.mem.space c.args.guest.now.memory.space c.step-outcome.new.mem.segment (lent segs o) all) ∙ back-same segs o c.requires) in
-    let space : c.step-outcome.new.mem.space ≡ lent_guest.memory.space = ap first_bytes mem in
+    segs_is g c ∙ (ap (λ (m : Option (List ℕ)). back o m segs) (windows-segment c.step-outcome.new.mem.space.bytes c.args.guest.now.memory.space.bytes c.step-outcome.new.mem.segment (lent segs o) all) ∙ back-same segs o c.requires) in
+    let space : c.step-outcome.new.mem.space.bytes ≡ lent_guest.memory.space.bytes = ap first_bytes mem in
     ap₂ view_of same c.take_back.ensures.guest
-    ∙ (ap₂ (λ (k : Cpu) (s : List ℕ). view_of segs (record lent_guest { cpu = k; memory = record lent_guest.memory { space = s } })) cpu space
+    ∙ (ap₂ (λ (k : Cpu) (s : List ℕ). record (view_of segs (record lent_guest { cpu = k })) { window = s }) cpu space
     ∙ ap (view_of segs) c.lend.ensures.guest))
     c.step-outcome.ensures.cpu c.step-outcome.ensures.memory
 
@@ -65,6 +65,6 @@ returns-clause-table g c =
     let o = c.args.guest.now.segment in
     let segs = c.args.segments.now.items in
     OnStop-map c.step-outcome.result (λ (mem : windows_of c.step-outcome.new.mem ≡ windows_of c.lend.new.guest.memory).
-    let all : windows_of c.step-outcome.new.mem ≡ windows c.args.guest.now.memory.space (lent segs o) = mem ∙ ap (λ (x : Guest). windows_of x.memory) c.lend.ensures.guest in
-    segs_is g c ∙ (ap (λ (m : Option (List ℕ)). back o m segs) (windows-segment c.step-outcome.new.mem.space c.args.guest.now.memory.space c.step-outcome.new.mem.segment (lent segs o) all) ∙ back-same segs o c.requires))
+    let all : windows_of c.step-outcome.new.mem ≡ windows c.args.guest.now.memory.space.bytes (lent segs o) = mem ∙ ap (λ (x : Guest). windows_of x.memory) c.lend.ensures.guest in
+    segs_is g c ∙ (ap (λ (m : Option (List ℕ)). back o m segs) (windows-segment c.step-outcome.new.mem.space.bytes c.args.guest.now.memory.space.bytes c.step-outcome.new.mem.segment (lent segs o) all) ∙ back-same segs o c.requires))
     c.step-outcome.ensures.memory

@@ -7,6 +7,6 @@ use Rattle.guest_bodies.proofs.windows.window_of.Given as goal
 abbrev pub invariant-loop-block : goal.invariant-loop-block
 invariant-loop-block l =
     record {
-      laid : with_blocks (drop l.block-index l.blocks) l.space ≡ with_blocks l.blocks (zeros WINDOW_LEN);
-      size : length l.space ≡ WINDOW_LEN;
+      laid : with_blocks (drop l.block-index l.blocks) l.space.bytes ≡ with_blocks l.blocks (zeros WINDOW_LEN);
+      size : length l.space.bytes ≡ WINDOW_LEN;
     }

@@ -1,6 +1,6 @@
 use Rattle.std.proofs.Common.{rules, ◌+◌, ◌<◌, None, true, false, refl}
 use Rattle.guest_bodies.specs.Shown.{IsLive}
-use Rattle.guest_machine.proofs.WholeTurns.{stops-call, stops-end, stops-no_memory, take-dead, take-part, take-whole}
+use Rattle.guest_machine.proofs.WholeTurns.{stops-call, stops-end, take-dead, take-part, take-whole}
 use Rattle.guest_machine.proofs.turn.take_turn.Goals as goal
 
 pub returns-then-not-is_live-clause-takes : goal.returns-then-not-is_live-clause-takes
@@ -20,10 +20,6 @@ finish-requires-clause-at_call g c =
 pub finish-requires-clause-at_end : goal.finish-requires-clause-at_end
 finish-requires-clause-at_end g c status =
     stops-end c.deliver-delivery.new.kernel c.run_plain-stood.new.kernel c.args.pid c.args.count c.run_plain-stood.result status c.deliver-delivery.ensures.real c.run_plain-stood.ensures.ran
-
-pub finish-requires-clause-memory : goal.finish-requires-clause-memory
-finish-requires-clause-memory g c =
-    stops-no_memory c.deliver-delivery.new.kernel c.run_plain-stood.new.kernel c.args.pid c.args.count c.run_plain-stood.result c.deliver-delivery.ensures.real c.run_plain-stood.ensures.ran
 
 pub returns-in-Ok-clause-takes : goal.returns-in-Ok-clause-takes
 returns-in-Ok-clause-takes g c m stands =

@@ -19,7 +19,7 @@ invariant_of-self-2 c =
 pub returns-clause-follows : goal.returns-clause-follows
 returns-clause-follows c =
     let segs = c.self.inside.segments.items in
-    let space : c.in_ok-space.space ≡ with_blocks c.args.start.now.blocks (zeros WINDOW_LEN) = c.in_ok-space.ensures ∙ ap (λ (l : List Block). with_blocks l (zeros WINDOW_LEN)) c.as_slice.ensures in
+    let space : c.in_ok-space.space.bytes ≡ with_blocks c.args.start.now.blocks (zeros WINDOW_LEN) = c.in_ok-space.ensures ∙ ap (λ (l : List Block). with_blocks l (zeros WINDOW_LEN)) c.as_slice.ensures in
     let view : view_of segs c.begin.result ≡ child_view c.args.event (beginning_in c.args.start.now) None [] =
     ap (view_of segs) c.begin.ensures
     ∙ ap (λ (w : List ℕ). child_view c.args.event (record { cpu = c.args.start.now.cpu; slot = c.args.start.now.slot; window = w }) None []) space in

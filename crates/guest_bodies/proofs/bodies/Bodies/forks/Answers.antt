@@ -10,13 +10,13 @@ use Rattle.guest_bodies.proofs.bodies.Bodies.forks.Goals.{After-fork}
 pub fork-requires-clause-live : goal.fork-requires-clause-live
 fork-requires-clause-live c =
     ap (λ (o : Option Guest). is_some o) (c.make_room.ensures.same c.args.pid)
-    ∙ live-there c.args.self.now c.self.inside.guests.items c.self.inside.segments.items c.args.pid c.self.view_is c.requires.live
+    ∙ live-there c.args.self.now c.self.inside.guests.items c.self.inside.segments.items c.args.pid (c.self.view_is ∙ c.share_pages.ensures) c.requires.live
 
 borne : (c : After-fork) → Bears c.args.self.now c.self.inside.guests.items c.make_room.new.all.items c.fork.new.all.items c.self.inside.segments.items c.args.pid c.args.child c.args.event c.in-Some.parent c.in_ok-guest-in-Some.guest
 borne c =
-    let there = live-there c.args.self.now c.self.inside.guests.items c.self.inside.segments.items c.args.pid c.self.view_is c.requires.live in
+    let there = live-there c.args.self.now c.self.inside.guests.items c.self.inside.segments.items c.args.pid (c.self.view_is ∙ c.share_pages.ensures) c.requires.live in
     bears c.args.self.now c.self.inside.guests.items c.make_room.new.all.items c.fork.new.all.items c.self.inside.segments.items c.args.pid c.args.child c.args.event c.in-Some.parent c.in_ok-guest-in-Some.guest
-    c.self.view_is c.self.invariant.sound (nth-get_or c.self.inside.guests.items c.args.pid c.index.result.now there c.index.ensures ∙ c.in-Some.is) c.requires.dead c.requires.fresh
+    (c.self.view_is ∙ c.share_pages.ensures) c.self.invariant.sound (nth-get_or c.self.inside.guests.items c.args.pid c.index.result.now there c.index.ensures ∙ c.in-Some.is) c.requires.dead c.requires.fresh
     (record { same = c.make_room.ensures.same }) c.in_ok-make_room.ensures.room c.fork.ensures (ap (λ (g : Guest). g.made) c.in_ok-guest-in-Some.ensures)
 
 pub invariant_of-self-2 : goal.invariant_of-self-2

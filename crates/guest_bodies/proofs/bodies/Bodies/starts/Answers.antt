@@ -37,9 +37,9 @@ returns-clause-follows c =
     unseen (set c.self.inside.guests.items c.args.pid (Some c.starts-former.new.self)) c.self.inside.segments.items c.starts-former.result c.release.new.segments.items (c.release.ensures ∙ ap (λ (all : List (Option Guest)). released all c.starts-former.result c.self.inside.segments.items) c.deref.ensures.value)
     (λ (now : Guests). Follows c.args.self.now (done c.args.pid c.args.event (Starts c.args.file.now c.args.at c.args.len)) now)
     (subst (λ (x : Guest). Follows c.args.self.now (done c.args.pid c.args.event (Starts c.args.file.now c.args.at c.args.len)) (shown_all (set c.self.inside.guests.items c.args.pid (Some x)) c.self.inside.segments.items)) (sym c.starts-former.ensures.starts)
-    (starts-follows c.args.event c.in_ok-first-in-Some.first at c.requires.fresh c.args.file.now c.block-block.result.now c.args.at c.args.len
+    (starts-follows c.args.event c.in_ok-first-in-Some.first at c.requires.fresh c.args.file.now c.as_slice.result.now c.args.at c.args.len
     (record { cpu = c.in_ok-first-in-Some.ensures.cpu; space = c.in_ok-first-in-Some.ensures.space })
-    (c.block-block.ensures.bytes ∙ ap (λ (g : Guest). read (view_of c.self.inside.segments.items g) c.args.at c.args.len) (same_Some c.in-Some.guest c.in-Some-index_mut.guest (sym before.stands ∙ at.stands)))))
+    (c.as_slice.ensures ∙ c.in_ok-block-in-Some.ensures.bytes ∙ ap (λ (g : Guest). read (view_of c.self.inside.segments.items g) c.args.at c.args.len) (same_Some c.in-Some.guest c.in-Some-index_mut.guest (sym before.stands ∙ at.stands)))))
 
 pub returns-clause-watches : goal.returns-clause-watches
 returns-clause-watches c =

@@ -1,5 +1,5 @@
 use Rattle.bodies_tests.proofs.Lone.{first-live, first-fresh, first-alone}
-use Rattle.bodies_tests.proofs.bodies.begun.Goals as goal
+use Rattle.bodies_tests.proofs.bodies.begun_at.Goals as goal
 
 pub returns-clause-live : goal.returns-clause-live
 returns-clause-live c = first-live c.new-bodies.result c.begin.new.self _ c.new-bodies.ensures c.in_ok-begin.ensures.follows
