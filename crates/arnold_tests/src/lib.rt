@@ -4,6 +4,10 @@
 #[cfg(test)]
 mod full;
 #[cfg(test)]
+mod legs;
+#[cfg(test)]
+mod logs;
+#[cfg(test)]
 mod same;
 #[cfg(test)]
 mod statuses;

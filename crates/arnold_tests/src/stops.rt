@@ -1,23 +1,20 @@
 // Disks that fail at each call of a session in turn, and then at each call of the session that follows.
+use crate::logs::{
+    ASKED_PRINTS, TYPED_PRINTS, answer, assert_ends, count_first, disk_of, failing_disk,
+    first_lines, log_of,
+};
 use crate::same::assert_same;
-use crate::tests::{FILLS, TYPED, answer, assert_ends, count_first, disk_of, failing_disk, log_of};
+use crate::tests::TYPED;
+use arn_base::NoMemory;
 use arn_session::Status;
 use log_disk::FuseDisk;
 use log_store::Store;
+use std::alloc::Global;
 use std::process::Abort;
 use std::test::Fail;
 
-/// What is printed for `TYPED`.
-const TYPED_PRINTS: &str = "\
-    event 0\n\
-    event 1\n\
-    event 2\n\
-    out 4 1 616263\n\
-    ran 11 done\n\
-    pair 2 0 0\n\
-    pair 2 1 1\n\
-    pair 2 2 2\n\
-    back pairs 3 instructions 11 groups 1\n";
+/// What the bytes become that a stop may change: what is read there, or one of these.
+const FILLS: [Option<u8>; 4] = [None, Some(0), Some(1), Some(0xff)];
 
 /// A client sends what was typed to a server, which writes it to a file and to the console.
 const SERVED: &str = "\
@@ -137,7 +134,7 @@ fn count_left(
 }
 
 /// Each log that a crash of this disk can leave is a run's, with what was answered in so many lines, and
-/// stays so.
+/// stays so, and a session goes on with it.
 fn assert_crashes_hold(
     rt: &(impl Abort + AllocGlobal),
     disk: &FuseDisk,
@@ -150,10 +147,22 @@ fn assert_crashes_hold(
             let records = count_left(rt, left.as_slice(), whole, lines)?;
             let mut next = disk_of(rt.alloc(), left.as_slice())?;
             assert_ends(rt, &mut next, "verify\n", Status::Done, "verify run\n")?;
+            let ended = answer(rt.alloc(), &mut next, "run 0\n")?;
+            assert_same(rt, ended.status, Status::Done);
             assert_stays(rt, left.as_slice(), whole, records)?;
         }
     }
     Ok(())
+}
+
+/// How many calls of the disk the opening and three commits take.
+const LEAST_CALLS: u32 = 16;
+
+/// What of this is printed before this call of the disk: the opening takes four calls, and so does each
+/// commit, of which the first three print a line each.
+fn printed_before(alloc: Global, prints: &str, call: u32) -> Result<String, NoMemory> {
+    let commits = (call / 4).saturating_sub(1);
+    first_lines(alloc, prints, commits as usize)
 }
 
 /// Whether a session was answered to its end where this call of the disk fails.
@@ -171,12 +180,12 @@ fn ends(
         assert_same(rt, printed, prints.as_bytes());
         return Ok(true);
     }
+    let wanted = printed_before(rt.alloc(), prints, call)?;
     assert_same(
         rt,
-        (call, ended.status, ended.status.code()),
-        (call, Status::Disk, 3),
+        (call, ended.status, ended.status.code(), printed),
+        (call, Status::Disk, 3, wanted.as_bytes()),
     );
-    assert!(rt; prints.as_bytes().starts_with(printed), "at {call}");
     let lines = printed.iter().filter(|byte| **byte == b'\n').count();
     assert_crashes_hold(rt, &disk, whole, lines)?;
     Ok(false)
@@ -189,6 +198,7 @@ fn assert_stops(rt: &(impl Abort + AllocGlobal), text: &str, prints: &str) -> Re
     let whole = log_of(rt.alloc(), disk.bytes())?;
     for call in 0..1_000 {
         if ends(rt, text, prints, &whole, call)? {
+            assert!(rt; call >= LEAST_CALLS, "a disk that failed was asked again");
             return Ok(());
         }
     }
@@ -196,11 +206,13 @@ fn assert_stops(rt: &(impl Abort + AllocGlobal), text: &str, prints: &str) -> Re
 }
 
 #[test]
-fn a_second_stop_keeps_the_history_of_a_process(rt: HostRuntime) -> Result<(), Fail> {
-    assert_stops(&rt, TYPED, TYPED_PRINTS)
+fn a_failing_disk_keeps_what_was_printed(rt: HostRuntime) -> Result<(), Fail> {
+    let mut prints = String::from_str(rt.alloc(), TYPED_PRINTS)?;
+    prints.push_str(ASKED_PRINTS)?;
+    assert_stops(&rt, TYPED, prints.as_str())
 }
 
 #[test]
-fn a_second_stop_keeps_the_history_of_a_server(rt: HostRuntime) -> Result<(), Fail> {
+fn a_failing_disk_keeps_what_a_server_printed(rt: HostRuntime) -> Result<(), Fail> {
     assert_stops(&rt, SERVED, SERVED_PRINTS)
 }
