@@ -7,3 +7,5 @@ mod links;
 mod same;
 #[cfg(test)]
 mod sets;
+#[cfg(test)]
+mod spans;

@@ -1,6 +1,6 @@
 // Sets that are carried over into fresh ones, so that those which nobody names go.
-ghost use Rattle.std.specs.Prelude.{◌≡◌, ◌<◌, ◌≤◌, ℕ, [], length, IfOk, OnOk};
-ghost use Rattle.taint_sets.specs.Carried.{CarriesOn, HasNumber, HaveNumbers, KeepZeros};
+ghost use Rattle.std.specs.Prelude.{◌≡◌, ◌<◌, ◌≤◌, ℕ, [], IfOk};
+ghost use Rattle.taint_sets.specs.Carried.{CarriesOn, HasNumber};
 ghost use Rattle.taint_sets.specs.Numbered.{IsSet, first_received, members_of};
 
 use crate::sets::{ByteSets, FIRST_RECEIVED};
@@ -82,18 +82,5 @@ impl Carrying {
     {
         self.into
             .carry(&self.from, self.numbers.as_mut_slice(), set)
-    }
-
-    /// Puts in the place of each number the one that its set has from now on.
-    pub fn carry_all(&mut self, numbers: &mut [u32]) -> Result<(), NoMemory>
-        ensures numbers { OnOk result (HaveNumbers self.new numbers.old numbers.new) }
-        ensures len { length numbers.new ≡ length numbers.old }
-        ensures zeros { KeepZeros numbers.old numbers.new }
-        ensures on { CarriesOn self.old self.new }
-    {
-        for place in 0..numbers.len() {
-            numbers[place] = self.carry(numbers[place])?;
-        }
-        Ok(())
     }
 }

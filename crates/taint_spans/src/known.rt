@@ -1,5 +1,5 @@
 // What is remembered by place: a number that isn't 0, or 0 where there is none.
-ghost use Rattle.std.specs.Prelude.{◌≡◌, ◌⊎◌, ◌<◌, ℕ, IfSome, slice_index};
+ghost use Rattle.std.specs.Prelude.{◌≡◌, ◌⊎◌, ◌<◌, ℕ, IfSome, OnOk, length, slice_index};
 
 use arn_base::NoMemory;
 
@@ -12,13 +12,14 @@ pub fn known(numbers: &[u32], place: usize) -> Option<u32>
     if number > 0 { Some(number) } else { None }
 }
 
-/// Makes room behind the last place for one more, if that is it. What is remembered stays.
+/// Makes room up to a place. What is remembered stays.
 #[inline(always)]
 pub fn make_room(numbers: &mut Vec<u32>, place: usize) -> Result<(), NoMemory>
-    ensures { (k : ℕ) → slice_index numbers.new.items k ≡ slice_index numbers.old.items k }
+    ensures room { OnOk result (place < length numbers.new.items) }
+    ensures same { (k : ℕ) → slice_index numbers.new.items k ≡ slice_index numbers.old.items k }
 {
-    if place == numbers.len() {
-        numbers.push(0)?;
+    if place >= numbers.len() {
+        numbers.resize(place.checked_add(1).ok_or(NoMemory)?, 0)?;
     }
     Ok(())
 }

@@ -8,4 +8,5 @@ mod settling;
 mod span;
 
 pub use carrying::Carrying;
-pub use sets::{FIRST_RECEIVED, SpanSets};
+pub use sets::SpanSets;
+pub use taint_sets::FIRST_RECEIVED;

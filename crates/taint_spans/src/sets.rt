@@ -15,16 +15,13 @@ use indexmap::IndexSet;
 use set_store::Item;
 use std::alloc::Global;
 use std::marker::Model;
-use taint_sets::ByteSets;
+use taint_sets::{ByteSets, FIRST_RECEIVED};
 
 /// The first number of a span.
 pub(crate) const FIRST_SPAN: u32 = 0x4000_0000;
 
 /// How many spans are kept before it may be worth while to let go of some.
 const MANY: usize = 0x10_0000;
-
-/// The first number behind those of spans: that of a received byte.
-pub const FIRST_RECEIVED: u32 = 0x8000_0000;
 
 /// Whether a number is a span's.
 #[inline(always)]
@@ -78,6 +75,7 @@ pub struct SpanSets {
     sets: ByteSets,
     spans: IndexSet<Span>,
     settled: Vec<u32>,
+    many: usize,
 }
 
 impl Model for SpanSets {
@@ -101,6 +99,7 @@ impl SpanSets {
             sets: ByteSets::new(alloc, memo)?,
             spans: IndexSet::new(alloc),
             settled: Vec::new(alloc),
+            many: MANY,
         })
     }
 
@@ -115,10 +114,11 @@ impl SpanSets {
         EMPTY
     }
 
-    /// Whether so many sets or spans are kept that those which nobody names should go.
+    /// Whether so many sets or spans are kept that those which nobody names should go: 2^20 of the ones or the others, and
+    /// twice as many as were left the last time.
     #[inline(always)]
     pub fn are_many(&self) -> bool {
-        self.spans.len() >= MANY || self.sets.are_many()
+        self.spans.len() >= self.many || self.sets.are_many()
     }
 
     /// The sets that aren't spans, and the spans.
@@ -130,13 +130,15 @@ impl SpanSets {
         (self.sets, self.spans)
     }
 
-    /// These sets and spans. Of none it is remembered which set it came to.
+    /// These sets and spans. Of none it is remembered which set it came to. Only where twice as many spans are kept should
+    /// some go again.
     pub(crate) fn of(sets: ByteSets, spans: IndexSet<Span>, alloc: Global) -> SpanSets
         requires { AreSpans sets spans.keys }
         ensures sets { result.sets ≡ sets }
         ensures spans { result.spans ≡ lists_of sets spans.keys }
     {
         SpanSets {
+            many: MANY.max(spans.len().saturating_mul(2)),
             sets,
             spans,
             settled: Vec::new(alloc),

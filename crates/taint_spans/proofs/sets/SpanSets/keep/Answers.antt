@@ -11,7 +11,7 @@ pub invariant_of-self-in_err-make_room : goal.invariant_of-self-in_err-make_room
 invariant_of-self-in_err-make_room c =
     let inside = c.self.inside in
     let is = subst (λ (sets : Numbered). IsSpan sets.sets c.args.span) (sym c.self.view_is) c.requires in
-    sound-alike inside.sets c.insert_full.new.self.keys inside.settled.items c.make_room.new.numbers.items c.make_room.ensures
+    sound-alike inside.sets c.insert_full.new.self.keys inside.settled.items c.make_room.new.numbers.items c.make_room.ensures.same
     (sound-added inside.sets inside.spans.keys c.insert_full.new.self.keys inside.settled.items c.args.span c.in_ok-place.ensures.keys is c.self.invariant)
 
 pub returns-in_err-make_room-clause-before : goal.returns-in_err-make_room-clause-before
@@ -26,7 +26,7 @@ pub invariant_of-self-2 : goal.invariant_of-self-2
 invariant_of-self-2 c =
     let inside = c.self.inside in
     let is = subst (λ (sets : Numbered). IsSpan sets.sets c.args.span) (sym c.self.view_is) c.requires in
-    sound-alike inside.sets c.insert_full.new.self.keys inside.settled.items c.make_room.new.numbers.items c.make_room.ensures
+    sound-alike inside.sets c.insert_full.new.self.keys inside.settled.items c.make_room.new.numbers.items c.make_room.ensures.same
     (sound-added inside.sets inside.spans.keys c.insert_full.new.self.keys inside.settled.items c.args.span c.in_ok-place.ensures.keys is c.self.invariant)
 
 pub returns-clause-set : goal.returns-clause-set

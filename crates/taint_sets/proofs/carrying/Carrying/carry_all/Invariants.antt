@@ -1,5 +1,0 @@
-use Rattle.taint_sets.proofs.Carried.{CarriedTo}
-use Rattle.taint_sets.proofs.carrying.Carrying.carry_all.Given as goal
-
-abbrev pub invariant-loop-place : goal.invariant-loop-place
-invariant-loop-place l = CarriedTo l.fn.self l.self l.fn.numbers l.numbers l.place
