@@ -1,5 +1,5 @@
 -- Groups that have come equally far.
-use Rattle.std.proofs.Common.{◌≡◌, ℕ, ◌+◌, ◌-◌, ◌≤◌, min, ◌==◌, ◌&&◌, nat_le, nat_lt, not, Bool, true, false, if◌then◌else◌, cond, List, [], ◌∷◌, ◌++◌, length, take, drop, filter, Option, Some, None, option_and_then, refl, ap, sym, subst, ◌∙◌, arith, eqb-true, le-leb, leb-true, leb-false, ltb-true}
+use Rattle.std.proofs.Common.{◌≡◌, ℕ, suc, ◌+◌, ◌-◌, ◌≤◌, min, ◌==◌, ◌&&◌, nat_le, nat_lt, not, Bool, true, false, if◌then◌else◌, cond, List, [], ◌∷◌, ◌++◌, length, take, drop, filter, Option, Some, None, option_and_then, slice_get, refl, ap, sym, subst, ◌∙◌, arith, eqb-true, le-leb, leb-true, leb-false, ltb-true}
 use Rattle.std.proofs.lemmas.List.{drop-append-le, take-append-le}
 use Rattle.std.proofs.lemmas.Bool.{and_parts, lt-leb}
 use Rattle.std.proofs.lemmas.List.Sums.{count_by-le-length, length-filter}
@@ -75,6 +75,13 @@ slice-same g m n made s cuts =
     ∙ (ap (λ (b : Bool). cut g s.pid s.ran t (nat_le s.moment n) b (min s.ran (m - s.moment))) cuts.ended
     ∙ ap (λ (k : ℕ). cut g s.pid s.ran t (nat_le s.moment n) (nat_le (s.moment + s.ran) n) k) cuts.owed)
 
+-- the last of slices is that of those behind the first
+last-later : (s t : SliceAt) (slices : List SliceAt) → last_of (t ∷ slices) ≡ last_of (s ∷ t ∷ slices)
+last-later s t slices =
+    let one : length (t ∷ slices) - 1 ≡ length slices = omega arith in
+    let two : length (s ∷ t ∷ slices) - 1 ≡ suc (length slices) = omega arith in
+    ap (slice_get (t ∷ slices)) one ∙ sym (ap (slice_get (s ∷ t ∷ slices)) two)
+
 module _ (g m n : ℕ) (before more : List Record) where
   -- a slice makes the same, where what stands behind it does
   with-same : (made : Made) (s : SliceAt) → s.place + 1 ≤ length before → EqualCuts s m n
@@ -111,7 +118,11 @@ module _ (g m n : ℕ) (before more : List Record) where
   all-same [] made each chain owed behind = refl
   all-same (s ∷ []) made each chain owed behind = last made s each.0 owed behind
   all-same (s ∷ t ∷ slices) made each chain owed behind =
-      ap (λ (x : Made). with_slices g m before x (t ∷ slices)) (whole made s t each.0 each.1.0 chain.0.0) ∙ all-same (t ∷ slices) (with_slice g n (before ++ more) made s) each.1 chain.1 owed behind
+      let later = last-later s t slices in
+      ap (λ (x : Made). with_slices g m before x (t ∷ slices)) (whole made s t each.0 each.1.0 chain.0.0)
+      ∙ all-same (t ∷ slices) (with_slice g n (before ++ more) made s) each.1 chain.1
+      (ap (owed_of m) later ∙ (owed ∙ sym (ap (owed_of n) later)))
+      (ap (behind_of before) later ∙ (behind ∙ sym (ap (behind_of (before ++ more)) later)))
 
 -- a slice that begins behind the moment makes nothing
 if-none : (b : Bool) (n : ℕ) → n ≡ 0 → (if b then n else 0) ≡ 0

@@ -1,5 +1,5 @@
 -- Which slices an index lists up to a moment.
-use Rattle.std.proofs.Common.{◌≡◌, ℕ, zero, suc, ◌-◌, ◌<◌, ◌≤◌, Bool, true, false, cond, List, [], ◌∷◌, length, take, get_or, filter, Option, slice_get, refl, ap, sym, ◌∙◌, arith}
+use Rattle.std.proofs.Common.{◌≡◌, ℕ, zero, suc, ◌<◌, ◌≤◌, Bool, true, false, cond, List, [], ◌∷◌, length, take, get_or, filter, Option, refl, ap, sym, ◌∙◌, arith}
 use Rattle.std.specs.List.Sorted.{IsPartitionedBy}
 use Rattle.arn_base.specs.declared.records.Record.{Record}
 use Rattle.history_index.specs.Lookups.{slices_from, slices_of}
@@ -36,23 +36,14 @@ filter-point test (x ∷ xs) (suc i) few front back =
     ap (λ (rest : List _). x ∷ rest) (filter-point test xs i (omega (arith, few)) (λ k d some below. front (suc k) d (omega arith) (omega (arith, below))) (λ k d above below. back (suc k) d (omega (arith, above)) (omega (arith, below))))
     ∙ sym (ap (λ (b : Bool). cond b (x ∷ filter test xs) (filter test xs)) (front 0 x (omega arith) (omega arith)))
 
--- the last
-last-at : (s : SliceAt) (slices : List SliceAt) → slice_get (s ∷ slices) (length slices) ≡ last_of (s ∷ slices)
-last-at s [] = refl
-last-at s (t ∷ slices) = last-at t slices
-
-pub last-is : (slices : List SliceAt) → slice_get slices (length slices - 1) ≡ last_of slices
-last-is [] = refl
-last-is (s ∷ slices) = let one : length (s ∷ slices) - 1 ≡ length slices = omega arith in ap (slice_get (s ∷ slices)) one ∙ last-at s slices
-
 -- what is read of the last of them is the extent
 abbrev extent : Bool → ℕ → ℕ → ℕ → Extent
 extent begun slices owed behind = record { is_begun = begun; slices = slices; owed = owed; behind = behind }
 
-pub extent-is : (entries : List Record) (g until : ℕ) (flag : Bool) (xs : List SliceAt) (last : Option SliceAt) (owed behind : ℕ) → flag ≡ is_begun entries g until → xs ≡ felt entries g until → last ≡ slice_get xs (length xs - 1)
+pub extent-is : (entries : List Record) (g until : ℕ) (flag : Bool) (xs : List SliceAt) (last : Option SliceAt) (owed behind : ℕ) → flag ≡ is_begun entries g until → xs ≡ felt entries g until → last ≡ last_of xs
     → owed ≡ owed_of until last → behind ≡ behind_of entries last → extent flag (length xs) owed behind ≡ extent_of entries g until
 extent-is entries g until flag xs last owed behind flag-is xs-is last-at owed-is behind-is =
-    let found : last ≡ last_of (felt entries g until) = last-at ∙ (last-is xs ∙ ap last_of xs-is) in
+    let found : last ≡ last_of (felt entries g until) = last-at ∙ ap last_of xs-is in
     ap (λ (b : Bool). extent b (length xs) owed behind) flag-is
     ∙ (ap (λ (ys : List SliceAt). extent (is_begun entries g until) (length ys) owed behind) xs-is
     ∙ (ap (λ (k : ℕ). extent (is_begun entries g until) (length (felt entries g until)) k behind) (owed-is ∙ ap (owed_of until) found)

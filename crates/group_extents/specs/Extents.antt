@@ -1,5 +1,5 @@
 -- How far a group has come at a moment: which of its own records come up to it.
-use Rattle.std.specs.Prelude.{ℕ, ◌+◌, ◌-◌, min, ◌==◌, ◌&&◌, nat_le, nat_lt, not, Bool, true, false, List, [], ◌∷◌, drop, filter, length, Option, Some, None, option_and_then}
+use Rattle.std.specs.Prelude.{ℕ, ◌+◌, ◌-◌, min, ◌==◌, ◌&&◌, nat_le, nat_lt, not, Bool, true, false, List, [], ◌∷◌, drop, filter, length, Option, Some, None, option_and_then, slice_get}
 use Rattle.arn_base.specs.declared.records.Record.{Record}
 use Rattle.arn_base.specs.declared.records.Record.TheVariants as entry
 use Rattle.history_index.specs.Lookups.{event_moment, founding_event, slices_of}
@@ -35,11 +35,9 @@ felt entries g until = filter (is_felt entries until) (slices_of entries g)
 
 -- the last of slices, if there are any
 abbrev pub last_of : List SliceAt → Option SliceAt
-last_of [] = None
-last_of (s ∷ []) = Some s
-last_of (s ∷ t ∷ slices) = last_of (t ∷ slices)
+last_of slices = slice_get slices (length slices - 1)
 
--- how many of its instructions come before a moment
+-- how many instructions of the last of slices come before a moment
 abbrev pub owed_of : ℕ → Option SliceAt → ℕ
 owed_of until None = 0
 owed_of until (Some s) = min s.ran (until - s.moment)
@@ -52,10 +50,12 @@ own_len (entry.Call pid number result more ∷ entries) = 1
 own_len (entry.End pid status ∷ entries) = 1
 own_len (e ∷ entries) = 0
 
+-- how many stand behind the last of slices, if there are any
 abbrev pub behind_of : List Record → Option SliceAt → ℕ
 behind_of entries None = 0
 behind_of entries (Some s) = own_len (drop (s.place + 1) entries)
 
+-- how far a group has come at a moment
 abbrev pub extent_of : List Record → ℕ → ℕ → Extent
 extent_of entries g until =
     record {

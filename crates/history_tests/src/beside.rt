@@ -8,13 +8,10 @@ pub const BESIDE: &str = "\
     li a7, 2; ecall; beq a0, zero, child\n\
     li a7, 11; li a0, 0; addi a1, sp, -16; li a2, 3; ecall\n\
     li a7, 12; li a0, 4; ecall; j quit\n\
-    child:\n\
-    li a7, 11; li a0, 3; addi a1, sp, -16; li a2, 3; ecall\n\
+    child: ; li a7, 11; li a0, 3; addi a1, sp, -16; li a2, 3; ecall\n\
     li a7, 12; li a0, 1; ecall\n\
-    quit:\n\
-    li a7, 1; li a0, 0; ecall\n\
-    spin:\n\
-    j spin\n\
+    quit: ; li a7, 1; li a0, 0; ecall\n\
+    spin: ; j spin\n\
     end\n\
     boot p\n\
     type 616263\n\
@@ -24,9 +21,7 @@ pub const BESIDE: &str = "\
 
 /// What is printed for that.
 pub const BESIDE_PRINTS: &str = "\
-    event 0\n\
-    event 1\n\
-    event 2\n\
+    event 0\nevent 1\nevent 2\n\
     out 10 3 616263\n\
     ran 1000000 budget\n\
     pair 2 0 0\n\

@@ -12,8 +12,7 @@ use std::test::Fail;
 const READER: &str = "\
     asm p\n\
     li a7, 21; li a0, 0; ecall\n\
-    again:\n\
-    li a7, 11; li a0, 3; addi a1, sp, -16; li a2, 2; ecall; j again\n\
+    again: ; li a7, 11; li a0, 3; addi a1, sp, -16; li a2, 2; ecall; j again\n\
     end\n\
     unplug 0\n\
     boot p\n\
@@ -108,9 +107,7 @@ const WRITER: &str = "\
     forth copy 2 0 2\n";
 
 const WRITER_PRINTS: &str = "\
-    event 0\n\
-    event 1\n\
-    event 2\n\
+    event 0\nevent 1\nevent 2\n\
     ran 18 done\n\
     event 0 0 - file 96\n\
     event 1 0 1 boot 96\n\
@@ -151,12 +148,10 @@ const REFUSED: &str = "\
     li a7, 10; li a0, 3; ecall\n\
     li a7, 21; li a0, 0; ecall\n\
     li a0, 1; ecall\n\
-    fill:\n\
-    li a7, 14; li a0, 3; ecall\n\
+    fill: ; li a7, 14; li a0, 3; ecall\n\
     blt a0, zero, full\n\
     j fill\n\
-    full:\n\
-    li a7, 21; li a0, 1; ecall\n\
+    full: ; li a7, 21; li a0, 1; ecall\n\
     li a0, 9; ecall\n\
     li a7, 1; li a0, 0; ecall\n\
     end\n\
@@ -368,8 +363,7 @@ impl Device for Boasting {
 const BOASTS: &str = "\
     asm p\n\
     li a7, 21; li a0, 0; ecall\n\
-    again:\n\
-    li a7, 11; li a0, 3; addi a1, sp, -16; li a2, 2; ecall; j again\n\
+    again: ; li a7, 11; li a0, 3; addi a1, sp, -16; li a2, 2; ecall; j again\n\
     end\n\
     boot p\n\
     run 3\n\

@@ -53,7 +53,7 @@ impl Observer for Counter {
 }
 
 /// The log of the session in which process 2 spins beside two that hand bytes on.
-fn recorded(rt: &(impl Abort + AllocGlobal)) -> Result<Store, Fail> {
+pub fn recorded(rt: &(impl Abort + AllocGlobal)) -> Result<Store, Fail> {
     let alloc = rt.alloc();
     let mut disk = MemDisk::new(alloc, Bytes::new(alloc));
     let ended = run_on(alloc, &["log"], &Script::of(BESIDE.as_bytes()), &mut disk)?;

@@ -14,10 +14,8 @@ pub const SHARED: &str = "\
     li s0, 1; slli s0, s0, 31; li a7, 2; ecall; beq a0, zero, child\n\
     lbu t0, 0(a1); sb t0, 0(s0); lbu t0, 0(s0); sb t0, 0(a1)\n\
     li a7, 12; li a0, 1; li a2, 1; ecall\n\
-    quit:\n\
-    li a7, 1; li a0, 0; ecall\n\
-    child:\n\
-    lbu t0, 1(a1); sb t0, 0(s0); j quit\n\
+    quit: ; li a7, 1; li a0, 0; ecall\n\
+    child: ; lbu t0, 1(a1); sb t0, 0(s0); j quit\n\
     end\n\
     boot p\n\
     type 6162\n\
@@ -32,9 +30,7 @@ pub const SHARED: &str = "\
 
 /// What is printed where the first loads its own byte.
 const OWN_BYTE: &str = "\
-    event 0\n\
-    event 1\n\
-    event 2\n\
+    event 0\nevent 1\nevent 2\n\
     out 6 1 61\n\
     ran 30 done\n\
     pair 2 0 0\n\
@@ -49,9 +45,7 @@ const OWN_BYTE: &str = "\
 
 /// What is printed where the second stores between the store and the load of the first.
 const OTHER_BYTE: &str = "\
-    event 0\n\
-    event 1\n\
-    event 2\n\
+    event 0\nevent 1\nevent 2\n\
     out 6 1 62\n\
     ran 30 done\n\
     pair 2 1 0\n\
@@ -66,9 +60,7 @@ const OTHER_BYTE: &str = "\
 
 /// What is printed where they take turns, instruction by instruction: the second ends first, as event 6.
 const IN_TURNS: &str = "\
-    event 0\n\
-    event 1\n\
-    event 2\n\
+    event 0\nevent 1\nevent 2\n\
     out 7 1 62\n\
     ran 30 done\n\
     back pairs 0 instructions 30 groups 1\n\
@@ -82,9 +74,7 @@ const IN_TURNS: &str = "\
 
 /// What is printed where they take turns of a hundred instructions: the second ends before the first goes on.
 pub const SECOND_AT_ONCE: &str = "\
-    event 0\n\
-    event 1\n\
-    event 2\n\
+    event 0\nevent 1\nevent 2\n\
     out 7 1 61\n\
     ran 30 done\n\
     back pairs 0 instructions 30 groups 1\n\
@@ -128,8 +118,7 @@ const DROPPED: &str = "\
     asm p\n\
     li a7, 17; ecall\n\
     li a7, 3; la a0, path; li a1, 1; li a3, 0; ecall\n\
-    path:\n\
-    .byte 113\n\
+    path: ; .byte 113\n\
     end\n\
     boot p\n\
     run 100\n\
@@ -137,9 +126,7 @@ const DROPPED: &str = "\
     verify\n";
 
 const DROPPED_PRINTS: &str = "\
-    event 0\n\
-    event 1\n\
-    event 2\n\
+    event 0\nevent 1\nevent 2\n\
     ran 11 done\n\
     event 0 0 - file 36\n\
     event 1 0 - file 57\n\
@@ -163,10 +150,8 @@ const KEPT: &str = "\
     li a7, 4; addi a0, sp, -16; ecall\n\
     li a7, 12; li a0, 1; addi a1, s0, 0; li a2, 1; ecall\n\
     li a7, 1; li a0, 0; ecall\n\
-    child:\n\
-    li a7, 3; la a0, path; li a1, 1; li a3, 0; ecall\n\
-    path:\n\
-    .byte 113\n\
+    child: ; li a7, 3; la a0, path; li a1, 1; li a3, 0; ecall\n\
+    path: ; .byte 113\n\
     end\n\
     boot p\n\
     run 1000\n\
@@ -175,9 +160,7 @@ const KEPT: &str = "\
     verify\n";
 
 const KEPT_PRINTS: &str = "\
-    event 0\n\
-    event 1\n\
-    event 2\n\
+    event 0\nevent 1\nevent 2\n\
     out 10 1 41\n\
     ran 33 done\n\
     event 0 0 - file 44\n\

@@ -14,12 +14,9 @@ const INTERRUPTED: &str = "\
     li a7, 2; ecall; beq a0, zero, child\n\
     lbu t0, 0(a1); sb t0, 1(a1)\n\
     li a7, 12; li a0, 1; addi a1, a1, 1; li a2, 1; ecall\n\
-    quit:\n\
-    li a7, 1; li a0, 0; ecall\n\
-    child:\n\
-    li a7, 6; li a0, 1; li a1, 1; ecall; j quit\n\
-    handler:\n\
-    li t0, 0; li a1, 0; li a7, 8; ecall\n\
+    quit: ; li a7, 1; li a0, 0; ecall\n\
+    child: ; li a7, 6; li a0, 1; li a1, 1; ecall; j quit\n\
+    handler: ; li t0, 0; li a1, 0; li a7, 8; ecall\n\
     end\n\
     boot p\n\
     type 6d\n\
@@ -29,9 +26,7 @@ const INTERRUPTED: &str = "\
     verify\n";
 
 const INTERRUPTED_PRINTS: &str = "\
-    event 0\n\
-    event 1\n\
-    event 2\n\
+    event 0\nevent 1\nevent 2\n\
     out 9 1 6d\n\
     ran 36 done\n\
     pair 2 0 0\n\
@@ -43,9 +38,7 @@ const INTERRUPTED_PRINTS: &str = "\
 
 /// The same in turns of a hundred instructions: the child ends as event 9, before the write.
 const INTERRUPTED_IN_TURN: &str = "\
-    event 0\n\
-    event 1\n\
-    event 2\n\
+    event 0\nevent 1\nevent 2\n\
     out 10 1 6d\n\
     ran 36 done\n\
     back pairs 0 instructions 36 groups 1 2\n\
@@ -85,8 +78,7 @@ const FORKED: &str = "\
     sb t0, -8(sp)\n\
     li a7, 12; li a0, 1; addi a1, sp, -8; li a2, 1; ecall\n\
     li a7, 1; li a0, 0; ecall\n\
-    handler:\n\
-    li t0, 0; li a7, 2; ecall\n\
+    handler: ; li t0, 0; li a7, 2; ecall\n\
     li a7, 8; ecall\n\
     end\n\
     boot p\n\
@@ -96,9 +88,7 @@ const FORKED: &str = "\
     verify\n";
 
 const FORKED_PRINTS: &str = "\
-    event 0\n\
-    event 1\n\
-    event 2\n\
+    event 0\nevent 1\nevent 2\n\
     out 10 1 6d\n\
     out 11 2 6d\n\
     ran 40 done\n\
@@ -113,11 +103,9 @@ pub const CUT: &str = "\
     li a7, 2; ecall; beq a0, zero, child\n\
     li a7, 11; li a0, 0; addi a1, sp, -16; li a2, 1; ecall\n\
     li a7, 1; ecall\n\
-    child:\n\
-    li a7, 6; li a0, 1; li a1, 1; ecall\n\
+    child: ; li a7, 6; li a0, 1; li a1, 1; ecall\n\
     li a7, 1; li a0, 0; ecall\n\
-    handler:\n\
-    li a7, 8; ecall\n\
+    handler: ; li a7, 8; ecall\n\
     end\n\
     boot p\n\
     run 100\n";
@@ -179,16 +167,13 @@ const CUTS: &str = "\
     sw a0, -24(sp)\n\
     li a7, 12; li a0, 1; addi a1, sp, -32; li a2, 12; ecall\n\
     li a7, 1; li a0, 0; ecall\n\
-    child:\n\
-    li s0, 3\n\
-    again:\n\
-    li a7, 6; li a0, 1; li a1, 1; ecall\n\
+    child: ; li s0, 3\n\
+    again: ; li a7, 6; li a0, 1; li a1, 1; ecall\n\
     li a7, 22; ecall; ecall\n\
     addi s0, s0, -1\n\
     bne s0, zero, again\n\
     li a7, 1; li a0, 0; ecall\n\
-    handler:\n\
-    li a7, 8; ecall\n\
+    handler: ; li a7, 8; ecall\n\
     end\n\
     boot p\n\
     run 1000\n\
@@ -234,8 +219,7 @@ const TOO_LATE: &str = "\
     asm p\n\
     li a7, 2; ecall; beq a0, zero, child\n\
     li a7, 1; ecall\n\
-    child:\n\
-    li a7, 22; ecall; ecall\n\
+    child: ; li a7, 22; ecall; ecall\n\
     li a7, 6; li a0, 1; li a1, 9; ecall\n\
     li a7, 1; li a0, 0; ecall\n\
     end\n\
@@ -322,11 +306,9 @@ const IN_HANDLERS: &str = "\
     li a0, 2; la a1, second; ecall\n\
     li a7, 6; li a0, 1; li a1, 2; ecall\n\
     li a7, 1; li a0, 7; ecall\n\
-    second:\n\
-    li a7, 6; li a1, 1; li a0, 1; ecall\n\
+    second: ; li a7, 6; li a1, 1; li a0, 1; ecall\n\
     li a7, 8; ecall\n\
-    first:\n\
-    li a7, 6; li a0, 1; li a1, 9; ecall\n\
+    first: ; li a7, 6; li a0, 1; li a1, 9; ecall\n\
     end\n\
     boot p\n\
     run 100\n\
@@ -359,8 +341,7 @@ const ENDED: &str = "\
     li a7, 4; addi a0, sp, -16; ecall\n\
     li a7, 12; li a0, 1; addi a1, sp, -16; li a2, 1; ecall\n\
     li a7, 1; li a0, 0; ecall\n\
-    child:\n\
-    li a7, 11; addi a1, sp, -16; li a2, 1; ecall\n\
+    child: ; li a7, 11; addi a1, sp, -16; li a2, 1; ecall\n\
     end\n\
     boot p\n\
     run 100\n\
@@ -388,17 +369,14 @@ const ENDED_PRINTS: &str = "\
 /// A handler starts another program. The signal that it has posted before is then due, and nothing handles it.
 const STARTED: &str = "\
     asm q\n\
-    spin:\n\
-    j spin\n\
+    spin: ; j spin\n\
     end\n\
     asm p\n\
     li a7, 7; li a0, 1; la a1, handler; ecall\n\
     li a7, 6; li a0, 1; li a1, 1; ecall\n\
-    handler:\n\
-    li a7, 6; li a0, 1; li a1, 1; ecall\n\
+    handler: ; li a7, 6; li a0, 1; li a1, 1; ecall\n\
     li a7, 3; la a0, path; li a1, 1; li a3, 0; ecall\n\
-    path:\n\
-    .byte 113\n\
+    path: ; .byte 113\n\
     end\n\
     boot p\n\
     run 100\n\
@@ -406,9 +384,7 @@ const STARTED: &str = "\
     verify\n";
 
 const STARTED_PRINTS: &str = "\
-    event 0\n\
-    event 1\n\
-    event 2\n\
+    event 0\nevent 1\nevent 2\n\
     ran 19 done\n\
     event 0 0 - file 28\n\
     event 1 0 - file 101\n\

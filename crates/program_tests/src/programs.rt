@@ -138,6 +138,7 @@ const THROUGH_FILE: &str = "\
     type 5a\n\
     run 1000\n\
     back copy event 14 0 2\n\
+    back copy event 14 0 2\n\
     forth copy 3 0 1\n\
     forth copy 0 0 1\n\
     show 53 file f\n\
@@ -383,6 +384,7 @@ pub const PROGRAMS: &[(&str, &str)] = &[
     (
         THROUGH_FILE,
         "event 0\nevent 1\nevent 2\nevent 3\nout 14 1 415a\nran 53 done\n\
+        pair 0 0 0\npair 3 0 1\nback pairs 2 instructions 53 groups 1 2\n\
         pair 0 0 0\npair 3 0 1\nback pairs 2 instructions 53 groups 1 2\n\
         pair 9 0 0\npair 14 1 0\nforth pairs 2 instructions 53 groups 1 2\n\
         pair 14 0 0\nforth pairs 1 instructions 53 groups 1 2\n\

@@ -1,7 +1,7 @@
 -- What an engine keeps between queries.
 use Rattle.std.specs.Prelude.{◌≡◌, ℕ, ◌++◌, List}
 use Rattle.arn_base.specs.declared.records.Record.{Record}
-use Rattle.query_engine.specs.Relations.{AreOf, KeepsNothing, room}
+use Rattle.query_engine.specs.Relations.{AreOf, KeepsNoMore, KeepsNothing, room}
 use Rattle.query_engine.specs.declared.engine.Answer.{Answer}
 use Rattle.query_engine.specs.declared.engine.Engine.{Engine}
 
@@ -12,6 +12,10 @@ HasSeen entries engine = AreOf entries engine.kept
 -- it keeps no relation
 abbrev pub KeepsNone : Engine → Type 0
 KeepsNone engine = KeepsNothing engine.kept
+
+-- each relation that it keeps it kept before
+abbrev pub AddsNone : Engine → Engine → Type 0
+AddsNone old new = KeepsNoMore old.kept new.kept
 
 -- how many it may keep
 abbrev pub keep_of : Engine → ℕ

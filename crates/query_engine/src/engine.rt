@@ -1,5 +1,5 @@
 // Queries.
-ghost use Rattle.std.specs.Prelude.{◌≡◌, ◌≤◌, ◌+◌, IfErr, IfOk, List, length, true};
+ghost use Rattle.std.specs.Prelude.{◌≡◌, ◌≤◌, ◌+◌, IfErr, IfOk, IsOk, List, OnErr, length, true};
 ghost use Rattle.arn_base.specs.declared.records.Record.{Record};
 ghost use Rattle.rv64_model.specs.Carries.{operands};
 ghost use Rattle.exchange_graph.specs.Reach.{Rises};
@@ -7,7 +7,7 @@ ghost use Rattle.history_index.specs.Indexes.{AreCountable, Indexes};
 ghost use Rattle.history_model.specs.Events.{event_at, is_range};
 ghost use Rattle.query_engine.specs.Asked.{Answers, AnswersEvent, Fails, FailsEvent, RunsNothing, in_file, moment_asked, ran_about, ran_for, ran_for_held, ran_for_named, ran_in};
 ghost use Rattle.query_engine.specs.Demands.{byte_demands};
-ghost use Rattle.query_engine.specs.Engines.{HasSeen, KeepsNone, ReplaysAll, keep_of};
+ghost use Rattle.query_engine.specs.Engines.{AddsNone, HasSeen, KeepsNone, ReplaysAll, keep_of};
 ghost use Rattle.query_engine.specs.Following.{HasFollowed, IsOf};
 ghost use Rattle.query_engine.specs.Follows.{Explains};
 ghost use Rattle.query_engine.specs.Names.{AnswersNamed, AnswersWritten, FailsNamed};
@@ -85,7 +85,8 @@ pub struct Engine {
 
 /// Whether an event is there and has these bytes, and they aren't too many to be asked for.
 pub fn has_range(index: &Index, event: u64, from: u32, len: u32) -> bool
-    ensures { (entries : List Record) → Indexes index.now entries → result ≡ is_range (event_at entries event) from len }
+    ensures { (entries : List Record) → Indexes index.now entries →
+        result ≡ is_range (event_at entries event) from len }
 {
     match index.event_len(event) {
         Some(bytes) => {
@@ -117,7 +118,8 @@ fn groups_about(
 
 /// The moment up to which groups are followed for an event.
 fn moment_about(index: &Index, event: u64) -> u64
-    ensures { (entries : List Record) → Indexes index.now entries → result ≡ moment_of entries event }
+    ensures { (entries : List Record) → Indexes index.now entries →
+        result ≡ moment_of entries event }
 {
     index.event_moment(event).unwrap_or(0)
 }
@@ -166,7 +168,8 @@ fn pairs(
     requires range { is_range (event_at entries.now event) from len ≡ true }
     requires of { IsOf entries.now linkage (moment_of entries.now event) followed.now }
     requires has { HasFollowed followed.now (event_groups entries.now event) }
-    ensures { IfOk result (λ pairs. pairs ≡ event_pairs (operands linkage) entries.now event from len) }
+    ensures { IfOk result
+        (λ pairs. pairs ≡ event_pairs (operands linkage) entries.now event from len) }
 {
     laws();
     blocks_are_whole(entries);
@@ -205,6 +208,7 @@ impl Engine {
         ensures none { IfOk result KeepsNone }
         ensures seen { (entries : List Record) → IfOk result (HasSeen entries) }
         ensures keep { IfOk result (λ engine. keep_of engine ≡ keep) }
+        ensures bare { keep ≡ 0 → IsOk result }
     {
         let kept = Relations::new(alloc, keep)?;
         Ok(Engine { alloc, kept })
@@ -227,9 +231,11 @@ impl Engine {
         requires range { is_range (event_at entries.now event) from len ≡ true }
         ensures ok { IfOk result (AnswersEvent linkage entries.now event from len) }
         ensures err { IfErr result (FailsEvent entries.now event from len) }
-        ensures counted { IfOk result (λ answer. steps.new ≡ steps.old + ran_in entries.now (moment_of entries.now event) answer.replayed) }
+        ensures counted { IfOk result (λ answer. steps.new ≡ steps.old
+            + ran_in entries.now (moment_of entries.now event) answer.replayed) }
         ensures bounded { steps.new ≤ steps.old + ran_for entries.now event }
         ensures all { KeepsNone self.old → IfOk result ReplaysAll }
+        ensures left { OnErr result (AddsNone self.old self.new) }
         ensures seen { HasSeen entries.now self.new }
         ensures keep { keep_of self.new ≡ keep_of self.old }
     {
@@ -265,9 +271,11 @@ impl Engine {
         requires there { is_held entries.now held ≡ true }
         ensures ok { IfOk result (AnswersHeld linkage entries.now held) }
         ensures err { IfErr result (FailsHeld entries.now held) }
-        ensures counted { IfOk result (λ answer. steps.new ≡ steps.old + ran_in entries.now held.moment answer.replayed) }
+        ensures counted { IfOk result (λ answer. steps.new ≡ steps.old
+            + ran_in entries.now held.moment answer.replayed) }
         ensures bounded { steps.new ≤ steps.old + ran_for_held entries.now held }
         ensures all { KeepsNone self.old → IfOk result ReplaysAll }
+        ensures left { OnErr result (AddsNone self.old self.new) }
         ensures seen { HasSeen entries.now self.new }
         ensures keep { keep_of self.new ≡ keep_of self.old }
     {
@@ -299,10 +307,12 @@ impl Engine {
         requires seen { HasSeen entries.now self.old }
         ensures ok { IfOk result (AnswersHeld linkage entries.now held) }
         ensures err { IfErr result (FailsHeld entries.now held) }
-        ensures counted { IfOk result (λ answer. steps.new ≡ steps.old + ran_in entries.now held.moment answer.replayed) }
+        ensures counted { IfOk result (λ answer. steps.new ≡ steps.old
+            + ran_in entries.now held.moment answer.replayed) }
         ensures unasked { IfErr result (λ error. RunsNothing error steps.old steps.new) }
         ensures bounded { steps.new ≤ steps.old + ran_for_held entries.now held }
         ensures all { KeepsNone self.old → IfOk result ReplaysAll }
+        ensures left { OnErr result (AddsNone self.old self.new) }
         ensures seen { HasSeen entries.now self.new }
         ensures keep { keep_of self.new ≡ keep_of self.old }
     {
@@ -329,9 +339,12 @@ impl Engine {
         requires written { AreWritten entries.now bytes.now }
         ensures ok { IfOk result (AnswersWritten linkage entries.now moment bytes.now) }
         ensures err { IfErr result (Explains (written_disagreement entries.now moment bytes.now)) }
-        ensures counted { IfOk result (λ answer. steps.new ≡ steps.old + ran_in entries.now moment answer.replayed) }
-        ensures bounded { steps.new ≤ steps.old + ran_in entries.now moment (written_groups entries.now bytes.now) }
+        ensures counted { IfOk result (λ answer. steps.new ≡ steps.old
+            + ran_in entries.now moment answer.replayed) }
+        ensures bounded { steps.new ≤
+            steps.old + ran_in entries.now moment (written_groups entries.now bytes.now) }
         ensures all { KeepsNone self.old → IfOk result ReplaysAll }
+        ensures left { OnErr result (AddsNone self.old self.new) }
         ensures seen { HasSeen entries.now self.new }
         ensures keep { keep_of self.new ≡ keep_of self.old }
     {
@@ -366,12 +379,16 @@ impl Engine {
         requires countable { AreCountable entries.now }
         requires indexed { Indexes index.now entries.now }
         requires seen { HasSeen entries.now self.old }
-        ensures ok { IfOk result (AnswersNamed linkage entries.now (in_file moment name.now from len)) }
+        ensures ok { IfOk result
+            (AnswersNamed linkage entries.now (in_file moment name.now from len)) }
         ensures err { IfErr result (FailsNamed entries.now (in_file moment name.now from len)) }
-        ensures counted { IfOk result (λ answer. steps.new ≡ steps.old + ran_in entries.now moment answer.replayed) }
+        ensures counted { IfOk result (λ answer. steps.new ≡ steps.old
+            + ran_in entries.now moment answer.replayed) }
         ensures unasked { IfErr result (λ error. RunsNothing error steps.old steps.new) }
-        ensures bounded { steps.new ≤ steps.old + ran_for_named entries.now (in_file moment name.now from len) }
+        ensures bounded { steps.new ≤
+            steps.old + ran_for_named entries.now (in_file moment name.now from len) }
         ensures all { KeepsNone self.old → IfOk result ReplaysAll }
+        ensures left { OnErr result (AddsNone self.old self.new) }
         ensures seen { HasSeen entries.now self.new }
         ensures keep { keep_of self.new ≡ keep_of self.old }
     {
@@ -399,11 +416,13 @@ impl Engine {
         requires seen { HasSeen entries.now self.old }
         ensures ok { IfOk result (Answers linkage entries.now target.now) }
         ensures err { IfErr result (Fails entries.now target.now) }
-        ensures counted { IfOk result (λ answer. steps.new ≡ steps.old + ran_in entries.now (moment_asked entries.now target.now) answer.replayed) }
+        ensures counted { IfOk result (λ answer. steps.new ≡ steps.old
+            + ran_in entries.now (moment_asked entries.now target.now) answer.replayed) }
         ensures unasked { IfErr result (λ error. RunsNothing error steps.old steps.new) }
         ensures bounded { steps.new ≤ steps.old + ran_about entries.now target.now }
         ensures first { KeepsNone self.old → IfOk result ReplaysAll }
         ensures without { keep_of self.old ≡ 0 → IfOk result ReplaysAll }
+        ensures left { OnErr result (AddsNone self.old self.new) }
         ensures seen { HasSeen entries.now self.new }
         ensures keep { keep_of self.new ≡ keep_of self.old }
     {

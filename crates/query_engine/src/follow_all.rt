@@ -3,7 +3,7 @@ ghost use Rattle.std.specs.Prelude.{◌≡◌, ◌≤◌, ◌+◌, ◌++◌, [],
 ghost use Rattle.history_index.specs.Indexes.{AreCountable, Indexes};
 ghost use Rattle.history_model.specs.Alone.{alone};
 ghost use Rattle.query_engine.specs.Asked.{ran_in};
-ghost use Rattle.query_engine.specs.Engines.{HasSeen, KeepsNone, keep_of};
+ghost use Rattle.query_engine.specs.Engines.{AddsNone, HasSeen, KeepsNone, keep_of};
 ghost use Rattle.query_engine.specs.Follows.{Explains, Follows};
 ghost use Rattle.query_engine.specs.Following.{HasFollowed, HasOnly, IsOf};
 ghost use Rattle.query_engine.specs.Parts.{IsPart, IsReplayed};
@@ -39,10 +39,11 @@ impl Engine {
         requires seen { HasSeen entries.now self.old }
         ensures ok { IfOk result (Follows linkage entries.now until group) }
         ensures err { IfErr result (Explains (disagreement_in (alone entries.now group until))) }
-        ensures counted { OnOk result (IsReplayed entries.now until group replayed.old replayed.new steps.old steps.new) }
+        ensures counted { OnOk result
+            (IsReplayed entries.now until group replayed.old replayed.new steps.old steps.new) }
         ensures bounded { steps.new ≤ steps.old + ran_before entries.now group until }
         ensures all { KeepsNone self.old → OnOk result (replayed.new ≡ replayed.old ++ group ∷ []) }
-        ensures none { KeepsNone self.old → KeepsNone self.new }
+        ensures adds { AddsNone self.old self.new }
         ensures seen { HasSeen entries.now self.new }
         ensures keep { keep_of self.new ≡ keep_of self.old }
     {
@@ -75,9 +76,11 @@ impl Engine {
         ensures agree { OnOk result (first_disagreement entries.now until groups.now ≡ None) }
         ensures err { IfErr result (Explains (first_disagreement entries.now until groups.now)) }
         ensures part { IfOk result (λ run. IsPart run.1 groups.now) }
-        ensures counted { IfOk result (λ run. steps.new ≡ steps.old + ran_in entries.now until run.1) }
+        ensures counted { IfOk result
+            (λ run. steps.new ≡ steps.old + ran_in entries.now until run.1) }
         ensures bounded { steps.new ≤ steps.old + ran_in entries.now until groups.now }
         ensures all { KeepsNone self.old → IfOk result (λ run. run.1 ≡ groups.now) }
+        ensures adds { AddsNone self.old self.new }
         ensures seen { HasSeen entries.now self.new }
         ensures keep { keep_of self.new ≡ keep_of self.old }
     {

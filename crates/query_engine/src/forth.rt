@@ -1,10 +1,10 @@
 // Queries forward.
-ghost use Rattle.std.specs.Prelude.{◌≡◌, ◌≤◌, ◌+◌, IfErr, IfOk, true};
+ghost use Rattle.std.specs.Prelude.{◌≡◌, ◌≤◌, ◌+◌, IfErr, IfOk, OnErr, true};
 ghost use Rattle.history_index.specs.Indexes.{AreCountable, Indexes};
 ghost use Rattle.history_model.specs.Events.{event_at, is_range};
 ghost use Rattle.history_model.specs.Moments.{total};
 ghost use Rattle.query_engine.specs.Asked.{RunsNothing, ran_in};
-ghost use Rattle.query_engine.specs.Engines.{HasSeen, KeepsNone, ReplaysAll, keep_of};
+ghost use Rattle.query_engine.specs.Engines.{AddsNone, HasSeen, KeepsNone, ReplaysAll, keep_of};
 ghost use Rattle.query_engine.specs.Forth.{AnswersForth, FailsForth, ran_forth};
 
 use crate::engine::{Answer, Engine, answer_of, has_range};
@@ -30,11 +30,15 @@ impl Engine {
         requires indexed { Indexes index.now entries.now }
         requires seen { HasSeen entries.now self.old }
         requires range { is_range (event_at entries.now asked.event) asked.from asked.len ≡ true }
-        ensures ok { IfOk result (AnswersForth linkage entries.now asked.event asked.from asked.len) }
+        ensures ok { IfOk result
+            (AnswersForth linkage entries.now asked.event asked.from asked.len) }
         ensures err { IfErr result (FailsForth entries.now asked.event asked.from asked.len) }
-        ensures counted { IfOk result (λ answer. steps.new ≡ steps.old + ran_in entries.now (total entries.now) answer.replayed) }
-        ensures bounded { steps.new ≤ steps.old + ran_forth entries.now asked.event asked.from asked.len }
+        ensures counted { IfOk result (λ answer. steps.new ≡ steps.old
+            + ran_in entries.now (total entries.now) answer.replayed) }
+        ensures bounded { steps.new ≤
+            steps.old + ran_forth entries.now asked.event asked.from asked.len }
         ensures all { KeepsNone self.old → IfOk result ReplaysAll }
+        ensures left { OnErr result (AddsNone self.old self.new) }
         ensures seen { HasSeen entries.now self.new }
         ensures keep { keep_of self.new ≡ keep_of self.old }
     {
@@ -78,11 +82,13 @@ impl Engine {
         requires seen { HasSeen entries.now self.old }
         ensures ok { IfOk result (AnswersForth linkage entries.now event from len) }
         ensures err { IfErr result (FailsForth entries.now event from len) }
-        ensures counted { IfOk result (λ answer. steps.new ≡ steps.old + ran_in entries.now (total entries.now) answer.replayed) }
+        ensures counted { IfOk result (λ answer. steps.new ≡ steps.old
+            + ran_in entries.now (total entries.now) answer.replayed) }
         ensures unasked { IfErr result (λ error. RunsNothing error steps.old steps.new) }
         ensures bounded { steps.new ≤ steps.old + ran_forth entries.now event from len }
         ensures first { KeepsNone self.old → IfOk result ReplaysAll }
         ensures without { keep_of self.old ≡ 0 → IfOk result ReplaysAll }
+        ensures left { OnErr result (AddsNone self.old self.new) }
         ensures seen { HasSeen entries.now self.new }
         ensures keep { keep_of self.new ≡ keep_of self.old }
     {

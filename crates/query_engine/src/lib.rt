@@ -17,6 +17,4 @@ mod states;
 
 pub use engine::{Answer, Engine, Target};
 pub use law::seen_stays;
-#[doc(hidden)]
-pub use relations::{Key, Relation, Relations};
 pub use replayer::{Disagrees, QueryError};

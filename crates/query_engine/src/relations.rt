@@ -1,5 +1,5 @@
 // What an engine keeps of groups that it followed.
-ghost use Rattle.std.specs.Prelude.{◌≡◌, IfOk, IfSome, Some};
+ghost use Rattle.std.specs.Prelude.{◌≡◌, IfOk, IfSome, IsOk, Some};
 ghost use Rattle.query_engine.specs.Relations as told;
 ghost use Rattle.query_engine.specs.Relations.{HasFound, Holds, HoldsNoMore, KeepsAlso, KeepsNoMore, KeepsNothing, room};
 
@@ -36,7 +36,8 @@ fn number_of(linkage: Linkage) -> u8
 
 // Takes out what a cache has under a key, if it is from where the group had come as far.
 fn take_from(cache: &mut Cache, key: Key, extent: Extent) -> Option<Tracker>
-    ensures found { IfSome result (λ tracker. Holds (Some cache.old) key (record { extent = extent; tracker = tracker })) }
+    ensures found { IfSome result (λ tracker.
+        Holds (Some cache.old) key (record { extent = extent; tracker = tracker })) }
     ensures kept { HoldsNoMore (Some cache.old) (Some cache.new) }
     ensures room { cache.new.cap ≡ cache.old.cap }
 {
@@ -59,6 +60,7 @@ impl Relations {
     pub fn new(alloc: Global, most: u32) -> Result<Relations, NoMemory>
         ensures none { IfOk result KeepsNothing }
         ensures room { IfOk result (λ relations. room relations ≡ most) }
+        ensures bare { most ≡ 0 → IsOk result }
     {
         match NonZeroUsize::new(most as usize) {
             Some(cap) => Ok(Relations {

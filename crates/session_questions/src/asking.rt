@@ -19,7 +19,7 @@ use std::alloc::Global;
 use std::sync::ledger::Ledger;
 
 /// Of how many groups what followed them is kept between questions, each under one linkage.
-const KEEP: u32 = 8;
+pub const KEEP: u32 = 8;
 
 /// Answers questions about a history from its records, from an index of them, and from what followed groups
 /// for the questions before.

@@ -14,7 +14,7 @@ loop-group-init g c = record {
   counted = ran-none c.args.entries.now c.args.until c.new-replayed.result c.args.steps.now c.new-replayed.ensures;
   bounded = omega arith;
   all = λ none. c.new-replayed.ensures;
-  none = λ none. none;
+  adds = λ key r h. h;
   seen = c.requires.seen;
   keep = refl;
 }
@@ -37,8 +37,8 @@ loop-group-preserved g c =
       part = part-more entries c.args.until groups i inside c.loop-group.replayed c.follow_one.new.replayed c.loop-group.steps c.follow_one.new.steps ran.counted c.loop-group.invariant.part;
       counted = ran-more entries c.args.until groups i inside c.loop-group.replayed c.follow_one.new.replayed c.loop-group.steps c.follow_one.new.steps ran.counted c.args.steps.now c.loop-group.invariant.counted;
       bounded = omega (arith, here, before, at_most);
-      all = λ none. ran.all (c.loop-group.invariant.none none) ∙ (ap (λ (xs : List ℕ). xs ++ get_or groups i 0 ∷ []) (c.loop-group.invariant.all none) ∙ sym (take_more groups i 0 inside));
-      none = λ none. ran.none (c.loop-group.invariant.none none);
+      all = λ none. ran.all (λ key r h. none key r (c.loop-group.invariant.adds key r h)) ∙ (ap (λ (xs : List ℕ). xs ++ get_or groups i 0 ∷ []) (c.loop-group.invariant.all none) ∙ sym (take_more groups i 0 inside));
+      adds = λ key r h. c.loop-group.invariant.adds key r (ran.adds key r h);
       seen = ran.seen;
       keep = ran.keep ∙ c.loop-group.invariant.keep;
     }

@@ -1,6 +1,6 @@
 use Rattle.std.proofs.Common.{◌≡◌, ◌+◌, ◌≤◌, drop, take}
 use Rattle.query_engine.specs.Asked.{ran_in}
-use Rattle.query_engine.specs.Engines.{HasSeen, KeepsNone, keep_of}
+use Rattle.query_engine.specs.Engines.{AddsNone, HasSeen, KeepsNone, keep_of}
 use Rattle.query_engine.specs.Following.{HasFollowed, HasOnly, IsOf}
 use Rattle.query_engine.specs.Parts.{IsPart}
 use Rattle.query_model.specs.Answers.{first_disagreement}
@@ -16,7 +16,7 @@ invariant-loop-group g l = record {
   counted : l.steps ≡ l.initial.steps + ran_in l.entries l.until l.replayed;
   bounded : l.steps + ran_in l.entries l.until (drop l.group-index l.groups) ≤ l.initial.steps + ran_in l.entries l.until l.groups;
   all : KeepsNone l.initial.self → l.replayed ≡ take l.group-index l.groups;
-  none : KeepsNone l.initial.self → KeepsNone l.self;
+  adds : AddsNone l.initial.self l.self;
   seen : HasSeen l.entries l.self;
   keep : keep_of l.self ≡ keep_of l.initial.self;
 }

@@ -12,4 +12,5 @@ returns-in-Ok c =
     record {
       indexed = c.in-Ok.ensures.ok;
       seen = subst (λ records. HasSeen records engine) (take-append-drop from entries) (c.seen_stays.ensures engine (take from entries) (drop from entries) c.requires.known.seen);
+      keeps = c.requires.known.keeps;
     }
