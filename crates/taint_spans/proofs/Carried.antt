@@ -1,5 +1,5 @@
 -- Numbers of sets that are carried over.
-use Rattle.std.proofs.Common.{◌≡◌, ℕ, zero, suc, ◌+◌, ◌<◌, ◌≤◌, ◌==◌, ◌++◌, nat_lt, Bool, true, false, List, [], length, slice_index_or, slice_set, Option, Some, None, Result, Ok, Err, IfOk, refl, sym, ap, subst, ◌∙◌, arith}
+use Rattle.std.proofs.Common.{◌≡◌, ◌⊎◌, ℕ, zero, suc, ◌+◌, ◌-◌, ◌<◌, ◌≤◌, ◌==◌, ◌++◌, nat_lt, Bool, true, false, List, [], ◌∷◌, length, slice_get, slice_index, slice_index_or, slice_set, Option, Some, None, Result, Ok, Err, IfOk, inl, inr, refl, sym, ap, subst, ◌∙◌, arith}
 use Rattle.std.proofs.lemmas.Bool.{eqb-true, eqb-false, ltb-true, ltb-false}
 use Rattle.std.proofs.lemmas.Grind.{get_or-set_at}
 use Rattle.std.proofs.lemmas.List.{get_or-set_other, length-set}
@@ -8,27 +8,24 @@ use Rattle.set_store.specs.declared.item.Item.{Item}
 use Rattle.taint_sets.specs.Carried as inner
 use Rattle.taint_sets.specs.Numbered as plain
 use Rattle.taint_spans.specs.Carried.{Carried, CarriesOn, HasNumber, HaveNumbers, KeepZeros}
-use Rattle.taint_spans.specs.Numbered.{IsSet, StandAsBefore, first_received, is_span, members_of}
-use Rattle.taint_spans.specs.Sound.{AreSpans, lists_of}
+use Rattle.taint_spans.specs.Numbered.{IsSet, IsSpanOf, StandAsBefore, first_received, first_span, is_span, members_of}
+use Rattle.taint_spans.specs.Sound.{AreSpans, IsCarrying, carried_of, lists_of}
 use Rattle.taint_spans.specs.Spans.{IsSpan, members_from, span_members}
 use Rattle.taint_spans.specs.declared.span.Span.{Span}
+use Rattle.taint_spans.proofs.Keeping.{first-added, spans-added}
 use Rattle.taint_spans.proofs.Members.{from-next, from-none, span-kept}
-use Rattle.taint_spans.proofs.Standing.{behind-spans, lists-same, plain-members, plain-set, set-plain, stand-both}
-
--- plain sets and spans that are carried over
-abbrev pub carried : inner.Carried → List Span → List Span → Carried
-carried p from into = record { from = record { sets = p.from; spans = lists_of p.from from }; into = record { sets = p.into; spans = lists_of p.into into } }
+use Rattle.taint_spans.proofs.Standing.{behind-spans, lists-same, numbered-members, plain-before, plain-members, plain-set, set-plain, stand-both}
 
 -- received bytes keep their numbers
 abbrev pub KeepReceived : inner.Carried → Type 0
 KeepReceived p = (n : ℕ) → first_received ≤ n → inner.HasNumber p n n
 
 -- a number that isn't a span's
-pub plain-has : (p : inner.Carried) (from into : List Span) (was is : ℕ) → is_span was ≡ false → is_span is ≡ false → inner.HasNumber p was is → HasNumber (carried p from into) was is
+pub plain-has : (p : inner.Carried) (from into : List Span) (was is : ℕ) → is_span was ≡ false → is_span is ≡ false → inner.HasNumber p was is → HasNumber (carried_of p from into) was is
 plain-has p from into was is d e h = record {
-  there = λ set. plain-set (carried p from into).into is e (h.there (set-plain (carried p from into).from was d set));
-  same = plain-members (carried p from into).into is e ∙ (h.same ∙ sym (plain-members (carried p from into).from was d));
-  given = λ small. plain-set (carried p from into).into is e (h.given small);
+  there = λ set. plain-set (carried_of p from into).into is e (h.there (set-plain (carried_of p from into).from was d set));
+  same = plain-members (carried_of p from into).into is e ∙ (h.same ∙ sym (plain-members (carried_of p from into).from was d));
+  given = λ small. plain-set (carried_of p from into).into is e (h.given small);
 }
 
 -- what still holds
@@ -50,23 +47,23 @@ pub spans-kept : (old new : plain.Numbered) (spans : List Span) → plain.StandA
 spans-kept old new spans stand are place span at = span-kept old new span stand (are place span at)
 
 -- more plain sets are carried over
-pub carries-plain : (p q : inner.Carried) (from into : List Span) → AreSpans p.into into → inner.CarriesOn p q → KeepReceived p → CarriesOn (carried p from into) (carried q from into)
+pub carries-plain : (p q : inner.Carried) (from into : List Span) → AreSpans p.into into → inner.CarriesOn p q → KeepReceived p → CarriesOn (carried_of p from into) (carried_of q from into)
 carries-plain p q from into are on keeps =
-    still-on (carried p from into) (carried q from into) (ap (λ s. record { sets = s; spans = lists_of s from }) on.from)
+    still-on (carried_of p from into) (carried_of q from into) (ap (λ s. record { sets = s; spans = lists_of s from }) on.from)
     (stand-both p.into q.into (lists_of p.into into) (lists_of q.into into) on.stands (lists-same p.into q.into into on.stands are)) large
   where
-    large : (n : ℕ) → first_received ≤ n → members_of (carried q from into).into n ≡ members_of (carried p from into).into n
+    large : (n : ℕ) → first_received ≤ n → members_of (carried_of q from into).into n ≡ members_of (carried_of p from into).into n
     large n least =
-        plain-members (carried q from into).into n (behind-spans n least)
+        plain-members (carried_of q from into).into n (behind-spans n least)
         ∙ ((on.still n n (keeps n least)).same
         ∙ (ap (λ s. plain.members_of s n) on.from
-        ∙ (sym (keeps n least).same ∙ sym (plain-members (carried p from into).into n (behind-spans n least)))))
+        ∙ (sym (keeps n least).same ∙ sym (plain-members (carried_of p from into).into n (behind-spans n least)))))
 
 -- more spans are kept
-pub carries-spans : (p : inner.Carried) (from into more : List Span) → StandAsBefore (carried p from into).into (carried p from more).into → CarriesOn (carried p from into) (carried p from more)
+pub carries-spans : (p : inner.Carried) (from into more : List Span) → StandAsBefore (carried_of p from into).into (carried_of p from more).into → CarriesOn (carried_of p from into) (carried_of p from more)
 carries-spans p from into more stands =
-    still-on (carried p from into) (carried p from more) refl stands
-    (λ n least. plain-members (carried p from more).into n (behind-spans n least) ∙ sym (plain-members (carried p from into).into n (behind-spans n least)))
+    still-on (carried_of p from into) (carried_of p from more) refl stands
+    (λ n least. plain-members (carried_of p from more).into n (behind-spans n least) ∙ sym (plain-members (carried_of p from into).into n (behind-spans n least)))
 
 -- a span whose set is carried over
 pub carried-span : (q : inner.Carried) (span : Span) (base : ℕ) → inner.HasNumber q span.base base → IsSpan q.from span → KeepReceived q → IsSpan q.into (record { base = base; first = span.first; len = span.len })
@@ -147,3 +144,67 @@ has-kept (Err e) sets was members there same from = there
 pub none-from : (o : Option Span) → ((span : Span) → o ≡ Some span → ⊥) → o ≡ None
 none-from None not = refl
 none-from (Some span) not = absurd (not span refl)
+
+-- numbers that are remembered, as places of spans
+abbrev AreNumbers : Carried → List ℕ → Type 0
+AreNumbers sets numbers = (place : ℕ) → (slice_index numbers place ≡ 0) ⊎ HasNumber sets (first_span + place) (slice_index numbers place)
+
+still-numbers : (old new : Carried) (numbers : List ℕ) → CarriesOn old new → AreNumbers old numbers → AreNumbers new numbers
+still-numbers old new numbers on are place = elim (are place) [ inl nought ↦ inl nought | inr has ↦ inr (on.still (first_span + place) (slice_index numbers place) has) ]
+
+-- no span is carried over yet
+pub carrying-first : (p : inner.Carried) (from into : List Span) → AreSpans p.from from → into ≡ [] → IsCarrying p from into []
+carrying-first p from into are none = record {
+  from = are;
+  into = subst (AreSpans p.into) (sym none) (no-spans p.into);
+  numbers = λ place. inl refl;
+}
+
+-- more plain sets are carried over
+pub carrying-plain : (p q : inner.Carried) (from into : List Span) (numbers : List ℕ) → IsCarrying p from into numbers → inner.CarriesOn p q → KeepReceived p → IsCarrying q from into numbers
+carrying-plain p q from into numbers is on keeps = record {
+  from = subst (λ sets. AreSpans sets from) (sym on.from) is.from;
+  into = spans-kept p.into q.into into on.stands is.into;
+  numbers = still-numbers (carried_of p from into) (carried_of q from into) numbers (carries-plain p q from into is.into on keeps) is.numbers;
+}
+
+-- a span more is kept
+pub carries-span : (p : inner.Carried) (from into more : List Span) (span : Span) → (more ≡ into) ⊎ (more ≡ into ++ span ∷ []) → CarriesOn (carried_of p from into) (carried_of p from more)
+carries-span p from into more span e =
+    carries-spans p from into more (stand-both p.into p.into (lists_of p.into into) (lists_of p.into more) (plain-before p.into) (first-added p.into into more span e))
+
+pub carrying-span : (p : inner.Carried) (from into more : List Span) (numbers : List ℕ) (span : Span) → (more ≡ into) ⊎ (more ≡ into ++ span ∷ []) → IsSpan p.into span → IsCarrying p from into numbers → IsCarrying p from more numbers
+carrying-span p from into more numbers span e one is = record {
+  from = is.from;
+  into = spans-added p.into into more span e one is.into;
+  numbers = still-numbers (carried_of p from into) (carried_of p from more) numbers (carries-span p from into more span e) is.numbers;
+}
+
+-- one more number is remembered, at the place of its span or at none
+pub carrying-number : (p : inner.Carried) (from into : List Span) (numbers more : List ℕ) (set number : ℕ) → first_span ≤ set → HasNumber (carried_of p from into) set number
+    → ((k : ℕ) → (slice_index more k ≡ slice_index numbers k) ⊎ ((k ≡ set - first_span) × (slice_index more k ≡ number))) → IsCarrying p from into numbers → IsCarrying p from into more
+carrying-number p from into numbers more set number least has each is = record {
+  from = is.from;
+  into = is.into;
+  numbers = λ k. elim (each k) [
+    | inl same ↦ subst (λ n. (n ≡ 0) ⊎ HasNumber (carried_of p from into) (first_span + k) n) (sym same) (is.numbers k)
+    | inr new ↦
+        let place = new.0 in
+        let at : set ≡ first_span + k = omega (arith, place, least) in
+        inr (subst (HasNumber (carried_of p from into) (first_span + k)) (sym new.1) (subst (λ j. HasNumber (carried_of p from into) j number) at has))
+  ];
+}
+
+-- a number that is remembered
+pub known-number : (p : inner.Carried) (from into : List Span) (numbers : List ℕ) (place number : ℕ) → IsCarrying p from into numbers → number ≡ slice_index numbers place → 0 < number → HasNumber (carried_of p from into) (first_span + place) number
+known-number p from into numbers place number is e some = elim (is.numbers place) [
+  | inl nought ↦ absurd (omega (arith, nought, e, some))
+  | inr has ↦ subst (HasNumber (carried_of p from into) (first_span + place)) (sym e) has
+]
+
+-- the span of a number of before
+pub from-span : (p : inner.Carried) (from into : List Span) (numbers : List ℕ) (set place : ℕ) (span : Span) → IsCarrying p from into numbers → is_span set ≡ true → set ≡ first_span + place → slice_get from place ≡ Some span → IsSpanOf (carried_of p from into).from set span
+from-span p from into numbers set place span is t e at = record {
+  is = is.from place span at;
+  members = numbered-members p.from from set span t (let same : set - first_span ≡ place = omega (arith, e) in ap (slice_get from) same ∙ at);
+}

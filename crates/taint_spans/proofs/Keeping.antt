@@ -1,7 +1,6 @@
 -- What holds of spans goes on to hold.
-use Rattle.std.proofs.Common.{◌≡◌, ◌⊎◌, ℕ, zero, suc, ◌<◌, Bool, true, false, if◌then◌else◌, List, [], ◌∷◌, ◌++◌, length, slice_get, slice_index, Some, refl, sym, ap, subst, ◌∙◌, inl, inr, arith, length-append}
+use Rattle.std.proofs.Common.{◌≡◌, ◌⊎◌, ℕ, zero, suc, ◌<◌, true, List, [], ◌∷◌, ◌++◌, length, slice_get, slice_index, Some, refl, sym, ap, subst, ◌∙◌, inl, inr, arith, length-append}
 use Rattle.std.proofs.lemmas.Bool.Decides.{nat_tests, Decides-eqb}
-use Rattle.std.specs.List.{list_any}
 use Rattle.set_store.specs.declared.item.Item.{Item}
 use Rattle.set_store.specs.Sets.{HaveSame}
 use Rattle.taint_sets.specs.Numbered as plain
@@ -83,26 +82,22 @@ sound-push sets spans settled span is sound = record {
 spans-push : (sets : plain.Numbered) (spans : List Span) (span : Span) → IsSpan sets span → AreSpans sets spans → AreSpans sets (spans ++ span ∷ [])
 spans-push sets spans span is are place other e = elim (push-cases spans span other place e) [ inl was ↦ are place other was | inr new ↦ subst (IsSpan sets) new.1 is ]
 
--- spans with one more, unless it is among them
-added : (b : Bool) (old new : List Span) (span : Span) → new ≡ (if b then old else old ++ span ∷ []) → (new ≡ old) ⊎ (new ≡ old ++ span ∷ [])
-added true old new span e = inl e
-added false old new span e = inr e
-
-pub sound-added : (sets : plain.Numbered) (old new : List Span) (settled : List ℕ) (span : Span) → new ≡ (if list_any (eq-value.it span) old then old else old ++ span ∷ []) → IsSpan sets span → IsSound sets old settled → IsSound sets new settled
-sound-added sets old new settled span e is sound = elim (added (list_any (eq-value.it span) old) old new span e) [
+-- spans with one more, or the same ones
+pub sound-added : (sets : plain.Numbered) (old new : List Span) (settled : List ℕ) (span : Span) → (new ≡ old) ⊎ (new ≡ old ++ span ∷ []) → IsSpan sets span → IsSound sets old settled → IsSound sets new settled
+sound-added sets old new settled span e is sound = elim e [
   | inl same ↦ subst (λ spans. IsSound sets spans settled) (sym same) sound
   | inr more ↦ subst (λ spans. IsSound sets spans settled) (sym more) (sound-push sets old settled span is sound)
 ]
 
-pub spans-added : (sets : plain.Numbered) (old new : List Span) (span : Span) → new ≡ (if list_any (eq-value.it span) old then old else old ++ span ∷ []) → IsSpan sets span → AreSpans sets old → AreSpans sets new
-spans-added sets old new span e is are = elim (added (list_any (eq-value.it span) old) old new span e) [
+pub spans-added : (sets : plain.Numbered) (old new : List Span) (span : Span) → (new ≡ old) ⊎ (new ≡ old ++ span ∷ []) → IsSpan sets span → AreSpans sets old → AreSpans sets new
+spans-added sets old new span e is are = elim e [
   | inl same ↦ subst (λ spans. AreSpans sets spans) (sym same) are
   | inr more ↦ subst (λ spans. AreSpans sets spans) (sym more) (spans-push sets old span is are)
 ]
 
-pub first-added : (sets : plain.Numbered) (old new : List Span) (span : Span) → new ≡ (if list_any (eq-value.it span) old then old else old ++ span ∷ [])
+pub first-added : (sets : plain.Numbered) (old new : List Span) (span : Span) → (new ≡ old) ⊎ (new ≡ old ++ span ∷ [])
     → (place : ℕ) (members : List Item) → slice_get (lists_of sets old) place ≡ Some members → slice_get (lists_of sets new) place ≡ Some members
-first-added sets old new span e place members at = elim (added (list_any (eq-value.it span) old) old new span e) [
+first-added sets old new span e place members at = elim e [
   | inl same ↦ subst (λ spans. slice_get (lists_of sets spans) place ≡ Some members) (sym same) at
   | inr more ↦ subst (λ spans. slice_get (lists_of sets spans) place ≡ Some members) (sym more) (subst (λ l. slice_get l place ≡ Some members) (sym (lists-push sets old span)) (push-before (lists_of sets old) (span_members sets span) members place at))
 ]

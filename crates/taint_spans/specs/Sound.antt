@@ -1,9 +1,12 @@
 -- What holds of spans.
-use Rattle.std.specs.Prelude.{◌≡◌, ◌⊎◌, ℕ, ◌≤◌, List, length, map, slice_get, slice_index, Some}
+use Rattle.std.specs.Prelude.{◌≡◌, ◌⊎◌, ℕ, ◌+◌, ◌≤◌, List, length, map, slice_get, slice_index, Some}
 use Rattle.set_store.specs.declared.item.Item.{Item}
 use Rattle.set_store.specs.Sets.{HaveSame}
+use Rattle.taint_sets.specs.Carried as inner
 use Rattle.taint_sets.specs.Numbered as plain
 use Rattle.taint_sets.specs.Numbered.{Numbered}
+use Rattle.taint_spans.specs.Carried.{Carried, HasNumber}
+use Rattle.taint_spans.specs.Numbered.{first_span}
 use Rattle.taint_spans.specs.Spans.{IsSpan, span_members}
 use Rattle.taint_spans.specs.declared.span.Span.{Span}
 
@@ -26,3 +29,17 @@ pub record IsSound (sets : Numbered) (spans : List Span) (settled : List ℕ) : 
 -- the members of each span
 abbrev pub lists_of : Numbered → List Span → List (List Item)
 lists_of sets spans = map (span_members sets) spans
+
+-- plain sets and spans that are carried over
+abbrev pub carried_of : inner.Carried → List Span → List Span → Carried
+carried_of plain from into = record {
+  from = record { sets = plain.from; spans = lists_of plain.from from };
+  into = record { sets = plain.into; spans = lists_of plain.into into };
+}
+
+-- Each span of before and each fresh one has sets, and a number that is remembered of one of before, if it isn't 0, is the one
+-- that it has from now on.
+pub record IsCarrying (plain : inner.Carried) (old fresh : List Span) (known : List ℕ) : Type 0 where
+  pub from : AreSpans plain.from old
+  pub into : AreSpans plain.into fresh
+  pub numbers : (place : ℕ) → (slice_index known place ≡ 0) ⊎ HasNumber (carried_of plain old fresh) (first_span + place) (slice_index known place)

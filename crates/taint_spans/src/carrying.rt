@@ -1,37 +1,36 @@
 // Sets that are carried over into fresh ones, so that those which nobody names go.
 ghost use Rattle.std.specs.Prelude.{◌≡◌, ◌<◌, ◌≤◌, ℕ, true, false, [], length, IfOk, OnOk};
 ghost use Rattle.taint_spans.specs.Carried.{CarriesOn, HasNumber, HaveNumbers, KeepZeros};
-ghost use Rattle.taint_spans.specs.Numbered.{IsSet, first_received, first_span, is_span, members_of};
+ghost use Rattle.taint_spans.specs.Numbered.{IsSet, IsSpanOf, first_received, first_span, is_span, members_of};
 ghost use Rattle.taint_spans.specs.Spans.{IsSpan, span_members};
 
+use crate::known::{known, remember};
 use crate::sets::{FIRST_SPAN, SpanSets, is_of_span, narrow, number_of};
 use crate::span::{EMPTY, Span};
+use crate::spans::Spans;
 use arn_base::NoMemory;
-use indexmap::IndexSet;
 use std::alloc::Global;
 use std::marker::Model;
 
 /// Sets that are carried over into fresh ones, one after the other. Received bytes keep their numbers.
 #[derive(Drop)]
 pub struct Carrying {
-    from: IndexSet<Span>,
+    from: Spans,
     plain: taint_sets::Carrying,
-    into: IndexSet<Span>,
+    into: Spans,
+    carried: Vec<u32>,
     alloc: Global,
 }
 
 impl Model for Carrying {
     ghost use Rattle.taint_spans.specs.Carried.{Carried};
-    ghost use Rattle.taint_spans.specs.Sound.{AreSpans, lists_of};
+    ghost use Rattle.taint_spans.specs.Sound.{IsCarrying, carried_of};
 
     ghost Value = { Carried };
 
-    ghost view = { λ c. record {
-      from = record { sets = c.plain.from; spans = lists_of c.plain.from c.from.keys };
-      into = record { sets = c.plain.into; spans = lists_of c.plain.into c.into.keys };
-    } };
+    ghost view = { λ c. carried_of c.plain c.from c.into };
 
-    ghost invariant = { λ c. AreSpans c.plain.from c.from.keys × AreSpans c.plain.into c.into.keys };
+    ghost invariant = { λ c. IsCarrying c.plain c.from c.into c.carried.items };
 }
 
 impl Carrying {
@@ -43,7 +42,8 @@ impl Carrying {
         Ok(Carrying {
             from,
             plain: taint_sets::Carrying::new(alloc, sets, memo)?,
-            into: IndexSet::new(alloc),
+            into: Spans::new(alloc)?,
+            carried: Vec::new(alloc),
             alloc,
         })
     }
@@ -89,16 +89,31 @@ impl Carrying {
         narrow(self.plain.carry(set)?)
     }
 
-    /// The same of a span: its set is carried over.
+    /// The same of a span. Its number is remembered.
     fn carry_span(&mut self, set: u32) -> Result<u32, NoMemory>
         requires { is_span set ≡ true }
         ensures number { IfOk result (HasNumber self.new set) }
         ensures on { CarriesOn self.old self.new }
     {
+        let place = (set - FIRST_SPAN) as usize;
+        if let Some(known) = known(self.carried.as_slice(), place) {
+            return Ok(known);
+        }
         self.keeps();
-        let Some(span) = self.from.get_index((set - FIRST_SPAN) as usize).copied() else {
+        let Some(span) = self.from.get(place) else {
             return Ok(EMPTY);
         };
+        let number = self.carry_anew(set, span)?;
+        remember(&mut self.carried, place, number)?;
+        Ok(number)
+    }
+
+    /// The same of a span of which no number is remembered: its set is carried over.
+    fn carry_anew(&mut self, set: u32, span: Span) -> Result<u32, NoMemory>
+        requires { IsSpanOf self.old.from set span }
+        ensures number { IfOk result (HasNumber self.new set) }
+        ensures on { CarriesOn self.old self.new }
+    {
         self.plain.keeps();
         let base = self.plain.carry(span.base)?;
         self.keep(Span { base, ..span })
@@ -113,8 +128,7 @@ impl Carrying {
         ensures from { self.new.from ≡ self.old.from }
         ensures on { CarriesOn self.old self.new }
     {
-        let (place, _) = self.into.insert_full(span)?;
-        number_of(place)
+        number_of(self.into.keep(span)?)
     }
 
     /// Puts in the place of each number the one that its set has from now on.

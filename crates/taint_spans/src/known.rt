@@ -13,8 +13,7 @@ pub fn known(numbers: &[u32], place: usize) -> Option<u32>
 }
 
 /// Makes room up to a place. What is remembered stays.
-#[inline(always)]
-pub fn make_room(numbers: &mut Vec<u32>, place: usize) -> Result<(), NoMemory>
+fn make_room(numbers: &mut Vec<u32>, place: usize) -> Result<(), NoMemory>
     ensures room { OnOk result (place < length numbers.new.items) }
     ensures same { (k : ℕ) → slice_index numbers.new.items k ≡ slice_index numbers.old.items k }
 {
@@ -24,12 +23,12 @@ pub fn make_room(numbers: &mut Vec<u32>, place: usize) -> Result<(), NoMemory>
     Ok(())
 }
 
-/// Remembers a number at a place, if there is room. All else stays.
-pub fn remember(numbers: &mut Vec<u32>, place: usize, number: u32)
+/// Remembers a number at a place, if there is memory for so many. All else stays.
+pub fn remember(numbers: &mut Vec<u32>, place: usize, number: u32) -> Result<(), NoMemory>
     ensures { (k : ℕ) → (slice_index numbers.new.items k ≡ slice_index numbers.old.items k)
         ⊎ ((k ≡ place) × (slice_index numbers.new.items k ≡ number)) }
 {
-    if place < numbers.len() {
-        numbers[place] = number;
-    }
+    make_room(numbers, place)?;
+    numbers[place] = number;
+    Ok(())
 }

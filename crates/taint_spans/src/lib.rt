@@ -6,6 +6,7 @@ mod known;
 mod sets;
 mod settling;
 mod span;
+mod spans;
 
 pub use carrying::Carrying;
 pub use sets::SpanSets;

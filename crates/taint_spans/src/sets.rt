@@ -1,5 +1,5 @@
 // The sets of bytes by number.
-ghost use Rattle.std.specs.Prelude.{◌≡◌, ◌↔◌, ◌<◌, ◌≤◌, ◌+◌, ◌^◌, ℕ, true, false, [], length, slice_get, Some, IfOk};
+ghost use Rattle.std.specs.Prelude.{◌≡◌, ◌↔◌, ◌<◌, ◌≤◌, ◌+◌, ◌^◌, ℕ, true, false, [], IfOk};
 ghost use Rattle.set_store.specs.Sets.{HaveSame, IsUnionOf};
 ghost use Rattle.taint_sets.specs.Numbered as plain;
 ghost use Rattle.taint_sets.specs.Numbered.{first_received};
@@ -7,11 +7,11 @@ ghost use Rattle.taint_spans.specs.Numbered.{AreReceivedFrom, IsSet, IsSpanOf, S
 ghost use Rattle.taint_spans.specs.Sound.{AreSpans, lists_of};
 ghost use Rattle.taint_spans.specs.Spans.{IsSpan, span_members};
 
-use crate::known::{known, make_room, remember};
+use crate::known::{known, remember};
 use crate::settling::{members, settle};
 use crate::span::{EMPTY, Span, has_all, longer};
+use crate::spans::Spans;
 use arn_base::NoMemory;
-use indexmap::IndexSet;
 use set_store::Item;
 use std::alloc::Global;
 use std::marker::Model;
@@ -55,25 +55,13 @@ pub(crate) fn number_of(place: usize) -> Result<u32, NoMemory>
     }
 }
 
-/// The span at a place.
-#[inline(always)]
-fn span_at(spans: &IndexSet<Span>, place: usize) -> Span
-    requires { place < length spans.now.keys }
-    ensures { slice_get spans.now.keys place ≡ Some result }
-{
-    match spans.get_index(place) {
-        Some(span) => *span,
-        None => unreachable!(),
-    }
-}
-
 /// Sets of items by number. A union with a received byte is kept as a span: a set, and received bytes in a row besides. It
 /// becomes a set of its own only where it is joined with another one. What is asked for is added, and nothing is taken away,
 /// so a number stands for its set as long as these are kept. What is named of them may be carried over.
 #[derive(Drop)]
 pub struct SpanSets {
     sets: ByteSets,
-    spans: IndexSet<Span>,
+    spans: Spans,
     settled: Vec<u32>,
     many: usize,
 }
@@ -84,9 +72,9 @@ impl Model for SpanSets {
 
     ghost Value = { Numbered };
 
-    ghost view = { λ s. record { sets = s.sets; spans = lists_of s.sets s.spans.keys } };
+    ghost view = { λ s. record { sets = s.sets; spans = lists_of s.sets s.spans } };
 
-    ghost invariant = { λ s. IsSound s.sets s.spans.keys s.settled.items };
+    ghost invariant = { λ s. IsSound s.sets s.spans s.settled.items };
 }
 
 impl SpanSets {
@@ -97,7 +85,7 @@ impl SpanSets {
     {
         Ok(SpanSets {
             sets: ByteSets::new(alloc, memo)?,
-            spans: IndexSet::new(alloc),
+            spans: Spans::new(alloc)?,
             settled: Vec::new(alloc),
             many: MANY,
         })
@@ -122,20 +110,20 @@ impl SpanSets {
     }
 
     /// The sets that aren't spans, and the spans.
-    pub(crate) fn parts(self) -> (ByteSets, IndexSet<Span>)
+    pub(crate) fn parts(self) -> (ByteSets, Spans)
         ensures sets { result.0 ≡ self.sets }
-        ensures spans { lists_of result.0 result.1.keys ≡ self.spans }
-        ensures sound { AreSpans result.0 result.1.keys }
+        ensures spans { lists_of result.0 result.1 ≡ self.spans }
+        ensures sound { AreSpans result.0 result.1 }
     {
         (self.sets, self.spans)
     }
 
     /// These sets and spans. Of none it is remembered which set it came to. Only where twice as many spans are kept should
     /// some go again.
-    pub(crate) fn of(sets: ByteSets, spans: IndexSet<Span>, alloc: Global) -> SpanSets
-        requires { AreSpans sets spans.keys }
+    pub(crate) fn of(sets: ByteSets, spans: Spans, alloc: Global) -> SpanSets
+        requires { AreSpans sets spans }
         ensures sets { result.sets ≡ sets }
-        ensures spans { result.spans ≡ lists_of sets spans.keys }
+        ensures spans { result.spans ≡ lists_of sets spans }
     {
         SpanSets {
             many: MANY.max(spans.len().saturating_mul(2)),
@@ -163,7 +151,7 @@ impl SpanSets {
     {
         let _ = self.empty();
         if is_of_span(set) {
-            return span_at(&self.spans, (set - FIRST_SPAN) as usize);
+            return self.spans.at((set - FIRST_SPAN) as usize);
         }
         if set < FIRST_SPAN {
             Span {
@@ -187,9 +175,7 @@ impl SpanSets {
         ensures members { IfOk result (λ set. members_of self.new set ≡ span_members self.old.sets span) }
         ensures before { StandAsBefore self.old self.new }
     {
-        let (place, _) = self.spans.insert_full(span)?;
-        make_room(&mut self.settled, place)?;
-        number_of(place)
+        number_of(self.spans.keep(span)?)
     }
 
     /// The number of a set that isn't a span's. That of a span is remembered.
@@ -208,8 +194,8 @@ impl SpanSets {
         if let Some(known) = known(self.settled.as_slice(), place) {
             return Ok(known);
         }
-        let settled = settle(&mut self.sets, span_at(&self.spans, place))?;
-        remember(&mut self.settled, place, settled);
+        let settled = settle(&mut self.sets, self.spans.at(place))?;
+        remember(&mut self.settled, place, settled)?;
         Ok(settled)
     }
 
@@ -305,8 +291,8 @@ impl SpanSets {
         if !is_of_span(set) {
             return self.sets.members(set);
         }
-        match self.spans.get_index((set - FIRST_SPAN) as usize) {
-            Some(span) => members(&self.sets, *span),
+        match self.spans.get((set - FIRST_SPAN) as usize) {
+            Some(span) => members(&self.sets, span),
             None => Ok(Vec::new(*self.settled.allocator())),
         }
     }

@@ -1,68 +1,55 @@
-use Rattle.std.proofs.Common.{◌≡◌, ◌-◌, [], sym, ap, subst, ◌∙◌}
-use Rattle.taint_spans.specs.Carried.{Carried, CarriesOn}
-use Rattle.taint_spans.specs.Numbered.{first_span, members_of}
-use Rattle.taint_spans.specs.Sound.{AreSpans}
-use Rattle.taint_spans.specs.Spans.{IsSpan}
-use Rattle.taint_spans.proofs.Carried.{carried, carried-members, carried-span, carries-plain, has-kept, none-from, on-twice, spans-kept, still-received}
-use Rattle.taint_spans.proofs.Members.{if-ok}
-use Rattle.taint_spans.proofs.Standing.{no-span, numbered-members}
+use Rattle.std.proofs.Common.{◌≡◌, ◌-◌, ◌+◌, [], slice_index, sym, ap, subst, ◌∙◌, arith}
+use Rattle.taint_spans.specs.Carried.{Carried, CarriesOn, HasNumber}
+use Rattle.taint_spans.specs.Numbered.{IsSpanOf, first_span, members_of}
+use Rattle.taint_spans.specs.Sound.{carried_of}
+use Rattle.taint_spans.proofs.Carried.{carrying-number, from-span, known-number, none-from}
+use Rattle.taint_spans.proofs.Standing.{no-span, within-spans}
 use Rattle.taint_spans.proofs.carrying.Carrying.carry_span.Goals as goal
 
-pub returns-in_default-clause-number : goal.returns-in_default-clause-number
-returns-in_default-clause-number c =
+pub returns-in-Some-clause-number : goal.returns-in-Some-clause-number
+returns-in-Some-clause-number c =
     let inside = c.self.inside in
-    let none = no-span inside.plain.from inside.from.keys c.args.set c.requires (sym c.get_index.ensures.key ∙ (sym c.copied.ensures ∙ none-from c.copied.result c.in_default.not-Some)) in
+    let number = c.in-Some.ensures.0 ∙ ap (λ l. slice_index l (c.args.set - first_span)) c.as_slice.ensures.value in
+    let least = within-spans c.args.set c.requires in
+    let at : first_span + (c.args.set - first_span) ≡ c.args.set = omega (arith, least) in
+    subst (λ sets. HasNumber sets c.args.set c.in-Some.known) c.self.view_is
+    (subst (λ n. HasNumber (carried_of inside.plain inside.from inside.into) n c.in-Some.known) at
+    (known-number inside.plain inside.from inside.into inside.carried.items (c.args.set - first_span) c.in-Some.known c.self.invariant number c.in-Some.ensures.1))
+
+pub returns-in_default-get-clause-number : goal.returns-in_default-get-clause-number
+returns-in_default-get-clause-number c =
+    let inside = c.self.inside in
+    let none = no-span inside.plain.from inside.from c.args.set c.requires (sym c.get.ensures ∙ none-from c.get.result c.in_default-get.not-Some) in
     record {
       there = λ set. c.keeps.ensures.set;
       same = c.keeps.ensures.none ∙ sym (subst (λ (sets : Carried). members_of sets.from c.args.set ≡ []) c.self.view_is none);
       given = λ small. c.keeps.ensures.set;
     }
 
+pub carry_anew-requires : goal.carry_anew-requires
+carry_anew-requires c =
+    let inside = c.self.inside in
+    let least = within-spans c.args.set c.requires in
+    subst (λ (sets : Carried). IsSpanOf sets.from c.args.set c.in-Some-get.span) c.self.view_is
+    (from-span inside.plain inside.from inside.into inside.carried.items c.args.set (c.args.set - first_span) c.in-Some-get.span c.self.invariant c.requires (omega (arith, least)) (sym c.get.ensures ∙ c.in-Some-get.is))
+
 pub invariant_of-self : goal.invariant_of-self
 invariant_of-self c =
-    let inside = c.self.inside in (
-      subst (λ sets. AreSpans sets inside.from.keys) (sym c.carry.ensures.on.from) c.self.invariant.0,
-      spans-kept inside.plain.into c.carry.new.self.into inside.into.keys c.carry.ensures.on.stands c.self.invariant.1,
-    )
+    let inside = c.self-2.inside in
+    let has = subst (λ sets. HasNumber sets c.args.set c.in_ok-number.number) (sym c.self-2.view_is) c.in_ok-number.ensures.number in
+    carrying-number inside.plain inside.from inside.into inside.carried.items c.remember.new.numbers.items c.args.set c.in_ok-number.number (within-spans c.args.set c.requires) has c.remember.ensures c.self-2.invariant
 
-pub returns-in_err-base-clause-on : goal.returns-in_err-base-clause-on
-returns-in_err-base-clause-on c =
-    let inside = c.self.inside in
-    subst (λ sets. CarriesOn sets (carried c.carry.new.self inside.from.keys inside.into.keys)) c.self.view_is
-    (carries-plain inside.plain c.carry.new.self inside.from.keys inside.into.keys c.self.invariant.1 c.carry.ensures.on c.keeps-2.ensures.received)
+pub returns-in_err-remember-clause-on : goal.returns-in_err-remember-clause-on
+returns-in_err-remember-clause-on c = subst (CarriesOn c.args.self.now) (sym c.self-2.view_is) c.carry_anew.ensures.on
 
 pub invariant_of-self-2 : goal.invariant_of-self-2
 invariant_of-self-2 c =
-    let inside = c.self.inside in (
-      subst (λ sets. AreSpans sets inside.from.keys) (sym c.carry.ensures.on.from) c.self.invariant.0,
-      spans-kept inside.plain.into c.carry.new.self.into inside.into.keys c.carry.ensures.on.stands c.self.invariant.1,
-    )
-
-pub keep-requires : goal.keep-requires
-keep-requires c =
-    let inside = c.self.inside in
-    let at = sym c.get_index.ensures.key ∙ (sym c.copied.ensures ∙ c.in-Some.is) in
-    let is = subst (λ sets. IsSpan sets c.in-Some.span) (sym c.carry.ensures.on.from) (c.self.invariant.0 (c.args.set - first_span) c.in-Some.span at) in
-    carried-span c.carry.new.self c.in-Some.span c.in_ok-base.base c.in_ok-base.ensures.number is (still-received inside.plain c.carry.new.self c.carry.ensures.on c.keeps-2.ensures.received)
+    let inside = c.self-2.inside in
+    let has = subst (λ sets. HasNumber sets c.args.set c.in_ok-number.number) (sym c.self-2.view_is) c.in_ok-number.ensures.number in
+    carrying-number inside.plain inside.from inside.into inside.carried.items c.remember.new.numbers.items c.args.set c.in_ok-number.number (within-spans c.args.set c.requires) has c.remember.ensures c.self-2.invariant
 
 pub returns-clause-number : goal.returns-clause-number
-returns-clause-number c =
-    let inside = c.self.inside in
-    let q = c.carry.new.self in
-    let span = c.in-Some.span in
-    let at = sym c.get_index.ensures.key ∙ (sym c.copied.ensures ∙ c.in-Some.is) in
-    let is = subst (λ sets. IsSpan sets span) (sym c.carry.ensures.on.from) (c.self.invariant.0 (c.args.set - first_span) span at) in
-    let fresh = carried-members q span c.in_ok-base.base c.in_ok-base.ensures.number is (still-received inside.plain q c.carry.ensures.on c.keeps-2.ensures.received) in
-    let before = numbered-members q.from inside.from.keys c.args.set span c.requires at in
-    has-kept c.keep.result c.keep.new.self c.args.set (members_of (carried q inside.from.keys inside.into.keys).from c.args.set)
-    c.keep.ensures.set (if-ok c.keep.result _ _ c.keep.ensures.members (λ number same. same ∙ (fresh ∙ sym before)))
-    (ap (λ s. members_of s c.args.set) c.keep.ensures.from)
+returns-clause-number c = subst (λ sets. HasNumber sets c.args.set c.in_ok-number.number) (sym c.self-2.view_is) c.in_ok-number.ensures.number
 
 pub returns-clause-on : goal.returns-clause-on
-returns-clause-on c =
-    let inside = c.self.inside in
-    let mid = carried c.carry.new.self inside.from.keys inside.into.keys in
-    on-twice c.args.self.now mid c.keep.new.self
-    (subst (λ sets. CarriesOn sets mid) c.self.view_is
-    (carries-plain inside.plain c.carry.new.self inside.from.keys inside.into.keys c.self.invariant.1 c.carry.ensures.on c.keeps-2.ensures.received))
-    c.keep.ensures.on
+returns-clause-on c = subst (CarriesOn c.args.self.now) (sym c.self-2.view_is) c.carry_anew.ensures.on

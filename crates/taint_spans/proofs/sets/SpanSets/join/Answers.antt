@@ -9,32 +9,32 @@ use Rattle.taint_spans.proofs.Standing.{lists-same, plain-members, plain-set, st
 use Rattle.taint_spans.proofs.sets.SpanSets.join.Goals as goal
 
 pub invariant_of-self : goal.invariant_of-self
-invariant_of-self c = sound-grown c.self.inside.sets c.unite.new.self c.self.inside.spans.keys c.self.inside.settled.items c.unite.ensures.before c.self.invariant
+invariant_of-self c = sound-grown c.self.inside.sets c.unite.new.self c.self.inside.spans c.self.inside.settled.items c.unite.ensures.before c.self.invariant
 
 pub invariant_of-self-2 : goal.invariant_of-self-2
-invariant_of-self-2 c = sound-grown c.self.inside.sets c.unite.new.self c.self.inside.spans.keys c.self.inside.settled.items c.unite.ensures.before c.self.invariant
+invariant_of-self-2 c = sound-grown c.self.inside.sets c.unite.new.self c.self.inside.spans c.self.inside.settled.items c.unite.ensures.before c.self.invariant
 
 pub returns-in_err-unite-clause-before : goal.returns-in_err-unite-clause-before
 returns-in_err-unite-clause-before c =
     let inside = c.self.inside in
-    let after : Numbered = record { sets = c.unite.new.self; spans = lists_of c.unite.new.self inside.spans.keys } in
+    let after : Numbered = record { sets = c.unite.new.self; spans = lists_of c.unite.new.self inside.spans } in
     stand-trans c.args.self.now c.settle-2.new.self after (stand-trans c.args.self.now c.settle.new.self c.settle-2.new.self c.settle.ensures.before c.settle-2.ensures.before)
     (subst (λ sets. StandAsBefore sets after) c.self.view_is
-    (stand-both inside.sets c.unite.new.self (lists_of inside.sets inside.spans.keys) (lists_of c.unite.new.self inside.spans.keys) c.unite.ensures.before
-    (lists-same inside.sets c.unite.new.self inside.spans.keys c.unite.ensures.before c.self.invariant.are_spans)))
+    (stand-both inside.sets c.unite.new.self (lists_of inside.sets inside.spans) (lists_of c.unite.new.self inside.spans) c.unite.ensures.before
+    (lists-same inside.sets c.unite.new.self inside.spans c.unite.ensures.before c.self.invariant.are_spans)))
 
 pub returns-clause-before : goal.returns-clause-before
 returns-clause-before c =
     let inside = c.self.inside in
-    let after : Numbered = record { sets = c.unite.new.self; spans = lists_of c.unite.new.self inside.spans.keys } in
+    let after : Numbered = record { sets = c.unite.new.self; spans = lists_of c.unite.new.self inside.spans } in
     stand-trans c.args.self.now c.settle-2.new.self after (stand-trans c.args.self.now c.settle.new.self c.settle-2.new.self c.settle.ensures.before c.settle-2.ensures.before)
     (subst (λ sets. StandAsBefore sets after) c.self.view_is
-    (stand-both inside.sets c.unite.new.self (lists_of inside.sets inside.spans.keys) (lists_of c.unite.new.self inside.spans.keys) c.unite.ensures.before
-    (lists-same inside.sets c.unite.new.self inside.spans.keys c.unite.ensures.before c.self.invariant.are_spans)))
+    (stand-both inside.sets c.unite.new.self (lists_of inside.sets inside.spans) (lists_of c.unite.new.self inside.spans) c.unite.ensures.before
+    (lists-same inside.sets c.unite.new.self inside.spans c.unite.ensures.before c.self.invariant.are_spans)))
 
 pub returns-clause-set : goal.returns-clause-set
 returns-clause-set c =
-    let after : Numbered = record { sets = c.unite.new.self; spans = lists_of c.unite.new.self c.self.inside.spans.keys } in
+    let after : Numbered = record { sets = c.unite.new.self; spans = lists_of c.unite.new.self c.self.inside.spans } in
     if-ok c.narrow.result _ _ c.narrow.ensures (λ number is.
     plain-set after number (subst (λ n. is_span n ≡ false) (sym is.0) is.1) (subst (plain.IsSet c.unite.new.self) (sym is.0) c.in_ok-unite.ensures.set))
 
@@ -42,7 +42,7 @@ pub returns-clause-members : goal.returns-clause-members
 returns-clause-members c =
     let inside = c.self.inside in
     let new = c.unite.new.self in
-    let after : Numbered = record { sets = new; spans = lists_of new inside.spans.keys } in
+    let after : Numbered = record { sets = new; spans = lists_of new inside.spans } in
     let mid = ap (λ (sets : Numbered). sets.sets) c.self.view_is in
     let first = same-trans _ _ _ (same-of _ _ (ap (λ s. plain.members_of s c.in_ok-first.first) mid ∙ c.settle-2.ensures.plain.same c.in_ok-first.first c.in_ok-first.ensures.set)) c.in_ok-first.ensures.members in
     let second = same-trans _ _ _ (same-of _ _ (ap (λ s. plain.members_of s c.in_ok-second.second) mid)) (same-trans _ _ _ c.in_ok-second.ensures.members (same-of _ _ (c.settle.ensures.before.same c.args.second c.requires.second))) in

@@ -18,62 +18,79 @@ pub returns-in-Some-clause-set : goal.returns-in-Some-clause-set
 returns-in-Some-clause-set c =
     let inside = c.self.inside in
     let is = subst (λ sets. IsSet sets c.args.set) (sym c.self.view_is) c.requires in
-    let found = span-of inside.sets inside.spans.keys c.args.set (sym c.is_of_span.ensures ∙ c.if-not-is_of_span.false) is in
+    let found = span-of inside.sets inside.spans c.args.set (sym c.is_of_span.ensures ∙ c.if-not-is_of_span.false) is in
     let number = c.in-Some.ensures.0 ∙ ap (λ l. slice_index l (c.args.set - first_span)) c.as_slice.ensures.value in
     subst (λ (sets : Numbered). plain.IsSet sets.sets c.in-Some.known) c.self.view_is
-    (known-settled inside.sets inside.spans.keys inside.settled.items (c.args.set - first_span) c.in-Some.known found.0 c.self.invariant found.1 number c.in-Some.ensures.1).there
+    (known-settled inside.sets inside.spans inside.settled.items (c.args.set - first_span) c.in-Some.known found.0 c.self.invariant found.1 number c.in-Some.ensures.1).there
 
 pub returns-in-Some-clause-members : goal.returns-in-Some-clause-members
 returns-in-Some-clause-members c =
     let inside = c.self.inside in
     let is = subst (λ sets. IsSet sets c.args.set) (sym c.self.view_is) c.requires in
-    let found = span-of inside.sets inside.spans.keys c.args.set (sym c.is_of_span.ensures ∙ c.if-not-is_of_span.false) is in
+    let found = span-of inside.sets inside.spans c.args.set (sym c.is_of_span.ensures ∙ c.if-not-is_of_span.false) is in
     let number = c.in-Some.ensures.0 ∙ ap (λ l. slice_index l (c.args.set - first_span)) c.as_slice.ensures.value in
     subst (λ (sets : Numbered). HaveSame (plain.members_of sets.sets c.in-Some.known) (members_of sets c.args.set)) c.self.view_is
     (subst (HaveSame (plain.members_of inside.sets c.in-Some.known)) (sym found.2)
-    (known-settled inside.sets inside.spans.keys inside.settled.items (c.args.set - first_span) c.in-Some.known found.0 c.self.invariant found.1 number c.in-Some.ensures.1).members)
+    (known-settled inside.sets inside.spans inside.settled.items (c.args.set - first_span) c.in-Some.known found.0 c.self.invariant found.1 number c.in-Some.ensures.1).members)
 
-pub span_at-requires : goal.span_at-requires
-span_at-requires c =
+pub at-requires : goal.at-requires
+at-requires c =
     let inside = c.self.inside in
     let is = subst (λ sets. IsSet sets c.args.set) (sym c.self.view_is) c.requires in
-    let found = span-of inside.sets inside.spans.keys c.args.set (sym c.is_of_span.ensures ∙ c.if-not-is_of_span.false) is in
-    within-list inside.spans.keys (c.args.set - first_span) found.0 found.1
+    let found = span-of inside.sets inside.spans c.args.set (sym c.is_of_span.ensures ∙ c.if-not-is_of_span.false) is in
+    within-list inside.spans (c.args.set - first_span) found.0 found.1
 
 pub settle-requires : goal.settle-requires
-settle-requires c = c.self.invariant.are_spans (c.args.set - first_span) c.span_at.result c.span_at.ensures
+settle-requires c = c.self.invariant.are_spans (c.args.set - first_span) c.at.result c.at.ensures
 
 pub invariant_of-self : goal.invariant_of-self
-invariant_of-self c = sound-grown c.self.inside.sets c.settle.new.sets c.self.inside.spans.keys c.self.inside.settled.items c.settle.ensures.before c.self.invariant
+invariant_of-self c = sound-grown c.self.inside.sets c.settle.new.sets c.self.inside.spans c.self.inside.settled.items c.settle.ensures.before c.self.invariant
 
 pub returns-in_err-settled-clause-before : goal.returns-in_err-settled-clause-before
 returns-in_err-settled-clause-before c =
     let inside = c.self.inside in
-    let after : Numbered = record { sets = c.settle.new.sets; spans = lists_of c.settle.new.sets inside.spans.keys } in
+    let after : Numbered = record { sets = c.settle.new.sets; spans = lists_of c.settle.new.sets inside.spans } in
     subst (λ sets. StandAsBefore sets after) c.self.view_is
-    (stand-both inside.sets c.settle.new.sets (lists_of inside.sets inside.spans.keys) (lists_of c.settle.new.sets inside.spans.keys) c.settle.ensures.before
-    (lists-same inside.sets c.settle.new.sets inside.spans.keys c.settle.ensures.before c.self.invariant.are_spans))
+    (stand-both inside.sets c.settle.new.sets (lists_of inside.sets inside.spans) (lists_of c.settle.new.sets inside.spans) c.settle.ensures.before
+    (lists-same inside.sets c.settle.new.sets inside.spans c.settle.ensures.before c.self.invariant.are_spans))
 
 pub invariant_of-self-2 : goal.invariant_of-self-2
 invariant_of-self-2 c =
     let inside = c.self.inside in
     let new = c.settle.new.sets in
-    let is = c.self.invariant.are_spans (c.args.set - first_span) c.span_at.result c.span_at.ensures in
-    sound-settled new inside.spans.keys inside.settled.items c.remember.new.numbers.items (c.args.set - first_span) c.in_ok-settled.settled c.span_at.result c.span_at.ensures
-    (settled-now inside.sets new c.span_at.result c.in_ok-settled.settled c.settle.ensures.before is c.in_ok-settled.ensures.set c.in_ok-settled.ensures.members)
-    c.remember.ensures (sound-grown inside.sets new inside.spans.keys inside.settled.items c.settle.ensures.before c.self.invariant)
+    let is = c.self.invariant.are_spans (c.args.set - first_span) c.at.result c.at.ensures in
+    sound-settled new inside.spans inside.settled.items c.remember.new.numbers.items (c.args.set - first_span) c.in_ok-settled.settled c.at.result c.at.ensures
+    (settled-now inside.sets new c.at.result c.in_ok-settled.settled c.settle.ensures.before is c.in_ok-settled.ensures.set c.in_ok-settled.ensures.members)
+    c.remember.ensures (sound-grown inside.sets new inside.spans inside.settled.items c.settle.ensures.before c.self.invariant)
 
 pub returns-clause-members : goal.returns-clause-members
 returns-clause-members c =
     let inside = c.self.inside in
-    let same = numbered-members inside.sets inside.spans.keys c.args.set c.span_at.result (sym c.is_of_span.ensures ∙ c.if-not-is_of_span.false) c.span_at.ensures in
+    let same = numbered-members inside.sets inside.spans c.args.set c.at.result (sym c.is_of_span.ensures ∙ c.if-not-is_of_span.false) c.at.ensures in
     subst (λ sets. HaveSame (plain.members_of c.settle.new.sets c.in_ok-settled.settled) (members_of sets c.args.set)) c.self.view_is
     (subst (HaveSame (plain.members_of c.settle.new.sets c.in_ok-settled.settled)) (sym same) c.in_ok-settled.ensures.members)
 
 pub returns-clause-before : goal.returns-clause-before
 returns-clause-before c =
     let inside = c.self.inside in
-    let after : Numbered = record { sets = c.settle.new.sets; spans = lists_of c.settle.new.sets inside.spans.keys } in
+    let after : Numbered = record { sets = c.settle.new.sets; spans = lists_of c.settle.new.sets inside.spans } in
     subst (λ sets. StandAsBefore sets after) c.self.view_is
-    (stand-both inside.sets c.settle.new.sets (lists_of inside.sets inside.spans.keys) (lists_of c.settle.new.sets inside.spans.keys) c.settle.ensures.before
-    (lists-same inside.sets c.settle.new.sets inside.spans.keys c.settle.ensures.before c.self.invariant.are_spans))
+    (stand-both inside.sets c.settle.new.sets (lists_of inside.sets inside.spans) (lists_of c.settle.new.sets inside.spans) c.settle.ensures.before
+    (lists-same inside.sets c.settle.new.sets inside.spans c.settle.ensures.before c.self.invariant.are_spans))
+
+pub invariant_of-self-in_err-remember : goal.invariant_of-self-in_err-remember
+invariant_of-self-in_err-remember c =
+    let inside = c.self.inside in
+    let new = c.settle.new.sets in
+    let is = c.self.invariant.are_spans (c.args.set - first_span) c.at.result c.at.ensures in
+    sound-settled new inside.spans inside.settled.items c.remember.new.numbers.items (c.args.set - first_span) c.in_ok-settled.settled c.at.result c.at.ensures
+    (settled-now inside.sets new c.at.result c.in_ok-settled.settled c.settle.ensures.before is c.in_ok-settled.ensures.set c.in_ok-settled.ensures.members)
+    c.remember.ensures (sound-grown inside.sets new inside.spans inside.settled.items c.settle.ensures.before c.self.invariant)
+
+pub returns-in_err-remember-clause-before : goal.returns-in_err-remember-clause-before
+returns-in_err-remember-clause-before c =
+    let inside = c.self.inside in
+    let after : Numbered = record { sets = c.settle.new.sets; spans = lists_of c.settle.new.sets inside.spans } in
+    subst (λ sets. StandAsBefore sets after) c.self.view_is
+    (stand-both inside.sets c.settle.new.sets (lists_of inside.sets inside.spans) (lists_of c.settle.new.sets inside.spans) c.settle.ensures.before
+    (lists-same inside.sets c.settle.new.sets inside.spans c.settle.ensures.before c.self.invariant.are_spans))

@@ -4,22 +4,22 @@ use Rattle.taint_spans.specs.Spans.{span_members}
 use Rattle.taint_spans.proofs.Standing.{one-is, past-spans, plain-is, span-of, within-list}
 use Rattle.taint_spans.proofs.sets.SpanSets.span.Goals as goal
 
-pub span_at-requires : goal.span_at-requires
-span_at-requires c =
+pub at-requires : goal.at-requires
+at-requires c =
     let inside = c.self.inside in
     let is = subst (λ sets. IsSet sets c.args.set) (sym c.self.view_is) c.requires in
-    let found = span-of inside.sets inside.spans.keys c.args.set (sym c.is_of_span.ensures ∙ c.if-is_of_span.true) is in
-    within-list inside.spans.keys (c.args.set - first_span) found.0 found.1
+    let found = span-of inside.sets inside.spans c.args.set (sym c.is_of_span.ensures ∙ c.if-is_of_span.true) is in
+    within-list inside.spans (c.args.set - first_span) found.0 found.1
 
 pub returns-then-is_of_span : goal.returns-then-is_of_span
 returns-then-is_of_span c =
     let inside = c.self.inside in
     let is = subst (λ sets. IsSet sets c.args.set) (sym c.self.view_is) c.requires in
-    let found = span-of inside.sets inside.spans.keys c.args.set (sym c.is_of_span.ensures ∙ c.if-is_of_span.true) is in
-    let one : Some found.0 ≡ Some c.span_at.result = sym found.1 ∙ c.span_at.ensures in
-    let same : found.0 ≡ c.span_at.result = cc in
-    subst (λ sets. IsSpanOf sets c.args.set c.span_at.result) c.self.view_is (record {
-      is = c.self.invariant.are_spans (c.args.set - first_span) c.span_at.result c.span_at.ensures;
+    let found = span-of inside.sets inside.spans c.args.set (sym c.is_of_span.ensures ∙ c.if-is_of_span.true) is in
+    let one : Some found.0 ≡ Some c.at.result = sym found.1 ∙ c.at.ensures in
+    let same : found.0 ≡ c.at.result = cc in
+    subst (λ sets. IsSpanOf sets c.args.set c.at.result) c.self.view_is (record {
+      is = c.self.invariant.are_spans (c.args.set - first_span) c.at.result c.at.ensures;
       members = found.2 ∙ ap (span_members inside.sets) same;
     })
 
