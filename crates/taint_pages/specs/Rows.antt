@@ -1,5 +1,5 @@
 -- Numbers of the bytes of registers.
-use Rattle.std.specs.Prelude.{◌≡◌, ℕ, ◌+◌, ◌*◌, ◌<◌, ◌==◌, ◌&&◌, nat_lt, if◌then◌else◌, List, length, slice_index}
+use Rattle.std.specs.Prelude.{◌≡◌, ℕ, ◌+◌, ◌*◌, ◌<◌, ◌==◌, ◌&&◌, nat_lt, if◌then◌else◌, Bool, true, false, List, length, slice_index, slice_index_or}
 
 -- the number of byte i of register r
 abbrev pub byte_in : List ℕ → ℕ → ℕ → ℕ
@@ -14,6 +14,11 @@ pub record IsRow (row : List ℕ) : Type 0 where
   pub len : length row ≡ row_len
   pub zero : (i : ℕ) → i < 8 → slice_index row i ≡ 0
 
+-- each byte of a register that isn't marked has 0
+pub record AreMarked (row : List ℕ) (marked : List Bool) : Type 0 where
+  pub len : length marked ≡ 32
+  pub zero : (r i : ℕ) → slice_index_or marked r true ≡ false → i < 8 → byte_in row r i ≡ 0
+
 -- one byte of one register has another number
 abbrev pub SetsByte : ℕ → ℕ → ℕ → List ℕ → List ℕ → Type 0
 SetsByte reg byte number old new = (r i : ℕ) → i < 8 → byte_in new r i ≡ (if (r == reg) && (i == byte) then number else byte_in old r i)
@@ -26,6 +31,10 @@ pub record AreBytes (row : List ℕ) (reg : ℕ) (numbers : List ℕ) : Type 0 w
 -- all bytes of one register have other numbers
 abbrev pub PutsBytes : ℕ → List ℕ → List ℕ → List ℕ → Type 0
 PutsBytes reg numbers old new = (r i : ℕ) → i < 8 → byte_in new r i ≡ (if r == reg then slice_index numbers i else byte_in old r i)
+
+-- all bytes of one register have 0
+abbrev pub ClearsBytes : ℕ → List ℕ → List ℕ → Type 0
+ClearsBytes reg old new = (r i : ℕ) → i < 8 → byte_in new r i ≡ (if r == reg then 0 else byte_in old r i)
 
 -- number i of so many from a place on, 0 behind them
 abbrev pub number_from : List ℕ → ℕ → ℕ → ℕ → ℕ

@@ -1,28 +1,38 @@
 // The numbers of the bytes of registers.
-ghost use Rattle.std.specs.Prelude.{◌≡◌, ◌<◌, ◌≤◌, ◌+◌, ◌*◌, ◌↔◌, ℕ, IsTrue, false, length, OnOk};
+ghost use Rattle.std.specs.Prelude.{◌≡◌, ◌<◌, ◌≤◌, ◌+◌, ◌*◌, ◌↔◌, ℕ, IsTrue, false, length, slice_index, OnOk};
 ghost use Rattle.taint_spans.specs.Carried.{CarriesOn, HaveNumbers};
-ghost use Rattle.taint_pages.specs.Rows.{AreBytes, PutsBytes, SetsByte, byte_in};
+ghost use Rattle.taint_pages.specs.Rows.{AreBytes, ClearsBytes, PutsBytes, SetsByte, byte_in};
 
 use arn_base::NoMemory;
 use rv64_isa::Reg;
 use std::marker::Model;
 use taint_spans::Carrying;
 
-/// The number of the set of each byte of the registers. The bytes of x0 have 0.
+/// The number of the set of each byte of the registers. The bytes of x0 have 0, and so have those of each register that isn't
+/// marked.
 #[derive(Debug, Drop)]
 pub struct Row {
     numbers: [u32; 256],
+    marked: [bool; 32],
 }
 
 impl Model for Row {
     ghost use Rattle.std.specs.Prelude.{ℕ, List};
-    ghost use Rattle.taint_pages.specs.Rows.{IsRow};
+    ghost use Rattle.taint_pages.specs.Rows.{AreMarked, IsRow};
 
     ghost Value = { List ℕ };
 
     ghost view = { λ r. r.numbers };
 
-    ghost invariant = { λ r. IsRow r.numbers };
+    ghost invariant = { λ r. IsRow r.numbers × AreMarked r.numbers r.marked };
+}
+
+/// Whether each of these numbers is 0.
+#[inline(always)]
+fn are_zero(numbers: &[u32]) -> bool
+    ensures { IsTrue result → (i : ℕ) → slice_index numbers.now i ≡ 0 }
+{
+    numbers.iter().all(|number| *number == 0)
 }
 
 impl Row {
@@ -30,7 +40,10 @@ impl Row {
     pub fn new() -> Row
         ensures { (r i : ℕ) → byte_in result r i ≡ 0 }
     {
-        Row { numbers: [0; 256] }
+        Row {
+            numbers: [0; 256],
+            marked: [false; 32],
+        }
     }
 
     /// The same numbers again.
@@ -39,6 +52,7 @@ impl Row {
     {
         Row {
             numbers: self.numbers,
+            marked: self.marked,
         }
     }
 
@@ -68,6 +82,37 @@ impl Row {
         ensures { SetsByte reg byte number self.old self.new }
     {
         self.numbers[place(reg, byte)] = number;
+        self.marked[usize::from(reg.number())] = true;
+    }
+
+    /// Whether each byte of a register has 0. False may be answered of one whose bytes have it.
+    #[inline(always)]
+    pub fn is_clear(&self, reg: Reg) -> bool
+        ensures { IsTrue result → (i : ℕ) → i < 8 → byte_in self.now reg i ≡ 0 }
+    {
+        !self.marked[usize::from(reg.number())]
+    }
+
+    /// Sets the number of each byte of a register that isn't x0 to 0.
+    #[inline(always)]
+    pub fn clear(&mut self, reg: Reg)
+        requires above { 0 < reg }
+        ensures { ClearsBytes reg self.old self.new }
+    {
+        if !self.is_clear(reg) {
+            self.clear_marked(reg);
+        }
+    }
+
+    /// The same of one that may have others.
+    fn clear_marked(&mut self, reg: Reg)
+        requires above { 0 < reg }
+        ensures { ClearsBytes reg self.old self.new }
+    {
+        for byte in 0..8 {
+            self.set(reg, byte, 0);
+        }
+        self.marked[usize::from(reg.number())] = false;
     }
 
     /// The numbers of the eight bytes of a register.
@@ -86,6 +131,20 @@ impl Row {
         requires eight { length numbers.now ≡ 8 }
         ensures { PutsBytes reg numbers.now self.old self.new }
     {
+        if are_zero(numbers) {
+            self.clear(reg);
+        } else {
+            self.put_each(reg, numbers);
+        }
+    }
+
+    /// The same, one byte after the other.
+    #[inline(always)]
+    fn put_each(&mut self, reg: Reg, numbers: &[u32])
+        requires above { 0 < reg }
+        requires eight { length numbers.now ≡ 8 }
+        ensures { PutsBytes reg numbers.now self.old self.new }
+    {
         for byte in 0..8 {
             self.set(reg, byte, numbers[byte as usize]);
         }
@@ -94,6 +153,20 @@ impl Row {
     /// Sets the numbers of the first bytes of a register that isn't x0, at most eight, and 0 for the others.
     #[inline(always)]
     pub(crate) fn put_first(&mut self, reg: Reg, numbers: &[u32])
+        requires above { 0 < reg }
+        requires few { length numbers.now ≤ 8 }
+        ensures { PutsBytes reg numbers.now self.old self.new }
+    {
+        if are_zero(numbers) {
+            self.clear(reg);
+        } else {
+            self.put_each_first(reg, numbers);
+        }
+    }
+
+    /// The same, one byte after the other.
+    #[inline(always)]
+    fn put_each_first(&mut self, reg: Reg, numbers: &[u32])
         requires above { 0 < reg }
         requires few { length numbers.now ≤ 8 }
         ensures { PutsBytes reg numbers.now self.old self.new }
