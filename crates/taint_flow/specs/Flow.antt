@@ -2,7 +2,7 @@
 use Rattle.std.specs.Prelude.{◌≡◌, ◌≢◌, ◌≤◌, ℕ, suc, ◌<◌, nat_lt, List, [], ◌∷◌, ◌++◌, length, slice_index}
 use Rattle.rv64_model.specs.Carries.{Operand, Left, Right, Loaded, both, first_bytes, taken_if, within_width}
 use Rattle.taint_flow.specs.declared.flow.Flow.{Flow}
-use Rattle.taint_flow.specs.declared.flow.Flow.TheVariants.{Nothing, First, Second, Memory, Rising, Carried, Whole, Bytewise, Mixed}
+use Rattle.taint_flow.specs.declared.flow.Flow.TheVariants.{Nothing, First, Second, Memory, Extended, Rising, Carried, Whole, Bytewise, Mixed}
 use Rattle.taint_flow.specs.Gathered.{byte_count}
 
 -- how many bytes from the lowest on byte i of a result of `width` bytes is worked out from
@@ -19,6 +19,7 @@ IsFlow Nothing operands = (byte : ℕ) → operands byte ≡ []
 IsFlow First operands = (byte : ℕ) → byte < byte_count → operands byte ≡ Left byte ∷ []
 IsFlow (Second len) operands = (0 < len) × ((byte : ℕ) → operands byte ≡ taken_if (nat_lt byte len) (Right byte))
 IsFlow (Memory len) operands = (0 < len) × ((byte : ℕ) → operands byte ≡ taken_if (nat_lt byte len) (Loaded byte))
+IsFlow (Extended width) operands = IsWidth width × ((byte : ℕ) → operands byte ≡ Loaded (within_width width byte) ∷ [])
 IsFlow (Rising width) operands = IsWidth width × ((byte : ℕ) → operands byte ≡ first_bytes Left (reach width byte))
 IsFlow (Carried width) operands = IsWidth width × ((byte : ℕ) → operands byte ≡ first_bytes Left (reach width byte) ++ first_bytes Right (reach width byte))
 IsFlow (Whole width) operands = IsWidth width × ((byte : ℕ) → operands byte ≡ first_bytes Left width)
@@ -30,6 +31,11 @@ pub record Moves (numbers : List ℕ) (count : ℕ) (moved : List ℕ) : Type 0 
   pub len : length moved ≡ byte_count
   pub same : (byte : ℕ) → byte < byte_count → byte < count → slice_index moved byte ≡ slice_index numbers byte
   pub none : (byte : ℕ) → byte < byte_count → count ≤ byte → slice_index moved byte ≡ 0
+
+-- the first numbers as they are, and that of the last of them behind
+pub record Extends (numbers : List ℕ) (width : ℕ) (extended : List ℕ) : Type 0 where
+  pub len : length extended ≡ byte_count
+  pub same : (byte : ℕ) → byte < byte_count → slice_index extended byte ≡ slice_index numbers (within_width width byte)
 
 -- the bytes that are loaded, and nothing behind them
 abbrev pub IsMemory : Flow → Type 0

@@ -1,5 +1,5 @@
 -- The sets of several bytes.
-use Rattle.std.specs.Prelude.{◌≡◌, ◌⊎◌, ◌↔◌, ℕ, ◌^◌, ◌<◌, IsTrue, List, length, slice_index, Contains}
+use Rattle.std.specs.Prelude.{◌≡◌, ◌⊎◌, ◌↔◌, ℕ, ◌<◌, IsTrue, List, length, slice_index, Contains}
 use Rattle.rv64_model.specs.Carries.{Operand, Left, Right, Loaded, Address}
 use Rattle.set_store.specs.declared.item.Item.{Item}
 use Rattle.taint_spans.specs.Numbered.{IsSet, Numbered, members_of}

@@ -1,5 +1,5 @@
 -- Instructions that move no set.
-use Rattle.std.specs.Prelude.{◌≡◌, ℕ, [], None}
+use Rattle.std.specs.Prelude.{◌≡◌, ℕ, List, [], None, slice_index}
 use Rattle.arn_base.specs.declared.machine.Cpu.{Cpu}
 use Rattle.rv64_isa.specs.declared.instruction.Instr.{Instr}
 use Rattle.rv64_model.specs.declared.linkage.Linkage.{Linkage}
@@ -10,3 +10,7 @@ use Rattle.rv64_model.specs.Operands.{accessed}
 pub record IsSilent (linkage : Linkage) (instr : Instr) : Type 0 where
   pub nothing : (byte : ℕ) → operands linkage instr byte ≡ []
   pub apart : (cpu : Cpu) → accessed instr cpu ≡ None
+
+-- each byte has the empty set, whose number is 0
+abbrev pub AreEmpty : List ℕ → Type 0
+AreEmpty numbers = (byte : ℕ) → slice_index numbers byte ≡ 0

@@ -21,6 +21,8 @@ pub enum Flow {
     Second(u8),
     /// Those below this one are those that are loaded, and the others take nothing.
     Memory(u8),
+    /// Those below this one are those that are loaded, and the others are that of the last of them, their sign.
+    Extended(usize),
     /// Each is worked out from that of the first register and all below it, those from this one on from the one below it.
     Rising(usize),
     /// The same of both registers.
@@ -56,6 +58,9 @@ pub fn of_load(linkage: Linkage, op: LoadOp) -> Flow
         (Linkage::Copy, _)
         | (Linkage::Data, LoadOp::Ld | LoadOp::Lbu | LoadOp::Lhu | LoadOp::Lwu) => {
             Flow::Memory(load_len(op))
+        }
+        (Linkage::Data, LoadOp::Lb | LoadOp::Lh | LoadOp::Lw) => {
+            Flow::Extended(usize::from(load_len(op)))
         }
         _ => Flow::Mixed,
     }

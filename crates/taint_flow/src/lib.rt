@@ -10,4 +10,4 @@ mod writing;
 
 pub use moving::{moves_loaded, moves_stored};
 pub use names::{loaded_len, rd, rs1, rs2, stored_len};
-pub use writing::{results, silent};
+pub use writing::{is_silent, results, takes_nothing};

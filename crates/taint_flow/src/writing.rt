@@ -1,11 +1,13 @@
 // The sets of an instruction's result.
-ghost use Rattle.std.specs.Prelude.{◌≡◌, ◌↔◌, ℕ, List, [], IfOk, IfSome, IsSome, IsTrue, length, replicate, slice_index};
+ghost use Rattle.std.specs.Prelude.{◌≡◌, ◌↔◌, ℕ, List, [], IfOk, IsTrue, length, replicate};
+ghost use Rattle.rv64_isa.specs.declared.instruction.Instr.{Instr as AnyInstr};
+ghost use Rattle.rv64_model.specs.declared.linkage.Linkage.{Linkage as AnyLinkage};
 ghost use Rattle.rv64_model.specs.Carries.{operands};
 ghost use Rattle.taint_spans.specs.Numbered.{IsSet, StandAsBefore, members_of};
-ghost use Rattle.taint_flow.specs.Flow.{IsFlow, Moves};
+ghost use Rattle.taint_flow.specs.Flow.{Extends, IsFlow, IsWidth, Moves};
 ghost use Rattle.taint_flow.specs.Gathered.{AreNumbers, byte_count, number_of};
 ghost use Rattle.taint_flow.specs.Results.{AreResults};
-ghost use Rattle.taint_flow.specs.Silent.{IsSilent};
+ghost use Rattle.taint_flow.specs.Silent.{AreEmpty, IsSilent};
 
 use crate::flow::{Flow, result_flow};
 use crate::gathering::gather;
@@ -44,10 +46,24 @@ fn moved(sets: &SpanSets, numbers: &[u32], count: u8) -> [u32; 8]
     moved
 }
 
+// The first numbers as they are, and that of the last of them behind.
+#[inline(always)]
+fn extended(numbers: &[u32], width: usize) -> [u32; 8]
+    requires numbers { length numbers.now ≡ byte_count }
+    requires width { IsWidth width }
+    ensures { Extends numbers.now width result }
+{
+    let mut extended = [0; 8];
+    for byte in 0..8 {
+        extended[byte] = numbers[byte.min(width - 1)];
+    }
+    extended
+}
+
 // Whether each byte has the empty set.
 #[inline(always)]
 fn is_empty(numbers: &[u32]) -> bool
-    ensures { IsTrue result → (byte : ℕ) → slice_index numbers.now byte ≡ 0 }
+    ensures { IsTrue result → AreEmpty numbers.now }
 {
     numbers.iter().all(|number| *number == 0)
 }
@@ -138,23 +154,33 @@ pub fn results(
         Flow::First => Ok(moved(sets, first, 8)),
         Flow::Second(count) => Ok(moved(sets, second, count)),
         Flow::Memory(count) => Ok(moved(sets, loaded, count)),
+        Flow::Extended(width) => Ok(extended(loaded, width)),
         _ => worked(sets, flow, linkage, instr, first, second, loaded),
     }
 }
 
-/// The sets of the bytes of a result none of which takes anything, of an instruction that accesses no memory. What its
+/// Whether no byte of an instruction's result takes anything, and it accesses no memory. Then each has the empty set, and what its
 /// registers have needs no look.
 #[inline(always)]
-pub fn silent(sets: &SpanSets, linkage: Linkage, instr: &Instr) -> Option<[u32; 8]>
-    ensures silent { IsSome result ↔ IsSilent linkage instr.now }
-    ensures results { (first second loaded : List ℕ) → IfSome result (AreResults sets.now sets.now
-        (number_of first second loaded) (operands linkage instr.now)) }
+pub fn is_silent(sets: &SpanSets, linkage: Linkage, instr: &Instr) -> bool
+    ensures silent { IsTrue result ↔ IsSilent linkage instr.now }
+    ensures results { IsTrue result → (first second loaded : List ℕ) →
+        AreResults sets.now sets.now (number_of first second loaded) (operands linkage instr.now)
+        (replicate 8 0) }
 {
+    let _ = none(sets);
     match instr {
-        Instr::Load { .. } | Instr::Store { .. } => None,
-        _ => match result_flow(linkage, instr) {
-            Flow::Nothing => Some(none(sets)),
-            _ => None,
-        },
+        Instr::Load { .. } | Instr::Store { .. } => false,
+        _ => matches!(result_flow(linkage, instr), Flow::Nothing),
     }
+}
+
+/// A law: where no byte that an instruction reads has a member, no byte of its result has one.
+pub fn takes_nothing(sets: &SpanSets)
+    ensures { (linkage : AnyLinkage) (instr : AnyInstr) (first second loaded : List ℕ) →
+        AreEmpty first → AreEmpty second → AreEmpty loaded →
+        AreResults sets.now sets.now (number_of first second loaded) (operands linkage instr)
+        (replicate 8 0) }
+{
+    let _ = none(sets);
 }

@@ -1,6 +1,6 @@
 use Rattle.std.proofs.Common.{refl}
 use Rattle.rv64_model.specs.Carries.{Left, Right, Loaded, operands}
-use Rattle.taint_flow.proofs.Flows.{first-table, memory-table, moved-by, second-table}
+use Rattle.taint_flow.proofs.Flows.{extended-flow, extended-by, first-table, memory-table, moved-by, second-table}
 use Rattle.taint_flow.proofs.writing.results.Goals as goal
 
 pub returns-in-First-clause-results : goal.returns-in-First-clause-results
@@ -20,3 +20,9 @@ returns-in-Memory-clause-results c =
     let taken = operands c.args.linkage c.args.instr.now in
     moved-by c.args.sets.now c.args.first.now c.args.second.now c.args.loaded.now c.moved-in-Memory.ensures.set c.moved-in-Memory.ensures.empty c.moved-in-Memory.result Loaded taken c.args.loaded.now c.in-Memory.count
     c.requires.loaded (λ i. refl) (memory-table c.result_flow-flow.result taken c.in-Memory.count c.in-Memory.is c.result_flow-flow.ensures) c.moved-in-Memory.ensures.moves
+
+pub returns-in-Extended-clause-results : goal.returns-in-Extended-clause-results
+returns-in-Extended-clause-results c =
+    let taken = operands c.args.linkage c.args.instr.now in
+    let flow = extended-flow c.result_flow-flow.result taken c.in-Extended.width c.in-Extended.is c.result_flow-flow.ensures in
+    extended-by c.args.sets.now c.args.first.now c.args.second.now c.args.loaded.now taken c.in-Extended.width flow.0 flow.1 c.extended.result c.requires.loaded c.extended.ensures

@@ -9,11 +9,13 @@ use Rattle.rv64_model.specs.declared.linkage.Linkage.{Linkage}
 use Rattle.rv64_model.specs.Carries.{Operand, Left, Right, Loaded, both, first_bytes, operands, taken_if}
 use Rattle.rv64_model.specs.Operands.{accessed}
 use Rattle.taint_flow.specs.declared.flow.Flow.{Flow}
-use Rattle.taint_flow.specs.declared.flow.Flow.TheVariants.{Nothing, First, Second, Memory, Rising, Carried, Whole, Bytewise, Mixed}
+use Rattle.taint_flow.specs.declared.flow.Flow.TheVariants.{Nothing, First, Second, Memory, Extended, Rising, Carried, Whole, Bytewise, Mixed}
 use Rattle.taint_flow.specs.Flow.{IsFlow}
+use Rattle.taint_flow.specs.Gathered.{number_of}
 use Rattle.taint_flow.specs.Silent.{IsSilent}
+use Rattle.taint_flow.proofs.Flows.{takes-nothing, zero-at}
 use Rattle.taint_flow.proofs.Grown.{last-of, reach-below}
-use Rattle.taint_flow.proofs.writing.silent.Goals as goal
+use Rattle.taint_flow.proofs.writing.is_silent.Goals as goal
 
 -- where byte 0 takes nothing, no byte does
 some-taken : (len : ℕ) (x : Operand) → 0 < len → taken_if (nat_lt 0 len) x ≡ x ∷ []
@@ -27,6 +29,7 @@ nothing-flow Nothing taken is none = refl
 nothing-flow First taken is none = let one : taken 0 ≡ Left 0 ∷ [] = is 0 (omega arith) in cc
 nothing-flow (Second len) taken is none = let one : taken 0 ≡ Right 0 ∷ [] = is.1 0 ∙ some-taken len (Right 0) is.0 in cc
 nothing-flow (Memory len) taken is none = let one : taken 0 ≡ Loaded 0 ∷ [] = is.1 0 ∙ some-taken len (Loaded 0) is.0 in cc
+nothing-flow (Extended width) taken is none = let one = is.1 0 in cc
 nothing-flow (Rising width) taken is none = let one : taken 0 ≡ Left 0 ∷ [] = is.1 0 ∙ ap (first_bytes Left) (reach-below width 0 is.0.0) in cc
 nothing-flow (Carried width) taken is none =
     let two : taken 0 ≡ both 0 = is.1 0 ∙ ap (λ n. first_bytes Left n ++ first_bytes Right n) (reach-below width 0 is.0.0) in cc
@@ -48,22 +51,31 @@ apart (Load op rd rs1 imm) not_load not_store cpu = absurd (not_load op rd rs1 i
 apart (Store op rs1 rs2 imm) not_load not_store cpu = absurd (not_store op rs1 rs2 imm refl)
 apart other not_load not_store cpu = refl
 
-pub returns-in-Nothing-clause-silent : goal.returns-in-Nothing-clause-silent
-returns-in-Nothing-clause-silent c =
-    let instr = c.args.instr.now in
-    (λ e. record { nothing = c.in-Nothing.ensures; apart = apart instr c.in_default.not-Load c.in_default.not-Store }, λ silent. refl)
-
-pub returns-in_default-result_flow : goal.returns-in_default-result_flow
-returns-in_default-result_flow c = record {
-  silent = (
-    λ e. cc,
-    λ silent. absurd (c.in_default-result_flow.not-Nothing (nothing-flow c.result_flow.result (operands c.args.linkage c.args.instr.now) c.result_flow.ensures (silent.nothing 0))),
-  );
-  results = λ first second loaded. tt;
-}
-
 pub returns-in-Load-clause-silent : goal.returns-in-Load-clause-silent
 returns-in-Load-clause-silent c = (λ e. cc, λ silent. absurd (accesses c.args.linkage c.args.instr.now c.in-Load.is silent))
 
 pub returns-in-Load-2-clause-silent : goal.returns-in-Load-2-clause-silent
 returns-in-Load-2-clause-silent c = (λ e. cc, λ silent. absurd (accesses c.args.linkage c.args.instr.now c.in-Load.is silent))
+
+pub returns-in-Nothing : goal.returns-in-Nothing
+returns-in-Nothing c =
+    let instr = c.args.instr.now in
+    let sets = c.args.sets.now in
+    record {
+      silent = (λ e. record { nothing = c.in-Nothing.ensures; apart = apart instr c.in_default.not-Load c.in_default.not-Store }, λ silent. refl);
+      results = λ e first second loaded. record {
+        len = refl;
+        bytes = λ byte h.
+            takes-nothing sets (number_of first second loaded) c.none.ensures.set c.none.ensures.empty (operands c.args.linkage instr byte) _ (zero-at 8 byte)
+            (λ x named. absurd (none-in x (subst (λ l. Contains l x) (c.in-Nothing.ensures byte) named)));
+      };
+    }
+
+pub returns-in_default-matches : goal.returns-in_default-matches
+returns-in_default-matches c = record {
+  silent = (
+    λ e. cc,
+    λ silent. absurd (c.in_default-matches.not-Nothing (nothing-flow c.result_flow.result (operands c.args.linkage c.args.instr.now) c.result_flow.ensures (silent.nothing 0))),
+  );
+  results = λ e. cc;
+}
