@@ -7,7 +7,7 @@ use Rattle.taint_steps.specs.Taking.{IsRead, no_bytes}
 abbrev pub nothing : List ℕ
 nothing = 0 ∷ 0 ∷ 0 ∷ 0 ∷ 0 ∷ 0 ∷ 0 ∷ 0 ∷ []
 
-all-zero : (k : ℕ) → slice_index nothing k ≡ 0
+pub all-zero : (k : ℕ) → slice_index nothing k ≡ 0
 all-zero zero = refl
 all-zero (suc zero) = refl
 all-zero (suc (suc zero)) = refl

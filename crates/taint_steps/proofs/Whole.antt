@@ -11,7 +11,7 @@ use Rattle.rv64_isa.specs.declared.instruction.Instr.TheVariants.{Load, Store}
 use Rattle.rv64_model.specs.declared.linkage.Linkage.{Linkage}
 use Rattle.rv64_model.specs.Carries.{operands}
 use Rattle.rv64_model.specs.Operands.{accessed, rd_of, rs1_of, rs2_of, stored_len}
-use Rattle.taint_spans.specs.Numbered.{IsSet, Numbered, members_of}
+use Rattle.taint_spans.specs.Numbered.{IsSet, Numbered}
 use Rattle.taint_flow.specs.Flow.{Moves}
 use Rattle.taint_flow.specs.Gathered.{AreNumbers, number_of}
 use Rattle.taint_flow.specs.Moving.{MovesLoaded, MovesStored}

@@ -4,7 +4,7 @@ use Rattle.arn_base.specs.declared.machine.Cpu.{Cpu}
 use Rattle.rv64_isa.specs.declared.instruction.Instr.{Instr}
 use Rattle.rv64_model.specs.Carries.{operands}
 use Rattle.rv64_model.specs.Operands as named
-use Rattle.taint_spans.specs.Numbered.{IsSet, Numbered, StandAsBefore}
+use Rattle.taint_spans.specs.Numbered.{IsSet, Numbered}
 use Rattle.taint_flow.specs.Gathered.{number_of}
 use Rattle.taint_flow.specs.Names.{loaded_len}
 use Rattle.taint_flow.specs.Results.{AreResults}

@@ -1,10 +1,11 @@
 // An instruction of a member.
-ghost use Rattle.std.specs.Prelude.{◌≡◌, take, length, unwrap_or, OnOk};
+ghost use Rattle.std.specs.Prelude.{◌≡◌, ℕ, List, None, take, length, replicate, unwrap_or, IsTrue, OnOk};
 ghost use Rattle.rv64_model.specs.Operands as operands;
+ghost use Rattle.taint_flow.specs.Silent.{AreEmpty};
 ghost use Rattle.taint_spans.specs.Numbered.{StandAsBefore};
 ghost use Rattle.taint_members.specs.Access.{HoldsKey};
 ghost use Rattle.taint_steps.specs.Running.{Runs, StoresSegment, StoresWindow, WritesRegister};
-ghost use Rattle.taint_steps.specs.Taking.{AreSetsAt, AreSetsIn};
+ghost use Rattle.taint_steps.specs.Taking.{AreSetsAt, AreSetsIn, IsRegister};
 
 use crate::moving::{move_loaded, move_stored};
 use crate::taking::{registers, taken};
@@ -12,7 +13,7 @@ use arn_base::{Cpu, NoMemory};
 use rv64_core::accessed;
 use rv64_isa::{Instr, Reg};
 use rv64_model::Linkage;
-use taint_flow::{rd, silent, stored_len};
+use taint_flow::{is_silent, rd, rs1, rs2, stored_len, takes_nothing};
 use taint_members::{MemberSets, write};
 use taint_pages::{Row, SetNumbers};
 use taint_spans::SpanSets;
@@ -29,6 +30,50 @@ fn write_register(row: &mut Row, rd: Option<Reg>, numbers: &[u32])
     if reg.number() > 0 {
         row.put(reg, numbers);
     }
+}
+
+/// Sets the numbers of the register that is written to 0, if there is one that isn't x0.
+#[inline(always)]
+fn clear_register(row: &mut Row, rd: Option<Reg>)
+    ensures { WritesRegister (unwrap_or rd 0) (replicate 8 0) row.old row.new }
+{
+    match rd {
+        Some(reg) if reg.number() > 0 => row.clear(reg),
+        _ => {}
+    }
+}
+
+/// Whether each byte of a register has the empty set. False may be answered of one whose bytes have it.
+#[inline(always)]
+fn is_register_clear(row: &Row, reg: Reg) -> bool
+    ensures { IsTrue result → (numbers : List ℕ) → IsRegister row.now reg numbers → AreEmpty numbers }
+{
+    reg.number() == 0 || row.is_clear(reg)
+}
+
+/// The same of one that may be named.
+#[inline(always)]
+fn is_clear(row: &Row, reg: Option<Reg>) -> bool
+    ensures { IsTrue result → (numbers : List ℕ) → IsRegister row.now (unwrap_or reg 0) numbers →
+        AreEmpty numbers }
+{
+    match reg {
+        Some(reg) => is_register_clear(row, reg),
+        None => true,
+    }
+}
+
+/// Whether an instruction accesses no memory, and each byte of the registers that it reads has the empty set. False may be answered of
+/// others too.
+#[inline(always)]
+fn reads_nothing(instr: &Instr, before: &Cpu, row: &Row) -> bool
+    ensures apart { IsTrue result → operands.accessed instr.now before.now ≡ None }
+    ensures first { IsTrue result → (numbers : List ℕ) →
+        IsRegister row.now (operands.rs1_of instr.now) numbers → AreEmpty numbers }
+    ensures second { IsTrue result → (numbers : List ℕ) →
+        IsRegister row.now (operands.rs2_of instr.now) numbers → AreEmpty numbers }
+{
+    is_clear(row, rs1(instr)) && is_clear(row, rs2(instr)) && accessed(instr, before).is_none()
 }
 
 /// Sets the numbers of the bytes that are stored, if there are any.
@@ -102,17 +147,22 @@ pub fn run(
     ensures before { StandAsBefore sets.old sets.new }
     ensures keys { length segments.new ≡ length segments.old }
 {
-    if let Some(numbers) = silent(sets, linkage, instr) {
-        // Asked for what is promised of both: nothing is done with them.
-        let _ = sets.empty();
-        let _ = registers(instr, member);
-        write_register(&mut member.registers, rd(instr), &numbers);
+    // Asked for what is promised of both: nothing is done with them.
+    let _ = sets.empty();
+    let _ = registers(instr, member);
+    takes_nothing(sets);
+    if is_silent(sets, linkage, instr) {
+        clear_register(&mut member.registers, rd(instr));
         return Ok(());
     }
     if move_loaded(sets, linkage, instr, before, member) {
         return Ok(());
     }
     if move_stored(sets, linkage, instr, before, member)? {
+        return Ok(());
+    }
+    if reads_nothing(instr, before, &member.registers) {
+        clear_register(&mut member.registers, rd(instr));
         return Ok(());
     }
     run_any(sets, linkage, *instr, before, member, segments)

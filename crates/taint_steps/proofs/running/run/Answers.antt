@@ -1,11 +1,19 @@
-use Rattle.std.proofs.Common.{◌≡◌, ℕ, List, Option, None, take, refl, sym, subst}
+use Rattle.std.proofs.Common.{◌≡◌, ℕ, List, Option, None, take, unwrap_or, refl, sym, subst, ◌∙◌}
+use Rattle.arn_base.specs.declared.machine.Cpu.{Cpu}
+use Rattle.rv64_isa.specs.declared.instruction.Instr.{Instr}
+use Rattle.rv64_model.specs.declared.linkage.Linkage.{Linkage}
+use Rattle.rv64_model.specs.Carries.{operands}
 use Rattle.rv64_model.specs.Operands as named
+use Rattle.taint_spans.specs.Numbered.{Numbered}
+use Rattle.taint_flow.specs.Gathered.{number_of}
+use Rattle.taint_flow.specs.Results.{AreResults}
+use Rattle.taint_flow.specs.Silent.{AreEmpty}
 use Rattle.taint_flow.specs.Names.{loaded_len}
 use Rattle.taint_members.specs.Access.{Segments}
 use Rattle.taint_members.specs.declared.member.MemberSets.{MemberSets}
-use Rattle.taint_steps.specs.Running.{StoresSegment, StoresWindow, WritesRegister}
-use Rattle.taint_steps.specs.Taking.{IsRead, no_bytes}
-use Rattle.taint_steps.proofs.NothingLoaded.{first-none, nothing}
+use Rattle.taint_steps.specs.Running.{Runs, StoresSegment, StoresWindow, WritesRegister}
+use Rattle.taint_steps.specs.Taking.{IsRead, IsRegister, no_bytes}
+use Rattle.taint_steps.proofs.NothingLoaded.{all-zero, first-none, nothing}
 use Rattle.taint_steps.proofs.running.run.Goals as goal
 
 -- nothing is stored where no memory is accessed
@@ -15,24 +23,59 @@ no-window at numbers m n e same = subst (λ o. StoresWindow o numbers m n) (sym 
 no-segment : (at : Option ℕ) (numbers : List ℕ) (m : MemberSets) (segments : Segments) → at ≡ None → StoresSegment at numbers m.segment segments segments
 no-segment at numbers m segments e = subst (λ o. StoresSegment o numbers m.segment segments segments) (sym e) refl
 
-pub returns-in-Some-clause-runs : goal.returns-in-Some-clause-runs
-returns-in-Some-clause-runs c =
-    let instr = c.args.instr.now in
-    let m = c.args.member.now in
-    let apart = (c.in-Some.ensures.silent.0 refl).apart c.args.before.now in
-    record {
-      numbers = c.in-Some.numbers;
-      takes = record {
-        first = c.registers.result.0.now;
-        second = c.registers.result.1.now;
-        loaded = nothing;
-        of_first = c.registers.ensures.first;
-        of_second = c.registers.ensures.second;
-        read = subst (λ o. IsRead o (loaded_len instr) m c.args.segments.now nothing) (sym apart) (first-none no_bytes);
-        results = c.in-Some.ensures.results c.registers.result.0.now c.registers.result.1.now nothing;
-      };
-      register = subst (λ r. WritesRegister r c.in-Some.numbers m.registers c.write_register.new.row) c.rd.ensures c.write_register.ensures;
-      window = no-window (named.accessed instr c.args.before.now) (take (named.stored_len instr) c.in-Some.numbers) m _ apart refl;
-      segment = no-segment (named.accessed instr c.args.before.now) (take (named.stored_len instr) c.in-Some.numbers) m c.args.segments.now apart;
-      others = refl;
-    }
+-- nothing is taken: the register has the empty sets, if one is written
+module _ (sets : Numbered) (linkage : Linkage) (instr : Instr) (before : Cpu) (m : MemberSets) (row : List ℕ) (segments : Segments) (first second : List ℕ) (rd : Option ℕ)
+    (is_rd : unwrap_or rd 0 ≡ named.rd_of instr) (apart : named.accessed instr before ≡ None)
+    (of_first : IsRegister m.registers (named.rs1_of instr) first) (of_second : IsRegister m.registers (named.rs2_of instr) second)
+    (results : AreResults sets sets (number_of first second nothing) (operands linkage instr) nothing) (writes : WritesRegister (unwrap_or rd 0) nothing m.registers row) where
+  cleared : Runs linkage instr before m (record m { registers = row }) segments segments sets sets
+  cleared = record {
+    numbers = nothing;
+    takes = record {
+      first = first;
+      second = second;
+      loaded = nothing;
+      of_first = of_first;
+      of_second = of_second;
+      read = subst (λ o. IsRead o (loaded_len instr) m segments nothing) (sym apart) (first-none no_bytes);
+      results = results;
+    };
+    register = subst (λ r. WritesRegister r nothing m.registers row) is_rd writes;
+    window = no-window (named.accessed instr before) (take (named.stored_len instr) nothing) m (record m { registers = row }) apart refl;
+    segment = no-segment (named.accessed instr before) (take (named.stored_len instr) nothing) m segments apart;
+    others = refl;
+  }
+
+pub returns-then-is_silent-clause-runs : goal.returns-then-is_silent-clause-runs
+returns-then-is_silent-clause-runs c =
+    let silent = c.is_silent.ensures.silent.0 c.if-is_silent.true in
+    cleared c.args.sets.now c.args.linkage c.args.instr.now c.args.before.now c.args.member.now c.clear_register.new.row c.args.segments.now c.registers.result.0.now c.registers.result.1.now c.rd.result
+    c.rd.ensures (silent.apart c.args.before.now) c.registers.ensures.first c.registers.ensures.second
+    (c.is_silent.ensures.results c.if-is_silent.true c.registers.result.0.now c.registers.result.1.now nothing) c.clear_register.ensures
+
+pub returns-then-move_loaded-clause-runs : goal.returns-then-move_loaded-clause-runs
+returns-then-move_loaded-clause-runs c = c.move_loaded.ensures.runs c.if-move_loaded.true c.args.segments.now c.requires.memory
+
+-- so it is where no register that is read has a set
+module _ (sets : Numbered) (linkage : Linkage) (instr : Instr) (before : Cpu) (m : MemberSets) (row : List ℕ) (segments : Segments) (first second : List ℕ) (rd : Option ℕ)
+    (is_rd : unwrap_or rd 0 ≡ named.rd_of instr) (apart : named.accessed instr before ≡ None)
+    (of_first : IsRegister m.registers (named.rs1_of instr) first) (of_second : IsRegister m.registers (named.rs2_of instr) second)
+    (law : (linkage : Linkage) (instr : Instr) (first second loaded : List ℕ) → AreEmpty first → AreEmpty second → AreEmpty loaded → AreResults sets sets (number_of first second loaded) (operands linkage instr) nothing) where
+  -- what is told of a member that is the same
+  abbrev Told : MemberSets → Type 0
+  Told n =
+      ((numbers : List ℕ) → IsRegister n.registers (named.rs1_of instr) numbers → AreEmpty numbers) → ((numbers : List ℕ) → IsRegister n.registers (named.rs2_of instr) numbers → AreEmpty numbers)
+      → WritesRegister (unwrap_or rd 0) nothing n.registers row → Runs linkage instr before m (record n { registers = row }) segments segments sets sets
+
+  kept-cleared : (n : MemberSets) → n ≡ m → Told n
+  kept-cleared n e = subst Told (sym e) (λ none_first none_second writes.
+      cleared sets linkage instr before m row segments first second rd is_rd apart of_first of_second
+      (law linkage instr first second nothing (none_first first of_first) (none_second second of_second) all-zero) writes)
+
+pub returns-then-reads_nothing-clause-runs : goal.returns-then-reads_nothing-clause-runs
+returns-then-reads_nothing-clause-runs c =
+    let told = c.if-reads_nothing.true in
+    kept-cleared c.args.sets.now c.args.linkage c.args.instr.now c.args.before.now c.args.member.now c.clear_register-then-reads_nothing.new.row c.args.segments.now c.registers.result.0.now c.registers.result.1.now
+    c.rd-then-reads_nothing.result c.rd-then-reads_nothing.ensures (c.reads_nothing.ensures.apart told) c.registers.ensures.first c.registers.ensures.second c.takes_nothing.ensures
+    c.move_stored.new.member (c.in_ok-move_stored.ensures.kept c.if-branch.false ∙ c.move_loaded.ensures.kept c.if-move_loaded.false)
+    (c.reads_nothing.ensures.first told) (c.reads_nothing.ensures.second told) c.clear_register-then-reads_nothing.ensures
