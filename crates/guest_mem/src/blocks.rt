@@ -1,51 +1,69 @@
 // The blocks of a window that aren't all zero.
-ghost use Rattle.std.specs.Prelude.{◌≡◌, ◌+◌, ◌*◌, ◌<◌, ◌≤◌, ◌^◌, ◌++◌, length, IfOk, OnOk, OnErr};
-ghost use Rattle.parts_model.specs.Blocks.{block_of, used_block, is_used, blocks_of};
+ghost use Rattle.std.specs.Prelude.{◌≡◌, ℕ, ◌+◌, ◌*◌, ◌/◌, ◌<◌, ◌^◌, ◌==◌, ◌++◌, List, length, take, drop, not, IfOk, OnOk};
+ghost use Rattle.std.specs.List.{list_any};
+ghost use Rattle.parts_model.specs.Blocks.{blocks_of, used_block, used_blocks};
 
 use arn_base::{Block, Blocks, NoMemory};
 use parts_model::limits::BLOCK_LEN;
 use std::alloc::Global;
 
-/// The block of a number.
-fn block_of(bytes: &[u8], number: u16) -> Block
-    requires { BLOCK_LEN * (number + 1) ≤ length bytes.now }
-    ensures { result ≡ block_of bytes.now number }
+// Whether some of sixteen bytes isn't zero. They are looked at as one number.
+#[inline(always)]
+fn is_any_used(bytes: &[u8; 16]) -> bool
+    ensures { result ≡ list_any (λ byte. not (byte == 0)) bytes.now }
 {
-    let start = BLOCK_LEN * number as usize;
-    let mut block = Block {
-        number,
-        bytes: [0; BLOCK_LEN],
-    };
-    block
-        .bytes
-        .copy_from_slice(&bytes[start..start + BLOCK_LEN]);
-    block
+    u128::from_le_bytes(*bytes) != 0
 }
 
-fn is_block_used(block: &Block) -> bool
-    ensures { result ≡ is_used block.now }
+// Whether some byte of a block isn't zero.
+fn is_block_used(bytes: &[u8; BLOCK_LEN]) -> bool
+    ensures { result ≡ list_any (λ byte. not (byte == 0)) bytes.now }
 {
-    block.bytes.iter().any(|byte| *byte != 0)
+    let (parts, _) = bytes.as_chunks::<16>();
+    for part in parts {
+        if is_any_used(part) {
+            return true;
+        }
+    }
+    false
 }
 
-pub fn push_if_used(blocks: &mut Blocks, block: Block) -> Result<(), NoMemory>
-    ensures ok { OnOk result (blocks.new ≡ blocks.old ++ used_block block) }
+// Adds the block of a number, if it isn't all zero.
+fn add_if_used(blocks: &mut Blocks, number: u16, bytes: &[u8; BLOCK_LEN]) -> Result<(), NoMemory>
+    ensures { OnOk result (blocks.new ≡
+        blocks.old ++ used_block (record { number = number; bytes = bytes.now })) }
 {
-    if is_block_used(&block) {
-        blocks.push(block)?;
+    if is_block_used(bytes) {
+        blocks.push(Block {
+            number,
+            bytes: *bytes,
+        })?;
+    }
+    Ok(())
+}
+
+/// Adds the blocks of a part of a window that aren't all zero. `first` is the number of the part's
+/// first block, and those before it that aren't all zero are there.
+pub fn add_used(blocks: &mut Blocks, first: u16, part: &[u8]) -> Result<(), NoMemory>
+    requires { BLOCK_LEN * first + length part.now < BLOCK_LEN * 2 ^ 16 }
+    ensures { OnOk result ((window : List ℕ) →
+        take (length part.now) (drop (BLOCK_LEN * first) window) ≡ part.now →
+        blocks.old ≡ used_blocks window first →
+        blocks.new ≡ used_blocks window (first + length part.now / BLOCK_LEN)) }
+{
+    let (whole, _) = part.as_chunks::<BLOCK_LEN>();
+    for (index, bytes) in whole.iter().enumerate() {
+        add_if_used(blocks, first + index as u16, bytes)?;
     }
     Ok(())
 }
 
 /// The blocks that aren't all zero, in order of number.
-#[tactic(auto, using(crate::proofs::Used::one_more))]
 pub fn used_blocks(alloc: Global, bytes: &[u8]) -> Result<Blocks, NoMemory>
     requires { length bytes.now < BLOCK_LEN * 2 ^ 16 }
     ensures { IfOk result (λ blocks. blocks ≡ blocks_of bytes.now) }
 {
     let mut blocks = Blocks::new(alloc);
-    for number in 0..(bytes.len() / BLOCK_LEN) as u16 {
-        push_if_used(&mut blocks, block_of(bytes, number))?;
-    }
+    add_used(&mut blocks, 0, bytes)?;
     Ok(blocks)
 }

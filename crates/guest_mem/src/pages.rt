@@ -4,14 +4,14 @@ ghost use Rattle.std.specs.Result.{result_ok};
 ghost use Rattle.arn_base.specs.Disk.{overwrite};
 ghost use Rattle.arn_base.specs.Window.{IsAccessLength, number_of, number_at, bytes_of, bytes_at, with_bytes};
 ghost use Rattle.guest_mem.specs.Pages.{ArePages, AreOwn, Gains, Lacks, Loses, Meets, NoneOwn, contents, is_own, joined, most_met, owned, page_bytes};
-ghost use Rattle.parts_model.specs.Blocks.{block_of, blocks_of};
+ghost use Rattle.parts_model.specs.Blocks.{blocks_of, used_blocks};
 ghost use Rattle.parts_model.specs.Memory.{zeros, private_window};
 
-use crate::blocks::push_if_used;
+use crate::blocks::add_used;
 use crate::extent::Extent;
 use crate::numbers;
 use crate::page::{PAGE_COUNT, PAGE_LEN, Page};
-use arn_base::{BadAddress, Block, Blocks, Bytes, NoMemory, StoreError};
+use arn_base::{BadAddress, Blocks, Bytes, NoMemory, StoreError};
 use parts_model::limits::{BLOCK_LEN, WINDOW_LEN, WINDOW_START};
 use std::alloc::Global;
 use std::cmp::min;
@@ -21,6 +21,9 @@ const PRIVATE: Extent = Extent {
     from: WINDOW_START,
     len: WINDOW_LEN,
 };
+
+// How many blocks a page has.
+const PAGE_BLOCKS: u16 = (PAGE_LEN / BLOCK_LEN) as u16;
 
 // The place of a range of addresses among the pages' bytes.
 #[inline(always)]
@@ -587,29 +590,14 @@ pub fn store(
     store_far(alloc, pages, at, len, value)
 }
 
-// The block of a number.
-fn block(pages: &[Page], number: u16) -> Block
-    requires pages { ArePages (contents pages.now) }
-    requires inside { BLOCK_LEN * (number + 1) ≤ WINDOW_LEN }
-    ensures { result ≡ block_of (joined (contents pages.now)) number }
-{
-    let mut block = Block {
-        number,
-        bytes: [0; BLOCK_LEN],
-    };
-    read(pages, BLOCK_LEN * number as usize, &mut block.bytes);
-    block
-}
-
 /// The blocks that aren't all zero, in order of number.
-#[tactic(auto, using(crate::proofs::Used::one_more))]
 pub fn used_blocks(alloc: Global, pages: &[Page]) -> Result<Blocks, NoMemory>
     requires { ArePages (contents pages.now) }
     ensures { IfOk result (λ blocks. blocks ≡ blocks_of (joined (contents pages.now))) }
 {
     let mut blocks = Blocks::new(alloc);
-    for number in 0..(WINDOW_LEN as usize / BLOCK_LEN) as u16 {
-        push_if_used(&mut blocks, block(pages, number))?;
+    for (index, page) in pages.iter().enumerate() {
+        add_used(&mut blocks, PAGE_BLOCKS * index as u16, page.bytes())?;
     }
     Ok(blocks)
 }
