@@ -6,20 +6,21 @@ ghost use Rattle.parts_model.specs.Blocks.{blocks_of, used_block, used_blocks};
 use arn_base::{Block, Blocks, NoMemory};
 use parts_model::limits::BLOCK_LEN;
 use std::alloc::Global;
+use std::simd::prelude::*;
 
-// Whether some of sixteen bytes isn't zero. They are looked at as one number.
+// Whether some of 64 bytes isn't zero. They are looked at together, as a vector.
 #[inline(always)]
-fn is_any_used(bytes: &[u8; 16]) -> bool
+fn is_any_used(bytes: &[u8; 64]) -> bool
     ensures { result ≡ list_any (λ byte. not (byte == 0)) bytes.now }
 {
-    u128::from_le_bytes(*bytes) != 0
+    u8x64::from_array(*bytes).reduce_or() != 0
 }
 
 // Whether some byte of a block isn't zero.
 fn is_block_used(bytes: &[u8; BLOCK_LEN]) -> bool
     ensures { result ≡ list_any (λ byte. not (byte == 0)) bytes.now }
 {
-    let (parts, _) = bytes.as_chunks::<16>();
+    let (parts, _) = bytes.as_chunks::<64>();
     for part in parts {
         if is_any_used(part) {
             return true;
